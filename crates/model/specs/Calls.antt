@@ -1,0 +1,125 @@
+-- What every call answers and what each table then holds. (Document 01: Tables, Places, and how a call is refused.)
+use mathlib.Core.Bool.{cond}
+use Prim.Native.Nat.{ℕ, _+_, _/_}
+use lib.Dec.{eqb}
+use lib.ListN.{getD, set}
+use Rattle.word.specs.Anchor.{packAnchor, emptyAnchor}
+use Rattle.model.specs.declared.Record.{Record}
+use Rattle.model.specs.declared.Answer.the-variants.{Running, Pushed, Empty, Popped}
+use Rattle.model.specs.declared.Outcome.{Outcome}
+use Rattle.model.specs.declared.Outcome.the-variants.{Refused, Moved}
+use Rattle.model.specs.declared.Opening.{Opening}
+use Rattle.model.specs.declared.Opening.the-variants as opening
+use Rattle.model.specs.declared.Op.{Op}
+use Rattle.model.specs.declared.Op.the-variants.{Push, Pop, Step}
+use Rattle.model.specs.declared.Reply.{Reply}
+use Rattle.model.specs.Tables.{Tables, Queue, withMark, idle, started, recordAt, zeroed}
+use Rattle.model.specs.Places.{row, linkMet, Touch, Move, move, apply}
+use Rattle.model.specs.Route.{route, onward, answer, goes, counted}
+use Rattle.model.specs.Refusals.{openRefusal, Lent, among, alone, pushRefusal, popRefusal, stepRefusal}
+
+-- Opening: rows 0 to slots, the records, marks and retries zeroed; Anchor empty and STABLE with the first tag.
+unfoldable pub opened : Queue → ℕ → ℕ → ℕ → Queue
+opened q tasks slots tag = record {
+  tables = record {
+    control = record { tasks = tasks; slots = slots; anchor = packAnchor (emptyAnchor tag); retries = 0 };
+    lefts = zeroed (slots + 1) 0 (q .tables .lefts);
+    rights = zeroed (slots + 1) 0 (q .tables .rights);
+    labels = zeroed (slots + 1) 0 (q .tables .labels);
+    marks = zeroed (slots / 64 + 1) 0 (q .tables .marks);
+  };
+  records = zeroed tasks idle (q .records);
+}
+
+pub record OpenDone : Type 0 where
+  pub queue : Queue
+  pub outcome : Opening
+
+unfoldable pub openQueue : Queue → ℕ → ℕ → ℕ → OpenDone
+openQueue q tasks slots tag =
+    let why = openRefusal q tasks slots in
+    cond (eqb why 0)
+    (record { queue = opened q tasks slots tag; outcome = opening.Opened })
+    (record { queue = q; outcome = opening.Refused why })
+
+-- What a start or step of one record leaves of tables and record, and its outcome.
+pub record Acted : Type 0 where
+  pub tables : Tables
+  pub task : Record
+  pub outcome : Outcome
+
+-- A refusal is its number alone; everything keeps its contents.
+abbrev pub decide : ℕ → Tables → Record → Acted → Acted
+decide why q r done = cond (eqb why 0) done (record { tables = q; task = r; outcome = Refused why })
+
+-- A push start also stores the label in the named slot's row and sets its mark.
+abbrev pub taken : Tables → ℕ → ℕ → Tables
+taken q slot label = record {
+  control = q .control;
+  lefts = q .lefts;
+  rights = q .rights;
+  labels = set (q .labels) slot label;
+  marks = withMark (q .marks) slot 1;
+}
+
+unfoldable pub pushStart : Tables → Lent → Record → ℕ → ℕ → ℕ → Acted
+pushStart q p r side slot label =
+    decide (pushRefusal q p r side slot) q r
+    (record { tables = taken q slot label; task = started 0 side slot label; outcome = Moved (Running 1) })
+
+unfoldable pub popStart : Tables → Lent → Record → ℕ → Acted
+popStart q p r side =
+    decide (popRefusal q p r side) q r
+    (record { tables = q; task = started 1 side 0 0; outcome = Moved (Running 1) })
+
+-- The tables with the retries counted.
+abbrev pub withRetries : Tables → ℕ → Tables
+withRetries q n = record {
+  control = record { tasks = q .control .tasks; slots = q .control .slots; anchor = q .control .anchor; retries = n };
+  lefts = q .lefts;
+  rights = q .rights;
+  labels = q .labels;
+  marks = q .marks;
+}
+
+-- A place's move made: its touch, the retries, the record gone on, the answer.
+unfoldable pub finish : Tables → Record → Move → Acted
+finish q r m =
+    let n = onward (route (r .place) (r .kind) (m .outcome)) (m .task .finishing) in
+    record {
+      tables = apply (m .touch) (withRetries q (counted (q .control .retries) (m .failed)));
+      task = goes (m .task) n;
+      outcome = Moved (answer n (record { slot = row r; label = getD (q .labels) (row r) 0 }));
+    }
+
+unfoldable pub step : Tables → Lent → Record → Acted
+step q p r = decide (stepRefusal q p r) q r (finish q r (move (q .control) r (linkMet q r)))
+
+-- A start or step of one record.
+unfoldable pub actOn : Tables → Lent → Record → Op → Acted
+actOn q p r (Push side slot label) = pushStart q p r side slot label
+actOn q p r (Pop side) = popStart q p r side
+actOn q p r Step = step q p r
+
+-- A start or step of task t: its record is put back where it lay.
+pub record Done : Type 0 where
+  pub queue : Queue
+  pub outcome : Outcome
+
+abbrev pub back : Queue → ℕ → Acted → Done
+back q t a = record { queue = record { tables = a .tables; records = set (q .records) t (a .task) }; outcome = a .outcome }
+
+unfoldable pub act : Queue → ℕ → Op → Done
+act q t o = back q t (actOn (q .tables) (among q t) (recordAt q t) o)
+
+-- A step on one lent record.
+unfoldable pub stepLent : Tables → Record → Acted
+stepLent q r = step q alone r
+
+-- The number and values of each outcome.
+abbrev pub replyOf : Outcome → Reply
+replyOf (Refused n) = record { code = n; label = 0; value = 0 }
+replyOf (Moved (Running p)) = record { code = 1; label = 0; value = p }
+replyOf (Moved Pushed) = record { code = 2; label = 0; value = 0 }
+replyOf (Moved Empty) = record { code = 3; label = 0; value = 0 }
+replyOf (Moved (Popped e)) = record { code = 4; label = e .label; value = e .slot }

@@ -1,0 +1,163 @@
+-- Histories: the events of a list of starts and steps, the calls among them, and what is promised of them. (Document 01: The clerk.)
+use mathlib.Core.Path.{_≡_}
+use mathlib.Core.Bool.{Bool, true, false, _&&_, _||_, not, cond}
+use mathlib.Core.List.{List, [], _∷_}
+use Prim.Native.Nat.{ℕ, suc, _<_, _≤_}
+use lib.Dec.{eqb}
+use Rattle.word.specs.Anchor.{anchorOf}
+use Rattle.model.specs.declared.Entry.{Entry}
+use Rattle.model.specs.declared.Answer.{Answer}
+use Rattle.model.specs.declared.Answer.the-variants.{Running, Pushed, Empty, Popped}
+use Rattle.model.specs.declared.Outcome.{Outcome}
+use Rattle.model.specs.declared.Outcome.the-variants.{Refused, Moved}
+use Rattle.model.specs.declared.Op.{Op}
+use Rattle.model.specs.declared.Op.the-variants.{Push, Pop, Step}
+use Rattle.model.specs.Tables.{Queue}
+use Rattle.model.specs.Calls.{act}
+use Rattle.model.specs.Report.{entries, contents}
+use Rattle.model.specs.Deque.{serve}
+
+-- An operation of a task: an element of the list, with any numbers.
+pub record Request : Type 0 where
+  pub task : ℕ
+  pub op : Op
+
+-- What can be seen of it: what was asked, the outcome, and the Anchor word before and after.
+pub record Event : Type 0 where
+  pub task : ℕ
+  pub op : Op
+  pub outcome : Outcome
+  pub before : ℕ
+  pub after : ℕ
+
+-- Each operation gets the tables as the last left them: the events, and the queue after them.
+unfoldable pub run : Queue → List Request → List Event
+run q [] = []
+run q (o ∷ os) =
+    let d = act q (o .task) (o .op) in
+    record { task = o .task; op = o .op; outcome = d .outcome; before = q .tables .control .anchor; after = d .queue .tables .control .anchor } ∷ run (d .queue) os
+
+unfoldable pub final : Queue → List Request → Queue
+final q [] = q
+final q (o ∷ os) = final (act q (o .task) (o .op) .queue) os
+
+-- An effect of a call: its position in the list, and what the sequential deque replied.
+pub record Effect : Type 0 where
+  pub at : ℕ
+  pub reply : Answer
+
+pub data Ending : Type 0 where
+  pending : Ending
+  answered : (at : ℕ) (answer : Answer) → Ending
+
+-- A call begins with an accepted start; kind, side, slot and label are as its start named them. Its latest effect comes first.
+pub record Call : Type 0 where
+  pub task : ℕ
+  pub kind : ℕ
+  pub side : ℕ
+  pub entry : Entry
+  pub start : ℕ
+  pub effects : List Effect
+  pub ending : Ending
+
+-- The sequential deque and the calls, the latest first.
+pub record Ledger : Type 0 where
+  pub deque : List Entry
+  pub calls : List Call
+
+abbrev pub begins : ℕ → ℕ → ℕ → ℕ → Entry → Call
+begins n t kind side e = record { task = t; kind = kind; side = side; entry = e; start = n; effects = []; ending = pending }
+
+abbrev pub continued : Call → List Effect → Ending → Call
+continued c es e = record { task = c .task; kind = c .kind; side = c .side; entry = c .entry; start = c .start; effects = es; ending = e }
+
+abbrev pub over : Call → Ledger → Ledger
+over c l = record { deque = l .deque; calls = c ∷ l .calls }
+
+abbrev pub isOpen : Ending → Bool
+isOpen pending = true
+isOpen (answered n a) = false
+
+abbrev pub saysEmpty : Answer → Bool
+saysEmpty (Running p) = false
+saysEmpty Pushed = false
+saysEmpty Empty = true
+saysEmpty (Popped e) = false
+
+-- The first answer other than running ends the call.
+abbrev pub ended : ℕ → Answer → Ending
+ended n (Running p) = pending
+ended n Pushed = answered n Pushed
+ended n Empty = answered n Empty
+ended n (Popped e) = answered n (Popped e)
+
+-- A step is an effect if it leaves one or both ends of Anchor other than before, or answers empty.
+unfoldable pub isEffect : Event → Answer → Bool
+isEffect e a =
+    let b = anchorOf (e .before) in
+    let c = anchorOf (e .after) in
+    not (eqb (b .left) (c .left) && eqb (b .right) (c .right)) || saysEmpty a
+
+-- The step at position n of call c: at an effect the sequential deque serves the call.
+unfoldable pub stepOf : ℕ → Event → Answer → List Entry → Call → List Call → Ledger
+stepOf n e a d c cs =
+    let s = serve (c .kind) (c .side) (c .entry) d in
+    cond (isEffect e a)
+    (record { deque = s .deque; calls = continued c (record { at = n; reply = s .reply } ∷ c .effects) (ended n a) ∷ cs })
+    (record { deque = d; calls = continued c (c .effects) (ended n a) ∷ cs })
+
+-- A step belongs to the latest call of its task that is not answered.
+unfoldable pub attend : ℕ → Event → Answer → List Entry → List Call → Ledger
+attend n e a d [] = record { deque = d; calls = [] }
+attend n e a d (c ∷ cs) =
+    let earlier = over c (attend n e a d cs) in
+    cond (eqb (c .task) (e .task) && isOpen (c .ending)) (stepOf n e a d c cs) earlier
+
+-- An accepted start adds a call, an accepted step is attended to; at a refusal nothing is done.
+unfoldable pub accept : ℕ → Event → Op → Answer → Ledger → Ledger
+accept n e (Push side slot label) a l = over (begins n (e .task) 0 side (record { slot = slot; label = label })) l
+accept n e (Pop side) a l = over (begins n (e .task) 1 side (record { slot = 0; label = 0 })) l
+accept n e Step a l = attend n e a (l .deque) (l .calls)
+
+unfoldable pub note : ℕ → Event → Outcome → Ledger → Ledger
+note n e (Refused why) l = l
+note n e (Moved a) l = accept n e (e .op) a l
+
+unfoldable pub ledgerFrom : ℕ → Ledger → List Event → Ledger
+ledgerFrom n l [] = l
+ledgerFrom n l (e ∷ es) = ledgerFrom (suc n) (note n e (e .outcome) l) es
+
+-- Positions count from 1; the deque is empty at opening.
+abbrev pub ledger : List Event → Ledger
+ledger es = ledgerFrom 1 (record { deque = []; calls = [] }) es
+
+-- An answered call took effect exactly once, after its start and no later than its answer, which is the sequential deque's reply.
+pub record Once (c : Call) (n : ℕ) (a : Answer) : Type 0 where
+  pub effect : Effect
+  pub only : c .effects ≡ effect ∷ []
+  pub begun : c .start < effect .at
+  pub within : effect .at ≤ n
+  pub agrees : effect .reply ≡ a
+
+-- Any other call took effect at most once, after its start.
+abbrev pub AtMostOnce : Call → List Effect → Type 0
+AtMostOnce c [] = Unit {0}
+AtMostOnce c (e ∷ []) = c .start < e .at
+AtMostOnce c (e ∷ f ∷ l) = ⊥
+
+abbrev pub Lawful : Call → Ending → Type 0
+Lawful c pending = AtMostOnce c (c .effects)
+Lawful c (answered n a) = Once c n a
+
+abbrev pub All : {A : Type 0} → (A → Type 0) → List A → Type 0
+All P [] = Unit {0}
+All P (x ∷ l) = P x × All P l
+
+-- Demand 3: every call is lawful, and the labels waiting are the sequential deque's queue.
+pub record Linearized (q : Queue) (os : List Request) : Type 0 where
+  pub calls : All (λ (c : Call). Lawful c (c .ending)) (ledger (run q os) .calls)
+  pub waits : contents (final q os .tables) ≡ entries (ledger (run q os) .deque)
+
+-- No operation is refused as unsound.
+abbrev pub NeverUnsound : List Event → Type 0
+NeverUnsound es = All (λ (e : Event). e .outcome ≡ Refused 34 → ⊥) es

@@ -1,0 +1,9 @@
+pub mod Tables
+pub mod Sound
+pub mod Places
+pub mod Route
+pub mod Refusals
+pub mod Calls
+pub mod Report
+pub mod Deque
+pub mod History

@@ -1,0 +1,177 @@
+-- What each place does: one touch of the shared tables at the most. (Document 01: Places, the table's columns push and pop.)
+use mathlib.Core.Bool.{Bool, true, false, _&&_, _||_, cond}
+use Prim.Native.Nat.{ℕ, _+_}
+use lib.Dec.{eqb}
+use lib.ListN.{getD, set}
+use Rattle.word.specs.declared.Anchor.{Anchor}
+use Rattle.word.specs.Anchor.{anchorOf, packAnchor}
+use Rattle.word.specs.Link.{linkOf, packLink}
+use Rattle.model.specs.declared.Control.{Control}
+use Rattle.model.specs.declared.Record.{Record}
+use Rattle.model.specs.Tables.{Tables, opposite, near, far, facing, links, pushing, named, isEmpty, withMark}
+use Rattle.model.specs.Sound.{isPush, isPop, helping}
+
+-- The side: at 1 to 4 and 11 the task's, at 5 to 10 the one that the status as read names.
+unfoldable pub sideOf : Record → ℕ
+sideOf r = cond (helping r) (named (anchorOf (r .seen) .status)) (r .side)
+
+-- The end as read at that side: the table's r.
+abbrev pub endSeen : Record → ℕ
+endSeen r = near (sideOf r) (anchorOf (r .seen))
+
+-- The slot whose row or mark a place touches: the neighbour at 7 and 9, a push's own slot at 3, else the end as read.
+unfoldable pub row : Record → ℕ
+row r =
+    cond (eqb (r .place) 7 || eqb (r .place) 9) (r .neighbour)
+    (cond (eqb (r .place) 3 && isPush r) (r .own) (endSeen r))
+
+-- The link word of that row: Left at 3 and 5, Right at 7 and 9.
+unfoldable pub linkSide : Record → ℕ
+linkSide r = cond (eqb (r .place) 3 || eqb (r .place) 5) (opposite (sideOf r)) (sideOf r)
+
+abbrev pub linkMet : Tables → Record → ℕ
+linkMet q r = getD (links q (linkSide r)) (row r) 0
+
+-- A touch of the shared tables: at most one word is written.
+pub data Touch : Type 0 where
+  nothing : Touch
+  setAnchor : (word : ℕ) → Touch
+  setLink : (side slot word : ℕ) → Touch
+  clearMark : (slot : ℕ) → Touch
+
+-- What a place does: its touch, the record with its new fields, the outcome that the route goes by, whether a change failed.
+pub record Move : Type 0 where
+  pub touch : Touch
+  pub task : Record
+  pub outcome : ℕ
+  pub failed : Bool
+
+-- A place keeps the fields it doesn't name.
+abbrev pub withSeen : Record → ℕ → ℕ → Record
+withSeen r a f =
+    record { place = r .place; kind = r .kind; side = r .side; own = r .own; label = r .label; seen = a; neighbour = r .neighbour; link = r .link; finishing = f }
+
+abbrev pub withNeighbour : Record → ℕ → Record
+withNeighbour r n =
+    record { place = r .place; kind = r .kind; side = r .side; own = r .own; label = r .label; seen = r .seen; neighbour = n; link = r .link; finishing = r .finishing }
+
+abbrev pub withLink : Record → ℕ → Record
+withLink r w =
+    record { place = r .place; kind = r .kind; side = r .side; own = r .own; label = r .label; seen = r .seen; neighbour = r .neighbour; link = w; finishing = r .finishing }
+
+-- A place that only reads.
+abbrev pub reads : Record → ℕ → Move
+reads r outcome = record { touch = nothing; task = r; outcome = outcome; failed = false }
+
+-- A comparison of the word as it is with the word as read: 0 equal, 1 not.
+abbrev pub compares : ℕ → ℕ → Record → Move
+compares now read r = reads r (cond (eqb now read) 0 1)
+
+-- A change: the word is replaced only if it still equals the word as read. 0 done, with the record r′; 1 failed, with r.
+abbrev pub changes : ℕ → ℕ → Touch → Record → Record → Move
+changes now read touch r′ r =
+    cond (eqb now read) (record { touch = touch; task = r′; outcome = 0; failed = false })
+    (record { touch = nothing; task = r; outcome = 1; failed = true })
+
+-- 1: read Anchor. 0 empty, 1 a pop with l = r, 2 STABLE, 3 else.
+unfoldable pub reading : Bool → Anchor → ℕ
+reading pop a =
+    cond (isEmpty a) 0
+    (cond (pop && eqb (a .left) (a .right)) 1
+    (cond (eqb (a .status) 0) 2
+    3))
+
+unfoldable pub at1 : Control → Record → Move
+at1 c r = reads (withSeen r (c .anchor) (r .finishing)) (reading (isPop r) (anchorOf (c .anchor)))
+
+-- 2: change Anchor to own, own, s; a pop to null, null, s.
+unfoldable pub at2 : Control → Record → Move
+at2 c r =
+    let a = anchorOf (r .seen) in
+    let end : ℕ = cond (isPush r) (r .own) 0 in
+    changes (c .anchor) (r .seen) (setAnchor (packAnchor (facing (sideOf r) (a .tag + 1) (a .status) end end))) r r
+
+-- 3: put r into own slot's Left, its tag kept; a pop reads r's Left as neighbour. w is the link word met.
+unfoldable pub at3 : Record → ℕ → Move
+at3 r w =
+    cond (isPush r)
+    (record { touch = setLink (linkSide r) (row r) (packLink (record { tag = linkOf w .tag; slot = endSeen r })); task = r; outcome = 0; failed = false })
+    (reads (withNeighbour r (linkOf w .slot)) 0)
+
+-- 4: change Anchor to l, own, RPUSH, and remember it, finishing; a pop to l, neighbour, s.
+unfoldable pub new4 : Record → ℕ
+new4 r =
+    let a = anchorOf (r .seen) in
+    let d = sideOf r in
+    cond (isPush r)
+    (packAnchor (facing d (a .tag + 1) (pushing d) (r .own) (far d a)))
+    (packAnchor (facing d (a .tag + 1) (a .status) (r .neighbour) (far d a)))
+
+unfoldable pub at4 : Control → Record → Move
+at4 c r = changes (c .anchor) (r .seen) (setAnchor (new4 r)) (cond (isPush r) (withSeen r (new4 r) 1) r) r
+
+-- 5: read r's Left as neighbour.
+unfoldable pub at5 : Record → ℕ → Move
+at5 r w = reads (withNeighbour r (linkOf w .slot)) 0
+
+-- 6 and 8: compare Anchor.
+unfoldable pub at6 : Control → Record → Move
+at6 c r = compares (c .anchor) (r .seen) r
+
+-- 7: read neighbour's Right. 0 it names r, 1 not.
+unfoldable pub at7 : Record → ℕ → Move
+at7 r w = reads (withLink r w) (cond (eqb (linkOf w .slot) (endSeen r)) 0 1)
+
+-- 9: change neighbour's Right to r.
+unfoldable pub at9 : Record → ℕ → Move
+at9 r w = changes w (r .link) (setLink (linkSide r) (row r) (packLink (record { tag = linkOf (r .link) .tag + 1; slot = endSeen r }))) r r
+
+-- 10: change Anchor to l, r, STABLE.
+unfoldable pub at10 : Control → Record → Move
+at10 c r =
+    let a = anchorOf (r .seen) in
+    changes (c .anchor) (r .seen) (setAnchor (packAnchor (record { tag = a .tag + 1; status = 0; left = a .left; right = a .right }))) r r
+
+-- 11: read the label of r, the end taken, and clear its mark.
+unfoldable pub at11 : Record → Move
+at11 r = record { touch = clearMark (row r); task = r; outcome = 0; failed = false }
+
+-- What the place of a record does, where w is the link word that it meets.
+unfoldable pub move : Control → Record → ℕ → Move
+move c r w =
+    cond (eqb (r .place) 1) (at1 c r)
+    (cond (eqb (r .place) 2) (at2 c r)
+    (cond (eqb (r .place) 3) (at3 r w)
+    (cond (eqb (r .place) 4) (at4 c r)
+    (cond (eqb (r .place) 5) (at5 r w)
+    (cond (eqb (r .place) 6) (at6 c r)
+    (cond (eqb (r .place) 7) (at7 r w)
+    (cond (eqb (r .place) 8) (at6 c r)
+    (cond (eqb (r .place) 9) (at9 r w)
+    (cond (eqb (r .place) 10) (at10 c r)
+    (at11 r))))))))))
+
+-- The tables after a touch.
+abbrev pub apply : Touch → Tables → Tables
+apply nothing q = q
+apply (setAnchor w) q = record {
+  control = record { tasks = q .control .tasks; slots = q .control .slots; anchor = w; retries = q .control .retries };
+  lefts = q .lefts;
+  rights = q .rights;
+  labels = q .labels;
+  marks = q .marks;
+}
+apply (setLink side x w) q = record {
+  control = q .control;
+  lefts = cond (eqb side 1) (q .lefts) (set (q .lefts) x w);
+  rights = cond (eqb side 1) (set (q .rights) x w) (q .rights);
+  labels = q .labels;
+  marks = q .marks;
+}
+apply (clearMark x) q = record {
+  control = q .control;
+  lefts = q .lefts;
+  rights = q .rights;
+  labels = q .labels;
+  marks = withMark (q .marks) x 0;
+}

@@ -1,0 +1,138 @@
+-- Why a call is refused: the first number that applies. (Document 01: Refused .., and their order.)
+use mathlib.Core.Bool.{Bool, true, _&&_, _||_, not, cond}
+use mathlib.Core.List.{List, [], _∷_}
+use Prim.Native.Nat.{ℕ}
+use lib.Dec.{ltb, leb, eqb}
+use lib.ListN.{length}
+use Rattle.word.specs.Anchor.{anchorOf}
+use Rattle.word.specs.Link.{linkOf}
+use Rattle.model.specs.declared.Control.{Control}
+use Rattle.model.specs.declared.Record.{Record}
+use Rattle.model.specs.Tables.{Tables, Queue, marked}
+use Rattle.model.specs.Sound.{every, from1, isPush, anchorSound, linkSound, controlSound, recordSound, rowsFit}
+use Rattle.model.specs.Places.{row, linkMet, Touch, nothing, setAnchor, setLink, clearMark, move}
+
+-- A test with its number.
+pub record Rule : Type 0 where
+  pub applies : Bool
+  pub number : ℕ
+
+abbrev pub rule : ℕ → Bool → Rule
+rule n b = record { applies = b; number = n }
+
+-- The number of the first rule that applies; 0: none does.
+abbrev pub first : List Rule → ℕ
+first [] = 0
+first (r ∷ l) = cond (r .applies) (r .number) (first l)
+
+-- When opening: 10, 11, 12.
+abbrev pub openRules : Queue → ℕ → ℕ → List Rule
+openRules q tasks slots =
+    rule 10 (not (from1 16 tasks))
+    ∷ rule 11 (not (from1 1023 slots))
+    ∷ rule 12 (not (rowsFit slots (q .tables) && leb tasks (length (q .records))))
+    ∷ []
+
+unfoldable pub openRefusal : Queue → ℕ → ℕ → ℕ
+openRefusal q tasks slots = first (openRules q tasks slots)
+
+-- What 12 and 13 see of the records: they are as many as the tasks, and the task is one of these.
+pub record Lent : Type 0 where
+  pub enough : Bool
+  pub known : Bool
+
+-- Task t among the records; and a record lent alone, where 13 can't occur and 12 looks at no records.
+abbrev pub among : Queue → ℕ → Lent
+among q t = record { enough = leb (q .tables .control .tasks) (length (q .records)); known = ltb t (q .tables .control .tasks) }
+
+abbrev pub alone : Lent
+alone = record { enough = true; known = true }
+
+-- 33: the Anchor tag is above 4,294,967,262.
+abbrev pub late : Tables → Bool
+late q = ltb 4294967262 (anchorOf (q .control .anchor) .tag)
+
+abbrev pub pushRules : Tables → Lent → Record → ℕ → ℕ → List Rule
+pushRules q p r side slot =
+    rule 34 (not (controlSound (q .control)))
+    ∷ rule 12 (not (rowsFit (q .control .slots) q && p .enough))
+    ∷ rule 13 (not (p .known))
+    ∷ rule 14 (not (leb side 1))
+    ∷ rule 15 (not (from1 (q .control .slots) slot))
+    ∷ rule 34 (not (recordSound (q .control .slots) r))
+    ∷ rule 30 (not (eqb (r .place) 0))
+    ∷ rule 32 (marked (q .marks) slot)
+    ∷ rule 33 (late q)
+    ∷ []
+
+unfoldable pub pushRefusal : Tables → Lent → Record → ℕ → ℕ → ℕ
+pushRefusal q p r side slot = first (pushRules q p r side slot)
+
+abbrev pub popRules : Tables → Lent → Record → ℕ → List Rule
+popRules q p r side =
+    rule 34 (not (controlSound (q .control)))
+    ∷ rule 12 (not (rowsFit (q .control .slots) q && p .enough))
+    ∷ rule 13 (not (p .known))
+    ∷ rule 14 (not (leb side 1))
+    ∷ rule 34 (not (recordSound (q .control .slots) r))
+    ∷ rule 30 (not (eqb (r .place) 0))
+    ∷ rule 33 (late q)
+    ∷ []
+
+unfoldable pub popRefusal : Tables → Lent → Record → ℕ → ℕ
+popRefusal q p r side = first (popRules q p r side)
+
+-- 34 for what the step touches. It needs a slot row at 3, 5, 7, 9 and 11, and looks at a link word's soundness at 3, 5 and 7.
+abbrev pub needsRow : Record → Bool
+needsRow r = eqb (r .place) 3 || eqb (r .place) 5 || eqb (r .place) 7 || eqb (r .place) 9 || eqb (r .place) 11
+
+abbrev pub meetsLink : Record → Bool
+meetsLink r = eqb (r .place) 3 || eqb (r .place) 5 || eqb (r .place) 7
+
+-- A change leaves Anchor sound.
+abbrev pub leavesSound : ℕ → Touch → Bool
+leavesSound slots nothing = true
+leavesSound slots (setAnchor w) = anchorSound slots (anchorOf w)
+leavesSound slots (setLink side x w) = true
+leavesSound slots (clearMark x) = true
+
+-- A change raises no tag past 32 bits; place 3 raises none.
+abbrev pub hasRoom : Record → Touch → Bool
+hasRoom r nothing = true
+hasRoom r (setAnchor w) = ltb (anchorOf (r .seen) .tag) 4294967295
+hasRoom r (setLink side x w) = eqb (r .place) 3 || ltb (linkOf (r .link) .tag) 4294967295
+hasRoom r (clearMark x) = true
+
+abbrev pub stepTests : Control → Record → ℕ → List Bool
+stepTests c r w =
+    (not (needsRow r) || from1 (c .slots) (row r))
+    ∷ (not (meetsLink r) || linkSound (c .slots) w)
+    ∷ leavesSound (c .slots) (move c r w .touch)
+    ∷ hasRoom r (move c r w .touch)
+    ∷ []
+
+unfoldable pub stepSound : Control → Record → ℕ → Bool
+stepSound c r w = every (stepTests c r w)
+
+abbrev pub stepRules : Tables → Lent → Record → List Rule
+stepRules q p r =
+    rule 34 (not (controlSound (q .control)))
+    ∷ rule 12 (not (rowsFit (q .control .slots) q && p .enough))
+    ∷ rule 13 (not (p .known))
+    ∷ rule 34 (not (recordSound (q .control .slots) r))
+    ∷ rule 31 (eqb (r .place) 0)
+    ∷ rule 34 (not (stepSound (q .control) r (linkMet q r)))
+    ∷ []
+
+unfoldable pub stepRefusal : Tables → Lent → Record → ℕ
+stepRefusal q p r = first (stepRules q p r)
+
+-- The report names no task and no slot.
+abbrev pub reportRules : Queue → List Rule
+reportRules q =
+    rule 34 (not (controlSound (q .tables .control)))
+    ∷ rule 12 (not (rowsFit (q .tables .control .slots) (q .tables) && leb (q .tables .control .tasks) (length (q .records))))
+    ∷ []
+
+unfoldable pub reportRefusal : Queue → ℕ
+reportRefusal q = first (reportRules q)

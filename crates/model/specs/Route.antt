@@ -1,0 +1,80 @@
+-- The route from place to place, and what a step answers. (Document 01: Places, the column next, and below the table.)
+use mathlib.Core.Bool.{Bool, cond}
+use mathlib.Core.List.{List, [], _∷_}
+use Prim.Native.Nat.{ℕ, _+_}
+use lib.Dec.{ltb, leb, eqb}
+use lib.ListN.{getD}
+use Rattle.model.specs.declared.Record.{Record}
+use Rattle.model.specs.declared.Entry.{Entry}
+use Rattle.model.specs.declared.Answer.{Answer}
+use Rattle.model.specs.declared.Answer.the-variants.{Running, Pushed, Empty, Popped}
+use Rattle.model.specs.Tables.{idle}
+
+-- Where a route leads: to a place, 1 to 11, or to one of these.
+abbrev pub leave : ℕ
+leave = 20
+
+abbrev pub pushed : ℕ
+pushed = 21
+
+abbrev pub empty : ℕ
+empty = 22
+
+abbrev pub popped : ℕ
+popped = 23
+
+-- A line for each place and an entry for each outcome, from 0. Push and pop share places 5 to 10.
+abbrev pub sharedRoute : List ℕ → List (List ℕ)
+sharedRoute eleven =
+    (6 ∷ [])
+    ∷ (7 ∷ leave ∷ [])
+    ∷ (10 ∷ 8 ∷ [])
+    ∷ (9 ∷ leave ∷ [])
+    ∷ (10 ∷ leave ∷ [])
+    ∷ (leave ∷ leave ∷ [])
+    ∷ eleven ∷ []
+
+-- Places 0 (where no task steps) to 4, then those.
+unfoldable pub pushRoute : List (List ℕ)
+pushRoute =
+    []
+    ∷ (2 ∷ 0 ∷ 3 ∷ 5 ∷ [])
+    ∷ (pushed ∷ 1 ∷ [])
+    ∷ (4 ∷ [])
+    ∷ (5 ∷ 1 ∷ [])
+    ∷ sharedRoute []
+
+unfoldable pub popRoute : List (List ℕ)
+popRoute =
+    []
+    ∷ (empty ∷ 2 ∷ 3 ∷ 5 ∷ [])
+    ∷ (11 ∷ 1 ∷ [])
+    ∷ (4 ∷ [])
+    ∷ (11 ∷ 1 ∷ [])
+    ∷ sharedRoute (popped ∷ [])
+
+unfoldable pub route : ℕ → ℕ → ℕ → ℕ
+route place kind outcome = getD (getD (cond (eqb kind 0) pushRoute popRoute) place []) outcome 0
+
+-- Leave: a finishing push answers pushed in that step; any other task goes to 1.
+unfoldable pub onward : ℕ → ℕ → ℕ
+onward n finishing = cond (eqb n leave) (cond (eqb finishing 1) pushed 1) n
+
+-- A step's answer: running with its next place, pushed, empty, or popped with slot and label.
+unfoldable pub answer : ℕ → Entry → Answer
+answer n e =
+    cond (eqb n pushed) Pushed
+    (cond (eqb n empty) Empty
+    (cond (eqb n popped) (Popped e)
+    (Running n)))
+
+-- The record at its next place; after an answer it is all zero.
+unfoldable pub goes : Record → ℕ → Record
+goes r n =
+    cond (leb n 11)
+    (record { place = n; kind = r .kind; side = r .side; own = r .own; label = r .label; seen = r .seen; neighbour = r .neighbour; link = r .link; finishing = r .finishing })
+    idle
+
+-- Retries count the failed changes and stay at 4,294,967,295 once there.
+unfoldable pub counted : ℕ → Bool → ℕ
+counted n failed = cond failed (cond (ltb n 4294967295) (n + 1) n) n

@@ -1,0 +1,93 @@
+//! The types of the label queue, by value. What every call means is in `specs/`.
+use word::Anchor;
+
+/// What all tasks share besides the slot rows and the marks.
+#[repr(C)]
+pub struct Control {
+    pub tasks: u64,
+    pub slots: u64,
+    pub anchor: u64,
+    pub retries: u64,
+}
+
+/// Where a task stands in its call; all zero while it has none.
+#[repr(C)]
+pub struct Record {
+    /// 0 idle, or the place of the next step, 1 to 11.
+    pub place: u64,
+    /// 0 push, 1 pop.
+    pub kind: u64,
+    /// 0 left, 1 right.
+    pub side: u64,
+    /// The slot of a push.
+    pub own: u64,
+    /// The label of a push.
+    pub label: u32,
+    /// The Anchor word as read.
+    pub seen: u64,
+    /// The neighbour slot as read.
+    pub neighbour: u64,
+    /// The link word as read.
+    pub link: u64,
+    /// 1 once a push has taken effect and only helps the queue to be STABLE.
+    pub finishing: u64,
+}
+
+/// A label in its slot.
+pub struct Entry {
+    pub slot: u64,
+    pub label: u32,
+}
+
+/// What a step answers when it is carried out.
+pub enum Answer {
+    /// With the next place.
+    Running(u64),
+    Pushed,
+    Empty,
+    Popped(Entry),
+}
+
+/// What a start or step answers. A start that is carried out is `Moved` and running, with place 1 next.
+pub enum Outcome {
+    /// With the document's number.
+    Refused(u32),
+    Moved(Answer),
+}
+
+/// What an opening answers.
+pub enum Opening {
+    Refused(u32),
+    Opened,
+}
+
+/// What the report tells.
+pub struct Report {
+    pub anchor: Anchor,
+    pub busy: u64,
+    pub retries: u64,
+    pub waiting: u64,
+}
+
+pub enum Reported {
+    Refused(u32),
+    Told(Report),
+}
+
+/// One operation of a task.
+pub enum Op {
+    Push { side: u64, slot: u64, label: u32 },
+    Pop { side: u64 },
+    Step,
+}
+
+/// An outcome in numbers, as C sees it.
+#[repr(C)]
+pub struct Reply {
+    /// 1 running, 2 pushed, 3 empty, 4 popped, or the number of a refusal.
+    pub code: u32,
+    /// The label popped.
+    pub label: u32,
+    /// The next place, or the slot popped.
+    pub value: u64,
+}
