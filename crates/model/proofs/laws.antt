@@ -1,0 +1,2 @@
+-- Laws of single calls, for all tables and all arguments.
+pub mod Refusals
