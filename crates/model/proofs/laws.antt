@@ -1,2 +1,5 @@
 -- Laws of single calls, for all tables and all arguments.
+pub mod Tests
 pub mod Refusals
+pub mod Lengths
+pub mod LentRecord

@@ -16,12 +16,13 @@ use Rattle.model.specs.declared.Op.{Op}
 use Rattle.model.specs.declared.Op.the-variants.{Push, Pop, Step}
 use Rattle.model.specs.Tables.{Tables, Queue, idle, recordAt}
 use Rattle.model.specs.Refusals.{Rule, rule, first, openRules, openRefusal, Lent, among, alone, pushRules, pushRefusal, popRules, popRefusal, stepRules, stepRefusal}
+use Rattle.model.specs.History.{All}
 use Rattle.model.specs.Calls.{opened, OpenDone, openQueue, Acted, decide, pushStart, popStart, finish, step, actOn, back, act, stepLent}
+use Rattle.model.proofs.laws.Tests.{and-both}
 
 -- No rule of a list applies; and the first of a list to apply has number n.
-pub data NoneApplies : List Rule → Type 0 where
-  end : NoneApplies []
-  past : {m : ℕ} {l : List Rule} → NoneApplies l → NoneApplies (rule m false ∷ l)
+abbrev pub NoneApplies : List Rule → Type 0
+NoneApplies l = All (λ (r : Rule). r .applies ≡ false) l
 
 pub data FirstApplies (n : ℕ) : List Rule → Type 0 where
   here : {l : List Rule} → FirstApplies n (rule n true ∷ l)
@@ -37,18 +38,13 @@ abbrev numbered : List Rule → Bool
 numbered [] = true
 numbered (r ∷ l) = ltb 0 (r .number) && numbered l
 
-and-both : (b c : Bool) → b && c ≡ true → (b ≡ true) × (c ≡ true)
-and-both true true e = (refl, refl)
-and-both true false e = (refl, e)
-and-both false c e = (e, let z : _≡_ {A = ℕ} 0 1 = cc in absurd (omega arith))
-
 find-from : (b : Bool) (m : ℕ) {l : List Rule} {n : ℕ} → 0 < m → Found l n → Found (rule m b ∷ l) (cond b m n)
 find-from true m h f = some m h here
-find-from false m h (none a) = none (past a)
+find-from false m h (none a) = none (refl, a)
 find-from false m h (some n g a) = some n g (later a)
 
 find : (l : List Rule) → numbered l ≡ true → Found l (first l)
-find [] h = none end
+find [] h = none tt
 find (r ∷ l) h =
     let both = and-both (ltb 0 (r .number)) (numbered l) h in
     find-from (r .applies) (r .number) (ltb-true 0 (r .number) (both .0)) (find l (both .1))
