@@ -3,3 +3,4 @@ pub mod Tests
 pub mod Refusals
 pub mod Lengths
 pub mod LentRecord
+pub mod OneTouch

@@ -7,3 +7,4 @@ pub mod Calls
 pub mod Report
 pub mod Deque
 pub mod History
+pub mod OneTouch

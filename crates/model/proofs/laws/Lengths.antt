@@ -1,22 +1,21 @@
 -- No call changes the length of a table.
-use mathlib.Core.Path.{_≡_, refl, _∙_}
-use mathlib.Core.Bool.{Bool, true, false, _&&_, cond}
-use mathlib.Core.List.{List, _++_}
-use Prim.Native.Nat.{ℕ, _+_, _/_, _≤_, _<_}
+use mathlib.Core.Path.{_≡_, refl}
+use mathlib.Core.Bool.{Bool, true, false, cond}
+use mathlib.Core.List.{List}
+use Prim.Native.Nat.{ℕ, _+_, _/_, _≤_}
 use native.Mathlib.Omega.{arith}
 use lib.Dec.{eqb, leb, ltb}
-use lib.ListN.{length, set, replicate, drop, length-set, length-append, length-replicate, length-drop}
+use lib.ListN.{length, set, length-set, length-append, length-replicate, length-drop}
 use borrow.Author.Tests.{leb-true, ltb-true, not-false}
 use Rattle.model.specs.declared.Record.{Record}
 use Rattle.model.specs.declared.Outcome.the-variants.{Refused}
 use Rattle.model.specs.declared.Op.{Op}
 use Rattle.model.specs.declared.Op.the-variants.{Push, Pop, Step}
-use Rattle.model.specs.Tables.{Tables, Queue, zeroed, idle, recordAt, withMark}
+use Rattle.model.specs.Tables.{Tables, Queue, zeroed, idle, recordAt}
 use Rattle.model.specs.Sound.{rowTests, rowsFit}
 use Rattle.model.specs.Places.{Touch, nothing, setAnchor, setLink, clearMark, linkMet, move, apply}
-use Rattle.model.specs.Route.{counted}
 use Rattle.model.specs.Refusals.{Lent, among, alone, openRules, stepRefusal, pushRefusal, popRefusal}
-use Rattle.model.specs.Calls.{opened, OpenDone, openQueue, Acted, decide, taken, pushStart, popStart, withRetries, finish, step, actOn, act, stepLent}
+use Rattle.model.specs.Calls.{opened, OpenDone, openQueue, Acted, decide, pushStart, popStart, finish, step, actOn, act, stepLent}
 use Rattle.model.proofs.laws.Tests.{and-both, every-one}
 use Rattle.model.proofs.laws.Refusals.{OpenDecided, accepted-opening, refused-opening, open-decided}
 

@@ -1,6 +1,5 @@
 -- A step on one lent record answers, and leaves record and tables, as the step of its task does with the record as the task's row.
-use mathlib.Core.Path.{_≡_, refl, ap, ap₂, _∙_, sym}
-use mathlib.Core.Bool.{Bool, true}
+use mathlib.Core.Path.{_≡_, ap₂, _∙_}
 use Prim.Native.Nat.{ℕ, _≤_, _<_}
 use native.Mathlib.Omega.{arith}
 use lib.ListN.{length, set, length-set}
@@ -8,9 +7,9 @@ use lib.Seq.{set-set, getD-set-same}
 use borrow.Author.Tests.{lt-ltb, le-leb}
 use Rattle.model.specs.declared.Record.{Record}
 use Rattle.model.specs.declared.Op.the-variants.{Step}
-use Rattle.model.specs.Tables.{Tables, Queue, idle, recordAt}
+use Rattle.model.specs.Tables.{Queue, idle, recordAt}
 use Rattle.model.specs.Refusals.{Lent, among, alone}
-use Rattle.model.specs.Calls.{Acted, Done, step, actOn, back, act, stepLent}
+use Rattle.model.specs.Calls.{Acted, step, actOn, back, act, stepLent}
 
 -- The queue with a record as the row of task t.
 abbrev pub withRow : Queue → ℕ → Record → Queue
