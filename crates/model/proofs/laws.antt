@@ -4,3 +4,4 @@ pub mod Refusals
 pub mod Lengths
 pub mod LentRecord
 pub mod OneTouch
+pub mod mirror

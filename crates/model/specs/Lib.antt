@@ -8,3 +8,4 @@ pub mod Report
 pub mod Deque
 pub mod History
 pub mod OneTouch
+pub mod Mirror

@@ -1,0 +1,3 @@
+-- Left is the mirror of right: the words, the sides, what is sound, what a place does.
+pub mod Words
+pub mod Sides
