@@ -2,3 +2,4 @@
 pub mod Words
 pub mod Sides
 pub mod Sound
+pub mod Moves

@@ -2,7 +2,7 @@
 use mathlib.Core.Path.{_≡_, refl, ap, ap₂, _∙_}
 use mathlib.Core.Bool.{Bool, true, false, _&&_, _||_, not, cond}
 use mathlib.Core.List.{List}
-use Prim.Native.Nat.{ℕ, zero, suc}
+use Prim.Native.Nat.{ℕ, zero, suc, _<_}
 use native.Mathlib.Omega.{arith}
 use lib.Dec.{eqb, leb}
 use lib.ListN.{getD}
@@ -53,6 +53,13 @@ module _ (d : ℕ) where
       go : (b : Bool) → pushing (cond b 0 1) ≡ mirrorStatus (cond b 1 2)
       go true = refl
       go false = refl
+
+  pub pushing-small : pushing d < 4
+  pushing-small = go (eqb d 1)
+    where
+      go : (b : Bool) → cond b 1 2 < 4
+      go true = omega arith
+      go false = omega arith
 
 -- The side of a step, where the record is sound: its side is 0 or 1, and a record that helps has read RPUSH or LPUSH.
 side-or-named : (h : Bool) (s d : ℕ) → leb d 1 ≡ true → leb s 2 ≡ true → not h || not (eqb s 0) ≡ true
