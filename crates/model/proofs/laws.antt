@@ -4,4 +4,5 @@ pub mod Refusals
 pub mod Lengths
 pub mod LentRecord
 pub mod OneTouch
+pub mod Onward
 pub mod mirror

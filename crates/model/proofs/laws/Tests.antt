@@ -1,6 +1,6 @@
--- Conjunctions of tests, taken apart.
+-- Tests taken apart.
 use mathlib.Core.Path.{_≡_, refl}
-use mathlib.Core.Bool.{Bool, true, false, _&&_}
+use mathlib.Core.Bool.{Bool, true, false, _&&_, _||_, not}
 use mathlib.Core.List.{List, [], _∷_}
 use Prim.Native.Nat.{ℕ}
 use native.Mathlib.Omega.{arith}
@@ -15,3 +15,11 @@ pub every-one : (l : List Bool) → every l ≡ true → All (λ b. b ≡ true) 
 every-one [] e = tt
 every-one (b ∷ []) e = (e, tt)
 every-one (b ∷ c ∷ l) e = let h = and-both b (every (c ∷ l)) e in (h .0, every-one (c ∷ l) (h .1))
+
+pub implied : (a b : Bool) → not a || b ≡ true → a ≡ true → b ≡ true
+implied true b e h = e
+implied false b e h = absurd (let z : _≡_ {A = ℕ} 0 1 = cc in omega arith)
+
+pub otherwise : (a b : Bool) → a || b ≡ true → a ≡ false → b ≡ true
+otherwise true b e h = absurd (let z : _≡_ {A = ℕ} 0 1 = cc in omega arith)
+otherwise false b e h = e
