@@ -10,7 +10,7 @@ use Rattle.model.specs.declared.Record.{Record}
 use Rattle.model.specs.declared.Op.{Op}
 use Rattle.model.specs.declared.Op.the-variants.{Push, Pop, Step}
 use Rattle.model.specs.Tables.{Tables, Queue}
-use Rattle.model.specs.Calls.{Done}
+use Rattle.model.specs.Calls.{OpenDone, Acted, Done}
 
 -- Sides 0 and 1 exchanged, RPUSH and LPUSH exchanged; any other number is kept.
 unfoldable pub mirrorSide : ℕ → ℕ
@@ -55,6 +55,13 @@ abbrev pub mirrorOp : Op → Op
 mirrorOp (Push side slot label) = Push (mirrorSide side) slot label
 mirrorOp (Pop side) = Pop (mirrorSide side)
 mirrorOp Step = Step
+
+-- What a call leaves.
+abbrev pub mirrorActed : Acted → Acted
+mirrorActed a = record { tables = mirrorTables (a .tables); task = mirrorRecord (a .task); outcome = a .outcome }
+
+abbrev pub mirrorOpened : OpenDone → OpenDone
+mirrorOpened d = record { queue = mirrorQueue (d .queue); outcome = d .outcome }
 
 abbrev pub mirrorDone : Done → Done
 mirrorDone d = record { queue = mirrorQueue (d .queue); outcome = d .outcome }

@@ -16,15 +16,12 @@ use Rattle.model.specs.Route.{counted}
 use Rattle.model.specs.Refusals.{Lent, among, alone, stepRefusal}
 use Rattle.model.specs.Calls.{Acted, finish, step, actOn, act, stepLent}
 use Rattle.model.specs.OneTouch.{OneTouch, untouched, anchor, retries, left, right, mark}
+use Rattle.model.proofs.laws.Tests.{either}
 
 -- A move touches nothing, or its change has not failed.
 data Single (m : Move) : Type 0 where
   touches : m .failed ≡ false → Single m
   counts : m .touch ≡ nothing → Single m
-
-either : {A : Type 0} (P : A → Type 0) (b : Bool) {x y : A} → P x → P y → P (cond b x y)
-either P true h k = h
-either P false h k = k
 
 module _ (c : Control) (r : Record) (w : ℕ) where
   single1 : Single (at1 c r)

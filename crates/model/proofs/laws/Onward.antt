@@ -15,7 +15,7 @@ use Rattle.model.specs.Tables.{isEmpty}
 use Rattle.model.specs.Sound.{every, isPush, isPop, recordTests, recordSound}
 use Rattle.model.specs.Places.{Move, endSeen, reading, at1, at2, at3, at4, at5, at6, at7, at9, at10, at11, move}
 use Rattle.model.specs.Route.{leave, pushed, pushRoute, popRoute, route, onward}
-use Rattle.model.proofs.laws.Tests.{every-one, implied, otherwise}
+use Rattle.model.proofs.laws.Tests.{either, by-test, every-one, implied, otherwise}
 
 abbrev Leads : ℕ → ℕ → ℕ → Type 0
 Leads place kind outcome = eqb (route place kind outcome) 0 ≡ false
@@ -28,14 +28,6 @@ onward-leads n finishing h = go (eqb n leave) (eqb finishing 1)
     go true true = refl
     go true false = refl
     go false b = h
-
-either : {A : Type 0} (P : A → Type 0) (b : Bool) {x y : A} → P x → P y → P (cond b x y)
-either P true h k = h
-either P false h k = k
-
-by-test : {A : Type 0} (P : A → Type 0) (b : Bool) {x y : A} → (b ≡ true → P x) → (b ≡ false → P y) → P (cond b x y)
-by-test P true h k = h refl
-by-test P false h k = k refl
 
 by-kind : (p outcome kind : ℕ) → leb kind 1 ≡ true → Leads p 0 outcome → Leads p 1 outcome → Leads p kind outcome
 by-kind p outcome zero k h g = h

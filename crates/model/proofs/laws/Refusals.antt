@@ -34,7 +34,7 @@ data Found (l : List Rule) : ℕ → Type 0 where
   some : (n : ℕ) → 0 < n → FirstApplies n l → Found l n
 
 -- Every number is positive, so 0 is none of them.
-abbrev numbered : List Rule → Bool
+abbrev pub numbered : List Rule → Bool
 numbered [] = true
 numbered (r ∷ l) = ltb 0 (r .number) && numbered l
 
@@ -48,6 +48,13 @@ find [] h = none tt
 find (r ∷ l) h =
     let both = and-both (ltb 0 (r .number)) (numbered l) h in
     find-from (r .applies) (r .number) (ltb-true 0 (r .number) (both .0)) (find l (both .1))
+
+pub none-applies : (l : List Rule) → numbered l ≡ true → first l ≡ 0 → NoneApplies l
+none-applies l h e = go (find l h) e
+  where
+    go : {n : ℕ} → Found l n → n ≡ 0 → NoneApplies l
+    go (none f) e = f
+    go (some n h f) e = absurd (omega arith)
 
 -- A start or step is carried out if no rule applies; else it answers the first one's number, and record and tables are as they were.
 pub data Decided (rules : List Rule) (q : Tables) (r : Record) : Acted → Type 0 where

@@ -1,11 +1,20 @@
 -- Tests taken apart.
 use mathlib.Core.Path.{_≡_, refl}
-use mathlib.Core.Bool.{Bool, true, false, _&&_, _||_, not}
+use mathlib.Core.Bool.{Bool, true, false, _&&_, _||_, not, cond}
 use mathlib.Core.List.{List, [], _∷_}
 use Prim.Native.Nat.{ℕ}
 use native.Mathlib.Omega.{arith}
 use Rattle.model.specs.Sound.{every}
 use Rattle.model.specs.History.{All}
+
+-- What holds of both outcomes of a test; the second form keeps the test's value.
+pub either : {A : Type 0} (P : A → Type 0) (b : Bool) {x y : A} → P x → P y → P (cond b x y)
+either P true h k = h
+either P false h k = k
+
+pub by-test : {A : Type 0} (P : A → Type 0) (b : Bool) {x y : A} → (b ≡ true → P x) → (b ≡ false → P y) → P (cond b x y)
+by-test P true h k = h refl
+by-test P false h k = k refl
 
 pub and-both : (b c : Bool) → b && c ≡ true → (b ≡ true) × (c ≡ true)
 and-both true c e = (refl, e)

@@ -3,3 +3,4 @@ pub mod Words
 pub mod Sides
 pub mod Sound
 pub mod Moves
+pub mod Steps
