@@ -5,4 +5,4 @@ pub mod Lengths
 pub mod LentRecord
 pub mod OneTouch
 pub mod Onward
-pub mod mirror
+pub mod Mirror

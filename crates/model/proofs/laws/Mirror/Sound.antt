@@ -1,7 +1,7 @@
 -- What is sound is sound mirrored: every test and every refusal of a start is the same.
 use mathlib.Core.Path.{_≡_, refl, ap, _∙_, sym}
 use mathlib.Core.Bool.{Bool, true, false, _&&_, _||_, not, Bool·beq, cond}
-use Prim.Native.Nat.{ℕ, zero, suc, _/_, _%_, _^_}
+use Prim.Native.Nat.{ℕ, zero, suc, _/_}
 use native.Mathlib.Omega.{arith}
 use lib.Dec.{eqb, leb, ltb}
 use lib.ListN.{length}
@@ -11,10 +11,10 @@ use Rattle.word.specs.Anchor.{anchorOf}
 use Rattle.model.specs.declared.Control.{Control}
 use Rattle.model.specs.declared.Record.{Record}
 use Rattle.model.specs.Tables.{Tables}
-use Rattle.model.specs.Sound.{from1, every, anchorSound, controlSound, recordSound, rowsFit}
-use Rattle.model.specs.Refusals.{Lent, late, pushRefusal, popRefusal}
-use Rattle.model.specs.Mirror.{mirrorSide, mirrorStatus, mirrorAnchor, mirrorWord, mirrorControl, mirrorTables, mirrorBusy, mirrorRecord}
-use Rattle.model.proofs.laws.mirror.Words.{status-stable, status-range, mirror-fields}
+use Rattle.model.specs.Sound.{from1, anchorSound, controlSound, recordSound, rowsFit}
+use Rattle.model.specs.Refusals.{Lent, pushRefusal, popRefusal}
+use Rattle.model.specs.Mirror.{mirrorSide, mirrorAnchor, mirrorWord, mirrorControl, mirrorTables, mirrorBusy, mirrorRecord}
+use Rattle.model.proofs.laws.Mirror.Words.{status-stable, status-range, mirror-fields}
 
 pub eqb-sym : (m n : ℕ) → eqb m n ≡ eqb n m
 eqb-sym m n = go (eqb n m) refl

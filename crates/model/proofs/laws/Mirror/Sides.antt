@@ -13,8 +13,8 @@ use Rattle.model.specs.declared.Record.{Record}
 use Rattle.model.specs.Tables.{Tables, opposite, near, far, facing, links, pushing, named}
 use Rattle.model.specs.Sound.{helping, isPush}
 use Rattle.model.specs.Places.{sideOf, endSeen, row, linkSide, linkMet}
-use Rattle.model.specs.Mirror.{mirrorSide, mirrorStatus, mirrorAnchor, mirrorWord, mirrorTables, mirrorBusy}
-use Rattle.model.proofs.laws.mirror.Words.{mirror-fields}
+use Rattle.model.specs.Mirror.{mirrorSide, mirrorStatus, mirrorAnchor, mirrorTables, mirrorBusy}
+use Rattle.model.proofs.laws.Mirror.Words.{mirror-fields}
 
 -- A side enters by one test alone.
 module _ (d : ℕ) where
@@ -79,7 +79,7 @@ module _ (r : Record) where
   unfolding sideOf
   side-mirror f g e =
       ap (λ (a : Anchor). cond (helping r) (named (a .status)) (mirrorSide (r .side))) (mirror-fields (r .seen))
-          ∙ side-or-named (helping r) (anchorOf (r .seen) .status) (r .side) f g e
+      ∙ side-or-named (helping r) (anchorOf (r .seen) .status) (r .side) f g e
 
   module _ (turned : sideOf (mirrorBusy r) ≡ opposite (sideOf r)) where
     pub end-mirror : endSeen (mirrorBusy r) ≡ endSeen r

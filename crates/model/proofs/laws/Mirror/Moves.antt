@@ -1,7 +1,7 @@
 -- A place does on the mirrored record the mirror of what it does, where the side of the step is the opposite one.
-use mathlib.Core.Path.{_≡_, refl, ap, ap₂, _∙_, sym}
-use mathlib.Core.Bool.{Bool, true, false, _&&_, _||_, not, cond, and-comm}
-use Prim.Native.Nat.{ℕ, _+_, _<_, _/_, _%_, _^_}
+use mathlib.Core.Path.{_≡_, refl, ap, ap₂, _∙_}
+use mathlib.Core.Bool.{Bool, true, false, cond, and-comm}
+use Prim.Native.Nat.{ℕ, _+_, _<_}
 use native.Mathlib.Omega.{arith}
 use lib.Dec.{eqb}
 use lib.ListN.{set}
@@ -10,13 +10,13 @@ use Rattle.word.specs.Anchor.{anchorOf, packAnchor}
 use Rattle.word.specs.Link.{linkOf, packLink}
 use Rattle.model.specs.declared.Control.{Control}
 use Rattle.model.specs.declared.Record.{Record}
-use Rattle.model.specs.Tables.{Tables, opposite, near, far, facing, pushing, isEmpty}
+use Rattle.model.specs.Tables.{Tables, opposite, far, facing, pushing}
 use Rattle.model.specs.Sound.{isPush, isPop}
-use Rattle.model.specs.Places.{sideOf, endSeen, row, linkSide, Touch, nothing, setAnchor, setLink, clearMark, Move, withSeen, withLink, reads, changes, reading, at1, at2, at3, new4, at4, at5, at6, at7, at9, at10, at11, move, apply}
-use Rattle.model.specs.Mirror.{mirrorSide, mirrorStatus, mirrorAnchor, mirrorWord, mirrorControl, mirrorTables, mirrorBusy}
-use Rattle.model.proofs.laws.mirror.Words.{status-stable, mirror-fields, mirror-pack, mirror-equal}
-use Rattle.model.proofs.laws.mirror.Sides.{near-mirror, far-mirror, facing-mirror, pushing-mirror, pushing-small, end-mirror, row-mirror, link-side-mirror}
-use Rattle.model.proofs.laws.mirror.Sound.{eqb-sym}
+use Rattle.model.specs.Places.{sideOf, Touch, nothing, setAnchor, setLink, clearMark, Move, withSeen, withLink, reads, changes, reading, at1, at2, at3, new4, at4, at5, at6, at7, at9, at10, at11, move, apply}
+use Rattle.model.specs.Mirror.{mirrorStatus, mirrorAnchor, mirrorWord, mirrorControl, mirrorTables, mirrorBusy}
+use Rattle.model.proofs.laws.Mirror.Words.{status-stable, mirror-fields, mirror-pack, mirror-equal}
+use Rattle.model.proofs.laws.Mirror.Sides.{far-mirror, facing-mirror, pushing-mirror, pushing-small, end-mirror, row-mirror, link-side-mirror}
+use Rattle.model.proofs.laws.Mirror.Sound.{eqb-sym}
 
 abbrev pub mirrorTouch : Touch → Touch
 mirrorTouch nothing = nothing
@@ -76,16 +76,16 @@ module _ (c : Control) (r : Record) (w : ℕ) (turned : sideOf (mirrorBusy r) �
       → packAnchor (facing (sideOf (mirrorBusy r)) (anchorOf (mirrorWord (r .seen)) .tag + 1) s′ n f′) ≡ mirrorWord (packAnchor (facing (sideOf r) (anchorOf (r .seen) .tag + 1) s n f))
   raised s s′ n f f′ small e h =
       ap₂ (λ (d : ℕ) (a : Anchor). packAnchor (facing d (a .tag + 1) s′ n f′)) turned (mirror-fields (r .seen))
-          ∙ ap₂ (λ (x y : ℕ). packAnchor (facing (opposite (sideOf r)) (anchorOf (r .seen) .tag + 1) x n y)) e h
-          ∙ ap packAnchor (facing-mirror (sideOf r) (anchorOf (r .seen) .tag + 1) s n f)
-          ∙ mirror-pack (facing (sideOf r) (anchorOf (r .seen) .tag + 1) s n f) small
+      ∙ ap₂ (λ (x y : ℕ). packAnchor (facing (opposite (sideOf r)) (anchorOf (r .seen) .tag + 1) x n y)) e h
+      ∙ ap packAnchor (facing-mirror (sideOf r) (anchorOf (r .seen) .tag + 1) s n f)
+      ∙ mirror-pack (facing (sideOf r) (anchorOf (r .seen) .tag + 1) s n f) small
 
   -- A change of Anchor.
   anchor-change : (v v′ : ℕ) (s s′ : Record) → v′ ≡ mirrorWord v → s′ ≡ mirrorBusy s
       → changes (mirrorWord (c .anchor)) (mirrorWord (r .seen)) (setAnchor v′) s′ (mirrorBusy r) ≡ mirrorMove (changes (c .anchor) (r .seen) (setAnchor v) s r)
   anchor-change v v′ s s′ e h =
       ap₂ (λ (t : Touch) (x : Record). changes (mirrorWord (c .anchor)) (mirrorWord (r .seen)) t x (mirrorBusy r)) (ap setAnchor e) h
-          ∙ rw (mirror-equal (c .anchor) (r .seen)) (through mirrorMove (eqb (c .anchor) (r .seen)) refl refl)
+      ∙ rw (mirror-equal (c .anchor) (r .seen)) (through mirrorMove (eqb (c .anchor) (r .seen)) refl refl)
 
   mirror1 : at1 (mirrorControl c) (mirrorBusy r) ≡ mirrorMove (at1 c r)
   unfolding at1

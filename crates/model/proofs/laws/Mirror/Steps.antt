@@ -1,32 +1,30 @@
 -- A step of the mirrored record: refused for the same reason, or carried out as the mirror of the step.
-use mathlib.Core.Path.{_≡_, refl, ap, ap₂, _∙_, sym}
+use mathlib.Core.Path.{_≡_, refl, ap, _∙_, sym}
 use mathlib.Core.Bool.{Bool, true, false, _&&_, _||_, not, cond}
-use mathlib.Core.List.{List, [], _∷_}
+use mathlib.Core.List.{[], _∷_}
 use Prim.Native.Nat.{ℕ}
-use native.Mathlib.Omega.{arith}
 use lib.Dec.{eqb, leb, ltb}
 use lib.ListN.{getD}
 use borrow.Author.Tests.{eqb-true, not-false}
 use Rattle.word.specs.Anchor.{anchorOf}
 use Rattle.model.specs.declared.Control.{Control}
 use Rattle.model.specs.declared.Record.{Record}
-use Rattle.model.specs.declared.Answer.{Answer}
 use Rattle.model.specs.declared.Outcome.the-variants.{Refused, Moved}
 use Rattle.model.specs.Tables.{Tables, opposite, idle}
 use Rattle.model.specs.Sound.{from1, every, anchorTests, anchorSound, linkSound, controlSound, recordTests, recordSound, rowsFit}
-use Rattle.model.specs.Places.{sideOf, row, linkMet, Touch, nothing, setAnchor, setLink, clearMark, Move, move, apply}
+use Rattle.model.specs.Places.{sideOf, row, linkMet, Touch, nothing, setAnchor, setLink, clearMark, Move, move}
 use Rattle.model.specs.Route.{route, onward, answer, goes, counted}
 use Rattle.model.specs.Refusals.{Lent, rule, first, needsRow, meetsLink, leavesSound, hasRoom, stepSound, stepRules, stepRefusal}
 use Rattle.model.specs.Calls.{Acted, decide, withRetries, finish, step}
-use Rattle.model.specs.Mirror.{mirrorWord, mirrorControl, mirrorTables, mirrorBusy, mirrorRecord, mirrorActed}
+use Rattle.model.specs.Mirror.{mirrorControl, mirrorTables, mirrorBusy, mirrorRecord, mirrorActed}
 use Rattle.model.proofs.laws.Tests.{every-one, otherwise}
 use Rattle.model.proofs.laws.Refusals.{none-applies}
 use Rattle.model.proofs.laws.Onward.{leads-on}
-use Rattle.model.proofs.laws.mirror.Sides.{side-mirror, row-mirror, link-met-mirror}
-use Rattle.model.proofs.laws.mirror.Sound.{word-sound-mirror, tag-mirror, control-sound-mirror, record-sound-mirror, place-mirror, rows-fit-mirror}
-use Rattle.model.proofs.laws.mirror.Moves.{mirrorTouch, mirrorMove, apply-mirror, move-mirror}
+use Rattle.model.proofs.laws.Mirror.Sides.{side-mirror, row-mirror, link-met-mirror}
+use Rattle.model.proofs.laws.Mirror.Sound.{word-sound-mirror, tag-mirror, control-sound-mirror, record-sound-mirror, place-mirror, rows-fit-mirror}
+use Rattle.model.proofs.laws.Mirror.Moves.{mirrorTouch, mirrorMove, apply-mirror, move-mirror}
 
-busy-record : (r : Record) → eqb (r .place) 0 ≡ false → mirrorRecord r ≡ mirrorBusy r
+pub busy-record : (r : Record) → eqb (r .place) 0 ≡ false → mirrorRecord r ≡ mirrorBusy r
 unfolding mirrorRecord
 busy-record r e = ap (λ (b : Bool). cond b r (mirrorBusy r)) e
 
@@ -57,11 +55,11 @@ step-sound-mirror c r w side =
     let leaves = ap (λ (m : Move). leavesSound (c .slots) (m .touch)) same ∙ leaves-mirror (c .slots) (move c r w .touch) in
     let room = ap (λ (m : Move). hasRoom (mirrorBusy r) (m .touch)) same ∙ room-mirror r (move c r w .touch) in
     λ i. every (
-      (not (needsRow r) || from1 (c .slots) (row-mirror r side i))
-      ∷ (not (meetsLink r) || linkSound (c .slots) w)
-      ∷ leaves i
-      ∷ room i
-      ∷ []
+    (not (needsRow r) || from1 (c .slots) (row-mirror r side i))
+    ∷ (not (meetsLink r) || linkSound (c .slots) w)
+    ∷ leaves i
+    ∷ room i
+    ∷ []
     )
 
 module _ (q : Tables) (r : Record) where
@@ -71,8 +69,8 @@ module _ (q : Tables) (r : Record) where
   last-rule sound busy =
       let side = turned (q .control .slots) r sound busy in
       ap (λ (x : Record). stepSound (mirrorControl (q .control)) x (linkMet (mirrorTables q) x)) (busy-record r busy)
-          ∙ ap (stepSound (mirrorControl (q .control)) (mirrorBusy r)) (link-met-mirror r side q)
-          ∙ step-sound-mirror (q .control) r (linkMet q r) side
+      ∙ ap (stepSound (mirrorControl (q .control)) (mirrorBusy r)) (link-met-mirror r side q)
+      ∙ step-sound-mirror (q .control) r (linkMet q r) side
 
   last-three : (sound idles x y : Bool) → (sound ≡ true → idles ≡ false → x ≡ y)
       → first (rule 34 (not sound) ∷ rule 31 idles ∷ rule 34 (not x) ∷ []) ≡ first (rule 34 (not sound) ∷ rule 31 idles ∷ rule 34 (not y) ∷ [])
@@ -127,15 +125,15 @@ carried-mirror : (q : Tables) (r : Record) → recordSound (q .control .slots) r
 carried-mirror q r sound busy =
     let side = turned (q .control .slots) r sound busy in
     ap (carried (mirrorTables q)) (busy-record r busy)
-        ∙ ap (λ (w : ℕ). finish (mirrorTables q) (mirrorBusy r) (move (mirrorControl (q .control)) (mirrorBusy r) w)) (link-met-mirror r side q)
-        ∙ ap (finish (mirrorTables q) (mirrorBusy r)) (move-mirror (q .control) r (linkMet q r) side)
-        ∙ finish-mirror q r (move (q .control) r (linkMet q r)) (row-mirror r side) (leads-on (q .control .slots) (q .control) r (linkMet q r) sound busy)
+    ∙ ap (λ (w : ℕ). finish (mirrorTables q) (mirrorBusy r) (move (mirrorControl (q .control)) (mirrorBusy r) w)) (link-met-mirror r side q)
+    ∙ ap (finish (mirrorTables q) (mirrorBusy r)) (move-mirror (q .control) r (linkMet q r) side)
+    ∙ finish-mirror q r (move (q .control) r (linkMet q r)) (row-mirror r side) (leads-on (q .control .slots) (q .control) r (linkMet q r) sound busy)
 
 pub step-mirror : (q : Tables) (p : Lent) (r : Record) → step (mirrorTables q) p (mirrorRecord r) ≡ mirrorActed (step q p r)
 unfolding step stepRefusal
 step-mirror q p r =
     ap (λ (why : ℕ). decide why (mirrorTables q) (mirrorRecord r) (carried (mirrorTables q) (mirrorRecord r))) (step-refusal-mirror q r p)
-        ∙ decide-mirror (stepRefusal q p r) q r (carried q r) (carried (mirrorTables q) (mirrorRecord r)) go
+    ∙ decide-mirror (stepRefusal q p r) q r (carried q r) (carried (mirrorTables q) (mirrorRecord r)) go
   where
     go : stepRefusal q p r ≡ 0 → carried (mirrorTables q) (mirrorRecord r) ≡ mirrorActed (carried q r)
     go e = let passed = none-applies (stepRules q p r) refl e in carried-mirror q r (not-false _ (passed .1 .1 .1 .0)) (passed .1 .1 .1 .1 .0)
