@@ -8,7 +8,6 @@ use lib.Dec.{eqb, leb, ltb}
 use lib.ListN.{length, set, length-set, length-append, length-replicate, length-drop}
 use borrow.Author.Tests.{leb-true, ltb-true, not-false}
 use Rattle.model.specs.declared.Record.{Record}
-use Rattle.model.specs.declared.Outcome.the-variants.{Refused}
 use Rattle.model.specs.declared.Op.{Op}
 use Rattle.model.specs.declared.Op.the-variants.{Push, Pop, Step}
 use Rattle.model.specs.Tables.{Tables, Queue, zeroed, idle, recordAt}
@@ -16,7 +15,7 @@ use Rattle.model.specs.Sound.{rowTests, rowsFit}
 use Rattle.model.specs.Places.{Touch, nothing, setAnchor, setLink, clearMark, linkMet, move, apply}
 use Rattle.model.specs.Refusals.{Lent, among, alone, openRules, stepRefusal, pushRefusal, popRefusal}
 use Rattle.model.specs.Calls.{opened, OpenDone, openQueue, Acted, decide, pushStart, popStart, finish, step, actOn, act, stepLent}
-use Rattle.model.proofs.laws.Tests.{and-both, every-one}
+use Rattle.model.proofs.laws.Tests.{either, and-both, every-one}
 use Rattle.model.proofs.laws.Refusals.{OpenDecided, accepted-opening, refused-opening, open-decided}
 
 pub record Lengths : Type 0 where
@@ -38,24 +37,26 @@ touched nothing q = refl
 touched (setAnchor w) q = refl
 touched (setLink side x w) q = go (eqb side 1)
   where
-    go : (right : Bool) → lengths (record { control = q .control; lefts = cond right (q .lefts) (set (q .lefts) x w); rights = cond right (set (q .rights) x w) (q .rights); labels = q .labels; marks = q .marks }) ≡ lengths q
+    go : (right : Bool) → lengths (record {
+      control = q .control;
+      lefts = cond right (q .lefts) (set (q .lefts) x w);
+      rights = cond right (set (q .rights) x w) (q .rights);
+      labels = q .labels;
+      marks = q .marks;
+    }) ≡ lengths q
     go true = rw length-set
     go false = rw length-set
-touched (clearMark x) q = rw length-set
+touched (clearMark x) q = simp length-set
 
 -- Refused or carried out.
-either : (why : ℕ) (q : Tables) (r : Record) (done : Acted) → lengths (done .tables) ≡ lengths q → lengths (decide why q r done .tables) ≡ lengths q
-either why q r done e = go (eqb why 0)
-  where
-    go : (b : Bool) → lengths (cond b done (record { tables = q; task = r; outcome = Refused why }) .tables) ≡ lengths q
-    go true = e
-    go false = refl
+settled : (why : ℕ) (q : Tables) (r : Record) (done : Acted) → lengths (done .tables) ≡ lengths q → lengths (decide why q r done .tables) ≡ lengths q
+settled why q r done e = either (λ (a : Acted). lengths (a .tables) ≡ lengths q) (eqb why 0) e refl
 
 act-on : (q : Tables) (p : Lent) (r : Record) (o : Op) → lengths (actOn q p r o .tables) ≡ lengths q
 unfolding actOn pushStart popStart step finish
-act-on q p r (Push side slot label) = either (pushRefusal q p r side slot) q r _ (simp length-set)
-act-on q p r (Pop side) = either (popRefusal q p r side) q r _ refl
-act-on q p r Step = either (stepRefusal q p r) q r _ (touched (move (q .control) r (linkMet q r) .touch) _)
+act-on q p r (Push side slot label) = settled (pushRefusal q p r side slot) q r _ (simp length-set)
+act-on q p r (Pop side) = settled (popRefusal q p r side) q r _ refl
+act-on q p r Step = settled (stepRefusal q p r) q r _ (touched (move (q .control) r (linkMet q r) .touch) _)
 
 -- The laws.
 pub lent-lengths : (q : Tables) (r : Record) → lengths (stepLent q r .tables) ≡ lengths q

@@ -1,6 +1,6 @@
 -- A step of a busy, sound record leads on: to a place other than 0, or to an answer.
 use mathlib.Core.Path.{_≡_, refl, sym, subst}
-use mathlib.Core.Bool.{Bool, true, false, _||_, not, cond}
+use mathlib.Core.Bool.{Bool, true, false, cond}
 use Prim.Native.Nat.{ℕ, zero, suc, _≤_, _<_}
 use native.Mathlib.Omega.{arith}
 use lib.Dec.{eqb, leb}
@@ -11,10 +11,10 @@ use Rattle.word.specs.Link.{linkOf}
 use Rattle.model.specs.declared.Control.{Control}
 use Rattle.model.specs.declared.Record.{Record}
 use Rattle.model.specs.Tables.{isEmpty}
-use Rattle.model.specs.Sound.{every, isPush, isPop, recordTests, recordSound}
+use Rattle.model.specs.Sound.{isPush, isPop, recordSound}
 use Rattle.model.specs.Places.{Move, endSeen, reading, at1, at2, at3, at4, at5, at6, at7, at9, at10, at11, move}
 use Rattle.model.specs.Route.{leave, pushed, pushRoute, popRoute, route, onward}
-use Rattle.model.proofs.laws.Tests.{either, by-test, every-one, implied, otherwise}
+use Rattle.model.proofs.laws.Tests.{either, by-test, implied, Sound, sound-record}
 
 abbrev Leads : ℕ → ℕ → ℕ → Type 0
 Leads place kind outcome = eqb (route place kind outcome) 0 ≡ false
@@ -107,22 +107,20 @@ module _ (c : Control) (r : Record) (w : ℕ) (kind : leb (r .kind) 1 ≡ true) 
       later : (r .place ≡ i → ⊥) → i < r .place
       later n = omega arith
 
-  last : leb (r .place) 11 ≡ true → not (eqb (r .place) 11) || isPop r ≡ true → 10 < r .place → From (r .kind) (r .place) (at11 r)
-  last bound pop h =
-      let eleven : r .place ≡ 11 = omega (arith, leb-true (r .place) 11 bound) in
-      subst (λ (p : ℕ). From (r .kind) p (at11 r)) (sym eleven) (lead11 (implied (eqb (r .place) 11) (isPop r) pop (eq-eqb (r .place) 11 eleven)))
+  last : Sound r → 10 < r .place → From (r .kind) (r .place) (at11 r)
+  last sound h =
+      let eleven : r .place ≡ 11 = omega (arith, leb-true (r .place) 11 (sound .place)) in
+      subst (λ (p : ℕ). From (r .kind) p (at11 r)) (sym eleven) (lead11 (implied (eqb (r .place) 11) (isPop r) (sound .pops) (eq-eqb (r .place) 11 eleven)))
 
-  leads : leb (r .place) 11 ≡ true → eqb (r .place) 0 ≡ false → not (eqb (r .place) 11) || isPop r ≡ true → From (r .kind) (r .place) (move c r w)
+  leads : Sound r → eqb (r .place) 0 ≡ false → From (r .kind) (r .place) (move c r w)
   unfolding move
-  leads bound busy pop =
+  leads sound busy =
       turn 1 (omega (arith, eqb-false (r .place) 0 busy)) lead1 (λ h. turn 2 h lead2 (λ h. turn 3 h lead3 (λ h. turn 4 h lead4 (λ h. turn 5 h lead5
-      (λ h. turn 6 h lead6 (λ h. turn 7 h lead7 (λ h. turn 8 h lead8 (λ h. turn 9 h lead9 (λ h. turn 10 h lead10 (last bound pop))))))))))
+      (λ h. turn 6 h lead6 (λ h. turn 7 h lead7 (λ h. turn 8 h lead8 (λ h. turn 9 h lead9 (λ h. turn 10 h lead10 (last sound))))))))))
 
 -- The law.
 pub leads-on : (slots : ℕ) (c : Control) (r : Record) (w : ℕ) → recordSound slots r ≡ true → eqb (r .place) 0 ≡ false
     → let m = move c r w in eqb (onward (route (r .place) (r .kind) (m .outcome)) (m .task .finishing)) 0 ≡ false
-unfolding recordSound
 leads-on slots c r w sound busy =
-    let tests = every-one (recordTests slots r) (otherwise (eqb (r .place) 0) (every (recordTests slots r)) sound busy) in
-    let h = leads c r w (tests .1 .0) (tests .0) busy (tests .1 .1 .1 .1 .0) in
-    onward-leads _ _ (leads-from h)
+    let facts = sound-record slots r sound busy in
+    onward-leads _ _ (leads-from (leads c r w (facts .kind) facts busy))

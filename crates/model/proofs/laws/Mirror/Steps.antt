@@ -6,18 +6,17 @@ use Prim.Native.Nat.{ℕ}
 use lib.Dec.{eqb, leb, ltb}
 use lib.ListN.{getD}
 use borrow.Author.Tests.{eqb-true, not-false}
-use Rattle.word.specs.Anchor.{anchorOf}
 use Rattle.model.specs.declared.Control.{Control}
 use Rattle.model.specs.declared.Record.{Record}
 use Rattle.model.specs.declared.Outcome.the-variants.{Refused, Moved}
 use Rattle.model.specs.Tables.{Tables, opposite, idle}
-use Rattle.model.specs.Sound.{from1, every, anchorTests, anchorSound, linkSound, controlSound, recordTests, recordSound, rowsFit}
+use Rattle.model.specs.Sound.{from1, every, linkSound, controlSound, recordSound, rowsFit}
 use Rattle.model.specs.Places.{sideOf, row, linkMet, Touch, nothing, setAnchor, setLink, clearMark, Move, move}
 use Rattle.model.specs.Route.{route, onward, answer, goes, counted}
 use Rattle.model.specs.Refusals.{Lent, rule, first, needsRow, meetsLink, leavesSound, hasRoom, stepSound, stepRules, stepRefusal}
 use Rattle.model.specs.Calls.{Acted, decide, withRetries, finish, step}
 use Rattle.model.specs.Mirror.{mirrorControl, mirrorTables, mirrorBusy, mirrorRecord, mirrorActed}
-use Rattle.model.proofs.laws.Tests.{every-one, otherwise}
+use Rattle.model.proofs.laws.Tests.{sound-record}
 use Rattle.model.proofs.laws.Refusals.{none-applies}
 use Rattle.model.proofs.laws.Onward.{leads-on}
 use Rattle.model.proofs.laws.Mirror.Sides.{side-mirror, row-mirror, link-met-mirror}
@@ -30,11 +29,7 @@ busy-record r e = ap (λ (b : Bool). cond b r (mirrorBusy r)) e
 
 -- A busy, sound record steps on the opposite side.
 turned : (slots : ℕ) (r : Record) → recordSound slots r ≡ true → eqb (r .place) 0 ≡ false → sideOf (mirrorBusy r) ≡ opposite (sideOf r)
-unfolding recordSound anchorSound
-turned slots r sound busy =
-    let tests = every-one (recordTests slots r) (otherwise (eqb (r .place) 0) (every (recordTests slots r)) sound busy) in
-    let anchor = every-one (anchorTests slots (anchorOf (r .seen))) (tests .1 .1 .1 .1 .1 .1 .1 .1 .1 .0) in
-    side-mirror r (tests .1 .1 .0) (anchor .0) (tests .1 .1 .1 .1 .1 .1 .1 .1 .1 .1 .0)
+turned slots r sound busy = let facts = sound-record slots r sound busy in side-mirror r (facts .side) (facts .status) (facts .unstable)
 
 leaves-mirror : (slots : ℕ) (t : Touch) → leavesSound slots (mirrorTouch t) ≡ leavesSound slots t
 leaves-mirror slots nothing = refl
