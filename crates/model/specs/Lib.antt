@@ -7,3 +7,5 @@ pub mod Calls
 pub mod Report
 pub mod Deque
 pub mod History
+pub mod OneTouch
+pub mod Mirror

@@ -1,0 +1,8 @@
+-- Laws of single calls, for all tables and all arguments.
+pub mod Tests
+pub mod Refusals
+pub mod Lengths
+pub mod LentRecord
+pub mod OneTouch
+pub mod Onward
+pub mod Mirror

@@ -1,0 +1,123 @@
+-- Left is the mirror of right: every call on the mirrored queue, with its side mirrored, answers the same and leaves the mirror of what it leaves; for all
+-- tables and all arguments, refused ones among them.
+pub mod Words
+pub mod Sides
+pub mod Sound
+pub mod Moves
+pub mod Steps
+pub mod Twice
+use mathlib.Core.Path.{_≡_, refl, ap, ap₂, _∙_}
+use mathlib.Core.Bool.{Bool, true, false, cond}
+use mathlib.Core.List.{List, [], _∷_, _++_, map}
+use Prim.Native.Nat.{ℕ, zero, suc, _+_, _/_}
+use native.Mathlib.Omega.{arith}
+use lib.Dec.{eqb, leb, ltb}
+use lib.ListN.{set, drop, replicate, length-map, List·getD-map}
+use Rattle.word.specs.Anchor.{emptyAnchor}
+use Rattle.model.specs.declared.Record.{Record}
+use Rattle.model.specs.declared.Answer.the-variants.{Running}
+use Rattle.model.specs.declared.Outcome.the-variants.{Moved}
+use Rattle.model.specs.declared.Opening.the-variants as opening
+use Rattle.model.specs.declared.Op.{Op}
+use Rattle.model.specs.declared.Op.the-variants.{Push, Pop, Step}
+use Rattle.model.specs.Tables.{Tables, Queue, idle, started, recordAt, zeroed}
+use Rattle.model.specs.Refusals.{openRefusal, Lent, among, alone, pushRefusal, popRefusal}
+use Rattle.model.specs.Calls.{opened, OpenDone, openQueue, Acted, decide, taken, pushStart, popStart, actOn, back, act, stepLent}
+use Rattle.model.specs.Mirror.{mirrorSide, mirrorStatus, mirrorWord, mirrorTables, mirrorRecord, mirrorQueue, mirrorOp, mirrorActed, mirrorOpened, mirrorDone}
+use Rattle.model.proofs.laws.Mirror.Words.{mirror-pack}
+use Rattle.model.proofs.laws.Mirror.Sound.{rows-fit-mirror, push-refusal-mirror, pop-refusal-mirror}
+use Rattle.model.proofs.laws.Mirror.Steps.{decide-mirror, step-mirror}
+
+-- A start or step of one record.
+started-mirror : (kind side own label : ℕ) → started kind (mirrorSide side) own label ≡ mirrorRecord (started kind side own label)
+unfolding mirrorRecord mirrorWord mirrorStatus
+started-mirror kind side own label = refl
+
+act-on-mirror : (q : Tables) (p : Lent) (r : Record) (o : Op) → actOn (mirrorTables q) p (mirrorRecord r) (mirrorOp o) ≡ mirrorActed (actOn q p r o)
+unfolding actOn pushStart popStart
+act-on-mirror q p r (Push side slot label) =
+    let begun : (Tables → ℕ → Acted) = λ q side. record { tables = taken q slot label; task = started 0 side slot label; outcome = Moved (Running 1) } in
+    ap (λ (why : ℕ). decide why (mirrorTables q) (mirrorRecord r) (begun (mirrorTables q) (mirrorSide side))) (push-refusal-mirror q p r side slot)
+    ∙ decide-mirror (pushRefusal q p r side slot) q r (begun q side) (begun (mirrorTables q) (mirrorSide side))
+    (λ e i. record { tables = mirrorTables (taken q slot label); task = started-mirror 0 side slot label i; outcome = Moved (Running 1) })
+act-on-mirror q p r (Pop side) =
+    let begun : (Tables → ℕ → Acted) = λ q side. record { tables = q; task = started 1 side 0 0; outcome = Moved (Running 1) } in
+    ap (λ (why : ℕ). decide why (mirrorTables q) (mirrorRecord r) (begun (mirrorTables q) (mirrorSide side))) (pop-refusal-mirror q p r side)
+    ∙ decide-mirror (popRefusal q p r side) q r (begun q side) (begun (mirrorTables q) (mirrorSide side))
+    (λ e i. record { tables = mirrorTables q; task = started-mirror 1 side 0 0 i; outcome = Moved (Running 1) })
+act-on-mirror q p r Step = step-mirror q p r
+
+pub lent-mirror : (q : Tables) (r : Record) → stepLent (mirrorTables q) (mirrorRecord r) ≡ mirrorActed (stepLent q r)
+unfolding stepLent
+lent-mirror q r = step-mirror q alone r
+
+-- Records: each is mirrored where it lies.
+map-set : {A B : Type 0} (f : A → B) (l : List A) (i : ℕ) (x : A) → set (map f l) i (f x) ≡ map f (set l i x)
+map-set f [] i x = refl
+map-set f (a ∷ l) zero x = refl
+map-set f (a ∷ l) (suc i) x = ap (λ (m : List _). f a ∷ m) (map-set f l i x)
+
+record-at-mirror : (q : Queue) (t : ℕ) → recordAt (mirrorQueue q) t ≡ mirrorRecord (recordAt q t)
+unfolding mirrorRecord
+record-at-mirror q t = List·getD-map mirrorRecord (q .records) t idle
+
+among-mirror : (q : Queue) (t : ℕ) → among (mirrorQueue q) t ≡ among q t
+among-mirror q t = λ i. record {
+  enough = leb (q .tables .control .tasks) (length-map (q .records) mirrorRecord i);
+  known = ltb t (q .tables .control .tasks);
+}
+
+back-mirror : (q : Queue) (t : ℕ) (a : Acted) → back (mirrorQueue q) t (mirrorActed a) ≡ mirrorDone (back q t a)
+back-mirror q t a = λ i. record { queue = record { tables = mirrorTables (a .tables); records = map-set mirrorRecord (q .records) t (a .task) i }; outcome = a .outcome }
+
+-- The law.
+pub act-mirror : (q : Queue) (t : ℕ) (o : Op) → act (mirrorQueue q) t (mirrorOp o) ≡ mirrorDone (act q t o)
+unfolding act
+act-mirror q t o =
+    ap₂ (λ (p : Lent) (r : Record). back (mirrorQueue q) t (actOn (mirrorTables (q .tables)) p r (mirrorOp o))) (among-mirror q t) (record-at-mirror q t)
+    ∙ ap (back (mirrorQueue q) t) (act-on-mirror (q .tables) (among q t) (recordAt q t) o)
+    ∙ back-mirror q t (actOn (q .tables) (among q t) (recordAt q t) o)
+
+-- Opening.
+map-drop : {A B : Type 0} (f : A → B) (n : ℕ) (l : List A) → drop n (map f l) ≡ map f (drop n l)
+map-drop f zero l = refl
+map-drop f (suc n) [] = refl
+map-drop f (suc n) (a ∷ l) = map-drop f n l
+
+map-zeroed : {A B : Type 0} (f : A → B) (n : ℕ) (z : A) (l : List A) → zeroed n (f z) (map f l) ≡ map f (zeroed n z l)
+map-zeroed f n z l = ap (λ (m : List _). replicate n (f z) ++ m) (map-drop f n l) ∙ go n
+  where
+    go : (k : ℕ) → replicate k (f z) ++ map f (drop n l) ≡ map f (replicate k z ++ drop n l)
+    go zero = refl
+    go (suc k) = ap (λ (m : List _). f z ∷ m) (go k)
+
+open-refusal-mirror : (q : Queue) (tasks slots : ℕ) → openRefusal (mirrorQueue q) tasks slots ≡ openRefusal q tasks slots
+unfolding openRefusal
+open-refusal-mirror q tasks slots = rw (rows-fit-mirror slots (q .tables), length-map (q .records) mirrorRecord) refl
+
+opened-mirror : (q : Queue) (tasks slots tag : ℕ) → opened (mirrorQueue q) tasks slots tag ≡ mirrorQueue (opened q tasks slots tag)
+unfolding opened mirrorRecord mirrorStatus
+opened-mirror q tasks slots tag = λ i. record {
+  tables = record {
+    control = record { tasks = tasks; slots = slots; anchor = mirror-pack (emptyAnchor tag) (omega arith) i; retries = 0 };
+    lefts = zeroed (slots + 1) 0 (q .tables .rights);
+    rights = zeroed (slots + 1) 0 (q .tables .lefts);
+    labels = zeroed (slots + 1) 0 (q .tables .labels);
+    marks = zeroed (slots / 64 + 1) 0 (q .tables .marks);
+  };
+  records = map-zeroed mirrorRecord tasks idle (q .records) i;
+}
+
+pub open-mirror : (q : Queue) (tasks slots tag : ℕ) → openQueue (mirrorQueue q) tasks slots tag ≡ mirrorOpened (openQueue q tasks slots tag)
+unfolding openQueue
+open-mirror q tasks slots tag =
+    ap₂ (settled (mirrorQueue q)) (open-refusal-mirror q tasks slots) (opened-mirror q tasks slots tag)
+    ∙ go (eqb (openRefusal q tasks slots) 0) (openRefusal q tasks slots)
+  where
+    settled : Queue → ℕ → Queue → OpenDone
+    settled q why new = cond (eqb why 0) (record { queue = new; outcome = opening.Opened }) (record { queue = q; outcome = opening.Refused why })
+
+    go : (b : Bool) (why : ℕ) → cond b (record { queue = mirrorQueue (opened q tasks slots tag); outcome = opening.Opened }) (record { queue = mirrorQueue q; outcome = opening.Refused why })
+        ≡ mirrorOpened (cond b (record { queue = opened q tasks slots tag; outcome = opening.Opened }) (record { queue = q; outcome = opening.Refused why }))
+    go true why = refl
+    go false why = refl

@@ -1,0 +1,101 @@
+-- What is sound is sound mirrored: every test and every refusal of a start is the same.
+use mathlib.Core.Path.{_≡_, refl, ap, _∙_, sym}
+use mathlib.Core.Bool.{Bool, true, false, _&&_, _||_, not, Bool·beq, cond}
+use Prim.Native.Nat.{ℕ, zero, suc, _/_}
+use native.Mathlib.Omega.{arith}
+use lib.Dec.{eqb, leb, ltb}
+use lib.ListN.{length}
+use borrow.Author.Tests.{eqb-true, eqb-false, eq-eqb, ne-eqb}
+use Rattle.word.specs.declared.Anchor.{Anchor}
+use Rattle.word.specs.Anchor.{anchorOf}
+use Rattle.model.specs.declared.Control.{Control}
+use Rattle.model.specs.declared.Record.{Record}
+use Rattle.model.specs.Tables.{Tables}
+use Rattle.model.specs.Sound.{from1, anchorSound, controlSound, recordSound, rowsFit}
+use Rattle.model.specs.Refusals.{Lent, pushRefusal, popRefusal}
+use Rattle.model.specs.Mirror.{mirrorSide, mirrorAnchor, mirrorWord, mirrorControl, mirrorTables, mirrorBusy, mirrorRecord}
+use Rattle.model.proofs.laws.Mirror.Words.{status-stable, status-range, mirror-fields}
+
+pub eqb-sym : (m n : ℕ) → eqb m n ≡ eqb n m
+eqb-sym m n = go (eqb n m) refl
+  where
+    go : (b : Bool) → eqb n m ≡ b → eqb m n ≡ b
+    go true e = eq-eqb m n (sym (eqb-true n m e))
+    go false e = ne-eqb m n (λ h. eqb-false n m e (sym h))
+
+side-range : (side : ℕ) → leb (mirrorSide side) 1 ≡ leb side 1
+unfolding mirrorSide
+side-range zero = refl
+side-range (suc zero) = refl
+side-range (suc (suc side)) = rw (ne-eqb (suc (suc side)) 0 (λ e. omega arith), ne-eqb (suc (suc side)) 1 (λ e. omega arith))
+
+-- The tests of the two ends, exchanged.
+swap-ends : (s l r l₀ r₀ x : Bool) → s && (r && (l && (Bool·beq r₀ l₀ && x))) ≡ s && (l && (r && (Bool·beq l₀ r₀ && x)))
+swap-ends false l r l₀ r₀ x = refl
+swap-ends true true true true true x = refl
+swap-ends true true true true false x = refl
+swap-ends true true true false true x = refl
+swap-ends true true true false false x = refl
+swap-ends true true false l₀ r₀ x = refl
+swap-ends true false true l₀ r₀ x = refl
+swap-ends true false false l₀ r₀ x = refl
+
+pub anchor-sound-mirror : (slots : ℕ) (a : Anchor) → anchorSound slots (mirrorAnchor a) ≡ anchorSound slots a
+unfolding anchorSound
+anchor-sound-mirror slots a =
+    rw (status-range (a .status), status-stable (a .status), eqb-sym (a .right) (a .left))
+    (swap-ends (leb (a .status) 2) (leb (a .left) slots) (leb (a .right) slots) (eqb (a .left) 0) (eqb (a .right) 0) (eqb (a .status) 0 || not (eqb (a .left) (a .right))))
+
+pub word-sound-mirror : (slots w : ℕ) → anchorSound slots (anchorOf (mirrorWord w)) ≡ anchorSound slots (anchorOf w)
+word-sound-mirror slots w = ap (anchorSound slots) (mirror-fields w) ∙ anchor-sound-mirror slots (anchorOf w)
+
+pub tag-mirror : (w : ℕ) → anchorOf (mirrorWord w) .tag ≡ anchorOf w .tag
+tag-mirror w = ap (λ (a : Anchor). a .tag) (mirror-fields w)
+
+stable-mirror : (w : ℕ) → eqb (anchorOf (mirrorWord w) .status) 0 ≡ eqb (anchorOf w .status) 0
+stable-mirror w = ap (λ (a : Anchor). eqb (a .status) 0) (mirror-fields w) ∙ status-stable (anchorOf w .status)
+
+pub control-sound-mirror : (c : Control) → controlSound (mirrorControl c) ≡ controlSound c
+unfolding controlSound
+control-sound-mirror c = ap (λ (b : Bool). from1 16 (c .tasks) && (from1 1023 (c .slots) && b)) (word-sound-mirror (c .slots) (c .anchor))
+
+pub busy-sound-mirror : (slots : ℕ) (r : Record) → recordSound slots (mirrorBusy r) ≡ recordSound slots r
+unfolding recordSound
+busy-sound-mirror slots r = rw (side-range (r .side), word-sound-mirror slots (r .seen), stable-mirror (r .seen)) refl
+
+pub record-sound-mirror : (slots : ℕ) (r : Record) → recordSound slots (mirrorRecord r) ≡ recordSound slots r
+unfolding mirrorRecord
+record-sound-mirror slots r = go (eqb (r .place) 0)
+  where
+    go : (b : Bool) → recordSound slots (cond b r (mirrorBusy r)) ≡ recordSound slots r
+    go true = refl
+    go false = busy-sound-mirror slots r
+
+pub place-mirror : (r : Record) → mirrorRecord r .place ≡ r .place
+unfolding mirrorRecord
+place-mirror r = go (eqb (r .place) 0)
+  where
+    go : (b : Bool) → cond b r (mirrorBusy r) .place ≡ r .place
+    go true = refl
+    go false = refl
+
+pub rows-fit-mirror : (slots : ℕ) (q : Tables) → rowsFit slots (mirrorTables q) ≡ rowsFit slots q
+unfolding rowsFit
+rows-fit-mirror slots q = go (ltb slots (length (q .lefts))) (ltb slots (length (q .rights)))
+  where
+    go : (l r : Bool) → r && (l && (ltb slots (length (q .labels)) && ltb (slots / 64) (length (q .marks)))) ≡ l && (r && (ltb slots (length (q .labels)) && ltb (slots / 64) (length (q .marks))))
+    go true true = refl
+    go true false = refl
+    go false true = refl
+    go false false = refl
+
+module _ (q : Tables) (p : Lent) (r : Record) (side : ℕ) where
+  pub push-refusal-mirror : (slot : ℕ) → pushRefusal (mirrorTables q) p (mirrorRecord r) (mirrorSide side) slot ≡ pushRefusal q p r side slot
+  unfolding pushRefusal
+  push-refusal-mirror slot =
+      rw (control-sound-mirror (q .control), rows-fit-mirror (q .control .slots) q, side-range side, record-sound-mirror (q .control .slots) r, place-mirror r, tag-mirror (q .control .anchor)) refl
+
+  pub pop-refusal-mirror : popRefusal (mirrorTables q) p (mirrorRecord r) (mirrorSide side) ≡ popRefusal q p r side
+  unfolding popRefusal
+  pop-refusal-mirror =
+      rw (control-sound-mirror (q .control), rows-fit-mirror (q .control .slots) q, side-range side, record-sound-mirror (q .control .slots) r, place-mirror r, tag-mirror (q .control .anchor)) refl

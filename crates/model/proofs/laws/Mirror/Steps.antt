@@ -1,0 +1,134 @@
+-- A step of the mirrored record: refused for the same reason, or carried out as the mirror of the step.
+use mathlib.Core.Path.{_≡_, refl, ap, _∙_, sym}
+use mathlib.Core.Bool.{Bool, true, false, _&&_, _||_, not, cond}
+use mathlib.Core.List.{[], _∷_}
+use Prim.Native.Nat.{ℕ}
+use lib.Dec.{eqb, leb, ltb}
+use lib.ListN.{getD}
+use borrow.Author.Tests.{eqb-true, not-false}
+use Rattle.model.specs.declared.Control.{Control}
+use Rattle.model.specs.declared.Record.{Record}
+use Rattle.model.specs.declared.Outcome.the-variants.{Refused, Moved}
+use Rattle.model.specs.Tables.{Tables, opposite, idle}
+use Rattle.model.specs.Sound.{from1, every, linkSound, controlSound, recordSound, rowsFit}
+use Rattle.model.specs.Places.{sideOf, row, linkMet, Touch, nothing, setAnchor, setLink, clearMark, Move, move}
+use Rattle.model.specs.Route.{route, onward, answer, goes, counted}
+use Rattle.model.specs.Refusals.{Lent, rule, first, needsRow, meetsLink, leavesSound, hasRoom, stepSound, stepRules, stepRefusal}
+use Rattle.model.specs.Calls.{Acted, decide, withRetries, finish, step}
+use Rattle.model.specs.Mirror.{mirrorControl, mirrorTables, mirrorBusy, mirrorRecord, mirrorActed}
+use Rattle.model.proofs.laws.Tests.{sound-record}
+use Rattle.model.proofs.laws.Refusals.{none-applies}
+use Rattle.model.proofs.laws.Onward.{leads-on}
+use Rattle.model.proofs.laws.Mirror.Sides.{side-mirror, row-mirror, link-met-mirror}
+use Rattle.model.proofs.laws.Mirror.Sound.{word-sound-mirror, tag-mirror, control-sound-mirror, record-sound-mirror, place-mirror, rows-fit-mirror}
+use Rattle.model.proofs.laws.Mirror.Moves.{mirrorTouch, mirrorMove, apply-mirror, move-mirror}
+
+pub busy-record : (r : Record) → eqb (r .place) 0 ≡ false → mirrorRecord r ≡ mirrorBusy r
+unfolding mirrorRecord
+busy-record r e = ap (λ (b : Bool). cond b r (mirrorBusy r)) e
+
+-- A busy, sound record steps on the opposite side.
+turned : (slots : ℕ) (r : Record) → recordSound slots r ≡ true → eqb (r .place) 0 ≡ false → sideOf (mirrorBusy r) ≡ opposite (sideOf r)
+turned slots r sound busy = let facts = sound-record slots r sound busy in side-mirror r (facts .side) (facts .status) (facts .unstable)
+
+leaves-mirror : (slots : ℕ) (t : Touch) → leavesSound slots (mirrorTouch t) ≡ leavesSound slots t
+leaves-mirror slots nothing = refl
+leaves-mirror slots (setAnchor w) = word-sound-mirror slots w
+leaves-mirror slots (setLink side x w) = refl
+leaves-mirror slots (clearMark x) = refl
+
+room-mirror : (r : Record) (t : Touch) → hasRoom (mirrorBusy r) (mirrorTouch t) ≡ hasRoom r t
+room-mirror r nothing = refl
+room-mirror r (setAnchor w) = ap (λ (n : ℕ). ltb n 4294967295) (tag-mirror (r .seen))
+room-mirror r (setLink side x w) = refl
+room-mirror r (clearMark x) = refl
+
+step-sound-mirror : (c : Control) (r : Record) (w : ℕ) → sideOf (mirrorBusy r) ≡ opposite (sideOf r) → stepSound (mirrorControl c) (mirrorBusy r) w ≡ stepSound c r w
+unfolding stepSound
+step-sound-mirror c r w side =
+    let same = move-mirror c r w side in
+    let leaves = ap (λ (m : Move). leavesSound (c .slots) (m .touch)) same ∙ leaves-mirror (c .slots) (move c r w .touch) in
+    let room = ap (λ (m : Move). hasRoom (mirrorBusy r) (m .touch)) same ∙ room-mirror r (move c r w .touch) in
+    λ i. every (
+    (not (needsRow r) || from1 (c .slots) (row-mirror r side i))
+    ∷ (not (meetsLink r) || linkSound (c .slots) w)
+    ∷ leaves i
+    ∷ room i
+    ∷ []
+    )
+
+module _ (q : Tables) (r : Record) where
+  -- The last rule is asked of busy, sound records alone.
+  last-rule : recordSound (q .control .slots) r ≡ true → eqb (r .place) 0 ≡ false
+      → stepSound (mirrorControl (q .control)) (mirrorRecord r) (linkMet (mirrorTables q) (mirrorRecord r)) ≡ stepSound (q .control) r (linkMet q r)
+  last-rule sound busy =
+      let side = turned (q .control .slots) r sound busy in
+      ap (λ (x : Record). stepSound (mirrorControl (q .control)) x (linkMet (mirrorTables q) x)) (busy-record r busy)
+      ∙ ap (stepSound (mirrorControl (q .control)) (mirrorBusy r)) (link-met-mirror r side q)
+      ∙ step-sound-mirror (q .control) r (linkMet q r) side
+
+  last-three : (sound idles x y : Bool) → (sound ≡ true → idles ≡ false → x ≡ y)
+      → first (rule 34 (not sound) ∷ rule 31 idles ∷ rule 34 (not x) ∷ []) ≡ first (rule 34 (not sound) ∷ rule 31 idles ∷ rule 34 (not y) ∷ [])
+  last-three false idles x y h = refl
+  last-three true true x y h = refl
+  last-three true false x y h = ap (λ (b : Bool). first (rule 34 (not b) ∷ [])) (h refl refl)
+
+  step-refusal-mirror : (p : Lent) → stepRefusal (mirrorTables q) p (mirrorRecord r) ≡ stepRefusal q p r
+  unfolding stepRefusal
+  step-refusal-mirror p =
+      rw (control-sound-mirror (q .control), rows-fit-mirror (q .control .slots) q, record-sound-mirror (q .control .slots) r, ap (λ (n : ℕ). eqb n 0) (place-mirror r))
+      (ap (λ (n : ℕ). first (rule 34 (not (controlSound (q .control))) ∷ rule 12 (not (rowsFit (q .control .slots) q && p .enough)) ∷ rule 13 (not (p .known)) ∷ rule n true ∷ []))
+      (last-three (recordSound (q .control .slots) r) (eqb (r .place) 0) _ _ last-rule))
+
+-- The record gone on.
+abbrev atPlace : Record → ℕ → Record
+atPlace r n =
+    record { place = n; kind = r .kind; side = r .side; own = r .own; label = r .label; seen = r .seen; neighbour = r .neighbour; link = r .link; finishing = r .finishing }
+
+goes-mirror : (r : Record) (n : ℕ) → eqb n 0 ≡ false → goes (mirrorBusy r) n ≡ mirrorRecord (goes r n)
+unfolding goes mirrorRecord
+goes-mirror r n h = go (leb n 11)
+  where
+    go : (b : Bool) → cond b (mirrorBusy (atPlace r n)) idle ≡ mirrorRecord (cond b (atPlace r n) idle)
+    go true = sym (busy-record (atPlace r n) h)
+    go false = refl
+
+finish-mirror : (q : Tables) (r : Record) (m : Move) → row (mirrorBusy r) ≡ row r → eqb (onward (route (r .place) (r .kind) (m .outcome)) (m .task .finishing)) 0 ≡ false
+    → finish (mirrorTables q) (mirrorBusy r) (mirrorMove m) ≡ mirrorActed (finish q r m)
+unfolding finish
+finish-mirror q r m same on = λ i. record {
+  tables = apply-mirror (m .touch) (withRetries q (counted (q .control .retries) (m .failed))) i;
+  task = goes-mirror (m .task) (onward (route (r .place) (r .kind) (m .outcome)) (m .task .finishing)) on i;
+  outcome = Moved (answer (onward (route (r .place) (r .kind) (m .outcome)) (m .task .finishing)) (record { slot = same i; label = getD (q .labels) (same i) 0 }));
+}
+
+-- Refused, or carried out.
+pub decide-mirror : (why : ℕ) (q : Tables) (r : Record) (done done′ : Acted) → (why ≡ 0 → done′ ≡ mirrorActed done)
+    → decide why (mirrorTables q) (mirrorRecord r) done′ ≡ mirrorActed (decide why q r done)
+decide-mirror why q r done done′ h = go (eqb why 0) refl
+  where
+    go : (b : Bool) → eqb why 0 ≡ b → cond b done′ (record { tables = mirrorTables q; task = mirrorRecord r; outcome = Refused why })
+        ≡ mirrorActed (cond b done (record { tables = q; task = r; outcome = Refused why }))
+    go true e = h (eqb-true why 0 e)
+    go false e = refl
+
+abbrev carried : Tables → Record → Acted
+carried q r = finish q r (move (q .control) r (linkMet q r))
+
+carried-mirror : (q : Tables) (r : Record) → recordSound (q .control .slots) r ≡ true → eqb (r .place) 0 ≡ false
+    → carried (mirrorTables q) (mirrorRecord r) ≡ mirrorActed (carried q r)
+carried-mirror q r sound busy =
+    let side = turned (q .control .slots) r sound busy in
+    ap (carried (mirrorTables q)) (busy-record r busy)
+    ∙ ap (λ (w : ℕ). finish (mirrorTables q) (mirrorBusy r) (move (mirrorControl (q .control)) (mirrorBusy r) w)) (link-met-mirror r side q)
+    ∙ ap (finish (mirrorTables q) (mirrorBusy r)) (move-mirror (q .control) r (linkMet q r) side)
+    ∙ finish-mirror q r (move (q .control) r (linkMet q r)) (row-mirror r side) (leads-on (q .control .slots) (q .control) r (linkMet q r) sound busy)
+
+pub step-mirror : (q : Tables) (p : Lent) (r : Record) → step (mirrorTables q) p (mirrorRecord r) ≡ mirrorActed (step q p r)
+unfolding step stepRefusal
+step-mirror q p r =
+    ap (λ (why : ℕ). decide why (mirrorTables q) (mirrorRecord r) (carried (mirrorTables q) (mirrorRecord r))) (step-refusal-mirror q r p)
+    ∙ decide-mirror (stepRefusal q p r) q r (carried q r) (carried (mirrorTables q) (mirrorRecord r)) go
+  where
+    go : stepRefusal q p r ≡ 0 → carried (mirrorTables q) (mirrorRecord r) ≡ mirrorActed (carried q r)
+    go e = let passed = none-applies (stepRules q p r) refl e in carried-mirror q r (not-false _ (passed .1 .1 .1 .0)) (passed .1 .1 .1 .1 .0)

@@ -1,0 +1,49 @@
+-- The mirror of the mirror is the queue itself: the mirror loses nothing.
+use mathlib.Core.Path.{_≡_, refl, ap, ap₂, _∙_}
+use mathlib.Core.Bool.{Bool, true, false, cond}
+use mathlib.Core.List.{List, [], _∷_, map}
+use Prim.Native.Nat.{ℕ, zero, suc}
+use native.Mathlib.Omega.{arith}
+use lib.Dec.{eqb}
+use borrow.Author.Tests.{ne-eqb}
+use Rattle.model.specs.declared.Record.{Record}
+use Rattle.model.specs.Tables.{Queue}
+use Rattle.model.specs.Mirror.{mirrorSide, mirrorBusy, mirrorRecord, mirrorQueue}
+use Rattle.model.proofs.laws.Mirror.Words.{mirror-involutive}
+use Rattle.model.proofs.laws.Mirror.Steps.{busy-record}
+
+side-twice : (side : ℕ) → mirrorSide (mirrorSide side) ≡ side
+unfolding mirrorSide
+side-twice zero = refl
+side-twice (suc zero) = refl
+side-twice (suc (suc side)) = ap mirrorSide kept ∙ kept
+  where
+    kept : mirrorSide (suc (suc side)) ≡ suc (suc side)
+    kept = rw (ne-eqb (suc (suc side)) 0 (λ e. omega arith), ne-eqb (suc (suc side)) 1 (λ e. omega arith))
+
+record-twice : (r : Record) → mirrorRecord (mirrorRecord r) ≡ r
+unfolding mirrorRecord
+record-twice r = go (eqb (r .place) 0) refl
+  where
+    go : (b : Bool) → eqb (r .place) 0 ≡ b → mirrorRecord (mirrorRecord r) ≡ r
+    go true e = let kept = ap (λ (b : Bool). cond b r (mirrorBusy r)) e in ap mirrorRecord kept ∙ kept
+    go false e =
+        ap mirrorRecord (busy-record r e) ∙ busy-record (mirrorBusy r) e
+        ∙ ap₂ (λ (d w : ℕ). record { place = r .place; kind = r .kind; side = d; own = r .own; label = r .label; seen = w; neighbour = r .neighbour; link = r .link; finishing = r .finishing })
+        (side-twice (r .side)) (mirror-involutive (r .seen))
+
+records-twice : (l : List Record) → map mirrorRecord (map mirrorRecord l) ≡ l
+records-twice [] = refl
+records-twice (r ∷ l) = ap₂ (λ (x : Record) (m : List Record). x ∷ m) (record-twice r) (records-twice l)
+
+pub mirror-twice : (q : Queue) → mirrorQueue (mirrorQueue q) ≡ q
+mirror-twice q = λ i. record {
+  tables = record {
+    control = record { tasks = q .tables .control .tasks; slots = q .tables .control .slots; anchor = mirror-involutive (q .tables .control .anchor) i; retries = q .tables .control .retries };
+    lefts = q .tables .lefts;
+    rights = q .tables .rights;
+    labels = q .tables .labels;
+    marks = q .tables .marks;
+  };
+  records = records-twice (q .records) i;
+}

@@ -1,0 +1,115 @@
+-- A step changes one shared word at the most, the retry count among them: a failed change is counted and changes nothing else.
+use mathlib.Core.Path.{_≡_, refl}
+use mathlib.Core.Bool.{Bool, true, false, cond}
+use Prim.Native.Nat.{ℕ}
+use lib.Dec.{eqb}
+use lib.ListN.{set}
+use lib.Seq.{getD-set-other}
+use Rattle.model.specs.declared.Control.{Control}
+use Rattle.model.specs.declared.Record.{Record}
+use Rattle.model.specs.declared.Op.{Op}
+use Rattle.model.specs.declared.Op.the-variants.{Step}
+use Rattle.model.specs.Tables.{Tables, Queue, idle, recordAt}
+use Rattle.model.specs.Places.{Touch, nothing, setAnchor, setLink, clearMark, Move, linkMet, at1, at2, at3, at4, at5, at6, at7, at9, at10, at11, move, apply}
+use Rattle.model.specs.Sound.{isPush}
+use Rattle.model.specs.Route.{counted}
+use Rattle.model.specs.Refusals.{Lent, among, alone, stepRefusal}
+use Rattle.model.specs.Calls.{Acted, finish, step, actOn, act, stepLent}
+use Rattle.model.specs.OneTouch.{OneTouch, untouched, anchor, retries, left, right, mark}
+use Rattle.model.proofs.laws.Tests.{either}
+
+-- A move touches nothing, or its change has not failed.
+data Single (m : Move) : Type 0 where
+  touches : m .failed ≡ false → Single m
+  counts : m .touch ≡ nothing → Single m
+
+module _ (c : Control) (r : Record) (w : ℕ) where
+  single1 : Single (at1 c r)
+  unfolding at1
+  single1 = touches refl
+
+  single2 : Single (at2 c r)
+  unfolding at2
+  single2 = either Single (eqb (c .anchor) (r .seen)) (touches refl) (counts refl)
+
+  single3 : Single (at3 r w)
+  unfolding at3
+  single3 = either Single (isPush r) (touches refl) (touches refl)
+
+  single4 : Single (at4 c r)
+  unfolding at4
+  single4 = either Single (eqb (c .anchor) (r .seen)) (touches refl) (counts refl)
+
+  single5 : Single (at5 r w)
+  unfolding at5
+  single5 = touches refl
+
+  single6 : Single (at6 c r)
+  unfolding at6
+  single6 = touches refl
+
+  single7 : Single (at7 r w)
+  unfolding at7
+  single7 = touches refl
+
+  single9 : Single (at9 r w)
+  unfolding at9
+  single9 = either Single (eqb w (r .link)) (touches refl) (counts refl)
+
+  single10 : Single (at10 c r)
+  unfolding at10
+  single10 = either Single (eqb (c .anchor) (r .seen)) (touches refl) (counts refl)
+
+  single11 : Single (at11 r)
+  unfolding at11
+  single11 = touches refl
+
+  single : Single (move c r w)
+  unfolding move
+  single =
+      either Single (eqb (r .place) 1) single1
+      (either Single (eqb (r .place) 2) single2
+      (either Single (eqb (r .place) 3) single3
+      (either Single (eqb (r .place) 4) single4
+      (either Single (eqb (r .place) 5) single5
+      (either Single (eqb (r .place) 6) single6
+      (either Single (eqb (r .place) 7) single7
+      (either Single (eqb (r .place) 8) single6
+      (either Single (eqb (r .place) 9) single9
+      (either Single (eqb (r .place) 10) single10
+      single11)))))))))
+
+applied : (t : Touch) (q : Tables) → OneTouch q (apply t q)
+applied nothing q = untouched
+applied (setAnchor w) q = anchor w
+applied (setLink side x w) q = go (eqb side 1)
+  where
+    go : (b : Bool) → OneTouch q (record { control = q .control; lefts = cond b (q .lefts) (set (q .lefts) x w); rights = cond b (set (q .rights) x w) (q .rights); labels = q .labels; marks = q .marks })
+    go true = right x w
+    go false = left x w
+applied (clearMark x) q = mark _ _
+
+finished : (q : Tables) (r : Record) (m : Move) → Single m → OneTouch q (finish q r m .tables)
+unfolding finish counted
+finished q r m (touches e) = rw e (applied (m .touch) q)
+finished q r m (counts e) = rw e (retries _)
+
+step-touch : (q : Tables) (p : Lent) (r : Record) → OneTouch q (step q p r .tables)
+unfolding step
+step-touch q p r =
+    either (λ (a : Acted). OneTouch q (a .tables)) (eqb (stepRefusal q p r) 0)
+    (finished q r (move (q .control) r (linkMet q r)) (single (q .control) r (linkMet q r))) untouched
+
+-- The laws, for all arguments.
+pub lent-touch : (q : Tables) (r : Record) → OneTouch q (stepLent q r .tables)
+unfolding stepLent
+lent-touch q r = step-touch q alone r
+
+pub act-touch : (q : Queue) (t : ℕ) → OneTouch (q .tables) (act q t Step .queue .tables)
+unfolding act actOn
+act-touch q t = step-touch (q .tables) (among q t) (recordAt q t)
+
+-- No start or step changes the record of another task.
+pub act-others : (q : Queue) (t u : ℕ) (o : Op) → (u ≡ t → ⊥) → recordAt (act q t o .queue) u ≡ recordAt q u
+unfolding act
+act-others q t u o other = getD-set-other (q .records) t u _ idle other

@@ -1,0 +1,67 @@
+-- The mirror of a queue: left and right exchanged. (Document 01: Places, "for the left swap Left with Right, left end with right end, and RPUSH with LPUSH".)
+use mathlib.Core.Bool.{cond}
+use mathlib.Core.List.{map}
+use Prim.Native.Nat.{ℕ}
+use lib.Dec.{eqb}
+use Rattle.word.specs.declared.Anchor.{Anchor}
+use Rattle.word.specs.Anchor.{anchorOf, anchorWord}
+use Rattle.model.specs.declared.Control.{Control}
+use Rattle.model.specs.declared.Record.{Record}
+use Rattle.model.specs.declared.Op.{Op}
+use Rattle.model.specs.declared.Op.the-variants.{Push, Pop, Step}
+use Rattle.model.specs.Tables.{Tables, Queue}
+use Rattle.model.specs.Calls.{OpenDone, Acted, Done}
+
+-- Sides 0 and 1 exchanged, RPUSH and LPUSH exchanged; any other number is kept.
+unfoldable pub mirrorSide : ℕ → ℕ
+mirrorSide side = cond (eqb side 0) 1 (cond (eqb side 1) 0 side)
+
+unfoldable pub mirrorStatus : ℕ → ℕ
+mirrorStatus status = cond (eqb status 1) 2 (cond (eqb status 2) 1 status)
+
+abbrev pub mirrorAnchor : Anchor → Anchor
+mirrorAnchor a = record { tag = a .tag; status = mirrorStatus (a .status); left = a .right; right = a .left }
+
+unfoldable pub mirrorWord : ℕ → ℕ
+mirrorWord w = anchorWord (mirrorAnchor (anchorOf w))
+
+abbrev pub mirrorControl : Control → Control
+mirrorControl c = record { tasks = c .tasks; slots = c .slots; anchor = mirrorWord (c .anchor); retries = c .retries }
+
+abbrev pub mirrorTables : Tables → Tables
+mirrorTables q = record { control = mirrorControl (q .control); lefts = q .rights; rights = q .lefts; labels = q .labels; marks = q .marks }
+
+-- A record's side and its Anchor as read. An idle record has no side.
+abbrev pub mirrorBusy : Record → Record
+mirrorBusy r = record {
+  place = r .place;
+  kind = r .kind;
+  side = mirrorSide (r .side);
+  own = r .own;
+  label = r .label;
+  seen = mirrorWord (r .seen);
+  neighbour = r .neighbour;
+  link = r .link;
+  finishing = r .finishing;
+}
+
+unfoldable pub mirrorRecord : Record → Record
+mirrorRecord r = cond (eqb (r .place) 0) r (mirrorBusy r)
+
+abbrev pub mirrorQueue : Queue → Queue
+mirrorQueue q = record { tables = mirrorTables (q .tables); records = map mirrorRecord (q .records) }
+
+abbrev pub mirrorOp : Op → Op
+mirrorOp (Push side slot label) = Push (mirrorSide side) slot label
+mirrorOp (Pop side) = Pop (mirrorSide side)
+mirrorOp Step = Step
+
+-- What a call leaves.
+abbrev pub mirrorActed : Acted → Acted
+mirrorActed a = record { tables = mirrorTables (a .tables); task = mirrorRecord (a .task); outcome = a .outcome }
+
+abbrev pub mirrorOpened : OpenDone → OpenDone
+mirrorOpened d = record { queue = mirrorQueue (d .queue); outcome = d .outcome }
+
+abbrev pub mirrorDone : Done → Done
+mirrorDone d = record { queue = mirrorQueue (d .queue); outcome = d .outcome }
