@@ -1,0 +1,45 @@
+//! The judge of a run: no 34, the clerk content, the labels waiting his, the invariant kept.
+
+use crate::clerk::Clerk;
+use crate::contents;
+use crate::invariant;
+use crate::refusal::Refusal;
+use crate::run::{Call, Event, Reply, Watcher};
+use crate::tables::Tables;
+
+#[derive(Clone, Default, PartialEq, Eq, Hash)]
+pub struct Judge {
+    clerk: Clerk,
+    /// Anchor before the event that comes next.
+    anchor: u64,
+}
+
+impl Watcher for Judge {
+    fn before(&mut self, tables: &Tables, _: Option<u8>) {
+        self.anchor = tables.shared.control.anchor;
+    }
+
+    fn after(&mut self, tables: &Tables, event: &Event) -> Result<(), String> {
+        match (event.call, event.reply) {
+            (_, Reply::Refused(Refusal::Unsound)) => return Err("34 occurs".into()),
+            (Call::File, _) | (Call::Open, Reply::Refused(_)) => return Ok(()),
+            (Call::Open, _) => {}
+            _ => self.clerk.follow(event, self.anchor, tables.shared.control.anchor)?,
+        }
+        self.queue_agrees(tables)?;
+        invariant::check(tables, self.clerk.queue())
+    }
+}
+
+impl Judge {
+    fn queue_agrees(&self, tables: &Tables) -> Result<(), String> {
+        let Some(entries) = contents::waiting(&tables.shared) else {
+            return Err("waiting: the walk from end to end is broken".into());
+        };
+        if entries.iter().eq(self.clerk.queue()) {
+            return Ok(());
+        }
+        let queue = self.clerk.queue();
+        Err(format!("waiting: the tables hold {entries:?}, the clerk {queue:?}"))
+    }
+}

@@ -1,0 +1,29 @@
+//! An independent implementation of document 01, written from the paper alone.
+//!
+//! The machine: `word` (packed words), `tables` (what is lent), `refusal` (the
+//! ordered tests), `places` (what a step does), `machine` (the outside calls).
+//! The program: `runfile` (fields in), `run` (events), `trace` (lines out).
+//! The judge: `clerk` (a sequential deque), `contents` (labels waiting),
+//! `invariant` (what holds between any two steps), `check` (all of them at once).
+//! The differential test: `dice`, `script`, `shift`, `scenario`, `malformed`, `coverage`.
+//! For tests that drive the calls themselves: `damage` (tables that no run leaves).
+
+pub mod check;
+pub mod clerk;
+pub mod contents;
+pub mod coverage;
+pub mod damage;
+pub mod dice;
+pub mod invariant;
+pub mod machine;
+pub mod malformed;
+mod places;
+pub mod refusal;
+pub mod run;
+pub mod runfile;
+pub mod scenario;
+pub mod script;
+pub mod shift;
+pub mod tables;
+pub mod trace;
+pub mod word;

@@ -1,0 +1,130 @@
+//! The outside calls: opening, push start, pop start, step, report.
+//!
+//! Every call makes its tests first, in the paper's order, and writes afterwards:
+//! a refused call leaves every table as it was.
+
+use crate::places::advance;
+use crate::refusal::{self, demand, Refusal, LAST_START_TAG};
+use crate::tables::{Control, Record, Shared, Tables, MOST_SLOTS, MOST_TASKS, POP, PUSH};
+use crate::word::Anchor;
+
+/// What an accepted step answers.
+#[derive(Clone, Copy, Debug, PartialEq, Eq, Hash)]
+pub enum Moved {
+    Running(u64),
+    Pushed,
+    Empty,
+    Popped { slot: u64, label: u32 },
+}
+
+pub type Answer = Result<Moved, Refusal>;
+
+#[derive(Clone, Copy, Debug, PartialEq, Eq)]
+pub struct Report {
+    pub tag: u64,
+    pub status: u64,
+    pub left: u64,
+    pub right: u64,
+    pub busy: u64,
+    pub retries: u64,
+    pub waiting: u64,
+}
+
+impl Tables<'_> {
+    /// Opens an empty, STABLE queue. Entries beyond the wanted lengths keep their values.
+    pub fn open(&mut self, tasks: u64, slots: u64, first_tag: u32) -> Result<(), Refusal> {
+        demand((1..=MOST_TASKS).contains(&tasks), Refusal::Tasks)?;
+        demand((1..=MOST_SLOTS).contains(&slots), Refusal::Slots)?;
+        refusal::long_enough(self, tasks, slots)?;
+        let last = slots as usize;
+        self.shared.lefts[..=last].fill(0);
+        self.shared.rights[..=last].fill(0);
+        self.shared.labels[..=last].fill(0);
+        self.shared.marks[..=last / 64].fill(0);
+        self.records[..tasks as usize].fill(Record::default());
+        let anchor = u64::from(first_tag) << 32;
+        *self.shared.control = Control { tasks, slots, anchor, retries: 0 };
+        Ok(())
+    }
+
+    pub fn push(&mut self, task: u64, side: u64, slot: u64, label: u32) -> Result<(), Refusal> {
+        self.admit(task)?;
+        demand(side <= 1, Refusal::NoSide)?;
+        demand((1..=self.shared.control.slots).contains(&slot), Refusal::NoSlot)?;
+        self.admit_start(task)?;
+        demand(!self.shared.is_marked(slot), Refusal::Taken)?;
+        self.tag_unworn()?;
+        self.records[task as usize] =
+            Record { place: 1, kind: PUSH, side, own: slot, label, ..Record::default() };
+        self.shared.labels[slot as usize] = label;
+        self.shared.set_mark(slot);
+        Ok(())
+    }
+
+    pub fn pop(&mut self, task: u64, side: u64) -> Result<(), Refusal> {
+        self.admit(task)?;
+        demand(side <= 1, Refusal::NoSide)?;
+        self.admit_start(task)?;
+        self.tag_unworn()?;
+        self.records[task as usize] = Record { place: 1, kind: POP, side, ..Record::default() };
+        Ok(())
+    }
+
+    /// Moves one task by one step.
+    #[inline]
+    pub fn step(&mut self, task: u64) -> Answer {
+        self.admit(task)?;
+        step_admitted(&mut self.shared, &mut self.records[task as usize])
+    }
+
+    pub fn report(&self) -> Result<Report, Refusal> {
+        let control = &*self.shared.control;
+        refusal::control_sound(control)?;
+        refusal::long_enough(self, control.tasks, control.slots)?;
+        let Anchor { tag, status, left, right } = Anchor::unpack(control.anchor);
+        let records = &self.records[..control.tasks as usize];
+        let busy = records.iter().filter(|record| record.place != 0).count() as u64;
+        let waiting =
+            (1..=control.slots).filter(|&slot| self.shared.is_marked(slot)).count() as u64;
+        Ok(Report { tag, status, left, right, busy, retries: control.retries, waiting })
+    }
+
+    /// What every call on a task asks first: 34 for control and Anchor, 12, 13.
+    #[inline]
+    fn admit(&self, task: u64) -> Result<(), Refusal> {
+        let control = &*self.shared.control;
+        refusal::control_sound(control)?;
+        refusal::long_enough(self, control.tasks, control.slots)?;
+        demand(task < control.tasks, Refusal::NoTask)
+    }
+
+    /// 34 for the record, then 30.
+    fn admit_start(&self, task: u64) -> Result<(), Refusal> {
+        let record = &self.records[task as usize];
+        refusal::record_sound(record, self.shared.control.slots)?;
+        demand(record.place == 0, Refusal::Busy)
+    }
+
+    /// 33.
+    fn tag_unworn(&self) -> Result<(), Refusal> {
+        let tag = Anchor::unpack(self.shared.control.anchor).tag;
+        demand(tag <= LAST_START_TAG, Refusal::WornTag)
+    }
+}
+
+impl Shared<'_> {
+    /// Moves one lent record by one step: no 13, and 12 looks at no records.
+    pub fn step_lent(&mut self, record: &mut Record) -> Answer {
+        refusal::control_sound(self.control)?;
+        refusal::shared_long_enough(self, self.control.slots)?;
+        step_admitted(self, record)
+    }
+}
+
+/// 34 for the record, 31, then the place, which tests what it touches.
+#[inline]
+fn step_admitted(shared: &mut Shared, record: &mut Record) -> Answer {
+    refusal::record_sound(record, shared.control.slots)?;
+    demand(record.place != 0, Refusal::Idle)?;
+    advance(shared, record)
+}

@@ -1,0 +1,137 @@
+//! Files that break a rule, one rule each, and openings that are refused.
+
+use crate::runfile::{append, MOST_STEPS, OPEN, POP, PUSH, STEPS};
+
+pub struct Broken {
+    pub kind: &'static str,
+    pub file: Vec<u8>,
+}
+
+pub const KINDS: [&str; 9] = [
+    "empty file",
+    "cut field",
+    "wrong length",
+    "steps at their most",
+    "steps over-long",
+    "unknown tag",
+    "field before opening",
+    "second opening",
+    "opening near limits",
+];
+
+const OPENING: [u8; 10] = [OPEN, 0, 7, 2, 0, 3, 0, 0, 0, 0];
+
+/// What each content should be: tag and length.
+const LENGTHS: [(u8, usize); 4] = [(OPEN, 7), (PUSH, 8), (POP, 2), (STEPS, MOST_STEPS)];
+
+pub fn all() -> Vec<Broken> {
+    let mut files = vec![Broken { kind: "empty file", file: Vec::new() }];
+    cuts(&mut files);
+    wrong_lengths(&mut files);
+    unknown_tags(&mut files);
+    before_opening(&mut files);
+    second_openings(&mut files);
+    refused_openings(&mut files);
+    files
+}
+
+/// A short run with every field and something after it.
+fn sample() -> Vec<u8> {
+    let mut file = OPENING.to_vec();
+    append(&mut file, PUSH, &[0, 1, 0, 1, 0, 0, 2, 0xbc]);
+    append(&mut file, STEPS, &[0, 0]);
+    append(&mut file, POP, &[1, 0]);
+    append(&mut file, STEPS, &[1, 1, 0]);
+    append(&mut file, STEPS, &[]);
+    append(&mut file, PUSH, &[0, 0, 0, 2, 0xff, 0xff, 0xff, 0xff]);
+    append(&mut file, STEPS, &[1, 0]);
+    file
+}
+
+/// Cut before every byte; some cuts fall between fields and leave a whole file.
+fn cuts(files: &mut Vec<Broken>) {
+    let sample = sample();
+    for length in 1..=sample.len() {
+        files.push(Broken { kind: "cut field", file: sample[..length].to_vec() });
+    }
+}
+
+/// Each length off by one, with the content as long as it says, and with the right content.
+fn wrong_lengths(files: &mut Vec<Broken>) {
+    for (tag, right) in LENGTHS {
+        for length in [right - 1, right, right + 1] {
+            let (kind, start) = match (tag, length == right) {
+                (STEPS, _) if length <= right => ("steps at their most", &OPENING[..]),
+                (STEPS, _) => ("steps over-long", &OPENING[..]),
+                (OPEN, false) => ("wrong length", &[][..]),
+                (_, false) => ("wrong length", &OPENING[..]),
+                _ => continue,
+            };
+            let mut whole = start.to_vec();
+            append(&mut whole, tag, &vec![0; length]);
+            append(&mut whole, STEPS, &[0]);
+            let mut lying = start.to_vec();
+            lying.push(tag);
+            lying.extend_from_slice(&(length as u16).to_be_bytes());
+            lying.extend(vec![0; right]);
+            files.push(Broken { kind, file: whole });
+            files.push(Broken { kind, file: lying });
+        }
+    }
+    let mut longest = OPENING.to_vec();
+    append(&mut longest, STEPS, &vec![0; 0xffff]);
+    files.push(Broken { kind: "steps over-long", file: longest });
+}
+
+/// Every byte that is no tag, as the first field and after an opening and a step.
+fn unknown_tags(files: &mut Vec<Broken>) {
+    for tag in (0..=u8::MAX).filter(|tag| !(OPEN..=STEPS).contains(tag)) {
+        let mut first = Vec::new();
+        append(&mut first, tag, &[0, 0]);
+        let mut later = OPENING.to_vec();
+        append(&mut later, STEPS, &[1]);
+        append(&mut later, tag, &[]);
+        append(&mut later, STEPS, &[1]);
+        files.push(Broken { kind: "unknown tag", file: first });
+        files.push(Broken { kind: "unknown tag", file: later });
+    }
+}
+
+fn before_opening(files: &mut Vec<Broken>) {
+    let early: [(u8, &[u8]); 4] =
+        [(PUSH, &[0, 1, 0, 1, 0, 0, 0, 1]), (POP, &[0, 0]), (STEPS, &[0]), (STEPS, &[])];
+    for (tag, content) in early {
+        let mut file = Vec::new();
+        append(&mut file, tag, content);
+        file.extend_from_slice(&OPENING);
+        files.push(Broken { kind: "field before opening", file });
+    }
+}
+
+fn second_openings(files: &mut Vec<Broken>) {
+    let refused: &[u8] = &[OPEN, 0, 7, 0, 0, 0, 0, 0, 0, 0];
+    for second in [&OPENING[..], refused] {
+        for between in [&[][..], &[STEPS, 0, 1, 0], &[POP, 0, 2, 0, 0, STEPS, 0, 1, 0]] {
+            let mut file = OPENING.to_vec();
+            file.extend_from_slice(between);
+            file.extend_from_slice(second);
+            append(&mut file, STEPS, &[0]);
+            files.push(Broken { kind: "second opening", file });
+        }
+    }
+}
+
+/// Every side of the limits of 10 and 11, each with good and bad company after it.
+fn refused_openings(files: &mut Vec<Broken>) {
+    for tasks in [0, 1, 16, 17, 255] {
+        for slots in [0_u16, 1, 1_023, 1_024, 1_279, 0xffff] {
+            for after in [&[STEPS, 0, 2, 0, 16][..], &OPENING, &[9]] {
+                let mut file = Vec::new();
+                let [high, low] = slots.to_be_bytes();
+                append(&mut file, OPEN, &[tasks, high, low, 0, 0, 0, 5]);
+                file.extend_from_slice(after);
+                files.push(Broken { kind: "opening near limits", file });
+            }
+        }
+    }
+}

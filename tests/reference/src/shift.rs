@@ -1,0 +1,103 @@
+//! A crew at work on a script: what idle tasks start, how often at which side, and how
+//! often somebody talks nonsense. Who moves next is up to the scenario.
+
+use crate::dice::Dice;
+use crate::script::Script;
+
+/// Tasks at work on a script, with their habits in percent.
+pub struct Shift<'a> {
+    pub dice: &'a mut Dice,
+    pub script: Script,
+    pub pops: u64,
+    pub lefts: u64,
+    pub nonsense: u64,
+    tasks: u8,
+    slots: u16,
+}
+
+impl<'a> Shift<'a> {
+    pub fn open(dice: &'a mut Dice, tasks: u8, slots: u16, first_tag: u32) -> Shift<'a> {
+        let script = Script::open(tasks, slots, first_tag);
+        let pops = dice.pick(&[40, 50, 60]);
+        let lefts = dice.pick(&[10, 50, 50, 90]);
+        Shift { dice, script, tasks, slots, pops, lefts, nonsense: 1 }
+    }
+
+    pub fn anyone(&mut self) -> u8 {
+        self.dice.between(0, u64::from(self.tasks) - 1) as u8
+    }
+
+    pub fn anyone_but(&mut self, task: u8) -> u8 {
+        let other = self.dice.between(1, u64::from(self.tasks) - 1) as u8;
+        (task + other) % self.tasks
+    }
+
+    fn side(&mut self) -> u8 {
+        u8::from(!self.dice.percent(self.lefts))
+    }
+
+    /// A free slot if a few throws find one.
+    fn slot(&mut self) -> u16 {
+        let mut slot = self.dice.between(1, self.slots.into()) as u16;
+        for _ in 0..4 {
+            if self.script.is_free(slot) {
+                break;
+            }
+            slot = self.dice.between(1, self.slots.into()) as u16;
+        }
+        slot
+    }
+
+    fn label(&mut self) -> u32 {
+        self.dice.throw() as u32 >> self.dice.pick(&[0, 16, 24, 31])
+    }
+
+    /// A step if the task is busy, else a start.
+    pub fn act(&mut self, task: u8) {
+        if self.dice.percent(self.nonsense) {
+            self.talk_nonsense();
+        }
+        if self.dice.between(1, 64) == 1 {
+            self.script.end_steps();
+        }
+        if !self.script.is_idle(task) {
+            let _ = self.script.step(task);
+        } else if self.dice.percent(self.pops) {
+            let side = self.side();
+            self.script.pop(task, side);
+        } else {
+            let (side, slot, label) = (self.side(), self.slot(), self.label());
+            self.script.push(task, side, slot, label);
+        }
+    }
+
+    /// A call that is most likely refused: any task, side and slot, near the limits or not.
+    fn talk_nonsense(&mut self) {
+        let limit = [self.tasks - 1, self.tasks, 255];
+        let task = if self.dice.percent(50) { self.anyone() } else { self.dice.pick(&limit) };
+        let side = self.dice.pick(&[0, 1, 2, 255]);
+        let slot = match self.dice.between(0, 3) {
+            0 => 0,
+            1 => self.slots,
+            2 => self.slots + 1,
+            _ => self.dice.throw() as u16,
+        };
+        match self.dice.between(0, 4) {
+            0 | 1 => drop(self.script.push(task, side, slot, 77)),
+            2 => drop(self.script.pop(task, side)),
+            3 => self.script.no_steps(),
+            _ => drop(self.script.step(task)),
+        }
+    }
+
+    /// Others act until the task stands at a place, or patience ends.
+    pub fn bring_to(&mut self, task: u8, place: u64) {
+        for _ in 0..200 {
+            if self.script.record(task).place == place {
+                break;
+            }
+            let next = if self.dice.percent(60) { task } else { self.anyone() };
+            self.act(next);
+        }
+    }
+}

@@ -1,0 +1,160 @@
+//! Document 01's worked example and its bench cases, on the library.
+
+use reference::machine::Moved::{self, Empty, Popped, Pushed, Running};
+use reference::refusal::Refusal;
+use reference::run::{run, Nobody};
+use reference::tables::Storage;
+use reference::word::{Anchor, LPUSH, RPUSH, STABLE};
+
+fn opened(tasks: u64, slots: u64, first_tag: u32) -> Storage {
+    let mut storage = Storage::default();
+    storage.lend().open(tasks, slots, first_tag).expect("opens");
+    storage
+}
+
+/// Steps a task until it is answered: the number of steps and the answer.
+fn finish(storage: &mut Storage, task: u64) -> (u32, Moved) {
+    for steps in 1..100 {
+        match storage.lend().step(task).expect("steps") {
+            Running(_) => {}
+            answer => return (steps, answer),
+        }
+    }
+    panic!("a task alone is answered soon");
+}
+
+/// Slot 1, then slot 2 pushed right alone, first tag 0.
+fn two_waiting() -> Storage {
+    let mut storage = opened(2, 3, 0);
+    storage.lend().push(0, 1, 1, 10).expect("starts");
+    assert_eq!(finish(&mut storage, 0), (2, Pushed));
+    storage.lend().push(0, 1, 2, 20).expect("starts");
+    assert_eq!(finish(&mut storage, 0), (9, Pushed));
+    storage
+}
+
+#[test]
+fn worked_example() {
+    let file = [
+        0x01, 0x00, 0x07, 0x02, 0x00, 0x03, 0x00, 0x00, 0x00, 0x00, 0x02, 0x00, 0x08, 0x00, 0x01,
+        0x00, 0x01, 0x00, 0x00, 0x02, 0xbc, 0x04, 0x00, 0x02, 0x00, 0x00, 0x03, 0x00, 0x02, 0x01,
+        0x00, 0x04, 0x00, 0x03, 0x01, 0x01, 0x01,
+    ];
+    let mut trace = Vec::new();
+    run(&file, &mut trace, &mut Nobody).expect("runs");
+    let expected = "\
+event task call answer anchor
+1 - open ok 0000000000000000
+2 0 push ok 0000000000000000
+3 0 step at2 0000000000000000
+4 0 step pushed 0000000100008001
+5 1 pop ok 0000000100008001
+6 1 step at2 0000000100008001
+7 1 step at11 0000000200000000
+8 1 step got:1:700 0000000200000000
+";
+    assert_eq!(String::from_utf8_lossy(&trace), expected);
+}
+
+#[test]
+fn anchors_pack() {
+    let single = Anchor { tag: 1, status: STABLE, left: 1, right: 1 };
+    let pushed = Anchor { tag: 2, status: RPUSH, left: 1, right: 2 };
+    let widest = Anchor { tag: 0xffff_ffff, status: LPUSH, left: 0x7fff, right: 0x4001 };
+    assert_eq!(single.pack(), 0x0000_0001_0000_8001);
+    assert_eq!(pushed.pack(), 0x0000_0002_4000_8002);
+    assert_eq!(widest.pack(), 0xffff_ffff_bfff_c001);
+    for anchor in [single, pushed, widest] {
+        assert_eq!(Anchor::unpack(anchor.pack()), anchor);
+    }
+}
+
+#[test]
+fn pop_on_empty_is_one_step() {
+    let mut storage = opened(1, 1, 0);
+    storage.lend().pop(0, 0).expect("starts");
+    assert_eq!(finish(&mut storage, 0), (1, Empty));
+}
+
+#[test]
+fn second_push_takes_nine_steps() {
+    let storage = two_waiting();
+    assert_eq!(storage.control.anchor, 0x0000_0003_0000_8002);
+    assert_eq!(storage.rights[1], 0x0000_0001_0000_0002);
+    assert_eq!(storage.control.retries, 0);
+}
+
+#[test]
+fn pops_take_four_steps_then_three() {
+    let mut storage = two_waiting();
+    storage.lend().pop(1, 0).expect("starts");
+    assert_eq!(finish(&mut storage, 1), (4, Popped { slot: 1, label: 10 }));
+    storage.lend().pop(1, 0).expect("starts");
+    assert_eq!(finish(&mut storage, 1), (3, Popped { slot: 2, label: 20 }));
+}
+
+#[test]
+fn two_pops_on_one_label() {
+    let mut storage = opened(2, 1, 0);
+    storage.lend().push(0, 1, 1, 10).expect("starts");
+    finish(&mut storage, 0);
+    storage.lend().pop(0, 0).expect("starts");
+    storage.lend().pop(1, 1).expect("starts");
+    let answers = [0, 1, 0, 1, 0, 1].map(|task| storage.lend().step(task).expect("steps"));
+    let got = Popped { slot: 1, label: 10 };
+    assert_eq!(answers, [Running(2), Running(2), Running(11), Running(1), got, Empty]);
+    assert_eq!(storage.lend().report().expect("reports").retries, 1);
+}
+
+#[test]
+fn limits_of_an_opening() {
+    let open = |tasks, slots| Storage::default().lend().open(tasks, slots, 0);
+    assert_eq!(open(16, 1_023), Ok(()));
+    assert_eq!(open(16, 1_024), Err(Refusal::Slots));
+    assert_eq!(open(17, 1_024), Err(Refusal::Tasks));
+    assert_eq!(open(1, 0), Err(Refusal::Slots));
+    assert_eq!(open(0, 1), Err(Refusal::Tasks));
+}
+
+#[test]
+fn limits_of_a_tag() {
+    let start = |tag| opened(1, 1, tag).lend().pop(0, 0);
+    assert_eq!(start(4_294_967_262), Ok(()));
+    assert_eq!(start(4_294_967_263), Err(Refusal::WornTag));
+}
+
+/// Sixteen pushes started at the last tag, the worst case, all come to their end.
+#[test]
+fn sixteen_pushes_at_the_last_tag() {
+    let mut storage = opened(16, 16, 4_294_967_262);
+    for task in 0..16 {
+        storage.lend().push(task, task % 2, task + 1, 0).expect("starts");
+    }
+    for task in 0..16 {
+        assert_eq!(finish(&mut storage, task).1, Pushed);
+    }
+    assert_eq!(storage.control.anchor >> 32, 4_294_967_262 + 31);
+}
+
+#[test]
+fn the_report_counts() {
+    let mut storage = two_waiting();
+    storage.lend().push(0, 0, 3, 30).expect("starts");
+    let report = storage.lend().report().expect("reports");
+    assert_eq!((report.tag, report.status, report.left, report.right), (3, STABLE, 1, 2));
+    assert_eq!((report.busy, report.retries, report.waiting), (1, 0, 3));
+    storage.marks[0] |= 1 | 1 << 4;
+    assert_eq!(storage.lend().report(), Ok(report), "slots 0 and 4 are not of 1 to 3");
+}
+
+#[test]
+fn an_opening_keeps_what_lies_beyond() {
+    let mut storage = Storage::default();
+    storage.lefts.fill(7);
+    storage.marks.fill(7);
+    storage.records.iter_mut().for_each(|record| record.place = 12);
+    storage.lend().open(2, 64, 5).expect("opens");
+    assert_eq!((storage.lefts[64], storage.lefts[65]), (0, 7));
+    assert_eq!((storage.marks[1], storage.marks[2]), (0, 7));
+    assert_eq!((storage.records[1].place, storage.records[2].place), (0, 12));
+}

@@ -1,0 +1,121 @@
+//! All interleavings of a few short calls, judged at every event: not a sample, every one.
+
+use reference::check::Judge;
+use reference::run::{Call, Event, Reply, Watcher};
+use reference::tables::Storage;
+use std::collections::HashSet;
+
+const SLOTS: u64 = 3;
+
+/// A push or a pop at a side.
+#[derive(Clone, Copy, Debug, PartialEq, Eq, Hash)]
+enum Wish {
+    Push(u8),
+    Pop(u8),
+}
+
+const WISHES: [Wish; 4] = [Wish::Push(0), Wish::Push(1), Wish::Pop(0), Wish::Pop(1)];
+
+/// The tables, the judge who has followed them here, and what each task still wants.
+#[derive(Clone, PartialEq, Eq, Hash)]
+struct World {
+    storage: Storage,
+    judge: Judge,
+    wishes: Vec<Vec<Wish>>,
+}
+
+impl World {
+    fn new(wishes: Vec<Vec<Wish>>) -> World {
+        let tasks = wishes.len() as u64;
+        let mut storage = Storage::fitting(tasks, SLOTS);
+        storage.lend().open(tasks, SLOTS, 0).expect("opens");
+        World { storage, judge: Judge::default(), wishes }
+    }
+
+    /// The world after the task's next event, or nothing if it has none.
+    fn after(&self, task: u8) -> Option<World> {
+        let mut world = self.clone();
+        world.judge.before(&world.storage.lend(), Some(task));
+        let (call, reply) = if world.storage.records[usize::from(task)].place == 0 {
+            (world.start(task)?, Reply::Done)
+        } else {
+            let moved = world.storage.lend().step(task.into()).expect("a busy task steps");
+            (Call::Step, Reply::Moved(moved))
+        };
+        let event = Event { task: Some(task), call, reply };
+        let judged = world.judge.after(&world.storage.lend(), &event);
+        judged.unwrap_or_else(|what| panic!("{what} in {:?}", self.wishes));
+        // So that equal tables make equal worlds, however they came about.
+        world.judge.before(&world.storage.lend(), None);
+        Some(world)
+    }
+
+    fn start(&mut self, task: u8) -> Option<Call> {
+        let wish = self.wishes[usize::from(task)].pop()?;
+        let mut tables = self.storage.lend();
+        Some(match wish {
+            Wish::Pop(side) => {
+                tables.pop(task.into(), side.into()).expect("an idle task starts");
+                Call::Pop { side }
+            }
+            Wish::Push(side) => {
+                let slot = (1..=SLOTS).find(|&slot| !tables.shared.is_marked(slot))?;
+                tables.push(task.into(), side.into(), slot, task.into()).expect("a free slot");
+                Call::Push { side, slot: slot as u16, label: task.into() }
+            }
+        })
+    }
+}
+
+/// Visits every world that the wishes can lead to; how many there are.
+fn explore(first: World) -> usize {
+    let tasks = first.wishes.len() as u8;
+    let mut seen = HashSet::from([first.clone()]);
+    let mut open = vec![first];
+    while let Some(world) = open.pop() {
+        for next in (0..tasks).filter_map(|task| world.after(task)) {
+            if seen.insert(next.clone()) {
+                open.push(next);
+            }
+        }
+    }
+    seen.len()
+}
+
+/// A world with one label waiting, slot 1.
+fn one_waiting(wishes: Vec<Vec<Wish>>) -> World {
+    let mut world = World::new(wishes);
+    world.wishes[0].push(Wish::Push(1));
+    for _ in 0..3 {
+        world = world.after(0).expect("a push alone takes two steps");
+    }
+    assert_eq!(world.storage.control.anchor, 0x0000_0001_0000_8001);
+    world
+}
+
+#[test]
+fn two_tasks_with_two_calls_each() {
+    let mut worlds = 0;
+    for first in WISHES {
+        for second in WISHES {
+            for third in WISHES {
+                let wishes = vec![vec![third, first], vec![Wish::Pop(0), second]];
+                worlds += explore(World::new(wishes.clone())) + explore(one_waiting(wishes));
+            }
+        }
+    }
+    assert!(worlds > 400_000, "only {worlds} worlds");
+}
+
+#[test]
+fn three_tasks_with_a_call_each() {
+    let (left, right) = (0, 1);
+    let crews = [
+        [Wish::Push(right), Wish::Push(left), Wish::Pop(right)],
+        [Wish::Push(right), Wish::Pop(left), Wish::Pop(right)],
+        [Wish::Push(left), Wish::Push(left), Wish::Pop(left)],
+    ];
+    let worlds: usize =
+        crews.iter().map(|crew| explore(one_waiting(crew.map(|wish| vec![wish]).to_vec()))).sum();
+    assert!(worlds > 200_000, "only {worlds} worlds");
+}

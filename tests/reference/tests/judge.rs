@@ -1,0 +1,103 @@
+//! The judge can object: wrong answers, second effects and corrupted tables are named.
+
+use reference::check::Judge;
+use reference::machine::Moved;
+use reference::run::{Call, Event, Reply, Watcher};
+use reference::tables::Storage;
+use reference::word::Link;
+
+/// Tables and a judge that has followed two right pushes of slots 1 and 2.
+fn two_waiting() -> (Storage, Judge) {
+    let mut storage = Storage::default();
+    let mut judge = Judge::default();
+    storage.lend().open(2, 3, 0).expect("opens");
+    for slot in [1_u16, 2] {
+        let call = Call::Push { side: 1, slot, label: 10 * u32::from(slot) };
+        judge.before(&storage.lend(), Some(0));
+        storage.lend().push(0, 1, slot.into(), 10 * u32::from(slot)).expect("starts");
+        follow(&mut judge, &mut storage, call, Reply::Done).expect("no objection");
+        while storage.records[0].place != 0 {
+            judge.before(&storage.lend(), Some(0));
+            let moved = storage.lend().step(0).expect("steps");
+            follow(&mut judge, &mut storage, Call::Step, Reply::Moved(moved))
+                .expect("no objection");
+        }
+    }
+    (storage, judge)
+}
+
+fn follow(
+    judge: &mut Judge,
+    storage: &mut Storage,
+    call: Call,
+    reply: Reply,
+) -> Result<(), String> {
+    judge.after(&storage.lend(), &Event { task: Some(0), call, reply })
+}
+
+/// Starts a left pop, steps it, and lets the judge see `answer` for its last step.
+fn pop_left(answer: Moved, spoil: impl FnOnce(&mut Storage)) -> Result<(), String> {
+    let (mut storage, mut judge) = two_waiting();
+    judge.before(&storage.lend(), Some(0));
+    storage.lend().pop(0, 0).expect("starts");
+    follow(&mut judge, &mut storage, Call::Pop { side: 0 }, Reply::Done)?;
+    for _ in 0..3 {
+        judge.before(&storage.lend(), Some(0));
+        let moved = storage.lend().step(0).expect("steps");
+        follow(&mut judge, &mut storage, Call::Step, Reply::Moved(moved))?;
+    }
+    spoil(&mut storage);
+    judge.before(&storage.lend(), Some(0));
+    storage.lend().step(0).expect("steps");
+    follow(&mut judge, &mut storage, Call::Step, Reply::Moved(answer))
+}
+
+const RIGHT: Moved = Moved::Popped { slot: 1, label: 10 };
+
+#[test]
+fn content_with_the_machine() {
+    assert_eq!(pop_left(RIGHT, |_| {}), Ok(()));
+}
+
+#[test]
+fn objects_to_another_label() {
+    let objection = pop_left(Moved::Popped { slot: 1, label: 11 }, |_| {}).unwrap_err();
+    assert!(objection.starts_with("clerk: task 0 answers"), "{objection}");
+}
+
+#[test]
+fn objects_to_a_second_effect() {
+    let objection = pop_left(Moved::Empty, |_| {}).unwrap_err();
+    assert!(objection.contains("second effect"), "{objection}");
+}
+
+#[test]
+fn objects_to_an_answer_without_effect() {
+    let (mut storage, mut judge) = two_waiting();
+    judge.before(&storage.lend(), Some(0));
+    storage.lend().push(0, 1, 3, 30).expect("starts");
+    follow(&mut judge, &mut storage, Call::Push { side: 1, slot: 3, label: 30 }, Reply::Done)
+        .unwrap();
+    judge.before(&storage.lend(), Some(0));
+    storage.lend().step(0).expect("steps");
+    let objection = follow(&mut judge, &mut storage, Call::Step, Reply::Moved(Moved::Pushed));
+    assert!(objection.unwrap_err().contains("without an effect"));
+}
+
+#[test]
+fn objects_to_another_label_waiting() {
+    let objection = pop_left(RIGHT, |storage| storage.labels[2] = 21).unwrap_err();
+    assert!(objection.starts_with("waiting:"), "{objection}");
+}
+
+#[test]
+fn objects_to_a_link_tag_from_the_future() {
+    let objection = pop_left(RIGHT, |storage| storage.lefts[3] = Link::new(99, 0).0).unwrap_err();
+    assert!(objection.starts_with("invariant line 3"), "{objection}");
+}
+
+#[test]
+fn objects_to_a_stray_mark() {
+    let objection = pop_left(RIGHT, |storage| storage.marks[0] |= 1 << 3).unwrap_err();
+    assert!(objection.starts_with("invariant line 14"), "{objection}");
+}

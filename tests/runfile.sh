@@ -1,0 +1,69 @@
+#!/usr/bin/env bash
+# tools/runfile: the bytes of each operation, and errors that name their line.
+# usage: tests/runfile.sh
+set -u
+
+root=$(cd "$(dirname "$0")/.." && pwd)
+scratch=$(mktemp -d) || exit 2
+trap 'rm -rf "$scratch"' EXIT
+passed=0
+failed=0
+
+verdict() {
+    if [ "$2" = "$3" ]; then
+        passed=$((passed + 1))
+    else
+        failed=$((failed + 1))
+        printf 'FAILED %s\n  expected %s\n  found    %s\n' "$1" "$2" "$3"
+    fi
+}
+
+# A text must become these bytes.
+becomes() {
+    printf '%s\n' "$1" | "$root/tools/runfile" > "$scratch/run"
+    verdict "$1" "$2" "$(od -An -v -tx1 "$scratch/run" | tr -d ' \n')"
+}
+
+# A text must be refused: status 1, nothing written, this message.
+refuses() {
+    printf '%s\n' "$1" | "$root/tools/runfile" > "$scratch/run" 2> "$scratch/message"
+    verdict "$1" "1 0 standard input:$2" "$? $(wc -c < "$scratch/run") $(cat "$scratch/message")"
+}
+
+# Document 01 prints these bytes for its worked example.
+document='01 00 07 02 00 03 00 00 00 00  02 00 08 00 01 00 01 00 00 02 bc  04 00 02 00 00'
+document="$document  03 00 02 01 00  04 00 03 01 01 01"
+"$root/tools/runfile" "$root/tests/cases/worked_example.txt" > "$scratch/run"
+verdict "the worked example" "${document// /}" "$(od -An -v -tx1 "$scratch/run" | tr -d ' \n')"
+
+becomes '# nothing at all' ''
+becomes 'open 16 1023 4294967295' 0100071003ffffffffff
+becomes '  push 255 left 65535 4294967295 # all at their most' 020008ff00ffffffffffff
+becomes 'push 1 right 258 16909060' 0200080101010201020304
+becomes 'pop 3 right' 0300020301
+becomes 'pop 3 200' 03000203c8
+becomes 'step' 040000
+becomes 'step 1 2*3 0*0 255' 04000501020202ff
+becomes 'raw 00 FFfe 10' 00fffe10
+becomes "step $(printf '7 %.0s' $(seq 4096))" "041000$(printf '07%.0s' $(seq 4096))"
+becomes 'step 7*4097' "041000$(printf '07%.0s' $(seq 4096))04000107"
+
+refuses 'open 1 1' '1: open takes 3 words, found 2'
+refuses 'open 256 1 0' '1: tasks is above 255: 256'
+refuses 'open 1 65536 0' '1: slots is above 65535: 65536'
+refuses 'open 1 1 4294967296' '1: first tag is above 4294967295: 4294967296'
+refuses $'open 1 1 0\n\n# here\npush 0 up 1 1' '4: side is not left, right or a number: up'
+refuses 'push 0 256 1 1' '1: side is above 255: 256'
+refuses 'push 0 left 65536 1' '1: slot is above 65535: 65536'
+refuses 'push 0 left 1 -1' '1: label is not a number: -1'
+refuses 'pop 0' '1: pop takes 2 words, found 1'
+refuses $'step 0\nstep 0*2*2' '2: not TASK or TASK*COUNT: 0*2*2'
+refuses 'step 0*x' '1: count is not a number: x'
+refuses 'step 256' '1: task is above 255: 256'
+refuses 'raw 123' '1: not whole hexadecimal bytes: 123'
+refuses 'raw xy' '1: not whole hexadecimal bytes: xy'
+refuses 'raw' '1: raw takes hexadecimal bytes'
+refuses 'jump 1' '1: unknown operation: jump'
+
+echo "$passed passed, $failed failed"
+[ "$failed" -eq 0 ] && [ "$passed" -gt 0 ]
