@@ -1,0 +1,310 @@
+/*
+ * Drives the library, the hand-written calls and the bare algorithm through one schedule.
+ *
+ *     bench check TASKS SLOTS STEPS          all three answer and leave the same
+ *     bench time  TASKS SLOTS STEPS TIMES    nanoseconds a step, best of TIMES, interleaved
+ *     bench count ENGINE TASKS SLOTS STEPS   one replay, for a program that counts instructions
+ *
+ * The schedule is drawn once: which task moves, and what an idle one starts. A timed replay starts
+ * calls by plain stores of its own, the same for all, so that only steps are compared; what its
+ * loop and these stores cost is measured without any step and taken off.
+ */
+#include "bare.h"
+#include "reference.h"
+
+#include <inttypes.h>
+#include <stdio.h>
+#include <stdlib.h>
+#include <string.h>
+#include <time.h>
+
+enum { STEP, PUSH, POP };
+
+struct operation {
+    uint8_t what, task, side;
+    uint16_t slot;
+    uint32_t label;
+};
+
+static zc_control control;
+static zc_record records[ZC_MOST_TASKS];
+static uint64_t lefts[ZC_ROWS(ZC_MOST_SLOTS)], rights[ZC_ROWS(ZC_MOST_SLOTS)];
+static uint64_t marks[ZC_MARK_WORDS(ZC_MOST_SLOTS)];
+static uint32_t labels[ZC_ROWS(ZC_MOST_SLOTS)];
+static size_t tasks, slots;
+
+#define LENT lefts, slots + 1, rights, slots + 1, labels, slots + 1, marks, slots / 64 + 1
+
+/* ---- The schedule ------------------------------------------------------------------------ */
+
+static uint64_t draw(uint64_t *state)
+{
+    *state ^= *state << 13;
+    *state ^= *state >> 7;
+    *state ^= *state << 17;
+    return *state >> 16;
+}
+
+/* The next free slot after `last`, going round; 0 if all are taken. */
+static uint64_t free_slot(uint64_t last)
+{
+    for (size_t tried = 0; tried < slots; tried++) {
+        last = last % slots + 1;
+        if (!zc_marked(marks, last))
+            return last;
+    }
+    return 0;
+}
+
+/* Exactly `steps` steps, each start just before its call's first step; the number of operations. */
+static size_t draw_schedule(struct operation *schedule, size_t steps)
+{
+    uint64_t state = UINT64_C(88172645463325252);
+    uint64_t last = 0;
+    size_t count = 0;
+    reference_open(&control, records, tasks, tasks, slots, 0, LENT);
+    for (size_t step = 0; step < steps; step++) {
+        uint64_t number = draw(&state);
+        struct operation move = {STEP, (uint8_t)((number & 0xffffff) % tasks), 0, 0, 0};
+        if (records[move.task].place == 0) {
+            struct operation start = {POP, move.task, number >> 30 & 1, 0, 0};
+            uint64_t slot = number >> 31 & 1 ? free_slot(last) : 0;
+            if (slot != 0) {
+                last = slot;
+                start.what = PUSH;
+                start.slot = (uint16_t)slot;
+                start.label = (uint32_t)draw(&state);
+                reference_push(&control, records, tasks, start.task, start.side, slot, start.label,
+                               LENT);
+            } else {
+                reference_pop(&control, records, tasks, start.task, start.side, LENT);
+            }
+            schedule[count++] = start;
+        }
+        reference_step(&control, records, tasks, move.task, LENT);
+        schedule[count++] = move;
+    }
+    return count;
+}
+
+/* ---- Replays ----------------------------------------------------------------------------- */
+
+static void start_push(const struct operation *start)
+{
+    zc_record record = {1, ZC_PUSH, start->side, start->slot, start->label, 0, 0, 0, 0};
+    records[start->task] = record;
+    labels[start->slot] = start->label;
+    marks[start->slot / 64] |= UINT64_C(1) << (start->slot % 64);
+}
+
+static void start_pop(const struct operation *start)
+{
+    zc_record record = {1, ZC_POP, start->side, 0, 0, 0, 0, 0, 0};
+    records[start->task] = record;
+}
+
+/* A replay whose step is `expression`, in terms of `task`. */
+#define REPLAY(name, expression)                                                                   \
+    __attribute__((noinline))                                                                      \
+    uint64_t replay_##name(const struct operation *schedule, size_t count);                        \
+    uint64_t replay_##name(const struct operation *schedule, size_t count)                         \
+    {                                                                                              \
+        uint64_t sum = 0;                                                                          \
+        for (size_t at = 0; at < count; at++) {                                                    \
+            if (schedule[at].what == STEP) {                                                       \
+                size_t task = schedule[at].task;                                                   \
+                zc_reply reply = expression;                                                       \
+                sum += reply.code + reply.label + reply.value;                                     \
+            } else if (schedule[at].what == PUSH) {                                                \
+                start_push(&schedule[at]);                                                         \
+            } else {                                                                               \
+                start_pop(&schedule[at]);                                                          \
+            }                                                                                      \
+        }                                                                                          \
+        return sum;                                                                                \
+    }
+
+static inline zc_reply no_step(size_t task)
+{
+    zc_reply reply = {ZC_RUNNING, 0, task};
+    return reply;
+}
+
+REPLAY(loop, no_step(task))
+REPLAY(library, zc_step(&control, records, tasks, task, LENT))
+REPLAY(reference, reference_step(&control, records, tasks, task, LENT))
+REPLAY(bare, bare_step(&control, &records[task], lefts, rights, labels, marks))
+REPLAY(library_record, zc_step_record(&control, &records[task], LENT))
+REPLAY(reference_record, reference_step_record(&control, &records[task], LENT))
+
+static const struct engine {
+    const char *name;
+    uint64_t (*replay)(const struct operation *schedule, size_t count);
+} engines[] = {
+    {"loop", replay_loop},
+    {"library", replay_library},
+    {"reference", replay_reference},
+    {"bare", replay_bare},
+    {"library_record", replay_library_record},
+    {"reference_record", replay_reference_record},
+};
+enum { ENGINES = sizeof engines / sizeof *engines };
+
+/* ---- Check ------------------------------------------------------------------------------- */
+
+static uint64_t mix(uint64_t hash, uint64_t number)
+{
+    return (hash ^ number) * UINT64_C(1099511628211);
+}
+
+static uint64_t hash_tables(uint64_t hash)
+{
+    for (size_t row = 0; row <= slots; row++)
+        hash = mix(mix(mix(hash, lefts[row]), rights[row]), labels[row]);
+    for (size_t word = 0; word <= slots / 64; word++)
+        hash = mix(hash, marks[word]);
+    return hash;
+}
+
+static uint64_t hash_move(uint64_t hash, zc_reply reply, const zc_record *record)
+{
+    const uint64_t numbers[] = {
+        reply.code,    reply.label,       reply.value,    record->place,
+        record->kind,  record->side,      record->own,    record->label,
+        record->seen,  record->neighbour, record->link,   record->finishing,
+        control.tasks, control.slots,     control.anchor, control.retries,
+    };
+    for (size_t at = 0; at < sizeof numbers / sizeof *numbers; at++)
+        hash = mix(hash, numbers[at]);
+    return hash;
+}
+
+static zc_reply bare_move(const struct operation *move)
+{
+    zc_reply reply = {ZC_RUNNING, 0, 1};
+    switch (move->what) {
+    case PUSH: start_push(move); return reply;
+    case POP: start_pop(move); return reply;
+    default: return bare_step(&control, &records[move->task], lefts, rights, labels, marks);
+    }
+}
+
+static zc_reply reference_move(const struct operation *move)
+{
+    switch (move->what) {
+    case PUSH:
+        return reference_push(&control, records, tasks, move->task, move->side, move->slot,
+                              move->label, LENT);
+    case POP: return reference_pop(&control, records, tasks, move->task, move->side, LENT);
+    default: return reference_step(&control, records, tasks, move->task, LENT);
+    }
+}
+
+static zc_reply library_move(const struct operation *move)
+{
+    switch (move->what) {
+    case PUSH:
+        return zc_push(&control, records, tasks, move->task, move->side, move->slot, move->label,
+                       LENT);
+    case POP: return zc_pop(&control, records, tasks, move->task, move->side, LENT);
+    default: return zc_step(&control, records, tasks, move->task, LENT);
+    }
+}
+
+/* The hash over all answers, the record and control after each, and all tables now and then. */
+static uint64_t hash_run(const struct operation *schedule, size_t count,
+                         zc_reply (*move)(const struct operation *))
+{
+    uint64_t hash = UINT64_C(1469598103934665603);
+    reference_open(&control, records, tasks, tasks, slots, 0, LENT);
+    for (size_t at = 0; at < count; at++) {
+        zc_reply reply = move(&schedule[at]);
+        hash = hash_move(hash, reply, &records[schedule[at].task]);
+        if (at % 256 == 0)
+            hash = hash_tables(hash);
+    }
+    return hash_tables(hash);
+}
+
+static int check(const struct operation *schedule, size_t count)
+{
+    uint64_t library = hash_run(schedule, count, library_move);
+    uint64_t reference = hash_run(schedule, count, reference_move);
+    uint64_t bare = hash_run(schedule, count, bare_move);
+    if (library == reference && reference == bare)
+        return 0;
+    fprintf(stderr,
+            "%zu tasks, %zu slots: answers or tables differ: library %016" PRIx64 ", C %016" PRIx64
+            ", bare %016" PRIx64 "\n",
+            tasks, slots, library, reference, bare);
+    return 1;
+}
+
+/* ---- Time -------------------------------------------------------------------------------- */
+
+static double now(void)
+{
+    struct timespec time;
+    clock_gettime(CLOCK_MONOTONIC, &time);
+    return (double)time.tv_sec * 1e9 + (double)time.tv_nsec;
+}
+
+static int time_all(const struct operation *schedule, size_t count, size_t steps, int times)
+{
+    double best[ENGINES];
+    uint64_t sums[ENGINES] = {0};
+    for (size_t engine = 0; engine < ENGINES; engine++)
+        best[engine] = 1e300;
+    for (int turn = 0; turn < times; turn++)
+        for (size_t at = 0; at < ENGINES; at++) {
+            size_t engine = (at + (size_t)turn) % ENGINES;
+            reference_open(&control, records, tasks, tasks, slots, 0, LENT);
+            double before = now();
+            sums[engine] = engines[engine].replay(schedule, count);
+            double taken = now() - before;
+            if (taken < best[engine])
+                best[engine] = taken;
+        }
+    for (size_t engine = 2; engine < ENGINES; engine++)
+        if (sums[engine] != sums[1]) {
+            fprintf(stderr, "%s and %s answered differently\n", engines[1].name,
+                    engines[engine].name);
+            return 1;
+        }
+    for (size_t engine = 0; engine < ENGINES; engine++) {
+        double off = engine == 0 ? 0 : best[0];
+        printf("%s %.3f\n", engines[engine].name, (best[engine] - off) / (double)steps);
+    }
+    return 0;
+}
+
+static int count_one(const char *name, const struct operation *schedule, size_t count)
+{
+    for (size_t engine = 0; engine < ENGINES; engine++)
+        if (strcmp(engines[engine].name, name) == 0) {
+            reference_open(&control, records, tasks, tasks, slots, 0, LENT);
+            printf("%" PRIu64 "\n", engines[engine].replay(schedule, count));
+            return 0;
+        }
+    return 2;
+}
+
+int main(int argc, char **argv)
+{
+    const char *mode = argc > 1 ? argv[1] : "";
+    int shift = strcmp(mode, "count") == 0;
+    int timed = strcmp(mode, "time") == 0;
+    if (argc != 5 + shift + timed)
+        return 2;
+    tasks = strtoul(argv[2 + shift], NULL, 10);
+    slots = strtoul(argv[3 + shift], NULL, 10);
+    size_t steps = strtoul(argv[4 + shift], NULL, 10);
+    struct operation *schedule = malloc(2 * steps * sizeof *schedule);
+    if (schedule == NULL || tasks < 1 || tasks > ZC_MOST_TASKS || slots < 1 ||
+        slots > ZC_MOST_SLOTS)
+        return 2;
+    size_t count = draw_schedule(schedule, steps);
+    if (shift)
+        return count_one(argv[2], schedule, count);
+    return timed ? time_all(schedule, count, steps, atoi(argv[5])) : check(schedule, count);
+}

@@ -1,0 +1,378 @@
+/*
+ * The library's calls written by hand in C: the same answers, the same refusals in the same order.
+ * It is the yardstick of the benchmark and a stand-in for the archive in tests/library.
+ *
+ * The calls are named reference_*, or zc_* if compiled with -DAS_LIBRARY.
+ */
+#include "reference.h"
+
+#include <stdbool.h>
+#include <string.h>
+
+static const uint64_t last_tag = UINT64_C(0xffffffff);
+static const uint64_t tag_bits = UINT64_C(0xffffffff00000000);
+static const uint64_t one_tag = UINT64_C(0x100000000);
+static const uint64_t link_spare_bits = UINT64_C(0xffff8000);
+
+/* ---- Soundness (34) and lengths (12) ----------------------------------------------------- */
+
+static inline bool within(uint64_t number, uint64_t most) { return number >= 1 && number <= most; }
+
+static inline bool anchor_sound(uint64_t anchor, uint64_t slots)
+{
+    uint64_t status = zc_anchor_status(anchor);
+    uint64_t left = zc_anchor_left(anchor);
+    uint64_t right = zc_anchor_right(anchor);
+    if (status > ZC_LPUSH || left > slots || right > slots)
+        return false;
+    if ((left == 0) != (right == 0))
+        return false;
+    return status == ZC_STABLE || left != right;
+}
+
+static inline bool link_sound(uint64_t link, uint64_t slots)
+{
+    return (link & link_spare_bits) == 0 && zc_link_slot(link) <= slots;
+}
+
+static inline bool control_sound(const zc_control *control)
+{
+    return within(control->tasks, ZC_MOST_TASKS) && within(control->slots, ZC_MOST_SLOTS) &&
+           anchor_sound(control->anchor, control->slots);
+}
+
+static inline bool helping(const zc_record *record)
+{
+    return record->place >= 5 && record->place <= 10;
+}
+
+static inline bool record_sound(const zc_record *record, uint64_t slots)
+{
+    if (record->place == 0)
+        return true;
+    if (record->place > 11 || record->kind > ZC_POP || record->side > ZC_RIGHT ||
+        record->finishing > 1)
+        return false;
+    if (record->kind == ZC_POP) {
+        if (record->own != 0 || record->finishing != 0)
+            return false;
+    } else {
+        if (!within(record->own, slots) || record->place == 11)
+            return false;
+        if (record->finishing != 0 && !helping(record))
+            return false;
+    }
+    if (record->neighbour > slots || !link_sound(record->link, slots) ||
+        !anchor_sound(record->seen, slots))
+        return false;
+    return !helping(record) || zc_anchor_status(record->seen) != ZC_STABLE;
+}
+
+static inline bool rows_fit(uint64_t slots, size_t left_count, size_t right_count,
+                            size_t label_count, size_t mark_count)
+{
+    return left_count > slots && right_count > slots && label_count > slots &&
+           mark_count > slots / 64;
+}
+
+/* ---- Answers ----------------------------------------------------------------------------- */
+
+static inline zc_reply refuse(uint32_t number)
+{
+    zc_reply reply = {number, 0, 0};
+    return reply;
+}
+
+static inline zc_reply go(zc_record *record, uint64_t place)
+{
+    zc_reply reply = {ZC_RUNNING, 0, place};
+    record->place = place;
+    return reply;
+}
+
+static inline zc_reply answer(zc_record *record, uint32_t code, uint64_t slot, uint32_t label)
+{
+    zc_reply reply = {code, label, slot};
+    memset(record, 0, sizeof *record);
+    return reply;
+}
+
+static inline zc_reply leave(zc_record *record)
+{
+    return record->finishing ? answer(record, ZC_PUSHED, 0, 0) : go(record, 1);
+}
+
+/* ---- Changes ----------------------------------------------------------------------------- */
+
+enum change { FAILED, DONE, FORBIDDEN };
+
+static inline void count_retry(zc_control *control)
+{
+    if (control->retries < ZC_MOST_RETRIES)
+        control->retries++;
+}
+
+/* The Anchor word with a raised tag, a status, and its two ends as seen from a side. */
+static inline uint64_t successor(uint64_t seen, uint64_t status, uint64_t side, uint64_t near,
+                                 uint64_t far)
+{
+    uint64_t left = side == ZC_RIGHT ? far : near;
+    uint64_t right = side == ZC_RIGHT ? near : far;
+    return ((seen & tag_bits) + one_tag) | status << 30 | left << 15 | right;
+}
+
+static inline enum change change_anchor(zc_control *control, uint64_t seen, uint64_t wanted)
+{
+    if (control->anchor != seen) {
+        count_retry(control);
+        return FAILED;
+    }
+    if (zc_anchor_tag(seen) == last_tag || !anchor_sound(wanted, control->slots))
+        return FORBIDDEN;
+    control->anchor = wanted;
+    return DONE;
+}
+
+/* ---- The step of a sound record in sound tables ------------------------------------------ */
+
+/* Two calls share it; a call of its own costs a tenth of the step. */
+#if defined(__GNUC__)
+#define INLINED __attribute__((always_inline)) static inline
+#else
+#define INLINED static inline
+#endif
+
+static inline zc_reply read_neighbour(zc_record *record, const uint64_t *inward, uint64_t end,
+                                      uint64_t slots)
+{
+    if (end == 0 || !link_sound(inward[end], slots))
+        return refuse(ZC_UNSOUND);
+    record->neighbour = zc_link_slot(inward[end]);
+    return go(record, record->place + 1);
+}
+
+INLINED zc_reply advance(zc_control *control, zc_record *record, uint64_t *lefts, uint64_t *rights,
+                         const uint32_t *labels, uint64_t *marks)
+{
+    uint64_t slots = control->slots;
+    uint64_t seen = record->seen;
+    uint64_t status = zc_anchor_status(seen);
+    bool push = record->kind == ZC_PUSH;
+    uint64_t side = helping(record) ? status == ZC_RPUSH : record->side;
+    bool right = side == ZC_RIGHT;
+    uint64_t end = right ? zc_anchor_right(seen) : zc_anchor_left(seen);
+    uint64_t far = right ? zc_anchor_left(seen) : zc_anchor_right(seen);
+    uint64_t *inward = right ? lefts : rights;
+    uint64_t *outward = right ? rights : lefts;
+
+    switch (record->place) {
+    case 1: {
+        uint64_t anchor = control->anchor;
+        record->seen = anchor;
+        if (zc_anchor_left(anchor) == 0)
+            return push ? go(record, 2) : answer(record, ZC_EMPTY, 0, 0);
+        if (!push && zc_anchor_left(anchor) == zc_anchor_right(anchor))
+            return go(record, 2);
+        return go(record, zc_anchor_status(anchor) == ZC_STABLE ? 3 : 5);
+    }
+    case 2:
+        switch (
+            change_anchor(control, seen, successor(seen, status, side, record->own, record->own))) {
+        case FORBIDDEN: return refuse(ZC_UNSOUND);
+        case FAILED: return go(record, 1);
+        default: return push ? answer(record, ZC_PUSHED, 0, 0) : go(record, 11);
+        }
+    case 3:
+        if (!push)
+            return read_neighbour(record, inward, end, slots);
+        if (!link_sound(inward[record->own], slots))
+            return refuse(ZC_UNSOUND);
+        inward[record->own] = (inward[record->own] & tag_bits) | end;
+        return go(record, 4);
+    case 4: {
+        uint64_t wanted = push
+                              ? successor(seen, right ? ZC_RPUSH : ZC_LPUSH, side, record->own, far)
+                              : successor(seen, status, side, record->neighbour, far);
+        switch (change_anchor(control, seen, wanted)) {
+        case FORBIDDEN: return refuse(ZC_UNSOUND);
+        case FAILED: return go(record, 1);
+        default: break;
+        }
+        if (!push)
+            return go(record, 11);
+        record->seen = wanted;
+        record->finishing = 1;
+        return go(record, 5);
+    }
+    case 5: return read_neighbour(record, inward, end, slots);
+    case 6:
+    case 8: return control->anchor == seen ? go(record, record->place + 1) : leave(record);
+    case 7: {
+        if (record->neighbour == 0 || !link_sound(outward[record->neighbour], slots))
+            return refuse(ZC_UNSOUND);
+        record->link = outward[record->neighbour];
+        return go(record, zc_link_slot(record->link) == end ? 10 : 8);
+    }
+    case 9:
+        if (record->neighbour == 0)
+            return refuse(ZC_UNSOUND);
+        if (outward[record->neighbour] != record->link) {
+            count_retry(control);
+            return leave(record);
+        }
+        if (zc_link_tag(record->link) == last_tag)
+            return refuse(ZC_UNSOUND);
+        outward[record->neighbour] = ((record->link & tag_bits) + one_tag) | end;
+        return go(record, 10);
+    case 10:
+        if (change_anchor(control, seen, successor(seen, ZC_STABLE, side, end, far)) == FORBIDDEN)
+            return refuse(ZC_UNSOUND);
+        return leave(record);
+    default: {
+        if (end == 0)
+            return refuse(ZC_UNSOUND);
+        uint32_t label = labels[end];
+        marks[end / 64] &= ~(UINT64_C(1) << (end % 64));
+        return answer(record, ZC_POPPED, end, label);
+    }
+    }
+}
+
+/* ---- The calls --------------------------------------------------------------------------- */
+
+uint32_t CALL(open)(zc_control *control, zc_record *records, size_t record_count, uint64_t tasks,
+                    uint64_t slots, uint32_t tag, TABLES)
+{
+    if (!within(tasks, ZC_MOST_TASKS))
+        return ZC_BAD_TASKS;
+    if (!within(slots, ZC_MOST_SLOTS))
+        return ZC_BAD_SLOTS;
+    if (!rows_fit(slots, left_count, right_count, label_count, mark_count) || record_count < tasks)
+        return ZC_SHORT;
+    memset(lefts, 0, ZC_ROWS(slots) * sizeof *lefts);
+    memset(rights, 0, ZC_ROWS(slots) * sizeof *rights);
+    memset(labels, 0, ZC_ROWS(slots) * sizeof *labels);
+    memset(marks, 0, ZC_MARK_WORDS(slots) * sizeof *marks);
+    memset(records, 0, tasks * sizeof *records);
+    control->tasks = tasks;
+    control->slots = slots;
+    control->anchor = (uint64_t)tag << 32;
+    control->retries = 0;
+    return 0;
+}
+
+zc_reply CALL(push)(zc_control *control, zc_record *records, size_t record_count, size_t task,
+                    uint64_t side, uint64_t slot, uint32_t label, TABLES)
+{
+    (void)lefts, (void)rights;
+    if (!control_sound(control))
+        return refuse(ZC_UNSOUND);
+    if (!rows_fit(control->slots, left_count, right_count, label_count, mark_count) ||
+        record_count < control->tasks)
+        return refuse(ZC_SHORT);
+    if (task >= control->tasks)
+        return refuse(ZC_NO_TASK);
+    if (side > ZC_RIGHT)
+        return refuse(ZC_NO_SIDE);
+    if (!within(slot, control->slots))
+        return refuse(ZC_NO_SLOT);
+    zc_record *record = &records[task];
+    if (!record_sound(record, control->slots))
+        return refuse(ZC_UNSOUND);
+    if (record->place != 0)
+        return refuse(ZC_BUSY);
+    if (zc_marked(marks, slot))
+        return refuse(ZC_TAKEN);
+    if (zc_anchor_tag(control->anchor) > ZC_LAST_START_TAG)
+        return refuse(ZC_WORN);
+    memset(record, 0, sizeof *record);
+    record->side = side;
+    record->own = slot;
+    record->label = label;
+    labels[slot] = label;
+    marks[slot / 64] |= UINT64_C(1) << (slot % 64);
+    return go(record, 1);
+}
+
+zc_reply CALL(pop)(zc_control *control, zc_record *records, size_t record_count, size_t task,
+                   uint64_t side, TABLES)
+{
+    (void)lefts, (void)rights, (void)labels, (void)marks;
+    if (!control_sound(control))
+        return refuse(ZC_UNSOUND);
+    if (!rows_fit(control->slots, left_count, right_count, label_count, mark_count) ||
+        record_count < control->tasks)
+        return refuse(ZC_SHORT);
+    if (task >= control->tasks)
+        return refuse(ZC_NO_TASK);
+    if (side > ZC_RIGHT)
+        return refuse(ZC_NO_SIDE);
+    zc_record *record = &records[task];
+    if (!record_sound(record, control->slots))
+        return refuse(ZC_UNSOUND);
+    if (record->place != 0)
+        return refuse(ZC_BUSY);
+    if (zc_anchor_tag(control->anchor) > ZC_LAST_START_TAG)
+        return refuse(ZC_WORN);
+    memset(record, 0, sizeof *record);
+    record->kind = ZC_POP;
+    record->side = side;
+    return go(record, 1);
+}
+
+zc_reply CALL(step)(zc_control *control, zc_record *records, size_t record_count, size_t task,
+                    TABLES)
+{
+    if (!control_sound(control))
+        return refuse(ZC_UNSOUND);
+    if (!rows_fit(control->slots, left_count, right_count, label_count, mark_count) ||
+        record_count < control->tasks)
+        return refuse(ZC_SHORT);
+    if (task >= control->tasks)
+        return refuse(ZC_NO_TASK);
+    zc_record *record = &records[task];
+    if (!record_sound(record, control->slots))
+        return refuse(ZC_UNSOUND);
+    if (record->place == 0)
+        return refuse(ZC_IDLE);
+    return advance(control, record, lefts, rights, labels, marks);
+}
+
+zc_reply CALL(step_record)(zc_control *control, zc_record *one, TABLES)
+{
+    if (!control_sound(control))
+        return refuse(ZC_UNSOUND);
+    if (!rows_fit(control->slots, left_count, right_count, label_count, mark_count))
+        return refuse(ZC_SHORT);
+    if (!record_sound(one, control->slots))
+        return refuse(ZC_UNSOUND);
+    if (one->place == 0)
+        return refuse(ZC_IDLE);
+    return advance(control, one, lefts, rights, labels, marks);
+}
+
+zc_report_reply CALL(report)(const zc_control *control, const zc_record *records,
+                             size_t record_count, CONST_TABLES)
+{
+    (void)lefts, (void)rights, (void)labels;
+    zc_report_reply reply = {0};
+    if (!control_sound(control)) {
+        reply.code = ZC_UNSOUND;
+        return reply;
+    }
+    if (!rows_fit(control->slots, left_count, right_count, label_count, mark_count) ||
+        record_count < control->tasks) {
+        reply.code = ZC_SHORT;
+        return reply;
+    }
+    reply.tag = zc_anchor_tag(control->anchor);
+    reply.status = zc_anchor_status(control->anchor);
+    reply.left = zc_anchor_left(control->anchor);
+    reply.right = zc_anchor_right(control->anchor);
+    reply.retries = control->retries;
+    for (uint64_t task = 0; task < control->tasks; task++)
+        reply.busy += records[task].place != 0;
+    for (uint64_t slot = 1; slot <= control->slots; slot++)
+        reply.waiting += (uint64_t)zc_marked(marks, slot);
+    return reply;
+}

@@ -1,0 +1,90 @@
+#!/bin/bash
+# The library's step against the same step by hand in C, and against the bare algorithm.
+#
+#     bench/run.sh [ARCHIVE]        ARCHIVE: target/staticlib/libcapi.a, from `rt staticlib capi`
+#     bench/run.sh --stand-in       reference.c in the library's place: all ratios should be 1
+#
+# CC (gcc), OPT (-O3), STEPS (100000), TIMES (150) may be set.
+set -eu -o pipefail
+cd "$(dirname "$0")"
+
+CC=${CC:-gcc}
+OPT=${OPT:--O3}
+STEPS=${STEPS:-100000}
+TIMES=${TIMES:-150}
+COUNTED=50000 # steps under callgrind
+WARNINGS="-std=gnu11 -Wall -Wextra -Werror"
+
+work=$(mktemp -d)
+trap 'rm -rf "$work"' EXIT
+
+archive=${1:-../target/staticlib/libcapi.a}
+if [ "$archive" = --stand-in ]; then
+    archive=$work/libcapi.a
+    $CC $WARNINGS $OPT -DAS_LIBRARY -I../include -c reference.c -o "$work/library.o"
+    ar rcs "$archive" "$work/library.o"
+elif [ $# -gt 0 ]; then
+    archive=$(cd "$OLDPWD" && realpath "$archive")
+fi
+if [ ! -f "$archive" ]; then
+    echo "bench: no archive $archive; build it with: rt staticlib capi" >&2
+    exit 2
+fi
+
+for source in main reference bare; do
+    $CC $WARNINGS $OPT -I../include -c $source.c -o "$work/$source.o"
+done
+$CC "$work"/{main,reference,bare}.o "$archive" -o "$work/bench"
+
+# Instructions of a whole replay by callgrind; nothing if it cannot tell.
+instructions() { # ENGINE TASKS SLOTS
+    valgrind --tool=callgrind --callgrind-out-file=/dev/null --toggle-collect="replay_$1" \
+        "$work/bench" count "$1" "$2" "$3" $COUNTED 2>&1 >/dev/null |
+        sed -n 's/.*Collected : \([0-9]*\).*/\1/p' || true
+}
+
+have_callgrind=yes
+if ! command -v valgrind >/dev/null || [ -z "$(instructions loop 1 3)" ]; then
+    have_callgrind=no
+fi
+
+ratio() { awk -v a="$1" -v b="$2" 'BEGIN { if (b > 0) printf "%.2f", a / b; else printf "-" }'; }
+
+echo "$(sed -n 's/^model name[^:]*: //p' /proc/cpuinfo | head -1); $($CC --version | head -1), $OPT for C (the library is compiled at -O3);"
+echo "$STEPS random steps, best of $TIMES interleaved replays. Nanoseconds and instructions a step."
+[ $have_callgrind = yes ] || echo "No callgrind (valgrind) that runs here: instructions are left out (-)."
+echo
+echo "| call | tasks | slots | ns: library | C | bare | library/C | library/bare | instructions: library | C | bare | library/C | library/bare |"
+echo "|---|---|---|---|---|---|---|---|---|---|---|---|---|"
+
+line() { # CALL TASKS SLOTS LIBRARY REFERENCE
+    local a b c ia=- ib=- ic=- rb=- rc=- loop engine
+    a=$(awk -v n="$4" '$1 == n { print $2 }' "$work/times")
+    b=$(awk -v n="$5" '$1 == n { print $2 }' "$work/times")
+    c=$(awk '$1 == "bare" { print $2 }' "$work/times")
+    if [ $have_callgrind = yes ]; then
+        loop=$(instructions loop "$2" "$3")
+        each() { awk -v n="$(instructions "$1" "$2" "$3")" -v l="$loop" -v s=$COUNTED 'BEGIN { printf "%.1f", (n - l) / s }'; }
+        ia=$(each "$4" "$2" "$3")
+        ib=$(each "$5" "$2" "$3")
+        ic=$(each bare "$2" "$3")
+        rb=$(ratio "$ia" "$ib")
+        rc=$(ratio "$ia" "$ic")
+    fi
+    printf '| %s | %s | %s | %.1f | %.1f | %.1f | %s | %s | %s | %s | %s | %s | %s |\n' \
+        "$1" "$2" "$3" "$a" "$b" "$c" "$(ratio "$a" "$b")" "$(ratio "$a" "$c")" \
+        "$ia" "$ib" "$ic" "$rb" "$rc"
+}
+
+for tasks in 1 5 16; do
+    for slots in 3 1023; do
+        "$work/bench" check $tasks $slots "$STEPS"
+        "$work/bench" time $tasks $slots "$STEPS" "$TIMES" >"$work/times"
+        line zc_step $tasks $slots library reference
+        [ $tasks/$slots != 5/1023 ] || cp "$work/times" "$work/kept"
+    done
+done
+mv "$work/kept" "$work/times"
+line zc_step_record 5 1023 library_record reference_record
+echo
+echo "Answers and tables of all three were the same in every line."

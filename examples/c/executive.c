@@ -1,0 +1,143 @@
+/*
+ * A small executive: five tasks share one label queue and take turns at random, one touch at a
+ * time. Three scales push labels at the right, the reprint desk pushes at the left, and the print
+ * head pops at the left. At the end every label that was pushed must have reached the head once,
+ * or still be waiting.
+ *
+ *     cc -Iinclude examples/c/executive.c target/staticlib/libcapi.a -o executive
+ *     ./executive [seed]
+ */
+#include "zeppolecape.h"
+
+#include <inttypes.h>
+#include <stdio.h>
+#include <stdlib.h>
+
+enum { TASKS = 5, HEAD = 0, DESK = 4, SLOTS = 12, TOUCHES = 1000, MOST_LABELS = TOUCHES };
+
+static zc_control control;
+static zc_record records[TASKS];
+static uint64_t lefts[ZC_ROWS(SLOTS)], rights[ZC_ROWS(SLOTS)], marks[ZC_MARK_WORDS(SLOTS)];
+static uint32_t labels[ZC_ROWS(SLOTS)];
+static const zc_queue queue = {
+    .control = &control,
+    .records = records,
+    .record_count = TASKS,
+    .lefts = lefts,
+    .left_count = ZC_ROWS(SLOTS),
+    .rights = rights,
+    .right_count = ZC_ROWS(SLOTS),
+    .labels = labels,
+    .label_count = ZC_ROWS(SLOTS),
+    .marks = marks,
+    .mark_count = ZC_MARK_WORDS(SLOTS),
+};
+
+/* What became of label n, the n-th that was started. */
+static int pushed[MOST_LABELS], printed[MOST_LABELS];
+static uint32_t under_way[TASKS], next_label, printed_count;
+
+static uint64_t random_below(uint64_t *state, uint64_t limit)
+{
+    *state ^= *state << 13;
+    *state ^= *state >> 7;
+    *state ^= *state << 17;
+    return (*state >> 20) % limit;
+}
+
+/* The executive has one thing to do with a refusal that it did not expect: stop. */
+static zc_reply expect(zc_reply reply)
+{
+    if (zc_refused(reply)) {
+        fprintf(stderr, "refused %" PRIu32 ": %s\n", reply.code, zc_refusal_text(reply.code));
+        exit(2);
+    }
+    return reply;
+}
+
+/* A slot that no label and no call holds; 0 if there is none. */
+static uint64_t free_slot(void)
+{
+    for (uint64_t slot = 1; slot <= SLOTS; slot++)
+        if (!zc_marked(marks, slot))
+            return slot;
+    return 0;
+}
+
+/* An idle task starts its next call; a push waits while all slots are taken. */
+static void start(size_t task)
+{
+    if (task == HEAD) {
+        expect(zc_queue_pop(&queue, HEAD, ZC_LEFT));
+        return;
+    }
+    uint64_t slot = free_slot();
+    if (slot == 0)
+        return;
+    uint64_t side = task == DESK ? ZC_LEFT : ZC_RIGHT;
+    under_way[task] = next_label++;
+    expect(zc_queue_push(&queue, task, side, slot, under_way[task]));
+}
+
+/* A busy task makes one step. */
+static void step(size_t task)
+{
+    zc_reply reply = expect(zc_queue_step(&queue, task));
+    switch (reply.code) {
+    case ZC_PUSHED: pushed[under_way[task]]++; break;
+    case ZC_POPPED:
+        printf("%3" PRIu32 "%s", zc_label(reply), ++printed_count % 20 ? " " : "\n");
+        printed[zc_label(reply)]++;
+        break;
+    default: break; /* running, or the head found the queue empty */
+    }
+}
+
+/* Counts the labels still waiting: from the right end along Left links (all tasks are idle). */
+static uint64_t walk(int *waiting)
+{
+    uint64_t count = 0;
+    uint64_t slot = zc_anchor_right(control.anchor);
+    while (slot != 0) {
+        waiting[labels[slot]]++;
+        count++;
+        slot = slot == zc_anchor_left(control.anchor) ? 0 : zc_link_slot(lefts[slot]);
+    }
+    return count;
+}
+
+int main(int argc, char **argv)
+{
+    static int waiting[MOST_LABELS];
+    uint64_t state = argc > 1 ? strtoull(argv[1], NULL, 10) : 1;
+    state = state * UINT64_C(0x9e3779b97f4a7c15) | 1;
+
+    if (zc_queue_open(&queue, TASKS, SLOTS, 0) != 0)
+        return 2;
+    puts("the head got:");
+    for (int touch = 0; touch < TOUCHES; touch++) {
+        size_t task = random_below(&state, TASKS);
+        if (records[task].place == 0)
+            start(task);
+        else
+            step(task);
+    }
+    for (size_t task = 0; task < TASKS; task++)
+        while (records[task].place != 0)
+            step(task);
+
+    zc_report_reply report = zc_queue_report(&queue);
+    uint64_t count = walk(waiting);
+    printf("\n%" PRIu32 " pushed, %" PRIu32 " printed, %" PRIu64 " waiting, %" PRIu64 " retries\n",
+           next_label, printed_count, count, report.retries);
+
+    int lost = report.code != 0 || report.busy != 0 || report.waiting != count;
+    for (uint32_t label = 0; label < next_label; label++)
+        if (pushed[label] != 1 || printed[label] + waiting[label] != 1) {
+            printf("label %" PRIu32 ": pushed %d, printed %d, waiting %d\n", label, pushed[label],
+                   printed[label], waiting[label]);
+            lost = 1;
+        }
+    puts(lost ? "LOST a label" : "no label lost");
+    return lost;
+}

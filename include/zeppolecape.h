@@ -1,0 +1,376 @@
+/*
+ * zeppolecape.h - the label queue, a shared deque moved one touch at a time.
+ *
+ * The library holds no memory of its own. You lend it tables; it opens a queue
+ * in them, starts a push or a pop for a task, moves one task by one step, and
+ * reports. A step writes one shared word at the most, and an executive may
+ * interleave the steps of its tasks in any order and stop any of them anywhere:
+ * the others never wait for it. The method is Michael's CAS-based deque.
+ *
+ *     rt staticlib capi                          (writes target/staticlib/libcapi.a, for x86-64)
+ *     cc -Iinclude main.c target/staticlib/libcapi.a
+ *
+ * In short:
+ *
+ *     enum { TASKS = 2, SLOTS = 3 };
+ *     zc_control control;
+ *     zc_record  records[TASKS];
+ *     uint64_t   lefts[ZC_ROWS(SLOTS)], rights[ZC_ROWS(SLOTS)], marks[ZC_MARK_WORDS(SLOTS)];
+ *     uint32_t   labels[ZC_ROWS(SLOTS)];
+ *     zc_queue   queue = { &control, records, TASKS, lefts, ZC_ROWS(SLOTS), rights, ZC_ROWS(SLOTS),
+ *                          labels, ZC_ROWS(SLOTS), marks, ZC_MARK_WORDS(SLOTS) };
+ *
+ *     zc_queue_open(&queue, TASKS, SLOTS, 0);                    answers 0
+ *     zc_queue_push(&queue, 0, ZC_RIGHT, 1, 700);                task 0 starts: slot 1, label 700
+ *     zc_queue_step(&queue, 0);                                  running, next place 2
+ *     zc_queue_step(&queue, 0);                                  pushed
+ *     zc_queue_pop(&queue, 1, ZC_LEFT);                          task 1 starts
+ *     zc_queue_step(&queue, 1);   ... until zc_answered          running, running, popped 1 and 700
+ *
+ * YOUR DUTY, in every call
+ *  - `control` and the record pointer are not null. Every pointer is aligned for
+ *    its type and good for its count of elements (a count is never in bytes).
+ *  - No two of the tables overlap, nor do they overlap control or a record.
+ *  - One call at a time on a queue. The library uses plain loads and stores: it is
+ *    the executive that makes each step one undivided touch. Calls on different
+ *    queues are independent.
+ *  - Between calls the tables are yours to read. Writing into an open queue is
+ *    never dangerous to memory, but only a queue that was written by these calls
+ *    alone keeps its promises (and never answers 34).
+ * Everything else is checked: any number may be passed for any other argument, any
+ * contents may lie in the tables, and any table may be too short. A table with
+ * count 0 may be null; it is a short table (12) like any other.
+ *
+ * A REFUSAL is its number alone: every table keeps its contents. If several
+ * numbers apply, the first in the order that stands with the call is answered.
+ *
+ *   because of the input                     because of the state
+ *   10  tasks not 1 to 16                    30  start: the task is busy
+ *   11  slots not 1 to 1,023                 31  step: the task is idle
+ *   12  a lent table is too short            32  push: the slot's mark is set
+ *   13  no such task                         33  start: the Anchor tag is above 4,294,967,262
+ *   14  side not 0 or 1                      34  unsound, see ZC_UNSOUND
+ *   15  slot not 1 to slots
+ */
+#ifndef ZEPPOLECAPE_H
+#define ZEPPOLECAPE_H
+
+#include <stddef.h>
+#include <stdint.h>
+
+#ifdef __cplusplus
+extern "C" {
+#endif
+
+/* ---- Limits and lengths ---------------------------------------------------------------- */
+
+#define ZC_MOST_TASKS 16
+#define ZC_MOST_SLOTS 1023
+#define ZC_LAST_START_TAG UINT64_C(4294967262) /* with a higher tag a start is refused 33 */
+#define ZC_MOST_RETRIES UINT64_C(4294967295)   /* where the count of retries stays */
+
+/* Entries of lefts, rights and labels: rows 0 to slots (row 0 is null's and stays unused). */
+#define ZC_ROWS(slots) ((size_t)(slots) + 1)
+/* Entries of marks: bit n mod 64 of word n div 64 is set while slot n is taken. */
+#define ZC_MARK_WORDS(slots) ((size_t)(slots) / 64 + 1)
+
+/* ---- Numbers ---------------------------------------------------------------------------- */
+
+/* Sides. */
+#define ZC_LEFT 0
+#define ZC_RIGHT 1
+
+/* Kinds of a call, in a record. */
+#define ZC_PUSH 0
+#define ZC_POP 1
+
+/* Statuses of Anchor. Under RPUSH or LPUSH the last push at that side may lack its link back. */
+#define ZC_STABLE 0
+#define ZC_RPUSH 1
+#define ZC_LPUSH 2
+
+/* Codes of a zc_reply. Any other code is the number of a refusal. */
+#define ZC_RUNNING 1 /* the call goes on; value: the place of its next step */
+#define ZC_PUSHED 2  /* the push is answered */
+#define ZC_EMPTY 3   /* the pop is answered: nothing was waiting */
+#define ZC_POPPED 4  /* the pop is answered; value: the slot, label: its label */
+
+/* Refusals because of the input. */
+#define ZC_BAD_TASKS 10
+#define ZC_BAD_SLOTS 11
+#define ZC_SHORT 12   /* see ZC_ROWS and ZC_MARK_WORDS; one record for each task */
+#define ZC_NO_TASK 13 /* tasks are 0 to tasks - 1 */
+#define ZC_NO_SIDE 14
+#define ZC_NO_SLOT 15 /* slots are 1 to slots; 0 is null */
+
+/* Refusals because of the state. */
+#define ZC_BUSY 30  /* step the task to its answer first */
+#define ZC_IDLE 31  /* start a push or a pop first */
+#define ZC_TAKEN 32 /* name a slot whose mark is clear, see zc_marked */
+#define ZC_WORN 33  /* tags are used up: step running calls to their answers, then open again */
+/*
+ * The contents of a table contradict each other; never after an opening and calls of this
+ * library alone, so somebody else wrote there. Three groups, each tested at its time:
+ *  - control: tasks or slots outside their limits; an Anchor with status 3, an end above slots,
+ *    just one end null, or unstable with equal ends;
+ *  - the record, if busy: place above 11; kind, side or finishing above 1; place 11 in a push;
+ *    finishing in a pop or outside places 5 to 10; own not 0 in a pop, not 1 to slots in a push;
+ *    neighbour above slots; link with a set bit in 31-15 or a slot above slots; seen not a sound
+ *    Anchor, or STABLE at places 5 to 10;
+ *  - what the step touches: it needs a slot row outside 1 to slots; it meets, at 3, 5 or 7, a link
+ *    word with a set bit in 31-15 or a slot above slots (a push at 3: in its own slot); it would
+ *    make a change that leaves Anchor unsound or raises a tag past 32 bits.
+ */
+#define ZC_UNSOUND 34
+
+/* ---- Types ------------------------------------------------------------------------------ */
+
+/* What all tasks share besides rows and marks. Written by zc_open and the steps. */
+typedef struct zc_control {
+    uint64_t tasks;
+    uint64_t slots;
+    uint64_t anchor;  /* tag 63-32, status 31-30, left end 29-15, right end 14-0; end 0 is null */
+    uint64_t retries; /* changes that failed because another task was faster */
+} zc_control;
+
+/* Where a task stands in its call. All zero after zc_open and after an answer. */
+typedef struct zc_record {
+    uint64_t place;     /* 0 idle, or the place of the next step, 1 to 11 */
+    uint64_t kind;      /* ZC_PUSH or ZC_POP */
+    uint64_t side;      /* ZC_LEFT or ZC_RIGHT */
+    uint64_t own;       /* the slot of a push; 0 in a pop */
+    uint32_t label;     /* the label of a push; 4 bytes of padding follow, which nobody reads */
+    uint64_t seen;      /* Anchor as read */
+    uint64_t neighbour; /* the neighbour slot as read */
+    uint64_t link;      /* the link word as read */
+    uint64_t finishing; /* 1 once a push has taken effect and still has a link to mend */
+} zc_record;
+
+/* What a start or a step answers. Label and value are 0 where the code gives them no meaning. */
+typedef struct zc_reply {
+    uint32_t code;  /* ZC_RUNNING, ZC_PUSHED, ZC_EMPTY, ZC_POPPED, or the number of a refusal */
+    uint32_t label; /* popped: the label */
+    uint64_t value; /* running: the next place; popped: the slot */
+} zc_reply;
+
+/* What the report tells. With a refusal every field but code is 0. */
+typedef struct zc_report_reply {
+    uint64_t code;                     /* 0, or the number of a refusal */
+    uint64_t tag, status, left, right; /* the fields of Anchor */
+    uint64_t busy;                     /* tasks with a call under way */
+    uint64_t retries;
+    uint64_t waiting; /* marks set for slots 1 to slots, half-done calls included */
+} zc_report_reply;
+
+#ifdef __cplusplus
+#define ZC_LAYOUT(fact) static_assert(fact, #fact)
+#else
+#define ZC_LAYOUT(fact) _Static_assert(fact, #fact)
+#endif
+ZC_LAYOUT(sizeof(zc_control) == 32);
+ZC_LAYOUT(offsetof(zc_control, tasks) == 0 && offsetof(zc_control, slots) == 8);
+ZC_LAYOUT(offsetof(zc_control, anchor) == 16 && offsetof(zc_control, retries) == 24);
+ZC_LAYOUT(sizeof(zc_record) == 72);
+ZC_LAYOUT(offsetof(zc_record, place) == 0 && offsetof(zc_record, kind) == 8);
+ZC_LAYOUT(offsetof(zc_record, side) == 16 && offsetof(zc_record, own) == 24);
+ZC_LAYOUT(offsetof(zc_record, label) == 32 && offsetof(zc_record, seen) == 40);
+ZC_LAYOUT(offsetof(zc_record, neighbour) == 48 && offsetof(zc_record, link) == 56);
+ZC_LAYOUT(offsetof(zc_record, finishing) == 64);
+ZC_LAYOUT(sizeof(zc_reply) == 16);
+ZC_LAYOUT(offsetof(zc_reply, code) == 0 && offsetof(zc_reply, label) == 4);
+ZC_LAYOUT(offsetof(zc_reply, value) == 8);
+ZC_LAYOUT(sizeof(zc_report_reply) == 64);
+ZC_LAYOUT(offsetof(zc_report_reply, code) == 0 && offsetof(zc_report_reply, tag) == 8);
+ZC_LAYOUT(offsetof(zc_report_reply, status) == 16 && offsetof(zc_report_reply, left) == 24);
+ZC_LAYOUT(offsetof(zc_report_reply, right) == 32 && offsetof(zc_report_reply, busy) == 40);
+ZC_LAYOUT(offsetof(zc_report_reply, retries) == 48 && offsetof(zc_report_reply, waiting) == 56);
+
+/* ---- The calls ---------------------------------------------------------------------------
+ * The tables always come last and in this order, each a pointer and its count of elements:
+ * lefts and rights (link words: tag 63-32, zero 31-15, slot 14-0), labels, marks.
+ */
+
+/*
+ * Opens an empty, STABLE queue for `tasks` tasks, numbered from 0, and `slots` slots, numbered
+ * from 1. `tag` is the first Anchor tag: any number, 0 if you have no reason for another.
+ * Zeroes rows 0 to slots, `tasks` records, the mark words and retries; entries beyond keep their
+ * values. What lay in control and tables before does not matter.
+ * Answers 0, or refuses: 10, 11, 12 (rows slots + 1, records tasks, mark words slots div 64 + 1).
+ */
+uint32_t zc_open(zc_control *control, zc_record *records, size_t record_count, uint64_t tasks,
+                 uint64_t slots, uint32_t tag, uint64_t *lefts, size_t left_count, uint64_t *rights,
+                 size_t right_count, uint32_t *labels, size_t label_count, uint64_t *marks,
+                 size_t mark_count);
+
+/*
+ * Starts a push for an idle task: `label`, any number, in `slot`, at the end `side`. The slot must
+ * be free (its mark clear); it is taken from now until the pop of its label answers.
+ * Writes the record, the slot's label and its mark; the queue itself moves by steps only.
+ * Answers running at place 1, or refuses: 34 for control, 12, 13, 14, 15, 34 for the record, 30,
+ * 32, 33.
+ */
+zc_reply zc_push(zc_control *control, zc_record *records, size_t record_count, size_t task,
+                 uint64_t side, uint64_t slot, uint32_t label, uint64_t *lefts, size_t left_count,
+                 uint64_t *rights, size_t right_count, uint32_t *labels, size_t label_count,
+                 uint64_t *marks, size_t mark_count);
+
+/*
+ * Starts a pop for an idle task at the end `side`. Writes the record alone.
+ * Answers running at place 1, or refuses: 34 for control, 12, 13, 14, 34 for the record, 30, 33.
+ */
+zc_reply zc_pop(zc_control *control, zc_record *records, size_t record_count, size_t task,
+                uint64_t side, uint64_t *lefts, size_t left_count, uint64_t *rights,
+                size_t right_count, uint32_t *labels, size_t label_count, uint64_t *marks,
+                size_t mark_count);
+
+/*
+ * Moves a busy task by one step. Step it again as long as the answer is running; with pushed,
+ * empty or popped the call is over and the task idle.
+ * Writes its record and at most one of: Anchor, a link word, a mark; a change that failed is
+ * counted in retries instead.
+ * Refuses: 34 for control, 12, 13, 34 for the record, 31, 34 for what the step touches.
+ */
+zc_reply zc_step(zc_control *control, zc_record *records, size_t record_count, size_t task,
+                 uint64_t *lefts, size_t left_count, uint64_t *rights, size_t right_count,
+                 uint32_t *labels, size_t label_count, uint64_t *marks, size_t mark_count);
+
+/*
+ * The same step on one lent record, which need not lie among the others: it answers, and leaves
+ * record and tables, as zc_step does with this record in its task's row.
+ * Refuses: 34 for control, 12 (rows and marks only), 34 for the record, 31, 34 for what the step
+ * touches.
+ */
+zc_reply zc_step_record(zc_control *control, zc_record *one, uint64_t *lefts, size_t left_count,
+                        uint64_t *rights, size_t right_count, uint32_t *labels, size_t label_count,
+                        uint64_t *marks, size_t mark_count);
+
+/*
+ * Tells Anchor's fields, the number of busy tasks, retries, and waiting. Writes nothing; of the
+ * records it looks at the places alone.
+ * Answers code 0, or refuses: 34 for control, 12.
+ */
+zc_report_reply zc_report(const zc_control *control, const zc_record *records, size_t record_count,
+                          const uint64_t *lefts, size_t left_count, const uint64_t *rights,
+                          size_t right_count, const uint32_t *labels, size_t label_count,
+                          const uint64_t *marks, size_t mark_count);
+
+/* ---- An answer taken apart --------------------------------------------------------------- */
+
+static inline int zc_refused(zc_reply reply) { return reply.code >= ZC_BAD_TASKS; }
+
+/* The number of the refusal; 0 if the call was carried out. */
+static inline uint32_t zc_refusal(zc_reply reply) { return zc_refused(reply) ? reply.code : 0; }
+
+/* Pushed, empty or popped: the task is idle again. */
+static inline int zc_answered(zc_reply reply)
+{
+    return reply.code == ZC_PUSHED || reply.code == ZC_EMPTY || reply.code == ZC_POPPED;
+}
+
+/* The place of the next step; 0 unless running. */
+static inline uint64_t zc_place(zc_reply reply)
+{
+    return reply.code == ZC_RUNNING ? reply.value : 0;
+}
+
+/* The slot that was popped; 0 unless popped. */
+static inline uint64_t zc_slot(zc_reply reply) { return reply.code == ZC_POPPED ? reply.value : 0; }
+
+/* The label that was popped. Any number is a label, so look at the code first. */
+static inline uint32_t zc_label(zc_reply reply) { return reply.label; }
+
+/* A refusal in words. */
+static inline const char *zc_refusal_text(uint64_t number)
+{
+    switch (number) {
+    case ZC_BAD_TASKS: return "tasks not 1 to 16";
+    case ZC_BAD_SLOTS: return "slots not 1 to 1,023";
+    case ZC_SHORT: return "a lent table is too short";
+    case ZC_NO_TASK: return "no such task";
+    case ZC_NO_SIDE: return "side not 0 or 1";
+    case ZC_NO_SLOT: return "slot not 1 to slots";
+    case ZC_BUSY: return "the task is busy";
+    case ZC_IDLE: return "the task is idle";
+    case ZC_TAKEN: return "the slot is taken";
+    case ZC_WORN: return "the Anchor tag is too high for another start";
+    case ZC_UNSOUND: return "the tables are unsound";
+    default: return "not a refusal";
+    }
+}
+
+/* ---- Words taken apart ------------------------------------------------------------------- */
+
+static inline uint64_t zc_anchor_tag(uint64_t anchor) { return anchor >> 32; }
+static inline uint64_t zc_anchor_status(uint64_t anchor) { return anchor >> 30 & 3; }
+static inline uint64_t zc_anchor_left(uint64_t anchor) { return anchor >> 15 & 0x7fff; }
+static inline uint64_t zc_anchor_right(uint64_t anchor) { return anchor & 0x7fff; }
+static inline uint64_t zc_link_tag(uint64_t link) { return link >> 32; }
+static inline uint64_t zc_link_slot(uint64_t link) { return link & 0x7fff; }
+
+/* Whether a slot, 1 to slots, is taken. */
+static inline int zc_marked(const uint64_t *marks, uint64_t slot)
+{
+    return (int)(marks[slot / 64] >> (slot % 64) & 1);
+}
+
+/* ---- The tables named once ----------------------------------------------------------------
+ * The same calls for a caller who keeps the pointers and counts together.
+ */
+typedef struct zc_queue {
+    zc_control *control;
+    zc_record *records;
+    size_t record_count;
+    uint64_t *lefts;
+    size_t left_count;
+    uint64_t *rights;
+    size_t right_count;
+    uint32_t *labels;
+    size_t label_count;
+    uint64_t *marks;
+    size_t mark_count;
+} zc_queue;
+
+#define ZC_TABLES(queue)                                                                           \
+    (queue)->lefts, (queue)->left_count, (queue)->rights, (queue)->right_count, (queue)->labels,   \
+        (queue)->label_count, (queue)->marks, (queue)->mark_count
+
+static inline uint32_t zc_queue_open(const zc_queue *queue, uint64_t tasks, uint64_t slots,
+                                     uint32_t tag)
+{
+    return zc_open(queue->control, queue->records, queue->record_count, tasks, slots, tag,
+                   ZC_TABLES(queue));
+}
+
+static inline zc_reply zc_queue_push(const zc_queue *queue, size_t task, uint64_t side,
+                                     uint64_t slot, uint32_t label)
+{
+    return zc_push(queue->control, queue->records, queue->record_count, task, side, slot, label,
+                   ZC_TABLES(queue));
+}
+
+static inline zc_reply zc_queue_pop(const zc_queue *queue, size_t task, uint64_t side)
+{
+    return zc_pop(queue->control, queue->records, queue->record_count, task, side,
+                  ZC_TABLES(queue));
+}
+
+static inline zc_reply zc_queue_step(const zc_queue *queue, size_t task)
+{
+    return zc_step(queue->control, queue->records, queue->record_count, task, ZC_TABLES(queue));
+}
+
+static inline zc_reply zc_queue_step_record(const zc_queue *queue, zc_record *one)
+{
+    return zc_step_record(queue->control, one, ZC_TABLES(queue));
+}
+
+static inline zc_report_reply zc_queue_report(const zc_queue *queue)
+{
+    return zc_report(queue->control, queue->records, queue->record_count, ZC_TABLES(queue));
+}
+
+#ifdef __cplusplus
+}
+#endif
+
+#endif

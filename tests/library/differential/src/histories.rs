@@ -1,0 +1,159 @@
+//! Histories: an opening, then starts and steps of all tasks in any order, refused ones among them.
+//! Every line of document 01's route must be taken, on both sides.
+
+use crate::tally::Tally;
+use crate::world::{by_library, Call, Export, Lent, Told, World};
+use reference::dice::Dice;
+use reference::tables::{Control, Record, POP, PUSH};
+use reference::word::{Anchor, RPUSH};
+use std::collections::BTreeSet;
+
+/// A step taken: kind, place, side as the place sees it, finishing; then code and next place.
+type Line = (u64, u64, u64, u64, u32, u64);
+
+const RUNNING: u32 = 1;
+const PUSHED: (u32, u64) = (2, 0);
+const EMPTY: (u32, u64) = (3, 0);
+const POPPED: (u32, u64) = (4, 0);
+
+/// Document 01's column "next", in full.
+fn route() -> BTreeSet<Line> {
+    let mut lines = BTreeSet::new();
+    let mut add = |kind, place, finishing, ends: &[(u32, u64)]| {
+        for side in [0, 1] {
+            for (code, next) in ends {
+                lines.insert((kind, place, side, finishing, *code, *next));
+            }
+        }
+    };
+    let to = |place: u64| (RUNNING, place);
+    add(PUSH, 1, 0, &[to(2), to(3), to(5)]);
+    add(PUSH, 2, 0, &[PUSHED, to(1)]);
+    add(PUSH, 3, 0, &[to(4)]);
+    add(PUSH, 4, 0, &[to(5), to(1)]);
+    add(POP, 1, 0, &[EMPTY, to(2), to(3), to(5)]);
+    add(POP, 2, 0, &[to(11), to(1)]);
+    add(POP, 3, 0, &[to(4)]);
+    add(POP, 4, 0, &[to(11), to(1)]);
+    add(POP, 11, 0, &[POPPED]);
+    for (kind, finishing, leave) in [(PUSH, 1, PUSHED), (PUSH, 0, to(1)), (POP, 0, to(1))] {
+        add(kind, 5, finishing, &[to(6)]);
+        add(kind, 6, finishing, &[to(7), leave]);
+        add(kind, 7, finishing, &[to(8), to(10)]);
+        add(kind, 8, finishing, &[to(9), leave]);
+        add(kind, 9, finishing, &[to(10), leave]);
+        add(kind, 10, finishing, &[leave]);
+    }
+    lines
+}
+
+fn line(record: &Record, told: Told) -> Option<Line> {
+    let Told::Reply(code, _, value) = told else { return None };
+    let helping = (5..=10).contains(&record.place);
+    let named = u64::from(Anchor::unpack(record.seen).status == RPUSH);
+    let side = if helping { named } else { record.side };
+    let next = if code == RUNNING { value } else { 0 };
+    (code < 10).then_some((record.kind, record.place, side, record.finishing, code, next))
+}
+
+fn lent<T: Clone>(held: usize, count: usize, filler: T) -> Lent<T> {
+    Lent::new(vec![filler; held], count)
+}
+
+/// Tables with junk in them, before an opening.
+fn unopened(tasks: usize, slots: usize) -> World {
+    let junk = Record { place: 99, kind: 98, side: 97, own: 96, label: 95, ..Record::default() };
+    World {
+        control: Control { tasks: 7, slots: 7, anchor: u64::MAX, retries: 7 },
+        records: lent(tasks + 2, tasks, junk),
+        one: junk,
+        lefts: lent(slots + 3, slots + 1, u64::MAX),
+        rights: lent(slots + 3, slots + 1, u64::MAX),
+        labels: lent(slots + 3, slots + 1, u32::MAX),
+        marks: lent(slots / 64 + 3, slots / 64 + 1, u64::MAX),
+    }
+}
+
+fn next_call(dice: &mut Dice, world: &World) -> Call {
+    let Control { tasks, slots, .. } = world.control;
+    let strange = dice.percent(3);
+    let mut task = dice.between(0, tasks - 1) as usize;
+    let place = world.records.held[task].place;
+    if strange && dice.percent(30) {
+        task = dice.pick(&[tasks as usize, usize::MAX]);
+    }
+    let side = if strange { dice.between(0, 2) } else { dice.between(0, 1) };
+    let start = match place == 0 {
+        true => !dice.percent(2),
+        false => dice.percent(2),
+    };
+    match start {
+        true if dice.percent(55) => {
+            let slot = if strange { dice.between(0, slots + 1) } else { dice.between(1, slots) };
+            Call::Push { task, side, slot, label: dice.throw() as u32 }
+        }
+        true => Call::Pop { task, side },
+        false if dice.percent(2) => Call::Report,
+        false if dice.percent(50) && task < tasks as usize => Call::StepRow { task },
+        false => Call::Step { task },
+    }
+}
+
+/// A step on the lent record answers, and leaves everything, as its task's step does.
+fn same_as_step(before: &World, task: usize, after: &World, told: Told) -> bool {
+    let mut other = before.clone();
+    let answer = by_library(&mut other, Call::Step { task });
+    answer == told && other == *after
+}
+
+fn history(tally: &mut Tally, dice: &mut Dice, taken: &mut BTreeSet<Line>, calls: u32) -> bool {
+    let tasks = dice.pick(&[1, 2, 3, 5, 16]);
+    let slots = dice.pick(&[1, 2, 3, 8, 63, 64, 65]);
+    let any = dice.throw() as u32;
+    let tag = dice.pick(&[0, 1, 2, any, any, any, 4_294_967_000, 4_294_967_262, u32::MAX]);
+    let mut ours = unopened(tasks as usize, slots as usize);
+    let mut theirs = ours.clone();
+    let opened = tally.compare(&mut ours, &mut theirs, Call::Open { tasks, slots, tag });
+    if opened.is_none() {
+        return false;
+    }
+    for _ in 0..calls {
+        let call = next_call(dice, &theirs);
+        let before = if let Call::StepRow { .. } = call { Some(ours.clone()) } else { None };
+        let record = match call {
+            Call::Step { task } | Call::StepRow { task } => theirs.records.held.get(task).copied(),
+            _ => None,
+        };
+        let Some(told) = tally.compare(&mut ours, &mut theirs, call) else { return false };
+        if told.code() == 34 {
+            return false; // never after an opening and engine calls alone
+        }
+        if let (Call::StepRow { task }, Some(before)) = (call, before) {
+            if !same_as_step(&before, task, &ours, told) {
+                println!("a step on the lent record of task {task} differs from the task's step");
+                return false;
+            }
+        }
+        if call.export() == Export::Step || call.export() == Export::StepRecord {
+            taken.extend(record.and_then(|record| line(&record, told)));
+        }
+    }
+    true
+}
+
+pub fn histories(tally: &mut Tally, dice: &mut Dice, times: u32, calls: u32) {
+    let mut taken = BTreeSet::new();
+    let mut holds = true;
+    for _ in 0..times {
+        holds &= history(tally, dice, &mut taken, calls);
+    }
+    tally.check(holds, "histories from an opening, without 34");
+    for line in route() {
+        tally.check(
+            taken.contains(&line),
+            &format!("this line of the route was not taken: {line:?}"),
+        );
+    }
+    let strange = taken.difference(&route()).next().copied();
+    tally.check(strange.is_none(), &format!("this line is not on the route: {strange:?}"));
+}

@@ -1,0 +1,109 @@
+//! Tables of any contents: sound scenes with several fields spoiled at random, nothing expected
+//! but that both sides do the same.
+
+use crate::sound::{wild, wild_record, wild_word, Scene, Wanted};
+use crate::tally::Tally;
+use crate::world::{Call, Lent};
+use reference::dice::Dice;
+
+fn spoil_count<T>(dice: &mut Dice, table: &mut Lent<T>) {
+    if dice.percent(3) {
+        table.count = dice.between(0, table.held.len() as u64) as usize;
+        table.null = dice.percent(50);
+    }
+}
+
+fn spoil_control(dice: &mut Dice, scene: &mut Scene) {
+    let control = &mut scene.world.control;
+    match dice.between(0, 40) {
+        0 => control.tasks = wild(dice, 16),
+        1 => control.slots = wild(dice, scene.slots),
+        2..=4 => control.anchor = wild_word(dice, scene.slots),
+        5 => control.retries = dice.throw(),
+        _ => {}
+    }
+}
+
+fn spoil_record(dice: &mut Dice, scene: &mut Scene) {
+    let slots = scene.slots;
+    let (anchor, random) = (scene.world.control.anchor, wild_record(dice));
+    let word = wild_word(dice, slots);
+    let small = wild(dice, slots);
+    let record = scene.record();
+    match dice.between(0, 20) {
+        0 => *record = random,
+        1 => record.place = random.place,
+        2 => record.kind = random.kind,
+        3 => record.side = random.side,
+        4 => record.own = small,
+        5 => record.seen = word,
+        6 => record.neighbour = small,
+        7 => record.link = word,
+        8 => record.finishing = random.finishing,
+        9..=12 => record.seen = anchor,
+        _ => {}
+    }
+}
+
+fn spoil_rows(dice: &mut Dice, scene: &mut Scene) {
+    if dice.percent(30) {
+        let last = scene.slots as usize;
+        for row in 0..=last.min(70) {
+            if dice.percent(30) {
+                scene.world.lefts.held[row] = wild_word(dice, scene.slots);
+                scene.world.rights.held[row] = wild_word(dice, scene.slots);
+            }
+        }
+    }
+}
+
+fn spoil_arguments(dice: &mut Dice, scene: &mut Scene) {
+    if dice.percent(80) {
+        return;
+    }
+    let (most_tasks, most_slots) = (scene.tasks, scene.slots);
+    match &mut scene.call {
+        Call::Open { tasks, slots, .. } => {
+            (*tasks, *slots) = (wild(dice, most_tasks), wild(dice, most_slots));
+        }
+        Call::Push { task, side, slot, .. } => {
+            (*side, *slot) = (wild(dice, 1), wild(dice, most_slots));
+            *task = wild(dice, most_tasks) as usize;
+        }
+        Call::Pop { task, side } => {
+            (*task, *side) = (wild(dice, most_tasks) as usize, wild(dice, 1));
+        }
+        Call::Step { task } => *task = wild(dice, most_tasks) as usize,
+        Call::StepRecord | Call::StepRow { .. } | Call::Report => {}
+    }
+}
+
+pub fn noise(tally: &mut Tally, dice: &mut Dice, scenes: u32) {
+    let before = tally.mismatches;
+    for _ in 0..scenes {
+        let wanted = match dice.between(0, 9) {
+            0 => Wanted::Open,
+            1 => Wanted::Push,
+            2 => Wanted::Pop,
+            3..=6 => Wanted::Step(None, None),
+            7..=8 => Wanted::StepRecord(None, None),
+            _ => Wanted::Report,
+        };
+        let mut scene = Scene::draw(dice, wanted);
+        spoil_control(dice, &mut scene);
+        spoil_record(dice, &mut scene);
+        spoil_rows(dice, &mut scene);
+        spoil_count(dice, &mut scene.world.lefts);
+        spoil_count(dice, &mut scene.world.rights);
+        spoil_count(dice, &mut scene.world.labels);
+        spoil_count(dice, &mut scene.world.marks);
+        if dice.percent(3) {
+            let held = scene.world.records.held.len() as u64;
+            scene.world.records.count = dice.between(0, held) as usize;
+        }
+        spoil_arguments(dice, &mut scene);
+        let (mut ours, mut theirs) = (scene.world.clone(), scene.world);
+        tally.compare(&mut ours, &mut theirs, scene.call);
+    }
+    tally.check(tally.mismatches == before, "tables of any contents");
+}

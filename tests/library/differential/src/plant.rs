@@ -1,0 +1,99 @@
+//! Faults planted alone and in pairs: of two, the one that is asked for first decides.
+
+use crate::faults::{Fault, Group, FAULTS};
+use crate::sound::{Scene, Wanted};
+use crate::tally::Tally;
+use crate::world::{by_reference, Export};
+use reference::dice::Dice;
+
+const EXPORTS: [Export; 6] =
+    [Export::Open, Export::Push, Export::Pop, Export::Step, Export::StepRecord, Export::Report];
+
+fn wanted(export: Export, place: Option<u64>, kind: Option<u64>) -> Wanted {
+    match export {
+        Export::Open => Wanted::Open,
+        Export::Push => Wanted::Push,
+        Export::Pop => Wanted::Pop,
+        Export::Step => Wanted::Step(place, kind),
+        Export::StepRecord => Wanted::StepRecord(place, kind),
+        Export::Report => Wanted::Report,
+    }
+}
+
+/// A scene without a fault, which must be accepted.
+fn accepted_scene(tally: &mut Tally, dice: &mut Dice, wanted: Wanted) -> Scene {
+    let scene = Scene::draw(dice, wanted);
+    let (mut ours, mut theirs) = (scene.world.clone(), scene.world.clone());
+    if let Some(told) = tally.compare(&mut ours, &mut theirs, scene.call) {
+        assert!(told.code() < 10, "the scene itself was refused: {wanted:?}, {told:?}");
+    }
+    scene
+}
+
+/// Whether both sides refuse with this number and leave everything.
+fn refuses(tally: &mut Tally, scene: &Scene, number: u32) -> bool {
+    let (mut ours, mut theirs) = (scene.world.clone(), scene.world.clone());
+    let told = tally.compare(&mut ours, &mut theirs, scene.call);
+    told.is_some_and(|told| told.code() == number) && ours == scene.world
+}
+
+pub fn accepted(tally: &mut Tally, dice: &mut Dice, times: u32) {
+    for export in EXPORTS {
+        let before = tally.mismatches;
+        for _ in 0..times {
+            accepted_scene(tally, dice, wanted(export, None, None));
+        }
+        tally.check(tally.mismatches == before, &format!("{export:?}: accepted scenes"));
+    }
+}
+
+pub fn singles(tally: &mut Tally, dice: &mut Dice, times: u32) {
+    for export in EXPORTS {
+        for fault in FAULTS.iter().filter(|fault| fault.of(export)) {
+            let mut holds = true;
+            for _ in 0..times {
+                let wanted = wanted(export, fault.place, fault.kind);
+                let mut scene = accepted_scene(tally, dice, wanted);
+                (fault.plant)(&mut scene, dice);
+                holds &= refuses(tally, &scene, fault.group.number());
+            }
+            let number = fault.group.number();
+            tally.check(holds, &format!("{export:?}: {} is {number}", fault.name));
+        }
+    }
+}
+
+/// A record cannot be busy and idle; a fault at a place needs its record as it is.
+fn together(first: &Fault, second: &Fault) -> bool {
+    let records = [Group::Record, Group::Busy, Group::Idle, Group::Touch];
+    first.group < second.group
+        && first.group.number() != second.group.number()
+        && !(records.contains(&first.group) && records.contains(&second.group))
+}
+
+pub fn pairs(tally: &mut Tally, dice: &mut Dice, times: u32) {
+    for export in EXPORTS {
+        for first in FAULTS.iter().filter(|fault| fault.of(export)) {
+            let mut holds = true;
+            let mut planted = false;
+            for second in FAULTS.iter().filter(|second| second.of(export)) {
+                if !together(first, second) {
+                    continue;
+                }
+                planted = true;
+                for _ in 0..times {
+                    let wanted = wanted(export, second.place, second.kind);
+                    let mut scene = Scene::draw(dice, wanted);
+                    (second.plant)(&mut scene, dice);
+                    let alone = by_reference(&mut scene.world.clone(), scene.call).code();
+                    assert_eq!(alone, second.group.number(), "{export:?}: {}", second.name);
+                    (first.plant)(&mut scene, dice);
+                    holds &= refuses(tally, &scene, first.group.number());
+                }
+            }
+            if planted {
+                tally.check(holds, &format!("{export:?}: {} is asked for first", first.name));
+            }
+        }
+    }
+}

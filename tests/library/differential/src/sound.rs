@@ -1,0 +1,268 @@
+//! Scenes: sound tables with a call that is accepted on them, though no history led there.
+
+use crate::world::{Call, Lent, World};
+use reference::dice::Dice;
+use reference::tables::{Control, Record, POP, PUSH};
+use reference::word::{Anchor, LPUSH, RPUSH, STABLE};
+
+const LAST_TAG: u64 = 0xffff_ffff;
+const LAST_START_TAG: u64 = 4_294_967_262;
+
+/// Entries held behind those lent.
+const GUARDS: usize = 3;
+
+pub struct Scene {
+    pub world: World,
+    pub call: Call,
+    pub slots: u64,
+    pub tasks: u64,
+}
+
+/// Which call a scene is to have; a step at a place and of a kind, if it matters.
+#[derive(Clone, Copy, Debug, PartialEq)]
+pub enum Wanted {
+    Open,
+    Push,
+    Pop,
+    Step(Option<u64>, Option<u64>),
+    StepRecord(Option<u64>, Option<u64>),
+    Report,
+}
+
+impl Scene {
+    /// The record that the call is about.
+    pub fn record(&mut self) -> &mut Record {
+        match self.call {
+            Call::StepRecord | Call::Open { .. } | Call::Report => &mut self.world.one,
+            Call::Push { task, .. }
+            | Call::Pop { task, .. }
+            | Call::Step { task }
+            | Call::StepRow { task } => &mut self.world.records.held[task],
+        }
+    }
+
+    pub fn draw(dice: &mut Dice, wanted: Wanted) -> Scene {
+        let slots = few_or_many(dice);
+        let tasks = dice.between(1, 16);
+        let mut world = sound_world(dice, tasks, slots);
+        let task = dice.between(0, tasks - 1) as usize;
+        let side = dice.between(0, 1);
+        let call = match wanted {
+            Wanted::Open => {
+                world.control = wild_control(dice);
+                Call::Open { tasks, slots, tag: dice.throw() as u32 }
+            }
+            Wanted::Push => {
+                world.records.held[task] = idle_record(dice);
+                let slot = dice.between(1, slots);
+                world.marks.held[slot as usize / 64] &= !(1 << (slot % 64));
+                Call::Push { task, side, slot, label: dice.throw() as u32 }
+            }
+            Wanted::Pop => {
+                world.records.held[task] = idle_record(dice);
+                Call::Pop { task, side }
+            }
+            Wanted::Step(..) => Call::Step { task },
+            Wanted::StepRecord(..) if dice.percent(50) => Call::StepRow { task },
+            Wanted::StepRecord(..) => Call::StepRecord,
+            Wanted::Report => Call::Report,
+        };
+        let mut scene = Scene { world, call, slots, tasks };
+        if let Wanted::Step(place, kind) | Wanted::StepRecord(place, kind) = wanted {
+            let place = place.unwrap_or_else(|| dice.between(1, 11));
+            let kind = if place == 11 { POP } else { kind.unwrap_or_else(|| dice.between(0, 1)) };
+            scene.ready(dice, place, kind);
+        }
+        scene
+    }
+
+    /// Puts the call's record at a place so that its step is accepted; the words that it compares
+    /// are as read in half of the scenes.
+    fn ready(&mut self, dice: &mut Dice, place: u64, kind: u64) {
+        let slots = self.slots;
+        let mut record = busy_record(dice, slots, place, kind);
+        let status = if (5..=10).contains(&place) { dice.between(RPUSH, LPUSH) } else { STABLE };
+        let (left, right) = two_slots(dice, slots);
+        let tag = dice.pick(&[0, 7, LAST_TAG - 1, LAST_START_TAG]);
+        let mut seen = Anchor { tag, status, left, right };
+        if place <= 2 && dice.percent(50) {
+            seen = Anchor { left: 0, right: 0, ..seen };
+        } else if place <= 2 && dice.percent(50) {
+            seen = Anchor { right: left, ..seen };
+        }
+        record.seen = seen.pack();
+        record.neighbour = dice.between(1, slots);
+        if kind == PUSH && place == 4 {
+            while record.own == left || record.own == right {
+                record.own = dice.between(1, slots);
+            }
+        }
+        if dice.percent(50) {
+            self.world.control.anchor = record.seen;
+        }
+        if place == 9 {
+            record.link = sound_link(dice, slots);
+            if dice.percent(50) {
+                let right = status == RPUSH;
+                let links = if right { &mut self.world.rights } else { &mut self.world.lefts };
+                links.held[record.neighbour as usize] = record.link;
+            }
+        }
+        *self.record() = record;
+    }
+}
+
+fn few_or_many(dice: &mut Dice) -> u64 {
+    match dice.percent(80) {
+        true => dice.pick(&[3, 4, 5, 63, 64, 65]),
+        false => dice.pick(&[127, 128, 129, 1_022, 1_023]),
+    }
+}
+
+/// Two different slots; there are two or more.
+fn two_slots(dice: &mut Dice, slots: u64) -> (u64, u64) {
+    let first = dice.between(1, slots);
+    let second = dice.between(1, slots - 1);
+    (first, if second < first { second } else { second + 1 })
+}
+
+/// An Anchor on which a start is accepted.
+pub fn sound_anchor(dice: &mut Dice, slots: u64) -> u64 {
+    let tag = dice.pick(&[0, 1, 1_000, LAST_START_TAG - 1, LAST_START_TAG]);
+    let (left, right) = two_slots(dice, slots);
+    match dice.between(0, 3) {
+        0 => Anchor { tag, status: STABLE, left: 0, right: 0 },
+        1 => Anchor { tag, status: STABLE, left, right: left },
+        2 => Anchor { tag, status: STABLE, left, right },
+        _ => Anchor { tag, status: dice.between(RPUSH, LPUSH), left, right },
+    }
+    .pack()
+}
+
+pub fn sound_link(dice: &mut Dice, slots: u64) -> u64 {
+    let tag = dice.pick(&[0, 1, 77, LAST_TAG - 1]);
+    tag << 32 | dice.between(0, slots)
+}
+
+/// Idle; its other fields are anything, for nobody looks at them.
+pub fn idle_record(dice: &mut Dice) -> Record {
+    let mut record = Record::default();
+    if dice.percent(50) {
+        record = wild_record(dice);
+        record.place = 0;
+    }
+    record
+}
+
+pub fn busy_record(dice: &mut Dice, slots: u64, place: u64, kind: u64) -> Record {
+    let helping = (5..=10).contains(&place);
+    let mut seen = sound_anchor(dice, slots);
+    while helping && Anchor::unpack(seen).status == STABLE {
+        seen = sound_anchor(dice, slots);
+    }
+    Record {
+        place,
+        kind,
+        side: dice.between(0, 1),
+        own: if kind == PUSH { dice.between(1, slots) } else { 0 },
+        label: dice.throw() as u32,
+        seen,
+        neighbour: dice.between(0, slots),
+        link: sound_link(dice, slots),
+        finishing: if kind == PUSH && helping { dice.between(0, 1) } else { 0 },
+    }
+}
+
+/// The record of a task that the call is not about: nobody looks at more than its place.
+fn any_record(dice: &mut Dice, slots: u64) -> Record {
+    let place = dice.between(1, 11);
+    let kind = if place == 11 { POP } else { dice.between(0, 1) };
+    match dice.between(0, 2) {
+        0 => idle_record(dice),
+        1 => wild_record(dice),
+        _ => busy_record(dice, slots, place, kind),
+    }
+}
+
+fn any_retries(dice: &mut Dice) -> u64 {
+    dice.pick(&[0, 5, LAST_TAG - 1, LAST_TAG, LAST_TAG + 1, u64::MAX])
+}
+
+fn sound_world(dice: &mut Dice, tasks: u64, slots: u64) -> World {
+    let rows = slots as usize + 1;
+    let words = slots as usize / 64 + 1;
+    // More may be lent than is needed; what is not needed must keep its values too.
+    let table = |dice: &mut Dice, needed: usize| (needed + GUARDS, needed + dice.pick(&[0, 1]));
+    let (held, count) = table(dice, rows);
+    let lefts = Lent::new((0..held).map(|_| sound_link(dice, slots)).collect(), count);
+    let (held, count) = table(dice, rows);
+    let rights = Lent::new((0..held).map(|_| sound_link(dice, slots)).collect(), count);
+    let (held, count) = table(dice, rows);
+    let labels = Lent::new((0..held).map(|_| dice.throw() as u32).collect(), count);
+    let (held, count) = table(dice, words);
+    let marks = Lent::new((0..held).map(|_| dice.throw()).collect(), count);
+    let (held, count) = table(dice, tasks as usize);
+    let records = Lent::new((0..held).map(|_| any_record(dice, slots)).collect(), count);
+    let anchor = sound_anchor(dice, slots);
+    let retries = any_retries(dice);
+    let one = any_record(dice, slots);
+    World {
+        control: Control { tasks, slots, anchor, retries },
+        records,
+        one,
+        lefts,
+        rights,
+        labels,
+        marks,
+    }
+}
+
+// ---- Anything at all -------------------------------------------------------------------------
+
+/// A number near what matters, or far from it, or one that 32 bits would make small.
+pub fn wild(dice: &mut Dice, most: u64) -> u64 {
+    match dice.between(0, 9) {
+        0 => 0,
+        1 => most + 1,
+        2 => u64::MAX,
+        3 => 1 << 32 | dice.between(0, most),
+        _ => dice.between(0, most),
+    }
+}
+
+/// An Anchor or link word with fields near what matters.
+pub fn wild_word(dice: &mut Dice, slots: u64) -> u64 {
+    let tag = dice.pick(&[0, 1, LAST_START_TAG, LAST_START_TAG + 1, LAST_TAG - 1, LAST_TAG]);
+    let end = |dice: &mut Dice| match dice.between(0, 9) {
+        0 => 0,
+        1 => slots + 1,
+        2 => 0x7fff,
+        _ => dice.between(1, slots.max(1)),
+    };
+    let status = if dice.percent(60) { 0 } else { dice.between(1, 3) };
+    let left = if dice.percent(40) { 0 } else { end(dice) };
+    tag << 32 | status << 30 | (left & 0x7fff) << 15 | end(dice) & 0x7fff
+}
+
+pub fn wild_record(dice: &mut Dice) -> Record {
+    Record {
+        place: wild(dice, 11),
+        kind: wild(dice, 1),
+        side: wild(dice, 1),
+        own: wild(dice, 3),
+        label: dice.throw() as u32,
+        seen: wild_word(dice, 3),
+        neighbour: wild(dice, 3),
+        link: wild_word(dice, 3),
+        finishing: wild(dice, 1),
+    }
+}
+
+pub fn wild_control(dice: &mut Dice) -> Control {
+    Control {
+        tasks: wild(dice, 16),
+        slots: wild(dice, 1_023),
+        anchor: wild_word(dice, 3),
+        retries: any_retries(dice),
+    }
+}

@@ -1,0 +1,140 @@
+/*
+ * Nothing is read or written outside the counts: every table ends where memory ends, so that a
+ * touch of the next entry stops the program. Lengths are as needed, or too short in every way.
+ */
+#define _DEFAULT_SOURCE
+#include "zeppolecape.h"
+
+#include <stdio.h>
+#include <stdlib.h>
+#include <string.h>
+#include <sys/mman.h>
+#include <unistd.h>
+
+static size_t page;
+
+/* A page's room (or several) whose end is fenced off. */
+struct ground {
+    unsigned char *end;
+    size_t size;
+};
+
+static struct ground fenced(size_t bytes)
+{
+    size_t size = (bytes + page - 1) / page * page;
+    unsigned char *base =
+        mmap(NULL, size + page, PROT_READ | PROT_WRITE, MAP_PRIVATE | MAP_ANONYMOUS, -1, 0);
+    if (base == MAP_FAILED || mprotect(base + size, page, PROT_NONE) != 0) {
+        perror("fence");
+        exit(2);
+    }
+    struct ground ground = {base + size, size};
+    return ground;
+}
+
+static void *last(struct ground ground, size_t bytes)
+{
+    memset(ground.end - ground.size, 0xff, ground.size);
+    return ground.end - bytes;
+}
+
+static uint64_t state = 1;
+
+static uint64_t draw(uint64_t limit)
+{
+    state ^= state << 13;
+    state ^= state >> 7;
+    state ^= state << 17;
+    return (state >> 20) % limit;
+}
+
+/* A count: as needed, or less. */
+static size_t cut(size_t needed) { return draw(8) ? needed : (size_t)draw(needed); }
+
+static struct ground grounds[6];
+
+/* All tables of a queue, each up to its fence. */
+static zc_queue lend(uint64_t tasks, uint64_t slots)
+{
+    size_t rows = ZC_ROWS(slots), words = ZC_MARK_WORDS(slots);
+    zc_queue queue = {
+        .control = last(grounds[0], sizeof(zc_control)),
+        .records = last(grounds[1], tasks * sizeof(zc_record)),
+        .record_count = tasks,
+        .lefts = last(grounds[2], rows * sizeof(uint64_t)),
+        .left_count = rows,
+        .rights = last(grounds[3], rows * sizeof(uint64_t)),
+        .right_count = rows,
+        .labels = last(grounds[4], rows * sizeof(uint32_t)),
+        .label_count = rows,
+        .marks = last(grounds[5], words * sizeof(uint64_t)),
+        .mark_count = words,
+    };
+    return queue;
+}
+
+/* The same tables, some lent too short and moved so that they end at the fence all the same. */
+static zc_queue cut_some(zc_queue whole)
+{
+    zc_queue queue = whole;
+    queue.record_count = cut(whole.record_count);
+    queue.left_count = cut(whole.left_count);
+    queue.right_count = cut(whole.right_count);
+    queue.label_count = cut(whole.label_count);
+    queue.mark_count = cut(whole.mark_count);
+    queue.records += whole.record_count - queue.record_count;
+    queue.lefts += whole.left_count - queue.left_count;
+    queue.rights += whole.right_count - queue.right_count;
+    queue.labels += whole.label_count - queue.label_count;
+    queue.marks += whole.mark_count - queue.mark_count;
+    return queue;
+}
+
+/* A random call; it must answer 12 just when a table that it needs is too short. */
+static uint64_t call(zc_queue whole, int *wrong)
+{
+    zc_queue queue = cut_some(whole);
+    int rows_short = queue.left_count < whole.left_count || queue.right_count < whole.right_count ||
+                     queue.label_count < whole.label_count || queue.mark_count < whole.mark_count;
+    int too_short = rows_short || queue.record_count < whole.record_count;
+    uint64_t tasks = whole.control->tasks, slots = whole.control->slots;
+    size_t task = (size_t)draw(tasks);
+    uint64_t side = draw(2), slot = 1 + draw(slots), code;
+    switch (draw(8)) {
+    case 0: code = zc_queue_push(&queue, task, side, slot, (uint32_t)slot).code; break;
+    case 1: code = zc_queue_pop(&queue, task, side).code; break;
+    case 2: code = zc_queue_report(&queue).code; break;
+    case 3: code = too_short ? zc_queue_open(&queue, tasks, slots, 0) : 0; break;
+    case 4:
+        code = zc_queue_step_record(&queue, &whole.records[task]).code;
+        too_short = rows_short;
+        break;
+    default: code = zc_queue_step(&queue, task).code; break;
+    }
+    *wrong |= too_short != (code == ZC_SHORT);
+    return code;
+}
+
+int main(void)
+{
+    static const uint64_t sizes[] = {1, 2, 3, 62, 63, 64, 65, 127, 128, 1022, 1023};
+    unsigned long refused = 0, carried_out = 0;
+    int wrong = 0;
+    page = (size_t)sysconf(_SC_PAGESIZE);
+    for (int at = 0; at < 6; at++)
+        grounds[at] = fenced(ZC_ROWS(ZC_MOST_SLOTS) * sizeof(uint64_t));
+    for (int round = 0; round < 3000; round++) {
+        uint64_t tasks = 1 + draw(ZC_MOST_TASKS);
+        uint64_t slots = sizes[draw(sizeof sizes / sizeof *sizes)];
+        zc_queue whole = lend(tasks, slots);
+        wrong |= zc_queue_open(&whole, tasks, slots, 0) != 0;
+        for (int calls = 0; calls < 300 && !wrong; calls++)
+            if (call(whole, &wrong) >= ZC_BAD_TASKS)
+                refused++;
+            else
+                carried_out++;
+    }
+    wrong |= refused < 1000 || carried_out < 1000;
+    printf("%d passed, %d failed\n", !wrong, wrong);
+    return wrong;
+}

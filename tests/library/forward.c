@@ -1,0 +1,74 @@
+/*
+ * The library's calls handed on to a shared object, named by ZC_OBJECT. With it the test programs
+ * are built once and run on many faulty libraries; faults.sh alone uses it.
+ */
+#include "zeppolecape.h"
+
+#include <dlfcn.h>
+#include <stdio.h>
+#include <stdlib.h>
+
+#define TABLES                                                                                     \
+    uint64_t *lefts, size_t left_count, uint64_t *rights, size_t right_count, uint32_t *labels,    \
+        size_t label_count, uint64_t *marks, size_t mark_count
+#define CONST_TABLES                                                                               \
+    const uint64_t *lefts, size_t left_count, const uint64_t *rights, size_t right_count,          \
+        const uint32_t *labels, size_t label_count, const uint64_t *marks, size_t mark_count
+#define LENT lefts, left_count, rights, right_count, labels, label_count, marks, mark_count
+
+static __typeof__(zc_open) *open_call;
+static __typeof__(zc_push) *push_call;
+static __typeof__(zc_pop) *pop_call;
+static __typeof__(zc_step) *step_call;
+static __typeof__(zc_step_record) *step_record_call;
+static __typeof__(zc_report) *report_call;
+
+__attribute__((constructor)) static void load(void)
+{
+    const char *name = getenv("ZC_OBJECT");
+    void *object = name == NULL ? NULL : dlopen(name, RTLD_NOW | RTLD_LOCAL);
+    if (object == NULL) {
+        fprintf(stderr, "ZC_OBJECT: %s\n", name == NULL ? "not set" : dlerror());
+        exit(2);
+    }
+    *(void **)&open_call = dlsym(object, "zc_open");
+    *(void **)&push_call = dlsym(object, "zc_push");
+    *(void **)&pop_call = dlsym(object, "zc_pop");
+    *(void **)&step_call = dlsym(object, "zc_step");
+    *(void **)&step_record_call = dlsym(object, "zc_step_record");
+    *(void **)&report_call = dlsym(object, "zc_report");
+}
+
+uint32_t zc_open(zc_control *control, zc_record *records, size_t record_count, uint64_t tasks,
+                 uint64_t slots, uint32_t tag, TABLES)
+{
+    return open_call(control, records, record_count, tasks, slots, tag, LENT);
+}
+
+zc_reply zc_push(zc_control *control, zc_record *records, size_t record_count, size_t task,
+                 uint64_t side, uint64_t slot, uint32_t label, TABLES)
+{
+    return push_call(control, records, record_count, task, side, slot, label, LENT);
+}
+
+zc_reply zc_pop(zc_control *control, zc_record *records, size_t record_count, size_t task,
+                uint64_t side, TABLES)
+{
+    return pop_call(control, records, record_count, task, side, LENT);
+}
+
+zc_reply zc_step(zc_control *control, zc_record *records, size_t record_count, size_t task, TABLES)
+{
+    return step_call(control, records, record_count, task, LENT);
+}
+
+zc_reply zc_step_record(zc_control *control, zc_record *one, TABLES)
+{
+    return step_record_call(control, one, LENT);
+}
+
+zc_report_reply zc_report(const zc_control *control, const zc_record *records, size_t record_count,
+                          CONST_TABLES)
+{
+    return report_call(control, records, record_count, LENT);
+}
