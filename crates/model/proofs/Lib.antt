@@ -1,0 +1,4 @@
+pub mod lists
+pub mod machine
+pub mod invariant
+pub mod places

@@ -1,0 +1,4 @@
+pub mod Laws
+pub mod Machine
+pub mod Ends
+pub mod Clerk

@@ -1,0 +1,84 @@
+-- Laws of tests and of tables.
+use mathlib.Core.Path.{_≡_, refl}
+use mathlib.Core.Bool.{Bool, true, false, not, cond, _&&_}
+use mathlib.Core.Logic.{_≢_, _⊎_, inl, inr}
+use Prim.Native.Nat.{ℕ}
+use native.Mathlib.Omega.{arith}
+use lib.Dec.{eqb}
+use borrow.Author.Tests.{eqb-true, eqb-false, eq-eqb, ne-eqb}
+use Rattle.model.proofs.machine.Machine.{Status, stable, pushing, code, Anchor, Link, same, sameLink, upd, relink}
+
+-- a branch on a test: each arm has the test's value as an equation
+pub by-test : {A : Type 0} (P : A → Type 0) (b : Bool) {x y : A} → (b ≡ true → P x) → (b ≡ false → P y) → P (cond b x y)
+by-test P true f g = f refl
+by-test P false f g = g refl
+
+pub and-true : (a b : Bool) → a && b ≡ true → (a ≡ true) × (b ≡ true)
+and-true true b e = (refl, e)
+and-true false b e = (e, cc)
+
+pub not-both : {b : Bool} → b ≡ true → b ≡ false → ⊥
+not-both e f = let z : true ≡ false = cc in let w : _≡_ {A = ℕ} 0 1 = cc in omega arith
+
+pub decide-eq : (x y : ℕ) → (x ≡ y) ⊎ (x ≢ y)
+decide-eq x y = go (eqb x y) refl
+  where
+    go : (b : Bool) → eqb x y ≡ b → (x ≡ y) ⊎ (x ≢ y)
+    go true e = inl (eqb-true x y e)
+    go false e = inr (eqb-false x y e)
+
+pub upd-same : {A : Type 0} (f : ℕ → A) (x : ℕ) (v : A) → upd f x v x ≡ v
+unfolding upd
+upd-same f x v = rw (eq-eqb x x refl)
+
+pub upd-other : {A : Type 0} (f : ℕ → A) (x : ℕ) (v : A) (y : ℕ) → y ≢ x → upd f x v y ≡ f y
+unfolding upd
+upd-other f x v y h = rw (ne-eqb y x h)
+
+pub relink-same : (k : Bool → ℕ → Link) (d : Bool) (x : ℕ) (v : Link) → relink k d x v d x ≡ v
+unfolding relink
+relink-same k false x v = upd-same (k false) x v
+relink-same k true x v = upd-same (k true) x v
+
+pub relink-other : (k : Bool → ℕ → Link) (d : Bool) (x : ℕ) (v : Link) (e : Bool) (y : ℕ) → y ≢ x → relink k d x v e y ≡ k e y
+unfolding relink
+relink-other k false x v false y h = upd-other (k false) x v y h
+relink-other k false x v true y h = refl
+relink-other k true x v false y h = refl
+relink-other k true x v true y h = upd-other (k true) x v y h
+
+pub relink-across : (k : Bool → ℕ → Link) (d : Bool) (x : ℕ) (v : Link) (y : ℕ) → relink k d x v (not d) y ≡ k (not d) y
+unfolding relink
+relink-across k false x v y = refl
+relink-across k true x v y = refl
+
+code-inj : (a b : Status) → code a ≡ code b → a ≡ b
+code-inj stable stable e = refl
+code-inj stable (pushing true) e = absurd (omega arith)
+code-inj stable (pushing false) e = absurd (omega arith)
+code-inj (pushing true) stable e = absurd (omega arith)
+code-inj (pushing false) stable e = absurd (omega arith)
+code-inj (pushing true) (pushing true) e = refl
+code-inj (pushing true) (pushing false) e = absurd (omega arith)
+code-inj (pushing false) (pushing true) e = absurd (omega arith)
+code-inj (pushing false) (pushing false) e = refl
+
+pub same-true : (a b : Anchor) → same a b ≡ true → a ≡ b
+unfolding same
+same-true a b e =
+    let e3 = and-true _ _ e in
+    let e2 = and-true _ _ (e3 .0) in
+    let e1 = and-true _ _ (e2 .0) in
+    let p = eqb-true _ _ (e1 .0) in
+    let q = code-inj _ _ (eqb-true _ _ (e1 .1)) in
+    let r = eqb-true _ _ (e2 .1) in
+    let s = eqb-true _ _ (e3 .1) in
+    λ i. record { tag = p i; status = q i; left = r i; right = s i }
+
+pub sameLink-true : (a b : Link) → sameLink a b ≡ true → a ≡ b
+unfolding sameLink
+sameLink-true a b e =
+    let e1 = and-true _ _ e in
+    let p = eqb-true _ _ (e1 .0) in
+    let q = eqb-true _ _ (e1 .1) in
+    λ i. record { tag = p i; slot = q i }

@@ -1,0 +1,47 @@
+-- The clerk's theorem.
+use mathlib.Core.Path.{_≡_, refl, sym, subst}
+use mathlib.Core.Bool.{Bool, true, false}
+use mathlib.Core.List.{[]}
+use Prim.Native.Nat.{ℕ, _≤_}
+use native.Mathlib.Omega.{arith}
+use Rattle.model.proofs.machine.Machine.{stable, Shared, Rec, Place, idle, at1, at2, at3, at4, at5, at6, at7, at8, at9, at10, at11, Kind}
+use Rattle.model.proofs.machine.Clerk.{Call, Both, noBook, noCall}
+use Rattle.model.proofs.invariant.Tasks.{Owner, free, Stage, Task}
+use Rattle.model.proofs.invariant.Shape.{under}
+use Rattle.model.proofs.places.Runs.{Inv}
+
+-- no entry, no call, an empty Anchor: whatever the links, the labels and the marks are
+pub fresh : (s : Shared) (f : ℕ → Rec) → s .anchor .status ≡ stable → s .anchor .left ≡ 0 → s .anchor .right ≡ 0 → ((t : ℕ) → f t .place ≡ idle)
+    → Inv (record { state = record { shared = s; task = f }; book = noBook })
+fresh s f st l r i = record {
+  owner = λ x. free;
+  whole = record {
+    shape = record { linked = under (s .link) [] st tt; tips = elim [ false ↦ l | true ↦ r ]; distinct = tt; real = tt };
+    owned = tt;
+    labels = tt;
+    marks = λ x n. absurd (n refl);
+  };
+  tasks = λ t. subst (λ p. Task p s (λ x. free) t (f t) noCall) (sym (i t)) refl;
+  kept = tt;
+}
+
+staged : (f : Bool) (g : ℕ → ℕ) (h : ℕ → Owner) (t : ℕ) (k : Kind) (d : Bool) (x l : ℕ) (c : Call) → Stage f g h t k d x l c → c .effects ≤ 1
+staged false g h t k d x l c w = omega (arith, w .none)
+staged true g h t k d x l c w = omega (arith, w .once)
+
+at-most-one : (p : Place) (s : Shared) (h : ℕ → Owner) (t : ℕ) (r : Rec) (c : Call) → Task p s h t r c → c .effects ≤ 1
+at-most-one idle s h t r c w = omega arith
+at-most-one at1 s h t r c w = omega (arith, w .1 .none)
+at-most-one at2 s h t r c w = omega (arith, w .0 .before .none)
+at-most-one at3 s h t r c w = omega (arith, w .0 .before .none)
+at-most-one at4 s h t r c w = omega (arith, w .0 .before .none)
+at-most-one at5 s h t r c w = staged (r .finishing) _ _ _ _ _ _ _ c (w .stage)
+at-most-one at6 s h t r c w = staged (r .finishing) _ _ _ _ _ _ _ c (w .0 .stage)
+at-most-one at7 s h t r c w = staged (r .finishing) _ _ _ _ _ _ _ c (w .0 .stage)
+at-most-one at8 s h t r c w = staged (r .finishing) _ _ _ _ _ _ _ c (w .0 .stage)
+at-most-one at9 s h t r c w = staged (r .finishing) _ _ _ _ _ _ _ c (w .0 .stage)
+at-most-one at10 s h t r c w = staged (r .finishing) _ _ _ _ _ _ _ c (w .0 .stage)
+at-most-one at11 s h t r c w = omega (arith, w .after .once)
+
+pub few-effects : (p : Both) → Inv p → (t : ℕ) → p .book .calls t .effects ≤ 1
+few-effects p i t = at-most-one (p .state .task t .place) (p .state .shared) (i .owner) t (p .state .task t) (p .book .calls t) (i .tasks t)
