@@ -1,4 +1,6 @@
+pub mod tests
 pub mod lists
 pub mod machine
 pub mod invariant
 pub mod places
+pub mod bridge

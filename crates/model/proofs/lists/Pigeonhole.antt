@@ -10,7 +10,7 @@ use lib.ListN.{length}
 use borrow.Author.Tests.{eqb-true, eqb-false}
 use Rattle.model.proofs.lists.Deque.{All, Distinct}
 use Rattle.model.proofs.lists.Chain.{all-map, all-both}
-use Rattle.model.proofs.machine.Laws.{by-test}
+use Rattle.model.proofs.tests.Truth.{by-test}
 
 remove : ℕ → List ℕ → List ℕ
 remove v [] = []

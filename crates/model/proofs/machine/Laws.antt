@@ -1,31 +1,12 @@
--- Laws of tests and of tables.
+-- Stores in the decoded tables, and comparisons of Anchors and links.
 use mathlib.Core.Path.{_≡_, refl}
-use mathlib.Core.Bool.{Bool, true, false, not, cond, _&&_}
-use mathlib.Core.Logic.{_≢_, _⊎_, inl, inr}
+use mathlib.Core.Bool.{Bool, true, false, not}
+use mathlib.Core.Logic.{_≢_}
 use Prim.Native.Nat.{ℕ}
 use native.Mathlib.Omega.{arith}
-use lib.Dec.{eqb}
-use borrow.Author.Tests.{eqb-true, eqb-false, eq-eqb, ne-eqb}
+use borrow.Author.Tests.{eqb-true, eq-eqb, ne-eqb}
+use Rattle.model.proofs.tests.Truth.{and-true}
 use Rattle.model.proofs.machine.Machine.{Status, stable, pushing, code, Anchor, Link, same, sameLink, upd, relink}
-
--- a branch on a test: each arm has the test's value as an equation
-pub by-test : {A : Type 0} (P : A → Type 0) (b : Bool) {x y : A} → (b ≡ true → P x) → (b ≡ false → P y) → P (cond b x y)
-by-test P true f g = f refl
-by-test P false f g = g refl
-
-pub and-true : (a b : Bool) → a && b ≡ true → (a ≡ true) × (b ≡ true)
-and-true true b e = (refl, e)
-and-true false b e = (e, cc)
-
-pub not-both : {b : Bool} → b ≡ true → b ≡ false → ⊥
-not-both e f = let z : true ≡ false = cc in let w : _≡_ {A = ℕ} 0 1 = cc in omega arith
-
-pub decide-eq : (x y : ℕ) → (x ≡ y) ⊎ (x ≢ y)
-decide-eq x y = go (eqb x y) refl
-  where
-    go : (b : Bool) → eqb x y ≡ b → (x ≡ y) ⊎ (x ≢ y)
-    go true e = inl (eqb-true x y e)
-    go false e = inr (eqb-false x y e)
 
 pub upd-same : {A : Type 0} (f : ℕ → A) (x : ℕ) (v : A) → upd f x v x ≡ v
 unfolding upd

@@ -11,7 +11,8 @@ use Rattle.model.proofs.lists.Deque.{seen, front, rest, put, took, All,
 use Rattle.model.proofs.machine.Machine.{Status, stable, pushing, towards, isStable, Anchor, tip, aimed, both, same, inner, Shared, Rec, Kind, push, pop, at1, at2, at3, at4, at5, at11, goes, reads, finishes, running, pushed, empty, popped, none, putAnchor, apply, Move, runs, ends, withAnchor, upd, one, two, four}
 use Rattle.model.proofs.machine.Clerk.{Entry, Call, told, given, effect}
 use Rattle.model.proofs.lists.Chain.{all-map, all-both, all-seen, all-rest, distinct-seen, seen-seen}
-use Rattle.model.proofs.machine.Laws.{by-test, same-true, upd-same, upd-other}
+use Rattle.model.proofs.tests.Truth.{by-test}
+use Rattle.model.proofs.machine.Laws.{same-true, upd-same, upd-other}
 use Rattle.model.proofs.invariant.Shape.{Shape, nothing, single, small, first-shape, last-shape, push-shape, pop-shape, inner-apart}
 use Rattle.model.proofs.invariant.Tasks.{Owner, queued, held, slots, Whole, Made, Own, Before, Stage, Read, Two, Three, Four, Tries, Task, Rely}
 use Rattle.model.proofs.places.Good.{Finish, Good, effective, still, rely-refl, rely-turn, left-effect, aimed-effect, noted-push, noted-pop, owner-kept, owner-marks, held-free, queued-free, queued-held, map-seen, slots-put, slots-took, slots-nil}

@@ -10,7 +10,8 @@ use borrow.Author.Tests.{eq-eqb, ne-eqb}
 use Rattle.model.proofs.lists.Deque.{seen, rest, put, took}
 use Rattle.model.proofs.machine.Machine.{Status, pushing, Anchor, tip, aimed, Shared, Rec, Kind, push, pop, at1, blank, goes, Answer, refused, ok, running, pushed, empty, popped, Touch, none, apply, Move, runs, ends, leave, withAnchor, upd}
 use Rattle.model.proofs.machine.Clerk.{Entry, Call, noted, effect, isEmpty, served, told, given, Kept}
-use Rattle.model.proofs.machine.Laws.{by-test, decide-eq, upd-other}
+use Rattle.model.proofs.tests.Truth.{by-test, decide-eq}
+use Rattle.model.proofs.machine.Laws.{upd-other}
 use Rattle.model.proofs.invariant.Tasks.{Owner, free, queued, held, slots, Whole, Made, Stage, Agrees, Task, Rely}
 
 -- the record and the call after an answer

@@ -11,7 +11,8 @@ use Rattle.model.proofs.lists.Deque.{seen}
 use Rattle.model.proofs.machine.Machine.{stable, pushing, towards, Anchor, Link, tip, settled, same, sameLink, inner, Shared, Rec, Kind, push, pop, Place, at3, at4, at5, at6, at7, at8, at9, at10, at11, goes, finds, holds, running, popped, none, putAnchor, putLink, clear, runs, ends, leave, withLink, upd, relink, three, act}
 use Rattle.model.proofs.machine.Clerk.{Entry, Call}
 use Rattle.model.proofs.lists.Chain.{all-map, all-seen, all-front}
-use Rattle.model.proofs.machine.Laws.{by-test, decide-eq, same-true, sameLink-true, upd-same, upd-other, relink-same, relink-other, relink-across}
+use Rattle.model.proofs.tests.Truth.{by-test, decide-eq}
+use Rattle.model.proofs.machine.Laws.{same-true, sameLink-true, upd-same, upd-other, relink-same, relink-other, relink-across}
 use Rattle.model.proofs.invariant.Shape.{Shape, back-shape, settled-shape, frame-shape, inner-in}
 use Rattle.model.proofs.invariant.Tasks.{Owner, free, queued, held, slots, Whole, Made, Own, Four, way, Helps, Live, Task, Rely}
 use Rattle.model.proofs.places.Good.{Good, plain, still, rely-refl, rely-turn, leaves, no-effect, owner-kept, held-inj, queued-held}

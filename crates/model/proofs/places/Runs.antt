@@ -9,7 +9,8 @@ use Rattle.model.proofs.lists.Deque.{All}
 use Rattle.model.proofs.machine.Machine.{Shared, Rec, push, pop, Place, idle, at1, at2, at3, at4, at5, at6, at7, at8, at9, at10, at11, isIdle, started, Answer, refused, ok, running, pushed, empty, popped, apply, withLabel, upd, act, moved}
 use Rattle.model.proofs.machine.Clerk.{Entry, Call, Noted, noCall, opened, noted, Kept, stepped, begun, Both}
 use Rattle.model.proofs.lists.Chain.{all-map, all-both}
-use Rattle.model.proofs.machine.Laws.{not-both, decide-eq, upd-same, upd-other}
+use Rattle.model.proofs.tests.Truth.{not-both, decide-eq}
+use Rattle.model.proofs.machine.Laws.{upd-same, upd-other}
 use Rattle.model.proofs.invariant.Tasks.{Owner, free, queued, held, slots, Whole, Task, Rely}
 use Rattle.model.proofs.places.Keep.{keep}
 use Rattle.model.proofs.places.Good.{Finish, Good, held-free, queued-free}

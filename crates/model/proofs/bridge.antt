@@ -1,0 +1,7 @@
+pub mod View
+pub mod Words
+pub mod Marks
+pub mod Facts
+pub mod Step
+pub mod Trying
+pub mod Helping
