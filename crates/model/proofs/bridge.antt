@@ -5,3 +5,7 @@ pub mod Facts
 pub mod Step
 pub mod Trying
 pub mod Helping
+pub mod Every
+pub mod Store
+pub mod Touches
+pub mod Room

@@ -1,0 +1,55 @@
+-- What a place touches lies within the rows, and a link word that it writes is sound.
+use mathlib.Core.Path.{_≡_}
+use mathlib.Core.Bool.{Bool, true, false, cond, _&&_, _||_}
+use Prim.Native.Nat.{ℕ, _+_, _*_, _/_, _%_, _^_, _≤_, _<_}
+use native.Mathlib.Omega.{arith}
+use lib.Dec.{eqb}
+use borrow.Author.Tests.{eqb-true}
+use Rattle.word.specs.Link.{linkOf, packLink}
+use Rattle.model.specs.declared.Control.{Control}
+use Rattle.model.specs.declared.Record.{Record}
+use Rattle.model.specs.Places.{sideOf, endSeen, row, linkSide, setLink, Move, move, at1, at2, at3, at4, at5, at6, at7, at9, at10, at11}
+use Rattle.model.proofs.tests.Truth.{by-test, and-true}
+use Rattle.model.proofs.bridge.Facts.{RecordFine}
+use Rattle.model.proofs.bridge.Store.{TouchFine}
+
+module _ (slots : ℕ) (r : Record) (h : RecordFine slots r) where
+  end-fine : endSeen r ≤ slots
+  end-fine = by-test (λ v. v ≤ slots) (eqb (sideOf r) 1) (λ e. h .seen .right) (λ e. h .seen .left)
+
+  end-small : endSeen r < 2 ^ 15
+  end-small = by-test (λ v. v < 2 ^ 15) (eqb (sideOf r) 1) (λ e. omega arith) (λ e. omega arith)
+
+  pub row-fine : row r ≤ slots
+  unfolding row
+  row-fine = by-test (λ v. v ≤ slots) (eqb (r .place) 7 || eqb (r .place) 9) (λ e. h .neighbour)
+      (λ e. by-test (λ v. v ≤ slots) (eqb (r .place) 3 && eqb (r .kind) 0)
+      (λ g. h .own-push (eqb-true _ _ (and-true (eqb (r .place) 3) (eqb (r .kind) 0) g .1)) .1) (λ g. end-fine))
+
+  word-fine : (t : ℕ) → TouchFine slots (setLink (linkSide r) (row r) (packLink (record { tag = t; slot = endSeen r })))
+  word-fine t =
+      let s = end-small in
+      let g = end-fine in
+      let n = endSeen r in
+      let p : (t % 4294967296 * 4294967296 + n % 32768) / 32768 % 131072 ≡ 0 = omega arith in
+      let o : (t % 4294967296 * 4294967296 + n % 32768) % 32768 ≤ slots = omega arith in
+      let u : (t % 4294967296 * 4294967296 + n % 32768) / 4294967296 < 4294967296 = omega arith in
+      (row-fine, p, o, u)
+
+  abbrev Fine : Move → Type 0
+  Fine m = TouchFine slots (m .touch)
+
+  pub move-fine : (c : Control) (w : ℕ) → Fine (move c r w)
+  unfolding move at1 at2 at3 at4 at5 at6 at7 at9 at10 at11
+  move-fine c w =
+      by-test Fine (eqb (r .place) 1) (λ e. tt)
+      (λ e. by-test Fine (eqb (r .place) 2) (λ e. by-test Fine (eqb (c .anchor) (r .seen)) (λ e. tt) (λ e. tt))
+      (λ e. by-test Fine (eqb (r .place) 3) (λ e. by-test Fine (eqb (r .kind) 0) (λ e. word-fine (linkOf w .tag)) (λ e. tt))
+      (λ e. by-test Fine (eqb (r .place) 4) (λ e. by-test Fine (eqb (c .anchor) (r .seen)) (λ e. tt) (λ e. tt))
+      (λ e. by-test Fine (eqb (r .place) 5) (λ e. tt)
+      (λ e. by-test Fine (eqb (r .place) 6) (λ e. tt)
+      (λ e. by-test Fine (eqb (r .place) 7) (λ e. tt)
+      (λ e. by-test Fine (eqb (r .place) 8) (λ e. tt)
+      (λ e. by-test Fine (eqb (r .place) 9) (λ e. by-test Fine (eqb w (r .link)) (λ e. word-fine (linkOf (r .link) .tag + 1)) (λ e. tt))
+      (λ e. by-test Fine (eqb (r .place) 10) (λ e. by-test Fine (eqb (c .anchor) (r .seen)) (λ e. tt) (λ e. tt))
+      (λ e. row-fine))))))))))
