@@ -9,3 +9,5 @@ pub mod Every
 pub mod Store
 pub mod Touches
 pub mod Room
+pub mod Accepted
+pub mod Acts

@@ -44,6 +44,19 @@ task-set n l t r h g = fun-ext (λ u. by-test (λ v. cond (ltb u n) (recOf (getD
     ∙ ap (λ (v : ℕ). recOf (getD (set l t r) v idle)) z ∙ ap recOf (getD-set-same l t r idle h))
     (λ e. ap (λ (v : Record). cond (ltb u n) (recOf v) M.blank) (getD-set-other l t u r idle (eqb-false u t e))))
 
+-- No touch changes the numbers of tasks and slots.
+pub touched-tasks : (t : Touch) (q : Tables) → apply t q .control .tasks ≡ q .control .tasks
+touched-tasks nothing q = refl
+touched-tasks (setAnchor w) q = refl
+touched-tasks (setLink side x w) q = refl
+touched-tasks (clearMark x) q = refl
+
+pub touched-slots : (t : Touch) (q : Tables) → apply t q .control .slots ≡ q .control .slots
+touched-slots nothing q = refl
+touched-slots (setAnchor w) q = refl
+touched-slots (setLink side x w) q = refl
+touched-slots (clearMark x) q = refl
+
 -- A touch within the rows, and a sound link word.
 abbrev pub TouchFine : ℕ → Touch → Type 0
 TouchFine slots nothing = Unit {0}
