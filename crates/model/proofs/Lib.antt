@@ -4,3 +4,4 @@ pub mod machine
 pub mod invariant
 pub mod places
 pub mod bridge
+pub mod ledger

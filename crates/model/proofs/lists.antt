@@ -1,3 +1,4 @@
 pub mod Deque
 pub mod Chain
 pub mod Pigeonhole
+pub mod Store

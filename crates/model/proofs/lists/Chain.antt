@@ -112,3 +112,22 @@ module _ {A : Type 0} where
   pub all-front : (P : A → Type 0) (q : List A) (z : A) → All P q → P z → P (front q z)
   all-front P [] z c h = h
   all-front P (x ∷ q) z c h = c .0
+
+pub took-nil : {A : Type 0} (d : Bool) → _≡_ {A = List A} (took d []) []
+unfolding took
+took-nil false = refl
+took-nil true = refl
+
+pub seen-nil : {A : Type 0} (d : Bool) → _≡_ {A = List A} (seen d []) []
+seen-nil false = refl
+seen-nil true = refl
+
+pub took-one : {A : Type 0} (d : Bool) (x : A) → took d (x ∷ []) ≡ []
+unfolding took
+took-one false x = refl
+took-one true x = refl
+
+pub put-nil : {A : Type 0} (d : Bool) (x : A) → put d x [] ≡ x ∷ []
+unfolding put
+put-nil false x = refl
+put-nil true x = refl

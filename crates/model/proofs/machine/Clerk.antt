@@ -58,7 +58,7 @@ isEmpty (popped x l) = false
 
 -- an effect is seen from Anchor's ends and the answer
 abbrev pub effect : Anchor → Anchor → Answer → Bool
-effect a b w = isEmpty w || not (eqb (a .left) (b .left) && eqb (a .right) (b .right))
+effect a b w = not (eqb (a .left) (b .left) && eqb (a .right) (b .right)) || isEmpty w
 
 unfoldable pub noted : Call → List Entry → Anchor → Anchor → Answer → Noted
 noted c q a b w = cond (effect a b w) (served (c .kind) c q) (record { call = c; queue = q })

@@ -10,12 +10,12 @@ use borrow.Author.Tests.{eqb-true, eqb-false}
 use Rattle.model.proofs.lists.Deque.{seen, front, rest, put, took, All, Distinct}
 use Rattle.model.proofs.machine.Machine.{Status, stable, pushing, towards, isStable, Anchor, tip, aimed, both, same, inner, Shared, Rec, Kind, push, pop, at1, at2, at3, at4, at5, at11, goes, reads, finishes, running, pushed, empty, popped, none, putAnchor, apply, Move, runs, ends, withAnchor, upd, one, two, four}
 use Rattle.model.proofs.machine.Clerk.{Entry, Call, told, given, effect}
-use Rattle.model.proofs.lists.Chain.{all-map, all-both, all-seen, all-rest, distinct-seen, seen-seen}
+use Rattle.model.proofs.lists.Chain.{all-map, all-both, all-seen, all-rest, distinct-seen, seen-seen, seen-nil, took-nil, took-one, put-nil}
 use Rattle.model.proofs.tests.Truth.{by-test}
 use Rattle.model.proofs.machine.Laws.{same-true, upd-same, upd-other}
 use Rattle.model.proofs.invariant.Shape.{Shape, nothing, single, small, first-shape, last-shape, push-shape, pop-shape, inner-apart}
 use Rattle.model.proofs.invariant.Tasks.{Owner, queued, held, slots, Whole, Made, Own, Before, Stage, Read, Two, Three, Four, Tries, Task, Rely}
-use Rattle.model.proofs.places.Good.{Finish, Good, effective, still, rely-refl, rely-turn, left-effect, aimed-effect, noted-push, noted-pop, owner-kept, owner-marks, held-free, queued-free, queued-held, map-seen, slots-put, slots-took, slots-nil}
+use Rattle.model.proofs.places.Good.{Finish, Good, effective, still, rely-refl, rely-turn, left-effect, empty-effect, aimed-effect, noted-push, noted-pop, owner-kept, owner-marks, held-free, queued-free, queued-held, map-seen, slots-put, slots-took, slots-nil}
 
 -- a status that is not stable
 unstable : (st : Status) → isStable st ≡ false → st ≡ pushing (towards st)
@@ -36,29 +36,6 @@ aimed-way a true x = refl
 
 read-now : (a : Anchor) → Read a a
 read-now a = record { past = omega arith; present = λ e. refl }
-
-took-nil : {A : Type 0} (d : Bool) → _≡_ {A = List A} (took d []) []
-unfolding took
-took-nil false = refl
-took-nil true = refl
-
-seen-nil : {A : Type 0} (d : Bool) → _≡_ {A = List A} (seen d []) []
-seen-nil false = refl
-seen-nil true = refl
-
-seen-one : {A : Type 0} (d : Bool) (x : A) → seen d (x ∷ []) ≡ x ∷ []
-seen-one false x = refl
-seen-one true x = refl
-
-took-one : {A : Type 0} (d : Bool) (x : A) → took d (x ∷ []) ≡ []
-unfolding took
-took-one false x = refl
-took-one true x = refl
-
-put-nil : {A : Type 0} (d : Bool) (x : A) → put d x [] ≡ x ∷ []
-unfolding put
-put-nil false x = refl
-put-nil true x = refl
 
 module _ (t : ℕ) (s : Shared) (h : ℕ → Owner) (q : List Entry) (c : Call) (all : Whole s h q) (r : Rec) where
   none-left : s .anchor .left ≡ 0 → q ≡ []
@@ -87,7 +64,7 @@ module _ (t : ℕ) (s : Shared) (h : ℕ → Owner) (q : List Entry) (c : Call) 
   place1 pop k w = by-test (Good t s h q c) (eqb (s .anchor .left) 0)
       (λ e. let n = none-left (eqb-true (s .anchor .left) 0 e) in
       effective t s h q c (ends none empty) h (told c (given (seen (r .side) q))) (took (r .side) q)
-      (noted-pop c (w .1 .agrees) q (s .anchor) (s .anchor) empty refl k)
+      (noted-pop c (w .1 .agrees) q (s .anchor) (s .anchor) empty (empty-effect (s .anchor) (s .anchor)) k)
       (subst (λ z. Whole s h z) (sym (ap (λ (z : List Entry). took (r .side) z) n ∙ took-nil (r .side) ∙ sym n)) all) (λ u z. rely-refl t s h q c u) (refl, record { once = ap suc (w .1 .none); agrees = sym (ap (λ (z : List Entry). given (seen (r .side) z)) n ∙ ap given (seen-nil (r .side))) }))
       (λ e. by-test (Good t s h q c) (eqb (s .anchor .left) (s .anchor .right))
       (λ f. still t s h q c (reads r (s .anchor) at2) all

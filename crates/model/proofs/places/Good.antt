@@ -10,7 +10,7 @@ use borrow.Author.Tests.{eq-eqb, ne-eqb}
 use Rattle.model.proofs.lists.Deque.{seen, rest, put, took}
 use Rattle.model.proofs.machine.Machine.{Status, pushing, Anchor, tip, aimed, Shared, Rec, Kind, push, pop, at1, blank, goes, Answer, refused, ok, running, pushed, empty, popped, Touch, none, apply, Move, runs, ends, leave, withAnchor, upd}
 use Rattle.model.proofs.machine.Clerk.{Entry, Call, noted, effect, isEmpty, served, told, given, Kept}
-use Rattle.model.proofs.tests.Truth.{by-test, decide-eq}
+use Rattle.model.proofs.tests.Truth.{by-test, decide-eq, or-second}
 use Rattle.model.proofs.machine.Laws.{upd-other}
 use Rattle.model.proofs.invariant.Tasks.{Owner, free, queued, held, slots, Whole, Made, Stage, Agrees, Task, Rely}
 
@@ -35,23 +35,20 @@ unfolding noted
 noted-false c q a b w e = rw e
 
 pub no-effect : (a b : Anchor) (w : Answer) → isEmpty w ≡ false → a .left ≡ b .left → a .right ≡ b .right → effect a b w ≡ false
-no-effect a b w e l r = rw (e, eq-eqb (a .left) (b .left) l, eq-eqb (a .right) (b .right) r)
+no-effect a b w e l r = rw (eq-eqb (a .left) (b .left) l, eq-eqb (a .right) (b .right) r, e)
 
 pub left-effect : (a b : Anchor) (w : Answer) → a .left ≢ b .left → effect a b w ≡ true
-left-effect a b w l = rw (ne-eqb (a .left) (b .left) l) (or-true (isEmpty w))
-  where
-    or-true : (x : Bool) → x || true ≡ true
-    or-true true = refl
-    or-true false = refl
+left-effect a b w l = rw (ne-eqb (a .left) (b .left) l)
 
-pub right-effect : (a b : Anchor) (w : Answer) → a .right ≢ b .right → effect a b w ≡ true
-right-effect a b w r = rw (ne-eqb (a .right) (b .right) r) (and-false (eqb (a .left) (b .left)) (isEmpty w))
+right-effect : (a b : Anchor) (w : Answer) → a .right ≢ b .right → effect a b w ≡ true
+right-effect a b w r = rw (ne-eqb (a .right) (b .right) r) (go (eqb (a .left) (b .left)))
   where
-    and-false : (y x : Bool) → x || not (y && false) ≡ true
-    and-false true true = refl
-    and-false true false = refl
-    and-false false true = refl
-    and-false false false = refl
+    go : (y : Bool) → not (y && false) || isEmpty w ≡ true
+    go true = refl
+    go false = refl
+
+pub empty-effect : (a b : Anchor) → effect a b empty ≡ true
+empty-effect a b = or-second (not (eqb (a .left) (b .left) && eqb (a .right) (b .right))) refl
 
 pub aimed-effect : (a : Anchor) (d : Bool) (x : ℕ) (st : Status) (w : Answer) → x ≢ tip a d → effect a (aimed a d x st) w ≡ true
 aimed-effect a false x st w h = left-effect a (aimed a false x st) w (λ e. h (sym e))

@@ -1,0 +1,4 @@
+pub mod Track
+pub mod Good
+pub mod Carried
+pub mod Lawful
