@@ -5,3 +5,4 @@ pub mod invariant
 pub mod places
 pub mod bridge
 pub mod ledger
+pub mod Linearizable
