@@ -6,3 +6,4 @@ pub mod places
 pub mod bridge
 pub mod ledger
 pub mod Linearizable
+pub mod unsound
