@@ -7,3 +7,4 @@ pub mod bridge
 pub mod ledger
 pub mod Linearizable
 pub mod unsound
+pub mod NeverUnsound

@@ -5,3 +5,8 @@ pub mod Extra
 pub mod Sound
 pub mod Moves
 pub mod Bounded
+pub mod Safe
+pub mod Step
+pub mod Stepped
+pub mod Started
+pub mod Carried

@@ -1,0 +1,25 @@
+-- What holds between two operations besides the invariant, so that no test of soundness ever fails.
+use mathlib.Core.Path.{_≡_}
+use mathlib.Core.Bool.{true}
+use mathlib.Core.Logic.{_≢_}
+use Prim.Native.Nat.{ℕ, _+_, _≤_, _<_}
+use Rattle.model.specs.Tables.{Queue, recordAt}
+use Rattle.model.specs.Sound.{controlSound}
+use Rattle.model.proofs.bridge.View.{view, stateOf}
+use Rattle.model.proofs.bridge.Facts.{RecordFine}
+use Rattle.model.proofs.unsound.Totals.{total, cost}
+use Rattle.model.proofs.unsound.Tags.{weight}
+use Rattle.model.proofs.unsound.LinkTags.{Tags}
+use Rattle.model.proofs.unsound.Extra.{Extra}
+
+pub record Safe (q : Queue) : Type 0 where
+  -- control and Anchor are sound
+  pub control : controlSound (q .tables .control) ≡ true
+  -- every busy record has its fields within their meaning
+  pub fine : (t : ℕ) → t < q .tables .control .tasks → recordAt q t .place ≢ 0 → RecordFine (q .tables .control .slots) (recordAt q t)
+  -- and what its place needs besides the invariant: a real neighbour at 7 to 9, a real end at 11
+  pub extra : (t : ℕ) → Extra (stateOf q .task t .place) (stateOf q .task t)
+  -- no link's tag is above Anchor's
+  pub tags : Tags (view (q .tables))
+  -- Anchor's tag, with the changes that are still to come, fits 32 bits
+  pub bound : weight (view (q .tables)) + total (λ u. cost (stateOf q .task u)) (q .tables .control .tasks) ≤ 4294967295
