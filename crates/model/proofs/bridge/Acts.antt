@@ -109,18 +109,18 @@ module _ (q : Queue) (b : B.Book) (i : Inv (record { state = stateOf q; book = b
 
     pub pop-keeps : (side : ℕ) → Inv (record {
       state = stateOf (record { tables = g; records = set (q .records) t (started 1 side 0 0) });
-      book = B.begun b t (B.opened M.pop (eqb side 1) 0 0) M.ok;
+      book = B.begun b t (B.opened M.pop (eqb side 1) 0 0);
     })
     unfolding stateOf
-    pop-keeps side = subst (λ (s : M.State). Inv (record { state = s; book = B.begun b t (B.opened M.pop (eqb side 1) 0 0) M.ok }))
+    pop-keeps side = subst (λ (s : M.State). Inv (record { state = s; book = B.begun b t (B.opened M.pop (eqb side 1) 0 0) }))
         (sym (λ j. record { shared = view g; task = tasks-are 1 side 0 0 j }))
         (pop-inv (record { state = stateOf q; book = b }) i t (eqb side 1))
 
     pub push-keeps : (side x l : ℕ) → 1 ≤ x → x ≤ g .control .slots → marked (g .marks) x ≡ false → Inv (record {
       state = stateOf (record { tables = taken g x l; records = set (q .records) t (started 0 side x l) });
-      book = B.begun b t (B.opened M.push (eqb side 1) x l) M.ok;
+      book = B.begun b t (B.opened M.push (eqb side 1) x l);
     })
     unfolding stateOf view
-    push-keeps side x l real low clear = subst (λ (s : M.State). Inv (record { state = s; book = B.begun b t (B.opened M.push (eqb side 1) x l) M.ok }))
+    push-keeps side x l real low clear = subst (λ (s : M.State). Inv (record { state = s; book = B.begun b t (B.opened M.push (eqb side 1) x l) }))
         (sym (λ j. record { shared = view-taken g (z .rows) x l low j; task = tasks-are 0 side x l j }))
         (push-inv (record { state = stateOf q; book = b }) i t (eqb side 1) x l (λ e. omega arith) low clear)

@@ -117,13 +117,13 @@ module _ (n : ℕ) (q : Queue) (l : Ledger) (g : Good n q l) (t : ℕ) where
     was-idle = g .busy t ∙ ap (λ (x : M.Rec). busyNo (M.isIdle (x .place))) (task-of q t (z .known)) ∙ ap (λ (p : ℕ). busyNo (M.isIdle (placeOf p))) free
 
     begun : (q′ : Queue) (kind side : ℕ) (e : Entry) → ((u : ℕ) → stateOf q′ .task u ≡ upd (stateOf q .task) t (recOf (started kind side (e .slot) (e .label))) u)
-        → Inv (record { state = stateOf q′; book = B.begun (g .book) t (B.opened (kindOf kind) (eqb side 1) (e .slot) (e .label)) M.ok }) → LinksFine (q′ .tables)
+        → Inv (record { state = stateOf q′; book = B.begun (g .book) t (B.opened (kindOf kind) (eqb side 1) (e .slot) (e .label)) }) → LinksFine (q′ .tables)
         → Good (suc n) q′ (over (begins n t kind side e) l)
     unfolding recOf
     begun q′ kind side e is i k =
         let c = B.opened (kindOf kind) (eqb side 1) (e .slot) (e .label) in
         record {
-          book = B.begun (g .book) t c M.ok;
+          book = B.begun (g .book) t c;
           inv = i;
           links = k;
           deque = g .deque;

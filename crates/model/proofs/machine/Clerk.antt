@@ -6,7 +6,7 @@ use Prim.Native.Nat.{ℕ, suc}
 use lib.Dec.{eqb}
 pub use Rattle.model.specs.declared.Entry.{Entry}
 use Rattle.model.proofs.lists.Deque.{seen, put, took}
-use Rattle.model.proofs.machine.Machine.{Anchor, Answer, refused, ok, running, pushed, empty, popped, Kind, push, pop, State, upd, Status, stable, pushing}
+use Rattle.model.proofs.machine.Machine.{Anchor, Answer, running, pushed, empty, popped, Kind, push, pop, State, upd, Status, stable, pushing}
 
 -- a call: what its start named, the number of its effects so far, and what the clerk answered last
 pub record Call : Type 0 where
@@ -27,7 +27,7 @@ pub record Book : Type 0 where
   pub closed : List Closed
 
 abbrev pub opened : Kind → Bool → ℕ → ℕ → Call
-opened k d x l = record { kind = k; side = d; slot = x; label = l; effects = 0; told = ok }
+opened k d x l = record { kind = k; side = d; slot = x; label = l; effects = 0; told = running }
 
 abbrev pub noCall : Call
 noCall = opened push false 0 0
@@ -49,8 +49,6 @@ served push c q = record { call = told c pushed; queue = put (c .side) (record {
 served pop c q = record { call = told c (given (seen (c .side) q)); queue = took (c .side) q }
 
 abbrev pub isEmpty : Answer → Bool
-isEmpty refused = false
-isEmpty ok = false
 isEmpty running = false
 isEmpty pushed = false
 isEmpty empty = true
@@ -71,20 +69,13 @@ closes b t n w = record { queue = n .queue; calls = upd (b .calls) t noCall; clo
 
 -- one start or step in the book: the operation, its answer, and Anchor before and after
 abbrev pub stepped : Book → ℕ → Noted → Answer → Book
-stepped b t n refused = b
-stepped b t n ok = b
 stepped b t n running = stays b t n
 stepped b t n pushed = closes b t n pushed
 stepped b t n empty = closes b t n empty
 stepped b t n (popped x l) = closes b t n (popped x l)
 
-abbrev pub begun : Book → ℕ → Call → Answer → Book
-begun b t c refused = b
-begun b t c ok = record { queue = b .queue; calls = upd (b .calls) t c; closed = b .closed }
-begun b t c running = b
-begun b t c pushed = b
-begun b t c empty = b
-begun b t c (popped x l) = b
+abbrev pub begun : Book → ℕ → Call → Book
+begun b t c = record { queue = b .queue; calls = upd (b .calls) t c; closed = b .closed }
 
 -- the machine and the book side by side
 pub record Both : Type 0 where

@@ -2,12 +2,10 @@
 use mathlib.Core.Path.{_≡_, refl}
 use mathlib.Core.Bool.{Bool, true, false}
 use lib.Dec.{eqb}
-use Rattle.model.proofs.machine.Machine.{isStable, towards, tip, same, sameLink, Shared, Rec, Kind, push, pop, Place, idle, at1, at2, at3, at4, at5, at6, at7, at8, at9, at10, at11, isIdle, Answer, refused, ok, running, pushed, empty, popped, Touch, none, putAnchor, settled, Move, leave, one, two, three, four, act}
+use Rattle.model.proofs.machine.Machine.{isStable, towards, tip, same, sameLink, Shared, Rec, Kind, push, pop, Place, idle, at1, at2, at3, at4, at5, at6, at7, at8, at9, at10, at11, isIdle, Answer, running, pushed, empty, popped, Touch, none, putAnchor, settled, Move, leave, one, two, three, four, act}
 use Rattle.model.proofs.tests.Truth.{by-test, not-both}
 
 abbrev pub EndsAt : Answer → Bool → Type 0
-EndsAt refused b = ⊥
-EndsAt ok b = ⊥
 EndsAt running b = b ≡ false
 EndsAt pushed b = b ≡ true
 EndsAt empty b = b ≡ true

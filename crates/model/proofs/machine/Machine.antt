@@ -127,7 +127,7 @@ abbrev pub withLabel : Shared → ℕ → ℕ → Shared
 withLabel s x l = record { slots = s .slots; anchor = s .anchor; link = s .link; label = upd (s .label) x l; mark = upd (s .mark) x true }
 
 pub data Answer : Type 0 where
-  refused ok running pushed empty : Answer
+  running pushed empty : Answer
   popped : ℕ → ℕ → Answer
 
 -- the one shared word that a step may change
@@ -192,7 +192,7 @@ abbrev pub eleven : Shared → Rec → Move
 eleven s r = let x = tip (r .read) (r .side) in ends (clear x) (popped x (s .label x))
 
 abbrev pub act : Place → Shared → Rec → Move
-act idle s r = record { touch = none; rec = r; answer = refused }
+act idle s r = runs none r
 act at1 s r = one (r .kind) s r
 act at2 s r = two (r .kind) s r
 act at3 s r = three (r .kind) s r
@@ -211,10 +211,6 @@ pub record State : Type 0 where
   pub shared : Shared
   pub task : ℕ → Rec
 
-pub record Result : Type 0 where
-  pub state : State
-  pub answer : Answer
-
 abbrev pub isIdle : Place → Bool
 isIdle idle = true
 isIdle at1 = false
@@ -229,5 +225,5 @@ isIdle at9 = false
 isIdle at10 = false
 isIdle at11 = false
 
-abbrev pub moved : State → ℕ → Shared → Rec → Answer → Result
-moved s t g r w = record { state = record { shared = g; task = upd (s .task) t r }; answer = w }
+abbrev pub moved : State → ℕ → Shared → Rec → State
+moved s t g r = record { shared = g; task = upd (s .task) t r }

@@ -8,7 +8,7 @@ use native.Mathlib.Omega.{arith}
 use lib.Dec.{eqb}
 use borrow.Author.Tests.{eq-eqb, ne-eqb}
 use Rattle.model.proofs.lists.Deque.{seen, rest, put, took}
-use Rattle.model.proofs.machine.Machine.{Status, pushing, Anchor, tip, aimed, Shared, Rec, Kind, push, pop, at1, blank, goes, Answer, refused, ok, running, pushed, empty, popped, Touch, none, apply, Move, runs, ends, leave, withAnchor, upd}
+use Rattle.model.proofs.machine.Machine.{Status, pushing, Anchor, tip, aimed, Shared, Rec, Kind, push, pop, at1, blank, goes, Answer, running, pushed, empty, popped, Touch, none, apply, Move, runs, ends, leave, withAnchor, upd}
 use Rattle.model.proofs.machine.Clerk.{Entry, Call, noted, effect, isEmpty, served, told, given, Kept}
 use Rattle.model.proofs.tests.Truth.{by-test, decide-eq, or-second}
 use Rattle.model.proofs.machine.Laws.{upd-other}
@@ -16,8 +16,6 @@ use Rattle.model.proofs.invariant.Tasks.{Owner, free, queued, held, slo
 
 -- the record and the call after an answer
 abbrev pub Finish : Answer → Shared → (ℕ → Owner) → ℕ → Rec → Call → Type 0
-Finish refused s h t r c = ⊥
-Finish ok s h t r c = ⊥
 Finish running s h t r c = Task (r .place) s h t r c
 Finish pushed s h t r c = (r ≡ blank) × Kept (record { call = c; answer = pushed })
 Finish empty s h t r c = (r ≡ blank) × Kept (record { call = c; answer = empty })

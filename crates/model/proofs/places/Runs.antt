@@ -6,7 +6,7 @@ use mathlib.Core.List.{List, [], _∷_}
 use Prim.Native.Nat.{ℕ, _≤_}
 use native.Mathlib.Omega.{arith}
 use Rattle.model.proofs.lists.Deque.{All}
-use Rattle.model.proofs.machine.Machine.{Shared, Rec, push, pop, Place, idle, at1, at2, at3, at4, at5, at6, at7, at8, at9, at10, at11, isIdle, started, Answer, refused, ok, running, pushed, empty, popped, apply, withLabel, upd, act, moved}
+use Rattle.model.proofs.machine.Machine.{Shared, Rec, push, pop, Place, idle, at1, at2, at3, at4, at5, at6, at7, at8, at9, at10, at11, isIdle, started, Answer, running, pushed, empty, popped, apply, withLabel, upd, act, moved}
 use Rattle.model.proofs.machine.Clerk.{Entry, Call, Noted, noCall, opened, noted, Kept, stepped, begun, Both}
 use Rattle.model.proofs.lists.Chain.{all-map, all-both}
 use Rattle.model.proofs.tests.Truth.{not-both, decide-eq}
@@ -61,8 +61,6 @@ module _ (p : Both) (i : Inv p) where
   -- an accepted step
   absorb : (t : ℕ) (s : Shared) (r : Rec) (h : ℕ → Owner) (n : Noted) (w : Answer) → Whole s h (n .queue) → ((u : ℕ) → u ≢ t → Rely u (p .state .shared) (i .owner) s h)
       → Finish w s h t r (n .call) → Inv (record { state = record { shared = s; task = upd (p .state .task) t r }; book = stepped (p .book) t n w })
-  absorb t s r h n refused a y f = absurd f
-  absorb t s r h n ok a y f = absurd f
   absorb t s r h n running a y f =
       record { owner = h; whole = a; kept = i .kept; tasks = tasks-upd s h (p .state .task) (p .book .calls) t r (n .call) (others t s h y) f }
   absorb t s r h n pushed a y f =
@@ -90,7 +88,7 @@ module _ (p : Both) (i : Inv p) where
   pub step-inv : (t : ℕ) → isIdle (p .state .task t .place) ≡ false
       → let m = act (p .state .task t .place) (p .state .shared) (p .state .task t) in
       let g = apply (p .state .shared) (m .touch) in
-      Inv (record { state = moved (p .state) t g (m .rec) (m .answer) .state; book = stepped (p .book) t (noted (p .book .calls t) (p .book .queue) (p .state .shared .anchor) (g .anchor) (m .answer)) (m .answer) })
+      Inv (record { state = moved (p .state) t g (m .rec); book = stepped (p .book) t (noted (p .book .calls t) (p .book .queue) (p .state .shared .anchor) (g .anchor) (m .answer)) (m .answer) })
   step-inv t e =
       let r = p .state .task t in
       let m = act (r .place) (p .state .shared) r in
@@ -99,7 +97,7 @@ module _ (p : Both) (i : Inv p) where
 
   -- an accepted start of a pop
   pub pop-inv : (t : ℕ) (d : Bool)
-      → Inv (record { state = moved (p .state) t (p .state .shared) (started pop d 0 0) ok .state; book = begun (p .book) t (opened pop d 0 0) ok })
+      → Inv (record { state = moved (p .state) t (p .state .shared) (started pop d 0 0); book = begun (p .book) t (opened pop d 0 0) })
   pop-inv t d =
       record {
         owner = i .owner;
@@ -150,7 +148,7 @@ module _ (p : Both) (i : Inv p) where
       anchor = inl (record { kept = refl; inward = λ e f. refl; made = λ e st m. m });
     }
 
-    pub push-inv : Inv (record { state = moved (p .state) t (withLabel (p .state .shared) x l) (started push d x l) ok .state; book = begun (p .book) t (opened push d x l) ok })
+    pub push-inv : Inv (record { state = moved (p .state) t (withLabel (p .state .shared) x l) (started push d x l); book = begun (p .book) t (opened push d x l) })
     push-inv =
         record {
           owner = upd h x (held t);
