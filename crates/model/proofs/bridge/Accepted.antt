@@ -1,14 +1,12 @@
 -- What an accepted start or step tells of the tables.
 use mathlib.Core.Path.{_≡_, refl}
-use mathlib.Core.Bool.{Bool, true, false, _&&_}
+use mathlib.Core.Bool.{true, false, _&&_}
 use mathlib.Core.Logic.{_≢_}
 use Prim.Native.Nat.{ℕ, _≤_, _<_}
-use native.Mathlib.Omega.{arith}
-use lib.Dec.{leb}
 use lib.ListN.{length}
 use borrow.Author.Tests.{eqb-true, eqb-false, ltb-true, ltb-false, leb-true, not-false}
 use Rattle.word.specs.Anchor.{anchorOf}
-use Rattle.model.specs.Tables.{Tables, Queue, marked, recordAt}
+use Rattle.model.specs.Tables.{Queue, marked, recordAt}
 use Rattle.model.specs.Sound.{rowsFit}
 use Rattle.model.specs.Places.{linkMet}
 use Rattle.model.specs.Refusals.{among, pushRules, pushRefusal, popRules, popRefusal, stepRules, stepTests, stepSound, stepRefusal}

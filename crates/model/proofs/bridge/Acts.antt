@@ -1,11 +1,11 @@
 -- Accepted starts and steps of the tables are those of the decoded machine, so they keep the invariant.
 use mathlib.Core.Path.{_≡_, refl, sym, subst, _∙_, ap}
-use mathlib.Core.Bool.{Bool, true, false, cond}
+use mathlib.Core.Bool.{false, cond}
 use mathlib.Core.Logic.{_≢_}
 use Prim.Native.Nat.{ℕ, _≤_, _<_}
 use native.Mathlib.Omega.{arith}
 use lib.Dec.{eqb, ltb}
-use lib.ListN.{getD, set, length}
+use lib.ListN.{getD, set}
 use borrow.Author.Tests.{lt-ltb}
 use Rattle.model.specs.declared.Record.{Record}
 use Rattle.model.specs.declared.Answer as answered

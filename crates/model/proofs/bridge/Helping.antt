@@ -1,20 +1,20 @@
 -- Places 5 to 10, which push and pop share: a step of the tables is a step of the decoded machine.
 use mathlib.Core.Path.{_≡_, refl, sym, _∙_, ap}
-use mathlib.Core.Bool.{Bool, true, false, not, cond}
+use mathlib.Core.Bool.{Bool, true, false}
 use Prim.Native.Nat.{ℕ, suc, _+_, _^_, _≤_, _<_}
 use native.Mathlib.Omega.{arith}
 use lib.Dec.{eqb}
-use borrow.Author.Tests.{eqb-true, eq-eqb}
+use borrow.Author.Tests.{eqb-true}
 use Rattle.word.specs.Anchor.{anchorOf, packAnchor}
 use Rattle.word.specs.Link.{linkOf, packLink, spareOf}
 use Rattle.model.specs.declared.Record.{Record}
-use Rattle.model.specs.Tables.{Tables, facing}
-use Rattle.model.specs.Places.{sideOf, row, linkSide, reading, new4, at1, at2, at3, at4, at5, at6, at7, at9, at10, at11, move}
-use Rattle.model.specs.Route.{pushRoute, popRoute, route, onward, answer, goes}
+use Rattle.model.specs.Tables.{Tables}
+use Rattle.model.specs.Places.{sideOf, row, linkSide, at5, at6, at7, at9, at10, move}
+use Rattle.model.specs.Route.{pushRoute, popRoute, onward, answer, goes}
 use Rattle.model.proofs.machine.Machine as M
 use Rattle.model.proofs.tests.Truth.{split}
-use Rattle.model.proofs.bridge.View.{statusOf, anchorSeen, linkSeen, recOf, linkAt, view}
-use Rattle.model.proofs.bridge.Words.{stable-status, towards-status, same-word, same-link-word, anchor-back, link-back}
+use Rattle.model.proofs.bridge.View.{anchorSeen, linkSeen, recOf, linkAt, view}
+use Rattle.model.proofs.bridge.Words.{towards-status, same-word, same-link-word, anchor-back, link-back}
 use Rattle.model.proofs.bridge.Step.{Seen, AnchorRoom, LinkRoom, route-shared, same-touch}
 
 module _ (q : Tables) (k d x l a n w f : ℕ) where

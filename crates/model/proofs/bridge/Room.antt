@@ -1,10 +1,9 @@
 -- The test that a tag has room, place by place, says just what a change needs.
 use mathlib.Core.Path.{_≡_, refl, _∙_, ap}
-use mathlib.Core.Bool.{Bool, true, false, cond}
+use mathlib.Core.Bool.{Bool, true, false}
 use mathlib.Core.Logic.{_≢_}
 use Prim.Native.Nat.{ℕ, _≤_, _<_}
 use lib.Dec.{eqb, ltb}
-use lib.ListN.{getD}
 use borrow.Author.Tests.{eqb-true, eq-eqb, lt-ltb, ltb-true}
 use Rattle.word.specs.Anchor.{anchorOf}
 use Rattle.word.specs.Link.{linkOf}
@@ -15,7 +14,7 @@ use Rattle.model.specs.Refusals.{hasRoom}
 use Rattle.model.proofs.tests.Truth.{split}
 use Rattle.model.proofs.tests.ByPlace.{by-place}
 use Rattle.model.proofs.bridge.View.{placeOf, linkAt}
-use Rattle.model.proofs.bridge.Step.{AnchorRoom, RoomAt}
+use Rattle.model.proofs.bridge.Step.{RoomAt}
 
 module _ (q : Tables) (r : Record) where
   abbrev at : ℕ → Record

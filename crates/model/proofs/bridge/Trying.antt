@@ -1,21 +1,21 @@
 -- Places 1 to 4 and 11, where push and pop differ: a step of the tables is a step of the decoded machine.
-use mathlib.Core.Path.{_≡_, refl, sym, _∙_, ap}
-use mathlib.Core.Bool.{Bool, true, false, not, cond}
-use Prim.Native.Nat.{ℕ, suc, _+_, _^_, _≤_, _<_}
+use mathlib.Core.Path.{_≡_, sym, ap}
+use mathlib.Core.Bool.{Bool, true, false}
+use Prim.Native.Nat.{ℕ, _+_, _^_, _≤_, _<_}
 use native.Mathlib.Omega.{arith}
 use lib.Dec.{eqb}
 use borrow.Author.Tests.{eqb-true, eq-eqb}
 use Rattle.word.specs.Anchor.{anchorOf, packAnchor}
-use Rattle.word.specs.Link.{linkOf, packLink, spareOf}
+use Rattle.word.specs.Link.{linkOf}
 use Rattle.model.specs.declared.Record.{Record}
 use Rattle.model.specs.Tables.{Tables, facing}
-use Rattle.model.specs.Places.{sideOf, row, linkSide, reading, new4, at1, at2, at3, at4, at5, at6, at7, at9, at10, at11, move}
+use Rattle.model.specs.Places.{sideOf, row, linkSide, reading, new4, at1, at2, at3, at4, at11, move}
 use Rattle.model.specs.Route.{pushRoute, popRoute, route, onward, answer, goes}
 use Rattle.model.proofs.machine.Machine as M
 use Rattle.model.proofs.tests.Truth.{split}
-use Rattle.model.proofs.bridge.View.{statusOf, anchorSeen, linkSeen, recOf, linkAt, view}
-use Rattle.model.proofs.bridge.Words.{stable-status, towards-status, same-word, same-link-word, anchor-back, link-back}
-use Rattle.model.proofs.bridge.Step.{Seen, AnchorRoom, LinkRoom, route-shared, same-touch}
+use Rattle.model.proofs.bridge.View.{statusOf, anchorSeen, recOf, linkAt, view}
+use Rattle.model.proofs.bridge.Words.{stable-status, same-word, anchor-back, link-back}
+use Rattle.model.proofs.bridge.Step.{Seen, AnchorRoom, same-touch}
 
 module _ (q : Tables) (d x l a n w f : ℕ) where
   -- At a place and of a kind: 0 push, 1 pop.

@@ -3,10 +3,10 @@ use mathlib.Core.Path.{_≡_, refl, sym, subst, _∙_, ap}
 use mathlib.Core.Bool.{Bool, true, false, cond, _&&_}
 use mathlib.Core.Logic.{_≢_, _⊎_, inl, inr}
 use mathlib.Core.List.{List, [], _∷_}
-use Prim.Native.Nat.{ℕ, suc, _≤_, _<_}
+use Prim.Native.Nat.{ℕ, suc}
 use native.Mathlib.Omega.{arith}
 use lib.Dec.{eqb}
-use lib.ListN.{getD, set}
+use lib.ListN.{set}
 use borrow.Author.Tests.{eqb-true, eq-eqb, ne-eqb}
 use Rattle.model.specs.declared.Record.{Record}
 use Rattle.model.specs.declared.Entry.{Entry}
@@ -31,7 +31,7 @@ use Rattle.model.proofs.lists.Store.{set-back}
 use Rattle.model.proofs.bridge.View.{placeOf, kindOf, recOf, view, stateOf, answerSeen}
 use Rattle.model.proofs.bridge.Facts.{LinksFine}
 use Rattle.model.proofs.bridge.Step.{seenMove}
-use Rattle.model.proofs.bridge.Accepted.{Lies, Stepping, Starting, Pushing, push-accepted, pop-accepted, step-accepted}
+use Rattle.model.proofs.bridge.Accepted.{Lies, Stepping, Pushing, push-accepted, pop-accepted, step-accepted}
 use Rattle.model.proofs.bridge.Acts.{not-idle, task-of, put-back, stepped, reply, step-task, step-ends, step-keeps, step-links, pop-keeps, push-keeps}
 use Rattle.model.proofs.ledger.Track.{Final, Matches, opens, tracks-mono, rest-keeps, goingOn, bookAfter, Attended, attend-keeps}
 use Rattle.model.proofs.ledger.Good.{busyNo, Good}

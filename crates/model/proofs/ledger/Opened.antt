@@ -1,6 +1,6 @@
 -- The tables that an opening leaves: nobody has called, nothing waits.
 use mathlib.Core.Path.{_≡_, refl, sym, subst, _∙_, ap}
-use mathlib.Core.Bool.{Bool, true, false, cond}
+use mathlib.Core.Bool.{Bool, true, false}
 use mathlib.Core.List.{List, []}
 use Prim.Native.Nat.{ℕ, _+_, _*_, _/_, _%_, _^_, _≤_, _<_}
 use native.Mathlib.Omega.{arith}
@@ -18,7 +18,6 @@ use Rattle.model.proofs.machine.Clerk as B
 use Rattle.model.proofs.tests.Truth.{by-test}
 use Rattle.model.proofs.places.Fresh.{fresh}
 use Rattle.model.proofs.bridge.View.{placeOf, statusOf, anchorSeen, recOf, linkAt, view, stateOf}
-use Rattle.model.proofs.bridge.Facts.{LinksFine}
 use Rattle.model.proofs.ledger.Good.{busyNo, Good}
 
 abbrev pub nobody : Ledger

@@ -11,7 +11,7 @@ use borrow.Author.Tests.{eq-eqb, ne-eqb, eqb-true, eqb-false, le-leb}
 use Rattle.word.specs.Anchor.{anchorOf}
 use Rattle.word.specs.Link.{linkOf}
 use Rattle.model.specs.declared.Entry.{Entry}
-use Rattle.model.specs.Tables.{Tables, opposite, links, isEmpty, near, far}
+use Rattle.model.specs.Tables.{Tables, opposite, isEmpty, near, far}
 use Rattle.model.specs.Sound.{from1}
 use Rattle.model.specs.Report.{Walk, entries, broken, andThen, walkFrom, along, contents}
 use Rattle.model.proofs.lists.Deque.{seen, front, From, Chain, All, Distinct}

@@ -8,7 +8,7 @@ use native.Mathlib.Omega.{arith}
 use lib.Dec.{eqb}
 use borrow.Author.Tests.{eqb-true, eqb-false}
 use Rattle.model.proofs.lists.Deque.{seen}
-use Rattle.model.proofs.machine.Machine.{stable, pushing, towards, Anchor, Link, tip, settled, same, sameLink, inner, Shared, Rec, Kind, push, pop, Place, at3, at4, at5, at6, at7, at8, at9, at10, at11, goes, finds, holds, running, popped, none, putAnchor, putLink, clear, runs, ends, leave, withLink, upd, relink, three, act}
+use Rattle.model.proofs.machine.Machine.{stable, pushing, towards, Anchor, Link, tip, settled, same, sameLink, inner, Shared, Rec, Kind, push, pop, at3, at4, at5, at6, at7, at8, at9, at10, at11, goes, finds, holds, running, popped, none, putAnchor, putLink, clear, runs, ends, leave, withLink, upd, relink, three, act}
 use Rattle.model.proofs.machine.Clerk.{Entry, Call}
 use Rattle.model.proofs.lists.Chain.{all-map, all-seen, all-front}
 use Rattle.model.proofs.tests.Truth.{by-test, decide-eq}

@@ -12,7 +12,7 @@ use Rattle.model.specs.declared.Answer.{Answer}
 use Rattle.model.specs.declared.Outcome.the-variants.{Refused, Moved}
 use Rattle.model.specs.declared.Op.{Op}
 use Rattle.model.specs.declared.Op.the-variants.{Push, Pop, Step}
-use Rattle.model.specs.Tables.{Tables, Queue, marked, idle, recordAt, started}
+use Rattle.model.specs.Tables.{Tables, Queue, marked, idle, recordAt}
 use Rattle.model.specs.Sound.{from1, controlSound, recordSound, rowsFit}
 use Rattle.model.specs.Places.{linkMet}
 use Rattle.model.specs.Refusals.{among, late, pushRefusal, popRefusal, stepSound, stepRefusal}

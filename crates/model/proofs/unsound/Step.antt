@@ -3,7 +3,7 @@ use mathlib.Core.Path.{_≡_, refl, sym, subst, _∙_, ap}
 use mathlib.Core.Bool.{Bool, true, false, not, cond, _&&_, _||_}
 use mathlib.Core.Logic.{_≢_}
 use mathlib.Core.List.{List}
-use Prim.Native.Nat.{ℕ, zero, suc, _+_, _≤_}
+use Prim.Native.Nat.{ℕ, zero, suc, _≤_}
 use native.Mathlib.Omega.{arith}
 use lib.Dec.{eqb, leb}
 use borrow.Author.Tests.{eqb-true, eq-eqb, le-leb}
@@ -18,13 +18,11 @@ use Rattle.model.specs.Refusals.{leavesSound, meetsLink, stepTests, step
 use Rattle.model.specs.History.{Ledger}
 use Rattle.model.proofs.machine.Machine as M
 use Rattle.model.proofs.machine.Clerk as B
-use Rattle.model.proofs.machine.Machine.{upd}
 use Rattle.model.proofs.tests.Truth.{by-test, not-both, or-second}
 use Rattle.model.proofs.tests.Rules.{_and_, passes}
 use Rattle.model.proofs.tests.ByPlace.{by-place}
 use Rattle.model.proofs.invariant.Shape.{Shape}
 use Rattle.model.proofs.invariant.Tasks.{Owner, slots, Whole, Task, Three}
-use Rattle.model.proofs.places.Runs.{Inv}
 use Rattle.model.proofs.bridge.View.{statusOf, anchorSeen, placeOf, recOf, view, stateOf, touchSeen}
 use Rattle.model.proofs.bridge.Facts.{AnchorFine, ControlFine, RecordFine, control-fine}
 use Rattle.model.proofs.bridge.Step.{RoomAt, seenMove}

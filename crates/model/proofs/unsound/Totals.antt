@@ -4,7 +4,7 @@ use mathlib.Core.Bool.{Bool, true, cond}
 use mathlib.Core.Logic.{_≢_, _⊎_, inl, inr}
 use Prim.Native.Nat.{ℕ, zero, suc, _+_, _*_, _≤_, _<_}
 use native.Mathlib.Omega.{arith}
-use Rattle.model.proofs.machine.Machine.{Status, stable, pushing, Anchor, Rec, Kind, push, pop, Place, idle, at1, at2, at3, at4, at5, at6, at7, at8, at9, at10, at11, upd}
+use Rattle.model.proofs.machine.Machine.{Status, stable, pushing, Rec, Kind, push, pop, Place, idle, at1, at2, at3, at4, at5, at6, at7, at8, at9, at10, at11, upd}
 use Rattle.model.proofs.tests.Truth.{decide-eq}
 use Rattle.model.proofs.machine.Laws.{upd-same, upd-other}
 
