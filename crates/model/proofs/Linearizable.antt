@@ -1,21 +1,21 @@
 -- Demand 3: after any accepted opening, on any tables, every list of starts and steps is linearized.
-use mathlib.Core.Path.{_≡_, _∙_, ap}
 use mathlib.Core.List.{List}
+use mathlib.Core.Path.{_∙_, _≡_, ap}
 use Prim.Native.Nat.{ℕ}
 use native.Mathlib.Omega.{arith}
 use lib.Dec.{eqb}
-use Rattle.model.specs.declared.Opening.the-variants.{Refused, Opened}
-use Rattle.model.specs.Tables.{Queue}
+use Rattle.model.specs.Calls.{openQueue, opened}
+use Rattle.model.specs.History.{Linearized, Request, final, ledger, run}
 use Rattle.model.specs.Refusals.{openRefusal}
-use Rattle.model.specs.Calls.{opened, openQueue}
 use Rattle.model.specs.Report.{entries}
-use Rattle.model.specs.History.{Request, run, final, ledger, Linearized}
+use Rattle.model.specs.Tables.{Queue}
+use Rattle.model.specs.declared.Opening.the-variants.{Opened, Refused}
 use Rattle.model.proofs.tests.Truth.{split}
 use Rattle.model.proofs.bridge.View.{stateOf}
-use Rattle.model.proofs.ledger.Carried.{run-good}
+use Rattle.model.proofs.ledger.Kept.{run-good}
 use Rattle.model.proofs.ledger.Lawful.{all-lawful}
-use Rattle.model.proofs.ledger.Waiting.{waits}
 use Rattle.model.proofs.ledger.Opened.{nobody, open-good}
+use Rattle.model.proofs.ledger.Waiting.{waits}
 
 module _ (q : Queue) (tasks slots tag : ℕ) where
   linearized : (os : List Request) → Linearized (opened q tasks slots tag) os

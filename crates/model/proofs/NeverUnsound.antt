@@ -1,33 +1,32 @@
 -- After any accepted opening, on any tables, no start or step is ever refused as unsound (34).
-use mathlib.Core.Path.{_≡_, refl, sym, subst, _∙_, ap}
-use mathlib.Core.Bool.{Bool, true, cond}
+use mathlib.Core.Bool.{cond, true}
 use mathlib.Core.List.{List}
-use Prim.Native.Nat.{ℕ, _≤_}
+use mathlib.Core.Path.{_∙_, _≡_, ap, refl, subst, sym}
+use Prim.Native.Nat.{_≤_, ℕ}
 use native.Mathlib.Omega.{arith}
 use lib.Dec.{eqb}
 use borrow.Author.Tests.{eqb-true, not-false}
-use Rattle.word.specs.Anchor.{anchorOf, packAnchor, emptyAnchor}
+use Rattle.word.specs.Anchor.{anchorOf, emptyAnchor, packAnchor}
 use Rattle.word.specs.Link.{linkOf}
-use Rattle.model.specs.declared.Record.{Record}
-use Rattle.model.specs.declared.Opening.the-variants.{Refused, Opened}
-use Rattle.model.specs.Tables.{Queue}
+use Rattle.model.specs.Calls.{openQueue, opened}
+use Rattle.model.specs.History.{NeverUnsound, Request, run}
+use Rattle.model.specs.Refusals.{openRefusal, openRules}
 use Rattle.model.specs.Sound.{controlSound, controlTests}
-use Rattle.model.specs.Refusals.{openRules, openRefusal}
-use Rattle.model.specs.Calls.{opened, openQueue}
-use Rattle.model.specs.History.{Request, run, NeverUnsound}
-use Rattle.model.proofs.machine.Machine as M
+use Rattle.model.specs.Tables.{Queue}
+use Rattle.model.specs.declared.Opening.the-variants.{Opened, Refused}
+use Rattle.model.specs.declared.Record.{Record}
+use Rattle.model.proofs.tests.Rules.{_and_, cleared, passes}
 use Rattle.model.proofs.tests.Truth.{split}
-use Rattle.model.proofs.tests.Rules.{_and_, passes, cleared}
-use Rattle.model.proofs.bridge.View.{view, stateOf}
-use Rattle.model.proofs.ledger.Opened.{nobody, empty-status, empty-left, empty-right, no-record, all-idle, zero-links, open-good}
-use Rattle.model.proofs.unsound.Totals.{total-le, cost, spent, owes, unsettled}
-use Rattle.model.proofs.unsound.Extra.{Extra}
-use Rattle.model.proofs.unsound.Sound.{anchor-sound}
+use Rattle.model.proofs.machine.Laws.{stable-pushing}
+use Rattle.model.proofs.machine.Machine as M
+use Rattle.model.proofs.invariant.Fields.{Extra}
+use Rattle.model.proofs.invariant.Tags.{cost, owes, spent, unsettled}
+use Rattle.model.proofs.bridge.View.{stateOf, view}
+use Rattle.model.proofs.ledger.Opened.{all-idle, empty-left, empty-right, empty-status, no-record, nobody, open-good, zero-links}
+use Rattle.model.proofs.tags.Sum.{total-le}
+use Rattle.model.proofs.unsound.Never34.{run-safe}
 use Rattle.model.proofs.unsound.Safe.{Safe}
-use Rattle.model.proofs.unsound.Carried.{run-safe}
-
-stable-pushing : {d : Bool} → M.stable ≡ M.pushing d → ⊥
-stable-pushing p = let z : _≡_ {A = ℕ} 0 1 = cc in omega arith
+use Rattle.model.proofs.unsound.Tests.{anchor-sound}
 
 module _ (q : Queue) (tasks slots tag : ℕ) where
   abbrev o : Queue

@@ -1,13 +1,14 @@
+-- The tables seen as the decoded machine: words, records, touches, accepted operations.
 pub mod View
 pub mod Words
 pub mod Marks
 pub mod Facts
-pub mod Step
 pub mod Trying
 pub mod Helping
-pub mod Every
-pub mod Store
+pub mod EveryPlace
+pub mod Stores
 pub mod Touches
 pub mod Room
 pub mod Accepted
-pub mod Acts
+pub mod Operations
+pub mod Decoded

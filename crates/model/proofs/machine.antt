@@ -1,4 +1,6 @@
-pub mod Laws
+-- The decoded machine: document 003's figures over data types, and the clerk who keeps its book.
 pub mod Machine
-pub mod Ends
 pub mod Clerk
+pub mod Laws
+pub mod LinkTags
+pub mod Answers

@@ -1,12 +1,10 @@
-pub mod Totals
-pub mod Tags
-pub mod LinkTags
-pub mod Extra
-pub mod Sound
+-- Why no test of soundness fails.
+pub mod FieldsKept
+pub mod AnchorFields
+pub mod Tests
 pub mod Moves
-pub mod Bounded
 pub mod Safe
-pub mod Step
-pub mod Stepped
-pub mod Started
-pub mod Carried
+pub mod StepSound
+pub mod StepSafe
+pub mod StartSafe
+pub mod Never34

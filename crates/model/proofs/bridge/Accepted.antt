@@ -1,21 +1,21 @@
 -- What an accepted start or step tells of the tables.
-use mathlib.Core.Path.{_≡_, refl}
-use mathlib.Core.Bool.{true, false, _&&_}
+use mathlib.Core.Bool.{_&&_, false, true}
 use mathlib.Core.Logic.{_≢_}
-use Prim.Native.Nat.{ℕ, _≤_, _<_}
+use mathlib.Core.Path.{_≡_, refl}
+use Prim.Native.Nat.{_<_, _≤_, ℕ}
 use lib.ListN.{length}
-use borrow.Author.Tests.{eqb-true, eqb-false, ltb-true, ltb-false, leb-true, not-false}
+use borrow.Author.Tests.{eqb-false, eqb-true, leb-true, ltb-false, ltb-true, not-false}
 use Rattle.word.specs.Anchor.{anchorOf}
-use Rattle.model.specs.Tables.{Queue, marked, recordAt}
-use Rattle.model.specs.Sound.{rowsFit}
 use Rattle.model.specs.Places.{linkMet}
-use Rattle.model.specs.Refusals.{among, pushRules, pushRefusal, popRules, popRefusal, stepRules, stepTests, stepSound, stepRefusal}
+use Rattle.model.specs.Refusals.{among, popRefusal, popRules, pushRefusal, pushRules, stepRefusal, stepRules, stepSound, stepTests}
+use Rattle.model.specs.Sound.{rowsFit}
+use Rattle.model.specs.Tables.{Queue, marked, recordAt}
+use Rattle.model.proofs.tests.Rules.{cleared, tests}
 use Rattle.model.proofs.tests.Truth.{and-true}
-use Rattle.model.proofs.tests.Rules.{tests, cleared}
-use Rattle.model.proofs.bridge.View.{placeOf}
-use Rattle.model.proofs.bridge.Facts.{ControlFine, RecordFine, RowsFine, control-fine, record-fine, rows-fine, from1-true}
-use Rattle.model.proofs.bridge.Step.{RoomAt}
+use Rattle.model.proofs.bridge.Decoded.{RoomAt}
+use Rattle.model.proofs.bridge.Facts.{ControlFine, RecordFine, RowsFine, control-fine, from1-true, record-fine, rows-fine}
 use Rattle.model.proofs.bridge.Room.{room-tested}
+use Rattle.model.proofs.bridge.View.{placeOf}
 
 module _ (q : Queue) (t : ℕ) where
   -- The tables are long enough, and the task is known.

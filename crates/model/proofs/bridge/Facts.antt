@@ -1,21 +1,21 @@
 -- What the tests of soundness and of length say, as facts.
-use mathlib.Core.Path.{_≡_, sym, _∙_, ap}
-use mathlib.Core.Bool.{Bool, true, not, _&&_, _||_}
+use mathlib.Core.Bool.{Bool, _&&_, _||_, not, true}
 use mathlib.Core.Logic.{_≢_}
-use Prim.Native.Nat.{ℕ, _/_, _^_, _≤_, _<_}
+use mathlib.Core.Path.{_∙_, _≡_, ap, sym}
+use Prim.Native.Nat.{_/_, _<_, _^_, _≤_, ℕ}
 use native.Mathlib.Omega.{arith}
 use lib.Dec.{eqb, leb}
 use lib.ListN.{length}
-use borrow.Author.Tests.{eqb-true, eq-eqb, ne-eqb, leb-true, ltb-true}
-use Rattle.word.specs.declared.Anchor.{Anchor}
+use borrow.Author.Tests.{eq-eqb, eqb-true, leb-true, ltb-true, ne-eqb}
 use Rattle.word.specs.Anchor.{anchorOf}
 use Rattle.word.specs.Link.{linkOf, spareOf}
+use Rattle.word.specs.declared.Anchor.{Anchor}
+use Rattle.model.specs.Sound.{anchorSound, anchorTests, controlSound, controlTests, from1, linkSound, recordSound, recordTests, rowTests, rowsFit}
+use Rattle.model.specs.Tables.{Tables}
 use Rattle.model.specs.declared.Control.{Control}
 use Rattle.model.specs.declared.Record.{Record}
-use Rattle.model.specs.Tables.{Tables}
-use Rattle.model.specs.Sound.{from1, anchorTests, controlTests, recordTests, rowTests, anchorSound, linkSound, controlSound, recordSound, rowsFit}
-use Rattle.model.proofs.tests.Truth.{and-true, or-right, or-left, or-cases, beq-eq}
 use Rattle.model.proofs.tests.Rules.{tests}
+use Rattle.model.proofs.tests.Truth.{and-true, beq-eq, or-cases, or-left, or-right}
 use Rattle.model.proofs.bridge.View.{linkAt}
 
 pub record AnchorFine (slots : ℕ) (a : Anchor) : Type 0 where

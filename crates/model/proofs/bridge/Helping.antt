@@ -1,24 +1,24 @@
 -- Places 5 to 10, which push and pop share: a step of the tables is a step of the decoded machine.
-use mathlib.Core.Path.{_≡_, refl, sym, _∙_, ap}
-use mathlib.Core.Bool.{Bool, true, false}
-use Prim.Native.Nat.{ℕ, suc, _+_, _^_, _≤_, _<_}
+use mathlib.Core.Bool.{Bool, false, true}
+use mathlib.Core.Path.{_∙_, _≡_, ap, refl, sym}
+use Prim.Native.Nat.{_+_, _<_, _^_, _≤_, suc, ℕ}
 use native.Mathlib.Omega.{arith}
 use lib.Dec.{eqb}
 use borrow.Author.Tests.{eqb-true}
 use Rattle.word.specs.Anchor.{anchorOf, packAnchor}
 use Rattle.word.specs.Link.{linkOf, packLink, spareOf}
-use Rattle.model.specs.declared.Record.{Record}
+use Rattle.model.specs.Places.{at10, at5, at6, at7, at9, linkSide, move, row, sideOf}
+use Rattle.model.specs.Route.{answer, goes, onward, popRoute, pushRoute}
 use Rattle.model.specs.Tables.{Tables}
-use Rattle.model.specs.Places.{sideOf, row, linkSide, at5, at6, at7, at9, at10, move}
-use Rattle.model.specs.Route.{pushRoute, popRoute, onward, answer, goes}
-use Rattle.model.proofs.machine.Machine as M
+use Rattle.model.specs.declared.Record.{Record}
 use Rattle.model.proofs.tests.Truth.{split}
-use Rattle.model.proofs.bridge.View.{anchorSeen, linkSeen, recOf, linkAt, view}
-use Rattle.model.proofs.bridge.Words.{towards-status, same-word, same-link-word, anchor-back, link-back}
-use Rattle.model.proofs.bridge.Step.{Seen, AnchorRoom, LinkRoom, route-shared, same-touch}
+use Rattle.model.proofs.machine.Machine as M
+use Rattle.model.proofs.bridge.Decoded.{AnchorRoom, LinkRoom, Seen, route-shared, same-touch}
+use Rattle.model.proofs.bridge.View.{anchorSeen, linkAt, linkSeen, recOf, view}
+use Rattle.model.proofs.bridge.Words.{anchor-back, link-back, same-link-word, same-word, towards-status}
 
 module _ (q : Tables) (k d x l a n w f : ℕ) where
-  abbrev pub at : ℕ → Record
+  abbrev at : ℕ → Record
   at p = record { place = p; kind = k; side = d; own = x; label = l; seen = a; neighbour = n; link = w; finishing = f }
 
   abbrev now : ℕ

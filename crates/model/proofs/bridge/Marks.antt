@@ -1,25 +1,25 @@
 -- A mark that is put is read, and every other mark stays.
-use mathlib.Core.Path.{_≡_, sym, ap, _∙_, subst⁻¹}
 use mathlib.Core.List.{List}
-use Prim.Native.Nat.{ℕ, _+_, _-_, _*_, _/_, _%_, _^_, _<_}
+use mathlib.Core.Path.{_∙_, _≡_, ap, subst⁻¹, sym}
+use Prim.Native.Nat.{_%_, _*_, _+_, _-_, _/_, _<_, _^_, ℕ}
+use native.Mathlib.Decide.{decLt, ℕ-discrete}
 use native.Mathlib.Nat.{mod-lt}
-use native.Mathlib.Decide.{ℕ-discrete, decLt}
 use native.Mathlib.Omega.{arith}
 use lib.Dec.{eqb}
-use lib.ListN.{length, getD}
-use lib.Seq.{getD-set-same, getD-set-other}
-use lib.Pow.{pow-pos, high, low, field, shr-shr, mod-mod-pow}
-use Rattle.model.specs.Tables.{bit, putBit, marked, withMark}
+use lib.ListN.{getD, length}
+use lib.Pow.{field, high, low, mod-mod-pow, pow-pos, shr-shr}
+use lib.Seq.{getD-set-other, getD-set-same}
+use Rattle.model.specs.Tables.{bit, marked, putBit, withMark}
 
 -- a bit below i is one of the i low bits
-pub low-bit : (x i k : ℕ) → k < i → bit (x % 2 ^ i) k ≡ bit x k
+low-bit : (x i k : ℕ) → k < i → bit (x % 2 ^ i) k ≡ bit x k
 low-bit x i k h =
     let e : i ≡ (i - k - 1) + 1 + k = omega arith in
     subst⁻¹ (λ (m : ℕ). bit (x % 2 ^ m) k ≡ bit x k) e
     (ap (λ (y : ℕ). y % 2) (field x ((i - k - 1) + 1) k) ∙ mod-mod-pow (x / 2 ^ k) (i - k - 1) 1)
 
 -- a bit above i is one of the bits that are left after a shift by i + 1
-pub high-bit : (x i k : ℕ) → i < k → bit x k ≡ bit (x / 2 ^ i / 2) (k - i - 1)
+high-bit : (x i k : ℕ) → i < k → bit x k ≡ bit (x / 2 ^ i / 2) (k - i - 1)
 high-bit x i k h =
     let e : k ≡ i + 1 + (k - i - 1) = omega arith in
     subst⁻¹ (λ (m : ℕ). bit x m ≡ bit (x / 2 ^ i / 2) (k - i - 1)) e
@@ -29,10 +29,10 @@ module _ (w i b : ℕ) (hb : b < 2) where
   put-high : putBit w i b / 2 ^ i ≡ w / 2 ^ i / 2 * 2 + b
   put-high = high (w / 2 ^ i / 2 * 2 + b) i (mod-lt w (pow-pos i))
 
-  pub put-same : bit (putBit w i b) i ≡ b
+  put-same : bit (putBit w i b) i ≡ b
   put-same = ap (λ (x : ℕ). x % 2) put-high ∙ omega arith
 
-  pub put-other : (k : ℕ) → (k ≡ i → ⊥) → bit (putBit w i b) k ≡ bit w k
+  put-other : (k : ℕ) → (k ≡ i → ⊥) → bit (putBit w i b) k ≡ bit w k
   put-other k ne = go (decLt k i)
     where
       go : Dec (k < i) → bit (putBit w i b) k ≡ bit w k

@@ -1,20 +1,20 @@
 -- The test that a tag has room, place by place, says just what a change needs.
-use mathlib.Core.Path.{_≡_, refl, _∙_, ap}
-use mathlib.Core.Bool.{Bool, true, false}
+use mathlib.Core.Bool.{Bool, false, true}
 use mathlib.Core.Logic.{_≢_}
-use Prim.Native.Nat.{ℕ, _≤_, _<_}
+use mathlib.Core.Path.{_∙_, _≡_, ap, refl}
+use Prim.Native.Nat.{_<_, _≤_, ℕ}
 use lib.Dec.{eqb, ltb}
-use borrow.Author.Tests.{eqb-true, eq-eqb, lt-ltb, ltb-true}
+use borrow.Author.Tests.{eq-eqb, eqb-true, lt-ltb, ltb-true}
 use Rattle.word.specs.Anchor.{anchorOf}
 use Rattle.word.specs.Link.{linkOf}
-use Rattle.model.specs.declared.Record.{Record}
-use Rattle.model.specs.Tables.{Tables}
-use Rattle.model.specs.Places.{sideOf, row, linkSide, linkMet, move, at1, at2, at3, at4, at5, at6, at7, at9, at10, at11}
+use Rattle.model.specs.Places.{at1, at10, at11, at2, at3, at4, at5, at6, at7, at9, linkMet, linkSide, move, row, sideOf}
 use Rattle.model.specs.Refusals.{hasRoom}
-use Rattle.model.proofs.tests.Truth.{split}
+use Rattle.model.specs.Tables.{Tables}
+use Rattle.model.specs.declared.Record.{Record}
 use Rattle.model.proofs.tests.ByPlace.{by-place}
-use Rattle.model.proofs.bridge.View.{placeOf, linkAt}
-use Rattle.model.proofs.bridge.Step.{RoomAt}
+use Rattle.model.proofs.tests.Truth.{split}
+use Rattle.model.proofs.bridge.Decoded.{RoomAt}
+use Rattle.model.proofs.bridge.View.{linkAt, placeOf}
 
 module _ (q : Tables) (r : Record) where
   abbrev at : ℕ → Record
@@ -55,7 +55,7 @@ module _ (q : Tables) (r : Record) where
         (λ e. tt)
         (r .place) busy h
 
-  -- To the test.
+    -- To the test.
     anchor-test : (now ≡ a → anchorOf a .tag < 4294967295) → eqb now a ≡ true → ltb (anchorOf a .tag) 4294967295 ≡ true
     anchor-test m e = lt-ltb _ _ (m (eqb-true _ _ e))
 

@@ -1,17 +1,17 @@
 -- What a place touches lies within the rows, and a link word that it writes is sound.
-use mathlib.Core.Path.{_≡_}
 use mathlib.Core.Bool.{_&&_, _||_}
-use Prim.Native.Nat.{ℕ, _+_, _*_, _/_, _%_, _^_, _≤_, _<_}
+use mathlib.Core.Path.{_≡_}
+use Prim.Native.Nat.{_%_, _*_, _+_, _/_, _<_, _^_, _≤_, ℕ}
 use native.Mathlib.Omega.{arith}
 use lib.Dec.{eqb}
 use borrow.Author.Tests.{eqb-true}
 use Rattle.word.specs.Link.{linkOf, packLink}
+use Rattle.model.specs.Places.{Move, at1, at10, at11, at2, at3, at4, at5, at6, at7, at9, endSeen, linkSide, move, row, setLink, sideOf}
 use Rattle.model.specs.declared.Control.{Control}
 use Rattle.model.specs.declared.Record.{Record}
-use Rattle.model.specs.Places.{sideOf, endSeen, row, linkSide, setLink, Move, move, at1, at2, at3, at4, at5, at6, at7, at9, at10, at11}
-use Rattle.model.proofs.tests.Truth.{by-test, and-true}
+use Rattle.model.proofs.tests.Truth.{and-true, by-test}
 use Rattle.model.proofs.bridge.Facts.{RecordFine}
-use Rattle.model.proofs.bridge.Store.{TouchFine}
+use Rattle.model.proofs.bridge.Stores.{TouchFine}
 
 module _ (slots : ℕ) (r : Record) (h : RecordFine slots r) where
   end-fine : endSeen r ≤ slots

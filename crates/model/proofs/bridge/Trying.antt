@@ -1,25 +1,25 @@
 -- Places 1 to 4 and 11, where push and pop differ: a step of the tables is a step of the decoded machine.
-use mathlib.Core.Path.{_≡_, sym, ap}
-use mathlib.Core.Bool.{Bool, true, false}
-use Prim.Native.Nat.{ℕ, _+_, _^_, _≤_, _<_}
+use mathlib.Core.Bool.{Bool, false, true}
+use mathlib.Core.Path.{_≡_, ap, sym}
+use Prim.Native.Nat.{_+_, _<_, _^_, _≤_, ℕ}
 use native.Mathlib.Omega.{arith}
 use lib.Dec.{eqb}
-use borrow.Author.Tests.{eqb-true, eq-eqb}
+use borrow.Author.Tests.{eq-eqb, eqb-true}
 use Rattle.word.specs.Anchor.{anchorOf, packAnchor}
 use Rattle.word.specs.Link.{linkOf}
-use Rattle.model.specs.declared.Record.{Record}
+use Rattle.model.specs.Places.{at1, at11, at2, at3, at4, linkSide, move, new4, reading, row, sideOf}
+use Rattle.model.specs.Route.{answer, goes, onward, popRoute, pushRoute, route}
 use Rattle.model.specs.Tables.{Tables, facing}
-use Rattle.model.specs.Places.{sideOf, row, linkSide, reading, new4, at1, at2, at3, at4, at11, move}
-use Rattle.model.specs.Route.{pushRoute, popRoute, route, onward, answer, goes}
-use Rattle.model.proofs.machine.Machine as M
+use Rattle.model.specs.declared.Record.{Record}
 use Rattle.model.proofs.tests.Truth.{split}
-use Rattle.model.proofs.bridge.View.{statusOf, anchorSeen, recOf, linkAt, view}
-use Rattle.model.proofs.bridge.Words.{stable-status, same-word, anchor-back, link-back}
-use Rattle.model.proofs.bridge.Step.{Seen, AnchorRoom, same-touch}
+use Rattle.model.proofs.machine.Machine as M
+use Rattle.model.proofs.bridge.Decoded.{AnchorRoom, Seen, same-touch}
+use Rattle.model.proofs.bridge.View.{anchorSeen, linkAt, recOf, statusOf, view}
+use Rattle.model.proofs.bridge.Words.{anchor-back, link-back, same-word, stable-status}
 
 module _ (q : Tables) (d x l a n w f : ℕ) where
   -- At a place and of a kind: 0 push, 1 pop.
-  abbrev pub at : ℕ → ℕ → Record
+  abbrev at : ℕ → ℕ → Record
   at p k = record { place = p; kind = k; side = d; own = x; label = l; seen = a; neighbour = n; link = w; finishing = f }
 
   abbrev now : ℕ

@@ -1,16 +1,16 @@
 -- The tables, words and records as the decoded machine sees them.
-use mathlib.Core.Bool.{Bool, true, false, cond}
+use mathlib.Core.Bool.{Bool, cond, false, true}
 use mathlib.Core.List.{[], _∷_}
 use Prim.Native.Nat.{ℕ}
 use lib.Dec.{eqb, ltb}
 use lib.ListN.{getD}
 use Rattle.word.specs.Anchor.{anchorOf}
 use Rattle.word.specs.Link.{linkOf}
-use Rattle.model.specs.declared.Record.{Record}
-use Rattle.model.specs.declared.Answer as answer
-use Rattle.model.specs.Tables.{Tables, Queue, marked, recordAt}
 use Rattle.model.specs.Places as place
-use Rattle.model.proofs.machine.Machine.{Status, stable, pushing, Anchor, Link, Kind, push, pop, Place, idle, at1, at2, at3, at4, at5, at6, at7, at8, at9, at10, at11, Rec, Shared, State, blank, Answer, running, pushed, empty, popped, Touch, none, putAnchor, putLink, clear}
+use Rattle.model.specs.Tables.{Queue, Tables, marked, recordAt}
+use Rattle.model.specs.declared.Answer as answer
+use Rattle.model.specs.declared.Record.{Record}
+use Rattle.model.proofs.machine.Machine.{Anchor, Answer, Kind, Link, Place, Rec, Shared, State, Status, Touch, at1, at10, at11, at2, at3, at4, at5, at6, at7, at8, at9, blank, clear, empty, idle, none, pop, popped, push, pushed, pushing, putAnchor, putLink, running, stable}
 
 abbrev pub statusOf : ℕ → Status
 statusOf n = cond (eqb n 1) (pushing true) (cond (eqb n 2) (pushing false) stable)

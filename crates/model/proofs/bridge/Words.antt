@@ -1,18 +1,18 @@
 -- Equal words are equal decoded, and the other way round where they are sound; a packed word decodes to its fields.
-use mathlib.Core.Path.{_≡_, refl, sym, subst, _∙_, ap}
 use mathlib.Core.Bool.{true}
-use Prim.Native.Nat.{ℕ, zero, suc, _+_, _*_, _/_, _%_, _^_, _≤_, _<_}
+use mathlib.Core.Path.{_∙_, _≡_, ap, refl, subst, sym}
+use Prim.Native.Nat.{_%_, _*_, _+_, _/_, _<_, _^_, _≤_, suc, zero, ℕ}
 use native.Mathlib.Omega.{arith}
 use lib.Dec.{eqb}
-use borrow.Author.Tests.{eqb-true, eq-eqb}
+use borrow.Author.Tests.{eq-eqb, eqb-true}
+use Rattle.word.proofs.Laws.{pack-fits, same-anchor, same-link, word-fields}
+use Rattle.word.specs.Anchor.{AnchorFits, anchorOf, anchorWord, packAnchor}
+use Rattle.word.specs.Link.{linkOf, linkWord, packLink, spareOf}
 use Rattle.word.specs.declared.Anchor as word
-use Rattle.word.specs.Anchor.{anchorOf, anchorWord, packAnchor, AnchorFits}
-use Rattle.word.specs.Link.{linkOf, linkWord, spareOf, packLink}
-use Rattle.word.proofs.Laws.{same-anchor, same-link, word-fields, pack-fits}
 use Rattle.model.proofs.tests.Truth.{agree, split}
-use Rattle.model.proofs.machine.Machine.{code, isStable, towards, Anchor, Link, same, sameLink}
 use Rattle.model.proofs.machine.Laws.{same-true, sameLink-true}
-use Rattle.model.proofs.bridge.View.{statusOf, anchorSeen, linkSeen}
+use Rattle.model.proofs.machine.Machine.{Anchor, Link, code, isStable, same, sameLink, towards}
+use Rattle.model.proofs.bridge.View.{anchorSeen, linkSeen, statusOf}
 
 code-status : (n : ℕ) → n ≤ 2 → code (statusOf n) ≡ n
 code-status zero h = refl

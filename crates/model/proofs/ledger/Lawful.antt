@@ -1,16 +1,16 @@
 -- Calls that the clerk's book matches are lawful.
-use mathlib.Core.Path.{_≡_}
 use mathlib.Core.List.{List, [], _∷_}
-use Prim.Native.Nat.{ℕ, _≤_}
+use mathlib.Core.Path.{_≡_}
+use Prim.Native.Nat.{_≤_, ℕ}
 use native.Mathlib.Omega.{arith}
 use lib.ListN.{length}
+use Rattle.model.specs.History.{All, AtMostOnce, Call, Effect, Ending, Lawful, Ledger, answered, pending}
 use Rattle.model.specs.Tables.{Queue}
-use Rattle.model.specs.History.{Call, Ending, pending, answered, Effect, Ledger, Lawful, AtMostOnce, All}
-use Rattle.model.proofs.places.Fresh.{few-effects}
-use Rattle.model.proofs.ledger.Track.{Last, Tracked, Tracks}
-use Rattle.model.proofs.ledger.Good.{Good}
+use Rattle.model.proofs.places.AtMostOnce.{few-effects}
+use Rattle.model.proofs.ledger.Matched.{Matched}
+use Rattle.model.proofs.ledger.Matches.{Last, Tracked, Tracks}
 
-module _ (n : ℕ) (q : Queue) (l : Ledger) (g : Good n q l) where
+module _ (n : ℕ) (q : Queue) (l : Ledger) (g : Matched n q l) where
   lawful : (c : Call) (e : Ending) → Tracked n (g .book .calls) c e → Lawful c e
   lawful c pending h = go (c .effects) (h .count) (h .last)
     where

@@ -1,24 +1,24 @@
 -- The tables that an opening leaves: nobody has called, nothing waits.
-use mathlib.Core.Path.{_≡_, refl, sym, subst, _∙_, ap}
-use mathlib.Core.Bool.{Bool, true, false}
+use mathlib.Core.Bool.{Bool, false, true}
 use mathlib.Core.List.{List, []}
-use Prim.Native.Nat.{ℕ, _+_, _*_, _/_, _%_, _^_, _≤_, _<_}
+use mathlib.Core.Path.{_∙_, _≡_, ap, refl, subst, sym}
+use Prim.Native.Nat.{_%_, _*_, _+_, _/_, _<_, _^_, _≤_, ℕ}
 use native.Mathlib.Omega.{arith}
 use lib.Dec.{ltb}
-use lib.ListN.{getD, replicate, drop, length-replicate, getD-replicate, List·getD-append}
+use lib.ListN.{List·getD-append, drop, getD, getD-replicate, length-replicate, replicate}
 use borrow.Author.Tests.{ltb-true}
-use Rattle.word.specs.Anchor.{packAnchor, emptyAnchor}
+use Rattle.word.specs.Anchor.{emptyAnchor, packAnchor}
 use Rattle.word.specs.Link.{linkOf, spareOf}
-use Rattle.model.specs.declared.Record.{Record}
-use Rattle.model.specs.Tables.{Queue, idle, recordAt, zeroed}
 use Rattle.model.specs.Calls.{opened}
 use Rattle.model.specs.History.{Ledger}
-use Rattle.model.proofs.machine.Machine as M
-use Rattle.model.proofs.machine.Clerk as B
+use Rattle.model.specs.Tables.{Queue, idle, recordAt, zeroed}
+use Rattle.model.specs.declared.Record.{Record}
 use Rattle.model.proofs.tests.Truth.{by-test}
-use Rattle.model.proofs.places.Fresh.{fresh}
-use Rattle.model.proofs.bridge.View.{placeOf, statusOf, anchorSeen, recOf, linkAt, view, stateOf}
-use Rattle.model.proofs.ledger.Good.{busyNo, Good}
+use Rattle.model.proofs.machine.Clerk as B
+use Rattle.model.proofs.machine.Machine as M
+use Rattle.model.proofs.places.Opening.{fresh}
+use Rattle.model.proofs.bridge.View.{anchorSeen, linkAt, placeOf, recOf, stateOf, statusOf, view}
+use Rattle.model.proofs.ledger.Matched.{Matched, busyNo}
 
 abbrev pub nobody : Ledger
 nobody = record { deque = []; calls = [] }
@@ -54,7 +54,7 @@ module _ (q : Queue) (tasks slots tag : ℕ) where
   zero-links P p false x h = subst P (sym (zeroed-at (slots + 1) 0 (q .tables .lefts) x (omega arith))) p
   zero-links P p true x h = subst P (sym (zeroed-at (slots + 1) 0 (q .tables .rights) x (omega arith))) p
 
-  pub open-good : Good 1 o nobody
+  pub open-good : Matched 1 o nobody
   unfolding opened stateOf view
   open-good = record {
     book = B.noBook;

@@ -1,29 +1,35 @@
 -- The labels waiting are the deque: the walk along the links meets the queue's slots, each once.
-use mathlib.Core.Path.{_≡_, refl, sym, subst, subst₂, _∙_, ap}
-use mathlib.Core.Bool.{Bool, true, false, not, cond}
-use mathlib.Core.Logic.{_≢_}
+use mathlib.Core.Bool.{Bool, cond, false, not, true}
 use mathlib.Core.List.{List, [], _∷_, reverse}
-use Prim.Native.Nat.{ℕ, zero, suc, _≤_}
+use mathlib.Core.Logic.{_≢_}
+use mathlib.Core.Path.{_∙_, _≡_, ap, refl, subst, subst₂, sym}
+use Prim.Native.Nat.{_≤_, suc, zero, ℕ}
 use native.Mathlib.Omega.{arith}
 use lib.Dec.{eqb}
-use lib.ListN.{getD, length, length-reverse, length-map}
-use borrow.Author.Tests.{eq-eqb, ne-eqb, eqb-true, eqb-false, le-leb}
+use lib.ListN.{getD, length, length-map, length-reverse}
+use borrow.Author.Tests.{eq-eqb, eqb-false, eqb-true, le-leb, ne-eqb}
 use Rattle.word.specs.Anchor.{anchorOf}
 use Rattle.word.specs.Link.{linkOf}
-use Rattle.model.specs.declared.Entry.{Entry}
-use Rattle.model.specs.Tables.{Tables, opposite, isEmpty, near, far}
+use Rattle.model.specs.History.{All}
+use Rattle.model.specs.Report.{Walk, along, andThen, broken, contents, entries, walkFrom}
 use Rattle.model.specs.Sound.{from1}
-use Rattle.model.specs.Report.{Walk, entries, broken, andThen, walkFrom, along, contents}
-use Rattle.model.proofs.lists.Deque.{seen, front, From, Chain, All, Distinct}
-use Rattle.model.proofs.machine.Machine.{Status, stable, pushing, Anchor, Link, tip}
-use Rattle.model.proofs.machine.Clerk.{whence}
-use Rattle.model.proofs.lists.Chain.{all-map, all-seen, chain-map, distinct-seen, far-cons, all-far, seen-seen, from-next}
-use Rattle.model.proofs.tests.Truth.{by-test, split, and-true, and-of, not-both}
-use Rattle.model.proofs.invariant.Shape.{Joint, Rough, Linked, turn, near as near-end, far as far-end, nothing}
-use Rattle.model.proofs.invariant.Tasks.{Owner, queued, slots, Whole}
-use Rattle.model.proofs.places.Good.{map-seen, slots-nil, queued-free}
+use Rattle.model.specs.Tables.{Tables, far, isEmpty, near, opposite}
+use Rattle.model.specs.declared.Entry.{Entry}
+use Rattle.model.proofs.tests.Truth.{and-of, and-true, by-test, not-both, split}
+use Rattle.model.proofs.lists.All.{all-far, all-map, all-seen}
+use Rattle.model.proofs.lists.Chain.{chain-map, distinct-seen, from-next}
+use Rattle.model.proofs.lists.Deque.{Chain, Distinct, From, front, seen}
+use Rattle.model.proofs.lists.Ends.{far-cons, seen-seen}
 use Rattle.model.proofs.lists.Pigeonhole.{pigeon}
-use Rattle.model.proofs.bridge.View.{statusOf, anchorSeen, linkAt, view}
+use Rattle.model.proofs.lists.Slots.{map-seen, slots, slots-nil}
+use Rattle.model.proofs.machine.Clerk.{whence}
+use Rattle.model.proofs.machine.Machine.{Anchor, Link, Status, pushing, stable, tip}
+use Rattle.model.proofs.invariant.Owners.{Owner, Whole, queued}
+use Rattle.model.proofs.invariant.Shape.{Joint, Linked, Rough}
+use Rattle.model.proofs.chain.Ends.{no-entry}
+use Rattle.model.proofs.chain.Sides.{far as far-end, near as near-end, turn}
+use Rattle.model.proofs.places.Owned.{queued-free}
+use Rattle.model.proofs.bridge.View.{anchorSeen, linkAt, statusOf, view}
 
 abbrev Real : Tables → Entry → Type 0
 Real q e = (e .slot ≢ 0) × (e .slot ≤ q .control .slots)
@@ -123,7 +129,7 @@ module _ (q : Tables) (h : ℕ → Owner) (l : List Entry) (w : Whole (view q) h
   -- Null ends: the queue is empty, and then both are null.
   no-left : eqb (A .left) 0 ≡ true → slots l ≡ []
   unfolding view
-  no-left e = nothing (view q .link) A (slots l) (w .shape) (eqb-true (A .left) 0 e)
+  no-left e = no-entry (view q .link) A (slots l) (w .shape) (eqb-true (A .left) 0 e)
 
   some-left : isEmpty (anchorOf (q .control .anchor)) ≡ false → eqb (A .left) 0 ≡ false
   unfolding view

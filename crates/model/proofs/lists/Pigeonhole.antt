@@ -1,16 +1,17 @@
 -- A list of different numbers from 1 to n has at most n entries.
-use mathlib.Core.Path.{sym, _∙_}
 use mathlib.Core.Bool.{cond}
-use mathlib.Core.Logic.{_≢_}
 use mathlib.Core.List.{List, [], _∷_}
-use Prim.Native.Nat.{ℕ, zero, suc, _≤_}
+use mathlib.Core.Logic.{_≢_}
+use mathlib.Core.Path.{_∙_, sym}
+use Prim.Native.Nat.{_≤_, suc, zero, ℕ}
 use native.Mathlib.Omega.{arith}
 use lib.Dec.{eqb}
 use lib.ListN.{length}
-use borrow.Author.Tests.{eqb-true, eqb-false}
-use Rattle.model.proofs.lists.Deque.{All, Distinct}
-use Rattle.model.proofs.lists.Chain.{all-map, all-both}
+use borrow.Author.Tests.{eqb-false, eqb-true}
+use Rattle.model.specs.History.{All}
 use Rattle.model.proofs.tests.Truth.{by-test}
+use Rattle.model.proofs.lists.All.{all-both, all-map}
+use Rattle.model.proofs.lists.Deque.{Distinct}
 
 remove : ℕ → List ℕ → List ℕ
 remove v [] = []

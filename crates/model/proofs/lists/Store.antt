@@ -1,7 +1,7 @@
 -- Stores in lists.
-use mathlib.Core.Path.{_≡_, refl, ap}
 use mathlib.Core.List.{List, [], _∷_}
-use Prim.Native.Nat.{ℕ, zero, suc}
+use mathlib.Core.Path.{_≡_, ap, refl}
+use Prim.Native.Nat.{suc, zero, ℕ}
 use lib.ListN.{getD, set}
 
 -- An element put back where it lay, within the list or past its end.

@@ -1,12 +1,12 @@
--- The clerk: calls, their effects, and the queue that they come to.
-use mathlib.Core.Path.{_≡_}
-use mathlib.Core.Bool.{Bool, true, false, not, cond, _&&_, _||_}
+-- The clerk of the decoded machine: he keeps a deque, serves a call at each of its effects, and notes how many there were.
+use mathlib.Core.Bool.{Bool, _&&_, _||_, cond, false, not, true}
 use mathlib.Core.List.{List, [], _∷_}
-use Prim.Native.Nat.{ℕ, suc}
+use mathlib.Core.Path.{_≡_}
+use Prim.Native.Nat.{suc, ℕ}
 use lib.Dec.{eqb}
-pub use Rattle.model.specs.declared.Entry.{Entry}
-use Rattle.model.proofs.lists.Deque.{seen, put, took}
-use Rattle.model.proofs.machine.Machine.{Anchor, Answer, running, pushed, empty, popped, Kind, push, pop, State, upd, Status, stable, pushing}
+use Rattle.model.specs.declared.Entry.{Entry}
+use Rattle.model.proofs.lists.Deque.{put, seen, took}
+use Rattle.model.proofs.machine.Machine.{Anchor, Answer, Kind, State, Status, empty, pop, popped, push, pushed, pushing, running, stable, upd}
 
 -- a call: what its start named, the number of its effects so far, and what the clerk answered last
 pub record Call : Type 0 where

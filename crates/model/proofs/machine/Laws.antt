@@ -1,12 +1,12 @@
--- Stores in the decoded tables, and comparisons of Anchors and links.
-use mathlib.Core.Path.{_≡_, refl}
-use mathlib.Core.Bool.{Bool, true, false, not}
+-- Stores in the decoded tables, comparisons of Anchors and links, and the ends of a changed Anchor.
+use mathlib.Core.Bool.{Bool, false, not, true}
 use mathlib.Core.Logic.{_≢_}
-use Prim.Native.Nat.{ℕ}
+use mathlib.Core.Path.{_≡_, refl}
+use Prim.Native.Nat.{suc, ℕ}
 use native.Mathlib.Omega.{arith}
-use borrow.Author.Tests.{eqb-true, eq-eqb, ne-eqb}
+use borrow.Author.Tests.{eq-eqb, eqb-true, ne-eqb}
 use Rattle.model.proofs.tests.Truth.{and-true}
-use Rattle.model.proofs.machine.Machine.{Status, stable, pushing, code, Anchor, Link, same, sameLink, upd, relink}
+use Rattle.model.proofs.machine.Machine.{Anchor, Link, Status, aimed, code, pushing, relink, same, sameLink, stable, tip, towards, upd}
 
 pub upd-same : {A : Type 0} (f : ℕ → A) (x : ℕ) (v : A) → upd f x v x ≡ v
 unfolding upd
@@ -63,3 +63,33 @@ sameLink-true a b e =
     let p = eqb-true _ _ (e1 .0) in
     let q = eqb-true _ _ (e1 .1) in
     λ i. record { tag = p i; slot = q i }
+
+pub aimed-near : (a : Anchor) (d : Bool) (x : ℕ) (st : Status) → tip (aimed a d x st) d ≡ x
+aimed-near a false x st = refl
+aimed-near a true x st = refl
+
+pub aimed-far : (a : Anchor) (d : Bool) (x : ℕ) (st : Status) → tip (aimed a d x st) (not d) ≡ tip a (not d)
+aimed-far a false x st = refl
+aimed-far a true x st = refl
+
+pub aimed-status : (a : Anchor) (d : Bool) (x : ℕ) (st : Status) → aimed a d x st .status ≡ st
+aimed-status a false x st = refl
+aimed-status a true x st = refl
+
+pub alike : (a : Anchor) (d : Bool) {x : ℕ} → tip a d ≡ x → tip a (not d) ≡ x → a .left ≡ a .right
+alike a false p r = cc
+alike a true p r = cc
+
+pub aimed-tag : (a : Anchor) (d : Bool) (x : ℕ) (st : Status) → aimed a d x st .tag ≡ suc (a .tag)
+aimed-tag a false x st = refl
+aimed-tag a true x st = refl
+
+pub aimed-way : (a : Anchor) (d : Bool) (x : ℕ) → aimed a d x (pushing d) .status ≡ pushing (towards (aimed a d x (pushing d) .status))
+aimed-way a false x = refl
+aimed-way a true x = refl
+
+pub same-side : {d e : Bool} → pushing d ≡ pushing e → d ≡ e
+same-side p = cc
+
+pub stable-pushing : {e : Bool} → stable ≡ pushing e → ⊥
+stable-pushing p = let z : _≡_ {A = ℕ} 0 1 = cc in omega arith

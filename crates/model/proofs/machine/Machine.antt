@@ -1,6 +1,7 @@
--- The machine of document 003, figures 3 to 5, over decoded words. Tables are functions here.
-use mathlib.Core.Bool.{Bool, true, false, not, cond, _&&_}
-use Prim.Native.Nat.{ℕ, suc}
+-- The machine of document 003, figures 3 to 5, over decoded words: places, kinds and statuses are data, tables are functions.
+-- A place does one touch of what the tasks share. Side true is right.
+use mathlib.Core.Bool.{Bool, _&&_, cond, false, not, true}
+use Prim.Native.Nat.{suc, ℕ}
 use lib.Dec.{eqb}
 
 pub data Status : Type 0 where

@@ -1,17 +1,16 @@
 -- Lists of tests and of rules: all tests hold, no rule applies.
-use mathlib.Core.Path.{_≡_, refl, sym, _∙_, ap}
-use mathlib.Core.Bool.{Bool, true, false, not, cond, _&&_}
+use mathlib.Core.Bool.{Bool, _&&_, cond, false, not, true}
 use mathlib.Core.List.{List, [], _∷_}
+use mathlib.Core.Path.{_∙_, _≡_, ap, refl, sym}
 use lib.Dec.{eqb}
 use borrow.Author.Tests.{eqb-false, not-true}
-use Rattle.model.specs.Sound.{every}
-use Rattle.model.specs.Refusals.{Rule, first}
 use Rattle.model.specs.History.{All}
+use Rattle.model.specs.Refusals.{Rule, first}
+use Rattle.model.specs.Sound.{every}
 use Rattle.model.proofs.tests.Truth.{and-true}
 
 -- One fact after another: the facts of a list, which end with tt.
 infixr 4 _and_
-
 pub _and_ : {A B : Type 0} → A → B → A × B
 a and b = (a, b)
 

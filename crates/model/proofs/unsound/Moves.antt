@@ -1,18 +1,18 @@
 -- A move keeps a record within its meaning, and a new Anchor has one of the three statuses.
-use mathlib.Core.Path.{_≡_, refl, sym, subst, _∙_}
 use mathlib.Core.Bool.{true}
 use mathlib.Core.Logic.{_≢_}
-use Prim.Native.Nat.{ℕ, _+_, _*_, _/_, _%_, _≤_}
+use mathlib.Core.Path.{_∙_, _≡_, refl, subst, sym}
+use Prim.Native.Nat.{_%_, _*_, _+_, _/_, _≤_, ℕ}
 use native.Mathlib.Omega.{arith}
 use lib.Dec.{eqb, leb}
 use borrow.Author.Tests.{leb-true}
 use Rattle.word.specs.Anchor.{anchorOf, packAnchor}
 use Rattle.word.specs.Link.{linkOf, spareOf}
+use Rattle.model.specs.Places.{Move, Touch, at1, at10, at11, at2, at3, at4, at5, at6, at7, at9, clearMark, move, new4, nothing, setAnchor, setLink, sideOf, withLink, withNeighbour, withSeen}
+use Rattle.model.specs.Refusals.{leavesSound}
+use Rattle.model.specs.Route.{goes}
 use Rattle.model.specs.declared.Control.{Control}
 use Rattle.model.specs.declared.Record.{Record}
-use Rattle.model.specs.Places.{sideOf, withSeen, withNeighbour, withLink, Touch, nothing, setAnchor, setLink, clearMark, Move, new4, move, at1, at2, at3, at4, at5, at6, at7, at9, at10, at11}
-use Rattle.model.specs.Route.{goes}
-use Rattle.model.specs.Refusals.{leavesSound}
 use Rattle.model.proofs.tests.Truth.{by-test}
 use Rattle.model.proofs.bridge.Facts.{AnchorFine, RecordFine, anchor-fine}
 

@@ -1,16 +1,15 @@
 -- What holds between two operations besides the invariant, so that no test of soundness ever fails.
-use mathlib.Core.Path.{_≡_}
 use mathlib.Core.Bool.{true}
 use mathlib.Core.Logic.{_≢_}
-use Prim.Native.Nat.{ℕ, _+_, _≤_, _<_}
-use Rattle.model.specs.Tables.{Queue, recordAt}
+use mathlib.Core.Path.{_≡_}
+use Prim.Native.Nat.{_+_, _<_, _≤_, ℕ}
 use Rattle.model.specs.Sound.{controlSound}
-use Rattle.model.proofs.bridge.View.{view, stateOf}
+use Rattle.model.specs.Tables.{Queue, recordAt}
+use Rattle.model.proofs.invariant.Fields.{Extra}
+use Rattle.model.proofs.invariant.Tags.{Tags, cost, weight}
 use Rattle.model.proofs.bridge.Facts.{RecordFine}
-use Rattle.model.proofs.unsound.Totals.{total, cost}
-use Rattle.model.proofs.unsound.Tags.{weight}
-use Rattle.model.proofs.unsound.LinkTags.{Tags}
-use Rattle.model.proofs.unsound.Extra.{Extra}
+use Rattle.model.proofs.bridge.View.{stateOf, view}
+use Rattle.model.proofs.tags.Sum.{total}
 
 pub record Safe (q : Queue) : Type 0 where
   -- control and Anchor are sound
