@@ -4,10 +4,9 @@ use mathlib.Core.Logic.{_≢_}
 use mathlib.Core.Path.{_≡_, refl}
 use Prim.Native.Nat.{_<_, _≤_, ℕ}
 use lib.ListN.{length}
-use borrow.Author.Tests.{eqb-false, eqb-true, leb-true, ltb-false, ltb-true, not-false}
-use Rattle.word.specs.Anchor.{anchorOf}
+use borrow.Author.Tests.{eqb-false, eqb-true, leb-true, ltb-true, not-false}
 use Rattle.model.specs.Places.{linkMet}
-use Rattle.model.specs.Refusals.{among, popRefusal, popRules, pushRefusal, pushRules, stepRefusal, stepRules, stepSound, stepTests}
+use Rattle.model.specs.Refusals.{among, late, popRefusal, popRules, pushRefusal, pushRules, stepRefusal, stepRules, stepSound, stepTests}
 use Rattle.model.specs.Sound.{rowsFit}
 use Rattle.model.specs.Tables.{Queue, marked, recordAt}
 use Rattle.model.proofs.tests.Rules.{cleared, tests}
@@ -35,7 +34,7 @@ module _ (q : Queue) (t : ℕ) where
     pub lies : Lies
     pub side : d ≤ 1
     pub free : recordAt q t .place ≡ 0
-    pub early : anchorOf (q .tables .control .anchor) .tag ≤ 4294967262
+    pub early : late (q .tables) ≡ false
 
   pub record Pushing (side slot : ℕ) : Type 0 where
     pub starting : Starting side
@@ -58,7 +57,7 @@ module _ (q : Queue) (t : ℕ) where
           lies = lies (not-false _ (z .1 .0)) (not-false _ (z .1 .1 .0));
           side = leb-true _ _ (not-false _ (z .1 .1 .1 .0));
           free = eqb-true _ _ (not-false _ (z .1 .1 .1 .1 .1 .1 .0));
-          early = ltb-false _ _ (z .1 .1 .1 .1 .1 .1 .1 .1 .0);
+          early = z .1 .1 .1 .1 .1 .1 .1 .1 .0;
         };
         real = s .0;
         within = s .1;
@@ -73,7 +72,7 @@ module _ (q : Queue) (t : ℕ) where
         lies = lies (not-false _ (z .1 .0)) (not-false _ (z .1 .1 .0));
         side = leb-true _ _ (not-false _ (z .1 .1 .1 .0));
         free = eqb-true _ _ (not-false _ (z .1 .1 .1 .1 .1 .0));
-        early = ltb-false _ _ (z .1 .1 .1 .1 .1 .1 .0);
+        early = z .1 .1 .1 .1 .1 .1 .0;
       }
 
   pub step-accepted : stepRefusal (q .tables) (among q t) (recordAt q t) ≡ 0 → Stepping

@@ -18,7 +18,7 @@ use Rattle.model.proofs.machine.Machine as M
 use Rattle.model.proofs.machine.Machine.{upd}
 use Rattle.model.proofs.bridge.View.{anchorSeen, answerSeen}
 use Rattle.model.proofs.ledger.Matches.{Final, Last, Matches, Tracked, Tracks, apart, opens, rest-keeps, same-answer}
-use Rattle.model.proofs.ledger.Served.{agrees, step-call}
+use Rattle.model.proofs.ledger.Served.{step-call}
 
 -- what the book holds after a step of task t
 abbrev pub bookAfter : B.Book → ℕ → Event → Answer → B.Book

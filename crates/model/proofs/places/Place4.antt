@@ -8,7 +8,7 @@ use Rattle.model.specs.declared.Entry.{Entry}
 use Rattle.model.proofs.tests.Truth.{by-test}
 use Rattle.model.proofs.lists.Deque.{put, took}
 use Rattle.model.proofs.lists.Slots.{slots}
-use Rattle.model.proofs.machine.Clerk.{Call, effect, told}
+use Rattle.model.proofs.machine.Clerk.{Call, effect}
 use Rattle.model.proofs.machine.Laws.{aimed-tag, aimed-way, same-true}
 use Rattle.model.proofs.machine.Machine.{Anchor, Kind, Rec, Shared, aimed, at11, at4, finishes, four, goes, inner, pop, push, pushing, putAnchor, running, runs, same, stable, tip}
 use Rattle.model.proofs.invariant.Owners.{Owner, Whole}

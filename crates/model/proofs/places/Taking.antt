@@ -13,7 +13,7 @@ use Rattle.model.proofs.lists.Deque.{Distinct, front, put, rest, seen, 
 use Rattle.model.proofs.lists.Slots.{map-seen, slots, slots-put, slots-took}
 use Rattle.model.proofs.machine.Clerk.{Call, effect, given, told}
 use Rattle.model.proofs.machine.Laws.{stable-pushing, upd-other, upd-same}
-use Rattle.model.proofs.machine.Machine.{Anchor, Move, Rec, Shared, apply, at1, at11, goes, holds, none, pop, popped, push, pushed, pushing, putAnchor, running, runs, stable, tip, upd, withAnchor}
+use Rattle.model.proofs.machine.Machine.{Anchor, Move, Rec, Shared, apply, at1, at11, goes, none, pop, popped, push, pushed, pushing, putAnchor, running, runs, stable, tip, upd, withAnchor}
 use Rattle.model.proofs.invariant.Owners.{Owner, Whole, held, queued}
 use Rattle.model.proofs.invariant.Rely.{Rely}
 use Rattle.model.proofs.invariant.Shape.{Made, Shape}

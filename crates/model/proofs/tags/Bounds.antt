@@ -11,7 +11,6 @@ use Rattle.model.specs.Tables.{Tables}
 use Rattle.model.specs.declared.Record.{Record}
 use Rattle.model.proofs.tests.ByPlace.{by-place}
 use Rattle.model.proofs.tests.Truth.{by-test}
-use Rattle.model.proofs.lists.Deque.{seen}
 use Rattle.model.proofs.machine.Laws.{aimed-tag, relink-same}
 use Rattle.model.proofs.machine.Machine as M
 use Rattle.model.proofs.invariant.Tags.{Tags, cost, weight}

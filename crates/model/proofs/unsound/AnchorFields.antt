@@ -16,7 +16,7 @@ use Rattle.model.proofs.machine.Machine as M
 use Rattle.model.proofs.machine.Machine.{Shared, tip}
 use Rattle.model.proofs.invariant.Owners.{Owner, Whole, queued}
 use Rattle.model.proofs.invariant.Shape.{Shape}
-use Rattle.model.proofs.chain.Ends.{alike-stable, both-null, single}
+use Rattle.model.proofs.chain.Ends.{alike-stable, both-null}
 use Rattle.model.proofs.places.Owned.{queued-free}
 use Rattle.model.proofs.bridge.Facts.{AnchorFine}
 use Rattle.model.proofs.bridge.View.{anchorSeen, statusOf, touchSeen, view}

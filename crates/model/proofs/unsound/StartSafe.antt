@@ -1,4 +1,5 @@
 -- A start leaves everything as sound as it was: its tag limit pays for the changes that the new call owes.
+use mathlib.Core.Bool.{false}
 use mathlib.Core.List.{List}
 use mathlib.Core.Logic.{_≢_, _⊎_, inl, inr}
 use mathlib.Core.Path.{_∙_, _≡_, ap, refl, subst, sym}
@@ -6,7 +7,9 @@ use Prim.Native.Nat.{_+_, _<_, _≤_, ℕ}
 use native.Mathlib.Omega.{arith}
 use lib.ListN.{getD, set}
 use lib.Seq.{getD-set-other, getD-set-same}
+use borrow.Author.Tests.{ltb-false}
 use Rattle.word.specs.Anchor.{anchorOf}
+use Rattle.model.specs.Refusals.{late}
 use Rattle.model.specs.Tables.{Queue, Tables, idle, recordAt, started}
 use Rattle.model.specs.declared.Record.{Record}
 use Rattle.model.proofs.tests.Truth.{decide-eq, not-both}
@@ -41,7 +44,7 @@ started-fine slots kind side x y hk hs pop push = record {
   seen = zero-anchor slots;
 }
 
-module _ (q : Queue) (f : Safe q) (t : ℕ) (z : Lies q t) (early : anchorOf (q .tables .control .anchor) .tag ≤ 4294967262) (labels marks : List ℕ) (kind side x y : ℕ)
+module _ (q : Queue) (f : Safe q) (t : ℕ) (z : Lies q t) (early : late (q .tables) ≡ false) (labels marks : List ℕ) (kind side x y : ℕ)
     (h : RecordFine (q .tables .control .slots) (started kind side x y)) where
   abbrev new : Record
   new = started kind side x y
@@ -78,7 +81,7 @@ module _ (q : Queue) (f : Safe q) (t : ℕ) (z : Lies q t) (early : anchorOf (q 
   bound′ : weight (view (q′ .tables)) + total (λ u. cost (stateOf q′ .task u)) (G .control .tasks) ≤ 4294967295
   unfolding view
   bound′ = subst (λ (k : ℕ → M.Rec). weight (view (q′ .tables)) + total (λ u. cost (k u)) (G .control .tasks) ≤ 4294967295) (sym tasks-are)
-      (start-bound (view G) (stateOf q .task) (G .control .tasks) t (z .known) (view (q′ .tables)) (recOf new) 4294967295 refl (omega (arith, control-fine (G .control) (f .control) .tasks, early)))
+      (start-bound (view G) (stateOf q .task) (G .control .tasks) t (z .known) (view (q′ .tables)) (recOf new) 4294967295 refl (let low = ltb-false _ (anchorOf (G .control .anchor) .tag) early in omega (arith, control-fine (G .control) (f .control) .tasks)))
 
   pub start-safe : Safe q′
   unfolding view
