@@ -174,9 +174,12 @@ abbrev pub two : Kind → Shared → Rec → Move
 two push s r = cond (same (r .read) (s .anchor)) (ends (putAnchor (both (r .read) (r .own))) pushed) (runs none (goes r at1))
 two pop s r = cond (same (r .read) (s .anchor)) (runs (putAnchor (both (r .read) 0)) (goes r at11)) (runs none (goes r at1))
 
+-- The link that a push writes in its own slot, its tag kept.
+abbrev pub ownLink : Shared → Rec → Link
+ownLink s r = record { tag = s .link (not (r .side)) (r .own) .tag; slot = tip (r .read) (r .side) }
+
 abbrev pub three : Kind → Shared → Rec → Move
-three push s r =
-    runs (putLink (not (r .side)) (r .own) (record { tag = s .link (not (r .side)) (r .own) .tag; slot = tip (r .read) (r .side) })) (goes r at4)
+three push s r = runs (putLink (not (r .side)) (r .own) (ownLink s r)) (goes r at4)
 three pop s r = runs none (finds r (inner s (r .side) (tip (r .read) (r .side))) at4)
 
 abbrev pub four : Kind → Shared → Rec → Move

@@ -27,13 +27,13 @@ module _ (t : ℕ) (s : Shared) (h : ℕ → Owner) (q : List Entry) (c : Call) 
           let e = way (r .read) in
           let st : s .anchor .status ≡ pushing e = ap (λ (b : Anchor). b .status) (sym p) ∙ w .0 .status in
           let made : Made (s .link) (s .anchor) e = subst (λ (b : Anchor). Made (s .link) b e) p (w .1 p) in
-          leaves t s h q c (putAnchor (settled (r .read))) r h (ap (λ (b : Anchor). b .left) (sym p)) (ap (λ (b : Anchor). b .right) (sym p))
+          leaves (putAnchor (settled (r .read))) r h (ap (λ (b : Anchor). b .left) (sym p)) (ap (λ (b : Anchor). b .right) (sym p))
           (record {
             shape = subst (λ (b : Anchor). Shape (s .link) (settled b) (slots q)) (sym p) (settled-shape (s .link) (s .anchor) (slots q) (all .shape) e st made);
             owned = all .owned;
             labels = all .labels;
             marks = all .marks;
           })
-          (rely-turn t s h q c (settled (r .read)) h (let g = ap (λ (b : Anchor). b .tag) p in omega arith)
+          (rely-turn (settled (r .read)) h (let g = ap (λ (b : Anchor). b .tag) p in omega arith)
           (λ e′ st′. subst (λ f. Made (s .link) (s .anchor) f) (same-side (sym st ∙ st′)) made) (λ u x n f. f))
           (w .0 .stage)

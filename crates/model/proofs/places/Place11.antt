@@ -22,7 +22,7 @@ module _ (t : ℕ) (s : Shared) (h : ℕ → Owner) (q : List Entry) (c : Call) 
   pub place11 : Task at11 s h t r c → Shown t s h q c (act at11 s r)
   place11 w =
       let x = tip (r .read) (r .side) in
-      plain t s h q c (ends (clear x) (popped x (s .label x))) (upd h x free) (no-effect (s .anchor) (s .anchor) (popped x (s .label x)) refl refl refl)
+      plain (ends (clear x) (popped x (s .label x))) (upd h x free) (no-effect (s .anchor) (s .anchor) (popped x (s .label x)) refl refl refl)
       (record {
         shape = all .shape;
         owned = all-map (λ y. h y ≡ queued) _ (λ y e. upd-other h x free y (λ z. queued-held (sym e ∙ ap h z ∙ w .holds)) ∙ e) (slots q) (all .owned);

@@ -12,7 +12,7 @@ use Rattle.model.proofs.lists.Slots.{slots}
 use Rattle.model.proofs.machine.Clerk.{Call}
 use Rattle.model.proofs.machine.Laws.{relink-other, relink-same}
 use Rattle.model.proofs.machine.LinkTags.{relink-keeps}
-use Rattle.model.proofs.machine.Machine.{Kind, Link, Rec, Shared, at3, at4, finds, goes, inner, pop, push, putLink, relink, running, runs, three, tip, withLink}
+use Rattle.model.proofs.machine.Machine.{Kind, Link, Rec, Shared, at3, inner, ownLink, pop, push, relink, running, three, tip, withLink}
 use Rattle.model.proofs.invariant.Owners.{Owner, Whole, held, queued}
 use Rattle.model.proofs.invariant.Rely.{Rely}
 use Rattle.model.proofs.invariant.Tasks.{Four, Own, Task}
@@ -58,12 +58,13 @@ module _ (t : ℕ) (s : Shared) (h : ℕ → Owner) (q : List Entry) (c : Call) 
   pub place3 : (k : Kind) → r .kind ≡ k → Task at3 s h t r c → Shown t s h q c (three k s r)
   place3 push k w =
       let o = subst (λ z. Own z (s .label) h t (r .own) (r .label)) k (w .0 .before .own) in
-      let v : Link = record { tag = s .link (not (r .side)) (r .own) .tag; slot = tip (r .read) (r .side) } in
-      plain t s h q c (runs (putLink (not (r .side)) (r .own) v) (goes r at4)) h (no-effect (s .anchor) (s .anchor) running refl refl refl)
-      (own-whole (r .own) (o .0, o .1) (not (r .side)) v refl) (own-rely (r .own) (o .0, o .1) (not (r .side)) v refl) (
+      let v = ownLink s r in
+      let kept : v .tag ≡ s .link (not (r .side)) (r .own) .tag = refl in
+      plain _ h (no-effect (s .anchor) (s .anchor) running refl refl refl)
+      (own-whole (r .own) (o .0, o .1) (not (r .side)) v kept) (own-rely (r .own) (o .0, o .1) (not (r .side)) v kept) (
         w .0,
         w .1,
         subst (λ z. Four z (withLink s (not (r .side)) (r .own) v) (r .side) (r .own) (r .read) (r .near)) (sym k)
             (ap (λ (w : Link). w .slot) (relink-same (s .link) (not (r .side)) (r .own) v)),
       )
-  place3 pop k w = still t s h q c (finds r (inner s (r .side) (tip (r .read) (r .side))) at4) all (w .0, w .1, subst (λ z. Four z s (r .side) (r .own) (r .read) (inner s (r .side) (tip (r .read) (r .side)))) (sym k) (λ e. refl))
+  place3 pop k w = still all (w .0, w .1, subst (λ z. Four z s (r .side) (r .own) (r .read) (inner s (r .side) (tip (r .read) (r .side)))) (sym k) (λ e. refl))

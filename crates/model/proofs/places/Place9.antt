@@ -75,6 +75,6 @@ module _ (t : ℕ) (s : Shared) (h : ℕ → Owner) (q : List Entry) (c : Call) 
           let n : x ≡ r .near = ap (λ (b : Anchor). inner s e (tip b e)) (sym p) ∙ l .near in
           let lt : s .link e x .tag < suc (r .link .tag) = subst (λ y. s .link e y .tag < suc (r .link .tag)) (sym n) (let f = ap (λ (w : Link). w .tag) z in omega arith) in
           subst (λ y. Shown t s h q c (runs (putLink e y v) (goes r at10))) n
-          (plain t s h q c (runs (putLink e x v) (goes r at10)) h (no-effect (s .anchor) (s .anchor) running refl refl refl)
+          (plain (runs (putLink e x v) (goes r at10)) h (no-effect (s .anchor) (s .anchor) running refl refl refl)
           (back-whole e st v names) (back-rely e st v names lt)
           (w .0, λ _. subst (λ (b : Anchor). Made (relink (s .link) e x v) b e) (sym p) (back-made e st v names)))

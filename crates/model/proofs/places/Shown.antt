@@ -28,7 +28,28 @@ pub record Shown (t : ℕ) (s : Shared) (h : ℕ → Owner) (q : List Entry) (c 
   pub rely : (u : ℕ) → u ≢ t → Rely u s h (apply s (m .touch)) owner
   pub finish : Finish (m .answer) (apply s (m .touch)) owner t (m .rec) (noted c q (s .anchor) (apply s (m .touch) .anchor) (m .answer) .call)
 
-module _ (t : ℕ) (s : Shared) (h : ℕ → Owner) (q : List Entry) (c : Call) where
+-- What is left to the others where nothing changes,
+pub rely-refl : {s : Shared} {h : ℕ → Owner} (u : ℕ) → Rely u s h s h
+rely-refl u =
+    record {
+      spared = λ x e. record { owner = e; label = refl; links = λ b. refl };
+      tags = λ e y. omega arith;
+      words = λ e y p. inl refl;
+      anchor = inl (record { kept = refl; inward = λ e f. refl; made = λ e st m. m });
+    }
+
+-- and where Anchor alone is changed.
+pub rely-turn : {t : ℕ} {s : Shared} {h : ℕ → Owner} (a : Anchor) (h′ : ℕ → Owner) → s .anchor .tag < a .tag → ((e : Bool) → s .anchor .status ≡ pushing e → Made (s .link) (s .anchor) e)
+    → ((u x : ℕ) → u ≢ t → h x ≡ held u → h′ x ≡ held u) → (u : ℕ) → u ≢ t → Rely u s h (withAnchor s a) h′
+rely-turn a h′ later closed kept u n =
+    record {
+      spared = λ x e. record { owner = kept u x n e; label = refl; links = λ b. refl };
+      tags = λ e y. omega arith;
+      words = λ e y p. inl refl;
+      anchor = inr (record { later = later; closed = closed });
+    }
+
+module _ {t : ℕ} {s : Shared} {h : ℕ → Owner} {q : List Entry} {c : Call} where
   -- a step with no effect
   pub plain : (m : Move) (h′ : ℕ → Owner) → effect (s .anchor) (apply s (m .touch) .anchor) (m .answer) ≡ false → Whole (apply s (m .touch)) h′ q
       → ((u : ℕ) → u ≢ t → Rely u s h (apply s (m .touch)) h′) → Finish (m .answer) (apply s (m .touch)) h′ t (m .rec) c → Shown t s h q c m
@@ -41,29 +62,9 @@ module _ (t : ℕ) (s : Shared) (h : ℕ → Owner) (q : List Entry) (c : Call) 
       → Whole (apply s (m .touch)) h′ q′ → ((u : ℕ) → u ≢ t → Rely u s h (apply s (m .touch)) h′) → Finish (m .answer) (apply s (m .touch)) h′ t (m .rec) c′ → Shown t s h q c m
   effective m h′ c′ q′ n w y f = record { owner = h′; whole = rw n w; rely = y; finish = rw n f }
 
-  pub rely-refl : (u : ℕ) → Rely u s h s h
-  rely-refl u =
-      record {
-        spared = λ x e. record { owner = e; label = refl; links = λ b. refl };
-        tags = λ e y. omega arith;
-        words = λ e y p. inl refl;
-        anchor = inl (record { kept = refl; inward = λ e f. refl; made = λ e st m. m });
-      }
-
-  -- Anchor alone is changed
-  pub rely-turn : (a : Anchor) (h′ : ℕ → Owner) → s .anchor .tag < a .tag → ((e : Bool) → s .anchor .status ≡ pushing e → Made (s .link) (s .anchor) e)
-      → ((u x : ℕ) → u ≢ t → h x ≡ held u → h′ x ≡ held u) → (u : ℕ) → u ≢ t → Rely u s h (withAnchor s a) h′
-  rely-turn a h′ later closed kept u n =
-      record {
-        spared = λ x e. record { owner = kept u x n e; label = refl; links = λ b. refl };
-        tags = λ e y. omega arith;
-        words = λ e y p. inl refl;
-        anchor = inr (record { later = later; closed = closed });
-      }
-
   -- the tables stay as they are
-  pub still : (r : Rec) → Whole s h q → Task (r .place) s h t r c → Shown t s h q c (runs none r)
-  still r w f = plain (runs none r) h (no-effect (s .anchor) (s .anchor) running refl refl refl) w (λ u n. rely-refl u) f
+  pub still : {r : Rec} → Whole s h q → Task (r .place) s h t r c → Shown t s h q c (runs none r)
+  still {r} w f = plain (runs none r) h (no-effect (s .anchor) (s .anchor) running refl refl refl) w (λ u n. rely-refl u) f
 
   pub leaves : (g : Touch) (r : Rec) (h′ : ℕ → Owner) → s .anchor .left ≡ apply s g .anchor .left → s .anchor .right ≡ apply s g .anchor .right → Whole (apply s g) h′ q
       → ((u : ℕ) → u ≢ t → Rely u s h (apply s g) h′) → Stage (r .finishing) (apply s g .label) h′ t (r .kind) (r .side) (r .own) (r .label) c → Shown t s h q c (leave g r)

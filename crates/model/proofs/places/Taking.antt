@@ -89,10 +89,10 @@ module _ (t : ℕ) (s : Shared) (h : ℕ → Owner) (q : List Entry) (c : Call) 
       → Finish (m .answer) (apply s (m .touch)) (upd h (r .own) queued) t (m .rec) (told c pushed) → Shown t s h q c m
   push-good m k b eff a ms lt st shape f =
       let o = subst (λ z. Own z (s .label) h t (r .own) (r .label)) k (b .own) in
-      effective t s h q c m (upd h (r .own) queued) (told c pushed) (put (r .side) (record { slot = r .own; label = r .label }) q)
+      effective m (upd h (r .own) queued) (told c pushed) (put (r .side) (record { slot = r .own; label = r .label }) q)
       (noted-push c (b .agrees) q (s .anchor) (apply s (m .touch) .anchor) (m .answer) eff k)
       (subst (λ z. Whole z (upd h (r .own) queued) (put (r .side) (record { slot = r .own; label = r .label }) q)) (sym ms) (pushed-whole a (r .side) (r .own) (r .label) o shape))
-      (λ u n. subst (λ z. Rely u s h z (upd h (r .own) queued)) (sym ms) (rely-turn t s h q c a (upd h (r .own) queued) lt (calm st)
+      (λ u n. subst (λ z. Rely u s h z (upd h (r .own) queued)) (sym ms) (rely-turn a (upd h (r .own) queued) lt (calm st)
       (λ u x n g. owner-kept h (r .own) queued t (inl (o .1)) u x n g) u n))
       f
 
@@ -104,11 +104,11 @@ module _ (t : ℕ) (s : Shared) (h : ℕ → Owner) (q : List Entry) (c : Call) 
       let y = tip (r .read) (r .side) in
       let e : y ≡ tip (s .anchor) (r .side) = ap (λ (z : Anchor). tip z (r .side)) p in
       let g = end-entry (r .side) y e (λ z. ne (sym e ∙ z)) in
-      effective t s h q c (runs (putAnchor a) (goes r at11)) (upd h y (held t)) (told c (given (seen (r .side) q))) (took (r .side) q)
+      effective (runs (putAnchor a) (goes r at11)) (upd h y (held t)) (told c (given (seen (r .side) q))) (took (r .side) q)
       (noted-pop c (b .agrees) q (s .anchor) a running eff k)
       (popped-whole a (r .side) y e (λ z. ne (sym e ∙ z)) shape)
-      (rely-turn t s h q c a (upd h y (held t)) lt (calm st) (λ u x n f. owner-kept h y (held t) t (inr (g .1)) u x n f))
+      (rely-turn a (upd h y (held t)) lt (calm st) (λ u x n f. owner-kept h y (held t) t (inr (g .1)) u x n f))
       (record { after = record { once = ap suc (b .none); told = g .0 }; holds = upd-same h y (held t) })
 
   pub back : Before (s .label) h t (r .kind) (r .side) (r .own) (r .label) c → r .finishing ≡ false → Shown t s h q c (runs none (goes r at1))
-  back b e = still t s h q c (goes r at1) all (e, b)
+  back b e = still all (e, b)
