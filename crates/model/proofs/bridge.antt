@@ -7,6 +7,7 @@ pub mod Trying
 pub mod Helping
 pub mod EveryPlace
 pub mod Stores
+pub mod ByMove
 pub mod Touches
 pub mod Room
 pub mod Accepted

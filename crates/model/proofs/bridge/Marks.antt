@@ -11,14 +11,14 @@ use lib.Pow.{field, high, low, mod-mod-pow, pow-pos, shr-shr}
 use lib.Seq.{getD-set-other, getD-set-same}
 use Rattle.model.specs.Tables.{bit, marked, putBit, withMark}
 
--- a bit below i is one of the i low bits
+-- A bit below i is one of the i low bits.
 low-bit : (x i k : ℕ) → k < i → bit (x % 2 ^ i) k ≡ bit x k
 low-bit x i k h =
     let e : i ≡ (i - k - 1) + 1 + k = omega arith in
     subst⁻¹ (λ (m : ℕ). bit (x % 2 ^ m) k ≡ bit x k) e
     (ap (λ (y : ℕ). y % 2) (field x ((i - k - 1) + 1) k) ∙ mod-mod-pow (x / 2 ^ k) (i - k - 1) 1)
 
--- a bit above i is one of the bits that are left after a shift by i + 1
+-- A bit above i is one of the bits that are left after a shift by i + 1.
 high-bit : (x i k : ℕ) → i < k → bit x k ≡ bit (x / 2 ^ i / 2) (k - i - 1)
 high-bit x i k h =
     let e : k ≡ i + 1 + (k - i - 1) = omega arith in

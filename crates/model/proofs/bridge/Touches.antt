@@ -6,10 +6,11 @@ use native.Mathlib.Omega.{arith}
 use lib.Dec.{eqb}
 use borrow.Author.Tests.{eqb-true}
 use Rattle.word.specs.Link.{linkOf, packLink}
-use Rattle.model.specs.Places.{Move, at1, at10, at11, at2, at3, at4, at5, at6, at7, at9, endSeen, linkSide, move, row, setLink, sideOf}
+use Rattle.model.specs.Places.{endSeen, linkSide, move, row, setLink, sideOf}
 use Rattle.model.specs.declared.Control.{Control}
 use Rattle.model.specs.declared.Record.{Record}
 use Rattle.model.proofs.tests.Truth.{and-true, by-test}
+use Rattle.model.proofs.bridge.ByMove.{by-move}
 use Rattle.model.proofs.bridge.Facts.{RecordFine}
 use Rattle.model.proofs.bridge.Stores.{TouchFine}
 
@@ -36,20 +37,5 @@ module _ (slots : ℕ) (r : Record) (h : RecordFine slots r) where
       let u : (t % 4294967296 * 4294967296 + n % 32768) / 4294967296 < 4294967296 = omega arith in
       (row-fine, p, o, u)
 
-  abbrev Fine : Move → Type 0
-  Fine m = TouchFine slots (m .touch)
-
-  pub move-fine : (c : Control) (w : ℕ) → Fine (move c r w)
-  unfolding move at1 at2 at3 at4 at5 at6 at7 at9 at10 at11
-  move-fine c w =
-      by-test Fine (eqb (r .place) 1) (λ e. tt)
-      (λ e. by-test Fine (eqb (r .place) 2) (λ e. by-test Fine (eqb (c .anchor) (r .seen)) (λ e. tt) (λ e. tt))
-      (λ e. by-test Fine (eqb (r .place) 3) (λ e. by-test Fine (eqb (r .kind) 0) (λ e. word-fine (linkOf w .tag)) (λ e. tt))
-      (λ e. by-test Fine (eqb (r .place) 4) (λ e. by-test Fine (eqb (c .anchor) (r .seen)) (λ e. tt) (λ e. tt))
-      (λ e. by-test Fine (eqb (r .place) 5) (λ e. tt)
-      (λ e. by-test Fine (eqb (r .place) 6) (λ e. tt)
-      (λ e. by-test Fine (eqb (r .place) 7) (λ e. tt)
-      (λ e. by-test Fine (eqb (r .place) 8) (λ e. tt)
-      (λ e. by-test Fine (eqb (r .place) 9) (λ e. by-test Fine (eqb w (r .link)) (λ e. word-fine (linkOf (r .link) .tag + 1)) (λ e. tt))
-      (λ e. by-test Fine (eqb (r .place) 10) (λ e. by-test Fine (eqb (c .anchor) (r .seen)) (λ e. tt) (λ e. tt))
-      (λ e. row-fine))))))))))
+  pub move-fine : (c : Control) (w : ℕ) → TouchFine slots (move c r w .touch)
+  move-fine c w = by-move c r w (λ t _. TouchFine slots t) tt tt tt tt tt tt tt tt (word-fine (linkOf w .tag)) (word-fine (linkOf (r .link) .tag + 1)) row-fine

@@ -15,7 +15,7 @@ use Rattle.model.proofs.chain.Ends.{no-entry, single, small}
 use Rattle.model.proofs.chain.Sides.{apart, chain, far, make, near, nonzero, under, unturn}
 
 module _ (k : Bool → ℕ → Link) (a : Anchor) (q : List ℕ) (s : Shape k a q) (d : Bool) where
-  -- place 4 of a push
+  -- Place 4 of a push.
   pub push-shape : (n : ℕ) → a .status ≡ stable → tip a d ≢ 0 → n ≢ 0 → All (λ y. y ≢ n) q → k (not d) n .slot ≡ tip a d
       → Shape k (aimed a d n (pushing d)) (put d n q)
   unfolding put
@@ -30,7 +30,7 @@ module _ (k : Bool → ℕ → Link) (a : Anchor) (q : List ℕ) (s : Shape k a 
           (rw e at (all-seen (λ y. y ≢ n) d q fresh), apart k a q s d (x ∷ l) e)
           (nz, nonzero k a q s d (x ∷ l) e))
 
-  -- place 4 of a pop
+  -- Place 4 of a pop.
   pub pop-shape : (n : ℕ) → a .status ≡ stable → a .left ≢ a .right → k (not d) (tip a d) .slot ≡ n → Shape k (aimed a d n (a .status)) (took d q)
   unfolding took
   pop-shape n st ne named = go (seen d q) refl
@@ -45,7 +45,7 @@ module _ (k : Bool → ℕ → Link) (a : Anchor) (q : List ℕ) (s : Shape k a 
           (apart k a q s d (x ∷ y ∷ l) e .1)
           (nonzero k a q s d (x ∷ y ∷ l) e .1))
 
-  -- the neighbour of an end is another slot
+  -- The neighbour of an end is another slot.
   pub inner-apart : a .status ≡ stable → a .left ≢ a .right → k (not d) (tip a d) .slot ≢ tip a d
   inner-apart st ne z = go (seen d q) refl
     where

@@ -31,7 +31,7 @@ module _ (k : Bool → ℕ → Link) (a : Anchor) (q : List ℕ) (s : Shape k a 
           let f = far k a q s false (x ∷ y ∷ l) e ∙ far-cons x y l 0 in
           absurd (all-far (λ z. z ≢ x) y l 0 (apart k a q s false (x ∷ y ∷ l) e .0) cc)
 
-  -- a queue of fewer than two is stable
+  -- A queue of fewer than two is stable.
   pub small : rest q ≡ [] → a .status ≡ stable
   small h = go (a .status) refl
     where

@@ -14,7 +14,7 @@ use Rattle.model.proofs.invariant.Shape.{Joint, Linked, Rough, Shape}
 use Rattle.model.proofs.chain.Sides.{apart, near, rough, under, unturn}
 
 module _ (k : Bool → ℕ → Link) (a : Anchor) (q : List ℕ) (s : Shape k a q) (d : Bool) where
-  -- place 9: the link back is made
+  -- Place 9: the link back is made.
   pub back-shape : (v : Link) → a .status ≡ pushing d → v .slot ≡ tip a d → Shape (relink k d (k (not d) (tip a d) .slot) v) a q
   back-shape v st names = record { linked = under k′ q st (go (seen d q) refl); tips = s .tips; distinct = s .distinct; real = s .real }
     where
@@ -34,7 +34,7 @@ module _ (k : Bool → ℕ → Link) (a : Anchor) (q : List ℕ) (s : Shape k a 
                 y l (apart k a q s d (x ∷ y ∷ l) e .1 .0) (r .1),
           )
 
-  -- place 10: with the link back the queue is stable
+  -- Place 10: with the link back the queue is stable.
   pub settled-shape : a .status ≡ pushing d → k d (k (not d) (tip a d) .slot) .slot ≡ tip a d → Shape k (settled a) q
   settled-shape st made = record { linked = unturn k d q (go (seen d q) refl); tips = elim [ false ↦ s .tips false | true ↦ s .tips true ]; distinct = s .distinct; real = s .real }
     where
@@ -47,7 +47,7 @@ module _ (k : Bool → ℕ → Link) (a : Anchor) (q : List ℕ) (s : Shape k a 
           let n = near k a q s d (x ∷ y ∷ l) e in
           rw e ((r .0, cc), r .1)
 
-  -- a link of a slot that is not in the queue
+  -- A link of a slot that is not in the queue.
   pub frame-shape : (k′ : Bool → ℕ → Link) → All (λ y. (e : Bool) → k′ e y ≡ k e y) q → Shape k′ a q
   frame-shape k′ f = record { linked = go (a .status) (s .linked); tips = s .tips; distinct = s .distinct; real = s .real }
     where
@@ -63,7 +63,7 @@ module _ (k : Bool → ℕ → Link) (a : Anchor) (q : List ℕ) (s : Shape k a 
       go stable c = chain-map (Joint k false) (Joint k′ false) _ (joint false) q f c
       go (pushing e) c = rough′ e (seen e q) (all-seen _ e q f) c
 
-  -- the neighbour of the end, while the status names side d
+  -- The neighbour of the end, while the status names side d.
   pub inner-in : (P : ℕ → Type 0) → a .status ≡ pushing d → All P q → P (k (not d) (tip a d) .slot)
   inner-in P st m = go (seen d q) refl
     where

@@ -20,11 +20,11 @@ pub unturn : (k : Bool → ℕ → Link) (d : Bool) (q : List ℕ) → Chain (Jo
 unturn k false q c = c
 unturn k true q c = rw reverse-reverse at (chain-reverse (Joint k true) (Joint k false) (λ a b p. (p .1, p .0)) (reverse q) c)
 
--- (`rw st` would also rewrite the Anchor that st is a field of)
+-- (`rw st` would also rewrite the Anchor that st is a field of.)
 pub under : (k : Bool → ℕ → Link) (q : List ℕ) {st st′ : Status} → st ≡ st′ → Linked k st′ q → Linked k st q
 under k q e h = rw e h
 
--- a shape is made from the list as it is seen from a side
+-- A shape is made from the list as it is seen from a side.
 pub make : (k : Bool → ℕ → Link) (a : Anchor) (d : Bool) (l : List ℕ) → Linked k (a .status) (seen d l)
     → tip a d ≡ front l 0 → tip a (not d) ≡ front (reverse l) 0 → Distinct l → All (λ x. x ≢ 0) l → Shape k a (seen d l)
 make k a false l c h g u v = record { linked = c; tips = elim [ false ↦ h | true ↦ g ]; distinct = u; real = v }
@@ -32,7 +32,7 @@ make k a true l c h g u v =
     record { linked = c; tips = elim [ false ↦ g | true ↦ rw reverse-reverse h ]; distinct = distinct-seen true l u; real = all-seen (λ x. x ≢ 0) true l v }
 
 module _ (k : Bool → ℕ → Link) (a : Anchor) (q : List ℕ) (s : Shape k a q) (d : Bool) where
-  -- the same facts from side d
+  -- The same facts from side d.
   pub near : (l : List ℕ) → seen d q ≡ l → tip a d ≡ front l 0
   near l e = rw e at (s .tips d)
 

@@ -9,7 +9,7 @@ pub record Inv (p : Both) : Type 0 where
   pub owner : ℕ → Owner
   -- The queue is linked as the clerk's deque says,
   pub whole : Whole (p .state .shared) owner (p .book .queue)
-  -- every task is where its place says,
+  -- Every task is where its place says,
   pub tasks : (t : ℕ) → Task (p .state .task t .place) (p .state .shared) owner t (p .state .task t) (p .book .calls t)
-  -- and every call that was answered had one effect, with the clerk's reply for an answer.
+  -- And every call that was answered had one effect, with the clerk's reply for an answer.
   pub kept : All Kept (p .book .closed)

@@ -20,7 +20,7 @@ use Rattle.model.proofs.bridge.View.{anchorSeen, answerSeen}
 use Rattle.model.proofs.ledger.Matches.{Final, Last, Matches, Tracked, Tracks, apart, opens, rest-keeps, same-answer}
 use Rattle.model.proofs.ledger.Served.{step-call}
 
--- what the book holds after a step of task t
+-- What the book holds after a step of task t.
 abbrev pub bookAfter : B.Book → ℕ → Event → Answer → B.Book
 bookAfter b t ev a = B.stepped b t (B.noted (b .calls t) (b .queue) (anchorSeen (ev .before)) (anchorSeen (ev .after)) (answerSeen a)) (answerSeen a)
 
@@ -33,7 +33,7 @@ goingOn Pushed = 0
 goingOn Empty = 0
 goingOn (Popped e) = 0
 
--- a call that its one effect closes
+-- A call that its one effect closes.
 once : (n : ℕ) (c : Call) (k : B.Call) (a : Answer) → Matches (suc n) c k → B.Kept (record { call = k; answer = answerSeen a }) → Once c n a
 once n c k a m o = go (c .effects) refl (m .count) (m .last)
   where
@@ -42,7 +42,7 @@ once n c k a m o = go (c .effects) refl (m .count) (m .last)
     go (x ∷ []) e g h = record { effect = x; only = e; begun = h .begun; within = omega (arith, h .past); agrees = same-answer (x .reply) a (h .final) (o .agrees ∙ h .told) }
     go (x ∷ y ∷ l) e g h = absurd (omega (arith, o .once))
 
--- the call of a step, in the book after it
+-- The call of a step, in the book after it.
 closes : (n : ℕ) (b : B.Book) (t : ℕ) (ev : Event) (a : Answer) (c : Call) (e : Ending) → c .task ≡ t → e ≡ ended n a
     → let w = B.noted (b .calls t) (b .queue) (anchorSeen (ev .before)) (anchorSeen (ev .after)) (answerSeen a) in
     Matches (suc n) c (w .call) → KeptHead n b (w .call) a → Tracked (suc n) (bookAfter b t ev a .calls) c e
@@ -92,7 +92,7 @@ module _ (n : ℕ) (b : B.Book) (ev : Event) (a : Answer) (o : KeptHead n b (B.n
   abbrev t : ℕ
   t = ev .task
 
-  -- the open call of the task comes first
+  -- The open call of the task comes first.
   here : (c : Call) (cs : List Call) → c .task ≡ t → c .ending ≡ pending → opens t cs ≡ 0 → Matches n c (b .calls (c .task)) → Tracks n (b .calls) cs
       → Attended n b t ev a (c ∷ cs) (stepOf n ev a (b .queue) c cs)
   here c cs z g f m r =

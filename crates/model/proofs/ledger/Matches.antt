@@ -15,7 +15,7 @@ use Rattle.model.proofs.tests.Truth.{not-both}
 use Rattle.model.proofs.machine.Clerk as B
 use Rattle.model.proofs.bridge.View.{answerSeen, kindOf}
 
--- an answer that ends a call
+-- An answer that ends a call.
 abbrev pub Final : Answer → Type 0
 Final (Running p) = ⊥
 Final Pushed = Unit {0}
@@ -38,7 +38,7 @@ same-answer (Popped c) Empty f e = absurd (let z : _≡_ {A = ℕ} 0 1 = cc in o
 same-answer (Popped c) (Popped d) f e =
     let p : c .slot ≡ d .slot = cc in let r : c .label ≡ d .label = cc in λ i. Popped (record { slot = p i; label = r i })
 
--- the latest effect
+-- The latest effect.
 pub record Latest (n : ℕ) (c : Call) (k : B.Call) (e : Effect) : Type 0 where
   pub told : k .told ≡ answerSeen (e .reply)
   pub final : Final (e .reply)
@@ -49,7 +49,7 @@ abbrev pub Last : ℕ → Call → B.Call → List Effect → Type 0
 Last n c k [] = Unit {0}
 Last n c k (e ∷ l) = Latest n c k e
 
--- an open call, before position n, and the one in the book
+-- An open call, before position n, and the one in the book.
 pub record Matches (n : ℕ) (c : Call) (k : B.Call) : Type 0 where
   pub kind : k .kind ≡ kindOf (c .kind)
   pub side : k .side ≡ eqb (c .side) 1
@@ -86,7 +86,7 @@ tracks-mono n f (c ∷ cs) h = (go (c .ending) (h .0), tracks-mono n f cs (h .1)
     go (answered m a) o = o
 
 module _ (n : ℕ) (f g : ℕ → B.Call) (t : ℕ) (same : (u : ℕ) → u ≢ t → g u ≡ f u) where
-  -- a call that is not the open one of the task
+  -- A call that is not the open one of the task.
   pub apart : (c : Call) (e : Ending) → eqb (c .task) t && isOpen e ≡ false → Tracked n f c e → Tracked (suc n) g c e
   apart c pending z h = subst (Matches (suc n) c) (sym (same (c .task) (λ p. not-both (ap (λ (b : Bool). b && true) (eq-eqb _ _ p)) z))) (matches-mono n c (f (c .task)) h)
   apart c (answered m a) z h = h

@@ -45,7 +45,7 @@ serve-is c k side slot label d true = record { deque = λ i. put (side i) (recor
 serve-is c k side slot label d false =
     subst (λ (b : Bool). Agrees c k d (servePop (c .side) d) (record { call = B.told k (B.given (seen b d)); queue = took b d })) (sym side) (serve-pop c k d (c .side) (seen (eqb (c .side) 1) d) refl)
 
--- the call after the step
+-- The call after the step.
 pub record Stepped (n : ℕ) (a : Answer) (c : Call) (cs : List Call) (w : B.Noted) (l : Ledger) : Type 0 where
   pub call : Call
   pub calls : l .calls ≡ call ∷ cs

@@ -41,7 +41,7 @@ module _ (q : Tables) (side : ℕ) (b : Bool) (hb : eqb side 1 ≡ b) where
   abbrev next : ℕ → ℕ
   next x = linkOf (linkAt q b x) .slot
 
-  -- from the near entry to the far one
+  -- From the near entry to the far one.
   along-is : (e : Entry) (l : List Entry) (n : ℕ) → From (λ x y. next x ≡ y) (e .slot) (slots l) → Distinct (slots (e ∷ l))
       → All (λ (z : Entry). getD (q .labels) (z .slot) 0 ≡ z .label) (e ∷ l) → All (Real q) (e ∷ l) → length (e ∷ l) ≤ n
       → along q side (front (reverse (slots (e ∷ l))) 0) n (e .slot) ≡ entries (e ∷ l)
@@ -67,7 +67,7 @@ trivial : (l : List ℕ) → All (λ x. Unit {0}) l
 trivial [] = tt
 trivial (x ∷ l) = (tt, trivial l)
 
--- the inward links from the side that the walk begins at
+-- The inward links from the side that the walk begins at.
 inward : (k : Bool → ℕ → Link) (st : Status) (q : List ℕ) → Linked k st q → Chain (λ x y. k (not (whence st)) x .slot ≡ y) (seen (whence st) q)
 inward k stable q c = chain-map (Joint k true) _ (λ x. Unit {0}) (λ a b m n j. j .0) (reverse q) (trivial (reverse q)) (turn k true q c)
 inward k (pushing d) q c = go (seen d q) c

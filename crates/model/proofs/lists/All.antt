@@ -33,7 +33,7 @@ module _ {A : Type 0} where
   front-append P [] x z c h = h
   front-append P (y ∷ p) x z c h = c .0
 
-  -- what holds of all entries holds of the far end
+  -- What holds of all entries holds of the far end.
   pub all-far : (P : A → Type 0) (y : A) (q : List A) (z : A) → All P (y ∷ q) → P (front (reverse (y ∷ q)) z)
   all-far P y q z c = rw reverse-cons (front-append P (reverse q) y z (all-reverse P q (c .1)) (c .0))
 

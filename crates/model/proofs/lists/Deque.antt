@@ -23,7 +23,7 @@ abbrev pub front : {A : Type 0} → List A → A → A
 front [] z = z
 front (x ∷ q) z = x
 
--- P holds of each entry and the one after it
+-- P holds of each entry and the one after it.
 abbrev pub From : {A : Type 0} → (A → A → Type 0) → A → List A → Type 0
 From P x [] = Unit {0}
 From P x (y ∷ q) = P x y × From P y q

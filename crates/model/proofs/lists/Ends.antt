@@ -13,7 +13,7 @@ module _ {A : Type 0} where
   seen-not false q = refl
   seen-not true q = sym (reverse-reverse q)
 
-  -- the other end, seen from a side
+  -- The other end, seen from a side.
   front-snoc : (p : List A) (x y z : A) → front (p ++ (x ∷ []) ++ (y ∷ [])) z ≡ front (p ++ (x ∷ [])) z
   front-snoc [] x y z = refl
   front-snoc (w ∷ p) x y z = refl

@@ -41,7 +41,7 @@ none : (l : List ℕ) → All (λ x. x ≢ 0) l → All (λ x. x ≤ 0) l → le
 none [] v w = omega arith
 none (x ∷ l) v w = absurd (v .0 (omega (arith, w .0)))
 
--- (the list is no pattern here, so that the call below may have another one)
+-- (the list is no pattern here, so that the call below may have another one.)
 pub pigeon : (n : ℕ) (l : List ℕ) → Distinct l → All (λ x. x ≢ 0) l → All (λ x. x ≤ n) l → length l ≤ n
 pigeon zero l u v w = none l v w
 pigeon (suc n) l u v w =

@@ -11,7 +11,7 @@ EndsAt pushed b = b ≡ true
 EndsAt empty b = b ≡ true
 EndsAt (popped x l) b = b ≡ true
 
--- (a record, so that the Move can be read off where a test is split)
+-- (A record, so that the Move can be read off where a test is split.)
 pub record Ends (m : Move) : Type 0 where
   pub ends : EndsAt (m .answer) (isIdle (m .rec .place))
 

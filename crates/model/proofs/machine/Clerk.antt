@@ -8,7 +8,7 @@ use Rattle.model.specs.declared.Entry.{Entry}
 use Rattle.model.proofs.lists.Deque.{put, seen, took}
 use Rattle.model.proofs.machine.Machine.{Anchor, Answer, Kind, State, Status, empty, pop, popped, push, pushed, pushing, running, stable, upd}
 
--- a call: what its start named, the number of its effects so far, and what the clerk answered last
+-- A call: what its start named, the number of its effects so far, and what the clerk answered last.
 pub record Call : Type 0 where
   pub kind : Kind
   pub side : Bool
@@ -43,7 +43,7 @@ abbrev pub given : List Entry → Answer
 given [] = empty
 given (e ∷ q) = popped (e .slot) (e .label)
 
--- the sequential clerk serves one call
+-- The sequential clerk serves one call.
 abbrev pub served : Kind → Call → List Entry → Noted
 served push c q = record { call = told c pushed; queue = put (c .side) (record { slot = c .slot; label = c .label }) q }
 served pop c q = record { call = told c (given (seen (c .side) q)); queue = took (c .side) q }
@@ -54,7 +54,7 @@ isEmpty pushed = false
 isEmpty empty = true
 isEmpty (popped x l) = false
 
--- an effect is seen from Anchor's ends and the answer
+-- An effect is seen from Anchor's ends and the answer.
 abbrev pub effect : Anchor → Anchor → Answer → Bool
 effect a b w = not (eqb (a .left) (b .left) && eqb (a .right) (b .right)) || isEmpty w
 
@@ -67,7 +67,7 @@ stays b t n = record { queue = n .queue; calls = upd (b .calls) t (n .call); clo
 abbrev pub closes : Book → ℕ → Noted → Answer → Book
 closes b t n w = record { queue = n .queue; calls = upd (b .calls) t noCall; closed = record { call = n .call; answer = w } ∷ b .closed }
 
--- one start or step in the book: the operation, its answer, and Anchor before and after
+-- One start or step in the book: the operation, its answer, and Anchor before and after.
 abbrev pub stepped : Book → ℕ → Noted → Answer → Book
 stepped b t n running = stays b t n
 stepped b t n pushed = closes b t n pushed
@@ -77,17 +77,17 @@ stepped b t n (popped x l) = closes b t n (popped x l)
 abbrev pub begun : Book → ℕ → Call → Book
 begun b t c = record { queue = b .queue; calls = upd (b .calls) t c; closed = b .closed }
 
--- the machine and the book side by side
+-- The machine and the book side by side.
 pub record Both : Type 0 where
   pub state : State
   pub book : Book
 
--- the side to walk from: the right one, or the left one under LPUSH
+-- The side to walk from: the right one, or the left one under LPUSH.
 abbrev pub whence : Status → Bool
 whence stable = true
 whence (pushing d) = d
 
--- what is promised of the book
+-- What is promised of the book.
 pub record Kept (c : Closed) : Type 0 where
   pub once : c .call .effects ≡ 1
   pub agrees : c .answer ≡ c .call .told

@@ -8,7 +8,7 @@ use Rattle.model.proofs.tests.Truth.{decide-eq}
 use Rattle.model.proofs.machine.Laws.{relink-across, relink-other, relink-same}
 use Rattle.model.proofs.machine.Machine.{Link, relink}
 
--- the tags of a link table after a store
+-- The tags of a link table after a store.
 pub relink-keeps : (k : Bool → ℕ → Link) (d : Bool) (x : ℕ) (v : Link) → v .tag ≡ k d x .tag → (e : Bool) (y : ℕ) → relink k d x v e y .tag ≡ k e y .tag
 relink-keeps k d x v g e y = go (decide-eq y x)
   where

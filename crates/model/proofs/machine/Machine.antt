@@ -13,7 +13,7 @@ code stable = 0
 code (pushing true) = 1
 code (pushing false) = 2
 
--- the side that a status names
+-- The side that a status names.
 abbrev pub towards : Status → Bool
 towards stable = false
 towards (pushing d) = d
@@ -32,7 +32,7 @@ abbrev pub tip : Anchor → Bool → ℕ
 tip a false = a .left
 tip a true = a .right
 
--- the Anchor with its tag raised, a status, and one end set
+-- The Anchor with its tag raised, a status, and one end set.
 abbrev pub aimed : Anchor → Bool → ℕ → Status → Anchor
 aimed a false x st = record { tag = suc (a .tag); status = st; left = x; right = a .right }
 aimed a true x st = record { tag = suc (a .tag); status = st; left = a .left; right = x }
@@ -59,7 +59,7 @@ pub data Place : Type 0 where
 pub data Kind : Type 0 where
   push pop : Kind
 
--- a task's record
+-- A task's record.
 pub record Rec : Type 0 where
   pub place : Place
   pub kind : Kind
@@ -98,7 +98,7 @@ holds r w p = record { place = p; kind = r .kind; side = r .side; own = r .own; 
 abbrev pub finishes : Rec → Anchor → Rec
 finishes r a = record { place = at5; kind = r .kind; side = r .side; own = r .own; label = r .label; read = a; near = r .near; link = r .link; finishing = true }
 
--- what the tasks share
+-- What the tasks share.
 pub record Shared : Type 0 where
   pub slots : ℕ
   pub anchor : Anchor
@@ -131,7 +131,7 @@ pub data Answer : Type 0 where
   running pushed empty : Answer
   popped : ℕ → ℕ → Answer
 
--- the one shared word that a step may change
+-- The one shared word that a step may change.
 pub data Touch : Type 0 where
   none : Touch
   putAnchor : Anchor → Touch
@@ -144,7 +144,7 @@ apply s (putAnchor a) = withAnchor s a
 apply s (putLink d x v) = withLink s d x v
 apply s (clear x) = withMark s x false
 
--- one step of a task with a record: what it changes, the record then, and the answer
+-- One step of a task with a record: what it changes, the record then, and the answer.
 pub record Move : Type 0 where
   pub touch : Touch
   pub rec : Rec
@@ -159,10 +159,11 @@ ends w a = record { touch = w; rec = blank; answer = a }
 abbrev pub leave : Touch → Rec → Move
 leave w r = cond (r .finishing) (ends w pushed) (runs w (goes r at1))
 
--- the inward neighbour of a slot on a side
+-- The inward neighbour of a slot on a side.
 abbrev pub inner : Shared → Bool → ℕ → ℕ
 inner s d x = s .link (not d) x .slot
 
+-- 1: read Anchor; a pop tests l = r before the status.
 abbrev pub one : Kind → Shared → Rec → Move
 one push s r = cond (eqb (s .anchor .left) 0) (runs none (reads r (s .anchor) at2))
     (cond (isStable (s .anchor .status)) (runs none (reads r (s .anchor) at3)) (runs none (reads r (s .anchor) at5)))
@@ -170,6 +171,7 @@ one pop s r = cond (eqb (s .anchor .left) 0) (ends none empty)
     (cond (eqb (s .anchor .left) (s .anchor .right)) (runs none (reads r (s .anchor) at2))
     (cond (isStable (s .anchor .status)) (runs none (reads r (s .anchor) at3)) (runs none (reads r (s .anchor) at5))))
 
+-- 2: the first entry put, the only one taken.
 abbrev pub two : Kind → Shared → Rec → Move
 two push s r = cond (same (r .read) (s .anchor)) (ends (putAnchor (both (r .read) (r .own))) pushed) (runs none (goes r at1))
 two pop s r = cond (same (r .read) (s .anchor)) (runs (putAnchor (both (r .read) 0)) (goes r at11)) (runs none (goes r at1))
@@ -178,23 +180,28 @@ two pop s r = cond (same (r .read) (s .anchor)) (runs (putAnchor (both (r .read)
 abbrev pub ownLink : Shared → Rec → Link
 ownLink s r = record { tag = s .link (not (r .side)) (r .own) .tag; slot = tip (r .read) (r .side) }
 
+-- 3: a push writes its own link, a pop reads its neighbour.
 abbrev pub three : Kind → Shared → Rec → Move
 three push s r = runs (putLink (not (r .side)) (r .own) (ownLink s r)) (goes r at4)
 three pop s r = runs none (finds r (inner s (r .side) (tip (r .read) (r .side))) at4)
 
+-- 4: an end put or taken.
 abbrev pub four : Kind → Shared → Rec → Move
 four push s r = let a = aimed (r .read) (r .side) (r .own) (pushing (r .side)) in
     cond (same (r .read) (s .anchor)) (runs (putAnchor a) (finishes r a)) (runs none (goes r at1))
 four pop s r =
     cond (same (r .read) (s .anchor)) (runs (putAnchor (aimed (r .read) (r .side) (r .near) (r .read .status))) (goes r at11)) (runs none (goes r at1))
 
+-- 9: the link back, as read, is changed to name the end.
 abbrev pub nine : Shared → Rec → Bool → Move
 nine s r e = cond (sameLink (r .link) (s .link e (r .near)))
     (runs (putLink e (r .near) (record { tag = suc (r .link .tag); slot = tip (r .read) e })) (goes r at10)) (leave none r)
 
+-- 11: the label of the end taken; its mark is cleared.
 abbrev pub eleven : Shared → Rec → Move
 eleven s r = let x = tip (r .read) (r .side) in ends (clear x) (popped x (s .label x))
 
+-- A step of a record at its place. At 5 to 10 the side is the one that the status as read names.
 abbrev pub act : Place → Shared → Rec → Move
 act idle s r = runs none r
 act at1 s r = one (r .kind) s r
@@ -210,7 +217,7 @@ act at9 s r = nine s r (towards (r .read .status))
 act at10 s r = cond (same (r .read) (s .anchor)) (leave (putAnchor (settled (r .read))) r) (leave none r)
 act at11 s r = eleven s r
 
--- the whole machine
+-- The whole machine.
 pub record State : Type 0 where
   pub shared : Shared
   pub task : ℕ → Rec

@@ -10,7 +10,7 @@ use Rattle.model.proofs.invariant.Owners.{free}
 use Rattle.model.proofs.invariant.Tasks.{Task}
 use Rattle.model.proofs.chain.Sides.{under}
 
--- no entry, no call, an empty Anchor: whatever the links, the labels and the marks are
+-- No entry, no call, an empty Anchor: whatever the links, the labels and the marks are.
 pub fresh : (s : Shared) (f : ℕ → Rec) → s .anchor .status ≡ stable → s .anchor .left ≡ 0 → s .anchor .right ≡ 0 → ((t : ℕ) → f t .place ≡ idle)
     → Inv (record { state = record { shared = s; task = f }; book = noBook })
 fresh s f st l r i = record {

@@ -28,7 +28,7 @@ module _ (u : ℕ) (s : Shared) (h : ℕ → Owner) (s′ : Shared) (h′ : ℕ 
   keep-stage true k d x l c b = b
 
   module _ (a : Anchor) where
-    -- an Anchor that is read and stands now stood before, and nothing happened to it
+    -- An Anchor that is read and stands now stood before, and nothing happened to it.
     quiet : Read (s .anchor) a → a ≡ s′ .anchor → (a ≡ s .anchor) × Quiet s s′
     quiet v e = go (y .anchor)
       where
@@ -50,7 +50,7 @@ module _ (u : ℕ) (s : Shared) (h : ℕ → Owner) (s′ : Shared) (h′ : ℕ 
     keep-helps : {f : Bool} {k : Kind} {d : Bool} {x l : ℕ} {c : Call} → Helps (s .label) (s .anchor) h u f k d x l a c → Helps (s′ .label) (s′ .anchor) h′ u f k d x l a c
     keep-helps {f} {k} {d} {x} {l} {c} w = record { stage = keep-stage f k d x l c (w .stage); read = keep-read (w .read); status = w .status }
 
-    -- the inward link of an end that Anchor's status does not turn away from
+    -- The inward link of an end that Anchor's status does not turn away from.
     inward : Quiet s s′ → (e : Bool) → a ≡ s .anchor → Faces (a .status) e → inner s′ e (tip a e) ≡ inner s e (tip a e)
     inward q e p f =
         ap (λ (w : Link). w .slot) (subst (λ (b : Anchor). Faces (b .status) e → s′ .link (not e) (tip b e) ≡ s .link (not e) (tip b e)) (sym p) (q .inward e) f)
@@ -94,7 +94,7 @@ module _ (u : ℕ) (s : Shared) (h : ℕ → Owner) (s′ : Shared) (h′ : ℕ 
               fresh = λ e. let p = quiet v e .0 in keep-fresh (near-queued p st (z .near p)) (z .fresh p);
             }
 
-        -- once Anchor has changed the link back was made, so the link as read is no longer there
+        -- Once Anchor has changed the link back was made, so the link as read is no longer there.
         outrun : Turned s s′ → Other a w → Live s a n w → a .status ≡ pushing (way a) → Grown s′ a n w
         outrun z o v st = go (v .fresh)
           where

@@ -8,7 +8,6 @@ use Rattle.model.proofs.machine.Laws.{upd-other}
 use Rattle.model.proofs.machine.Machine.{upd}
 use Rattle.model.proofs.invariant.Owners.{Owner, free, held, queued}
 
--- owners
 pub held-inj : {t u : ℕ} → held t ≡ held u → t ≡ u
 held-inj e = cc
 
@@ -22,7 +21,7 @@ pub queued-free : queued ≡ free → ⊥
 queued-free e = let z : _≡_ {A = ℕ} 0 1 = cc in omega arith
 
 module _ (h : ℕ → Owner) (x : ℕ) (o : Owner) where
-  -- a new owner of a slot that no other task has
+  -- A new owner of a slot that no other task has.
   pub owner-kept : (t : ℕ) → (h x ≡ held t) ⊎ (h x ≡ queued) → (u y : ℕ) → u ≢ t → h y ≡ held u → upd h x o y ≡ held u
   owner-kept t (inl e) u y n p = upd-other h x o y (λ z. n (held-inj (sym p ∙ ap h z ∙ e))) ∙ p
   owner-kept t (inr e) u y n p = upd-other h x o y (λ z. queued-held (sym e ∙ sym (ap h z) ∙ p)) ∙ p

@@ -18,7 +18,7 @@ use Rattle.model.proofs.chain.Ends.{no-entry}
 use Rattle.model.proofs.places.Effects.{empty-effect, noted-pop}
 use Rattle.model.proofs.places.Shown.{Shown, effective, read-now, rely-refl, still}
 
--- a status that is not stable
+-- A status that is not stable.
 unstable : (st : Status) → isStable st ≡ false → st ≡ pushing (towards st)
 unstable stable e = cc
 unstable (pushing d) e = refl
@@ -31,7 +31,6 @@ module _ (t : ℕ) (s : Shared) (h : ℕ → Owner) (q : List Entry) (c : Call) 
   none-left : s .anchor .left ≡ 0 → q ≡ []
   none-left e = slots-nil q (no-entry (s .link) (s .anchor) (slots q) (all .shape) e)
 
-  -- place 1
   tries-now : r .finishing ≡ false → Before (s .label) h t (r .kind) (r .side) (r .own) (r .label) c
       → Tries (s .label) (s .anchor) h t (r .finishing) (r .kind) (r .side) (r .own) (r .label) (s .anchor) c
   tries-now e b = record { early = e; before = b; read = read-now (s .anchor) }

@@ -22,7 +22,6 @@ use Rattle.model.proofs.places.Owned.{held-inj, queued-held}
 use Rattle.model.proofs.places.Shown.{Shown, plain, still}
 
 module _ (t : ℕ) (s : Shared) (h : ℕ → Owner) (q : List Entry) (c : Call) (all : Whole s h q) (r : Rec) where
-  -- place 3
   module _ (x : ℕ) (o : (x ≢ 0) × (h x ≡ held t)) (d : Bool) (v : Link) (g : v .tag ≡ s .link d x .tag) where
     not-own : (y : ℕ) → h y ≡ queued → y ≢ x
     not-own y e z = queued-held (sym e ∙ ap h z ∙ o .1)

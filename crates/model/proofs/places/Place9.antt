@@ -23,7 +23,6 @@ use Rattle.model.proofs.places.Places5to8.{away}
 use Rattle.model.proofs.places.Shown.{Shown, plain}
 
 module _ (t : ℕ) (s : Shared) (h : ℕ → Owner) (q : List Entry) (c : Call) (all : Whole s h q) (r : Rec) where
-  -- place 9
   module _ (e : Bool) (st : s .anchor .status ≡ pushing e) (v : Link) (names : v .slot ≡ tip (s .anchor) e) where
     abbrev back-at : ℕ
     back-at = s .link (not e) (tip (s .anchor) e) .slot

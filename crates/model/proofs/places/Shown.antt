@@ -15,7 +15,7 @@ use Rattle.model.proofs.invariant.Shape.{Made}
 use Rattle.model.proofs.invariant.Tasks.{Read, Stage, Task}
 use Rattle.model.proofs.places.Effects.{no-effect, noted-false}
 
--- the record and the call after an answer
+-- The record and the call after an answer.
 abbrev pub Finish : Answer → Shared → (ℕ → Owner) → ℕ → Rec → Call → Type 0
 Finish running s h t r c = Task (r .place) s h t r c
 Finish pushed s h t r c = (r ≡ blank) × Kept (record { call = c; answer = pushed })
@@ -38,7 +38,7 @@ rely-refl u =
       anchor = inl (record { kept = refl; inward = λ e f. refl; made = λ e st m. m });
     }
 
--- and where Anchor alone is changed.
+-- And where Anchor alone is changed.
 pub rely-turn : {t : ℕ} {s : Shared} {h : ℕ → Owner} (a : Anchor) (h′ : ℕ → Owner) → s .anchor .tag < a .tag → ((e : Bool) → s .anchor .status ≡ pushing e → Made (s .link) (s .anchor) e)
     → ((u x : ℕ) → u ≢ t → h x ≡ held u → h′ x ≡ held u) → (u : ℕ) → u ≢ t → Rely u s h (withAnchor s a) h′
 rely-turn a h′ later closed kept u n =
@@ -50,19 +50,19 @@ rely-turn a h′ later closed kept u n =
     }
 
 module _ {t : ℕ} {s : Shared} {h : ℕ → Owner} {q : List Entry} {c : Call} where
-  -- a step with no effect
+  -- A step with no effect.
   pub plain : (m : Move) (h′ : ℕ → Owner) → effect (s .anchor) (apply s (m .touch) .anchor) (m .answer) ≡ false → Whole (apply s (m .touch)) h′ q
       → ((u : ℕ) → u ≢ t → Rely u s h (apply s (m .touch)) h′) → Finish (m .answer) (apply s (m .touch)) h′ t (m .rec) c → Shown t s h q c m
   plain m h′ e w y f =
       let n = noted-false c q (s .anchor) (apply s (m .touch) .anchor) (m .answer) e in
       record { owner = h′; whole = rw n w; rely = y; finish = rw n f }
 
-  -- a step with its effect
+  -- A step with its effect.
   pub effective : (m : Move) (h′ : ℕ → Owner) (c′ : Call) (q′ : List Entry) → noted c q (s .anchor) (apply s (m .touch) .anchor) (m .answer) ≡ record { call = c′; queue = q′ }
       → Whole (apply s (m .touch)) h′ q′ → ((u : ℕ) → u ≢ t → Rely u s h (apply s (m .touch)) h′) → Finish (m .answer) (apply s (m .touch)) h′ t (m .rec) c′ → Shown t s h q c m
   effective m h′ c′ q′ n w y f = record { owner = h′; whole = rw n w; rely = y; finish = rw n f }
 
-  -- the tables stay as they are
+  -- The tables stay as they are.
   pub still : {r : Rec} → Whole s h q → Task (r .place) s h t r c → Shown t s h q c (runs none r)
   still {r} w f = plain (runs none r) h (no-effect (s .anchor) (s .anchor) running refl refl refl) w (λ u n. rely-refl u) f
 

@@ -18,7 +18,7 @@ use Rattle.model.proofs.places.Owned.{held-free, queued-free}
 use Rattle.model.proofs.places.Step.{others, tasks-upd}
 
 module _ (p : Both) (i : Inv p) where
-  -- an accepted start of a pop
+  -- An accepted start of a pop.
   pub pop-inv : (t : ℕ) (d : Bool)
       → Inv (record { state = moved (p .state) t (p .state .shared) (started pop d 0 0); book = begun (p .book) t (opened pop d 0 0) })
   pop-inv t d =
@@ -30,7 +30,7 @@ module _ (p : Both) (i : Inv p) where
             (refl, record { agrees = record { kind = refl; side = refl; slot = refl; label = refl }; none = refl; own = tt });
       }
 
-  -- an accepted start of a push
+  -- An accepted start of a push.
   module _ (t : ℕ) (d : Bool) (x l : ℕ) (nz : x ≢ 0) (low : x ≤ p .state .shared .slots) (clear : p .state .shared .mark x ≡ false) where
     abbrev s : Shared
     s = p .state .shared

@@ -24,7 +24,7 @@ use Rattle.model.proofs.places.Place9.{place9}
 use Rattle.model.proofs.places.Places5to8.{place5, place6, place7, place8}
 use Rattle.model.proofs.places.Shown.{Finish, Shown}
 
--- one step, by places
+-- One step, by places.
 places : (t : ℕ) (s : Shared) (h : ℕ → Owner) (q : List Entry) (c : Call) → Whole s h q → (r : Rec) (p : Place) → isIdle p ≡ false → Task p s h t r c → Shown t s h q c (act p s r)
 places t s h q c all r idle i w = absurd (not-both refl i)
 places t s h q c all r at1 i w = place1 t s h q c all r (r .kind) refl w
@@ -39,7 +39,7 @@ places t s h q c all r at9 i w = place9 t s h q c all r w
 places t s h q c all r at10 i w = place10 t s h q c all r w
 places t s h q c all r at11 i w = place11 t s h q c all r w
 
--- one record and one call are replaced, and the others keep what they have
+-- One record and one call are replaced, and the others keep what they have.
 pub tasks-upd : (s : Shared) (h : ℕ → Owner) (f : ℕ → Rec) (g : ℕ → Call) (t : ℕ) (r : Rec) (c : Call)
     → ((u : ℕ) → u ≢ t → Task (f u .place) s h u (f u) (g u)) → Task (r .place) s h t r c
     → (u : ℕ) → Task (upd f t r u .place) s h u (upd f t r u) (upd g t c u)
@@ -55,7 +55,7 @@ module _ (p : Both) (i : Inv p) where
       → (u : ℕ) → u ≢ t → Task (p .state .task u .place) s h u (p .state .task u) (p .book .calls u)
   others t s h y u n = keep u (p .state .shared) (i .owner) s h (y u n) (p .book .queue) (i .whole) (p .state .task u .place) (p .state .task u) (p .book .calls u) (i .tasks u)
 
-  -- an accepted step
+  -- An accepted step.
   absorb : (t : ℕ) (s : Shared) (r : Rec) (h : ℕ → Owner) (n : Noted) (w : Answer) → Whole s h (n .queue) → ((u : ℕ) → u ≢ t → Rely u (p .state .shared) (i .owner) s h)
       → Finish w s h t r (n .call) → Inv (record { state = record { shared = s; task = upd (p .state .task) t r }; book = stepped (p .book) t n w })
   absorb t s r h n running a y f =

@@ -29,7 +29,7 @@ module _ (t : ℕ) (s : Shared) (h : ℕ → Owner) (q : List Entry) (c : Call) 
   calm : s .anchor .status ≡ stable → (e : Bool) → s .anchor .status ≡ pushing e → Made (s .link) (s .anchor) e
   calm st e g = absurd (stable-pushing (sym st ∙ g))
 
-  -- the slot of a push is not in the queue
+  -- The slot of a push is not in the queue.
   pub not-in : {x : ℕ} → h x ≡ held t → All (λ y. y ≢ x) (slots q)
   not-in e = all-map (λ y. h y ≡ queued) (λ y. y ≢ _) (λ y g z. queued-held (sym g ∙ ap h z ∙ e)) (slots q) (all .owned)
 
@@ -50,7 +50,7 @@ module _ (t : ℕ) (s : Shared) (h : ℕ → Owner) (q : List Entry) (c : Call) 
         marks = owner-marks h x queued _ (λ f. held-free (sym (o .1) ∙ f)) (all .marks);
       }
 
-  -- the entry at an end
+  -- The entry at an end.
   pub end-entry : (d : Bool) (y : ℕ) → y ≡ tip (s .anchor) d → y ≢ 0 → (given (seen d q) ≡ popped y (s .label y)) × (h y ≡ queued)
   end-entry d y e n = go (seen d q) refl
     where
@@ -83,7 +83,7 @@ module _ (t : ℕ) (s : Shared) (h : ℕ → Owner) (q : List Entry) (c : Call) 
       apart [] p u = tt
       apart (x ∷ l) p u = all-map (λ z. z ≢ x) (λ z. z ≢ y) (λ z f g. f (g ∙ p)) l (u .0)
 
-  -- a push has its effect
+  -- A push has its effect.
   pub push-good : (m : Move) → r .kind ≡ push → Before (s .label) h t (r .kind) (r .side) (r .own) (r .label) c → effect (s .anchor) (apply s (m .touch) .anchor) (m .answer) ≡ true
       → (a : Anchor) → apply s (m .touch) ≡ withAnchor s a → s .anchor .tag < a .tag → s .anchor .status ≡ stable → Shape (s .link) a (put (r .side) (r .own) (slots q))
       → Finish (m .answer) (apply s (m .touch)) (upd h (r .own) queued) t (m .rec) (told c pushed) → Shown t s h q c m
@@ -96,7 +96,7 @@ module _ (t : ℕ) (s : Shared) (h : ℕ → Owner) (q : List Entry) (c : Call) 
       (λ u x n g. owner-kept h (r .own) queued t (inl (o .1)) u x n g) u n))
       f
 
-  -- a pop has its effect
+  -- A pop has its effect.
   pub pop-good : (a : Anchor) → r .kind ≡ pop → Before (s .label) h t (r .kind) (r .side) (r .own) (r .label) c → r .read ≡ s .anchor → effect (s .anchor) a running ≡ true
       → s .anchor .tag < a .tag → s .anchor .status ≡ stable → tip (s .anchor) (r .side) ≢ 0 → Shape (s .link) a (took (r .side) (slots q))
       → Shown t s h q c (runs (putAnchor a) (goes r at11))

@@ -44,7 +44,7 @@ module _ (s : Shared) (h : ℕ → Owner) (t : ℕ) (r : Rec) (c : Call) where
       (λ f. by-test (Light s r) (eqb (s .anchor .left) (s .anchor .right)) (λ g. record { less = omega arith })
       (λ g. by-test (Light s r) (isStable (s .anchor .status)) (λ g. record { less = omega arith }) (λ g. record { less = omega arith })))
 
-  -- before its effect a call owes all
+  -- Before its effect a call owes all.
   owed : (k : Kind) → r .finishing ≡ false → r .kind ≡ k → busy ≡ owes k
   unfolding busy
   owed k e g = ap (λ (f : Bool). cond f 0 (owes (r .kind))) e ∙ ap owes g
@@ -109,7 +109,7 @@ module _ (s : Shared) (h : ℕ → Owner) (t : ℕ) (r : Rec) (c : Call) where
       (λ z. light-leave none (omega arith) g)
   light at11 e w = record { less = omega arith }
 
--- over all tasks
+-- Over all tasks.
 module _ (s : Shared) (f : ℕ → Rec) (n t : ℕ) (lt : t < n) where
   total-cost : (r : Rec) → total (λ u. cost (upd f t r u)) n + cost (f t) ≡ total (λ u. cost (f u)) n + cost r
   total-cost r = ap (λ (k : ℕ → ℕ). total k n + cost (f t)) (fun-ext (λ u. by-test′ u)) ∙ total-upd (λ u. cost (f u)) t (cost r) n lt
@@ -121,11 +121,11 @@ module _ (s : Shared) (f : ℕ → Rec) (n t : ℕ) (lt : t < n) where
           go (inl z) = subst (λ u. cost (upd f t r u) ≡ upd (λ u. cost (f u)) t (cost r) u) (sym z) (ap cost (upd-same f t r) ∙ sym (upd-same (λ u. cost (f u)) t (cost r)))
           go (inr z) = ap cost (upd-other f t r u z) ∙ sym (upd-other (λ u. cost (f u)) t (cost r) u z)
 
-  -- a step
+  -- A step.
   pub step-bound : (m : Move) (b : ℕ) → Light s (f t) m → weight s + total (λ u. cost (f u)) n ≤ b → weight (apply s (m .touch)) + total (λ u. cost (upd f t (m .rec) u)) n ≤ b
   step-bound m b l h = omega (arith, l .less, total-cost (m .rec))
 
-  -- a start, below the limit of refusal 33: Anchor's tag, one change to settle, and two for each task
+  -- A start, below the limit of refusal 33: Anchor's tag, one change to settle, and two for each task.
   pub start-bound : (s′ : Shared) (r : Rec) (b : ℕ) → s′ .anchor ≡ s .anchor → s .anchor .tag + 1 + 2 * n ≤ b → weight s′ + total (λ u. cost (upd f t r u)) n ≤ b
   start-bound s′ r b e h =
       let le = total-le (λ u. cost (upd f t r u)) 2 n (λ u. cost-small (upd f t r u)) in

@@ -24,7 +24,7 @@ use Rattle.model.proofs.places.Owned.{queued-free}
 use Rattle.model.proofs.places.Place3.{own-rely}
 use Rattle.model.proofs.places.Place9.{back-made}
 
--- (a record, so that the Move can be read off where a test is split)
+-- (A record, so that the Move can be read off where a test is split.)
 pub record Tagged (s : Shared) (m : Move) : Type 0 where
   pub tagged : Tags (apply s (m .touch))
 
@@ -42,7 +42,7 @@ relink-upper k d x v b n f g e y h = go (decide-eq y x)
     go (inr z) = subst (λ (w : Link). w .tag ≤ b) (sym (relink-other k d x v e y z)) (f e y h)
 
 module _ (s : Shared) (g : Tags s) where
-  -- a change of Anchor makes room at once
+  -- A change of Anchor makes room at once.
   turned : (a : Anchor) → s .anchor .tag < a .tag → Tags (withAnchor s a)
   turned a h = record { upper = λ e y l. omega (arith, g .upper e y l); room = λ e st. inr (λ y l. omega (arith, g .upper e y l)) }
 

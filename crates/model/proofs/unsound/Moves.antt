@@ -8,12 +8,13 @@ use lib.Dec.{eqb, leb}
 use borrow.Author.Tests.{leb-true}
 use Rattle.word.specs.Anchor.{anchorOf, packAnchor}
 use Rattle.word.specs.Link.{linkOf, spareOf}
-use Rattle.model.specs.Places.{Move, Touch, at1, at10, at11, at2, at3, at4, at5, at6, at7, at9, clearMark, move, new4, nothing, setAnchor, setLink, sideOf, withLink, withNeighbour, withSeen}
+use Rattle.model.specs.Places.{Touch, clearMark, move, new4, nothing, setAnchor, setLink, sideOf, withLink, withNeighbour, withSeen}
 use Rattle.model.specs.Refusals.{leavesSound}
 use Rattle.model.specs.Route.{goes}
 use Rattle.model.specs.declared.Control.{Control}
 use Rattle.model.specs.declared.Record.{Record}
 use Rattle.model.proofs.tests.Truth.{by-test}
+use Rattle.model.proofs.bridge.ByMove.{by-move}
 use Rattle.model.proofs.bridge.Facts.{AnchorFine, RecordFine, anchor-fine}
 
 -- What a move leaves of a record.
@@ -40,25 +41,19 @@ module _ (c : Control) (r : Record) (w : ℕ) (h : RecordFine (c .slots) r) (hc 
   remembers : (a f : ℕ) → f ≤ 1 → AnchorFine (c .slots) (anchorOf a) → Keeps (c .slots) r (withSeen r a f)
   remembers a f e g = record { kind = refl; side = refl; own = refl; neighbour = h .neighbour; spare = h .spare; link = h .link; seen = g; finishing = e }
 
-  abbrev Leaves : Move → Type 0
-  Leaves m = leavesSound (c .slots) (m .touch) ≡ true → Keeps (c .slots) r (m .task)
-
-  pub move-keeps : Leaves (move c r w)
-  unfolding move at1 at2 at3 at4 at5 at6 at7 at9 at10 at11
-  move-keeps =
-      by-test Leaves (eqb (r .place) 1) (λ e k. remembers (c .anchor) (r .finishing) (h .finishing) hc)
-      (λ e. by-test Leaves (eqb (r .place) 2) (λ e. by-test Leaves (eqb (c .anchor) (r .seen)) (λ e k. same) (λ e k. same))
-      (λ e. by-test Leaves (eqb (r .place) 3) (λ e. by-test Leaves (eqb (r .kind) 0) (λ e k. same) (λ e k. finds))
-      (λ e. by-test Leaves (eqb (r .place) 4) (λ e. by-test Leaves (eqb (c .anchor) (r .seen))
-      (λ e k. by-test (Keeps (c .slots) r) (eqb (r .kind) 0) (λ e. remembers (new4 r) 1 (omega arith) (anchor-fine (c .slots) (anchorOf (new4 r)) k)) (λ e. same))
-      (λ e k. same))
-      (λ e. by-test Leaves (eqb (r .place) 5) (λ e k. finds)
-      (λ e. by-test Leaves (eqb (r .place) 6) (λ e k. same)
-      (λ e. by-test Leaves (eqb (r .place) 7) (λ e k. holds)
-      (λ e. by-test Leaves (eqb (r .place) 8) (λ e k. same)
-      (λ e. by-test Leaves (eqb (r .place) 9) (λ e. by-test Leaves (eqb w (r .link)) (λ e k. same) (λ e k. same))
-      (λ e. by-test Leaves (eqb (r .place) 10) (λ e. by-test Leaves (eqb (c .anchor) (r .seen)) (λ e k. same) (λ e k. same))
-      (λ e k. same))))))))))
+  pub move-keeps : leavesSound (c .slots) (move c r w .touch) ≡ true → Keeps (c .slots) r (move c r w .task)
+  move-keeps = by-move c r w (λ t r′. leavesSound (c .slots) t ≡ true → Keeps (c .slots) r r′)
+      (λ k. same)
+      (λ k. remembers (c .anchor) (r .finishing) (h .finishing) hc)
+      (λ k. finds)
+      (λ k. holds)
+      (λ k. same)
+      (λ k. remembers (new4 r) 1 (omega arith) (anchor-fine (c .slots) (anchorOf (new4 r)) k))
+      (λ k. same)
+      (λ k. same)
+      (λ k. same)
+      (λ k. same)
+      (λ k. same)
 
 -- The record goes to its next place.
 pub goes-fine : (slots : ℕ) (r r′ : Record) (n : ℕ) → RecordFine slots r → Keeps slots r r′ → (n ≡ 11 → r .kind ≡ 1) → goes r′ n .place ≢ 0 → RecordFine slots (goes r′ n)
@@ -92,25 +87,10 @@ status-back t c x y h =
     let p : v / 1073741824 % 4 ≤ 2 = omega arith in p
 
 module _ (c : Control) (r : Record) (w : ℕ) (h : RecordFine (c .slots) r) where
-  abbrev Puts : Move → Type 0
-  Puts m = StatusFine (m .touch)
-
   new-status : anchorOf (new4 r) .status ≤ 2
   unfolding new4
   new-status = by-test (λ v. anchorOf v .status ≤ 2) (eqb (r .kind) 0)
       (λ e. status-back _ _ _ _ (by-test (λ v. v ≤ 2) (eqb (sideOf r) 1) (λ e. omega arith) (λ e. omega arith))) (λ e. status-back _ _ _ _ (h .seen .status))
 
-  pub move-status : Puts (move c r w)
-  unfolding move at1 at2 at3 at4 at5 at6 at7 at9 at10 at11
-  move-status =
-      by-test Puts (eqb (r .place) 1) (λ e. tt)
-      (λ e. by-test Puts (eqb (r .place) 2) (λ e. by-test Puts (eqb (c .anchor) (r .seen)) (λ e. status-back _ _ _ _ (h .seen .status)) (λ e. tt))
-      (λ e. by-test Puts (eqb (r .place) 3) (λ e. by-test Puts (eqb (r .kind) 0) (λ e. tt) (λ e. tt))
-      (λ e. by-test Puts (eqb (r .place) 4) (λ e. by-test Puts (eqb (c .anchor) (r .seen)) (λ e. new-status) (λ e. tt))
-      (λ e. by-test Puts (eqb (r .place) 5) (λ e. tt)
-      (λ e. by-test Puts (eqb (r .place) 6) (λ e. tt)
-      (λ e. by-test Puts (eqb (r .place) 7) (λ e. tt)
-      (λ e. by-test Puts (eqb (r .place) 8) (λ e. tt)
-      (λ e. by-test Puts (eqb (r .place) 9) (λ e. by-test Puts (eqb w (r .link)) (λ e. tt) (λ e. tt))
-      (λ e. by-test Puts (eqb (r .place) 10) (λ e. by-test Puts (eqb (c .anchor) (r .seen)) (λ e. status-back _ 0 _ _ (omega arith)) (λ e. tt))
-      (λ e. tt))))))))))
+  pub move-status : StatusFine (move c r w .touch)
+  move-status = by-move c r w (λ t _. StatusFine t) tt tt tt tt (status-back _ _ _ _ (h .seen .status)) new-status new-status (status-back _ 0 _ _ (omega arith)) tt tt tt

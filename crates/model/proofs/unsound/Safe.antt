@@ -12,13 +12,13 @@ use Rattle.model.proofs.bridge.View.{stateOf, view}
 use Rattle.model.proofs.tags.Sum.{total}
 
 pub record Safe (q : Queue) : Type 0 where
-  -- control and Anchor are sound
+  -- Control and Anchor are sound,
   pub control : controlSound (q .tables .control) ≡ true
-  -- every busy record has its fields within their meaning
+  -- Every busy record has its fields within their meaning.
   pub fine : (t : ℕ) → t < q .tables .control .tasks → recordAt q t .place ≢ 0 → RecordFine (q .tables .control .slots) (recordAt q t)
-  -- and what its place needs besides the invariant: a real neighbour at 7 to 9, a real end at 11
+  -- And what its place needs besides the invariant: a real neighbour at 7 to 9, a real end at 11.
   pub extra : (t : ℕ) → Extra (stateOf q .task t .place) (stateOf q .task t)
-  -- no link's tag is above Anchor's
+  -- No link's tag is above Anchor's.
   pub tags : Tags (view (q .tables))
-  -- Anchor's tag, with the changes that are still to come, fits 32 bits
+  -- Anchor's tag, with the changes that are still to come, fits 32 bits.
   pub bound : weight (view (q .tables)) + total (λ u. cost (stateOf q .task u)) (q .tables .control .tasks) ≤ 4294967295
