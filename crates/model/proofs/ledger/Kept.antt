@@ -1,4 +1,4 @@
--- Every operation keeps it: refused, a start, a step.
+-- Every operation keeps the ledger matched: a refused one, a start, a step.
 use mathlib.Core.Bool.{Bool, _&&_, cond, false, true}
 use mathlib.Core.List.{List, [], _∷_}
 use mathlib.Core.Logic.{_≢_, _⊎_, inl, inr}

@@ -1,4 +1,4 @@
--- Stores in lists.
+-- An element put back where it lay changes nothing.
 use mathlib.Core.List.{List, [], _∷_}
 use mathlib.Core.Path.{_≡_, ap, refl}
 use Prim.Native.Nat.{suc, zero, ℕ}

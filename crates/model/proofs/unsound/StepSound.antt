@@ -1,4 +1,4 @@
--- An accepted step of a busy task passes every test of soundness.
+-- A step of a busy task passes every test of soundness.
 use mathlib.Core.Bool.{Bool, _&&_, _||_, cond, false, not, true}
 use mathlib.Core.Logic.{_≢_}
 use mathlib.Core.Path.{_∙_, _≡_, ap, refl, subst, sym}
