@@ -1,8 +1,8 @@
 -- Stores in the decoded tables, comparisons of Anchors and links, and the ends of a changed Anchor.
 use mathlib.Core.Bool.{Bool, false, not, true}
 use mathlib.Core.Logic.{_≢_}
-use mathlib.Core.Path.{_≡_, refl}
-use Prim.Native.Nat.{suc, ℕ}
+use mathlib.Core.Path.{_≡_, ap, refl}
+use Prim.Native.Nat.{_<_, suc, ℕ}
 use native.Mathlib.Omega.{arith}
 use borrow.Author.Tests.{eq-eqb, eqb-true, ne-eqb}
 use Rattle.model.proofs.tests.Truth.{and-true}
@@ -93,3 +93,7 @@ same-side p = cc
 
 pub stable-pushing : {e : Bool} → stable ≡ pushing e → ⊥
 stable-pushing p = let z : _≡_ {A = ℕ} 0 1 = cc in omega arith
+
+-- A change raises the tag of the Anchor that it found current.
+pub later : (a b : Anchor) → a ≡ b → b .tag < suc (a .tag)
+later a b p = let e = ap (λ (z : Anchor). z .tag) p in omega arith

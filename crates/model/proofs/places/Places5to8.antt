@@ -12,7 +12,7 @@ use Rattle.model.proofs.machine.Clerk.{Call}
 use Rattle.model.proofs.machine.Laws.{same-true}
 use Rattle.model.proofs.machine.Machine.{Rec, Shared, act, at5, at6, at7, at8, leave, none, same, tip}
 use Rattle.model.proofs.invariant.Owners.{Owner, Whole}
-use Rattle.model.proofs.invariant.Tasks.{Helps, Task, way}
+use Rattle.model.proofs.invariant.Tasks.{Eighth, Helps, Ninth, Task, way}
 use Rattle.model.proofs.places.Shown.{Shown, leaves, rely-refl, still}
 
 module _ (t : ℕ) (s : Shared) (h : ℕ → Owner) (q : List Entry) (c : Call) (all : Whole s h q) (r : Rec) where
@@ -31,10 +31,11 @@ module _ (t : ℕ) (s : Shared) (h : ℕ → Owner) (q : List Entry) (c : Call) 
       let v = s .link e (r .near) in
       by-test (Shown t s h q c) (eqb (v .slot) (tip (r .read) e))
       (λ g. still all (w .0, λ p. ap (λ (n : ℕ). s .link e n .slot) (w .1 p) ∙ eqb-true (v .slot) (tip (r .read) e) g))
-      (λ g. still all (w .0, record { other = eqb-false (v .slot) (tip (r .read) e) g; near = w .1; fresh = λ p. inl refl }))
+      (λ g. let eighth : Eighth s (r .read) (r .near) v = record { other = eqb-false (v .slot) (tip (r .read) e) g; near = w .1; fresh = λ p. inl refl } in still all (w .0, eighth))
 
   pub place8 : Task at8 s h t r c → Shown t s h q c (act at8 s r)
   place8 w = by-test (Shown t s h q c) (same (r .read) (s .anchor))
       (λ e. let p = same-true (r .read) (s .anchor) e in
-      still all (w .0, record { other = w .1 .other; chance = inl (record { current = p; near = w .1 .near p; fresh = w .1 .fresh p }) }))
+      let ninth : Ninth s (r .read) (r .near) (r .link) = record { other = w .1 .other; chance = inl (record { current = p; near = w .1 .near p; fresh = w .1 .fresh p }) } in
+      still all (w .0, ninth))
       (λ e. away (w .0))

@@ -4,7 +4,6 @@ use mathlib.Core.List.{List, [], _∷_}
 use mathlib.Core.Logic.{_≢_, inl, inr}
 use mathlib.Core.Path.{_∙_, _≡_, ap, refl, subst, sym}
 use Prim.Native.Nat.{_<_, suc, ℕ}
-use native.Mathlib.Omega.{arith}
 use Rattle.model.specs.History.{All}
 use Rattle.model.specs.declared.Entry.{Entry}
 use Rattle.model.proofs.lists.All.{all-both, all-map, all-rest, all-seen}
@@ -22,21 +21,18 @@ use Rattle.model.proofs.places.Effects.{noted-pop, noted-push}
 use Rattle.model.proofs.places.Owned.{held-free, owner-kept, owner-marks, queued-free, queued-held}
 use Rattle.model.proofs.places.Shown.{Finish, Shown, effective, rely-turn, still}
 
-module _ (t : ℕ) (s : Shared) (h : ℕ → Owner) (q : List Entry) (c : Call) (all : Whole s h q) (r : Rec) where
-  pub later : (a : Anchor) → a ≡ s .anchor → s .anchor .tag < suc (a .tag)
-  later a p = let e = ap (λ (z : Anchor). z .tag) p in omega arith
-
+module _ {s : Shared} {h : ℕ → Owner} {q : List Entry} (all : Whole s h q) where
   calm : s .anchor .status ≡ stable → (e : Bool) → s .anchor .status ≡ pushing e → Made (s .link) (s .anchor) e
   calm st e g = absurd (stable-pushing (sym st ∙ g))
 
   -- The slot of a push is not in the queue.
-  pub not-in : {x : ℕ} → h x ≡ held t → All (λ y. y ≢ x) (slots q)
+  pub not-in : {t x : ℕ} → h x ≡ held t → All (λ y. y ≢ x) (slots q)
   not-in e = all-map (λ y. h y ≡ queued) (λ y. y ≢ _) (λ y g z. queued-held (sym g ∙ ap h z ∙ e)) (slots q) (all .owned)
 
-  pushed-whole : (a : Anchor) (d : Bool) (x l : ℕ) → Own push (s .label) h t x l → Shape (s .link) a (put d x (slots q))
+  pushed-whole : (t : ℕ) (a : Anchor) (d : Bool) (x l : ℕ) → Own push (s .label) h t x l → Shape (s .link) a (put d x (slots q))
       → Whole (withAnchor s a) (upd h x queued) (put d (record { slot = x; label = l }) q)
   unfolding put
-  pushed-whole a d x l o shape =
+  pushed-whole t a d x l o shape =
       let e : slots (put d (record { slot = x; label = l }) q) ≡ put d x (slots q) = slots-put d (record { slot = x; label = l }) q in
       record {
         shape = subst (λ z. Shape (s .link) a z) (sym e) shape;
@@ -66,9 +62,9 @@ module _ (t : ℕ) (s : Shared) (h : ℕ → Owner) (q : List Entry) (c : Call) 
           let o : All (λ z. h z ≡ queued) (slots (x ∷ l)) = rw (← map-seen d q, g) at (all-seen _ d (slots q) (all .owned)) in
           (ap given g ∙ cc, ap h f ∙ o .0)
 
-  popped-whole : (a : Anchor) (d : Bool) (y : ℕ) → y ≡ tip (s .anchor) d → y ≢ 0 → Shape (s .link) a (took d (slots q)) → Whole (withAnchor s a) (upd h y (held t)) (took d q)
+  popped-whole : (t : ℕ) (a : Anchor) (d : Bool) (y : ℕ) → y ≡ tip (s .anchor) d → y ≢ 0 → Shape (s .link) a (took d (slots q)) → Whole (withAnchor s a) (upd h y (held t)) (took d q)
   unfolding took
-  popped-whole a d y e n shape =
+  popped-whole t a d y e n shape =
       let g : slots (took d q) ≡ took d (slots q) = slots-took d q in
       record {
         shape = subst (λ z. Shape (s .link) a z) (sym g) shape;
@@ -83,6 +79,7 @@ module _ (t : ℕ) (s : Shared) (h : ℕ → Owner) (q : List Entry) (c : Call) 
       apart [] p u = tt
       apart (x ∷ l) p u = all-map (λ z. z ≢ x) (λ z. z ≢ y) (λ z f g. f (g ∙ p)) l (u .0)
 
+module _ {t : ℕ} {s : Shared} {h : ℕ → Owner} {q : List Entry} {c : Call} (all : Whole s h q) (r : Rec) where
   -- A push has its effect.
   pub push-good : (m : Move) → r .kind ≡ push → Before (s .label) h t (r .kind) (r .side) (r .own) (r .label) c → effect (s .anchor) (apply s (m .touch) .anchor) (m .answer) ≡ true
       → (a : Anchor) → apply s (m .touch) ≡ withAnchor s a → s .anchor .tag < a .tag → s .anchor .status ≡ stable → Shape (s .link) a (put (r .side) (r .own) (slots q))
@@ -91,8 +88,8 @@ module _ (t : ℕ) (s : Shared) (h : ℕ → Owner) (q : List Entry) (c : Call) 
       let o = subst (λ z. Own z (s .label) h t (r .own) (r .label)) k (b .own) in
       effective m (upd h (r .own) queued) (told c pushed) (put (r .side) (record { slot = r .own; label = r .label }) q)
       (noted-push c (b .agrees) q (s .anchor) (apply s (m .touch) .anchor) (m .answer) eff k)
-      (subst (λ z. Whole z (upd h (r .own) queued) (put (r .side) (record { slot = r .own; label = r .label }) q)) (sym ms) (pushed-whole a (r .side) (r .own) (r .label) o shape))
-      (λ u n. subst (λ z. Rely u s h z (upd h (r .own) queued)) (sym ms) (rely-turn a (upd h (r .own) queued) lt (calm st)
+      (subst (λ z. Whole z (upd h (r .own) queued) (put (r .side) (record { slot = r .own; label = r .label }) q)) (sym ms) (pushed-whole all t a (r .side) (r .own) (r .label) o shape))
+      (λ u n. subst (λ z. Rely u s h z (upd h (r .own) queued)) (sym ms) (rely-turn a (upd h (r .own) queued) lt (calm all st)
       (λ u x n g. owner-kept h (r .own) queued t (inl (o .1)) u x n g) u n))
       f
 
@@ -103,11 +100,11 @@ module _ (t : ℕ) (s : Shared) (h : ℕ → Owner) (q : List Entry) (c : Call) 
   pop-good a k b p eff lt st ne shape =
       let y = tip (r .read) (r .side) in
       let e : y ≡ tip (s .anchor) (r .side) = ap (λ (z : Anchor). tip z (r .side)) p in
-      let g = end-entry (r .side) y e (λ z. ne (sym e ∙ z)) in
+      let g = end-entry all (r .side) y e (λ z. ne (sym e ∙ z)) in
       effective (runs (putAnchor a) (goes r at11)) (upd h y (held t)) (told c (given (seen (r .side) q))) (took (r .side) q)
       (noted-pop c (b .agrees) q (s .anchor) a running eff k)
-      (popped-whole a (r .side) y e (λ z. ne (sym e ∙ z)) shape)
-      (rely-turn a (upd h y (held t)) lt (calm st) (λ u x n f. owner-kept h y (held t) t (inr (g .1)) u x n f))
+      (popped-whole all t a (r .side) y e (λ z. ne (sym e ∙ z)) shape)
+      (rely-turn a (upd h y (held t)) lt (calm all st) (λ u x n f. owner-kept h y (held t) t (inr (g .1)) u x n f))
       (record { after = record { once = ap suc (b .none); told = g .0 }; holds = upd-same h y (held t) })
 
   pub back : Before (s .label) h t (r .kind) (r .side) (r .own) (r .label) c → r .finishing ≡ false → Shown t s h q c (runs none (goes r at1))

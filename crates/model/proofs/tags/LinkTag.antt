@@ -11,7 +11,7 @@ use Rattle.model.proofs.tests.Truth.{by-test, decide-eq}
 use Rattle.model.proofs.lists.All.{all-map}
 use Rattle.model.proofs.lists.Slots.{slots}
 use Rattle.model.proofs.machine.Clerk.{Call}
-use Rattle.model.proofs.machine.Laws.{relink-across, relink-other, relink-same, same-side, same-true, sameLink-true}
+use Rattle.model.proofs.machine.Laws.{later, relink-across, relink-other, relink-same, same-side, same-true, sameLink-true}
 use Rattle.model.proofs.machine.LinkTags.{relink-keeps}
 use Rattle.model.proofs.machine.Machine.{Anchor, Kind, Link, Move, Place, Rec, Shared, Status, Touch, act, aimed, apply, at1, at10, at11, at2, at3, at4, at5, at6, at7, at8, at9, both, four, idle, inner, isStable, leave, none, one, pop, push, pushing, putAnchor, relink, same, sameLink, settled, three, tip, two, withAnchor, withLink}
 use Rattle.model.proofs.invariant.Owners.{Owner, Whole, held, queued}
@@ -52,12 +52,9 @@ module _ (s : Shared) (g : Tags s) where
   leaves : (r : Rec) (w : Touch) → Tags (apply s w) → Tagged s (leave w r)
   leaves r w h = by-test (Tagged s) (r .finishing) (λ e. record { tagged = h }) (λ e. record { tagged = h })
 
-  later : (a : Anchor) → a ≡ s .anchor → s .anchor .tag < suc (a .tag)
-  later a p = let e = ap (λ (z : Anchor). z .tag) p in omega arith
-
   aimed-tags : (a : Anchor) (d : Bool) (x : ℕ) (st : Status) → a ≡ s .anchor → Tags (withAnchor s (aimed a d x st))
-  aimed-tags a false x st p = turned (aimed a false x st) (later a p)
-  aimed-tags a true x st p = turned (aimed a true x st) (later a p)
+  aimed-tags a false x st p = turned (aimed a false x st) (later a (s .anchor) p)
+  aimed-tags a true x st p = turned (aimed a true x st) (later a (s .anchor) p)
 
   module _ (h : ℕ → Owner) (t : ℕ) (r : Rec) (c : Call) (q : List Entry) (all : Whole s h q) where
     tags1 : (k : Kind) → Tagged s (one k s r)
@@ -66,8 +63,8 @@ module _ (s : Shared) (g : Tags s) where
         (λ e. by-test (Tagged s) (eqb (s .anchor .left) (s .anchor .right)) (λ f. keeps _ _) (λ f. by-test (Tagged s) (isStable (s .anchor .status)) (λ f. keeps _ _) (λ f. keeps _ _)))
 
     tags2 : (k : Kind) → Tagged s (two k s r)
-    tags2 push = by-test (Tagged s) (same (r .read) (s .anchor)) (λ e. record { tagged = turned (both (r .read) (r .own)) (later (r .read) (same-true _ _ e)) }) (λ e. keeps _ _)
-    tags2 pop = by-test (Tagged s) (same (r .read) (s .anchor)) (λ e. record { tagged = turned (both (r .read) 0) (later (r .read) (same-true _ _ e)) }) (λ e. keeps _ _)
+    tags2 push = by-test (Tagged s) (same (r .read) (s .anchor)) (λ e. record { tagged = turned (both (r .read) (r .own)) (later (r .read) (s .anchor) (same-true _ _ e)) }) (λ e. keeps _ _)
+    tags2 pop = by-test (Tagged s) (same (r .read) (s .anchor)) (λ e. record { tagged = turned (both (r .read) 0) (later (r .read) (s .anchor) (same-true _ _ e)) }) (λ e. keeps _ _)
 
     own-tags : (x : ℕ) → (x ≢ 0) × (h x ≡ held t) → (d : Bool) (v : Link) → v .tag ≡ s .link d x .tag → Tags (withLink s d x v)
     own-tags x o d v e = record {
@@ -130,5 +127,5 @@ module _ (s : Shared) (g : Tags s) where
     tags at7 w = by-test (Tagged s) (eqb (s .link (way (r .read)) (r .near) .slot) (tip (r .read) (way (r .read)))) (λ e. keeps _ _) (λ e. keeps _ _)
     tags at8 w = by-test (Tagged s) (same (r .read) (s .anchor)) (λ e. keeps _ _) (λ e. leaves r none g)
     tags at9 w = by-test (Tagged s) (sameLink (r .link) (s .link (way (r .read)) (r .near))) (λ e. record { tagged = tags9 w (sameLink-true _ _ e) (w .1 .chance) }) (λ e. leaves r none g)
-    tags at10 w = by-test (Tagged s) (same (r .read) (s .anchor)) (λ e. leaves r (putAnchor (settled (r .read))) (turned (settled (r .read)) (later (r .read) (same-true _ _ e)))) (λ e. leaves r none g)
+    tags at10 w = by-test (Tagged s) (same (r .read) (s .anchor)) (λ e. leaves r (putAnchor (settled (r .read))) (turned (settled (r .read)) (later (r .read) (s .anchor) (same-true _ _ e)))) (λ e. leaves r none g)
     tags at11 w = record { tagged = record { upper = g .upper; room = g .room } }
