@@ -78,7 +78,8 @@ module _ (q : Tables) (k d x l a n w f : ℕ) where
 
     -- A change of Anchor raises its tag, which has room.
     module _ (room : AnchorRoom q (at 0)) where
-      settled-back : eqb now a ≡ true → M.putAnchor (M.settled (anchorSeen a)) ≡ M.putAnchor (anchorSeen (packAnchor (record { tag = anchorOf a .tag + 1; status = 0; left = anchorOf a .left; right = anchorOf a .right })))
+      settled-back : eqb now a ≡ true
+          → M.putAnchor (M.settled (anchorSeen a)) ≡ M.putAnchor (anchorSeen (packAnchor (record { tag = anchorOf a .tag + 1; status = 0; left = anchorOf a .left; right = anchorOf a .right })))
       settled-back e = ap M.putAnchor (sym (anchor-back (anchorOf a .tag) 0 (anchorOf a .left) (anchorOf a .right) (room (eqb-true _ _ e)) (omega arith) (omega arith) (omega arith)))
 
       pub place10 : Seen q (at 10)

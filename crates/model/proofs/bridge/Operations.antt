@@ -94,7 +94,10 @@ module _ (q : Queue) (b : B.Book) (i : Inv (record { state = stateOf q; book = b
 
     pub step-keeps : Inv (record { state = stateOf stepped; book = B.stepped b t (B.noted (b .calls t) (b .queue) (view g .anchor) (view (stepped .tables) .anchor) (answerSeen reply)) (answerSeen reply) })
     unfolding stateOf
-    step-keeps = subst (λ (s : M.State). Inv (record { state = s; book = B.stepped b t (B.noted (b .calls t) (b .queue) (view g .anchor) (s .shared .anchor) (answerSeen reply)) (answerSeen reply) })) (sym state-is) step-seen-keeps
+    step-keeps =
+        let After : M.State → Type 0 =
+        λ s. Inv (record { state = s; book = B.stepped b t (B.noted (b .calls t) (b .queue) (view g .anchor) (s .shared .anchor) (answerSeen reply)) (answerSeen reply) }) in
+        subst After (sym state-is) step-seen-keeps
 
     pub step-links : LinksFine (stepped .tables)
     unfolding finish
@@ -106,7 +109,8 @@ module _ (q : Queue) (b : B.Book) (i : Inv (record { state = stateOf q; book = b
     unfolding recOf
     rec-started kind side x l = refl
 
-    tasks-are : (kind side x l : ℕ) → (λ (u : ℕ). stateOf (record { tables = g; records = set (q .records) t (started kind side x l) }) .task u) ≡ upd (stateOf q .task) t (M.started (cond (eqb kind 0) M.push M.pop) (eqb side 1) x l)
+    tasks-are : (kind side x l : ℕ)
+        → (λ (u : ℕ). stateOf (record { tables = g; records = set (q .records) t (started kind side x l) }) .task u) ≡ upd (stateOf q .task) t (M.started (cond (eqb kind 0) M.push M.pop) (eqb side 1) x l)
     tasks-are kind side x l = put-back q t z (started kind side x l) ∙ ap (λ (v : M.Rec). upd (stateOf q .task) t v) (rec-started kind side x l)
 
     pub pop-keeps : (side : ℕ) → Inv (record {

@@ -117,7 +117,8 @@ module _ (q : Tables) (h : ℕ → Owner) (l : List Entry) (w : Whole (view q) h
       let k = view q .link in
       let s : seen d (slots l) ≡ slots (x ∷ m) = sym (map-seen d l) ∙ ap (λ (l : List Entry). slots l) g in
       let c : Chain (λ y z. k (not d) y .slot ≡ z) (slots (x ∷ m)) =
-      subst (λ (l : List ℕ). Chain (λ y z. k (not d) y .slot ≡ z) l) s (subst (λ (d : Bool). Chain (λ y z. k (not d) y .slot ≡ z) (seen d (slots l))) z (inward k (A .status) (slots l) (w .shape .linked))) in
+      subst (λ (l : List ℕ). Chain (λ y z. k (not d) y .slot ≡ z) l) s
+      (subst (λ (d : Bool). Chain (λ y z. k (not d) y .slot ≡ z) (seen d (slots l))) z (inward k (A .status) (slots l) (w .shape .linked))) in
       let u : Distinct (slots (x ∷ m)) = rw s at (distinct-seen d (slots l) (w .shape .distinct)) in
       let v : All (λ (z : Entry). getD (q .labels) (z .slot) 0 ≡ z .label) (x ∷ m) = rw g at (all-seen (λ (z : Entry). getD (q .labels) (z .slot) 0 ≡ z .label) d l (w .labels)) in
       let r : All (Real q) (x ∷ m) = real (x ∷ m) (subst (λ (l : List ℕ). All (λ x. x ≢ 0) l) s (all-seen (λ x. x ≢ 0) d (slots l) (w .shape .real)))

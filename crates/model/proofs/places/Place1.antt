@@ -54,7 +54,8 @@ module _ (t : ℕ) (s : Shared) (h : ℕ → Owner) (q : List Entry) (c : Call) 
       (λ e. let n = none-left (eqb-true (s .anchor .left) 0 e) in
       effective (ends none empty) h (told c (given (seen (r .side) q))) (took (r .side) q)
       (noted-pop c (w .1 .agrees) q (s .anchor) (s .anchor) empty (empty-effect (s .anchor) (s .anchor)) k)
-      (subst (λ z. Whole s h z) (sym (ap (λ (z : List Entry). took (r .side) z) n ∙ took-nil (r .side) ∙ sym n)) all) (λ u z. rely-refl u) (refl, record { once = ap suc (w .1 .none); agrees = sym (ap (λ (z : List Entry). given (seen (r .side) z)) n ∙ ap given (seen-nil (r .side))) }))
+      (subst (λ z. Whole s h z) (sym (ap (λ (z : List Entry). took (r .side) z) n ∙ took-nil (r .side) ∙ sym n)) all) (λ u z. rely-refl u)
+      (refl, record { once = ap suc (w .1 .none); agrees = sym (ap (λ (z : List Entry). given (seen (r .side) z)) n ∙ ap given (seen-nil (r .side))) }))
       (λ e. by-test (Shown t s h q c) (eqb (s .anchor .left) (s .anchor .right))
       (λ f. still all
       (tries-now (w .0) (w .1), subst (λ z. Two z (s .anchor)) (sym k) (eqb-true (s .anchor .left) (s .anchor .right) f, eqb-false (s .anchor .left) 0 e)))

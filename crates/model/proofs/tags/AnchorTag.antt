@@ -97,7 +97,8 @@ module _ (s : Shared) (h : ℕ → Owner) (t : ℕ) (r : Rec) (c : Call) where
   light at4 e w = light4 (r .kind) refl (w .0 .early) (stable-of (r .kind) (w .1)) (spends at4 e refl)
   light at5 e w = let z = spends at5 e refl in record { less = omega arith }
   light at6 e w = let g = spends at6 e refl in by-test (Light s r) (same (r .read) (s .anchor)) (λ z. record { less = omega arith }) (λ z. light-leave none (omega arith) g)
-  light at7 e w = let g = spends at7 e refl in by-test (Light s r) (eqb (s .link (way (r .read)) (r .near) .slot) (tip (r .read) (way (r .read)))) (λ z. record { less = omega arith }) (λ z. record { less = omega arith })
+  light at7 e w = let g = spends at7 e refl in
+      by-test (Light s r) (eqb (s .link (way (r .read)) (r .near) .slot) (tip (r .read) (way (r .read)))) (λ z. record { less = omega arith }) (λ z. record { less = omega arith })
   light at8 e w = let g = spends at8 e refl in by-test (Light s r) (same (r .read) (s .anchor)) (λ z. record { less = omega arith }) (λ z. light-leave none (omega arith) g)
   light at9 e w = let g = spends at9 e refl in
       by-test (Light s r) (sameLink (r .link) (s .link (way (r .read)) (r .near))) (λ z. record { less = omega arith }) (λ z. light-leave none (omega arith) g)

@@ -28,7 +28,8 @@ use Rattle.model.proofs.places.Place9.{back-made}
 pub record Tagged (s : Shared) (m : Move) : Type 0 where
   pub tagged : Tags (apply s (m .touch))
 
-relink-upper : (k : Bool → ℕ → Link) (d : Bool) (x : ℕ) (v : Link) (b n : ℕ) → ((e : Bool) (y : ℕ) → y ≤ n → k e y .tag ≤ b) → v .tag ≤ b → (e : Bool) (y : ℕ) → y ≤ n → relink k d x v e y .tag ≤ b
+relink-upper : (k : Bool → ℕ → Link) (d : Bool) (x : ℕ) (v : Link) (b n : ℕ) → ((e : Bool) (y : ℕ) → y ≤ n → k e y .tag ≤ b) → v .tag ≤ b
+    → (e : Bool) (y : ℕ) → y ≤ n → relink k d x v e y .tag ≤ b
 relink-upper k d x v b n f g e y h = go (decide-eq y x)
   where
     at-slot : x ≤ n → (d e : Bool) → relink k d x v e x .tag ≤ b
@@ -72,7 +73,8 @@ module _ (s : Shared) (g : Tags s) where
       room = λ b st. go b st (g .room b st) (own-rely t s h q c all r x o d v e (suc t) (λ z. absurd (omega arith)) .anchor);
     }
       where
-        go : (b : Bool) → s .anchor .status ≡ pushing b → Made (s .link) (s .anchor) b ⊎ ((y : ℕ) → y ≤ s .slots → s .link b y .tag < s .anchor .tag) → Quiet s (withLink s d x v) ⊎ Turned s (withLink s d x v)
+        go : (b : Bool) → s .anchor .status ≡ pushing b → Made (s .link) (s .anchor) b ⊎ ((y : ℕ) → y ≤ s .slots → s .link b y .tag < s .anchor .tag)
+            → Quiet s (withLink s d x v) ⊎ Turned s (withLink s d x v)
             → Made (relink (s .link) d x v) (s .anchor) b ⊎ ((y : ℕ) → y ≤ s .slots → relink (s .link) d x v b y .tag < s .anchor .tag)
         go b st (inl m) (inl z) = inl (z .made b st m)
         go b st (inl m) (inr z) = absurd (omega (arith, z .later))

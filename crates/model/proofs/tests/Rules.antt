@@ -33,6 +33,7 @@ pub cleared : (l : List Rule) → numbered l ≡ true → first l ≡ 0 → All 
 cleared [] n e = tt
 cleared (r ∷ l) n e = let z = and-true (not (eqb (r .number) 0)) (numbered l) n in go (r .applies) refl (z .0) (λ f. cleared l (z .1) f)
   where
-    go : (b : Bool) → r .applies ≡ b → not (eqb (r .number) 0) ≡ true → (first l ≡ 0 → All (λ (r : Rule). r .applies ≡ false) l) → (r .applies ≡ false) × All (λ (r : Rule). r .applies ≡ false) l
+    go : (b : Bool) → r .applies ≡ b → not (eqb (r .number) 0) ≡ true → (first l ≡ 0 → All (λ (r : Rule). r .applies ≡ false) l)
+        → (r .applies ≡ false) × All (λ (r : Rule). r .applies ≡ false) l
     go true a z f = absurd (eqb-false _ _ (not-true _ z) (ap (λ (b : Bool). cond b (r .number) (first l)) (sym a) ∙ e))
     go false a z f = (a, f (ap (λ (b : Bool). cond b (r .number) (first l)) (sym a) ∙ e))

@@ -108,11 +108,13 @@ module _ (n : ℕ) (q : Queue) (l : Ledger) (g : Matched n q l) (f : Safe q) (t 
   unfolding act actOn pushStart popStart step finish
   act-safe (Push side x y) = by-test Put (eqb (pushRefusal G (among q t) r side x) 0)
       (λ e. let p = push-accepted q t side x (eqb-true _ _ e) in
-      (moved _, start-safe q f t (p .starting .lies) (p .starting .early) _ _ 0 side x y (started-fine (G .control .slots) 0 side x y (omega arith) (p .starting .side) (λ e. absurd (omega arith)) (λ e. (p .real, p .within)))))
+      let h = started-fine (G .control .slots) 0 side x y (omega arith) (p .starting .side) (λ e. absurd (omega arith)) (λ e. (p .real, p .within)) in
+      (moved _, start-safe q f t (p .starting .lies) (p .starting .early) _ _ 0 side x y h))
       (λ e. refused (pushRefusal G (among q t) r side x) (push-34 side x))
   act-safe (Pop side) = by-test Put (eqb (popRefusal G (among q t) r side) 0)
       (λ e. let p = pop-accepted q t side (eqb-true _ _ e) in
-      (moved _, start-safe q f t (p .lies) (p .early) _ _ 1 side 0 0 (started-fine (G .control .slots) 1 side 0 0 (omega arith) (p .side) (λ e. refl) (λ e. absurd (omega arith)))))
+      let h = started-fine (G .control .slots) 1 side 0 0 (omega arith) (p .side) (λ e. refl) (λ e. absurd (omega arith)) in
+      (moved _, start-safe q f t (p .lies) (p .early) _ _ 1 side 0 0 h))
       (λ e. refused (popRefusal G (among q t) r side) (pop-34 side))
   act-safe Step = by-test Put (eqb (stepRefusal G (among q t) r) 0)
       (λ e. let s = step-accepted q t (eqb-true _ _ e) in (moved _, step-safe n q l g f t (s .lies) (s .busy)))

@@ -80,8 +80,11 @@ module _ (q : Queue) (f : Safe q) (t : ℕ) (z : Lies q t) (early : late (q .tab
 
   bound′ : weight (view (q′ .tables)) + total (λ u. cost (stateOf q′ .task u)) (G .control .tasks) ≤ 4294967295
   unfolding view
-  bound′ = subst (λ (k : ℕ → M.Rec). weight (view (q′ .tables)) + total (λ u. cost (k u)) (G .control .tasks) ≤ 4294967295) (sym tasks-are)
-      (start-bound (view G) (stateOf q .task) (G .control .tasks) t (z .known) (view (q′ .tables)) (recOf new) 4294967295 refl (let low = ltb-false _ (anchorOf (G .control .anchor) .tag) early in omega (arith, control-fine (G .control) (f .control) .tasks)))
+  bound′ =
+      let low = ltb-false _ (anchorOf (G .control .anchor) .tag) early in
+      subst (λ (k : ℕ → M.Rec). weight (view (q′ .tables)) + total (λ u. cost (k u)) (G .control .tasks) ≤ 4294967295) (sym tasks-are)
+      (start-bound (view G) (stateOf q .task) (G .control .tasks) t (z .known) (view (q′ .tables)) (recOf new) 4294967295 refl
+      (omega (arith, control-fine (G .control) (f .control) .tasks)))
 
   pub start-safe : Safe q′
   unfolding view

@@ -76,7 +76,8 @@ module _ (n : ℕ) (q : Queue) (l : Ledger) (g : Matched n q l) (f : Safe q) (t 
   extras : Extras (seenMove G r)
   unfolding stateOf
   extras = subst Extras (seen n q l g f t z busy)
-      (act-extra t (view G) (g .inv .owner) (g .book .queue) (g .book .calls t) (g .inv .whole) (recOf r) (placeOf (r .place)) (not-idle (r .place) busy (fine .place)) (own-task n q l g f t z busy) (own-extra n q l g f t z busy))
+      (act-extra t (view G) (g .inv .owner) (g .book .queue) (g .book .calls t) (g .inv .whole) (recOf r) (placeOf (r .place))
+      (not-idle (r .place) busy (fine .place)) (own-task n q l g f t z busy) (own-extra n q l g f t z busy))
 
   keeps : Keeps (G .control .slots) r (m .task)
   keeps =
