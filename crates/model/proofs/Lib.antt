@@ -1,2 +1,19 @@
-pub mod Bench
+-- Two theorems over the meanings: Linearizable (demand 3) and NeverUnsound (34 never occurs).
+-- A step of the tables is a step of a decoded machine (bridge), which keeps an invariant (invariant, chain, places);
+-- a clerk's book follows the machine and matches the ledger (ledger); bounds on tags and fields keep every table sound (tags, unsound).
+pub mod tests
+pub mod lists
+pub mod machine
+pub mod invariant
+pub mod chain
+pub mod places
+pub mod bridge
+pub mod ledger
+pub mod tags
+pub mod unsound
+pub mod Linearizable
+pub mod NeverUnsound
+
+-- Laws of single calls, and the worked cases of the document.
 pub mod laws
+pub mod Bench

@@ -1,0 +1,118 @@
+-- What the tests of soundness and of length say, as facts.
+use mathlib.Core.Bool.{Bool, _&&_, _||_, not, true}
+use mathlib.Core.Logic.{_≢_}
+use mathlib.Core.Path.{_∙_, _≡_, ap, sym}
+use Prim.Native.Nat.{_/_, _<_, _^_, _≤_, ℕ}
+use native.Mathlib.Omega.{arith}
+use lib.Dec.{eqb, leb}
+use lib.ListN.{length}
+use borrow.Author.Tests.{eq-eqb, eqb-true, leb-true, ltb-true, ne-eqb}
+use Rattle.word.specs.Anchor.{anchorOf}
+use Rattle.word.specs.Link.{linkOf, spareOf}
+use Rattle.word.specs.declared.Anchor.{Anchor}
+use Rattle.model.specs.Sound.{anchorSound, anchorTests, controlSound, controlTests, from1, linkSound, recordSound, recordTests, rowTests, rowsFit}
+use Rattle.model.specs.Tables.{Tables}
+use Rattle.model.specs.declared.Control.{Control}
+use Rattle.model.specs.declared.Record.{Record}
+use Rattle.model.proofs.tests.Rules.{tests}
+use Rattle.model.proofs.tests.Truth.{and-true, beq-eq, or-cases, or-left, or-right}
+use Rattle.model.proofs.bridge.View.{linkAt}
+
+pub record AnchorFine (slots : ℕ) (a : Anchor) : Type 0 where
+  pub status : a .status ≤ 2
+  pub left : a .left ≤ slots
+  pub right : a .right ≤ slots
+  pub null : a .left ≡ 0 → a .right ≡ 0
+  pub full : a .right ≡ 0 → a .left ≡ 0
+  pub single : a .left ≡ a .right → a .status ≡ 0
+
+pub anchor-fine : (slots : ℕ) (a : Anchor) → anchorSound slots a ≡ true → AnchorFine slots a
+unfolding anchorSound
+anchor-fine slots a e =
+    let z = tests (anchorTests slots a) e in
+    let b = beq-eq _ _ (z .1 .1 .1 .0) in
+    record {
+      status = leb-true _ _ (z .0);
+      left = leb-true _ _ (z .1 .0);
+      right = leb-true _ _ (z .1 .1 .0);
+      null = λ p. eqb-true _ _ (sym b ∙ eq-eqb _ _ p);
+      full = λ p. eqb-true _ _ (b ∙ eq-eqb _ _ p);
+      single = λ p. eqb-true _ _ (or-left _ _ (z .1 .1 .1 .1 .0) (ap not (eq-eqb _ _ p)));
+    }
+
+pub record RecordFine (slots : ℕ) (r : Record) : Type 0 where
+  pub place : r .place ≤ 11
+  pub kind : r .kind ≤ 1
+  pub side : r .side ≤ 1
+  pub finishing : r .finishing ≤ 1
+  pub last : r .place ≡ 11 → r .kind ≡ 1
+  pub own-pop : r .kind ≡ 1 → r .own ≡ 0
+  pub own-push : r .kind ≡ 0 → (1 ≤ r .own) × (r .own ≤ slots)
+  pub neighbour : r .neighbour ≤ slots
+  pub spare : spareOf (r .link) ≡ 0
+  pub link : linkOf (r .link) .slot ≤ slots
+  pub seen : AnchorFine slots (anchorOf (r .seen))
+
+pub from1-true : (n x : ℕ) → from1 n x ≡ true → (1 ≤ x) × (x ≤ n)
+from1-true n x e = let z = and-true (leb 1 x) (leb x n) e in (leb-true _ _ (z .0), leb-true _ _ (z .1))
+
+own-fine : (slots k x : ℕ) → (eqb k 1 && eqb x 0) || (eqb k 0 && from1 slots x) ≡ true → (k ≡ 1 → x ≡ 0) × (k ≡ 0 → (1 ≤ x) × (x ≤ slots))
+own-fine slots k x e = or-cases (eqb k 1 && eqb x 0) (eqb k 0 && from1 slots x) e
+    (λ g. let h = and-true (eqb k 1) (eqb x 0) g in let a = eqb-true k 1 (h .0) in (λ p. eqb-true _ _ (h .1), λ p. absurd (omega arith)))
+    (λ g. let h = and-true (eqb k 0) (from1 slots x) g in let a = eqb-true k 0 (h .0) in (λ p. absurd (omega arith), λ p. from1-true slots x (h .1)))
+
+link-fine : (slots w : ℕ) → linkSound slots w ≡ true → (spareOf w ≡ 0) × (linkOf w .slot ≤ slots)
+unfolding linkSound
+link-fine slots w e = let z = and-true (eqb (spareOf w) 0) (leb (linkOf w .slot) slots) e in (eqb-true _ _ (z .0), leb-true _ _ (z .1))
+
+pub record-fine : (slots : ℕ) (r : Record) → recordSound slots r ≡ true → r .place ≢ 0 → RecordFine slots r
+unfolding recordSound
+record-fine slots r e n =
+    let z = tests (recordTests slots r) (or-right _ _ e (ne-eqb _ _ n)) in
+    let own = own-fine slots (r .kind) (r .own) (z .1 .1 .1 .1 .1 .1 .0) in
+    let lk = link-fine slots (r .link) (z .1 .1 .1 .1 .1 .1 .1 .1 .0) in
+    record {
+      place = leb-true _ _ (z .0);
+      kind = leb-true _ _ (z .1 .0);
+      side = leb-true _ _ (z .1 .1 .0);
+      finishing = leb-true _ _ (z .1 .1 .1 .0);
+      last = λ p. eqb-true _ _ (or-right _ _ (z .1 .1 .1 .1 .0) (ap not (eq-eqb _ _ p)));
+      own-pop = own .0;
+      own-push = own .1;
+      neighbour = leb-true _ _ (z .1 .1 .1 .1 .1 .1 .1 .0);
+      spare = lk .0;
+      link = lk .1;
+      seen = anchor-fine slots _ (z .1 .1 .1 .1 .1 .1 .1 .1 .1 .0);
+    }
+
+pub record ControlFine (c : Control) : Type 0 where
+  pub tasks : c .tasks ≤ 16
+  pub some : 1 ≤ c .slots
+  pub slots : c .slots ≤ 1023
+  pub anchor : AnchorFine (c .slots) (anchorOf (c .anchor))
+
+pub control-fine : (c : Control) → controlSound c ≡ true → ControlFine c
+unfolding controlSound
+control-fine c e =
+    let z = tests (controlTests c) e in
+    let t = from1-true 16 (c .tasks) (z .0) in
+    let x = from1-true 1023 (c .slots) (z .1 .0) in
+    record { tasks = t .1; some = x .0; slots = x .1; anchor = anchor-fine _ _ (z .1 .1 .0) }
+
+pub record RowsFine (q : Tables) : Type 0 where
+  pub lefts : q .control .slots < length (q .lefts)
+  pub rights : q .control .slots < length (q .rights)
+  pub labels : q .control .slots < length (q .labels)
+  pub marks : q .control .slots / 64 < length (q .marks)
+
+pub rows-fine : (q : Tables) → rowsFit (q .control .slots) q ≡ true → RowsFine q
+unfolding rowsFit
+rows-fine q e =
+    let z = tests (rowTests (q .control .slots) q) e in
+    record { lefts = ltb-true _ _ (z .0); rights = ltb-true _ _ (z .1 .0); labels = ltb-true _ _ (z .1 .1 .0); marks = ltb-true _ _ (z .1 .1 .1 .0) }
+
+-- Every link word of rows 0 to slots is sound. (No test says so of all of them: it is kept from the opening on.)
+pub record LinksFine (q : Tables) : Type 0 where
+  pub spare : (d : Bool) (x : ℕ) → x ≤ q .control .slots → spareOf (linkAt q d x) ≡ 0
+  pub tag : (d : Bool) (x : ℕ) → x ≤ q .control .slots → linkOf (linkAt q d x) .tag < 2 ^ 32
+  pub slot : (d : Bool) (x : ℕ) → x ≤ q .control .slots → linkOf (linkAt q d x) .slot ≤ q .control .slots

@@ -1,0 +1,132 @@
+-- Accepted starts and steps of the tables are those of the decoded machine, so they keep the invariant.
+use mathlib.Core.Bool.{cond, false}
+use mathlib.Core.Logic.{_≢_}
+use mathlib.Core.Path.{_∙_, _≡_, ap, refl, subst, sym}
+use Prim.Native.Nat.{_<_, _≤_, ℕ}
+use native.Mathlib.Omega.{arith}
+use lib.Dec.{eqb, ltb}
+use lib.ListN.{getD, set}
+use borrow.Author.Tests.{lt-ltb}
+use Rattle.model.specs.Calls.{finish, taken, withRetries}
+use Rattle.model.specs.Places.{Move, linkMet, move, row}
+use Rattle.model.specs.Route.{answer, counted, goes}
+use Rattle.model.specs.Tables.{Queue, Tables, idle, marked, recordAt, started}
+use Rattle.model.specs.declared.Answer as answered
+use Rattle.model.specs.declared.Record.{Record}
+use Rattle.model.proofs.tests.ByPlace.{by-place}
+use Rattle.model.proofs.machine.Answers.{Ends, act-ends}
+use Rattle.model.proofs.machine.Clerk as B
+use Rattle.model.proofs.machine.Machine as M
+use Rattle.model.proofs.machine.Machine.{upd}
+use Rattle.model.proofs.invariant.Invariant.{Inv}
+use Rattle.model.proofs.places.Start.{pop-inv, push-inv}
+use Rattle.model.proofs.places.Step.{step-inv}
+use Rattle.model.proofs.bridge.Accepted.{Lies, Stepping}
+use Rattle.model.proofs.bridge.Decoded.{next, seenMove}
+use Rattle.model.proofs.bridge.EveryPlace.{step-seen}
+use Rattle.model.proofs.bridge.Facts.{LinksFine}
+use Rattle.model.proofs.bridge.Stores.{links-touched, task-set, touched-tasks, view-taken, view-touched}
+use Rattle.model.proofs.bridge.Touches.{move-fine}
+use Rattle.model.proofs.bridge.View.{answerSeen, placeOf, recOf, stateOf, view}
+
+pub not-idle : (p : ℕ) → p ≢ 0 → p ≤ 11 → M.isIdle (placeOf p) ≡ false
+not-idle p n h = by-place (λ p. M.isIdle (placeOf p) ≡ false) refl refl refl refl refl refl refl refl refl refl refl p n h
+
+pub task-of : (q : Queue) (t : ℕ) → t < q .tables .control .tasks → stateOf q .task t ≡ recOf (recordAt q t)
+unfolding stateOf
+task-of q t lt = rw (lt-ltb t (q .tables .control .tasks) lt)
+
+-- A record put back is a record of the machine replaced.
+pub put-back : (q : Queue) (t : ℕ) → Lies q t → (r : Record) → (λ (u : ℕ). stateOf (record { tables = q .tables; records = set (q .records) t r }) .task u) ≡ upd (stateOf q .task) t (recOf r)
+unfolding stateOf
+put-back q t z r = task-set (q .tables .control .tasks) (q .records) t r (omega (arith, z .length, z .known)) (z .known)
+
+module _ (q : Queue) (b : B.Book) (i : Inv (record { state = stateOf q; book = b })) (k : LinksFine (q .tables)) (t : ℕ) where
+  abbrev g : Tables
+  g = q .tables
+
+  abbrev r : Record
+  r = recordAt q t
+
+  -- An accepted step.
+  module _ (s : Stepping q t) where
+    abbrev m : Move
+    m = move (g .control) r (linkMet g r)
+
+    abbrev seenAfter : M.Move → Type 0
+    seenAfter m = Inv (record {
+      state = record { shared = M.apply (view g) (m .touch); task = upd (stateOf q .task) t (m .rec) };
+      book = B.stepped b t (B.noted (b .calls t) (b .queue) (view g .anchor) (M.apply (view g) (m .touch) .anchor) (m .answer)) (m .answer);
+    })
+
+    seen : M.act (placeOf (r .place)) (view g) (recOf r) ≡ seenMove g r
+    seen = step-seen g (s .control) k r (s .fine) (s .busy) (s .room)
+
+    pub step-seen-keeps : seenAfter (seenMove g r)
+    unfolding stateOf recOf
+    step-seen-keeps =
+        let e : M.isIdle (stateOf q .task t .place) ≡ false = ap (λ (x : M.Rec). M.isIdle (x .place)) (task-of q t (s .lies .known)) ∙ not-idle (r .place) (s .busy) (s .fine .place) in
+        subst seenAfter (ap (λ (x : M.Rec). M.act (x .place) (view g) x) (task-of q t (s .lies .known)) ∙ seen) (step-inv (record { state = stateOf q; book = b }) i t e)
+
+    abbrev pub stepped : Queue
+    stepped = record { tables = finish g r m .tables; records = set (q .records) t (finish g r m .task) }
+
+    abbrev pub reply : answered.Answer
+    reply = answer (next r m) (record { slot = row r; label = getD (g .labels) (row r) 0 })
+
+    pub state-is : stateOf stepped ≡ record { shared = M.apply (view g) (seenMove g r .touch); task = upd (stateOf q .task) t (seenMove g r .rec) }
+    unfolding stateOf finish
+    state-is =
+        let n = counted (g .control .retries) (m .failed) in
+        let r′ = goes (m .task) (next r m) in
+        (λ j. record { shared = view (finish g r m .tables); task = λ u. cond (ltb u (touched-tasks (m .touch) (withRetries g n) j)) (recOf (getD (set (q .records) t r′) u idle)) M.blank })
+        ∙ (λ j. record {
+          shared = view-touched g (s .lies .rows) n (m .touch) (move-fine (g .control .slots) r (s .fine) (g .control) (linkMet g r)) j;
+          task = task-set (g .control .tasks) (q .records) t r′ (omega (arith, s .lies .length, s .lies .known)) (s .lies .known) j;
+        })
+
+    pub step-task : (u : ℕ) → stateOf stepped .task u ≡ upd (stateOf q .task) t (seenMove g r .rec) u
+    step-task u = ap (λ (s : M.State). s .task u) state-is
+
+    pub step-ends : Ends (seenMove g r)
+    unfolding recOf
+    step-ends = subst Ends seen (act-ends (placeOf (r .place)) (view g) (recOf r) (not-idle (r .place) (s .busy) (s .fine .place)))
+
+    pub step-keeps : Inv (record { state = stateOf stepped; book = B.stepped b t (B.noted (b .calls t) (b .queue) (view g .anchor) (view (stepped .tables) .anchor) (answerSeen reply)) (answerSeen reply) })
+    unfolding stateOf
+    step-keeps =
+        let After : M.State → Type 0 =
+        λ s. Inv (record { state = s; book = B.stepped b t (B.noted (b .calls t) (b .queue) (view g .anchor) (s .shared .anchor) (answerSeen reply)) (answerSeen reply) }) in
+        subst After (sym state-is) step-seen-keeps
+
+    pub step-links : LinksFine (stepped .tables)
+    unfolding finish
+    step-links = links-touched g (s .lies .rows) k (counted (g .control .retries) (m .failed)) (m .touch) (move-fine (g .control .slots) r (s .fine) (g .control) (linkMet g r))
+
+  -- Accepted starts.
+  module _ (z : Lies q t) where
+    rec-started : (kind side x l : ℕ) → recOf (started kind side x l) ≡ M.started (cond (eqb kind 0) M.push M.pop) (eqb side 1) x l
+    unfolding recOf
+    rec-started kind side x l = refl
+
+    tasks-are : (kind side x l : ℕ)
+        → (λ (u : ℕ). stateOf (record { tables = g; records = set (q .records) t (started kind side x l) }) .task u) ≡ upd (stateOf q .task) t (M.started (cond (eqb kind 0) M.push M.pop) (eqb side 1) x l)
+    tasks-are kind side x l = put-back q t z (started kind side x l) ∙ ap (λ (v : M.Rec). upd (stateOf q .task) t v) (rec-started kind side x l)
+
+    pub pop-keeps : (side : ℕ) → Inv (record {
+      state = stateOf (record { tables = g; records = set (q .records) t (started 1 side 0 0) });
+      book = B.begun b t (B.opened M.pop (eqb side 1) 0 0);
+    })
+    unfolding stateOf
+    pop-keeps side = subst (λ (s : M.State). Inv (record { state = s; book = B.begun b t (B.opened M.pop (eqb side 1) 0 0) }))
+        (sym (λ j. record { shared = view g; task = tasks-are 1 side 0 0 j }))
+        (pop-inv (record { state = stateOf q; book = b }) i t (eqb side 1))
+
+    pub push-keeps : (side x l : ℕ) → 1 ≤ x → x ≤ g .control .slots → marked (g .marks) x ≡ false → Inv (record {
+      state = stateOf (record { tables = taken g x l; records = set (q .records) t (started 0 side x l) });
+      book = B.begun b t (B.opened M.push (eqb side 1) x l);
+    })
+    unfolding stateOf view
+    push-keeps side x l real low clear = subst (λ (s : M.State). Inv (record { state = s; book = B.begun b t (B.opened M.push (eqb side 1) x l) }))
+        (sym (λ j. record { shared = view-taken g (z .rows) x l low j; task = tasks-are 0 side x l j }))
+        (push-inv (record { state = stateOf q; book = b }) i t (eqb side 1) x l (λ e. omega arith) low clear)

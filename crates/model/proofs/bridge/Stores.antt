@@ -1,0 +1,122 @@
+-- A touch of the tables is a touch of the decoded ones, and link words stay sound.
+use mathlib.Core.Bool.{Bool, cond, false, true}
+use mathlib.Core.List.{List}
+use mathlib.Core.Logic.{_≢_, _⊎_, inl, inr}
+use mathlib.Core.Path.{_∙_, _≡_, ap, fun-ext, refl, subst, sym}
+use Prim.Native.Nat.{_/_, _<_, _^_, _≤_, ℕ}
+use native.Mathlib.Omega.{arith}
+use lib.Dec.{eqb, ltb}
+use lib.ListN.{getD, length, set}
+use lib.Seq.{getD-set-other, getD-set-same}
+use borrow.Author.Tests.{eqb-false, eqb-true, lt-ltb}
+use Rattle.word.specs.Link.{linkOf, spareOf}
+use Rattle.model.specs.Calls.{taken, withRetries}
+use Rattle.model.specs.Places.{Touch, apply, clearMark, nothing, setAnchor, setLink}
+use Rattle.model.specs.Tables.{Tables, idle, marked, withMark}
+use Rattle.model.specs.declared.Record.{Record}
+use Rattle.model.proofs.tests.Truth.{by-test, decide-eq, split}
+use Rattle.model.proofs.machine.Machine as M
+use Rattle.model.proofs.machine.Machine.{relink, upd}
+use Rattle.model.proofs.bridge.Facts.{LinksFine, RowsFine}
+use Rattle.model.proofs.bridge.Marks.{marked-other, marked-same}
+use Rattle.model.proofs.bridge.View.{linkAt, linkSeen, recOf, touchSeen, view}
+
+-- A store in a list is a store in the function that it stands for.
+upd-list : {A B : Type 0} (f : B → A) (l : List B) (z w : B) (x : ℕ) → x < length l → (λ (y : ℕ). f (getD (set l x w) y z)) ≡ upd (λ y. f (getD l y z)) x (f w)
+unfolding upd
+upd-list f l z w x h = fun-ext (λ y. by-test (λ v. f (getD (set l x w) y z) ≡ v) (eqb y x)
+    (λ e. ap (λ (n : ℕ). f (getD (set l x w) n z)) (eqb-true y x e) ∙ ap f (getD-set-same l x w z h))
+    (λ e. ap f (getD-set-other l x y w z (eqb-false y x e))))
+
+upd-mark : (ws : List ℕ) (x b : ℕ) → b < 2 → x / 64 < length ws → (λ (y : ℕ). marked (withMark ws x b) y) ≡ upd (λ y. marked ws y) x (eqb b 1)
+unfolding upd
+upd-mark ws x b hb hx = fun-ext (λ y. by-test (λ v. marked (withMark ws x b) y ≡ v) (eqb y x)
+    (λ e. ap (λ (n : ℕ). marked (withMark ws x b) n) (eqb-true y x e) ∙ marked-same ws x b hb hx)
+    (λ e. marked-other ws x b hb hx y (eqb-false y x e)))
+
+-- A record put back, where the records beyond the tasks count as idle.
+pub task-set : (n : ℕ) (l : List Record) (t : ℕ) (r : Record) → t < length l → t < n
+    → (λ (u : ℕ). cond (ltb u n) (recOf (getD (set l t r) u idle)) M.blank) ≡ upd (λ u. cond (ltb u n) (recOf (getD l u idle)) M.blank) t (recOf r)
+unfolding upd
+task-set n l t r h g = fun-ext (λ u. by-test (λ v. cond (ltb u n) (recOf (getD (set l t r) u idle)) M.blank ≡ v) (eqb u t)
+    (λ e. let z = eqb-true u t e in
+    ap (λ (b : Bool). cond b (recOf (getD (set l t r) u idle)) M.blank) (lt-ltb u n (omega arith))
+    ∙ ap (λ (v : ℕ). recOf (getD (set l t r) v idle)) z ∙ ap recOf (getD-set-same l t r idle h))
+    (λ e. ap (λ (v : Record). cond (ltb u n) (recOf v) M.blank) (getD-set-other l t u r idle (eqb-false u t e))))
+
+-- No touch changes the numbers of tasks and slots.
+pub touched-tasks : (t : Touch) (q : Tables) → apply t q .control .tasks ≡ q .control .tasks
+touched-tasks nothing q = refl
+touched-tasks (setAnchor w) q = refl
+touched-tasks (setLink side x w) q = refl
+touched-tasks (clearMark x) q = refl
+
+pub touched-slots : (t : Touch) (q : Tables) → apply t q .control .slots ≡ q .control .slots
+touched-slots nothing q = refl
+touched-slots (setAnchor w) q = refl
+touched-slots (setLink side x w) q = refl
+touched-slots (clearMark x) q = refl
+
+-- A touch within the rows, and a sound link word.
+abbrev pub TouchFine : ℕ → Touch → Type 0
+TouchFine slots nothing = Unit {0}
+TouchFine slots (setAnchor w) = Unit {0}
+TouchFine slots (setLink side x w) = (x ≤ slots) × (spareOf w ≡ 0) × (linkOf w .slot ≤ slots) × (linkOf w .tag < 2 ^ 32)
+TouchFine slots (clearMark x) = x ≤ slots
+
+set-keeps : (P : ℕ → Type 0) (l : List ℕ) (x w y : ℕ) → x < length l → P w → P (getD l y 0) → P (getD (set l x w) y 0)
+set-keeps P l x w y h p g = go (decide-eq y x)
+  where
+    go : (y ≡ x) ⊎ (y ≢ x) → P (getD (set l x w) y 0)
+    go (inl z) = subst (λ v. P (getD (set l x w) v 0)) (sym z) (subst P (sym (getD-set-same l x w 0 h)) p)
+    go (inr z) = subst P (sym (getD-set-other l x y w 0 z)) g
+
+module _ (q : Tables) (h : RowsFine q) where
+  relinked : (n side x w : ℕ) → x ≤ q .control .slots → view (apply (setLink side x w) (withRetries q n)) .link ≡ relink (view q .link) (eqb side 1) x (linkSeen w)
+  unfolding view relink
+  relinked n side x w hx = split (eqb side 1)
+      (λ e. rw e (fun-ext (elim [ false ↦ refl | true ↦ upd-list linkSeen (q .rights) 0 w x (omega (arith, h .rights)) ])))
+      (λ e. rw e (fun-ext (elim [ false ↦ upd-list linkSeen (q .lefts) 0 w x (omega (arith, h .lefts)) | true ↦ refl ])))
+
+  pub view-touched : (n : ℕ) (t : Touch) → TouchFine (q .control .slots) t → view (apply t (withRetries q n)) ≡ M.apply (view q) (touchSeen t)
+  unfolding view
+  view-touched n nothing f = refl
+  view-touched n (setAnchor w) f = refl
+  view-touched n (setLink side x w) f = λ i. record {
+    slots = q .control .slots;
+    anchor = view q .anchor;
+    link = relinked n side x w (f .0) i;
+    label = view q .label;
+    mark = view q .mark;
+  }
+  view-touched n (clearMark x) f = λ i. record {
+    slots = q .control .slots;
+    anchor = view q .anchor;
+    link = view q .link;
+    label = view q .label;
+    mark = upd-mark (q .marks) x 0 (omega arith) (omega (arith, h .marks)) i;
+  }
+
+  pub view-taken : (x l : ℕ) → x ≤ q .control .slots → view (taken q x l) ≡ M.withLabel (view q) x l
+  unfolding view
+  view-taken x l hx = λ i. record {
+    slots = q .control .slots;
+    anchor = view q .anchor;
+    link = view q .link;
+    label = upd-list (λ v. v) (q .labels) 0 l x (omega (arith, h .labels)) i;
+    mark = upd-mark (q .marks) x 1 (omega arith) (omega (arith, h .marks)) i;
+  }
+
+  pub links-touched : LinksFine q → (n : ℕ) (t : Touch) → TouchFine (q .control .slots) t → LinksFine (apply t (withRetries q n))
+  links-touched k n nothing f = record { spare = k .spare; tag = k .tag; slot = k .slot }
+  links-touched k n (setAnchor w) f = record { spare = k .spare; tag = k .tag; slot = k .slot }
+  links-touched k n (clearMark x) f = record { spare = k .spare; tag = k .tag; slot = k .slot }
+  links-touched k n (setLink side x w) f = record {
+    spare = λ d y g. stays (λ v. spareOf v ≡ 0) (f .1) d y (λ d. k .spare d y g);
+    tag = λ d y g. stays (λ v. linkOf v .tag < 2 ^ 32) (f .3) d y (λ d. k .tag d y g);
+    slot = λ d y g. stays (λ v. linkOf v .slot ≤ q .control .slots) (f .2) d y (λ d. k .slot d y g);
+  }
+    where
+      stays : (P : ℕ → Type 0) → P w → (d : Bool) (y : ℕ) → ((d : Bool) → P (linkAt q d y)) → P (linkAt (apply (setLink side x w) (withRetries q n)) d y)
+      stays P p false y o = by-test (λ l. P (getD l y 0)) (eqb side 1) (λ e. o false) (λ e. set-keeps P (q .lefts) x w y (omega (arith, h .lefts, f .0)) p (o false))
+      stays P p true y o = by-test (λ l. P (getD l y 0)) (eqb side 1) (λ e. set-keeps P (q .rights) x w y (omega (arith, h .rights, f .0)) p (o true)) (λ e. o true)

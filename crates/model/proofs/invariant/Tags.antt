@@ -1,0 +1,43 @@
+-- The tag part of the invariant. (It serves the claim that 34 never occurs; linearizability needs no bound on tags.)
+use mathlib.Core.Bool.{Bool, cond, true}
+use mathlib.Core.Logic.{_⊎_}
+use mathlib.Core.Path.{_≡_}
+use Prim.Native.Nat.{_+_, _<_, _≤_, ℕ}
+use Rattle.model.proofs.machine.Machine.{Kind, Place, Rec, Shared, Status, at1, at10, at11, at2, at3, at4, at5, at6, at7, at8, at9, idle, pop, push, pushing, stable}
+use Rattle.model.proofs.invariant.Shape.{Made}
+
+-- (3) Each link's tag is at most Anchor's; while the link back is not made, the tags of that side are below it.
+pub record Tags (s : Shared) : Type 0 where
+  pub upper : (e : Bool) (y : ℕ) → y ≤ s .slots → s .link e y .tag ≤ s .anchor .tag
+  pub room : (e : Bool) → s .anchor .status ≡ pushing e → Made (s .link) (s .anchor) e ⊎ ((y : ℕ) → y ≤ s .slots → s .link e y .tag < s .anchor .tag)
+
+-- (4) The changes of Anchor that are still owed: a push before its effect two (place 4, then 10), a pop one, an unstable Anchor one.
+abbrev pub owes : Kind → ℕ
+owes push = 2
+owes pop = 1
+
+-- The task owes nothing: it is idle, a pop at 11, or a push that is finishing.
+abbrev pub spent : Place → Bool → Bool
+spent idle f = true
+spent at1 f = f
+spent at2 f = f
+spent at3 f = f
+spent at4 f = f
+spent at5 f = f
+spent at6 f = f
+spent at7 f = f
+spent at8 f = f
+spent at9 f = f
+spent at10 f = f
+spent at11 f = true
+
+abbrev pub cost : Rec → ℕ
+cost r = cond (spent (r .place) (r .finishing)) 0 (owes (r .kind))
+
+abbrev pub unsettled : Status → ℕ
+unsettled stable = 0
+unsettled (pushing d) = 1
+
+-- Anchor's tag and the change that its status owes. With the costs of all tasks it stays at most 4,294,967,295.
+abbrev pub weight : Shared → ℕ
+weight s = s .anchor .tag + unsettled (s .anchor .status)

@@ -1,0 +1,9 @@
+-- Histories: the ledger against the clerk's book, operation by operation, and the labels waiting.
+pub mod Matches
+pub mod Served
+pub mod Attended
+pub mod Matched
+pub mod Kept
+pub mod Lawful
+pub mod Waiting
+pub mod Opened

@@ -1,0 +1,125 @@
+-- A step in the ledger goes to the open call of its task, and the book follows.
+use mathlib.Core.Bool.{Bool, _&&_, cond, true}
+use mathlib.Core.List.{List, [], _∷_}
+use mathlib.Core.Logic.{_≢_}
+use mathlib.Core.Path.{_∙_, _≡_, ap, refl, subst, sym}
+use Prim.Native.Nat.{suc, ℕ}
+use native.Mathlib.Omega.{arith}
+use lib.Dec.{eqb}
+use lib.ListN.{length}
+use borrow.Author.Tests.{eq-eqb, eqb-true, ne-eqb}
+use Rattle.model.specs.History.{Call, Effect, Ending, Event, Ledger, Once, answered, attend, ended, isOpen, pending, stepOf}
+use Rattle.model.specs.declared.Answer.the-variants.{Empty, Popped, Pushed, Running}
+use Rattle.model.specs.declared.Answer.{Answer}
+use Rattle.model.proofs.tests.Truth.{and-true, by-test, not-both}
+use Rattle.model.proofs.machine.Clerk as B
+use Rattle.model.proofs.machine.Laws.{upd-other, upd-same}
+use Rattle.model.proofs.machine.Machine as M
+use Rattle.model.proofs.machine.Machine.{upd}
+use Rattle.model.proofs.bridge.View.{anchorSeen, answerSeen}
+use Rattle.model.proofs.ledger.Matches.{Final, Last, Matches, Tracked, Tracks, apart, opens, rest-keeps, same-answer}
+use Rattle.model.proofs.ledger.Served.{step-call}
+
+-- What the book holds after a step of task t.
+abbrev pub bookAfter : B.Book → ℕ → Event → Answer → B.Book
+bookAfter b t ev a = B.stepped b t (B.noted (b .calls t) (b .queue) (anchorSeen (ev .before)) (anchorSeen (ev .after)) (answerSeen a)) (answerSeen a)
+
+abbrev KeptHead : ℕ → B.Book → B.Call → Answer → Type 0
+KeptHead n b k a = Final a → B.Kept (record { call = k; answer = answerSeen a })
+
+abbrev pub goingOn : Answer → ℕ
+goingOn (Running p) = 1
+goingOn Pushed = 0
+goingOn Empty = 0
+goingOn (Popped e) = 0
+
+-- A call that its one effect closes.
+once : (n : ℕ) (c : Call) (k : B.Call) (a : Answer) → Matches (suc n) c k → B.Kept (record { call = k; answer = answerSeen a }) → Once c n a
+once n c k a m o = go (c .effects) refl (m .count) (m .last)
+  where
+    go : (l : List Effect) → c .effects ≡ l → k .effects ≡ length l → Last (suc n) c k l → Once c n a
+    go [] e g h = absurd (omega (arith, o .once))
+    go (x ∷ []) e g h = record { effect = x; only = e; begun = h .begun; within = omega (arith, h .past); agrees = same-answer (x .reply) a (h .final) (o .agrees ∙ h .told) }
+    go (x ∷ y ∷ l) e g h = absurd (omega (arith, o .once))
+
+-- The call of a step, in the book after it.
+closes : (n : ℕ) (b : B.Book) (t : ℕ) (ev : Event) (a : Answer) (c : Call) (e : Ending) → c .task ≡ t → e ≡ ended n a
+    → let w = B.noted (b .calls t) (b .queue) (anchorSeen (ev .before)) (anchorSeen (ev .after)) (answerSeen a) in
+    Matches (suc n) c (w .call) → KeptHead n b (w .call) a → Tracked (suc n) (bookAfter b t ev a .calls) c e
+closes n b t ev a c e z g m o = subst (Tracked (suc n) (bookAfter b t ev a .calls) c) (sym g) (go a m o)
+  where
+    go : (a : Answer) → let w = B.noted (b .calls t) (b .queue) (anchorSeen (ev .before)) (anchorSeen (ev .after)) (answerSeen a) in
+        Matches (suc n) c (w .call) → KeptHead n b (w .call) a → Tracked (suc n) (bookAfter b t ev a .calls) c (ended n a)
+    go (Running p) m o =
+        let v = B.noted (b .calls t) (b .queue) (anchorSeen (ev .before)) (anchorSeen (ev .after)) M.running .call in
+        subst (Matches (suc n) c) (sym (ap (λ (u : ℕ). upd (b .calls) t v u) z ∙ upd-same (b .calls) t v)) m
+    go Pushed m o = once n c _ Pushed m (o tt)
+    go Empty m o = once n c _ Empty m (o tt)
+    go (Popped x) m o = once n c _ (Popped x) m (o tt)
+
+book-other : (b : B.Book) (t : ℕ) (ev : Event) (a : Answer) (u : ℕ) → u ≢ t → bookAfter b t ev a .calls u ≡ b .calls u
+book-other b t ev (Running p) u n = upd-other (b .calls) t _ u n
+book-other b t ev Pushed u n = upd-other (b .calls) t _ u n
+book-other b t ev Empty u n = upd-other (b .calls) t _ u n
+book-other b t ev (Popped e) u n = upd-other (b .calls) t _ u n
+
+book-queue : (b : B.Book) (t : ℕ) (ev : Event) (a : Answer) → bookAfter b t ev a .queue ≡ B.noted (b .calls t) (b .queue) (anchorSeen (ev .before)) (anchorSeen (ev .after)) (answerSeen a) .queue
+book-queue b t ev (Running p) = refl
+book-queue b t ev Pushed = refl
+book-queue b t ev Empty = refl
+book-queue b t ev (Popped e) = refl
+
+ended-open : (n : ℕ) (a : Answer) → cond (isOpen (ended n a)) 1 0 ≡ goingOn a
+ended-open n (Running p) = refl
+ended-open n Pushed = refl
+ended-open n Empty = refl
+ended-open n (Popped e) = refl
+
+opens-skip : (u : ℕ) (c : Call) (cs : List Call) → c .task ≢ u → opens u (c ∷ cs) ≡ opens u cs
+opens-skip u c cs n = ap (λ (b : Bool). cond (b && isOpen (c .ending)) (suc (opens u cs)) (opens u cs)) (ne-eqb (c .task) u n)
+
+is-open : (e : Ending) → isOpen e ≡ true → e ≡ pending
+is-open pending z = refl
+is-open (answered n a) z = absurd (not-both z refl)
+
+pub record Attended (n : ℕ) (b : B.Book) (t : ℕ) (ev : Event) (a : Answer) (cs : List Call) (l : Ledger) : Type 0 where
+  pub deque : bookAfter b t ev a .queue ≡ l .deque
+  pub tracks : Tracks (suc n) (bookAfter b t ev a .calls) (l .calls)
+  pub own : opens t (l .calls) ≡ goingOn a
+  pub others : (u : ℕ) → u ≢ t → opens u (l .calls) ≡ opens u cs
+
+module _ (n : ℕ) (b : B.Book) (ev : Event) (a : Answer) (o : KeptHead n b (B.noted (b .calls (ev .task)) (b .queue) (anchorSeen (ev .before)) (anchorSeen (ev .after)) (answerSeen a) .call) a) where
+  abbrev t : ℕ
+  t = ev .task
+
+  -- The open call of the task comes first.
+  here : (c : Call) (cs : List Call) → c .task ≡ t → c .ending ≡ pending → opens t cs ≡ 0 → Matches n c (b .calls (c .task)) → Tracks n (b .calls) cs
+      → Attended n b t ev a (c ∷ cs) (stepOf n ev a (b .queue) c cs)
+  here c cs z g f m r =
+      let st = step-call n ev a (b .queue) c (b .calls t) (subst (λ u. Matches n c (b .calls u)) z m) cs in
+      record {
+        deque = book-queue b t ev a ∙ st .deque;
+        tracks = subst (Tracks (suc n) (bookAfter b t ev a .calls)) (sym (st .calls))
+            (closes n b t ev a (st .call) (st .call .ending) (st .task ∙ z) (st .ending) (st .matches) o, rest-keeps n (b .calls) (bookAfter b t ev a .calls) t (book-other b t ev a) cs f r);
+        own = ap (opens t) (st .calls) ∙ ap (λ (b : Bool). cond (b && isOpen (st .call .ending)) (suc (opens t cs)) (opens t cs)) (eq-eqb _ _ (st .task ∙ z))
+            ∙ ap (λ (e : Ending). cond (isOpen e) (suc (opens t cs)) (opens t cs)) (st .ending) ∙ ap (λ (k : ℕ). cond (isOpen (ended n a)) (suc k) k) f ∙ ended-open n a;
+        others = λ u d. ap (opens u) (st .calls) ∙ opens-skip u (st .call) cs (λ w. d (sym w ∙ st .task ∙ z)) ∙ sym (opens-skip u c cs (λ w. d (sym w ∙ z)));
+      }
+
+  pub attend-keeps : (cs : List Call) → opens t cs ≡ 1 → Tracks n (b .calls) cs → Attended n b t ev a cs (attend n ev a (b .queue) cs)
+  unfolding attend
+  attend-keeps [] e h = absurd (omega arith)
+  attend-keeps (c ∷ cs) e h = by-test (Attended n b t ev a (c ∷ cs)) (eqb (c .task) t && isOpen (c .ending))
+      (λ z. let y = and-true (eqb (c .task) t) (isOpen (c .ending)) z in
+      let g = is-open (c .ending) (y .1) in
+      let f = ap (λ (b : Bool). cond b (suc (opens t cs)) (opens t cs)) (sym z) ∙ e in
+      here c cs (eqb-true _ _ (y .0)) g (omega arith) (subst (Tracked n (b .calls) c) g (h .0)) (h .1))
+      (λ z. let f = ap (λ (b : Bool). cond b (suc (opens t cs)) (opens t cs)) (sym z) ∙ e in
+      let ih = attend-keeps cs f (h .1) in
+      let l = attend n ev a (b .queue) cs in
+      record {
+        deque = ih .deque;
+        tracks = (apart n (b .calls) (bookAfter b t ev a .calls) t (book-other b t ev a) c (c .ending) z (h .0), ih .tracks);
+        own = ap (λ (b : Bool). cond b (suc (opens t (l .calls))) (opens t (l .calls))) z ∙ ih .own;
+        others = λ u d. ap (λ (k : ℕ). cond (eqb (c .task) u && isOpen (c .ending)) (suc k) k) (ih .others u d);
+      })

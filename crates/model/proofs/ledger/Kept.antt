@@ -1,0 +1,176 @@
+-- Every operation keeps the ledger matched: a refused one, a start, a step.
+use mathlib.Core.Bool.{Bool, _&&_, cond, false, true}
+use mathlib.Core.List.{List, [], _∷_}
+use mathlib.Core.Logic.{_≢_, _⊎_, inl, inr}
+use mathlib.Core.Path.{_∙_, _≡_, ap, refl, subst, sym}
+use Prim.Native.Nat.{suc, ℕ}
+use native.Mathlib.Omega.{arith}
+use lib.Dec.{eqb}
+use lib.ListN.{set}
+use borrow.Author.Tests.{eq-eqb, eqb-true, ne-eqb}
+use Rattle.model.specs.Calls.{Acted, Done, act, actOn, back, finish, popStart, pushStart, step, taken}
+use Rattle.model.specs.History.{All, Event, Ledger, Request, accept, attend, begins, final, ledgerFrom, note, over, run}
+use Rattle.model.specs.Places.{linkMet, move}
+use Rattle.model.specs.Refusals.{among, popRefusal, pushRefusal, stepRefusal}
+use Rattle.model.specs.Tables.{Queue, idle, recordAt, started}
+use Rattle.model.specs.declared.Answer.the-variants.{Empty, Popped, Pushed, Running}
+use Rattle.model.specs.declared.Answer.{Answer}
+use Rattle.model.specs.declared.Entry.{Entry}
+use Rattle.model.specs.declared.Op.the-variants.{Pop, Push, Step}
+use Rattle.model.specs.declared.Op.{Op}
+use Rattle.model.specs.declared.Outcome.the-variants.{Moved, Refused}
+use Rattle.model.specs.declared.Record.{Record}
+use Rattle.model.proofs.tests.Truth.{by-test, decide-eq}
+use Rattle.model.proofs.lists.Store.{set-back}
+use Rattle.model.proofs.machine.Answers.{EndsAt}
+use Rattle.model.proofs.machine.Clerk as B
+use Rattle.model.proofs.machine.Laws.{upd-other, upd-same}
+use Rattle.model.proofs.machine.Machine as M
+use Rattle.model.proofs.machine.Machine.{upd}
+use Rattle.model.proofs.invariant.Invariant.{Inv}
+use Rattle.model.proofs.bridge.Accepted.{Lies, Pushing, Stepping, pop-accepted, push-accepted, step-accepted}
+use Rattle.model.proofs.bridge.Decoded.{seenMove}
+use Rattle.model.proofs.bridge.Facts.{LinksFine}
+use Rattle.model.proofs.bridge.Operations.{not-idle, pop-keeps, push-keeps, put-back, reply, step-ends, step-keeps, step-links, step-task, stepped, task-of}
+use Rattle.model.proofs.bridge.View.{answerSeen, kindOf, placeOf, recOf, stateOf, view}
+use Rattle.model.proofs.ledger.Attended.{Attended, attend-keeps, bookAfter, goingOn}
+use Rattle.model.proofs.ledger.Matched.{Matched, busyNo}
+use Rattle.model.proofs.ledger.Matches.{Final, Matches, opens, rest-keeps, tracks-mono}
+
+goes-on : (a : Answer) (b : Bool) → EndsAt (answerSeen a) b → goingOn a ≡ busyNo b
+goes-on (Running p) b e = rw e
+goes-on Pushed b e = rw e
+goes-on Empty b e = rw e
+goes-on (Popped x) b e = rw e
+
+kept-head : (b : B.Book) (t : ℕ) (w : B.Noted) (a : Answer) → All B.Kept (B.stepped b t w (answerSeen a) .closed) → Final a → B.Kept (record { call = w .call; answer = answerSeen a })
+kept-head b t w (Running p) h f = absurd f
+kept-head b t w Pushed h f = h .0
+kept-head b t w Empty h f = h .0
+kept-head b t w (Popped e) h f = h .0
+
+module _ (n : ℕ) (q : Queue) (l : Ledger) (g : Matched n q l) (t : ℕ) where
+  abbrev r : Record
+  r = recordAt q t
+
+  abbrev After : Op → Done → Type 0
+  After o d = Matched (suc n) (d .queue) (note n (record { task = t; op = o; outcome = d .outcome; before = q .tables .control .anchor; after = d .queue .tables .control .anchor }) (d .outcome) l)
+
+  abbrev Put : Op → Acted → Type 0
+  Put o a = After o (back q t a)
+
+  -- A refused operation puts the record back as it was.
+  refused : (o : Op) (why : ℕ) → Put o (record { tables = q .tables; task = r; outcome = Refused why })
+  unfolding note
+  refused o why = subst (λ (x : List Record). Matched (suc n) (record { tables = q .tables; records = x }) l) (sym (set-back (q .records) t idle))
+      (record { book = g .book; inv = g .inv; links = g .links; deque = g .deque; tracks = tracks-mono n (g .book .calls) (l .calls) (g .tracks); busy = g .busy })
+
+  module _ (s : Stepping q t) where
+    abbrev q′ : Queue
+    q′ = stepped q (g .book) (g .inv) (g .links) t s
+
+    abbrev a : Answer
+    a = reply q (g .book) (g .inv) (g .links) t s
+
+    abbrev ev : Event
+    ev = record { task = t; op = Step; outcome = Moved a; before = q .tables .control .anchor; after = q′ .tables .control .anchor }
+
+    abbrev b : B.Book
+    b = g .book
+
+    kept : Inv (record { state = stateOf q′; book = bookAfter b t ev a })
+    unfolding view
+    kept = step-keeps q b (g .inv) (g .links) t s
+
+    was-busy : M.isIdle (stateOf q .task t .place) ≡ false
+    unfolding recOf
+    was-busy = ap (λ (x : M.Rec). M.isIdle (x .place)) (task-of q t (s .lies .known)) ∙ not-idle (r .place) (s .busy) (s .fine .place)
+
+    attended : Attended n b t ev a (l .calls) (attend n ev a (l .deque) (l .calls))
+    attended = subst (λ d. Attended n b t ev a (l .calls) (attend n ev a d (l .calls))) (g .deque)
+        (attend-keeps n b ev a (kept-head b t _ a (kept .kept)) (l .calls) (g .busy t ∙ ap busyNo was-busy) (g .tracks))
+
+    step-good : Put Step (finish (q .tables) r (move (q .tables .control) r (linkMet (q .tables) r)))
+    unfolding note accept finish
+    step-good = record {
+      book = bookAfter b t ev a;
+      inv = kept;
+      links = step-links q b (g .inv) (g .links) t s;
+      deque = attended .deque;
+      tracks = attended .tracks;
+      busy = λ u. go u (decide-eq u t);
+    }
+      where
+        is : (u : ℕ) → stateOf q′ .task u ≡ upd (stateOf q .task) t (seenMove (q .tables) r .rec) u
+        is u = step-task q b (g .inv) (g .links) t s u
+
+        idle-is : (u : ℕ) (x : M.Rec) → upd (stateOf q .task) t (seenMove (q .tables) r .rec) u ≡ x → busyNo (M.isIdle (x .place)) ≡ busyNo (M.isIdle (stateOf q′ .task u .place))
+        idle-is u x e = ap (λ (x : M.Rec). busyNo (M.isIdle (x .place))) (sym (is u ∙ e))
+
+        go : (u : ℕ) → (u ≡ t) ⊎ (u ≢ t) → opens u (attend n ev a (l .deque) (l .calls) .calls) ≡ busyNo (M.isIdle (stateOf q′ .task u .place))
+        go u (inl z) = subst (λ u. opens u (attend n ev a (l .deque) (l .calls) .calls) ≡ busyNo (M.isIdle (stateOf q′ .task u .place))) (sym z)
+            (attended .own ∙ goes-on a _ (step-ends q b (g .inv) (g .links) t s .ends) ∙ idle-is t _ (upd-same _ t _))
+        go u (inr z) = attended .others u z ∙ g .busy u ∙ idle-is u _ (upd-other _ t _ u z)
+
+  module _ (z : Lies q t) (free : r .place ≡ 0) where
+    was-idle : opens t (l .calls) ≡ 0
+    unfolding recOf
+    was-idle = g .busy t ∙ ap (λ (x : M.Rec). busyNo (M.isIdle (x .place))) (task-of q t (z .known)) ∙ ap (λ (p : ℕ). busyNo (M.isIdle (placeOf p))) free
+
+    begun : (q′ : Queue) (kind side : ℕ) (e : Entry) → ((u : ℕ) → stateOf q′ .task u ≡ upd (stateOf q .task) t (recOf (started kind side (e .slot) (e .label))) u)
+        → Inv (record { state = stateOf q′; book = B.begun (g .book) t (B.opened (kindOf kind) (eqb side 1) (e .slot) (e .label)) }) → LinksFine (q′ .tables)
+        → Matched (suc n) q′ (over (begins n t kind side e) l)
+    unfolding recOf
+    begun q′ kind side e is i k =
+        let c = B.opened (kindOf kind) (eqb side 1) (e .slot) (e .label) in
+        record {
+          book = B.begun (g .book) t c;
+          inv = i;
+          links = k;
+          deque = g .deque;
+          tracks = (
+            subst (Matches (suc n) (begins n t kind side e)) (sym (upd-same (g .book .calls) t c))
+                (record { kind = refl; side = refl; slot = refl; label = refl; begun = omega arith; count = refl; last = tt }),
+            rest-keeps n (g .book .calls) (upd (g .book .calls) t c) t (λ u z. upd-other (g .book .calls) t c u z) (l .calls) was-idle (g .tracks),
+          );
+          busy = λ u. go u (decide-eq u t);
+        }
+      where
+        new : Record
+        new = started kind side (e .slot) (e .label)
+
+        go : (u : ℕ) → (u ≡ t) ⊎ (u ≢ t) → cond (eqb t u && true) (suc (opens u (l .calls))) (opens u (l .calls)) ≡ busyNo (M.isIdle (stateOf q′ .task u .place))
+        go u (inl z) = subst (λ u. cond (eqb t u && true) (suc (opens u (l .calls))) (opens u (l .calls)) ≡ busyNo (M.isIdle (stateOf q′ .task u .place))) (sym z)
+            (ap (λ (b : Bool). cond (b && true) (suc (opens t (l .calls))) (opens t (l .calls))) (eq-eqb t t refl) ∙ ap suc was-idle
+            ∙ ap (λ (x : M.Rec). busyNo (M.isIdle (x .place))) (sym (is t ∙ upd-same (stateOf q .task) t (recOf new))))
+        go u (inr z) = ap (λ (b : Bool). cond (b && true) (suc (opens u (l .calls))) (opens u (l .calls))) (ne-eqb t u (λ w. z (sym w))) ∙ g .busy u
+            ∙ ap (λ (x : M.Rec). busyNo (M.isIdle (x .place))) (sym (is u ∙ upd-other (stateOf q .task) t (recOf new) u z))
+
+    replaced : (x : Record) (u : ℕ) → stateOf (record { tables = q .tables; records = set (q .records) t x }) .task u ≡ upd (stateOf q .task) t (recOf x) u
+    replaced x u = ap (λ (f : ℕ → M.Rec). f u) (put-back q t z x)
+
+    pop-good : (side : ℕ) → Put (Pop side) (record { tables = q .tables; task = started 1 side 0 0; outcome = Moved (Running 1) })
+    unfolding note accept
+    pop-good side = begun (record { tables = q .tables; records = set (q .records) t (started 1 side 0 0) }) 1 side (record { slot = 0; label = 0 }) (replaced (started 1 side 0 0))
+        (pop-keeps q (g .book) (g .inv) (g .links) t z side) (g .links)
+
+    push-good : (side x y : ℕ) → Pushing q t side x → Put (Push side x y) (record { tables = taken (q .tables) x y; task = started 0 side x y; outcome = Moved (Running 1) })
+    unfolding note accept stateOf
+    push-good side x y p = begun (record { tables = taken (q .tables) x y; records = set (q .records) t (started 0 side x y) }) 0 side (record { slot = x; label = y }) (replaced (started 0 side x y))
+        (push-keeps q (g .book) (g .inv) (g .links) t z side x y (p .real) (p .within) (p .unmarked)) (record { spare = g .links .spare; tag = g .links .tag; slot = g .links .slot })
+
+  pub act-good : (o : Op) → After o (act q t o)
+  unfolding act actOn pushStart popStart step
+  act-good (Push side x y) = by-test (Put (Push side x y)) (eqb (pushRefusal (q .tables) (among q t) r side x) 0)
+      (λ e. let p = push-accepted q t side x (eqb-true _ _ e) in push-good (p .starting .lies) (p .starting .free) side x y p)
+      (λ e. refused (Push side x y) (pushRefusal (q .tables) (among q t) r side x))
+  act-good (Pop side) = by-test (Put (Pop side)) (eqb (popRefusal (q .tables) (among q t) r side) 0)
+      (λ e. let p = pop-accepted q t side (eqb-true _ _ e) in pop-good (p .lies) (p .free) side)
+      (λ e. refused (Pop side) (popRefusal (q .tables) (among q t) r side))
+  act-good Step = by-test (Put Step) (eqb (stepRefusal (q .tables) (among q t) r) 0)
+      (λ e. step-good (step-accepted q t (eqb-true _ _ e))) (λ e. refused Step (stepRefusal (q .tables) (among q t) r))
+
+pub run-good : (os : List Request) (n : ℕ) (q : Queue) (l : Ledger) → Matched n q l → (m : ℕ) × Matched m (final q os) (ledgerFrom n l (run q os))
+unfolding run final ledgerFrom
+run-good [] n q l g = (n, g)
+run-good (o ∷ os) n q l g = run-good os (suc n) (act q (o .task) (o .op) .queue) _ (act-good n q l g (o .task) (o .op))

@@ -1,0 +1,100 @@
+-- The sequential deque of the ledger serves a call as the clerk does.
+use mathlib.Core.Bool.{Bool, cond, false, true}
+use mathlib.Core.List.{List, [], _∷_}
+use mathlib.Core.Path.{_∙_, _≡_, ap, refl, subst, sym}
+use Prim.Native.Nat.{suc, ℕ}
+use native.Mathlib.Omega.{arith}
+use lib.Dec.{eqb}
+use Rattle.model.specs.Deque.{Served, serve, servePop, servePush, takeFirst}
+use Rattle.model.specs.History.{Call, Effect, Ending, Event, Ledger, continued, ended, isEffect, stepOf}
+use Rattle.model.specs.declared.Answer.the-variants.{Empty, Popped, Pushed, Running}
+use Rattle.model.specs.declared.Answer.{Answer}
+use Rattle.model.specs.declared.Entry.{Entry}
+use Rattle.model.proofs.tests.Truth.{split}
+use Rattle.model.proofs.lists.Deque.{put, rest, seen, took}
+use Rattle.model.proofs.lists.Ends.{seen-nil}
+use Rattle.model.proofs.machine.Clerk as B
+use Rattle.model.proofs.machine.Machine as M
+use Rattle.model.proofs.bridge.View.{anchorSeen, answerSeen}
+use Rattle.model.proofs.ledger.Matches.{Final, Last, Matches, matches-mono}
+
+effect-is : (ev : Event) (a : Answer) → B.effect (anchorSeen (ev .before)) (anchorSeen (ev .after)) (answerSeen a) ≡ isEffect ev a
+unfolding isEffect
+effect-is ev (Running p) = refl
+effect-is ev Pushed = refl
+effect-is ev Empty = refl
+effect-is ev (Popped e) = refl
+
+pub record Agrees (c : Call) (k : B.Call) (d : List Entry) (s : Served) (w : B.Noted) : Type 0 where
+  pub deque : w .queue ≡ s .deque
+  pub told : w .call .told ≡ answerSeen (s .reply)
+  pub final : Final (s .reply)
+  pub call : w .call ≡ B.told k (w .call .told)
+
+-- A pop is served the same, whether the deque is empty or not.
+serve-pop : (c : Call) (k : B.Call) (d : List Entry) (side : ℕ) (m : List Entry) → seen (eqb side 1) d ≡ m
+    → Agrees c k d (takeFirst side m) (record { call = B.told k (B.given m); queue = took (eqb side 1) d })
+unfolding took
+serve-pop c k d side [] e = record { deque = ap (λ (l : List Entry). seen (eqb side 1) (rest l)) e ∙ seen-nil (eqb side 1); told = refl; final = tt; call = refl }
+serve-pop c k d side (x ∷ m) e = record { deque = ap (λ (l : List Entry). seen (eqb side 1) (rest l)) e; told = refl; final = tt; call = refl }
+
+serve-is : (c : Call) (k : B.Call) → k .side ≡ eqb (c .side) 1 → k .slot ≡ c .entry .slot → k .label ≡ c .entry .label → (d : List Entry) (b : Bool)
+    → Agrees c k d (cond b (servePush (c .side) (c .entry) d) (servePop (c .side) d)) (B.served (cond b M.push M.pop) k d)
+unfolding servePush servePop put
+serve-is c k side slot label d true = record { deque = λ i. put (side i) (record { slot = slot i; label = label i }) d; told = refl; final = tt; call = refl }
+serve-is c k side slot label d false =
+    subst (λ (b : Bool). Agrees c k d (servePop (c .side) d) (record { call = B.told k (B.given (seen b d)); queue = took b d })) (sym side) (serve-pop c k d (c .side) (seen (eqb (c .side) 1) d) refl)
+
+-- The call after the step.
+pub record Stepped (n : ℕ) (a : Answer) (c : Call) (cs : List Call) (w : B.Noted) (l : Ledger) : Type 0 where
+  pub call : Call
+  pub calls : l .calls ≡ call ∷ cs
+  pub task : call .task ≡ c .task
+  pub ending : call .ending ≡ ended n a
+  pub deque : w .queue ≡ l .deque
+  pub matches : Matches (suc n) call (w .call)
+
+last-other : (n : ℕ) (c : Call) (k : B.Call) (l : List Effect) (e : Ending) (m : List Effect) → Last n c k l → Last n (continued c m e) k l
+last-other n c k [] e m h = tt
+last-other n c k (x ∷ l) e m h = record { told = h .told; final = h .final; begun = h .begun; past = h .past }
+
+module _ (n : ℕ) (ev : Event) (a : Answer) (d : List Entry) (c : Call) (k : B.Call) (h : Matches n c k) (cs : List Call) where
+  abbrev s : Served
+  s = serve (c .kind) (c .side) (c .entry) d
+
+  pub agrees : Agrees c k d s (B.served (k .kind) k d)
+  unfolding serve
+  agrees = subst (λ z. Agrees c k d s (B.served z k d)) (sym (h .kind)) (serve-is c k (h .side) (h .slot) (h .label) d (eqb (c .kind) 0))
+
+  with-effect : Stepped n a c cs (B.served (k .kind) k d) (record { deque = s .deque; calls = continued c (record { at = n; reply = s .reply } ∷ c .effects) (ended n a) ∷ cs })
+  with-effect = record {
+    call = continued c (record { at = n; reply = s .reply } ∷ c .effects) (ended n a);
+    calls = refl;
+    task = refl;
+    ending = refl;
+    deque = agrees .deque;
+    matches = subst (Matches (suc n) (continued c (record { at = n; reply = s .reply } ∷ c .effects) (ended n a))) (sym (agrees .call))
+        (record {
+          kind = h .kind;
+          side = h .side;
+          slot = h .slot;
+          label = h .label;
+          begun = omega (arith, h .begun);
+          count = ap suc (h .count);
+          last = record { told = agrees .told; final = agrees .final; begun = h .begun; past = omega arith };
+        });
+  }
+
+  without : Stepped n a c cs (record { call = k; queue = d }) (record { deque = d; calls = continued c (c .effects) (ended n a) ∷ cs })
+  without = let m = matches-mono n c k h in record {
+    call = continued c (c .effects) (ended n a);
+    calls = refl;
+    task = refl;
+    ending = refl;
+    deque = refl;
+    matches = record { kind = m .kind; side = m .side; slot = m .slot; label = m .label; begun = m .begun; count = m .count; last = last-other (suc n) c k (c .effects) (ended n a) (c .effects) (m .last) };
+  }
+
+  pub step-call : Stepped n a c cs (B.noted k d (anchorSeen (ev .before)) (anchorSeen (ev .after)) (answerSeen a)) (stepOf n ev a d c cs)
+  unfolding stepOf B.noted
+  step-call = split (isEffect ev a) (λ e. rw (effect-is ev a, e) with-effect) (λ e. rw (effect-is ev a, e) without)

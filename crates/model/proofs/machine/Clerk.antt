@@ -1,0 +1,96 @@
+-- The clerk of the decoded machine: he keeps a deque, serves a call at each of its effects, and notes how many there were.
+use mathlib.Core.Bool.{Bool, _&&_, _||_, cond, false, not, true}
+use mathlib.Core.List.{List, [], _∷_}
+use mathlib.Core.Path.{_≡_}
+use Prim.Native.Nat.{suc, ℕ}
+use lib.Dec.{eqb}
+use Rattle.model.specs.declared.Entry.{Entry}
+use Rattle.model.proofs.lists.Deque.{put, seen, took}
+use Rattle.model.proofs.machine.Machine.{Anchor, Answer, Kind, State, Status, empty, pop, popped, push, pushed, pushing, running, stable, upd}
+
+-- A call: what its start named, the number of its effects so far, and what the clerk answered last.
+pub record Call : Type 0 where
+  pub kind : Kind
+  pub side : Bool
+  pub slot : ℕ
+  pub label : ℕ
+  pub effects : ℕ
+  pub told : Answer
+
+pub record Closed : Type 0 where
+  pub call : Call
+  pub answer : Answer
+
+pub record Book : Type 0 where
+  pub queue : List Entry
+  pub calls : ℕ → Call
+  pub closed : List Closed
+
+abbrev pub opened : Kind → Bool → ℕ → ℕ → Call
+opened k d x l = record { kind = k; side = d; slot = x; label = l; effects = 0; told = running }
+
+abbrev pub noCall : Call
+noCall = opened push false 0 0
+
+pub record Noted : Type 0 where
+  pub call : Call
+  pub queue : List Entry
+
+abbrev pub told : Call → Answer → Call
+told c a = record { kind = c .kind; side = c .side; slot = c .slot; label = c .label; effects = suc (c .effects); told = a }
+
+abbrev pub given : List Entry → Answer
+given [] = empty
+given (e ∷ q) = popped (e .slot) (e .label)
+
+-- The sequential clerk serves one call.
+abbrev pub served : Kind → Call → List Entry → Noted
+served push c q = record { call = told c pushed; queue = put (c .side) (record { slot = c .slot; label = c .label }) q }
+served pop c q = record { call = told c (given (seen (c .side) q)); queue = took (c .side) q }
+
+abbrev pub isEmpty : Answer → Bool
+isEmpty running = false
+isEmpty pushed = false
+isEmpty empty = true
+isEmpty (popped x l) = false
+
+-- An effect is seen from Anchor's ends and the answer.
+abbrev pub effect : Anchor → Anchor → Answer → Bool
+effect a b w = not (eqb (a .left) (b .left) && eqb (a .right) (b .right)) || isEmpty w
+
+unfoldable pub noted : Call → List Entry → Anchor → Anchor → Answer → Noted
+noted c q a b w = cond (effect a b w) (served (c .kind) c q) (record { call = c; queue = q })
+
+abbrev pub stays : Book → ℕ → Noted → Book
+stays b t n = record { queue = n .queue; calls = upd (b .calls) t (n .call); closed = b .closed }
+
+abbrev pub closes : Book → ℕ → Noted → Answer → Book
+closes b t n w = record { queue = n .queue; calls = upd (b .calls) t noCall; closed = record { call = n .call; answer = w } ∷ b .closed }
+
+-- One start or step in the book: the operation, its answer, and Anchor before and after.
+abbrev pub stepped : Book → ℕ → Noted → Answer → Book
+stepped b t n running = stays b t n
+stepped b t n pushed = closes b t n pushed
+stepped b t n empty = closes b t n empty
+stepped b t n (popped x l) = closes b t n (popped x l)
+
+abbrev pub begun : Book → ℕ → Call → Book
+begun b t c = record { queue = b .queue; calls = upd (b .calls) t c; closed = b .closed }
+
+-- The machine and the book side by side.
+pub record Both : Type 0 where
+  pub state : State
+  pub book : Book
+
+-- The side to walk from: the right one, or the left one under LPUSH.
+abbrev pub whence : Status → Bool
+whence stable = true
+whence (pushing d) = d
+
+-- What is promised of the book.
+pub record Kept (c : Closed) : Type 0 where
+  pub once : c .call .effects ≡ 1
+  pub agrees : c .answer ≡ c .call .told
+
+abbrev pub noBook : Book
+noBook = record { queue = []; calls = λ t. noCall; closed = [] }

@@ -1,0 +1,240 @@
+-- The machine of document 003, figures 3 to 5, over decoded words: places, kinds and statuses are data, tables are functions.
+-- A place does one touch of what the tasks share. Side true is right.
+use mathlib.Core.Bool.{Bool, _&&_, cond, false, not, true}
+use Prim.Native.Nat.{suc, ℕ}
+use lib.Dec.{eqb}
+
+pub data Status : Type 0 where
+  stable : Status
+  pushing : Bool → Status
+
+abbrev pub code : Status → ℕ
+code stable = 0
+code (pushing true) = 1
+code (pushing false) = 2
+
+-- The side that a status names.
+abbrev pub towards : Status → Bool
+towards stable = false
+towards (pushing d) = d
+
+pub record Anchor : Type 0 where
+  pub tag : ℕ
+  pub status : Status
+  pub left : ℕ
+  pub right : ℕ
+
+pub record Link : Type 0 where
+  pub tag : ℕ
+  pub slot : ℕ
+
+abbrev pub tip : Anchor → Bool → ℕ
+tip a false = a .left
+tip a true = a .right
+
+-- The Anchor with its tag raised, a status, and one end set.
+abbrev pub aimed : Anchor → Bool → ℕ → Status → Anchor
+aimed a false x st = record { tag = suc (a .tag); status = st; left = x; right = a .right }
+aimed a true x st = record { tag = suc (a .tag); status = st; left = a .left; right = x }
+
+abbrev pub both : Anchor → ℕ → Anchor
+both a x = record { tag = suc (a .tag); status = a .status; left = x; right = x }
+
+abbrev pub settled : Anchor → Anchor
+settled a = record { tag = suc (a .tag); status = stable; left = a .left; right = a .right }
+
+unfoldable pub same : Anchor → Anchor → Bool
+same a b = eqb (a .tag) (b .tag) && eqb (code (a .status)) (code (b .status)) && eqb (a .left) (b .left) && eqb (a .right) (b .right)
+
+unfoldable pub sameLink : Link → Link → Bool
+sameLink a b = eqb (a .tag) (b .tag) && eqb (a .slot) (b .slot)
+
+abbrev pub isStable : Status → Bool
+isStable stable = true
+isStable (pushing d) = false
+
+pub data Place : Type 0 where
+  idle at1 at2 at3 at4 at5 at6 at7 at8 at9 at10 at11 : Place
+
+pub data Kind : Type 0 where
+  push pop : Kind
+
+-- A task's record.
+pub record Rec : Type 0 where
+  pub place : Place
+  pub kind : Kind
+  pub side : Bool
+  pub own : ℕ
+  pub label : ℕ
+  pub read : Anchor
+  pub near : ℕ
+  pub link : Link
+  pub finishing : Bool
+
+abbrev pub noAnchor : Anchor
+noAnchor = record { tag = 0; status = stable; left = 0; right = 0 }
+
+abbrev pub noLink : Link
+noLink = record { tag = 0; slot = 0 }
+
+abbrev pub started : Kind → Bool → ℕ → ℕ → Rec
+started k d x l = record { place = at1; kind = k; side = d; own = x; label = l; read = noAnchor; near = 0; link = noLink; finishing = false }
+
+abbrev pub blank : Rec
+blank = record { place = idle; kind = push; side = false; own = 0; label = 0; read = noAnchor; near = 0; link = noLink; finishing = false }
+
+abbrev pub goes : Rec → Place → Rec
+goes r p = record { place = p; kind = r .kind; side = r .side; own = r .own; label = r .label; read = r .read; near = r .near; link = r .link; finishing = r .finishing }
+
+abbrev pub reads : Rec → Anchor → Place → Rec
+reads r a p = record { place = p; kind = r .kind; side = r .side; own = r .own; label = r .label; read = a; near = r .near; link = r .link; finishing = r .finishing }
+
+abbrev pub finds : Rec → ℕ → Place → Rec
+finds r x p = record { place = p; kind = r .kind; side = r .side; own = r .own; label = r .label; read = r .read; near = x; link = r .link; finishing = r .finishing }
+
+abbrev pub holds : Rec → Link → Place → Rec
+holds r w p = record { place = p; kind = r .kind; side = r .side; own = r .own; label = r .label; read = r .read; near = r .near; link = w; finishing = r .finishing }
+
+abbrev pub finishes : Rec → Anchor → Rec
+finishes r a = record { place = at5; kind = r .kind; side = r .side; own = r .own; label = r .label; read = a; near = r .near; link = r .link; finishing = true }
+
+-- What the tasks share.
+pub record Shared : Type 0 where
+  pub slots : ℕ
+  pub anchor : Anchor
+  pub link : Bool → ℕ → Link
+  pub label : ℕ → ℕ
+  pub mark : ℕ → Bool
+
+unfoldable pub upd : {A : Type 0} → (ℕ → A) → ℕ → A → ℕ → A
+upd f x v y = cond (eqb y x) v (f y)
+
+unfoldable pub relink : (Bool → ℕ → Link) → Bool → ℕ → Link → Bool → ℕ → Link
+relink k false x v false = upd (k false) x v
+relink k false x v true = k true
+relink k true x v false = k false
+relink k true x v true = upd (k true) x v
+
+abbrev pub withAnchor : Shared → Anchor → Shared
+withAnchor s a = record { slots = s .slots; anchor = a; link = s .link; label = s .label; mark = s .mark }
+
+abbrev pub withLink : Shared → Bool → ℕ → Link → Shared
+withLink s d x v = record { slots = s .slots; anchor = s .anchor; link = relink (s .link) d x v; label = s .label; mark = s .mark }
+
+abbrev pub withMark : Shared → ℕ → Bool → Shared
+withMark s x b = record { slots = s .slots; anchor = s .anchor; link = s .link; label = s .label; mark = upd (s .mark) x b }
+
+abbrev pub withLabel : Shared → ℕ → ℕ → Shared
+withLabel s x l = record { slots = s .slots; anchor = s .anchor; link = s .link; label = upd (s .label) x l; mark = upd (s .mark) x true }
+
+pub data Answer : Type 0 where
+  running pushed empty : Answer
+  popped : ℕ → ℕ → Answer
+
+-- The one shared word that a step may change.
+pub data Touch : Type 0 where
+  none : Touch
+  putAnchor : Anchor → Touch
+  putLink : Bool → ℕ → Link → Touch
+  clear : ℕ → Touch
+
+abbrev pub apply : Shared → Touch → Shared
+apply s none = s
+apply s (putAnchor a) = withAnchor s a
+apply s (putLink d x v) = withLink s d x v
+apply s (clear x) = withMark s x false
+
+-- One step of a task with a record: what it changes, the record then, and the answer.
+pub record Move : Type 0 where
+  pub touch : Touch
+  pub rec : Rec
+  pub answer : Answer
+
+abbrev pub runs : Touch → Rec → Move
+runs w r = record { touch = w; rec = r; answer = running }
+
+abbrev pub ends : Touch → Answer → Move
+ends w a = record { touch = w; rec = blank; answer = a }
+
+abbrev pub leave : Touch → Rec → Move
+leave w r = cond (r .finishing) (ends w pushed) (runs w (goes r at1))
+
+-- The inward neighbour of a slot on a side.
+abbrev pub inner : Shared → Bool → ℕ → ℕ
+inner s d x = s .link (not d) x .slot
+
+-- 1: read Anchor; a pop tests l = r before the status.
+abbrev pub one : Kind → Shared → Rec → Move
+one push s r = cond (eqb (s .anchor .left) 0) (runs none (reads r (s .anchor) at2))
+    (cond (isStable (s .anchor .status)) (runs none (reads r (s .anchor) at3)) (runs none (reads r (s .anchor) at5)))
+one pop s r = cond (eqb (s .anchor .left) 0) (ends none empty)
+    (cond (eqb (s .anchor .left) (s .anchor .right)) (runs none (reads r (s .anchor) at2))
+    (cond (isStable (s .anchor .status)) (runs none (reads r (s .anchor) at3)) (runs none (reads r (s .anchor) at5))))
+
+-- 2: the first entry put, the only one taken.
+abbrev pub two : Kind → Shared → Rec → Move
+two push s r = cond (same (r .read) (s .anchor)) (ends (putAnchor (both (r .read) (r .own))) pushed) (runs none (goes r at1))
+two pop s r = cond (same (r .read) (s .anchor)) (runs (putAnchor (both (r .read) 0)) (goes r at11)) (runs none (goes r at1))
+
+-- The link that a push writes in its own slot, its tag kept.
+abbrev pub ownLink : Shared → Rec → Link
+ownLink s r = record { tag = s .link (not (r .side)) (r .own) .tag; slot = tip (r .read) (r .side) }
+
+-- 3: a push writes its own link, a pop reads its neighbour.
+abbrev pub three : Kind → Shared → Rec → Move
+three push s r = runs (putLink (not (r .side)) (r .own) (ownLink s r)) (goes r at4)
+three pop s r = runs none (finds r (inner s (r .side) (tip (r .read) (r .side))) at4)
+
+-- 4: an end put or taken.
+abbrev pub four : Kind → Shared → Rec → Move
+four push s r = let a = aimed (r .read) (r .side) (r .own) (pushing (r .side)) in
+    cond (same (r .read) (s .anchor)) (runs (putAnchor a) (finishes r a)) (runs none (goes r at1))
+four pop s r =
+    cond (same (r .read) (s .anchor)) (runs (putAnchor (aimed (r .read) (r .side) (r .near) (r .read .status))) (goes r at11)) (runs none (goes r at1))
+
+-- 9: the link back, as read, is changed to name the end.
+abbrev pub nine : Shared → Rec → Bool → Move
+nine s r e = cond (sameLink (r .link) (s .link e (r .near)))
+    (runs (putLink e (r .near) (record { tag = suc (r .link .tag); slot = tip (r .read) e })) (goes r at10)) (leave none r)
+
+-- 11: the label of the end taken; its mark is cleared.
+abbrev pub eleven : Shared → Rec → Move
+eleven s r = let x = tip (r .read) (r .side) in ends (clear x) (popped x (s .label x))
+
+-- A step of a record at its place. At 5 to 10 the side is the one that the status as read names.
+abbrev pub act : Place → Shared → Rec → Move
+act idle s r = runs none r
+act at1 s r = one (r .kind) s r
+act at2 s r = two (r .kind) s r
+act at3 s r = three (r .kind) s r
+act at4 s r = four (r .kind) s r
+act at5 s r = runs none (finds r (inner s (towards (r .read .status)) (tip (r .read) (towards (r .read .status)))) at6)
+act at6 s r = cond (same (r .read) (s .anchor)) (runs none (goes r at7)) (leave none r)
+act at7 s r = let e = towards (r .read .status) in let w = s .link e (r .near) in
+    cond (eqb (w .slot) (tip (r .read) e)) (runs none (holds r w at10)) (runs none (holds r w at8))
+act at8 s r = cond (same (r .read) (s .anchor)) (runs none (goes r at9)) (leave none r)
+act at9 s r = nine s r (towards (r .read .status))
+act at10 s r = cond (same (r .read) (s .anchor)) (leave (putAnchor (settled (r .read))) r) (leave none r)
+act at11 s r = eleven s r
+
+-- The whole machine.
+pub record State : Type 0 where
+  pub shared : Shared
+  pub task : ℕ → Rec
+
+abbrev pub isIdle : Place → Bool
+isIdle idle = true
+isIdle at1 = false
+isIdle at2 = false
+isIdle at3 = false
+isIdle at4 = false
+isIdle at5 = false
+isIdle at6 = false
+isIdle at7 = false
+isIdle at8 = false
+isIdle at9 = false
+isIdle at10 = false
+isIdle at11 = false
+
+abbrev pub moved : State → ℕ → Shared → Rec → State
+moved s t g r = record { shared = g; task = upd (s .task) t r }

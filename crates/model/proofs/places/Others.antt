@@ -1,0 +1,139 @@
+-- A step of one task keeps what holds of another's record. (Lines 5 to 13 survive; at 9 by `outrun`.)
+use mathlib.Core.Bool.{Bool, false, not, true}
+use mathlib.Core.List.{List}
+use mathlib.Core.Logic.{_⊎_, inl, inr}
+use mathlib.Core.Path.{_∙_, _≡_, ap, subst, sym}
+use Prim.Native.Nat.{_<_, ℕ}
+use native.Mathlib.Omega.{arith}
+use Rattle.model.specs.declared.Entry.{Entry}
+use Rattle.model.proofs.lists.Slots.{slots}
+use Rattle.model.proofs.machine.Clerk.{Call}
+use Rattle.model.proofs.machine.Machine.{Anchor, Kind, Link, Place, Rec, Shared, at1, at10, at11, at2, at3, at4, at5, at6, at7, at8, at9, idle, inner, pop, push, pushing, tip}
+use Rattle.model.proofs.invariant.Owners.{Owner, Whole, queued}
+use Rattle.model.proofs.invariant.Rely.{Faces, Quiet, Rely, Turned}
+use Rattle.model.proofs.invariant.Shape.{Made}
+use Rattle.model.proofs.invariant.Tasks.{Before, Eighth, Four, Fresh, Grown, Helps, Live, Near, Ninth, Other, Own, Read, Stage, Task, Three, Tries, way}
+use Rattle.model.proofs.chain.Links.{inner-in}
+
+module _ (u : ℕ) (s : Shared) (h : ℕ → Owner) (s′ : Shared) (h′ : ℕ → Owner) (y : Rely u s h s′ h′) where
+  keep-own : (k : Kind) (x l : ℕ) → Own k (s .label) h u x l → Own k (s′ .label) h′ u x l
+  keep-own push x l o = (o .0, y .spared x (o .1) .owner, y .spared x (o .1) .label ∙ o .2)
+  keep-own pop x l o = tt
+
+  keep-before : {k : Kind} {d : Bool} {x l : ℕ} {c : Call} → Before (s .label) h u k d x l c → Before (s′ .label) h′ u k d x l c
+  keep-before {k} {x = x} {l} b = record { agrees = b .agrees; none = b .none; own = keep-own k x l (b .own) }
+
+  keep-stage : (f : Bool) (k : Kind) (d : Bool) (x l : ℕ) (c : Call) → Stage f (s .label) h u k d x l c → Stage f (s′ .label) h′ u k d x l c
+  keep-stage false k d x l c b = keep-before b
+  keep-stage true k d x l c b = b
+
+  module _ (a : Anchor) where
+    -- An Anchor that is read and stands now stood before, and nothing happened to it.
+    quiet : Read (s .anchor) a → a ≡ s′ .anchor → (a ≡ s .anchor) × Quiet s s′
+    quiet v e = go (y .anchor)
+      where
+        go : Quiet s s′ ⊎ Turned s s′ → (a ≡ s .anchor) × Quiet s s′
+        go (inl q) = (e ∙ q .kept, q)
+        go (inr q) = absurd (omega (arith, v .past, q .later, ap (λ (a : Anchor). a .tag) e))
+
+    keep-read : Read (s .anchor) a → Read (s′ .anchor) a
+    keep-read v = go (y .anchor)
+      where
+        go : Quiet s s′ ⊎ Turned s s′ → Read (s′ .anchor) a
+        go (inl q) = let e = ap (λ (a : Anchor). a .tag) (q .kept) in
+            record { past = omega (arith, v .past); present = λ p. v .present (p ∙ e) ∙ sym (q .kept) }
+        go (inr q) = record { past = omega (arith, v .past, q .later); present = λ p. absurd (omega (arith, v .past, q .later)) }
+
+    keep-tries : {f : Bool} {k : Kind} {d : Bool} {x l : ℕ} {c : Call} → Tries (s .label) (s .anchor) h u f k d x l a c → Tries (s′ .label) (s′ .anchor) h′ u f k d x l a c
+    keep-tries w = record { early = w .early; before = keep-before (w .before); read = keep-read (w .read) }
+
+    keep-helps : {f : Bool} {k : Kind} {d : Bool} {x l : ℕ} {c : Call} → Helps (s .label) (s .anchor) h u f k d x l a c → Helps (s′ .label) (s′ .anchor) h′ u f k d x l a c
+    keep-helps {f} {k} {d} {x} {l} {c} w = record { stage = keep-stage f k d x l c (w .stage); read = keep-read (w .read); status = w .status }
+
+    -- The inward link of an end that Anchor's status does not turn away from.
+    inward : Quiet s s′ → (e : Bool) → a ≡ s .anchor → Faces (a .status) e → inner s′ e (tip a e) ≡ inner s e (tip a e)
+    inward q e p f =
+        ap (λ (w : Link). w .slot) (subst (λ (b : Anchor). Faces (b .status) e → s′ .link (not e) (tip b e) ≡ s .link (not e) (tip b e)) (sym p) (q .inward e) f)
+
+    keep-four : (k : Kind) (d : Bool) (x l n : ℕ) → Read (s .anchor) a → Three k a → Own k (s .label) h u x l → Four k s d x a n → Four k s′ d x a n
+    keep-four push d x l n v w o f = ap (λ (w : Link). w .slot) (y .spared x (o .1) .links (not d)) ∙ f
+    keep-four pop d x l n v w o f = λ e. let q = quiet v e in inward (q .1) d (q .0) (inl (w .0)) ∙ f (q .0)
+
+    keep-made : Read (s .anchor) a → a .status ≡ pushing (way a) → (a ≡ s .anchor → Made (s .link) a (way a)) → a ≡ s′ .anchor → Made (s′ .link) a (way a)
+    keep-made v st f e =
+        let q = quiet v e in
+        subst (λ (b : Anchor). b .status ≡ pushing (way a) → Made (s .link) b (way a) → Made (s′ .link) b (way a)) (sym (q .0)) (q .1 .made (way a)) st (f (q .0))
+
+    module _ (q : List Entry) (all : Whole s h q) (n : ℕ) where
+      near-queued : a ≡ s .anchor → a .status ≡ pushing (way a) → Near s a n → h n ≡ queued
+      near-queued p st e =
+          let i = inner-in (s .link) (s .anchor) (slots q) (all .shape) (way a) (λ x. h x ≡ queued) (ap (λ (b : Anchor). b .status) (sym p) ∙ st) (all .owned) in
+          let j = subst (λ (b : Anchor). h (inner s (way a) (tip b (way a))) ≡ queued) (sym p) i in
+          rw e at j
+
+      keep-near : Read (s .anchor) a → a .status ≡ pushing (way a) → (a ≡ s .anchor → Near s a n) → a ≡ s′ .anchor → Near s′ a n
+      keep-near v st f e = let q = quiet v e in inward (q .1) (way a) (q .0) (inr st) ∙ f (q .0)
+
+      module _ (w : Link) where
+        keep-grown : Grown s a n w → Grown s′ a n w
+        keep-grown g = omega (arith, y .tags (way a) n)
+
+        keep-fresh : h n ≡ queued → Fresh s a n w → Fresh s′ a n w
+        keep-fresh m (inr g) = inr (keep-grown g)
+        keep-fresh m (inl e) = go (y .words (way a) n m)
+          where
+            go : (s′ .link (way a) n ≡ s .link (way a) n) ⊎ (s .link (way a) n .tag < s′ .link (way a) n .tag) → Fresh s′ a n w
+            go (inl f) = inl (e ∙ sym f)
+            go (inr g) = inr (omega (arith, ap (λ (w : Link). w .tag) e))
+
+        keep-eighth : Read (s .anchor) a → a .status ≡ pushing (way a) → Eighth s a n w → Eighth s′ a n w
+        keep-eighth v st z =
+            record {
+              other = z .other;
+              near = keep-near v st (z .near);
+              fresh = λ e. let p = quiet v e .0 in keep-fresh (near-queued p st (z .near p)) (z .fresh p);
+            }
+
+        -- Once Anchor has changed the link back was made, so the link as read is no longer there.
+        outrun : Turned s s′ → Other a w → Live s a n w → a .status ≡ pushing (way a) → Grown s′ a n w
+        outrun z o v st = go (v .fresh)
+          where
+            made : Made (s .link) a (way a)
+            made = subst (λ (b : Anchor). Made (s .link) b (way a)) (sym (v .current)) (z .closed (way a) (ap (λ (b : Anchor). b .status) (sym (v .current)) ∙ st))
+
+            named : s .link (way a) n .slot ≡ tip a (way a)
+            named = rw (v .near) at made
+
+            go : Fresh s a n w → Grown s′ a n w
+            go (inl e) = absurd (o (ap (λ (w : Link). w .slot) e ∙ named))
+            go (inr g) = keep-grown g
+
+        keep-ninth : a .status ≡ pushing (way a) → Ninth s a n w → Ninth s′ a n w
+        keep-ninth st v = record { other = v .other; chance = go (v .chance) (y .anchor) }
+          where
+            go : Live s a n w ⊎ Grown s a n w → Quiet s s′ ⊎ Turned s s′ → Live s′ a n w ⊎ Grown s′ a n w
+            go (inr g) z = inr (keep-grown g)
+            go (inl l) (inl z) =
+                inl (record {
+                  current = l .current ∙ sym (z .kept);
+                  near = inward z (way a) (l .current) (inr st) ∙ l .near;
+                  fresh = keep-fresh (near-queued (l .current) st (l .near)) (l .fresh);
+                })
+            go (inl l) (inr z) = inr (outrun z (v .other) l st)
+
+  pub keep : (q : List Entry) → Whole s h q → (p : Place) (r : Rec) (c : Call) → Task p s h u r c → Task p s′ h′ u r c
+  keep q all idle r c w = w
+  keep q all at1 r c w = (w .0, keep-before (w .1))
+  keep q all at2 r c w = (keep-tries (r .read) (w .0), w .1)
+  keep q all at3 r c w = (keep-tries (r .read) (w .0), w .1)
+  keep q all at4 r c w =
+      (keep-tries (r .read) (w .0), w .1, keep-four (r .read) (r .kind) (r .side) (r .own) (r .label) (r .near) (w .0 .read) (w .1) (w .0 .before .own) (w .2))
+  keep q all at5 r c w = keep-helps (r .read) w
+  keep q all at6 r c w = (keep-helps (r .read) (w .0), keep-near (r .read) q all (r .near) (w .0 .read) (w .0 .status) (w .1))
+  keep q all at7 r c w = (keep-helps (r .read) (w .0), keep-near (r .read) q all (r .near) (w .0 .read) (w .0 .status) (w .1))
+  keep q all at8 r c w = (keep-helps (r .read) (w .0), keep-eighth (r .read) q all (r .near) (r .link) (w .0 .read) (w .0 .status) (w .1))
+  keep q all at9 r c w = (keep-helps (r .read) (w .0), keep-ninth (r .read) q all (r .near) (r .link) (w .0 .status) (w .1))
+  keep q all at10 r c w = (keep-helps (r .read) (w .0), keep-made (r .read) (w .0 .read) (w .0 .status) (w .1))
+  keep q all at11 r c w =
+      let z = y .spared (tip (r .read) (r .side)) (w .holds) in
+      record { after = record { once = w .after .once; told = rw (z .label) (w .after .told) }; holds = z .owner }

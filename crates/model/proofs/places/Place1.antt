@@ -1,0 +1,65 @@
+-- Place 1: Anchor is read. Empty is the effect of a pop on an empty queue.
+use mathlib.Core.Bool.{false, true}
+use mathlib.Core.List.{List, []}
+use mathlib.Core.Path.{_∙_, _≡_, ap, refl, subst, sym}
+use Prim.Native.Nat.{suc, ℕ}
+use lib.Dec.{eqb}
+use borrow.Author.Tests.{eqb-false, eqb-true}
+use Rattle.model.specs.declared.Entry.{Entry}
+use Rattle.model.proofs.tests.Truth.{by-test}
+use Rattle.model.proofs.lists.Deque.{seen, took}
+use Rattle.model.proofs.lists.Ends.{seen-nil, took-nil}
+use Rattle.model.proofs.lists.Slots.{slots, slots-nil}
+use Rattle.model.proofs.machine.Clerk.{Call, given, told}
+use Rattle.model.proofs.machine.Machine.{Kind, Rec, Shared, Status, at1, at5, empty, ends, isStable, none, one, pop, push, pushing, reads, runs, stable, towards}
+use Rattle.model.proofs.invariant.Owners.{Owner, Whole}
+use Rattle.model.proofs.invariant.Tasks.{Before, Stage, Task, Three, Tries, Two}
+use Rattle.model.proofs.chain.Ends.{no-entry}
+use Rattle.model.proofs.places.Effects.{empty-effect, noted-pop}
+use Rattle.model.proofs.places.Shown.{Shown, effective, read-now, rely-refl, still}
+
+-- A status that is not stable.
+unstable : (st : Status) → isStable st ≡ false → st ≡ pushing (towards st)
+unstable stable e = cc
+unstable (pushing d) e = refl
+
+steady : (st : Status) → isStable st ≡ true → st ≡ stable
+steady stable e = refl
+steady (pushing d) e = cc
+
+module _ (t : ℕ) (s : Shared) (h : ℕ → Owner) (q : List Entry) (c : Call) (all : Whole s h q) (r : Rec) where
+  none-left : s .anchor .left ≡ 0 → q ≡ []
+  none-left e = slots-nil q (no-entry (s .link) (s .anchor) (slots q) (all .shape) e)
+
+  tries-now : r .finishing ≡ false → Before (s .label) h t (r .kind) (r .side) (r .own) (r .label) c
+      → Tries (s .label) (s .anchor) h t (r .finishing) (r .kind) (r .side) (r .own) (r .label) (s .anchor) c
+  tries-now e b = record { early = e; before = b; read = read-now (s .anchor) }
+
+  helps-now : r .finishing ≡ false → Before (s .label) h t (r .kind) (r .side) (r .own) (r .label) c → isStable (s .anchor .status) ≡ false
+      → Shown t s h q c (runs none (reads r (s .anchor) at5))
+  helps-now e b st = still all (record {
+    stage = subst (λ f. Stage f (s .label) h t (r .kind) (r .side) (r .own) (r .label) c) (sym e) b;
+    read = read-now (s .anchor);
+    status = unstable (s .anchor .status) st;
+  })
+
+  pub place1 : (k : Kind) → r .kind ≡ k → Task at1 s h t r c → Shown t s h q c (one k s r)
+  place1 push k w = by-test (Shown t s h q c) (eqb (s .anchor .left) 0)
+      (λ e. still all (tries-now (w .0) (w .1), subst (λ z. Two z (s .anchor)) (sym k) (eqb-true (s .anchor .left) 0 e)))
+      (λ e. by-test (Shown t s h q c) (isStable (s .anchor .status))
+      (λ g. still all
+      (tries-now (w .0) (w .1), subst (λ z. Three z (s .anchor)) (sym k) (steady (s .anchor .status) g, eqb-false (s .anchor .left) 0 e)))
+      (λ g. helps-now (w .0) (w .1) g))
+  place1 pop k w = by-test (Shown t s h q c) (eqb (s .anchor .left) 0)
+      (λ e. let n = none-left (eqb-true (s .anchor .left) 0 e) in
+      effective (ends none empty) h (told c (given (seen (r .side) q))) (took (r .side) q)
+      (noted-pop c (w .1 .agrees) q (s .anchor) (s .anchor) empty (empty-effect (s .anchor) (s .anchor)) k)
+      (subst (λ z. Whole s h z) (sym (ap (λ (z : List Entry). took (r .side) z) n ∙ took-nil (r .side) ∙ sym n)) all) (λ u z. rely-refl u)
+      (refl, record { once = ap suc (w .1 .none); agrees = sym (ap (λ (z : List Entry). given (seen (r .side) z)) n ∙ ap given (seen-nil (r .side))) }))
+      (λ e. by-test (Shown t s h q c) (eqb (s .anchor .left) (s .anchor .right))
+      (λ f. still all
+      (tries-now (w .0) (w .1), subst (λ z. Two z (s .anchor)) (sym k) (eqb-true (s .anchor .left) (s .anchor .right) f, eqb-false (s .anchor .left) 0 e)))
+      (λ f. by-test (Shown t s h q c) (isStable (s .anchor .status))
+      (λ g. still all
+      (tries-now (w .0) (w .1), subst (λ z. Three z (s .anchor)) (sym k) (steady (s .anchor .status) g, eqb-false (s .anchor .left) (s .anchor .right) f)))
+      (λ g. helps-now (w .0) (w .1) g)))

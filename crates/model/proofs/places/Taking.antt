@@ -1,0 +1,111 @@
+-- A change of Anchor that is an effect: a push puts its slot into the queue, a pop takes the slot at its end.
+use mathlib.Core.Bool.{Bool, false, true}
+use mathlib.Core.List.{List, [], _∷_}
+use mathlib.Core.Logic.{_≢_, inl, inr}
+use mathlib.Core.Path.{_∙_, _≡_, ap, refl, subst, sym}
+use Prim.Native.Nat.{_<_, suc, ℕ}
+use Rattle.model.specs.History.{All}
+use Rattle.model.specs.declared.Entry.{Entry}
+use Rattle.model.proofs.lists.All.{all-both, all-map, all-rest, all-seen}
+use Rattle.model.proofs.lists.Chain.{distinct-seen}
+use Rattle.model.proofs.lists.Deque.{Distinct, front, put, rest, seen, took}
+use Rattle.model.proofs.lists.Slots.{map-seen, slots, slots-put, slots-took}
+use Rattle.model.proofs.machine.Clerk.{Call, effect, given, told}
+use Rattle.model.proofs.machine.Laws.{stable-pushing, upd-other, upd-same}
+use Rattle.model.proofs.machine.Machine.{Anchor, Move, Rec, Shared, apply, at1, at11, goes, none, pop, popped, push, pushed, pushing, putAnchor, running, runs, stable, tip, upd, withAnchor}
+use Rattle.model.proofs.invariant.Owners.{Owner, Whole, held, queued}
+use Rattle.model.proofs.invariant.Rely.{Rely}
+use Rattle.model.proofs.invariant.Shape.{Made, Shape}
+use Rattle.model.proofs.invariant.Tasks.{Before, Own}
+use Rattle.model.proofs.places.Effects.{noted-pop, noted-push}
+use Rattle.model.proofs.places.Owned.{held-free, owner-kept, owner-marks, queued-free, queued-held}
+use Rattle.model.proofs.places.Shown.{Finish, Shown, effective, rely-turn, still}
+
+module _ {s : Shared} {h : ℕ → Owner} {q : List Entry} (all : Whole s h q) where
+  calm : s .anchor .status ≡ stable → (e : Bool) → s .anchor .status ≡ pushing e → Made (s .link) (s .anchor) e
+  calm st e g = absurd (stable-pushing (sym st ∙ g))
+
+  -- The slot of a push is not in the queue.
+  pub not-in : {t x : ℕ} → h x ≡ held t → All (λ y. y ≢ x) (slots q)
+  not-in e = all-map (λ y. h y ≡ queued) (λ y. y ≢ _) (λ y g z. queued-held (sym g ∙ ap h z ∙ e)) (slots q) (all .owned)
+
+  pushed-whole : (t : ℕ) (a : Anchor) (d : Bool) (x l : ℕ) → Own push (s .label) h t x l → Shape (s .link) a (put d x (slots q))
+      → Whole (withAnchor s a) (upd h x queued) (put d (record { slot = x; label = l }) q)
+  unfolding put
+  pushed-whole t a d x l o shape =
+      let e : slots (put d (record { slot = x; label = l }) q) ≡ put d x (slots q) = slots-put d (record { slot = x; label = l }) q in
+      record {
+        shape = subst (λ z. Shape (s .link) a z) (sym e) shape;
+        owned = subst (λ z. All (λ y. upd h x queued y ≡ queued) z) (sym e)
+            (all-seen _ d (x ∷ seen d (slots q)) (
+              upd-same h x queued,
+              all-seen _ d (slots q)
+                  (all-both (λ y. y ≢ x) (λ y. h y ≡ queued) (λ y. upd h x queued y ≡ queued) (λ y n g. upd-other h x queued y n ∙ g) (slots q) (not-in (o .1)) (all .owned)),
+            ));
+        labels = all-seen _ d (record { slot = x; label = l } ∷ seen d q) (o .2, all-seen _ d q (all .labels));
+        marks = owner-marks h x queued _ (λ f. held-free (sym (o .1) ∙ f)) (all .marks);
+      }
+
+  -- The entry at an end.
+  pub end-entry : (d : Bool) (y : ℕ) → y ≡ tip (s .anchor) d → y ≢ 0 → (given (seen d q) ≡ popped y (s .label y)) × (h y ≡ queued)
+  end-entry d y e n = go (seen d q) refl
+    where
+      front-is : (l : List Entry) → seen d q ≡ l → y ≡ front (slots l) 0
+      front-is l g = e ∙ all .shape .tips d ∙ ap (λ (z : List ℕ). front z 0) (sym (map-seen d q) ∙ ap (λ (z : List Entry). slots z) g)
+
+      go : (l : List Entry) → seen d q ≡ l → (given (seen d q) ≡ popped y (s .label y)) × (h y ≡ queued)
+      go [] g = absurd (n (front-is [] g))
+      go (x ∷ l) g =
+          let f : y ≡ x .slot = front-is (x ∷ l) g in
+          let m : All (λ (z : Entry). s .label (z .slot) ≡ z .label) (x ∷ l) = rw g at (all-seen _ d q (all .labels)) in
+          let m0 = m .0 in
+          let o : All (λ z. h z ≡ queued) (slots (x ∷ l)) = rw (← map-seen d q, g) at (all-seen _ d (slots q) (all .owned)) in
+          (ap given g ∙ cc, ap h f ∙ o .0)
+
+  popped-whole : (t : ℕ) (a : Anchor) (d : Bool) (y : ℕ) → y ≡ tip (s .anchor) d → y ≢ 0 → Shape (s .link) a (took d (slots q)) → Whole (withAnchor s a) (upd h y (held t)) (took d q)
+  unfolding took
+  popped-whole t a d y e n shape =
+      let g : slots (took d q) ≡ took d (slots q) = slots-took d q in
+      record {
+        shape = subst (λ z. Shape (s .link) a z) (sym g) shape;
+        owned = subst (λ z. All (λ y′. upd h y (held t) y′ ≡ queued) z) (sym g) (all-seen _ d (rest (seen d (slots q)))
+            (all-both (λ z. z ≢ y) (λ z. h z ≡ queued) (λ z. upd h y (held t) z ≡ queued) (λ z m f. upd-other h y (held t) z m ∙ f) (rest (seen d (slots q)))
+            (apart (seen d (slots q)) (e ∙ all .shape .tips d) (distinct-seen d (slots q) (all .shape .distinct))) (all-rest _ (seen d (slots q)) (all-seen _ d (slots q) (all .owned)))));
+        labels = all-seen _ d (rest (seen d q)) (all-rest _ (seen d q) (all-seen _ d q (all .labels)));
+        marks = owner-marks h y (held t) _ (λ f. queued-free (sym (end-entry d y e n .1) ∙ f)) (all .marks);
+      }
+    where
+      apart : (l : List ℕ) → y ≡ front l 0 → Distinct l → All (λ z. z ≢ y) (rest l)
+      apart [] p u = tt
+      apart (x ∷ l) p u = all-map (λ z. z ≢ x) (λ z. z ≢ y) (λ z f g. f (g ∙ p)) l (u .0)
+
+module _ {t : ℕ} {s : Shared} {h : ℕ → Owner} {q : List Entry} {c : Call} (all : Whole s h q) (r : Rec) where
+  -- A push has its effect.
+  pub push-good : (m : Move) → r .kind ≡ push → Before (s .label) h t (r .kind) (r .side) (r .own) (r .label) c → effect (s .anchor) (apply s (m .touch) .anchor) (m .answer) ≡ true
+      → (a : Anchor) → apply s (m .touch) ≡ withAnchor s a → s .anchor .tag < a .tag → s .anchor .status ≡ stable → Shape (s .link) a (put (r .side) (r .own) (slots q))
+      → Finish (m .answer) (apply s (m .touch)) (upd h (r .own) queued) t (m .rec) (told c pushed) → Shown t s h q c m
+  push-good m k b eff a ms lt st shape f =
+      let o = subst (λ z. Own z (s .label) h t (r .own) (r .label)) k (b .own) in
+      effective m (upd h (r .own) queued) (told c pushed) (put (r .side) (record { slot = r .own; label = r .label }) q)
+      (noted-push c (b .agrees) q (s .anchor) (apply s (m .touch) .anchor) (m .answer) eff k)
+      (subst (λ z. Whole z (upd h (r .own) queued) (put (r .side) (record { slot = r .own; label = r .label }) q)) (sym ms) (pushed-whole all t a (r .side) (r .own) (r .label) o shape))
+      (λ u n. subst (λ z. Rely u s h z (upd h (r .own) queued)) (sym ms) (rely-turn a (upd h (r .own) queued) lt (calm all st)
+      (λ u x n g. owner-kept h (r .own) queued t (inl (o .1)) u x n g) u n))
+      f
+
+  -- A pop has its effect.
+  pub pop-good : (a : Anchor) → r .kind ≡ pop → Before (s .label) h t (r .kind) (r .side) (r .own) (r .label) c → r .read ≡ s .anchor → effect (s .anchor) a running ≡ true
+      → s .anchor .tag < a .tag → s .anchor .status ≡ stable → tip (s .anchor) (r .side) ≢ 0 → Shape (s .link) a (took (r .side) (slots q))
+      → Shown t s h q c (runs (putAnchor a) (goes r at11))
+  pop-good a k b p eff lt st ne shape =
+      let y = tip (r .read) (r .side) in
+      let e : y ≡ tip (s .anchor) (r .side) = ap (λ (z : Anchor). tip z (r .side)) p in
+      let g = end-entry all (r .side) y e (λ z. ne (sym e ∙ z)) in
+      effective (runs (putAnchor a) (goes r at11)) (upd h y (held t)) (told c (given (seen (r .side) q))) (took (r .side) q)
+      (noted-pop c (b .agrees) q (s .anchor) a running eff k)
+      (popped-whole all t a (r .side) y e (λ z. ne (sym e ∙ z)) shape)
+      (rely-turn a (upd h y (held t)) lt (calm all st) (λ u x n f. owner-kept h y (held t) t (inr (g .1)) u x n f))
+      (record { after = record { once = ap suc (b .none); told = g .0 }; holds = upd-same h y (held t) })
+
+  pub back : Before (s .label) h t (r .kind) (r .side) (r .own) (r .label) c → r .finishing ≡ false → Shown t s h q c (runs none (goes r at1))
+  back b e = still all (e, b)

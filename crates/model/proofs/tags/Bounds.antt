@@ -1,0 +1,80 @@
+-- The bounds on tags leave room for every change that a step makes.
+use mathlib.Core.Bool.{Bool, true}
+use mathlib.Core.Logic.{_≢_}
+use mathlib.Core.Path.{_∙_, _≡_, ap, refl}
+use Prim.Native.Nat.{_+_, _≤_, suc, ℕ}
+use native.Mathlib.Omega.{arith}
+use lib.Dec.{eqb}
+use borrow.Author.Tests.{eq-eqb}
+use Rattle.word.specs.Anchor.{anchorOf}
+use Rattle.model.specs.Tables.{Tables}
+use Rattle.model.specs.declared.Record.{Record}
+use Rattle.model.proofs.tests.ByPlace.{by-place}
+use Rattle.model.proofs.tests.Truth.{by-test}
+use Rattle.model.proofs.machine.Laws.{aimed-tag, relink-same}
+use Rattle.model.proofs.machine.Machine as M
+use Rattle.model.proofs.invariant.Tags.{Tags, cost, weight}
+use Rattle.model.proofs.bridge.Decoded.{RoomAt}
+use Rattle.model.proofs.bridge.Facts.{ControlFine, LinksFine, RecordFine}
+use Rattle.model.proofs.bridge.View.{anchorSeen, kindOf, linkAt, linkSeen, placeOf, recOf, view}
+use Rattle.model.proofs.bridge.Words.{same-link-word, same-word, towards-status}
+use Rattle.model.proofs.tags.AnchorTag.{Light}
+use Rattle.model.proofs.tags.LinkTag.{Tagged}
+
+leave-touch : (g : M.Touch) (r : M.Rec) → M.leave g r .touch ≡ g
+leave-touch g r = by-test (λ (m : M.Move). m .touch ≡ g) (r .finishing) (λ e. refl) (λ e. refl)
+
+-- The changes of the decoded machine.
+module _ (s : M.Shared) (r : M.Rec) where
+  room2 : (k : M.Kind) → M.same (r .read) (s .anchor) ≡ true → Light s r (M.two k s r) → suc (r .read .tag) ≤ weight s + cost r
+  room2 M.push e l = let z = rw e at (l .less) in omega arith
+  room2 M.pop e l = let z = rw e at (l .less) in omega arith
+
+  room4 : (k : M.Kind) → M.same (r .read) (s .anchor) ≡ true → Light s r (M.four k s r) → suc (r .read .tag) ≤ weight s + cost r
+  room4 M.push e l = let z = rw e at (l .less) in omega (arith, aimed-tag (r .read) (r .side) (r .own) (M.pushing (r .side)))
+  room4 M.pop e l = let z = rw e at (l .less) in omega (arith, aimed-tag (r .read) (r .side) (r .near) (r .read .status))
+
+  room10 : M.same (r .read) (s .anchor) ≡ true → Light s r (M.act M.at10 s r) → suc (r .read .tag) ≤ weight s + cost r
+  room10 e l = let z = rw e at (l .less) in let y = ap (λ (t : M.Touch). weight (M.apply s t)) (leave-touch (M.putAnchor (M.settled (r .read))) r) in omega arith
+
+  room9 : M.sameLink (r .link) (s .link (M.towards (r .read .status)) (r .near)) ≡ true → r .near ≤ s .slots → Tagged s (M.act M.at9 s r) → suc (r .link .tag) ≤ s .anchor .tag
+  room9 e h g =
+      let d = M.towards (r .read .status) in
+      let v : M.Link = record { tag = suc (r .link .tag); slot = M.tip (r .read) d } in
+      let y : Tags (M.withLink s d (r .near) v) = rw e at (g .tagged) in
+      let z = ap (λ (w : M.Link). w .tag) (relink-same (s .link) d (r .near) v) in
+      omega (arith, y .upper d (r .near) h)
+
+module _ (q : Tables) (c : ControlFine (q .control)) (k : LinksFine q) (r : Record) (h : RecordFine (q .control .slots) r) (low : anchorOf (q .control .anchor) .tag ≤ 4294967295) where
+  abbrev at : ℕ → Record
+  at p = record { place = p; kind = r .kind; side = r .side; own = r .own; label = r .label; seen = r .seen; neighbour = r .neighbour; link = r .link; finishing = r .finishing }
+
+  abbrev Bounds : ℕ → Type 0
+  Bounds p = weight (view q) + cost (recOf (at p)) ≤ 4294967295 → Light (view q) (recOf (at p)) (M.act (placeOf p) (view q) (recOf (at p)))
+      → Tagged (view q) (M.act (placeOf p) (view q) (recOf (at p))) → RoomAt q (at p) (placeOf p)
+
+  current : q .control .anchor ≡ r .seen → M.same (anchorSeen (r .seen)) (anchorSeen (q .control .anchor)) ≡ true
+  current z = same-word (r .seen) (q .control .anchor) (h .seen .status) (c .anchor .status) ∙ eq-eqb _ _ z
+
+  unchanged : linkAt q (eqb (anchorOf (r .seen) .status) 1) (r .neighbour) ≡ r .link
+      → M.sameLink (linkSeen (r .link)) (linkSeen (linkAt q (M.towards (anchorSeen (r .seen) .status)) (r .neighbour))) ≡ true
+  unchanged z =
+      let d = eqb (anchorOf (r .seen) .status) 1 in
+      ap (λ (b : Bool). M.sameLink (linkSeen (r .link)) (linkSeen (linkAt q b (r .neighbour)))) (towards-status (anchorOf (r .seen) .status))
+      ∙ same-link-word (r .link) (linkAt q d (r .neighbour)) (h .spare) (k .spare d (r .neighbour) (h .neighbour)) ∙ eq-eqb _ _ z
+
+  pub room-bounded : r .place ≢ 0 → Bounds (r .place)
+  unfolding recOf view
+  room-bounded busy = by-place Bounds
+      (λ b l g. tt)
+      (λ b l g z. omega (arith, room2 (view q) (recOf (at 2)) (kindOf (r .kind)) (current z) l))
+      (λ b l g. tt)
+      (λ b l g z. omega (arith, room4 (view q) (recOf (at 4)) (kindOf (r .kind)) (current z) l))
+      (λ b l g. tt)
+      (λ b l g. tt)
+      (λ b l g. tt)
+      (λ b l g. tt)
+      (λ b l g z. omega (arith, low, room9 (view q) (recOf (at 9)) (unchanged z) (h .neighbour) g))
+      (λ b l g z. omega (arith, room10 (view q) (recOf (at 10)) (current z) l))
+      (λ b l g. tt)
+      (r .place) busy (h .place)

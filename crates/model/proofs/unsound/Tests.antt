@@ -1,0 +1,110 @@
+-- Facts as tests: an Anchor, a link word and a busy record within their meaning pass the tests of soundness.
+use mathlib.Core.Bool.{Bool, _&&_, _||_, cond, false, not, true}
+use mathlib.Core.Logic.{_≢_, _⊎_, inl, inr}
+use mathlib.Core.Path.{_≡_, ap, refl, subst}
+use Prim.Native.Nat.{_≤_, ℕ}
+use native.Mathlib.Omega.{arith}
+use lib.Dec.{eqb, leb}
+use borrow.Author.Tests.{eq-eqb, eqb-false, eqb-true, le-leb}
+use Rattle.word.specs.Anchor.{anchorOf}
+use Rattle.word.specs.Link.{linkOf, spareOf}
+use Rattle.word.specs.declared.Anchor.{Anchor}
+use Rattle.model.specs.Sound.{anchorSound, anchorTests, from1, linkSound, recordSound, recordTests}
+use Rattle.model.specs.declared.Record.{Record}
+use Rattle.model.proofs.tests.ByPlace.{by-place}
+use Rattle.model.proofs.tests.Rules.{_and_, passes}
+use Rattle.model.proofs.tests.Truth.{agree, and-of, beq-of, decide-eq, or-first, or-second, split}
+use Rattle.model.proofs.machine.Clerk.{Call}
+use Rattle.model.proofs.machine.Machine as M
+use Rattle.model.proofs.invariant.Fields.{Extra}
+use Rattle.model.proofs.invariant.Owners.{Owner}
+use Rattle.model.proofs.invariant.Tasks.{Task}
+use Rattle.model.proofs.bridge.Facts.{AnchorFine, RecordFine}
+use Rattle.model.proofs.bridge.View.{kindOf, placeOf, recOf, statusOf}
+
+pub anchor-sound : (slots : ℕ) (a : Anchor) → AnchorFine slots a → anchorSound slots a ≡ true
+unfolding anchorSound
+anchor-sound slots a h = passes (anchorTests slots a)
+    (le-leb _ _ (h .status)
+    and le-leb _ _ (h .left)
+    and le-leb _ _ (h .right)
+    and beq-of _ _ (agree _ _ (λ e. eq-eqb _ _ (h .null (eqb-true _ _ e))) (λ e. eq-eqb _ _ (h .full (eqb-true _ _ e))))
+    and split (eqb (a .left) (a .right)) (λ e. or-first _ (eq-eqb _ _ (h .single (eqb-true _ _ e)))) (λ e. or-second (eqb (a .status) 0) (ap not e))
+    and tt)
+
+pub link-sound : (slots w : ℕ) → spareOf w ≡ 0 → linkOf w .slot ≤ slots → linkSound slots w ≡ true
+unfolding linkSound
+link-sound slots w e h = and-of (eq-eqb _ _ e) (le-leb _ _ h)
+
+-- The two tests of a record that depend on its place.
+abbrev Placed : ℕ → ℕ → ℕ → ℕ → Type 0
+Placed f k st p = (eqb f 0 || (eqb k 0 && (leb 5 p && leb p 10)) ≡ true) × (not (leb 5 p && leb p 10) || not (eqb st 0) ≡ true)
+
+small-zero : (f : ℕ) → f ≤ 1 → eqb f 1 ≡ false → eqb f 0 ≡ true
+small-zero f h e = eq-eqb f 0 (let z = eqb-false f 1 e in omega arith)
+
+kind-push : (k : ℕ) → kindOf k ≡ M.push → eqb k 0 ≡ true
+kind-push k e = go (eqb k 0) refl e
+  where
+    go : (b : Bool) → eqb k 0 ≡ b → cond b M.push M.pop ≡ M.push → eqb k 0 ≡ true
+    go true g z = g
+    go false g z = absurd (let w : _≡_ {A = ℕ} 0 1 = cc in omega arith)
+
+pub unstable : (n : ℕ) (d : Bool) → statusOf n ≡ M.pushing d → eqb n 0 ≡ false
+unstable n d e = split (eqb n 0) (λ z. absurd (go n (eqb-true n 0 z) e)) (λ z. z)
+  where
+    go : (n : ℕ) → n ≡ 0 → statusOf n ≡ M.pushing d → ⊥
+    go n z e = let f : M.stable ≡ M.pushing d = subst (λ n. statusOf n ≡ M.pushing d) z e in let w : _≡_ {A = ℕ} 0 1 = cc in omega arith
+
+module _ (slots : ℕ) (r : Record) (h : RecordFine slots r) where
+  early : (p : ℕ) → leb 5 p && leb p 10 ≡ false → eqb (r .finishing) 1 ≡ false → Placed (r .finishing) (r .kind) (anchorOf (r .seen) .status) p
+  early p z e = (or-first _ (small-zero (r .finishing) (h .finishing) e), rw z)
+
+  late : (p : ℕ) → leb 5 p && leb p 10 ≡ true → (eqb (r .finishing) 1 ≡ true → kindOf (r .kind) ≡ M.push) → (d : Bool) → statusOf (anchorOf (r .seen) .status) ≡ M.pushing d
+      → Placed (r .finishing) (r .kind) (anchorOf (r .seen) .status) p
+  late p z o d s = (
+    split (eqb (r .finishing) 1) (λ e. or-second (eqb (r .finishing) 0) (and-of (kind-push (r .kind) (o e)) z)) (λ e. or-first _ (small-zero (r .finishing) (h .finishing) e)),
+    rw (unstable _ d s) (or-second (not (leb 5 p && leb p 10)) refl),
+  )
+
+  own : (r .kind ≡ 0) ⊎ (r .kind ≢ 0) → (eqb (r .kind) 1 && eqb (r .own) 0) || (eqb (r .kind) 0 && from1 slots (r .own)) ≡ true
+  own (inl z) = or-second (eqb (r .kind) 1 && eqb (r .own) 0) (and-of (eq-eqb _ _ z) (and-of (le-leb _ _ (h .own-push z .0)) (le-leb _ _ (h .own-push z .1))))
+  own (inr z) = let k : r .kind ≡ 1 = omega (arith, h .kind) in or-first _ (and-of (eq-eqb _ _ k) (eq-eqb _ _ (h .own-pop k)))
+
+  module _ (s : M.Shared) (o : ℕ → Owner) (t : ℕ) (c : Call) where
+    abbrev Says : ℕ → Type 0
+    Says p = Task (placeOf p) s o t (recOf r) c → Extra (placeOf p) (recOf r) → Placed (r .finishing) (r .kind) (anchorOf (r .seen) .status) p
+
+    placed : r .place ≢ 0 → Says (r .place)
+    unfolding recOf
+    placed b = by-place Says
+        (λ y x. early 1 refl (y .0))
+        (λ y x. early 2 refl (y .0 .early))
+        (λ y x. early 3 refl (y .0 .early))
+        (λ y x. early 4 refl (y .0 .early))
+        (λ y x. late 5 refl x _ (y .status))
+        (λ y x. late 6 refl x _ (y .0 .status))
+        (λ y x. late 7 refl (x .0) _ (y .0 .status))
+        (λ y x. late 8 refl (x .0) _ (y .0 .status))
+        (λ y x. late 9 refl (x .0) _ (y .0 .status))
+        (λ y x. late 10 refl x _ (y .0 .status))
+        (λ y x. early 11 refl (x .1))
+        (r .place) b (h .place)
+
+    pub record-sound : r .place ≢ 0 → Task (placeOf (r .place)) s o t (recOf r) c → Extra (placeOf (r .place)) (recOf r) → recordSound slots r ≡ true
+    unfolding recordSound
+    record-sound b y x =
+        let p = placed b y x in
+        or-second (eqb (r .place) 0) (passes (recordTests slots r)
+        (le-leb _ _ (h .place)
+        and le-leb _ _ (h .kind)
+        and le-leb _ _ (h .side)
+        and le-leb _ _ (h .finishing)
+        and split (eqb (r .place) 11) (λ e. or-second (not (eqb (r .place) 11)) (eq-eqb _ _ (h .last (eqb-true _ _ e)))) (λ e. or-first _ (ap not e))
+        and p .0
+        and own (decide-eq (r .kind) 0)
+        and le-leb _ _ (h .neighbour)
+        and link-sound slots (r .link) (h .spare) (h .link)
+        and anchor-sound slots (anchorOf (r .seen)) (h .seen)
+        and p .1
+        and tt))
