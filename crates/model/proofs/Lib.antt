@@ -13,7 +13,6 @@ pub mod tags
 pub mod unsound
 pub mod Linearizable
 pub mod NeverUnsound
-
 -- Laws of single calls, and the worked cases of the document.
 pub mod laws
 pub mod Bench

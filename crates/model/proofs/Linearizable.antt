@@ -5,7 +5,7 @@ use Prim.Native.Nat.{ℕ}
 use native.Mathlib.Omega.{arith}
 use lib.Dec.{eqb}
 use Rattle.model.specs.Calls.{openQueue, opened}
-use Rattle.model.specs.History.{Linearized, Request, final, ledger, run}
+use Rattle.model.specs.History.{Linearizable, Linearized, Request, final, ledger, run}
 use Rattle.model.specs.Refusals.{openRefusal}
 use Rattle.model.specs.Report.{entries}
 use Rattle.model.specs.Tables.{Queue}
@@ -29,8 +29,8 @@ module _ (q : Queue) (tasks slots tag : ℕ) where
         waits = waits (final o os .tables) (g .1 .inv .owner) (g .1 .book .queue) (g .1 .inv .whole) ∙ ap entries (g .1 .deque);
       }
 
-  pub linearizable : openQueue q tasks slots tag .outcome ≡ Opened → (os : List Request) → Linearized (openQueue q tasks slots tag .queue) os
-  unfolding openQueue
-  linearizable e os = split (eqb (openRefusal q tasks slots) 0)
-      (λ z. rw z (linearized os))
-      (λ z. absurd (let h : Refused (openRefusal q tasks slots) ≡ Opened = rw z at e in let w : _≡_ {A = ℕ} 0 1 = cc in omega arith))
+pub linearizable : Linearizable
+unfolding openQueue
+linearizable q tasks slots tag e os = split (eqb (openRefusal q tasks slots) 0)
+    (λ z. rw z (linearized q tasks slots tag os))
+    (λ z. absurd (let h : Refused (openRefusal q tasks slots) ≡ Opened = rw z at e in let w : _≡_ {A = ℕ} 0 1 = cc in omega arith))

@@ -9,7 +9,7 @@ use borrow.Author.Tests.{eqb-true, not-false}
 use Rattle.word.specs.Anchor.{anchorOf, emptyAnchor, packAnchor}
 use Rattle.word.specs.Link.{linkOf}
 use Rattle.model.specs.Calls.{openQueue, opened}
-use Rattle.model.specs.History.{NeverUnsound, Request, run}
+use Rattle.model.specs.History.{Never34}
 use Rattle.model.specs.Refusals.{openRefusal, openRules}
 use Rattle.model.specs.Sound.{controlSound, controlTests}
 use Rattle.model.specs.Tables.{Queue}
@@ -62,8 +62,8 @@ module _ (q : Queue) (tasks slots tag : ℕ) where
           omega arith;
     }
 
-  pub never-unsound : openQueue q tasks slots tag .outcome ≡ Opened → (os : List Request) → NeverUnsound (run (openQueue q tasks slots tag .queue) os)
-  unfolding openQueue
-  never-unsound e os = split (eqb (openRefusal q tasks slots) 0)
-      (λ z. rw z (run-safe os 1 o nobody (open-good q tasks slots tag) (open-safe (eqb-true _ _ z))))
-      (λ z. absurd (let h : Refused (openRefusal q tasks slots) ≡ Opened = rw z at e in let w : _≡_ {A = ℕ} 0 1 = cc in omega arith))
+pub never-unsound : Never34
+unfolding openQueue
+never-unsound q tasks slots tag e os = split (eqb (openRefusal q tasks slots) 0)
+    (λ z. rw z (run-safe os 1 (opened q tasks slots tag) nobody (open-good q tasks slots tag) (open-safe q tasks slots tag (eqb-true _ _ z))))
+    (λ z. absurd (let h : Refused (openRefusal q tasks slots) ≡ Opened = rw z at e in let w : _≡_ {A = ℕ} 0 1 = cc in omega arith))

@@ -13,8 +13,10 @@ use Rattle.model.specs.declared.Outcome.the-variants.{Refused, Moved}
 use Rattle.model.specs.declared.Op.{Op}
 use Rattle.model.specs.declared.Op.the-variants.{Push, Pop, Step}
 use Rattle.model.specs.Tables.{Queue}
-use Rattle.model.specs.Calls.{act}
-use Rattle.model.specs.Report.{entries, contents}
+use Rattle.model.specs.declared.Opening.the-variants.{Opened}
+use Rattle.model.specs.declared.Reported.the-variants as reported
+use Rattle.model.specs.Calls.{openQueue, act}
+use Rattle.model.specs.Report.{report, entries, contents}
 use Rattle.model.specs.Deque.{serve}
 
 -- An operation of a task: an element of the list, with any numbers.
@@ -106,12 +108,12 @@ stepOf n e a d c cs =
     (record { deque = s .deque; calls = continued c (record { at = n; reply = s .reply } ∷ c .effects) (ended n a) ∷ cs })
     (record { deque = d; calls = continued c (c .effects) (ended n a) ∷ cs })
 
--- A step belongs to the latest call of its task that is not answered.
+-- A step belongs to every call of its task that has begun and is not answered.
 unfoldable pub attend : ℕ → Event → Answer → List Entry → List Call → Ledger
 attend n e a d [] = record { deque = d; calls = [] }
 attend n e a d (c ∷ cs) =
-    let earlier = over c (attend n e a d cs) in
-    cond (eqb (c .task) (e .task) && isOpen (c .ending)) (stepOf n e a d c cs) earlier
+    let l = attend n e a d cs in
+    cond (eqb (c .task) (e .task) && isOpen (c .ending)) (stepOf n e a (l .deque) c (l .calls)) (over c l)
 
 -- An accepted start adds a call, an accepted step is attended to; at a refusal nothing is done.
 unfoldable pub accept : ℕ → Event → Op → Answer → Ledger → Ledger
@@ -132,6 +134,7 @@ abbrev pub ledger : List Event → Ledger
 ledger es = ledgerFrom 1 (record { deque = []; calls = [] }) es
 
 -- An answered call took effect exactly once, after its start and no later than its answer, which is the sequential deque's reply.
+-- (The positions hold by how the ledger is kept; they are what later requests ask of a history.)
 pub record Once (c : Call) (n : ℕ) (a : Answer) : Type 0 where
   pub effect : Effect
   pub only : c .effects ≡ effect ∷ []
@@ -153,11 +156,23 @@ abbrev pub All : {A : Type 0} → (A → Type 0) → List A → Type 0
 All P [] = Unit {0}
 All P (x ∷ l) = P x × All P l
 
--- Demand 3: every call is lawful, and the labels waiting are the sequential deque's queue.
+-- Every call is lawful, and the labels waiting are the sequential deque's queue.
 pub record Linearized (q : Queue) (os : List Request) : Type 0 where
   pub calls : All (λ (c : Call). Lawful c (c .ending)) (ledger (run q os) .calls)
   pub waits : contents (final q os .tables) ≡ entries (ledger (run q os) .deque)
 
--- No operation is refused as unsound.
-abbrev pub NeverUnsound : List Event → Type 0
-NeverUnsound es = All (λ (e : Event). e .outcome ≡ Refused 34 → ⊥) es
+-- No operation is refused as unsound, nor is a report after them.
+pub record NeverUnsound (q : Queue) (os : List Request) : Type 0 where
+  pub operations : All (λ (e : Event). e .outcome ≡ Refused 34 → ⊥) (run q os)
+  pub reports : report (final q os) ≡ reported.Refused 34 → ⊥
+
+-- The list follows any accepted opening, on any tables; it may be empty, and may name any numbers.
+abbrev pub AfterOpening : (Queue → List Request → Type 0) → Type 0
+AfterOpening P = (q : Queue) (tasks slots tag : ℕ) → openQueue q tasks slots tag .outcome ≡ Opened → (os : List Request) → P (openQueue q tasks slots tag .queue) os
+
+-- Demand 3; and that 34 never occurs.
+abbrev pub Linearizable : Type 0
+Linearizable = AfterOpening Linearized
+
+abbrev pub Never34 : Type 0
+Never34 = AfterOpening NeverUnsound

@@ -4,8 +4,8 @@ pub mod Places
 pub mod Route
 pub mod Refusals
 pub mod Calls
-pub mod Report
 pub mod Deque
+pub mod Report
 pub mod History
 pub mod OneTouch
 pub mod Mirror

@@ -1,4 +1,4 @@
--- One touch at a time: how far the shared tables may differ after a step. (Document 01: the title, and Places: at most one word a place.)
+-- One touch at a time: how far the shared tables may differ after a step. (Document 01: "moved one touch at a time".)
 use Prim.Native.Nat.{ℕ}
 use lib.ListN.{set}
 use Rattle.model.specs.Tables.{Tables}

@@ -132,7 +132,7 @@ at10 c r =
     let a = anchorOf (r .seen) in
     changes (c .anchor) (r .seen) (setAnchor (packAnchor (record { tag = a .tag + 1; status = 0; left = a .left; right = a .right }))) r r
 
--- 11: read the label of r, the end taken, and clear its mark.
+-- 11: read the label of r, the end taken (it goes into the answer, below in `Calls`), and clear its mark.
 unfoldable pub at11 : Record → Move
 at11 r = record { touch = clearMark (row r); task = r; outcome = 0; failed = false }
 

@@ -25,12 +25,16 @@ abbrev pub first : List Rule → ℕ
 first [] = 0
 first (r ∷ l) = cond (r .applies) (r .number) (first l)
 
+-- As many records as tasks.
+abbrev pub recordsFit : ℕ → Queue → Bool
+recordsFit tasks q = leb tasks (length (q .records))
+
 -- When opening: 10, 11, 12.
 abbrev pub openRules : Queue → ℕ → ℕ → List Rule
 openRules q tasks slots =
     rule 10 (not (from1 16 tasks))
     ∷ rule 11 (not (from1 1023 slots))
-    ∷ rule 12 (not (rowsFit slots (q .tables) && leb tasks (length (q .records))))
+    ∷ rule 12 (not (rowsFit slots (q .tables) && recordsFit tasks q))
     ∷ []
 
 unfoldable pub openRefusal : Queue → ℕ → ℕ → ℕ
@@ -43,10 +47,14 @@ pub record Lent : Type 0 where
 
 -- Task t among the records; and a record lent alone, where 13 can't occur and 12 looks at no records.
 abbrev pub among : Queue → ℕ → Lent
-among q t = record { enough = leb (q .tables .control .tasks) (length (q .records)); known = ltb t (q .tables .control .tasks) }
+among q t = record { enough = recordsFit (q .tables .control .tasks) q; known = ltb t (q .tables .control .tasks) }
 
 abbrev pub alone : Lent
 alone = record { enough = true; known = true }
+
+-- 30: the task is busy.
+abbrev pub isBusy : Record → Bool
+isBusy r = not (eqb (r .place) 0)
 
 -- 33: the Anchor tag is above 4,294,967,262.
 abbrev pub late : Tables → Bool
@@ -60,7 +68,7 @@ pushRules q p r side slot =
     ∷ rule 14 (not (leb side 1))
     ∷ rule 15 (not (from1 (q .control .slots) slot))
     ∷ rule 34 (not (recordSound (q .control .slots) r))
-    ∷ rule 30 (not (eqb (r .place) 0))
+    ∷ rule 30 (isBusy r)
     ∷ rule 32 (marked (q .marks) slot)
     ∷ rule 33 (late q)
     ∷ []
@@ -75,7 +83,7 @@ popRules q p r side =
     ∷ rule 13 (not (p .known))
     ∷ rule 14 (not (leb side 1))
     ∷ rule 34 (not (recordSound (q .control .slots) r))
-    ∷ rule 30 (not (eqb (r .place) 0))
+    ∷ rule 30 (isBusy r)
     ∷ rule 33 (late q)
     ∷ []
 
@@ -131,7 +139,7 @@ stepRefusal q p r = first (stepRules q p r)
 abbrev pub reportRules : Queue → List Rule
 reportRules q =
     rule 34 (not (controlSound (q .tables .control)))
-    ∷ rule 12 (not (rowsFit (q .tables .control .slots) (q .tables) && leb (q .tables .control .tasks) (length (q .records))))
+    ∷ rule 12 (not (rowsFit (q .tables .control .slots) (q .tables) && recordsFit (q .tables .control .tasks) q))
     ∷ []
 
 unfoldable pub reportRefusal : Queue → ℕ

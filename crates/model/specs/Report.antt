@@ -44,6 +44,7 @@ abbrev pub andThen : Entry → Walk → Walk
 andThen e (entries l) = entries (e ∷ l)
 andThen e broken = broken
 
+-- A walk that began at a side, turned to run from left to right.
 abbrev pub walkFrom : ℕ → Walk → Walk
 walkFrom side (entries l) = entries (seenFrom side l)
 walkFrom side broken = broken

@@ -23,35 +23,38 @@ empty = 22
 abbrev pub popped : ℕ
 popped = 23
 
--- A line for each place and an entry for each outcome, from 0. Push and pop share places 5 to 10.
-abbrev pub sharedRoute : List ℕ → List (List ℕ)
-sharedRoute eleven =
-    (6 ∷ [])
-    ∷ (7 ∷ leave ∷ [])
-    ∷ (10 ∷ 8 ∷ [])
-    ∷ (9 ∷ leave ∷ [])
-    ∷ (10 ∷ leave ∷ [])
-    ∷ (leave ∷ leave ∷ [])
-    ∷ eleven ∷ []
-
--- Places 0 (where no task steps) to 4, then those.
+-- The column next: a line for each place from 0, where no task steps, and an entry for each outcome from 0.
+-- A push never reads a single label as such at place 1, so that entry is 0, no place.
 unfoldable pub pushRoute : List (List ℕ)
 pushRoute =
     []
-    ∷ (2 ∷ 0 ∷ 3 ∷ 5 ∷ [])
-    ∷ (pushed ∷ 1 ∷ [])
-    ∷ (4 ∷ [])
-    ∷ (5 ∷ 1 ∷ [])
-    ∷ sharedRoute []
+    ∷ (2 ∷ 0 ∷ 3 ∷ 5 ∷ [])  -- 1: empty, -, STABLE, else
+    ∷ (pushed ∷ 1 ∷ [])  -- 2: done, failed
+    ∷ (4 ∷ [])  -- 3
+    ∷ (5 ∷ 1 ∷ [])  -- 4: done, failed
+    ∷ (6 ∷ [])  -- 5
+    ∷ (7 ∷ leave ∷ [])  -- 6: equal, else
+    ∷ (10 ∷ 8 ∷ [])  -- 7: names r, else
+    ∷ (9 ∷ leave ∷ [])  -- 8: equal, else
+    ∷ (10 ∷ leave ∷ [])  -- 9: done, failed
+    ∷ (leave ∷ leave ∷ [])  -- 10: done, failed
+    ∷ []
 
 unfoldable pub popRoute : List (List ℕ)
 popRoute =
     []
-    ∷ (empty ∷ 2 ∷ 3 ∷ 5 ∷ [])
-    ∷ (11 ∷ 1 ∷ [])
-    ∷ (4 ∷ [])
-    ∷ (11 ∷ 1 ∷ [])
-    ∷ sharedRoute (popped ∷ [])
+    ∷ (empty ∷ 2 ∷ 3 ∷ 5 ∷ [])  -- 1: empty, l = r, STABLE, else
+    ∷ (11 ∷ 1 ∷ [])  -- 2: done, failed
+    ∷ (4 ∷ [])  -- 3
+    ∷ (11 ∷ 1 ∷ [])  -- 4: done, failed
+    ∷ (6 ∷ [])  -- 5, as a push
+    ∷ (7 ∷ leave ∷ [])  -- 6, as a push
+    ∷ (10 ∷ 8 ∷ [])  -- 7, as a push
+    ∷ (9 ∷ leave ∷ [])  -- 8, as a push
+    ∷ (10 ∷ leave ∷ [])  -- 9, as a push
+    ∷ (leave ∷ leave ∷ [])  -- 10, as a push
+    ∷ (popped ∷ [])  -- 11
+    ∷ []
 
 unfoldable pub route : ℕ → ℕ → ℕ → ℕ
 route place kind outcome = getD (getD (cond (eqb kind 0) pushRoute popRoute) place []) outcome 0

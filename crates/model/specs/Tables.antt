@@ -21,7 +21,7 @@ pub record Queue : Type 0 where
   pub tables : Tables
   pub records : List Record
 
--- Side 0 is left, 1 is right. Left is the mirror of right through the next five definitions alone.
+-- Side 0 is left, 1 is right. Left is the mirror of right through the definitions from here to `named`; no place is written twice.
 abbrev pub opposite : ℕ → ℕ
 opposite side = cond (eqb side 1) 0 1
 

@@ -8,9 +8,10 @@ use native.Mathlib.Omega.{arith}
 use lib.Dec.{eqb}
 use lib.ListN.{length}
 use borrow.Author.Tests.{eq-eqb, eqb-true, ne-eqb}
-use Rattle.model.specs.History.{Call, Effect, Ending, Event, Ledger, Once, answered, attend, ended, isOpen, pending, stepOf}
+use Rattle.model.specs.History.{Call, Effect, Ending, Event, Ledger, Once, answered, attend, ended, isOpen, over, pending, stepOf}
 use Rattle.model.specs.declared.Answer.the-variants.{Empty, Popped, Pushed, Running}
 use Rattle.model.specs.declared.Answer.{Answer}
+use Rattle.model.specs.declared.Entry.{Entry}
 use Rattle.model.proofs.tests.Truth.{and-true, by-test, not-both}
 use Rattle.model.proofs.machine.Clerk as B
 use Rattle.model.proofs.machine.Laws.{upd-other, upd-same}
@@ -106,14 +107,23 @@ module _ (n : ℕ) (b : B.Book) (ev : Event) (a : Answer) (o : KeptHead n b (B.n
         others = λ u d. ap (opens u) (st .calls) ∙ opens-skip u (st .call) cs (λ w. d (sym w ∙ st .task ∙ z)) ∙ sym (opens-skip u c cs (λ w. d (sym w ∙ z)));
       }
 
+  -- No other call takes part.
+  attend-none : (d : List Entry) (cs : List Call) → opens t cs ≡ 0 → attend n ev a d cs ≡ record { deque = d; calls = cs }
+  unfolding attend
+  attend-none d [] e = refl
+  attend-none d (c ∷ cs) e = by-test (λ (l : Ledger). l ≡ record { deque = d; calls = c ∷ cs }) (eqb (c .task) t && isOpen (c .ending))
+      (λ z. absurd (let f = ap (λ (b : Bool). cond b (suc (opens t cs)) (opens t cs)) (sym z) ∙ e in omega arith))
+      (λ z. ap (over c) (attend-none d cs (ap (λ (b : Bool). cond b (suc (opens t cs)) (opens t cs)) (sym z) ∙ e)))
+
   pub attend-keeps : (cs : List Call) → opens t cs ≡ 1 → Tracks n (b .calls) cs → Attended n b t ev a cs (attend n ev a (b .queue) cs)
   unfolding attend
   attend-keeps [] e h = absurd (omega arith)
   attend-keeps (c ∷ cs) e h = by-test (Attended n b t ev a (c ∷ cs)) (eqb (c .task) t && isOpen (c .ending))
       (λ z. let y = and-true (eqb (c .task) t) (isOpen (c .ending)) z in
       let g = is-open (c .ending) (y .1) in
-      let f = ap (λ (b : Bool). cond b (suc (opens t cs)) (opens t cs)) (sym z) ∙ e in
-      here c cs (eqb-true _ _ (y .0)) g (omega arith) (subst (Tracked n (b .calls) c) g (h .0)) (h .1))
+      let f : opens t cs ≡ 0 = let s = ap (λ (b : Bool). cond b (suc (opens t cs)) (opens t cs)) (sym z) ∙ e in omega arith in
+      subst (λ (l : Ledger). Attended n b t ev a (c ∷ cs) (stepOf n ev a (l .deque) c (l .calls))) (sym (attend-none (b .queue) cs f))
+      (here c cs (eqb-true _ _ (y .0)) g f (subst (Tracked n (b .calls) c) g (h .0)) (h .1)))
       (λ z. let f = ap (λ (b : Bool). cond b (suc (opens t cs)) (opens t cs)) (sym z) ∙ e in
       let ih = attend-keeps cs f (h .1) in
       let l = attend n ev a (b .queue) cs in
