@@ -1,0 +1,117 @@
+-- An opening's parts make the opening: an accepted one finds every table long enough, a refused one zeroes nothing.
+use mathlib.Core.Path.{_≡_, refl, sym, ap, _∙_}
+use mathlib.Core.Bool.{Bool, true, false, _&&_, not, cond}
+use mathlib.Core.List.{List, [], _∷_}
+use Prim.Native.Nat.{ℕ, _+_, _/_, _≤_}
+use native.Mathlib.Omega.{arith}
+use lib.Dec.{eqb, ltb, leb}
+use lib.ListN.{length, length-replicate}
+use borrow.Author.Tests.{ltb-true, leb-true, eqb-true, le-leb, eq-eqb, ne-eqb}
+use Rattle.model.specs.declared.Opening.the-variants as opening
+use Rattle.model.specs.Tables.{Tables, Queue, idle, zeroed}
+use Rattle.model.specs.Sound.{rowsFit}
+use Rattle.model.specs.Refusals.{rule, first, openRefusal}
+use Rattle.model.specs.Calls.{opened, openQueue, OpenDone}
+use Rattle.table.specs.Zeroing.{zeroing}
+use Rattle.calls.specs.Rules.{openingRefusal}
+use Rattle.calls.specs.Opening.{openedControl, counting, OpenedParts, openTables, whole}
+use Rattle.calls.proofs.Rules.{both}
+
+-- No rule applies: the slots are few, and the tables fit.
+pub record Accepted (slots : ℕ) (fits : Bool) : Type 0 where
+  pub slots-most : slots ≤ 1023
+  pub fit : fits ≡ true
+
+none-applies : (a b c : Bool) → first (rule 10 (not a) ∷ rule 11 (not b) ∷ rule 12 (not c) ∷ []) ≡ 0 → (a ≡ true) × (b ≡ true) × (c ≡ true)
+none-applies true true true e = (refl, refl, refl)
+none-applies true true false e = let z : ⊥ = omega arith in absurd z
+none-applies true false c e = let z : ⊥ = omega arith in absurd z
+none-applies false b c e = let z : ⊥ = omega arith in absurd z
+
+pub accepted : (tasks slots : ℕ) (fits : Bool) → openingRefusal tasks slots fits ≡ 0 → Accepted slots fits
+unfolding openingRefusal
+accepted tasks slots fits e =
+    let h = none-applies (leb 1 tasks && leb tasks 16) (leb 1 slots && leb slots 1023) fits e in
+    record {
+      slots-most = leb-true slots 1023 (both (leb 1 slots) (leb slots 1023) (h .1) .1);
+      fit = h .2;
+    }
+
+-- A table with more than n entries has its first n + 1 zeroed.
+zeroes : (n : ℕ) (l : List ℕ) → ltb n (length l) ≡ true → zeroing (n + 1) l ≡ zeroed (n + 1) 0 l
+unfolding zeroing
+zeroes n l e = rw (le-leb (n + 1) (length l) (omega (arith, ltb-true n (length l) e)))
+
+module _ (q : Tables) (records tasks slots : ℕ) where
+  abbrev why : ℕ
+  why = openingRefusal tasks slots (rowsFit slots q && leb tasks records)
+
+  counted : openRefusal (counting q records) tasks slots ≡ why
+  unfolding openRefusal openingRefusal
+  counted = rw (length-replicate records idle)
+
+  pub refused-parts : (tag : ℕ) → (why ≡ 0 → ⊥)
+      → _≡_ {A = OpenedParts} (record { tables = q; clear = 0; outcome = opening.Refused why }) (openTables q records tasks slots tag)
+  unfolding openTables openQueue
+  refused-parts tag h = rw (counted, ne-eqb why 0 h)
+
+  abbrev zeroedTables : ℕ → Tables
+  zeroedTables tag = record {
+    control = openedControl tasks slots tag;
+    lefts = zeroing (slots + 1) (q .lefts);
+    rights = zeroing (slots + 1) (q .rights);
+    labels = zeroing (slots + 1) (q .labels);
+    marks = zeroing (slots / 64 + 1) (q .marks);
+  }
+
+  pub opened-parts : (tag : ℕ) → why ≡ 0
+      → _≡_ {A = OpenedParts} (record { tables = zeroedTables tag; clear = tasks; outcome = opening.Opened }) (openTables q records tasks slots tag)
+  unfolding openTables openQueue opened rowsFit
+  opened-parts tag h =
+      let f = both (rowsFit slots q) (leb tasks records) (accepted tasks slots (rowsFit slots q && leb tasks records) h .fit) .0 in
+      let l = both (ltb slots (length (q .lefts))) _ f in
+      let r = both (ltb slots (length (q .rights))) _ (l .1) in
+      let b = both (ltb slots (length (q .labels))) _ (r .1) in
+      rw (
+        counted,
+        eq-eqb why 0 h,
+        zeroes slots (q .lefts) (l .0),
+        zeroes slots (q .rights) (r .0),
+        zeroes slots (q .labels) (b .0),
+        zeroes (slots / 64) (q .marks) (b .1),
+      )
+
+  at-most : (b : Bool) → (b ≡ true → tasks ≤ records) → cond b tasks 0 ≤ records
+  at-most true h = h refl
+  at-most false h = omega arith
+
+  -- No more records are zeroed than are lent.
+  pub clear-fits : (tag : ℕ) → openTables q records tasks slots tag .clear ≤ records
+  unfolding openTables
+  clear-fits tag =
+      rw counted (at-most (eqb why 0) (λ e. leb-true tasks records (both (rowsFit slots q) _ (accepted tasks slots _ (eqb-true why 0 e) .fit) .1)))
+
+-- The opening of a queue is its parts.
+module _ (q : Queue) (tasks slots tag : ℕ) where
+  abbrev few : Queue
+  few = counting (q .tables) (length (q .records))
+
+  same-why : openRefusal few tasks slots ≡ openRefusal q tasks slots
+  unfolding openRefusal
+  same-why = rw (length-replicate (length (q .records)) idle)
+
+  abbrev done : Bool → ℕ → Queue → OpenDone
+  done b n p = cond b (record { queue = opened p tasks slots tag; outcome = opening.Opened }) (record { queue = p; outcome = opening.Refused n })
+
+  abbrev parts : Bool → ℕ → OpenedParts
+  parts b n = record { tables = done b n few .queue .tables; clear = cond b tasks 0; outcome = done b n few .outcome }
+
+  joined : (b : Bool) (n : ℕ) → done b n q ≡ whole (q .records) (parts b n)
+  unfolding opened
+  joined true n = refl
+  joined false n = refl
+
+  pub open-parts : openQueue q tasks slots tag ≡ whole (q .records) (openTables (q .tables) (length (q .records)) tasks slots tag)
+  unfolding openTables openQueue
+  open-parts =
+      joined (eqb (openRefusal q tasks slots) 0) (openRefusal q tasks slots) ∙ ap (λ (n : ℕ). whole (q .records) (parts (eqb n 0) n)) (sym same-why)

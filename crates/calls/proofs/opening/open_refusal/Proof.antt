@@ -1,0 +1,19 @@
+-- The tests are the rules', in their order.
+use Rattle.calls.proofs.Rules.{none, stop, pass, opening-tried}
+use Rattle.calls.proofs.opening.open_refusal.Statement.{statement}
+use Rattle.calls.proofs.opening.open_refusal.Tie as tie
+
+returns : tie.Need-returns
+returns c = opening-tried _ _ _ (stop (rw (← c .before .from1 .ensures) (c .if1 .taken)))
+
+returns-2 : tie.Need-returns-2
+returns-2 c = opening-tried _ _ _ (pass (rw (← c .before .before .before .from1 .ensures) (c .before .before .if1 .left)) (stop (rw (← c .before .from12 .ensures) (c .if2 .taken))))
+
+returns-3 : tie.Need-returns-3
+returns-3 c = opening-tried _ _ _ (pass (rw (← c .before .before .before .before .before .from1 .ensures) (c .before .before .before .before .if1 .left)) (pass (rw (← c .before .before .before .from12 .ensures) (c .before .before .if2 .left)) (stop (rw (← c .before .rows-fit .ensures) (c .if3 .taken)))))
+
+returns-4 : tie.Need-returns-4
+returns-4 c = opening-tried _ _ _ (pass (rw (← c .before .before .before .before .before .from1 .ensures) (c .before .before .before .before .if1 .left)) (pass (rw (← c .before .before .before .from12 .ensures) (c .before .before .if2 .left)) (pass (rw (← c .before .rows-fit .ensures) (c .if3 .left)) none)))
+
+pub open-refusal-spec : {M : Type 1} → statement M
+open-refusal-spec = tie.close (tie.spec (λ _ _. tt) returns (λ _ _. tt) returns-2 (λ _ _. tt) returns-3 returns-4)

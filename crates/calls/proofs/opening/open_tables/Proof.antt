@@ -1,0 +1,32 @@
+-- Refused: everything is as it was. Accepted: each table is long enough to be zeroed.
+use mathlib.Core.Path.{sym, _∙_}
+use Prim.Native.Nat.{_≤_}
+use native.Mathlib.Omega.{arith}
+use borrow.Author.Needs.{needs}
+use Rattle.model.specs.Sound.{rowsFit}
+use Rattle.sound.specs.Lengths.{lengthsFit}
+use Rattle.calls.proofs.Parts.{accepted, refused-parts, opened-parts}
+use Rattle.calls.proofs.opening.open_tables.Statement.{statement}
+use Rattle.calls.proofs.opening.open_tables.Tie as tie
+
+returns : tie.Need-returns
+unfolding rowsFit lengthsFit
+returns c = let why = c .before .open-refusal in rw (why .ensures) (refused-parts _ _ _ _ _ (rw (← why .ensures) (c .if1 .taken)))
+
+add-rows : tie.Need-add-rows
+add-rows c = let h = accepted _ _ _ (sym (c .before .open-refusal .ensures) ∙ c .if1 .left) in search needs
+
+returns-2 : tie.Need-returns-2
+unfolding rowsFit lengthsFit
+returns-2 c =
+    rw (
+      c .opened-control .ensures,
+      c .before .before .before .zero-words3 .ensures,
+      c .before .before .before .before .before .before .before .zero-labels .ensures,
+      c .before .before .before .before .before .before .before .before .before .before .before .zero-words2 .ensures,
+      c .before .before .before .before .before .before .before .before .before .before .before .before .before .before .before .zero-words .ensures,
+    )
+    (opened-parts _ _ _ _ _ (sym (c .before .before .before .before .before .before .before .before .before .before .before .before .before .before .before .before .before .before .open-refusal .ensures) ∙ c .before .before .before .before .before .before .before .before .before .before .before .before .before .before .before .before .before .if1 .left))
+
+pub open-tables-spec : {M : Type 1} → statement M
+open-tables-spec = tie.close (tie.spec (λ _ _. tt) returns add-rows (λ _ _. tt) (λ _ _. tt) (λ _ _. tt) (λ c. search needs) (λ _ _. tt) (λ _ _. tt) (λ c. search needs) (λ c. search needs) (λ c. search needs) (λ c. search needs) returns-2)

@@ -1,0 +1,35 @@
+-- An opening in parts: the tables, and how many records are zeroed.
+use mathlib.Core.Bool.{cond}
+use mathlib.Core.List.{List}
+use Prim.Native.Nat.{ℕ}
+use lib.Dec.{eqb}
+use lib.ListN.{replicate}
+use Rattle.word.specs.Anchor.{packAnchor, emptyAnchor}
+use Rattle.model.specs.declared.Control.{Control}
+use Rattle.model.specs.declared.Record.{Record}
+use Rattle.model.specs.declared.Opening.{Opening}
+use Rattle.model.specs.Tables.{Tables, Queue, idle, zeroed}
+use Rattle.model.specs.Refusals.{openRefusal}
+use Rattle.model.specs.Calls.{OpenDone, openQueue}
+
+abbrev pub openedControl : ℕ → ℕ → ℕ → Control
+openedControl tasks slots tag = record { tasks = tasks; slots = slots; anchor = packAnchor (emptyAnchor tag); retries = 0 }
+
+-- A queue with n records, of which only the number counts.
+abbrev pub counting : Tables → ℕ → Queue
+counting q n = record { tables = q; records = replicate n idle }
+
+pub record OpenedParts : Type 0 where
+  pub tables : Tables
+  pub clear : ℕ
+  pub outcome : Opening
+
+unfoldable pub openTables : Tables → ℕ → ℕ → ℕ → ℕ → OpenedParts
+openTables q records tasks slots tag =
+    let done = openQueue (counting q records) tasks slots tag in
+    let clear : ℕ = cond (eqb (openRefusal (counting q records) tasks slots) 0) tasks 0 in
+    record { tables = done .queue .tables; clear = clear; outcome = done .outcome }
+
+-- The parts with the lent records make the whole.
+abbrev pub whole : List Record → OpenedParts → OpenDone
+whole rs o = record { queue = record { tables = o .tables; records = zeroed (o .clear) idle rs }; outcome = o .outcome }

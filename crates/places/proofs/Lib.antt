@@ -1,0 +1,4 @@
+pub mod Table
+pub mod Routes
+pub mod Anchors
+pub mod Rows

@@ -1,0 +1,60 @@
+-- How a step ends, by value: refused, gone on, Anchor compared or changed, a link read.
+use mathlib.Core.Bool.{Bool, true, _&&_, cond}
+use Prim.Native.Nat.{ℕ}
+use lib.Dec.{eqb, ltb}
+use Rattle.word.specs.Anchor.{anchorOf}
+use Rattle.word.specs.Link.{linkOf}
+use Rattle.model.specs.declared.Control.{Control}
+use Rattle.model.specs.declared.Record.{Record}
+use Rattle.model.specs.declared.Entry.{Entry}
+use Rattle.model.specs.declared.Outcome.the-variants.{Refused, Moved}
+use Rattle.model.specs.Sound.{from1, anchorSound, linkSound}
+use Rattle.model.specs.Places.{withNeighbour, withLink}
+use Rattle.model.specs.Route.{onward, goes, answer, counted}
+use Rattle.table.specs.declared.Acted as made
+
+abbrev pub refused : Control → Record → made.Acted
+refused c r = record { control = c; task = r; outcome = Refused 34 }
+
+-- The record gone on by the route's n, and the answer, with e the entry popped.
+unfoldable pub settled : Control → Record → ℕ → Entry → made.Acted
+settled c t n e =
+    let m = onward n (t .finishing) in
+    record { control = c; task = goes t m; outcome = Moved (answer m e) }
+
+abbrev pub bumped : Control → Control
+bumped c = record { tasks = c .tasks; slots = c .slots; anchor = c .anchor; retries = counted (c .retries) true }
+
+abbrev pub withAnchor : Control → ℕ → Control
+withAnchor c w = record { tasks = c .tasks; slots = c .slots; anchor = w; retries = c .retries }
+
+abbrev pub noEntry : Entry
+noEntry = record { slot = 0; label = 0 }
+
+-- A change of Anchor from the word as read to new: done leads the record t on, failed the record r.
+unfoldable pub changed : Control → Record → ℕ → Record → ℕ → ℕ → made.Acted
+changed c r new t done failed =
+    let sound = anchorSound (c .slots) (anchorOf new) && ltb (anchorOf (r .seen) .tag) 4294967295 in
+    cond (eqb (c .anchor) (r .seen))
+    (cond sound (settled (withAnchor c new) t done noEntry) (refused c r))
+    (settled (bumped c) r failed noEntry)
+
+-- Anchor compared with the word as read.
+unfoldable pub compared : Control → Record → ℕ → ℕ → made.Acted
+compared c r same other = cond (eqb (c .anchor) (r .seen)) (settled c r same noEntry) (settled c r other noEntry)
+
+-- Slot x may be touched, and w, the link word met there, is sound.
+unfoldable pub rowSound : ℕ → ℕ → ℕ → Bool
+rowSound slots x w = from1 slots x && linkSound slots w
+
+-- The slot that w, slot x's inward link, names is the neighbour.
+unfoldable pub neighbourRead : Control → Record → ℕ → ℕ → ℕ → made.Acted
+neighbourRead c r x w n =
+    cond (rowSound (c .slots) x w) (settled c (withNeighbour r (linkOf w .slot)) n noEntry) (refused c r)
+
+-- The neighbour's outward link w is remembered; it may name the end.
+unfoldable pub linkRead : Control → Record → ℕ → ℕ → ℕ → ℕ → made.Acted
+linkRead c r end w same other =
+    cond (rowSound (c .slots) (r .neighbour) w)
+    (cond (eqb (linkOf w .slot) end) (settled c (withLink r w) same noEntry) (settled c (withLink r w) other noEntry))
+    (refused c r)

@@ -1,0 +1,2 @@
+pub mod Arm
+pub mod Ending

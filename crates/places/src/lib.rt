@@ -1,0 +1,197 @@
+//! What each place does with the tables lent to it, one function a place.
+//!
+//! Every function carries out the step at its place, whatever its arguments:
+//! it refuses with 34 what the place may not touch and then changes nothing.
+//! Line numbers are those of source 003. Figures 3 and 5 show the right side;
+//! at places 5 to 10, figure 4, the side is the one that the status as read names.
+mod next;
+mod side;
+mod step;
+
+use model::Control;
+use model::Entry;
+use model::Record;
+use table::Acted;
+use word::Anchor;
+use word::Link;
+ghost use Rattle.places.specs.Arm.{Steps, StepsOnLinks, StepsOnMarks};
+
+/// Place 1: read Anchor. (Figure 3, line 1; figure 5, line 11.)
+pub fn at1(c: Control, r: Record) -> Acted
+    ensures { λ m. ⌜ Steps 1 c r m ⌝ }
+{
+    let a = Anchor::unpack(c.anchor);
+    let mut t = r;
+    t.seen = c.anchor;
+    step::settles(c, t, next::after_reading(r.kind, a), step::NO_ENTRY)
+}
+
+/// Place 2: change Anchor to own, own, s; a pop to null, null, s. (Figure 3, line 2; figure 5, line 12.)
+pub fn at2(c: Control, r: Record) -> Acted
+    ensures { λ m. ⌜ Steps 2 c r m ⌝ }
+{
+    let a = Anchor::unpack(r.seen);
+    let end = side::choose(r.kind == 0, r.own, 0);
+    let new = side::facing(r.side == 1, step::raised(r.seen), a.status, end, end);
+    step::changes(
+        c,
+        r,
+        new,
+        r,
+        next::next(2, r.kind, 0),
+        next::next(2, r.kind, 1),
+    )
+}
+
+/// Place 3: put the end into the own slot's inward link, its tag kept; a pop reads the end's
+/// inward link as neighbour. (Figure 3, line 3; figure 5, line 13.)
+pub fn at3(c: Control, r: Record, lefts: &mut [u64], rights: &mut [u64]) -> Acted
+    ensures { λ m.
+        ⌜ StepsOnLinks 3 c r (now (lefts .entry)) (now (rights .entry)) m (now (lefts .exit)) (now (rights .exit)) ⌝ }
+{
+    let right = r.side == 1;
+    let a = Anchor::unpack(r.seen);
+    let end = side::near(right, a);
+    if r.kind == 0 {
+        let w = side::link_at(!right, r.own, lefts, rights);
+        if step::row_sound(c.slots, r.own, w) {
+            let link = Link::unpack(w);
+            side::put_link(!right, r.own, step::link_word(link.tag, end), lefts, rights);
+            return step::settles(c, r, next::next(3, r.kind, 0), step::NO_ENTRY);
+        }
+        return step::refused(c, r);
+    }
+    let w = side::link_at(!right, end, lefts, rights);
+    step::reads_neighbour(c, r, end, w, next::next(3, r.kind, 0))
+}
+
+/// Place 4: change Anchor to l, own, RPUSH, and remember it, finishing; a pop to l, neighbour, s.
+/// (Figure 3, line 4; figure 5, line 14.)
+pub fn at4(c: Control, r: Record) -> Acted
+    ensures { λ m. ⌜ Steps 4 c r m ⌝ }
+{
+    let right = r.side == 1;
+    let a = Anchor::unpack(r.seen);
+    let far = side::far(right, a);
+    let done = next::next(4, r.kind, 0);
+    let failed = next::next(4, r.kind, 1);
+    if r.kind == 0 {
+        let new = side::facing(
+            right,
+            step::raised(r.seen),
+            side::pushing(right),
+            r.own,
+            far,
+        );
+        let mut t = r;
+        t.seen = new;
+        t.finishing = 1;
+        return step::changes(c, r, new, t, done, failed);
+    }
+    let new = side::facing(right, step::raised(r.seen), a.status, r.neighbour, far);
+    step::changes(c, r, new, r, done, failed)
+}
+
+/// Place 5: read the end's inward link as neighbour. (Figure 4, line 5.)
+pub fn at5(c: Control, r: Record, lefts: &[u64], rights: &[u64]) -> Acted
+    ensures { λ m.
+        ⌜ StepsOnLinks 5 c r (now (lefts .entry)) (now (rights .entry)) m (now (lefts .entry)) (now (rights .entry)) ⌝ }
+{
+    let a = Anchor::unpack(r.seen);
+    let right = a.status == 1;
+    let end = side::near(right, a);
+    let w = side::link_at(!right, end, lefts, rights);
+    step::reads_neighbour(c, r, end, w, next::next(5, r.kind, 0))
+}
+
+/// Place 6: compare Anchor. (Figure 4, line 6.)
+pub fn at6(c: Control, r: Record) -> Acted
+    ensures { λ m. ⌜ Steps 6 c r m ⌝ }
+{
+    step::compares(c, r, next::next(6, r.kind, 0), next::next(6, r.kind, 1))
+}
+
+/// Place 7: read the neighbour's outward link. (Figure 4, line 7.)
+pub fn at7(c: Control, r: Record, lefts: &[u64], rights: &[u64]) -> Acted
+    ensures { λ m.
+        ⌜ StepsOnLinks 7 c r (now (lefts .entry)) (now (rights .entry)) m (now (lefts .entry)) (now (rights .entry)) ⌝ }
+{
+    let a = Anchor::unpack(r.seen);
+    let right = a.status == 1;
+    let end = side::near(right, a);
+    let w = side::link_at(right, r.neighbour, lefts, rights);
+    step::reads_link(
+        c,
+        r,
+        end,
+        w,
+        next::next(7, r.kind, 0),
+        next::next(7, r.kind, 1),
+    )
+}
+
+/// Place 8: compare Anchor again. (Figure 4, line 8.)
+pub fn at8(c: Control, r: Record) -> Acted
+    ensures { λ m. ⌜ Steps 8 c r m ⌝ }
+{
+    step::compares(c, r, next::next(8, r.kind, 0), next::next(8, r.kind, 1))
+}
+
+/// Place 9: change the neighbour's outward link to the end. (Figure 4, line 9.)
+pub fn at9(c: Control, r: Record, lefts: &mut [u64], rights: &mut [u64]) -> Acted
+    ensures { λ m.
+        ⌜ StepsOnLinks 9 c r (now (lefts .entry)) (now (rights .entry)) m (now (lefts .exit)) (now (rights .exit)) ⌝ }
+{
+    let a = Anchor::unpack(r.seen);
+    let right = a.status == 1;
+    let link = Link::unpack(r.link);
+    let w = side::link_at(right, r.neighbour, lefts, rights);
+    if !sound::from1(c.slots, r.neighbour) {
+        return step::refused(c, r);
+    }
+    if w != r.link {
+        return step::settles(step::bumped(c), r, next::next(9, r.kind, 1), step::NO_ENTRY);
+    }
+    if link.tag < Link::TAG_MASK {
+        let new = step::link_word(step::raised(r.link), side::near(right, a));
+        side::put_link(right, r.neighbour, new, lefts, rights);
+        return step::settles(c, r, next::next(9, r.kind, 0), step::NO_ENTRY);
+    }
+    step::refused(c, r)
+}
+
+/// Place 10: change Anchor to l, r, STABLE. (Figure 4, line 10.)
+pub fn at10(c: Control, r: Record) -> Acted
+    ensures { λ m. ⌜ Steps 10 c r m ⌝ }
+{
+    let a = Anchor::unpack(r.seen);
+    let stable = Anchor {
+        tag: step::raised(r.seen),
+        status: 0,
+        left: a.left,
+        right: a.right,
+    };
+    step::changes(
+        c,
+        r,
+        stable.pack(),
+        r,
+        next::next(10, r.kind, 0),
+        next::next(10, r.kind, 1),
+    )
+}
+
+/// Place 11: read the label of the end taken and clear its mark. (Figure 5, after the loop.)
+pub fn at11(c: Control, r: Record, labels: &[u32], marks: &mut [u64]) -> Acted
+    ensures { λ m.
+        ⌜ StepsOnMarks 11 c r (now (labels .entry)) (now (marks .entry)) m (now (marks .exit)) ⌝ }
+{
+    let a = Anchor::unpack(r.seen);
+    let end = side::near(r.side == 1, a);
+    if sound::from1(c.slots, end) {
+        let label = table::label_at(labels, end);
+        table::clear_mark(marks, end);
+        return step::settles(c, r, next::next(11, r.kind, 0), Entry { slot: end, label });
+    }
+    step::refused(c, r)
+}

@@ -1,0 +1,178 @@
+//! How a step ends: refused, made, or a change of Anchor tried.
+use crate::next;
+use model::Answer;
+use model::Control;
+use model::Entry;
+use model::Outcome;
+use model::Record;
+use table::Acted;
+use word::Anchor;
+use word::Link;
+ghost use mathlib.Core.Path.{_≡_};
+ghost use Prim.Native.Nat.{_+_, _/_, _^_};
+ghost use Rattle.word.specs.Link.{packLink};
+ghost use Rattle.model.specs.Tables.{idle};
+ghost use Rattle.model.specs.Route.{goes};
+ghost use Rattle.places.specs.Ending.{refused, settled, bumped, changed, compared, rowSound, neighbourRead, linkRead};
+
+/// For a step that pops nothing.
+pub const NO_ENTRY: Entry = Entry { slot: 0, label: 0 };
+
+/// 34: nothing is changed.
+pub fn refused(c: Control, r: Record) -> Acted
+    ensures { λ m. ⌜ m ≡ refused c r ⌝ }
+{
+    Acted {
+        control: c,
+        task: r,
+        outcome: Outcome::Refused(34),
+    }
+}
+
+/// The call goes on at place n.
+fn goes(c: Control, t: Record, n: u8) -> Acted
+    ensures { λ m. ⌜ m ≡ record { control = c; task = goes t n; outcome = Outcome.Moved (Answer.Running n) } ⌝ }
+{
+    let place = n as u64;
+    if n > 11 {
+        return ends(c, Answer::Running(place));
+    }
+    let mut gone = t;
+    gone.place = place;
+    Acted {
+        control: c,
+        task: gone,
+        outcome: Outcome::Moved(Answer::Running(place)),
+    }
+}
+
+/// The call is answered, and its record all zero.
+fn ends(c: Control, a: Answer) -> Acted
+    ensures { λ m. ⌜ m ≡ record { control = c; task = idle; outcome = Outcome.Moved a } ⌝ }
+{
+    Acted {
+        control: c,
+        task: Record {
+            place: 0,
+            kind: 0,
+            side: 0,
+            own: 0,
+            label: 0,
+            seen: 0,
+            neighbour: 0,
+            link: 0,
+            finishing: 0,
+        },
+        outcome: Outcome::Moved(a),
+    }
+}
+
+/// A step made: its record goes where the route leads, n; e is the entry popped.
+pub fn settles(c: Control, t: Record, n: u8, e: Entry) -> Acted
+    ensures { λ m. ⌜ m ≡ settled c t n e ⌝ }
+{
+    if n == next::LEAVE {
+        if t.finishing == 1 {
+            ends(c, Answer::Pushed)
+        } else {
+            goes(c, t, 1)
+        }
+    } else if n == next::PUSHED {
+        ends(c, Answer::Pushed)
+    } else if n == next::EMPTY {
+        ends(c, Answer::Empty)
+    } else if n == next::POPPED {
+        ends(c, Answer::Popped(e))
+    } else {
+        goes(c, t, n)
+    }
+}
+
+/// One more failed change, up to the ceiling.
+pub fn bumped(c: Control) -> Control
+    ensures { λ d. ⌜ d ≡ bumped c ⌝ }
+{
+    let mut d = c;
+    if c.retries < 4294967295 {
+        d.retries = c.retries + 1;
+    }
+    d
+}
+
+/// The tag of a word, raised by 1.
+pub fn raised(w: u64) -> u64
+    ensures { λ tag. ⌜ tag ≡ w / 2 ^ 32 + 1 ⌝ }
+{
+    let a = Anchor::unpack(w);
+    a.tag + 1
+}
+
+/// Changes Anchor to `new` if it still is the word as read; `t` is the record then.
+pub fn changes(c: Control, r: Record, new: u64, t: Record, done: u8, failed: u8) -> Acted
+    ensures { λ m. ⌜ m ≡ changed c r new t done failed ⌝ }
+{
+    if c.anchor != r.seen {
+        return settles(bumped(c), r, failed, NO_ENTRY);
+    }
+    let a = Anchor::unpack(r.seen);
+    if sound::anchor_sound(c.slots, new) & (a.tag < Anchor::TAG_MASK) {
+        let mut d = c;
+        d.anchor = new;
+        return settles(d, t, done, NO_ENTRY);
+    }
+    refused(c, r)
+}
+
+/// Compares Anchor with the word as read.
+pub fn compares(c: Control, r: Record, same: u8, other: u8) -> Acted
+    ensures { λ m. ⌜ m ≡ compared c r same other ⌝ }
+{
+    if c.anchor == r.seen {
+        settles(c, r, same, NO_ENTRY)
+    } else {
+        settles(c, r, other, NO_ENTRY)
+    }
+}
+
+/// Whether x is a slot and the link word met there is sound.
+pub fn row_sound(slots: u64, x: u64, w: u64) -> bool
+    ensures { λ b. ⌜ b ≡ rowSound slots x w ⌝ }
+{
+    sound::from1(slots, x) & sound::link_sound(slots, w)
+}
+
+pub fn link_word(tag: u64, slot: u64) -> u64
+    ensures { λ w. ⌜ w ≡ packLink (record { tag = tag; slot = slot }) ⌝ }
+{
+    let link = Link { tag, slot };
+    link.pack()
+}
+
+/// Takes the slot that w, slot x's inward link, names for the neighbour.
+pub fn reads_neighbour(c: Control, r: Record, x: u64, w: u64, n: u8) -> Acted
+    ensures { λ m. ⌜ m ≡ neighbourRead c r x w n ⌝ }
+{
+    if row_sound(c.slots, x, w) {
+        let link = Link::unpack(w);
+        let mut t = r;
+        t.neighbour = link.slot;
+        return settles(c, t, n, NO_ENTRY);
+    }
+    refused(c, r)
+}
+
+/// Remembers w, the neighbour's outward link, which may name the end.
+pub fn reads_link(c: Control, r: Record, end: u64, w: u64, same: u8, other: u8) -> Acted
+    ensures { λ m. ⌜ m ≡ linkRead c r end w same other ⌝ }
+{
+    if row_sound(c.slots, r.neighbour, w) {
+        let link = Link::unpack(w);
+        let mut t = r;
+        t.link = w;
+        if link.slot == end {
+            return settles(c, t, same, NO_ENTRY);
+        }
+        return settles(c, t, other, NO_ENTRY);
+    }
+    refused(c, r)
+}

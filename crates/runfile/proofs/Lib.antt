@@ -1,0 +1,5 @@
+pub mod Bytes
+pub mod Prefix
+pub mod Puts
+pub mod Digits
+pub mod Decimal

@@ -1,0 +1,125 @@
+-- A field that is there whole, or malformed, stays the same however many bytes follow: so a file may come in pieces.
+use Prim.Native.Nat.{ℕ, _+_, _-_, _<_, _≤_}
+use mathlib.Core.Path.{_≡_, refl, sym, ap, _∙_, subst}
+use mathlib.Core.Bool.{Bool, true, false, _||_}
+use mathlib.Core.List.{List, _++_}
+use native.Mathlib.Omega.{arith}
+use lib.ListN.{length, getD, take, drop, length-append, length-drop, List·getD-append}
+use lib.Seq.{take-append-le, drop-append-le}
+use lib.Dec.{ltb, leb, eqb}
+use borrow.Author.Tests.{leb-true, leb-false, ltb-true, ltb-false, eqb-true, le-leb, lt-leb, lt-ltb, le-ltb}
+use Rattle.runfile.specs.Field.{twoAt, fourAt, formed, contentOf, missing, fieldOf}
+use Rattle.runfile.specs.declared.field.Field.{Field}
+use Rattle.runfile.specs.declared.field.Field.the-variants.{Open, Start, Steps, Malformed, Cut, End}
+use Rattle.runfile.specs.declared.field.Found.{Found}
+
+clash : {P : Type 0} → _≡_ {A = Bool} false true → P
+clash z = absurd (let y : _≡_ {A = ℕ} 0 1 = cc in omega arith)
+
+-- What stands at the head of b.
+pub data Seen (o : Bool) (b : List ℕ) : Found → Type 0 where
+  ended : length b ≤ 0 → Seen o b (missing End)
+  cut : Seen o b (missing Cut)
+  wrong : 3 ≤ length b → formed o (getD b 0 0) (twoAt b 1) ≡ false → Seen o b (missing Malformed)
+  whole : formed o (getD b 0 0) (twoAt b 1) ≡ true → 3 + twoAt b 1 ≤ length b
+      → Seen o b (record { field = contentOf (getD b 0 0) (twoAt b 1) (drop 3 b); size = 3 + twoAt b 1 })
+
+pub seen : (o : Bool) (b : List ℕ) → Seen o b (fieldOf o b)
+unfolding fieldOf
+seen o b = go (leb (length b) 0) refl (ltb (length b) 3) refl (formed o (getD b 0 0) (twoAt b 1)) refl (ltb (length b) (3 + twoAt b 1)) refl
+  where
+    go : (a : Bool) → leb (length b) 0 ≡ a → (s : Bool) → ltb (length b) 3 ≡ s
+        → (f : Bool) → formed o (getD b 0 0) (twoAt b 1) ≡ f → (k : Bool) → ltb (length b) (3 + twoAt b 1) ≡ k
+        → Seen o b (fieldOf o b)
+    go true p s q f r k t = rw p (ended (leb-true (length b) 0 p))
+    go false p true q f r k t = rw (p, q) cut
+    go false p false q false r k t = rw (p, q, r) (wrong (ltb-false (length b) 3 q) r)
+    go false p false q true r true t = rw (p, q, r, t) cut
+    go false p false q true r false t = rw (p, q, r, t) (whole r (ltb-false (length b) (3 + twoAt b 1) t))
+
+formed-one : (len : ℕ) (o : Bool) → formed o 1 len ≡ true → 7 ≤ len
+unfolding formed
+formed-one len true e = clash e
+formed-one len false e = omega (arith, eqb-true len 7 e)
+
+formed-two : (len : ℕ) (o : Bool) → formed o 2 len ≡ true → 8 ≤ len
+unfolding formed
+formed-two len true e = go (eqb len 8) refl e
+  where
+    go : (b : Bool) → eqb len 8 ≡ b → ((b || false) || false) ≡ true → 8 ≤ len
+    go true h z = omega (arith, eqb-true len 8 h)
+    go false h z = clash z
+formed-two len false e = clash e
+
+formed-three : (len : ℕ) (o : Bool) → formed o 3 len ≡ true → 2 ≤ len
+unfolding formed
+formed-three len true e = go (eqb len 2) refl e
+  where
+    go : (b : Bool) → eqb len 2 ≡ b → (b || false) ≡ true → 2 ≤ len
+    go true h z = omega (arith, eqb-true len 2 h)
+    go false h z = clash z
+formed-three len false e = clash e
+
+module _ (b c : List ℕ) where
+  same-byte : (i : ℕ) → i < length b → getD (b ++ c) i 0 ≡ getD b i 0
+  same-byte i h = List·getD-append b c 0 i h
+
+  same-two : (i : ℕ) → i + 2 ≤ length b → twoAt (b ++ c) i ≡ twoAt b i
+  unfolding twoAt
+  same-two i h = rw (same-byte i (omega arith), same-byte (i + 1) (omega arith))
+
+  same-four : (i : ℕ) → i + 4 ≤ length b → fourAt (b ++ c) i ≡ fourAt b i
+  unfolding fourAt
+  same-four i h = rw (same-two i (omega arith), same-two (i + 2) (omega arith))
+
+  same-content : (tag len : ℕ) (o : Bool) → formed o tag len ≡ true → len ≤ length b → contentOf tag len (b ++ c) ≡ contentOf tag len b
+  unfolding contentOf
+  same-content tag len o e h = go (eqb tag 1) refl (eqb tag 2) refl (eqb tag 3) refl
+    where
+      form : (k : ℕ) → eqb tag k ≡ true → formed o k len ≡ true
+      form k p = subst (λ (t : ℕ). formed o t len ≡ true) (eqb-true tag k p) e
+
+      go : (x : Bool) → eqb tag 1 ≡ x → (y : Bool) → eqb tag 2 ≡ y → (z : Bool) → eqb tag 3 ≡ z
+          → contentOf tag len (b ++ c) ≡ contentOf tag len b
+      go true p y q z r =
+          let k : 7 ≤ len = formed-one len o (form 1 p) in
+          rw (p, same-byte 0 (omega arith), same-two 1 (omega arith), same-four 3 (omega arith))
+      go false p true q z r =
+          let k : 8 ≤ len = formed-two len o (form 2 q) in
+          rw (p, q, same-byte 0 (omega arith), same-byte 1 (omega arith), same-two 2 (omega arith), same-four 4 (omega arith))
+      go false p false q true r =
+          let k : 2 ≤ len = formed-three len o (form 3 r) in
+          rw (p, q, r, same-byte 0 (omega arith), same-byte 1 (omega arith))
+      go false p false q false r = rw (p, q, r)
+
+module _ (o : Bool) (b c : List ℕ) where
+  longer : length (b ++ c) ≡ length b + length c
+  longer = length-append b c
+
+  pub same-wrong : 3 ≤ length b → formed o (getD b 0 0) (twoAt b 1) ≡ false → fieldOf o (b ++ c) ≡ missing Malformed
+  unfolding fieldOf
+  same-wrong h f =
+      rw (
+        longer,
+        lt-leb (length b + length c) 0 (omega arith),
+        le-ltb (length b + length c) 3 (omega arith),
+        same-byte b c 0 (omega arith),
+        same-two b c 1 (omega arith),
+        f,
+      )
+
+  pub same-whole : formed o (getD b 0 0) (twoAt b 1) ≡ true → 3 + twoAt b 1 ≤ length b
+      → fieldOf o (b ++ c) ≡ record { field = contentOf (getD b 0 0) (twoAt b 1) (drop 3 b); size = 3 + twoAt b 1 }
+  unfolding fieldOf
+  same-whole f h =
+      rw (
+        longer,
+        lt-leb (length b + length c) 0 (omega arith),
+        le-ltb (length b + length c) 3 (omega arith),
+        same-byte b c 0 (omega arith),
+        same-two b c 1 (omega arith),
+        f,
+        le-ltb (length b + length c) (3 + twoAt b 1) (omega arith),
+        drop-append-le 3 b c (omega arith),
+        same-content (drop 3 b) c (getD b 0 0) (twoAt b 1) o f (omega (arith, length-drop 3 b)),
+      )

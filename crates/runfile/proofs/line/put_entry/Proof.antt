@@ -1,0 +1,23 @@
+use Rattle.runfile.proofs.Puts.{put-more}
+use Rattle.runfile.specs.Line.{entryOf}
+use borrow.Author.Needs.{needs}
+use Rattle.runfile.proofs.line.put_entry.Statement.{statement}
+use Rattle.runfile.proofs.line.put_entry.Tie as tie
+
+returns : tie.Need-returns
+unfolding entryOf
+returns c =
+    let slot = c .before .before .before .before .before .before .before .before in
+    (put-more (slot .put-numbered .ensures .0) (c .before .before .put-numbered2 .ensures .0), search needs)
+
+pub put-entry-spec : {M : Type 1} → statement M
+put-entry-spec =
+    tie.close
+    (tie.spec
+    (λ c. search needs)
+    (λ c κs. search needs)
+    (λ c. search needs)
+    (λ c. search needs)
+    (λ c κs. search needs)
+    (λ c. search needs)
+    returns)

@@ -1,0 +1,31 @@
+use borrow.Author.Needs.{needs}
+use Rattle.runfile.proofs.line.put_moved.Statement.{statement}
+use Rattle.runfile.proofs.line.put_moved.Tie as tie
+
+returns : tie.Need-returns
+returns c = (rw (c .before .before .before .before .before .enum-told .given .1) (c .before .before .put-text .ensures), search needs)
+
+returns-2 : tie.Need-returns-2
+returns-2 c = (rw (c .before .before .before .before .before .enum-told2 .given .1) (c .before .before .put-text2 .ensures), search needs)
+
+returns-3 : tie.Need-returns-3
+returns-3 c = (rw (c .before .before .before .before .enum-told3 .given .1) (c .before .before .put-answer .ensures .0), search needs)
+
+pub put-moved-spec : {M : Type 1} → statement M
+put-moved-spec =
+    tie.close
+    (tie.spec
+    (λ c. search needs)
+    (λ c. search needs)
+    (λ c κs. search needs)
+    (λ c. search needs)
+    (λ c. search needs)
+    (λ c κs. search needs)
+    (λ c. search needs)
+    (λ c κs. search needs)
+    (λ c. search needs)
+    returns
+    (λ c. search needs)
+    returns-2
+    (λ c. search needs)
+    returns-3)

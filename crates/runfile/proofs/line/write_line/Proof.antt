@@ -1,0 +1,22 @@
+use mathlib.Core.Path.{sym, _∙_}
+use borrow.Author.Tests.{leb-true}
+use Rattle.runfile.proofs.Puts.{put-none}
+use Rattle.runfile.specs.Line.{fitting}
+use borrow.Author.Needs.{needs}
+use Rattle.runfile.proofs.line.write_line.Statement.{statement}
+use Rattle.runfile.proofs.line.write_line.Tie as tie
+
+put-line-requires : tie.Need-put-line-requires
+put-line-requires c κs = leb-true _ _ (sym (c .before .before .fits2 .ensures) ∙ c .before .if1 .taken)
+
+returns : tie.Need-returns
+unfolding fitting
+returns c = (rw (sym (c .before .before .before .before .before .fits2 .ensures) ∙ c .before .before .before .before .if1 .taken) (c .before .before .put-line .ensures .0), search needs)
+
+returns-2 : tie.Need-returns-2
+unfolding fitting
+returns-2 c = (rw (sym (c .before .fits2 .ensures) ∙ c .if1 .left) (put-none _ _), search needs)
+
+pub write-line-spec : {M : Type 1} → statement M
+write-line-spec =
+    tie.close (tie.spec (λ c κs. search needs) put-line-requires (λ c. search needs) returns returns-2)

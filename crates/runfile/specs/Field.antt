@@ -1,0 +1,47 @@
+-- The field at the head of some bytes. (Document 01: The run file and its trace.)
+use Prim.Native.Nat.{ℕ, _+_, _*_}
+use mathlib.Core.Bool.{Bool, _&&_, _||_, cond}
+use mathlib.Core.List.{List}
+use lib.ListN.{length, getD, drop}
+use lib.Dec.{ltb, leb, eqb}
+use Rattle.model.specs.declared.Op.the-variants.{Push, Pop}
+use Rattle.runfile.specs.declared.field.Field.{Field}
+use Rattle.runfile.specs.declared.field.Field.the-variants.{Open, Start, Steps, Malformed, Cut, End}
+use Rattle.runfile.specs.declared.field.Found.{Found}
+
+-- Numbers, high byte first.
+unfoldable pub twoAt : List ℕ → ℕ → ℕ
+twoAt b i = getD b i 0 * 256 + getD b (i + 1) 0
+
+unfoldable pub fourAt : List ℕ → ℕ → ℕ
+fourAt b i = twoAt b i * 65536 + twoAt b (i + 2)
+
+-- The tags with their lengths. 01 comes first and only there.
+unfoldable pub formed : Bool → ℕ → ℕ → Bool
+formed opened tag len =
+    cond opened
+    ((eqb tag 2 && eqb len 8) || (eqb tag 3 && eqb len 2) || (eqb tag 4 && leb len 4096))
+    (eqb tag 1 && eqb len 7)
+
+-- 01 open: tasks, slots, first tag. 02 push: task, side, slot, label. 03 pop: task, side. 04 steps.
+unfoldable pub contentOf : ℕ → ℕ → List ℕ → Field
+contentOf tag len b =
+    cond (eqb tag 1) (Open (getD b 0 0) (twoAt b 1) (fourAt b 3))
+    (cond (eqb tag 2) (Start (getD b 0 0) (Push (getD b 1 0) (twoAt b 2) (fourAt b 4)))
+    (cond (eqb tag 3) (Start (getD b 0 0) (Pop (getD b 1 0)))
+    (Steps len)))
+
+-- Where there is no whole field.
+abbrev pub missing : Field → Found
+missing f = record { field = f; size = 0 }
+
+-- One tag byte, two length bytes, content. A wrong head is malformed whether or not its content is there.
+unfoldable pub fieldOf : Bool → List ℕ → Found
+fieldOf opened b =
+    let tag = getD b 0 0 in
+    let len = twoAt b 1 in
+    cond (leb (length b) 0) (missing End)
+    (cond (ltb (length b) 3) (missing Cut)
+    (cond (formed opened tag len)
+    (cond (ltb (length b) (3 + len)) (missing Cut) (record { field = contentOf tag len (drop 3 b); size = 3 + len }))
+    (missing Malformed)))

@@ -1,0 +1,79 @@
+//! What is sound, and which tables are long enough: refusals 34 and 12.
+use model::Control;
+use model::Record;
+use word::Anchor;
+use word::Link;
+ghost use mathlib.Core.Path.{_≡_};
+ghost use Rattle.word.specs.Anchor.{anchorOf};
+ghost use Rattle.model.specs.Sound.{from1, anchorSound, linkSound, controlSound, recordSound};
+ghost use Rattle.sound.specs.Lengths.{lengthsFit};
+
+/// Whether x is 1 to n.
+pub fn from1(n: u64, x: u64) -> bool
+    ensures { λ r. ⌜ r ≡ from1 n x ⌝ }
+{
+    (1 <= x) & (x <= n)
+}
+
+/// No status 3, no end above slots, not just one end null, not unstable with equal ends.
+pub fn anchor_sound(slots: u64, w: u64) -> bool
+    ensures { λ r. ⌜ r ≡ anchorSound slots (anchorOf w) ⌝ }
+{
+    let a = Anchor::unpack(w);
+    (a.status <= 2)
+        & (a.left <= slots)
+        & (a.right <= slots)
+        & ((a.left == 0) == (a.right == 0))
+        & ((a.status == 0) | (a.left != a.right))
+}
+
+/// No set bit in 31 to 15, no slot above slots.
+pub fn link_sound(slots: u64, w: u64) -> bool
+    ensures { λ r. ⌜ r ≡ linkSound slots w ⌝ }
+{
+    let spare = Link::spare(w);
+    let link = Link::unpack(w);
+    (spare == 0) & (link.slot <= slots)
+}
+
+pub fn control_sound(c: Control) -> bool
+    ensures { λ r. ⌜ r ≡ controlSound c ⌝ }
+{
+    let tasks = from1(16, c.tasks);
+    let slots = from1(1023, c.slots);
+    let anchor = anchor_sound(c.slots, c.anchor);
+    tasks & slots & anchor
+}
+
+/// Idle, or each field within its meaning.
+pub fn record_sound(slots: u64, r: Record) -> bool
+    ensures { λ b. ⌜ b ≡ recordSound slots r ⌝ }
+{
+    let push = r.kind == 0;
+    let pop = r.kind == 1;
+    let helping = (5 <= r.place) & (r.place <= 10);
+    let slot = from1(slots, r.own);
+    let link = link_sound(slots, r.link);
+    let seen = anchor_sound(slots, r.seen);
+    let anchor = Anchor::unpack(r.seen);
+    let busy = (r.place <= 11)
+        & (r.kind <= 1)
+        & (r.side <= 1)
+        & (r.finishing <= 1)
+        & ((r.place != 11) | pop)
+        & ((r.finishing == 0) | (push & helping))
+        & ((pop & (r.own == 0)) | (push & slot))
+        & (r.neighbour <= slots)
+        & link
+        & seen
+        & (!helping | (anchor.status != 0));
+    (r.place == 0) | busy
+}
+
+/// Whether tables of these lengths have rows 0 to slots and the mark words for them.
+pub fn rows_fit(slots: u64, lefts: usize, rights: usize, labels: usize, marks: usize) -> bool
+    ensures { λ r. ⌜ r ≡ lengthsFit slots lefts rights labels marks ⌝ }
+{
+    let last = slots as usize;
+    (last < lefts) & (last < rights) & (last < labels) & (last / 64 < marks)
+}
