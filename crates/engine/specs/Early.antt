@@ -1,22 +1,21 @@
--- Why a step is refused before its place is looked at. (Document 01: Refused .., and their order.)
-use mathlib.Core.Bool.{Bool, not}
+-- Why a step is refused before its place is looked at: the model's rules of a step but the last.
+use mathlib.Core.Bool.{_&&_, not}
 use mathlib.Core.List.{List, [], _∷_}
 use Prim.Native.Nat.{ℕ}
 use lib.Dec.{eqb}
-use Rattle.model.specs.declared.Control.{Control}
 use Rattle.model.specs.declared.Record.{Record}
-use Rattle.model.specs.Sound.{controlSound, recordSound}
-use Rattle.model.specs.Refusals.{Rule, rule, first}
+use Rattle.model.specs.Tables.{Tables}
+use Rattle.model.specs.Sound.{controlSound, recordSound, rowsFit}
+use Rattle.model.specs.Refusals.{Rule, rule, first, Lent}
 
--- Whether the lent tables fit and the task is known is found out by the caller.
-abbrev pub earlyRules : Control → Record → Bool → Bool → List Rule
-earlyRules c r fits known =
-    rule 34 (not (controlSound c))
-    ∷ rule 12 (not fits)
-    ∷ rule 13 (not known)
-    ∷ rule 34 (not (recordSound (c .slots) r))
+abbrev pub earlyRules : Tables → Lent → Record → List Rule
+earlyRules q p r =
+    rule 34 (not (controlSound (q .control)))
+    ∷ rule 12 (not (rowsFit (q .control .slots) q && p .enough))
+    ∷ rule 13 (not (p .known))
+    ∷ rule 34 (not (recordSound (q .control .slots) r))
     ∷ rule 31 (eqb (r .place) 0)
     ∷ []
 
-unfoldable pub earlyRefusal : Control → Record → Bool → Bool → ℕ
-earlyRefusal c r fits known = first (earlyRules c r fits known)
+unfoldable pub earlyRefusal : Tables → Lent → Record → ℕ
+earlyRefusal q p r = first (earlyRules q p r)

@@ -10,13 +10,33 @@ ghost use Rattle.places.specs.Arm.{tablesOf, withTables};
 ghost use Rattle.engine.specs.Early.{earlyRefusal};
 
 /// Why a step is refused before its place is looked at, or 0: document 01's order.
-fn refusal(c: Control, r: Record, fits: bool, known: bool) -> u32
-    ensures { λ why. ⌜ why ≡ earlyRefusal c r fits known ⌝ }
+fn refusal(
+    c: Control,
+    r: Record,
+    enough: bool,
+    known: bool,
+    lefts: &[u64],
+    rights: &[u64],
+    labels: &[u32],
+    marks: &[u64],
+) -> u32
+    ensures { λ why.
+        ⌜ why
+        ≡ earlyRefusal (tablesOf c (now (lefts .entry)) (now (rights .entry)) (now (labels .entry)) (now (marks .entry)))
+        (record { enough = enough; known = known })
+        r ⌝ }
 {
     if !sound::control_sound(c) {
         return 34;
     }
-    if !fits {
+    let rows = sound::rows_fit(
+        c.slots,
+        lefts.len(),
+        rights.len(),
+        labels.len(),
+        marks.len(),
+    );
+    if !(rows & enough) {
         return 12;
     }
     if !known {
@@ -29,6 +49,17 @@ fn refusal(c: Control, r: Record, fits: bool, known: bool) -> u32
         return 31;
     }
     0
+}
+
+/// A refusal is its number alone.
+fn refused(c: Control, r: Record, why: u32) -> Acted
+    ensures { λ m. ⌜ m ≡ record { control = c; task = r; outcome = Outcome.Refused why } ⌝ }
+{
+    Acted {
+        control: c,
+        task: r,
+        outcome: Outcome::Refused(why),
+    }
 }
 
 /// A step of task `task` among `records` lent records, where `r` is its record.
@@ -86,21 +117,9 @@ pub fn step_lent(
         (record { enough = enough; known = known })
         r ⌝ }
 {
-    let fits = sound::rows_fit(
-        c.slots,
-        lefts.len(),
-        rights.len(),
-        labels.len(),
-        marks.len(),
-    )
-        & enough;
-    let why = refusal(c, r, fits, known);
+    let why = refusal(c, r, enough, known, lefts, rights, labels, marks);
     if why != 0 {
-        return Acted {
-            control: c,
-            task: r,
-            outcome: Outcome::Refused(why),
-        };
+        return refused(c, r, why);
     }
     let place = r.place;
     match place {

@@ -33,14 +33,9 @@ pub fn at2(c: Control, r: Record) -> Acted
     let a = Anchor::unpack(r.seen);
     let end = side::choose(r.kind == 0, r.own, 0);
     let new = side::facing(r.side == 1, step::raised(r.seen), a.status, end, end);
-    step::changes(
-        c,
-        r,
-        new,
-        r,
-        next::next(2, r.kind, 0),
-        next::next(2, r.kind, 1),
-    )
+    let done = next::next(2, r.kind, 0);
+    let failed = next::next(2, r.kind, 1);
+    step::changes(c, r, new, r, done, failed)
 }
 
 /// Place 3: put the end into the own slot's inward link, its tag kept; a pop reads the end's
@@ -108,7 +103,9 @@ pub fn at5(c: Control, r: Record, lefts: &[u64], rights: &[u64]) -> Acted
 pub fn at6(c: Control, r: Record) -> Acted
     ensures { λ m. ⌜ Steps 6 c r m ⌝ }
 {
-    step::compares(c, r, next::next(6, r.kind, 0), next::next(6, r.kind, 1))
+    let same = next::next(6, r.kind, 0);
+    let other = next::next(6, r.kind, 1);
+    step::compares(c, r, same, other)
 }
 
 /// Place 7: read the neighbour's outward link. (Figure 4, line 7.)
@@ -120,21 +117,18 @@ pub fn at7(c: Control, r: Record, lefts: &[u64], rights: &[u64]) -> Acted
     let right = a.status == 1;
     let end = side::near(right, a);
     let w = side::link_at(right, r.neighbour, lefts, rights);
-    step::reads_link(
-        c,
-        r,
-        end,
-        w,
-        next::next(7, r.kind, 0),
-        next::next(7, r.kind, 1),
-    )
+    let names_end = next::next(7, r.kind, 0);
+    let other = next::next(7, r.kind, 1);
+    step::reads_link(c, r, end, w, names_end, other)
 }
 
 /// Place 8: compare Anchor again. (Figure 4, line 8.)
 pub fn at8(c: Control, r: Record) -> Acted
     ensures { λ m. ⌜ Steps 8 c r m ⌝ }
 {
-    step::compares(c, r, next::next(8, r.kind, 0), next::next(8, r.kind, 1))
+    let same = next::next(8, r.kind, 0);
+    let other = next::next(8, r.kind, 1);
+    step::compares(c, r, same, other)
 }
 
 /// Place 9: change the neighbour's outward link to the end. (Figure 4, line 9.)
@@ -171,14 +165,10 @@ pub fn at10(c: Control, r: Record) -> Acted
         left: a.left,
         right: a.right,
     };
-    step::changes(
-        c,
-        r,
-        stable.pack(),
-        r,
-        next::next(10, r.kind, 0),
-        next::next(10, r.kind, 1),
-    )
+    let new = stable.pack();
+    let done = next::next(10, r.kind, 0);
+    let failed = next::next(10, r.kind, 1);
+    step::changes(c, r, new, r, done, failed)
 }
 
 /// Place 11: read the label of the end taken and clear its mark. (Figure 5, after the loop.)

@@ -5,6 +5,7 @@ ghost use mathlib.Core.Bool.{cond};
 ghost use lib.ListN.{getD, set};
 ghost use Rattle.word.specs.Anchor.{packAnchor};
 
+/// x if b holds, else y.
 pub fn choose(b: bool, x: u64, y: u64) -> u64
     ensures { λ r. ⌜ r ≡ cond b x y ⌝ }
 {

@@ -15,7 +15,7 @@ use prog.Wp.{Heap, Calls, Loops, WpFn, Tables as Program}
 use ghost.Atoms.{Atoms}
 use contract.Monad.{Fun, fact}
 use contract.Running.{givenOf, tables, tablesOf}
-use types.Kit.{Given, ‵, raw, some, later, _⊛_, ⋆, _$_, _∵_, !, qed, by, move, keep, drop, use1, use2, split, join, pick, fsplit, fjoin, feqL, suffices, frame, await, done}
+use types.Kit.{Given, Item, ‵, raw, some, later, _⊛_, ⋆, _$_, _∵_, !, qed, by, move, keep, drop, use1, use2, split, join, pick, fsplit, fjoin, feqL, suffices, frame, await, done}
 use types.Run.{look, init, stop, hop, fld, from, addr, and-then, no-more, returns, enter, params1, pass1, pass0}
 use types.Part.{agg, whole, sub, look-in}
 use sound.WpLaws.{FmC, fmOf, WpFn-mono}
@@ -71,16 +71,7 @@ stayed = (
     gave-ref (1 ∷ []) tt (plain (λ _. T.the-row)),
     (
       gave-slice (2 ∷ []) tt (plain (λ _. u64)),
-      (
-        gave-slice (3 ∷ []) tt (plain (λ _. u64)),
-        (
-          stay-dropped (shrSliceOf (4 ∷ []) tt (plain (λ _. u32))) yes,
-          (
-            gave-slice (5 ∷ []) tt (plain (λ _. u64)),
-            tt,
-          ),
-        ),
-      ),
+      (gave-slice (3 ∷ []) tt (plain (λ _. u64)), (stay-dropped (shrSliceOf (4 ∷ []) tt (plain (λ _. u32))) yes, (gave-slice (5 ∷ []) tt (plain (λ _. u64)), tt))),
     ),
   ),
 )
@@ -92,7 +83,7 @@ abbrev Number : {M : Type 1} (𝓤 : URA M) (H : Heap 𝓤) (A : Atoms 𝓤) (me
 Number 𝓤 H A mem run = tripleOf 𝓤 H A number.signature (number.spec 𝓤 H A mem run)
 
 module _ {M : Type 1} (𝓤 : URA M) (H : Heap 𝓤) (A : Atoms 𝓤) (W : Given 𝓤 H A) (at-mem : Memory → SProp 𝓤) (run : Routine → Fun 𝓤)
-    (κc κr κ1 κ2 κ3 κ4 : Lft) (qc qr q1 q2 q3 q4 : Share) (xc : RefT Control) (xr : RefT Record) (x1 : RefT (List ℕ)) (x2 : RefT (List ℕ)) (x3 : RefT (List ℕ)) (x4 : RefT (List ℕ)) where
+    (κc κr κ1 κ2 κ3 κ4 : Lft) (qc qr q1 q2 q3 q4 : Share) (xc : RefT Control) (xr : RefT Record) (x1 x2 x3 x4 : RefT (List ℕ)) where
   -- what is lent, at entry
   abbrev pc : Val
   pc = vptr (xc .ptr .0) (xc .ptr .1)
@@ -121,8 +112,17 @@ module _ {M : Type 1} (𝓤 : URA M) (H : Heap 𝓤) (A : Atoms 𝓤) (W : Given
   abbrev vals : List Val × (List Val × (List Val × (List Val × (List Val × (List Val × Unit {0})))))
   vals = (pc ∷ [], (pr ∷ [], (s1 ∷ [], (s2 ∷ [], (s3 ∷ [], (s4 ∷ [], tt))))))
 
+  abbrev bound : walkOf 𝓤 H A self.ended stayed (self.clauses 𝓤 H A at-mem run) .Ghost
+  bound = (((κc, (κr, (κ1, (κ2, (κ3, (κ4, tt)))))), (qc, (qr, (q1, (q2, (q3, (q4, tt)))))), tt, a, vals), tt)
+
   abbrev Post : Val → SProp 𝓤
-  Post = walkOf 𝓤 H A self.ended stayed (self.clauses 𝓤 H A at-mem run) .post (((κc, (κr, (κ1, (κ2, (κ3, (κ4, tt)))))), (qc, (qr, (q1, (q2, (q3, (q4, tt)))))), tt, a, vals), tt)
+  Post = walkOf 𝓤 H A self.ended stayed (self.clauses 𝓤 H A at-mem run) .post bound
+
+  abbrev lent : List (Item 𝓤)
+  lent =
+      (‵ (flft κc qc) ⊛ ‵ (flft κr qr) ⊛ ‵ (flft κ1 q1) ⊛ ‵ (flft κ2 q2) ⊛ ‵ (flft κ3 q3) ⊛ ‵ (flft κ4 q4) ⊛ ‵ ftrue)
+      ∷ ‵ (owns (MutRef (named 0) κc K.the-row ∷ MutRef (named 1) κr T.the-row ∷ MutSlice (named 2) κ1 u64 ∷ MutSlice (named 3) κ2 u64 ∷ ShrSlice (named 4) κ3 u32 ∷ MutSlice (named 5) κ4 u64 ∷ []) a vals)
+      ∷ []
 
   abbrev left : Outcome → Control → Record → List ℕ → List ℕ → List ℕ → Acted
   left o zc zr z1 z2 z4 = record { tables = record { control = zc; lefts = z1; rights = z2; labels = x3 .now; marks = z4 }; task = zr; outcome = o }
@@ -133,16 +133,15 @@ module _ {M : Type 1} (𝓤 : URA M) (H : Heap 𝓤) (A : Atoms 𝓤) (W : Given
   abbrev Said : Reply → Control → Record → List ℕ → List ℕ → List ℕ → Type 0
   Said r zc zr z1 z2 z4 = _≡_ {A = RepliedAlone} (record { tables = record { control = zc; lefts = z1; rights = z2; labels = x3 .now; marks = z4 }; task = zr; reply = r }) (repliedAlone meant)
 
-  told : (o : Outcome) (r : Reply) (zc : Control) (zr : Record) (z1 : List ℕ) (z2 : List ℕ) (z4 : List ℕ) → left o zc zr z1 z2 z4 ≡ meant → r ≡ replyOf o → Said r zc zr z1 z2 z4
+  told : (o : Outcome) (r : Reply) (zc : Control) (zr : Record) (z1 z2 z4 : List ℕ) → left o zc zr z1 z2 z4 ≡ meant → r ≡ replyOf o → Said r zc zr z1 z2 z4
   told o r zc zr z1 z2 z4 e e′ = ap (λ (u : Reply). record { tables = record { control = zc; lefts = z1; rights = z2; labels = x3 .now; marks = z4 }; task = zr; reply = u }) e′ ∙ ap repliedAlone e
 
   abbrev to-callee : Callee 𝓤 H A at-mem run .Ghost
   to-callee = (((κc, (κr, (κ1, (κ2, (κ3, (κ4, tt)))))), (qc, (qr, (q1, (q2, (q3, (q4, tt)))))), tt, (xc, (xr, (x1, (x2, (x3, (x4, tt)))))), (pc ∷ [], (pr ∷ [], (s1 ∷ [], (s2 ∷ [], (s3 ∷ [], (s4 ∷ [], tt))))))), tt)
 
-  goes-callee : ent 𝓤 (⋆ 𝓤 H A ((‵ (flft κc qc) ⊛ ‵ (flft κr qr) ⊛ ‵ (flft κ1 q1) ⊛ ‵ (flft κ2 q2) ⊛ ‵ (flft κ3 q3) ⊛ ‵ (flft κ4 q4) ⊛ ‵ ftrue) ∷ ‵ (owns (MutRef (named 0) κc K.the-row ∷ MutRef (named 1) κr T.the-row ∷ MutSlice (named 2) κ1 u64 ∷ MutSlice (named 3) κ2 u64 ∷ ShrSlice (named 4) κ3 u32 ∷ MutSlice (named 5) κ4 u64 ∷ []) a vals) ∷ [])) (Callee 𝓤 H A at-mem run .pre to-callee)
+  goes-callee : ent 𝓤 (⋆ 𝓤 H A lent) (Callee 𝓤 H A at-mem run .pre to-callee)
   goes-callee =
-      qed W ((‵ (flft κc qc) ⊛ ‵ (flft κr qr) ⊛ ‵ (flft κ1 q1) ⊛ ‵ (flft κ2 q2) ⊛ ‵ (flft κ3 q3) ⊛ ‵ (flft κ4 q4) ⊛ ‵ ftrue) ∷ ‵ (owns (MutRef (named 0) κc K.the-row ∷ MutRef (named 1) κr T.the-row ∷ MutSlice (named 2) κ1 u64 ∷ MutSlice (named 3) κ2 u64 ∷ ShrSlice (named 4) κ3 u32 ∷ MutSlice (named 5) κ4 u64 ∷ []) a vals) ∷ []) ∵ join ! $
-      frame ! $ done !
+      qed W lent ∵ join ! $ frame ! $ done !
 
   abbrev Lasts-callee : Type 0
   Lasts-callee = Control × (Record × (List ℕ × (List ℕ × (Unit {0} × (List ℕ × Unit {0})))))
@@ -152,25 +151,31 @@ module _ {M : Type 1} (𝓤 : URA M) (H : Heap 𝓤) (A : Atoms 𝓤) (W : Given
 
   goes-number : (o : Outcome) → Is O.the-row o (EL.val O.the-type O′.the-laws o ∷ []) → ent 𝓤 (⋆ 𝓤 H A (‵ ftrue ∷ [])) (Number 𝓤 H A at-mem run .pre (to-number o))
   goes-number o g1 =
-      qed W (‵ ftrue ∷ []) ∵ nothing ! $ owned ! O.the-row (Is O.the-row) (EL.makes O.the-type O′.the-plain 𝓤 H A) o _ g1 $ fjoin ! $ move ! (1 ∷ 0 ∷ []) $ join ! $ frame ! $
-      done !
+      qed W (‵ ftrue ∷ []) ∵ nothing ! $ owned ! O.the-row (Is O.the-row) (EL.makes O.the-type O′.the-plain 𝓤 H A) o _ g1 $ fjoin ! $ move ! (1 ∷ 0 ∷ []) $ join ! $ frame ! $ done !
 
   abbrev Lasts-number : Type 0
   Lasts-number = Unit {0} × Unit {0}
 
-  exits : (r′ : Reply) (w : Val) (zc : Control) (zr : Record) (z1 : List ℕ) (z2 : List ℕ) (z4 : List ℕ) → Said r′ zc zr z1 z2 z4 → length z1 ≡ length (x1 .now) → length z2 ≡ length (x2 .now) → length z4 ≡ length (x4 .now) → Is E.the-row r′ (w ∷ [])
-      → ent 𝓤 (⋆ 𝓤 H A ((‵ (flft κc qc) ⊛ ‵ (flft κr qr) ⊛ ‵ (flft κ1 q1) ⊛ ‵ (flft κ2 q2) ⊛ ‵ (flft κ3 q3) ⊛ ‵ (flft κ4 q4) ⊛ ‵ ftrue) ∷ ‵ (fres (xc .name) (K.the-row .coded .code zc)) ∷ ‵ (fres (xr .name) (T.the-row .coded .code zr)) ∷ ‵ (finally u64 (x1 .name) z1) ∷ ‵ (finally u64 (x2 .name) z2) ∷ ‵ (finally u64 (x4 .name) z4) ∷ [])) (Post w)
+  abbrev leaving : Control → Record → List ℕ → List ℕ → List ℕ → List (Item 𝓤)
+  leaving zc zr z1 z2 z4 =
+      (‵ (flft κc qc) ⊛ ‵ (flft κr qr) ⊛ ‵ (flft κ1 q1) ⊛ ‵ (flft κ2 q2) ⊛ ‵ (flft κ3 q3) ⊛ ‵ (flft κ4 q4) ⊛ ‵ ftrue) ∷ ‵ (fres (xc .name) (K.the-row .coded .code zc))
+      ∷ ‵ (fres (xr .name) (T.the-row .coded .code zr)) ∷ ‵ (finally u64 (x1 .name) z1) ∷ ‵ (finally u64 (x2 .name) z2) ∷ ‵ (finally u64 (x4 .name) z4) ∷ []
+
+  exits : (r′ : Reply) (w : Val) (zc : Control) (zr : Record) (z1 z2 z4 : List ℕ) → Said r′ zc zr z1 z2 z4 → length z1 ≡ length (x1 .now) → length z2 ≡ length (x2 .now)
+      → length z4 ≡ length (x4 .now) → Is E.the-row r′ (w ∷ [])
+      → ent 𝓤 (⋆ 𝓤 H A (leaving zc zr z1 z2 z4)) (Post w)
   exits r′ w zc zr z1 z2 z4 e e1 e2 e4 g =
-      qed W ((‵ (flft κc qc) ⊛ ‵ (flft κr qr) ⊛ ‵ (flft κ1 q1) ⊛ ‵ (flft κ2 q2) ⊛ ‵ (flft κ3 q3) ⊛ ‵ (flft κ4 q4) ⊛ ‵ ftrue) ∷ ‵ (fres (xc .name) (K.the-row .coded .code zc)) ∷ ‵ (fres (xr .name) (T.the-row .coded .code zr)) ∷ ‵ (finally u64 (x1 .name) z1) ∷ ‵ (finally u64 (x2 .name) z2) ∷ ‵ (finally u64 (x4 .name) z4) ∷ []) ∵
-      suffices ! _ (ends-at 𝓤 H A self.ended stayed (self.clauses 𝓤 H A at-mem run) W (((κc, (κr, (κ1, (κ2, (κ3, (κ4, tt)))))), (qc, (qr, (q1, (q2, (q3, (q4, tt)))))), tt, a, vals), tt) w r′ (zc, (zr, (z1, (z2, (tt, (z4, tt)))))) (tt, (tt, (e1, (e2, (tt, (e4, tt))))))) $
+      qed W (leaving zc zr z1 z2 z4) ∵
+      suffices ! _ (ends-at 𝓤 H A self.ended stayed (self.clauses 𝓤 H A at-mem run) W bound w r′ (zc, (zr, (z1, (z2, (tt, (z4, tt)))))) (tt, (tt, (e1, (e2, (tt, (e4, tt))))))) $
       says ! e $ frame ! $ nothing ! $ move ! (5 ∷ 0 ∷ []) $ fjoin ! $ nothing ! $ fjoin ! $ move ! (4 ∷ 0 ∷ []) $ fjoin ! $ move ! (3 ∷ 0 ∷ []) $ fjoin ! $ move ! (2 ∷ 0 ∷ []) $
       fjoin ! $ move ! (1 ∷ 0 ∷ []) $ fjoin ! $
       owned ! E.the-row (Is E.the-row) (LL.makes E.the-type E′.the-plain 𝓤 H A) r′ _ g $ move ! (1 ∷ 0 ∷ []) $ done !
 
   module _ (C : Calls 𝓤 H) (Λ : Loops 𝓤 H) (fm : FmC 𝓤 H (W .laws) C) (known-callee : Triple 𝓤 (C #deque·step-record) (Callee 𝓤 H A at-mem run)) (known-number : Triple 𝓤 (C #capi·reply) (Number 𝓤 H A at-mem run)) where
-    walk : Room u64 (length (x1 .now)) → Room u64 (length (x2 .now)) → Room u32 (length (x3 .now)) → Room u64 (length (x4 .now)) → ent 𝓤 (onEntry 𝓤 H A self.signature (κc, (κr, (κ1, (κ2, (κ3, (κ4, tt)))))) (qc, (qr, (q1, (q2, (q3, (q4, tt)))))) a vals) (WpFn 𝓤 H C Λ code.function (pc ∷ pr ∷ s1 ∷ s2 ∷ s3 ∷ s4 ∷ []) Post)
+    walk : Room u64 (length (x1 .now)) → Room u64 (length (x2 .now)) → Room u32 (length (x3 .now)) → Room u64 (length (x4 .now))
+        → ent 𝓤 (onEntry 𝓤 H A self.signature (κc, (κr, (κ1, (κ2, (κ3, (κ4, tt)))))) (qc, (qr, (q1, (q2, (q3, (q4, tt)))))) a vals) (WpFn 𝓤 H C Λ code.function (pc ∷ pr ∷ s1 ∷ s2 ∷ s3 ∷ s4 ∷ []) Post)
     walk room1 room2 room3 room4 =
-        qed W ((‵ (flft κc qc) ⊛ ‵ (flft κr qr) ⊛ ‵ (flft κ1 q1) ⊛ ‵ (flft κ2 q2) ⊛ ‵ (flft κ3 q3) ⊛ ‵ (flft κ4 q4) ⊛ ‵ ftrue) ∷ ‵ (owns (MutRef (named 0) κc K.the-row ∷ MutRef (named 1) κr T.the-row ∷ MutSlice (named 2) κ1 u64 ∷ MutSlice (named 3) κ2 u64 ∷ ShrSlice (named 4) κ3 u32 ∷ MutSlice (named 5) κ4 u64 ∷ []) a vals) ∷ []) ∵
+        qed W lent ∵
         enter ! C Λ code.function (pc ∷ pr ∷ s1 ∷ s2 ∷ s3 ∷ s4 ∷ []) _ $
         allocates ! (λ bs. params1 ! $
         pass1 ! (init ! 2 refl (tt, tt)) $ pass1 ! (init ! 4 refl (tt, tt)) $ pass1 ! (init ! 6 refl (tt, (tt, (record { fits = room1 .0 }, tt)))) $
@@ -193,8 +198,7 @@ module _ {M : Type 1} (𝓤 : URA M) (H : Heap 𝓤) (A : Atoms 𝓤) (W : Given
         split ! $ move ! (1 ∷ []) $
         use1 W (some (λ (zs-callee : Lasts-callee). ‵ (lasts callee.ended (κc, (κr, (κ1, (κ2, (κ3, (κ4, tt)))))) (xc, (xr, (x1, (x2, (x3, (x4, tt)))))) zs-callee) ⊛ raw (fact 𝓤 (left o (zs-callee .0) (zs-callee .1 .0) (zs-callee .1 .1 .0) (zs-callee .1 .1 .1 .0) (zs-callee .1 .1 .1 .1 .1 .0) ≡ meant)))) (id⊢ 𝓤 _) $
         pick ! (λ zs-callee.
-        split ! $ move ! (1 ∷ []) $
-        heard ! (left o (zs-callee .0) (zs-callee .1 .0) (zs-callee .1 .1 .0) (zs-callee .1 .1 .1 .0) (zs-callee .1 .1 .1 .1 .1 .0) ≡ meant) (λ e-callee.
+        split ! $ move ! (1 ∷ []) $ heard ! (left o (zs-callee .0) (zs-callee .1 .0) (zs-callee .1 .1 .0) (zs-callee .1 .1 .1 .0) (zs-callee .1 .1 .1 .1 .1 .0) ≡ meant) (λ e-callee.
         fsplit ! $ move ! (1 ∷ []) $ fsplit ! $ move ! (1 ∷ []) $ fsplit ! $ fsplit ! $ move ! (1 ∷ []) $ feqL ! (λ e1. move ! (1 ∷ []) $ fsplit ! $ fsplit ! $ move ! (1 ∷ []) $
         feqL ! (λ e2. move ! (1 ∷ []) $ fsplit ! $ drop ! $ fsplit ! $ fsplit ! $ move ! (1 ∷ []) $ feqL ! (λ e4. move ! (1 ∷ []) $ drop ! $
         move ! (5 ∷ []) $ split ! $ move ! (1 ∷ []) $ peeks ! O.the-row (Is O.the-row) (shows 𝓤 H A O.the-row) o (w-callee ∷ []) (λ is-callee. drop ! $
@@ -219,7 +223,8 @@ module _ {M : Type 1} (𝓤 : URA M) (H : Heap 𝓤) (A : Atoms 𝓤) (W : Given
         by ! (exits r _ (zs-callee .0) (zs-callee .1 .0) (zs-callee .1 .1 .0) (zs-callee .1 .1 .1 .0) (zs-callee .1 .1 .1 .1 .1 .0) (told o r (zs-callee .0) (zs-callee .1 .0) (zs-callee .1 .1 .0) (zs-callee .1 .1 .1 .0) (zs-callee .1 .1 .1 .1 .1 .0) e-callee e-number) e1 e2 e4 is-number)))))))))))))))
 
 module _ {M : Type 1} (𝓤 : URA M) (H : Heap 𝓤) (A : Atoms 𝓤) (W : Given 𝓤 H A) (mem : Memory → SProp 𝓤) (run : Routine → Fun 𝓤) where
-  self-walks : (C : Calls 𝓤 H) (Λ : Loops 𝓤 H) → FmC 𝓤 H (W .laws) C → Triple 𝓤 (C #deque·step-record) (Callee 𝓤 H A mem run) → Triple 𝓤 (C #capi·reply) (Number 𝓤 H A mem run) → Walks 𝓤 H A self.ended stayed (WpFn 𝓤 H C Λ code.function) (self.clauses 𝓤 H A mem run)
+  self-walks : (C : Calls 𝓤 H) (Λ : Loops 𝓤 H) → FmC 𝓤 H (W .laws) C → Triple 𝓤 (C #deque·step-record) (Callee 𝓤 H A mem run) → Triple 𝓤 (C #capi·reply) (Number 𝓤 H A mem run)
+      → Walks 𝓤 H A self.ended stayed (WpFn 𝓤 H C Λ code.function) (self.clauses 𝓤 H A mem run)
   self-walks C Λ fm known-callee known-number = walked 𝓤 H A self.ended stayed (self.clauses 𝓤 H A mem run) (WpFn 𝓤 H C Λ code.function)
       (λ κs. (ptr-vals, (ptr-vals, (slice-vals, (slice-vals, (slice-vals, (slice-vals, tt)))))))
       (λ κs. (
@@ -228,16 +233,7 @@ module _ {M : Type 1} (𝓤 : URA M) (H : Heap 𝓤) (A : Atoms 𝓤) (W : Given
           mut-tells (named 1) (κs .1 .0) T.the-row,
           (
             mut-slice-tells (named 2) (κs .1 .1 .0) u64,
-            (
-              mut-slice-tells (named 3) (κs .1 .1 .1 .0) u64,
-              (
-                shr-slice-tells (named 4) (κs .1 .1 .1 .1 .0) u32,
-                (
-                  mut-slice-tells (named 5) (κs .1 .1 .1 .1 .1 .0) u64,
-                  tt,
-                ),
-              ),
-            ),
+            (mut-slice-tells (named 3) (κs .1 .1 .1 .0) u64, (shr-slice-tells (named 4) (κs .1 .1 .1 .1 .0) u32, (mut-slice-tells (named 5) (κs .1 .1 .1 .1 .1 .0) u64, tt))),
           ),
         ),
       ))
@@ -245,7 +241,8 @@ module _ {M : Type 1} (𝓤 : URA M) (H : Heap 𝓤) (A : Atoms 𝓤) (W : Given
       (κs .0) (κs .1 .0) (κs .1 .1 .0) (κs .1 .1 .1 .0) (κs .1 .1 .1 .1 .0) (κs .1 .1 .1 .1 .1 .0) (qs .0) (qs .1 .0) (qs .1 .1 .0) (qs .1 .1 .1 .0) (qs .1 .1 .1 .1 .0) (qs .1 .1 .1 .1 .1 .0) (a .0) (a .1 .0) (a .1 .1 .0) (a .1 .1 .1 .0) (a .1 .1 .1 .1 .0) (a .1 .1 .1 .1 .1 .0)
       C Λ fm known-callee known-number (are .1 .1 .0 .0 .1) (are .1 .1 .1 .0 .0 .1) (are .1 .1 .1 .1 .0 .0 .1) (are .1 .1 .1 .1 .1 .0 .0 .1)))
 
-self-meets : {M : Type 1} (𝓤 : URA M) (H : Heap 𝓤) (A : Atoms 𝓤) → Given 𝓤 H A → (mem : Memory → SProp 𝓤) (run : Routine → Fun 𝓤) (𝓣 : Program 𝓤 H) → Triple 𝓤 (𝓣 .C #deque·step-record) (Callee 𝓤 H A mem run) → Triple 𝓤 (𝓣 .C #capi·reply) (Number 𝓤 H A mem run)
+self-meets : {M : Type 1} (𝓤 : URA M) (H : Heap 𝓤) (A : Atoms 𝓤) → Given 𝓤 H A → (mem : Memory → SProp 𝓤) (run : Routine → Fun 𝓤) (𝓣 : Program 𝓤 H)
+    → Triple 𝓤 (𝓣 .C #deque·step-record) (Callee 𝓤 H A mem run) → Triple 𝓤 (𝓣 .C #capi·reply) (Number 𝓤 H A mem run)
     → Meets 𝓤 H A self.signature (WpFn 𝓤 H (𝓣 .C) (𝓣 .Λ) code.function) (self.spec 𝓤 H A mem run)
 self-meets 𝓤 H A W mem run 𝓣 known-callee known-number =
     walk-meets 𝓤 H A self.ended stayed W (
@@ -258,10 +255,7 @@ self-meets 𝓤 H A W mem run 𝓣 known-callee known-number =
             goes-gave-slice 𝓤 H A W 6 3 tt (plain (λ _. u64)),
             (
               goes-dropped 𝓤 H A W 6 (shrSliceOf (4 ∷ []) tt (plain (λ _. u32))) yes (λ κs x f. refl),
-              (
-                goes-gave-slice 𝓤 H A W 6 5 tt (plain (λ _. u64)),
-                tt,
-              ),
+              (goes-gave-slice 𝓤 H A W 6 5 tt (plain (λ _. u64)), tt),
             ),
           ),
         ),

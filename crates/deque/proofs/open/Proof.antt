@@ -16,7 +16,7 @@ use prog.Wp.{Heap, Calls, Loops, WpFn, Tables as Program}
 use ghost.Atoms.{Atoms}
 use contract.Monad.{Fun, fact}
 use contract.Running.{givenOf, tables, tablesOf}
-use types.Kit.{Given, ‵, raw, some, later, _⊛_, ⋆, _$_, _∵_, !, qed, by, move, keep, drop, use1, split, join, pick, group, fsplit, fsplit3, fjoin, fjoin3, feqL, feqI, suffices, frame, await, done}
+use types.Kit.{Given, Item, ‵, raw, some, later, _⊛_, ⋆, _$_, _∵_, !, qed, by, move, keep, drop, use1, split, join, pick, group, fsplit, fsplit3, fjoin, fjoin3, feqL, feqI, suffices, frame, await, done}
 use types.Run.{look, look-raw, init, store-raw, stop, hop, fld, from, load, addr, of-opd, and-then, no-more, assigns, returns, enter, params1, pass1, pass0}
 use types.Part.{agg, whole, sub, look-in}
 use sound.WpLaws.{FmC, fmOf, WpFn-mono}
@@ -87,10 +87,7 @@ stayed = (
               gave-slice (3 ∷ []) tt (plain (λ _. u64)),
               (
                 gave-slice (4 ∷ []) tt (plain (λ _. u32)),
-                (
-                  gave-slice (5 ∷ []) tt (plain (λ _. u64)),
-                  tt,
-                ),
+                (gave-slice (5 ∷ []) tt (plain (λ _. u64)), tt),
               ),
             ),
           ),
@@ -107,7 +104,7 @@ abbrev Clear : {M : Type 1} (𝓤 : URA M) (H : Heap 𝓤) (A : Atoms 𝓤) (mem
 Clear 𝓤 H A mem run = tripleOf 𝓤 H A clear.signature (clear.spec 𝓤 H A mem run)
 
 module _ {M : Type 1} (𝓤 : URA M) (H : Heap 𝓤) (A : Atoms 𝓤) (W : Given 𝓤 H A) (at-mem : Memory → SProp 𝓤) (run : Routine → Fun 𝓤)
-    (κc κr κ1 κ2 κ3 κ4 : Lft) (qc qr q1 q2 q3 q4 : Share) (xc : RefT Control) (xr : RefT (List Record)) (tasks : ℕ) (tasks-fits : tasks < 2 ^ 64) (slots : ℕ) (slots-fits : slots < 2 ^ 64) (tag : ℕ) (tag-fits : tag < 2 ^ 32) (x1 : RefT (List ℕ)) (x2 : RefT (List ℕ)) (x3 : RefT (List ℕ)) (x4 : RefT (List ℕ)) where
+    (κc κr κ1 κ2 κ3 κ4 : Lft) (qc qr q1 q2 q3 q4 : Share) (xc : RefT Control) (xr : RefT (List Record)) (tasks : ℕ) (tasks-fits : tasks < 2 ^ 64) (slots : ℕ) (slots-fits : slots < 2 ^ 64) (tag : ℕ) (tag-fits : tag < 2 ^ 32) (x1 x2 x3 x4 : RefT (List ℕ)) where
   -- what is lent, at entry
   abbrev pc : Val
   pc = vptr (xc .ptr .0) (xc .ptr .1)
@@ -148,8 +145,17 @@ module _ {M : Type 1} (𝓤 : URA M) (H : Heap 𝓤) (A : Atoms 𝓤) (W : Given
   abbrev vals : List Val × (List Val × (List Val × (List Val × (List Val × (List Val × (List Val × (List Val × (List Val × Unit {0}))))))))
   vals = (pc ∷ [], (sr ∷ [], (vint w64 tasks ∷ [], (vint w64 slots ∷ [], (vint w32 tag ∷ [], (s1 ∷ [], (s2 ∷ [], (s3 ∷ [], (s4 ∷ [], tt)))))))))
 
+  abbrev bound : walkOf 𝓤 H A self.ended stayed (self.clauses 𝓤 H A at-mem run) .Ghost
+  bound = (((κc, (κr, (κ1, (κ2, (κ3, (κ4, tt)))))), (qc, (qr, (q1, (q2, (q3, (q4, tt)))))), tt, a, vals), tt)
+
   abbrev Post : Val → SProp 𝓤
-  Post = walkOf 𝓤 H A self.ended stayed (self.clauses 𝓤 H A at-mem run) .post (((κc, (κr, (κ1, (κ2, (κ3, (κ4, tt)))))), (qc, (qr, (q1, (q2, (q3, (q4, tt)))))), tt, a, vals), tt)
+  Post = walkOf 𝓤 H A self.ended stayed (self.clauses 𝓤 H A at-mem run) .post bound
+
+  abbrev lent : List (Item 𝓤)
+  lent =
+      (‵ (flft κc qc) ⊛ ‵ (flft κr qr) ⊛ ‵ (flft κ1 q1) ⊛ ‵ (flft κ2 q2) ⊛ ‵ (flft κ3 q3) ⊛ ‵ (flft κ4 q4) ⊛ ‵ ftrue)
+      ∷ ‵ (owns (MutRef (named 0) κc K.the-row ∷ MutSlice (named 1) κr T.the-row ∷ u64 ∷ u64 ∷ u32 ∷ MutSlice (named 2) κ1 u64 ∷ MutSlice (named 3) κ2 u64 ∷ MutSlice (named 4) κ3 u32 ∷ MutSlice (named 5) κ4 u64 ∷ []) a vals)
+      ∷ []
 
   -- what the callee leaves
   abbrev left : OpenedTables → List ℕ → List ℕ → List ℕ → List ℕ → OpenedParts
@@ -158,7 +164,8 @@ module _ {M : Type 1} (𝓤 : URA M) (H : Heap 𝓤) (A : Atoms 𝓤) (W : Given
   abbrev Said : Opening → Control → List Record → List ℕ → List ℕ → List ℕ → List ℕ → Type 0
   Said r zc zr z1 z2 z3 z4 = _≡_ {A = OpenDone} (record { queue = record { tables = record { control = zc; lefts = z1; rights = z2; labels = z3; marks = z4 }; records = zr }; outcome = r }) (openQueue queue tasks slots tag)
 
-  told : (m : OpenedTables) (zr : List Record) (z1 z2 z3 z4 : List ℕ) → left m z1 z2 z3 z4 ≡ openTables entry n tasks slots tag → zr ≡ zeroed (m .clear) idle rs → Said (m .outcome) (m .control) zr z1 z2 z3 z4
+  told : (m : OpenedTables) (zr : List Record) (z1 z2 z3 z4 : List ℕ) → left m z1 z2 z3 z4 ≡ openTables entry n tasks slots tag → zr ≡ zeroed (m .clear) idle rs
+      → Said (m .outcome) (m .control) zr z1 z2 z3 z4
   told m zr z1 z2 z3 z4 e e′ =
       ap (λ (l : List Record). record { queue = record { tables = record { control = m .control; lefts = z1; rights = z2; labels = z3; marks = z4 }; records = l }; outcome = m .outcome }) e′
       ∙ ap (joined rs) e ∙ sym (open-parts queue tasks slots tag)
@@ -169,13 +176,18 @@ module _ {M : Type 1} (𝓤 : URA M) (H : Heap 𝓤) (A : Atoms 𝓤) (W : Given
   abbrev to-callee : Callee 𝓤 H A at-mem run .Ghost
   to-callee = (((κ1, (κ2, (κ3, (κ4, tt)))), (q1, (q2, (q3, (q4, tt)))), tt, (c, ((length (xr .now)), (tasks, (slots, (tag, (x1, (x2, (x3, (x4, tt))))))))), (control-value c ∷ [], (vint w64 (length (xr .now)) ∷ [], (vint w64 tasks ∷ [], (vint w64 slots ∷ [], (vint w32 tag ∷ [], (s1 ∷ [], (s2 ∷ [], (s3 ∷ [], (s4 ∷ [], tt)))))))))), tt)
 
-  goes-callee : Is K.the-row c (control-value c ∷ []) → (length (xr .now)) < 2 ^ 64 → tasks < 2 ^ 64 → slots < 2 ^ 64 → tag < 2 ^ 32 → ent 𝓤 (⋆ 𝓤 H A (‵ (flft κ1 q1) ∷ ‵ (flft κ2 q2) ∷ ‵ (flft κ3 q3) ∷ ‵ (flft κ4 q4) ∷ ‵ (MutSlice (named 2) κ1 u64 .own x1 (s1 ∷ [])) ∷ ‵ (MutSlice (named 3) κ2 u64 .own x2 (s2 ∷ [])) ∷ ‵ (MutSlice (named 4) κ3 u32 .own x3 (s3 ∷ [])) ∷ ‵ (MutSlice (named 5) κ4 u64 .own x4 (s4 ∷ [])) ∷ [])) (Callee 𝓤 H A at-mem run .pre to-callee)
+  abbrev passed-callee : List (Item 𝓤)
+  passed-callee =
+      ‵ (flft κ1 q1) ∷ ‵ (flft κ2 q2) ∷ ‵ (flft κ3 q3) ∷ ‵ (flft κ4 q4) ∷ ‵ (MutSlice (named 2) κ1 u64 .own x1 (s1 ∷ [])) ∷ ‵ (MutSlice (named 3) κ2 u64 .own x2 (s2 ∷ []))
+      ∷ ‵ (MutSlice (named 4) κ3 u32 .own x3 (s3 ∷ [])) ∷ ‵ (MutSlice (named 5) κ4 u64 .own x4 (s4 ∷ [])) ∷ []
+
+  goes-callee : Is K.the-row c (control-value c ∷ []) → (length (xr .now)) < 2 ^ 64 → tasks < 2 ^ 64 → slots < 2 ^ 64 → tag < 2 ^ 32
+      → ent 𝓤 (⋆ 𝓤 H A passed-callee) (Callee 𝓤 H A at-mem run .pre to-callee)
   goes-callee g1 g2 g3 g4 g5 =
-      qed W (‵ (flft κ1 q1) ∷ ‵ (flft κ2 q2) ∷ ‵ (flft κ3 q3) ∷ ‵ (flft κ4 q4) ∷ ‵ (MutSlice (named 2) κ1 u64 .own x1 (s1 ∷ [])) ∷ ‵ (MutSlice (named 3) κ2 u64 .own x2 (s2 ∷ [])) ∷ ‵ (MutSlice (named 4) κ3 u32 .own x3 (s3 ∷ [])) ∷ ‵ (MutSlice (named 5) κ4 u64 .own x4 (s4 ∷ [])) ∷ []) ∵ nothing ! $
-      move ! (4 ∷ 0 ∷ []) $ join ! $ move ! (3 ∷ 0 ∷ []) $ join ! $ move ! (2 ∷ 0 ∷ []) $ join ! $ move ! (1 ∷ 0 ∷ []) $ join ! $ nothing ! $ move ! (5 ∷ 0 ∷ []) $ fjoin ! $
-      move ! (4 ∷ 0 ∷ []) $ fjoin ! $ move ! (3 ∷ 0 ∷ []) $ fjoin ! $ move ! (2 ∷ 0 ∷ []) $ fjoin ! $ owned ! u32 (Is u32) (uint-makes 𝓤 H A W w32) tag _ (refl, g5) $ fjoin ! $
-      owned ! u64 (Is u64) (uint-makes 𝓤 H A W w64) slots _ (refl, g4) $ fjoin ! $ owned ! u64 (Is u64) (uint-makes 𝓤 H A W w64) tasks _ (refl, g3) $ fjoin ! $
-      owned ! usize (Is usize) (uint-makes 𝓤 H A W w64) (length (xr .now)) _ (refl, g2) $ fjoin ! $
+      qed W passed-callee ∵ nothing ! $ move ! (4 ∷ 0 ∷ []) $ join ! $ move ! (3 ∷ 0 ∷ []) $ join ! $ move ! (2 ∷ 0 ∷ []) $ join ! $ move ! (1 ∷ 0 ∷ []) $ join ! $ nothing ! $
+      move ! (5 ∷ 0 ∷ []) $ fjoin ! $ move ! (4 ∷ 0 ∷ []) $ fjoin ! $ move ! (3 ∷ 0 ∷ []) $ fjoin ! $ move ! (2 ∷ 0 ∷ []) $ fjoin ! $
+      owned ! u32 (Is u32) (uint-makes 𝓤 H A W w32) tag _ (refl, g5) $ fjoin ! $ owned ! u64 (Is u64) (uint-makes 𝓤 H A W w64) slots _ (refl, g4) $ fjoin ! $
+      owned ! u64 (Is u64) (uint-makes 𝓤 H A W w64) tasks _ (refl, g3) $ fjoin ! $ owned ! usize (Is usize) (uint-makes 𝓤 H A W w64) (length (xr .now)) _ (refl, g2) $ fjoin ! $
       owned ! K.the-row (Is K.the-row) (LL.makes K.the-type K′.the-plain 𝓤 H A) c _ g1 $ fjoin ! $ move ! (1 ∷ 0 ∷ []) $ join ! $ frame ! $ done !
 
   abbrev Lasts-callee : Type 0
@@ -184,19 +196,29 @@ module _ {M : Type 1} (𝓤 : URA M) (H : Heap 𝓤) (A : Atoms 𝓤) (W : Given
   abbrev to-clear : OpenedTables → Clear 𝓤 H A at-mem run .Ghost
   to-clear m = (((κr, tt), (qr, tt), tt, (xr, ((m .clear), tt)), (sr ∷ [], (vint w64 (m .clear) ∷ [], tt))), tt)
 
-  goes-clear : (m : OpenedTables) → (m .clear) < 2 ^ 64 → m .clear ≤ n → ent 𝓤 (⋆ 𝓤 H A (‵ (flft κr qr) ∷ ‵ (MutSlice (named 1) κr T.the-row .own xr (sr ∷ [])) ∷ [])) (Clear 𝓤 H A at-mem run .pre (to-clear m))
+  abbrev passed-clear : List (Item 𝓤)
+  passed-clear =
+      ‵ (flft κr qr) ∷ ‵ (MutSlice (named 1) κr T.the-row .own xr (sr ∷ [])) ∷ []
+
+  goes-clear : (m : OpenedTables) → (m .clear) < 2 ^ 64 → m .clear ≤ n → ent 𝓤 (⋆ 𝓤 H A passed-clear) (Clear 𝓤 H A at-mem run .pre (to-clear m))
   goes-clear m g1 asked =
-      qed W (‵ (flft κr qr) ∷ ‵ (MutSlice (named 1) κr T.the-row .own xr (sr ∷ [])) ∷ []) ∵ says ! asked $ nothing ! $ move ! (1 ∷ 0 ∷ []) $ join ! $ frame ! $ nothing ! $
+      qed W passed-clear ∵ says ! asked $ nothing ! $ move ! (1 ∷ 0 ∷ []) $ join ! $ frame ! $ nothing ! $
       owned ! usize (Is usize) (uint-makes 𝓤 H A W w64) (m .clear) _ (refl, g1) $ fjoin ! $ move ! (1 ∷ 0 ∷ []) $ fjoin ! $ done !
 
   abbrev Lasts-clear : Type 0
   Lasts-clear = List Record × (Unit {0} × Unit {0})
 
-  exits : (r′ : Opening) (w : Val) (zc : Control) (zr : List Record) (z1 : List ℕ) (z2 : List ℕ) (z3 : List ℕ) (z4 : List ℕ) → Said r′ zc zr z1 z2 z3 z4 → length zr ≡ length (xr .now) → length z1 ≡ length (x1 .now) → length z2 ≡ length (x2 .now) → length z3 ≡ length (x3 .now) → length z4 ≡ length (x4 .now) → Is E.the-row r′ (w ∷ [])
-      → ent 𝓤 (⋆ 𝓤 H A (‵ (flft κc qc) ∷ ‵ (flft κr qr) ∷ ‵ (flft κ1 q1) ∷ ‵ (flft κ2 q2) ∷ ‵ (flft κ3 q3) ∷ ‵ (flft κ4 q4) ∷ ‵ (MutRef (named 0) κc K.the-row .own (kept xc zc) (pc ∷ [])) ∷ ‵ (finally T.the-row (xr .name) zr) ∷ ‵ (finally u64 (x1 .name) z1) ∷ ‵ (finally u64 (x2 .name) z2) ∷ ‵ (finally u32 (x3 .name) z3) ∷ ‵ (finally u64 (x4 .name) z4) ∷ [])) (Post w)
+  abbrev leaving : Control → List Record → List ℕ → List ℕ → List ℕ → List ℕ → List (Item 𝓤)
+  leaving zc zr z1 z2 z3 z4 =
+      ‵ (flft κc qc) ∷ ‵ (flft κr qr) ∷ ‵ (flft κ1 q1) ∷ ‵ (flft κ2 q2) ∷ ‵ (flft κ3 q3) ∷ ‵ (flft κ4 q4) ∷ ‵ (MutRef (named 0) κc K.the-row .own (kept xc zc) (pc ∷ []))
+      ∷ ‵ (finally T.the-row (xr .name) zr) ∷ ‵ (finally u64 (x1 .name) z1) ∷ ‵ (finally u64 (x2 .name) z2) ∷ ‵ (finally u32 (x3 .name) z3) ∷ ‵ (finally u64 (x4 .name) z4) ∷ []
+
+  exits : (r′ : Opening) (w : Val) (zc : Control) (zr : List Record) (z1 z2 z3 z4 : List ℕ) → Said r′ zc zr z1 z2 z3 z4 → length zr ≡ length (xr .now) → length z1 ≡ length (x1 .now)
+      → length z2 ≡ length (x2 .now) → length z3 ≡ length (x3 .now) → length z4 ≡ length (x4 .now) → Is E.the-row r′ (w ∷ [])
+      → ent 𝓤 (⋆ 𝓤 H A (leaving zc zr z1 z2 z3 z4)) (Post w)
   exits r′ w zc zr z1 z2 z3 z4 e er e1 e2 e3 e4 g =
-      qed W (‵ (flft κc qc) ∷ ‵ (flft κr qr) ∷ ‵ (flft κ1 q1) ∷ ‵ (flft κ2 q2) ∷ ‵ (flft κ3 q3) ∷ ‵ (flft κ4 q4) ∷ ‵ (MutRef (named 0) κc K.the-row .own (kept xc zc) (pc ∷ [])) ∷ ‵ (finally T.the-row (xr .name) zr) ∷ ‵ (finally u64 (x1 .name) z1) ∷ ‵ (finally u64 (x2 .name) z2) ∷ ‵ (finally u32 (x3 .name) z3) ∷ ‵ (finally u64 (x4 .name) z4) ∷ []) ∵
-      suffices ! _ (ends-at 𝓤 H A self.ended stayed (self.clauses 𝓤 H A at-mem run) W (((κc, (κr, (κ1, (κ2, (κ3, (κ4, tt)))))), (qc, (qr, (q1, (q2, (q3, (q4, tt)))))), tt, a, vals), tt) w r′ (zc, (zr, (tt, (tt, (tt, (z1, (z2, (z3, (z4, tt))))))))) (tt, (er, (tt, (tt, (tt, (e1, (e2, (e3, (e4, tt)))))))))) $
+      qed W (leaving zc zr z1 z2 z3 z4) ∵
+      suffices ! _ (ends-at 𝓤 H A self.ended stayed (self.clauses 𝓤 H A at-mem run) W bound w r′ (zc, (zr, (tt, (tt, (tt, (z1, (z2, (z3, (z4, tt))))))))) (tt, (er, (tt, (tt, (tt, (e1, (e2, (e3, (e4, tt)))))))))) $
       says ! e $ nothing ! $ move ! (6 ∷ 0 ∷ []) $ join ! $ move ! (5 ∷ 0 ∷ []) $ join ! $ move ! (4 ∷ 0 ∷ []) $ join ! $ move ! (3 ∷ 0 ∷ []) $ join ! $ move ! (2 ∷ 0 ∷ []) $
       join ! $ move ! (1 ∷ 0 ∷ []) $ join ! $ frame ! $ nothing ! $ move ! (6 ∷ 0 ∷ []) $ fjoin ! $ move ! (5 ∷ 0 ∷ []) $ fjoin ! $ move ! (4 ∷ 0 ∷ []) $ fjoin ! $
       move ! (3 ∷ 0 ∷ []) $ fjoin ! $ owned ! u32 (Is u32) (uint-makes 𝓤 H A W w32) tag _ (refl, tag-fits) $ fjoin ! $
@@ -205,9 +227,10 @@ module _ {M : Type 1} (𝓤 : URA M) (H : Heap 𝓤) (A : Atoms 𝓤) (W : Given
       owned ! E.the-row (Is E.the-row) (EL.makes E.the-type E′.the-plain 𝓤 H A) r′ _ g $ move ! (1 ∷ 0 ∷ []) $ done !
 
   module _ (C : Calls 𝓤 H) (Λ : Loops 𝓤 H) (fm : FmC 𝓤 H (W .laws) C) (known-callee : Triple 𝓤 (C #calls·opening·open-tables) (Callee 𝓤 H A at-mem run)) (known-clear : Triple 𝓤 (C #deque·clear) (Clear 𝓤 H A at-mem run)) where
-    walk : Room T.the-row (length (xr .now)) → Room u64 (length (x1 .now)) → Room u64 (length (x2 .now)) → Room u32 (length (x3 .now)) → Room u64 (length (x4 .now)) → ent 𝓤 (onEntry 𝓤 H A self.signature (κc, (κr, (κ1, (κ2, (κ3, (κ4, tt)))))) (qc, (qr, (q1, (q2, (q3, (q4, tt)))))) a vals) (WpFn 𝓤 H C Λ code.function (pc ∷ sr ∷ vint w64 tasks ∷ vint w64 slots ∷ vint w32 tag ∷ s1 ∷ s2 ∷ s3 ∷ s4 ∷ []) Post)
+    walk : Room T.the-row (length (xr .now)) → Room u64 (length (x1 .now)) → Room u64 (length (x2 .now)) → Room u32 (length (x3 .now)) → Room u64 (length (x4 .now))
+        → ent 𝓤 (onEntry 𝓤 H A self.signature (κc, (κr, (κ1, (κ2, (κ3, (κ4, tt)))))) (qc, (qr, (q1, (q2, (q3, (q4, tt)))))) a vals) (WpFn 𝓤 H C Λ code.function (pc ∷ sr ∷ vint w64 tasks ∷ vint w64 slots ∷ vint w32 tag ∷ s1 ∷ s2 ∷ s3 ∷ s4 ∷ []) Post)
     walk roomr room1 room2 room3 room4 =
-        qed W ((‵ (flft κc qc) ⊛ ‵ (flft κr qr) ⊛ ‵ (flft κ1 q1) ⊛ ‵ (flft κ2 q2) ⊛ ‵ (flft κ3 q3) ⊛ ‵ (flft κ4 q4) ⊛ ‵ ftrue) ∷ ‵ (owns (MutRef (named 0) κc K.the-row ∷ MutSlice (named 1) κr T.the-row ∷ u64 ∷ u64 ∷ u32 ∷ MutSlice (named 2) κ1 u64 ∷ MutSlice (named 3) κ2 u64 ∷ MutSlice (named 4) κ3 u32 ∷ MutSlice (named 5) κ4 u64 ∷ []) a vals) ∷ []) ∵
+        qed W lent ∵
         enter ! C Λ code.function (pc ∷ sr ∷ vint w64 tasks ∷ vint w64 slots ∷ vint w32 tag ∷ s1 ∷ s2 ∷ s3 ∷ s4 ∷ []) _ $
         allocates ! (λ bs. params1 ! $
         pass1 ! (init ! 2 refl (tt, tt)) $ pass1 ! (init ! 4 refl (tt, (tt, (record { fits = roomr .0 }, tt)))) $ pass1 ! (init ! 6 refl (tt, record { fits = tasks-fits })) $
@@ -283,7 +306,8 @@ module _ {M : Type 1} (𝓤 : URA M) (H : Heap 𝓤) (A : Atoms 𝓤) (W : Given
         by ! (exits (m .outcome) _ (m .control) (zs-clear .0) (zs-callee .1 .1 .1 .1 .1 .0) (zs-callee .1 .1 .1 .1 .1 .1 .0) (zs-callee .1 .1 .1 .1 .1 .1 .1 .0) (zs-callee .1 .1 .1 .1 .1 .1 .1 .1 .0) (told m (zs-clear .0) (zs-callee .1 .1 .1 .1 .1 .0) (zs-callee .1 .1 .1 .1 .1 .1 .0) (zs-callee .1 .1 .1 .1 .1 .1 .1 .0) (zs-callee .1 .1 .1 .1 .1 .1 .1 .1 .0) e-callee e-clear) er e1 e2 e3 e4 (LL.owed N.the-type N′.the-laws m _ is-callee .1 .1 .0))))))))))))))))))))
 
 module _ {M : Type 1} (𝓤 : URA M) (H : Heap 𝓤) (A : Atoms 𝓤) (W : Given 𝓤 H A) (mem : Memory → SProp 𝓤) (run : Routine → Fun 𝓤) where
-  self-walks : (C : Calls 𝓤 H) (Λ : Loops 𝓤 H) → FmC 𝓤 H (W .laws) C → Triple 𝓤 (C #calls·opening·open-tables) (Callee 𝓤 H A mem run) → Triple 𝓤 (C #deque·clear) (Clear 𝓤 H A mem run) → Walks 𝓤 H A self.ended stayed (WpFn 𝓤 H C Λ code.function) (self.clauses 𝓤 H A mem run)
+  self-walks : (C : Calls 𝓤 H) (Λ : Loops 𝓤 H) → FmC 𝓤 H (W .laws) C → Triple 𝓤 (C #calls·opening·open-tables) (Callee 𝓤 H A mem run)
+      → Triple 𝓤 (C #deque·clear) (Clear 𝓤 H A mem run) → Walks 𝓤 H A self.ended stayed (WpFn 𝓤 H C Λ code.function) (self.clauses 𝓤 H A mem run)
   self-walks C Λ fm known-callee known-clear = walked 𝓤 H A self.ended stayed (self.clauses 𝓤 H A mem run) (WpFn 𝓤 H C Λ code.function)
       (λ κs. (ptr-vals, (slice-vals, (uint-vals w64, (uint-vals w64, (uint-vals w32, (slice-vals, (slice-vals, (slice-vals, (slice-vals, tt))))))))))
       (λ κs. (
@@ -302,10 +326,7 @@ module _ {M : Type 1} (𝓤 : URA M) (H : Heap 𝓤) (A : Atoms 𝓤) (W : Given
                     mut-slice-tells (named 3) (κs .1 .1 .1 .0) u64,
                     (
                       mut-slice-tells (named 4) (κs .1 .1 .1 .1 .0) u32,
-                      (
-                        mut-slice-tells (named 5) (κs .1 .1 .1 .1 .1 .0) u64,
-                        tt,
-                      ),
+                      (mut-slice-tells (named 5) (κs .1 .1 .1 .1 .1 .0) u64, tt),
                     ),
                   ),
                 ),
@@ -318,7 +339,8 @@ module _ {M : Type 1} (𝓤 : URA M) (H : Heap 𝓤) (A : Atoms 𝓤) (W : Given
       (κs .0) (κs .1 .0) (κs .1 .1 .0) (κs .1 .1 .1 .0) (κs .1 .1 .1 .1 .0) (κs .1 .1 .1 .1 .1 .0) (qs .0) (qs .1 .0) (qs .1 .1 .0) (qs .1 .1 .1 .0) (qs .1 .1 .1 .1 .0) (qs .1 .1 .1 .1 .1 .0) (a .0) (a .1 .0) (a .1 .1 .0) (are .1 .1 .0 .1) (a .1 .1 .1 .0) (are .1 .1 .1 .0 .1) (a .1 .1 .1 .1 .0) (are .1 .1 .1 .1 .0 .1) (a .1 .1 .1 .1 .1 .0) (a .1 .1 .1 .1 .1 .1 .0) (a .1 .1 .1 .1 .1 .1 .1 .0) (a .1 .1 .1 .1 .1 .1 .1 .1 .0)
       C Λ fm known-callee known-clear (are .1 .0 .0 .1) (are .1 .1 .1 .1 .1 .0 .0 .1) (are .1 .1 .1 .1 .1 .1 .0 .0 .1) (are .1 .1 .1 .1 .1 .1 .1 .0 .0 .1) (are .1 .1 .1 .1 .1 .1 .1 .1 .0 .0 .1)))
 
-self-meets : {M : Type 1} (𝓤 : URA M) (H : Heap 𝓤) (A : Atoms 𝓤) → Given 𝓤 H A → (mem : Memory → SProp 𝓤) (run : Routine → Fun 𝓤) (𝓣 : Program 𝓤 H) → Triple 𝓤 (𝓣 .C #calls·opening·open-tables) (Callee 𝓤 H A mem run) → Triple 𝓤 (𝓣 .C #deque·clear) (Clear 𝓤 H A mem run)
+self-meets : {M : Type 1} (𝓤 : URA M) (H : Heap 𝓤) (A : Atoms 𝓤) → Given 𝓤 H A → (mem : Memory → SProp 𝓤) (run : Routine → Fun 𝓤) (𝓣 : Program 𝓤 H)
+    → Triple 𝓤 (𝓣 .C #calls·opening·open-tables) (Callee 𝓤 H A mem run) → Triple 𝓤 (𝓣 .C #deque·clear) (Clear 𝓤 H A mem run)
     → Meets 𝓤 H A self.signature (WpFn 𝓤 H (𝓣 .C) (𝓣 .Λ) code.function) (self.spec 𝓤 H A mem run)
 self-meets 𝓤 H A W mem run 𝓣 known-callee known-clear =
     walk-meets 𝓤 H A self.ended stayed W (
@@ -333,16 +355,7 @@ self-meets 𝓤 H A W mem run 𝓣 known-callee known-clear =
               goes-none 𝓤 H A W 6 (λ _. u32) yes (λ κs x f. refl),
               (
                 goes-gave-slice 𝓤 H A W 6 2 tt (plain (λ _. u64)),
-                (
-                  goes-gave-slice 𝓤 H A W 6 3 tt (plain (λ _. u64)),
-                  (
-                    goes-gave-slice 𝓤 H A W 6 4 tt (plain (λ _. u32)),
-                    (
-                      goes-gave-slice 𝓤 H A W 6 5 tt (plain (λ _. u64)),
-                      tt,
-                    ),
-                  ),
-                ),
+                (goes-gave-slice 𝓤 H A W 6 3 tt (plain (λ _. u64)), (goes-gave-slice 𝓤 H A W 6 4 tt (plain (λ _. u32)), (goes-gave-slice 𝓤 H A W 6 5 tt (plain (λ _. u64)), tt))),
               ),
             ),
           ),

@@ -17,7 +17,7 @@ use prog.Wp.{Heap, Calls, Loops, WpFn, Tables as Program}
 use ghost.Atoms.{Atoms}
 use contract.Monad.{Fun, fact}
 use contract.Running.{givenOf, tables, tablesOf}
-use types.Kit.{Given, ‵, raw, some, later, _⊛_, ⋆, _$_, _∵_, !, qed, by, move, keep, drop, use1, split, join, pick, group, fsplit, fsplit3, fjoin, suffices, frame, await, done}
+use types.Kit.{Given, Item, ‵, raw, some, later, _⊛_, ⋆, _$_, _∵_, !, qed, by, move, keep, drop, use1, split, join, pick, group, fsplit, fsplit3, fjoin, suffices, frame, await, done}
 use types.Run.{look, look-raw, init, stop, hop, from, load, of-opd, and-then, no-more, returns, enter, params1, pass1, pass0}
 use sound.WpLaws.{FmC, fmOf, WpFn-mono}
 use denote.RattleType.{owns}
@@ -83,13 +83,7 @@ stayed = (
       stay-dropped (shrSliceOf (2 ∷ []) tt (plain (λ _. u64))) yes,
       (
         stay-dropped (shrSliceOf (3 ∷ []) tt (plain (λ _. u64))) yes,
-        (
-          stay-dropped (shrSliceOf (4 ∷ []) tt (plain (λ _. u32))) yes,
-          (
-            stay-dropped (shrSliceOf (5 ∷ []) tt (plain (λ _. u64))) yes,
-            tt,
-          ),
-        ),
+        (stay-dropped (shrSliceOf (4 ∷ []) tt (plain (λ _. u32))) yes, (stay-dropped (shrSliceOf (5 ∷ []) tt (plain (λ _. u64))) yes, tt)),
       ),
     ),
   ),
@@ -105,7 +99,7 @@ abbrev Telling : {M : Type 1} (𝓤 : URA M) (H : Heap 𝓤) (A : Atoms 𝓤) (m
 Telling 𝓤 H A mem run = tripleOf 𝓤 H A telling.signature (telling.spec 𝓤 H A mem run)
 
 module _ {M : Type 1} (𝓤 : URA M) (H : Heap 𝓤) (A : Atoms 𝓤) (W : Given 𝓤 H A) (at-mem : Memory → SProp 𝓤) (run : Routine → Fun 𝓤)
-    (κc κr κ1 κ2 κ3 κ4 : Lft) (qc qr q1 q2 q3 q4 : Share) (xc : RefT Control) (xr : RefT (List Record)) (x1 : RefT (List ℕ)) (x2 : RefT (List ℕ)) (x3 : RefT (List ℕ)) (x4 : RefT (List ℕ)) where
+    (κc κr κ1 κ2 κ3 κ4 : Lft) (qc qr q1 q2 q3 q4 : Share) (xc : RefT Control) (xr : RefT (List Record)) (x1 x2 x3 x4 : RefT (List ℕ)) where
   -- what is lent, at entry
   abbrev pc : Val
   pc = vptr (xc .ptr .0) (xc .ptr .1)
@@ -149,8 +143,17 @@ module _ {M : Type 1} (𝓤 : URA M) (H : Heap 𝓤) (A : Atoms 𝓤) (W : Given
   abbrev vals : List Val × (List Val × (List Val × (List Val × (List Val × (List Val × Unit {0})))))
   vals = (pc ∷ [], (sr ∷ [], (s1 ∷ [], (s2 ∷ [], (s3 ∷ [], (s4 ∷ [], tt))))))
 
+  abbrev bound : walkOf 𝓤 H A self.ended stayed (self.clauses 𝓤 H A at-mem run) .Ghost
+  bound = (((κc, (κr, (κ1, (κ2, (κ3, (κ4, tt)))))), (qc, (qr, (q1, (q2, (q3, (q4, tt)))))), tt, a, vals), tt)
+
   abbrev Post : Val → SProp 𝓤
-  Post = walkOf 𝓤 H A self.ended stayed (self.clauses 𝓤 H A at-mem run) .post (((κc, (κr, (κ1, (κ2, (κ3, (κ4, tt)))))), (qc, (qr, (q1, (q2, (q3, (q4, tt)))))), tt, a, vals), tt)
+  Post = walkOf 𝓤 H A self.ended stayed (self.clauses 𝓤 H A at-mem run) .post bound
+
+  abbrev lent : List (Item 𝓤)
+  lent =
+      (‵ (flft κc qc) ⊛ ‵ (flft κr qr) ⊛ ‵ (flft κ1 q1) ⊛ ‵ (flft κ2 q2) ⊛ ‵ (flft κ3 q3) ⊛ ‵ (flft κ4 q4) ⊛ ‵ ftrue)
+      ∷ ‵ (owns (ShrRef (named 0) κc K.the-row ∷ ShrSlice (named 1) κr T.the-row ∷ ShrSlice (named 2) κ1 u64 ∷ ShrSlice (named 3) κ2 u64 ∷ ShrSlice (named 4) κ3 u32 ∷ ShrSlice (named 5) κ4 u64 ∷ []) a vals)
+      ∷ []
 
   abbrev Said : Reported → Type 0
   Said r = r ≡ report queue
@@ -177,10 +180,14 @@ module _ {M : Type 1} (𝓤 : URA M) (H : Heap 𝓤) (A : Atoms 𝓤) (W : Given
   abbrev to-busy : ℕ → Busy 𝓤 H A at-mem run .Ghost
   to-busy k = (((κr, tt), (qr, tt), tt, (xr, (k, tt)), (sr ∷ [], (vint w64 k ∷ [], tt))), tt)
 
-  goes-busy : (k : ℕ) → k < 2 ^ 64 → (k ≤ n) × (k ≤ 16) → ent 𝓤 (⋆ 𝓤 H A (‵ (flft κr qr) ∷ ‵ (ShrSlice (named 1) κr T.the-row .own xr (sr ∷ [])) ∷ [])) (Busy 𝓤 H A at-mem run .pre (to-busy k))
+  abbrev passed-busy : List (Item 𝓤)
+  passed-busy =
+      ‵ (flft κr qr) ∷ ‵ (ShrSlice (named 1) κr T.the-row .own xr (sr ∷ [])) ∷ []
+
+  goes-busy : (k : ℕ) → k < 2 ^ 64 → (k ≤ n) × (k ≤ 16) → ent 𝓤 (⋆ 𝓤 H A passed-busy) (Busy 𝓤 H A at-mem run .pre (to-busy k))
   goes-busy k g1 asked =
-      qed W (‵ (flft κr qr) ∷ ‵ (ShrSlice (named 1) κr T.the-row .own xr (sr ∷ [])) ∷ []) ∵ says ! asked $ nothing ! $ move ! (1 ∷ 0 ∷ []) $ join ! $ frame ! $ nothing ! $
-      owned ! usize (Is usize) (uint-makes 𝓤 H A W w64) k _ (refl, g1) $ fjoin ! $ move ! (1 ∷ 0 ∷ []) $ fjoin ! $ done !
+      qed W passed-busy ∵ says ! asked $ nothing ! $ move ! (1 ∷ 0 ∷ []) $ join ! $ frame ! $ nothing ! $ owned ! usize (Is usize) (uint-makes 𝓤 H A W w64) k _ (refl, g1) $
+      fjoin ! $ move ! (1 ∷ 0 ∷ []) $ fjoin ! $ done !
 
   abbrev Lasts-busy : Type 0
   Lasts-busy = Unit {0} × (Unit {0} × Unit {0})
@@ -188,9 +195,14 @@ module _ {M : Type 1} (𝓤 : URA M) (H : Heap 𝓤) (A : Atoms 𝓤) (W : Given
   abbrev to-telling : ℕ → Telling 𝓤 H A at-mem run .Ghost
   to-telling b = (((κ4, tt), (q4, tt), tt, (c, ((length (xr .now)), (b, ((length (x1 .now)), ((length (x2 .now)), ((length (x3 .now)), (x4, tt))))))), (control-value c ∷ [], (vint w64 (length (xr .now)) ∷ [], (vint w64 b ∷ [], (vint w64 (length (x1 .now)) ∷ [], (vint w64 (length (x2 .now)) ∷ [], (vint w64 (length (x3 .now)) ∷ [], (s4 ∷ [], tt)))))))), tt)
 
-  goes-telling : (b : ℕ) → Is K.the-row c (control-value c ∷ []) → (length (xr .now)) < 2 ^ 64 → b < 2 ^ 64 → (length (x1 .now)) < 2 ^ 64 → (length (x2 .now)) < 2 ^ 64 → (length (x3 .now)) < 2 ^ 64 → ent 𝓤 (⋆ 𝓤 H A (‵ (flft κ4 q4) ∷ ‵ (ShrSlice (named 5) κ4 u64 .own x4 (s4 ∷ [])) ∷ [])) (Telling 𝓤 H A at-mem run .pre (to-telling b))
+  abbrev passed-telling : List (Item 𝓤)
+  passed-telling =
+      ‵ (flft κ4 q4) ∷ ‵ (ShrSlice (named 5) κ4 u64 .own x4 (s4 ∷ [])) ∷ []
+
+  goes-telling : (b : ℕ) → Is K.the-row c (control-value c ∷ []) → (length (xr .now)) < 2 ^ 64 → b < 2 ^ 64 → (length (x1 .now)) < 2 ^ 64 → (length (x2 .now)) < 2 ^ 64
+      → (length (x3 .now)) < 2 ^ 64 → ent 𝓤 (⋆ 𝓤 H A passed-telling) (Telling 𝓤 H A at-mem run .pre (to-telling b))
   goes-telling b g1 g2 g3 g4 g5 g6 =
-      qed W (‵ (flft κ4 q4) ∷ ‵ (ShrSlice (named 5) κ4 u64 .own x4 (s4 ∷ [])) ∷ []) ∵ nothing ! $ move ! (1 ∷ 0 ∷ []) $ join ! $ nothing ! $ move ! (2 ∷ 0 ∷ []) $ fjoin ! $
+      qed W passed-telling ∵ nothing ! $ move ! (1 ∷ 0 ∷ []) $ join ! $ nothing ! $ move ! (2 ∷ 0 ∷ []) $ fjoin ! $
       owned ! usize (Is usize) (uint-makes 𝓤 H A W w64) (length (x3 .now)) _ (refl, g6) $ fjoin ! $
       owned ! usize (Is usize) (uint-makes 𝓤 H A W w64) (length (x2 .now)) _ (refl, g5) $ fjoin ! $
       owned ! usize (Is usize) (uint-makes 𝓤 H A W w64) (length (x1 .now)) _ (refl, g4) $ fjoin ! $ owned ! u64 (Is u64) (uint-makes 𝓤 H A W w64) b _ (refl, g3) $ fjoin ! $
@@ -200,20 +212,25 @@ module _ {M : Type 1} (𝓤 : URA M) (H : Heap 𝓤) (A : Atoms 𝓤) (W : Given
   abbrev Lasts-telling : Type 0
   Lasts-telling = Unit {0} × (Unit {0} × (Unit {0} × (Unit {0} × (Unit {0} × (Unit {0} × (Unit {0} × Unit {0}))))))
 
+  abbrev leaving : List (Item 𝓤)
+  leaving =
+      ‵ (flft κc qc) ∷ ‵ (flft κr qr) ∷ ‵ (flft κ1 q1) ∷ ‵ (flft κ2 q2) ∷ ‵ (flft κ3 q3) ∷ ‵ (flft κ4 q4) ∷ []
+
   exits : (r′ : Reported) (w : Val) → Said r′ → Is E.the-row r′ (w ∷ [])
-      → ent 𝓤 (⋆ 𝓤 H A (‵ (flft κc qc) ∷ ‵ (flft κr qr) ∷ ‵ (flft κ1 q1) ∷ ‵ (flft κ2 q2) ∷ ‵ (flft κ3 q3) ∷ ‵ (flft κ4 q4) ∷ [])) (Post w)
+      → ent 𝓤 (⋆ 𝓤 H A leaving) (Post w)
   exits r′ w e g =
-      qed W (‵ (flft κc qc) ∷ ‵ (flft κr qr) ∷ ‵ (flft κ1 q1) ∷ ‵ (flft κ2 q2) ∷ ‵ (flft κ3 q3) ∷ ‵ (flft κ4 q4) ∷ []) ∵
-      suffices ! _ (ends-at 𝓤 H A self.ended stayed (self.clauses 𝓤 H A at-mem run) W (((κc, (κr, (κ1, (κ2, (κ3, (κ4, tt)))))), (qc, (qr, (q1, (q2, (q3, (q4, tt)))))), tt, a, vals), tt) w r′ (tt, (tt, (tt, (tt, (tt, (tt, tt)))))) (tt, (tt, (tt, (tt, (tt, (tt, tt))))))) $
+      qed W leaving ∵
+      suffices ! _ (ends-at 𝓤 H A self.ended stayed (self.clauses 𝓤 H A at-mem run) W bound w r′ (tt, (tt, (tt, (tt, (tt, (tt, tt)))))) (tt, (tt, (tt, (tt, (tt, (tt, tt))))))) $
       says ! e $ nothing ! $ move ! (6 ∷ 0 ∷ []) $ join ! $ move ! (5 ∷ 0 ∷ []) $ join ! $ move ! (4 ∷ 0 ∷ []) $ join ! $ move ! (3 ∷ 0 ∷ []) $ join ! $ move ! (2 ∷ 0 ∷ []) $
       join ! $ move ! (1 ∷ 0 ∷ []) $ join ! $ frame ! $ nothing ! $ nothing ! $ fjoin ! $ nothing ! $ fjoin ! $ nothing ! $ fjoin ! $ nothing ! $ fjoin ! $ nothing ! $ fjoin ! $
       nothing ! $ fjoin ! $
       owned ! E.the-row (Is E.the-row) (EL.makes E.the-type E′.the-plain 𝓤 H A) r′ _ g $ move ! (1 ∷ 0 ∷ []) $ done !
 
   module _ (C : Calls 𝓤 H) (Λ : Loops 𝓤 H) (fm : FmC 𝓤 H (W .laws) C) (known-counting : Triple 𝓤 (C #calls·report·to-count) (Counting 𝓤 H A at-mem run)) (known-busy : Triple 𝓤 (C #deque·busy) (Busy 𝓤 H A at-mem run)) (known-telling : Triple 𝓤 (C #calls·report·told) (Telling 𝓤 H A at-mem run)) where
-    walk : Room T.the-row (length (xr .now)) → Room u64 (length (x1 .now)) → Room u64 (length (x2 .now)) → Room u32 (length (x3 .now)) → Room u64 (length (x4 .now)) → ent 𝓤 (onEntry 𝓤 H A self.signature (κc, (κr, (κ1, (κ2, (κ3, (κ4, tt)))))) (qc, (qr, (q1, (q2, (q3, (q4, tt)))))) a vals) (WpFn 𝓤 H C Λ code.function (pc ∷ sr ∷ s1 ∷ s2 ∷ s3 ∷ s4 ∷ []) Post)
+    walk : Room T.the-row (length (xr .now)) → Room u64 (length (x1 .now)) → Room u64 (length (x2 .now)) → Room u32 (length (x3 .now)) → Room u64 (length (x4 .now))
+        → ent 𝓤 (onEntry 𝓤 H A self.signature (κc, (κr, (κ1, (κ2, (κ3, (κ4, tt)))))) (qc, (qr, (q1, (q2, (q3, (q4, tt)))))) a vals) (WpFn 𝓤 H C Λ code.function (pc ∷ sr ∷ s1 ∷ s2 ∷ s3 ∷ s4 ∷ []) Post)
     walk roomr room1 room2 room3 room4 =
-        qed W ((‵ (flft κc qc) ⊛ ‵ (flft κr qr) ⊛ ‵ (flft κ1 q1) ⊛ ‵ (flft κ2 q2) ⊛ ‵ (flft κ3 q3) ⊛ ‵ (flft κ4 q4) ⊛ ‵ ftrue) ∷ ‵ (owns (ShrRef (named 0) κc K.the-row ∷ ShrSlice (named 1) κr T.the-row ∷ ShrSlice (named 2) κ1 u64 ∷ ShrSlice (named 3) κ2 u64 ∷ ShrSlice (named 4) κ3 u32 ∷ ShrSlice (named 5) κ4 u64 ∷ []) a vals) ∷ []) ∵
+        qed W lent ∵
         enter ! C Λ code.function (pc ∷ sr ∷ s1 ∷ s2 ∷ s3 ∷ s4 ∷ []) _ $
         allocates ! (λ bs. params1 ! $
         pass1 ! (init ! 2 refl (tt, tt)) $ pass1 ! (init ! 4 refl (tt, (tt, (record { fits = roomr .0 }, tt)))) $
@@ -284,7 +301,8 @@ module _ {M : Type 1} (𝓤 : URA M) (H : Heap 𝓤) (A : Atoms 𝓤) (W : Given
         keep ! (2 ∷ 1 ∷ 7 ∷ 6 ∷ 5 ∷ 0 ∷ []) $ by ! (exits r _ (told k b r e-counting e-busy e-telling) is-telling)))))))))))))))))))
 
 module _ {M : Type 1} (𝓤 : URA M) (H : Heap 𝓤) (A : Atoms 𝓤) (W : Given 𝓤 H A) (mem : Memory → SProp 𝓤) (run : Routine → Fun 𝓤) where
-  self-walks : (C : Calls 𝓤 H) (Λ : Loops 𝓤 H) → FmC 𝓤 H (W .laws) C → Triple 𝓤 (C #calls·report·to-count) (Counting 𝓤 H A mem run) → Triple 𝓤 (C #deque·busy) (Busy 𝓤 H A mem run) → Triple 𝓤 (C #calls·report·told) (Telling 𝓤 H A mem run) → Walks 𝓤 H A self.ended stayed (WpFn 𝓤 H C Λ code.function) (self.clauses 𝓤 H A mem run)
+  self-walks : (C : Calls 𝓤 H) (Λ : Loops 𝓤 H) → FmC 𝓤 H (W .laws) C → Triple 𝓤 (C #calls·report·to-count) (Counting 𝓤 H A mem run) → Triple 𝓤 (C #deque·busy) (Busy 𝓤 H A mem run)
+      → Triple 𝓤 (C #calls·report·told) (Telling 𝓤 H A mem run) → Walks 𝓤 H A self.ended stayed (WpFn 𝓤 H C Λ code.function) (self.clauses 𝓤 H A mem run)
   self-walks C Λ fm known-counting known-busy known-telling = walked 𝓤 H A self.ended stayed (self.clauses 𝓤 H A mem run) (WpFn 𝓤 H C Λ code.function)
       (λ κs. (ptr-vals, (slice-vals, (slice-vals, (slice-vals, (slice-vals, (slice-vals, tt)))))))
       (λ κs. (
@@ -293,16 +311,7 @@ module _ {M : Type 1} (𝓤 : URA M) (H : Heap 𝓤) (A : Atoms 𝓤) (W : Given
           shr-slice-tells (named 1) (κs .1 .0) T.the-row,
           (
             shr-slice-tells (named 2) (κs .1 .1 .0) u64,
-            (
-              shr-slice-tells (named 3) (κs .1 .1 .1 .0) u64,
-              (
-                shr-slice-tells (named 4) (κs .1 .1 .1 .1 .0) u32,
-                (
-                  shr-slice-tells (named 5) (κs .1 .1 .1 .1 .1 .0) u64,
-                  tt,
-                ),
-              ),
-            ),
+            (shr-slice-tells (named 3) (κs .1 .1 .1 .0) u64, (shr-slice-tells (named 4) (κs .1 .1 .1 .1 .0) u32, (shr-slice-tells (named 5) (κs .1 .1 .1 .1 .1 .0) u64, tt))),
           ),
         ),
       ))
@@ -310,7 +319,8 @@ module _ {M : Type 1} (𝓤 : URA M) (H : Heap 𝓤) (A : Atoms 𝓤) (W : Given
       (κs .0) (κs .1 .0) (κs .1 .1 .0) (κs .1 .1 .1 .0) (κs .1 .1 .1 .1 .0) (κs .1 .1 .1 .1 .1 .0) (qs .0) (qs .1 .0) (qs .1 .1 .0) (qs .1 .1 .1 .0) (qs .1 .1 .1 .1 .0) (qs .1 .1 .1 .1 .1 .0) (a .0) (a .1 .0) (a .1 .1 .0) (a .1 .1 .1 .0) (a .1 .1 .1 .1 .0) (a .1 .1 .1 .1 .1 .0)
       C Λ fm known-counting known-busy known-telling (are .1 .0 .0 .1) (are .1 .1 .0 .0 .1) (are .1 .1 .1 .0 .0 .1) (are .1 .1 .1 .1 .0 .0 .1) (are .1 .1 .1 .1 .1 .0 .0 .1)))
 
-self-meets : {M : Type 1} (𝓤 : URA M) (H : Heap 𝓤) (A : Atoms 𝓤) → Given 𝓤 H A → (mem : Memory → SProp 𝓤) (run : Routine → Fun 𝓤) (𝓣 : Program 𝓤 H) → Triple 𝓤 (𝓣 .C #calls·report·to-count) (Counting 𝓤 H A mem run) → Triple 𝓤 (𝓣 .C #deque·busy) (Busy 𝓤 H A mem run) → Triple 𝓤 (𝓣 .C #calls·report·told) (Telling 𝓤 H A mem run)
+self-meets : {M : Type 1} (𝓤 : URA M) (H : Heap 𝓤) (A : Atoms 𝓤) → Given 𝓤 H A → (mem : Memory → SProp 𝓤) (run : Routine → Fun 𝓤) (𝓣 : Program 𝓤 H)
+    → Triple 𝓤 (𝓣 .C #calls·report·to-count) (Counting 𝓤 H A mem run) → Triple 𝓤 (𝓣 .C #deque·busy) (Busy 𝓤 H A mem run) → Triple 𝓤 (𝓣 .C #calls·report·told) (Telling 𝓤 H A mem run)
     → Meets 𝓤 H A self.signature (WpFn 𝓤 H (𝓣 .C) (𝓣 .Λ) code.function) (self.spec 𝓤 H A mem run)
 self-meets 𝓤 H A W mem run 𝓣 known-counting known-busy known-telling =
     walk-meets 𝓤 H A self.ended stayed W (
@@ -323,10 +333,7 @@ self-meets 𝓤 H A W mem run 𝓣 known-counting known-busy known-telling =
             goes-dropped 𝓤 H A W 6 (shrSliceOf (3 ∷ []) tt (plain (λ _. u64))) yes (λ κs x f. refl),
             (
               goes-dropped 𝓤 H A W 6 (shrSliceOf (4 ∷ []) tt (plain (λ _. u32))) yes (λ κs x f. refl),
-              (
-                goes-dropped 𝓤 H A W 6 (shrSliceOf (5 ∷ []) tt (plain (λ _. u64))) yes (λ κs x f. refl),
-                tt,
-              ),
+              (goes-dropped 𝓤 H A W 6 (shrSliceOf (5 ∷ []) tt (plain (λ _. u64))) yes (λ κs x f. refl), tt),
             ),
           ),
         ),

@@ -1,0 +1,4 @@
+pub mod Feeding
+pub mod Pages
+pub mod Turns
+pub mod Fields

@@ -1,0 +1,42 @@
+use Rattle.model.specs.Calls.{actOn}
+use borrow.Author.Needs.{needs}
+use Rattle.replay.proofs.turn.act.Statement.{statement}
+use Rattle.replay.proofs.turn.act.Tie as tie
+
+returns : tie.Need-returns
+unfolding actOn
+returns c = rw (c .before .before .before .before .before .before .before .before .before .before .op .given .1) (c .before .before .before .before .push-start .ensures)
+
+returns-2 : tie.Need-returns-2
+unfolding actOn
+returns-2 c = rw (c .before .before .before .before .before .before .op2 .given .1) (c .pop-start .ensures)
+
+returns-3 : tie.Need-returns-3
+unfolding actOn
+returns-3 c = rw (c .before .before .before .before .before .before .before .before .before .before .before .enum-told .given .1) (c .before .before .before .before .before .before .step .ensures)
+
+pub act-spec : {M : Type 1} → statement M
+act-spec =
+    tie.close
+    (tie.spec
+    (λ c. search needs)
+    (λ c κs. search needs)
+    (λ c. search needs)
+    (λ c κs. search needs)
+    (λ c. search needs)
+    (λ c κs. search needs)
+    (λ c. search needs)
+    (λ c. search needs)
+    (λ c. search needs)
+    (λ c. search needs)
+    returns
+    (λ c. search needs)
+    (λ c. search needs)
+    (λ c. search needs)
+    (λ c. search needs)
+    returns-2
+    (λ c. search needs)
+    (λ c. search needs)
+    (λ c. search needs)
+    (λ c. search needs)
+    returns-3)

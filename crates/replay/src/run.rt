@@ -1,0 +1,384 @@
+//! The run by value: fields in, lines out.
+use crate::turn;
+use calls::opening;
+use model::Control;
+use model::Op;
+use model::Opening;
+use model::Record;
+use runfile::field;
+use runfile::field::Field;
+use runfile::line;
+use runfile::line::Line;
+ghost use mathlib.Core.Path.{_≡_};
+ghost use mathlib.Core.List.{List, [], _∷_};
+ghost use Prim.Native.Nat.{ℕ, _+_, _*_, _-_, _≤_};
+ghost use lib.Dec.{leb};
+ghost use lib.ListN.{length, drop};
+ghost use lib.Seq.{slice};
+ghost use Rattle.model.specs.Tables.{zeroed, idle};
+ghost use Rattle.replay.specs.Run.{isOpened, stepsOf};
+ghost use Rattle.replay.specs.Page.{pageOf, operates, opens, breaks, carries, Whole, Takes, Feeds, fieldRoom, finishes, Begins};
+
+/// Room in the buffer for the lines of any one field.
+pub const FIELD_ROOM: usize = 524288;
+
+/// A run between two fields.
+pub struct Session {
+    pub control: Control,
+    pub records: [Record; 16],
+    pub opened: bool,
+    /// The run has ended.
+    pub over: bool,
+    /// The number of the last event.
+    pub event: u64,
+    /// Where the next field is read.
+    pub at: usize,
+    /// Where the next line is written.
+    pub to: usize,
+}
+
+// One start.
+fn start(
+    s: Session,
+    task: usize,
+    op: Op,
+    out: &mut [u8],
+    lefts: &mut [u64],
+    rights: &mut [u64],
+    labels: &mut [u32],
+    marks: &mut [u64],
+) -> Session
+    requires { ⌜ s .to + 128 ≤ length (now out) ⌝ }
+    ensures { λ r.
+        ⌜ pageOf r (now (out .exit)) (now (lefts .exit)) (now (rights .exit)) (now (labels .exit)) (now (marks .exit))
+        ≡ operates (pageOf s (now (out .entry)) (now (lefts .entry)) (now (rights .entry)) (now (labels .entry)) (now (marks .entry))) (record { task = task; op = op } ∷ []) ⌝ }
+{
+    let c = s.control;
+    let mut records = s.records;
+    let event = std::num::wrapping_add_u64(s.event, 1);
+    let mut r = turn::idle();
+    if task < turn::TASKS {
+        r = records[task];
+    }
+    let m = turn::take_turn(
+        c,
+        r,
+        task,
+        op,
+        event,
+        out,
+        s.to,
+        lefts,
+        rights,
+        labels,
+        marks,
+    );
+    let control = m.control;
+    let moved = m.task;
+    if task < turn::TASKS {
+        records[task] = moved;
+    }
+    Session {
+        control: control,
+        records: records,
+        opened: s.opened,
+        over: s.over,
+        event: event,
+        at: s.at,
+        to: m.to,
+    }
+}
+
+// One step for each of the task bytes from `from` to `end`.
+fn steps(
+    s: Session,
+    bytes: &[u8],
+    from: usize,
+    end: usize,
+    out: &mut [u8],
+    lefts: &mut [u64],
+    rights: &mut [u64],
+    labels: &mut [u32],
+    marks: &mut [u64],
+) -> Session
+    requires { ⌜ (from ≤ end) × (end ≤ length (now bytes)) × (s .to + 128 * (end - from) ≤ length (now out)) ⌝ }
+    ensures { λ r.
+        ⌜ pageOf r (now (out .exit)) (now (lefts .exit)) (now (rights .exit)) (now (labels .exit)) (now (marks .exit))
+        ≡ operates (pageOf s (now (out .entry)) (now (lefts .entry)) (now (rights .entry)) (now (labels .entry)) (now (marks .entry))) (stepsOf (slice from end (now (bytes .entry)))) ⌝ }
+{
+    let mut c = s.control;
+    let mut records = s.records;
+    let mut event = s.event;
+    let mut to = s.to;
+    for i in from..end {
+        let task = bytes[i] as usize;
+        event = std::num::wrapping_add_u64(event, 1);
+        let mut r = turn::idle();
+        if task < turn::TASKS {
+            r = records[task];
+        }
+        let m = turn::take_turn(
+            c,
+            r,
+            task,
+            Op::Step,
+            event,
+            out,
+            to,
+            lefts,
+            rights,
+            labels,
+            marks,
+        );
+        let control = m.control;
+        let moved = m.task;
+        c = control;
+        if task < turn::TASKS {
+            records[task] = moved;
+        }
+        to = m.to;
+    }
+    Session {
+        control: c,
+        records: records,
+        opened: s.opened,
+        over: s.over,
+        event: event,
+        at: s.at,
+        to: to,
+    }
+}
+
+fn is_opened(o: Opening) -> bool
+    ensures { λ r. ⌜ r ≡ isOpened o ⌝ }
+{
+    match o {
+        Opening::Refused(_) => false,
+        Opening::Opened => true,
+    }
+}
+
+// The first n records cleared.
+fn cleared(records: [Record; 16], n: usize) -> [Record; 16]
+    requires { ⌜ n ≤ 16 ⌝ }
+    ensures { λ r. ⌜ r ≡ zeroed n idle records ⌝ }
+{
+    let mut rows = records;
+    let none = turn::idle();
+    let mut i = 0;
+    while i < n {
+        rows[i] = none;
+        i += 1;
+    }
+    rows
+}
+
+// The opening. A refused one ends the run.
+fn open_queue(
+    s: Session,
+    tasks: u64,
+    slots: u64,
+    tag: u32,
+    out: &mut [u8],
+    lefts: &mut [u64],
+    rights: &mut [u64],
+    labels: &mut [u32],
+    marks: &mut [u64],
+) -> Session
+    requires { ⌜ s .to + 128 ≤ length (now out) ⌝ }
+    ensures { λ r.
+        ⌜ pageOf r (now (out .exit)) (now (lefts .exit)) (now (rights .exit)) (now (labels .exit)) (now (marks .exit))
+        ≡ opens (pageOf s (now (out .entry)) (now (lefts .entry)) (now (rights .entry)) (now (labels .entry)) (now (marks .entry))) tasks slots tag ⌝ }
+{
+    let c = s.control;
+    let o = opening::open_tables(
+        c,
+        turn::TASKS,
+        tasks,
+        slots,
+        tag,
+        lefts,
+        rights,
+        labels,
+        marks,
+    );
+    let control = o.control;
+    let outcome = o.outcome;
+    let old = s.records;
+    let records = cleared(old, o.clear);
+    let good = is_opened(outcome);
+    let event = std::num::wrapping_add_u64(s.event, 1);
+    let to = line::write_line(out, s.to, event, Line::Open(outcome), control.anchor);
+    Session {
+        control: control,
+        records: records,
+        opened: good,
+        over: !good,
+        event: event,
+        at: s.at,
+        to: to,
+    }
+}
+
+// A malformed place, which ends the run.
+fn malformed(s: Session, out: &mut [u8]) -> Session
+    requires { ⌜ s .to + 128 ≤ length (now out) ⌝ }
+    ensures { λ r. ⌜ ((ls rs bs ms : List ℕ) → pageOf r (now (out .exit)) ls rs bs ms ≡ breaks (pageOf s (now (out .entry)) ls rs bs ms)) ⌝ }
+{
+    let c = s.control;
+    let event = std::num::wrapping_add_u64(s.event, 1);
+    let to = line::write_line(out, s.to, event, Line::File, c.anchor);
+    let records = s.records;
+    Session {
+        control: c,
+        records: records,
+        opened: s.opened,
+        over: true,
+        event: event,
+        at: s.at,
+        to: to,
+    }
+}
+
+fn carry_out(
+    s: Session,
+    field: Field,
+    bytes: &[u8],
+    at: usize,
+    out: &mut [u8],
+    lefts: &mut [u64],
+    rights: &mut [u64],
+    labels: &mut [u32],
+    marks: &mut [u64],
+) -> Session
+    requires { ⌜ s .to + 524288 ≤ length (now out) ⌝ }
+    requires { ⌜ Whole field at (length (now bytes)) ⌝ }
+    ensures { λ r.
+        ⌜ pageOf r (now (out .exit)) (now (lefts .exit)) (now (rights .exit)) (now (labels .exit)) (now (marks .exit))
+        ≡ carries (pageOf s (now (out .entry)) (now (lefts .entry)) (now (rights .entry)) (now (labels .entry)) (now (marks .entry))) field (drop at (now (bytes .entry))) ⌝ }
+{
+    match field {
+        Field::Open { tasks, slots, tag } => open_queue(
+            s,
+            tasks,
+            slots,
+            tag,
+            out,
+            lefts,
+            rights,
+            labels,
+            marks,
+        ),
+        Field::Start { task, op } => start(s, task, op, out, lefts, rights, labels, marks),
+        Field::Steps(n) => steps(
+            s,
+            bytes,
+            at + field::HEAD,
+            at + field::HEAD + n,
+            out,
+            lefts,
+            rights,
+            labels,
+            marks,
+        ),
+        Field::Malformed => malformed(s, out),
+        Field::Cut => s,
+        Field::End => s,
+    }
+}
+
+/// Whether the buffer has room for the lines of any one field.
+pub fn has_room(len: usize, to: usize) -> bool
+    ensures { λ r. ⌜ r ≡ leb (to + fieldRoom) len ⌝ }
+{
+    if len < FIELD_ROOM {
+        return false;
+    }
+    to <= len - FIELD_ROOM
+}
+
+// The field at the reading position.
+fn take_field(
+    s: Session,
+    bytes: &[u8],
+    out: &mut [u8],
+    lefts: &mut [u64],
+    rights: &mut [u64],
+    labels: &mut [u32],
+    marks: &mut [u64],
+) -> Session
+    requires { ⌜ s .to + 524288 ≤ length (now out) ⌝ }
+    ensures { λ r.
+        ⌜ Takes (pageOf s (now (out .entry)) (now (lefts .entry)) (now (rights .entry)) (now (labels .entry)) (now (marks .entry))) (drop (s .at) (now (bytes .entry)))
+        (pageOf r (now (out .exit)) (now (lefts .exit)) (now (rights .exit)) (now (labels .exit)) (now (marks .exit))) (s .at) (r .at) ⌝ }
+{
+    let at = s.at;
+    let found = field::field_at(bytes, at, s.opened);
+    let field = found.field;
+    let mut q = carry_out(s, field, bytes, at, out, lefts, rights, labels, marks);
+    q.at = at + found.size;
+    q
+}
+
+/// Every whole field from the reading position on, while the buffer has room.
+pub fn feed(
+    s: Session,
+    bytes: &[u8],
+    out: &mut [u8],
+    lefts: &mut [u64],
+    rights: &mut [u64],
+    labels: &mut [u32],
+    marks: &mut [u64],
+) -> Session
+    ensures { λ r.
+        ⌜ Feeds (pageOf s (now (out .entry)) (now (lefts .entry)) (now (rights .entry)) (now (labels .entry)) (now (marks .entry))) (drop (s .at) (now (bytes .entry)))
+        (pageOf r (now (out .exit)) (now (lefts .exit)) (now (rights .exit)) (now (labels .exit)) (now (marks .exit))) (drop (r .at) (now (bytes .entry))) ⌝ }
+{
+    let mut q = s;
+    while !q.over & has_room(out.len(), q.to) {
+        let at = q.at;
+        q = take_field(q, bytes, out, lefts, rights, labels, marks);
+        if q.at == at {
+            return q;
+        }
+    }
+    q
+}
+
+/// The end of the file, where so many bytes are left. Nothing is done where the buffer has no room for a line.
+pub fn finish(s: Session, left: usize, out: &mut [u8]) -> Session
+    ensures { λ r.
+        ⌜ ((ls rs bs ms : List ℕ)
+        → pageOf r (now (out .exit)) ls rs bs ms ≡ finishes left (pageOf s (now (out .entry)) ls rs bs ms)) ⌝ }
+{
+    if s.over | (s.opened & (left == 0)) {
+        return s;
+    }
+    if line::fits(out.len(), s.to) {
+        malformed(s, out)
+    } else {
+        s
+    }
+}
+
+/// A run over tables that are all zero, of which nothing was read yet, with the trace's first line.
+pub fn begin(out: &mut [u8]) -> Session
+    ensures { λ r. ⌜ Begins (now (out .entry)) (now (out .exit)) r ⌝ }
+{
+    let to = line::write_header(out, 0);
+    let none = turn::idle();
+    Session {
+        control: Control {
+            tasks: 0,
+            slots: 0,
+            anchor: 0,
+            retries: 0,
+        },
+        records: [none; 16],
+        opened: false,
+        over: false,
+        event: 0,
+        at: 0,
+        to: to,
+    }
+}
