@@ -1,3 +1,4 @@
+-- The header, and a fresh run.
 use mathlib.Core.Path.{refl}
 use Rattle.replay.specs.Trace.{fresh}
 use Rattle.replay.specs.Page.{written}

@@ -1,3 +1,4 @@
+-- Each field is the call that carries it out; one that waits does nothing.
 use mathlib.Core.Path.{sym}
 use Prim.Native.Nat.{_+_, _≤_}
 use lib.ListN.{length}

@@ -1,3 +1,4 @@
+-- Nothing, or a malformed place where a line fits.
 use mathlib.Core.Path.{sym, _∙_}
 use borrow.Author.Tests.{leb-true}
 use Rattle.replay.proofs.Turns.{finishes-over, finishes-more, finishes-short}

@@ -1,3 +1,4 @@
+-- The position is compared with the length less the room, where there is so much.
 use Prim.Native.Nat.{_+_}
 use mathlib.Core.Path.{sym}
 use borrow.Author.Tests.{lt-leb}

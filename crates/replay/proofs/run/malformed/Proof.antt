@@ -1,3 +1,4 @@
+-- One line, and the run is over.
 use native.Mathlib.Omega.{arith}
 use Rattle.replay.proofs.Turns.{put-fits}
 use Rattle.replay.specs.Run.{malformed}

@@ -1,3 +1,4 @@
+-- The opening's parts with the records cleared are the opening; then its line.
 use mathlib.Core.Path.{_≡_, sym, _∙_, subst}
 use Prim.Native.Nat.{_≤_}
 use lib.ListN.{length, length-map}

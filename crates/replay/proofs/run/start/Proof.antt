@@ -1,3 +1,4 @@
+-- A turn of the task's record, or of an idle one where there is no such task.
 use lib.Seq.{set-out}
 use mathlib.Core.Path.{_≡_, refl, sym, _∙_}
 use native.Mathlib.Omega.{arith}

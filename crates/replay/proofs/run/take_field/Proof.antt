@@ -1,3 +1,4 @@
+-- The field found is carried out, and the position moves behind it.
 use mathlib.Core.Path.{refl, sym, subst}
 use lib.ListN.{length}
 use Rattle.runfile.specs.declared.field.Found.{Found}

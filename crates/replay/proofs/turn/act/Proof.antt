@@ -1,3 +1,4 @@
+-- Each operation is the call that carries it out.
 use Rattle.model.specs.Calls.{actOn}
 use borrow.Author.Needs.{needs}
 use Rattle.replay.proofs.turn.act.Statement.{statement}

@@ -1,3 +1,4 @@
+-- The operation, and its line, which fits.
 use native.Mathlib.Omega.{arith}
 use Rattle.replay.proofs.Turns.{put-fits}
 use Rattle.replay.specs.Page.{turned}

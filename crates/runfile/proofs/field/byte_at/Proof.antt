@@ -1,3 +1,4 @@
+-- Past the end the byte is 0.
 use borrow.Author.Needs.{needs}
 use native.Mathlib.Omega.{arith}
 use mathlib.Core.Path.{refl, sym}

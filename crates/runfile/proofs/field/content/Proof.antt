@@ -1,3 +1,4 @@
+-- By tag; bytes from a position on are bytes of the rest.
 use borrow.Author.Tests.{eq-eqb, ne-eqb}
 use lib.Seq.{getD-drop}
 use Rattle.runfile.proofs.Bytes.{byte-here, two-drop, four-drop}

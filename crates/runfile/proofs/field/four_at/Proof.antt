@@ -1,3 +1,4 @@
+-- Two numbers of two bytes, the high one first.
 use native.Mathlib.Omega.{arith}
 use Rattle.runfile.specs.Field.{fourAt}
 use borrow.Author.Needs.{needs}

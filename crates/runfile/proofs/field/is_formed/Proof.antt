@@ -1,3 +1,4 @@
+-- The tests are the definition's, by whether the queue was opened.
 use Rattle.runfile.specs.Field.{formed}
 use Rattle.runfile.proofs.field.is_formed.Statement.{statement}
 use Rattle.runfile.proofs.field.is_formed.Tie as tie

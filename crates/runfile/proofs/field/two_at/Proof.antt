@@ -1,3 +1,4 @@
+-- Two bytes, high byte first.
 use borrow.Author.Needs.{needs}
 use native.Mathlib.Omega.{arith}
 use Rattle.runfile.specs.Field.{twoAt}

@@ -1,3 +1,4 @@
+-- The position is compared with the length less the room, where there is so much.
 use Prim.Native.Nat.{ℕ, _+_, _-_, _≤_}
 use mathlib.Core.Path.{_≡_, refl, sym}
 use mathlib.Core.Bool.{Bool, true, false}

@@ -1,3 +1,4 @@
+-- Digits below ten, and letters.
 use Rattle.runfile.specs.Line.{glyph}
 use borrow.Author.Tests.{lt-ltb, le-ltb}
 use borrow.Author.Needs.{needs}

@@ -1,3 +1,4 @@
+-- A space, the digits, the line's end.
 use Rattle.runfile.proofs.Puts.{put-more}
 use Rattle.runfile.specs.Line.{anchorOf}
 use borrow.Author.Needs.{needs}

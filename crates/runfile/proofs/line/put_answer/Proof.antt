@@ -1,3 +1,4 @@
+-- One word for each answer.
 use Rattle.runfile.specs.Line.{answerOf}
 use borrow.Author.Needs.{needs}
 use Rattle.runfile.proofs.line.put_answer.Statement.{statement}

@@ -1,3 +1,4 @@
+-- The task, then the word.
 use Rattle.runfile.proofs.Puts.{put-more}
 use Rattle.runfile.specs.Line.{callOf}
 use borrow.Author.Needs.{needs}

@@ -1,3 +1,4 @@
+-- At most twenty digits.
 use Rattle.runfile.specs.Line.{decimal}
 use borrow.Author.Needs.{needs}
 use Rattle.runfile.proofs.line.put_decimal.Statement.{statement}

@@ -1,3 +1,4 @@
+-- The slot, then the label.
 use Rattle.runfile.proofs.Puts.{put-more}
 use Rattle.runfile.specs.Line.{entryOf}
 use borrow.Author.Needs.{needs}

@@ -1,3 +1,4 @@
+-- Four digits one after the other.
 use Rattle.runfile.proofs.Puts.{put-more}
 use Rattle.runfile.specs.Line.{hexFour}
 use borrow.Author.Needs.{needs}

@@ -1,3 +1,4 @@
+-- The header is this text.
 use Rattle.runfile.specs.Line.{header}
 use borrow.Author.Needs.{needs}
 use Rattle.runfile.proofs.line.put_header.Statement.{statement}

@@ -1,3 +1,4 @@
+-- Four times four digits.
 use Rattle.runfile.proofs.Puts.{put-more}
 use Rattle.runfile.specs.Line.{hex}
 use borrow.Author.Needs.{needs}

@@ -1,3 +1,4 @@
+-- The columns one after the other.
 use Rattle.runfile.proofs.Puts.{put-more}
 use Rattle.runfile.specs.Line.{lineOf}
 use borrow.Author.Needs.{needs}

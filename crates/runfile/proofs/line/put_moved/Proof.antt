@@ -1,3 +1,4 @@
+-- A start says ok, a step its answer.
 use borrow.Author.Needs.{needs}
 use Rattle.runfile.proofs.line.put_moved.Statement.{statement}
 use Rattle.runfile.proofs.line.put_moved.Tie as tie

@@ -1,3 +1,4 @@
+-- A word, then a number.
 use Rattle.runfile.proofs.Puts.{put-more}
 use Rattle.runfile.specs.Line.{numbered}
 use borrow.Author.Needs.{needs}

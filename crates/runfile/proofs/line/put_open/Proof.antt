@@ -1,3 +1,4 @@
+-- The call, then its outcome.
 use Rattle.runfile.proofs.Puts.{put-more}
 use Rattle.runfile.specs.Line.{told}
 use borrow.Author.Needs.{needs}

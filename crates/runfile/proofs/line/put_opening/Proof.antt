@@ -1,3 +1,4 @@
+-- A refusal, or ok.
 use Rattle.runfile.specs.Line.{openingOf}
 use borrow.Author.Needs.{needs}
 use Rattle.runfile.proofs.line.put_opening.Statement.{statement}

@@ -1,3 +1,4 @@
+-- A refusal, or what was carried out.
 use Rattle.runfile.specs.Line.{outcomeOf}
 use borrow.Author.Needs.{needs}
 use Rattle.runfile.proofs.line.put_outcome.Statement.{statement}

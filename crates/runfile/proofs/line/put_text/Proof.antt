@@ -1,3 +1,4 @@
+-- After i turns the first i bytes are stored.
 use borrow.Author.Needs.{needs}
 use lib.Seq.{sets, take-length}
 use lib.ListN.{length, take, set, getD, length-set}

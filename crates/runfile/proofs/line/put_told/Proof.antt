@@ -1,3 +1,4 @@
+-- One kind of line after the other.
 use Rattle.runfile.specs.Line.{told}
 use borrow.Author.Needs.{needs}
 use Rattle.runfile.proofs.line.put_told.Statement.{statement}

@@ -1,3 +1,4 @@
+-- One word for each operation.
 use borrow.Author.Needs.{needs}
 use Rattle.runfile.proofs.line.put_word.Statement.{statement}
 use Rattle.runfile.proofs.line.put_word.Tie as tie

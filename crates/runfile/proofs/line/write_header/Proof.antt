@@ -1,3 +1,4 @@
+-- With room it is `put_header`, without nothing is stored.
 use mathlib.Core.Path.{sym, _∙_}
 use borrow.Author.Tests.{leb-true}
 use Rattle.runfile.proofs.Puts.{put-none}
