@@ -16,7 +16,7 @@ use Rattle.model.specs.Tables.{Queue, marked, recordAt}
 use Rattle.model.specs.Sound.{controlSound, rowsFit}
 use Rattle.model.specs.Refusals.{reportRefusal}
 use Rattle.model.specs.Report.{count, busy, waiting, report}
-use Rattle.calls.specs.Rules.{earlyRefusal}
+use Rattle.calls.specs.Rules.{tellingRefusal}
 use Rattle.calls.specs.Telling.{countable, countBusy, takenSlots, told, tell}
 use Rattle.calls.proofs.Rules.{both}
 
@@ -48,11 +48,6 @@ unfolding count
 count-most p zero = omega arith
 count-most p (suc n) = omega (arith, count-most p n, one-at-most (p n))
 
--- The turn of record i, where p tells the busy records.
-pub busy-turn : (p : ℕ → Bool) (i : ℕ) (r : Record) → i < 16 → p i ≡ not (eqb (r .place) 0) → countBusy (count p i) r ≡ count p (suc i)
-unfolding count
-busy-turn p i r h e = rw (count-turn (count p i) r (omega (arith, count-most p i)), e)
-
 -- No more records are looked at than are lent, and 16 at the most.
 pub countable-fits : (c : Control) (n : ℕ) → (countable c n ≤ n) × (countable c n ≤ 16)
 unfolding countable
@@ -73,8 +68,8 @@ tell-same why c m n marks h = go (eqb why 0) refl
     go true e = ap (λ (k : ℕ). told c k marks) (h (eqb-true why 0 e))
     go false e = refl
 
-none-applies : (a b : Bool) → earlyRefusal a b true true false ≡ 0 → (a ≡ true) × (b ≡ true)
-unfolding earlyRefusal
+none-applies : (a b : Bool) → tellingRefusal a b ≡ 0 → (a ≡ true) × (b ≡ true)
+unfolding tellingRefusal
 none-applies true true e = (refl, refl)
 none-applies true false e = let z : ⊥ = omega arith in absurd z
 none-applies false b e = let z : ⊥ = omega arith in absurd z
@@ -88,7 +83,7 @@ module _ (q : Queue) where
   fits = rowsFit (control .slots) (q .tables) && leb (control .tasks) (length (q .records))
 
   abbrev why : ℕ
-  why = earlyRefusal (controlSound control) fits true true false
+  why = tellingRefusal (controlSound control) fits
 
   all-tasks : why ≡ 0 → countable control (length (q .records)) ≡ control .tasks
   unfolding countable controlSound
@@ -100,6 +95,6 @@ module _ (q : Queue) where
       rw (few, enough)
 
   pub report-parts : report q ≡ tell why control (count (λ t. not (eqb (recordAt q t .place) 0)) (countable control (length (q .records)))) (q .tables .marks)
-  unfolding report tell busy waiting takenSlots reportRefusal earlyRefusal
+  unfolding report tell busy waiting takenSlots reportRefusal tellingRefusal
   report-parts =
       tell-same why control (busy q) _ (q .tables .marks) (λ e. ap (count (λ t. not (eqb (recordAt q t .place) 0))) (sym (all-tasks e)))

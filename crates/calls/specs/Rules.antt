@@ -1,4 +1,4 @@
--- The rules over tests already made: of a start, of a step but the last, of an opening.
+-- The rules over tests already made: of a start, of a report, of an opening.
 use mathlib.Core.Bool.{Bool, not}
 use mathlib.Core.List.{List, [], _∷_}
 use Prim.Native.Nat.{ℕ}
@@ -22,17 +22,12 @@ startRules t =
 unfoldable pub startRefusal : Tests → ℕ
 startRefusal t = first (startRules t)
 
-abbrev pub earlyRules : Bool → Bool → Bool → Bool → Bool → List Rule
-earlyRules control fits known task idle =
-    rule 34 (not control)
-    ∷ rule 12 (not fits)
-    ∷ rule 13 (not known)
-    ∷ rule 34 (not task)
-    ∷ rule 31 idle
-    ∷ []
+-- A report names no task.
+abbrev pub tellingRules : Bool → Bool → List Rule
+tellingRules control fits = rule 34 (not control) ∷ rule 12 (not fits) ∷ []
 
-unfoldable pub earlyRefusal : Bool → Bool → Bool → Bool → Bool → ℕ
-earlyRefusal control fits known task idle = first (earlyRules control fits known task idle)
+unfoldable pub tellingRefusal : Bool → Bool → ℕ
+tellingRefusal control fits = first (tellingRules control fits)
 
 abbrev pub openingRules : ℕ → ℕ → Bool → List Rule
 openingRules tasks slots fits = rule 10 (not (from1 16 tasks)) ∷ rule 11 (not (from1 1023 slots)) ∷ rule 12 (not fits) ∷ []

@@ -8,7 +8,7 @@ ghost use lib.Dec.{eqb, ltb, leb};
 ghost use Rattle.word.specs.Anchor.{anchorOf};
 ghost use Rattle.model.specs.Sound.{controlSound, recordSound};
 ghost use Rattle.model.specs.Refusals.{pushRefusal, popRefusal};
-ghost use Rattle.calls.specs.Rules.{startRefusal, earlyRefusal};
+ghost use Rattle.calls.specs.Rules.{startRefusal, tellingRefusal};
 ghost use Rattle.sound.specs.Lengths.{lengthsFit};
 
 /// The tests of a start.
@@ -148,8 +148,8 @@ pub fn pop_refusal(
     })
 }
 
-fn early_refusal(control: bool, fits: bool, known: bool, task: bool, idle: bool) -> u32
-    ensures { λ n. ⌜ n ≡ earlyRefusal control fits known task idle ⌝ }
+fn telling_refusal(control: bool, fits: bool) -> u32
+    ensures { λ n. ⌜ n ≡ tellingRefusal control fits ⌝ }
 {
     if !control {
         return 34;
@@ -157,41 +157,7 @@ fn early_refusal(control: bool, fits: bool, known: bool, task: bool, idle: bool)
     if !fits {
         return 12;
     }
-    if !known {
-        return 13;
-    }
-    if !task {
-        return 34;
-    }
-    if idle {
-        return 31;
-    }
     0
-}
-
-/// The rules of a step but the last, 34 for what it touches.
-pub fn step_refusal_before(
-    c: Control,
-    r: Record,
-    enough: bool,
-    known: bool,
-    lefts: usize,
-    rights: usize,
-    labels: usize,
-    marks: usize,
-) -> u32
-    ensures { λ n.
-        ⌜ n ≡ earlyRefusal
-        (controlSound c)
-        (lengthsFit (c .slots) lefts rights labels marks && enough)
-        known
-        (recordSound (c .slots) r)
-        (eqb (r .place) 0) ⌝ }
-{
-    let control = sound::control_sound(c);
-    let fits = sound::rows_fit(c.slots, lefts, rights, labels, marks);
-    let task = sound::record_sound(c.slots, r);
-    early_refusal(control, fits & enough, known, task, r.place == 0)
 }
 
 /// The report names no task; it meets 34 for control, and 12.
@@ -204,13 +170,12 @@ pub fn report_refusal(
     marks: usize,
 ) -> u32
     ensures { λ n.
-        ⌜ n ≡ earlyRefusal
+        ⌜ n ≡ tellingRefusal
         (controlSound c)
-        (lengthsFit (c .slots) lefts rights labels marks && leb (c .tasks) records)
-        true true false ⌝ }
+        (lengthsFit (c .slots) lefts rights labels marks && leb (c .tasks) records) ⌝ }
 {
     let control = sound::control_sound(c);
     let fits = sound::rows_fit(c.slots, lefts, rights, labels, marks);
     let enough = c.tasks <= records as u64;
-    early_refusal(control, fits & enough, true, true, false)
+    telling_refusal(control, fits & enough)
 }

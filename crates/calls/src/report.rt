@@ -11,7 +11,7 @@ ghost use lib.Dec.{leb};
 ghost use lib.ListN.{length};
 ghost use Rattle.model.specs.Sound.{controlSound};
 ghost use Rattle.sound.specs.Lengths.{lengthsFit};
-ghost use Rattle.calls.specs.Rules.{earlyRefusal};
+ghost use Rattle.calls.specs.Rules.{tellingRefusal};
 ghost use Rattle.calls.specs.Telling.{countable, countBusy, takenSlots, tell};
 
 /// How many records the report looks at: one for each task, or none where it will be refused.
@@ -60,10 +60,9 @@ pub fn told(
 ) -> Reported
     ensures { λ r.
         ⌜ r ≡ tell
-        (earlyRefusal
+        (tellingRefusal
         (controlSound c)
-        (lengthsFit (c .slots) lefts rights labels (length (now (marks .entry))) && leb (c .tasks) records)
-        true true false)
+        (lengthsFit (c .slots) lefts rights labels (length (now (marks .entry))) && leb (c .tasks) records))
         c busy (now (marks .entry)) ⌝ }
 {
     let why = refusal::report_refusal(c, records, lefts, rights, labels, marks.len());

@@ -46,7 +46,7 @@ use Rattle.model.specs.Tables.{Tables, Queue}
 use Rattle.model.specs.Sound.{controlSound}
 use Rattle.model.specs.Report.{report}
 use Rattle.sound.specs.Lengths.{lengthsFit, fits}
-use Rattle.calls.specs.Rules.{earlyRefusal}
+use Rattle.calls.specs.Rules.{tellingRefusal}
 use Rattle.calls.specs.Telling.{countable, tell}
 use Rattle.calls.proofs.Counts.{countable-fits, report-parts}
 use Rattle.deque.proofs.Count.{busyIn}
@@ -135,7 +135,7 @@ module _ {M : Type 1} (𝓤 : URA M) (H : Heap 𝓤) (A : Atoms 𝓤) (W : Given
   queue = record { tables = entry; records = rs }
 
   abbrev why : ℕ
-  why = earlyRefusal (controlSound c) (lengthsFit (c .slots) (length (x1 .now)) (length (x2 .now)) (length (x3 .now)) (length (x4 .now)) && leb (c .tasks) n) true true false
+  why = tellingRefusal (controlSound c) (lengthsFit (c .slots) (length (x1 .now)) (length (x2 .now)) (length (x3 .now)) (length (x4 .now)) && leb (c .tasks) n)
 
   abbrev a : RefT Control × (RefT (List Record) × (RefT (List ℕ) × (RefT (List ℕ) × (RefT (List ℕ) × (RefT (List ℕ) × Unit {0})))))
   a = (xc, (xr, (x1, (x2, (x3, (x4, tt))))))
@@ -161,7 +161,7 @@ module _ {M : Type 1} (𝓤 : URA M) (H : Heap 𝓤) (A : Atoms 𝓤) (W : Given
   told : (k b : ℕ) (r : Reported) → k ≡ countable c n → b ≡ busyIn k rs → r ≡ tell why c b (x4 .now) → Said r
   told k b r e e′ e″ =
       e″ ∙ ap (λ (u : ℕ). tell why c u (x4 .now)) (e′ ∙ ap (λ (u : ℕ). busyIn u rs) e)
-      ∙ ap (λ (t : Bool). tell (earlyRefusal (controlSound c) (t && leb (c .tasks) n) true true false) c (busyIn (countable c n) rs) (x4 .now)) (fits (c .slots) entry) ∙ sym (report-parts queue)
+      ∙ ap (λ (t : Bool). tell (tellingRefusal (controlSound c) (t && leb (c .tasks) n)) c (busyIn (countable c n) rs) (x4 .now)) (fits (c .slots) entry) ∙ sym (report-parts queue)
 
   asked : (k : ℕ) → k ≡ countable c n → (k ≤ n) × (k ≤ 16)
   asked k e = subst (λ (u : ℕ). (u ≤ n) × (u ≤ 16)) (sym e) (countable-fits c n)
