@@ -56,7 +56,7 @@ fn start(
     let c = s.control;
     let mut records = s.records;
     let event = std::num::wrapping_add_u64(s.event, 1);
-    let mut r = turn::idle();
+    let mut r = operation::idle();
     if task < turn::TASKS {
         r = records[task];
     }
@@ -113,7 +113,7 @@ fn steps(
     for i in from..end {
         let task = bytes[i] as usize;
         event = std::num::wrapping_add_u64(event, 1);
-        let mut r = turn::idle();
+        let mut r = operation::idle();
         if task < turn::TASKS {
             r = records[task];
         }
@@ -164,7 +164,7 @@ fn cleared(records: [Record; 16], n: usize) -> [Record; 16]
     ensures { λ r. ⌜ r ≡ zeroed n idle records ⌝ }
 {
     let mut rows = records;
-    let none = turn::idle();
+    let none = operation::idle();
     let mut i = 0;
     while i < n {
         rows[i] = none;
@@ -366,7 +366,7 @@ pub fn begin(out: &mut [u8]) -> Session
     ensures { λ r. ⌜ Begins (now (out .entry)) (now (out .exit)) r ⌝ }
 {
     let to = line::write_header(out, 0);
-    let none = turn::idle();
+    let none = operation::idle();
     Session {
         control: Control {
             tasks: 0,

@@ -1,0 +1,83 @@
+-- What is left of the list leads from here to where the whole list leads from the start.
+use mathlib.Core.Path.{_≡_, refl, sym, _∙_}
+use mathlib.Core.List.{List}
+use Prim.Native.Nat.{ℕ, _-_, _*_, _<_, _≤_}
+use native.Mathlib.Omega.{arith}
+use borrow.Author.Needs.{needs}
+use lib.ListN.{length}
+use Rattle.model.specs.declared.Control.{Control}
+use Rattle.model.specs.declared.Record.{Record}
+use Rattle.history.specs.Words.{requestsFrom}
+use Rattle.history.specs.Serving.{State, queueOf, served}
+use Rattle.history.proofs.Turns.{served-all, served-none, served-next}
+use Rattle.history.proofs.carry_out.Statement.{statement}
+use Rattle.history.proofs.carry_out.Tie as tie
+
+abbrev state : Control → List Record → List ℕ → List ℕ → List ℕ → List ℕ → List ℕ → State
+state c rows replies lefts rights labels marks = record { queue = queueOf c rows lefts rights labels marks; replies = replies }
+
+abbrev Inv-loop : tie.InvT-loop
+Inv-loop count requests replies₀ lefts₀ rights₀ labels₀ marks₀ c₀ rows₀ i₀ replies lefts rights labels marks c rows i =
+    (i ≤ count) × (count < 9223372036854775808) × (5 * count ≤ length requests) × (3 * count ≤ length replies₀)
+    × (served (3 * i) (state c rows replies lefts rights labels marks) (requestsFrom i (count - i) requests)
+    ≡ served 0 (state c₀ rows₀ replies₀ lefts₀ rights₀ labels₀ marks₀) (requestsFrom 0 count requests))
+    × (length replies ≡ length replies₀) × (length lefts ≡ length lefts₀) × (length rights ≡ length rights₀)
+    × (length labels ≡ length labels₀) × (length marks ≡ length marks₀)
+
+abbrev μ-loop : tie.MeasureT-loop
+μ-loop count requests replies₀ lefts₀ rights₀ labels₀ marks₀ c₀ rows₀ i₀ replies lefts rights labels marks c rows i = count - i
+
+loop-holds : tie.Need-loop-holds Inv-loop μ-loop
+loop-holds c = (search needs, search needs, search needs, search needs, served-all _ _ _, refl, refl, refl, refl, refl)
+
+add-i : tie.Need-add-i Inv-loop μ-loop
+add-i c =
+    let test = c .before .before .before .before .before .before .before .before .before .before .before .before .before .before .before .before .before .before .before .before in
+    let less = test .loop-test .taken in
+    let small = test .before .loop .inv .1 in
+    omega arith
+
+loop-again : tie.Need-loop-again Inv-loop μ-loop
+loop-again c =
+    let wrote = c .before .before in
+    let turn = wrote .before .before .before .before .before .before .before .before .before .before .before .before in
+    let asked = turn .before .before .before .before .before in
+    let less = asked .before .loop-test .taken in
+    let inv = asked .before .before .loop .inv in
+    let kept = turn .take-turn .kept .1 .1 .1 .1 in (
+      omega arith,
+      inv .1,
+      inv .2,
+      inv .3,
+      served-next _ _ _ _ _ _ _ less (asked .request-at .ensures) (turn .take-turn .ensures) (wrote .write-reply .ensures) ∙ inv .4,
+      wrote .write-reply .kept .0 ∙ inv .5,
+      kept .0 ∙ inv .6,
+      kept .1 .0 ∙ inv .7,
+      kept .1 .1 .0 ∙ inv .8,
+      kept .1 .1 .1 .0 ∙ inv .9,
+    )
+
+returns : tie.Need-returns Inv-loop μ-loop
+returns c =
+    let e : c .before .loop .i ≡ c .before .before .before .before .before .before .before .before .args .count = omega arith in
+    sym (served-none _ _ _ _ e) ∙ c .before .loop .inv .4
+
+pub carry-out-spec : {M : Type 1} → statement M
+carry-out-spec =
+    tie.close
+    (tie.spec
+    Inv-loop
+    μ-loop
+    loop-holds
+    (λ c κs. search needs)
+    (λ c κs. search needs)
+    (λ c κs. search needs)
+    add-i
+    (λ c. search needs)
+    loop-again
+    (λ c. search needs)
+    (λ c. search needs)
+    (λ c. search needs)
+    (λ c. search needs)
+    (λ c. search needs)
+    returns)

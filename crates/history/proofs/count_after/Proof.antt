@@ -1,0 +1,24 @@
+-- The smaller of both numbers.
+use mathlib.Core.Path.{_≡_}
+use Prim.Native.Nat.{_/_, min}
+use native.Mathlib.Omega.{arith}
+use borrow.Author.Needs.{needs}
+use Rattle.history.proofs.count_after.Statement.{statement}
+use Rattle.history.proofs.count_after.Tie as tie
+
+returns-2 : tie.Need-returns-2
+returns-2 c =
+    let a = c .before .before .before .args in
+    let h = c .if1 .taken in
+    let e : a .requests / 5 ≡ min (a .requests / 5) (a .replies / 3) = omega arith in
+    rw (c .before .enum-told2 .given .1) e
+
+returns-3 : tie.Need-returns-3
+returns-3 c =
+    let a = c .before .before .before .args in
+    let h = c .if1 .left in
+    let e : a .replies / 3 ≡ min (a .requests / 5) (a .replies / 3) = omega arith in
+    rw (c .before .enum-told2 .given .1) e
+
+pub count-after-spec : {M : Type 1} → statement M
+count-after-spec = tie.close (tie.spec (λ c. search needs) (λ c. search needs) (λ c. search needs) returns-2 returns-3)

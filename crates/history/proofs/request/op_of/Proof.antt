@@ -1,0 +1,21 @@
+-- The tests of the code are those of the definition, in its order.
+use borrow.Author.Needs.{needs}
+use borrow.Author.Tests.{eq-eqb, ne-eqb}
+use Rattle.history.specs.Words.{opOf}
+use Rattle.history.proofs.request.op_of.Statement.{statement}
+use Rattle.history.proofs.request.op_of.Tie as tie
+
+returns : tie.Need-returns
+unfolding opOf
+returns c = simp (eq-eqb _ _ (c .if1 .taken))
+
+returns-2 : tie.Need-returns-2
+unfolding opOf
+returns-2 c = simp (ne-eqb _ _ (c .before .if1 .left), eq-eqb _ _ (c .if2 .taken))
+
+returns-3 : tie.Need-returns-3
+unfolding opOf
+returns-3 c = simp (ne-eqb _ _ (c .before .if1 .left), ne-eqb _ _ (c .if2 .left))
+
+pub op-of-spec : {M : Type 1} → statement M
+op-of-spec = tie.close (tie.spec (λ c. search needs) returns returns-2 returns-3)

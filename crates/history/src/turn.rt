@@ -1,0 +1,53 @@
+//! One operation, by value over lent tables.
+use model::Control;
+use model::Op;
+use model::Outcome;
+use model::Record;
+ghost use mathlib.Core.Path.{_≡_};
+ghost use Rattle.model.specs.Calls as calls;
+ghost use Rattle.history.specs.Serving.{queueOf};
+
+/// As many records as an opening can ask for.
+pub const TASKS: usize = 16;
+
+/// What an operation leaves of control and records, and its outcome.
+pub struct Turn {
+    pub control: Control,
+    pub records: [Record; 16],
+    pub outcome: Outcome,
+}
+
+/// An operation of a task, whose record is put back where it lay.
+pub fn take_turn(
+    c: Control,
+    records: [Record; 16],
+    task: usize,
+    op: Op,
+    lefts: &mut [u64],
+    rights: &mut [u64],
+    labels: &mut [u32],
+    marks: &mut [u64],
+) -> Turn
+    ensures { λ m.
+        ⌜ _≡_ {A = calls.Done}
+        (record { queue = queueOf (m .control) (m .records) (now (lefts .exit)) (now (rights .exit)) (now (labels .exit)) (now (marks .exit)); outcome = m .outcome })
+        (calls.act (queueOf c records (now (lefts .entry)) (now (rights .entry)) (now (labels .entry)) (now (marks .entry))) task op) ⌝ }
+{
+    let mut rows = records;
+    let mut r = operation::idle();
+    if task < TASKS {
+        r = rows[task];
+    }
+    let m = operation::act(c, r, TASKS, task, op, lefts, rights, labels, marks);
+    let moved = m.task;
+    if task < TASKS {
+        rows[task] = moved;
+    }
+    let control = m.control;
+    let outcome = m.outcome;
+    Turn {
+        control: control,
+        records: rows,
+        outcome: outcome,
+    }
+}
