@@ -1,7 +1,8 @@
 #!/bin/bash
 # The library's step against the same step by hand in C, and against the bare algorithm.
 #
-#     bench/run.sh [ARCHIVE]        ARCHIVE: target/staticlib/libcapi.a, from `rt staticlib capi`
+#     bench/run.sh [FOLDER]         of libcapi.a and libcapi_record.a; default: target/staticlib,
+#                                   where `rt staticlib capi` and `rt staticlib capi_record` write them
 #     bench/run.sh --stand-in       reference.c in the library's place: all ratios should be 1
 #
 # CC (gcc), OPT (-O3), STEPS (100000), TIMES (150) may be set.
@@ -18,23 +19,25 @@ WARNINGS="-std=gnu11 -Wall -Wextra -Werror"
 work=$(mktemp -d)
 trap 'rm -rf "$work"' EXIT
 
-archive=${1:-../target/staticlib/libcapi.a}
-if [ "$archive" = --stand-in ]; then
-    archive=$work/libcapi.a
+folder=${1:-../target/staticlib}
+if [ "$folder" = --stand-in ]; then
     $CC $WARNINGS $OPT -DAS_LIBRARY -I../include -c reference.c -o "$work/library.o"
-    ar rcs "$archive" "$work/library.o"
-elif [ $# -gt 0 ]; then
-    archive=$(cd "$OLDPWD" && realpath "$archive")
-fi
-if [ ! -f "$archive" ]; then
-    echo "bench: no archive $archive; build it with: rt staticlib capi" >&2
-    exit 2
+    archives=("$work/library.o") # all calls are in one
+else
+    [ $# -eq 0 ] || folder=$(cd "$OLDPWD" && realpath "$folder")
+    archives=("$folder/libcapi.a" "$folder/libcapi_record.a")
+    for archive in "${archives[@]}"; do
+        if [ ! -f "$archive" ]; then
+            echo "bench: no archive $archive; build it with: rt staticlib $(basename "${archive%.a}" | sed s/^lib//)" >&2
+            exit 2
+        fi
+    done
 fi
 
 for source in main reference bare; do
     $CC $WARNINGS $OPT -I../include -c $source.c -o "$work/$source.o"
 done
-$CC "$work"/{main,reference,bare}.o "$archive" -o "$work/bench"
+$CC "$work"/{main,reference,bare}.o "${archives[@]}" -o "$work/bench"
 
 # Instructions of a whole replay by callgrind; nothing if it cannot tell.
 instructions() { # ENGINE TASKS SLOTS
@@ -76,15 +79,14 @@ line() { # CALL TASKS SLOTS LIBRARY REFERENCE
         "$ia" "$ib" "$ic" "$rb" "$rc"
 }
 
-for tasks in 1 5 16; do
-    for slots in 3 1023; do
-        "$work/bench" check $tasks $slots "$STEPS"
-        "$work/bench" time $tasks $slots "$STEPS" "$TIMES" >"$work/times"
-        line zc_step $tasks $slots library reference
-        [ $tasks/$slots != 5/1023 ] || cp "$work/times" "$work/kept"
+for call in step step_record; do
+    for tasks in 1 5 16; do
+        for slots in 3 1023; do
+            "$work/bench" check $tasks $slots "$STEPS"
+            "$work/bench" time $tasks $slots "$STEPS" "$TIMES" >"$work/times"
+            line zc_$call $tasks $slots library${call#step} reference${call#step}
+        done
     done
 done
-mv "$work/kept" "$work/times"
-line zc_step_record 5 1023 library_record reference_record
 echo
 echo "Answers and tables of all three were the same in every line."

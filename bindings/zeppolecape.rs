@@ -3,10 +3,12 @@
 //! [`Queue`] owns its tables. [`Tables`] lends tables that the caller keeps elsewhere, with any
 //! contents and any lengths. [`raw`] holds the C declarations themselves.
 //!
-//! Take the file in as a module and name the folder of `libcapi.a` to the linker:
+//! Take the file in as a module and name the folder of `libcapi.a` and `libcapi_record.a` to the
+//! linker:
 //!
 //! ```text
 //! rt staticlib capi
+//! rt staticlib capi_record
 //! rustc --edition 2021 -O main.rs -L target/staticlib
 //! ```
 //!
@@ -96,6 +98,22 @@ pub mod raw {
         pub waiting: u64,
     }
 
+    #[link(name = "capi_record", kind = "static")]
+    unsafe extern "C" {
+        pub fn zc_step_record(
+            control: *mut Control,
+            one: *mut Record,
+            lefts: *mut u64,
+            left_count: usize,
+            rights: *mut u64,
+            right_count: usize,
+            labels: *mut u32,
+            label_count: usize,
+            marks: *mut u64,
+            mark_count: usize,
+        ) -> Reply;
+    }
+
     #[link(name = "capi", kind = "static")]
     unsafe extern "C" {
         pub fn zc_open(
@@ -154,19 +172,6 @@ pub mod raw {
             records: *mut Record,
             record_count: usize,
             task: usize,
-            lefts: *mut u64,
-            left_count: usize,
-            rights: *mut u64,
-            right_count: usize,
-            labels: *mut u32,
-            label_count: usize,
-            marks: *mut u64,
-            mark_count: usize,
-        ) -> Reply;
-
-        pub fn zc_step_record(
-            control: *mut Control,
-            one: *mut Record,
             lefts: *mut u64,
             left_count: usize,
             rights: *mut u64,

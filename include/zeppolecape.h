@@ -10,6 +10,8 @@
  *     rt staticlib capi                          (writes target/staticlib/libcapi.a, for x86-64)
  *     cc -Iinclude main.c target/staticlib/libcapi.a
  *
+ * A program that calls zc_step_record also links libcapi_record.a (rt staticlib capi_record).
+ *
  * In short:
  *
  *     enum { TASKS = 2, SLOTS = 3 };

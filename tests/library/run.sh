@@ -1,7 +1,8 @@
 #!/bin/bash
 # Tests of the static library through its C interface.
 #
-#     tests/library/run.sh [ARCHIVE]    default: target/staticlib/libcapi.a, from `rt staticlib capi`
+#     tests/library/run.sh [FOLDER]     of libcapi.a and libcapi_record.a; default: target/staticlib,
+#                                       where `rt staticlib capi` and `rt staticlib capi_record` write them
 #     tests/library/run.sh --stand-in   bench/reference.c, the same calls by hand, in its place
 #
 # PARTS names what runs: header layout fence bindings examples bench differential (all of them).
@@ -22,19 +23,20 @@ else
     trap 'rm -rf "$work"' EXIT
 fi
 
-# The archive lies in a folder of its own as libcapi.a, the name that rustc looks for.
+# The archives lie in a folder of their own under the names that rustc looks for.
 mkdir -p "$work/library"
-archive=$work/library/libcapi.a
+archives=("$work/library/libcapi.a" "$work/library/libcapi_record.a")
+rm -f "${archives[@]}"
 case ${1:-} in
 --stand-in)
     $CC -std=c11 -O2 $WARNINGS -DAS_LIBRARY -Iinclude -c bench/reference.c -o "$work/library.o" || exit 2
-    rm -f "$archive"
-    ar rcs "$archive" "$work/library.o"
+    ar rcs "${archives[0]}" "$work/library.o" # all calls are in one
+    ar rcs "${archives[1]}"
     ;;
 *)
-    given=${1:-$PWD/target/staticlib/libcapi.a}
-    if ! (cd "$from" && cp "$given" "$archive"); then
-        echo "no archive $given; build it with: rt staticlib capi" >&2
+    given=${1:-$PWD/target/staticlib}
+    if ! (cd "$from" && cp "$given"/libcapi.a "$given"/libcapi_record.a "$work/library"); then
+        echo "no archives in $given; build them with: rt staticlib capi; rt staticlib capi_record" >&2
         echo "0 passed, 1 failed"
         exit 2
     fi
@@ -88,17 +90,17 @@ part_header() {
     # Twice in one program, and from two files of it.
     printf '#include "zeppolecape.h"\n#include "zeppolecape.h"\nint other(void) { return zc_refused(zc_reply{34, 0, 0}); }\n' >"$work/two.cc"
     printf '#include "zeppolecape.h"\nint other(void);\nint main() { return !other(); }\n' >"$work/one.cc"
-    holds "header in two files of C++" $CXX -std=c++11 $WARNINGS -Iinclude "$work/one.cc" "$work/two.cc" "$archive" -o "$work/two"
+    holds "header in two files of C++" $CXX -std=c++11 $WARNINGS -Iinclude "$work/one.cc" "$work/two.cc" "${archives[@]}" -o "$work/two"
     holds "a C++ program" "$work/two"
 }
 
 part_layout() {
-    holds "layout.c compiles" $CC -std=c11 $WARNINGS -Iinclude tests/library/layout.c "$archive" -o "$work/layout"
+    holds "layout.c compiles" $CC -std=c11 $WARNINGS -Iinclude tests/library/layout.c "${archives[@]}" -o "$work/layout"
     counts "layout seen through the library" "$work/layout"
 }
 
 part_fence() {
-    holds "fence.c compiles" $CC -std=c11 $WARNINGS -Iinclude tests/library/fence.c "$archive" -o "$work/fence"
+    holds "fence.c compiles" $CC -std=c11 $WARNINGS -Iinclude tests/library/fence.c "${archives[@]}" -o "$work/fence"
     counts "nothing touched outside the counts" "$work/fence"
 }
 
@@ -118,9 +120,9 @@ part_bindings() {
     counts "bindings" bindings_tests
 }
 
-# The commands that examples/README.md names, with this archive.
+# The commands that examples/README.md names, with these archives.
 part_examples() {
-    holds "C example compiles" $CC $WARNINGS -Iinclude examples/c/executive.c "$archive" -o "$work/executive_c"
+    holds "C example compiles" $CC $WARNINGS -Iinclude examples/c/executive.c "${archives[@]}" -o "$work/executive_c"
     holds "Rust example compiles" rustc --edition 2021 -D warnings -O examples/rust/executive.rs -L "$work/library" -o "$work/executive_rust"
     for seed in 1 2 3 4 5 6 7 8 9 10 18446744073709551615; do
         holds "C example, seed $seed" "$work/executive_c" $seed
@@ -133,7 +135,7 @@ part_examples() {
 }
 
 part_bench() {
-    holds "benchmark compiles" $CC -std=gnu11 -O2 -Iinclude bench/main.c bench/reference.c bench/bare.c "$archive" -o "$work/bench"
+    holds "benchmark compiles" $CC -std=gnu11 -O2 -Iinclude bench/main.c bench/reference.c bench/bare.c "${archives[@]}" -o "$work/bench"
     for tasks in 1 5 16; do
         for slots in 3 1023; do
             holds "library, C and bare alike: $tasks tasks, $slots slots" "$work/bench" check $tasks $slots 100000

@@ -1,13 +1,12 @@
 -- Answers in numbers, beside what each lent table then holds.
 use Prim.Native.Nat.{ℕ}
-use Rattle.model.specs.declared.Record.{Record}
 use Rattle.model.specs.declared.Opening.{Opening}
 use Rattle.model.specs.declared.Opening.the-variants as opening
 use Rattle.model.specs.declared.Reply.{Reply}
 use Rattle.model.specs.declared.Reported.{Reported}
 use Rattle.model.specs.declared.Reported.the-variants as reported
-use Rattle.model.specs.Tables.{Tables, Queue}
-use Rattle.model.specs.Calls.{OpenDone, Done, Acted, replyOf}
+use Rattle.model.specs.Tables.{Queue}
+use Rattle.model.specs.Calls.{OpenDone, Done, replyOf}
 use Rattle.capi.specs.declared.ReportReply.{ReportReply}
 
 -- An opening: 0, or the number of a refusal.
@@ -33,12 +32,3 @@ pub record Replied : Type 0 where
 
 abbrev pub replied : Done → Replied
 replied d = record { queue = d .queue; reply = replyOf (d .outcome) }
-
--- Of one lent record.
-pub record RepliedAlone : Type 0 where
-  pub tables : Tables
-  pub task : Record
-  pub reply : Reply
-
-abbrev pub repliedAlone : Acted → RepliedAlone
-repliedAlone a = record { tables = a .tables; task = a .task; reply = replyOf (a .outcome) }

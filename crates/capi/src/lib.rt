@@ -1,4 +1,5 @@
 //! The label queue for C and Rust: each call is the one of crate `deque`, with its answer in numbers.
+//! The step of one lent record stands in crate `capi_record`.
 use model::Answer;
 use model::Control;
 use model::Opening;
@@ -11,9 +12,9 @@ ghost use mathlib.Core.Path.{_≡_};
 ghost use Rattle.model.specs.declared.Op.the-variants.{Push, Pop, Step};
 ghost use Rattle.model.specs.declared.Outcome.the-variants.{Moved};
 ghost use Rattle.model.specs.Tables.{Tables, Queue};
-ghost use Rattle.model.specs.Calls.{openQueue, act, stepLent, replyOf};
+ghost use Rattle.model.specs.Calls.{openQueue, act, replyOf};
 ghost use Rattle.model.specs.Report.{report};
-ghost use Rattle.capi.specs.Replies.{openingCode, reportReplyOf, Coded, coded, Replied, replied, RepliedAlone, repliedAlone};
+ghost use Rattle.capi.specs.Replies.{openingCode, reportReplyOf, Coded, coded, Replied, replied};
 
 /// A report in numbers.
 #[repr(C)]
@@ -56,7 +57,8 @@ fn answer_reply(a: Answer) -> Reply
     }
 }
 
-fn reply(o: Outcome) -> Reply
+/// An outcome in numbers.
+pub fn reply(o: Outcome) -> Reply
     ensures { λ r. ⌜ r ≡ replyOf o ⌝ }
 {
     match o {
@@ -245,29 +247,6 @@ pub extern "C" fn zc_step(
         }) task Step)) ⌝ }
 {
     let o = deque::step(control, records, task, lefts, rights, labels, marks);
-    reply(o)
-}
-
-/// Moves the task of one lent record by one step.
-#[no_mangle]
-pub extern "C" fn zc_step_record(
-    control: &mut Control,
-    task: &mut Record,
-    lefts: &mut [u64],
-    rights: &mut [u64],
-    labels: &[u32],
-    marks: &mut [u64],
-) -> Reply
-    ensures { λ r.
-        ⌜ _≡_ {A = RepliedAlone}
-        (record {
-          tables = record { control = now (control .exit); lefts = now (lefts .exit); rights = now (rights .exit); labels = now (labels .entry); marks = now (marks .exit) };
-          task = now (task .exit);
-          reply = r;
-        })
-        (repliedAlone (stepLent (record { control = now (control .entry); lefts = now (lefts .entry); rights = now (rights .entry); labels = now (labels .entry); marks = now (marks .entry) }) (now (task .entry)))) ⌝ }
-{
-    let o = deque::step_record(control, task, lefts, rights, labels, marks);
     reply(o)
 }
 

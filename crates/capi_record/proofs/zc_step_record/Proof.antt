@@ -1,4 +1,4 @@
--- `zc_step_record` meets its contract: a walk of its code. All that is lent is passed on to `deque::step_record`, and the answer to `reply`.
+-- `zc_step_record` meets its contract: a walk of its code. All that is lent is passed on to `deque::step_record`, and the answer to `capi::reply`.
 -- Of both their contracts are used alone.
 use mathlib.Core.Path.{_≡_, refl, _∙_, ap, subst}
 use Prim.Native.Nat.{ℕ}
@@ -42,7 +42,7 @@ use Rattle.model.specs.declared.Outcome.{Outcome}
 use Rattle.model.specs.declared.Reply.{Reply}
 use Rattle.model.specs.Tables.{Tables}
 use Rattle.model.specs.Calls.{Acted, stepLent, replyOf}
-use Rattle.capi.specs.Replies.{coded, RepliedAlone, repliedAlone}
+use Rattle.capi_record.specs.Replies.{RepliedAlone, repliedAlone}
 use Rattle.deque.proofs.Walk.{var, part, lets, receive}
 use Rattle.deque.proofs.Frame.{full, allocates, frees-all}
 use Rattle.model.proofs.Control as K
@@ -55,14 +55,14 @@ use Rattle.deque.proofs.step_record as callee
 use Rattle.deque.proofs.step_record.Symbol as callee-def
 use Rattle.deque.proofs.step_record.Symbol.{name as #deque·step-record}
 use Rattle.deque.proofs.step_record.Met as callee-thm
 use Rattle.capi.proofs.reply as number
 use Rattle.capi.proofs.reply.Symbol as number-def
 use Rattle.capi.proofs.reply.Symbol.{name as #capi·reply}
 use Rattle.capi.proofs.reply.Met as number-thm
-use Rattle.capi.proofs.zc_step_record.Key.{name as #capi·zc-step-record}
-use Rattle.capi.proofs.zc_step_record as self
-use Rattle.capi.proofs.zc_step_record.Statement as stated
-use Rattle.capi.proofs.zc_step_record.Code as code
+use Rattle.capi_record.proofs.zc_step_record.Key.{name as #capi-record·zc-step-record}
+use Rattle.capi_record.proofs.zc_step_record as self
+use Rattle.capi_record.proofs.zc_step_record.Statement as stated
+use Rattle.capi_record.proofs.zc_step_record.Code as code
 
 abbrev stayed : Stays (self.ended .signature .params) (self.ended .kept)
 stayed = (
@@ -268,7 +268,7 @@ pub zc-step-record-spec : {M : Type 1} → stated.statement M
 unfolding code.routine tablesOf
 zc-step-record-spec 𝓤 H 𝓜 𝓖 𝓡 =
     entered 𝓤 H (tripleOf 𝓤 H (𝓖 .A) self.signature (self.spec 𝓤 H (𝓖 .A) (𝓜 .mem) (𝓡 .run)))
-    (tables 𝓤 H 𝓜 𝓡 code.env .C) (tables 𝓤 H 𝓜 𝓡 code.env .Λ) #capi·zc-step-record code.function (code.unfolded 𝓤 H 𝓜 𝓡)
+    (tables 𝓤 H 𝓜 𝓡 code.env .C) (tables 𝓤 H 𝓜 𝓡 code.env .Λ) #capi-record·zc-step-record code.function (code.unfolded 𝓤 H 𝓜 𝓡)
     (self-meets 𝓤 H (𝓖 .A) (givenOf 𝓤 H 𝓜 𝓖) (𝓜 .mem) (𝓡 .run) (tablesOf 𝓤 H 𝓜 (tables 𝓤 H 𝓜 𝓡 code.env))
     (cited 𝓤 H (Callee 𝓤 H (𝓖 .A) (𝓜 .mem) (𝓡 .run)) 𝓜 𝓡 code.env #deque·step-record callee-def.routine code.calls-deque·step-record (callee-thm.met 𝓤 H 𝓜 𝓖 𝓡))
     (cited 𝓤 H (Number 𝓤 H (𝓖 .A) (𝓜 .mem) (𝓡 .run)) 𝓜 𝓡 code.env #capi·reply number-def.routine code.calls-capi·reply (number-thm.met 𝓤 H 𝓜 𝓖 𝓡)))
