@@ -1,4 +1,5 @@
 //! One step of one task, by value over lent tables.
+use model::Answer;
 use model::Control;
 use model::Outcome;
 use model::Record;
@@ -8,8 +9,10 @@ ghost use lib.Dec.{leb, ltb};
 ghost use Rattle.model.specs.Calls.{step, stepLent};
 ghost use Rattle.places.specs.Arm.{tablesOf, withTables};
 ghost use Rattle.engine.specs.Early.{earlyRefusal};
+ghost use Rattle.engine.specs.Ends.{answerEnds, endsCall};
 
-/// Why a step is refused before its place is looked at, or 0: document 01's order.
+/// Why a step is refused before its place is looked at, or 0: document 01's order. An idle record
+/// is sound whatever it holds.
 fn refusal(
     c: Control,
     r: Record,
@@ -42,11 +45,14 @@ fn refusal(
     if !known {
         return 13;
     }
-    if !sound::record_sound(c.slots, r) {
-        return 34;
-    }
     if r.place == 0 {
         return 31;
+    }
+    if !sound::call_sound(c.slots, r) {
+        return 34;
+    }
+    if !sound::reads_sound(c.slots, r) {
+        return 34;
     }
     0
 }
@@ -134,5 +140,27 @@ pub fn step_lent(
         9 => places::at9(c, r, lefts, rights),
         10 => places::at10(c, r),
         _ => places::at11(c, r, labels, marks),
+    }
+}
+
+fn answer_ends(a: Answer) -> bool
+    ensures { λ b. ⌜ b ≡ answerEnds a ⌝ }
+{
+    match a {
+        Answer::Running(_) => false,
+        Answer::Pushed => true,
+        Answer::Empty => true,
+        Answer::Popped(_) => true,
+    }
+}
+
+/// Whether a step with this outcome ended its call: the record is then all zero. After any other
+/// outcome it keeps its kind, side, own slot and label.
+pub fn ends(o: Outcome) -> bool
+    ensures { λ b. ⌜ b ≡ endsCall o ⌝ }
+{
+    match o {
+        Outcome::Refused(_) => false,
+        Outcome::Moved(a) => answer_ends(a),
     }
 }

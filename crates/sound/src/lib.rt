@@ -7,6 +7,7 @@ ghost use mathlib.Core.Path.{_≡_};
 ghost use Rattle.word.specs.Anchor.{anchorOf};
 ghost use Rattle.model.specs.Sound.{from1, anchorSound, linkSound, controlSound, recordSound};
 ghost use Rattle.sound.specs.Lengths.{lengthsFit};
+ghost use Rattle.sound.specs.Parts.{callSound, readsSound};
 
 /// Whether x is 1 to n.
 pub fn from1(n: u64, x: u64) -> bool
@@ -45,29 +46,38 @@ pub fn control_sound(c: Control) -> bool
     tasks & slots & anchor
 }
 
+/// Whether the fields that a call starts with are within their meanings: place, kind, side, own slot,
+/// and whether it is finishing.
+pub fn call_sound(slots: u64, r: Record) -> bool
+    ensures { λ b. ⌜ b ≡ callSound slots r ⌝ }
+{
+    let within = (r.place <= 11) & (r.side <= 1) & (r.finishing <= 1);
+    if r.kind == 0 {
+        let helping = (5 <= r.place) & (r.place <= 10);
+        let slot = from1(slots, r.own);
+        return within & (r.place != 11) & ((r.finishing == 0) | helping) & slot;
+    }
+    within & (r.kind == 1) & (r.finishing == 0) & (r.own == 0)
+}
+
+/// Whether what a call has read is: neighbour, link and Anchor.
+pub fn reads_sound(slots: u64, r: Record) -> bool
+    ensures { λ b. ⌜ b ≡ readsSound slots r ⌝ }
+{
+    let helping = (5 <= r.place) & (r.place <= 10);
+    let link = link_sound(slots, r.link);
+    let seen = anchor_sound(slots, r.seen);
+    let anchor = Anchor::unpack(r.seen);
+    (r.neighbour <= slots) & link & seen & (!helping | (anchor.status != 0))
+}
+
 /// Idle, or each field within its meaning.
 pub fn record_sound(slots: u64, r: Record) -> bool
     ensures { λ b. ⌜ b ≡ recordSound slots r ⌝ }
 {
-    let push = r.kind == 0;
-    let pop = r.kind == 1;
-    let helping = (5 <= r.place) & (r.place <= 10);
-    let slot = from1(slots, r.own);
-    let link = link_sound(slots, r.link);
-    let seen = anchor_sound(slots, r.seen);
-    let anchor = Anchor::unpack(r.seen);
-    let busy = (r.place <= 11)
-        & (r.kind <= 1)
-        & (r.side <= 1)
-        & (r.finishing <= 1)
-        & ((r.place != 11) | pop)
-        & ((r.finishing == 0) | (push & helping))
-        & ((pop & (r.own == 0)) | (push & slot))
-        & (r.neighbour <= slots)
-        & link
-        & seen
-        & (!helping | (anchor.status != 0));
-    (r.place == 0) | busy
+    let call = call_sound(slots, r);
+    let reads = reads_sound(slots, r);
+    (r.place == 0) | (call & reads)
 }
 
 /// Whether tables of these lengths have rows 0 to slots and the mark words for them.

@@ -1,8 +1,10 @@
 -- Each return is the first rule that applies, by the tests passed before it.
-use mathlib.Core.Path.{_≡_, sym, _∙_}
+use mathlib.Core.Path.{_≡_, sym, ap, _∙_}
+use mathlib.Core.Bool.{_&&_}
 use borrow.Author.Tests.{eq-eqb, ne-eqb, not-true, not-false}
 use Rattle.model.specs.Sound.{rowsFit}
 use Rattle.sound.specs.Lengths.{lengthsFit}
+use Rattle.sound.specs.Parts.{idle-sound, busy-sound}
 use Rattle.places.specs.Arm.{tablesOf}
 use Rattle.engine.specs.Early.{earlyRefusal}
 use Rattle.engine.proofs.refusal.Statement.{statement}
@@ -45,33 +47,55 @@ returns-3 c =
 returns-4 : tie.Need-returns-4
 unfolding earlyRefusal
 returns-4 c =
+    let a = start (c .before .before .before .before) .args in
     simp (
       sym (c .before .before .before .before .before .before .control-sound .ensures) ∙ not-false _ (c .before .before .before .before .before .if1 .left),
       rw (fit (c .before .before .before .before)) at (c .before .before .before .if2 .left),
       c .before .before .if3 .left,
-      sym (c .before .record-sound .ensures) ∙ not-true _ (c .if4 .taken),
+      idle-sound (a .c .slots) (a .r) (eq-eqb _ _ (c .if4 .taken)),
+      eq-eqb _ _ (c .if4 .taken),
     )
 
 returns-5 : tie.Need-returns-5
 unfolding earlyRefusal
 returns-5 c =
+    let b = c .before .before in
+    let a = start (b .before .before .before .before) .args in
     simp (
-      sym (c .before .before .before .before .before .before .before .before .control-sound .ensures) ∙ not-false _ (c .before .before .before .before .before .before .before .if1 .left),
-      rw (fit (c .before .before .before .before .before .before)) at (c .before .before .before .before .before .if2 .left),
-      c .before .before .before .before .if3 .left,
-      sym (c .before .before .before .record-sound .ensures) ∙ not-false _ (c .before .before .if4 .left),
-      eq-eqb _ _ (c .if5 .taken),
+      sym (b .before .before .before .before .before .before .control-sound .ensures) ∙ not-false _ (b .before .before .before .before .before .if1 .left),
+      rw (fit (b .before .before .before .before)) at (b .before .before .before .if2 .left),
+      b .before .before .if3 .left,
+      sym (busy-sound (a .c .slots) (a .r) (ne-eqb _ _ (b .if4 .left))),
+      sym (c .before .call-sound .ensures) ∙ not-true _ (c .if5 .taken),
     )
 
 returns-6 : tie.Need-returns-6
 unfolding earlyRefusal
 returns-6 c =
+    let b = c .before .before .before .before in
+    let a = start (b .before .before .before .before) .args in
     simp (
-      sym (c .before .before .before .before .before .before .before .before .control-sound .ensures) ∙ not-false _ (c .before .before .before .before .before .before .before .if1 .left),
-      rw (fit (c .before .before .before .before .before .before)) at (c .before .before .before .before .before .if2 .left),
-      c .before .before .before .before .if3 .left,
-      sym (c .before .before .before .record-sound .ensures) ∙ not-false _ (c .before .before .if4 .left),
-      ne-eqb _ _ (c .if5 .left),
+      sym (b .before .before .before .before .before .before .control-sound .ensures) ∙ not-false _ (b .before .before .before .before .before .if1 .left),
+      rw (fit (b .before .before .before .before)) at (b .before .before .before .if2 .left),
+      b .before .before .if3 .left,
+      sym (busy-sound (a .c .slots) (a .r) (ne-eqb _ _ (b .if4 .left))),
+      sym (c .before .before .before .call-sound .ensures) ∙ not-false _ (c .before .before .if5 .left),
+      sym (c .before .reads-sound .ensures) ∙ not-true _ (c .if6 .taken),
+    )
+
+returns-7 : tie.Need-returns-7
+unfolding earlyRefusal
+returns-7 c =
+    let b = c .before .before .before .before in
+    let a = start (b .before .before .before .before) .args in
+    simp (
+      sym (b .before .before .before .before .before .before .control-sound .ensures) ∙ not-false _ (b .before .before .before .before .before .if1 .left),
+      rw (fit (b .before .before .before .before)) at (b .before .before .before .if2 .left),
+      b .before .before .if3 .left,
+      ne-eqb _ _ (b .if4 .left),
+      sym (busy-sound (a .c .slots) (a .r) (ne-eqb _ _ (b .if4 .left))),
+      sym (c .before .before .before .call-sound .ensures) ∙ not-false _ (c .before .before .if5 .left),
+      sym (c .before .reads-sound .ensures) ∙ not-false _ (c .if6 .left),
     )
 
 pub refusal-spec : {M : Type 1} → statement M
@@ -83,7 +107,9 @@ refusal-spec =
     (λ _ _. tt)
     returns-2
     returns-3
-    (λ _ _. tt)
     returns-4
+    (λ _ _. tt)
     returns-5
-    returns-6)
+    (λ _ _. tt)
+    returns-6
+    returns-7)
