@@ -26,6 +26,10 @@ decimalIn (suc more) n = cond (ltb n 10) [] (decimalIn more (n / 10)) ++ ((48 + 
 unfoldable pub decimal : ℕ → List ℕ
 decimal n = decimalIn 19 n
 
+-- The last two decimal digits.
+unfoldable pub lastTwo : ℕ → List ℕ
+lastTwo n = (48 + n / 10 % 10) ∷ (48 + n % 10) ∷ []
+
 -- The last four hexadecimal digits of n, and sixteen of a word.
 unfoldable pub glyph : ℕ → ℕ
 glyph d = cond (ltb d 10) (48 + d) (87 + d)

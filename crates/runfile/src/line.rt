@@ -1,9 +1,9 @@
 //! A line of the trace, written into a lent buffer.
 ghost use mathlib.Core.Path.{_≡_};
 ghost use mathlib.Core.List.{[], _∷_};
-ghost use Prim.Native.Nat.{_+_, _≤_, _<_};
+ghost use Prim.Native.Nat.{_+_, _*_, _%_, _≤_, _<_};
 ghost use lib.ListN.{length};
-ghost use Rattle.runfile.specs.Line.{decimalIn, decimal, glyph, hexFour, hex, numbered, callWord, callOf, entryOf, answerOf, moved, outcomeOf, openingOf, told, anchorOf, lineOf, header, room, Put, fitting};
+ghost use Rattle.runfile.specs.Line.{decimalIn, decimal, lastTwo, glyph, hexFour, hex, numbered, callWord, callOf, entryOf, answerOf, moved, outcomeOf, openingOf, told, anchorOf, lineOf, header, room, Put, fitting};
 ghost use Rattle.runfile.specs.declared.line.Line;
 ghost use lib.Dec.{leb};
 use model::Answer;
@@ -48,21 +48,62 @@ fn put_text(out: &mut [u8], at: usize, s: &[u8]) -> usize
     at + i
 }
 
-// The decimal digits of n, at most more + 1 of them.
-fn put_digits(out: &mut [u8], at: usize, n: u64, more: usize) -> usize
-    requires { ⌜ at + more < length (now out) ⌝ }
-    ensures { λ r. ⌜ Put (now (out .entry)) (now (out .exit)) at r (decimalIn more n) ⌝ }
-    ensures { λ r. ⌜ r ≤ at + more + 1 ⌝ }
+// The last digit of n, and the last two.
+fn put_last(out: &mut [u8], at: usize, n: u64) -> usize
+    requires { ⌜ at < length (now out) ⌝ }
+    ensures { λ r. ⌜ Put (now (out .entry)) (now (out .exit)) at r ((48 + n % 10) ∷ []) ⌝ }
 {
-    let digit = 48 + (n % 10) as u8;
-    if more == 0 {
-        return put(out, at, digit);
-    }
+    put(out, at, 48 + (n % 10) as u8)
+}
+
+fn put_pair(out: &mut [u8], at: usize, n: u64) -> usize
+    requires { ⌜ at + 2 ≤ length (now out) ⌝ }
+    ensures { λ r. ⌜ Put (now (out .entry)) (now (out .exit)) at r (lastTwo n) ⌝ }
+    ensures { λ r. ⌜ r ≡ at + 2 ⌝ }
+{
+    let a = put_last(out, at, n / 10);
+    put_last(out, a, n)
+}
+
+// The decimal digits of n, at most two, and at most four.
+fn put_few(out: &mut [u8], at: usize, n: u64) -> usize
+    requires { ⌜ at + 2 ≤ length (now out) ⌝ }
+    ensures { λ r. ⌜ Put (now (out .entry)) (now (out .exit)) at r (decimalIn 1 n) ⌝ }
+    ensures { λ r. ⌜ r ≤ at + 2 ⌝ }
+{
     if n < 10 {
-        return put(out, at, digit);
+        return put_last(out, at, n);
     }
-    let next = put_digits(out, at, n / 10, more - 1);
-    put(out, next, digit)
+    put_pair(out, at, n)
+}
+
+fn put_some(out: &mut [u8], at: usize, n: u64) -> usize
+    requires { ⌜ at + 4 ≤ length (now out) ⌝ }
+    ensures { λ r. ⌜ Put (now (out .entry)) (now (out .exit)) at r (decimalIn 3 n) ⌝ }
+    ensures { λ r. ⌜ r ≤ at + 4 ⌝ }
+{
+    if n < 100 {
+        return put_few(out, at, n);
+    }
+    let a = put_few(out, at, n / 100);
+    put_pair(out, a, n)
+}
+
+// The decimal digits of n by groups of four, at most more groups behind the first.
+fn put_digits(out: &mut [u8], at: usize, n: u64, more: usize) -> usize
+    requires { ⌜ at + (4 * more + 4) ≤ length (now out) ⌝ }
+    ensures { λ r. ⌜ Put (now (out .entry)) (now (out .exit)) at r (decimalIn (4 * more + 3) n) ⌝ }
+    ensures { λ r. ⌜ r ≤ at + (4 * more + 4) ⌝ }
+{
+    if more == 0 {
+        return put_some(out, at, n);
+    }
+    if n < 10000 {
+        return put_some(out, at, n);
+    }
+    let a = put_digits(out, at, n / 10000, more - 1);
+    let b = put_pair(out, a, n / 100);
+    put_pair(out, b, n)
 }
 
 fn put_decimal(out: &mut [u8], at: usize, n: u64) -> usize
@@ -70,14 +111,17 @@ fn put_decimal(out: &mut [u8], at: usize, n: u64) -> usize
     ensures { λ r. ⌜ Put (now (out .entry)) (now (out .exit)) at r (decimal n) ⌝ }
     ensures { λ r. ⌜ r ≤ at + 20 ⌝ }
 {
-    put_digits(out, at, n, 19)
+    if n < 10 {
+        return put_last(out, at, n);
+    }
+    put_digits(out, at, n, 4)
 }
 
-fn glyph_of(d: u64) -> u8
+fn glyph_of(d: u8) -> u8
     requires { ⌜ d < 16 ⌝ }
     ensures { λ r. ⌜ r ≡ glyph d ⌝ }
 {
-    if d < 10 { 48 + d as u8 } else { 87 + d as u8 }
+    if d < 10 { 48 + d } else { 87 + d }
 }
 
 fn put_four(out: &mut [u8], at: usize, n: u64) -> usize
@@ -85,10 +129,10 @@ fn put_four(out: &mut [u8], at: usize, n: u64) -> usize
     ensures { λ r. ⌜ Put (now (out .entry)) (now (out .exit)) at r (hexFour n) ⌝ }
     ensures { λ r. ⌜ r ≡ at + 4 ⌝ }
 {
-    let a = put(out, at, glyph_of(n / 4096 % 16));
-    let b = put(out, a, glyph_of(n / 256 % 16));
-    let c = put(out, b, glyph_of(n / 16 % 16));
-    put(out, c, glyph_of(n % 16))
+    let a = put(out, at, glyph_of((n / 4096 % 16) as u8));
+    let b = put(out, a, glyph_of((n / 256 % 16) as u8));
+    let c = put(out, b, glyph_of((n / 16 % 16) as u8));
+    put(out, c, glyph_of((n % 16) as u8))
 }
 
 fn put_hex(out: &mut [u8], at: usize, w: u64) -> usize

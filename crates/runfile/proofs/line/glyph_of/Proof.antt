@@ -5,14 +5,8 @@ use borrow.Author.Needs.{needs}
 use Rattle.runfile.proofs.line.glyph_of.Statement.{statement}
 use Rattle.runfile.proofs.line.glyph_of.Tie as tie
 
-cast-result : tie.Need-cast-result
-cast-result c = search needs
-
 add-result : tie.Need-add-result
 add-result c = search needs
-
-cast-result-2 : tie.Need-cast-result-2
-cast-result-2 c = search needs
 
 add-result-2 : tie.Need-add-result-2
 add-result-2 c = search needs
@@ -26,5 +20,4 @@ unfolding glyph
 returns-2 c = simp (le-ltb _ _ (c .if1 .left))
 
 pub glyph-of-spec : {M : Type 1} → statement M
-glyph-of-spec =
-    tie.close (tie.spec cast-result add-result cast-result-2 add-result-2 returns returns-2)
+glyph-of-spec = tie.close (tie.spec add-result add-result-2 returns returns-2)

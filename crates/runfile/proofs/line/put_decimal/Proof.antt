@@ -1,15 +1,25 @@
 -- At most twenty digits.
+use Rattle.runfile.proofs.Digits.{decimal-last}
 use Rattle.runfile.specs.Line.{decimal}
 use borrow.Author.Needs.{needs}
 use Rattle.runfile.proofs.line.put_decimal.Statement.{statement}
 use Rattle.runfile.proofs.line.put_decimal.Tie as tie
 
-same-length : tie.Need-same-length
-same-length c = search needs
-
 returns : tie.Need-returns
 unfolding decimal
-returns c = (c .before .before .put-digits .ensures .0, search needs)
+returns c = (rw (decimal-last 19 _ (c .before .before .before .before .if1 .taken)) (c .before .before .put-last .ensures), search needs)
+
+returns-2 : tie.Need-returns-2
+unfolding decimal
+returns-2 c = (c .before .before .put-digits .ensures .0, search needs)
 
 pub put-decimal-spec : {M : Type 1} → statement M
-put-decimal-spec = tie.close (tie.spec (λ c κs. search needs) same-length returns)
+put-decimal-spec =
+    tie.close
+    (tie.spec
+    (λ c κs. search needs)
+    (λ c. search needs)
+    returns
+    (λ c κs. search needs)
+    (λ c. search needs)
+    returns-2)
