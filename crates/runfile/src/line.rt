@@ -65,7 +65,7 @@ fn put_pair(out: &mut [u8], at: usize, n: u64) -> usize
     put_last(out, a, n)
 }
 
-// The decimal digits of n, at most two, and at most four.
+// The decimal digits of n: at most two, at most four, at most eight.
 fn put_few(out: &mut [u8], at: usize, n: u64) -> usize
     requires { ⌜ at + 2 ≤ length (now out) ⌝ }
     ensures { λ r. ⌜ Put (now (out .entry)) (now (out .exit)) at r (decimalIn 1 n) ⌝ }
@@ -87,6 +87,19 @@ fn put_some(out: &mut [u8], at: usize, n: u64) -> usize
     }
     let a = put_few(out, at, n / 100);
     put_pair(out, a, n)
+}
+
+fn put_eight(out: &mut [u8], at: usize, n: u64) -> usize
+    requires { ⌜ at + 8 ≤ length (now out) ⌝ }
+    ensures { λ r. ⌜ Put (now (out .entry)) (now (out .exit)) at r (decimalIn 7 n) ⌝ }
+    ensures { λ r. ⌜ r ≤ at + 8 ⌝ }
+{
+    if n < 10000 {
+        return put_some(out, at, n);
+    }
+    let a = put_some(out, at, n / 10000);
+    let b = put_pair(out, a, n / 100);
+    put_pair(out, b, n)
 }
 
 // The decimal digits of n by groups of four, at most more groups behind the first.
@@ -114,14 +127,19 @@ fn put_decimal(out: &mut [u8], at: usize, n: u64) -> usize
     if n < 10 {
         return put_last(out, at, n);
     }
+    // The common case apart: no recursion.
+    if n < 100000000 {
+        return put_eight(out, at, n);
+    }
     put_digits(out, at, n, 4)
 }
 
-fn glyph_of(d: u8) -> u8
+fn glyph_of(d: usize) -> u8
     requires { ⌜ d < 16 ⌝ }
     ensures { λ r. ⌜ r ≡ glyph d ⌝ }
 {
-    if d < 10 { 48 + d } else { 87 + d }
+    let glyphs: &[u8] = b"0123456789abcdef";
+    glyphs[d]
 }
 
 fn put_four(out: &mut [u8], at: usize, n: u64) -> usize
@@ -129,10 +147,10 @@ fn put_four(out: &mut [u8], at: usize, n: u64) -> usize
     ensures { λ r. ⌜ Put (now (out .entry)) (now (out .exit)) at r (hexFour n) ⌝ }
     ensures { λ r. ⌜ r ≡ at + 4 ⌝ }
 {
-    let a = put(out, at, glyph_of((n / 4096 % 16) as u8));
-    let b = put(out, a, glyph_of((n / 256 % 16) as u8));
-    let c = put(out, b, glyph_of((n / 16 % 16) as u8));
-    put(out, c, glyph_of((n % 16) as u8))
+    let a = put(out, at, glyph_of((n / 4096 % 16) as usize));
+    let b = put(out, a, glyph_of((n / 256 % 16) as usize));
+    let c = put(out, b, glyph_of((n / 16 % 16) as usize));
+    put(out, c, glyph_of((n % 16) as usize))
 }
 
 fn put_hex(out: &mut [u8], at: usize, w: u64) -> usize

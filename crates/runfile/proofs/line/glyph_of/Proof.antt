@@ -1,23 +1,11 @@
--- Digits below ten, and letters.
-use Rattle.runfile.specs.Line.{glyph}
-use borrow.Author.Tests.{lt-ltb, le-ltb}
+-- A row of sixteen glyphs.
+use Rattle.runfile.proofs.Glyphs.{glyph-row}
 use borrow.Author.Needs.{needs}
 use Rattle.runfile.proofs.line.glyph_of.Statement.{statement}
 use Rattle.runfile.proofs.line.glyph_of.Tie as tie
 
-add-result : tie.Need-add-result
-add-result c = search needs
-
-add-result-2 : tie.Need-add-result-2
-add-result-2 c = search needs
-
 returns : tie.Need-returns
-unfolding glyph
-returns c = simp (lt-ltb _ _ (c .if1 .taken))
-
-returns-2 : tie.Need-returns-2
-unfolding glyph
-returns-2 c = simp (le-ltb _ _ (c .if1 .left))
+returns c = glyph-row _ (search needs)
 
 pub glyph-of-spec : {M : Type 1} → statement M
-glyph-of-spec = tie.close (tie.spec add-result add-result-2 returns returns-2)
+glyph-of-spec = tie.close (tie.spec (λ c. search needs) (λ c. search needs) returns)

@@ -1,5 +1,5 @@
 -- At most twenty digits.
-use Rattle.runfile.proofs.Digits.{decimal-last}
+use Rattle.runfile.proofs.Digits.{decimal-last, decimal-room}
 use Rattle.runfile.specs.Line.{decimal}
 use borrow.Author.Needs.{needs}
 use Rattle.runfile.proofs.line.put_decimal.Statement.{statement}
@@ -11,7 +11,11 @@ returns c = (rw (decimal-last 19 _ (c .before .before .before .before .if1 .take
 
 returns-2 : tie.Need-returns-2
 unfolding decimal
-returns-2 c = (c .before .before .put-digits .ensures .0, search needs)
+returns-2 c = (rw (decimal-room 7 12 _ (c .before .before .before .before .if2 .taken)) (c .before .before .put-eight .ensures .0), search needs)
+
+returns-3 : tie.Need-returns-3
+unfolding decimal
+returns-3 c = (c .before .before .put-digits .ensures .0, search needs)
 
 pub put-decimal-spec : {M : Type 1} → statement M
 put-decimal-spec =
@@ -22,4 +26,7 @@ put-decimal-spec =
     returns
     (λ c κs. search needs)
     (λ c. search needs)
-    returns-2)
+    returns-2
+    (λ c κs. search needs)
+    (λ c. search needs)
+    returns-3)
