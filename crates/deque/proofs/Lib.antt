@@ -1,3 +1,4 @@
-pub mod Walk
-pub mod Frame
 pub mod Count
+pub mod Frame
+pub mod Stored
+pub mod Walk

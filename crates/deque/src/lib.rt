@@ -241,8 +241,18 @@ pub fn step_record(
     let c = *control;
     let r = *task;
     let m = engine::step_alone(c, r, lefts, rights, labels, marks);
-    *control = m.control;
-    *task = m.task;
+    let over = engine::ends(m.outcome);
+    control.anchor = m.control.anchor;
+    control.retries = m.control.retries;
+    if over {
+        *task = IDLE;
+    } else {
+        task.place = m.task.place;
+        task.seen = m.task.seen;
+        task.neighbour = m.task.neighbour;
+        task.link = m.task.link;
+        task.finishing = m.task.finishing;
+    }
     m.outcome
 }
 
