@@ -1,9 +1,11 @@
 -- What a step stores: Anchor and retries of the control, and of the record either all, zero, where the call is over, or the fields that
 -- a step may change. It is what the step leaves, since the step changes nothing else (`Kept`).
-use mathlib.Core.Path.{_≡_, sym, ap, subst, _∙_}
+use mathlib.Core.Path.{_≡_, refl, sym, ap, subst, _∙_}
 use mathlib.Core.Bool.{true, false}
-use mathlib.Core.List.{List}
+use mathlib.Core.List.{List, [], _∷_}
 use Prim.Native.Nat.{ℕ}
+use denote.Laws.{Is}
+use denote.Struct.Laws as LL
 use Rattle.model.specs.declared.Control.{Control}
 use Rattle.model.specs.declared.Record.{Record}
 use Rattle.model.specs.Tables.{Tables, idle}
@@ -12,6 +14,11 @@ use Rattle.model.specs.Calls.{Acted, step}
 use Rattle.table.specs.declared.Acted.{Acted as Moved}
 use Rattle.engine.specs.Ends.{endsCall}
 use Rattle.engine.proofs.Kept.{Kept, step-kept}
+use Rattle.deque.proofs.Walk.{control-value, record-value}
+use Rattle.model.proofs.Control as K
+use Rattle.model.proofs.Control.Laws as K′
+use Rattle.model.proofs.Record as T
+use Rattle.model.proofs.Record.Laws as T′
 
 abbrev pub control-after : Control → Moved → Control
 control-after c m = record { tasks = c .tasks; slots = c .slots; anchor = m .control .anchor; retries = m .control .retries }
@@ -19,6 +26,19 @@ control-after c m = record { tasks = c .tasks; slots = c .slots; anchor = m .con
 abbrev pub record-after : Record → Moved → Record
 record-after r m =
     record { place = m .task .place; kind = r .kind; side = r .side; own = r .own; label = r .label; seen = m .task .seen; neighbour = m .task .neighbour; link = m .task .link; finishing = m .task .finishing }
+
+-- What is stored is a control and a record.
+pub control-is : (c : Control) (m : Moved) → Is K.the-row c (control-value c ∷ []) → Is K.the-row (m .control) (control-value (m .control) ∷ []) → Is K.the-row (control-after c m) (control-value (control-after c m) ∷ [])
+control-is c m g h =
+    let a = LL.owed K.the-type K′.the-laws c _ g in
+    let b = LL.owed K.the-type K′.the-laws (m .control) _ h in
+    LL.owes K.the-type K′.the-laws (control-after c m) ((refl, a .0 .1), ((refl, a .1 .0 .1), ((refl, b .1 .1 .0 .1), ((refl, b .1 .1 .1 .0 .1), tt))))
+
+pub record-is : (r : Record) (m : Moved) → Is T.the-row r (record-value r ∷ []) → Is T.the-row (m .task) (record-value (m .task) ∷ []) → Is T.the-row (record-after r m) (record-value (record-after r m) ∷ [])
+record-is r m g h =
+    let a = LL.owed T.the-type T′.the-laws r _ g in
+    let b = LL.owed T.the-type T′.the-laws (m .task) _ h in
+    LL.owes T.the-type T′.the-laws (record-after r m) ((refl, b .0 .1), ((refl, a .1 .0 .1), ((refl, a .1 .1 .0 .1), ((refl, a .1 .1 .1 .0 .1), ((refl, a .1 .1 .1 .1 .0 .1), ((refl, b .1 .1 .1 .1 .1 .0 .1), ((refl, b .1 .1 .1 .1 .1 .1 .0 .1), ((refl, b .1 .1 .1 .1 .1 .1 .1 .0 .1), ((refl, b .1 .1 .1 .1 .1 .1 .1 .1 .0 .1), tt)))))))))
 
 module _ (q : Tables) (p : Lent) (r : Record) (m : Moved) (lefts rights labels marks : List ℕ) where
   abbrev pub leaves : Control → Record → Acted
@@ -32,6 +52,9 @@ module _ (q : Tables) (p : Lent) (r : Record) (m : Moved) (lefts rights labels m
     same-control =
         ap (λ (n : ℕ). record { tasks = n; slots = q .control .slots; anchor = m .control .anchor; retries = m .control .retries }) (sym (kept .tasks))
         ∙ ap (λ (n : ℕ). record { tasks = m .control .tasks; slots = n; anchor = m .control .anchor; retries = m .control .retries }) (sym (kept .slots))
+
+    pub unstored : leaves (control-after (q .control) m) (m .task) ≡ step q p r
+    unstored = ap (λ (c : Control). leaves c (m .task)) same-control ∙ e
 
     pub over : endsCall (m .outcome) ≡ true → leaves (control-after (q .control) m) idle ≡ step q p r
     over h = ap (λ (c : Control). leaves c idle) same-control ∙ ap (leaves (m .control)) (sym (kept .zero h)) ∙ e

@@ -213,9 +213,19 @@ pub fn step(
         r = records[task];
     }
     let m = engine::step(c, r, n, task, lefts, rights, labels, marks);
-    *control = m.control;
+    let over = engine::ends(m.outcome);
+    control.anchor = m.control.anchor;
+    control.retries = m.control.retries;
     if task < n {
-        records[task] = m.task;
+        if over {
+            records[task] = IDLE;
+        } else {
+            records[task].place = m.task.place;
+            records[task].seen = m.task.seen;
+            records[task].neighbour = m.task.neighbour;
+            records[task].link = m.task.link;
+            records[task].finishing = m.task.finishing;
+        }
     }
     m.outcome
 }

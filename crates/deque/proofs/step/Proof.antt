@@ -1,8 +1,10 @@
 -- `step` meets its contract: a walk of its code. The borrow of the control is open throughout, and is closed at the control that comes back.
--- Where the task has a record, the borrow of the records is opened, the record is copied out, and the one that comes back is stored.
--- Where it has none, the call is made with the idle record, and the records are left as they are. Of `engine::step` its contract is used alone.
+-- Where the task has a record, the borrow of the records is opened, the record is copied out, and what comes back is stored.
+-- Where it has none, the call is made with the idle record, and the records are left as they are. What comes back is stored as far as a step
+-- may change it; that this is what the step leaves is `Stored`. Of `engine::step` and `engine::ends` the contracts are used alone.
 use mathlib.Core.Path.{_≡_, refl, sym, ap, subst, _∙_}
 use Prim.Native.Nat.{ℕ, _<_, _^_}
+use mathlib.Core.Bool.{Bool, true, false}
 use mathlib.Core.List.{[], _∷_, List}
 use lib.ListN.{length, set, length-set}
 use lib.Dec.{ltb, ltb→lt, lt→ltb, T-not, lit<}
@@ -20,14 +22,14 @@ use contract.Monad.{Fun, fact}
 use contract.Running.{givenOf, tables, tablesOf}
 use types.Kit.{Given, Item, ‵, raw, some, later, _⊛_, ⋆, atRet, _$_, _∵_, !, qed, by, move, keep, drop, use1, use2, split, join, pick, fsplit, fsplit3, fjoin, fjoin3, feqL, feqI, suffices, frame, await, done}
 use types.Run.{look, look-raw, init, store, store-raw, stop, hop, fld, from, load, lit, addr, bin, of-opd, and-then, no-more, assigns, assigns-last, first, branches, skips, exec, returns, enter, params1, pass1, pass0}
-use types.Part.{agg, whole, sub, look-in}
+use types.Part.{agg, whole, sub, look-in, store-in}
 use sound.WpLaws.{FmC, fmOf, WpFn-mono}
 use denote.RattleType.{owns}
 use denote.Shadow.{pureI}
 use denote.Laws.{Is, shows}
 use denote.Memory.{mem}
-use denote.Plain.{uint-makes, uint-vals, uint-tells}
-use denote.Builtin.{u32, u64, usize}
+use denote.Plain.{uint-makes, uint-vals, uint-tells, bool-lawful}
+use denote.Builtin.{u32, u64, usize, bool}
 use denote.Ref.{RefT, MutRef, ptr-vals, mut-tells}
 use denote.Slice.{sliceVal, Room, at-slice, slice-vals, MutSlice, mut-slice-tells, ShrSlice, shr-slice-tells, finally}
 use denote.Index.{place-is, elem-out, elem-put, opens-slice, closes-slice}
@@ -52,7 +54,9 @@ use Rattle.table.specs.declared.Acted.{Acted as Moved}
 use Rattle.model.specs.Tables.{Tables, Queue, recordAt, idle}
 use Rattle.model.specs.Refusals.{among}
 use Rattle.model.specs.Calls.{Acted, step, Done, back, act, actOn}
-use Rattle.deque.proofs.Walk.{control-value, record-value, kept, var, part, lets, receive, valued, idle-is, fits-scaled, getD-past, set-past}
+use Rattle.engine.specs.Ends.{endsCall}
+use Rattle.deque.proofs.Walk.{control-value, record-value, kept, var, part, lets, receive, valued, idle-is, holds, fails, fits-scaled, getD-past, set-past}
+use Rattle.deque.proofs.Stored.{control-after, record-after, control-is, record-is, unstored, over, going}
 use Rattle.deque.proofs.Frame.{env-of, full, bare, allocates, frees-all}
 use Rattle.model.proofs.Control as K
 use Rattle.model.proofs.Control.Laws as K′
@@ -66,6 +70,10 @@ use Rattle.engine.proofs.step as callee
 use Rattle.engine.proofs.step.Symbol as callee-def
 use Rattle.engine.proofs.step.Symbol.{name as #engine·step}
 use Rattle.engine.proofs.step.Met as callee-thm
+use Rattle.engine.proofs.ends as test
+use Rattle.engine.proofs.ends.Symbol as test-def
+use Rattle.engine.proofs.ends.Symbol.{name as #engine·ends}
+use Rattle.engine.proofs.ends.Met as test-thm
 use Rattle.deque.proofs.step.Key.{name as #deque·step}
 use Rattle.deque.proofs.step as self
 use Rattle.deque.proofs.step.Statement as stated
@@ -89,6 +97,9 @@ stayed = (
 
 abbrev Callee : {M : Type 1} (𝓤 : URA M) (H : Heap 𝓤) (A : Atoms 𝓤) (mem : Memory → SProp 𝓤) (run : Routine → Fun 𝓤) → Contract 𝓤
 Callee 𝓤 H A mem run = tripleOf 𝓤 H A callee.signature (callee.spec 𝓤 H A mem run)
+
+abbrev Test : {M : Type 1} (𝓤 : URA M) (H : Heap 𝓤) (A : Atoms 𝓤) (mem : Memory → SProp 𝓤) (run : Routine → Fun 𝓤) → Contract 𝓤
+Test 𝓤 H A mem run = tripleOf 𝓤 H A test.signature (test.spec 𝓤 H A mem run)
 
 module _ {M : Type 1} (𝓤 : URA M) (H : Heap 𝓤) (A : Atoms 𝓤) (W : Given 𝓤 H A) (at-mem : Memory → SProp 𝓤) (run : Routine → Fun 𝓤)
     (κc κr κ1 κ2 κ3 κ4 : Lft) (qc qr q1 q2 q3 q4 : Share) (xc : RefT Control) (xr : RefT (List Record)) (task : ℕ) (task-fits : task < 2 ^ 64) (x1 x2 x3 x4 : RefT (List ℕ)) where
@@ -146,15 +157,31 @@ module _ {M : Type 1} (𝓤 : URA M) (H : Heap 𝓤) (A : Atoms 𝓤) (W : Given
   abbrev Said : Outcome → Control → List Record → List ℕ → List ℕ → List ℕ → Type 0
   Said r z zs z1 z2 z4 = _≡_ {A = Done} (record { queue = record { tables = tabled z z1 z2 z4; records = zs }; outcome = r }) (act queue task Step)
 
-  found : (m : Moved) (z1 z2 z4 : List ℕ) → left m z1 z2 z4 ≡ meant (recordAt queue task) → Said (m .outcome) (m .control) (set rs task (m .task)) z1 z2 z4
+  ended : (m : Moved) (z1 z2 z4 : List ℕ) → left m z1 z2 z4 ≡ meant (recordAt queue task) → endsCall (m .outcome) ≡ true → Said (m .outcome) (control-after c m) (set rs task idle) z1 z2 z4
   unfolding act actOn
-  found m z1 z2 z4 e = ap (back queue task) e
+  ended m z1 z2 z4 e h = ap (back queue task) (over entry (among queue task) (recordAt queue task) m z1 z2 (x3 .now) z4 e h)
 
-  missed : (m : Moved) (z1 z2 z4 : List ℕ) → (task < n → ⊥) → left m z1 z2 z4 ≡ meant idle → Said (m .outcome) (m .control) rs z1 z2 z4
+  moved : (m : Moved) (z1 z2 z4 : List ℕ) → left m z1 z2 z4 ≡ meant (recordAt queue task) → endsCall (m .outcome) ≡ false
+      → Said (m .outcome) (control-after c m) (set rs task (record-after (recordAt queue task) m)) z1 z2 z4
+  unfolding act actOn
+  moved m z1 z2 z4 e h = ap (back queue task) (going entry (among queue task) (recordAt queue task) m z1 z2 (x3 .now) z4 e h)
+
+  missed : (m : Moved) (z1 z2 z4 : List ℕ) → (task < n → ⊥) → left m z1 z2 z4 ≡ meant idle → Said (m .outcome) (control-after c m) rs z1 z2 z4
   unfolding act actOn
   missed m z1 z2 z4 past e =
-      ap (λ (l : List Record). record { queue = record { tables = tabled (m .control) z1 z2 z4; records = l }; outcome = m .outcome }) (sym (set-past rs task (m .task) past))
-      ∙ ap (back queue task) e ∙ ap (λ (h : Record). back queue task (meant h)) (sym (getD-past rs task idle past))
+      ap (λ (l : List Record). record { queue = record { tables = tabled (control-after c m) z1 z2 z4; records = l }; outcome = m .outcome }) (sym (set-past rs task (m .task) past))
+      ∙ ap (back queue task) (unstored entry (among queue task) idle m z1 z2 (x3 .now) z4 e) ∙ ap (λ (h : Record). back queue task (meant h)) (sym (getD-past rs task idle past))
+
+  -- into the test of an outcome
+  abbrev to-test : Outcome → Test 𝓤 H A at-mem run .Ghost
+  to-test o = ((tt, tt, tt, (o, tt), (EL.val E.the-type E′.the-laws o ∷ [], tt)), tt)
+
+  goes-test : (o : Outcome) → Is E.the-row o (EL.val E.the-type E′.the-laws o ∷ []) → ent 𝓤 (⋆ 𝓤 H A (‵ ftrue ∷ [])) (Test 𝓤 H A at-mem run .pre (to-test o))
+  goes-test o g =
+      qed W (‵ ftrue ∷ []) ∵ nothing ! $ owned ! E.the-row (Is E.the-row) (EL.makes E.the-type E′.the-plain 𝓤 H A) o _ g $ fjoin ! $ move ! (1 ∷ 0 ∷ []) $ join ! $ frame ! $ done !
+
+  abbrev Lasts-test : Type 0
+  Lasts-test = Unit {0} × Unit {0}
 
   abbrev bound : walkOf 𝓤 H A self.ended stayed (self.clauses 𝓤 H A at-mem run) .Ghost
   bound = (((κc, (κr, (κ1, (κ2, (κ3, (κ4, tt)))))), (qc, (qr, (q1, (q2, (q3, (q4, tt)))))), tt, a, vals), tt)
@@ -206,7 +233,7 @@ module _ {M : Type 1} (𝓤 : URA M) (H : Heap 𝓤) (A : Atoms 𝓤) (W : Given
   abbrev Lasts : Type 0
   Lasts = Unit {0} × (Unit {0} × (Unit {0} × (Unit {0} × (List ℕ × (List ℕ × (Unit {0} × (List ℕ × Unit {0})))))))
 
-  module _ (C : Calls 𝓤 H) (Λ : Loops 𝓤 H) (fm : FmC 𝓤 H (W .laws) C) (known : Triple 𝓤 (C #engine·step) (Callee 𝓤 H A at-mem run)) where
+  module _ (C : Calls 𝓤 H) (Λ : Loops 𝓤 H) (fm : FmC 𝓤 H (W .laws) C) (known : Triple 𝓤 (C #engine·step) (Callee 𝓤 H A at-mem run)) (known-test : Triple 𝓤 (C #engine·ends) (Test 𝓤 H A at-mem run)) where
     walk : Room T.the-row n → Room u64 (length (x1 .now)) → Room u64 (length (x2 .now)) → Room u32 (length (x3 .now)) → Room u64 (length (x4 .now))
         → ent 𝓤 (onEntry 𝓤 H A self.signature (κc, (κr, (κ1, (κ2, (κ3, (κ4, tt)))))) (qc, (qr, (q1, (q2, (q3, (q4, tt)))))) a vals) (WpFn 𝓤 H C Λ code.function (pc ∷ s ∷ vint w64 task ∷ s1 ∷ s2 ∷ s3 ∷ s4 ∷ []) Post)
     walk room room1 room2 room3 room4 =
@@ -217,16 +244,16 @@ module _ {M : Type 1} (𝓤 : URA M) (H : Heap 𝓤) (A : Atoms 𝓤) (W : Given
         pass1 ! (init ! 8 refl (tt, (tt, (record { fits = room1 .0 }, tt)))) $ pass1 ! (init ! 10 refl (tt, (tt, (record { fits = room2 .0 }, tt)))) $
         pass1 ! (init ! 12 refl (tt, (tt, (record { fits = room3 .0 }, tt)))) $ pass1 ! (init ! 14 refl (tt, (tt, (record { fits = room4 .0 }, tt)))) $ pass0 ! $
         -- the control is opened
-        move ! (49 ∷ []) $ fsplit ! $ fsplit3 ! $ drop ! $
-        move ! (51 ∷ []) $ split ! $
+        move ! (67 ∷ []) $ fsplit ! $ fsplit3 ! $ drop ! $
+        move ! (69 ∷ []) $ split ! $
         move ! (2 ∷ 3 ∷ 0 ∷ []) $
         opens ! tt K.the-row {h = c} (xc .ptr .0) (xc .ptr .1) (λ vK. spelt ! K.the-row (Is K.the-row) (shows 𝓤 H A K.the-row) (LL.vals K.the-type K′.the-laws) (LL.tells K.the-type K′.the-laws) fullShare c vK (xc .ptr .0) (xc .ptr .1) $
         move ! (1 ∷ []) $ peeks ! K.the-row (Is K.the-row) (shows 𝓤 H A K.the-row) c (control-value c ∷ []) (λ gc. move ! (1 ∷ 0 ∷ []) $
         lets ! (of-opd ! (part ! 11 1 refl refl refl)) (init ! 23 refl (tt, record { fits = room .0 })) $
         lets ! (of-opd ! (load ! (from ! (hop ! (look ! 9 refl) (stop !))) (look-raw ! 0 refl))) (init ! 25 refl (LL.lawful K.the-type K′.the-laws 𝓤 H A W .typed c _ gc .0)) $
         lets ! (agg ! (and-then ! (lit ! tt) (and-then ! (lit ! tt) (and-then ! (lit ! tt) (and-then ! (lit ! tt) (and-then ! (lit ! tt) (and-then ! (lit ! tt) (and-then ! (lit ! tt) (and-then ! (lit ! tt) (and-then ! (lit ! tt) (no-more !))))))))))) (init ! 27 refl (LL.lawful T.the-type T′.the-laws 𝓤 H A W .typed idle _ idle-is .0)) $
-        lets ! (bin ! (var ! 13 refl) (var ! 23 refl) tt) (init ! 31 refl (tt, tt)) $
-        first ! $ branches ! (var ! 31 refl)
+        lets ! (bin ! (var ! 13 refl) (var ! 23 refl) tt) (init ! 33 refl (tt, tt)) $
+        first ! $ branches ! (var ! 33 refl)
         (λ here.
         -- the records are opened, and the task's record is taken out
         move ! (6 ∷ []) $ fsplit ! $ fsplit ! $ drop ! $ fsplit ! $
@@ -235,22 +262,22 @@ module _ {M : Type 1} (𝓤 : URA M) (H : Heap 𝓤) (A : Atoms 𝓤) (W : Given
         opens-slice ! tt T.the-row rs (xr .ptr .0) (xr .ptr .1) $
         elem-out ! T.the-row (Is T.the-row) (shows 𝓤 H A T.the-row) (LL.vals T.the-type T′.the-laws) (LL.tells T.the-type T′.the-laws) fullShare rs task idle (xr .ptr .0) (xr .ptr .1) (ltb→lt task n here) (λ g.
         -- [cell; own; others; obor; obs; auth; toks1; rest; cellc; ownc; oborc; obsc; authc; local i at position 13 + 2 i]
-        lets ! (bin ! (var ! 19 refl) (lit ! tt) (record { fits = fits-scaled (room .1) (ltb→lt task n here) })) (init ! 39 refl (tt, record { fits = fits-scaled (room .1) (ltb→lt task n here) })) $
-        lets ! (valued ! (ap (vptr (xr .ptr .0)) (sym (place-is (mem T.the-row .size) (xr .ptr .1) task))) (bin ! (part ! 17 0 refl refl refl) (var ! 39 refl) tt)) (init ! 41 refl (tt, tt)) $
-        lets ! (of-opd ! (load ! (from ! (hop ! (look ! 41 refl) (stop !))) (look-raw ! 0 refl))) (init ! 43 refl (LL.lawful T.the-type T′.the-laws 𝓤 H A W .typed (recordAt queue task) _ g .0)) $
-        assigns-last ! (of-opd ! (var ! 43 refl)) (from ! (stop !)) (store ! 33 refl (LL.lawful T.the-type T′.the-laws 𝓤 H A W .typed (recordAt queue task) _ g .0)) $
+        lets ! (bin ! (var ! 19 refl) (lit ! tt) (record { fits = fits-scaled (room .1) (ltb→lt task n here) })) (init ! 41 refl (tt, record { fits = fits-scaled (room .1) (ltb→lt task n here) })) $
+        lets ! (valued ! (ap (vptr (xr .ptr .0)) (sym (place-is (mem T.the-row .size) (xr .ptr .1) task))) (bin ! (part ! 17 0 refl refl refl) (var ! 41 refl) tt)) (init ! 43 refl (tt, tt)) $
+        lets ! (of-opd ! (load ! (from ! (hop ! (look ! 43 refl) (stop !))) (look-raw ! 0 refl))) (init ! 45 refl (LL.lawful T.the-type T′.the-laws 𝓤 H A W .typed (recordAt queue task) _ g .0)) $
+        assigns-last ! (of-opd ! (var ! 45 refl)) (from ! (stop !)) (store ! 33 refl (LL.lawful T.the-type T′.the-laws 𝓤 H A W .typed (recordAt queue task) _ g .0)) $
         exec ! C Λ (env-of (code.function .locals) bs) body.t-6 (atRet (env-of (code.function .locals) bs) Post) $
         -- the tables are lent on
-        lets ! (addr ! (from ! (fld ! refl (hop ! (look-in ! 21 (sub ! 0 refl (whole !))) (stop !))))) (init ! 45 refl (tt, tt)) $
-        lets ! (agg ! (and-then ! (var ! 45 refl) (and-then ! (part ! 21 1 refl refl refl) (no-more !)))) (init ! 47 refl (tt, (tt, (record { fits = room1 .0 }, tt)))) $
-        lets ! (addr ! (from ! (fld ! refl (hop ! (look-in ! 23 (sub ! 0 refl (whole !))) (stop !))))) (init ! 49 refl (tt, tt)) $
-        lets ! (agg ! (and-then ! (var ! 49 refl) (and-then ! (part ! 23 1 refl refl refl) (no-more !)))) (init ! 51 refl (tt, (tt, (record { fits = room2 .0 }, tt)))) $
-        lets ! (addr ! (from ! (fld ! refl (hop ! (look-in ! 27 (sub ! 0 refl (whole !))) (stop !))))) (init ! 53 refl (tt, tt)) $
-        lets ! (agg ! (and-then ! (var ! 53 refl) (and-then ! (part ! 27 1 refl refl refl) (no-more !)))) (init ! 55 refl (tt, (tt, (record { fits = room4 .0 }, tt)))) $
+        lets ! (addr ! (from ! (fld ! refl (hop ! (look-in ! 21 (sub ! 0 refl (whole !))) (stop !))))) (init ! 47 refl (tt, tt)) $
+        lets ! (agg ! (and-then ! (var ! 47 refl) (and-then ! (part ! 21 1 refl refl refl) (no-more !)))) (init ! 49 refl (tt, (tt, (record { fits = room1 .0 }, tt)))) $
+        lets ! (addr ! (from ! (fld ! refl (hop ! (look-in ! 23 (sub ! 0 refl (whole !))) (stop !))))) (init ! 51 refl (tt, tt)) $
+        lets ! (agg ! (and-then ! (var ! 51 refl) (and-then ! (part ! 23 1 refl refl refl) (no-more !)))) (init ! 53 refl (tt, (tt, (record { fits = room2 .0 }, tt)))) $
+        lets ! (addr ! (from ! (fld ! refl (hop ! (look-in ! 27 (sub ! 0 refl (whole !))) (stop !))))) (init ! 55 refl (tt, tt)) $
+        lets ! (agg ! (and-then ! (var ! 55 refl) (and-then ! (part ! 27 1 refl refl refl) (no-more !)))) (init ! 57 refl (tt, (tt, (record { fits = room4 .0 }, tt)))) $
         -- the call
         move ! (6 ∷ 7 ∷ []) $ use2 W (raw (Callee 𝓤 H A at-mem run .pre (to-callee (recordAt queue task)))) (goes-in (recordAt queue task) gc g (room .0)) $
         calls-at ! fm (Callee 𝓤 H A at-mem run) known (to-callee (recordAt queue task))
-        (and-then ! (var ! 30 refl) (and-then ! (var ! 32 refl) (and-then ! (var ! 28 refl) (and-then ! (var ! 18 refl) (and-then ! (var ! 46 refl) (and-then ! (var ! 50 refl) (and-then ! (var ! 24 refl) (and-then ! (var ! 54 refl) (no-more !))))))))) (λ w.
+        (and-then ! (var ! 30 refl) (and-then ! (var ! 32 refl) (and-then ! (var ! 28 refl) (and-then ! (var ! 18 refl) (and-then ! (var ! 48 refl) (and-then ! (var ! 52 refl) (and-then ! (var ! 24 refl) (and-then ! (var ! 56 refl) (no-more !))))))))) (λ w.
         use1 W (later (some (λ (m : Moved). ((‵ (flft κ1 q1) ⊛ ‵ (flft κ2 q2) ⊛ ‵ (flft κ3 q3) ⊛ ‵ (flft κ4 q4) ⊛ ‵ ftrue) ⊛ ‵ (N.the-row .own m (w ∷ []))) ⊛ raw (ensured 𝓤 H A callee.ended (callee.clauses 𝓤 H A at-mem run) (κ1, (κ2, (κ3, (κ4, tt)))) (c, ((recordAt queue task), (n, (task, (x1, (x2, (x3, (x4, tt)))))))) tt m)))) (id⊢ 𝓤 _) $
         await ! tt $ pick ! (λ m.
         split ! $ move ! (1 ∷ []) $
@@ -262,47 +289,98 @@ module _ {M : Type 1} (𝓤 : URA M) (H : Heap 𝓤) (A : Atoms 𝓤) (W : Given
         move ! (3 ∷ []) $ split ! $ move ! (1 ∷ []) $ peeks ! N.the-row (Is N.the-row) (shows 𝓤 H A N.the-row) m (w ∷ []) (λ is.
         -- [ownM; toks1; fin4; fin2; fin1; cell; own; others; obor; obs; auth; cellc; ownc; oborc; obsc; authc; local i at position 16 + 2 i]
         receive ! 38 refl (LL.lawful N.the-type N′.the-laws 𝓤 H A W .typed m _ is .0) (ap only (LL.tells N.the-type N′.the-laws m (w ∷ []) is)) $
-        assigns ! (of-opd ! (part ! 38 0 refl refl refl)) (from ! (hop ! (look ! 18 refl) (stop !))) (store-raw ! 11 refl (LL.lawful K.the-type K′.the-laws 𝓤 H A W .typed (m .control) _ (LL.owed N.the-type N′.the-laws m _ is .0) .0)) $
-        lets ! (bin ! (var ! 22 refl) (var ! 32 refl) tt) (store ! 40 refl (tt, tt)) $
-        first ! $ branches ! (var ! 40 refl)
+        -- whether the call is over
+        nothing ! $ use1 W (raw (Test 𝓤 H A at-mem run .pre (to-test (m .outcome)))) (goes-test (m .outcome) (LL.owed N.the-type N′.the-laws m _ is .1 .1 .0)) $
+        calls-at ! fm (Test 𝓤 H A at-mem run) known-test (to-test (m .outcome))
+        (and-then ! (part ! 39 2 refl refl refl) (no-more !)) (λ v.
+        use1 W (later (some (λ (b : Bool). (‵ ftrue ⊛ ‵ (bool .own b (v ∷ []))) ⊛ raw (ensured 𝓤 H A test.ended (test.clauses 𝓤 H A at-mem run) tt (m .outcome, tt) tt b)))) (id⊢ 𝓤 _) $
+        await ! tt $ pick ! (λ b.
+        split ! $ move ! (1 ∷ []) $ use1 W (some (λ (us : Lasts-test). ‵ (lasts test.ended tt (m .outcome, tt) us) ⊛ raw (fact 𝓤 (b ≡ endsCall (m .outcome))))) (id⊢ 𝓤 _) $
+        pick ! (λ us.
+        split ! $ move ! (1 ∷ []) $ heard ! (b ≡ endsCall (m .outcome)) (λ told.
+        fsplit ! $ drop ! $ drop ! $
+        split ! $ move ! (1 ∷ []) $ peeks ! bool (Is bool) (shows 𝓤 H A bool) b (v ∷ []) (λ is-b. drop ! $ drop ! $
+        receive ! 40 refl (bool-lawful 𝓤 H A W .typed b _ is-b .0) (ap only is-b) $
+        -- what the step may change is stored
+        assigns ! (of-opd ! (load ! (from ! (fld ! refl (fld ! refl (stop !)))) (look-in ! 38 (sub ! 2 refl (sub ! 0 refl (whole !)))))) (from ! (hop ! (look ! 18 refl) (fld ! refl (stop !)))) (store-in ! 11 (sub ! 2 refl (whole !)) (tt, record { fits = (LL.owed K.the-type K′.the-laws (m .control) _ (LL.owed N.the-type N′.the-laws m _ is .0)) .1 .1 .0 .1 })) $
+        assigns ! (of-opd ! (load ! (from ! (fld ! refl (fld ! refl (stop !)))) (look-in ! 38 (sub ! 3 refl (sub ! 0 refl (whole !)))))) (from ! (hop ! (look ! 18 refl) (fld ! refl (stop !)))) (store-in ! 11 (sub ! 3 refl (whole !)) (tt, record { fits = (LL.owed K.the-type K′.the-laws (m .control) _ (LL.owed N.the-type N′.the-laws m _ is .0)) .1 .1 .1 .0 .1 })) $
+        lets ! (bin ! (var ! 22 refl) (var ! 32 refl) tt) (store ! 42 refl (tt, tt)) $
+        first ! $ branches ! (var ! 42 refl)
         (λ here2.
-        lets ! (bin ! (var ! 22 refl) (lit ! tt) (record { fits = fits-scaled (room .1) (ltb→lt task n here) })) (init ! 60 refl (tt, record { fits = fits-scaled (room .1) (ltb→lt task n here) })) $
-        lets ! (valued ! (ap (vptr (xr .ptr .0)) (sym (place-is (mem T.the-row .size) (xr .ptr .1) task))) (bin ! (part ! 20 0 refl refl refl) (var ! 60 refl) tt)) (init ! 62 refl (tt, tt)) $
-        assigns-last ! (of-opd ! (part ! 38 1 refl refl refl)) (from ! (hop ! (look ! 62 refl) (stop !))) (store-raw ! 5 refl (LL.lawful T.the-type T′.the-laws 𝓤 H A W .typed (m .task) _ (LL.owed N.the-type N′.the-laws m _ is .1 .0) .0)) $
-        exec ! C Λ (env-of (code.function .locals) bs) body.t-16 (atRet (env-of (code.function .locals) bs) Post) $
+        lets ! (of-opd ! (var ! 40 refl)) (init ! 62 refl (tt, tt)) $
+        branches ! (var ! 62 refl)
+        (λ yes-over.
+        lets ! (agg ! (and-then ! (lit ! tt) (and-then ! (lit ! tt) (and-then ! (lit ! tt) (and-then ! (lit ! tt) (and-then ! (lit ! tt) (and-then ! (lit ! tt) (and-then ! (lit ! tt) (and-then ! (lit ! tt) (and-then ! (lit ! tt) (no-more !))))))))))) (init ! 64 refl (LL.lawful T.the-type T′.the-laws 𝓤 H A W .typed idle _ idle-is .0)) $
+        lets ! (bin ! (var ! 22 refl) (lit ! tt) (record { fits = fits-scaled (room .1) (ltb→lt task n here) })) (init ! 66 refl (tt, record { fits = fits-scaled (room .1) (ltb→lt task n here) })) $
+        lets ! (valued ! (ap (vptr (xr .ptr .0)) (sym (place-is (mem T.the-row .size) (xr .ptr .1) task))) (bin ! (part ! 20 0 refl refl refl) (var ! 66 refl) tt)) (init ! 68 refl (tt, tt)) $
+        assigns-last ! (of-opd ! (var ! 64 refl)) (from ! (hop ! (look ! 68 refl) (stop !))) (store-raw ! 5 refl (LL.lawful T.the-type T′.the-laws 𝓤 H A W .typed idle _ idle-is .0)) $
+        exec ! C Λ (env-of (code.function .locals) bs) body.t-18 (atRet (env-of (code.function .locals) bs) Post) $
         lets ! (of-opd ! (part ! 38 2 refl refl refl)) (init ! 16 refl (EL.lawful E.the-type E′.the-laws 𝓤 H A W tt .typed (m .outcome) _ (LL.owed N.the-type N′.the-laws m _ is .1 .1 .0) .0)) $
         -- the record is put back, and the borrows are closed
-        owned ! T.the-row (Is T.the-row) (LL.makes T.the-type T′.the-plain 𝓤 H A) (m .task) _ (LL.owed N.the-type N′.the-laws m _ is .1 .0) $
-        move ! (6 ∷ 0 ∷ 8 ∷ 9 ∷ 10 ∷ 11 ∷ []) $ elem-put ! T.the-row fullShare rs task (m .task) (record-value (m .task) ∷ []) (xr .ptr .0) (xr .ptr .1) (ltb→lt task n here) $
-        closes-slice ! tt T.the-row rs (set rs task (m .task)) (length-set rs task (m .task)) (xr .ptr .0) (xr .ptr .1) $
-        owned ! K.the-row (Is K.the-row) (LL.makes K.the-type K′.the-plain 𝓤 H A) (m .control) _ (LL.owed N.the-type N′.the-laws m _ is .0) $
-        move ! (10 ∷ 0 ∷ 12 ∷ 13 ∷ 14 ∷ []) $ closes ! tt K.the-row (m .control) (control-value (m .control) ∷ []) (xc .ptr .0) (xc .ptr .1) $
+        owned ! T.the-row (Is T.the-row) (LL.makes T.the-type T′.the-plain 𝓤 H A) idle _ idle-is $
+        move ! (6 ∷ 0 ∷ 8 ∷ 9 ∷ 10 ∷ 11 ∷ []) $ elem-put ! T.the-row fullShare rs task idle (record-value idle ∷ []) (xr .ptr .0) (xr .ptr .1) (ltb→lt task n here) $
+        closes-slice ! tt T.the-row rs (set rs task idle) (length-set rs task idle) (xr .ptr .0) (xr .ptr .1) $
+        owned ! K.the-row (Is K.the-row) (LL.makes K.the-type K′.the-plain 𝓤 H A) (control-after c m) _ (control-is c m gc (LL.owed N.the-type N′.the-laws m _ is .0)) $
+        move ! (10 ∷ 0 ∷ 12 ∷ 13 ∷ 14 ∷ []) $ closes ! tt K.the-row (control-after c m) (control-value (control-after c m) ∷ []) (xc .ptr .0) (xc .ptr .1) $
         -- the locals are freed
         returns ! (look ! 13 refl) $
-        frees-all ! 13 (full _ ∷ full _ ∷ full _ ∷ full _ ∷ full _ ∷ full _ ∷ full _ ∷ full _ ∷ full _ ∷ full _ ∷ full _ ∷ full _ ∷ full _ ∷ full _ ∷ full _ ∷ full _ ∷ full _ ∷ full _ ∷ full _ ∷ full _ ∷ full _ ∷ full _ ∷ full _ ∷ full _ ∷ []) refl $
+        frees-all ! 13 (full _ ∷ full _ ∷ full _ ∷ full _ ∷ full _ ∷ full _ ∷ full _ ∷ full _ ∷ full _ ∷ full _ ∷ full _ ∷ full _ ∷ full _ ∷ full _ ∷ full _ ∷ full _ ∷ full _ ∷ full _ ∷ full _ ∷ full _ ∷ full _ ∷ full _ ∷ full _ ∷ full _ ∷ full _ ∷ full _ ∷ full _ ∷ bare ∷ bare ∷ bare ∷ bare ∷ bare ∷ bare ∷ []) refl $
         move ! (3 ∷ 4 ∷ []) $ fjoin ! $
-        pureI ! (at-slice T.the-row (kept xr (set rs task (m .task))) (s ∷ [])) (tt, (tt, tt)) (ap (λ (k : ℕ). sliceVal (xr .ptr) k ∷ []) (sym (length-set rs task (m .task))), subst (Room T.the-row) (sym (length-set rs task (m .task))) room) $
+        pureI ! (at-slice T.the-row (kept xr (set rs task idle)) (s ∷ [])) (tt, (tt, tt)) (ap (λ (k : ℕ). sliceVal (xr .ptr) k ∷ []) (sym (length-set rs task idle)), subst (Room T.the-row) (sym (length-set rs task idle)) room) $
         fjoin ! $
         move ! (1 ∷ 2 ∷ []) $ feqI ! (List Val) (pc ∷ []) (pc ∷ []) refl $ fjoin3 ! $
         keep ! (0 ∷ 1 ∷ 2 ∷ 3 ∷ 5 ∷ 8 ∷ 7 ∷ 6 ∷ []) $
-        by ! (exits (m .outcome) _ (m .control) (set rs task (m .task)) (zs .1 .1 .1 .1 .0) (zs .1 .1 .1 .1 .1 .0) (zs .1 .1 .1 .1 .1 .1 .1 .0) (found m (zs .1 .1 .1 .1 .0) (zs .1 .1 .1 .1 .1 .0) (zs .1 .1 .1 .1 .1 .1 .1 .0) e) (length-set rs task (m .task)) e1 e2 e4 (LL.owed N.the-type N′.the-laws m _ is .1 .1 .0)))
-        (λ past2. absurd (T-not (ltb task n) past2 here))))))))))))
+        by ! (exits (m .outcome) _ (control-after c m) (set rs task idle) (zs .1 .1 .1 .1 .0) (zs .1 .1 .1 .1 .1 .0) (zs .1 .1 .1 .1 .1 .1 .1 .0) (ended m (zs .1 .1 .1 .1 .0) (zs .1 .1 .1 .1 .1 .0) (zs .1 .1 .1 .1 .1 .1 .1 .0) e (sym told ∙ holds b yes-over)) (length-set rs task idle) e1 e2 e4 (LL.owed N.the-type N′.the-laws m _ is .1 .1 .0)))
+        (λ not-over.
+        lets ! (bin ! (var ! 22 refl) (lit ! tt) (record { fits = fits-scaled (room .1) (ltb→lt task n here) })) (init ! 70 refl (tt, record { fits = fits-scaled (room .1) (ltb→lt task n here) })) $
+        lets ! (valued ! (ap (vptr (xr .ptr .0)) (sym (place-is (mem T.the-row .size) (xr .ptr .1) task))) (bin ! (part ! 20 0 refl refl refl) (var ! 70 refl) tt)) (init ! 72 refl (tt, tt)) $
+        assigns ! (of-opd ! (load ! (from ! (fld ! refl (fld ! refl (stop !)))) (look-in ! 38 (sub ! 0 refl (sub ! 1 refl (whole !)))))) (from ! (hop ! (look ! 72 refl) (fld ! refl (stop !)))) (store-in ! 5 (sub ! 0 refl (whole !)) (tt, record { fits = (LL.owed T.the-type T′.the-laws (m .task) _ (LL.owed N.the-type N′.the-laws m _ is .1 .0)) .0 .1 })) $
+        lets ! (bin ! (var ! 22 refl) (lit ! tt) (record { fits = fits-scaled (room .1) (ltb→lt task n here) })) (store ! 70 refl (tt, record { fits = fits-scaled (room .1) (ltb→lt task n here) })) $
+        lets ! (valued ! (ap (vptr (xr .ptr .0)) (sym (place-is (mem T.the-row .size) (xr .ptr .1) task))) (bin ! (part ! 20 0 refl refl refl) (var ! 70 refl) tt)) (init ! 74 refl (tt, tt)) $
+        assigns ! (of-opd ! (load ! (from ! (fld ! refl (fld ! refl (stop !)))) (look-in ! 38 (sub ! 5 refl (sub ! 1 refl (whole !)))))) (from ! (hop ! (look ! 74 refl) (fld ! refl (stop !)))) (store-in ! 5 (sub ! 5 refl (whole !)) (tt, record { fits = (LL.owed T.the-type T′.the-laws (m .task) _ (LL.owed N.the-type N′.the-laws m _ is .1 .0)) .1 .1 .1 .1 .1 .0 .1 })) $
+        lets ! (bin ! (var ! 22 refl) (lit ! tt) (record { fits = fits-scaled (room .1) (ltb→lt task n here) })) (store ! 70 refl (tt, record { fits = fits-scaled (room .1) (ltb→lt task n here) })) $
+        lets ! (valued ! (ap (vptr (xr .ptr .0)) (sym (place-is (mem T.the-row .size) (xr .ptr .1) task))) (bin ! (part ! 20 0 refl refl refl) (var ! 70 refl) tt)) (init ! 76 refl (tt, tt)) $
+        assigns ! (of-opd ! (load ! (from ! (fld ! refl (fld ! refl (stop !)))) (look-in ! 38 (sub ! 6 refl (sub ! 1 refl (whole !)))))) (from ! (hop ! (look ! 76 refl) (fld ! refl (stop !)))) (store-in ! 5 (sub ! 6 refl (whole !)) (tt, record { fits = (LL.owed T.the-type T′.the-laws (m .task) _ (LL.owed N.the-type N′.the-laws m _ is .1 .0)) .1 .1 .1 .1 .1 .1 .0 .1 })) $
+        lets ! (bin ! (var ! 22 refl) (lit ! tt) (record { fits = fits-scaled (room .1) (ltb→lt task n here) })) (store ! 70 refl (tt, record { fits = fits-scaled (room .1) (ltb→lt task n here) })) $
+        lets ! (valued ! (ap (vptr (xr .ptr .0)) (sym (place-is (mem T.the-row .size) (xr .ptr .1) task))) (bin ! (part ! 20 0 refl refl refl) (var ! 70 refl) tt)) (init ! 78 refl (tt, tt)) $
+        assigns ! (of-opd ! (load ! (from ! (fld ! refl (fld ! refl (stop !)))) (look-in ! 38 (sub ! 7 refl (sub ! 1 refl (whole !)))))) (from ! (hop ! (look ! 78 refl) (fld ! refl (stop !)))) (store-in ! 5 (sub ! 7 refl (whole !)) (tt, record { fits = (LL.owed T.the-type T′.the-laws (m .task) _ (LL.owed N.the-type N′.the-laws m _ is .1 .0)) .1 .1 .1 .1 .1 .1 .1 .0 .1 })) $
+        lets ! (bin ! (var ! 22 refl) (lit ! tt) (record { fits = fits-scaled (room .1) (ltb→lt task n here) })) (store ! 70 refl (tt, record { fits = fits-scaled (room .1) (ltb→lt task n here) })) $
+        lets ! (valued ! (ap (vptr (xr .ptr .0)) (sym (place-is (mem T.the-row .size) (xr .ptr .1) task))) (bin ! (part ! 20 0 refl refl refl) (var ! 70 refl) tt)) (init ! 80 refl (tt, tt)) $
+        assigns-last ! (of-opd ! (load ! (from ! (fld ! refl (fld ! refl (stop !)))) (look-in ! 38 (sub ! 8 refl (sub ! 1 refl (whole !)))))) (from ! (hop ! (look ! 80 refl) (fld ! refl (stop !)))) (store-in ! 5 (sub ! 8 refl (whole !)) (tt, record { fits = (LL.owed T.the-type T′.the-laws (m .task) _ (LL.owed N.the-type N′.the-laws m _ is .1 .0)) .1 .1 .1 .1 .1 .1 .1 .1 .0 .1 })) $
+        exec ! C Λ (env-of (code.function .locals) bs) body.t-18 (atRet (env-of (code.function .locals) bs) Post) $
+        lets ! (of-opd ! (part ! 38 2 refl refl refl)) (init ! 16 refl (EL.lawful E.the-type E′.the-laws 𝓤 H A W tt .typed (m .outcome) _ (LL.owed N.the-type N′.the-laws m _ is .1 .1 .0) .0)) $
+        -- the record is put back, and the borrows are closed
+        owned ! T.the-row (Is T.the-row) (LL.makes T.the-type T′.the-plain 𝓤 H A) (record-after (recordAt queue task) m) _ (record-is (recordAt queue task) m g (LL.owed N.the-type N′.the-laws m _ is .1 .0)) $
+        move ! (6 ∷ 0 ∷ 8 ∷ 9 ∷ 10 ∷ 11 ∷ []) $ elem-put ! T.the-row fullShare rs task (record-after (recordAt queue task) m) (record-value (record-after (recordAt queue task) m) ∷ []) (xr .ptr .0) (xr .ptr .1) (ltb→lt task n here) $
+        closes-slice ! tt T.the-row rs (set rs task (record-after (recordAt queue task) m)) (length-set rs task (record-after (recordAt queue task) m)) (xr .ptr .0) (xr .ptr .1) $
+        owned ! K.the-row (Is K.the-row) (LL.makes K.the-type K′.the-plain 𝓤 H A) (control-after c m) _ (control-is c m gc (LL.owed N.the-type N′.the-laws m _ is .0)) $
+        move ! (10 ∷ 0 ∷ 12 ∷ 13 ∷ 14 ∷ []) $ closes ! tt K.the-row (control-after c m) (control-value (control-after c m) ∷ []) (xc .ptr .0) (xc .ptr .1) $
+        -- the locals are freed
+        returns ! (look ! 13 refl) $
+        frees-all ! 13 (full _ ∷ full _ ∷ full _ ∷ full _ ∷ full _ ∷ full _ ∷ full _ ∷ full _ ∷ full _ ∷ full _ ∷ full _ ∷ full _ ∷ full _ ∷ full _ ∷ full _ ∷ full _ ∷ full _ ∷ full _ ∷ full _ ∷ full _ ∷ full _ ∷ full _ ∷ full _ ∷ full _ ∷ bare ∷ bare ∷ bare ∷ full _ ∷ full _ ∷ full _ ∷ full _ ∷ full _ ∷ full _ ∷ []) refl $
+        move ! (3 ∷ 4 ∷ []) $ fjoin ! $
+        pureI ! (at-slice T.the-row (kept xr (set rs task (record-after (recordAt queue task) m))) (s ∷ [])) (tt, (tt, tt)) (ap (λ (k : ℕ). sliceVal (xr .ptr) k ∷ []) (sym (length-set rs task (record-after (recordAt queue task) m))), subst (Room T.the-row) (sym (length-set rs task (record-after (recordAt queue task) m))) room) $
+        fjoin ! $
+        move ! (1 ∷ 2 ∷ []) $ feqI ! (List Val) (pc ∷ []) (pc ∷ []) refl $ fjoin3 ! $
+        keep ! (0 ∷ 1 ∷ 2 ∷ 3 ∷ 5 ∷ 8 ∷ 7 ∷ 6 ∷ []) $
+        by ! (exits (m .outcome) _ (control-after c m) (set rs task (record-after (recordAt queue task) m)) (zs .1 .1 .1 .1 .0) (zs .1 .1 .1 .1 .1 .0) (zs .1 .1 .1 .1 .1 .1 .1 .0) (moved m (zs .1 .1 .1 .1 .0) (zs .1 .1 .1 .1 .1 .0) (zs .1 .1 .1 .1 .1 .1 .1 .0) e (sym told ∙ fails b (T-not b not-over))) (length-set rs task (record-after (recordAt queue task) m)) e1 e2 e4 (LL.owed N.the-type N′.the-laws m _ is .1 .1 .0))))
+        (λ past2. absurd (T-not (ltb task n) past2 here)))))))))))))))))
         (λ past. skips ! $
         exec ! C Λ (env-of (code.function .locals) bs) body.t-6 (atRet (env-of (code.function .locals) bs) Post) $
         move ! (6 ∷ []) $ fsplit ! $
         move ! (7 ∷ []) $ split ! $
         -- [lft; toks1; held; rest; cellc; ownc; oborc; obsc; authc; local i at position 9 + 2 i]
         -- the tables are lent on
-        lets ! (addr ! (from ! (fld ! refl (hop ! (look-in ! 17 (sub ! 0 refl (whole !))) (stop !))))) (init ! 41 refl (tt, tt)) $
-        lets ! (agg ! (and-then ! (var ! 41 refl) (and-then ! (part ! 17 1 refl refl refl) (no-more !)))) (init ! 43 refl (tt, (tt, (record { fits = room1 .0 }, tt)))) $
-        lets ! (addr ! (from ! (fld ! refl (hop ! (look-in ! 19 (sub ! 0 refl (whole !))) (stop !))))) (init ! 45 refl (tt, tt)) $
-        lets ! (agg ! (and-then ! (var ! 45 refl) (and-then ! (part ! 19 1 refl refl refl) (no-more !)))) (init ! 47 refl (tt, (tt, (record { fits = room2 .0 }, tt)))) $
-        lets ! (addr ! (from ! (fld ! refl (hop ! (look-in ! 23 (sub ! 0 refl (whole !))) (stop !))))) (init ! 49 refl (tt, tt)) $
-        lets ! (agg ! (and-then ! (var ! 49 refl) (and-then ! (part ! 23 1 refl refl refl) (no-more !)))) (init ! 51 refl (tt, (tt, (record { fits = room4 .0 }, tt)))) $
+        lets ! (addr ! (from ! (fld ! refl (hop ! (look-in ! 17 (sub ! 0 refl (whole !))) (stop !))))) (init ! 43 refl (tt, tt)) $
+        lets ! (agg ! (and-then ! (var ! 43 refl) (and-then ! (part ! 17 1 refl refl refl) (no-more !)))) (init ! 45 refl (tt, (tt, (record { fits = room1 .0 }, tt)))) $
+        lets ! (addr ! (from ! (fld ! refl (hop ! (look-in ! 19 (sub ! 0 refl (whole !))) (stop !))))) (init ! 47 refl (tt, tt)) $
+        lets ! (agg ! (and-then ! (var ! 47 refl) (and-then ! (part ! 19 1 refl refl refl) (no-more !)))) (init ! 49 refl (tt, (tt, (record { fits = room2 .0 }, tt)))) $
+        lets ! (addr ! (from ! (fld ! refl (hop ! (look-in ! 23 (sub ! 0 refl (whole !))) (stop !))))) (init ! 51 refl (tt, tt)) $
+        lets ! (agg ! (and-then ! (var ! 51 refl) (and-then ! (part ! 23 1 refl refl refl) (no-more !)))) (init ! 53 refl (tt, (tt, (record { fits = room4 .0 }, tt)))) $
         -- the call
         move ! (1 ∷ 3 ∷ []) $ use2 W (raw (Callee 𝓤 H A at-mem run .pre (to-callee idle))) (goes-in idle gc idle-is (room .0)) $
         calls-at ! fm (Callee 𝓤 H A at-mem run) known (to-callee idle)
-        (and-then ! (var ! 26 refl) (and-then ! (var ! 28 refl) (and-then ! (var ! 24 refl) (and-then ! (var ! 14 refl) (and-then ! (var ! 42 refl) (and-then ! (var ! 46 refl) (and-then ! (var ! 20 refl) (and-then ! (var ! 50 refl) (no-more !))))))))) (λ w.
+        (and-then ! (var ! 26 refl) (and-then ! (var ! 28 refl) (and-then ! (var ! 24 refl) (and-then ! (var ! 14 refl) (and-then ! (var ! 44 refl) (and-then ! (var ! 48 refl) (and-then ! (var ! 20 refl) (and-then ! (var ! 52 refl) (no-more !))))))))) (λ w.
         use1 W (later (some (λ (m : Moved). ((‵ (flft κ1 q1) ⊛ ‵ (flft κ2 q2) ⊛ ‵ (flft κ3 q3) ⊛ ‵ (flft κ4 q4) ⊛ ‵ ftrue) ⊛ ‵ (N.the-row .own m (w ∷ []))) ⊛ raw (ensured 𝓤 H A callee.ended (callee.clauses 𝓤 H A at-mem run) (κ1, (κ2, (κ3, (κ4, tt)))) (c, (idle, (n, (task, (x1, (x2, (x3, (x4, tt)))))))) tt m)))) (id⊢ 𝓤 _) $
         await ! tt $ pick ! (λ m.
         split ! $ move ! (1 ∷ []) $
@@ -314,26 +392,40 @@ module _ {M : Type 1} (𝓤 : URA M) (H : Heap 𝓤) (A : Atoms 𝓤) (W : Given
         move ! (3 ∷ []) $ split ! $ move ! (1 ∷ []) $ peeks ! N.the-row (Is N.the-row) (shows 𝓤 H A N.the-row) m (w ∷ []) (λ is.
         -- [ownM; toks1; fin4; fin2; fin1; lft; held; cellc; ownc; oborc; obsc; authc; local i at position 12 + 2 i]
         receive ! 34 refl (LL.lawful N.the-type N′.the-laws 𝓤 H A W .typed m _ is .0) (ap only (LL.tells N.the-type N′.the-laws m (w ∷ []) is)) $
-        assigns ! (of-opd ! (part ! 34 0 refl refl refl)) (from ! (hop ! (look ! 14 refl) (stop !))) (store-raw ! 7 refl (LL.lawful K.the-type K′.the-laws 𝓤 H A W .typed (m .control) _ (LL.owed N.the-type N′.the-laws m _ is .0) .0)) $
-        lets ! (bin ! (var ! 18 refl) (var ! 28 refl) tt) (store ! 36 refl (tt, tt)) $
-        first ! $ branches ! (var ! 36 refl)
+        -- whether the call is over
+        nothing ! $ use1 W (raw (Test 𝓤 H A at-mem run .pre (to-test (m .outcome)))) (goes-test (m .outcome) (LL.owed N.the-type N′.the-laws m _ is .1 .1 .0)) $
+        calls-at ! fm (Test 𝓤 H A at-mem run) known-test (to-test (m .outcome))
+        (and-then ! (part ! 35 2 refl refl refl) (no-more !)) (λ v.
+        use1 W (later (some (λ (b : Bool). (‵ ftrue ⊛ ‵ (bool .own b (v ∷ []))) ⊛ raw (ensured 𝓤 H A test.ended (test.clauses 𝓤 H A at-mem run) tt (m .outcome, tt) tt b)))) (id⊢ 𝓤 _) $
+        await ! tt $ pick ! (λ b.
+        split ! $ move ! (1 ∷ []) $ use1 W (some (λ (us : Lasts-test). ‵ (lasts test.ended tt (m .outcome, tt) us) ⊛ raw (fact 𝓤 (b ≡ endsCall (m .outcome))))) (id⊢ 𝓤 _) $
+        pick ! (λ us.
+        split ! $ move ! (1 ∷ []) $ heard ! (b ≡ endsCall (m .outcome)) (λ told.
+        fsplit ! $ drop ! $ drop ! $
+        split ! $ move ! (1 ∷ []) $ peeks ! bool (Is bool) (shows 𝓤 H A bool) b (v ∷ []) (λ is-b. drop ! $ drop ! $
+        receive ! 36 refl (bool-lawful 𝓤 H A W .typed b _ is-b .0) (ap only is-b) $
+        -- what the step may change is stored
+        assigns ! (of-opd ! (load ! (from ! (fld ! refl (fld ! refl (stop !)))) (look-in ! 34 (sub ! 2 refl (sub ! 0 refl (whole !)))))) (from ! (hop ! (look ! 14 refl) (fld ! refl (stop !)))) (store-in ! 7 (sub ! 2 refl (whole !)) (tt, record { fits = (LL.owed K.the-type K′.the-laws (m .control) _ (LL.owed N.the-type N′.the-laws m _ is .0)) .1 .1 .0 .1 })) $
+        assigns ! (of-opd ! (load ! (from ! (fld ! refl (fld ! refl (stop !)))) (look-in ! 34 (sub ! 3 refl (sub ! 0 refl (whole !)))))) (from ! (hop ! (look ! 14 refl) (fld ! refl (stop !)))) (store-in ! 7 (sub ! 3 refl (whole !)) (tt, record { fits = (LL.owed K.the-type K′.the-laws (m .control) _ (LL.owed N.the-type N′.the-laws m _ is .0)) .1 .1 .1 .0 .1 })) $
+        lets ! (bin ! (var ! 18 refl) (var ! 28 refl) tt) (store ! 38 refl (tt, tt)) $
+        first ! $ branches ! (var ! 38 refl)
         (λ here2. absurd (T-not (ltb task n) past here2))
         (λ past2. skips ! $
-        exec ! C Λ (env-of (code.function .locals) bs) body.t-16 (atRet (env-of (code.function .locals) bs) Post) $
+        exec ! C Λ (env-of (code.function .locals) bs) body.t-18 (atRet (env-of (code.function .locals) bs) Post) $
         lets ! (of-opd ! (part ! 34 2 refl refl refl)) (init ! 12 refl (EL.lawful E.the-type E′.the-laws 𝓤 H A W tt .typed (m .outcome) _ (LL.owed N.the-type N′.the-laws m _ is .1 .1 .0) .0)) $
-        owned ! K.the-row (Is K.the-row) (LL.makes K.the-type K′.the-plain 𝓤 H A) (m .control) _ (LL.owed N.the-type N′.the-laws m _ is .0) $
-        move ! (8 ∷ 0 ∷ 10 ∷ 11 ∷ 12 ∷ []) $ closes ! tt K.the-row (m .control) (control-value (m .control) ∷ []) (xc .ptr .0) (xc .ptr .1) $
+        owned ! K.the-row (Is K.the-row) (LL.makes K.the-type K′.the-plain 𝓤 H A) (control-after c m) _ (control-is c m gc (LL.owed N.the-type N′.the-laws m _ is .0)) $
+        move ! (8 ∷ 0 ∷ 10 ∷ 11 ∷ 12 ∷ []) $ closes ! tt K.the-row (control-after c m) (control-value (control-after c m) ∷ []) (xc .ptr .0) (xc .ptr .1) $
         -- the locals are freed
         returns ! (look ! 11 refl) $
-        frees-all ! 11 (full _ ∷ full _ ∷ full _ ∷ full _ ∷ full _ ∷ full _ ∷ full _ ∷ full _ ∷ full _ ∷ full _ ∷ full _ ∷ full _ ∷ full _ ∷ bare ∷ bare ∷ bare ∷ full _ ∷ full _ ∷ full _ ∷ full _ ∷ full _ ∷ full _ ∷ bare ∷ bare ∷ []) refl $
+        frees-all ! 11 (full _ ∷ full _ ∷ full _ ∷ full _ ∷ full _ ∷ full _ ∷ full _ ∷ full _ ∷ full _ ∷ full _ ∷ full _ ∷ full _ ∷ full _ ∷ full _ ∷ bare ∷ bare ∷ bare ∷ full _ ∷ full _ ∷ full _ ∷ full _ ∷ full _ ∷ full _ ∷ bare ∷ bare ∷ bare ∷ bare ∷ bare ∷ bare ∷ bare ∷ bare ∷ bare ∷ bare ∷ []) refl $
         move ! (0 ∷ 1 ∷ []) $ feqI ! (List Val) (pc ∷ []) (pc ∷ []) refl $ fjoin3 ! $
         keep ! (0 ∷ 8 ∷ 1 ∷ 7 ∷ 3 ∷ 6 ∷ 5 ∷ 4 ∷ []) $
-        by ! (exits (m .outcome) _ (m .control) rs (zs .1 .1 .1 .1 .0) (zs .1 .1 .1 .1 .1 .0) (zs .1 .1 .1 .1 .1 .1 .1 .0) (missed m (zs .1 .1 .1 .1 .0) (zs .1 .1 .1 .1 .1 .0) (zs .1 .1 .1 .1 .1 .1 .1 .0) (λ k. T-not (ltb task n) past (lt→ltb task n k)) e) refl e1 e2 e4 (LL.owed N.the-type N′.the-laws m _ is .1 .1 .0)))))))))))))))
+        by ! (exits (m .outcome) _ (control-after c m) rs (zs .1 .1 .1 .1 .0) (zs .1 .1 .1 .1 .1 .0) (zs .1 .1 .1 .1 .1 .1 .1 .0) (missed m (zs .1 .1 .1 .1 .0) (zs .1 .1 .1 .1 .1 .0) (zs .1 .1 .1 .1 .1 .1 .1 .0) (λ k. T-not (ltb task n) past (lt→ltb task n k)) e) refl e1 e2 e4 (LL.owed N.the-type N′.the-laws m _ is .1 .1 .0))))))))))))))))))))
 
 module _ {M : Type 1} (𝓤 : URA M) (H : Heap 𝓤) (A : Atoms 𝓤) (W : Given 𝓤 H A) (mem : Memory → SProp 𝓤) (run : Routine → Fun 𝓤) where
-  self-walks : (C : Calls 𝓤 H) (Λ : Loops 𝓤 H) → FmC 𝓤 H (W .laws) C → Triple 𝓤 (C #engine·step) (Callee 𝓤 H A mem run)
+  self-walks : (C : Calls 𝓤 H) (Λ : Loops 𝓤 H) → FmC 𝓤 H (W .laws) C → Triple 𝓤 (C #engine·step) (Callee 𝓤 H A mem run) → Triple 𝓤 (C #engine·ends) (Test 𝓤 H A mem run)
       → Walks 𝓤 H A self.ended stayed (WpFn 𝓤 H C Λ code.function) (self.clauses 𝓤 H A mem run)
-  self-walks C Λ fm known = walked 𝓤 H A self.ended stayed (self.clauses 𝓤 H A mem run) (WpFn 𝓤 H C Λ code.function)
+  self-walks C Λ fm known known-test = walked 𝓤 H A self.ended stayed (self.clauses 𝓤 H A mem run) (WpFn 𝓤 H C Λ code.function)
       (λ κs. (ptr-vals, (slice-vals, (uint-vals w64, (slice-vals, (slice-vals, (slice-vals, (slice-vals, tt))))))))
       (λ κs. (
         mut-tells (named 0) (κs .0) K.the-row,
@@ -350,12 +442,12 @@ module _ {M : Type 1} (𝓤 : URA M) (H : Heap 𝓤) (A : Atoms 𝓤) (W : Given
       ))
       (λ κs qs bounds a g are. via 𝓤 _ (fst∗ 𝓤 _ (emp 𝓤)) (walk 𝓤 H A W mem run
       (κs .0) (κs .1 .0) (κs .1 .1 .0) (κs .1 .1 .1 .0) (κs .1 .1 .1 .1 .0) (κs .1 .1 .1 .1 .1 .0) (qs .0) (qs .1 .0) (qs .1 .1 .0) (qs .1 .1 .1 .0) (qs .1 .1 .1 .1 .0) (qs .1 .1 .1 .1 .1 .0) (a .0) (a .1 .0) (a .1 .1 .0) (are .1 .1 .0 .1) (a .1 .1 .1 .0) (a .1 .1 .1 .1 .0) (a .1 .1 .1 .1 .1 .0) (a .1 .1 .1 .1 .1 .1 .0)
-      C Λ fm known (are .1 .0 .0 .1) (are .1 .1 .1 .0 .0 .1) (are .1 .1 .1 .1 .0 .0 .1) (are .1 .1 .1 .1 .1 .0 .0 .1) (are .1 .1 .1 .1 .1 .1 .0 .0 .1)))
+      C Λ fm known known-test (are .1 .0 .0 .1) (are .1 .1 .1 .0 .0 .1) (are .1 .1 .1 .1 .0 .0 .1) (are .1 .1 .1 .1 .1 .0 .0 .1) (are .1 .1 .1 .1 .1 .1 .0 .0 .1)))
 
 self-meets : {M : Type 1} (𝓤 : URA M) (H : Heap 𝓤) (A : Atoms 𝓤) → Given 𝓤 H A → (mem : Memory → SProp 𝓤) (run : Routine → Fun 𝓤) (𝓣 : Program 𝓤 H)
-    → Triple 𝓤 (𝓣 .C #engine·step) (Callee 𝓤 H A mem run)
+    → Triple 𝓤 (𝓣 .C #engine·step) (Callee 𝓤 H A mem run) → Triple 𝓤 (𝓣 .C #engine·ends) (Test 𝓤 H A mem run)
     → Meets 𝓤 H A self.signature (WpFn 𝓤 H (𝓣 .C) (𝓣 .Λ) code.function) (self.spec 𝓤 H A mem run)
-self-meets 𝓤 H A W mem run 𝓣 known =
+self-meets 𝓤 H A W mem run 𝓣 known known-test =
     walk-meets 𝓤 H A self.ended stayed W (
       goes-ref 𝓤 H A W 6 0 tt (plain (λ _. K.the-row)),
       (
@@ -373,7 +465,7 @@ self-meets 𝓤 H A W mem run 𝓣 known =
       ),
     )
     (self.clauses 𝓤 H A mem run)
-    (WpFn 𝓤 H (𝓣 .C) (𝓣 .Λ) code.function) (WpFn-mono 𝓤 H (W .laws) 𝓣 code.function) (self-walks 𝓤 H A W mem run (𝓣 .C) (𝓣 .Λ) (fmOf 𝓤 H (W .laws) 𝓣) known)
+    (WpFn 𝓤 H (𝓣 .C) (𝓣 .Λ) code.function) (WpFn-mono 𝓤 H (W .laws) 𝓣 code.function) (self-walks 𝓤 H A W mem run (𝓣 .C) (𝓣 .Λ) (fmOf 𝓤 H (W .laws) 𝓣) known known-test)
 
 pub step-spec : {M : Type 1} → stated.statement M
 unfolding code.routine tablesOf
@@ -381,4 +473,5 @@ step-spec 𝓤 H 𝓜 𝓖 𝓡 =
     entered 𝓤 H (tripleOf 𝓤 H (𝓖 .A) self.signature (self.spec 𝓤 H (𝓖 .A) (𝓜 .mem) (𝓡 .run)))
     (tables 𝓤 H 𝓜 𝓡 code.env .C) (tables 𝓤 H 𝓜 𝓡 code.env .Λ) #deque·step code.function (code.unfolded 𝓤 H 𝓜 𝓡)
     (self-meets 𝓤 H (𝓖 .A) (givenOf 𝓤 H 𝓜 𝓖) (𝓜 .mem) (𝓡 .run) (tablesOf 𝓤 H 𝓜 (tables 𝓤 H 𝓜 𝓡 code.env))
-    (cited 𝓤 H (Callee 𝓤 H (𝓖 .A) (𝓜 .mem) (𝓡 .run)) 𝓜 𝓡 code.env #engine·step callee-def.routine code.calls-engine·step (callee-thm.met 𝓤 H 𝓜 𝓖 𝓡)))
+    (cited 𝓤 H (Callee 𝓤 H (𝓖 .A) (𝓜 .mem) (𝓡 .run)) 𝓜 𝓡 code.env #engine·step callee-def.routine code.calls-engine·step (callee-thm.met 𝓤 H 𝓜 𝓖 𝓡))
+    (cited 𝓤 H (Test 𝓤 H (𝓖 .A) (𝓜 .mem) (𝓡 .run)) 𝓜 𝓡 code.env #engine·ends test-def.routine code.calls-engine·ends (test-thm.met 𝓤 H 𝓜 𝓖 𝓡)))

@@ -51,7 +51,7 @@ use Rattle.model.specs.Refusals.{alone}
 use Rattle.model.specs.Calls.{Acted, stepLent}
 use Rattle.engine.specs.Ends.{endsCall}
 use Rattle.deque.proofs.Walk.{control-value, record-value, kept, var, part, lets, receive, idle-is, holds, fails}
-use Rattle.deque.proofs.Stored.{control-after, record-after, over, going}
+use Rattle.deque.proofs.Stored.{control-after, record-after, control-is, record-is, over, going}
 use Rattle.deque.proofs.Frame.{env-of, full, bare, allocates, frees-all}
 use Rattle.model.proofs.Control as K
 use Rattle.model.proofs.Control.Laws as K′
@@ -161,19 +161,6 @@ module _ {M : Type 1} (𝓤 : URA M) (H : Heap 𝓤) (A : Atoms 𝓤) (W : Given
 
   abbrev Lasts-test : Type 0
   Lasts-test = Unit {0} × Unit {0}
-
-  -- what is stored is a control and a record
-  control-is : (m : Moved) → Is K.the-row c (control-value c ∷ []) → Is K.the-row (m .control) (control-value (m .control) ∷ []) → Is K.the-row (control-after c m) (control-value (control-after c m) ∷ [])
-  control-is m g h =
-      let a = LL.owed K.the-type K′.the-laws c _ g in
-      let b = LL.owed K.the-type K′.the-laws (m .control) _ h in
-      LL.owes K.the-type K′.the-laws (control-after c m) ((refl, a .0 .1), ((refl, a .1 .0 .1), ((refl, b .1 .1 .0 .1), ((refl, b .1 .1 .1 .0 .1), tt))))
-
-  record-is : (m : Moved) → Is T.the-row r (record-value r ∷ []) → Is T.the-row (m .task) (record-value (m .task) ∷ []) → Is T.the-row (record-after r m) (record-value (record-after r m) ∷ [])
-  record-is m g h =
-      let a = LL.owed T.the-type T′.the-laws r _ g in
-      let b = LL.owed T.the-type T′.the-laws (m .task) _ h in
-      LL.owes T.the-type T′.the-laws (record-after r m) ((refl, b .0 .1), ((refl, a .1 .0 .1), ((refl, a .1 .1 .0 .1), ((refl, a .1 .1 .1 .0 .1), ((refl, a .1 .1 .1 .1 .0 .1), ((refl, b .1 .1 .1 .1 .1 .0 .1), ((refl, b .1 .1 .1 .1 .1 .1 .0 .1), ((refl, b .1 .1 .1 .1 .1 .1 .1 .0 .1), ((refl, b .1 .1 .1 .1 .1 .1 .1 .1 .0 .1), tt)))))))))
 
   abbrev bound : walkOf 𝓤 H A self.ended stayed (self.clauses 𝓤 H A at-mem run) .Ghost
   bound = (((κc, (κr, (κ1, (κ2, (κ3, (κ4, tt)))))), (qc, (qr, (q1, (q2, (q3, (q4, tt)))))), tt, a, vals), tt)
@@ -293,7 +280,7 @@ module _ {M : Type 1} (𝓤 : URA M) (H : Heap 𝓤) (A : Atoms 𝓤) (W : Given
         lets ! (of-opd ! (part ! 33 2 refl refl refl)) (init ! 15 refl (EL.lawful E.the-type E′.the-laws 𝓤 H A W tt .typed (m .outcome) _ (LL.owed N.the-type N′.the-laws m _ is .1 .1 .0) .0)) $
         owned ! T.the-row (Is T.the-row) (LL.makes T.the-type T′.the-plain 𝓤 H A) idle _ idle-is $
         move ! (6 ∷ 0 ∷ 8 ∷ 9 ∷ 10 ∷ []) $ closes ! tt T.the-row idle (record-value idle ∷ []) (xr .ptr .0) (xr .ptr .1) $
-        owned ! K.the-row (Is K.the-row) (LL.makes K.the-type K′.the-plain 𝓤 H A) (control-after c m) _ (control-is m gc (LL.owed N.the-type N′.the-laws m _ is .0)) $
+        owned ! K.the-row (Is K.the-row) (LL.makes K.the-type K′.the-plain 𝓤 H A) (control-after c m) _ (control-is c m gc (LL.owed N.the-type N′.the-laws m _ is .0)) $
         move ! (10 ∷ 0 ∷ 12 ∷ 13 ∷ 14 ∷ []) $ closes ! tt K.the-row (control-after c m) (control-value (control-after c m) ∷ []) (xc .ptr .0) (xc .ptr .1) $
         returns ! (look ! 13 refl) $
         frees-all ! 13 (full _ ∷ full _ ∷ full _ ∷ full _ ∷ full _ ∷ full _ ∷ full _ ∷ full _ ∷ full _ ∷ full _ ∷ full _ ∷ full _ ∷ full _ ∷ full _ ∷ full _ ∷ full _ ∷ full _ ∷ full _ ∷ full _ ∷ []) refl $
@@ -309,9 +296,9 @@ module _ {M : Type 1} (𝓤 : URA M) (H : Heap 𝓤) (A : Atoms 𝓤) (W : Given
         assigns-last ! (of-opd ! (load ! (from ! (fld ! refl (fld ! refl (stop !)))) (look-in ! 33 (sub ! 8 refl (sub ! 1 refl (whole !)))))) (from ! (hop ! (look ! 19 refl) (fld ! refl (stop !)))) (store-in ! 5 (sub ! 8 refl (whole !)) (tt, record { fits = (LL.owed T.the-type T′.the-laws (m .task) _ (LL.owed N.the-type N′.the-laws m _ is .1 .0)) .1 .1 .1 .1 .1 .1 .1 .1 .0 .1 })) $
         exec ! C Λ (env-of (code.function .locals) bs) body.t-15 (atRet (env-of (code.function .locals) bs) Post) $
         lets ! (of-opd ! (part ! 33 2 refl refl refl)) (init ! 15 refl (EL.lawful E.the-type E′.the-laws 𝓤 H A W tt .typed (m .outcome) _ (LL.owed N.the-type N′.the-laws m _ is .1 .1 .0) .0)) $
-        owned ! T.the-row (Is T.the-row) (LL.makes T.the-type T′.the-plain 𝓤 H A) (record-after r m) _ (record-is m g (LL.owed N.the-type N′.the-laws m _ is .1 .0)) $
+        owned ! T.the-row (Is T.the-row) (LL.makes T.the-type T′.the-plain 𝓤 H A) (record-after r m) _ (record-is r m g (LL.owed N.the-type N′.the-laws m _ is .1 .0)) $
         move ! (6 ∷ 0 ∷ 8 ∷ 9 ∷ 10 ∷ []) $ closes ! tt T.the-row (record-after r m) (record-value (record-after r m) ∷ []) (xr .ptr .0) (xr .ptr .1) $
-        owned ! K.the-row (Is K.the-row) (LL.makes K.the-type K′.the-plain 𝓤 H A) (control-after c m) _ (control-is m gc (LL.owed N.the-type N′.the-laws m _ is .0)) $
+        owned ! K.the-row (Is K.the-row) (LL.makes K.the-type K′.the-plain 𝓤 H A) (control-after c m) _ (control-is c m gc (LL.owed N.the-type N′.the-laws m _ is .0)) $
         move ! (10 ∷ 0 ∷ 12 ∷ 13 ∷ 14 ∷ []) $ closes ! tt K.the-row (control-after c m) (control-value (control-after c m) ∷ []) (xc .ptr .0) (xc .ptr .1) $
         returns ! (look ! 13 refl) $
         frees-all ! 13 (full _ ∷ full _ ∷ full _ ∷ full _ ∷ full _ ∷ full _ ∷ full _ ∷ full _ ∷ full _ ∷ full _ ∷ full _ ∷ full _ ∷ full _ ∷ full _ ∷ full _ ∷ full _ ∷ full _ ∷ full _ ∷ bare ∷ []) refl $
