@@ -1,9 +1,10 @@
 -- The model's step at the places that touch Anchor alone, in the terms of this crate: 1, 2, 4, 6, 8 and 10.
-use mathlib.Core.Path.{_≡_, refl, ap}
+use mathlib.Core.Path.{_≡_, refl, sym, ap, subst, _∙_}
 use mathlib.Core.Bool.{true, false, _&&_, cond}
 use mathlib.Core.List.{List}
 use Prim.Native.Nat.{ℕ, _+_, _/_, _^_}
 use lib.Dec.{eqb, ltb}
+use borrow.Author.Tests.{eq-eqb, ne-eqb}
 use Rattle.word.specs.Anchor.{anchorOf, packAnchor}
 use Rattle.model.specs.declared.Control.{Control}
 use Rattle.model.specs.declared.Record.{Record}
@@ -13,8 +14,9 @@ use Rattle.model.specs.Places.{reading, withSeen, row, sideOf, setAnchor, compa
 use Rattle.model.specs.Refusals.{needsRow, meetsLink, stepSound}
 use Rattle.model.specs.Route.{route, pushRoute, popRoute, goes, counted}
 use Rattle.model.specs.Calls.{finish}
+use Rattle.table.specs.declared.Acted as made
 use Rattle.places.specs.Arm.{withTables, standing, stepAt, Steps}
-use Rattle.places.specs.Ending.{settled, noEntry, bumped, withAnchor, compared, changed}
+use Rattle.places.specs.Ending.{refused, settled, noEntry, bumped, withAnchor, mayChange, remembered, compared, changed}
 use Rattle.places.proofs.Routes.{split, kinds, readings, Quiet, entry, quietly}
 
 -- A place that needs no slot row and meets no link, and whose routes answer quietly.
@@ -72,6 +74,20 @@ module _ (c : Control) (r : Record) where
         (λ s. rw (moves, p .needs, p .meets, h, s)))
         (λ h. rw (moves, p .needs, p .meets, h) (ap (λ m. withTables m ls rs ns ms) (quietly (bumped c) r (route n (r .kind) 1) (entry (row (standing n r)) ns) (p .second))))
 
+  -- A change failed, denied, made.
+  module _ (new : ℕ) (t : Record) (done failed : ℕ) where
+    pub fails : (c .anchor ≡ r .seen → ⊥) → settled (bumped c) r failed noEntry ≡ changed c r new t done failed
+    unfolding changed
+    fails h = simp (ne-eqb _ _ h)
+
+    pub denies : (m : made.Acted) → m ≡ refused c r → c .anchor ≡ r .seen → mayChange (c .slots) (r .seen) new ≡ false → m ≡ changed c r new t done failed
+    unfolding changed mayChange
+    denies m e h s = e ∙ simp (eq-eqb _ _ h, s)
+
+    pub makes : c .anchor ≡ r .seen → mayChange (c .slots) (r .seen) new ≡ true → settled (withAnchor c new) t done noEntry ≡ changed c r new t done failed
+    unfolding changed mayChange
+    makes h s = simp (eq-eqb _ _ h, s)
+
   pub step2 :
       (end new : ℕ)
       → end ≡ cond (eqb (r .kind) 0) (r .own) 0
@@ -95,6 +111,24 @@ module _ (c : Control) (r : Record) where
   unfolding move at4 new4 sideOf route pushRoute popRoute
   pop4 k = changing 4 (plain r 4 refl refl refl refl refl refl) newPop r (λ w. rw k)
 
+  pub step4 :
+      (status end new : ℕ)
+      → status ≡ cond (eqb (r .kind) 0) (pushing (r .side)) (anchorOf (r .seen) .status)
+      → end ≡ cond (eqb (r .kind) 0) (r .own) (r .neighbour)
+      → new ≡ packAnchor (facing (r .side) (r .seen / 2 ^ 32 + 1) status end (far (r .side) (anchorOf (r .seen))))
+      → Steps 4 c r (changed c r new (remembered r new) (route 4 (r .kind) 0) (route 4 (r .kind) 1))
+  unfolding remembered
+  step4 status end new s e n =
+      split (eqb (r .kind) 0)
+      (λ k. rw (n, s, e, k) (push4 k))
+      (λ k. rw (n, s, e, k) (pop4 k))
+
+  -- A failed change doesn't depend on the word it would have made.
+  pub failed4 : (c .anchor ≡ r .seen → ⊥) → Steps 4 c r (settled (bumped c) r (route 4 (r .kind) 1) noEntry)
+  failed4 h =
+      let new = packAnchor (facing (r .side) (r .seen / 2 ^ 32 + 1) (cond (eqb (r .kind) 0) (pushing (r .side)) (anchorOf (r .seen) .status)) (cond (eqb (r .kind) 0) (r .own) (r .neighbour)) (far (r .side) (anchorOf (r .seen)))) in
+      subst (λ (m : made.Acted). Steps 4 c r m) (sym (fails new (remembered r new) (route 4 (r .kind) 0) (route 4 (r .kind) 1) h)) (step4 _ _ new refl refl refl)
+
   pub step6 : Steps 6 c r (compared c r (route 6 (r .kind) 0) (route 6 (r .kind) 1))
   unfolding move at6 route pushRoute popRoute
   step6 = comparing 6 (plain r 6 refl refl refl refl refl refl) (λ w. refl)
@@ -106,6 +140,6 @@ module _ (c : Control) (r : Record) where
   abbrev pub stable : ℕ
   stable = packAnchor (record { tag = r .seen / 2 ^ 32 + 1; status = 0; left = anchorOf (r .seen) .left; right = anchorOf (r .seen) .right })
 
-  pub step10 : Steps 10 c r (changed c r stable r (route 10 (r .kind) 0) (route 10 (r .kind) 1))
+  pub step10 : (new : ℕ) → new ≡ stable → Steps 10 c r (changed c r new r (route 10 (r .kind) 0) (route 10 (r .kind) 1))
   unfolding move at10 route pushRoute popRoute
-  step10 = changing 10 (plain r 10 refl refl refl refl refl refl) stable r (λ w. refl)
+  step10 new e = changing 10 (plain r 10 refl refl refl refl refl refl) new r (λ w. rw e)

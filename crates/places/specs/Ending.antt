@@ -9,7 +9,7 @@ use Rattle.model.specs.declared.Record.{Record}
 use Rattle.model.specs.declared.Entry.{Entry}
 use Rattle.model.specs.declared.Outcome.the-variants.{Refused, Moved}
 use Rattle.model.specs.Sound.{from1, anchorSound, linkSound}
-use Rattle.model.specs.Places.{withNeighbour, withLink}
+use Rattle.model.specs.Places.{withSeen, withNeighbour, withLink}
 use Rattle.model.specs.Route.{onward, goes, answer, counted}
 use Rattle.table.specs.declared.Acted as made
 
@@ -31,6 +31,10 @@ withAnchor c w = record { tasks = c .tasks; slots = c .slots; anchor = w; retrie
 abbrev pub noEntry : Entry
 noEntry = record { slot = 0; label = 0 }
 
+-- The tag as read can be raised, and the new Anchor is sound.
+unfoldable pub mayChange : ℕ → ℕ → ℕ → Bool
+mayChange slots seen new = anchorSound slots (anchorOf new) && ltb (anchorOf seen .tag) 4294967295
+
 -- A change of Anchor from the word as read to new: done leads the record t on, failed the record r.
 unfoldable pub changed : Control → Record → ℕ → Record → ℕ → ℕ → made.Acted
 changed c r new t done failed =
@@ -38,6 +42,10 @@ changed c r new t done failed =
     cond (eqb (c .anchor) (r .seen))
     (cond sound (settled (withAnchor c new) t done noEntry) (refused c r))
     (settled (bumped c) r failed noEntry)
+
+-- A push whose change of Anchor at place 4 is done remembers the new word, and is finishing.
+unfoldable pub remembered : Record → ℕ → Record
+remembered r new = cond (eqb (r .kind) 0) (withSeen r new 1) r
 
 -- Anchor compared with the word as read.
 unfoldable pub compared : Control → Record → ℕ → ℕ → made.Acted

@@ -33,9 +33,14 @@ pub fn at2(c: Control, r: Record) -> Acted
     let a = Anchor::unpack(r.seen);
     let end = side::choose(r.kind == 0, r.own, 0);
     let new = side::facing(r.side == 1, step::raised(r.seen), a.status, end, end);
-    let done = next::next(2, r.kind, 0);
-    let failed = next::next(2, r.kind, 1);
-    step::changes(c, r, new, r, done, failed)
+    if c.anchor != r.seen {
+        return step::settles(step::bumped(c), r, next::next(2, r.kind, 1), step::NO_ENTRY);
+    }
+    if !step::may_change(c.slots, r.seen, new) {
+        return step::refused(c, r);
+    }
+    let d = step::with_anchor(c, new);
+    step::settles(d, r, next::next(2, r.kind, 0), step::NO_ENTRY)
 }
 
 /// Place 3: put the end into the own slot's inward link, its tag kept; a pop reads the end's
@@ -65,26 +70,23 @@ pub fn at3(c: Control, r: Record, lefts: &mut [u64], rights: &mut [u64]) -> Acte
 pub fn at4(c: Control, r: Record) -> Acted
     ensures { λ m. ⌜ Steps 4 c r m ⌝ }
 {
+    if c.anchor != r.seen {
+        return step::settles(step::bumped(c), r, next::next(4, r.kind, 1), step::NO_ENTRY);
+    }
     let right = r.side == 1;
     let a = Anchor::unpack(r.seen);
     let far = side::far(right, a);
-    let done = next::next(4, r.kind, 0);
-    let failed = next::next(4, r.kind, 1);
-    if r.kind == 0 {
-        let new = side::facing(
-            right,
-            step::raised(r.seen),
-            side::pushing(right),
-            r.own,
-            far,
-        );
-        let mut t = r;
-        t.seen = new;
-        t.finishing = 1;
-        return step::changes(c, r, new, t, done, failed);
+    let tag = step::raised(r.seen);
+    let push = r.kind == 0;
+    let status = side::choose(push, side::pushing(right), a.status);
+    let end = side::choose(push, r.own, r.neighbour);
+    let new = side::facing(right, tag, status, end, far);
+    if !step::may_change(c.slots, r.seen, new) {
+        return step::refused(c, r);
     }
-    let new = side::facing(right, step::raised(r.seen), a.status, r.neighbour, far);
-    step::changes(c, r, new, r, done, failed)
+    let d = step::with_anchor(c, new);
+    let t = step::remembers(r, new);
+    step::settles(d, t, next::next(4, r.kind, 0), step::NO_ENTRY)
 }
 
 /// Place 5: read the end's inward link as neighbour. (Figure 4, line 5.)
@@ -166,9 +168,19 @@ pub fn at10(c: Control, r: Record) -> Acted
         right: a.right,
     };
     let new = stable.pack();
-    let done = next::next(10, r.kind, 0);
-    let failed = next::next(10, r.kind, 1);
-    step::changes(c, r, new, r, done, failed)
+    if c.anchor != r.seen {
+        return step::settles(
+            step::bumped(c),
+            r,
+            next::next(10, r.kind, 1),
+            step::NO_ENTRY,
+        );
+    }
+    if !step::may_change(c.slots, r.seen, new) {
+        return step::refused(c, r);
+    }
+    let d = step::with_anchor(c, new);
+    step::settles(d, r, next::next(10, r.kind, 0), step::NO_ENTRY)
 }
 
 /// Place 11: read the label of the end taken and clear its mark. (Figure 5, after the loop.)

@@ -13,7 +13,7 @@ ghost use Prim.Native.Nat.{_+_, _/_, _^_};
 ghost use Rattle.word.specs.Link.{packLink};
 ghost use Rattle.model.specs.Tables.{idle};
 ghost use Rattle.model.specs.Route.{goes};
-ghost use Rattle.places.specs.Ending.{refused, settled, bumped, changed, compared, rowSound, neighbourRead, linkRead};
+ghost use Rattle.places.specs.Ending.{refused, settled, bumped, mayChange, withAnchor, remembered, compared, rowSound, neighbourRead, linkRead};
 
 /// For a step that pops nothing.
 pub const NO_ENTRY: Entry = Entry { slot: 0, label: 0 };
@@ -107,20 +107,34 @@ pub fn raised(w: u64) -> u64
     a.tag + 1
 }
 
-/// Changes Anchor to `new` if it still is the word as read; `t` is the record then.
-pub fn changes(c: Control, r: Record, new: u64, t: Record, done: u8, failed: u8) -> Acted
-    ensures { λ m. ⌜ m ≡ changed c r new t done failed ⌝ }
+/// Whether Anchor may be changed from `seen` to `new`: the tag can be raised, and `new` is sound.
+pub fn may_change(slots: u64, seen: u64, new: u64) -> bool
+    ensures { λ b. ⌜ b ≡ mayChange slots seen new ⌝ }
 {
-    if c.anchor != r.seen {
-        return settles(bumped(c), r, failed, NO_ENTRY);
+    let a = Anchor::unpack(seen);
+    let sound = sound::anchor_sound(slots, new);
+    sound & (a.tag < Anchor::TAG_MASK)
+}
+
+/// The control with another Anchor.
+pub fn with_anchor(c: Control, new: u64) -> Control
+    ensures { λ d. ⌜ d ≡ withAnchor c new ⌝ }
+{
+    let mut d = c;
+    d.anchor = new;
+    d
+}
+
+/// The record once Anchor is changed at place 4: a push remembers the new word, and is finishing.
+pub fn remembers(r: Record, new: u64) -> Record
+    ensures { λ t. ⌜ t ≡ remembered r new ⌝ }
+{
+    let mut t = r;
+    if r.kind == 0 {
+        t.seen = new;
+        t.finishing = 1;
     }
-    let a = Anchor::unpack(r.seen);
-    if sound::anchor_sound(c.slots, new) & (a.tag < Anchor::TAG_MASK) {
-        let mut d = c;
-        d.anchor = new;
-        return settles(d, t, done, NO_ENTRY);
-    }
-    refused(c, r)
+    t
 }
 
 /// Compares Anchor with the word as read.

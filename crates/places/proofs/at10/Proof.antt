@@ -1,15 +1,39 @@
--- `step10`, with what the calls answer put in.
+-- `step10`, with what the calls answer put in; a change fails, is denied or is made.
+use mathlib.Core.Path.{sym, _∙_}
+use borrow.Author.Tests.{not-true, not-false}
 use borrow.Author.Needs.{needs}
-use Rattle.places.proofs.Anchors.{step10}
+use Rattle.model.specs.Route.{route}
+use Rattle.places.specs.Arm.{Steps}
+use Rattle.places.specs.Ending.{changed}
+use Rattle.places.proofs.Anchors.{fails, denies, makes, step10}
 use Rattle.places.proofs.at10.Statement.{statement}
 use Rattle.places.proofs.at10.Tie as tie
 
+module _ (b : tie.After-pack) where
+  abbrev a : tie.Start
+  a = b .before .before .before
+
+  tried : Steps 10 (a .args .c) (a .args .r) (changed (a .args .c) (a .args .r) (b .pack .result) (a .args .r) (route 10 (a .args .r .kind) 0) (route 10 (a .args .r .kind) 1))
+  tried =
+      step10 (a .args .c) (a .args .r) (b .pack .result) (rw (b .before .raised .ensures, b .before .before .unpack .ensures) at (b .pack .ensures))
+
 returns : tie.Need-returns
 returns c =
-    let b = c .before .before .before in
-    let a = b .before .before .before .args in
-    rw (c .changes .ensures, c .before .next2 .ensures, c .before .before .next .ensures, b .pack .ensures, b .before .raised .ensures, b .before .before .unpack .ensures)
-    (step10 (a .c) (a .r))
+    let b = c .before .before .before .before .before .before in
+    let s = a b .args in
+    rw (c .settles .ensures, c .before .next .ensures, c .before .before .bumped .ensures, fails (s .c) (s .r) (b .pack .result) (s .r) (route 10 (s .r .kind) 0) (route 10 (s .r .kind) 1) (c .before .before .before .if1 .taken)) (tried b)
+
+returns-2 : tie.Need-returns-2
+returns-2 c =
+    let b = c .before .before .before .before .before .before in
+    let s = a b .args in
+    rw (denies (s .c) (s .r) (b .pack .result) (s .r) (route 10 (s .r .kind) 0) (route 10 (s .r .kind) 1) (c .refused .result) (c .refused .ensures) (c .before .before .before .if1 .left) (sym (c .before .before .may-change .ensures) ∙ not-true _ (c .before .if2 .taken))) (tried b)
+
+returns-3 : tie.Need-returns-3
+returns-3 c =
+    let b = c .before .before .before .before .before .before .before .before in
+    let s = a b .args in
+    rw (c .settles2 .ensures, c .before .next2 .ensures, c .before .before .with-anchor .ensures, makes (s .c) (s .r) (b .pack .result) (s .r) (route 10 (s .r .kind) 0) (route 10 (s .r .kind) 1) (c .before .before .before .before .before .if1 .left) (sym (c .before .before .before .before .may-change .ensures) ∙ not-false _ (c .before .before .before .if2 .left))) (tried b)
 
 pub at10-spec : {M : Type 1} → statement M
 at10-spec =
@@ -18,7 +42,14 @@ at10-spec =
     (λ _ _. tt)
     (λ _ _. tt)
     (λ _ _. tt)
-    (λ c κs. search needs)
+    (λ _ _. tt)
     (λ c κs. search needs)
     (λ _ _. tt)
-    returns)
+    returns
+    (λ _ _. tt)
+    (λ _ _. tt)
+    returns-2
+    (λ _ _. tt)
+    (λ c κs. search needs)
+    (λ _ _. tt)
+    returns-3)
