@@ -216,16 +216,16 @@ pub fn step(
     let over = engine::ends(m.outcome);
     control.anchor = m.control.anchor;
     control.retries = m.control.retries;
-    if task < n {
-        if over {
+    if over {
+        if task < n {
             records[task] = IDLE;
-        } else {
-            records[task].place = m.task.place;
-            records[task].seen = m.task.seen;
-            records[task].neighbour = m.task.neighbour;
-            records[task].link = m.task.link;
-            records[task].finishing = m.task.finishing;
         }
+    } else if task < n {
+        records[task].place = m.task.place;
+        records[task].seen = m.task.seen;
+        records[task].neighbour = m.task.neighbour;
+        records[task].link = m.task.link;
+        records[task].finishing = m.task.finishing;
     }
     m.outcome
 }

@@ -244,8 +244,8 @@ module _ {M : Type 1} (𝓤 : URA M) (H : Heap 𝓤) (A : Atoms 𝓤) (W : Given
         pass1 ! (init ! 8 refl (tt, (tt, (record { fits = room1 .0 }, tt)))) $ pass1 ! (init ! 10 refl (tt, (tt, (record { fits = room2 .0 }, tt)))) $
         pass1 ! (init ! 12 refl (tt, (tt, (record { fits = room3 .0 }, tt)))) $ pass1 ! (init ! 14 refl (tt, (tt, (record { fits = room4 .0 }, tt)))) $ pass0 ! $
         -- the control is opened
-        move ! (67 ∷ []) $ fsplit ! $ fsplit3 ! $ drop ! $
-        move ! (69 ∷ []) $ split ! $
+        move ! (69 ∷ []) $ fsplit ! $ fsplit3 ! $ drop ! $
+        move ! (71 ∷ []) $ split ! $
         move ! (2 ∷ 3 ∷ 0 ∷ []) $
         opens ! tt K.the-row {h = c} (xc .ptr .0) (xc .ptr .1) (λ vK. spelt ! K.the-row (Is K.the-row) (shows 𝓤 H A K.the-row) (LL.vals K.the-type K′.the-laws) (LL.tells K.the-type K′.the-laws) fullShare c vK (xc .ptr .0) (xc .ptr .1) $
         move ! (1 ∷ []) $ peeks ! K.the-row (Is K.the-row) (shows 𝓤 H A K.the-row) c (control-value c ∷ []) (λ gc. move ! (1 ∷ 0 ∷ []) $
@@ -304,12 +304,12 @@ module _ {M : Type 1} (𝓤 : URA M) (H : Heap 𝓤) (A : Atoms 𝓤) (W : Given
         -- what the step may change is stored
         assigns ! (of-opd ! (load ! (from ! (fld ! refl (fld ! refl (stop !)))) (look-in ! 38 (sub ! 2 refl (sub ! 0 refl (whole !)))))) (from ! (hop ! (look ! 18 refl) (fld ! refl (stop !)))) (store-in ! 11 (sub ! 2 refl (whole !)) (tt, record { fits = (LL.owed K.the-type K′.the-laws (m .control) _ (LL.owed N.the-type N′.the-laws m _ is .0)) .1 .1 .0 .1 })) $
         assigns ! (of-opd ! (load ! (from ! (fld ! refl (fld ! refl (stop !)))) (look-in ! 38 (sub ! 3 refl (sub ! 0 refl (whole !)))))) (from ! (hop ! (look ! 18 refl) (fld ! refl (stop !)))) (store-in ! 11 (sub ! 3 refl (whole !)) (tt, record { fits = (LL.owed K.the-type K′.the-laws (m .control) _ (LL.owed N.the-type N′.the-laws m _ is .0)) .1 .1 .1 .0 .1 })) $
-        lets ! (bin ! (var ! 22 refl) (var ! 32 refl) tt) (store ! 42 refl (tt, tt)) $
+        lets ! (of-opd ! (var ! 40 refl)) (store ! 42 refl (tt, tt)) $
         first ! $ branches ! (var ! 42 refl)
-        (λ here2.
-        lets ! (of-opd ! (var ! 40 refl)) (init ! 62 refl (tt, tt)) $
-        branches ! (var ! 62 refl)
         (λ yes-over.
+        lets ! (bin ! (var ! 22 refl) (var ! 32 refl) tt) (init ! 62 refl (tt, tt)) $
+        branches ! (var ! 62 refl)
+        (λ here2.
         lets ! (agg ! (and-then ! (lit ! tt) (and-then ! (lit ! tt) (and-then ! (lit ! tt) (and-then ! (lit ! tt) (and-then ! (lit ! tt) (and-then ! (lit ! tt) (and-then ! (lit ! tt) (and-then ! (lit ! tt) (and-then ! (lit ! tt) (no-more !))))))))))) (init ! 64 refl (LL.lawful T.the-type T′.the-laws 𝓤 H A W .typed idle _ idle-is .0)) $
         lets ! (bin ! (var ! 22 refl) (lit ! tt) (record { fits = fits-scaled (room .1) (ltb→lt task n here) })) (init ! 66 refl (tt, record { fits = fits-scaled (room .1) (ltb→lt task n here) })) $
         lets ! (valued ! (ap (vptr (xr .ptr .0)) (sym (place-is (mem T.the-row .size) (xr .ptr .1) task))) (bin ! (part ! 20 0 refl refl refl) (var ! 66 refl) tt)) (init ! 68 refl (tt, tt)) $
@@ -324,29 +324,33 @@ module _ {M : Type 1} (𝓤 : URA M) (H : Heap 𝓤) (A : Atoms 𝓤) (W : Given
         move ! (10 ∷ 0 ∷ 12 ∷ 13 ∷ 14 ∷ []) $ closes ! tt K.the-row (control-after c m) (control-value (control-after c m) ∷ []) (xc .ptr .0) (xc .ptr .1) $
         -- the locals are freed
         returns ! (look ! 13 refl) $
-        frees-all ! 13 (full _ ∷ full _ ∷ full _ ∷ full _ ∷ full _ ∷ full _ ∷ full _ ∷ full _ ∷ full _ ∷ full _ ∷ full _ ∷ full _ ∷ full _ ∷ full _ ∷ full _ ∷ full _ ∷ full _ ∷ full _ ∷ full _ ∷ full _ ∷ full _ ∷ full _ ∷ full _ ∷ full _ ∷ full _ ∷ full _ ∷ full _ ∷ bare ∷ bare ∷ bare ∷ bare ∷ bare ∷ bare ∷ []) refl $
+        frees-all ! 13 (full _ ∷ full _ ∷ full _ ∷ full _ ∷ full _ ∷ full _ ∷ full _ ∷ full _ ∷ full _ ∷ full _ ∷ full _ ∷ full _ ∷ full _ ∷ full _ ∷ full _ ∷ full _ ∷ full _ ∷ full _ ∷ full _ ∷ full _ ∷ full _ ∷ full _ ∷ full _ ∷ full _ ∷ full _ ∷ full _ ∷ full _ ∷ bare ∷ bare ∷ bare ∷ bare ∷ bare ∷ bare ∷ bare ∷ []) refl $
         move ! (3 ∷ 4 ∷ []) $ fjoin ! $
         pureI ! (at-slice T.the-row (kept xr (set rs task idle)) (s ∷ [])) (tt, (tt, tt)) (ap (λ (k : ℕ). sliceVal (xr .ptr) k ∷ []) (sym (length-set rs task idle)), subst (Room T.the-row) (sym (length-set rs task idle)) room) $
         fjoin ! $
         move ! (1 ∷ 2 ∷ []) $ feqI ! (List Val) (pc ∷ []) (pc ∷ []) refl $ fjoin3 ! $
         keep ! (0 ∷ 1 ∷ 2 ∷ 3 ∷ 5 ∷ 8 ∷ 7 ∷ 6 ∷ []) $
         by ! (exits (m .outcome) _ (control-after c m) (set rs task idle) (zs .1 .1 .1 .1 .0) (zs .1 .1 .1 .1 .1 .0) (zs .1 .1 .1 .1 .1 .1 .1 .0) (ended m (zs .1 .1 .1 .1 .0) (zs .1 .1 .1 .1 .1 .0) (zs .1 .1 .1 .1 .1 .1 .1 .0) e (sym told ∙ holds b yes-over)) (length-set rs task idle) e1 e2 e4 (LL.owed N.the-type N′.the-laws m _ is .1 .1 .0)))
+        (λ past2. absurd (T-not (ltb task n) past2 here)))
         (λ not-over.
-        lets ! (bin ! (var ! 22 refl) (lit ! tt) (record { fits = fits-scaled (room .1) (ltb→lt task n here) })) (init ! 70 refl (tt, record { fits = fits-scaled (room .1) (ltb→lt task n here) })) $
-        lets ! (valued ! (ap (vptr (xr .ptr .0)) (sym (place-is (mem T.the-row .size) (xr .ptr .1) task))) (bin ! (part ! 20 0 refl refl refl) (var ! 70 refl) tt)) (init ! 72 refl (tt, tt)) $
-        assigns ! (of-opd ! (load ! (from ! (fld ! refl (fld ! refl (stop !)))) (look-in ! 38 (sub ! 0 refl (sub ! 1 refl (whole !)))))) (from ! (hop ! (look ! 72 refl) (fld ! refl (stop !)))) (store-in ! 5 (sub ! 0 refl (whole !)) (tt, record { fits = (LL.owed T.the-type T′.the-laws (m .task) _ (LL.owed N.the-type N′.the-laws m _ is .1 .0)) .0 .1 })) $
-        lets ! (bin ! (var ! 22 refl) (lit ! tt) (record { fits = fits-scaled (room .1) (ltb→lt task n here) })) (store ! 70 refl (tt, record { fits = fits-scaled (room .1) (ltb→lt task n here) })) $
-        lets ! (valued ! (ap (vptr (xr .ptr .0)) (sym (place-is (mem T.the-row .size) (xr .ptr .1) task))) (bin ! (part ! 20 0 refl refl refl) (var ! 70 refl) tt)) (init ! 74 refl (tt, tt)) $
-        assigns ! (of-opd ! (load ! (from ! (fld ! refl (fld ! refl (stop !)))) (look-in ! 38 (sub ! 5 refl (sub ! 1 refl (whole !)))))) (from ! (hop ! (look ! 74 refl) (fld ! refl (stop !)))) (store-in ! 5 (sub ! 5 refl (whole !)) (tt, record { fits = (LL.owed T.the-type T′.the-laws (m .task) _ (LL.owed N.the-type N′.the-laws m _ is .1 .0)) .1 .1 .1 .1 .1 .0 .1 })) $
-        lets ! (bin ! (var ! 22 refl) (lit ! tt) (record { fits = fits-scaled (room .1) (ltb→lt task n here) })) (store ! 70 refl (tt, record { fits = fits-scaled (room .1) (ltb→lt task n here) })) $
-        lets ! (valued ! (ap (vptr (xr .ptr .0)) (sym (place-is (mem T.the-row .size) (xr .ptr .1) task))) (bin ! (part ! 20 0 refl refl refl) (var ! 70 refl) tt)) (init ! 76 refl (tt, tt)) $
-        assigns ! (of-opd ! (load ! (from ! (fld ! refl (fld ! refl (stop !)))) (look-in ! 38 (sub ! 6 refl (sub ! 1 refl (whole !)))))) (from ! (hop ! (look ! 76 refl) (fld ! refl (stop !)))) (store-in ! 5 (sub ! 6 refl (whole !)) (tt, record { fits = (LL.owed T.the-type T′.the-laws (m .task) _ (LL.owed N.the-type N′.the-laws m _ is .1 .0)) .1 .1 .1 .1 .1 .1 .0 .1 })) $
-        lets ! (bin ! (var ! 22 refl) (lit ! tt) (record { fits = fits-scaled (room .1) (ltb→lt task n here) })) (store ! 70 refl (tt, record { fits = fits-scaled (room .1) (ltb→lt task n here) })) $
-        lets ! (valued ! (ap (vptr (xr .ptr .0)) (sym (place-is (mem T.the-row .size) (xr .ptr .1) task))) (bin ! (part ! 20 0 refl refl refl) (var ! 70 refl) tt)) (init ! 78 refl (tt, tt)) $
-        assigns ! (of-opd ! (load ! (from ! (fld ! refl (fld ! refl (stop !)))) (look-in ! 38 (sub ! 7 refl (sub ! 1 refl (whole !)))))) (from ! (hop ! (look ! 78 refl) (fld ! refl (stop !)))) (store-in ! 5 (sub ! 7 refl (whole !)) (tt, record { fits = (LL.owed T.the-type T′.the-laws (m .task) _ (LL.owed N.the-type N′.the-laws m _ is .1 .0)) .1 .1 .1 .1 .1 .1 .1 .0 .1 })) $
-        lets ! (bin ! (var ! 22 refl) (lit ! tt) (record { fits = fits-scaled (room .1) (ltb→lt task n here) })) (store ! 70 refl (tt, record { fits = fits-scaled (room .1) (ltb→lt task n here) })) $
-        lets ! (valued ! (ap (vptr (xr .ptr .0)) (sym (place-is (mem T.the-row .size) (xr .ptr .1) task))) (bin ! (part ! 20 0 refl refl refl) (var ! 70 refl) tt)) (init ! 80 refl (tt, tt)) $
-        assigns-last ! (of-opd ! (load ! (from ! (fld ! refl (fld ! refl (stop !)))) (look-in ! 38 (sub ! 8 refl (sub ! 1 refl (whole !)))))) (from ! (hop ! (look ! 80 refl) (fld ! refl (stop !)))) (store-in ! 5 (sub ! 8 refl (whole !)) (tt, record { fits = (LL.owed T.the-type T′.the-laws (m .task) _ (LL.owed N.the-type N′.the-laws m _ is .1 .0)) .1 .1 .1 .1 .1 .1 .1 .1 .0 .1 })) $
+        lets ! (bin ! (var ! 22 refl) (var ! 32 refl) tt) (init ! 70 refl (tt, tt)) $
+        branches ! (var ! 70 refl)
+        (λ here2.
+        lets ! (bin ! (var ! 22 refl) (lit ! tt) (record { fits = fits-scaled (room .1) (ltb→lt task n here) })) (init ! 72 refl (tt, record { fits = fits-scaled (room .1) (ltb→lt task n here) })) $
+        lets ! (valued ! (ap (vptr (xr .ptr .0)) (sym (place-is (mem T.the-row .size) (xr .ptr .1) task))) (bin ! (part ! 20 0 refl refl refl) (var ! 72 refl) tt)) (init ! 74 refl (tt, tt)) $
+        assigns ! (of-opd ! (load ! (from ! (fld ! refl (fld ! refl (stop !)))) (look-in ! 38 (sub ! 0 refl (sub ! 1 refl (whole !)))))) (from ! (hop ! (look ! 74 refl) (fld ! refl (stop !)))) (store-in ! 5 (sub ! 0 refl (whole !)) (tt, record { fits = (LL.owed T.the-type T′.the-laws (m .task) _ (LL.owed N.the-type N′.the-laws m _ is .1 .0)) .0 .1 })) $
+        lets ! (bin ! (var ! 22 refl) (lit ! tt) (record { fits = fits-scaled (room .1) (ltb→lt task n here) })) (store ! 72 refl (tt, record { fits = fits-scaled (room .1) (ltb→lt task n here) })) $
+        lets ! (valued ! (ap (vptr (xr .ptr .0)) (sym (place-is (mem T.the-row .size) (xr .ptr .1) task))) (bin ! (part ! 20 0 refl refl refl) (var ! 72 refl) tt)) (init ! 76 refl (tt, tt)) $
+        assigns ! (of-opd ! (load ! (from ! (fld ! refl (fld ! refl (stop !)))) (look-in ! 38 (sub ! 5 refl (sub ! 1 refl (whole !)))))) (from ! (hop ! (look ! 76 refl) (fld ! refl (stop !)))) (store-in ! 5 (sub ! 5 refl (whole !)) (tt, record { fits = (LL.owed T.the-type T′.the-laws (m .task) _ (LL.owed N.the-type N′.the-laws m _ is .1 .0)) .1 .1 .1 .1 .1 .0 .1 })) $
+        lets ! (bin ! (var ! 22 refl) (lit ! tt) (record { fits = fits-scaled (room .1) (ltb→lt task n here) })) (store ! 72 refl (tt, record { fits = fits-scaled (room .1) (ltb→lt task n here) })) $
+        lets ! (valued ! (ap (vptr (xr .ptr .0)) (sym (place-is (mem T.the-row .size) (xr .ptr .1) task))) (bin ! (part ! 20 0 refl refl refl) (var ! 72 refl) tt)) (init ! 78 refl (tt, tt)) $
+        assigns ! (of-opd ! (load ! (from ! (fld ! refl (fld ! refl (stop !)))) (look-in ! 38 (sub ! 6 refl (sub ! 1 refl (whole !)))))) (from ! (hop ! (look ! 78 refl) (fld ! refl (stop !)))) (store-in ! 5 (sub ! 6 refl (whole !)) (tt, record { fits = (LL.owed T.the-type T′.the-laws (m .task) _ (LL.owed N.the-type N′.the-laws m _ is .1 .0)) .1 .1 .1 .1 .1 .1 .0 .1 })) $
+        lets ! (bin ! (var ! 22 refl) (lit ! tt) (record { fits = fits-scaled (room .1) (ltb→lt task n here) })) (store ! 72 refl (tt, record { fits = fits-scaled (room .1) (ltb→lt task n here) })) $
+        lets ! (valued ! (ap (vptr (xr .ptr .0)) (sym (place-is (mem T.the-row .size) (xr .ptr .1) task))) (bin ! (part ! 20 0 refl refl refl) (var ! 72 refl) tt)) (init ! 80 refl (tt, tt)) $
+        assigns ! (of-opd ! (load ! (from ! (fld ! refl (fld ! refl (stop !)))) (look-in ! 38 (sub ! 7 refl (sub ! 1 refl (whole !)))))) (from ! (hop ! (look ! 80 refl) (fld ! refl (stop !)))) (store-in ! 5 (sub ! 7 refl (whole !)) (tt, record { fits = (LL.owed T.the-type T′.the-laws (m .task) _ (LL.owed N.the-type N′.the-laws m _ is .1 .0)) .1 .1 .1 .1 .1 .1 .1 .0 .1 })) $
+        lets ! (bin ! (var ! 22 refl) (lit ! tt) (record { fits = fits-scaled (room .1) (ltb→lt task n here) })) (store ! 72 refl (tt, record { fits = fits-scaled (room .1) (ltb→lt task n here) })) $
+        lets ! (valued ! (ap (vptr (xr .ptr .0)) (sym (place-is (mem T.the-row .size) (xr .ptr .1) task))) (bin ! (part ! 20 0 refl refl refl) (var ! 72 refl) tt)) (init ! 82 refl (tt, tt)) $
+        assigns-last ! (of-opd ! (load ! (from ! (fld ! refl (fld ! refl (stop !)))) (look-in ! 38 (sub ! 8 refl (sub ! 1 refl (whole !)))))) (from ! (hop ! (look ! 82 refl) (fld ! refl (stop !)))) (store-in ! 5 (sub ! 8 refl (whole !)) (tt, record { fits = (LL.owed T.the-type T′.the-laws (m .task) _ (LL.owed N.the-type N′.the-laws m _ is .1 .0)) .1 .1 .1 .1 .1 .1 .1 .1 .0 .1 })) $
         exec ! C Λ (env-of (code.function .locals) bs) body.t-18 (atRet (env-of (code.function .locals) bs) Post) $
         lets ! (of-opd ! (part ! 38 2 refl refl refl)) (init ! 16 refl (EL.lawful E.the-type E′.the-laws 𝓤 H A W tt .typed (m .outcome) _ (LL.owed N.the-type N′.the-laws m _ is .1 .1 .0) .0)) $
         -- the record is put back, and the borrows are closed
@@ -357,14 +361,14 @@ module _ {M : Type 1} (𝓤 : URA M) (H : Heap 𝓤) (A : Atoms 𝓤) (W : Given
         move ! (10 ∷ 0 ∷ 12 ∷ 13 ∷ 14 ∷ []) $ closes ! tt K.the-row (control-after c m) (control-value (control-after c m) ∷ []) (xc .ptr .0) (xc .ptr .1) $
         -- the locals are freed
         returns ! (look ! 13 refl) $
-        frees-all ! 13 (full _ ∷ full _ ∷ full _ ∷ full _ ∷ full _ ∷ full _ ∷ full _ ∷ full _ ∷ full _ ∷ full _ ∷ full _ ∷ full _ ∷ full _ ∷ full _ ∷ full _ ∷ full _ ∷ full _ ∷ full _ ∷ full _ ∷ full _ ∷ full _ ∷ full _ ∷ full _ ∷ full _ ∷ bare ∷ bare ∷ bare ∷ full _ ∷ full _ ∷ full _ ∷ full _ ∷ full _ ∷ full _ ∷ []) refl $
+        frees-all ! 13 (full _ ∷ full _ ∷ full _ ∷ full _ ∷ full _ ∷ full _ ∷ full _ ∷ full _ ∷ full _ ∷ full _ ∷ full _ ∷ full _ ∷ full _ ∷ full _ ∷ full _ ∷ full _ ∷ full _ ∷ full _ ∷ full _ ∷ full _ ∷ full _ ∷ full _ ∷ full _ ∷ bare ∷ bare ∷ bare ∷ bare ∷ full _ ∷ full _ ∷ full _ ∷ full _ ∷ full _ ∷ full _ ∷ full _ ∷ []) refl $
         move ! (3 ∷ 4 ∷ []) $ fjoin ! $
         pureI ! (at-slice T.the-row (kept xr (set rs task (record-after (recordAt queue task) m))) (s ∷ [])) (tt, (tt, tt)) (ap (λ (k : ℕ). sliceVal (xr .ptr) k ∷ []) (sym (length-set rs task (record-after (recordAt queue task) m))), subst (Room T.the-row) (sym (length-set rs task (record-after (recordAt queue task) m))) room) $
         fjoin ! $
         move ! (1 ∷ 2 ∷ []) $ feqI ! (List Val) (pc ∷ []) (pc ∷ []) refl $ fjoin3 ! $
         keep ! (0 ∷ 1 ∷ 2 ∷ 3 ∷ 5 ∷ 8 ∷ 7 ∷ 6 ∷ []) $
-        by ! (exits (m .outcome) _ (control-after c m) (set rs task (record-after (recordAt queue task) m)) (zs .1 .1 .1 .1 .0) (zs .1 .1 .1 .1 .1 .0) (zs .1 .1 .1 .1 .1 .1 .1 .0) (moved m (zs .1 .1 .1 .1 .0) (zs .1 .1 .1 .1 .1 .0) (zs .1 .1 .1 .1 .1 .1 .1 .0) e (sym told ∙ fails b (T-not b not-over))) (length-set rs task (record-after (recordAt queue task) m)) e1 e2 e4 (LL.owed N.the-type N′.the-laws m _ is .1 .1 .0))))
-        (λ past2. absurd (T-not (ltb task n) past2 here)))))))))))))))))
+        by ! (exits (m .outcome) _ (control-after c m) (set rs task (record-after (recordAt queue task) m)) (zs .1 .1 .1 .1 .0) (zs .1 .1 .1 .1 .1 .0) (zs .1 .1 .1 .1 .1 .1 .1 .0) (moved m (zs .1 .1 .1 .1 .0) (zs .1 .1 .1 .1 .1 .0) (zs .1 .1 .1 .1 .1 .1 .1 .0) e (sym told ∙ fails b (T-not b not-over))) (length-set rs task (record-after (recordAt queue task) m)) e1 e2 e4 (LL.owed N.the-type N′.the-laws m _ is .1 .1 .0)))
+        (λ past2. absurd (T-not (ltb task n) past2 here))))))))))))))))))
         (λ past. skips ! $
         exec ! C Λ (env-of (code.function .locals) bs) body.t-6 (atRet (env-of (code.function .locals) bs) Post) $
         move ! (6 ∷ []) $ fsplit ! $
@@ -407,8 +411,11 @@ module _ {M : Type 1} (𝓤 : URA M) (H : Heap 𝓤) (A : Atoms 𝓤) (W : Given
         -- what the step may change is stored
         assigns ! (of-opd ! (load ! (from ! (fld ! refl (fld ! refl (stop !)))) (look-in ! 34 (sub ! 2 refl (sub ! 0 refl (whole !)))))) (from ! (hop ! (look ! 14 refl) (fld ! refl (stop !)))) (store-in ! 7 (sub ! 2 refl (whole !)) (tt, record { fits = (LL.owed K.the-type K′.the-laws (m .control) _ (LL.owed N.the-type N′.the-laws m _ is .0)) .1 .1 .0 .1 })) $
         assigns ! (of-opd ! (load ! (from ! (fld ! refl (fld ! refl (stop !)))) (look-in ! 34 (sub ! 3 refl (sub ! 0 refl (whole !)))))) (from ! (hop ! (look ! 14 refl) (fld ! refl (stop !)))) (store-in ! 7 (sub ! 3 refl (whole !)) (tt, record { fits = (LL.owed K.the-type K′.the-laws (m .control) _ (LL.owed N.the-type N′.the-laws m _ is .0)) .1 .1 .1 .0 .1 })) $
-        lets ! (bin ! (var ! 18 refl) (var ! 28 refl) tt) (store ! 38 refl (tt, tt)) $
+        lets ! (of-opd ! (var ! 36 refl)) (store ! 38 refl (tt, tt)) $
         first ! $ branches ! (var ! 38 refl)
+        (λ yes-over.
+        lets ! (bin ! (var ! 18 refl) (var ! 28 refl) tt) (init ! 58 refl (tt, tt)) $
+        branches ! (var ! 58 refl)
         (λ here2. absurd (T-not (ltb task n) past here2))
         (λ past2. skips ! $
         exec ! C Λ (env-of (code.function .locals) bs) body.t-18 (atRet (env-of (code.function .locals) bs) Post) $
@@ -417,10 +424,25 @@ module _ {M : Type 1} (𝓤 : URA M) (H : Heap 𝓤) (A : Atoms 𝓤) (W : Given
         move ! (8 ∷ 0 ∷ 10 ∷ 11 ∷ 12 ∷ []) $ closes ! tt K.the-row (control-after c m) (control-value (control-after c m) ∷ []) (xc .ptr .0) (xc .ptr .1) $
         -- the locals are freed
         returns ! (look ! 11 refl) $
-        frees-all ! 11 (full _ ∷ full _ ∷ full _ ∷ full _ ∷ full _ ∷ full _ ∷ full _ ∷ full _ ∷ full _ ∷ full _ ∷ full _ ∷ full _ ∷ full _ ∷ full _ ∷ bare ∷ bare ∷ bare ∷ full _ ∷ full _ ∷ full _ ∷ full _ ∷ full _ ∷ full _ ∷ bare ∷ bare ∷ bare ∷ bare ∷ bare ∷ bare ∷ bare ∷ bare ∷ bare ∷ bare ∷ []) refl $
+        frees-all ! 11 (full _ ∷ full _ ∷ full _ ∷ full _ ∷ full _ ∷ full _ ∷ full _ ∷ full _ ∷ full _ ∷ full _ ∷ full _ ∷ full _ ∷ full _ ∷ full _ ∷ bare ∷ bare ∷ bare ∷ full _ ∷ full _ ∷ full _ ∷ full _ ∷ full _ ∷ full _ ∷ full _ ∷ bare ∷ bare ∷ bare ∷ bare ∷ bare ∷ bare ∷ bare ∷ bare ∷ bare ∷ bare ∷ []) refl $
         move ! (0 ∷ 1 ∷ []) $ feqI ! (List Val) (pc ∷ []) (pc ∷ []) refl $ fjoin3 ! $
         keep ! (0 ∷ 8 ∷ 1 ∷ 7 ∷ 3 ∷ 6 ∷ 5 ∷ 4 ∷ []) $
-        by ! (exits (m .outcome) _ (control-after c m) rs (zs .1 .1 .1 .1 .0) (zs .1 .1 .1 .1 .1 .0) (zs .1 .1 .1 .1 .1 .1 .1 .0) (missed m (zs .1 .1 .1 .1 .0) (zs .1 .1 .1 .1 .1 .0) (zs .1 .1 .1 .1 .1 .1 .1 .0) (λ k. T-not (ltb task n) past (lt→ltb task n k)) e) refl e1 e2 e4 (LL.owed N.the-type N′.the-laws m _ is .1 .1 .0))))))))))))))))))))
+        by ! (exits (m .outcome) _ (control-after c m) rs (zs .1 .1 .1 .1 .0) (zs .1 .1 .1 .1 .1 .0) (zs .1 .1 .1 .1 .1 .1 .1 .0) (missed m (zs .1 .1 .1 .1 .0) (zs .1 .1 .1 .1 .1 .0) (zs .1 .1 .1 .1 .1 .1 .1 .0) (λ k. T-not (ltb task n) past (lt→ltb task n k)) e) refl e1 e2 e4 (LL.owed N.the-type N′.the-laws m _ is .1 .1 .0))))
+        (λ not-over.
+        lets ! (bin ! (var ! 18 refl) (var ! 28 refl) tt) (init ! 66 refl (tt, tt)) $
+        branches ! (var ! 66 refl)
+        (λ here2. absurd (T-not (ltb task n) past here2))
+        (λ past2. skips ! $
+        exec ! C Λ (env-of (code.function .locals) bs) body.t-18 (atRet (env-of (code.function .locals) bs) Post) $
+        lets ! (of-opd ! (part ! 34 2 refl refl refl)) (init ! 12 refl (EL.lawful E.the-type E′.the-laws 𝓤 H A W tt .typed (m .outcome) _ (LL.owed N.the-type N′.the-laws m _ is .1 .1 .0) .0)) $
+        owned ! K.the-row (Is K.the-row) (LL.makes K.the-type K′.the-plain 𝓤 H A) (control-after c m) _ (control-is c m gc (LL.owed N.the-type N′.the-laws m _ is .0)) $
+        move ! (8 ∷ 0 ∷ 10 ∷ 11 ∷ 12 ∷ []) $ closes ! tt K.the-row (control-after c m) (control-value (control-after c m) ∷ []) (xc .ptr .0) (xc .ptr .1) $
+        -- the locals are freed
+        returns ! (look ! 11 refl) $
+        frees-all ! 11 (full _ ∷ full _ ∷ full _ ∷ full _ ∷ full _ ∷ full _ ∷ full _ ∷ full _ ∷ full _ ∷ full _ ∷ full _ ∷ full _ ∷ full _ ∷ full _ ∷ bare ∷ bare ∷ bare ∷ full _ ∷ full _ ∷ full _ ∷ full _ ∷ full _ ∷ full _ ∷ bare ∷ bare ∷ bare ∷ bare ∷ full _ ∷ bare ∷ bare ∷ bare ∷ bare ∷ bare ∷ bare ∷ []) refl $
+        move ! (0 ∷ 1 ∷ []) $ feqI ! (List Val) (pc ∷ []) (pc ∷ []) refl $ fjoin3 ! $
+        keep ! (0 ∷ 8 ∷ 1 ∷ 7 ∷ 3 ∷ 6 ∷ 5 ∷ 4 ∷ []) $
+        by ! (exits (m .outcome) _ (control-after c m) rs (zs .1 .1 .1 .1 .0) (zs .1 .1 .1 .1 .1 .0) (zs .1 .1 .1 .1 .1 .1 .1 .0) (missed m (zs .1 .1 .1 .1 .0) (zs .1 .1 .1 .1 .1 .0) (zs .1 .1 .1 .1 .1 .1 .1 .0) (λ k. T-not (ltb task n) past (lt→ltb task n k)) e) refl e1 e2 e4 (LL.owed N.the-type N′.the-laws m _ is .1 .1 .0)))))))))))))))))))))
 
 module _ {M : Type 1} (𝓤 : URA M) (H : Heap 𝓤) (A : Atoms 𝓤) (W : Given 𝓤 H A) (mem : Memory → SProp 𝓤) (run : Routine → Fun 𝓤) where
   self-walks : (C : Calls 𝓤 H) (Λ : Loops 𝓤 H) → FmC 𝓤 H (W .laws) C → Triple 𝓤 (C #engine·step) (Callee 𝓤 H A mem run) → Triple 𝓤 (C #engine·ends) (Test 𝓤 H A mem run)
