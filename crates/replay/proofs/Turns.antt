@@ -10,15 +10,19 @@ use lib.Dec.{leb, eqb}
 use lib.ListN.{length, set, drop, replicate}
 use borrow.Author.Tests.{leb-true, leb-false, le-leb, lt-leb}
 use Rattle.model.specs.declared.Record.{Record}
+use Rattle.model.specs.declared.Op.{Op}
 use Rattle.model.specs.Tables.{Tables, idle, zeroed}
-use Rattle.model.specs.Calls.{openQueue}
+use Rattle.model.specs.Refusals.{Lent}
+use Rattle.model.specs.Calls.{Acted, openQueue, actOn}
+use Rattle.table.specs.declared.Acted.{Acted as Moved}
 use Rattle.calls.specs.Opening.{OpenedParts, openTables, whole}
 use Rattle.calls.proofs.Parts.{open-parts}
 use Rattle.runfile.specs.Line.{Put, fitting, room, lineOf}
-use Rattle.runfile.specs.declared.line.Line.the-variants.{Open}
+use Rattle.runfile.specs.declared.line.Line.the-variants.{Open, Act}
 use Rattle.replay.specs.Run.{Told, next, isOpened, opened}
 use Rattle.replay.specs.Trace.{finished}
-use Rattle.replay.specs.Page.{Page, written, opens, breaks, finishes}
+use Rattle.replay.specs.Page.{Page, written, opens, breaks, finishes, Turned, turned}
+use Rattle.replay.specs.declared.turn.Turn.{Turn}
 use Rattle.replay.proofs.Feeding.{cond-true, cond-false}
 use Rattle.replay.proofs.Pages.{written-none}
 
@@ -27,6 +31,28 @@ pub put-fits : (out out′ : List ℕ) (to to′ : ℕ) (l : List ℕ) → to + 
     → Put out out′ to to′ (fitting (length out) to l) → Put out out′ to to′ l
 unfolding fitting
 put-fits out out′ to to′ l h p = rw (le-leb (to + 128) (length out) h) at p
+
+-- An operation done, m, and its line written.
+pub turn-made : (q : Tables) (p : Lent) (r : Record) (task : ℕ) (op : Op) (event : ℕ) (out out′ : List ℕ) (to : ℕ) (m : Moved) (t : Turn) (lefts rights labels marks : List ℕ)
+    → _≡_ {A = Acted}
+    (record {
+      tables = record { control = m .control; lefts = lefts; rights = rights; labels = labels; marks = marks };
+      task = m .task;
+      outcome = m .outcome;
+    })
+    (actOn q p r op)
+    → (t .control ≡ m .control) × (t .task ≡ m .task)
+    → Put out out′ to (t .to) (lineOf event (Act task op (m .outcome)) (m .control .anchor))
+    → _≡_ {A = Turned}
+    (record {
+      tables = record { control = t .control; lefts = lefts; rights = rights; labels = labels; marks = marks };
+      task = t .task;
+      out = out′;
+      to = t .to;
+    })
+    (turned q p r task op event out to)
+unfolding turned
+turn-made q p r task op event out out′ to m t lefts rights labels marks e same w = rw (same .0, same .1, w .stop, w .stored, ← e)
 
 pub moved-over : (a n : ℕ) → 524288 ≤ n → leb a (n - 524288) ≡ leb (a + 524288) n
 moved-over a n h = go (leb a (n - 524288)) refl

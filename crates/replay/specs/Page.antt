@@ -2,7 +2,7 @@
 use mathlib.Core.List.{List}
 use mathlib.Core.Path.{_≡_}
 use Prim.Native.Nat.{ℕ, _+_, _*_, _≤_}
-use lib.ListN.{length}
+use lib.ListN.{length, set}
 use lib.Seq.{sets}
 use lib.Dec.{leb}
 use mathlib.Core.Bool.{cond}
@@ -15,11 +15,12 @@ use Rattle.runfile.specs.declared.line.Line.the-variants.{Act}
 use Rattle.runfile.specs.Field.{fieldOf}
 use Rattle.runfile.specs.Line.{lineOf, room, header, fitting}
 use Rattle.runfile.specs.declared.field.Field.{Field}
-use Rattle.runfile.specs.declared.field.Field.the-variants.{Open, Start, Steps, Malformed, Cut, End}
+use Rattle.runfile.specs.declared.field.Field.the-variants.{Open, Push, Pop, Steps, Malformed, Cut, End}
 use Rattle.model.specs.History.{Request}
 use Rattle.replay.specs.Run.{Run, Told, operated, opened, malformed, carried}
 use Rattle.replay.specs.Trace.{feed, finished, fresh}
 use Rattle.replay.specs.declared.run.Session.{Session}
+use Rattle.replay.specs.declared.turn.Turn.{Turn}
 
 -- A run, a buffer, and the position behind what is written there.
 pub record Page : Type 0 where
@@ -92,7 +93,8 @@ pub record Feeds (p : Page) (b : List ℕ) (p′ : Page) (b′ : List ℕ) : Typ
 -- The bytes of a steps field are there.
 abbrev pub Whole : Field → ℕ → ℕ → Type 0
 Whole (Open tasks slots tag) at len = Unit {0}
-Whole (Start task op) at len = Unit {0}
+Whole (Push task side slot label) at len = Unit {0}
+Whole (Pop task side) at len = Unit {0}
 Whole (Steps n) at len = (n ≤ 4096) × (at + 3 + n ≤ len)
 Whole Malformed at len = Unit {0}
 Whole Cut at len = Unit {0}
@@ -110,3 +112,15 @@ turned q p r task op event out to =
     let a = actOn q p r op in
     let l = lineOf event (Act task op (a .outcome)) (a .tables .control .anchor) in
     record { tables = a .tables; task = a .task; out = sets out to l; to = to + length l }
+
+-- The run after it.
+abbrev pub sessionAfter : Session → ℕ → ℕ → Turn → Session
+sessionAfter s task event m = record {
+  control = m .control;
+  records = set (s .records) task (m .task);
+  opened = s .opened;
+  over = s .over;
+  event = event;
+  at = s .at;
+  to = m .to;
+}

@@ -5,14 +5,14 @@ use Prim.Native.Nat.{ℕ, _+_, _%_, _^_}
 use lib.ListN.{take, drop}
 use Rattle.model.specs.declared.Opening.{Opening}
 use Rattle.model.specs.declared.Opening.the-variants.{Refused, Opened}
-use Rattle.model.specs.declared.Op.the-variants.{Step}
+use Rattle.model.specs.declared.Op.the-variants as op
 use Rattle.model.specs.Tables.{Queue}
 use Rattle.model.specs.Calls.{openQueue}
 use Rattle.model.specs.History.{Request, Event, run, final}
 use Rattle.runfile.specs.Line.{lineOf}
 use Rattle.runfile.specs.declared.line.Line.the-variants as line
 use Rattle.runfile.specs.declared.field.Field.{Field}
-use Rattle.runfile.specs.declared.field.Field.the-variants.{Open, Start, Steps, Malformed, Cut, End}
+use Rattle.runfile.specs.declared.field.Field.the-variants.{Open, Push, Pop, Steps, Malformed, Cut, End}
 
 -- Between two fields: the queue, whether it was opened, whether the run has ended, and the number of the last event.
 pub record Run : Type 0 where
@@ -72,12 +72,13 @@ malformed r = record {
 
 -- One step for each task byte.
 abbrev pub stepsOf : List ℕ → List Request
-stepsOf tasks = map (λ t. record { task = t; op = Step }) tasks
+stepsOf tasks = map (λ t. record { task = t; op = op.Step }) tasks
 
 -- A field carried out; b are the bytes from it on. Where no whole field is, nothing is done.
 unfoldable pub carried : Run → Field → List ℕ → Told
 carried r (Open tasks slots tag) b = opened r tasks slots tag
-carried r (Start task op) b = operated r (record { task = task; op = op } ∷ [])
+carried r (Push task side slot label) b = operated r (record { task = task; op = op.Push side slot label } ∷ [])
+carried r (Pop task side) b = operated r (record { task = task; op = op.Pop side } ∷ [])
 carried r (Steps n) b = operated r (stepsOf (take n (drop 3 b)))
 carried r Malformed b = malformed r
 carried r Cut b = record { run = r; lines = [] }

@@ -1,8 +1,8 @@
 //! The run by value: fields in, lines out.
 use crate::turn;
+use crate::turn::Turn;
 use calls::opening;
 use model::Control;
-use model::Op;
 use model::Opening;
 use model::Record;
 use runfile::field;
@@ -13,11 +13,12 @@ ghost use mathlib.Core.Path.{_≡_};
 ghost use mathlib.Core.List.{List, [], _∷_};
 ghost use Prim.Native.Nat.{ℕ, _+_, _*_, _-_, _≤_};
 ghost use lib.Dec.{leb};
-ghost use lib.ListN.{length, drop};
+ghost use lib.ListN.{length, drop, getD};
 ghost use lib.Seq.{slice};
+ghost use Rattle.model.specs.declared.Op.the-variants.{Push, Pop};
 ghost use Rattle.model.specs.Tables.{zeroed, idle};
 ghost use Rattle.replay.specs.Run.{isOpened, stepsOf};
-ghost use Rattle.replay.specs.Page.{pageOf, operates, opens, breaks, carries, Whole, Takes, Feeds, fieldRoom, finishes, Begins};
+ghost use Rattle.replay.specs.Page.{pageOf, sessionAfter, operates, opens, breaks, carries, Whole, Takes, Feeds, fieldRoom, finishes, Begins};
 
 /// Room in the buffer for the lines of any one field.
 pub const FIELD_ROOM: usize = 524288;
@@ -37,44 +38,24 @@ pub struct Session {
     pub to: usize,
 }
 
-// One start.
-fn start(
-    s: Session,
-    task: usize,
-    op: Op,
-    out: &mut [u8],
-    lefts: &mut [u64],
-    rights: &mut [u64],
-    labels: &mut [u32],
-    marks: &mut [u64],
-) -> Session
-    requires { ⌜ s .to + 128 ≤ length (now out) ⌝ }
-    ensures { λ r.
-        ⌜ pageOf r (now (out .exit)) (now (lefts .exit)) (now (rights .exit)) (now (labels .exit)) (now (marks .exit))
-        ≡ operates (pageOf s (now (out .entry)) (now (lefts .entry)) (now (rights .entry)) (now (labels .entry)) (now (marks .entry))) (record { task = task; op = op } ∷ []) ⌝ }
+// A task's record, or an idle one where there is no such task.
+fn record_at(records: [Record; 16], task: usize) -> Record
+    ensures { λ r. ⌜ r ≡ getD records task idle ⌝ }
 {
-    let c = s.control;
-    let mut records = s.records;
-    let event = std::num::wrapping_add_u64(s.event, 1);
-    let mut r = operation::idle();
     if task < turn::TASKS {
-        r = records[task];
+        records[task]
+    } else {
+        operation::idle()
     }
-    let m = turn::take_turn(
-        c,
-        r,
-        task,
-        op,
-        event,
-        out,
-        s.to,
-        lefts,
-        rights,
-        labels,
-        marks,
-    );
+}
+
+// The run after an operation of a task.
+fn after(s: Session, task: usize, event: u64, m: Turn) -> Session
+    ensures { λ r. ⌜ r ≡ sessionAfter s task event m ⌝ }
+{
     let control = m.control;
     let moved = m.task;
+    let mut records = s.records;
     if task < turn::TASKS {
         records[task] = moved;
     }
@@ -87,6 +68,82 @@ fn start(
         at: s.at,
         to: m.to,
     }
+}
+
+// A push started.
+fn push(
+    s: Session,
+    task: usize,
+    side: u64,
+    slot: u64,
+    label: u32,
+    out: &mut [u8],
+    lefts: &mut [u64],
+    rights: &mut [u64],
+    labels: &mut [u32],
+    marks: &mut [u64],
+) -> Session
+    requires { ⌜ s .to + 128 ≤ length (now out) ⌝ }
+    ensures { λ r.
+        ⌜ pageOf r (now (out .exit)) (now (lefts .exit)) (now (rights .exit)) (now (labels .exit)) (now (marks .exit))
+        ≡ operates (pageOf s (now (out .entry)) (now (lefts .entry)) (now (rights .entry)) (now (labels .entry)) (now (marks .entry))) (record { task = task; op = Push side slot label } ∷ []) ⌝ }
+{
+    let c = s.control;
+    let records = s.records;
+    let r = record_at(records, task);
+    let event = std::num::wrapping_add_u64(s.event, 1);
+    let m = turn::push(
+        c,
+        r,
+        task,
+        side,
+        slot,
+        label,
+        event,
+        out,
+        s.to,
+        lefts,
+        rights,
+        labels,
+        marks,
+    );
+    after(s, task, event, m)
+}
+
+// A pop started.
+fn pop(
+    s: Session,
+    task: usize,
+    side: u64,
+    out: &mut [u8],
+    lefts: &mut [u64],
+    rights: &mut [u64],
+    labels: &mut [u32],
+    marks: &mut [u64],
+) -> Session
+    requires { ⌜ s .to + 128 ≤ length (now out) ⌝ }
+    ensures { λ r.
+        ⌜ pageOf r (now (out .exit)) (now (lefts .exit)) (now (rights .exit)) (now (labels .exit)) (now (marks .exit))
+        ≡ operates (pageOf s (now (out .entry)) (now (lefts .entry)) (now (rights .entry)) (now (labels .entry)) (now (marks .entry))) (record { task = task; op = Pop side } ∷ []) ⌝ }
+{
+    let c = s.control;
+    let records = s.records;
+    let r = record_at(records, task);
+    let event = std::num::wrapping_add_u64(s.event, 1);
+    let m = turn::pop(
+        c,
+        r,
+        task,
+        side,
+        event,
+        out,
+        s.to,
+        lefts,
+        rights,
+        labels,
+        marks,
+    );
+    after(s, task, event, m)
 }
 
 // One step for each of the task bytes from `from` to `end`.
@@ -117,19 +174,7 @@ fn steps(
         if task < turn::TASKS {
             r = records[task];
         }
-        let m = turn::take_turn(
-            c,
-            r,
-            task,
-            Op::Step,
-            event,
-            out,
-            to,
-            lefts,
-            rights,
-            labels,
-            marks,
-        );
+        let m = turn::step(c, r, task, event, out, to, lefts, rights, labels, marks);
         let control = m.control;
         let moved = m.task;
         c = control;
@@ -269,7 +314,24 @@ fn carry_out(
             labels,
             marks,
         ),
-        Field::Start { task, op } => start(s, task, op, out, lefts, rights, labels, marks),
+        Field::Push {
+            task,
+            side,
+            slot,
+            label,
+        } => push(
+            s,
+            task,
+            side,
+            slot,
+            label,
+            out,
+            lefts,
+            rights,
+            labels,
+            marks,
+        ),
+        Field::Pop { task, side } => pop(s, task, side, out, lefts, rights, labels, marks),
         Field::Steps(n) => steps(
             s,
             bytes,

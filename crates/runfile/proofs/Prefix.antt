@@ -10,7 +10,7 @@ use lib.Dec.{ltb, leb, eqb}
 use borrow.Author.Tests.{leb-true, leb-false, ltb-true, ltb-false, eqb-true, le-leb, lt-leb, lt-ltb, le-ltb}
 use Rattle.runfile.specs.Field.{twoAt, fourAt, formed, contentOf, missing, fieldOf}
 use Rattle.runfile.specs.declared.field.Field.{Field}
-use Rattle.runfile.specs.declared.field.Field.the-variants.{Open, Start, Steps, Malformed, Cut, End}
+use Rattle.runfile.specs.declared.field.Field.the-variants.{Open, Push, Pop, Steps, Malformed, Cut, End}
 use Rattle.runfile.specs.declared.field.Found.{Found}
 
 clash : {P : Type 0} → _≡_ {A = Bool} false true → P

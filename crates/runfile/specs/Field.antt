@@ -4,9 +4,8 @@ use mathlib.Core.Bool.{Bool, _&&_, _||_, cond}
 use mathlib.Core.List.{List}
 use lib.ListN.{length, getD, drop}
 use lib.Dec.{ltb, leb, eqb}
-use Rattle.model.specs.declared.Op.the-variants.{Push, Pop}
 use Rattle.runfile.specs.declared.field.Field.{Field}
-use Rattle.runfile.specs.declared.field.Field.the-variants.{Open, Start, Steps, Malformed, Cut, End}
+use Rattle.runfile.specs.declared.field.Field.the-variants.{Open, Push, Pop, Steps, Malformed, Cut, End}
 use Rattle.runfile.specs.declared.field.Found.{Found}
 
 -- Numbers, high byte first.
@@ -27,8 +26,8 @@ formed opened tag len =
 unfoldable pub contentOf : ℕ → ℕ → List ℕ → Field
 contentOf tag len b =
     cond (eqb tag 1) (Open (getD b 0 0) (twoAt b 1) (fourAt b 3))
-    (cond (eqb tag 2) (Start (getD b 0 0) (Push (getD b 1 0) (twoAt b 2) (fourAt b 4)))
-    (cond (eqb tag 3) (Start (getD b 0 0) (Pop (getD b 1 0)))
+    (cond (eqb tag 2) (Push (getD b 0 0) (getD b 1 0) (twoAt b 2) (fourAt b 4))
+    (cond (eqb tag 3) (Pop (getD b 0 0) (getD b 1 0))
     (Steps len)))
 
 -- Where there is no whole field.

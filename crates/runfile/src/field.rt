@@ -3,15 +3,26 @@ ghost use mathlib.Core.Path.{_≡_};
 ghost use Prim.Native.Nat.{_+_, _-_, _≤_, _<_};
 ghost use lib.ListN.{length, getD, drop};
 ghost use Rattle.runfile.specs.Field.{twoAt, fourAt, formed, contentOf, missing, fieldOf};
-use model::Op;
 
 /// The bytes of a field before its content: the tag and the length.
 pub const HEAD: usize = 3;
 
 pub enum Field {
-    Open { tasks: u64, slots: u64, tag: u32 },
-    /// A push or pop.
-    Start { task: usize, op: Op },
+    Open {
+        tasks: u64,
+        slots: u64,
+        tag: u32,
+    },
+    Push {
+        task: usize,
+        side: u64,
+        slot: u64,
+        label: u32,
+    },
+    Pop {
+        task: usize,
+        side: u64,
+    },
     /// One step for each of so many task bytes, the field's content.
     Steps(usize),
     /// Refusal 16.
@@ -72,22 +83,16 @@ fn content(s: &[u8], from: usize, tag: u64, len: usize) -> Field
             tag: four_at(s, from + 3),
         }
     } else if tag == 2 {
-        let op = Op::Push {
+        Field::Push {
+            task: byte_at(s, from) as usize,
             side: byte_at(s, from + 1),
             slot: two_at(s, from + 2),
             label: four_at(s, from + 4),
-        };
-        Field::Start {
-            task: byte_at(s, from) as usize,
-            op: op,
         }
     } else if tag == 3 {
-        let op = Op::Pop {
-            side: byte_at(s, from + 1),
-        };
-        Field::Start {
+        Field::Pop {
             task: byte_at(s, from) as usize,
-            op: op,
+            side: byte_at(s, from + 1),
         }
     } else {
         Field::Steps(len)

@@ -48,7 +48,7 @@ loop-holds c =
 loop-again : tie.Need-loop-again Inv-loop μ-loop
 loop-again c =
     let done = c .before .before .before .before .before .before .before .before .before .before .before .before .before in
-    let kept = done .take-turn .kept .1 .1 .1 .1 .1 in
+    let kept = done .step .kept .1 .1 .1 .1 in
     let here = c .before .before .before .before .before .before .before .before .before .before .before .before .before .before .before .before .before .before .before .before .before .before .before .before in
     let inv = here .loop .inv in
     let rs = here .loop .records in
@@ -56,7 +56,7 @@ loop-again c =
     let within = inv .0 in
     let small = inv .2 in
     let fits = inv .3 in
-    let wrote = done .take-turn .ensures .1 in
+    let wrote = done .step .ensures .1 in
     let stored = ⊎-elim (λ w. w .1) (λ w. w .1 ∙ sym (set-out rs _ _ (let h = w .0 .left in omega arith))) (c .if2 .came) in (
       omega arith,
       inv .1,
@@ -68,7 +68,7 @@ loop-again c =
           (⊎-elim (λ w. w .2 ∙ record-there rs _ _ _ (let h = w .0 .taken in omega arith))
           (λ w. w .1 ∙ c .before .before .before .before .before .before .before .before .before .before .before .before .before .before .before .before .before .before .before .before .idle .ensures ∙ sym (List·getD-eq-default rs _ (let h = w .0 .left in omega arith)))
           (c .before .before .before .before .before .before .before .before .before .before .before .before .before .before .before .before .before .before .before .if1 .came))
-          (c .before .before .before .before .before .before .before .before .before .before .before .before .before .before .before .before .before .before .before .before .before .wrapping-add-u64 .ensures) (done .take-turn .ensures .0) stored)
+          (c .before .before .before .before .before .before .before .before .before .before .before .before .before .before .before .before .before .before .before .before .before .wrapping-add-u64 .ensures) (done .step .ensures .0) stored)
           ∙ inv .5,
       kept .0 ∙ inv .6,
       kept .1 .1 .0 ∙ inv .7,

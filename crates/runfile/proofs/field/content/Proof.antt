@@ -13,7 +13,7 @@ returns c = simp (eq-eqb _ _ (c .before .before .before .if1 .taken), byte-here,
 
 returns-2 : tie.Need-returns-2
 unfolding contentOf
-returns-2 c = simp (ne-eqb _ _ (c .before .before .before .before .before .if1 .left), eq-eqb _ _ (c .before .before .before .before .if2 .taken), byte-here, getD-drop, two-drop, four-drop, c .byte-at3 .ensures .0, c .before .four-at2 .ensures, c .before .before .two-at2 .ensures .0, c .before .before .before .byte-at2 .ensures .0)
+returns-2 c = simp (ne-eqb _ _ (c .before .before .before .before .before .if1 .left), eq-eqb _ _ (c .before .before .before .before .if2 .taken), byte-here, getD-drop, two-drop, four-drop, c .four-at2 .ensures, c .before .two-at2 .ensures .0, c .before .before .byte-at3 .ensures .0, c .before .before .before .byte-at2 .ensures .0)
 
 returns-3 : tie.Need-returns-3
 unfolding contentOf
@@ -32,15 +32,15 @@ content-spec =
     (λ c κs. search needs)
     (λ c. search needs)
     (λ c κs. search needs)
-    (λ c. search needs)
     (λ c κs. search needs)
     (λ c. search needs)
     (λ c κs. search needs)
     (λ c. search needs)
     (λ c κs. search needs)
-    (λ c κs. search needs)
     (λ c. search needs)
     (λ c κs. search needs)
+    (λ c κs. search needs)
+    (λ c. search needs)
     (λ c κs. search needs)
     returns
     returns-2
