@@ -1,6 +1,7 @@
 pub mod Bytes
 pub mod Prefix
 pub mod Puts
+pub mod Lanes
 pub mod Glyphs
 pub mod Digits
 pub mod Decimal

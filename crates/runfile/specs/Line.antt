@@ -40,6 +40,11 @@ hexFour n = glyph (n / 2 ^ 12 % 16) ∷ glyph (n / 2 ^ 8 % 16) ∷ glyph (n / 2 
 unfoldable pub hex : ℕ → List ℕ
 hex w = hexFour (w / 2 ^ 48) ++ hexFour (w / 2 ^ 32) ++ hexFour (w / 2 ^ 16) ++ hexFour w
 
+-- The n low bytes of a word, the lowest first.
+unfoldable pub bytesOf : ℕ → ℕ → List ℕ
+bytesOf zero g = []
+bytesOf (suc n) g = g % 256 ∷ bytesOf n (g / 256)
+
 -- Words, and a word with a number behind it.
 unfoldable pub numbered : List ℕ → ℕ → List ℕ
 numbered word n = word ++ decimal n

@@ -1,9 +1,9 @@
 //! A line of the trace, written into a lent buffer.
 ghost use mathlib.Core.Path.{_≡_};
-ghost use mathlib.Core.List.{[], _∷_};
-ghost use Prim.Native.Nat.{_+_, _*_, _%_, _≤_, _<_};
+ghost use mathlib.Core.List.{[], _∷_, _++_};
+ghost use Prim.Native.Nat.{_+_, _*_, _/_, _%_, _^_, _≤_, _<_};
 ghost use lib.ListN.{length};
-ghost use Rattle.runfile.specs.Line.{decimalIn, decimal, lastTwo, glyph, hexFour, hex, numbered, callWord, callOf, entryOf, answerOf, moved, outcomeOf, openingOf, told, anchorOf, lineOf, header, room, Put, fitting};
+ghost use Rattle.runfile.specs.Line.{decimalIn, decimal, lastTwo, hexFour, hex, bytesOf, numbered, callWord, callOf, entryOf, answerOf, moved, outcomeOf, openingOf, told, anchorOf, lineOf, header, room, Put, fitting};
 ghost use Rattle.runfile.specs.declared.line.Line;
 ghost use lib.Dec.{leb};
 use model::Answer;
@@ -134,23 +134,40 @@ fn put_decimal(out: &mut [u8], at: usize, n: u64) -> usize
     put_digits(out, at, n, 4)
 }
 
-fn glyph_of(d: usize) -> u8
-    requires { ⌜ d < 16 ⌝ }
-    ensures { λ r. ⌜ r ≡ glyph d ⌝ }
+// The glyphs of the last eight hexadecimal digits of w as the bytes of a word, the first lowest.
+fn glyphs(w: u64) -> u64
+    ensures { λ r. ⌜ bytesOf 8 r ≡ hexFour (w / 2 ^ 16) ++ hexFour w ⌝ }
 {
-    let glyphs: &[u8] = b"0123456789abcdef";
-    glyphs[d]
+    // The halves change places, then the bytes of each half, then the digits of each byte.
+    let a = w % 65536 * 4294967296 + w / 65536 % 65536;
+    let b = (a & 0x000000ff000000ff) * 65536 + (a & 0x0000ff000000ff00) / 256;
+    let d = (b & 0x000f000f000f000f) * 256 + (b & 0x00f000f000f000f0) / 16;
+    // 1 for each digit from 10 on, which adding 6 carries to 16.
+    let letters = ((d + 0x0606060606060606) & 0x1010101010101010) / 16;
+    d + 0x3030303030303030 + letters * 39
 }
 
-fn put_four(out: &mut [u8], at: usize, n: u64) -> usize
+// The four low bytes of g, the lowest first.
+fn put_bytes(out: &mut [u8], at: usize, g: u64) -> usize
     requires { ⌜ at + 4 ≤ length (now out) ⌝ }
-    ensures { λ r. ⌜ Put (now (out .entry)) (now (out .exit)) at r (hexFour n) ⌝ }
+    ensures { λ r. ⌜ Put (now (out .entry)) (now (out .exit)) at r (bytesOf 4 g) ⌝ }
     ensures { λ r. ⌜ r ≡ at + 4 ⌝ }
 {
-    let a = put(out, at, glyph_of((n / 4096 % 16) as usize));
-    let b = put(out, a, glyph_of((n / 256 % 16) as usize));
-    let c = put(out, b, glyph_of((n / 16 % 16) as usize));
-    put(out, c, glyph_of((n % 16) as usize))
+    let a = put(out, at, (g % 256) as u8);
+    let b = put(out, a, (g / 256 % 256) as u8);
+    let c = put(out, b, (g / 65536 % 256) as u8);
+    put(out, c, (g / 16777216 % 256) as u8)
+}
+
+// The last eight digits of w; the compiler makes one store of them.
+fn put_glyphs(out: &mut [u8], at: usize, w: u64) -> usize
+    requires { ⌜ at + 8 ≤ length (now out) ⌝ }
+    ensures { λ r. ⌜ Put (now (out .entry)) (now (out .exit)) at r (hexFour (w / 2 ^ 16) ++ hexFour w) ⌝ }
+    ensures { λ r. ⌜ r ≡ at + 8 ⌝ }
+{
+    let g = glyphs(w);
+    let a = put_bytes(out, at, g);
+    put_bytes(out, a, g / 4294967296)
 }
 
 fn put_hex(out: &mut [u8], at: usize, w: u64) -> usize
@@ -158,10 +175,8 @@ fn put_hex(out: &mut [u8], at: usize, w: u64) -> usize
     ensures { λ r. ⌜ Put (now (out .entry)) (now (out .exit)) at r (hex w) ⌝ }
     ensures { λ r. ⌜ r ≡ at + 16 ⌝ }
 {
-    let a = put_four(out, at, w >> 48);
-    let b = put_four(out, a, w >> 32);
-    let c = put_four(out, b, w >> 16);
-    put_four(out, c, w)
+    let a = put_glyphs(out, at, w >> 32);
+    put_glyphs(out, a, w)
 }
 
 // A word and a number.
