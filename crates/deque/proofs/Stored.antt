@@ -1,5 +1,5 @@
--- What a step stores: Anchor and retries of the control, and of the record either all, zero, where the call is over, or the fields that
--- a step may change. It is what the step leaves, since the step changes nothing else (`Kept`).
+-- What a step stores: nothing where it is refused; else Anchor and retries of the control, and of the record either all, zero, where the
+-- call is over, or the fields that a step may change. It is what the step leaves, since the step changes nothing else (`Kept`).
 use mathlib.Core.Path.{_≡_, refl, sym, ap, subst, _∙_}
 use mathlib.Core.Bool.{true, false}
 use mathlib.Core.List.{List, [], _∷_}
@@ -12,7 +12,7 @@ use Rattle.model.specs.Tables.{Tables, idle}
 use Rattle.model.specs.Refusals.{Lent}
 use Rattle.model.specs.Calls.{Acted, step}
 use Rattle.table.specs.declared.Acted.{Acted as Moved}
-use Rattle.engine.specs.Ends.{endsCall}
+use Rattle.engine.specs.Ends.{endsCall, isMoved}
 use Rattle.engine.proofs.Kept.{Kept, step-kept}
 use Rattle.deque.proofs.Walk.{control-value, record-value}
 use Rattle.model.proofs.Control as K
@@ -53,9 +53,6 @@ module _ (q : Tables) (p : Lent) (r : Record) (m : Moved) (lefts rights labels m
         ap (λ (n : ℕ). record { tasks = n; slots = q .control .slots; anchor = m .control .anchor; retries = m .control .retries }) (sym (kept .tasks))
         ∙ ap (λ (n : ℕ). record { tasks = m .control .tasks; slots = n; anchor = m .control .anchor; retries = m .control .retries }) (sym (kept .slots))
 
-    pub unstored : leaves (control-after (q .control) m) (m .task) ≡ step q p r
-    unstored = ap (λ (c : Control). leaves c (m .task)) same-control ∙ e
-
     pub over : endsCall (m .outcome) ≡ true → leaves (control-after (q .control) m) idle ≡ step q p r
     over h = ap (λ (c : Control). leaves c idle) same-control ∙ ap (leaves (m .control)) (sym (kept .zero h)) ∙ e
 
@@ -70,3 +67,8 @@ module _ (q : Tables) (p : Lent) (r : Record) (m : Moved) (lefts rights labels m
 
     pub going : endsCall (m .outcome) ≡ false → leaves (control-after (q .control) m) (record-after r m) ≡ step q p r
     going h = ap (λ (c : Control). leaves c (record-after r m)) same-control ∙ ap (leaves (m .control)) (same-record h) ∙ e
+
+    pub unmoved : isMoved (m .outcome) ≡ false → leaves (q .control) r ≡ step q p r
+    unmoved h =
+        let k = kept .still h in
+        ap (λ (c : Control). leaves c r) (sym (ap (λ (t : Tables). t .control) (k .0))) ∙ ap (leaves (m .control)) (sym (k .1)) ∙ e

@@ -208,24 +208,34 @@ pub fn step(
 {
     let n = records.len();
     let c = *control;
-    let mut r = IDLE;
-    if task < n {
-        r = records[task];
+    let why = engine::admit(
+        c,
+        n,
+        task,
+        lefts.len(),
+        rights.len(),
+        labels.len(),
+        marks.len(),
+    );
+    if why != 0 {
+        return engine::refuse(why);
     }
-    let m = engine::step(c, r, n, task, lefts, rights, labels, marks);
+    let r = records[task];
+    let m = engine::move_on(c, r, lefts, rights, labels, marks);
+    let moves = engine::moves(m.outcome);
     let over = engine::ends(m.outcome);
-    control.anchor = m.control.anchor;
-    control.retries = m.control.retries;
-    if over {
-        if task < n {
+    if moves {
+        control.anchor = m.control.anchor;
+        control.retries = m.control.retries;
+        if over {
             records[task] = IDLE;
+        } else {
+            records[task].place = m.task.place;
+            records[task].seen = m.task.seen;
+            records[task].neighbour = m.task.neighbour;
+            records[task].link = m.task.link;
+            records[task].finishing = m.task.finishing;
         }
-    } else if task < n {
-        records[task].place = m.task.place;
-        records[task].seen = m.task.seen;
-        records[task].neighbour = m.task.neighbour;
-        records[task].link = m.task.link;
-        records[task].finishing = m.task.finishing;
     }
     m.outcome
 }
@@ -251,17 +261,18 @@ pub fn step_record(
     let c = *control;
     let r = *task;
     let m = engine::step_alone(c, r, lefts, rights, labels, marks);
-    let over = engine::ends(m.outcome);
-    control.anchor = m.control.anchor;
-    control.retries = m.control.retries;
-    if over {
-        *task = IDLE;
-    } else {
-        task.place = m.task.place;
-        task.seen = m.task.seen;
-        task.neighbour = m.task.neighbour;
-        task.link = m.task.link;
-        task.finishing = m.task.finishing;
+    if engine::moves(m.outcome) {
+        control.anchor = m.control.anchor;
+        control.retries = m.control.retries;
+        if engine::ends(m.outcome) {
+            *task = IDLE;
+        } else {
+            task.place = m.task.place;
+            task.seen = m.task.seen;
+            task.neighbour = m.task.neighbour;
+            task.link = m.task.link;
+            task.finishing = m.task.finishing;
+        }
     }
     m.outcome
 }

@@ -1,5 +1,5 @@
 -- What a step never changes: control's tasks and slots, and, unless it ends the call, the record's kind, side, own slot and label.
--- A step that ends the call leaves the record all zero.
+-- A step that ends the call leaves the record all zero, and a refused one all as it was.
 use mathlib.Core.Path.{_≡_, refl, sym, ap, _∙_}
 use mathlib.Core.Bool.{Bool, true, false, _||_, cond}
 use mathlib.Core.List.{List, [], _∷_}
@@ -17,8 +17,8 @@ use Rattle.model.specs.Places.{linkMet, Touch, nothing, setAnchor, setLink, cle
 use Rattle.model.specs.Sound.{isPush}
 use Rattle.model.specs.Route.{pushRoute, popRoute, route, onward, answer, goes}
 use Rattle.model.specs.Refusals.{Lent, stepRefusal}
-use Rattle.model.specs.Calls.{Acted, decide, finish, step, withRetries}
-use Rattle.engine.specs.Ends.{endsCall}
+use Rattle.model.specs.Calls.{Acted, finish, step}
+use Rattle.engine.specs.Ends.{endsCall, isMoved}
 
 split : {A : Type 0} (b : Bool) → (b ≡ true → A) → (b ≡ false → A) → A
 split true f g = f refl
@@ -144,6 +144,7 @@ pub record Kept (q : Tables) (r : Record) (a : Acted) : Type 0 where
   pub slots : a .tables .control .slots ≡ q .control .slots
   pub keeps : endsCall (a .outcome) ≡ false → Keeps r (a .task)
   pub zero : endsCall (a .outcome) ≡ true → a .task ≡ idle
+  pub still : isMoved (a .outcome) ≡ false → (a .tables ≡ q) × (a .task ≡ r)
 
 touches : (t : Touch) (q : Tables) → (apply t q .control .tasks ≡ q .control .tasks) × (apply t q .control .slots ≡ q .control .slots)
 touches nothing q = (refl, refl)
@@ -202,6 +203,7 @@ module _ (q : Tables) (r : Record) where
     slots = touches (m .touch) _ .1;
     keeps = λ h. stays _ _ r (m .task) k (onward-known (route (r .place) (r .kind) (m .outcome)) (m .task .finishing) (route-known (r .place) (r .kind) (m .outcome))) (onward-live (route (r .place) (r .kind) (m .outcome)) (m .task .finishing)) h;
     zero = λ h. leaves _ _ (m .task) h;
+    still = λ h. absurd (clash (sym h));
   }
 
   whichever : (b : Bool) (x y : Acted) → Kept q r x → Kept q r y → Kept q r (cond b x y)
@@ -213,4 +215,4 @@ module _ (q : Tables) (r : Record) where
   step-kept p =
       whichever (eqb (stepRefusal q p r) 0) _ _
       (finishes _ (moves r (q .control) (linkMet q r)))
-      (record { tasks = refl; slots = refl; keeps = λ _. itself r; zero = λ h. absurd (clash h) })
+      (record { tasks = refl; slots = refl; keeps = λ _. itself r; zero = λ h. absurd (clash h); still = λ _. (refl, refl) })

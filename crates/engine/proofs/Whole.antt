@@ -1,9 +1,9 @@
--- The model's step: the refusals before the place, then the step at the place.
+-- The model's step in its two parts, and the second by its place.
 use mathlib.Core.Path.{_≡_, refl, ap, sym, _∙_}
 use mathlib.Core.Bool.{Bool, true, false, _&&_, cond, and-eq-true-iff}
 use Prim.Native.Nat.{ℕ, suc, _≤_}
 use native.Mathlib.Omega.{arith}
-use lib.Dec.{eqb, leb}
+use lib.Dec.{eqb}
 use borrow.Author.Tests.{leb-true, eqb-false, ne-eqb}
 use Rattle.model.specs.declared.Record.{Record}
 use Rattle.model.specs.declared.Outcome.the-variants.{Refused}
@@ -13,7 +13,7 @@ use Rattle.model.specs.Places.{linkMet, move}
 use Rattle.model.specs.Refusals.{Lent, stepSound, stepRefusal}
 use Rattle.model.specs.Calls.{decide, finish, step}
 use Rattle.places.specs.Arm.{stepAt}
-use Rattle.engine.specs.Early.{earlyRefusal}
+use Rattle.engine.specs.Parts.{admission, recordRefusal, moveOn}
 
 split : {A : Type 0} (b : Bool) → (b ≡ true → A) → (b ≡ false → A) → A
 split true f g = f refl
@@ -28,9 +28,12 @@ unfolding stepAt
 here q r = refl
 
 module _ (q : Tables) (p : Lent) (r : Record) where
-  whole : step q p r ≡ cond (eqb (earlyRefusal q p r) 0) (stepAt (r .place) q r) (record { tables = q; task = r; outcome = Refused (earlyRefusal q p r) })
-  unfolding step stepRefusal earlyRefusal
-  whole =
+  abbrev why : ℕ
+  why = admission (q .control) (rowsFit (q .control .slots) q) p
+
+  in-parts : step q p r ≡ cond (eqb why 0) (moveOn q r) (record { tables = q; task = r; outcome = Refused why })
+  unfolding step stepRefusal admission recordRefusal moveOn
+  in-parts =
       split (controlSound (q .control))
       (λ a. split (rowsFit (q .control .slots) q && p .enough)
       (λ b. split (p .known)
@@ -43,28 +46,45 @@ module _ (q : Tables) (p : Lent) (r : Record) where
       (λ b. simp (a, b)))
       (λ a. simp a)
 
-  pub stopped : (why : ℕ) → why ≡ earlyRefusal q p r → (why ≡ 0 → ⊥) → record { tables = q; task = r; outcome = Refused why } ≡ step q p r
-  stopped why e h = sym (rw (← e, ne-eqb _ _ h) at whole)
+  -- Not admitted: the number alone.
+  pub turned-away : (w : ℕ) → w ≡ why → (w ≡ 0 → ⊥) → record { tables = q; task = r; outcome = Refused w } ≡ step q p r
+  turned-away w e h = sym (rw (← e, ne-eqb _ _ h) at in-parts)
 
-  pub at-place : (n : ℕ) → earlyRefusal q p r ≡ 0 → r .place ≡ n → stepAt n q r ≡ step q p r
-  at-place n none at = ap (λ (k : ℕ). stepAt k q r) (sym at) ∙ sym (rw none at whole)
+  pub admitted : why ≡ 0 → moveOn q r ≡ step q p r
+  admitted none = sym (rw none at in-parts)
 
-  -- Past the refusals the place is 1 to 11.
-  pub placed : earlyRefusal q p r ≡ 0 → (1 ≤ r .place) × (r .place ≤ 11)
-  unfolding earlyRefusal recordSound
-  placed none =
+  -- An admitted task has a record among so many.
+  pub task-there : why ≡ 0 → p .enough ≡ true × p .known ≡ true
+  unfolding admission
+  task-there none =
       split (controlSound (q .control))
       (λ a. split (rowsFit (q .control .slots) q && p .enough)
-      (λ b. split (p .known)
-      (λ k. split (recordSound (q .control .slots) r)
+      (λ b. split (p .known) (λ k. (and-eq-true-iff (rowsFit (q .control .slots) q) (p .enough) .0 b .1, k)) (λ k. absurd (let h : _≡_ {A = ℕ} 13 0 = simp (a, b, k) at none in omega arith)))
+      (λ b. absurd (let h : _≡_ {A = ℕ} 12 0 = simp (a, b) at none in omega arith)))
+      (λ a. absurd (let h : _≡_ {A = ℕ} 34 0 = simp a at none in omega arith))
+
+module _ (q : Tables) (r : Record) where
+  abbrev fault : ℕ
+  fault = recordRefusal (q .control .slots) r
+
+  pub stopped : (w : ℕ) → w ≡ fault → (w ≡ 0 → ⊥) → record { tables = q; task = r; outcome = Refused w } ≡ moveOn q r
+  unfolding moveOn
+  stopped w e h = rw (← e, ne-eqb _ _ h)
+
+  pub at-place : (n : ℕ) → fault ≡ 0 → r .place ≡ n → stepAt n q r ≡ moveOn q r
+  unfolding moveOn
+  at-place n none at = ap (λ (k : ℕ). stepAt k q r) (sym at) ∙ rw none
+
+  -- Past the refusals the place is 1 to 11.
+  pub placed : fault ≡ 0 → (1 ≤ r .place) × (r .place ≤ 11)
+  unfolding recordRefusal recordSound
+  placed none =
+      split (recordSound (q .control .slots) r)
       (λ s. split (eqb (r .place) 0)
-      (λ z. never (simp (a, b, k, s, z) at none))
+      (λ z. never (simp (s, z) at none))
       (λ z. let high : r .place ≤ 11 = leb-true _ _ (and-eq-true-iff _ _ .0 (rw z at s) .0) in
       let low : r .place ≡ 0 → ⊥ = eqb-false _ _ z in omega arith))
-      (λ s. never (simp (a, b, k, s) at none)))
-      (λ k. never (simp (a, b, k) at none)))
-      (λ b. never (simp (a, b) at none)))
-      (λ a. never (simp a at none))
+      (λ s. never (simp s at none))
     where
       never : {n : ℕ} → suc n ≡ 0 → (1 ≤ r .place) × (r .place ≤ 11)
       never h = absurd (omega arith)

@@ -14,3 +14,8 @@ answerEnds (Popped e) = true
 abbrev pub endsCall : Outcome → Bool
 endsCall (Refused n) = false
 endsCall (Moved a) = answerEnds a
+
+-- Which outcomes are no refusals.
+abbrev pub isMoved : Outcome → Bool
+isMoved (Refused n) = false
+isMoved (Moved a) = true

@@ -8,50 +8,67 @@ ghost use mathlib.Core.Path.{_≡_};
 ghost use lib.Dec.{leb, ltb};
 ghost use Rattle.model.specs.Calls.{step, stepLent};
 ghost use Rattle.places.specs.Arm.{tablesOf, withTables};
-ghost use Rattle.engine.specs.Early.{earlyRefusal};
-ghost use Rattle.engine.specs.Ends.{answerEnds, endsCall};
+ghost use Rattle.sound.specs.Lengths.{lengthsFit};
+ghost use Rattle.engine.specs.Parts.{admission, recordRefusal, moveOn};
+ghost use Rattle.engine.specs.Ends.{answerEnds, endsCall, isMoved};
 
-/// Why a step is refused before its place is looked at, or 0: document 01's order. An idle record
-/// is sound whatever it holds.
-fn refusal(
+/// Why a step is refused whatever its record holds, or 0: document 01's order. The tables are given
+/// by their lengths.
+fn admission(
     c: Control,
-    r: Record,
     enough: bool,
     known: bool,
-    lefts: &[u64],
-    rights: &[u64],
-    labels: &[u32],
-    marks: &[u64],
+    lefts: usize,
+    rights: usize,
+    labels: usize,
+    marks: usize,
 ) -> u32
     ensures { λ why.
-        ⌜ why
-        ≡ earlyRefusal (tablesOf c (now (lefts .entry)) (now (rights .entry)) (now (labels .entry)) (now (marks .entry)))
-        (record { enough = enough; known = known })
-        r ⌝ }
+        ⌜ why ≡ admission c (lengthsFit (c .slots) lefts rights labels marks) (record { enough = enough; known = known }) ⌝ }
 {
     if !sound::control_sound(c) {
         return 34;
     }
-    let rows = sound::rows_fit(
-        c.slots,
-        lefts.len(),
-        rights.len(),
-        labels.len(),
-        marks.len(),
-    );
-    if !(rows & enough) {
-        return 12;
+    let fit = sound::rows_fit(c.slots, lefts, rights, labels, marks) & enough;
+    // The common case first, which keeps its tests from being folded into a number.
+    if fit & known {
+        return 0;
     }
-    if !known {
-        return 13;
-    }
+    if fit { 13 } else { 12 }
+}
+
+/// The same for task `task` among `records` lent records.
+pub fn admit(
+    c: Control,
+    records: usize,
+    task: usize,
+    lefts: usize,
+    rights: usize,
+    labels: usize,
+    marks: usize,
+) -> u32
+    ensures { λ why.
+        ⌜ why
+        ≡ admission c (lengthsFit (c .slots) lefts rights labels marks)
+        (record { enough = leb (c .tasks) records; known = ltb task (c .tasks) }) ⌝ }
+{
+    let enough = c.tasks <= records as u64;
+    let known = (task as u64) < c.tasks;
+    admission(c, enough, known, lefts, rights, labels, marks)
+}
+
+/// Why an admitted step is refused before its place is looked at, or 0. An idle record is sound
+/// whatever it holds.
+fn refusal(slots: u64, r: Record) -> u32
+    ensures { λ why. ⌜ why ≡ recordRefusal slots r ⌝ }
+{
     if r.place == 0 {
         return 31;
     }
-    if !sound::call_sound(c.slots, r) {
+    if !sound::call_sound(slots, r) {
         return 34;
     }
-    if !sound::reads_sound(c.slots, r) {
+    if !sound::reads_sound(slots, r) {
         return 34;
     }
     0
@@ -85,9 +102,19 @@ pub fn step(
         (record { enough = leb (c .tasks) records; known = ltb task (c .tasks) })
         r ⌝ }
 {
-    let enough = c.tasks <= records as u64;
-    let known = (task as u64) < c.tasks;
-    step_lent(c, r, enough, known, lefts, rights, labels, marks)
+    let why = admit(
+        c,
+        records,
+        task,
+        lefts.len(),
+        rights.len(),
+        labels.len(),
+        marks.len(),
+    );
+    if why != 0 {
+        return refused(c, r, why);
+    }
+    move_on(c, r, lefts, rights, labels, marks)
 }
 
 /// A step of a record lent alone: 13 can't occur and 12 looks at no records.
@@ -103,15 +130,26 @@ pub fn step_alone(
         ⌜ withTables m (now (lefts .exit)) (now (rights .exit)) (now (labels .entry)) (now (marks .exit))
         ≡ stepLent (tablesOf c (now (lefts .entry)) (now (rights .entry)) (now (labels .entry)) (now (marks .entry))) r ⌝ }
 {
-    step_lent(c, r, true, true, lefts, rights, labels, marks)
+    let lent = true;
+    let why = admission(
+        c,
+        lent,
+        lent,
+        lefts.len(),
+        rights.len(),
+        labels.len(),
+        marks.len(),
+    );
+    if why != 0 {
+        return refused(c, r, why);
+    }
+    move_on(c, r, lefts, rights, labels, marks)
 }
 
-/// A step where `enough` records are lent and the task is `known` among them.
-pub fn step_lent(
+/// The step of a record once it is admitted.
+pub fn move_on(
     c: Control,
     r: Record,
-    enough: bool,
-    known: bool,
     lefts: &mut [u64],
     rights: &mut [u64],
     labels: &[u32],
@@ -119,11 +157,9 @@ pub fn step_lent(
 ) -> Acted
     ensures { λ m.
         ⌜ withTables m (now (lefts .exit)) (now (rights .exit)) (now (labels .entry)) (now (marks .exit))
-        ≡ step (tablesOf c (now (lefts .entry)) (now (rights .entry)) (now (labels .entry)) (now (marks .entry)))
-        (record { enough = enough; known = known })
-        r ⌝ }
+        ≡ moveOn (tablesOf c (now (lefts .entry)) (now (rights .entry)) (now (labels .entry)) (now (marks .entry))) r ⌝ }
 {
-    let why = refusal(c, r, enough, known, lefts, rights, labels, marks);
+    let why = refusal(c.slots, r);
     if why != 0 {
         return refused(c, r, why);
     }
@@ -163,4 +199,21 @@ pub fn ends(o: Outcome) -> bool
         Outcome::Refused(_) => false,
         Outcome::Moved(a) => answer_ends(a),
     }
+}
+
+/// Whether a step with this outcome was carried out.
+pub fn moves(o: Outcome) -> bool
+    ensures { λ b. ⌜ b ≡ isMoved o ⌝ }
+{
+    match o {
+        Outcome::Refused(_) => false,
+        Outcome::Moved(_) => true,
+    }
+}
+
+/// The outcome of a refusal.
+pub fn refuse(why: u32) -> Outcome
+    ensures { λ o. ⌜ o ≡ Outcome.Refused why ⌝ }
+{
+    Outcome::Refused(why)
 }

@@ -1,19 +1,46 @@
--- The contract of `step_lent` where neither test can fail.
+-- Turned away by its number alone, or moved on.
+use mathlib.Core.Path.{sym, _∙_}
 use borrow.Author.Needs.{needs}
 use Rattle.model.specs.Calls.{stepLent}
+use Rattle.model.specs.Sound.{rowsFit}
+use Rattle.model.specs.Refusals.{Lent, alone}
+use Rattle.model.specs.Tables.{Tables}
+use Rattle.places.specs.Arm.{tablesOf}
+use Rattle.sound.specs.Lengths.{lengthsFit}
+use Rattle.engine.proofs.Whole.{turned-away, admitted}
 use Rattle.engine.proofs.step_alone.Statement.{statement}
 use Rattle.engine.proofs.step_alone.Tie as tie
 
+-- The arguments, in the model's terms.
+module _ (a : tie.Start) where
+  abbrev q : Tables
+  q = tablesOf (a .args .c) (a .args .lefts .now) (a .args .rights .now) (a .args .labels .now) (a .args .marks .now)
+
+  abbrev p : Lent
+  p = alone
+
 returns : tie.Need-returns
-unfolding stepLent
-returns c = c .before .before .before .before .before .before .step-lent .ensures
+unfolding stepLent rowsFit lengthsFit
+returns c =
+    let a = c .before .before .before .before .before .before .before in
+    rw (c .refused .ensures) (turned-away (q a) (p a) (a .args .r) _ (c .before .before .admission .ensures) (c .before .if1 .taken))
+
+returns-2 : tie.Need-returns-2
+unfolding stepLent rowsFit lengthsFit
+returns-2 c =
+    let told = c .before .before .before .before .before .before .before .before .before .before in
+    let a = told .before .before .before .before .before .before in
+    c .before .before .before .before .before .before .move-on .ensures ∙ admitted (q a) (p a) (a .args .r) (sym (told .before .admission .ensures) ∙ told .if1 .left)
 
 pub step-alone-spec : {M : Type 1} → statement M
 step-alone-spec =
     tie.close
     (tie.spec
     (λ _ _. tt)
+    (λ _ _. tt)
+    returns
+    (λ _ _. tt)
     (λ c. search needs)
     (λ c. search needs)
     (λ c. search needs)
-    returns)
+    returns-2)

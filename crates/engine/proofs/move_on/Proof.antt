@@ -1,16 +1,15 @@
--- A refusal by `stopped`; else the place's contract, which `at-place` shows to be the model's step.
+-- A refusal by `stopped`; else the place's contract, by `at-place`.
 use mathlib.Core.Path.{_≡_, sym, _∙_}
 use Prim.Native.Nat.{ℕ, _≤_}
 use native.Mathlib.Nat.{le-antisymm}
 use borrow.Author.Needs.{needs}
 use Rattle.model.specs.declared.Record.{Record}
 use Rattle.model.specs.Tables.{Tables}
-use Rattle.model.specs.Refusals.{Lent}
-use Rattle.model.specs.Calls.{step}
 use Rattle.places.specs.Arm.{tablesOf, stepAt}
+use Rattle.engine.specs.Parts.{moveOn}
 use Rattle.engine.proofs.Whole.{stopped, at-place, placed, above}
-use Rattle.engine.proofs.step_lent.Statement.{statement}
-use Rattle.engine.proofs.step_lent.Tie as tie
+use Rattle.engine.proofs.move_on.Statement.{statement}
+use Rattle.engine.proofs.move_on.Tie as tie
 
 -- The arguments, in the model's terms.
 module _ (a : tie.Start) where
@@ -20,24 +19,21 @@ module _ (a : tie.Start) where
   abbrev r : Record
   r = a .args .r
 
-  abbrev p : Lent
-  p = record { enough = a .args .enough; known = a .args .known }
-
 returns : tie.Need-returns
 returns c =
-    let a = c .before .before .before .before .before .before .before .before .before .before in
-    rw (c .refused .ensures) (stopped (q a) (p a) (r a) _ (c .before .before .refusal .ensures) (c .before .if1 .taken))
+    let a = c .before .before .before .before .before .before .before in
+    rw (c .refused .ensures) (stopped (q a) (r a) _ (c .before .before .refusal .ensures) (c .before .if1 .taken))
 
--- Past the refusals the step at the record's place is the model's step.
+-- Past the refusals it is the step at the record's place.
 module _ (e : tie.Else1) where
   abbrev start : tie.Start
-  start = e .before .before .before .before .before .before .before .before .before
+  start = e .before .before .before .before .before .before
 
-  arrives : (n : ℕ) → r start .place ≡ n → stepAt n (q start) (r start) ≡ step (q start) (p start) (r start)
-  arrives n at = at-place (q start) (p start) (r start) n (sym (e .before .refusal .ensures) ∙ e .if1 .left) at
+  arrives : (n : ℕ) → r start .place ≡ n → stepAt n (q start) (r start) ≡ moveOn (q start) (r start)
+  arrives n at = at-place (q start) (r start) n (sym (e .before .refusal .ensures) ∙ e .if1 .left) at
 
   range : (1 ≤ r start .place) × (r start .place ≤ 11)
-  range = placed (q start) (p start) (r start) (sym (e .before .refusal .ensures) ∙ e .if1 .left)
+  range = placed (q start) (r start) (sym (e .before .refusal .ensures) ∙ e .if1 .left)
 
 returns-2 : tie.Need-returns-2
 returns-2 c =
@@ -96,15 +92,12 @@ returns-12 c =
     let low = (above (above (above (above (above (above (above (above (above (above (range (m .before) .0) (h .0 .0 .0 .0 .0 .0 .0 .0 .0 .1)) (h .0 .0 .0 .0 .0 .0 .0 .0 .1)) (h .0 .0 .0 .0 .0 .0 .0 .1)) (h .0 .0 .0 .0 .0 .0 .1)) (h .0 .0 .0 .0 .0 .1)) (h .0 .0 .0 .0 .1)) (h .0 .0 .0 .1)) (h .0 .0 .1)) (h .0 .1)) (h .1)) in
     c .before .before .at11 .ensures (q (start (m .before)) .lefts) (q (start (m .before)) .rights) ∙ arrives (m .before) 11 (le-antisymm (range (m .before) .1) low)
 
-pub step-lent-spec : {M : Type 1} → statement M
-step-lent-spec =
+pub move-on-spec : {M : Type 1} → statement M
+move-on-spec =
     tie.close
     (tie.spec
     (λ _ _. tt)
     (λ _ _. tt)
-    (λ c. search needs)
-    (λ c. search needs)
-    (λ c. search needs)
     returns
     (λ _ _. tt)
     (λ _ _. tt)
@@ -117,47 +110,23 @@ step-lent-spec =
     (λ _ _. tt)
     (λ _ _. tt)
     (λ _ _. tt)
-    (λ c. search needs)
-    (λ c. search needs)
-    (λ c. search needs)
     returns-2
-    (λ c. search needs)
-    (λ c. search needs)
-    (λ c. search needs)
     returns-3
     (λ c. search needs)
     (λ c. search needs)
-    (λ c. search needs)
     returns-4
-    (λ c. search needs)
-    (λ c. search needs)
-    (λ c. search needs)
     returns-5
     (λ c. search needs)
     (λ c. search needs)
-    (λ c. search needs)
     returns-6
-    (λ c. search needs)
-    (λ c. search needs)
-    (λ c. search needs)
     returns-7
     (λ c. search needs)
     (λ c. search needs)
-    (λ c. search needs)
     returns-8
-    (λ c. search needs)
-    (λ c. search needs)
-    (λ c. search needs)
     returns-9
     (λ c. search needs)
     (λ c. search needs)
-    (λ c. search needs)
     returns-10
-    (λ c. search needs)
-    (λ c. search needs)
-    (λ c. search needs)
     returns-11
-    (λ c. search needs)
-    (λ c. search needs)
     (λ c. search needs)
     returns-12)
