@@ -241,7 +241,7 @@ INLINED zc_reply advance(zc_control *control, zc_record *record, uint64_t *lefts
 /* ---- The calls --------------------------------------------------------------------------- */
 
 uint32_t CALL(open)(zc_control *control, zc_record *records, size_t record_count, uint64_t tasks,
-                    uint64_t slots, uint32_t tag, TABLES)
+                    uint64_t slots, uint32_t tag, TABLES(uint64_t, uint32_t, uint64_t))
 {
     if (!within(tasks, ZC_MOST_TASKS))
         return ZC_BAD_TASKS;
@@ -262,7 +262,8 @@ uint32_t CALL(open)(zc_control *control, zc_record *records, size_t record_count
 }
 
 zc_reply CALL(push)(zc_control *control, zc_record *records, size_t record_count, size_t task,
-                    uint64_t side, uint64_t slot, uint32_t label, TABLES)
+                    uint64_t side, uint64_t slot, uint32_t label,
+                    TABLES(const uint64_t, uint32_t, uint64_t))
 {
     (void)lefts, (void)rights;
     if (!control_sound(control))
@@ -295,7 +296,7 @@ zc_reply CALL(push)(zc_control *control, zc_record *records, size_t record_count
 }
 
 zc_reply CALL(pop)(zc_control *control, zc_record *records, size_t record_count, size_t task,
-                   uint64_t side, TABLES)
+                   uint64_t side, TABLES(const uint64_t, const uint32_t, const uint64_t))
 {
     (void)lefts, (void)rights, (void)labels, (void)marks;
     if (!control_sound(control))
@@ -321,7 +322,7 @@ zc_reply CALL(pop)(zc_control *control, zc_record *records, size_t record_count,
 }
 
 zc_reply CALL(step)(zc_control *control, zc_record *records, size_t record_count, size_t task,
-                    TABLES)
+                    TABLES(uint64_t, const uint32_t, uint64_t))
 {
     if (!control_sound(control))
         return refuse(ZC_UNSOUND);
@@ -338,7 +339,8 @@ zc_reply CALL(step)(zc_control *control, zc_record *records, size_t record_count
     return advance(control, record, lefts, rights, labels, marks);
 }
 
-zc_reply CALL(step_record)(zc_control *control, zc_record *one, TABLES)
+zc_reply CALL(step_record)(zc_control *control, zc_record *one,
+                           TABLES(uint64_t, const uint32_t, uint64_t))
 {
     if (!control_sound(control))
         return refuse(ZC_UNSOUND);
@@ -352,7 +354,8 @@ zc_reply CALL(step_record)(zc_control *control, zc_record *one, TABLES)
 }
 
 zc_report_reply CALL(report)(const zc_control *control, const zc_record *records,
-                             size_t record_count, CONST_TABLES)
+                             size_t record_count,
+                             TABLES(const uint64_t, const uint32_t, const uint64_t))
 {
     (void)lefts, (void)rights, (void)labels;
     zc_report_reply reply = {0};

@@ -10,23 +10,24 @@
 #define CALL(name) reference_##name
 #endif
 
-#define TABLES                                                                                     \
-    uint64_t *lefts, size_t left_count, uint64_t *rights, size_t right_count, uint32_t *labels,    \
-        size_t label_count, uint64_t *marks, size_t mark_count
-#define CONST_TABLES                                                                               \
-    const uint64_t *lefts, size_t left_count, const uint64_t *rights, size_t right_count,          \
-        const uint32_t *labels, size_t label_count, const uint64_t *marks, size_t mark_count
+/* The tables as each call has them: read only, or written too. */
+#define TABLES(link, label, mark)                                                                  \
+    link *lefts, size_t left_count, link *rights, size_t right_count, label *labels,               \
+        size_t label_count, mark *marks, size_t mark_count
 
 uint32_t CALL(open)(zc_control *control, zc_record *records, size_t record_count, uint64_t tasks,
-                    uint64_t slots, uint32_t tag, TABLES);
+                    uint64_t slots, uint32_t tag, TABLES(uint64_t, uint32_t, uint64_t));
 zc_reply CALL(push)(zc_control *control, zc_record *records, size_t record_count, size_t task,
-                    uint64_t side, uint64_t slot, uint32_t label, TABLES);
+                    uint64_t side, uint64_t slot, uint32_t label,
+                    TABLES(const uint64_t, uint32_t, uint64_t));
 zc_reply CALL(pop)(zc_control *control, zc_record *records, size_t record_count, size_t task,
-                   uint64_t side, TABLES);
+                   uint64_t side, TABLES(const uint64_t, const uint32_t, const uint64_t));
 zc_reply CALL(step)(zc_control *control, zc_record *records, size_t record_count, size_t task,
-                    TABLES);
-zc_reply CALL(step_record)(zc_control *control, zc_record *one, TABLES);
+                    TABLES(uint64_t, const uint32_t, uint64_t));
+zc_reply CALL(step_record)(zc_control *control, zc_record *one,
+                           TABLES(uint64_t, const uint32_t, uint64_t));
 zc_report_reply CALL(report)(const zc_control *control, const zc_record *records,
-                             size_t record_count, CONST_TABLES);
+                             size_t record_count,
+                             TABLES(const uint64_t, const uint32_t, const uint64_t));
 
 #endif

@@ -189,7 +189,8 @@ ZC_LAYOUT(offsetof(zc_report_reply, retries) == 48 && offsetof(zc_report_reply, 
 
 /* ---- The calls ---------------------------------------------------------------------------
  * The tables always come last and in this order, each a pointer and its count of elements:
- * lefts and rights (link words: tag 63-32, zero 31-15, slot 14-0), labels, marks.
+ * lefts and rights (link words: tag 63-32, zero 31-15, slot 14-0), labels, marks. A table that a
+ * call only reads is lent as const.
  */
 
 /*
@@ -212,18 +213,18 @@ uint32_t zc_open(zc_control *control, zc_record *records, size_t record_count, u
  * 32, 33.
  */
 zc_reply zc_push(zc_control *control, zc_record *records, size_t record_count, size_t task,
-                 uint64_t side, uint64_t slot, uint32_t label, uint64_t *lefts, size_t left_count,
-                 uint64_t *rights, size_t right_count, uint32_t *labels, size_t label_count,
-                 uint64_t *marks, size_t mark_count);
+                 uint64_t side, uint64_t slot, uint32_t label, const uint64_t *lefts,
+                 size_t left_count, const uint64_t *rights, size_t right_count, uint32_t *labels,
+                 size_t label_count, uint64_t *marks, size_t mark_count);
 
 /*
  * Starts a pop for an idle task at the end `side`. Writes the record alone.
  * Answers running at place 1, or refuses: 34 for control, 12, 13, 14, 34 for the record, 30, 33.
  */
 zc_reply zc_pop(zc_control *control, zc_record *records, size_t record_count, size_t task,
-                uint64_t side, uint64_t *lefts, size_t left_count, uint64_t *rights,
-                size_t right_count, uint32_t *labels, size_t label_count, uint64_t *marks,
-                size_t mark_count);
+                uint64_t side, const uint64_t *lefts, size_t left_count, const uint64_t *rights,
+                size_t right_count, const uint32_t *labels, size_t label_count,
+                const uint64_t *marks, size_t mark_count);
 
 /*
  * Moves a busy task by one step. Step it again as long as the answer is running; with pushed,
@@ -234,7 +235,7 @@ zc_reply zc_pop(zc_control *control, zc_record *records, size_t record_count, si
  */
 zc_reply zc_step(zc_control *control, zc_record *records, size_t record_count, size_t task,
                  uint64_t *lefts, size_t left_count, uint64_t *rights, size_t right_count,
-                 uint32_t *labels, size_t label_count, uint64_t *marks, size_t mark_count);
+                 const uint32_t *labels, size_t label_count, uint64_t *marks, size_t mark_count);
 
 /*
  * The same step on one lent record, which need not lie among the others: it answers, and leaves
@@ -243,8 +244,8 @@ zc_reply zc_step(zc_control *control, zc_record *records, size_t record_count, s
  * touches.
  */
 zc_reply zc_step_record(zc_control *control, zc_record *one, uint64_t *lefts, size_t left_count,
-                        uint64_t *rights, size_t right_count, uint32_t *labels, size_t label_count,
-                        uint64_t *marks, size_t mark_count);
+                        uint64_t *rights, size_t right_count, const uint32_t *labels,
+                        size_t label_count, uint64_t *marks, size_t mark_count);
 
 /*
  * Tells Anchor's fields, the number of busy tasks, retries, and waiting. Writes nothing; of the

@@ -8,12 +8,10 @@
 #include <stdio.h>
 #include <stdlib.h>
 
-#define TABLES                                                                                     \
-    uint64_t *lefts, size_t left_count, uint64_t *rights, size_t right_count, uint32_t *labels,    \
-        size_t label_count, uint64_t *marks, size_t mark_count
-#define CONST_TABLES                                                                               \
-    const uint64_t *lefts, size_t left_count, const uint64_t *rights, size_t right_count,          \
-        const uint32_t *labels, size_t label_count, const uint64_t *marks, size_t mark_count
+/* The tables as each call has them: read only, or written too. */
+#define TABLES(link, label, mark)                                                                  \
+    link *lefts, size_t left_count, link *rights, size_t right_count, label *labels,               \
+        size_t label_count, mark *marks, size_t mark_count
 #define LENT lefts, left_count, rights, right_count, labels, label_count, marks, mark_count
 
 static __typeof__(zc_open) *open_call;
@@ -40,35 +38,38 @@ __attribute__((constructor)) static void load(void)
 }
 
 uint32_t zc_open(zc_control *control, zc_record *records, size_t record_count, uint64_t tasks,
-                 uint64_t slots, uint32_t tag, TABLES)
+                 uint64_t slots, uint32_t tag, TABLES(uint64_t, uint32_t, uint64_t))
 {
     return open_call(control, records, record_count, tasks, slots, tag, LENT);
 }
 
 zc_reply zc_push(zc_control *control, zc_record *records, size_t record_count, size_t task,
-                 uint64_t side, uint64_t slot, uint32_t label, TABLES)
+                 uint64_t side, uint64_t slot, uint32_t label,
+                 TABLES(const uint64_t, uint32_t, uint64_t))
 {
     return push_call(control, records, record_count, task, side, slot, label, LENT);
 }
 
 zc_reply zc_pop(zc_control *control, zc_record *records, size_t record_count, size_t task,
-                uint64_t side, TABLES)
+                uint64_t side, TABLES(const uint64_t, const uint32_t, const uint64_t))
 {
     return pop_call(control, records, record_count, task, side, LENT);
 }
 
-zc_reply zc_step(zc_control *control, zc_record *records, size_t record_count, size_t task, TABLES)
+zc_reply zc_step(zc_control *control, zc_record *records, size_t record_count, size_t task,
+                 TABLES(uint64_t, const uint32_t, uint64_t))
 {
     return step_call(control, records, record_count, task, LENT);
 }
 
-zc_reply zc_step_record(zc_control *control, zc_record *one, TABLES)
+zc_reply zc_step_record(zc_control *control, zc_record *one,
+                        TABLES(uint64_t, const uint32_t, uint64_t))
 {
     return step_record_call(control, one, LENT);
 }
 
 zc_report_reply zc_report(const zc_control *control, const zc_record *records, size_t record_count,
-                          CONST_TABLES)
+                          TABLES(const uint64_t, const uint32_t, const uint64_t))
 {
     return report_call(control, records, record_count, LENT);
 }
