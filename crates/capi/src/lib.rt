@@ -1,18 +1,14 @@
 //! The label queue for C and Rust: each call is the one of crate `deque`, with its answer in numbers.
 //! The step of one lent record stands in crate `capi_record`.
-use model::Answer;
 use model::Control;
 use model::Opening;
-use model::Outcome;
 use model::Record;
 use model::Reply;
 use model::Report;
 use model::Reported;
 ghost use mathlib.Core.Path.{_≡_};
 ghost use Rattle.model.specs.declared.Op.the-variants.{Push, Pop, Step};
-ghost use Rattle.model.specs.declared.Outcome.the-variants.{Moved};
-ghost use Rattle.model.specs.Tables.{Tables, Queue};
-ghost use Rattle.model.specs.Calls.{openQueue, act, replyOf};
+ghost use Rattle.model.specs.Calls.{openQueue, act};
 ghost use Rattle.model.specs.Report.{report};
 ghost use Rattle.capi.specs.Replies.{openingCode, reportReplyOf, Coded, coded, Replied, replied};
 
@@ -28,47 +24,6 @@ pub struct ReportReply {
     pub busy: u64,
     pub retries: u64,
     pub waiting: u64,
-}
-
-fn answer_reply(a: Answer) -> Reply
-    ensures { λ r. ⌜ r ≡ replyOf (Moved a) ⌝ }
-{
-    match a {
-        Answer::Running(place) => Reply {
-            code: 1,
-            label: 0,
-            value: place,
-        },
-        Answer::Pushed => Reply {
-            code: 2,
-            label: 0,
-            value: 0,
-        },
-        Answer::Empty => Reply {
-            code: 3,
-            label: 0,
-            value: 0,
-        },
-        Answer::Popped(entry) => Reply {
-            code: 4,
-            label: entry.label,
-            value: entry.slot,
-        },
-    }
-}
-
-/// An outcome in numbers.
-pub fn reply(o: Outcome) -> Reply
-    ensures { λ r. ⌜ r ≡ replyOf o ⌝ }
-{
-    match o {
-        Outcome::Refused(number) => Reply {
-            code: number,
-            label: 0,
-            value: 0,
-        },
-        Outcome::Moved(answer) => answer_reply(answer),
-    }
 }
 
 fn opening_code(o: Opening) -> u32
@@ -188,7 +143,7 @@ pub extern "C" fn zc_push(
         labels,
         marks,
     );
-    reply(o)
+    operation::reply(o)
 }
 
 /// Starts a pop for a task.
@@ -218,7 +173,7 @@ pub extern "C" fn zc_pop(
         }) task (Pop side))) ⌝ }
 {
     let o = deque::pop(control, records, task, side, lefts, rights, labels, marks);
-    reply(o)
+    operation::reply(o)
 }
 
 /// Moves a task by one step.
@@ -247,7 +202,7 @@ pub extern "C" fn zc_step(
         }) task Step)) ⌝ }
 {
     let o = deque::step(control, records, task, lefts, rights, labels, marks);
-    reply(o)
+    operation::reply(o)
 }
 
 /// Tells the fields of Anchor, the busy tasks, the retries and the slots taken.

@@ -4,7 +4,6 @@ use model::Control;
 use model::Record;
 use model::Reply;
 ghost use mathlib.Core.Path.{_≡_};
-ghost use Rattle.model.specs.Tables.{Tables};
 ghost use Rattle.model.specs.Calls.{stepLent};
 ghost use Rattle.capi_record.specs.Replies.{RepliedAlone, repliedAlone};
 
@@ -28,5 +27,5 @@ pub extern "C" fn zc_step_record(
         (repliedAlone (stepLent (record { control = now (control .entry); lefts = now (lefts .entry); rights = now (rights .entry); labels = now (labels .entry); marks = now (marks .entry) }) (now (task .entry)))) ⌝ }
 {
     let o = deque::step_record(control, task, lefts, rights, labels, marks);
-    capi::reply(o)
+    operation::reply(o)
 }

@@ -57,10 +57,10 @@ use Rattle.deque.proofs.step as callee
 use Rattle.deque.proofs.step.Symbol as callee-def
 use Rattle.deque.proofs.step.Symbol.{name as #deque·step}
 use Rattle.deque.proofs.step.Met as callee-thm
-use Rattle.capi.proofs.reply as number
-use Rattle.capi.proofs.reply.Symbol as number-def
-use Rattle.capi.proofs.reply.Symbol.{name as #capi·reply}
-use Rattle.capi.proofs.reply.Met as number-thm
+use Rattle.operation.proofs.reply as number
+use Rattle.operation.proofs.reply.Symbol as number-def
+use Rattle.operation.proofs.reply.Symbol.{name as #operation·reply}
+use Rattle.operation.proofs.reply.Met as number-thm
 use Rattle.capi.proofs.zc_step.Key.{name as #capi·zc-step}
 use Rattle.capi.proofs.zc_step as self
 use Rattle.capi.proofs.zc_step.Statement as stated
@@ -179,7 +179,7 @@ module _ {M : Type 1} (𝓤 : URA M) (H : Heap 𝓤) (A : Atoms 𝓤) (W : Given
       owned ! usize (Is usize) (uint-makes 𝓤 H A W w64) task _ (refl, task-fits) $ fjoin ! $ move ! (2 ∷ 0 ∷ []) $ fjoin ! $ move ! (1 ∷ 0 ∷ []) $ fjoin ! $
       owned ! E.the-row (Is E.the-row) (LL.makes E.the-type E′.the-plain 𝓤 H A) r′ _ g $ move ! (1 ∷ 0 ∷ []) $ done !
 
-  module _ (C : Calls 𝓤 H) (Λ : Loops 𝓤 H) (fm : FmC 𝓤 H (W .laws) C) (known-callee : Triple 𝓤 (C #deque·step) (Callee 𝓤 H A at-mem run)) (known-number : Triple 𝓤 (C #capi·reply) (Number 𝓤 H A at-mem run)) where
+  module _ (C : Calls 𝓤 H) (Λ : Loops 𝓤 H) (fm : FmC 𝓤 H (W .laws) C) (known-callee : Triple 𝓤 (C #deque·step) (Callee 𝓤 H A at-mem run)) (known-number : Triple 𝓤 (C #operation·reply) (Number 𝓤 H A at-mem run)) where
     walk : Room T.the-row (length (xr .now)) → Room u64 (length (x1 .now)) → Room u64 (length (x2 .now)) → Room u32 (length (x3 .now)) → Room u64 (length (x4 .now))
         → ent 𝓤 (onEntry 𝓤 H A self.signature (κc, (κr, (κ1, (κ2, (κ3, (κ4, tt)))))) (qc, (qr, (q1, (q2, (q3, (q4, tt)))))) a vals) (WpFn 𝓤 H C Λ code.function (pc ∷ sr ∷ vint w64 task ∷ s1 ∷ s2 ∷ s3 ∷ s4 ∷ []) Post)
     walk roomr room1 room2 room3 room4 =
@@ -234,7 +234,7 @@ module _ {M : Type 1} (𝓤 : URA M) (H : Heap 𝓤) (A : Atoms 𝓤) (W : Given
         by ! (exits r _ (zs-callee .0) (zs-callee .1 .0) (zs-callee .1 .1 .1 .0) (zs-callee .1 .1 .1 .1 .0) (zs-callee .1 .1 .1 .1 .1 .1 .0) (told o r (zs-callee .0) (zs-callee .1 .0) (zs-callee .1 .1 .1 .0) (zs-callee .1 .1 .1 .1 .0) (zs-callee .1 .1 .1 .1 .1 .1 .0) e-callee e-number) er e1 e2 e4 is-number))))))))))))))))
 
 module _ {M : Type 1} (𝓤 : URA M) (H : Heap 𝓤) (A : Atoms 𝓤) (W : Given 𝓤 H A) (mem : Memory → SProp 𝓤) (run : Routine → Fun 𝓤) where
-  self-walks : (C : Calls 𝓤 H) (Λ : Loops 𝓤 H) → FmC 𝓤 H (W .laws) C → Triple 𝓤 (C #deque·step) (Callee 𝓤 H A mem run) → Triple 𝓤 (C #capi·reply) (Number 𝓤 H A mem run)
+  self-walks : (C : Calls 𝓤 H) (Λ : Loops 𝓤 H) → FmC 𝓤 H (W .laws) C → Triple 𝓤 (C #deque·step) (Callee 𝓤 H A mem run) → Triple 𝓤 (C #operation·reply) (Number 𝓤 H A mem run)
       → Walks 𝓤 H A self.ended stayed (WpFn 𝓤 H C Λ code.function) (self.clauses 𝓤 H A mem run)
   self-walks C Λ fm known-callee known-number = walked 𝓤 H A self.ended stayed (self.clauses 𝓤 H A mem run) (WpFn 𝓤 H C Λ code.function)
       (λ κs. (ptr-vals, (slice-vals, (uint-vals w64, (slice-vals, (slice-vals, (slice-vals, (slice-vals, tt))))))))
@@ -256,7 +256,7 @@ module _ {M : Type 1} (𝓤 : URA M) (H : Heap 𝓤) (A : Atoms 𝓤) (W : Given
       C Λ fm known-callee known-number (are .1 .0 .0 .1) (are .1 .1 .1 .0 .0 .1) (are .1 .1 .1 .1 .0 .0 .1) (are .1 .1 .1 .1 .1 .0 .0 .1) (are .1 .1 .1 .1 .1 .1 .0 .0 .1)))
 
 self-meets : {M : Type 1} (𝓤 : URA M) (H : Heap 𝓤) (A : Atoms 𝓤) → Given 𝓤 H A → (mem : Memory → SProp 𝓤) (run : Routine → Fun 𝓤) (𝓣 : Program 𝓤 H)
-    → Triple 𝓤 (𝓣 .C #deque·step) (Callee 𝓤 H A mem run) → Triple 𝓤 (𝓣 .C #capi·reply) (Number 𝓤 H A mem run)
+    → Triple 𝓤 (𝓣 .C #deque·step) (Callee 𝓤 H A mem run) → Triple 𝓤 (𝓣 .C #operation·reply) (Number 𝓤 H A mem run)
     → Meets 𝓤 H A self.signature (WpFn 𝓤 H (𝓣 .C) (𝓣 .Λ) code.function) (self.spec 𝓤 H A mem run)
 self-meets 𝓤 H A W mem run 𝓣 known-callee known-number =
     walk-meets 𝓤 H A self.ended stayed W (
@@ -285,4 +285,4 @@ zc-step-spec 𝓤 H 𝓜 𝓖 𝓡 =
     (tables 𝓤 H 𝓜 𝓡 code.env .C) (tables 𝓤 H 𝓜 𝓡 code.env .Λ) #capi·zc-step code.function (code.unfolded 𝓤 H 𝓜 𝓡)
     (self-meets 𝓤 H (𝓖 .A) (givenOf 𝓤 H 𝓜 𝓖) (𝓜 .mem) (𝓡 .run) (tablesOf 𝓤 H 𝓜 (tables 𝓤 H 𝓜 𝓡 code.env))
     (cited 𝓤 H (Callee 𝓤 H (𝓖 .A) (𝓜 .mem) (𝓡 .run)) 𝓜 𝓡 code.env #deque·step callee-def.routine code.calls-deque·step (callee-thm.met 𝓤 H 𝓜 𝓖 𝓡))
-    (cited 𝓤 H (Number 𝓤 H (𝓖 .A) (𝓜 .mem) (𝓡 .run)) 𝓜 𝓡 code.env #capi·reply number-def.routine code.calls-capi·reply (number-thm.met 𝓤 H 𝓜 𝓖 𝓡)))
+    (cited 𝓤 H (Number 𝓤 H (𝓖 .A) (𝓜 .mem) (𝓡 .run)) 𝓜 𝓡 code.env #operation·reply number-def.routine code.calls-operation·reply (number-thm.met 𝓤 H 𝓜 𝓖 𝓡)))
