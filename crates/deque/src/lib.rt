@@ -11,7 +11,7 @@ ghost use Prim.Native.Nat.{_≤_};
 ghost use lib.Dec.{eqb};
 ghost use lib.ListN.{length, getD};
 ghost use Rattle.model.specs.declared.Op.the-variants.{Push, Pop, Step};
-ghost use Rattle.model.specs.Tables.{Tables, Queue, idle, zeroed};
+ghost use Rattle.model.specs.Tables.{idle, zeroed};
 ghost use Rattle.model.specs.Report.{count, report};
 ghost use Rattle.model.specs.Calls.{Acted, Done, OpenDone, openQueue, act, stepLent};
 

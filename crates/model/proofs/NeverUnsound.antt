@@ -1,6 +1,5 @@
 -- After any accepted opening, on any tables, no start or step is ever refused as unsound (34).
 use mathlib.Core.Bool.{cond, true}
-use mathlib.Core.List.{List}
 use mathlib.Core.Path.{_∙_, _≡_, ap, refl, subst, sym}
 use Prim.Native.Nat.{_≤_, ℕ}
 use native.Mathlib.Omega.{arith}

@@ -14,7 +14,7 @@ use Rattle.model.specs.declared.Op.{Op}
 use Rattle.model.specs.declared.Op.the-variants.{Push, Pop, Step}
 use Rattle.model.specs.declared.Reply.{Reply}
 use Rattle.model.specs.Tables.{Tables, Queue, withMark, idle, started, recordAt, zeroed}
-use Rattle.model.specs.Places.{row, linkMet, Touch, Move, move, apply}
+use Rattle.model.specs.Places.{row, linkMet, Move, move, apply}
 use Rattle.model.specs.Route.{route, onward, answer, goes, counted}
 use Rattle.model.specs.Refusals.{openRefusal, Lent, among, alone, pushRefusal, popRefusal, stepRefusal}
 

@@ -9,7 +9,7 @@ use Rattle.word.specs.Link.{linkOf}
 use Rattle.model.specs.declared.Control.{Control}
 use Rattle.model.specs.declared.Record.{Record}
 use Rattle.model.specs.Tables.{Tables, Queue, marked}
-use Rattle.model.specs.Sound.{every, from1, isPush, anchorSound, linkSound, controlSound, recordSound, rowsFit}
+use Rattle.model.specs.Sound.{every, from1, anchorSound, linkSound, controlSound, recordSound, rowsFit}
 use Rattle.model.specs.Places.{row, linkMet, Touch, nothing, setAnchor, setLink, clearMark, move}
 
 -- A test with its number.

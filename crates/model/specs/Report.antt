@@ -7,7 +7,6 @@ use lib.ListN.{getD}
 use Rattle.word.specs.Anchor.{anchorOf}
 use Rattle.word.specs.Link.{linkOf}
 use Rattle.model.specs.declared.Entry.{Entry}
-use Rattle.model.specs.declared.Report.{Report}
 use Rattle.model.specs.declared.Reported.{Reported}
 use Rattle.model.specs.declared.Reported.the-variants as reported
 use Rattle.model.specs.Tables.{Tables, Queue, opposite, near, far, links, isEmpty, marked, recordAt}

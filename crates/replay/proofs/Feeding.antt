@@ -1,6 +1,6 @@
 -- Feeding a run: one field and then the rest; and a file in pieces is fed as in one.
 use Prim.Native.Nat.{ℕ, zero, suc, _+_, _-_, _≤_}
-use mathlib.Core.Path.{_≡_, refl, sym, ap, _∙_, subst}
+use mathlib.Core.Path.{_≡_, refl, sym, ap, _∙_}
 use mathlib.Core.Bool.{Bool, true, false, cond}
 use mathlib.Core.List.{List, [], _∷_, _++_, append-assoc, append-nil, flatten}
 use native.Mathlib.Omega.{arith}
@@ -8,10 +8,9 @@ use lib.ListN.{length, take, drop, length-drop, length-append}
 use lib.Dec.{leb, eqb}
 use borrow.Author.Tests.{leb-true, leb-false}
 use lib.Seq.{take-append-le, drop-append-le}
-use Rattle.runfile.specs.Field.{twoAt, formed, contentOf, missing, fieldOf}
+use Rattle.runfile.specs.Field.{contentOf, missing, fieldOf}
 use Rattle.runfile.specs.Line.{header}
-use Rattle.runfile.specs.declared.field.Field.{Field}
-use Rattle.runfile.specs.declared.field.Field.the-variants.{Open, Push, Pop, Steps, Malformed, Cut, End}
+use Rattle.runfile.specs.declared.field.Field.the-variants.{Malformed}
 use Rattle.runfile.specs.declared.field.Found.{Found}
 use Rattle.runfile.proofs.Prefix.{Seen, seen, ended, cut, wrong, whole, same-wrong, same-whole}
 use Rattle.replay.specs.Run.{Run, Told, malformed, carried}

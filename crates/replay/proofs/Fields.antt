@@ -1,19 +1,17 @@
 -- A field taken at a position: its bytes are there, and what is left to do leads to the same.
 use Prim.Native.Nat.{ℕ, _+_, _-_, _<_, _≤_}
-use mathlib.Core.Path.{_≡_, refl, sym, ap, _∙_, subst}
-use mathlib.Core.Bool.{Bool, true, false, _&&_, _||_, not}
+use mathlib.Core.Path.{_≡_, refl, sym, ap, _∙_}
+use mathlib.Core.Bool.{Bool, true, false, _&&_, not}
 use mathlib.Core.List.{List}
 use native.Mathlib.Omega.{arith}
 use lib.Dec.{leb, eqb}
 use lib.ListN.{length, take, drop, getD, length-drop}
 use lib.Seq.{slice, take-add, drop-at, drop-drop, length-take-le}
-use borrow.Author.Tests.{leb-true, le-leb}
-use Rattle.runfile.specs.Field.{twoAt, formed, contentOf, missing, fieldOf}
-use Rattle.runfile.specs.declared.field.Field.{Field}
+use borrow.Author.Tests.{leb-true}
+use Rattle.runfile.specs.Field.{twoAt, formed, contentOf, fieldOf}
 use Rattle.runfile.specs.declared.field.Found.{Found}
 use Rattle.runfile.proofs.Prefix.{Seen, seen, ended, cut, wrong, whole}
-use Rattle.replay.specs.Run.{Run, Told}
-use Rattle.replay.specs.Page.{Page, written, carries, Whole, Takes, Leaves, leaves}
+use Rattle.replay.specs.Page.{Page, written, carries, Whole, Takes, leaves}
 use Rattle.replay.proofs.Feeding.{told, sizeAt}
 use Rattle.replay.proofs.Pages.{leaves-step, leaves-still}
 

@@ -1,14 +1,14 @@
 -- Pages: lines written one after the other, a list of operations one by one, and the fields of some bytes one by one.
-use Prim.Native.Nat.{ℕ, zero, suc, _+_, _*_, _≤_, _<_}
+use Prim.Native.Nat.{ℕ, zero, suc, _+_, _≤_, _<_}
 use mathlib.Core.Path.{_≡_, refl, sym, ap, _∙_}
 use mathlib.Core.Bool.{Bool, true, false}
 use mathlib.Core.List.{List, [], _∷_, _++_, append-nil}
-use native.Mathlib.Nat.{add-zero, add-assoc}
+use native.Mathlib.Nat.{add-zero}
 use native.Mathlib.Numerals.{add-one}
 use native.Mathlib.Omega.{arith}
 use lib.Dec.{leb, ltb}
 use lib.ListN.{length, drop, getD, set, length-append}
-use lib.Seq.{sets, slice, slice-cons, slice-empty}
+use lib.Seq.{slice, slice-cons, slice-empty}
 use Rattle.model.specs.declared.Record.{Record}
 use Rattle.model.specs.declared.Op.{Op}
 use Rattle.model.specs.Tables.{Tables, idle}
@@ -17,10 +17,9 @@ use Rattle.model.specs.Refusals.{Lent}
 use Rattle.model.specs.Calls.{act}
 use Rattle.model.specs.History.{Request, run, final}
 use Rattle.runfile.proofs.Puts.{sets-append}
-use Rattle.runfile.specs.Field.{fieldOf}
-use Rattle.replay.specs.Run.{Run, Told, next, linesOf, numberOf, operated, stepsOf, carried}
+use Rattle.replay.specs.Run.{Run, Told, next, linesOf, numberOf, operated, stepsOf}
 use Rattle.replay.specs.Trace.{Fed, unmoved, after, feed}
-use Rattle.replay.specs.Page.{Page, written, operates, carries, Leaves, leaves, Turned, turned}
+use Rattle.replay.specs.Page.{Page, written, operates, leaves, Turned, turned}
 use Rattle.replay.proofs.Feeding.{told, sizeAt, Next, waits, breaks, moves, next-of, feed-over, feed-waits, broken, feed-step}
 
 page-same : (r : Run) (o o′ : List ℕ) (n n′ : ℕ) → o ≡ o′ → n ≡ n′ → _≡_ {A = Page} (record { run = r; out = o; to = n }) (record { run = r; out = o′; to = n′ })

@@ -1,6 +1,6 @@
 -- Numbers and fields behind a position: what the code finds at a position is what stands at the head of the bytes from there on.
 use Prim.Native.Nat.{ℕ, _+_, _-_, _≤_, _<_}
-use mathlib.Core.Path.{_≡_, refl, sym, ap, _∙_}
+use mathlib.Core.Path.{_≡_, ap, _∙_}
 use mathlib.Core.Bool.{Bool, true, false}
 use mathlib.Core.List.{List}
 use native.Mathlib.Nat.{add-zero, add-assoc}
@@ -9,7 +9,6 @@ use lib.ListN.{length, getD, drop, length-drop}
 use lib.Seq.{getD-drop, drop-drop}
 use borrow.Author.Tests.{lt-leb, le-leb, lt-ltb, le-ltb}
 use Rattle.runfile.specs.Field.{twoAt, fourAt, formed, contentOf, missing, fieldOf}
-use Rattle.runfile.specs.declared.field.Found.{Found}
 use Rattle.runfile.specs.declared.field.Field.the-variants.{Malformed, Cut, End}
 
 module _ (s : List ℕ) (at : ℕ) where

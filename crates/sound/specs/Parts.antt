@@ -1,7 +1,7 @@
 -- The tests of a busy record in two parts: what its call started with, and what it has read.
 use mathlib.Core.Path.{_≡_, sym}
 use mathlib.Core.Bool.{Bool, true, false, _&&_, _||_, not, and-assoc}
-use mathlib.Core.List.{List, [], _∷_}
+use mathlib.Core.List.{[], _∷_}
 use Prim.Native.Nat.{ℕ}
 use lib.Dec.{leb, eqb}
 use Rattle.word.specs.Anchor.{anchorOf}

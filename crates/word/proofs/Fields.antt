@@ -1,6 +1,6 @@
 -- Fields cut to their widths and joined into a word by shifts and or: the word is a sum.
-use mathlib.Core.Path.{_≡_, ap, ap₂, _∙_, refl}
-use Prim.Native.Nat.{ℕ, _+_, _-_, _*_, _%_, _^_, _<_, _≤_}
+use mathlib.Core.Path.{_≡_, ap, ap₂, _∙_}
+use Prim.Native.Nat.{ℕ, _+_, _-_, _*_, _%_, _^_, _<_}
 use native.Mathlib.Nat.{mod-lt, lt-of-lt-of-le}
 use lib.Dec.{T, leb, leb→le}
 use lib.Arith.{digits-lt}

@@ -1,7 +1,7 @@
 -- `report` meets its contract: a walk of its code. The control is looked into and copied out; `to_count` says how many records count, `busy` counts
 -- the busy ones, and `told` makes the report. Of the three their contracts are used alone.
 use mathlib.Core.Path.{_≡_, refl, sym, _∙_, ap, subst}
-use mathlib.Core.Bool.{Bool, true, false, _&&_}
+use mathlib.Core.Bool.{Bool, _&&_}
 use Prim.Native.Nat.{ℕ, _<_, _≤_, _^_}
 use mathlib.Core.List.{[], _∷_, List}
 use lib.ListN.{length}

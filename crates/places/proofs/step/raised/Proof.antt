@@ -1,5 +1,5 @@
 -- A tag has 32 bits, so its sum with 1 fits.
-use mathlib.Core.Path.{_≡_, ap}
+use mathlib.Core.Path.{ap}
 use native.Mathlib.Omega.{arith}
 use Rattle.word.specs.declared.Anchor.{Anchor}
 use Rattle.places.proofs.step.raised.Statement.{statement}

@@ -1,5 +1,5 @@
 -- Each way out is one of the cases of `Bytes.antt`.
-use mathlib.Core.Path.{sym, _∙_, ap}
+use mathlib.Core.Path.{sym, _∙_}
 use native.Mathlib.Omega.{arith}
 use Rattle.runfile.proofs.Bytes.{found-end, found-short, found-wrong, found-cut, found-whole}
 use borrow.Author.Needs.{needs}

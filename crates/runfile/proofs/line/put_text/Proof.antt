@@ -1,7 +1,7 @@
 -- After i turns the first i bytes are stored.
 use borrow.Author.Needs.{needs}
 use lib.Seq.{sets, take-length}
-use lib.ListN.{length, take, set, getD, length-set}
+use lib.ListN.{length, take, set, getD}
 use mathlib.Core.List.{List}
 use mathlib.Core.Path.{_≡_, refl, ap, _∙_}
 use Prim.Native.Nat.{ℕ, _≤_, _-_, _+_}
