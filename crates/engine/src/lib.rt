@@ -30,11 +30,10 @@ fn admission(
         return 34;
     }
     let fit = sound::rows_fit(c.slots, lefts, rights, labels, marks) & enough;
-    // The common case first, which keeps its tests from being folded into a number.
-    if fit & known {
-        return 0;
+    if !fit {
+        return 12;
     }
-    if fit { 13 } else { 12 }
+    if known { 0 } else { 13 }
 }
 
 /// The same for task `task` among `records` lent records.
