@@ -11,6 +11,7 @@
  *     cc -Iinclude main.c target/staticlib/libcapi.a
  *
  * A program that calls zc_step_record also links libcapi_record.a (rt staticlib capi_record).
+ * The libraries call nothing but memset, and that only from zc_open.
  *
  * In short:
  *
@@ -30,8 +31,8 @@
  *     zc_queue_step(&queue, 1);   ... until zc_answered          running, running, popped 1 and 700
  *
  * YOUR DUTY, in every call
- *  - `control` and the record pointer are not null. Every pointer is aligned for
- *    its type and good for its count of elements (a count is never in bytes).
+ *  - `control`, and `one` of zc_step_record, are not null. Every pointer is aligned
+ *    for its type and good for its count of elements (a count is never in bytes).
  *  - No two of the tables overlap, nor do they overlap control or a record.
  *  - One call at a time on a queue. The library uses plain loads and stores: it is
  *    the executive that makes each step one undivided touch. Calls on different
@@ -109,7 +110,12 @@ extern "C" {
 #define ZC_BUSY 30  /* step the task to its answer first */
 #define ZC_IDLE 31  /* start a push or a pop first */
 #define ZC_TAKEN 32 /* name a slot whose mark is clear, see zc_marked */
-#define ZC_WORN 33  /* tags are used up: step running calls to their answers, then open again */
+/*
+ * Tags are used up, after some four thousand million changes. 33 refuses every start, of pops too:
+ * step the running calls to their answers, read out what waits (zc_queue_waiting), and open again,
+ * which forgets it.
+ */
+#define ZC_WORN 33
 /*
  * The contents of a table contradict each other; never after an opening and calls of this
  * library alone, so somebody else wrote there. Three groups, each tested at its time:
@@ -135,7 +141,7 @@ typedef struct zc_control {
     uint64_t retries; /* changes that failed because another task was faster */
 } zc_control;
 
-/* Where a task stands in its call. All zero after zc_open and after an answer. */
+/* Where a task stands in its call. Each field is zero after zc_open and after an answer. */
 typedef struct zc_record {
     uint64_t place;     /* 0 idle, or the place of the next step, 1 to 11 */
     uint64_t kind;      /* ZC_PUSH or ZC_POP */
@@ -190,7 +196,8 @@ ZC_LAYOUT(offsetof(zc_report_reply, retries) == 48 && offsetof(zc_report_reply, 
 /* ---- The calls ---------------------------------------------------------------------------
  * The tables always come last and in this order, each a pointer and its count of elements:
  * lefts and rights (link words: tag 63-32, zero 31-15, slot 14-0), labels, marks. A table that a
- * call only reads is lent as const.
+ * call only reads is lent as const; control and records are written by all but the report, a start
+ * leaving control as it was.
  */
 
 /*
