@@ -129,6 +129,7 @@ pub fn step_alone(
         ⌜ withTables m (now (lefts .exit)) (now (rights .exit)) (now (labels .entry)) (now (marks .exit))
         ≡ stepLent (tablesOf c (now (lefts .entry)) (now (rights .entry)) (now (labels .entry)) (now (marks .entry))) r ⌝ }
 {
+    // No record is wanting, and the task is known by it.
     let lent = true;
     let why = admission(
         c,

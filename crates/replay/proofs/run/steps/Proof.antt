@@ -49,10 +49,10 @@ loop-again : tie.Need-loop-again Inv-loop μ-loop
 loop-again c =
     let done = c .before .before .before .before .before .before .before .before .before .before .before .before .before in
     let kept = done .step .kept .1 .1 .1 .1 in
-    let here = c .before .before .before .before .before .before .before .before .before .before .before .before .before .before .before .before .before .before .before .before .before .before .before .before in
+    let here = done .before .before .before .before .before .before .before .before .before .before .before in
     let inv = here .loop .inv in
     let rs = here .loop .records in
-    let less = c .before .before .before .before .before .before .before .before .before .before .before .before .before .before .before .before .before .before .before .before .before .before .before .loop-test .taken in
+    let less = done .before .before .before .before .before .before .before .before .before .before .loop-test .taken in
     let within = inv .0 in
     let small = inv .2 in
     let fits = inv .3 in
@@ -63,12 +63,12 @@ loop-again c =
       inv .2,
       omega arith,
       ap length stored ∙ length-set rs _ _ ∙ inv .4,
-      steps-more _ _ _ _ _ (c .before .before .before .before .before .before .before .before .before .before .before .before .before .before .before .before .before .before .before .before .before .before .before .loop-test .taken) (inv .1)
+      steps-more _ _ _ _ _ less (inv .1)
           (turn-page _ _ _ _ _ _ _ _ _ _ _ _ _ (inv .4)
           (⊎-elim (λ w. w .2 ∙ record-there rs _ _ _ (let h = w .0 .taken in omega arith))
-          (λ w. w .1 ∙ c .before .before .before .before .before .before .before .before .before .before .before .before .before .before .before .before .before .before .before .before .idle .ensures ∙ sym (List·getD-eq-default rs _ (let h = w .0 .left in omega arith)))
-          (c .before .before .before .before .before .before .before .before .before .before .before .before .before .before .before .before .before .before .before .if1 .came))
-          (c .before .before .before .before .before .before .before .before .before .before .before .before .before .before .before .before .before .before .before .before .before .wrapping-add-u64 .ensures) (done .step .ensures .0) stored)
+          (λ w. w .1 ∙ done .before .before .before .before .before .before .before .idle .ensures ∙ sym (List·getD-eq-default rs _ (let h = w .0 .left in omega arith)))
+          (done .before .before .before .before .before .before .if1 .came))
+          (done .before .before .before .before .before .before .before .before .wrapping-add-u64 .ensures) (done .step .ensures .0) stored)
           ∙ inv .5,
       kept .0 ∙ inv .6,
       kept .1 .1 .0 ∙ inv .7,
