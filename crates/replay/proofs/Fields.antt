@@ -1,6 +1,6 @@
 -- A field taken at a position: its bytes are there, and what is left to do leads to the same.
 use Prim.Native.Nat.{ℕ, _+_, _-_, _<_, _≤_}
-use mathlib.Core.Path.{_≡_, refl, sym, ap, _∙_}
+use mathlib.Core.Path.{_≡_, refl, sym, ap, _∙_, subst}
 use mathlib.Core.Bool.{Bool, true, false, _&&_, not}
 use mathlib.Core.List.{List}
 use native.Mathlib.Omega.{arith}
@@ -11,9 +11,10 @@ use borrow.Author.Tests.{leb-true}
 use Rattle.runfile.specs.Field.{twoAt, formed, contentOf, fieldOf}
 use Rattle.runfile.specs.declared.field.Found.{Found}
 use Rattle.runfile.proofs.Prefix.{Seen, seen, ended, cut, wrong, whole}
-use Rattle.replay.specs.Page.{Page, written, carries, Whole, Takes, leaves}
+use Rattle.replay.specs.Trace.{unmoved, feed}
+use Rattle.replay.specs.Page.{Page, written, carries, Whole, Takes, Reaches}
 use Rattle.replay.proofs.Feeding.{told, sizeAt}
-use Rattle.replay.proofs.Pages.{leaves-step, leaves-still}
+use Rattle.replay.proofs.Pages.{reaches-step, still-done}
 
 clash : {P : Type 0} → _≡_ {A = Bool} false true → P
 clash z = absurd (let y : _≡_ {A = ℕ} 0 1 = cc in omega arith)
@@ -77,21 +78,17 @@ takes-made p p′ bytes at at′ f e g n h = record {
   within = omega (arith, length-drop at bytes);
 }
 
-module _ (p p′ : Page) (bytes : List ℕ) (at at′ : ℕ) (t : Takes p (drop at bytes) p′ at at′) (e : p .run .over ≡ false) where
-  pub takes-step : leaves p′ (drop at′ bytes) ≡ leaves p (drop at bytes)
+module _ (p p′ : Page) (bytes : List ℕ) (at at′ : ℕ) (t : Takes p (drop at bytes) p′ at at′) where
+  pub takes-step : p .run .over ≡ false → Reaches p (drop at bytes) p′ (drop at′ bytes)
   unfolding told sizeAt
-  takes-step =
-      ap (λ (x : Page). leaves x (drop at′ bytes)) (t .page)
-      ∙ ap (λ (l : List ℕ). leaves (written p (told (p .run) (drop at bytes))) l)
-      (ap (λ (k : ℕ). drop k bytes) (t .next) ∙ sym (drop-drop (sizeAt (p .run) (drop at bytes)) at bytes))
-      ∙ leaves-step p (drop at bytes) e
+  takes-step e =
+      let l : drop (sizeAt (p .run) (drop at bytes)) (drop at bytes) ≡ drop at′ bytes =
+      drop-drop (sizeAt (p .run) (drop at bytes)) at bytes ∙ ap (λ (k : ℕ). drop k bytes) (sym (t .next)) in
+      subst (λ (x : Page). Reaches p (drop at bytes) x (drop at′ bytes)) (sym (t .page))
+      (subst (Reaches p (drop at bytes) (written p (told (p .run) (drop at bytes)))) l (reaches-step p (drop at bytes) e))
 
-  pub takes-still : at′ ≡ at → leaves p′ (drop at′ bytes) ≡ record { page = p′; rest = drop at′ bytes }
-  unfolding told sizeAt
+  pub takes-still : at′ ≡ at → feed (p′ .run) (drop at′ bytes) ≡ unmoved (p′ .run) (drop at′ bytes)
+  unfolding told sizeAt written
   takes-still h =
       let z : sizeAt (p .run) (drop at bytes) ≡ 0 = omega (arith, t .next) in
-      ap (λ (x : Page). leaves x (drop at′ bytes)) (t .page)
-      ∙ ap (λ (k : ℕ). leaves (written p (told (p .run) (drop at bytes))) (drop k bytes)) h
-      ∙ leaves-still p (drop at bytes) e z
-      ∙ ap (λ (x : Page). record { page = x; rest = drop at bytes }) (sym (t .page))
-      ∙ ap (λ (k : ℕ). record { page = p′; rest = drop k bytes }) (sym h)
+      rw (t .page, h) (still-done (p .run) (drop at bytes) z)

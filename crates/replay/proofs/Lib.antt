@@ -2,3 +2,4 @@ pub mod Feeding
 pub mod Pages
 pub mod Turns
 pub mod Fields
+pub mod Whole

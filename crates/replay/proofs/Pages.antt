@@ -2,7 +2,7 @@
 use Prim.Native.Nat.{ℕ, zero, suc, _+_, _≤_, _<_}
 use mathlib.Core.Path.{_≡_, refl, sym, ap, _∙_}
 use mathlib.Core.Bool.{Bool, true, false}
-use mathlib.Core.List.{List, [], _∷_, _++_, append-nil}
+use mathlib.Core.List.{List, [], _∷_, _++_, append-nil, append-assoc}
 use native.Mathlib.Nat.{add-zero}
 use native.Mathlib.Numerals.{add-one}
 use native.Mathlib.Omega.{arith}
@@ -19,13 +19,13 @@ use Rattle.model.specs.History.{Request, run, final}
 use Rattle.runfile.proofs.Puts.{sets-append}
 use Rattle.replay.specs.Run.{Run, Told, next, linesOf, numberOf, operated, stepsOf}
 use Rattle.replay.specs.Trace.{Fed, unmoved, after, feed}
-use Rattle.replay.specs.Page.{Page, written, operates, leaves, Turned, turned}
+use Rattle.replay.specs.Page.{Page, written, operates, Reaches, Turned, turned}
 use Rattle.replay.proofs.Feeding.{told, sizeAt, Next, waits, breaks, moves, next-of, feed-over, feed-waits, broken, feed-step}
 
 page-same : (r : Run) (o o′ : List ℕ) (n n′ : ℕ) → o ≡ o′ → n ≡ n′ → _≡_ {A = Page} (record { run = r; out = o; to = n }) (record { run = r; out = o′; to = n′ })
 page-same r o o′ n n′ e f = cc
 
-written-more : (p : Page) (t u : Told) → written (written p t) u ≡ written p (record { run = u .run; lines = t .lines ++ u .lines })
+pub written-more : (p : Page) (t u : Told) → written (written p t) u ≡ written p (record { run = u .run; lines = t .lines ++ u .lines })
 unfolding written
 written-more p t u =
     page-same _ _ _ _ _ (sets-append (p .out) (p .to) (t .lines) (u .lines)) (omega (arith, length-append (t .lines) (u .lines)))
@@ -113,33 +113,30 @@ steps-more p p′ i end bytes h k e =
     ∙ ap (λ (l : List ℕ). operates p (stepsOf l)) (sym (slice-cons i end bytes 0 h k))
 
 -- Fields one by one.
-pub leaves-step : (p : Page) (b : List ℕ) → p .run .over ≡ false
-    → leaves (written p (told (p .run) b)) (drop (sizeAt (p .run) b) b) ≡ leaves p b
-unfolding leaves written
-leaves-step p b e =
-    let t = told (p .run) b in
-    let f = feed (t .run) (drop (sizeAt (p .run) b) b) in
-    ap (λ (x : Page). record { page = x; rest = f .rest }) (written-more p t (record { run = f .run; lines = f .lines }))
-    ∙ ap (λ (x : Fed). record { page = written p (record { run = x .run; lines = x .lines }); rest = x .rest }) (sym (feed-step (p .run) b e))
+pub reaches-none : (p : Page) (b : List ℕ) → Reaches p b p b
+reaches-none p b = record { wrote = record { run = p .run; lines = [] }; page = sym (written-none p); rest = refl }
 
--- Where nothing is taken.
-pub leaves-none : (p : Page) (b : List ℕ) → feed (p .run) b ≡ unmoved (p .run) b → leaves p b ≡ record { page = p; rest = b }
-unfolding leaves
-leaves-none p b e =
-    ap (λ (x : Fed). record { page = written p (record { run = x .run; lines = x .lines }); rest = x .rest }) e
-    ∙ ap (λ (x : Page). record { page = x; rest = b }) (written-none p)
+pub reaches-more : (p p′ p″ : Page) (b b′ b″ : List ℕ) → Reaches p b p′ b′ → Reaches p′ b′ p″ b″ → Reaches p b p″ b″
+reaches-more p p′ p″ b b′ b″ f g = record {
+  wrote = record { run = g .wrote .run; lines = f .wrote .lines ++ g .wrote .lines };
+  page = g .page ∙ ap (λ (x : Page). written x (g .wrote)) (f .page) ∙ written-more p (f .wrote) (g .wrote);
+  rest = f .rest ∙ ap (after (f .wrote)) (g .rest) ∙ ap (λ (l : List ℕ). record { run = feed (p″ .run) b″ .run; rest = feed (p″ .run) b″ .rest; lines = l }) (sym (append-assoc (f .wrote .lines) (g .wrote .lines) (feed (p″ .run) b″ .lines)));
+}
 
-pub leaves-over : (p : Page) (b : List ℕ) → p .run .over ≡ true → leaves p b ≡ record { page = p; rest = b }
+pub reaches-step : (p : Page) (b : List ℕ) → p .run .over ≡ false → Reaches p b (written p (told (p .run) b)) (drop (sizeAt (p .run) b) b)
+unfolding written
+reaches-step p b e = record { wrote = told (p .run) b; page = refl; rest = feed-step (p .run) b e }
+
+-- Where nothing is left to do: the run is over; or a field that takes no bytes waits, or ends the run.
+pub over-done : (r : Run) (b : List ℕ) → r .over ≡ true → feed r b ≡ unmoved r b
 unfolding feed
-leaves-over p b e = leaves-none p b (feed-over (length b) (p .run) b e)
+over-done r b e = feed-over (length b) r b e
 
--- A field that takes no bytes waits, or ends the run.
-pub leaves-still : (p : Page) (b : List ℕ) → p .run .over ≡ false → sizeAt (p .run) b ≡ 0
-    → leaves (written p (told (p .run) b)) b ≡ record { page = written p (told (p .run) b); rest = b }
-unfolding written feed
-leaves-still p b e s = go (next-of (p .run) b)
+pub still-done : (r : Run) (b : List ℕ) → sizeAt r b ≡ 0 → feed (told r b .run) b ≡ unmoved (told r b .run) b
+unfolding feed
+still-done r b s = go (next-of r b)
   where
-    go : Next (p .run) b → leaves (written p (told (p .run) b)) b ≡ record { page = written p (told (p .run) b); rest = b }
-    go (waits t z) = leaves-none (written p (told (p .run) b)) b (rw t (feed-waits (length b) (p .run) b t z))
-    go (breaks f g) = leaves-over (written p (told (p .run) b)) b (broken (p .run) b g)
+    go : Next r b → feed (told r b .run) b ≡ unmoved (told r b .run) b
+    go (waits t z) = rw t (feed-waits (length b) r b t z)
+    go (breaks f g) = over-done (told r b .run) b (broken r b g)
     go (moves l k f g) = absurd (omega arith)

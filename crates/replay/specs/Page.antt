@@ -18,7 +18,7 @@ use Rattle.runfile.specs.declared.field.Field.{Field}
 use Rattle.runfile.specs.declared.field.Field.the-variants.{Open, Push, Pop, Steps, Malformed, Cut, End}
 use Rattle.model.specs.History.{Request}
 use Rattle.replay.specs.Run.{Run, Told, operated, opened, malformed, carried}
-use Rattle.replay.specs.Trace.{feed, finished, fresh}
+use Rattle.replay.specs.Trace.{unmoved, after, feed, finished, fresh}
 use Rattle.replay.specs.declared.run.Session.{Session}
 use Rattle.replay.specs.declared.turn.Turn.{Turn}
 
@@ -73,22 +73,20 @@ pub record Takes (p : Page) (b : List ℕ) (p′ : Page) (at at′ : ℕ) : Type
   pub next : at′ ≡ at + fieldOf (p .run .opened) b .size
   pub within : at′ ≤ at + length b
 
--- What a page comes to by some bytes, and the bytes not used.
-pub record Leaves : Type 0 where
-  pub page : Page
-  pub rest : List ℕ
-
-unfoldable pub leaves : Page → List ℕ → Leaves
-leaves p b = let f = feed (p .run) b in record { page = written p (record { run = f .run; lines = f .lines }); rest = f .rest }
-
 -- Room for the lines of any one field: 4,096 of the longest.
 abbrev pub fieldRoom : ℕ
 fieldRoom = 4096 * room
 
--- From page p and the bytes b to page p′ and b′: what is left to do leads to the same, and with room for a field nothing is.
+-- From page p and the bytes b to page p′ and the bytes b′: what was written, and what is left to do, is what b was to do.
+pub record Reaches (p : Page) (b : List ℕ) (p′ : Page) (b′ : List ℕ) : Type 0 where
+  pub wrote : Told
+  pub page : p′ ≡ written p wrote
+  pub rest : feed (p .run) b ≡ after wrote (feed (p′ .run) b′)
+
+-- The same, and with room for a field nothing is left to do.
 pub record Feeds (p : Page) (b : List ℕ) (p′ : Page) (b′ : List ℕ) : Type 0 where
-  pub same : leaves p′ b′ ≡ leaves p b
-  pub done : p′ .to + fieldRoom ≤ length (p′ .out) → leaves p′ b′ ≡ record { page = p′; rest = b′ }
+  pub reaches : Reaches p b p′ b′
+  pub done : p′ .to + fieldRoom ≤ length (p′ .out) → feed (p′ .run) b′ ≡ unmoved (p′ .run) b′
 
 -- The bytes of a steps field are there.
 abbrev pub Whole : Field → ℕ → ℕ → Type 0

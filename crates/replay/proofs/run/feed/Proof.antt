@@ -1,4 +1,4 @@
--- Between two fields what is left to do leads to the same as at the start. What is left of the bytes falls.
+-- Between two fields the run has come from the start to here. What is left of the bytes falls.
 use mathlib.Core.Path.{_≡_, refl, sym, _∙_}
 use mathlib.Core.Bool.{not}
 use Prim.Native.Nat.{_+_, _-_}
@@ -6,15 +6,15 @@ use native.Mathlib.Omega.{arith}
 use borrow.Author.Needs.{needs}
 use borrow.Author.Tests.{leb-true, le-leb}
 use lib.ListN.{length, drop, length-drop}
-use Rattle.replay.specs.Page.{pageOf, leaves, fieldRoom}
-use Rattle.replay.proofs.Pages.{leaves-over}
+use Rattle.replay.specs.Page.{pageOf, fieldRoom, Reaches}
+use Rattle.replay.proofs.Pages.{reaches-none, reaches-more, over-done}
 use Rattle.replay.proofs.Fields.{both, negated, over-then, takes-step, takes-still}
 use Rattle.replay.proofs.run.feed.Statement.{statement}
 use Rattle.replay.proofs.run.feed.Tie as tie
 
 abbrev Inv-loop : tie.InvT-loop
 Inv-loop bytes out₀ lefts₀ rights₀ labels₀ marks₀ q₀ out lefts rights labels marks q =
-    (leaves (pageOf q out lefts rights labels marks) (drop (q .at) bytes) ≡ leaves (pageOf q₀ out₀ lefts₀ rights₀ labels₀ marks₀) (drop (q₀ .at) bytes))
+    Reaches (pageOf q₀ out₀ lefts₀ rights₀ labels₀ marks₀) (drop (q₀ .at) bytes) (pageOf q out lefts rights labels marks) (drop (q .at) bytes)
     × (length out ≡ length out₀) × (length lefts ≡ length lefts₀) × (length rights ≡ length rights₀)
     × (length labels ≡ length labels₀) × (length marks ≡ length marks₀)
 
@@ -31,7 +31,7 @@ returns : tie.Need-returns Inv-loop μ-loop
 returns c =
     let took = c .before .before .before .before .before .before .before .before .before .before .before .before .take-field .ensures in
     let running = negated _ (both _ _ (c .before .before .before .before .before .before .before .before .before .before .before .before .before .before .before .before .before .before .if1 .taken) .0) in
-    record { same = takes-step _ _ _ _ _ took running ∙ c .before .before .before .before .before .before .before .before .before .before .before .before .before .before .before .before .before .before .before .before .before .loop .inv .0; done = λ fits. takes-still _ _ _ _ _ took running (c .if2 .taken) }
+    record { reaches = reaches-more _ _ _ _ _ _ (c .before .before .before .before .before .before .before .before .before .before .before .before .before .before .before .before .before .before .before .before .before .loop .inv .0) (takes-step _ _ _ _ _ took running); done = λ fits. takes-still _ _ _ _ _ took (c .if2 .taken) }
 
 loop-less : tie.Need-loop-less Inv-loop μ-loop
 loop-less c =
@@ -47,7 +47,7 @@ loop-again c =
     let kept = took .kept .1 .1 in
     let inv = c .before .before .before .before .before .before .before .before .before .before .before .before .before .before .before .before .before .before .before .before .before .loop .inv in
     let running = negated _ (both _ _ (c .before .before .before .before .before .before .before .before .before .before .before .before .before .before .before .before .before .before .if1 .taken) .0) in (
-      takes-step _ _ _ _ _ (took .ensures) running ∙ inv .0,
+      reaches-more _ _ _ _ _ _ (inv .0) (takes-step _ _ _ _ _ (took .ensures) running),
       kept .0 ∙ inv .1,
       kept .1 .0 ∙ inv .2,
       kept .1 .1 .0 ∙ inv .3,
@@ -58,8 +58,8 @@ loop-again c =
 returns-2 : tie.Need-returns-2 Inv-loop μ-loop
 returns-2 c =
     record {
-      same = c .before .before .before .loop .inv .0;
-      done = λ fits. leaves-over _ _ (over-then _ _ (c .if1 .left) (c .before .has-room .ensures ∙ le-leb _ _ fits));
+      reaches = c .before .before .before .loop .inv .0;
+      done = λ fits. over-done _ _ (over-then _ _ (c .if1 .left) (c .before .has-room .ensures ∙ le-leb _ _ fits));
     }
 
 pub feed-spec : {M : Type 1} → statement M
@@ -68,7 +68,7 @@ feed-spec =
     (tie.spec
     Inv-loop
     μ-loop
-    (λ c. (refl, refl, refl, refl, refl, refl))
+    (λ c. (reaches-none _ _, refl, refl, refl, refl, refl))
     (λ c κs. search needs)
     take-field-requires
     (λ c. c .before .before .before .before .before .before .before .before .before .before .before .before .take-field .kept .1 .1 .0 ∙ c .before .before .before .before .before .before .before .before .before .before .before .before .before .before .before .before .before .before .before .before .before .loop .inv .1)
