@@ -1,4 +1,5 @@
 pub mod Count
+pub mod Engine
 pub mod Frame
 pub mod Stored
 pub mod Walk

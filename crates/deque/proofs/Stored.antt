@@ -3,6 +3,7 @@
 use mathlib.Core.Path.{_≡_, refl, sym, ap, subst, _∙_}
 use mathlib.Core.Bool.{true, false}
 use mathlib.Core.List.{List, [], _∷_}
+use mir.Val.{Val}
 use Prim.Native.Nat.{ℕ}
 use denote.Laws.{Is}
 use denote.Struct.Laws as LL
@@ -14,11 +15,24 @@ use Rattle.model.specs.Calls.{Acted, step}
 use Rattle.table.specs.declared.Acted.{Acted as Moved}
 use Rattle.engine.specs.Ends.{endsCall, isMoved}
 use Rattle.engine.proofs.Kept.{Kept, step-kept}
-use Rattle.deque.proofs.Walk.{control-value, record-value}
+use Rattle.deque.proofs.Walk.{control-value, record-value, outcome-value}
 use Rattle.model.proofs.Control as K
 use Rattle.model.proofs.Control.Laws as K′
 use Rattle.model.proofs.Record as T
 use Rattle.model.proofs.Record.Laws as T′
+use Rattle.model.proofs.Outcome as E
+use Rattle.table.proofs.Acted as N
+use Rattle.table.proofs.Acted.Laws as N′
+
+-- The parts of what a step returns.
+pub control-of : (m : Moved) {w : Val} → Is N.the-row m (w ∷ []) → Is K.the-row (m .control) (control-value (m .control) ∷ [])
+control-of m is = LL.owed N.the-type N′.the-laws m _ is .0
+
+pub task-of : (m : Moved) {w : Val} → Is N.the-row m (w ∷ []) → Is T.the-row (m .task) (record-value (m .task) ∷ [])
+task-of m is = LL.owed N.the-type N′.the-laws m _ is .1 .0
+
+pub outcome-of : (m : Moved) {w : Val} → Is N.the-row m (w ∷ []) → Is E.the-row (m .outcome) (outcome-value (m .outcome) ∷ [])
+outcome-of m is = LL.owed N.the-type N′.the-laws m _ is .1 .1 .0
 
 abbrev pub control-after : Control → Moved → Control
 control-after c m = record { tasks = c .tasks; slots = c .slots; anchor = m .control .anchor; retries = m .control .retries }

@@ -34,15 +34,19 @@ use types.Part.{Part, whole, sub, look-in}
 use denote.Laws.{Is}
 use denote.Ref.{RefT}
 use denote.RattleType.{RattleType}
-use denote.Slice.{MutSlice, finally, res-finally, codedHoleys, heres}
+use denote.Slice.{sliceVal, MutSlice, finally, res-finally, codedHoleys, heres}
 use denote.Struct.Laws as LL
+use denote.Enum.Laws as EL
 use Rattle.model.specs.declared.Control.{Control}
 use Rattle.model.specs.declared.Record.{Record}
+use Rattle.model.specs.declared.Outcome.{Outcome}
 use Rattle.model.specs.Tables.{idle, zeroed}
 use Rattle.model.proofs.Control as K
 use Rattle.model.proofs.Control.Laws as K′
 use Rattle.model.proofs.Record as T
 use Rattle.model.proofs.Record.Laws as T′
+use Rattle.model.proofs.Outcome as E
+use Rattle.model.proofs.Outcome.Laws as E′
 
 -- ---- machine values
 abbrev pub control-value : Control → Val
@@ -50,6 +54,12 @@ control-value = LL.val K.the-type K′.the-laws
 
 abbrev pub record-value : Record → Val
 record-value = LL.val T.the-type T′.the-laws
+
+abbrev pub outcome-value : Outcome → Val
+outcome-value = EL.val E.the-type E′.the-laws
+
+abbrev pub slice-value : {X : Type 0} → RefT (List X) → Val
+slice-value x = sliceVal (x .ptr) (length (x .now))
 
 pub idle-is : Is T.the-row idle (record-value idle ∷ [])
 idle-is = LL.owes T.the-type T′.the-laws idle ((refl, lit< tt), ((refl, lit< tt), ((refl, lit< tt), ((refl, lit< tt), ((refl, lit< tt), ((refl, lit< tt), ((refl, lit< tt), ((refl, lit< tt), ((refl, lit< tt), tt)))))))))

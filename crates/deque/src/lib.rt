@@ -220,21 +220,20 @@ pub fn step(
     if why != 0 {
         return engine::refuse(why);
     }
-    let r = records[task];
+    let record = &mut records[task];
+    let r = *record;
     let m = engine::move_on(c, r, lefts, rights, labels, marks);
-    let moves = engine::moves(m.outcome);
-    let over = engine::ends(m.outcome);
-    if moves {
+    if engine::moves(m.outcome) {
         control.anchor = m.control.anchor;
         control.retries = m.control.retries;
-        if over {
-            records[task] = IDLE;
+        if engine::ends(m.outcome) {
+            *record = IDLE;
         } else {
-            records[task].place = m.task.place;
-            records[task].seen = m.task.seen;
-            records[task].neighbour = m.task.neighbour;
-            records[task].link = m.task.link;
-            records[task].finishing = m.task.finishing;
+            record.place = m.task.place;
+            record.seen = m.task.seen;
+            record.neighbour = m.task.neighbour;
+            record.link = m.task.link;
+            record.finishing = m.task.finishing;
         }
     }
     m.outcome
