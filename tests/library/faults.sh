@@ -176,11 +176,13 @@ print(len(entries))
 END
 ) || { echo "0 passed, 1 failed"; exit 1; }
 
-# The test programs, built once on calls that are handed on to a shared object.
-gcc -std=gnu11 -O2 -Iinclude -c tests/library/forward.c -o "$work/forward.o" &&
-    ar rcs "$work/forward.a" "$work/forward.o" &&
+# The test programs, built once on calls that are handed on to a shared object; all calls are in one.
+mkdir "$work/forward" &&
+    gcc -std=gnu11 -O2 -Iinclude -c tests/library/forward.c -o "$work/forward.o" &&
+    ar rcs "$work/forward/libcapi.a" "$work/forward.o" &&
+    ar rcs "$work/forward/libcapi_record.a" &&
     gcc -shared -fPIC -O2 -DAS_LIBRARY -Iinclude bench/reference.c -o "$work/faultless.so" || exit 2
-if ! ZC_OBJECT=$work/faultless.so BUILD=$work/build tests/library/run.sh "$work/forward.a" >"$work/said"; then
+if ! ZC_OBJECT=$work/faultless.so BUILD=$work/build tests/library/run.sh "$work/forward" >"$work/said"; then
     cat "$work/said"
     echo "the tests fail without any fault"
     echo "0 passed, 1 failed"
