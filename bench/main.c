@@ -1,7 +1,7 @@
 /*
  * Drives the library, the hand-written calls and the bare algorithm through one schedule.
  *
- *     bench check TASKS SLOTS STEPS          all three answer and leave the same
+ *     bench check TASKS SLOTS STEPS          all three answer and leave the same, in both calls
  *     bench time  TASKS SLOTS STEPS TIMES    nanoseconds a step, best of TIMES, interleaved
  *     bench count ENGINE TASKS SLOTS STEPS   one replay, for a program that counts instructions
  *
@@ -157,8 +157,21 @@ static uint64_t mix(uint64_t hash, uint64_t number)
     return (hash ^ number) * UINT64_C(1099511628211);
 }
 
+static uint64_t hash_record(uint64_t hash, const zc_record *record)
+{
+    const uint64_t numbers[] = {
+        record->place, record->kind,      record->side, record->own,       record->label,
+        record->seen,  record->neighbour, record->link, record->finishing,
+    };
+    for (size_t at = 0; at < sizeof numbers / sizeof *numbers; at++)
+        hash = mix(hash, numbers[at]);
+    return hash;
+}
+
 static uint64_t hash_tables(uint64_t hash)
 {
+    for (size_t task = 0; task < tasks; task++)
+        hash = hash_record(hash, &records[task]);
     for (size_t row = 0; row <= slots; row++)
         hash = mix(mix(mix(hash, lefts[row]), rights[row]), labels[row]);
     for (size_t word = 0; word <= slots / 64; word++)
@@ -168,15 +181,10 @@ static uint64_t hash_tables(uint64_t hash)
 
 static uint64_t hash_move(uint64_t hash, zc_reply reply, const zc_record *record)
 {
-    const uint64_t numbers[] = {
-        reply.code,    reply.label,       reply.value,    record->place,
-        record->kind,  record->side,      record->own,    record->label,
-        record->seen,  record->neighbour, record->link,   record->finishing,
-        control.tasks, control.slots,     control.anchor, control.retries,
-    };
-    for (size_t at = 0; at < sizeof numbers / sizeof *numbers; at++)
-        hash = mix(hash, numbers[at]);
-    return hash;
+    hash = mix(mix(mix(hash, reply.code), reply.label), reply.value);
+    hash = mix(mix(hash, control.tasks), control.slots);
+    hash = mix(mix(hash, control.anchor), control.retries);
+    return hash_record(hash, record);
 }
 
 static zc_reply bare_move(const struct operation *move)
@@ -211,6 +219,20 @@ static zc_reply library_move(const struct operation *move)
     }
 }
 
+static zc_reply reference_record_move(const struct operation *move)
+{
+    if (move->what != STEP)
+        return reference_move(move);
+    return reference_step_record(&control, &records[move->task], LENT);
+}
+
+static zc_reply library_record_move(const struct operation *move)
+{
+    if (move->what != STEP)
+        return library_move(move);
+    return zc_step_record(&control, &records[move->task], LENT);
+}
+
 /* The hash over all answers, the record and control after each, and all tables now and then. */
 static uint64_t hash_run(const struct operation *schedule, size_t count,
                          zc_reply (*move)(const struct operation *))
@@ -226,18 +248,27 @@ static uint64_t hash_run(const struct operation *schedule, size_t count,
     return hash_tables(hash);
 }
 
+static const struct mover {
+    const char *name;
+    zc_reply (*move)(const struct operation *move);
+} movers[] = {
+    {"library", library_move},
+    {"reference", reference_move},
+    {"library_record", library_record_move},
+    {"reference_record", reference_record_move},
+};
+
 static int check(const struct operation *schedule, size_t count)
 {
-    uint64_t library = hash_run(schedule, count, library_move);
-    uint64_t reference = hash_run(schedule, count, reference_move);
     uint64_t bare = hash_run(schedule, count, bare_move);
-    if (library == reference && reference == bare)
-        return 0;
-    fprintf(stderr,
-            "%zu tasks, %zu slots: answers or tables differ: library %016" PRIx64 ", C %016" PRIx64
-            ", bare %016" PRIx64 "\n",
-            tasks, slots, library, reference, bare);
-    return 1;
+    int differ = 0;
+    for (size_t at = 0; at < sizeof movers / sizeof *movers; at++)
+        if (hash_run(schedule, count, movers[at].move) != bare) {
+            fprintf(stderr, "%zu tasks, %zu slots: answers or tables of %s and bare differ\n",
+                    tasks, slots, movers[at].name);
+            differ = 1;
+        }
+    return differ;
 }
 
 /* ---- Time -------------------------------------------------------------------------------- */

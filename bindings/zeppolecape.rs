@@ -513,7 +513,8 @@ impl Queue {
     }
 
     /// The slots and labels that wait, from left to right: from the right end along Left links, or,
-    /// under LPUSH, from the left end along Right links.
+    /// under LPUSH, from the left end along Right links. Never more than there are slots, and no
+    /// row that there is not, whatever the tables hold.
     pub fn waiting(&self) -> Vec<(u64, u32)> {
         let Anchor { status, left, right, .. } = Anchor::of(self.control.anchor);
         let from_left = status == 2;
@@ -521,9 +522,10 @@ impl Queue {
             true => (&self.rights, left, right),
             false => (&self.lefts, right, left),
         };
+        let last_row = self.control.slots.min(links.len() as u64 - 1);
         let mut found = Vec::new();
         let mut slot = first;
-        while slot != 0 {
+        while (1..=last_row).contains(&slot) && (found.len() as u64) < last_row {
             found.push((slot, self.labels[slot as usize]));
             slot = if slot == last { 0 } else { link_slot(links[slot as usize]) };
         }
@@ -624,6 +626,26 @@ mod tests {
             let slots: Vec<u64> = queue.waiting().iter().map(|entry| entry.0).collect();
             assert_eq!(slots, order);
         }
+    }
+
+    #[test]
+    fn waiting_ends_whatever_the_tables_hold() {
+        let mut queue = Queue::open(1, 3, 0).unwrap();
+        for slot in 1..=3 {
+            queue.push(0, Side::Right, slot, 10 * slot as u32).unwrap();
+            finish(&mut queue, 0);
+        }
+        assert_eq!(queue.waiting(), [(1, 10), (2, 20), (3, 30)]);
+        queue.lefts[2] = 3;
+        assert_eq!(queue.waiting(), [(3, 30), (2, 20), (3, 30)]);
+        queue.control.slots = u64::MAX;
+        assert_eq!(queue.waiting().len(), 3);
+        for slot in [0, 4, 0x7fff] {
+            queue.lefts[2] = slot;
+            assert_eq!(queue.waiting(), [(2, 20), (3, 30)]);
+        }
+        queue.control = Control { slots: 3, anchor: u64::MAX, ..queue.control };
+        assert_eq!(queue.waiting(), []);
     }
 
     #[test]

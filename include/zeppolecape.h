@@ -379,6 +379,52 @@ static inline zc_report_reply zc_queue_report(const zc_queue *queue)
     return zc_report(queue->control, queue->records, queue->record_count, ZC_TABLES(queue));
 }
 
+/* The last row that control and the lengths of lefts, rights and labels allow; 0: there is none. */
+static inline uint64_t zc_queue_last_row(const zc_queue *queue)
+{
+    uint64_t rows = queue->left_count;
+    if (queue->right_count < rows)
+        rows = queue->right_count;
+    if (queue->label_count < rows)
+        rows = queue->label_count;
+    if (rows == 0)
+        return 0;
+    return queue->control->slots < rows ? queue->control->slots : rows - 1;
+}
+
+/*
+ * The slots of the labels waiting: writes them from left to right to `slots`, which lies apart from
+ * the tables, the first `most` if there are more, and answers how many it wrote. Each is a row of
+ * labels too.
+ * The walk goes from the right end along Left links or, under LPUSH, from the left end along Right
+ * links: only at the end that the status names may the link back be unfinished. A queue that was
+ * written by the calls alone has every label on the walk. Any contents may lie in the tables: it
+ * ends before a row that there is not, and takes no more slots than there are.
+ */
+static inline size_t zc_queue_waiting(const zc_queue *queue, uint64_t *slots, size_t most)
+{
+    uint64_t anchor = queue->control->anchor;
+    uint64_t left = zc_anchor_left(anchor), right = zc_anchor_right(anchor);
+    int from_left = zc_anchor_status(anchor) == ZC_LPUSH;
+    const uint64_t *links = from_left ? queue->rights : queue->lefts;
+    uint64_t first = from_left ? left : right, last = from_left ? right : left;
+    uint64_t last_row = zc_queue_last_row(queue);
+    size_t count = 0;
+    uint64_t slot = first;
+    while (slot != 0 && slot <= last_row && count < last_row) {
+        count++;
+        slot = slot == last ? 0 : zc_link_slot(links[slot]);
+    }
+    slot = first;
+    for (size_t walked = 0; walked < count; walked++) {
+        size_t at = from_left ? walked : count - 1 - walked;
+        if (at < most)
+            slots[at] = slot;
+        slot = zc_link_slot(links[slot]);
+    }
+    return count < most ? count : most;
+}
+
 #ifdef __cplusplus
 }
 #endif

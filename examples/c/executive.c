@@ -93,16 +93,13 @@ static void step(size_t task)
     }
 }
 
-/* Counts the labels still waiting: from the right end along Left links (all tasks are idle). */
+/* Counts the labels still waiting. */
 static uint64_t walk(int *waiting)
 {
-    uint64_t count = 0;
-    uint64_t slot = zc_anchor_right(control.anchor);
-    while (slot != 0) {
-        waiting[labels[slot]]++;
-        count++;
-        slot = slot == zc_anchor_left(control.anchor) ? 0 : zc_link_slot(lefts[slot]);
-    }
+    uint64_t slots[SLOTS];
+    size_t count = zc_queue_waiting(&queue, slots, SLOTS);
+    for (size_t at = 0; at < count; at++)
+        waiting[labels[slots[at]]]++;
     return count;
 }
 
@@ -122,8 +119,9 @@ int main(int argc, char **argv)
         else
             step(task);
     }
+    /* Alone, a task answers within a few steps; one that does not stays busy in the report. */
     for (size_t task = 0; task < TASKS; task++)
-        while (records[task].place != 0)
+        for (int touch = 0; touch < TOUCHES && records[task].place != 0; touch++)
             step(task);
 
     zc_report_reply report = zc_queue_report(&queue);

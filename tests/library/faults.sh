@@ -47,6 +47,7 @@ an end above slots let through, left|left > slots \|\||0 \|\||1
 an end above slots let through, right|right > slots)|0)|1
 one null end let through|if ((left == 0) != (right == 0))|if (left == 0 && right != 0)|1
 unstable with equal ends let through|status == ZC_STABLE \|\| left != right|status == ZC_STABLE \|\| left != right \|\| left != 0|1
+unstable with equal ends let through with one slot|status == ZC_STABLE \|\| left != right|status == ZC_STABLE \|\| left != right \|\| slots == 1|1
 a link's bits 31-15 not seen|UINT64_C(0xffff8000)|UINT64_C(0x7fff8000)|1
 a link's slot not seen|&& zc_link_slot(link) <= slots|&& (slots \|\| link)|1
 tasks of control not seen|within(control->tasks, ZC_MOST_TASKS) &&||1
@@ -57,14 +58,18 @@ kind 2 let through|record->kind > ZC_POP|record->kind > 2|1
 side 2 let through in a record|record->side > ZC_RIGHT|record->side > 2|1
 finishing 2 let through|record->finishing > 1|record->finishing > 2|1
 finishing in a pop let through|record->own != 0 \|\| record->finishing != 0|record->own != 0|1
+finishing in a pop let through before 5|record->own != 0 \|\| record->finishing != 0|record->own != 0 \|\| (record->finishing != 0 \&\& record->place > 4)|1
+finishing in a pop let through at 11|record->own != 0 \|\| record->finishing != 0|record->own != 0 \|\| (record->finishing != 0 \&\& record->place != 11)|1
 own slot in a pop let through|record->own != 0 \|\| record->finishing != 0|record->finishing != 0|1
 own slot 0 in a push let through|!within(record->own, slots) \|\||record->own > slots \|\||1
 place 11 in a push let through|\|\| record->place == 11)|)|1
 finishing before 5 let through|if (record->finishing != 0 && !helping(record))|if (0)|1
 neighbour not seen|record->neighbour > slots \|\||0 \|\||1
+neighbour not seen with one slot|record->neighbour > slots \|\||(slots != 1 \&\& record->neighbour > slots) \|\||1
 the link as read not seen|!link_sound(record->link, slots) \|\||0 \|\||1
 the Anchor as read not seen|!anchor_sound(record->seen, slots))|0)|1
 STABLE at 5 to 10 let through|return !helping(record) \|\| zc_anchor_status(record->seen) != ZC_STABLE;|return true;|1
+STABLE at 5 to 10 let through with two slots|return !helping(record) \|\||return slots == 2 \|\| !helping(record) \|\||1
 places 5 to 10 end at 9|record->place <= 10|record->place <= 9|1
 an idle record looked at|if (record->place == 0)
         return true;|if (record->place == 0 && record->kind <= 1)
@@ -78,6 +83,10 @@ short records not seen by the push|record_count < control->tasks|0 \&\& record_c
 short records not seen by the pop|record_count < control->tasks|0 \&\& record_count|2
 short records not seen by the step|record_count < control->tasks|0 \&\& record_count|3
 short records not seen by the report|record_count < control->tasks|0 \&\& record_count|4
+records read before 12 by the push|if (!control_sound(control))|(void)((volatile zc_record *)records)->place; if (!control_sound(control))|1
+records read before 12 by the pop|if (!control_sound(control))|(void)((volatile zc_record *)records)->place; if (!control_sound(control))|2
+records read before 12 by the step|if (!control_sound(control))|(void)((volatile zc_record *)records)->place; if (!control_sound(control))|3
+records read before 12 by the report|if (!control_sound(control))|(void)((volatile const zc_record *)records)->place; if (!control_sound(control))|5
 task one too high in the push|task >= control->tasks|task > control->tasks|1
 task one too high in the step|task >= control->tasks|task > control->tasks|3
 task in 32 bits|task >= control->tasks|(uint32_t)task >= control->tasks|2
@@ -119,7 +128,14 @@ slot 0 in a push|if (!within(slot, control->slots))|if (slot > control->slots)|1
 33 one too late|> ZC_LAST_START_TAG|> ZC_LAST_START_TAG + 1|2
 the last tag raised, Anchor|zc_anchor_tag(seen) == last_tag \|\| ||1
 the last tag raised, link|if (zc_link_tag(record->link) == last_tag)|if (0)|1
+the last tag refused before the compare at 2|case 2:|case 2: if (zc_anchor_tag(seen) == last_tag) return refuse(ZC_UNSOUND);|1
+the last tag refused before the compare at 4|case 4: {|case 4: { if (zc_anchor_tag(seen) == last_tag) return refuse(ZC_UNSOUND);|1
+the last tag refused before the compare at 9|if (outward[record->neighbour] != record->link)|if (zc_link_tag(record->link) == last_tag) return refuse(ZC_UNSOUND);
+        if (outward[record->neighbour] != record->link)|1
+the last tag refused before the compare at 10|case 10:|case 10: if (zc_anchor_tag(seen) == last_tag) return refuse(ZC_UNSOUND);|1
 an unsound Anchor left|\|\| !anchor_sound(wanted, control->slots)||1
+an unsound Anchor refused before the compare|if (control->anchor != seen) {|if (!anchor_sound(wanted, control->slots)) return FORBIDDEN;
+    if (control->anchor != seen) {|1
 row 0 read as a neighbour's|if (end == 0 \|\| !link_sound|if (!link_sound|1
 row 0 read at 7|record->neighbour == 0 \|\| ||1
 row 0 changed at 9|if (record->neighbour == 0)
@@ -152,6 +168,7 @@ busy looks at more of a record|records[task].place != 0;|records[task].place != 
 another task's record looked at by a start|if (!record_sound(record, control->slots))|if (!record_sound(record, control->slots) \|\| !record_sound(records, control->slots))|2
 another task's record looked at by a step|if (!record_sound(record, control->slots))|if (!record_sound(record, control->slots) \|\| !record_sound(records, control->slots))|3
 a lent record's step counts as nothing|return advance(control, one, lefts, rights, labels, marks);|zc_record copy = *one; return advance(control, \&copy, lefts, rights, labels, marks);|1
+a lent record's step writes row 0|return advance(control, one, lefts, rights, labels, marks);|lefts[0]++; return advance(control, one, lefts, rights, labels, marks);|1
 END
 }
 
@@ -176,11 +193,13 @@ print(len(entries))
 END
 ) || { echo "0 passed, 1 failed"; exit 1; }
 
-# The test programs, built once on calls that are handed on to a shared object.
-gcc -std=gnu11 -O2 -Iinclude -c tests/library/forward.c -o "$work/forward.o" &&
-    ar rcs "$work/forward.a" "$work/forward.o" &&
+# The test programs, built once on calls that are handed on to a shared object; all calls are in one.
+mkdir "$work/forward" &&
+    gcc -std=gnu11 -O2 -Iinclude -c tests/library/forward.c -o "$work/forward.o" &&
+    ar rcs "$work/forward/libcapi.a" "$work/forward.o" &&
+    ar rcs "$work/forward/libcapi_record.a" &&
     gcc -shared -fPIC -O2 -DAS_LIBRARY -Iinclude bench/reference.c -o "$work/faultless.so" || exit 2
-if ! ZC_OBJECT=$work/faultless.so BUILD=$work/build tests/library/run.sh "$work/forward.a" >"$work/said"; then
+if ! ZC_OBJECT=$work/faultless.so BUILD=$work/build tests/library/run.sh "$work/forward" >"$work/said"; then
     cat "$work/said"
     echo "the tests fail without any fault"
     echo "0 passed, 1 failed"
@@ -192,6 +211,7 @@ noticed() {
     export ZC_OBJECT=$work/fault.so
     timeout 10 "$work/build/layout" >/dev/null 2>&1 || echo -n " layout"
     timeout 10 "$work/build/fence" >/dev/null 2>&1 || echo -n " fence"
+    timeout 10 "$work/build/waiting" >/dev/null 2>&1 || echo -n " waiting"
     timeout 10 "$work/build/bindings" >/dev/null 2>&1 || echo -n " bindings"
     local seed lost=
     for seed in 1 2 3; do

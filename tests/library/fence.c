@@ -51,7 +51,7 @@ static uint64_t draw(uint64_t limit)
 /* A count: as needed, or less. */
 static size_t cut(size_t needed) { return draw(8) ? needed : (size_t)draw(needed); }
 
-static struct ground grounds[6];
+static struct ground grounds[7];
 
 /* All tables of a queue, each up to its fence. */
 static zc_queue lend(uint64_t tasks, uint64_t slots)
@@ -115,14 +115,41 @@ static uint64_t call(zc_queue whole, int *wrong)
     return code;
 }
 
+/* A word whose slots are rows, or near the last, or anything. */
+static uint64_t wild_word(uint64_t slots)
+{
+    uint64_t left = draw(slots + 3), right = draw(slots + 3);
+    return draw(8) ? draw(4) << 30 | left << 15 | right : draw(UINT64_MAX) << 20;
+}
+
+/* The walk of the labels waiting, on any contents: within the tables and the room it writes to. */
+static int walk(zc_queue whole)
+{
+    uint64_t slots = whole.control->slots;
+    for (uint64_t row = 0; row <= slots; row++) {
+        whole.lefts[row] = wild_word(slots);
+        whole.rights[row] = wild_word(slots);
+    }
+    whole.control->anchor = wild_word(slots);
+    whole.control->slots = draw(8) ? draw(slots + 3) : UINT64_MAX;
+    zc_queue queue = cut_some(whole);
+    size_t most = (size_t)draw(slots + 3);
+    uint64_t *found = last(grounds[6], most * sizeof *found);
+    size_t count = zc_queue_waiting(&queue, found, most);
+    int wrong = count > most || count > whole.control->slots;
+    for (size_t at = 0; at < count; at++)
+        wrong |= found[at] < 1 || found[at] > slots || found[at] > whole.control->slots;
+    return wrong;
+}
+
 int main(void)
 {
     static const uint64_t sizes[] = {1, 2, 3, 62, 63, 64, 65, 127, 128, 1022, 1023};
     unsigned long refused = 0, carried_out = 0;
     int wrong = 0;
     page = (size_t)sysconf(_SC_PAGESIZE);
-    for (int at = 0; at < 6; at++)
-        grounds[at] = fenced(ZC_ROWS(ZC_MOST_SLOTS) * sizeof(uint64_t));
+    for (int at = 0; at < 7; at++)
+        grounds[at] = fenced((ZC_MOST_SLOTS + 3) * sizeof(uint64_t));
     for (int round = 0; round < 3000; round++) {
         uint64_t tasks = 1 + draw(ZC_MOST_TASKS);
         uint64_t slots = sizes[draw(sizeof sizes / sizeof *sizes)];
@@ -133,6 +160,7 @@ int main(void)
                 refused++;
             else
                 carried_out++;
+        wrong |= walk(whole);
     }
     wrong |= refused < 1000 || carried_out < 1000;
     printf("%d passed, %d failed\n", !wrong, wrong);

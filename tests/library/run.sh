@@ -5,13 +5,13 @@
 #                                       where `rt staticlib capi` and `rt staticlib capi_record` write them
 #     tests/library/run.sh --stand-in   bench/reference.c, the same calls by hand, in its place
 #
-# PARTS names what runs: header layout fence bindings examples bench differential (all of them).
+# PARTS names what runs: header layout fence waiting bindings examples bench differential (all of them).
 # SEED and TIMES go to the differential test (1 and 1). BUILD keeps what is built there.
 set -u -o pipefail
 from=$PWD
 cd "$(dirname "$0")/../.."
 
-PARTS=${PARTS:-header layout fence bindings examples bench differential}
+PARTS=${PARTS:-header layout fence waiting bindings examples bench differential}
 CC=${CC:-gcc}
 CXX=${CXX:-g++}
 WARNINGS="-Wall -Wextra -Wpedantic -Werror"
@@ -82,10 +82,10 @@ counts() { # WHAT COMMAND..
 part_header() {
     echo '#include "zeppolecape.h"' >"$work/alone.c"
     for standard in c11 c17; do
-        holds "header as $standard" $CC -std=$standard $WARNINGS -Iinclude -fsyntax-only "$work/alone.c"
+        holds "header as $standard" $CC -std=$standard $WARNINGS -Wconversion -Iinclude -fsyntax-only "$work/alone.c"
     done
     for standard in c++11 c++17; do
-        holds "header as $standard" $CXX -x c++ -std=$standard $WARNINGS -Iinclude -fsyntax-only "$work/alone.c"
+        holds "header as $standard" $CXX -x c++ -std=$standard $WARNINGS -Wconversion -Iinclude -fsyntax-only "$work/alone.c"
     done
     # Twice in one program, and from two files of it.
     printf '#include "zeppolecape.h"\n#include "zeppolecape.h"\nint other(void) { return zc_refused(zc_reply{34, 0, 0}); }\n' >"$work/two.cc"
@@ -102,6 +102,11 @@ part_layout() {
 part_fence() {
     holds "fence.c compiles" $CC -std=c11 $WARNINGS -Iinclude tests/library/fence.c "${archives[@]}" -o "$work/fence"
     counts "nothing touched outside the counts" "$work/fence"
+}
+
+part_waiting() {
+    holds "waiting.c compiles" $CC -std=c11 $WARNINGS -Iinclude tests/library/waiting.c "${archives[@]}" -o "$work/waiting"
+    counts "the labels waiting" "$work/waiting"
 }
 
 # libtest's summary as ours.

@@ -1,6 +1,6 @@
 //! Every way to be refused, one entry each: planted in a scene that was accepted, it alone decides.
 
-use crate::sound::{busy_record, Scene};
+use crate::sound::{any_place, busy_record, sound_anchor, Scene};
 use crate::world::{Call, Export};
 use reference::dice::Dice;
 use reference::tables::{POP, PUSH};
@@ -66,6 +66,8 @@ pub struct Fault {
     /// Where a step must stand for it, and of which kind; none: anywhere.
     pub place: Option<u64>,
     pub kind: Option<u64>,
+    /// The slots that its scene has at least.
+    pub least: u64,
     pub plant: fn(&mut Scene, &mut Dice),
 }
 
@@ -77,11 +79,17 @@ impl Fault {
 }
 
 const fn fault(group: Group, name: &'static str, plant: fn(&mut Scene, &mut Dice)) -> Fault {
-    Fault { name, group, place: None, kind: None, plant }
+    Fault { name, group, place: None, kind: None, least: 1, plant }
 }
 
 const fn at(place: u64, kind: u64, name: &'static str, plant: fn(&mut Scene, &mut Dice)) -> Fault {
-    Fault { name, group: Group::Touch, place: Some(place), kind: Some(kind), plant }
+    let least = if place >= 5 && place <= 10 { 2 } else { 1 };
+    Fault { name, group: Group::Touch, place: Some(place), kind: Some(kind), least, plant }
+}
+
+/// A fault with an unstable Anchor that is sound: its ends are two slots.
+const fn unstable(fault: Fault) -> Fault {
+    Fault { least: 2, ..fault }
 }
 
 /// Another Anchor in control.
@@ -105,7 +113,7 @@ fn needed(scene: &Scene) -> (usize, usize, usize) {
 
 /// A busy record to be damaged: a start's task is made busy first.
 fn busy(scene: &mut Scene, dice: &mut Dice, place: Option<u64>, kind: Option<u64>) {
-    let place = place.unwrap_or_else(|| dice.between(1, 10));
+    let place = place.unwrap_or_else(|| any_place(dice, scene.slots, 10));
     let kind = kind.unwrap_or_else(|| dice.between(0, 1));
     let record = busy_record(dice, scene.slots, place, kind);
     *scene.record() = record;
@@ -200,6 +208,34 @@ fn set_opening(scene: &mut Scene, new_tasks: Option<u64>, new_slots: Option<u64>
     }
 }
 
+/// Another task was faster, and the word as read has the last tag: the compare comes first, so that
+/// the change fails as any other.
+pub fn outrun(scene: &mut Scene, dice: &mut Dice) {
+    match scene.record().place {
+        9 => outrun_link(scene, dice),
+        _ => outrun_anchor(scene, dice),
+    }
+}
+
+fn outrun_link(scene: &mut Scene, dice: &mut Dice) {
+    let (_, right) = viewed(scene);
+    scene.record().link |= LAST_TAG << 32;
+    let record = *scene.record();
+    let links = if right { &mut scene.world.rights } else { &mut scene.world.lefts };
+    links.held[record.neighbour as usize] = record.link ^ dice.pick(&[1, 1 << 32]);
+}
+
+fn outrun_anchor(scene: &mut Scene, dice: &mut Dice) {
+    scene.record().seen |= LAST_TAG << 32;
+    let seen = scene.record().seen;
+    scene.world.control.anchor = seen;
+    while scene.world.control.anchor == seen {
+        scene.world.control.anchor = sound_anchor(dice, scene.slots);
+        let tag = dice.pick(&[LAST_TAG - 1, LAST_TAG]);
+        anchor(scene, |a| a.tag = tag);
+    }
+}
+
 pub const FAULTS: &[Fault] = &[
     fault(Group::Tasks, "opening with 0 tasks", |s, _| set_opening(s, Some(0), None)),
     fault(Group::Tasks, "opening with 17 tasks", |s, _| set_opening(s, Some(17), None)),
@@ -218,7 +254,8 @@ pub const FAULTS: &[Fault] = &[
     fault(Group::Control, "control: 1,024 slots", |s, _| s.world.control.slots = 1_024),
     fault(Group::Control, "control: 2^32 more slots", |s, _| s.world.control.slots += HIGH),
     fault(Group::Control, "Anchor: status 3", |s, _| {
-        anchor(s, |a| (a.status, a.left, a.right) = (3, 1, 2))
+        let right = s.slots.min(2);
+        anchor(s, |a| (a.status, a.left, a.right) = (3, 1, right));
     }),
     fault(Group::Control, "Anchor: left end above slots", |s, d| {
         let end = d.pick(&[s.slots + 1, 0x7fff]);
@@ -234,11 +271,13 @@ pub const FAULTS: &[Fault] = &[
     fault(Group::Control, "Anchor: right end null alone", |s, _| {
         anchor(s, |a| (a.left, a.right) = (1, 0))
     }),
-    fault(Group::Control, "Anchor: RPUSH with equal ends", |s, _| {
-        anchor(s, |a| (a.status, a.left, a.right) = (RPUSH, 2, 2));
+    fault(Group::Control, "Anchor: RPUSH with equal ends", |s, d| {
+        let end = d.between(1, s.slots);
+        anchor(s, |a| (a.status, a.left, a.right) = (RPUSH, end, end));
     }),
-    fault(Group::Control, "Anchor: LPUSH with equal ends", |s, _| {
-        anchor(s, |a| (a.status, a.left, a.right) = (LPUSH, 2, 2));
+    fault(Group::Control, "Anchor: LPUSH with equal ends", |s, d| {
+        let end = d.between(1, s.slots);
+        anchor(s, |a| (a.status, a.left, a.right) = (LPUSH, end, end));
     }),
     fault(Group::Control, "Anchor: unstable and empty", |s, d| {
         let status = d.between(RPUSH, LPUSH);
@@ -247,7 +286,7 @@ pub const FAULTS: &[Fault] = &[
     // ---- 12.
     fault(Group::Short, "short records", |s, d| {
         let (tasks, _, _) = needed(s);
-        cut(d, &mut s.world.records.count, &mut false, tasks);
+        cut(d, &mut s.world.records.count, &mut s.world.records.null, tasks);
     }),
     fault(Group::Short, "short lefts", |s, d| {
         let (_, rows, _) = needed(s);
@@ -301,22 +340,31 @@ pub const FAULTS: &[Fault] = &[
         busy(s, d, None, None);
         s.record().side += HIGH;
     }),
-    fault(Group::Record, "finishing 2", |s, d| {
+    unstable(fault(Group::Record, "finishing 2", |s, d| {
         busy(s, d, Some(7), Some(PUSH));
         s.record().finishing = 2;
-    }),
-    fault(Group::Record, "finishing 2^32 more", |s, d| {
+    })),
+    unstable(fault(Group::Record, "finishing 2^32 more", |s, d| {
         busy(s, d, Some(7), Some(PUSH));
         s.record().finishing += HIGH;
-    }),
+    })),
     fault(Group::Record, "place 11 in a push", |s, d| {
         busy(s, d, None, Some(PUSH));
         s.record().place = 11;
         s.record().finishing = 0;
     }),
-    fault(Group::Record, "finishing in a pop", |s, d| {
+    unstable(fault(Group::Record, "finishing in a pop at 5 to 10", |s, d| {
         let place = d.between(5, 10);
         busy(s, d, Some(place), Some(POP));
+        s.record().finishing = 1;
+    })),
+    fault(Group::Record, "finishing in a pop before place 5", |s, d| {
+        let place = d.between(1, 4);
+        busy(s, d, Some(place), Some(POP));
+        s.record().finishing = 1;
+    }),
+    fault(Group::Record, "finishing in a pop at 11", |s, d| {
+        busy(s, d, Some(11), Some(POP));
         s.record().finishing = 1;
     }),
     fault(Group::Record, "finishing before place 5", |s, d| {
@@ -349,7 +397,8 @@ pub const FAULTS: &[Fault] = &[
         s.record().link = s.record().link & !0x7fff | d.pick(&[s.slots + 1, 0x7fff]);
     }),
     fault(Group::Record, "Anchor as read: status 3", |s, d| {
-        seen(s, d, None, |a, _| (a.status, a.left, a.right) = (3, 1, 2));
+        let right = s.slots.min(2);
+        seen(s, d, None, |a, _| (a.status, a.left, a.right) = (3, 1, right));
     }),
     fault(Group::Record, "Anchor as read: left end above slots", |s, d| {
         let end = s.slots + 1;
@@ -363,15 +412,16 @@ pub const FAULTS: &[Fault] = &[
         seen(s, d, None, |a, d| (a.left, a.right) = d.pick(&[(0, 1), (1, 0)]));
     }),
     fault(Group::Record, "Anchor as read: unstable with equal ends", |s, d| {
+        let most = s.slots.min(2);
         seen(s, d, None, |a, d| {
-            let end = d.between(0, 2);
+            let end = d.between(0, most);
             (a.status, a.left, a.right) = (d.between(RPUSH, LPUSH), end, end);
         });
     }),
-    fault(Group::Record, "Anchor as read: STABLE at 5 to 10", |s, d| {
+    unstable(fault(Group::Record, "Anchor as read: STABLE at 5 to 10", |s, d| {
         let place = d.between(5, 10);
         seen(s, d, Some(place), |a, _| a.status = STABLE);
-    }),
+    })),
     // ---- 30, 31, 32, 33.
     fault(Group::Busy, "a busy task", |s, d| busy(s, d, None, None)),
     fault(Group::Idle, "an idle task", |s, _| s.record().place = 0),
@@ -400,12 +450,12 @@ pub const FAULTS: &[Fault] = &[
     at(5, POP, "5: meets a slot above slots", |s, d| spoil_inward(s, d, false)),
     at(7, POP, "7: meets a bit of 31-15", |s, d| spoil_outward(s, d, true)),
     at(7, PUSH, "7: meets a slot above slots", |s, d| spoil_outward(s, d, false)),
-    at(2, PUSH, "2: a push leaves equal ends unstable", |s, _| {
+    unstable(at(2, PUSH, "2: a push leaves equal ends unstable", |s, _| {
         current(s, |a| (a.status, a.left, a.right) = (RPUSH, 1, 2));
-    }),
-    at(2, POP, "2: a pop leaves an empty queue unstable", |s, _| {
+    })),
+    unstable(at(2, POP, "2: a pop leaves an empty queue unstable", |s, _| {
         current(s, |a| (a.status, a.left, a.right) = (LPUSH, 1, 2));
-    }),
+    })),
     at(4, PUSH, "4: a push leaves one end null", |s, _| {
         current(s, |a| (a.left, a.right) = (0, 0));
     }),
@@ -417,10 +467,10 @@ pub const FAULTS: &[Fault] = &[
         s.record().neighbour = 0;
         current(s, |_| {});
     }),
-    at(4, POP, "4: a pop leaves equal ends unstable", |s, _| {
+    unstable(at(4, POP, "4: a pop leaves equal ends unstable", |s, _| {
         current(s, |a| (a.status, a.left, a.right) = (RPUSH, 1, 2));
         s.record().neighbour = if s.record().side == 1 { 1 } else { 2 };
-    }),
+    })),
     at(2, PUSH, "2: a push at the last tag", |s, _| current(s, |a| a.tag = LAST_TAG)),
     at(2, POP, "2: a pop at the last tag", |s, _| current(s, |a| a.tag = LAST_TAG)),
     at(4, PUSH, "4: a push at the last tag", |s, _| current(s, |a| a.tag = LAST_TAG)),

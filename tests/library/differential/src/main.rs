@@ -29,6 +29,7 @@ fn main() -> ExitCode {
     plant::accepted(&mut tally, &mut dice, 5_000 * times);
     plant::singles(&mut tally, &mut dice, 60 * times);
     plant::pairs(&mut tally, &mut dice, 3 * times);
+    plant::failures(&mut tally, &mut dice, 60 * times);
     noise::noise(&mut tally, &mut dice, 200_000 * times);
     histories::histories(&mut tally, &mut dice, 150 * times, 10_000);
     tally.check_reached();

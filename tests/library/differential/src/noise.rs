@@ -89,7 +89,7 @@ pub fn noise(tally: &mut Tally, dice: &mut Dice, scenes: u32) {
             7..=8 => Wanted::StepRecord(None, None),
             _ => Wanted::Report,
         };
-        let mut scene = Scene::draw(dice, wanted);
+        let mut scene = Scene::draw(dice, wanted, 1);
         spoil_control(dice, &mut scene);
         spoil_record(dice, &mut scene);
         spoil_rows(dice, &mut scene);
@@ -97,10 +97,7 @@ pub fn noise(tally: &mut Tally, dice: &mut Dice, scenes: u32) {
         spoil_count(dice, &mut scene.world.rights);
         spoil_count(dice, &mut scene.world.labels);
         spoil_count(dice, &mut scene.world.marks);
-        if dice.percent(3) {
-            let held = scene.world.records.held.len() as u64;
-            scene.world.records.count = dice.between(0, held) as usize;
-        }
+        spoil_count(dice, &mut scene.world.records);
         spoil_arguments(dice, &mut scene);
         let (mut ours, mut theirs) = (scene.world.clone(), scene.world);
         tally.compare(&mut ours, &mut theirs, scene.call);

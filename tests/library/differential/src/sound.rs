@@ -41,8 +41,9 @@ impl Scene {
         }
     }
 
-    pub fn draw(dice: &mut Dice, wanted: Wanted) -> Scene {
-        let slots = few_or_many(dice);
+    /// A scene with `least` slots or more.
+    pub fn draw(dice: &mut Dice, wanted: Wanted, least: u64) -> Scene {
+        let slots = few_or_many(dice).max(least);
         let tasks = dice.between(1, 16);
         let mut world = sound_world(dice, tasks, slots);
         let task = dice.between(0, tasks - 1) as usize;
@@ -69,7 +70,7 @@ impl Scene {
         };
         let mut scene = Scene { world, call, slots, tasks };
         if let Wanted::Step(place, kind) | Wanted::StepRecord(place, kind) = wanted {
-            let place = place.unwrap_or_else(|| dice.between(1, 11));
+            let place = place.unwrap_or_else(|| any_place(dice, slots, 11));
             let kind = if place == 11 { POP } else { kind.unwrap_or_else(|| dice.between(0, 1)) };
             scene.ready(dice, place, kind);
         }
@@ -81,29 +82,24 @@ impl Scene {
     fn ready(&mut self, dice: &mut Dice, place: u64, kind: u64) {
         let slots = self.slots;
         let mut record = busy_record(dice, slots, place, kind);
-        let status = if (5..=10).contains(&place) { dice.between(RPUSH, LPUSH) } else { STABLE };
-        let (left, right) = two_slots(dice, slots);
-        let tag = dice.pick(&[0, 7, LAST_TAG - 1, LAST_START_TAG]);
-        let mut seen = Anchor { tag, status, left, right };
-        if place <= 2 && dice.percent(50) {
-            seen = Anchor { left: 0, right: 0, ..seen };
-        } else if place <= 2 && dice.percent(50) {
-            seen = Anchor { right: left, ..seen };
-        }
+        let seen = seen_at(dice, slots, place);
         record.seen = seen.pack();
         record.neighbour = dice.between(1, slots);
-        if kind == PUSH && place == 4 {
-            while record.own == left || record.own == right {
-                record.own = dice.between(1, slots);
-            }
-        }
-        if dice.percent(50) {
+        let push = kind == PUSH && place == 4;
+        if push && slots == 1 {
+            // No two ends would be different: only a change that fails is accepted.
+            self.world.control.anchor = record.seen ^ 1 << 32;
+        } else if dice.percent(50) {
             self.world.control.anchor = record.seen;
+        }
+        let far = if record.side == 1 { seen.left } else { seen.right };
+        while push && slots > 1 && record.own == far {
+            record.own = dice.between(1, slots);
         }
         if place == 9 {
             record.link = sound_link(dice, slots);
             if dice.percent(50) {
-                let right = status == RPUSH;
+                let right = seen.status == RPUSH;
                 let links = if right { &mut self.world.rights } else { &mut self.world.lefts };
                 links.held[record.neighbour as usize] = record.link;
             }
@@ -112,15 +108,48 @@ impl Scene {
     }
 }
 
+/// An Anchor as read with which the step at a place is accepted.
+fn seen_at(dice: &mut Dice, slots: u64, place: u64) -> Anchor {
+    let status = if helping(place) { dice.between(RPUSH, LPUSH) } else { STABLE };
+    let (left, right) = two_slots(dice, slots);
+    let tag = dice.pick(&[0, 7, LAST_TAG - 1, LAST_START_TAG]);
+    let seen = Anchor { tag, status, left, right };
+    if place <= 2 && dice.percent(50) {
+        return Anchor { left: 0, right: 0, ..seen };
+    }
+    if place <= 2 && dice.percent(50) {
+        return Anchor { right: left, ..seen };
+    }
+    seen
+}
+
+/// The places of a stabilise.
+fn helping(place: u64) -> bool {
+    (5..=10).contains(&place)
+}
+
+/// A place up to `last`: with one slot no Anchor is unstable, so that nobody stands at 5 to 10.
+pub fn any_place(dice: &mut Dice, slots: u64, last: u64) -> u64 {
+    loop {
+        let place = dice.between(1, last);
+        if slots > 1 || !helping(place) {
+            return place;
+        }
+    }
+}
+
 fn few_or_many(dice: &mut Dice) -> u64 {
     match dice.percent(80) {
-        true => dice.pick(&[3, 4, 5, 63, 64, 65]),
+        true => dice.pick(&[1, 2, 3, 4, 5, 63, 64, 65]),
         false => dice.pick(&[127, 128, 129, 1_022, 1_023]),
     }
 }
 
-/// Two different slots; there are two or more.
+/// Two slots, different ones where there are two.
 fn two_slots(dice: &mut Dice, slots: u64) -> (u64, u64) {
+    if slots == 1 {
+        return (1, 1);
+    }
     let first = dice.between(1, slots);
     let second = dice.between(1, slots - 1);
     (first, if second < first { second } else { second + 1 })
@@ -130,7 +159,7 @@ fn two_slots(dice: &mut Dice, slots: u64) -> (u64, u64) {
 pub fn sound_anchor(dice: &mut Dice, slots: u64) -> u64 {
     let tag = dice.pick(&[0, 1, 1_000, LAST_START_TAG - 1, LAST_START_TAG]);
     let (left, right) = two_slots(dice, slots);
-    match dice.between(0, 3) {
+    match dice.between(0, if slots == 1 { 2 } else { 3 }) {
         0 => Anchor { tag, status: STABLE, left: 0, right: 0 },
         1 => Anchor { tag, status: STABLE, left, right: left },
         2 => Anchor { tag, status: STABLE, left, right },
@@ -154,8 +183,9 @@ pub fn idle_record(dice: &mut Dice) -> Record {
     record
 }
 
+/// A sound record; at 5 to 10 there must be two slots.
 pub fn busy_record(dice: &mut Dice, slots: u64, place: u64, kind: u64) -> Record {
-    let helping = (5..=10).contains(&place);
+    let helping = helping(place);
     let mut seen = sound_anchor(dice, slots);
     while helping && Anchor::unpack(seen).status == STABLE {
         seen = sound_anchor(dice, slots);
@@ -175,7 +205,7 @@ pub fn busy_record(dice: &mut Dice, slots: u64, place: u64, kind: u64) -> Record
 
 /// The record of a task that the call is not about: nobody looks at more than its place.
 fn any_record(dice: &mut Dice, slots: u64) -> Record {
-    let place = dice.between(1, 11);
+    let place = any_place(dice, slots, 11);
     let kind = if place == 11 { POP } else { dice.between(0, 1) };
     match dice.between(0, 2) {
         0 => idle_record(dice),
