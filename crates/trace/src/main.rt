@@ -2,7 +2,9 @@
 use replay::run;
 use replay::run::Session;
 ghost use Prim.Native.Nat.{_≤_};
-ghost use lib.ListN.{length};
+ghost use mathlib.Core.Path.{_≡_};
+ghost use lib.ListN.{length, take};
+ghost use lib.Seq.{slice};
 
 // Writes out the lines, or tells that it cannot.
 fn flush(out: &[u8], to: usize) -> bool {
@@ -81,6 +83,7 @@ fn read_more(input: &mut [u8], have: usize) -> Input
 fn slide(input: &mut [u8], from: usize, have: usize) -> usize
     requires { ⌜ have ≤ length (now input) ⌝ }
     ensures { λ r. ⌜ r ≤ length (now (input .entry)) ⌝ }
+    ensures { λ r. ⌜ take r (now (input .exit)) ≡ slice from have (now (input .entry)) ⌝ }
 {
     if have < from {
         return 0;
