@@ -1,4 +1,4 @@
--- A run by value, and its lines in a lent buffer.
+-- A run over lent tables, and its lines in a lent buffer.
 use mathlib.Core.List.{List}
 use mathlib.Core.Path.{_≡_}
 use Prim.Native.Nat.{ℕ, _+_, _*_, _≤_}

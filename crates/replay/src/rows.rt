@@ -7,7 +7,7 @@ ghost use lib.ListN.{length, set, getD};
 ghost use Rattle.model.specs.Tables.{zeroed, idle};
 ghost use Rattle.replay.specs.Rows.{rowsOf, withThree, withRow};
 
-/// The words of a record.
+// The words of a record.
 const ROW: usize = 9;
 
 /// The words of all records.

@@ -1,4 +1,4 @@
-//! The run by value: fields in, lines out.
+//! The run over lent tables: fields in, lines out.
 use crate::rows;
 use crate::turn;
 use crate::turn::Turn;
@@ -348,7 +348,7 @@ fn take_field(
     q
 }
 
-/// Every whole field from the reading position on, while the buffer has room.
+/// Every whole field from the reading position on, while the buffer has room. Nothing is done where `rows` has no room for all records.
 pub fn feed(
     s: Session,
     bytes: &[u8],
