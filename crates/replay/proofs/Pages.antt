@@ -1,5 +1,5 @@
 -- Pages: lines written one after the other, a list of operations one by one, and the fields of some bytes one by one.
-use Prim.Native.Nat.{ℕ, zero, suc, _+_, _≤_, _<_}
+use Prim.Native.Nat.{ℕ, _+_, _≤_, _<_}
 use mathlib.Core.Path.{_≡_, refl, sym, ap, _∙_}
 use mathlib.Core.Bool.{Bool, true, false}
 use mathlib.Core.List.{List, [], _∷_, _++_, append-nil, append-assoc}
@@ -68,12 +68,6 @@ pub turn-taken : (q : Tables) (rs : List Record) (opened over : Bool) (event : �
     (record { task = task; op = op } ∷ [])
 unfolding written operated final run linesOf numberOf act turned
 turn-taken q rs opened over event out to task op h = rw (← h, append-nil)
-
--- A record that is there is the same whatever stands for a missing one.
-pub record-there : (rs : List Record) (t : ℕ) (d e : Record) → t < length rs → getD rs t d ≡ getD rs t e
-record-there [] t d e h = absurd (omega arith)
-record-there (r ∷ rs) zero d e h = refl
-record-there (r ∷ rs) (suc t) d e h = record-there rs t d e (omega arith)
 
 -- The same for the code's values: rs′ are the records afterwards.
 module _ (q : Tables) (rs rs′ : List Record) (opened over : Bool) (event ev : ℕ) (out : List ℕ) (to task : ℕ) (op : Op) (r : Record) (t : Turned) where

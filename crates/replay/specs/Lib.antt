@@ -1,3 +1,4 @@
 pub mod Run
 pub mod Trace
+pub mod Rows
 pub mod Page

@@ -1,8 +1,8 @@
--- A run by value, and its lines in a lent buffer.
+-- A run over lent tables, and its lines in a lent buffer.
 use mathlib.Core.List.{List}
 use mathlib.Core.Path.{_≡_}
 use Prim.Native.Nat.{ℕ, _+_, _*_, _≤_}
-use lib.ListN.{length, set}
+use lib.ListN.{length, replicate}
 use lib.Seq.{sets}
 use lib.Dec.{leb}
 use mathlib.Core.Bool.{cond}
@@ -18,6 +18,7 @@ use Rattle.runfile.specs.declared.field.Field.{Field}
 use Rattle.runfile.specs.declared.field.Field.the-variants.{Open, Push, Pop, Steps, Malformed, Cut, End}
 use Rattle.model.specs.History.{Request}
 use Rattle.replay.specs.Run.{Run, Told, operated, opened, malformed, carried}
+use Rattle.replay.specs.Rows.{rowsOf}
 use Rattle.replay.specs.Trace.{unmoved, after, feed, finished, fresh}
 use Rattle.replay.specs.declared.run.Session.{Session}
 use Rattle.replay.specs.declared.turn.Turn.{Turn}
@@ -28,10 +29,10 @@ pub record Page : Type 0 where
   pub out : List ℕ
   pub to : ℕ
 
-abbrev pub pageOf : Session → List ℕ → List ℕ → List ℕ → List ℕ → List ℕ → Page
-pageOf s out lefts rights labels marks = record {
+abbrev pub pageOf : Session → List ℕ → List ℕ → List ℕ → List ℕ → List ℕ → List ℕ → Page
+pageOf s out rows lefts rights labels marks = record {
   run = record {
-    queue = record { tables = record { control = s .control; lefts = lefts; rights = rights; labels = labels; marks = marks }; records = s .records };
+    queue = record { tables = record { control = s .control; lefts = lefts; rights = rights; labels = labels; marks = marks }; records = rowsOf 16 rows };
     opened = s .opened;
     over = s .over;
     event = s .event;
@@ -63,7 +64,7 @@ finishes left p = cond (leb (p .to + room) (length (p .out))) (written p (finish
 -- The first page of a trace: a fresh run, with the header in its buffer.
 pub record Begins (before after : List ℕ) (s : Session) : Type 0 where
   pub page :
-      pageOf s after (fresh .queue .tables .lefts) (fresh .queue .tables .rights) (fresh .queue .tables .labels) (fresh .queue .tables .marks)
+      pageOf s after (replicate 144 0) (fresh .queue .tables .lefts) (fresh .queue .tables .rights) (fresh .queue .tables .labels) (fresh .queue .tables .marks)
       ≡ written (record { run = fresh; out = before; to = 0 }) (record { run = fresh; lines = fitting (length before) 0 header })
   pub start : s .at ≡ 0
 
@@ -83,10 +84,10 @@ pub record Reaches (p : Page) (b : List ℕ) (p′ : Page) (b′ : List ℕ) : T
   pub page : p′ ≡ written p wrote
   pub rest : feed (p .run) b ≡ after wrote (feed (p′ .run) b′)
 
--- The same, and with room for a field nothing is left to do.
-pub record Feeds (p : Page) (b : List ℕ) (p′ : Page) (b′ : List ℕ) : Type 0 where
+-- The same, and with room for a field, and words for all records, nothing is left to do.
+pub record Feeds (p : Page) (b : List ℕ) (p′ : Page) (b′ : List ℕ) (words : ℕ) : Type 0 where
   pub reaches : Reaches p b p′ b′
-  pub done : p′ .to + fieldRoom ≤ length (p′ .out) → feed (p′ .run) b′ ≡ unmoved (p′ .run) b′
+  pub done : 144 ≤ words → p′ .to + fieldRoom ≤ length (p′ .out) → feed (p′ .run) b′ ≡ unmoved (p′ .run) b′
 
 -- The bytes of a steps field are there.
 abbrev pub Whole : Field → ℕ → ℕ → Type 0
@@ -112,10 +113,9 @@ turned q p r task op event out to =
     record { tables = a .tables; task = a .task; out = sets out to l; to = to + length l }
 
 -- The run after it.
-abbrev pub sessionAfter : Session → ℕ → ℕ → Turn → Session
-sessionAfter s task event m = record {
+abbrev pub sessionAfter : Session → ℕ → Turn → Session
+sessionAfter s event m = record {
   control = m .control;
-  records = set (s .records) task (m .task);
   opened = s .opened;
   over = s .over;
   event = event;

@@ -1,10 +1,10 @@
-//! The run by value: fields in, lines out.
+//! The run over lent tables: fields in, lines out.
+use crate::rows;
 use crate::turn;
 use crate::turn::Turn;
 use calls::opening;
 use model::Control;
 use model::Opening;
-use model::Record;
 use runfile::field;
 use runfile::field::Field;
 use runfile::line;
@@ -13,10 +13,9 @@ ghost use mathlib.Core.Path.{_≡_};
 ghost use mathlib.Core.List.{List, [], _∷_};
 ghost use Prim.Native.Nat.{ℕ, _+_, _*_, _-_, _≤_};
 ghost use lib.Dec.{leb};
-ghost use lib.ListN.{length, drop, getD};
+ghost use lib.ListN.{length, drop};
 ghost use lib.Seq.{slice};
 ghost use Rattle.model.specs.declared.Op.the-variants.{Push, Pop};
-ghost use Rattle.model.specs.Tables.{zeroed, idle};
 ghost use Rattle.replay.specs.Run.{isOpened, stepsOf};
 ghost use Rattle.replay.specs.Page.{pageOf, sessionAfter, operates, opens, breaks, carries, Whole, Takes, Feeds, fieldRoom, finishes, Begins};
 
@@ -26,7 +25,6 @@ pub const FIELD_ROOM: usize = 524288;
 /// A run between two fields.
 pub struct Session {
     pub control: Control,
-    pub records: [Record; 16],
     pub opened: bool,
     /// The run has ended.
     pub over: bool,
@@ -38,30 +36,13 @@ pub struct Session {
     pub to: usize,
 }
 
-// A task's record, or an idle one where there is no such task.
-fn record_at(records: [Record; 16], task: usize) -> Record
-    ensures { λ r. ⌜ r ≡ getD records task idle ⌝ }
-{
-    if task < turn::TASKS {
-        records[task]
-    } else {
-        operation::idle()
-    }
-}
-
 // The run after an operation of a task.
-fn after(s: Session, task: usize, event: u64, m: Turn) -> Session
-    ensures { λ r. ⌜ r ≡ sessionAfter s task event m ⌝ }
+fn after(s: Session, event: u64, m: Turn) -> Session
+    ensures { λ r. ⌜ r ≡ sessionAfter s event m ⌝ }
 {
     let control = m.control;
-    let moved = m.task;
-    let mut records = s.records;
-    if task < turn::TASKS {
-        records[task] = moved;
-    }
     Session {
         control: control,
-        records: records,
         opened: s.opened,
         over: s.over,
         event: event,
@@ -78,19 +59,19 @@ fn push(
     slot: u64,
     label: u32,
     out: &mut [u8],
+    rows: &mut [u64],
     lefts: &mut [u64],
     rights: &mut [u64],
     labels: &mut [u32],
     marks: &mut [u64],
 ) -> Session
-    requires { ⌜ s .to + 128 ≤ length (now out) ⌝ }
+    requires { ⌜ (s .to + 128 ≤ length (now out)) × (144 ≤ length (now rows)) ⌝ }
     ensures { λ r.
-        ⌜ pageOf r (now (out .exit)) (now (lefts .exit)) (now (rights .exit)) (now (labels .exit)) (now (marks .exit))
-        ≡ operates (pageOf s (now (out .entry)) (now (lefts .entry)) (now (rights .entry)) (now (labels .entry)) (now (marks .entry))) (record { task = task; op = Push side slot label } ∷ []) ⌝ }
+        ⌜ pageOf r (now (out .exit)) (now (rows .exit)) (now (lefts .exit)) (now (rights .exit)) (now (labels .exit)) (now (marks .exit))
+        ≡ operates (pageOf s (now (out .entry)) (now (rows .entry)) (now (lefts .entry)) (now (rights .entry)) (now (labels .entry)) (now (marks .entry))) (record { task = task; op = Push side slot label } ∷ []) ⌝ }
 {
     let c = s.control;
-    let records = s.records;
-    let r = record_at(records, task);
+    let r = rows::record_at(rows, task);
     let event = std::num::wrapping_add_u64(s.event, 1);
     let m = turn::push(
         c,
@@ -107,7 +88,9 @@ fn push(
         labels,
         marks,
     );
-    after(s, task, event, m)
+    let moved = m.task;
+    rows::put_record(rows, task, moved);
+    after(s, event, m)
 }
 
 // A pop started.
@@ -116,19 +99,19 @@ fn pop(
     task: usize,
     side: u64,
     out: &mut [u8],
+    rows: &mut [u64],
     lefts: &mut [u64],
     rights: &mut [u64],
     labels: &mut [u32],
     marks: &mut [u64],
 ) -> Session
-    requires { ⌜ s .to + 128 ≤ length (now out) ⌝ }
+    requires { ⌜ (s .to + 128 ≤ length (now out)) × (144 ≤ length (now rows)) ⌝ }
     ensures { λ r.
-        ⌜ pageOf r (now (out .exit)) (now (lefts .exit)) (now (rights .exit)) (now (labels .exit)) (now (marks .exit))
-        ≡ operates (pageOf s (now (out .entry)) (now (lefts .entry)) (now (rights .entry)) (now (labels .entry)) (now (marks .entry))) (record { task = task; op = Pop side } ∷ []) ⌝ }
+        ⌜ pageOf r (now (out .exit)) (now (rows .exit)) (now (lefts .exit)) (now (rights .exit)) (now (labels .exit)) (now (marks .exit))
+        ≡ operates (pageOf s (now (out .entry)) (now (rows .entry)) (now (lefts .entry)) (now (rights .entry)) (now (labels .entry)) (now (marks .entry))) (record { task = task; op = Pop side } ∷ []) ⌝ }
 {
     let c = s.control;
-    let records = s.records;
-    let r = record_at(records, task);
+    let r = rows::record_at(rows, task);
     let event = std::num::wrapping_add_u64(s.event, 1);
     let m = turn::pop(
         c,
@@ -143,7 +126,9 @@ fn pop(
         labels,
         marks,
     );
-    after(s, task, event, m)
+    let moved = m.task;
+    rows::put_record(rows, task, moved);
+    after(s, event, m)
 }
 
 // One step for each of the task bytes from `from` to `end`.
@@ -153,39 +138,33 @@ fn steps(
     from: usize,
     end: usize,
     out: &mut [u8],
+    rows: &mut [u64],
     lefts: &mut [u64],
     rights: &mut [u64],
     labels: &mut [u32],
     marks: &mut [u64],
 ) -> Session
-    requires { ⌜ (from ≤ end) × (end ≤ length (now bytes)) × (s .to + 128 * (end - from) ≤ length (now out)) ⌝ }
+    requires { ⌜ (from ≤ end) × (end ≤ length (now bytes)) × (s .to + 128 * (end - from) ≤ length (now out)) × (144 ≤ length (now rows)) ⌝ }
     ensures { λ r.
-        ⌜ pageOf r (now (out .exit)) (now (lefts .exit)) (now (rights .exit)) (now (labels .exit)) (now (marks .exit))
-        ≡ operates (pageOf s (now (out .entry)) (now (lefts .entry)) (now (rights .entry)) (now (labels .entry)) (now (marks .entry))) (stepsOf (slice from end (now (bytes .entry)))) ⌝ }
+        ⌜ pageOf r (now (out .exit)) (now (rows .exit)) (now (lefts .exit)) (now (rights .exit)) (now (labels .exit)) (now (marks .exit))
+        ≡ operates (pageOf s (now (out .entry)) (now (rows .entry)) (now (lefts .entry)) (now (rights .entry)) (now (labels .entry)) (now (marks .entry))) (stepsOf (slice from end (now (bytes .entry)))) ⌝ }
 {
     let mut c = s.control;
-    let mut records = s.records;
     let mut event = s.event;
     let mut to = s.to;
     for i in from..end {
         let task = bytes[i] as usize;
         event = std::num::wrapping_add_u64(event, 1);
-        let mut r = operation::idle();
-        if task < turn::TASKS {
-            r = records[task];
-        }
+        let r = rows::record_at(rows, task);
         let m = turn::step(c, r, task, event, out, to, lefts, rights, labels, marks);
         let control = m.control;
         let moved = m.task;
         c = control;
-        if task < turn::TASKS {
-            records[task] = moved;
-        }
+        rows::put_record(rows, task, moved);
         to = m.to;
     }
     Session {
         control: c,
-        records: records,
         opened: s.opened,
         over: s.over,
         event: event,
@@ -203,21 +182,6 @@ fn is_opened(o: Opening) -> bool
     }
 }
 
-// The first n records cleared.
-fn cleared(records: [Record; 16], n: usize) -> [Record; 16]
-    requires { ⌜ n ≤ 16 ⌝ }
-    ensures { λ r. ⌜ r ≡ zeroed n idle records ⌝ }
-{
-    let mut rows = records;
-    let none = operation::idle();
-    let mut i = 0;
-    while i < n {
-        rows[i] = none;
-        i += 1;
-    }
-    rows
-}
-
 // The opening. A refused one ends the run.
 fn open_queue(
     s: Session,
@@ -225,15 +189,16 @@ fn open_queue(
     slots: u64,
     tag: u32,
     out: &mut [u8],
+    rows: &mut [u64],
     lefts: &mut [u64],
     rights: &mut [u64],
     labels: &mut [u32],
     marks: &mut [u64],
 ) -> Session
-    requires { ⌜ s .to + 128 ≤ length (now out) ⌝ }
+    requires { ⌜ (s .to + 128 ≤ length (now out)) × (144 ≤ length (now rows)) ⌝ }
     ensures { λ r.
-        ⌜ pageOf r (now (out .exit)) (now (lefts .exit)) (now (rights .exit)) (now (labels .exit)) (now (marks .exit))
-        ≡ opens (pageOf s (now (out .entry)) (now (lefts .entry)) (now (rights .entry)) (now (labels .entry)) (now (marks .entry))) tasks slots tag ⌝ }
+        ⌜ pageOf r (now (out .exit)) (now (rows .exit)) (now (lefts .exit)) (now (rights .exit)) (now (labels .exit)) (now (marks .exit))
+        ≡ opens (pageOf s (now (out .entry)) (now (rows .entry)) (now (lefts .entry)) (now (rights .entry)) (now (labels .entry)) (now (marks .entry))) tasks slots tag ⌝ }
 {
     let c = s.control;
     let o = opening::open_tables(
@@ -249,14 +214,12 @@ fn open_queue(
     );
     let control = o.control;
     let outcome = o.outcome;
-    let old = s.records;
-    let records = cleared(old, o.clear);
+    rows::clear(rows, o.clear);
     let good = is_opened(outcome);
     let event = std::num::wrapping_add_u64(s.event, 1);
     let to = line::write_line(out, s.to, event, Line::Open(outcome), control.anchor);
     Session {
         control: control,
-        records: records,
         opened: good,
         over: !good,
         event: event,
@@ -268,15 +231,13 @@ fn open_queue(
 // A malformed place, which ends the run.
 fn malformed(s: Session, out: &mut [u8]) -> Session
     requires { ⌜ s .to + 128 ≤ length (now out) ⌝ }
-    ensures { λ r. ⌜ ((ls rs bs ms : List ℕ) → pageOf r (now (out .exit)) ls rs bs ms ≡ breaks (pageOf s (now (out .entry)) ls rs bs ms)) ⌝ }
+    ensures { λ r. ⌜ ((ws ls rs bs ms : List ℕ) → pageOf r (now (out .exit)) ws ls rs bs ms ≡ breaks (pageOf s (now (out .entry)) ws ls rs bs ms)) ⌝ }
 {
     let c = s.control;
     let event = std::num::wrapping_add_u64(s.event, 1);
     let to = line::write_line(out, s.to, event, Line::File, c.anchor);
-    let records = s.records;
     Session {
         control: c,
-        records: records,
         opened: s.opened,
         over: true,
         event: event,
@@ -291,16 +252,17 @@ fn carry_out(
     bytes: &[u8],
     at: usize,
     out: &mut [u8],
+    rows: &mut [u64],
     lefts: &mut [u64],
     rights: &mut [u64],
     labels: &mut [u32],
     marks: &mut [u64],
 ) -> Session
-    requires { ⌜ s .to + 524288 ≤ length (now out) ⌝ }
+    requires { ⌜ (s .to + 524288 ≤ length (now out)) × (144 ≤ length (now rows)) ⌝ }
     requires { ⌜ Whole field at (length (now bytes)) ⌝ }
     ensures { λ r.
-        ⌜ pageOf r (now (out .exit)) (now (lefts .exit)) (now (rights .exit)) (now (labels .exit)) (now (marks .exit))
-        ≡ carries (pageOf s (now (out .entry)) (now (lefts .entry)) (now (rights .entry)) (now (labels .entry)) (now (marks .entry))) field (drop at (now (bytes .entry))) ⌝ }
+        ⌜ pageOf r (now (out .exit)) (now (rows .exit)) (now (lefts .exit)) (now (rights .exit)) (now (labels .exit)) (now (marks .exit))
+        ≡ carries (pageOf s (now (out .entry)) (now (rows .entry)) (now (lefts .entry)) (now (rights .entry)) (now (labels .entry)) (now (marks .entry))) field (drop at (now (bytes .entry))) ⌝ }
 {
     match field {
         Field::Open { tasks, slots, tag } => open_queue(
@@ -309,6 +271,7 @@ fn carry_out(
             slots,
             tag,
             out,
+            rows,
             lefts,
             rights,
             labels,
@@ -326,18 +289,20 @@ fn carry_out(
             slot,
             label,
             out,
+            rows,
             lefts,
             rights,
             labels,
             marks,
         ),
-        Field::Pop { task, side } => pop(s, task, side, out, lefts, rights, labels, marks),
+        Field::Pop { task, side } => pop(s, task, side, out, rows, lefts, rights, labels, marks),
         Field::Steps(n) => steps(
             s,
             bytes,
             at + field::HEAD,
             at + field::HEAD + n,
             out,
+            rows,
             lefts,
             rights,
             labels,
@@ -364,42 +329,47 @@ fn take_field(
     s: Session,
     bytes: &[u8],
     out: &mut [u8],
+    rows: &mut [u64],
     lefts: &mut [u64],
     rights: &mut [u64],
     labels: &mut [u32],
     marks: &mut [u64],
 ) -> Session
-    requires { ⌜ s .to + 524288 ≤ length (now out) ⌝ }
+    requires { ⌜ (s .to + 524288 ≤ length (now out)) × (144 ≤ length (now rows)) ⌝ }
     ensures { λ r.
-        ⌜ Takes (pageOf s (now (out .entry)) (now (lefts .entry)) (now (rights .entry)) (now (labels .entry)) (now (marks .entry))) (drop (s .at) (now (bytes .entry)))
-        (pageOf r (now (out .exit)) (now (lefts .exit)) (now (rights .exit)) (now (labels .exit)) (now (marks .exit))) (s .at) (r .at) ⌝ }
+        ⌜ Takes (pageOf s (now (out .entry)) (now (rows .entry)) (now (lefts .entry)) (now (rights .entry)) (now (labels .entry)) (now (marks .entry))) (drop (s .at) (now (bytes .entry)))
+        (pageOf r (now (out .exit)) (now (rows .exit)) (now (lefts .exit)) (now (rights .exit)) (now (labels .exit)) (now (marks .exit))) (s .at) (r .at) ⌝ }
 {
     let at = s.at;
     let found = field::field_at(bytes, at, s.opened);
     let field = found.field;
-    let mut q = carry_out(s, field, bytes, at, out, lefts, rights, labels, marks);
+    let mut q = carry_out(s, field, bytes, at, out, rows, lefts, rights, labels, marks);
     q.at = at + found.size;
     q
 }
 
-/// Every whole field from the reading position on, while the buffer has room.
+/// Every whole field from the reading position on, while the buffer has room. Nothing is done where `rows` has no room for all records.
 pub fn feed(
     s: Session,
     bytes: &[u8],
     out: &mut [u8],
+    rows: &mut [u64],
     lefts: &mut [u64],
     rights: &mut [u64],
     labels: &mut [u32],
     marks: &mut [u64],
 ) -> Session
     ensures { λ r.
-        ⌜ Feeds (pageOf s (now (out .entry)) (now (lefts .entry)) (now (rights .entry)) (now (labels .entry)) (now (marks .entry))) (drop (s .at) (now (bytes .entry)))
-        (pageOf r (now (out .exit)) (now (lefts .exit)) (now (rights .exit)) (now (labels .exit)) (now (marks .exit))) (drop (r .at) (now (bytes .entry))) ⌝ }
+        ⌜ Feeds (pageOf s (now (out .entry)) (now (rows .entry)) (now (lefts .entry)) (now (rights .entry)) (now (labels .entry)) (now (marks .entry))) (drop (s .at) (now (bytes .entry)))
+        (pageOf r (now (out .exit)) (now (rows .exit)) (now (lefts .exit)) (now (rights .exit)) (now (labels .exit)) (now (marks .exit))) (drop (r .at) (now (bytes .entry))) (length (now (rows .entry))) ⌝ }
 {
     let mut q = s;
+    if rows.len() < rows::WORDS {
+        return q;
+    }
     while !q.over & has_room(out.len(), q.to) {
         let at = q.at;
-        q = take_field(q, bytes, out, lefts, rights, labels, marks);
+        q = take_field(q, bytes, out, rows, lefts, rights, labels, marks);
         if q.at == at {
             return q;
         }
@@ -410,8 +380,8 @@ pub fn feed(
 /// The end of the file, where so many bytes are left. Nothing is done where the buffer has no room for a line.
 pub fn finish(s: Session, left: usize, out: &mut [u8]) -> Session
     ensures { λ r.
-        ⌜ ((ls rs bs ms : List ℕ)
-        → pageOf r (now (out .exit)) ls rs bs ms ≡ finishes left (pageOf s (now (out .entry)) ls rs bs ms)) ⌝ }
+        ⌜ ((ws ls rs bs ms : List ℕ)
+        → pageOf r (now (out .exit)) ws ls rs bs ms ≡ finishes left (pageOf s (now (out .entry)) ws ls rs bs ms)) ⌝ }
 {
     if s.over | (s.opened & (left == 0)) {
         return s;
@@ -428,7 +398,6 @@ pub fn begin(out: &mut [u8]) -> Session
     ensures { λ r. ⌜ Begins (now (out .entry)) (now (out .exit)) r ⌝ }
 {
     let to = line::write_header(out, 0);
-    let none = operation::idle();
     Session {
         control: Control {
             tasks: 0,
@@ -436,7 +405,6 @@ pub fn begin(out: &mut [u8]) -> Session
             anchor: 0,
             retries: 0,
         },
-        records: [none; 16],
         opened: false,
         over: false,
         event: 0,

@@ -22,12 +22,13 @@ fn take_page(
     s: Session,
     bytes: &[u8],
     out: &mut [u8],
+    rows: &mut [u64],
     lefts: &mut [u64],
     rights: &mut [u64],
     labels: &mut [u32],
     marks: &mut [u64],
 ) -> Session {
-    let mut q = run::feed(s, bytes, out, lefts, rights, labels, marks);
+    let mut q = run::feed(s, bytes, out, rows, lefts, rights, labels, marks);
     let to = q.to;
     if !flush(out, to) {
         q.over = true;
@@ -41,6 +42,7 @@ fn take_piece(
     s: Session,
     bytes: &[u8],
     out: &mut [u8],
+    rows: &mut [u64],
     lefts: &mut [u64],
     rights: &mut [u64],
     labels: &mut [u32],
@@ -52,7 +54,7 @@ fn take_piece(
     while left > 0 {
         left -= 1;
         let at = q.at;
-        q = take_page(q, bytes, out, lefts, rights, labels, marks);
+        q = take_page(q, bytes, out, rows, lefts, rights, labels, marks);
         if q.over | (q.at == at) {
             return q;
         }
@@ -115,6 +117,7 @@ fn take_round(
     input: &mut [u8],
     have: usize,
     out: &mut [u8],
+    rows: &mut [u64],
     lefts: &mut [u64],
     rights: &mut [u64],
     labels: &mut [u32],
@@ -141,7 +144,7 @@ fn take_round(
             have: have,
         };
     }
-    let r = take_piece(s, &input[..full], out, lefts, rights, labels, marks);
+    let r = take_piece(s, &input[..full], out, rows, lefts, rights, labels, marks);
     let left = slide(input, r.at, full);
     Round {
         session: r,
@@ -152,6 +155,7 @@ fn take_round(
 fn rounds(
     input: &mut [u8],
     out: &mut [u8],
+    rows: &mut [u64],
     lefts: &mut [u64],
     rights: &mut [u64],
     labels: &mut [u32],
@@ -168,7 +172,7 @@ fn rounds(
     let mut turns = u64::MAX;
     while turns > 0 {
         turns -= 1;
-        let r = take_round(s, input, have, out, lefts, rights, labels, marks);
+        let r = take_round(s, input, have, out, rows, lefts, rights, labels, marks);
         let q = r.session;
         if q.over {
             return;
@@ -181,6 +185,7 @@ fn rounds(
 fn main() {
     let mut input = [0u8; 65536];
     let mut output = [0u8; 589824];
+    let mut rows = [0u64; 144];
     let mut lefts = [0u64; 1024];
     let mut rights = [0u64; 1024];
     let mut labels = [0u32; 1024];
@@ -188,6 +193,7 @@ fn main() {
     rounds(
         &mut input,
         &mut output,
+        &mut rows,
         &mut lefts,
         &mut rights,
         &mut labels,

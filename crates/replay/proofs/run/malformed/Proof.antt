@@ -9,9 +9,9 @@ use Rattle.replay.proofs.run.malformed.Tie as tie
 
 returns : tie.Need-returns
 unfolding written malformed
-returns c = λ ls rs bs ms.
-    let w = put-fits _ _ _ _ _ (omega arith) (c .before .before .before .write-line .ensures .0) in
-    rw (w .stop, w .stored, c .before .before .before .before .before .wrapping-add-u64 .ensures)
+returns c = λ ws ls rs bs ms.
+    let w = put-fits _ _ _ _ _ (omega arith) (c .before .before .write-line .ensures .0) in
+    rw (w .stop, w .stored, c .before .before .before .before .wrapping-add-u64 .ensures)
 
 pub malformed-spec : {M : Type 1} → statement M
 malformed-spec =
