@@ -1,5 +1,6 @@
 #!/usr/bin/env bash
-# Runs every case: tests/cases/NAME.txt through PROGRAM must print NAME.trace, byte for byte.
+# Runs every case: tests/cases/NAME.txt through PROGRAM must print NAME.trace, byte for byte,
+# with status 0 and nothing on standard error.
 # usage: tests/cases.sh PROGRAM
 set -u
 
@@ -23,8 +24,14 @@ for text in "$root"/tests/cases/*.txt; do
     name=$(basename "$text" .txt)
     if ! "$root/tools/runfile" "$text" > "$scratch/run"; then
         fail "$name: tools/runfile refuses it"
-    elif timeout 60 "$program" < "$scratch/run" > "$scratch/trace"; [ $? -ge 124 ]; then
-        fail "$name: the program did not run to its end"
+        continue
+    fi
+    timeout 60 "$program" < "$scratch/run" > "$scratch/trace" 2> "$scratch/noise"
+    status=$?
+    if [ "$status" -ne 0 ]; then
+        fail "$name: status $status"
+    elif [ -s "$scratch/noise" ]; then
+        fail "$name: on standard error: $(head -n 1 "$scratch/noise")"
     elif ! cmp -s "$root/tests/cases/$name.trace" "$scratch/trace"; then
         fail "$name: another trace (expected <, printed >)"
         diff "$root/tests/cases/$name.trace" "$scratch/trace" | head -n 20

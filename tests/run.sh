@@ -1,6 +1,6 @@
 #!/usr/bin/env bash
-# The whole suite against a program: builds and tests the reference, then runs the cases,
-# the examples and the differential test. The last line adds up everything that ran.
+# The whole suite against a program: builds and tests the reference, then runs the cases, the
+# examples, the streams and the differential test. The last line adds up everything that ran.
 # usage: tests/run.sh PROGRAM [differential's options]
 #        tests/run.sh --self  [differential's options]   the reference tests itself
 set -u -o pipefail
@@ -10,8 +10,12 @@ root=$(cd "$(dirname "$0")/.." && pwd)
 release=${CARGO_TARGET_DIR:-$root/target/reference}/release
 program=$1
 shift
+streams=() # all of its checks
 if [ "$program" = --self ]; then
     program=$release/reference
+    # The reference reads the whole file, in its own words where it fails, and Rust opens
+    # /dev/null in place of a closed stream.
+    streams=(pieces lengths)
 elif [ -f "$program" ] && [ -x "$program" ]; then
     program=$(cd "$(dirname "$program")" && pwd)/$(basename "$program")
 else
@@ -59,6 +63,7 @@ part "reference" in_reference cargo test --release --offline --locked --quiet
 part "runfile" tests/runfile.sh
 part "cases" tests/cases.sh "$program"
 part "examples" tests/examples.sh "$program"
+part "streams" tests/streams.sh "$program" "${streams[@]}"
 part "differential" timeout 1800 "$release/differential" "$program" "$@"
 
 echo "$passed passed, $failed failed"

@@ -30,6 +30,13 @@ refuses() {
     verdict "$1" "1 0 standard input:$2" "$? $(wc -c < "$scratch/run") $(cat "$scratch/message")"
 }
 
+# A call with this argument, the text "pop 1 left" on standard input: status, message, bytes.
+called() {
+    printf 'pop 1 left\n' | "$root/tools/runfile" "$1" > "$scratch/run" 2> "$scratch/message"
+    verdict "tools/runfile $1" "$2" \
+        "$? $(cat "$scratch/message") $(od -An -v -tx1 "$scratch/run" | tr -d ' \n')"
+}
+
 # Document 01 prints these bytes for its worked example.
 document='01 00 07 02 00 03 00 00 00 00  02 00 08 00 01 00 01 00 00 02 bc  04 00 02 00 00'
 document="$document  03 00 02 01 00  04 00 03 01 01 01"
@@ -58,12 +65,22 @@ refuses 'push 0 left 65536 1' '1: slot is above 65535: 65536'
 refuses 'push 0 left 1 -1' '1: label is not a number: -1'
 refuses 'pop 0' '1: pop takes 2 words, found 1'
 refuses $'step 0\nstep 0*2*2' '2: not TASK or TASK*COUNT: 0*2*2'
+refuses 'step *3' '1: task is missing before *: *3'
+refuses 'step 1 0*' '1: count is missing after *: 0*'
+refuses 'step *' '1: task is missing before *: *'
 refuses 'step 0*x' '1: count is not a number: x'
 refuses 'step 256' '1: task is above 255: 256'
 refuses 'raw 123' '1: not whole hexadecimal bytes: 123'
 refuses 'raw xy' '1: not whole hexadecimal bytes: xy'
 refuses 'raw' '1: raw takes hexadecimal bytes'
 refuses 'jump 1' '1: unknown operation: jump'
+
+called - '0  0300020100'
+called "$scratch/nofile" "1 tools/runfile: cannot open $scratch/nofile "
+called "$scratch" "1 tools/runfile: cannot open $scratch "
+called '' '1 tools/runfile: cannot open  '
+printf 'jump\n' > "$scratch/bad.txt"
+called "$scratch/bad.txt" "1 $scratch/bad.txt:1: unknown operation: jump "
 
 echo "$passed passed, $failed failed"
 [ "$failed" -eq 0 ] && [ "$passed" -gt 0 ]

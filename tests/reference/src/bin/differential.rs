@@ -1,11 +1,12 @@
 //! `differential PROGRAM`: random and malformed run files through a program and through
 //! the reference, whose every event is judged; the two traces must be the same bytes.
+//! One more run is too long to be judged, and only compared.
 
 use reference::check::Judge;
 use reference::coverage::Coverage;
 use reference::dice::Dice;
 use reference::malformed;
-use reference::run::{run, Event, Failure, Watcher};
+use reference::run::{run, Event, Failure, Nobody, Watcher};
 use reference::scenario;
 use reference::tables::Tables;
 use std::fs::{self, File};
@@ -18,7 +19,8 @@ use std::thread;
 const HELP: &str = "\
 usage: differential PROGRAM [--seeds A..B] [--quick]
 
-Runs PROGRAM on generated run files and compares its traces with the reference's.
+Runs PROGRAM on generated run files and compares its traces with the reference's;
+it must end with status 0 and say nothing on standard error.
   --seeds A..B  these seeds, A included and B not, in place of the fixed ones;
                 what they reach is printed but nothing is demanded of it
   --quick       a tenth of the fixed seeds
@@ -27,6 +29,10 @@ The first failing run file is kept in target/differential.
 
 const FIXED: Range<u64> = 0..1_760;
 const QUICK: Range<u64> = 0..176;
+
+/// The run that takes event numbers to seven digits: its name and its steps.
+const LONG: &str = "long load";
+const LONG_STEPS: usize = 1_200_000;
 
 /// So many failures are told one by one, the rest only counted.
 const MOST_TOLD: u64 = 20;
@@ -100,7 +106,7 @@ impl Bench {
         let program = fs::canonicalize(program)?;
         let folder = PathBuf::from("target/differential");
         fs::create_dir_all(&folder)?;
-        let coverage = Coverage::new(scenario::names().chain(malformed::KINDS));
+        let coverage = Coverage::new(scenario::names().chain(malformed::KINDS).chain([LONG]));
         Ok(Bench { program, folder, coverage, passed: 0, failed: 0 })
     }
 
@@ -113,6 +119,7 @@ impl Bench {
             let (scenario, file) = scenario::of_seed(seed);
             self.compare(scenario, &format!("seed {seed}"), &file)?;
         }
+        self.compare_long()?;
         print!("{}", self.coverage);
         if order.demanding {
             for name in self.coverage.missing() {
@@ -128,22 +135,44 @@ impl Bench {
         self.coverage.file(kind);
         let mut expected = Vec::new();
         let judged = run(file, &mut expected, &mut Both(Judge::default(), &mut self.coverage));
-        let output = self.print_in_pieces(file)?;
         let complaint = match judged {
             Err(Failure::Violation(event, what)) => {
                 Some(format!("reference: event {event}: {what}"))
             }
             Err(Failure::Output(error)) => return Err(error),
-            Ok(()) if output.status.code().is_none() => Some(format!("{}", output.status)),
-            Ok(()) => first_difference(&expected, &output.stdout),
+            Ok(()) => complaint(&expected, &self.print_in_pieces(file)?),
         };
+        self.count(&format!("{name} ({kind})"), file, &expected, complaint)
+    }
+
+    /// Nobody judges this run: that would take as long as a quarter of all the others.
+    fn compare_long(&mut self) -> io::Result<()> {
+        self.coverage.file(LONG);
+        let file = scenario::load(&mut Dice::new(1), LONG_STEPS);
+        let mut expected = Vec::new();
+        match run(&file, &mut expected, &mut Nobody) {
+            Err(Failure::Output(error)) => return Err(error),
+            Err(Failure::Violation(..)) => unreachable!("nobody objects"),
+            Ok(()) => {}
+        }
+        let complaint = complaint(&expected, &self.print_in_pieces(&file)?);
+        self.count(LONG, &file, &expected, complaint)
+    }
+
+    fn count(
+        &mut self,
+        name: &str,
+        file: &[u8],
+        expected: &[u8],
+        complaint: Option<String>,
+    ) -> io::Result<()> {
         match complaint {
             None => self.passed += 1,
             Some(complaint) => {
                 if self.failed < MOST_TOLD {
-                    println!("FAILED {name} ({kind}): {complaint}");
+                    println!("FAILED {name}: {complaint}");
                 }
-                self.keep(file, &expected)?;
+                self.keep(file, expected)?;
                 self.failed += 1;
             }
         }
@@ -173,8 +202,8 @@ impl Bench {
         let program = self.program.display();
         println!("  replay: {program} < {} | diff {} -", run.display(), trace.display());
         let whole = Command::new(&self.program).stdin(File::open(&run)?).output()?;
-        if whole.stdout == expected {
-            println!("  but the trace is right when the file comes in one piece");
+        if complaint(expected, &whole).is_none() {
+            println!("  but all is right when the file comes in one piece");
         }
         Ok(())
     }
@@ -190,6 +219,17 @@ fn drip(mut file: &[u8], mut pipe: impl Write) {
             return;
         }
         file = rest;
+    }
+}
+
+/// What is wrong with what a program did: noise on standard error, its status, its trace.
+fn complaint(expected: &[u8], output: &Output) -> Option<String> {
+    if let Some(line) = String::from_utf8_lossy(&output.stderr).lines().next() {
+        return Some(format!("{}, on standard error: {line}", output.status));
+    }
+    match output.status.success() {
+        true => first_difference(expected, &output.stdout),
+        false => Some(output.status.to_string()),
     }
 }
 
