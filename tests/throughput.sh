@@ -1,6 +1,6 @@
 #!/usr/bin/env bash
 # Measures a program against the reference on one run file of about ten million steps:
-# the best of three runs each, in turn, and once the two traces byte for byte.
+# the best of seven runs each, in turn, and once the two traces byte for byte.
 # usage: tests/throughput.sh PROGRAM [STEPS [SEED]]
 set -eu
 
@@ -25,7 +25,7 @@ seconds() {
 
 best_program=
 best_reference=
-for _ in 1 2 3; do
+for _ in 1 2 3 4 5 6 7; do
     best_program=$(printf '%s\n' $best_program "$(seconds "$program")" | sort -n | head -n 1)
     best_reference=$(printf '%s\n' $best_reference "$(seconds "$release/reference")" | sort -n | head -n 1)
 done
