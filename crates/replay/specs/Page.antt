@@ -20,7 +20,7 @@ use Rattle.model.specs.History.{Request}
 use Rattle.replay.specs.Run.{Run, Told, operated, opened, malformed, carried}
 use Rattle.replay.specs.Rows.{rowsOf}
 use Rattle.replay.specs.Trace.{unmoved, after, feed, finished, fresh}
-use Rattle.replay.specs.declared.run.Session.{Session}
+use Rattle.replay.specs.declared.run.RunState.{RunState}
 use Rattle.replay.specs.declared.turn.Turn.{Turn}
 
 -- A run, a buffer, and the position behind what is written there.
@@ -29,7 +29,7 @@ pub record Page : Type 0 where
   pub out : List ℕ
   pub to : ℕ
 
-abbrev pub pageOf : Session → List ℕ → List ℕ → List ℕ → List ℕ → List ℕ → List ℕ → Page
+abbrev pub pageOf : RunState → List ℕ → List ℕ → List ℕ → List ℕ → List ℕ → List ℕ → Page
 pageOf s out rows lefts rights labels marks = record {
   run = record {
     queue = record { tables = record { control = s .control; lefts = lefts; rights = rights; labels = labels; marks = marks }; records = rowsOf 16 rows };
@@ -62,7 +62,7 @@ unfoldable pub finishes : ℕ → Page → Page
 finishes left p = cond (leb (p .to + room) (length (p .out))) (written p (finished (p .run) left)) p
 
 -- The first page of a trace: a fresh run, with the header in its buffer.
-pub record Begins (before after : List ℕ) (s : Session) : Type 0 where
+pub record Begins (before after : List ℕ) (s : RunState) : Type 0 where
   pub page :
       pageOf s after (replicate 144 0) (fresh .queue .tables .lefts) (fresh .queue .tables .rights) (fresh .queue .tables .labels) (fresh .queue .tables .marks)
       ≡ written (record { run = fresh; out = before; to = 0 }) (record { run = fresh; lines = fitting (length before) 0 header })
@@ -113,8 +113,8 @@ turned q p r task op event out to =
     record { tables = a .tables; task = a .task; out = sets out to l; to = to + length l }
 
 -- The run after it.
-abbrev pub sessionAfter : Session → ℕ → Turn → Session
-sessionAfter s event m = record {
+abbrev pub stateAfter : RunState → ℕ → Turn → RunState
+stateAfter s event m = record {
   control = m .control;
   opened = s .opened;
   over = s .over;

@@ -17,13 +17,13 @@ ghost use lib.ListN.{length, drop};
 ghost use lib.Seq.{slice};
 ghost use Rattle.model.specs.declared.Op.the-variants.{Push, Pop};
 ghost use Rattle.replay.specs.Run.{isOpened, stepsOf};
-ghost use Rattle.replay.specs.Page.{pageOf, sessionAfter, operates, opens, breaks, carries, Whole, Takes, Feeds, fieldRoom, finishes, Begins};
+ghost use Rattle.replay.specs.Page.{pageOf, stateAfter, operates, opens, breaks, carries, Whole, Takes, Feeds, fieldRoom, finishes, Begins};
 
 /// Room in the buffer for the lines of any one field.
 pub const FIELD_ROOM: usize = 524288;
 
 /// A run between two fields.
-pub struct Session {
+pub struct RunState {
     pub control: Control,
     pub opened: bool,
     /// The run has ended.
@@ -37,11 +37,11 @@ pub struct Session {
 }
 
 // The run after an operation of a task.
-fn after(s: Session, event: u64, m: Turn) -> Session
-    ensures { λ r. ⌜ r ≡ sessionAfter s event m ⌝ }
+fn after(s: RunState, event: u64, m: Turn) -> RunState
+    ensures { λ r. ⌜ r ≡ stateAfter s event m ⌝ }
 {
     let control = m.control;
-    Session {
+    RunState {
         control: control,
         opened: s.opened,
         over: s.over,
@@ -53,7 +53,7 @@ fn after(s: Session, event: u64, m: Turn) -> Session
 
 // A push started.
 fn push(
-    s: Session,
+    s: RunState,
     task: usize,
     side: u64,
     slot: u64,
@@ -64,7 +64,7 @@ fn push(
     rights: &mut [u64],
     labels: &mut [u32],
     marks: &mut [u64],
-) -> Session
+) -> RunState
     requires { ⌜ (s .to + 128 ≤ length (now out)) × (144 ≤ length (now rows)) ⌝ }
     ensures { λ r.
         ⌜ pageOf r (now (out .exit)) (now (rows .exit)) (now (lefts .exit)) (now (rights .exit)) (now (labels .exit)) (now (marks .exit))
@@ -95,7 +95,7 @@ fn push(
 
 // A pop started.
 fn pop(
-    s: Session,
+    s: RunState,
     task: usize,
     side: u64,
     out: &mut [u8],
@@ -104,7 +104,7 @@ fn pop(
     rights: &mut [u64],
     labels: &mut [u32],
     marks: &mut [u64],
-) -> Session
+) -> RunState
     requires { ⌜ (s .to + 128 ≤ length (now out)) × (144 ≤ length (now rows)) ⌝ }
     ensures { λ r.
         ⌜ pageOf r (now (out .exit)) (now (rows .exit)) (now (lefts .exit)) (now (rights .exit)) (now (labels .exit)) (now (marks .exit))
@@ -133,7 +133,7 @@ fn pop(
 
 // One step for each of the task bytes from `from` to `end`.
 fn steps(
-    s: Session,
+    s: RunState,
     bytes: &[u8],
     from: usize,
     end: usize,
@@ -143,7 +143,7 @@ fn steps(
     rights: &mut [u64],
     labels: &mut [u32],
     marks: &mut [u64],
-) -> Session
+) -> RunState
     requires { ⌜ (from ≤ end) × (end ≤ length (now bytes)) × (s .to + 128 * (end - from) ≤ length (now out)) × (144 ≤ length (now rows)) ⌝ }
     ensures { λ r.
         ⌜ pageOf r (now (out .exit)) (now (rows .exit)) (now (lefts .exit)) (now (rights .exit)) (now (labels .exit)) (now (marks .exit))
@@ -163,7 +163,7 @@ fn steps(
         rows::put_record(rows, task, moved);
         to = m.to;
     }
-    Session {
+    RunState {
         control: c,
         opened: s.opened,
         over: s.over,
@@ -184,7 +184,7 @@ fn is_opened(o: Opening) -> bool
 
 // The opening. A refused one ends the run.
 fn open_queue(
-    s: Session,
+    s: RunState,
     tasks: u64,
     slots: u64,
     tag: u32,
@@ -194,7 +194,7 @@ fn open_queue(
     rights: &mut [u64],
     labels: &mut [u32],
     marks: &mut [u64],
-) -> Session
+) -> RunState
     requires { ⌜ (s .to + 128 ≤ length (now out)) × (144 ≤ length (now rows)) ⌝ }
     ensures { λ r.
         ⌜ pageOf r (now (out .exit)) (now (rows .exit)) (now (lefts .exit)) (now (rights .exit)) (now (labels .exit)) (now (marks .exit))
@@ -218,7 +218,7 @@ fn open_queue(
     let good = is_opened(outcome);
     let event = std::num::wrapping_add_u64(s.event, 1);
     let to = line::write_line(out, s.to, event, Line::Open(outcome), control.anchor);
-    Session {
+    RunState {
         control: control,
         opened: good,
         over: !good,
@@ -229,14 +229,14 @@ fn open_queue(
 }
 
 // A malformed place, which ends the run.
-fn malformed(s: Session, out: &mut [u8]) -> Session
+fn malformed(s: RunState, out: &mut [u8]) -> RunState
     requires { ⌜ s .to + 128 ≤ length (now out) ⌝ }
     ensures { λ r. ⌜ ((ws ls rs bs ms : List ℕ) → pageOf r (now (out .exit)) ws ls rs bs ms ≡ breaks (pageOf s (now (out .entry)) ws ls rs bs ms)) ⌝ }
 {
     let c = s.control;
     let event = std::num::wrapping_add_u64(s.event, 1);
     let to = line::write_line(out, s.to, event, Line::File, c.anchor);
-    Session {
+    RunState {
         control: c,
         opened: s.opened,
         over: true,
@@ -247,7 +247,7 @@ fn malformed(s: Session, out: &mut [u8]) -> Session
 }
 
 fn carry_out(
-    s: Session,
+    s: RunState,
     field: Field,
     bytes: &[u8],
     at: usize,
@@ -257,7 +257,7 @@ fn carry_out(
     rights: &mut [u64],
     labels: &mut [u32],
     marks: &mut [u64],
-) -> Session
+) -> RunState
     requires { ⌜ (s .to + 524288 ≤ length (now out)) × (144 ≤ length (now rows)) ⌝ }
     requires { ⌜ Whole field at (length (now bytes)) ⌝ }
     ensures { λ r.
@@ -326,7 +326,7 @@ pub fn has_room(len: usize, to: usize) -> bool
 
 // The field at the reading position.
 fn take_field(
-    s: Session,
+    s: RunState,
     bytes: &[u8],
     out: &mut [u8],
     rows: &mut [u64],
@@ -334,7 +334,7 @@ fn take_field(
     rights: &mut [u64],
     labels: &mut [u32],
     marks: &mut [u64],
-) -> Session
+) -> RunState
     requires { ⌜ (s .to + 524288 ≤ length (now out)) × (144 ≤ length (now rows)) ⌝ }
     ensures { λ r.
         ⌜ Takes (pageOf s (now (out .entry)) (now (rows .entry)) (now (lefts .entry)) (now (rights .entry)) (now (labels .entry)) (now (marks .entry))) (drop (s .at) (now (bytes .entry)))
@@ -350,7 +350,7 @@ fn take_field(
 
 /// Every whole field from the reading position on, while the buffer has room. Nothing is done where `rows` has no room for all records.
 pub fn feed(
-    s: Session,
+    s: RunState,
     bytes: &[u8],
     out: &mut [u8],
     rows: &mut [u64],
@@ -358,7 +358,7 @@ pub fn feed(
     rights: &mut [u64],
     labels: &mut [u32],
     marks: &mut [u64],
-) -> Session
+) -> RunState
     ensures { λ r.
         ⌜ Feeds (pageOf s (now (out .entry)) (now (rows .entry)) (now (lefts .entry)) (now (rights .entry)) (now (labels .entry)) (now (marks .entry))) (drop (s .at) (now (bytes .entry)))
         (pageOf r (now (out .exit)) (now (rows .exit)) (now (lefts .exit)) (now (rights .exit)) (now (labels .exit)) (now (marks .exit))) (drop (r .at) (now (bytes .entry))) (length (now (rows .entry))) ⌝ }
@@ -378,7 +378,7 @@ pub fn feed(
 }
 
 /// The end of the file, where so many bytes are left. Nothing is done where the buffer has no room for a line.
-pub fn finish(s: Session, left: usize, out: &mut [u8]) -> Session
+pub fn finish(s: RunState, left: usize, out: &mut [u8]) -> RunState
     ensures { λ r.
         ⌜ ((ws ls rs bs ms : List ℕ)
         → pageOf r (now (out .exit)) ws ls rs bs ms ≡ finishes left (pageOf s (now (out .entry)) ws ls rs bs ms)) ⌝ }
@@ -394,11 +394,11 @@ pub fn finish(s: Session, left: usize, out: &mut [u8]) -> Session
 }
 
 /// A run over tables that are all zero, of which nothing was read yet, with the trace's first line.
-pub fn begin(out: &mut [u8]) -> Session
+pub fn begin(out: &mut [u8]) -> RunState
     ensures { λ r. ⌜ Begins (now (out .entry)) (now (out .exit)) r ⌝ }
 {
     let to = line::write_header(out, 0);
-    Session {
+    RunState {
         control: Control {
             tasks: 0,
             slots: 0,

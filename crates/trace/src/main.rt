@@ -1,6 +1,6 @@
 //! Prints the trace of the run file on standard input.
 use replay::run;
-use replay::run::Session;
+use replay::run::RunState;
 ghost use Prim.Native.Nat.{_≤_};
 ghost use mathlib.Core.Path.{_≡_};
 ghost use lib.ListN.{length, take};
@@ -19,7 +19,7 @@ fn flush(out: &[u8], to: usize) -> bool {
 
 // One call of `feed`, and its lines written out. A failed write ends the run.
 fn take_page(
-    s: Session,
+    s: RunState,
     bytes: &[u8],
     out: &mut [u8],
     rows: &mut [u64],
@@ -27,7 +27,7 @@ fn take_page(
     rights: &mut [u64],
     labels: &mut [u32],
     marks: &mut [u64],
-) -> Session {
+) -> RunState {
     let mut q = run::feed(s, bytes, out, rows, lefts, rights, labels, marks);
     let to = q.to;
     if !flush(out, to) {
@@ -39,7 +39,7 @@ fn take_page(
 
 // Every whole field of the bytes read: `feed` takes none only where none is left.
 fn take_piece(
-    s: Session,
+    s: RunState,
     bytes: &[u8],
     out: &mut [u8],
     rows: &mut [u64],
@@ -47,7 +47,7 @@ fn take_piece(
     rights: &mut [u64],
     labels: &mut [u32],
     marks: &mut [u64],
-) -> Session {
+) -> RunState {
     let mut q = s;
     q.at = 0;
     let mut left = bytes.len();
@@ -98,7 +98,7 @@ fn slide(input: &mut [u8], from: usize, have: usize) -> usize
 }
 
 // The end of the input: the rest of the trace.
-fn end(s: Session, left: usize, out: &mut [u8]) -> Session {
+fn end(s: RunState, left: usize, out: &mut [u8]) -> RunState {
     let mut q = run::finish(s, left, out);
     let to = q.to;
     flush(out, to);
@@ -108,12 +108,12 @@ fn end(s: Session, left: usize, out: &mut [u8]) -> Session {
 
 /// A run after a read, and how many bytes are left for the next.
 pub struct Round {
-    pub session: Session,
+    pub state: RunState,
     pub have: usize,
 }
 
 fn take_round(
-    s: Session,
+    s: RunState,
     input: &mut [u8],
     have: usize,
     out: &mut [u8],
@@ -133,21 +133,21 @@ fn take_round(
         let mut q = s;
         q.over = true;
         return Round {
-            session: q,
+            state: q,
             have: have,
         };
     }
     if full == have {
         let q = end(s, have, out);
         return Round {
-            session: q,
+            state: q,
             have: have,
         };
     }
     let r = take_piece(s, &input[..full], out, rows, lefts, rights, labels, marks);
     let left = slide(input, r.at, full);
     Round {
-        session: r,
+        state: r,
         have: left,
     }
 }
@@ -173,7 +173,7 @@ fn rounds(
     while turns > 0 {
         turns -= 1;
         let r = take_round(s, input, have, out, rows, lefts, rights, labels, marks);
-        let q = r.session;
+        let q = r.state;
         if q.over {
             return;
         }

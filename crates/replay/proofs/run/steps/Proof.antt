@@ -11,13 +11,13 @@ use Rattle.model.specs.declared.Record.{Record}
 use Rattle.replay.specs.Run.{stepsOf}
 use Rattle.replay.specs.Rows.{rowsOf}
 use Rattle.replay.specs.Page.{Page, operates}
-use Rattle.replay.specs.declared.run.Session.{Session}
+use Rattle.replay.specs.declared.run.RunState.{RunState}
 use Rattle.replay.proofs.Pages.{turn-page, steps-end, steps-more}
 use Rattle.replay.proofs.Words.{length-rows}
 use Rattle.replay.proofs.run.steps.Statement.{statement}
 use Rattle.replay.proofs.run.steps.Tie as tie
 
-abbrev page : Session → Control → List Record → ℕ → ℕ → List ℕ → List ℕ → List ℕ → List ℕ → List ℕ → Page
+abbrev page : RunState → Control → List Record → ℕ → ℕ → List ℕ → List ℕ → List ℕ → List ℕ → List ℕ → Page
 page s c records event to out lefts rights labels marks = record {
   run = record {
     queue = record { tables = record { control = c; lefts = lefts; rights = rights; labels = labels; marks = marks }; records = records };
