@@ -74,6 +74,22 @@ pub struct Record {
 pub mod raw {
     pub use super::{Control, Record};
 
+    // Sides.
+    pub const LEFT: u64 = 0;
+    pub const RIGHT: u64 = 1;
+    // Kinds of a call, in a record.
+    pub const PUSH: u64 = 0;
+    pub const POP: u64 = 1;
+    // Statuses of Anchor.
+    pub const STABLE: u64 = 0;
+    pub const RPUSH: u64 = 1;
+    pub const LPUSH: u64 = 2;
+    // Codes of a reply; any other is a refusal's number.
+    pub const RUNNING: u32 = 1;
+    pub const PUSHED: u32 = 2;
+    pub const EMPTY: u32 = 3;
+    pub const POPPED: u32 = 4;
+
     /// Code 1 running (value: the next place), 2 pushed, 3 empty, 4 popped (value: the slot, with
     /// its label), else the number of a refusal.
     #[repr(C)]
@@ -200,8 +216,8 @@ pub mod raw {
 
 #[derive(Clone, Copy, Debug, PartialEq, Eq)]
 pub enum Side {
-    Left = 0,
-    Right = 1,
+    Left = raw::LEFT as isize,
+    Right = raw::RIGHT as isize,
 }
 
 /// What a start or step answers when it is carried out; a start is running at place 1.
@@ -276,10 +292,10 @@ impl std::error::Error for Refusal {}
 
 fn outcome(reply: raw::Reply) -> Result<Answer, Refusal> {
     match reply.code {
-        1 => Ok(Answer::Running(reply.value)),
-        2 => Ok(Answer::Pushed),
-        3 => Ok(Answer::Empty),
-        4 => Ok(Answer::Popped { slot: reply.value, label: reply.label }),
+        raw::RUNNING => Ok(Answer::Running(reply.value)),
+        raw::PUSHED => Ok(Answer::Pushed),
+        raw::EMPTY => Ok(Answer::Empty),
+        raw::POPPED => Ok(Answer::Popped { slot: reply.value, label: reply.label }),
         number => Err(Refusal::answered(u64::from(number))),
     }
 }
@@ -307,6 +323,11 @@ impl Anchor {
 /// The slot that a link word names.
 pub fn link_slot(word: u64) -> u64 {
     word & 0x7fff
+}
+
+/// The tag of a link word.
+pub fn link_tag(word: u64) -> u64 {
+    word >> 32
 }
 
 #[derive(Clone, Copy, Debug, PartialEq, Eq)]
@@ -488,6 +509,11 @@ impl Queue {
         self.lend().step(task)
     }
 
+    /// The same step on a record of the caller's own.
+    pub fn step_record(&mut self, one: &mut Record) -> Result<Answer, Refusal> {
+        self.lend().step_record(one)
+    }
+
     pub fn report(&self) -> Report {
         report(&self.control, &self.records, &self.lefts, &self.rights, &self.labels, &self.marks)
             .expect("an open queue is sound")
@@ -517,7 +543,7 @@ impl Queue {
     /// row that there is not, whatever the tables hold.
     pub fn waiting(&self) -> Vec<(u64, u32)> {
         let Anchor { status, left, right, .. } = Anchor::of(self.control.anchor);
-        let from_left = status == 2;
+        let from_left = status == raw::LPUSH;
         let (links, first, last) = match from_left {
             true => (&self.rights, left, right),
             false => (&self.lefts, right, left),
