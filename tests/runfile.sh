@@ -3,20 +3,7 @@
 # usage: tests/runfile.sh
 set -u
 
-root=$(cd "$(dirname "$0")/.." && pwd)
-scratch=$(mktemp -d) || exit 2
-trap 'rm -rf "$scratch"' EXIT
-passed=0
-failed=0
-
-verdict() {
-    if [ "$2" = "$3" ]; then
-        passed=$((passed + 1))
-    else
-        failed=$((failed + 1))
-        printf 'FAILED %s\n  expected %s\n  found    %s\n' "$1" "$2" "$3"
-    fi
-}
+. "$(dirname "$0")/verdict.sh"
 
 # A text must become these bytes.
 becomes() {
@@ -82,5 +69,4 @@ called '' '1 tools/runfile: cannot open  '
 printf 'jump\n' > "$scratch/bad.txt"
 called "$scratch/bad.txt" "1 $scratch/bad.txt:1: unknown operation: jump "
 
-echo "$passed passed, $failed failed"
-[ "$failed" -eq 0 ] && [ "$passed" -gt 0 ]
+summary

@@ -7,22 +7,9 @@ set -u
 [ $# -ge 1 ] && [ -x "$1" ] || { sed -n '4s/^# //p' "$0" >&2; exit 2; }
 program=$1
 shift
-root=$(cd "$(dirname "$0")/.." && pwd)
+. "$(dirname "$0")/verdict.sh"
 release=${CARGO_TARGET_DIR:-$root/target/reference}/release
-scratch=$(mktemp -d) || exit 2
-trap 'rm -rf "$scratch"' EXIT
 run=$scratch/run trace=$scratch/trace noise=$scratch/noise expected=$scratch/expected
-passed=0
-failed=0
-
-verdict() {
-    if [ "$2" = "$3" ]; then
-        passed=$((passed + 1))
-    else
-        failed=$((failed + 1))
-        printf 'FAILED %s\n  expected %s\n  found    %s\n' "$1" "$2" "$3"
-    fi
-}
 
 # The program with a limit of time, its standard error kept.
 launch() {
@@ -134,5 +121,4 @@ for check in "$@"; do
     esac
 done
 
-echo "$passed passed, $failed failed"
-[ "$failed" -eq 0 ] && [ "$passed" -gt 0 ]
+summary
