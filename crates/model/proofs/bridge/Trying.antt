@@ -49,7 +49,7 @@ module _ (q : Tables) (d x l a n w f : ℕ) where
           (λ g. split (eqb (b .status) 0) (λ z. rw (e, g, st, z)) (λ z. rw (e, g, st, z))))
 
     -- A change of Anchor raises its tag, which has room.
-    module _ (read-status : anchorOf a .status ≤ 2) (room : AnchorRoom q (at 0 0)) where
+    module _ (null : anchorOf now .left ≡ 0 → anchorOf now .right ≡ 0) (read-status : anchorOf a .status ≤ 2) (room : AnchorRoom q (at 0 0)) where
       equal : M.same (anchorSeen a) (anchorSeen now) ≡ eqb now a
       equal = same-word a now read-status now-status
 
@@ -60,12 +60,15 @@ module _ (q : Tables) (d x l a n w f : ℕ) where
           split (eqb d 1) (λ g. rw g z) (λ g. rw g z)
 
       pub place2-push : x < 2 ^ 15 → Seen q (at 2 0)
-      unfolding recOf view move at2 row linkSide sideOf onward route pushRoute popRoute goes answer
-      place2-push h = split (eqb now a) (λ e. rw (equal, e) (same-touch (both-back x h e))) (λ e. rw (equal, e))
+      unfolding recOf view move at2 reading row linkSide sideOf onward route pushRoute popRoute goes answer
+      place2-push h = split (eqb now a) (λ e. rw (equal, e) (same-touch (both-back x h e))) (λ e. split (eqb (anchorOf now .left) 0) (λ z. rw (equal, e, z, none-right null z))
+          (λ z. split (eqb (anchorOf now .status) 0) (λ y. rw (equal, e, z, stable-status (anchorOf now .status) now-status, y)) (λ y. rw (equal, e, z, stable-status (anchorOf now .status) now-status, y))))
 
       pub place2-pop : Seen q (at 2 1)
-      unfolding recOf view move at2 row linkSide sideOf onward route pushRoute popRoute goes answer
-      place2-pop = split (eqb now a) (λ e. rw (equal, e) (same-touch (both-back 0 (omega arith) e))) (λ e. rw (equal, e))
+      unfolding recOf view move at2 reading row linkSide sideOf onward route pushRoute popRoute goes answer
+      place2-pop = split (eqb now a) (λ e. rw (equal, e) (same-touch (both-back 0 (omega arith) e))) (λ e. split (eqb (anchorOf now .left) 0) (λ z. rw (equal, e, z, none-right null z))
+          (λ z. split (eqb (anchorOf now .left) (anchorOf now .right)) (λ g. rw (equal, e, z, g))
+          (λ g. split (eqb (anchorOf now .status) 0) (λ y. rw (equal, e, z, g, stable-status (anchorOf now .status) now-status, y)) (λ y. rw (equal, e, z, g, stable-status (anchorOf now .status) now-status, y)))))
 
       push-back : x < 2 ^ 15 → eqb now a ≡ true → M.aimed (anchorSeen a) (eqb d 1) x (M.pushing (eqb d 1)) ≡ anchorSeen (new4 (at 4 0))
       unfolding new4 sideOf
@@ -80,13 +83,16 @@ module _ (q : Tables) (d x l a n w f : ℕ) where
           (λ g. rw g (sym (anchor-back (anchorOf a .tag) (anchorOf a .status) n (anchorOf a .right) (room (eqb-true _ _ e)) read-status h (omega arith))))
 
       pub place4-push : x < 2 ^ 15 → Seen q (at 4 0)
-      unfolding recOf view move at4 row linkSide sideOf onward route pushRoute popRoute goes answer
+      unfolding recOf view move at4 reading row linkSide sideOf onward route pushRoute popRoute goes answer
       place4-push h = split (eqb now a)
-          (λ e. rw (equal, e) (ap (λ (b : M.Anchor). M.runs (M.putAnchor b) (M.finishes (recOf (at 4 0)) b)) (push-back h e))) (λ e. rw (equal, e))
+          (λ e. rw (equal, e) (ap (λ (b : M.Anchor). M.runs (M.putAnchor b) (M.finishes (recOf (at 4 0)) b)) (push-back h e))) (λ e. split (eqb (anchorOf now .left) 0) (λ z. rw (equal, e, z, none-right null z))
+          (λ z. split (eqb (anchorOf now .status) 0) (λ y. rw (equal, e, z, stable-status (anchorOf now .status) now-status, y)) (λ y. rw (equal, e, z, stable-status (anchorOf now .status) now-status, y))))
 
       pub place4-pop : n < 2 ^ 15 → Seen q (at 4 1)
-      unfolding recOf view move at4 row linkSide sideOf onward route pushRoute popRoute goes answer
-      place4-pop h = split (eqb now a) (λ e. rw (equal, e) (same-touch (ap M.putAnchor (pop-back h e)))) (λ e. rw (equal, e))
+      unfolding recOf view move at4 reading row linkSide sideOf onward route pushRoute popRoute goes answer
+      place4-pop h = split (eqb now a) (λ e. rw (equal, e) (same-touch (ap M.putAnchor (pop-back h e)))) (λ e. split (eqb (anchorOf now .left) 0) (λ z. rw (equal, e, z, none-right null z))
+          (λ z. split (eqb (anchorOf now .left) (anchorOf now .right)) (λ g. rw (equal, e, z, g))
+          (λ g. split (eqb (anchorOf now .status) 0) (λ y. rw (equal, e, z, g, stable-status (anchorOf now .status) now-status, y)) (λ y. rw (equal, e, z, g, stable-status (anchorOf now .status) now-status, y)))))
 
   pub place3-push : ((b : Bool) → linkOf (linkAt q b x) .tag < 2 ^ 32) → Seen q (at 3 0)
   unfolding recOf view move at3 row linkSide sideOf onward route pushRoute popRoute goes answer
