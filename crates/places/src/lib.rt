@@ -20,13 +20,11 @@ ghost use Rattle.places.specs.Arm.{Steps, StepsOnLinks, StepsOnMarks};
 pub fn at1(c: Control, r: Record) -> Acted
     ensures { λ m. ⌜ Steps 1 c r m ⌝ }
 {
-    let a = Anchor::unpack(c.anchor);
-    let mut t = r;
-    t.seen = c.anchor;
-    step::settles(c, t, next::after_reading(r.kind, a), step::NO_ENTRY)
+    step::reads_anchor(c, r)
 }
 
-/// Place 2: change Anchor to own, own, s; a pop to null, null, s. (Figure 3, line 2; figure 5, line 12.)
+/// Place 2: change Anchor to own, own, s; a pop to null, null, s. A failed change reads as place 1.
+/// (Figure 3, line 2; figure 5, line 12.)
 pub fn at2(c: Control, r: Record) -> Acted
     ensures { λ m. ⌜ Steps 2 c r m ⌝ }
 {
@@ -34,7 +32,7 @@ pub fn at2(c: Control, r: Record) -> Acted
     let end = side::choose(r.kind == 0, r.own, 0);
     let new = side::facing(r.side == 1, step::raised(r.seen), a.status, end, end);
     if c.anchor != r.seen {
-        return step::settles(step::bumped(c), r, next::next(2, r.kind, 1), step::NO_ENTRY);
+        return step::reads_anchor(step::bumped(c), r);
     }
     if !step::may_change(c.slots, r.seen, new) {
         return step::refused(c, r);
@@ -66,12 +64,12 @@ pub fn at3(c: Control, r: Record, lefts: &mut [u64], rights: &mut [u64]) -> Acte
 }
 
 /// Place 4: change Anchor to l, own, RPUSH, and remember it, finishing; a pop to l, neighbour, s.
-/// (Figure 3, line 4; figure 5, line 14.)
+/// A failed change reads as place 1. (Figure 3, line 4; figure 5, line 14.)
 pub fn at4(c: Control, r: Record) -> Acted
     ensures { λ m. ⌜ Steps 4 c r m ⌝ }
 {
     if c.anchor != r.seen {
-        return step::settles(step::bumped(c), r, next::next(4, r.kind, 1), step::NO_ENTRY);
+        return step::reads_anchor(step::bumped(c), r);
     }
     let right = r.side == 1;
     let a = Anchor::unpack(r.seen);

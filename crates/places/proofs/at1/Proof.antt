@@ -1,10 +1,10 @@
--- `step1`, with what the calls answer put in.
+-- `step1`, with what the call answers put in.
 use Rattle.places.proofs.Anchors.{step1}
 use Rattle.places.proofs.at1.Statement.{statement}
 use Rattle.places.proofs.at1.Tie as tie
 
 returns : tie.Need-returns
-returns c = rw (c .settles .ensures, c .before .after-reading .ensures, c .before .before .unpack .ensures) (step1 (c .before .before .before .args .c) (c .before .before .before .args .r))
+returns c = let a = c .before .args in rw (c .reads-anchor .ensures) (step1 (a .c) (a .r))
 
 pub at1-spec : {M : Type 1} → statement M
-at1-spec = tie.close (tie.spec (λ _ _. tt) (λ _ _. tt) (λ _ _. tt) returns)
+at1-spec = tie.close (tie.spec (λ _ _. tt) returns)
