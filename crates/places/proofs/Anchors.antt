@@ -1,7 +1,7 @@
 -- The model's step at the places that touch Anchor alone, in the terms of this crate: 1, 2, 4, 6, 8 and 10.
-use mathlib.Core.Path.{_≡_, refl, ap, subst}
+use mathlib.Core.Path.{_≡_, refl, ap}
 use mathlib.Core.Bool.{true, false, _&&_, cond}
-use Prim.Native.Nat.{ℕ, suc, _+_, _/_, _^_}
+use Prim.Native.Nat.{ℕ, _+_, _/_, _^_}
 use native.Mathlib.Omega.{arith}
 use lib.Dec.{eqb, ltb}
 use borrow.Author.Tests.{eq-eqb, ne-eqb}
@@ -14,8 +14,9 @@ use Rattle.model.specs.Places.{reading, withSeen, row, sideOf, nothing, setAnch
 use Rattle.model.specs.Refusals.{needsRow, meetsLink, stepSound}
 use Rattle.model.specs.Route.{route, pushRoute, popRoute, goes, counted}
 use Rattle.model.specs.Calls.{finish}
+use Rattle.model.proofs.laws.Onward.{reads-on}
 use Rattle.table.specs.declared.Acted as made
-use Rattle.places.specs.Arm.{withTables, standing, stepAt, Steps}
+use Rattle.places.specs.Arm.{withTables, standing, stepAt, Steps, StepsOnAnchor}
 use Rattle.places.specs.Ending.{refused, settled, noEntry, bumped, withAnchor, anchorRead, mayChange, remembered, compared, changed}
 use Rattle.places.proofs.Routes.{split, kinds, readings, Quiet, entry, quietly}
 
@@ -35,13 +36,6 @@ module _ {n : ℕ} {c : Control} {r : Record} {new : ℕ} {t : Record} {done : �
   pub makes : c .anchor ≡ r .seen → mayChange (c .slots) (r .seen) new ≡ true → Steps n c r (settled (withAnchor c new) t done noEntry)
   unfolding changed mayChange
   makes h s = rw (eq-eqb _ _ h, s) at (tried .steps)
-
--- After a failed change at 2 or 4 the route is place 1's.
-reads-on : (kind o : ℕ) → (route 2 kind (o + 1) ≡ route 1 kind o) × (route 4 kind (o + 1) ≡ route 1 kind o)
-unfolding route pushRoute popRoute
-reads-on kind o =
-    let next : o + 1 ≡ suc o = omega arith in
-    split (eqb kind 0) (λ h. rw (h, next) (refl, refl)) (λ h. rw (h, next) (refl, refl))
 
 module _ (c : Control) (r : Record) where
   -- The outcome of reading Anchor, and the record with the word read.
@@ -155,8 +149,18 @@ module _ (c : Control) (r : Record) where
       (λ k. rw (n, s, e, k) (pop4 k))
 
   -- A failed change doesn't depend on the word it would have made.
-  pub failed4 : (c .anchor ≡ r .seen → ⊥) → Steps 4 c r (anchorRead (bumped c) r)
+  failed2 : (c .anchor ≡ r .seen → ⊥) → Steps 2 c r (anchorRead (bumped c) r)
+  failed2 h = fails (step2 _ _ refl refl) h
+
+  failed4 : (c .anchor ≡ r .seen → ⊥) → Steps 4 c r (anchorRead (bumped c) r)
   failed4 h = split (eqb (r .kind) 0) (λ k. fails (push4 k) h) (λ k. fails (pop4 k) h)
+
+  -- By the record's place: 1, or a failed change.
+  pub reads-first : r .place ≡ 1 → StepsOnAnchor c r (anchorRead c r)
+  reads-first at = (λ _. step1, λ two. absurd (omega arith), λ four. absurd (omega arith))
+
+  pub reads-failed : (r .place ≡ 1 → ⊥) → (c .anchor ≡ r .seen → ⊥) → StepsOnAnchor c r (anchorRead (bumped c) r)
+  reads-failed later moved = (λ one. absurd (later one), λ _. failed2 moved, λ _. failed4 moved)
 
   pub step6 : Steps 6 c r (compared c r (route 6 (r .kind) 0) (route 6 (r .kind) 1))
   unfolding move at6 route pushRoute popRoute

@@ -15,25 +15,25 @@ pub const EMPTY: u8 = 22;
 
 pub const POPPED: u8 = 23;
 
-// For each place the five outcomes of a push, then of a pop. At 2 and 4 those of a failed change
-// are the four of place 1.
-const NEXT: [[[u8; 5]; 2]; 12] = [
-    [[0, 0, 0, 0, 0], [0, 0, 0, 0, 0]],
-    [[2, 0, 3, 5, 0], [EMPTY, 2, 3, 5, 0]],
-    [[PUSHED, 2, 0, 3, 5], [11, EMPTY, 2, 3, 5]],
-    [[4, 0, 0, 0, 0], [4, 0, 0, 0, 0]],
-    [[5, 2, 0, 3, 5], [11, EMPTY, 2, 3, 5]],
-    [[6, 0, 0, 0, 0], [6, 0, 0, 0, 0]],
-    [[7, LEAVE, 0, 0, 0], [7, LEAVE, 0, 0, 0]],
-    [[10, 8, 0, 0, 0], [10, 8, 0, 0, 0]],
-    [[9, LEAVE, 0, 0, 0], [9, LEAVE, 0, 0, 0]],
-    [[10, LEAVE, 0, 0, 0], [10, LEAVE, 0, 0, 0]],
-    [[LEAVE, LEAVE, 0, 0, 0], [LEAVE, LEAVE, 0, 0, 0]],
-    [[0, 0, 0, 0, 0], [POPPED, 0, 0, 0, 0]],
+// For each place the first four outcomes of a push, then of a pop. A failed change at 2 or 4 goes
+// by place 1's.
+const NEXT: [[[u8; 4]; 2]; 12] = [
+    [[0, 0, 0, 0], [0, 0, 0, 0]],
+    [[2, 0, 3, 5], [EMPTY, 2, 3, 5]],
+    [[PUSHED, 2, 0, 3], [11, EMPTY, 2, 3]],
+    [[4, 0, 0, 0], [4, 0, 0, 0]],
+    [[5, 2, 0, 3], [11, EMPTY, 2, 3]],
+    [[6, 0, 0, 0], [6, 0, 0, 0]],
+    [[7, LEAVE, 0, 0], [7, LEAVE, 0, 0]],
+    [[10, 8, 0, 0], [10, 8, 0, 0]],
+    [[9, LEAVE, 0, 0], [9, LEAVE, 0, 0]],
+    [[10, LEAVE, 0, 0], [10, LEAVE, 0, 0]],
+    [[LEAVE, LEAVE, 0, 0], [LEAVE, LEAVE, 0, 0]],
+    [[0, 0, 0, 0], [POPPED, 0, 0, 0]],
 ];
 
 pub fn next(place: usize, kind: u64, outcome: usize) -> u8
-    requires { ⌜ (place < 12) × (outcome < 5) ⌝ }
+    requires { ⌜ (place < 12) × (outcome < 4) ⌝ }
     ensures { λ r. ⌜ r ≡ route place kind outcome ⌝ }
 {
     let kinds = NEXT[place];

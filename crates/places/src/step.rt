@@ -13,7 +13,8 @@ ghost use Prim.Native.Nat.{_+_, _/_, _^_};
 ghost use Rattle.word.specs.Link.{packLink};
 ghost use Rattle.model.specs.Tables.{idle};
 ghost use Rattle.model.specs.Route.{goes};
-ghost use Rattle.places.specs.Ending.{refused, settled, anchorRead, bumped, mayChange, withAnchor, remembered, compared, rowSound, neighbourRead, linkRead};
+ghost use Rattle.places.specs.Ending.{refused, settled, anchorRead, bumped, mayChange, withAnchor, remembered};
+ghost use Rattle.places.specs.Ending.{compared, rowSound, neighbourRead, linkRead};
 
 /// For a step that pops nothing.
 pub const NO_ENTRY: Entry = Entry { slot: 0, label: 0 };

@@ -1,10 +1,10 @@
--- `step2`, with what the calls answer put in; a change fails, is denied or is made.
+-- `step2`, with what the calls answer put in; the change is denied or made.
 use mathlib.Core.Path.{sym, _∙_}
 use borrow.Author.Tests.{not-true, not-false}
 use borrow.Author.Needs.{needs}
 use Rattle.model.specs.Route.{route}
 use Rattle.places.specs.Ending.{anchorRead, bumped}
-use Rattle.places.proofs.Anchors.{Tries, fails, denies, makes, step2}
+use Rattle.places.proofs.Anchors.{Tries, denies, makes, step2}
 use Rattle.places.proofs.at2.Statement.{statement}
 use Rattle.places.proofs.at2.Tie as tie
 
@@ -19,22 +19,15 @@ module _ (b : tie.After-facing) where
       (rw (d .before .before .unpack .ensures, b .before .raised .ensures) at (b .facing .ensures))
 
 returns : tie.Need-returns
-returns c =
-    let i = c .before .before in
-    rw (c .reads-anchor .ensures, c .before .bumped .ensures) (fails (tried (i .before .before .before)) (i .if1 .taken))
+returns c same =
+    let m = c .before .before in
+    rw (c .refused .ensures) (denies (tried (m .before)) same (sym (m .may-change .ensures) ∙ not-true _ (c .before .if1 .taken)))
 
 returns-2 : tie.Need-returns-2
-returns-2 c =
-    let i = c .before .before .before in
-    rw (c .refused .ensures)
-    (denies (tried (i .before .before .before)) (i .if1 .left) (sym (c .before .before .may-change .ensures) ∙ not-true _ (c .before .if2 .taken)))
-
-returns-3 : tie.Need-returns-3
-returns-3 c =
+returns-2 c same =
     let m = c .before .before .before .before in
-    let i = m .before in
     rw (c .settles .ensures, c .before .next .ensures, c .before .before .with-anchor .ensures)
-    (makes (tried (i .before .before .before)) (i .if1 .left) (sym (m .may-change .ensures) ∙ not-false _ (c .before .before .before .if2 .left)))
+    (makes (tried (m .before)) same (sym (m .may-change .ensures) ∙ not-false _ (c .before .before .before .if1 .left)))
 
 pub at2-spec : {M : Type 1} → statement M
 at2-spec =
@@ -48,9 +41,6 @@ at2-spec =
     (λ _ _. tt)
     returns
     (λ _ _. tt)
-    (λ _ _. tt)
-    returns-2
-    (λ _ _. tt)
     (λ c κs. search needs)
     (λ _ _. tt)
-    returns-3)
+    returns-2)

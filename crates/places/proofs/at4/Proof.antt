@@ -1,22 +1,19 @@
--- `step4`, with what the calls answer put in; a change fails, is denied or is made.
+-- `step4`, with what the calls answer put in; the change is denied or made.
 use mathlib.Core.Path.{sym, _∙_}
 use borrow.Author.Tests.{not-true, not-false}
 use borrow.Author.Needs.{needs}
 use Rattle.model.specs.Route.{route}
 use Rattle.places.specs.Ending.{anchorRead, bumped, remembered}
-use Rattle.places.proofs.Anchors.{Tries, denies, makes, failed4, step4}
+use Rattle.places.proofs.Anchors.{Tries, denies, makes, step4}
 use Rattle.places.proofs.at4.Statement.{statement}
 use Rattle.places.proofs.at4.Tie as tie
 
 module _ (b : tie.After-facing) where
-  abbrev p : tie.After-pushing
-  p = b .before .before .before
-
-  abbrev i : tie.Else1
-  i = let d = p .before .before in d .before .before .before .before
-
   abbrev a : tie.Start
-  a = i .before .before .before
+  a =
+      let p = b .before .before .before in
+      let d = p .before .before in
+      d .before .before .before .before
 
   tried :
       (let new = b .facing .result in
@@ -30,22 +27,16 @@ module _ (b : tie.After-facing) where
       (rw (d .raised .ensures, d .before .far .ensures, d .before .before .unpack .ensures) at (b .facing .ensures))
 
 returns : tie.Need-returns
-returns c =
-    let i = c .before .before in
-    let s = i .before .before .before .args in
-    rw (c .reads-anchor .ensures, c .before .bumped .ensures) (failed4 (s .c) (s .r) (i .if1 .taken))
+returns c same =
+    let m = c .before .before in
+    rw (c .refused .ensures) (denies (tried (m .before)) same (sym (m .may-change .ensures) ∙ not-true _ (c .before .if1 .taken)))
 
 returns-2 : tie.Need-returns-2
-returns-2 c =
-    let b = c .before .before .before in
-    rw (c .refused .ensures)
-    (denies (tried b) (i b .if1 .left) (sym (c .before .before .may-change .ensures) ∙ not-true _ (c .before .if2 .taken)))
-
-returns-3 : tie.Need-returns-3
-returns-3 c =
-    let m = c .before .before .before .before .before in
-    rw (c .settles .ensures, c .before .next .ensures, c .before .before .remembers .ensures, c .before .before .before .with-anchor .ensures)
-    (makes (tried (m .before)) (i (m .before) .if1 .left) (sym (m .may-change .ensures) ∙ not-false _ (c .before .before .before .before .if2 .left)))
+returns-2 c same =
+    let w = c .before .before .before in
+    let m = w .before .before in
+    rw (c .settles .ensures, c .before .next .ensures, c .before .before .remembers .ensures, w .with-anchor .ensures)
+    (makes (tried (m .before)) same (sym (m .may-change .ensures) ∙ not-false _ (w .before .if1 .left)))
 
 pub at4-spec : {M : Type 1} → statement M
 at4-spec =
@@ -53,19 +44,16 @@ at4-spec =
     (tie.spec
     (λ _ _. tt)
     (λ _ _. tt)
+    (λ _ _. tt)
+    (λ _ _. tt)
+    (λ _ _. tt)
+    (λ _ _. tt)
+    (λ _ _. tt)
+    (λ _ _. tt)
+    (λ _ _. tt)
     returns
-    (λ _ _. tt)
-    (λ _ _. tt)
-    (λ _ _. tt)
-    (λ _ _. tt)
-    (λ _ _. tt)
-    (λ _ _. tt)
-    (λ _ _. tt)
-    (λ _ _. tt)
-    (λ _ _. tt)
-    returns-2
     (λ _ _. tt)
     (λ _ _. tt)
     (λ c κs. search needs)
     (λ _ _. tt)
-    returns-3)
+    returns-2)
