@@ -90,7 +90,7 @@ module _ (ws : List ℕ) (rows : List (List ℕ)) (lefts rights labels marks : L
     unfolding act actOn rowsFit lengthsFit
     refused why r e h er =
         ap (λ (u : Reply). record { queue = queue; uppers = uppersOf rows; reply = u }) er
-        ∙ ap (λ (l : List Record). record { queue = queueOf (controlOf ws) l lefts rights labels marks; uppers = uppersOf rows; reply = replyOf (Refused why) })
+        ∙ ap (λ (l : List Record). record { queue = record { tables = entry; records = l }; uppers = uppersOf rows; reply = replyOf (Refused why) })
         (sym (set-getD (recordsOf rows) task idle))
         ∙ ap (λ (a : Acted). replied endsCall task (uppersOf rows) (back queue task a)) (turned-away entry (among queue task) r₀ why e h)
 
@@ -178,7 +178,8 @@ module _ (ws : List ℕ) (rows : List (List ℕ)) (lefts rights labels marks : L
     pop-starts side p r = kept (eqb (popRefusal entry p r side) 0) r _ _ (refl, λ h. absurd (not-both refl h)) (refl, λ _. refl)
 
   -- ---- the opening
-  module _ (tasks slots tag : ℕ) (ws′ : List ℕ) (rows′ : List (List ℕ)) (lefts′ rights′ labels′ marks′ : List ℕ) (c : Control) (n : ℕ) (m : OpenedTables) where
+  module _ (tasks slots tag : ℕ) (ws′ : List ℕ) (rows′ : List (List ℕ)) (lefts′ rights′ labels′ marks′ : List ℕ)
+      (c : Control) (n : ℕ) (m : OpenedTables) where
     abbrev parts : OpenedParts
     parts = record { tables = tablesOf (m .control) lefts′ rights′ labels′ marks′; clear = m .clear; outcome = m .outcome }
 
@@ -205,7 +206,8 @@ module _ (ws : List ℕ) (rows : List (List ℕ)) (lefts rights labels marks : L
         ∙ ap (coded tasks (uppersOf rows)) (sym (open-parts queue tasks slots tag)))
 
   -- ---- the report
-  pub reported : (c : Control) (n k b : ℕ) (r : Reported) → c ≡ controlOf ws → n ≡ length rows → k ≡ countable c n → b ≡ busyIn k (recordsOf rows)
+  pub reported : (c : Control) (n k b : ℕ) (r : Reported) → c ≡ controlOf ws → n ≡ length rows
+      → k ≡ countable c n → b ≡ busyIn k (recordsOf rows)
       → r ≡ tell (tellingRefusal (controlSound c) (fit c && leb (c .tasks) n)) c b marks → r ≡ report queue
   unfolding rowsFit lengthsFit
   reported c n k b r ec en ek eb e = e ∙ rw (eb, ek, en, ec, ← length-records rows) (sym (report-parts queue))

@@ -5,20 +5,33 @@ use borrow.Author.Needs.{needs}
 use Rattle.capi.proofs.zc_open.Statement.{statement}
 use Rattle.capi.proofs.zc_open.Tie as tie
 
+-- The opening by value, and the words that it was given.
+module _ (made : tie.After-open-tables) where
+  abbrev told : tie.After-control-of
+  told = let lent = made .before .before .before in lent .before .before
+
+  abbrev a : tie.Start
+  a = let lists = told .before .before .before in lists .before .before .before
+
 returns : tie.Need-returns
 returns c =
-    let made = c .before .before .before .before .before .before .before .before .before .before .before .before .before .before in
-    let a = made .before .before .before .before .before .before .before .before .before .before .before .args in
-    opened (a .control .now) (a .records .now) (a .lefts .now) (a .rights .now) (a .labels .now) (a .marks .now) _ _ _ _ _ _ _ _ _ _ _ _ _
-    (made .before .before .before .before .before .control-of .ensures) refl (made .open-tables .ensures)
-    (c .before .before .before .before .control-row .ensures)
+    let put = c .before .before .before .before in
+    let lists = put .before .before .before .before in
+    let lent = lists .before .before .before in
+    let made = lent .before .before .before in
+    let s = a made .args in
+    opened (s .control .now) (s .records .now) (s .lefts .now) (s .rights .now) (s .labels .now) (s .marks .now) _ _ _ _ _ _ _ _ _ _ _ _ _
+    (told made .control-of .ensures) refl (made .open-tables .ensures) (put .control-row .ensures)
     (c .before .before .clear .ensures .0) (c .before .before .clear .ensures .1) (c .opening-code .ensures)
 
 clear-requires : tie.Need-clear-requires
 clear-requires c κs =
-    let made = c .before .before .before .before .before .before .before .before .before .before .before in
-    let a = made .before .before .before .before .before .before .before .before .before .before .before .args in
-    clears (a .control .now) (a .records .now) (a .lefts .now) (a .rights .now) (a .labels .now) (a .marks .now) _ _ _ (a .control .now) (a .records .now) _ _ _ _ _ _ _ refl (made .open-tables .ensures)
+    let lists = c .before .before .before .before in
+    let lent = lists .before .before .before .before in
+    let made = lent .before .before .before in
+    let s = a made .args in
+    clears (s .control .now) (s .records .now) (s .lefts .now) (s .rights .now) (s .labels .now) (s .marks .now) _ _ _
+    (s .control .now) (s .records .now) _ _ _ _ _ _ _ refl (made .open-tables .ensures)
 
 pub zc-open-spec : {M : Type 1} → statement M
 zc-open-spec =

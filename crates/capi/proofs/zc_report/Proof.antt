@@ -6,11 +6,20 @@ use borrow.Author.Needs.{needs}
 use Rattle.capi.proofs.zc_report.Statement.{statement}
 use Rattle.capi.proofs.zc_report.Tie as tie
 
+-- The control's words, and those that the call was given.
+module _ (told : tie.After-control-of) where
+  abbrev a : tie.Start
+  a = let lists = told .before .before .before in lists .before .before .before
+
 returns : tie.Need-returns
 returns c =
-    let a = c .before .before .before .before .before .before .before .before .before .before .args in
+    let told = c .before .before .before .before in
+    let s = a told .args in
     c .report-reply .ensures
-    ∙ ap reportReplyOf (reported (a .control .now) (a .records .now) (a .lefts .now) (a .rights .now) (a .labels .now) (a .marks .now) _ _ _ _ _ (c .before .before .before .before .control-of .ensures) refl (c .before .before .before .to-count .ensures) (c .before .before .busy .ensures) (c .before .told .ensures))
+    ∙ ap reportReplyOf
+    (reported (s .control .now) (s .records .now) (s .lefts .now) (s .rights .now) (s .labels .now) (s .marks .now) _ _ _ _ _
+    (told .control-of .ensures) refl (c .before .before .before .to-count .ensures)
+    (c .before .before .busy .ensures) (c .before .told .ensures))
 
 pub zc-report-spec : {M : Type 1} → statement M
 zc-report-spec =
@@ -18,7 +27,7 @@ zc-report-spec =
     (tie.spec
     (λ c κs. search needs)
     (λ c κs. search needs)
-    (λ c κs. counted (c .before .before .before .before .before .before .before .args .records .now) _ _ _ refl (c .to-count .ensures))
+    (λ c κs. counted (a (c .before) .args .records .now) _ _ _ refl (c .to-count .ensures))
     (λ c κs. search needs)
     (λ c κs. search needs)
     returns)

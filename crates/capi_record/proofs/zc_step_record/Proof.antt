@@ -6,7 +6,9 @@ use Rattle.capi_record.proofs.zc_step_record.Tie as tie
 
 returns : tie.Need-returns
 returns c =
-    let moved = c .before .before .before .before .before .before .before .before .before .before in
+    let lists = c .before .before .before .before in
+    let lent = lists .before .before .before in
+    let moved = lent .before .before .before in
     let read = moved .before .before .before .before in
     let put = c .before .store .ensures in
     stepped _ _ _ _ _ _ _ _ _ _ _ _ _ _ _
