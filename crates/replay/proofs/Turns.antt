@@ -11,7 +11,7 @@ use lib.ListN.{length, set, drop, replicate}
 use borrow.Author.Tests.{leb-true, leb-false, le-leb, lt-leb}
 use Rattle.model.specs.declared.Record.{Record}
 use Rattle.model.specs.declared.Op.{Op}
-use Rattle.model.specs.Tables.{Tables, idle, zeroed}
+use Rattle.model.specs.Tables.{Tables, tablesOf, idle, zeroed}
 use Rattle.model.specs.Refusals.{Lent}
 use Rattle.model.specs.Calls.{Acted, openQueue, actOn}
 use Rattle.table.specs.declared.Acted.{Acted as Moved}
@@ -36,7 +36,7 @@ put-fits out out′ to to′ l h p = rw (le-leb (to + 128) (length out) h) at p
 pub turn-made : (q : Tables) (p : Lent) (r : Record) (task : ℕ) (op : Op) (event : ℕ) (out out′ : List ℕ) (to : ℕ) (m : Moved) (t : Turn) (lefts rights labels marks : List ℕ)
     → _≡_ {A = Acted}
     (record {
-      tables = record { control = m .control; lefts = lefts; rights = rights; labels = labels; marks = marks };
+      tables = tablesOf (m .control) lefts rights labels marks;
       task = m .task;
       outcome = m .outcome;
     })
@@ -45,7 +45,7 @@ pub turn-made : (q : Tables) (p : Lent) (r : Record) (task : ℕ) (op : Op) (eve
     → Put out out′ to (t .to) (lineOf event (Act task op (m .outcome)) (m .control .anchor))
     → _≡_ {A = Turned}
     (record {
-      tables = record { control = t .control; lefts = lefts; rights = rights; labels = labels; marks = marks };
+      tables = tablesOf (t .control) lefts rights labels marks;
       task = t .task;
       out = out′;
       to = t .to;

@@ -8,7 +8,7 @@ use lib.Dec.{leb}
 use mathlib.Core.Bool.{cond}
 use Rattle.model.specs.declared.Record.{Record}
 use Rattle.model.specs.declared.Op.{Op}
-use Rattle.model.specs.Tables.{Tables}
+use Rattle.model.specs.Tables.{Tables, queueOf}
 use Rattle.model.specs.Refusals.{Lent}
 use Rattle.model.specs.Calls.{actOn}
 use Rattle.runfile.specs.declared.line.Line.the-variants.{Act}
@@ -32,7 +32,7 @@ pub record Page : Type 0 where
 abbrev pub pageOf : RunState → List ℕ → List ℕ → List ℕ → List ℕ → List ℕ → List ℕ → Page
 pageOf s out rows lefts rights labels marks = record {
   run = record {
-    queue = record { tables = record { control = s .control; lefts = lefts; rights = rights; labels = labels; marks = marks }; records = rowsOf 16 rows };
+    queue = queueOf (s .control) (rowsOf 16 rows) lefts rights labels marks;
     opened = s .opened;
     over = s .over;
     event = s .event;

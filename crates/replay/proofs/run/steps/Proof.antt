@@ -9,6 +9,7 @@ use lib.Seq.{slice}
 use Rattle.model.specs.declared.Control.{Control}
 use Rattle.model.specs.declared.Record.{Record}
 use Rattle.replay.specs.Run.{stepsOf}
+use Rattle.model.specs.Tables.{queueOf}
 use Rattle.replay.specs.Rows.{rowsOf}
 use Rattle.replay.specs.Page.{Page, operates}
 use Rattle.replay.specs.declared.run.RunState.{RunState}
@@ -20,7 +21,7 @@ use Rattle.replay.proofs.run.steps.Tie as tie
 abbrev page : RunState → Control → List Record → ℕ → ℕ → List ℕ → List ℕ → List ℕ → List ℕ → List ℕ → Page
 page s c records event to out lefts rights labels marks = record {
   run = record {
-    queue = record { tables = record { control = c; lefts = lefts; rights = rights; labels = labels; marks = marks }; records = records };
+    queue = queueOf c records lefts rights labels marks;
     opened = s .opened;
     over = s .over;
     event = event;
