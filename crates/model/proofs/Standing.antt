@@ -12,9 +12,9 @@ use Rattle.model.specs.declared.Reported.the-variants as reported
 use Rattle.model.specs.Tables.{Queue}
 use Rattle.model.specs.Sound.{controlSound}
 use Rattle.model.specs.Walk.{contents, entries}
-use Rattle.model.specs.Refusals.{openRefusal, reportRefusal}
+use Rattle.model.specs.Refusals.{openRefusal, recordsFit, reportRefusal}
 use Rattle.model.specs.Calls.{act, openQueue, opened}
-use Rattle.model.specs.Report.{report, told, waiting}
+use Rattle.model.specs.Report.{busy, report, tell, told, waiting}
 use Rattle.model.specs.History.{AfterOpening, Reports, Request, final, ledger, run}
 use Rattle.model.proofs.tests.Truth.{split}
 use Rattle.model.proofs.laws.Sizes.{act-fits, fits, open-fits}
@@ -51,13 +51,13 @@ standing q tasks slots tag e os = split (eqb (openRefusal q tasks slots) 0)
     (λ z. rw z (stands q tasks slots tag (eqb-true _ _ z) os))
     (λ z. absurd (let h : Refused (openRefusal q tasks slots) ≡ Opened = rw z at e in let w : _≡_ {A = ℕ} 0 1 = cc in omega arith))
 
--- The report's rules, none of which applies.
-report-none : (q : Queue) (d : List Entry) → Standing q d → reportRefusal q ≡ 0
+-- No rule of the report applies.
+report-none : (q : Queue) (d : List Entry) → Standing q d → reportRefusal (q .tables) (recordsFit (q .tables .control .tasks) q) ≡ 0
 unfolding reportRefusal
 report-none q d s = rw (s .control, s .long, s .walk)
 
-report-told : (q : Queue) (d : List Entry) → Standing q d → report q ≡ reported.Told (told q)
-unfolding report
+report-told : (q : Queue) (d : List Entry) → Standing q d → report q ≡ reported.Told (told (q .tables) (busy q))
+unfolding report tell
 report-told q d s = rw (report-none q d s)
 
 -- Waiting is the length of the sequential deque's queue, and the report is never refused.
@@ -66,4 +66,4 @@ unfolding waiting
 reports q tasks slots tag e os =
     let s = standing q tasks slots tag e os in
     let after = final (openQueue q tasks slots tag .queue) os in
-    record { tells = told after; is = report-told after _ s; waiting = rw (s .walk) }
+    record { tells = told (after .tables) (busy after); is = report-told after _ s; waiting = rw (s .walk) }

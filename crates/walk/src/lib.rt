@@ -5,6 +5,7 @@ use word::Link;
 ghost use mathlib.Core.Path.{_≡_};
 ghost use mathlib.Core.List.{List};
 ghost use Prim.Native.Nat.{ℕ};
+ghost use Rattle.model.specs.Tables.{tablesOf};
 ghost use Rattle.model.specs.Walk.{along, contents};
 ghost use Rattle.walk.specs.Counted.{counted};
 
@@ -43,13 +44,7 @@ fn count(slots: u64, links: &[u64], last: u64, first: u64) -> Tally
 /// From the right end along Left links, or, under LPUSH, from the left end along Right links.
 pub fn waiting(c: Control, lefts: &[u64], rights: &[u64]) -> Tally
     ensures { λ r.
-        ⌜ ((labels marks : List ℕ) → r ≡ counted (contents (record {
-          control = c;
-          lefts = now (lefts .entry);
-          rights = now (rights .entry);
-          labels = labels;
-          marks = marks;
-        }))) ⌝ }
+        ⌜ ((labels marks : List ℕ) → r ≡ counted (contents (tablesOf c (now (lefts .entry)) (now (rights .entry)) labels marks))) ⌝ }
 {
     let a = Anchor::unpack(c.anchor);
     if (a.left == 0) & (a.right == 0) {

@@ -7,7 +7,7 @@ use lib.Dec.{eqb}
 use borrow.Author.Tests.{eq-eqb, ne-eqb}
 use Rattle.word.specs.declared.Anchor.{Anchor}
 use Rattle.word.specs.Anchor.{anchorOf}
-use Rattle.model.specs.Tables.{Tables, isEmpty}
+use Rattle.model.specs.Tables.{Tables, isEmpty, tablesOf}
 use Rattle.model.specs.Walk.{along}
 use Rattle.walk.specs.declared.Tally.{Tally}
 use Rattle.walk.specs.Counted.{counted}
@@ -20,7 +20,7 @@ use Rattle.walk.proofs.waiting.Tie as tie
 abbrev tables : tie.After-unpack → List ℕ → List ℕ → Tables
 tables u labels marks =
     let a = u .before .before .before .args in
-    record { control = a .c; lefts = a .lefts .now; rights = a .rights .now; labels = labels; marks = marks }
+    tablesOf (a .c) (a .lefts .now) (a .rights .now) labels marks
 
 -- The walk along some links of them, with the Anchor as unpacked.
 abbrev found : tie.After-unpack → List ℕ → List ℕ → (Anchor → ℕ) → (Anchor → ℕ) → Anchor → Tally
