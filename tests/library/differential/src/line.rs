@@ -56,7 +56,11 @@ fn link(scene: &mut Scene, slot: u64) -> &mut u64 {
 
 /// A damage on the way, before the other end: `edit` makes the link word of the slot at a place of
 /// the walk, which has two slots or more.
-pub fn lead_astray(scene: &mut Scene, dice: &mut Dice, edit: fn(u64, &[u64], &mut Dice, u64) -> u64) {
+pub fn lead_astray(
+    scene: &mut Scene,
+    dice: &mut Dice,
+    edit: fn(u64, &[u64], &mut Dice, u64) -> u64,
+) {
     let order = line_up(scene, dice, 2);
     let at = dice.between(0, order.len() as u64 - 2) as usize;
     let slots = scene.slots;
