@@ -44,7 +44,7 @@ module _ (q : Queue) (tasks slots tag : ℕ) where
     open-cost : (t : ℕ) → cost (stateOf o .task t) ≤ 0
     open-cost t = let z = ap (λ (p : M.Place). cond (spent p (stateOf o .task t .finishing)) 0 (owes (stateOf o .task t .kind))) (all-idle q tasks slots tag t) in omega arith
 
-    open-safe : Safe o
+    pub open-safe : Safe o
     unfolding view opened
     open-safe = record {
       control = open-control;

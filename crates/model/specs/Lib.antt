@@ -9,3 +9,4 @@ pub mod Report
 pub mod History
 pub mod OneTouch
 pub mod Mirror
+pub mod Progress
