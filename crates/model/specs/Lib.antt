@@ -4,9 +4,11 @@ pub mod Places
 pub mod Route
 pub mod Refusals
 pub mod Calls
+pub mod Ends
 pub mod Deque
 pub mod Report
 pub mod History
 pub mod OneTouch
 pub mod Mirror
+pub mod Solo
 pub mod Progress

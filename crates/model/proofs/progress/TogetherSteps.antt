@@ -11,7 +11,8 @@ use borrow.Author.Tests.{eqb-true}
 use Rattle.model.specs.Calls.{Acted, Done, act, actOn, back, finish, popStart, pushStart, step, taken}
 use Rattle.model.specs.History.{Event, Ledger, Request, isEffect, run}
 use Rattle.model.specs.Places.{linkMet, move}
-use Rattle.model.specs.Progress.{any, isFinal, stepping, steps, stretchLimit, tells, tellsBy}
+use Rattle.model.specs.Ends.{answerEnds}
+use Rattle.model.specs.Progress.{any, stepping, steps, stretchLimit, tells, tellsBy}
 use Rattle.model.specs.Refusals.{among, popRefusal, pushRefusal, stepRefusal}
 use Rattle.model.specs.Tables.{Queue, Tables, idle, recordAt, started}
 use Rattle.model.specs.declared.Answer.the-variants.{Empty, Popped, Pushed, Running}
@@ -64,7 +65,7 @@ neither : (a b : Bool) → a || b ≡ false → (a ≡ false) × (b ≡ false)
 neither true b e = absurd (not-both refl e)
 neither false b e = (refl, e)
 
-runs-on : (a : Answer) → isFinal a ≡ false → answerSeen a ≡ M.running
+runs-on : (a : Answer) → answerEnds a ≡ false → answerSeen a ≡ M.running
 runs-on (Running p) e = refl
 runs-on Pushed e = absurd (not-both refl e)
 runs-on Empty e = absurd (not-both refl e)
@@ -136,7 +137,7 @@ module _ (n : ℕ) (q : Queue) (l : Ledger) (g : Matched n q l) (t : ℕ) where
     step-all : tellsBy ev Step (Moved a) ≡ false → suc (all tasks (stateOf q′)) ≤ all tasks (stateOf q)
     unfolding stateOf view
     step-all z =
-        let w = neither (isEffect ev a) (isFinal a) z in
+        let w = neither (isEffect ev a) (answerEnds a) z in
         let is = state-is q (g .book) (g .inv) (g .links) t s in
         let silent : Silent (view G) (seenMove G r) =
         (runs-on a (w .1), ap (λ (x : M.State). effect (view G .anchor) (x .shared .anchor) (answerSeen a)) (sym is) ∙ effect-is ev a ∙ w .0) in
