@@ -133,9 +133,10 @@ fn history(tally: &mut Tally, dice: &mut Dice, taken: &mut BTreeSet<Line>, calls
         if told.code() == 34 {
             return false; // never after an opening and engine calls alone
         }
-        if let (Call::Run { most, .. }, Some(record)) = (call, record) {
+        if let (Call::Run { task, most }, Some(record)) = (call, record) {
             let enough = if record.kind == PUSH { PUSH_STEPS } else { POP_STEPS };
-            if record.place != 0 && most >= enough && !(2..=4).contains(&told.code()) {
+            let busy = (task as u64) < ours.control.tasks && record.place != 0;
+            if busy && most >= enough && !(2..=4).contains(&told.code()) {
                 println!("{enough} steps alone were not enough: {told:?}");
                 return false;
             }
