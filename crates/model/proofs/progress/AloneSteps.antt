@@ -86,12 +86,15 @@ module _ (n : ℕ) (q : Queue) (l : Ledger) (g : Matched n q l) (f : Safe q) (ta
 
   still : answerSeen a ≡ M.running → r′ .place ≢ 0
   unfolding recOf
-  still e p = not-both (ap (λ (v : ℕ). M.isIdle (placeOf v)) p) (subst (λ (w : M.Answer). EndsAt w (M.isIdle (placeOf (r′ .place)))) e (step-ends q (g .book) (g .inv) (g .links) t (stepping n q l g f t z (b .place)) .ends))
+  still e p = not-both (ap (λ (v : ℕ). M.isIdle (placeOf v)) p)
+      (subst (λ (w : M.Answer). EndsAt w (M.isIdle (placeOf (r′ .place)))) e
+      (step-ends q (g .book) (g .inv) (g .links) t (stepping n q l g f t z (b .place)) .ends))
 
   -- A record gone on keeps its kind.
   same-kind : r′ .place ≢ 0 → r′ .kind ≡ r .kind
   unfolding goes
-  same-kind = by-test (λ (x : Record). x .place ≢ 0 → x .kind ≡ r .kind) (leb (next r m) 11) (λ _ _. keeps n q l g f t z (b .place) .kind) (λ _ e. absurd (e refl))
+  same-kind = by-test (λ (x : Record). x .place ≢ 0 → x .kind ≡ r .kind) (leb (next r m) 11) (λ _ _. keeps n q l g f t z (b .place) .kind)
+      (λ _ e. absurd (e refl))
 
   nearer : answerSeen a ≡ M.running → aloneOf k t (stateOf q′) < aloneOf k t (stateOf q)
   unfolding stateOf

@@ -40,12 +40,15 @@ SameSize g a = (a .tables .control .tasks ≡ g .control .tasks) × (a .tables .
 
 same-size : (q : Queue) (t : ℕ) (o : Op) → SameSize (q .tables) (actOn (q .tables) (among q t) (recordAt q t) o)
 unfolding actOn pushStart popStart step finish
-same-size q t (Push side x y) = by-test (SameSize (q .tables)) (eqb (pushRefusal (q .tables) (among q t) (recordAt q t) side x) 0) (λ _. (refl, refl)) (λ _. (refl, refl))
-same-size q t (Pop side) = by-test (SameSize (q .tables)) (eqb (popRefusal (q .tables) (among q t) (recordAt q t) side) 0) (λ _. (refl, refl)) (λ _. (refl, refl))
+same-size q t (Push side x y) = by-test (SameSize (q .tables)) (eqb (pushRefusal (q .tables) (among q t) (recordAt q t) side x) 0) (λ _. (refl, refl))
+    (λ _. (refl, refl))
+same-size q t (Pop side) = by-test (SameSize (q .tables)) (eqb (popRefusal (q .tables) (among q t) (recordAt q t) side) 0) (λ _. (refl, refl))
+    (λ _. (refl, refl))
 same-size q t Step =
     let m = move (q .tables .control) (recordAt q t) (linkMet (q .tables) (recordAt q t)) in
     let g = withRetries (q .tables) (counted (q .tables .control .retries) (m .failed)) in
-    by-test (SameSize (q .tables)) (eqb (stepRefusal (q .tables) (among q t) (recordAt q t)) 0) (λ _. (touched-tasks (m .touch) g, touched-slots (m .touch) g)) (λ _. (refl, refl))
+    by-test (SameSize (q .tables)) (eqb (stepRefusal (q .tables) (among q t) (recordAt q t)) 0)
+    (λ _. (touched-tasks (m .touch) g, touched-slots (m .touch) g)) (λ _. (refl, refl))
 
 pub act-roomy : (n : ℕ) (q : Queue) (t : ℕ) (o : Op) → Roomy n q → Roomy n (act q t o .queue)
 unfolding act
@@ -100,7 +103,8 @@ module _ (n : ℕ) (q : Queue) (l : Ledger) (g : Matched n q l) (f : Safe q) (ta
 
   fits : rowsFit (G .control .slots) G && among q t .enough ≡ true
   unfolding rowsFit
-  fits = and-of (passes (rowTests (G .control .slots) G) (lt-ltb _ _ (y .rows .lefts) and lt-ltb _ _ (y .rows .rights) and lt-ltb _ _ (y .rows .labels) and lt-ltb _ _ (y .rows .marks) and tt))
+  fits = and-of (passes (rowTests (G .control .slots) G)
+      (lt-ltb _ _ (y .rows .lefts) and lt-ltb _ _ (y .rows .rights) and lt-ltb _ _ (y .rows .labels) and lt-ltb _ _ (y .rows .marks) and tt))
       (le-leb _ _ (lies .length))
 
   -- A rule that asks for the opposite of what holds.
