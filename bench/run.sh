@@ -1,8 +1,7 @@
 #!/bin/bash
 # The library's step against the same step by hand in C, and against the bare algorithm.
 #
-#     bench/run.sh [FOLDER]         of libcapi.a and libcapi_record.a; default: target/staticlib,
-#                                   where `rt staticlib capi` and `rt staticlib capi_record` write them
+#     bench/run.sh [FOLDER]         of libzeppolecape.a; default: target/lib, where `make` writes it
 #     bench/run.sh --stand-in       reference.c in the library's place: all ratios should be 1
 #
 # CC (gcc), OPT (-O3), STEPS (100000), TIMES (150) may be set.
@@ -19,25 +18,23 @@ WARNINGS="-std=gnu11 -Wall -Wextra -Werror"
 work=$(mktemp -d)
 trap 'rm -rf "$work"' EXIT
 
-folder=${1:-../target/staticlib}
+folder=${1:-../target/lib}
 if [ "$folder" = --stand-in ]; then
     $CC $WARNINGS $OPT -DAS_LIBRARY -I../include -c reference.c -o "$work/library.o"
-    archives=("$work/library.o") # all calls are in one
+    archive=$work/library.o
 else
     [ $# -eq 0 ] || folder=$(cd "$OLDPWD" && realpath "$folder")
-    archives=("$folder/libcapi.a" "$folder/libcapi_record.a")
-    for archive in "${archives[@]}"; do
-        if [ ! -f "$archive" ]; then
-            echo "bench: no archive $archive; build it with: rt staticlib $(basename "${archive%.a}" | sed s/^lib//)" >&2
-            exit 2
-        fi
-    done
+    archive=$folder/libzeppolecape.a
+    if [ ! -f "$archive" ]; then
+        echo "bench: no $archive; build it with: make" >&2
+        exit 2
+    fi
 fi
 
 for source in main reference bare; do
     $CC $WARNINGS $OPT -I../include -c $source.c -o "$work/$source.o"
 done
-$CC "$work"/{main,reference,bare}.o "${archives[@]}" -o "$work/bench"
+$CC "$work"/{main,reference,bare}.o "$archive" -o "$work/bench"
 
 # Instructions of a whole replay by callgrind; nothing if it cannot tell.
 instructions() { # ENGINE TASKS SLOTS

@@ -7,7 +7,7 @@ set -u -o pipefail
 
 [ $# -ge 1 ] || { sed -n '2,5s/^# //p' "$0" >&2; exit 2; }
 root=$(cd "$(dirname "$0")/.." && pwd)
-release=${CARGO_TARGET_DIR:-$root/target/reference}/release
+release=${CARGO_TARGET_DIR:-$root/target/cargo}/release
 program=$1
 shift
 streams=() # all of its checks
@@ -50,16 +50,12 @@ part() {
     fi
 }
 
-in_reference() {
-    (cd tests/reference && "$@")
-}
-
-if ! in_reference cargo build --release --offline --locked; then
+if ! cargo build --release --offline --locked -p reference; then
     echo "FAILED the reference does not build"
     echo "0 passed, 1 failed"
     exit 1
 fi
-part "reference" in_reference cargo test --release --offline --locked --quiet
+part "reference" cargo test --release --offline --locked --quiet -p reference
 part "runfile" tests/runfile.sh
 part "cases" tests/cases.sh "$program"
 part "examples" tests/examples.sh "$program"

@@ -8,7 +8,7 @@ set -u
 program=$1
 shift
 . "$(dirname "$0")/verdict.sh"
-release=${CARGO_TARGET_DIR:-$root/target/reference}/release
+release=${CARGO_TARGET_DIR:-$root/target/cargo}/release
 run=$scratch/run trace=$scratch/trace noise=$scratch/noise expected=$scratch/expected
 
 # The program with a limit of time, its standard error kept.

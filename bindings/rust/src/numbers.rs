@@ -1,0 +1,181 @@
+//! Limits, sides, answers, refusals, and words taken apart.
+
+use crate::raw;
+use core::fmt;
+
+/// The most tasks of a queue.
+pub const MOST_TASKS: u64 = 16;
+/// The most slots of a queue.
+pub const MOST_SLOTS: u64 = 1_023;
+/// With a higher Anchor tag a start is refused [`Refusal::Worn`].
+pub const LAST_START_TAG: u64 = 4_294_967_262;
+/// Where the count of retries stays.
+pub const MOST_RETRIES: u64 = 4_294_967_295;
+
+/// The most steps that a busy task needs to its answer when it is stepped alone (a pop: 13).
+pub const MOST_ALONE: u32 = 18;
+
+/// Entries of `lefts`, `rights` and `labels`.
+pub const fn rows(slots: u64) -> usize {
+    slots as usize + 1
+}
+
+/// Entries of `marks`: bit n mod 64 of word n div 64 is set while slot n is taken.
+pub const fn mark_words(slots: u64) -> usize {
+    slots as usize / 64 + 1
+}
+
+/// An end of the queue.
+#[derive(Clone, Copy, Debug, PartialEq, Eq)]
+pub enum Side {
+    /// The left end.
+    Left = raw::LEFT as isize,
+    /// The right end.
+    Right = raw::RIGHT as isize,
+}
+
+/// What a start or step answers when it is carried out; a start is running at place 1.
+#[derive(Clone, Copy, Debug, PartialEq, Eq)]
+pub enum Answer {
+    /// With the place of the next step.
+    Running(u64),
+    /// The push is answered.
+    Pushed,
+    /// The pop is answered: nothing was waiting.
+    Empty,
+    /// The pop is answered.
+    Popped {
+        /// The slot, free again.
+        slot: u64,
+        /// Its label.
+        label: u32,
+    },
+}
+
+/// Why a call was refused, with its number. Every table kept its contents.
+#[derive(Clone, Copy, Debug, PartialEq, Eq)]
+pub enum Refusal {
+    /// Tasks not 1 to 16.
+    BadTasks = 10,
+    /// Slots not 1 to 1,023.
+    BadSlots = 11,
+    /// A lent table is too short.
+    Short = 12,
+    /// No such task.
+    NoTask = 13,
+    /// Side not 0 or 1.
+    NoSide = 14,
+    /// Slot not 1 to slots.
+    NoSlot = 15,
+    /// A start for a task that is busy.
+    Busy = 30,
+    /// A step of a task that is idle.
+    Idle = 31,
+    /// A push into a slot that is taken.
+    Taken = 32,
+    /// A start with the Anchor tag above [`LAST_START_TAG`]; see [`Queue::renew`](crate::Queue::renew).
+    Worn = 33,
+    /// The tables contradict each other: somebody else wrote there.
+    Unsound = 34,
+}
+
+impl Refusal {
+    /// Its number.
+    pub fn number(self) -> u32 {
+        self as u32
+    }
+
+    /// The refusal with a number.
+    pub fn numbered(number: u64) -> Option<Refusal> {
+        use Refusal::*;
+        [BadTasks, BadSlots, Short, NoTask, NoSide, NoSlot, Busy, Idle, Taken, Worn, Unsound]
+            .iter()
+            .copied()
+            .find(|refusal| u64::from(refusal.number()) == number)
+    }
+
+    /// The refusal that the library answered.
+    pub(crate) fn answered(number: u64) -> Refusal {
+        Refusal::numbered(number).unwrap_or_else(|| panic!("the library answered code {number}"))
+    }
+}
+
+impl fmt::Display for Refusal {
+    fn fmt(&self, out: &mut fmt::Formatter<'_>) -> fmt::Result {
+        let text = match self {
+            Refusal::BadTasks => "tasks not 1 to 16",
+            Refusal::BadSlots => "slots not 1 to 1,023",
+            Refusal::Short => "a lent table is too short",
+            Refusal::NoTask => "no such task",
+            Refusal::NoSide => "side not 0 or 1",
+            Refusal::NoSlot => "slot not 1 to slots",
+            Refusal::Busy => "the task is busy",
+            Refusal::Idle => "the task is idle",
+            Refusal::Taken => "the slot is taken",
+            Refusal::Worn => "the Anchor tag is too high for another start",
+            Refusal::Unsound => "the tables are unsound",
+        };
+        write!(out, "{}: {text}", self.number())
+    }
+}
+
+impl core::error::Error for Refusal {}
+
+/// A reply as a result.
+pub(crate) fn outcome(reply: raw::Reply) -> Result<Answer, Refusal> {
+    match reply.code {
+        raw::RUNNING => Ok(Answer::Running(reply.value)),
+        raw::PUSHED => Ok(Answer::Pushed),
+        raw::EMPTY => Ok(Answer::Empty),
+        raw::POPPED => Ok(Answer::Popped { slot: reply.value, label: reply.label }),
+        number => Err(Refusal::answered(u64::from(number))),
+    }
+}
+
+/// An Anchor word taken apart. Status 0 is STABLE, 1 RPUSH, 2 LPUSH; end 0 is null.
+#[derive(Clone, Copy, Debug, PartialEq, Eq)]
+pub struct Anchor {
+    /// Raised by one with each change.
+    pub tag: u64,
+    /// [`raw::STABLE`], [`raw::RPUSH`] or [`raw::LPUSH`].
+    pub status: u64,
+    /// The slot of the leftmost label.
+    pub left: u64,
+    /// The slot of the rightmost label.
+    pub right: u64,
+}
+
+impl Anchor {
+    /// The fields of a word.
+    pub fn of(word: u64) -> Anchor {
+        Anchor {
+            tag: word >> 32,
+            status: word >> 30 & 3,
+            left: word >> 15 & 0x7fff,
+            right: word & 0x7fff,
+        }
+    }
+}
+
+/// The slot that a link word names.
+pub fn link_slot(word: u64) -> u64 {
+    word & 0x7fff
+}
+
+/// The tag of a link word.
+pub fn link_tag(word: u64) -> u64 {
+    word >> 32
+}
+
+/// What a report tells.
+#[derive(Clone, Copy, Debug, PartialEq, Eq)]
+pub struct Report {
+    /// Anchor's fields.
+    pub anchor: Anchor,
+    /// Tasks with a call under way.
+    pub busy: u64,
+    /// Changes that failed because another task was faster.
+    pub retries: u64,
+    /// Marks set for slots 1 to slots, half-done calls included.
+    pub waiting: u64,
+}
