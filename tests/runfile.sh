@@ -11,10 +11,10 @@ becomes() {
     verdict "$1" "$2" "$(od -An -v -tx1 "$scratch/run" | tr -d ' \n')"
 }
 
-# A text must be refused: status 1, nothing written, this message.
+# A text must be refused: status 1, this message, and the bytes of the lines before, if any.
 refuses() {
     printf '%s\n' "$1" | "$root/tools/runfile" > "$scratch/run" 2> "$scratch/message"
-    verdict "$1" "1 0 standard input:$2" "$? $(wc -c < "$scratch/run") $(cat "$scratch/message")"
+    verdict "$1" "1 standard input:$2 ${3-}" "$? $(cat "$scratch/message") $(od -An -v -tx1 "$scratch/run" | tr -d ' \n')"
 }
 
 # A call with this argument, the text "pop 1 left" on standard input: status, message, bytes.
@@ -46,12 +46,12 @@ refuses 'open 1 1' '1: open takes 3 words, found 2'
 refuses 'open 256 1 0' '1: tasks is above 255: 256'
 refuses 'open 1 65536 0' '1: slots is above 65535: 65536'
 refuses 'open 1 1 4294967296' '1: first tag is above 4294967295: 4294967296'
-refuses $'open 1 1 0\n\n# here\npush 0 up 1 1' '4: side is not left, right or a number: up'
+refuses $'open 1 1 0\n\n# here\npush 0 up 1 1' '4: side is not left, right or a number: up' 01000701000100000000
 refuses 'push 0 256 1 1' '1: side is above 255: 256'
 refuses 'push 0 left 65536 1' '1: slot is above 65535: 65536'
 refuses 'push 0 left 1 -1' '1: label is not a number: -1'
 refuses 'pop 0' '1: pop takes 2 words, found 1'
-refuses $'step 0\nstep 0*2*2' '2: not TASK or TASK*COUNT: 0*2*2'
+refuses $'step 0\nstep 0*2*2' '2: not TASK or TASK*COUNT: 0*2*2' 04000100
 refuses 'step *3' '1: task is missing before *: *3'
 refuses 'step 1 0*' '1: count is missing after *: 0*'
 refuses 'step *' '1: task is missing before *: *'
@@ -61,12 +61,23 @@ refuses 'raw 123' '1: not whole hexadecimal bytes: 123'
 refuses 'raw xy' '1: not whole hexadecimal bytes: xy'
 refuses 'raw' '1: raw takes hexadecimal bytes'
 refuses 'jump 1' '1: unknown operation: jump'
+refuses 'step 7*4097 256' '1: task is above 255: 256'
+refuses 'raw 00 1' '1: not whole hexadecimal bytes: 1'
+refuses $'\e[2Jst\xc3\xa9p\\ 1' '1: unknown operation: \033[2Jst\303\251p\134'
+refuses $'pop 1 \a' '1: side is not left, right or a number: \007'
 
 called - '0  0300020100'
 called "$scratch/nofile" "1 tools/runfile: cannot open $scratch/nofile "
 called "$scratch" "1 tools/runfile: cannot open $scratch "
 called '' '1 tools/runfile: cannot open  '
+called $'\e[1mname' '1 tools/runfile: cannot open \033[1mname '
 printf 'jump\n' > "$scratch/bad.txt"
 called "$scratch/bad.txt" "1 $scratch/bad.txt:1: unknown operation: jump "
+
+# A text that is longer, and makes more bytes, than there is memory.
+verdict "half a million lines in 10 MB of memory" "2500000 0" "$(yes 'pop 1 left' | head -n 500000 |
+    (ulimit -v 10240; "$root/tools/runfile"; echo $? > "$scratch/status") | wc -c) $(cat "$scratch/status")"
+"$root/tools/runfile" "$root/tests/cases/worked_example.txt" > /dev/full 2> "$scratch/message"
+verdict "a full device as output" refused "$([ $? -ne 0 ] && [ -s "$scratch/message" ] && echo refused)"
 
 summary

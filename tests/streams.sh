@@ -1,7 +1,7 @@
 #!/usr/bin/env bash
-# The program at its standard streams: what it says when one fails, a slow pipe, a long run in
-# little memory, the longest steps field.
-# usage: tests/streams.sh PROGRAM [CHECK ..]   of: failures pieces memory lengths; else all
+# The program at its standard streams: what it says when one fails or it is given arguments, a slow
+# pipe, a long run in little memory, the longest steps field.
+# usage: tests/streams.sh PROGRAM [CHECK ..]   of: arguments failures pieces memory lengths; else all
 set -u
 
 [ $# -ge 1 ] && [ -x "$1" ] || { sed -n '4s/^# //p' "$0" >&2; exit 2; }
@@ -27,6 +27,30 @@ complains() { # WHAT STATUS WORDS
 # Where nothing is in its way: status, noise, and whether the trace is the expected one.
 is_right() { # WHAT STATUS
     verdict "$1" "0  same" "$2 $(cat "$noise") $(cmp "$expected" "$trace" 2>&1 && echo same)"
+}
+
+# Help is asked for on standard output, any other argument is refused on standard error; tools/trace
+# gives a status to what the program complains of.
+arguments() {
+    local words
+    "$program" --help > "$trace" 2> "$noise" < /dev/null
+    verdict "--help" "usage: trace < RUNFILE > TRACE " "$(head -n 1 "$trace") $(cat "$noise")"
+    for words in -h --helper "'' --help" "--help --help" run.txt; do
+        eval "\"\$program\" $words" > "$trace" 2> "$noise" < /dev/null
+        verdict "arguments $words" "usage: trace < RUNFILE > TRACE " "$(head -n 1 "$noise") $(cat "$trace")"
+    done
+    export TRACE=$program
+    "$root/tools/runfile" "$root/tests/cases/worked_example.txt" > "$run"
+    "$root/tools/trace" < "$run" > "$trace" 2> "$noise"
+    verdict "tools/trace" "0  same" "$? $(cat "$noise") $(cmp "$trace" "$root/tests/cases/worked_example.trace" && echo same)"
+    "$root/tools/trace" --help > "$trace"
+    verdict "tools/trace --help: status" 0 $?
+    "$root/tools/trace" run.txt 2> "$noise" < /dev/null
+    verdict "tools/trace run.txt: status" 1 $?
+    "$root/tools/trace" < "$run" > /dev/full 2> "$noise"
+    verdict "tools/trace and a full device: status and noise" "1 trace: cannot write" "$? $(cat "$noise")"
+    "$root/tools/trace" < "$scratch" > "$trace" 2> "$noise"
+    verdict "tools/trace and a folder as input: status and noise" "1 trace: cannot read" "$? $(cat "$noise")"
 }
 
 # A read that failed is no end of the run: no event is told, and no malformed file.
@@ -113,11 +137,11 @@ lengths() {
         "$(wc -l < "$trace") $(tail -n 2 "$trace" | paste -sd ' ')"
 }
 
-[ $# -gt 0 ] || set -- failures pieces memory lengths
+[ $# -gt 0 ] || set -- arguments failures pieces memory lengths
 for check in "$@"; do
     case $check in
-        failures | pieces | memory | lengths) "$check" ;;
-        *) verdict "a check of this script" "failures, pieces, memory or lengths" "$check" ;;
+        arguments | failures | pieces | memory | lengths) "$check" ;;
+        *) verdict "a check of this script" "arguments, failures, pieces, memory or lengths" "$check" ;;
     esac
 done
 
