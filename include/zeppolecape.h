@@ -51,6 +51,23 @@
  * 1 to 9 for what a call answers, 10 and above for a refusal (zc_is_refusal). A reply holds it in
  * 32 bits, a report in 64; a uint64_t takes either, and all the ZC_ names below compare with both.
  *
+ * FACTS, the most that bench/facts.sh saw over random calls; memset's instructions are not counted:
+ *                  stack,   instructions at most, by tasks and slots
+ *                  bytes      1, 3     5, 12  16, 1023
+ *   zc_open            88        92       122       178
+ *   zc_push           584       340       340       340
+ *   zc_pop            560       323       323       323
+ *   zc_step           160       245       245       245
+ *   zc_step_record    168       239       239       239
+ *   zc_report          72       149       293     11510
+ *   table bytes         -       192       664     21792
+ *   code bytes: capi 7207, capi_record 2662
+ * As to the machine: x86-64, System V calling convention. The code uses the red zone (128 bytes
+ * below the stack pointer) and SSE registers, no AVX: an interrupt handler that makes a call saves
+ * the SSE state first, and an interrupt that is not masked during a call leaves the red zone alone.
+ * A task stepped alone answers within 18 steps in a push and 13 in a pop, wherever the others
+ * stopped (ZC_MOST_ALONE); between other tasks' steps it may have to try again and again.
+ *
  * A REFUSAL is its number alone: every table keeps its contents. If several
  * numbers apply, the first in the order that stands with the call is answered.
  *

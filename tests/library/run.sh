@@ -4,13 +4,13 @@
 #     tests/library/run.sh [FOLDER]     of libzeppolecape.a; default: target/lib, where `make` writes it
 #     tests/library/run.sh --stand-in   bench/reference.c, the same calls by hand, in its place
 #
-# PARTS names what runs: header layout fence waiting bindings examples projects bench differential (all of them).
+# PARTS names what runs: header layout fence waiting bindings examples projects bench facts differential (all of them).
 # SEED and TIMES go to the differential test (1 and 1). BUILD keeps what is built there.
 set -u -o pipefail
 from=$PWD
 cd "$(dirname "$0")/../.."
 
-PARTS=${PARTS:-header layout fence waiting bindings examples projects bench differential}
+PARTS=${PARTS:-header layout fence waiting bindings examples projects bench facts differential}
 CC=${CC:-gcc}
 CXX=${CXX:-g++}
 WARNINGS="-Wall -Wextra -Wpedantic -Werror"
@@ -28,6 +28,7 @@ archive=$work/library/libzeppolecape.a
 rm -f "$archive"
 case ${1:-} in
 --stand-in)
+    PARTS=${PARTS/facts/} # which are the library's
     $CC -std=c11 -O2 $WARNINGS -DAS_LIBRARY -Iinclude -c bench/reference.c -o "$work/library.o" || exit 2
     ar rcs "$archive" "$work/library.o"
     ;;
@@ -187,6 +188,10 @@ part_bench() {
             holds "library, C and bare alike: $tasks tasks, $slots slots" "$work/bench" check $tasks $slots 100000
         done
     done
+}
+
+part_facts() {
+    counts "figures of bench/facts.txt" bench/facts.sh --check "$work/library"
 }
 
 part_differential() {
