@@ -4,13 +4,13 @@
 #     tests/library/run.sh [FOLDER]     of libzeppolecape.a; default: target/lib, where `make` writes it
 #     tests/library/run.sh --stand-in   bench/reference.c, the same calls by hand, in its place
 #
-# PARTS names what runs: header layout fence waiting bindings examples projects bench facts differential (all of them).
+# PARTS names what runs: header layout fence waiting helpers bindings examples projects bench facts differential (all of them).
 # SEED and TIMES go to the differential test (1 and 1). BUILD keeps what is built there.
 set -u -o pipefail
 from=$PWD
 cd "$(dirname "$0")/../.."
 
-PARTS=${PARTS:-header layout fence waiting bindings examples projects bench facts differential}
+PARTS=${PARTS:-header layout fence waiting helpers bindings examples projects bench facts differential}
 CC=${CC:-gcc}
 CXX=${CXX:-g++}
 WARNINGS="-Wall -Wextra -Wpedantic -Werror"
@@ -115,6 +115,11 @@ part_fence() {
 part_waiting() {
     holds "waiting.c compiles" $CC -std=c11 $WARNINGS -Iinclude tests/library/waiting.c "$archive" -o "$work/waiting"
     counts "the labels waiting" "$work/waiting"
+}
+
+part_helpers() {
+    holds "helpers.c compiles" $CC -std=c11 $WARNINGS -Iinclude tests/library/helpers.c "$archive" -o "$work/helpers"
+    counts "the header's helpers" "$work/helpers"
 }
 
 in_cargo() { # COMMAND OPTIONS..: on one package, its warnings errors
