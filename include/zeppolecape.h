@@ -104,6 +104,7 @@ extern "C" {
 #define ZC_MOST_SLOTS 1023
 #define ZC_LAST_START_TAG UINT64_C(4294967262) /* with a higher tag a start is refused 33 */
 #define ZC_MOST_RETRIES UINT64_C(4294967295)   /* where the count of retries stays */
+#define ZC_MOST_ALONE 18 /* steps of a push, stepped alone, to its answer; of a pop 13 */
 
 /* Entries of lefts, rights and labels: rows 0 to slots (row 0 is null's and stays unused). */
 #define ZC_ROWS(slots) ((size_t)(slots) + 1)
@@ -518,7 +519,6 @@ static inline size_t zc_queue_waiting(const zc_queue *queue, uint64_t *slots, si
  * (31) or the tables are not those of an open queue; running if it has not answered after
  * ZC_MOST_ALONE steps, which does not happen in a queue that was written by the calls alone.
  */
-#define ZC_MOST_ALONE 18 /* a push; a pop answers within 13 */
 static inline zc_reply zc_queue_finish(const zc_queue *queue, size_t task)
 {
     zc_reply reply = zc_queue_step(queue, task);

@@ -24,7 +24,7 @@ pub fn trace() -> PathBuf {
 pub struct Scratch(PathBuf);
 
 impl Scratch {
-    pub fn new() -> Scratch {
+    pub fn make() -> Scratch {
         static NUMBER: AtomicU32 = AtomicU32::new(0);
         let number = NUMBER.fetch_add(1, Ordering::Relaxed);
         let folder = env::temp_dir().join(format!("zeppolecape-{}-{number}", process::id()));
@@ -76,7 +76,7 @@ pub fn shell(line: &str, names: &[(&str, &Path)]) -> Said {
 
 /// A run in its text form through `tools/runfile` and the program; both must be content.
 pub fn run_text(text: &Path) -> Result<Vec<u8>, String> {
-    let scratch = Scratch::new();
+    let scratch = Scratch::make();
     let names = [("TEXT", text), ("RUN", &scratch.path("run"))];
     let made = shell("\"$ROOT/tools/runfile\" \"$TEXT\" > \"$RUN\"", &names);
     if (made.status, made.noise.as_str()) != (0, "") {

@@ -58,7 +58,7 @@ fn hex(bytes: &[u8]) -> String {
 
 /// What the tool makes of a text on standard input, with this argument if any.
 fn made_of(text: &str, argument: Option<&Path>) -> Said {
-    let scratch = Scratch::new();
+    let scratch = Scratch::make();
     let text = scratch.file("text", format!("{text}\n").as_bytes());
     match argument {
         Some(word) => {
@@ -118,7 +118,7 @@ fn arguments(checks: &mut Checks) {
     called("an empty name", "", 1, &cannot(""), "");
     called("an unprintable name", "\x1b[1mname", 1, &cannot("\\033[1mname"), "");
     checks.add("called with a file in error", || {
-        let scratch = Scratch::new();
+        let scratch = Scratch::make();
         let bad = scratch.file("bad.txt", b"jump\n");
         let said = made_of("", Some(&bad));
         same(

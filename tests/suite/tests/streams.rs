@@ -32,7 +32,7 @@ fn load(steps: usize) -> Vec<u8> {
 
 /// A line of shell in which `RUN` is a run file of 2,000 steps and `FOLDER` a folder.
 fn with_run(line: &str) -> Said {
-    let scratch = Scratch::new();
+    let scratch = Scratch::make();
     let run = scratch.file("run", &load(2_000));
     shell(line, &[("RUN", &run), ("FOLDER", &scratch.path(""))])
 }
@@ -119,7 +119,7 @@ fn failures(checks: &mut Checks) {
 /// The program reads what is there: nearly every piece before the next is written.
 fn in_pieces(seed: u64) -> Verdict {
     let file = scenario::of_seed(seed).1;
-    let scratch = Scratch::new();
+    let scratch = Scratch::make();
     let out = scratch.path("trace");
     let mut child = Command::new("timeout")
         .args(["60".as_ref(), trace().as_os_str()])
@@ -164,7 +164,7 @@ impl<R: Read> Write for Compared<R> {
 fn little_memory() -> Verdict {
     let file = load(14_500_000);
     same(true, file.len() > 20_000_000)?;
-    let scratch = Scratch::new();
+    let scratch = Scratch::make();
     let run_file = scratch.file("run", &file);
     let mut child = Command::new("bash")
         .args(["-c", r#"ulimit -v 16384; exec timeout 300 "$TRACE" < "$RUN""#])
@@ -184,7 +184,7 @@ fn little_memory() -> Verdict {
 fn lengths(checks: &mut Checks) {
     const NONE: &str = "0000000000000000";
     let carried_out = |text_of_run: String| {
-        let scratch = Scratch::new();
+        let scratch = Scratch::make();
         let run = scratch.file("run.txt", text_of_run.as_bytes());
         suite::run_text(Path::new(&run)).map(|trace| text(&trace))
     };
