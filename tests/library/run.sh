@@ -4,13 +4,15 @@
 #     tests/library/run.sh [FOLDER]     of libzeppolecape.a; default: target/lib, where `make` writes it
 #     tests/library/run.sh --stand-in   bench/reference.c, the same calls by hand, in its place
 #
-# PARTS names what runs: header layout fence waiting helpers bindings examples projects bench facts differential (all of them).
+# PARTS names what runs, all of it by default: header, a program NAME for each tests/library/NAME.c that has a main,
+# bindings examples projects bench facts differential.
 # SEED and TIMES go to the differential test (1 and 1). BUILD keeps what is built there.
 set -u -o pipefail
 from=$PWD
 cd "$(dirname "$0")/../.."
 
-PARTS=${PARTS:-header layout fence waiting helpers bindings examples projects bench facts differential}
+PROGRAMS=$(grep -l '^int main' tests/library/*.c | xargs -n 1 basename -s .c | tr '\n' ' ')
+PARTS=${PARTS:-header $PROGRAMS bindings examples projects bench facts differential}
 CC=${CC:-gcc}
 CXX=${CXX:-g++}
 WARNINGS="-Wall -Wextra -Wpedantic -Werror"
@@ -102,24 +104,10 @@ part_header() {
     done
 }
 
-part_layout() {
-    holds "layout.c compiles" $CC -std=c11 $WARNINGS -Iinclude tests/library/layout.c "$archive" -o "$work/layout"
-    counts "layout seen through the library" "$work/layout"
-}
-
-part_fence() {
-    holds "fence.c compiles" $CC -std=c11 $WARNINGS -Iinclude tests/library/fence.c "$archive" -o "$work/fence"
-    counts "nothing touched outside the counts" "$work/fence"
-}
-
-part_waiting() {
-    holds "waiting.c compiles" $CC -std=c11 $WARNINGS -Iinclude tests/library/waiting.c "$archive" -o "$work/waiting"
-    counts "the labels waiting" "$work/waiting"
-}
-
-part_helpers() {
-    holds "helpers.c compiles" $CC -std=c11 $WARNINGS -Iinclude tests/library/helpers.c "$archive" -o "$work/helpers"
-    counts "the header's helpers" "$work/helpers"
+# A test program in C that counts for itself.
+program() { # NAME
+    holds "$1.c compiles" $CC -std=c11 $WARNINGS -Iinclude "tests/library/$1.c" "$archive" -o "$work/$1"
+    counts "$1" "$work/$1"
 }
 
 in_cargo() { # COMMAND OPTIONS..: on one package, its warnings errors
@@ -205,7 +193,7 @@ part_differential() {
 }
 
 for part in $PARTS; do
-    "part_$part"
+    if [[ " $PROGRAMS " == *" $part "* ]]; then program "$part"; else "part_$part"; fi
 done
 echo "$passed passed, $failed failed"
 [ $failed -eq 0 ] && [ $passed -gt 0 ]
