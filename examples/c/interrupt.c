@@ -9,8 +9,8 @@
  *     make
  *     cc -Iinclude examples/c/interrupt.c target/lib/libzeppolecape.a -o interrupt && ./interrupt
  *
- * It ends by itself after three thousand signals, within a second on an idle machine and five on any. With -DUNMASKED it leaves the
- * masking out, to see labels lost.
+ * It ends by itself after three thousand signals, within a second on an idle machine and five on
+ * any. With -DUNMASKED it leaves the masking out, to see labels lost.
  */
 #define _XOPEN_SOURCE 700
 #include "zeppolecape.h"
