@@ -36,8 +36,8 @@ fn main() {
     }
     let archive = folder().join(ARCHIVE);
     if !archive.is_file() {
-        let how = if env::var_os(VARIABLE).is_some() { "named by" } else { "without" };
-        stop(&format!("there is no {} ({how} {VARIABLE})", archive.display()));
+        let how = if env::var_os(VARIABLE).is_some() { "names its folder" } else { "is not set" };
+        stop(&format!("there is no {} ({VARIABLE} {how})", archive.display()));
     }
     println!("cargo:rerun-if-changed={}", archive.display());
     println!("cargo:rustc-link-search=native={}", folder().display());

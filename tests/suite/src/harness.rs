@@ -1,6 +1,7 @@
 //! Named checks, and a main that runs those asked for.
 
 use std::fmt::Debug;
+use std::panic::{catch_unwind, AssertUnwindSafe};
 use std::process::ExitCode;
 
 /// Nothing to say, or what is wrong.
@@ -67,7 +68,7 @@ impl Checks {
 }
 
 fn passes(name: &str, check: &Check, quiet: bool) -> bool {
-    let verdict = check();
+    let verdict = catch_unwind(AssertUnwindSafe(check)).unwrap_or(Err("  it panicked".to_string()));
     match &verdict {
         Ok(()) if quiet => {}
         Ok(()) => println!("test {name} ... ok"),
