@@ -3,12 +3,13 @@
 //! [`Queue`] owns its tables. [`Tables`] lends tables that the caller keeps elsewhere, with any
 //! contents and any lengths. [`raw`] holds the C declarations themselves.
 //!
-//! Take the file in as a module and name the folder of `libcapi.a` and `libcapi_record.a` to the
-//! linker:
+//! Take the file in as a module and name the folder of `libcapi.a`, `libcapi_record.a` and
+//! `libcapi_run.a` to the linker:
 //!
 //! ```text
 //! rt staticlib capi
 //! rt staticlib capi_record
+//! rt staticlib capi_run
 //! rustc --edition 2021 -O main.rs -L target/staticlib
 //! ```
 //!
@@ -23,6 +24,16 @@ pub const MOST_SLOTS: u64 = 1_023;
 pub const LAST_START_TAG: u64 = 4_294_967_262;
 /// Where the count of retries stays.
 pub const MOST_RETRIES: u64 = 4_294_967_295;
+
+/// How long a call may hold up, in a queue moved by these calls alone; a refused step does not
+/// count. A busy task stepped alone answers within so many steps, wherever the others stopped.
+pub const PUSH_STEPS: u64 = 18;
+pub const POP_STEPS: u64 = 13;
+
+/// So many steps, of whatever tasks, hold one with which a call takes effect or answers.
+pub const fn stretch(tasks: u64) -> u64 {
+    26 * tasks
+}
 
 /// Entries of `lefts`, `rights` and `labels`.
 pub const fn rows(slots: u64) -> usize {
@@ -100,6 +111,16 @@ pub mod raw {
         pub value: u64,
     }
 
+    /// As [`Reply`], and the steps made.
+    #[repr(C)]
+    #[derive(Clone, Copy, Debug, Default, PartialEq, Eq)]
+    pub struct RunReply {
+        pub code: u32,
+        pub label: u32,
+        pub value: u64,
+        pub steps: u64,
+    }
+
     /// Code 0, or the number of a refusal.
     #[repr(C)]
     #[derive(Clone, Copy, Debug, Default, PartialEq, Eq)]
@@ -129,6 +150,25 @@ pub mod raw {
             marks: *mut u64,
             mark_count: usize,
         ) -> Reply;
+    }
+
+    #[link(name = "capi_run", kind = "static")]
+    unsafe extern "C" {
+        pub fn zc_run(
+            control: *mut Control,
+            records: *mut Record,
+            record_count: usize,
+            task: usize,
+            most: u64,
+            lefts: *mut u64,
+            left_count: usize,
+            rights: *mut u64,
+            right_count: usize,
+            labels: *const u32,
+            label_count: usize,
+            marks: *mut u64,
+            mark_count: usize,
+        ) -> RunReply;
     }
 
     #[link(name = "capi", kind = "static")]
@@ -301,6 +341,14 @@ fn outcome(reply: raw::Reply) -> Result<Answer, Refusal> {
     }
 }
 
+/// What a run of steps answered, and the steps made.
+#[derive(Clone, Copy, Debug, PartialEq, Eq)]
+pub struct Run {
+    /// The last step's; running at the task's place if no step was left to make.
+    pub outcome: Result<Answer, Refusal>,
+    pub steps: u64,
+}
+
 /// An Anchor word taken apart. Status 0 is STABLE, 1 RPUSH, 2 LPUSH; end 0 is null.
 #[derive(Clone, Copy, Debug, PartialEq, Eq)]
 pub struct Anchor {
@@ -413,6 +461,14 @@ impl Tables<'_> {
         outcome(call!(self.zc_step_record(self.control, one)))
     }
 
+    /// Steps a task until it does not answer running, `most` times at the most. Refuses as `step`.
+    pub fn run(&mut self, task: usize, most: u64) -> Run {
+        let (records, count) = (self.records.as_mut_ptr(), self.records.len());
+        let raw::RunReply { code, label, value, steps } =
+            call!(self.zc_run(self.control, records, count, task, most));
+        Run { outcome: outcome(raw::Reply { code, label, value }), steps }
+    }
+
     /// Refuses 34 for control, 12, 34 for the walk.
     pub fn report(&self) -> Result<Report, Refusal> {
         report(self.control, self.records, self.lefts, self.rights, self.labels, self.marks)
@@ -518,6 +574,11 @@ impl Queue {
         self.lend().step_record(one)
     }
 
+    /// Steps one task until it answers, `most` times at the most; [`PUSH_STEPS`] are always enough.
+    pub fn run(&mut self, task: usize, most: u64) -> Run {
+        self.lend().run(task, most)
+    }
+
     pub fn report(&self) -> Report {
         report(&self.control, &self.records, &self.lefts, &self.rights, &self.labels, &self.marks)
             .expect("an open queue is sound")
@@ -580,6 +641,9 @@ const _: () = {
     assert!(size_of::<raw::Reply>() == 16 && align_of::<raw::Reply>() == 8);
     assert!(offset_of!(raw::Reply, code) == 0 && offset_of!(raw::Reply, label) == 4);
     assert!(offset_of!(raw::Reply, value) == 8);
+    assert!(size_of::<raw::RunReply>() == 24 && align_of::<raw::RunReply>() == 8);
+    assert!(offset_of!(raw::RunReply, code) == 0 && offset_of!(raw::RunReply, label) == 4);
+    assert!(offset_of!(raw::RunReply, value) == 8 && offset_of!(raw::RunReply, steps) == 16);
     assert!(size_of::<raw::ReportReply>() == 72 && align_of::<raw::ReportReply>() == 8);
     assert!(offset_of!(raw::ReportReply, code) == 0 && offset_of!(raw::ReportReply, tag) == 8);
     assert!(offset_of!(raw::ReportReply, status) == 16 && offset_of!(raw::ReportReply, left) == 24);
@@ -626,6 +690,28 @@ mod tests {
         assert_eq!(queue.step(1), Ok(Popped { slot: 1, label: 700 }));
         assert_eq!(queue.control().anchor, 0x0000_0002_0000_0000);
         assert_eq!(queue.waiting(), []);
+    }
+
+    #[test]
+    fn runs_to_its_answer() {
+        let mut queue = Queue::open(2, 4, 0).unwrap();
+        queue.push(0, Side::Right, 1, 11).unwrap();
+        assert_eq!(queue.run(0, 0), Run { outcome: Ok(Running(1)), steps: 0 });
+        assert_eq!(queue.run(0, 1), Run { outcome: Ok(Running(2)), steps: 1 });
+        assert_eq!(queue.run(0, PUSH_STEPS), Run { outcome: Ok(Pushed), steps: 1 });
+        assert_eq!(queue.run(0, PUSH_STEPS), Run { outcome: Err(Refusal::Idle), steps: 0 });
+        assert_eq!(queue.run(2, 1), Run { outcome: Err(Refusal::NoTask), steps: 0 });
+        // The longest way: 2 steps to see that its Anchor is old, 7 to help, 9 for itself.
+        queue.push(0, Side::Right, 2, 12).unwrap();
+        reach(&mut queue, 0, 5);
+        queue.push(1, Side::Right, 4, 21).unwrap();
+        reach(&mut queue, 1, 5);
+        assert_eq!(queue.run(0, PUSH_STEPS).outcome, Ok(Pushed));
+        queue.push(0, Side::Right, 3, 13).unwrap();
+        reach(&mut queue, 0, 5);
+        assert_eq!(queue.clone().run(1, PUSH_STEPS - 1).outcome, Ok(Running(10)));
+        assert_eq!(queue.run(1, u64::MAX), Run { outcome: Ok(Pushed), steps: PUSH_STEPS });
+        assert_eq!(queue.waiting(), [(1, 11), (2, 12), (3, 13), (4, 21)]);
     }
 
     #[test]
