@@ -122,6 +122,16 @@ static void one_call(void)
     measure(kind);
 }
 
+/* Every slot in the queue, where the report's walk is longest. */
+static void fill(void)
+{
+    static const uint32_t label = 7;
+    for (task = 0; task < TASKS; task++)
+        zc_queue_finish(&queue, task);
+    while (zc_queue_refill(&queue, 0, &label, 1) == 0)
+        ;
+}
+
 int main(void)
 {
     struct sigaction action = {.sa_sigaction = on_trap, .sa_flags = SA_SIGINFO | SA_ONSTACK};
@@ -137,6 +147,8 @@ int main(void)
             measure(REPORT);
         one_call();
     }
+    fill();
+    measure(REPORT);
     printf("tables %zu\n", sizeof queue_tables);
     for (int kind = 0; kind < KINDS; kind++)
         printf("stack.%s %" PRIu64 "\ninstructions.%s %" PRIu64 "\n", names[kind], most_stack[kind],

@@ -167,8 +167,10 @@ pub struct Report {
     pub anchor: Anchor,
     /// Tasks with a call under way.
     pub busy: u64,
+    /// Labels in the queue.
+    pub waiting: u64,
+    /// Marks set for slots 1 to slots, half-done calls included.
+    pub taken: u64,
     /// Changes that failed because another task was faster.
     pub retries: u64,
-    /// Marks set for slots 1 to slots, half-done calls included.
-    pub waiting: u64,
 }

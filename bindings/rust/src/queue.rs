@@ -118,7 +118,8 @@ impl Queue {
         Ok(answers)
     }
 
-    /// Anchor's fields, busy tasks, retries, slots taken.
+    /// Anchor's fields, busy tasks, labels waiting, slots taken, retries. Its work grows with the
+    /// labels waiting.
     pub fn report(&self) -> Report {
         report(&self.control, &self.records, &self.lefts, &self.rights, &self.labels, &self.marks)
             .expect("an open queue is sound")

@@ -95,10 +95,12 @@ pub struct ReportReply {
     pub right: u64,
     /// Tasks with a call under way.
     pub busy: u64,
+    /// Labels in the queue.
+    pub waiting: u64,
+    /// Marks set for slots 1 to slots, half-done calls included.
+    pub taken: u64,
     /// Changes that failed because another task was faster.
     pub retries: u64,
-    /// Marks set for slots 1 to slots, half-done calls included.
-    pub waiting: u64,
 }
 
 #[link(name = "zeppolecape", kind = "static")]
@@ -176,7 +178,8 @@ unsafe extern "C" {
         mark_count: usize,
     ) -> Reply;
 
-    /// Reports; of the records it looks at the places alone. Refuses: 34 for control, 12.
+    /// Reports; of the records it looks at the places alone. Its work grows with the labels waiting.
+    /// Refuses: 34 for control, 12, 34 for the walk.
     pub fn zc_report(
         control: *const Control,
         records: *const Record,
@@ -222,10 +225,11 @@ const _: () = {
     assert!(size_of::<Reply>() == 16 && align_of::<Reply>() == 8);
     assert!(offset_of!(Reply, code) == 0 && offset_of!(Reply, label) == 4);
     assert!(offset_of!(Reply, value) == 8);
-    assert!(size_of::<ReportReply>() == 64 && align_of::<ReportReply>() == 8);
+    assert!(size_of::<ReportReply>() == 72 && align_of::<ReportReply>() == 8);
     assert!(offset_of!(ReportReply, code) == 0 && offset_of!(ReportReply, tag) == 8);
     assert!(offset_of!(ReportReply, status) == 16 && offset_of!(ReportReply, left) == 24);
     assert!(offset_of!(ReportReply, right) == 32 && offset_of!(ReportReply, busy) == 40);
-    assert!(offset_of!(ReportReply, retries) == 48);
-    assert!(offset_of!(ReportReply, waiting) == 56);
+    assert!(offset_of!(ReportReply, waiting) == 48);
+    assert!(offset_of!(ReportReply, taken) == 56);
+    assert!(offset_of!(ReportReply, retries) == 64);
 };

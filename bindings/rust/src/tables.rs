@@ -82,7 +82,7 @@ impl Tables<'_> {
         outcome(call!(self.zc_step_record(self.control, one)))
     }
 
-    /// Refuses 34 for control, 12.
+    /// Reports. Refuses 34 for control, 12, 34 for the walk.
     pub fn report(&self) -> Result<Report, Refusal> {
         report(self.control, self.records, self.lefts, self.rights, self.labels, self.marks)
     }
@@ -113,9 +113,10 @@ pub(crate) fn report(
             marks.len(),
         )
     };
-    let raw::ReportReply { code, tag, status, left, right, busy, retries, waiting } = reply;
+    let raw::ReportReply { code, tag, status, left, right, busy, waiting, taken, retries } = reply;
+    let anchor = Anchor { tag, status, left, right };
     match code {
-        0 => Ok(Report { anchor: Anchor { tag, status, left, right }, busy, retries, waiting }),
+        0 => Ok(Report { anchor, busy, waiting, taken, retries }),
         number => Err(Refusal::answered(number)),
     }
 }

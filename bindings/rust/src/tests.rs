@@ -137,7 +137,7 @@ fn report_tells_every_field() {
     queue.push(2, Side::Left, 3, 3).unwrap();
     reach(&mut queue, 2, 5);
     let anchor = Anchor { tag: 8, status: 2, left: 3, right: 66 };
-    assert_eq!(queue.report(), Report { anchor, busy: 2, retries: 1, waiting: 3 });
+    assert_eq!(queue.report(), Report { anchor, busy: 2, waiting: 2, taken: 3, retries: 1 });
 }
 
 #[test]

@@ -96,11 +96,11 @@ impl Call {
     }
 }
 
-/// An answer in numbers: code, label, value; the report's eight fields.
+/// An answer in numbers: code, label, value; the report's nine fields.
 #[derive(Clone, Copy, Debug, PartialEq)]
 pub enum Told {
     Reply(u32, u32, u64),
-    Report([u64; 8]),
+    Report([u64; 9]),
 }
 
 impl Told {
@@ -162,8 +162,9 @@ pub fn by_library(world: &mut World, call: Call) -> Told {
                 told.left,
                 told.right,
                 told.busy,
-                told.retries,
                 told.waiting,
+                told.taken,
+                told.retries,
             ]);
         }
     };
@@ -223,10 +224,11 @@ pub fn by_reference(world: &mut World, call: Call) -> Told {
                 told.left,
                 told.right,
                 told.busy,
-                told.retries,
                 told.waiting,
+                told.taken,
+                told.retries,
             ],
-            Err(refusal) => [u64::from(refusal.number()), 0, 0, 0, 0, 0, 0, 0],
+            Err(refusal) => [u64::from(refusal.number()), 0, 0, 0, 0, 0, 0, 0, 0],
         }),
     }
 }
