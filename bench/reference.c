@@ -357,6 +357,21 @@ zc_reply CALL(step_record)(zc_control *control, zc_record *one,
     return advance(control, one, lefts, rights, labels, marks);
 }
 
+#ifdef AS_LIBRARY
+zc_run_reply zc_run(zc_control *control, zc_record *records, size_t record_count, size_t task,
+                    uint64_t most, TABLES(uint64_t, const uint32_t, uint64_t))
+{
+    for (uint64_t made = 0; made < most; made++) {
+        zc_reply reply = zc_step(control, records, record_count, task, lefts, left_count, rights,
+                                 right_count, labels, label_count, marks, mark_count);
+        if (reply.code != ZC_RUNNING)
+            return (zc_run_reply){reply.code, reply.label, reply.value,
+                                  zc_refused(reply) ? made : made + 1};
+    }
+    return (zc_run_reply){ZC_RUNNING, 0, task < record_count ? records[task].place : 0, most};
+}
+#endif
+
 /* The labels waiting, from end to end; 0 where the links lead astray or nothing waits. */
 static uint64_t walked(const zc_control *control, const uint64_t *lefts, const uint64_t *rights)
 {

@@ -66,7 +66,7 @@
  * below the stack pointer) and SSE registers, no AVX: an interrupt handler that makes a call saves
  * the SSE state first, and an interrupt that is not masked during a call leaves the red zone alone.
  * A task stepped alone answers within 18 steps in a push and 13 in a pop, wherever the others
- * stopped (ZC_MOST_ALONE); between other tasks' steps it may have to try again and again.
+ * stopped (ZC_PUSH_STEPS); between other tasks' steps it may have to try again and again.
  *
  * A REFUSAL is its number alone: every table keeps its contents. If several
  * numbers apply, the first in the order that stands with the call is answered.
@@ -104,7 +104,18 @@ extern "C" {
 #define ZC_MOST_SLOTS 1023
 #define ZC_LAST_START_TAG UINT64_C(4294967262) /* with a higher tag a start is refused 33 */
 #define ZC_MOST_RETRIES UINT64_C(4294967295)   /* where the count of retries stays */
-#define ZC_MOST_ALONE 18 /* steps of a push, stepped alone, to its answer; of a pop 13 */
+
+/*
+ * How long a call may hold up, in a queue that was opened and moved by these calls alone. Figures
+ * for a watchdog; a refused step does not count:
+ *  - a busy task stepped alone answers within ZC_PUSH_STEPS steps for a push and ZC_POP_STEPS for a
+ *    pop, wherever all the others stopped. Both are reached;
+ *  - any ZC_STRETCH(tasks) steps, of whatever tasks, hold one with which a call takes effect or
+ *    answers.
+ */
+#define ZC_PUSH_STEPS 18
+#define ZC_POP_STEPS 13
+#define ZC_STRETCH(tasks) (26 * (uint64_t)(tasks))
 
 /* Entries of lefts, rights and labels: rows 0 to slots (row 0 is null's and stays unused). */
 #define ZC_ROWS(slots) ((size_t)(slots) + 1)
@@ -197,6 +208,13 @@ typedef struct zc_reply {
     uint64_t value; /* running: the next place; popped: the slot */
 } zc_reply;
 
+/* What a run of steps answers: as zc_reply, and the steps made. */
+typedef struct zc_run_reply {
+    uint32_t code, label;
+    uint64_t value;
+    uint64_t steps; /* a refused step is none */
+} zc_run_reply;
+
 /* What the report tells. With a refusal every field but code is 0. */
 typedef struct zc_report_reply {
     uint64_t code;                     /* 0, or the number of a refusal */
@@ -224,6 +242,9 @@ ZC_LAYOUT(offsetof(zc_record, finishing) == 64);
 ZC_LAYOUT(sizeof(zc_reply) == 16);
 ZC_LAYOUT(offsetof(zc_reply, code) == 0 && offsetof(zc_reply, label) == 4);
 ZC_LAYOUT(offsetof(zc_reply, value) == 8);
+ZC_LAYOUT(sizeof(zc_run_reply) == 24);
+ZC_LAYOUT(offsetof(zc_run_reply, code) == 0 && offsetof(zc_run_reply, label) == 4);
+ZC_LAYOUT(offsetof(zc_run_reply, value) == 8 && offsetof(zc_run_reply, steps) == 16);
 ZC_LAYOUT(sizeof(zc_report_reply) == 72);
 ZC_LAYOUT(offsetof(zc_report_reply, code) == 0 && offsetof(zc_report_reply, tag) == 8);
 ZC_LAYOUT(offsetof(zc_report_reply, status) == 16 && offsetof(zc_report_reply, left) == 24);
@@ -291,6 +312,18 @@ zc_reply zc_step(zc_control *control, zc_record *records, size_t record_count, s
 zc_reply zc_step_record(zc_control *control, zc_record *one, uint64_t *lefts, size_t left_count,
                         uint64_t *rights, size_t right_count, const uint32_t *labels,
                         size_t label_count, uint64_t *marks, size_t mark_count);
+
+/*
+ * Steps a task until a step does not answer running, `most` times at the most, and answers as the
+ * last step did. With `most` steps made, or none to make, the answer is running at the task's place
+ * (0: it is idle). ZC_PUSH_STEPS or ZC_POP_STEPS are always enough.
+ * Refuses as the step does. In a queue that somebody else wrote to, a later step may be refused too:
+ * the `steps` before it are made and stay.
+ */
+zc_run_reply zc_run(zc_control *control, zc_record *records, size_t record_count, size_t task,
+                    uint64_t most, uint64_t *lefts, size_t left_count, uint64_t *rights,
+                    size_t right_count, const uint32_t *labels, size_t label_count,
+                    uint64_t *marks, size_t mark_count);
 
 /*
  * Tells Anchor's fields, the number of busy tasks, the labels waiting, the slots taken, and retries.
@@ -442,6 +475,12 @@ static inline zc_reply zc_queue_step_record(const zc_queue *queue, zc_record *on
 {
     return zc_step_record(queue->control, one, ZC_TABLES(queue));
 }
+
+static inline zc_run_reply zc_queue_run(const zc_queue *queue, size_t task, uint64_t most)
+{
+    return zc_run(queue->control, queue->records, queue->record_count, task, most,
+                  ZC_TABLES(queue));
+}
 #endif
 
 static inline zc_report_reply zc_queue_report(const zc_queue *queue)
@@ -523,12 +562,12 @@ static inline size_t zc_queue_waiting(const zc_queue *queue, uint64_t *slots, si
 /*
  * Steps one task, alone, until it answers, and gives that answer; a refusal if the task was idle
  * (31) or the tables are not those of an open queue; running if it has not answered after
- * ZC_MOST_ALONE steps, which does not happen in a queue that was written by the calls alone.
+ * ZC_PUSH_STEPS steps, which does not happen in a queue that was written by the calls alone.
  */
 static inline zc_reply zc_queue_finish(const zc_queue *queue, size_t task)
 {
     zc_reply reply = zc_queue_step(queue, task);
-    for (int step = 1; step < ZC_MOST_ALONE && reply.code == ZC_RUNNING; step++)
+    for (int step = 1; step < ZC_PUSH_STEPS && reply.code == ZC_RUNNING; step++)
         reply = zc_queue_step(queue, task);
     return reply;
 }

@@ -97,7 +97,7 @@ int main(int argc, char **argv)
     }
     /* Alone, a task answers within a few steps; one that does not stays busy in the report. */
     for (size_t task = 0; task < TASKS; task++)
-        for (int touch = 0; touch < ZC_MOST_ALONE && queue_tables.records[task].place != 0; touch++)
+        for (int touch = 0; touch < ZC_PUSH_STEPS && queue_tables.records[task].place != 0; touch++)
             step(task);
 
     zc_report_reply report = zc_queue_report(&queue);

@@ -140,7 +140,7 @@ int main(void)
 
     sigprocmask(SIG_BLOCK, &alarm_signal, NULL); /* from here on nobody else runs */
     for (size_t task = 0; task < TASKS; task++)
-        for (int step = 0; step < ZC_MOST_ALONE && queue_tables.records[task].place != 0; step++)
+        for (int step = 0; step < ZC_PUSH_STEPS && queue_tables.records[task].place != 0; step++)
             touch(task);
     return check();
 }

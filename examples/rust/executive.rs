@@ -9,7 +9,7 @@
 //! ```
 
 use std::process::ExitCode;
-use zeppolecape::{Answer, Queue, Refusal, Side, MOST_ALONE};
+use zeppolecape::{Answer, Queue, Refusal, Side, PUSH_STEPS};
 
 const TASKS: usize = 5;
 const HEAD: usize = 0;
@@ -86,7 +86,7 @@ fn run(seed: u64) -> Result<bool, Refusal> {
     }
     // Alone, a task answers within a few steps; one that does not stays busy in the report.
     for task in 0..TASKS {
-        for _ in 0..MOST_ALONE {
+        for _ in 0..PUSH_STEPS {
             if executive.queue.records()[task].place != 0 {
                 executive.step(task)?;
             }

@@ -199,6 +199,9 @@ another task's record looked at by a start|if (!record_sound(record, control->sl
 another task's record looked at by a step|if (!record_sound(record, control->slots))|if (!record_sound(record, control->slots) \|\| !record_sound(records, control->slots))|3
 a lent record's step counts as nothing|return advance(control, one, lefts, rights, labels, marks);|zc_record copy = *one; return advance(control, \&copy, lefts, rights, labels, marks);|1
 a lent record's step writes row 0|return advance(control, one, lefts, rights, labels, marks);|lefts[0]++; return advance(control, one, lefts, rights, labels, marks);|1
+a run that makes one step too many|made < most|made <= most|1
+a run that counts a refused step|zc_refused(reply) ? made : made + 1|made + 1|1
+a run that stops at its first step|if (reply.code != ZC_RUNNING)|if (reply.code != 0)|1
 END
 }
 

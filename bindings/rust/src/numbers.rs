@@ -12,8 +12,16 @@ pub const LAST_START_TAG: u64 = 4_294_967_262;
 /// Where the count of retries stays.
 pub const MOST_RETRIES: u64 = 4_294_967_295;
 
-/// The most steps that a busy task needs to its answer when it is stepped alone (a pop: 13).
-pub const MOST_ALONE: u32 = 18;
+/// A push stepped alone answers within so many steps, wherever the other tasks stopped, in a queue
+/// moved by these calls alone; a refused step does not count.
+pub const PUSH_STEPS: u64 = 18;
+/// The same of a pop.
+pub const POP_STEPS: u64 = 13;
+
+/// So many steps, of whatever tasks, hold one with which a call takes effect or answers.
+pub const fn stretch(tasks: u64) -> u64 {
+    26 * tasks
+}
 
 /// Entries of `lefts`, `rights` and `labels`.
 pub const fn rows(slots: u64) -> usize {
@@ -173,4 +181,13 @@ pub struct Report {
     pub taken: u64,
     /// Changes that failed because another task was faster.
     pub retries: u64,
+}
+
+/// What a run of steps answered, and the steps made.
+#[derive(Clone, Copy, Debug, PartialEq, Eq)]
+pub struct Run {
+    /// The last step's; running at the task's place if no step was left to make.
+    pub outcome: Result<Answer, Refusal>,
+    /// The steps made; a refused one is none.
+    pub steps: u64,
 }

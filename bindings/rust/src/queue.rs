@@ -2,9 +2,9 @@
 
 use crate::tables::{report, Tables};
 use crate::{
-    link_slot, mark_words, raw, rows, Anchor, Answer, Control, Record, Refusal, Report, Side,
+    link_slot, mark_words, raw, rows, Anchor, Answer, Control, Record, Refusal, Report, Run, Side,
 };
-use crate::{LAST_START_TAG, MOST_SLOTS, MOST_TASKS};
+use crate::{LAST_START_TAG, MOST_SLOTS, MOST_TASKS, PUSH_STEPS};
 use alloc::vec;
 use alloc::vec::Vec;
 
@@ -70,14 +70,15 @@ impl Queue {
         self.lend().step(task)
     }
 
-    /// Steps one task, alone, to its answer; it has one within [`MOST_ALONE`](crate::MOST_ALONE) steps.
-    /// Refuses as [`step`](Queue::step) does.
+    /// Steps one task until it answers, `most` times at the most.
+    pub fn run(&mut self, task: usize, most: u64) -> Run {
+        self.lend().run(task, most)
+    }
+
+    /// Steps one task, alone, to its answer: [`PUSH_STEPS`] are always enough. Refuses as
+    /// [`step`](Queue::step) does.
     pub fn finish(&mut self, task: usize) -> Result<Answer, Refusal> {
-        let mut answer = self.step(task)?;
-        while let Answer::Running(_) = answer {
-            answer = self.step(task)?;
-        }
-        Ok(answer)
+        self.run(task, PUSH_STEPS).outcome
     }
 
     /// What to do about [`Refusal::Worn`]: steps every busy task to its answer, opens again with
@@ -118,8 +119,7 @@ impl Queue {
         Ok(answers)
     }
 
-    /// Anchor's fields, busy tasks, labels waiting, slots taken, retries. Its work grows with the
-    /// labels waiting.
+    /// Anchor's fields, busy tasks, labels waiting, slots taken, retries.
     pub fn report(&self) -> Report {
         report(&self.control, &self.records, &self.lefts, &self.rights, &self.labels, &self.marks)
             .expect("an open queue is sound")

@@ -79,6 +79,20 @@ pub struct Reply {
     pub value: u64,
 }
 
+/// As [`Reply`], and the steps made; a refused step is none.
+#[repr(C)]
+#[derive(Clone, Copy, Debug, Default, PartialEq, Eq)]
+pub struct RunReply {
+    /// The last step's, or [`RUNNING`] if no step was left to make.
+    pub code: u32,
+    /// Popped: the label.
+    pub label: u32,
+    /// Running: the place; popped: the slot.
+    pub value: u64,
+    /// The steps made.
+    pub steps: u64,
+}
+
 /// What the report tells. With a refusal every field but code is 0.
 #[repr(C)]
 #[derive(Clone, Copy, Debug, Default, PartialEq, Eq)]
@@ -178,7 +192,25 @@ unsafe extern "C" {
         mark_count: usize,
     ) -> Reply;
 
-    /// Reports; of the records it looks at the places alone. Its work grows with the labels waiting.
+    /// Steps a task until a step does not answer running, `most` times at the most.
+    /// Refuses as [`zc_step`].
+    pub fn zc_run(
+        control: *mut Control,
+        records: *mut Record,
+        record_count: usize,
+        task: usize,
+        most: u64,
+        lefts: *mut u64,
+        left_count: usize,
+        rights: *mut u64,
+        right_count: usize,
+        labels: *const u32,
+        label_count: usize,
+        marks: *mut u64,
+        mark_count: usize,
+    ) -> RunReply;
+
+    /// Reports; of the records it looks at the places alone.
     /// Refuses: 34 for control, 12, 34 for the walk.
     pub fn zc_report(
         control: *const Control,
@@ -225,11 +257,13 @@ const _: () = {
     assert!(size_of::<Reply>() == 16 && align_of::<Reply>() == 8);
     assert!(offset_of!(Reply, code) == 0 && offset_of!(Reply, label) == 4);
     assert!(offset_of!(Reply, value) == 8);
+    assert!(size_of::<RunReply>() == 24 && align_of::<RunReply>() == 8);
+    assert!(offset_of!(RunReply, code) == 0 && offset_of!(RunReply, label) == 4);
+    assert!(offset_of!(RunReply, value) == 8 && offset_of!(RunReply, steps) == 16);
     assert!(size_of::<ReportReply>() == 72 && align_of::<ReportReply>() == 8);
     assert!(offset_of!(ReportReply, code) == 0 && offset_of!(ReportReply, tag) == 8);
     assert!(offset_of!(ReportReply, status) == 16 && offset_of!(ReportReply, left) == 24);
     assert!(offset_of!(ReportReply, right) == 32 && offset_of!(ReportReply, busy) == 40);
-    assert!(offset_of!(ReportReply, waiting) == 48);
-    assert!(offset_of!(ReportReply, taken) == 56);
+    assert!(offset_of!(ReportReply, waiting) == 48 && offset_of!(ReportReply, taken) == 56);
     assert!(offset_of!(ReportReply, retries) == 64);
 };

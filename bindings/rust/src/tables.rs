@@ -2,7 +2,7 @@
 
 use crate::numbers::outcome;
 use crate::raw;
-use crate::{Anchor, Answer, Control, Record, Refusal, Report};
+use crate::{Anchor, Answer, Control, Record, Refusal, Report, Run};
 
 /// Lent tables: any contents, any lengths.
 #[derive(Debug)]
@@ -80,6 +80,15 @@ impl Tables<'_> {
     /// The same step on one lent record: no 13, and 12 looks at no records.
     pub fn step_record(&mut self, one: &mut Record) -> Result<Answer, Refusal> {
         outcome(call!(self.zc_step_record(self.control, one)))
+    }
+
+    /// Steps a task until it does not answer running, `most` times at the most. Refuses as
+    /// [`step`](Tables::step).
+    pub fn run(&mut self, task: usize, most: u64) -> Run {
+        let (records, count) = (self.records.as_mut_ptr(), self.records.len());
+        let raw::RunReply { code, label, value, steps } =
+            call!(self.zc_run(self.control, records, count, task, most));
+        Run { outcome: outcome(raw::Reply { code, label, value }), steps }
     }
 
     /// Reports. Refuses 34 for control, 12, 34 for the walk.

@@ -171,3 +171,25 @@ fn refusals_have_their_numbers() {
     assert_eq!(known, [10, 11, 12, 13, 14, 15, 30, 31, 32, 33, 34]);
     assert_eq!(Refusal::Worn.to_string(), "33: the Anchor tag is too high for another start");
 }
+
+#[test]
+fn runs_to_its_answer() {
+    let mut queue = Queue::open(2, 4, 0).unwrap();
+    queue.push(0, Side::Right, 1, 11).unwrap();
+    assert_eq!(queue.run(0, 0), Run { outcome: Ok(Running(1)), steps: 0 });
+    assert_eq!(queue.run(0, 1), Run { outcome: Ok(Running(2)), steps: 1 });
+    assert_eq!(queue.run(0, PUSH_STEPS), Run { outcome: Ok(Pushed), steps: 1 });
+    assert_eq!(queue.run(0, PUSH_STEPS), Run { outcome: Err(Refusal::Idle), steps: 0 });
+    assert_eq!(queue.run(2, 1), Run { outcome: Err(Refusal::NoTask), steps: 0 });
+    // The longest way: 2 steps to see that its Anchor is old, 7 to help, 9 for itself.
+    queue.push(0, Side::Right, 2, 12).unwrap();
+    reach(&mut queue, 0, 5);
+    queue.push(1, Side::Right, 4, 21).unwrap();
+    reach(&mut queue, 1, 5);
+    assert_eq!(queue.run(0, PUSH_STEPS).outcome, Ok(Pushed));
+    queue.push(0, Side::Right, 3, 13).unwrap();
+    reach(&mut queue, 0, 5);
+    assert_eq!(queue.clone().run(1, PUSH_STEPS - 1).outcome, Ok(Running(10)));
+    assert_eq!(queue.run(1, u64::MAX), Run { outcome: Ok(Pushed), steps: PUSH_STEPS });
+    assert_eq!(queue.waiting(), [(1, 11), (2, 12), (3, 13), (4, 21)]);
+}

@@ -18,7 +18,7 @@ use Rattle.model.specs.Sound.{isPush}
 use Rattle.model.specs.Route.{pushRoute, popRoute, route, onward, answer, goes}
 use Rattle.model.specs.Refusals.{Lent, stepRefusal}
 use Rattle.model.specs.Calls.{Acted, finish, step}
-use Rattle.engine.specs.Ends.{endsCall, isMoved}
+use Rattle.model.specs.Ends.{endsCall, isMoved}
 
 split : {A : Type 0} (b : Bool) → (b ≡ true → A) → (b ≡ false → A) → A
 split true f g = f refl

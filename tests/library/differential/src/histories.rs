@@ -3,6 +3,7 @@
 
 use crate::tally::Tally;
 use crate::world::{by_library, Call, Export, Lent, Told, World};
+use crate::zeppolecape::{POP_STEPS, PUSH_STEPS};
 use reference::dice::Dice;
 use reference::tables::{Control, Record, POP, PUSH};
 use reference::word::{Anchor, RPUSH};
@@ -95,6 +96,7 @@ fn next_call(dice: &mut Dice, world: &World) -> Call {
         }
         true => Call::Pop { task, side },
         false if dice.percent(2) => Call::Report,
+        false if dice.percent(4) => Call::Run { task, most: dice.between(0, 20) },
         false if dice.percent(50) && task < tasks as usize => Call::StepRow { task },
         false => Call::Step { task },
     }
@@ -122,12 +124,22 @@ fn history(tally: &mut Tally, dice: &mut Dice, taken: &mut BTreeSet<Line>, calls
         let call = next_call(dice, &theirs);
         let before = if let Call::StepRow { .. } = call { Some(ours.clone()) } else { None };
         let record = match call {
-            Call::Step { task } | Call::StepRow { task } => theirs.records.held.get(task).copied(),
+            Call::Step { task } | Call::StepRow { task } | Call::Run { task, .. } => {
+                theirs.records.held.get(task).copied()
+            }
             _ => None,
         };
         let Some(told) = tally.compare(&mut ours, &mut theirs, call) else { return false };
         if told.code() == 34 {
             return false; // never after an opening and engine calls alone
+        }
+        if let (Call::Run { task, most }, Some(record)) = (call, record) {
+            let enough = if record.kind == PUSH { PUSH_STEPS } else { POP_STEPS };
+            let busy = (task as u64) < ours.control.tasks && record.place != 0;
+            if busy && most >= enough && !(2..=4).contains(&told.code()) {
+                println!("{enough} steps alone were not enough: {told:?}");
+                return false;
+            }
         }
         if let (Call::StepRow { task }, Some(before)) = (call, before) {
             if !same_as_step(&before, task, &ours, told) {

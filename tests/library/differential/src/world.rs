@@ -63,6 +63,11 @@ pub enum Call {
     Step {
         task: usize,
     },
+    /// Steps until one does not answer running.
+    Run {
+        task: usize,
+        most: u64,
+    },
     /// A step on the record lent alone.
     StepRecord,
     /// A step on a task's record, lent where it lies.
@@ -79,6 +84,7 @@ pub enum Export {
     Push,
     Pop,
     Step,
+    Run,
     StepRecord,
     Report,
 }
@@ -90,23 +96,25 @@ impl Call {
             Call::Push { .. } => Export::Push,
             Call::Pop { .. } => Export::Pop,
             Call::Step { .. } => Export::Step,
+            Call::Run { .. } => Export::Run,
             Call::StepRecord | Call::StepRow { .. } => Export::StepRecord,
             Call::Report => Export::Report,
         }
     }
 }
 
-/// An answer in numbers: code, label, value; the report's nine fields.
+/// An answer in numbers: code, label, value; a run's, and its steps; the report's nine fields.
 #[derive(Clone, Copy, Debug, PartialEq)]
 pub enum Told {
     Reply(u32, u32, u64),
+    Run(u32, u32, u64, u64),
     Report([u64; 9]),
 }
 
 impl Told {
     pub fn code(&self) -> u32 {
         match self {
-            Told::Reply(code, ..) => *code,
+            Told::Reply(code, ..) | Told::Run(code, ..) => *code,
             Told::Report(fields) => fields[0] as u32,
         }
     }
@@ -145,6 +153,10 @@ pub fn by_library(world: &mut World, call: Call) -> Told {
         }
         Call::Pop { task, side } => library!(world.zc_pop(control, records, count, task, side)),
         Call::Step { task } => library!(world.zc_step(control, records, count, task)),
+        Call::Run { task, most } => {
+            let told = library!(world.zc_run(control, records, count, task, most));
+            return Told::Run(told.code, told.label, told.value, told.steps);
+        }
         Call::StepRecord => {
             let one: *mut raw::Record = (&raw mut world.one).cast();
             library!(world.zc_step_record(control, one))
@@ -215,6 +227,11 @@ pub fn by_reference(world: &mut World, call: Call) -> Told {
         }
         Call::Pop { task, side } => started(tables.pop(task as u64, side)),
         Call::Step { task } => moved(tables.step(task as u64)),
+        Call::Run { task, most } => {
+            let (answer, steps) = tables.run(task as u64, most);
+            let Told::Reply(code, label, value) = moved(answer) else { unreachable!() };
+            Told::Run(code, label, value, steps)
+        }
         Call::StepRecord | Call::StepRow { .. } => unreachable!(),
         Call::Report => Told::Report(match tables.report() {
             Ok(told) => [
