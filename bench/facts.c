@@ -17,8 +17,8 @@
 #include <ucontext.h>
 
 enum { CALLS = 1500, DEPTH = 4096, PAINT = 0xa5 };
-enum { OPEN, PUSH, POP, STEP, STEP_RECORD, REPORT, KINDS };
-static const char *const names[KINDS] = {"open", "push", "pop", "step", "step_record", "report"};
+enum { OPEN, PUSH, POP, STEP, STEP_RECORD, RUN, REPORT, KINDS };
+static const char *const names[KINDS] = {"open", "push", "pop", "step", "step_record", "run", "report"};
 
 ZC_QUEUE_STORAGE(queue, TASKS, SLOTS);
 static uint64_t most_stack[KINDS], most_instructions[KINDS];
@@ -56,6 +56,7 @@ static inline __attribute__((always_inline)) void make_call(int kind)
     case POP: answer = zc_queue_pop(&queue, task, side).code; break;
     case STEP: answer = zc_queue_step(&queue, task).code; break;
     case STEP_RECORD: answer = zc_queue_step_record(&queue, &queue.records[task]).code; break;
+    case RUN: answer = zc_queue_run(&queue, task, ZC_PUSH_STEPS).code; break;
     default: answer = (uint32_t)zc_queue_report(&queue).code; break;
     }
 }
@@ -117,9 +118,20 @@ static void one_call(void)
     switch (random_below(32)) {
     case 0: kind = busy ? PUSH : STEP; break; /* 30, 31 */
     case 1: slot = 1; break;                  /* 32, mostly */
+    case 2: kind = busy ? RUN : kind; break;
     default: break;
     }
     measure(kind);
+}
+
+/* Every slot in the queue, where the report's walk is longest. */
+static void fill(void)
+{
+    static const uint32_t label = 7;
+    for (task = 0; task < TASKS; task++)
+        zc_queue_finish(&queue, task);
+    while (zc_queue_refill(&queue, 0, &label, 1) == 0)
+        ;
 }
 
 int main(void)
@@ -137,6 +149,8 @@ int main(void)
             measure(REPORT);
         one_call();
     }
+    fill();
+    measure(REPORT);
     printf("tables %zu\n", sizeof queue_tables);
     for (int kind = 0; kind < KINDS; kind++)
         printf("stack.%s %" PRIu64 "\ninstructions.%s %" PRIu64 "\n", names[kind], most_stack[kind],

@@ -91,7 +91,7 @@ impl Tables<'_> {
         Run { outcome: outcome(raw::Reply { code, label, value }), steps }
     }
 
-    /// Refuses 34 for control, 12, 34 for the walk.
+    /// Reports. Refuses 34 for control, 12, 34 for the walk.
     pub fn report(&self) -> Result<Report, Refusal> {
         report(self.control, self.records, self.lefts, self.rights, self.labels, self.marks)
     }
