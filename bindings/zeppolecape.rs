@@ -3,12 +3,15 @@
 //! [`Queue`] owns its tables. [`Tables`] lends tables that the caller keeps elsewhere, with any
 //! contents and any lengths. [`raw`] holds the C declarations themselves.
 //!
-//! Take the file in as a module and name the folder of `libcapi.a` and `libcapi_record.a` to the
-//! linker:
+//! [`audit`] checks a history of finished calls.
+//!
+//! Take the file in as a module and name the folder of `libcapi.a`, `libcapi_record.a` and
+//! `libaudit.a` to the linker:
 //!
 //! ```text
 //! rt staticlib capi
 //! rt staticlib capi_record
+//! rt staticlib audit
 //! rustc --edition 2021 -O main.rs -L target/staticlib
 //! ```
 //!
@@ -247,6 +250,8 @@ pub enum Refusal {
     Taken = 32,
     Worn = 33,
     Unsound = 34,
+    /// Of [`audit`] alone: no history that can be judged.
+    BadHistory = 40,
 }
 
 impl Refusal {
@@ -257,10 +262,9 @@ impl Refusal {
     /// The refusal with a number.
     pub fn numbered(number: u64) -> Option<Refusal> {
         use Refusal::*;
-        [BadTasks, BadSlots, Short, NoTask, NoSide, NoSlot, Busy, Idle, Taken, Worn, Unsound]
-            .iter()
-            .copied()
-            .find(|refusal| u64::from(refusal.number()) == number)
+        let state = [Busy, Idle, Taken, Worn, Unsound];
+        let input = [BadTasks, BadSlots, Short, NoTask, NoSide, NoSlot, BadHistory];
+        input.into_iter().chain(state).find(|refusal| u64::from(refusal.number()) == number)
     }
 
     /// The refusal that the library answered.
@@ -283,6 +287,7 @@ impl fmt::Display for Refusal {
             Refusal::Taken => "the slot is taken",
             Refusal::Worn => "the Anchor tag is too high for another start",
             Refusal::Unsound => "the tables are unsound",
+            Refusal::BadHistory => "not a history that can be judged",
         };
         write!(out, "{}: {text}", self.number())
     }
@@ -584,6 +589,137 @@ const _: () = {
     assert!(offset_of!(raw::ReportReply, waiting) == 56);
 };
 
+// ---- Histories ----
+
+/// With more calls a history is refused [`Refusal::BadHistory`].
+pub const MOST_CALLS: usize = 64;
+
+/// A finished call of a history. An event is any number; a later event has a larger one.
+#[repr(C)]
+#[derive(Clone, Copy, Debug, Default, PartialEq, Eq)]
+pub struct Finished {
+    /// Any number; it is told, and decides nothing.
+    pub task: u64,
+    /// 0 push, 1 pop.
+    pub kind: u64,
+    /// 0 left, 1 right.
+    pub side: u64,
+    /// The label pushed or popped; unused with empty.
+    pub label: u64,
+    /// 2 pushed, 3 empty, 4 popped.
+    pub answer: u64,
+    /// The event of its start.
+    pub start: u64,
+    /// The event of its answer.
+    pub end: u64,
+}
+
+#[derive(Clone, Copy, Debug, PartialEq, Eq)]
+pub enum Verdict {
+    Passes,
+    /// The first position of the order, from 1, whose call has another answer or stands before a
+    /// call that was answered before it started.
+    Fails {
+        position: u32,
+    },
+    /// The order does not name every call once.
+    NoRearrangement,
+}
+
+/// The C declarations of `libaudit.a`.
+mod raw_audit {
+    #[repr(C)]
+    pub struct Verdict {
+        pub code: u32,
+        pub position: u32,
+    }
+
+    #[link(name = "audit", kind = "static")]
+    unsafe extern "C" {
+        pub fn zc_audit_words(
+            words: *const u64,
+            word_count: usize,
+            order: *const u64,
+            order_count: usize,
+        ) -> Verdict;
+    }
+}
+
+/// Whether the calls, of a queue that was empty at first, can have taken effect in this order: a
+/// list of their numbers, from 1. Refuses 40.
+pub fn audit(calls: &[Finished], order: &[u64]) -> Result<Verdict, Refusal> {
+    // SAFETY: a finished call is seven words without padding.
+    let words = unsafe { std::slice::from_raw_parts(calls.as_ptr().cast(), 7 * calls.len()) };
+    audit_words(words, order)
+}
+
+/// The same on words, seven a call in the order of [`Finished`]; a rest of fewer is no call.
+pub fn audit_words(words: &[u64], order: &[u64]) -> Result<Verdict, Refusal> {
+    // SAFETY: slices are non-null, aligned and as long as the counts that go with them.
+    let verdict = unsafe {
+        raw_audit::zc_audit_words(words.as_ptr(), words.len(), order.as_ptr(), order.len())
+    };
+    match (verdict.code, verdict.position) {
+        (0, _) => Ok(Verdict::Passes),
+        (1, 0) => Ok(Verdict::NoRearrangement),
+        (1, position) => Ok(Verdict::Fails { position }),
+        (number, _) => Err(Refusal::answered(u64::from(number))),
+    }
+}
+
+const _: () = {
+    use std::mem::{align_of, offset_of, size_of};
+    assert!(size_of::<Finished>() == 56 && align_of::<Finished>() == 8);
+    assert!(offset_of!(Finished, task) == 0 && offset_of!(Finished, kind) == 8);
+    assert!(offset_of!(Finished, side) == 16 && offset_of!(Finished, label) == 24);
+    assert!(offset_of!(Finished, answer) == 32 && offset_of!(Finished, start) == 40);
+    assert!(offset_of!(Finished, end) == 48);
+    assert!(size_of::<raw_audit::Verdict>() == 8);
+    assert!(offset_of!(raw_audit::Verdict, position) == 4);
+};
+
+#[cfg(test)]
+mod audit_tests {
+    use super::*;
+
+    /// A label pushed, then two pops of it at once; the second gets it.
+    fn calls() -> [Finished; 3] {
+        let push = Finished { task: 0, kind: 0, side: 1, label: 700, answer: 2, start: 1, end: 3 };
+        let left = Finished { kind: 1, side: 0, label: 0, answer: 3, start: 4, end: 11, ..push };
+        let right =
+            Finished { task: 1, kind: 1, side: 1, label: 700, answer: 4, start: 5, end: 10 };
+        [push, left, right]
+    }
+
+    #[test]
+    fn verdicts() {
+        assert_eq!(audit(&calls(), &[1, 3, 2]), Ok(Verdict::Passes));
+        assert_eq!(audit(&calls(), &[1, 2, 3]), Ok(Verdict::Fails { position: 2 }));
+        assert_eq!(audit(&calls(), &[2, 1, 3]), Ok(Verdict::Fails { position: 1 }));
+        assert_eq!(audit(&calls(), &[1, 3, 3]), Ok(Verdict::NoRearrangement));
+        assert_eq!(audit(&calls(), &[1, 3]), Ok(Verdict::NoRearrangement));
+        assert_eq!(audit(&[], &[]), Ok(Verdict::Passes));
+        let bad = Finished { answer: 5, ..calls()[0] };
+        assert_eq!(audit(&[bad], &[1]), Err(Refusal::BadHistory));
+        assert_eq!(Refusal::BadHistory.to_string(), "40: not a history that can be judged");
+    }
+
+    #[test]
+    fn as_many_calls_as_fit() {
+        let pop = |n: u64| Finished {
+            kind: 1,
+            answer: 3,
+            start: 2 * n,
+            end: 2 * n + 1,
+            ..Finished::default()
+        };
+        let calls: Vec<Finished> = (0..65).map(pop).collect();
+        let order: Vec<u64> = (1..=65).collect();
+        assert_eq!(audit(&calls[..MOST_CALLS], &order[..MOST_CALLS]), Ok(Verdict::Passes));
+        assert_eq!(audit(&calls, &order), Err(Refusal::BadHistory));
+    }
+}
+
 #[cfg(test)]
 mod tests {
     use super::*;
@@ -733,7 +869,7 @@ mod tests {
     #[test]
     fn refusals_have_their_numbers() {
         let known: Vec<u64> = (0..100).filter(|&n| Refusal::numbered(n).is_some()).collect();
-        assert_eq!(known, [10, 11, 12, 13, 14, 15, 30, 31, 32, 33, 34]);
+        assert_eq!(known, [10, 11, 12, 13, 14, 15, 30, 31, 32, 33, 34, 40]);
         assert_eq!(Refusal::Worn.to_string(), "33: the Anchor tag is too high for another start");
     }
 }

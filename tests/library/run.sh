@@ -1,17 +1,17 @@
 #!/bin/bash
 # Tests of the static library through its C interface.
 #
-#     tests/library/run.sh [FOLDER]     of libcapi.a and libcapi_record.a; default: target/staticlib,
-#                                       where `rt staticlib capi` and `rt staticlib capi_record` write them
-#     tests/library/run.sh --stand-in   bench/reference.c, the same calls by hand, in its place
+#     tests/library/run.sh [FOLDER]     of libcapi.a, libcapi_record.a and libaudit.a; default: target/staticlib,
+#                                       where `rt staticlib capi`, `capi_record` and `audit` write them
+#     tests/library/run.sh --stand-in   bench/reference.c and audit_reference.c, the same calls by hand, in their place
 #
-# PARTS names what runs: header layout fence waiting bindings examples bench differential (all of them).
+# PARTS names what runs: header layout fence waiting bindings examples bench audit differential (all of them).
 # SEED and TIMES go to the differential test (1 and 1). BUILD keeps what is built there.
 set -u -o pipefail
 from=$PWD
 cd "$(dirname "$0")/../.."
 
-PARTS=${PARTS:-header layout fence waiting bindings examples bench differential}
+PARTS=${PARTS:-header layout fence waiting bindings examples bench audit differential}
 CC=${CC:-gcc}
 CXX=${CXX:-g++}
 WARNINGS="-Wall -Wextra -Wpedantic -Werror"
@@ -25,18 +25,20 @@ fi
 
 # The archives lie in a folder of their own under the names that rustc looks for.
 mkdir -p "$work/library"
-archives=("$work/library/libcapi.a" "$work/library/libcapi_record.a")
+archives=("$work/library/libcapi.a" "$work/library/libcapi_record.a" "$work/library/libaudit.a")
 rm -f "${archives[@]}"
 case ${1:-} in
 --stand-in)
     $CC -std=c11 -O2 $WARNINGS -DAS_LIBRARY -Iinclude -c bench/reference.c -o "$work/library.o" || exit 2
     ar rcs "${archives[0]}" "$work/library.o" # all calls are in one
     ar rcs "${archives[1]}"
+    $CC -std=c11 -O2 $WARNINGS -DAS_LIBRARY -Iinclude -c bench/audit_reference.c -o "$work/audit.o" || exit 2
+    ar rcs "${archives[2]}" "$work/audit.o"
     ;;
 *)
     given=${1:-$PWD/target/staticlib}
-    if ! (cd "$from" && cp "$given"/libcapi.a "$given"/libcapi_record.a "$work/library"); then
-        echo "no archives in $given; build them with: rt staticlib capi; rt staticlib capi_record" >&2
+    if ! (cd "$from" && cp "$given"/libcapi.a "$given"/libcapi_record.a "$given"/libaudit.a "$work/library"); then
+        echo "no archives in $given; build them with: rt staticlib capi; rt staticlib capi_record; rt staticlib audit" >&2
         echo "0 passed, 1 failed"
         exit 2
     fi
@@ -146,6 +148,11 @@ part_bench() {
             holds "library, C and bare alike: $tasks tasks, $slots slots" "$work/bench" check $tasks $slots 100000
         done
     done
+}
+
+part_audit() {
+    holds "the audit's benchmark compiles" $CC -std=gnu11 -O2 -Iinclude bench/audit.c bench/audit_reference.c "${archives[2]}" -o "$work/audit"
+    holds "library and C give the same verdicts" "$work/audit" check 200000
 }
 
 part_differential() {
