@@ -13,7 +13,7 @@ use Rattle.model.specs.Calls.{opened, openQueue, pushStart, popStart, finish, s
 use Rattle.model.specs.Deque.{serve, servePop, servePush}
 use Rattle.model.specs.History.{Call, Request, accept, attend, isEffect, ledger, ledgerFrom, note, run, stepOf}
 use Rattle.audit_model.specs.declared.Finished.{Finished}
-use Rattle.audit_model.specs.declared.Verdict.the-variants.{Failed, Passed}
+use Rattle.audit_model.specs.declared.Verdict.the-variants.{Failed, Passed, Refused}
 use Rattle.audit_model.specs.Audit.{accepted, agrees, apart, notEarlier, rearranges, replay, serveLabel, verdict, wellFormed}
 use Rattle.audit_model.specs.Written.{effectOrder, finished, insert}
 
@@ -40,12 +40,17 @@ list =
 abbrev calls : List Call
 calls = ledger (run (openQueue zeros 2 3 0 .queue) list) .calls
 
+abbrev push : Finished
+push = record { task = 0; kind = 0; side = 1; label = 700; answer = 2; start = 1; end = 3 }
+
+abbrev empty : Finished
+empty = record { task = 0; kind = 1; side = 0; label = 0; answer = 3; start = 4; end = 11 }
+
+abbrev popped : ℕ → ℕ → Finished
+popped label start = record { task = 1; kind = 1; side = 1; label = label; answer = 4; start = start; end = 10 }
+
 abbrev history : List Finished
-history =
-    record { task = 0; kind = 0; side = 1; label = 700; answer = 2; start = 1; end = 3 }
-    ∷ record { task = 0; kind = 1; side = 0; label = 0; answer = 3; start = 4; end = 11 }
-    ∷ record { task = 1; kind = 1; side = 1; label = 700; answer = 4; start = 5; end = 10 }
-    ∷ []
+history = push ∷ empty ∷ popped 700 5 ∷ []
 
 pub record Table : Type 0 where
   pub written-so : finished calls ≡ history
@@ -60,6 +65,14 @@ pub record Table : Type 0 where
   pub short : verdict history (1 ∷ 3 ∷ []) ≡ Failed 0
   pub number-zero : verdict history (1 ∷ 3 ∷ 0 ∷ []) ≡ Failed 0
   pub nothing : verdict [] [] ≡ Passed
+  -- popped with another label
+  pub other-label : verdict (push ∷ empty ∷ popped 701 5 ∷ []) (1 ∷ 3 ∷ 2 ∷ []) ≡ Failed 2
+  -- the label of empty is not looked at
+  pub no-label : verdict (push ∷ record { task = 0; kind = 1; side = 0; label = 9; answer = 3; start = 4; end = 11 } ∷ popped 700 5 ∷ [])
+      (1 ∷ 3 ∷ 2 ∷ []) ≡ Passed
+  -- a start at another call's answer
+  pub same-event : verdict (push ∷ empty ∷ popped 700 3 ∷ []) (1 ∷ 3 ∷ 2 ∷ []) ≡ Refused 40
+  pub too-many : verdict (replicate 65 push) [] ≡ Refused 40
 
 pub worked : Table
 unfolding openQueue opened openRefusal run act actOn pushStart popStart step finish pushRefusal popRefusal stepRefusal stepSound
@@ -76,4 +89,8 @@ worked = record {
   short = refl;
   number-zero = refl;
   nothing = refl;
+  other-label = refl;
+  no-label = refl;
+  same-event = refl;
+  too-many = refl;
 }
