@@ -22,10 +22,13 @@ from-left side l e = ap (λ (b : Bool). cond b (reverse l) l) (ne-eqb side 1 e)
 
 module _ (b : List ℕ) (low high : ℕ) where
   -- One label more at the right, stored or there already.
-  snoc : (l : List ℕ) (x : ℕ) → low ≤ high → take (suc high) l ≡ take high b ++ (x ∷ []) → high ≤ length b → slice low (high + 1) l ≡ slice low high b ++ (x ∷ [])
-  snoc l x h e k = ap (λ (m : ℕ). slice low m l) (add-one high) ∙ ap (drop low) e ∙ drop-append-le low (take high b) (x ∷ []) (let z = length-take-le high b k in omega arith)
+  snoc : (l : List ℕ) (x : ℕ) → low ≤ high → take (suc high) l ≡ take high b ++ (x ∷ []) → high ≤ length b → slice low (high + 1) l
+      ≡ slice low high b ++ (x ∷ [])
+  snoc l x h e k = ap (λ (m : ℕ). slice low m l) (add-one high) ∙ ap (drop low) e
+      ∙ drop-append-le low (take high b) (x ∷ []) (let z = length-take-le high b k in omega arith)
 
-  pub push-right : (x side : ℕ) → side ≡ 1 → low ≤ high → high < length b → slice low (high + 1) (set b high x) ≡ seenFrom side (x ∷ seenFrom side (slice low high b))
+  pub push-right : (x side : ℕ) → side ≡ 1 → low ≤ high → high < length b → slice low (high + 1) (set b high x)
+      ≡ seenFrom side (x ∷ seenFrom side (slice low high b))
   push-right x side e h k =
       snoc (set b high x) x h (take-suc-set b high x k) (omega arith)
       ∙ sym (ap (λ (l : List ℕ). l ++ (x ∷ [])) (reverse-reverse (slice low high b)))
@@ -47,7 +50,8 @@ module _ (b : List ℕ) (low high : ℕ) where
       rest = ap (drop (suc first)) (take-set-lt high b first x (omega arith)) ∙ drop-set-lt (suc first) (take high b) first x (omega arith)
 
   pub pop-none : (side : ℕ) → low ≡ high → takeLabel side (seenFrom side (slice low high b)) ≡ record { answer = 3; label = 0; queue = slice low high b }
-  pop-none side e = ap (λ (l : List ℕ). takeLabel side (seenFrom side l)) z ∙ go (eqb side 1) ∙ ap (λ (l : List ℕ). record { answer = 3; label = 0; queue = l }) (sym z)
+  pop-none side e = ap (λ (l : List ℕ). takeLabel side (seenFrom side l)) z ∙ go (eqb side 1)
+      ∙ ap (λ (l : List ℕ). record { answer = 3; label = 0; queue = l }) (sym z)
     where
       z : slice low high b ≡ []
       z = ap (λ (m : ℕ). slice m high b) e ∙ slice-empty high b
@@ -60,7 +64,8 @@ module _ (b : List ℕ) (low high : ℕ) where
       → takeLabel side (seenFrom side (slice low high b)) ≡ record { answer = 4; label = getD b last 0; queue = slice low last b }
   pop-right side last e f h k =
       ap (takeLabel side) (from-right side (slice low high b) e ∙ ap reverse split ∙ flip)
-      ∙ ap (λ (l : List ℕ). record { answer = 4; label = getD b last 0; queue = l }) (from-right side (reverse (slice low last b)) e ∙ reverse-reverse (slice low last b))
+      ∙ ap (λ (l : List ℕ). record { answer = 4; label = getD b last 0; queue = l })
+      (from-right side (reverse (slice low last b)) e ∙ reverse-reverse (slice low last b))
     where
       split : slice low high b ≡ slice low last b ++ (getD b last 0 ∷ [])
       split = let z : high ≡ suc last = omega arith in
@@ -75,4 +80,5 @@ module _ (b : List ℕ) (low high : ℕ) where
       → takeLabel side (seenFrom side (slice low high b)) ≡ record { answer = 4; label = getD b low 0; queue = slice (low + 1) high b }
   pop-left side e h k =
       ap (takeLabel side) (from-left side (slice low high b) e ∙ slice-cons low high b 0 h k)
-      ∙ ap (λ (l : List ℕ). record { answer = 4; label = getD b low 0; queue = l }) (from-left side (slice (suc low) high b) e ∙ ap (λ (m : ℕ). slice m high b) (sym (add-one low)))
+      ∙ ap (λ (l : List ℕ). record { answer = 4; label = getD b low 0; queue = l })
+      (from-left side (slice (suc low) high b) e ∙ ap (λ (m : ℕ). slice m high b) (sym (add-one low)))

@@ -30,7 +30,8 @@ module _ {A : Type 0} (l : List A) (n : ℕ) where
   module _ (r : A → A → Bool) where
     pub pairs-next : (i : ℕ) (d : A) (ok : Bool) → i < n → n ≤ length l
         → ok && allOf (r (getD l i d)) (slice (i + 1) n l) && pairwise r (slice (i + 1) n l) ≡ ok && pairwise r (slice i n l)
-    pairs-next i d ok h k = and-assoc ok (allOf (r (getD l i d)) (slice (i + 1) n l)) (pairwise r (slice (i + 1) n l)) ∙ ap (λ (m : List A). ok && pairwise r m) (sym (part-next i d h k))
+    pairs-next i d ok h k = and-assoc ok (allOf (r (getD l i d)) (slice (i + 1) n l)) (pairwise r (slice (i + 1) n l))
+        ∙ ap (λ (m : List A). ok && pairwise r m) (sym (part-next i d h k))
 
     pub pairs-done : (ok : Bool) (i : ℕ) → i ≡ n → ok && pairwise r (slice i n l) ≡ ok
     pairs-done ok i e = ap (λ (j : ℕ). ok && pairwise r (slice j n l)) e ∙ ap (λ (m : List A). ok && pairwise r m) (slice-empty n l) ∙ and-end ok

@@ -24,9 +24,11 @@ module _ (calls : List Finished) (n i : ℕ) (d c : Finished) (is : c ≡ getD c
       ≡ cond (agrees (c .answer) (c .label) (g .answer) (g .label) && allOf (notEarlier c) rest) (replay (i + 1 + 1) rest (g .queue)) (Failed (i + 1))
   unfolding replay
   next = ap (λ (l : List Finished). replay (i + 1) l q) (part-next calls n i d less fits ∙ ap (λ (x : Finished). x ∷ rest) (sym is))
-      ∙ ap (λ (m : ℕ). cond (agrees (c .answer) (c .label) (g .answer) (g .label) && allOf (notEarlier c) rest) (replay m rest (g .queue)) (Failed (i + 1))) (sym (add-one (i + 1)))
+      ∙ ap (λ (m : ℕ). cond (agrees (c .answer) (c .label) (g .answer) (g .label) && allOf (notEarlier c) rest) (replay m rest (g .queue))
+      (Failed (i + 1))) (sym (add-one (i + 1)))
 
-  module _ (answer label : ℕ) (same early : Bool) (a : answer ≡ g .answer) (l : label ≡ g .label) (s : same ≡ agrees (c .answer) (c .label) answer label) (e : early ≡ allOf (notEarlier c) rest) where
+  module _ (answer label : ℕ) (same early : Bool) (a : answer ≡ g .answer) (l : label ≡ g .label) (s : same ≡ agrees (c .answer) (c .label) answer label)
+      (e : early ≡ allOf (notEarlier c) rest) where
     test : (b : Bool) → same && early ≡ b → replay (i + 1) (slice i n calls) q ≡ cond b (replay (i + 1 + 1) rest (g .queue)) (Failed (i + 1))
     test b z = next ∙ ap (λ (t : Bool). cond t (replay (i + 1 + 1) rest (g .queue)) (Failed (i + 1)))
         ((λ j. agrees (c .answer) (c .label) (sym a j) (sym l j) && allOf (notEarlier c) rest) ∙ (λ j. sym s j && sym e j) ∙ z)

@@ -24,7 +24,8 @@ module _ (ks : List ℕ) (n : ℕ) where
 
   pub length-is : rearranges n ks ≡ true → length ks ≡ n
   unfolding rearranges
-  length-is e = eqb-true (length ks) n (and-true (eqb (length ks) n) (allOf (from1 n) ks) (and-true (eqb (length ks) n && allOf (from1 n) ks) (pairwise differ ks) e .0) .0)
+  length-is e = eqb-true (length ks) n (and-true (eqb (length ks) n) (allOf (from1 n) ks)
+      (and-true (eqb (length ks) n && allOf (from1 n) ks) (pairwise differ ks) e .0) .0)
 
 module _ (cs : List Finished) (n : ℕ) (ks : List ℕ) (len : length cs ≡ n) where
   pub too-many : 64 < n → Refused 40 ≡ verdict cs ks

@@ -3,8 +3,7 @@
 --   0 push right 700 pushed 1 3      a call a line: task, kind, side, label, answer, start event, answer event
 --   1 pop left - empty 4 6           with empty the label may be -; a number may stand for any word
 --   order 1 2                        the claimed order of effects: numbers of calls, to the end of the file
-use mathlib.Core.Bool.{Bool, true, false, _&&_, _||_, not, cond}
-use mathlib.Core.List.{List, [], _∷_, _++_}
+use mathlib.Core.Bool.{Bool, true, false, _&&_, _||_, cond}
 use Prim.Native.Nat.{ℕ, _+_, _-_, _*_, _%_, _^_}
 use lib.Dec.{eqb, leb, ltb}
 use Rattle.historyfile.specs.declared.scan.Scan.{Scan}
@@ -24,11 +23,6 @@ isBlank b = eqb b 32 || eqb b 9 || eqb b 13
 -- n * 10 + digit is below 2 ^ 64.
 abbrev pub fits : ℕ → ℕ → Bool
 fits n digit = ltb n 1844674407370955161 || (eqb n 1844674407370955161 && leb digit 5)
-
--- A word's last eight bytes as a number, the last byte lowest.
-abbrev pub packed : List ℕ → ℕ → ℕ
-packed [] n = n
-packed (b ∷ bs) n = packed bs (n % 72057594037927936 * 256 + b)
 
 -- The word under way.
 abbrev pub underWay : Scan → ℕ → ℕ → ℕ → Scan
@@ -69,7 +63,7 @@ nextColumn column = cond (ltb column 8) (column + 1) column
 abbrev pub given : Scan → ℕ → Turn
 given s value = record { scan = behind s (nextColumn (s .column)) 0; gives = true; value = value }
 
--- 1 a word unknown in its column, 2 a number too large, 3 not seven words, 4 no order.
+-- 1 a word unknown in its column, 2 a number too large, 3 not seven words.
 abbrev pub failed : Scan → ℕ → Turn
 failed s why = record { scan = behind s (s .column) why; gives = false; value = 0 }
 

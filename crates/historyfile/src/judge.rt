@@ -73,7 +73,14 @@ fn take_byte(s: State, b: u64, values: &mut [u64]) -> State
 fn begin() -> State
     ensures { λ r. ⌜ r ≡ record { scan = atStart; count = 0; calls = 0 } ⌝ }
 {
-    let first = scan::START;
+    let first = Scan {
+        line: 1,
+        column: 0,
+        shape: 0,
+        number: 0,
+        text: 0,
+        fault: 0,
+    };
     State {
         scan: first,
         count: 0,

@@ -36,19 +36,6 @@ pub const LARGE: u64 = 2;
 /// A call of fewer or more than seven words.
 pub const SEVEN: u64 = 3;
 
-/// The file ends without an order.
-pub const NO_ORDER: u64 = 4;
-
-/// At the beginning of a file.
-pub const START: Scan = Scan {
-    line: 1,
-    column: 0,
-    shape: 0,
-    number: 0,
-    text: 0,
-    fault: 0,
-};
-
 fn is_digit(b: u64) -> bool
     ensures { λ r. ⌜ r ≡ isDigit b ⌝ }
 {

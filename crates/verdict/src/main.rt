@@ -53,7 +53,7 @@ fn judge_input(input: &mut [u8], values: &mut [u64]) -> bool {
     }
     let n = all.have;
     if n == input.len() {
-        return io::write_all(2, b"verdict: longer than 1,048,575 bytes\n");
+        return io::write_all(2, b"verdict: longer than 65535 bytes\n");
     }
     let j = judge::judge(&input[..n], values);
     tell::tell(j)
@@ -64,7 +64,7 @@ fn main() {
         tell::help();
         return;
     }
-    let mut input = [0u8; 1048576];
+    let mut input = io::large_buffer();
     let mut values = [0u64; 1024];
     if !judge_input(&mut input, &mut values) {
         io::write_all(2, b"verdict: cannot write\n");

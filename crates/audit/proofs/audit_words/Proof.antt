@@ -18,35 +18,46 @@ returns c =
 
 returns-2 : tie.Need-returns-2
 returns-2 c =
-    let args = c .before .before .before .before .before .before .args in
+    let back4 = c .before .before .before .before in
+    let args = back4 .before .before .args in
     let ws = args .words .now in
     let few = c .before .before .before .if1 .left in
-    refused (callsIn ws) (length ws / 7) (args .order .now) (count-is ws) (omega arith) _ _ (c .before .before .all-formed .ensures) (c .before .all-apart .ensures) (c .if2 .taken)
+    refused (callsIn ws) (length ws / 7) (args .order .now) (count-is ws) (omega arith) _ _ (c .before .before .all-formed .ensures)
+    (c .before .all-apart .ensures) (c .if2 .taken)
 
 returns-3 : tie.Need-returns-3
 returns-3 c =
-    let args = c .before .before .before .before .before .before .before .before .args in
+    let back4 = c .before .before .before .before in
+    let back8 = back4 .before .before .before .before in
+    let args = back8 .args in
     let ws = args .words .now in
-    let few = c .before .before .before .before .before .if1 .left in
-    out-of-order (callsIn ws) (length ws / 7) (args .order .now) (count-is ws) (omega arith) _ _ (c .before .before .before .before .all-formed .ensures) (c .before .before .before .all-apart .ensures)
+    let few = back4 .before .if1 .left in
+    out-of-order (callsIn ws) (length ws / 7) (args .order .now) (count-is ws) (omega arith) _ _ (back4 .all-formed .ensures)
+    (c .before .before .before .all-apart .ensures)
     (c .before .before .if2 .left) _ (c .before .is-rearranged .ensures) (c .if3 .taken)
 
 served-requires : tie.Need-served-requires
 served-requires c κs =
-    let args = c .before .before .before .before .before .before .before .before .args in
+    let back4 = c .before .before .before .before in
+    let back8 = back4 .before .before .before .before in
+    let args = back8 .args in
     let ws = args .words .now in
-    let few = c .before .before .before .before .before .if1 .left in
-    let same = in-order-length (callsIn ws) (length ws / 7) (args .order .now) (count-is ws) (omega arith) _ _ (c .before .before .before .before .all-formed .ensures) (c .before .before .before .all-apart .ensures)
+    let few = back4 .before .if1 .left in
+    let same = in-order-length (callsIn ws) (length ws / 7) (args .order .now) (count-is ws) (omega arith) _ _ (back4 .all-formed .ensures)
+    (c .before .before .before .all-apart .ensures)
     (c .before .before .if2 .left) _ (c .before .is-rearranged .ensures) (c .if3 .left) in
     omega arith
 
 returns-4 : tie.Need-returns-4
 returns-4 c =
-    let args = c .before .before .before .before .before .before .before .before .before .args in
+    let back4 = c .before .before .before .before in
+    let back8 = back4 .before .before .before .before in
+    let args = back8 .before .args in
     let ws = args .words .now in
-    let few = c .before .before .before .before .before .before .if1 .left in
+    let few = back4 .before .before .if1 .left in
     c .served .ensures
-    ∙ replayed-so (callsIn ws) (length ws / 7) (args .order .now) (count-is ws) (omega arith) _ _ (c .before .before .before .before .before .all-formed .ensures) (c .before .before .before .before .all-apart .ensures)
+    ∙ replayed-so (callsIn ws) (length ws / 7) (args .order .now) (count-is ws) (omega arith) _ _ (back4 .before .all-formed .ensures)
+    (back4 .all-apart .ensures)
     (c .before .before .before .if2 .left) _ (c .before .before .is-rearranged .ensures) (c .before .if3 .left)
 
 pub audit-words-spec : {M : Type 1} → statement M

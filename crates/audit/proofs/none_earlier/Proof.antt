@@ -16,16 +16,18 @@ use Rattle.audit.proofs.none_earlier.Tie as tie
 abbrev Inv-loop : tie.InvT-loop
 Inv-loop words order at c ok₀ i₀ i-end ok i =
     (i ≤ i-end) × (i-end ≡ length order)
-    × (ok && allOf (notEarlier c) (slice i i-end (inOrder (callsIn words) order)) ≡ allOf (notEarlier c) (slice at (length order) (inOrder (callsIn words) order)))
+    × (ok && allOf (notEarlier c) (slice i i-end (inOrder (callsIn words) order))
+    ≡ allOf (notEarlier c) (slice at (length order) (inOrder (callsIn words) order)))
 
 abbrev μ-loop : tie.MeasureT-loop
 μ-loop words order at c ok₀ i₀ i-end ok i = i-end - i
 
 loop-again : tie.Need-loop-again Inv-loop μ-loop
 loop-again k =
-    let at = k .before .before .before .before .loop in
+    let back4 = k .before .before .before .before in
+    let at = back4 .loop in
     let less = k .before .before .before .loop-test .taken in
-    let args = k .before .before .before .before .before .before .before .args in
+    let args = back4 .before .before .before .args in
     let ws = args .words .now in
     let ks = args .order .now in
     let cs = inOrder (callsIn ws) ks in

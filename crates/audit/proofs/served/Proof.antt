@@ -39,29 +39,34 @@ loop-holds c =
 
 returns : tie.Need-returns Inv-loop μ-loop
 returns c =
+    let back4 = c .before .before .before .before in
+    let back8 = back4 .before .before .before .before in
     let early = c .before .none-earlier in
     let same = c .before .before .agrees in
     let s = c .before .before .before .serve-label in
-    let one = c .before .before .before .before .before .call-of in
-    let less = c .before .before .before .before .before .before .before .loop-test .taken in
-    let at = c .before .before .before .before .before .before .before .before .loop in
-    let args = c .before .before .before .before .before .before .before .before .before .before .before .args in
+    let one = back4 .before .call-of in
+    let less = back4 .before .before .before .loop-test .taken in
+    let at = back8 .loop in
+    let args = back8 .before .before .before .args in
     let ws = args .words .now in
     let ks = args .order .now in
     let len = ordered-length ws ks in
     let inv = at .inv in
-    fails (inOrder (callsIn ws) ks) (length ks) (at .i) nobody (one .result) (one .ensures ∙ ordered-is ws ks (at .i)) (slice (at .low) (at .high) (at .buffer)) less (omega arith)
+    fails (inOrder (callsIn ws) ks) (length ks) (at .i) nobody (one .result) (one .ensures ∙ ordered-is ws ks (at .i))
+    (slice (at .low) (at .high) (at .buffer)) less (omega arith)
     _ _ _ _ (s .ensures .answer-is) (s .ensures .label-is) (same .ensures) (early .ensures) (c .if1 .taken) ∙ inv .7
 
 loop-again : tie.Need-loop-again Inv-loop μ-loop
 loop-again c =
+    let back4 = c .before .before .before .before in
+    let back8 = back4 .before .before .before .before in
     let early = c .before .none-earlier in
     let same = c .before .before .agrees in
     let s = c .before .before .before .serve-label in
-    let one = c .before .before .before .before .before .call-of in
-    let less = c .before .before .before .before .before .before .before .loop-test .taken in
-    let at = c .before .before .before .before .before .before .before .before .loop in
-    let args = c .before .before .before .before .before .before .before .before .before .before .before .args in
+    let one = back4 .before .call-of in
+    let less = back4 .before .before .before .loop-test .taken in
+    let at = back8 .loop in
+    let args = back8 .before .before .before .args in
     let ws = args .words .now in
     let ks = args .order .now in
     let len = ordered-length ws ks in
@@ -74,7 +79,8 @@ loop-again c =
       omega (arith, moved .left),
       omega (arith, moved .right),
       s .ensures .size,
-      goes-on (inOrder (callsIn ws) ks) (length ks) (at .i) nobody (one .result) (one .ensures ∙ ordered-is ws ks (at .i)) (slice (at .low) (at .high) (at .buffer)) less (omega arith)
+      goes-on (inOrder (callsIn ws) ks) (length ks) (at .i) nobody (one .result) (one .ensures ∙ ordered-is ws ks (at .i))
+          (slice (at .low) (at .high) (at .buffer)) less (omega arith)
           _ _ _ _ (s .ensures .answer-is) (s .ensures .label-is) (same .ensures) (early .ensures) _ (c .if1 .left) (s .ensures .queue-is) ∙ inv .7,
     )
 
@@ -84,7 +90,8 @@ returns-2 c =
     let args = c .before .before .before .before .args in
     let ks = args .order .now in
     let left = c .loop-test .left in
-    sym (all-served (inOrder (callsIn (args .words .now)) ks) (length ks) (at .i) (at .i + 1) (slice (at .low) (at .high) (at .buffer)) (omega arith)) ∙ at .inv .7
+    sym (all-served (inOrder (callsIn (args .words .now)) ks) (length ks) (at .i) (at .i + 1) (slice (at .low) (at .high) (at .buffer)) (omega arith))
+    ∙ at .inv .7
 
 pub served-spec : {M : Type 1} → statement M
 served-spec =

@@ -14,22 +14,25 @@ use Rattle.audit.proofs.calls.all_apart.Statement.{statement}
 use Rattle.audit.proofs.calls.all_apart.Tie as tie
 
 abbrev Inv-loop : tie.InvT-loop
-Inv-loop words ok₀ i₀ i-end ok i = (i ≤ i-end) × (i-end ≡ length words / 7) × (ok && pairwise apart (slice i i-end (callsIn words)) ≡ pairwise apart (callsIn words))
+Inv-loop words ok₀ i₀ i-end ok i = (i ≤ i-end) × (i-end ≡ length words / 7)
+    × (ok && pairwise apart (slice i i-end (callsIn words)) ≡ pairwise apart (callsIn words))
 
 abbrev μ-loop : tie.MeasureT-loop
 μ-loop words ok₀ i₀ i-end ok i = i-end - i
 
 loop-again : tie.Need-loop-again Inv-loop μ-loop
 loop-again k =
+    let back4 = k .before .before .before .before in
     let at = k .before .before .before .loop in
     let less = k .before .before .loop-test .taken in
-    let args = k .before .before .before .before .before .args in
+    let args = back4 .before .args in
     let ws = args .words .now in
     let len = count-is ws in
     let inv = at .inv in (
       omega arith,
       inv .1,
-      ap (λ (b : Bool). at .ok && b && pairwise apart (slice (at .i + 1) (length ws / 7) (callsIn ws))) (k .apart-from .ensures ∙ ap (λ d. allOf (apart d) (slice (at .i + 1) (length ws / 7) (callsIn ws))) (k .before .call-at .ensures))
+      ap (λ (b : Bool). at .ok && b && pairwise apart (slice (at .i + 1) (length ws / 7) (callsIn ws)))
+          (k .apart-from .ensures ∙ ap (λ d. allOf (apart d) (slice (at .i + 1) (length ws / 7) (callsIn ws))) (k .before .call-at .ensures))
           ∙ pairs-next (callsIn ws) (length ws / 7) apart (at .i) _ (at .ok) less (omega arith) ∙ inv .2,
     )
 
@@ -47,7 +50,12 @@ all-apart-spec =
     (tie.spec
     Inv-loop
     μ-loop
-    (λ c. (search needs, search needs, ap (λ m. pairwise apart (take m (callsIn (c .before .args .words .now)))) (sym (count-is (c .before .args .words .now))) ∙ ap (pairwise apart) (take-length (callsIn (c .before .args .words .now)))))
+    (λ c. (
+      search needs,
+      search needs,
+      ap (λ m. pairwise apart (take m (callsIn (c .before .args .words .now))))
+          (sym (count-is (c .before .args .words .now))) ∙ ap (pairwise apart) (take-length (callsIn (c .before .args .words .now))),
+    ))
     (λ c κs. search needs)
     (λ c. search needs)
     (λ c κs. search needs)

@@ -15,14 +15,22 @@ use Rattle.audit.proofs.labels.pop_label.Tie as tie
 serves : (low high : ℕ) (due : Given) (answer label low′ high′ : ℕ) (b : List ℕ) → due ≡ record { answer = answer; label = label; queue = slice low′ high′ b }
     → Moved low high low′ high′ → length b ≡ 128 → Serves low high due answer label low′ high′ b
 serves low high due answer label low′ high′ b e m z =
-    record { answer-is = sym (ap (λ (g : Given). g .answer) e); label-is = sym (ap (λ (g : Given). g .label) e); queue-is = sym (ap (λ (g : Given). g .queue) e); moved = m; size = z }
+    record {
+      answer-is = sym (ap (λ (g : Given). g .answer) e);
+      label-is = sym (ap (λ (g : Given). g .label) e);
+      queue-is = sym
+          (ap (λ (g : Given). g .queue) e);
+      moved = m;
+      size = z;
+    }
 
 returns : tie.Need-returns
 returns c =
     let start = c .before in
     let args = start .args in
     let none = c .if1 .taken in
-    serves (args .low) (args .high) _ 3 0 (args .low) (args .high) (args .buffer .now) (pop-none (args .buffer .now) (args .low) (args .high) (args .side) none)
+    serves (args .low) (args .high) _ 3 0 (args .low) (args .high) (args .buffer .now)
+    (pop-none (args .buffer .now) (args .low) (args .high) (args .side) none)
     (record { ends = omega arith; left = omega arith; right = omega arith }) (start .pre .2)
 
 returns-2 : tie.Need-returns-2

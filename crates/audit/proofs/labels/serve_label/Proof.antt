@@ -8,7 +8,10 @@ use Rattle.audit.proofs.labels.serve_label.Tie as tie
 
 returns : tie.Need-returns
 unfolding serveLabel
-returns c = rw (eq-eqb _ 0 (c .before .before .if1 .taken)) (record { answer-is = refl; label-is = refl; queue-is = c .push-label .ensures .0; moved = c .push-label .ensures .1; size = c .push-label .ensures .2 })
+returns c =
+    let pushed = c .push-label .ensures in
+    rw (eq-eqb _ 0 (c .before .before .if1 .taken))
+    (record { answer-is = refl; label-is = refl; queue-is = pushed .0; moved = pushed .1; size = pushed .2 })
 
 returns-2 : tie.Need-returns-2
 unfolding serveLabel

@@ -12,16 +12,18 @@ use Rattle.audit.proofs.order.differs_from.Statement.{statement}
 use Rattle.audit.proofs.order.differs_from.Tie as tie
 
 abbrev Inv-loop : tie.InvT-loop
-Inv-loop order at j ok₀ i₀ i-end ok i = (i ≤ i-end) × (i-end ≡ length order) × (ok && allOf (differ j) (slice i i-end order) ≡ allOf (differ j) (slice at (length order) order))
+Inv-loop order at j ok₀ i₀ i-end ok i = (i ≤ i-end) × (i-end ≡ length order)
+    × (ok && allOf (differ j) (slice i i-end order) ≡ allOf (differ j) (slice at (length order) order))
 
 abbrev μ-loop : tie.MeasureT-loop
 μ-loop order at j ok₀ i₀ i-end ok i = i-end - i
 
 loop-again : tie.Need-loop-again Inv-loop μ-loop
 loop-again k =
+    let back4 = k .before .before .before .before in
     let at = k .before .before .before .loop in
     let less = k .before .before .loop-test .taken in
-    let args = k .before .before .before .before .before .args in
+    let args = back4 .before .args in
     let l = args .order .now in
     let inv = at .inv in (
       omega arith,

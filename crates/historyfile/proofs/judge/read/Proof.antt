@@ -42,7 +42,8 @@ loop-again c =
     let byte = d .byte-at in
     let less = d .before .loop-test .taken in
     let at = d .before .before .loop in
-    let a = d .before .before .before .before .before .before .args in
+    let e = d .before .before .before .before in
+    let a = e .before .before .args in
     let v = at .values in
     let v′ = call .last .1 .1 .0 in
     let inv = at .inv in
@@ -61,7 +62,8 @@ take-byte-requires-2 c κs = (omega arith, c .before .before .loop .inv .3)
 
 same-length : tie.Need-same-length Inv-loop μ-loop
 same-length c =
-    let at = c .before .before .before .before .before .loop in
+    let back4 = c .before .before .before .before in
+    let at = back4 .before .loop in
     c .before .before .take-byte2 .kept .1 .1 .0 ∙ at .inv .2
 
 returns : tie.Need-returns Inv-loop μ-loop
@@ -70,7 +72,8 @@ returns c =
     let d = c .before .before .before .before in
     let end = d .loop-test .left in
     let at = d .before .loop in
-    let a = d .before .before .before .before .before .args in
+    let e = d .before .before .before .before in
+    let a = e .before .args in
     let v = at .values in
     let inv = at .inv in (
       fed-end (length v) (at .i) (a .text .now) (reading (at .s) v) _ (omega arith) (call .ensures .0) ∙ inv .4,

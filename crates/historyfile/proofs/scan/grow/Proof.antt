@@ -21,21 +21,33 @@ returns c = rw (sym (c .before .before .is-digit .ensures) ∙ not-true _ (c .be
 
 returns-2 : tie.Need-returns-2
 unfolding grown
-returns-2 c = rw (sym (c .before .before .before .before .is-digit .ensures) ∙ not-false _ (c .before .before .before .if1 .left), lt-ltb 1 _ (c .before .if2 .taken)) (c .under-way2 .ensures)
+returns-2 c = rw (
+  sym (c .before .before .before .before .is-digit .ensures) ∙ not-false _ (c .before .before .before .if1 .left),
+  lt-ltb 1 _ (c .before .if2 .taken),
+) (c .under-way2 .ensures)
 
 sub-digit : tie.Need-sub-digit
 sub-digit c =
+    let back4 = c .before .before .before .before in
     let e = sym (c .before .before .before .is-digit .ensures) ∙ not-false _ (c .before .before .if1 .left) in
-    omega (arith, digit-from (c .before .before .before .before .before .args .b) e)
+    omega (arith, digit-from (back4 .before .args .b) e)
 
 returns-3 : tie.Need-returns-3
 unfolding grown
-returns-3 c = rw (sym (c .before .before .before .before .before .before .is-digit .ensures) ∙ not-false _ (c .before .before .before .before .before .if1 .left), le-ltb 1 _ (c .before .before .before .if2 .left), sym (c .before .before .has-room .ensures) ∙ not-true _ (c .before .if3 .taken)) (c .under-way3 .ensures)
+returns-3 c =
+    let back4 = c .before .before .before .before in
+    rw (
+      sym (back4 .before .before .is-digit .ensures) ∙ not-false _ (back4 .before .if1 .left),
+      le-ltb 1 _ (c .before .before .before .if2 .left),
+      sym (c .before .before .has-room .ensures) ∙ not-true _ (c .before .if3 .taken),
+    ) (c .under-way3 .ensures)
 
 mul-number : tie.Need-mul-number
 mul-number c =
-    let args = c .before .before .before .before .before .before .before .before .args in
-    let e = sym (c .before .before .before .before .before .before .is-digit .ensures) ∙ not-false _ (c .before .before .before .before .before .if1 .left) in
+    let back4 = c .before .before .before .before in
+    let back8 = back4 .before .before .before .before in
+    let args = back8 .args in
+    let e = sym (back4 .before .before .is-digit .ensures) ∙ not-false _ (back4 .before .if1 .left) in
     let to = digit-to (args .b) e in
     let digit : args .b - 48 ≤ 9 = omega arith in
     let fine = room (args .s .number) (args .b - 48) digit (sym (c .before .before .has-room .ensures) ∙ not-false _ (c .before .if3 .left)) in
@@ -43,8 +55,10 @@ mul-number c =
 
 add-number : tie.Need-add-number
 add-number c =
-    let args = c .before .before .before .before .before .before .before .before .args in
-    let e = sym (c .before .before .before .before .before .before .is-digit .ensures) ∙ not-false _ (c .before .before .before .before .before .if1 .left) in
+    let back4 = c .before .before .before .before in
+    let back8 = back4 .before .before .before .before in
+    let args = back8 .args in
+    let e = sym (back4 .before .before .is-digit .ensures) ∙ not-false _ (back4 .before .if1 .left) in
     let to = digit-to (args .b) e in
     let digit : args .b - 48 ≤ 9 = omega arith in
     let fine = room (args .s .number) (args .b - 48) digit (sym (c .before .before .has-room .ensures) ∙ not-false _ (c .before .if3 .left)) in
@@ -52,7 +66,13 @@ add-number c =
 
 returns-4 : tie.Need-returns-4
 unfolding grown
-returns-4 c = rw (sym (c .before .before .before .before .before .before .before .is-digit .ensures) ∙ not-false _ (c .before .before .before .before .before .before .if1 .left), le-ltb 1 _ (c .before .before .before .before .if2 .left), sym (c .before .before .before .has-room .ensures) ∙ not-false _ (c .before .before .if3 .left)) (c .under-way4 .ensures)
+returns-4 c =
+    let back4 = c .before .before .before .before in
+    rw (
+      sym (back4 .before .before .before .is-digit .ensures) ∙ not-false _ (back4 .before .before .if1 .left),
+      le-ltb 1 _ (back4 .if2 .left),
+      sym (c .before .before .before .has-room .ensures) ∙ not-false _ (c .before .before .if3 .left),
+    ) (c .under-way4 .ensures)
 
 pub grow-spec : {M : Type 1} → statement M
 grow-spec =
