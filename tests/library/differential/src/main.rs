@@ -12,9 +12,6 @@ mod plant;
 mod sound;
 mod tally;
 mod world;
-#[allow(dead_code)] // the C declarations alone are used
-#[path = "../../../../bindings/zeppolecape.rs"]
-mod zeppolecape;
 
 use reference::dice::Dice;
 use std::process::ExitCode;
