@@ -94,7 +94,7 @@ later ones larger. With empty the label may be -. What cannot be read is told
 on standard error, with its line.
 
 A run of trace as a history:
-  tools/runfile RUN.txt > RUN; trace < RUN | tools/history RUN | verdict
+  tools/runfile RUN.txt | trace | tools/history RUN.txt | verdict
 ",
     )
 }
