@@ -663,11 +663,13 @@ ZC_LAYOUT(offsetof(zc_verdict, code) == 0 && offsetof(zc_verdict, position) == 4
 zc_verdict zc_audit_words(const uint64_t *words, size_t word_count, const uint64_t *order,
                           size_t order_count);
 
+#ifndef ZC_CORE_ONLY
 static inline zc_verdict zc_audit(const zc_finished *calls, size_t call_count,
                                   const uint64_t *order, size_t order_count)
 {
     return zc_audit_words((const uint64_t *)calls, 7 * call_count, order, order_count);
 }
+#endif
 
 #ifdef __cplusplus
 }

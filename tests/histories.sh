@@ -6,7 +6,27 @@ set -u
 [ $# -eq 2 ] && [ -x "$1" ] && [ -x "$2" ] || { echo "usage: tests/histories.sh VERDICT TRACE" >&2; exit 2; }
 program=$(realpath "$1")
 trace=$(realpath "$2")
-. "$(dirname "$0")/verdict.sh"
+root=$(cd "$(dirname "$0")/.." && pwd)
+scratch=$(mktemp -d) || exit 2
+trap 'rm -rf "$scratch"' EXIT
+passed=0
+failed=0
+
+# verdict WHAT EXPECTED FOUND
+verdict() {
+    if [ "$2" = "$3" ]; then
+        passed=$((passed + 1))
+    else
+        failed=$((failed + 1))
+        printf 'FAILED %s\n  expected %s\n  found    %s\n' "$1" "$2" "$3"
+    fi
+}
+
+# The last line of a test, and its status.
+summary() {
+    echo "$passed passed, $failed failed"
+    [ "$failed" -eq 0 ] && [ "$passed" -gt 0 ]
+}
 
 # What the program says of the text on its standard input: output, then noise.
 said() { timeout 20 "$program" 2>&1; }

@@ -44,7 +44,7 @@ abbrev push : Finished
 push = record { task = 0; kind = 0; side = 1; label = 700; answer = 2; start = 1; end = 3 }
 
 abbrev empty : Finished
-empty = record { task = 0; kind = 1; side = 0; label = 0; answer = 3; start = 4; end = 11 }
+empty = record { task = 0; kind = 1; side = 0; label = 0; answer = 3; start = 4; end = 9 }
 
 abbrev popped : ℕ → ℕ → Finished
 popped label start = record { task = 1; kind = 1; side = 1; label = label; answer = 4; start = start; end = 10 }
@@ -68,7 +68,7 @@ pub record Table : Type 0 where
   -- popped with another label
   pub other-label : verdict (push ∷ empty ∷ popped 701 5 ∷ []) (1 ∷ 3 ∷ 2 ∷ []) ≡ Failed 2
   -- the label of empty is not looked at
-  pub no-label : verdict (push ∷ record { task = 0; kind = 1; side = 0; label = 9; answer = 3; start = 4; end = 11 } ∷ popped 700 5 ∷ [])
+  pub no-label : verdict (push ∷ record { task = 0; kind = 1; side = 0; label = 9; answer = 3; start = 4; end = 9 } ∷ popped 700 5 ∷ [])
       (1 ∷ 3 ∷ 2 ∷ []) ≡ Passed
   -- a start at another call's answer
   pub same-event : verdict (push ∷ empty ∷ popped 700 3 ∷ []) (1 ∷ 3 ∷ 2 ∷ []) ≡ Refused 40
