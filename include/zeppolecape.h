@@ -57,11 +57,12 @@
  *   zc_open            72        75        75        75
  *   zc_push           136       229       229       229
  *   zc_pop            120       214       214       214
- *   zc_step           168       245       245       245
- *   zc_step_record    168       246       246       246
- *   zc_report          72       136       178       749
+ *   zc_step           160       247       247       247
+ *   zc_step_record    168       242       242       242
+ *   zc_run            192      1298      3024      3024
+ *   zc_report         112       227       503     27343
  *   table bytes         -       192       664     21792
- *   code bytes: capi 5609, capi_record 2720
+ *   code bytes: capi 5987, capi_record 2702, capi_run 3057
  * As to the machine: x86-64, System V calling convention. The code uses the red zone (128 bytes
  * below the stack pointer) and SSE registers, no AVX: an interrupt handler that makes a call saves
  * the SSE state first, and an interrupt that is not masked during a call leaves the red zone alone.
