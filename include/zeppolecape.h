@@ -62,7 +62,7 @@
  *   zc_run            192      1298      3024      3024
  *   zc_report         112       227       503     27343
  *   table bytes         -       192       664     21792
- *   code bytes: capi 5987, capi_record 2702, capi_run 3057
+ *   code bytes: audit 1804, capi 5987, capi_record 2702, capi_run 3057
  * As to the machine: x86-64, System V calling convention. The code uses the red zone (128 bytes
  * below the stack pointer) and SSE registers, no AVX: an interrupt handler that makes a call saves
  * the SSE state first, and an interrupt that is not masked during a call leaves the red zone alone.
@@ -178,6 +178,9 @@ extern "C" {
  *    word with a set bit in 31-15 or a slot above slots, or more slots than exist.
  */
 #define ZC_UNSOUND 34
+
+/* Refusal of zc_audit, because of the input: no history that can be judged. */
+#define ZC_BAD_HISTORY 40
 
 /* ---- Types ------------------------------------------------------------------------------ */
 
@@ -380,6 +383,7 @@ static inline const char *zc_refusal_text(uint64_t number)
     case ZC_TAKEN: return "the slot is taken";
     case ZC_WORN: return "the Anchor tag is too high for another start";
     case ZC_UNSOUND: return "the tables are unsound";
+    case ZC_BAD_HISTORY: return "not a history that can be judged";
     default: return "not a refusal";
     }
 }
@@ -607,6 +611,66 @@ static inline uint32_t zc_queue_refill(const zc_queue *queue, size_t task, const
     }
     return 0;
 }
+
+/* ---- Histories ---------------------------------------------------------------------------
+ * What another controller did, checked afterwards: its calls with their answers, and the order in
+ * which it claims that they took effect. No queue is needed, and nothing is written.
+ */
+
+#define ZC_MOST_CALLS 64
+
+/* A finished call: seven words, no padding. An event is any number; a later event has a larger one. */
+typedef struct zc_finished {
+    uint64_t task;   /* any number; it is told, and decides nothing */
+    uint64_t kind;   /* ZC_PUSH or ZC_POP */
+    uint64_t side;   /* ZC_LEFT or ZC_RIGHT */
+    uint64_t label;  /* the label pushed or popped; unused with ZC_EMPTY */
+    uint64_t answer; /* ZC_PUSHED, ZC_EMPTY or ZC_POPPED */
+    uint64_t start;  /* the event of its start */
+    uint64_t end;    /* the event of its answer */
+} zc_finished;
+
+/* Codes of a zc_verdict. Any other code is the number of a refusal. */
+#define ZC_PASSES 0
+#define ZC_FAILS 1 /* position: the first wrong one, from 1; 0 if the order is no rearrangement */
+
+typedef struct zc_verdict {
+    uint32_t code;     /* ZC_PASSES, ZC_FAILS, or the number of a refusal */
+    uint32_t position; /* 0 unless ZC_FAILS */
+} zc_verdict;
+
+ZC_LAYOUT(sizeof(zc_finished) == 56);
+ZC_LAYOUT(offsetof(zc_finished, task) == 0 && offsetof(zc_finished, kind) == 8);
+ZC_LAYOUT(offsetof(zc_finished, side) == 16 && offsetof(zc_finished, label) == 24);
+ZC_LAYOUT(offsetof(zc_finished, answer) == 32 && offsetof(zc_finished, start) == 40);
+ZC_LAYOUT(offsetof(zc_finished, end) == 48);
+ZC_LAYOUT(sizeof(zc_verdict) == 8);
+ZC_LAYOUT(offsetof(zc_verdict, code) == 0 && offsetof(zc_verdict, position) == 4);
+
+/*
+ * Checks a history of 0 to 64 finished calls of a queue that was empty at first. `order` is the
+ * claimed order of effects: the calls' numbers, from 1. The history passes if the order names every
+ * call once, no call comes before one that was answered before it started, and a plain queue that
+ * serves the calls in that order gives each its answer. Else the first position of the order is
+ * told whose call has another answer or stands before a call answered before its start; 0 if the
+ * order is not a rearrangement of the calls.
+ * Every history of a queue of this library passes, its effects being the steps that move an end of
+ * Anchor and those that answer empty.
+ * Refuses: 40 (over 64 calls; an answer event not after its start; two events equal; a kind, side
+ * or answer unknown). Nothing in the order is refused.
+ *
+ * The calls are lent as words, seven each in the order of zc_finished; a rest of fewer is no call.
+ */
+zc_verdict zc_audit_words(const uint64_t *words, size_t word_count, const uint64_t *order,
+                          size_t order_count);
+
+#ifndef ZC_CORE_ONLY
+static inline zc_verdict zc_audit(const zc_finished *calls, size_t call_count,
+                                  const uint64_t *order, size_t order_count)
+{
+    return zc_audit_words((const uint64_t *)calls, 7 * call_count, order, order_count);
+}
+#endif
 
 #ifdef __cplusplus
 }

@@ -1,6 +1,7 @@
 #!/bin/bash
 # Do the tests fail when they should? Each line below plants one fault in a copy of
 # bench/reference.c, and the differential test must notice it; what else does is told beside.
+# (audit_faults.sh has those of the audit.)
 #
 #     tests/library/faults.sh [FIRST [LAST]]    lines to try, all of them by default
 set -u -o pipefail
@@ -229,7 +230,8 @@ END
 # The test programs, built once on calls that are handed on to a shared object; all calls are in one.
 mkdir "$work/forward" &&
     gcc -std=gnu11 -O2 -Iinclude -c tests/library/forward.c -o "$work/forward.o" &&
-    ar rcs "$work/forward/libzeppolecape.a" "$work/forward.o" &&
+    gcc -std=c11 -O2 -DAS_LIBRARY -Iinclude -c bench/audit_reference.c -o "$work/audit.o" &&
+    ar rcs "$work/forward/libzeppolecape.a" "$work/forward.o" "$work/audit.o" &&
     gcc -shared -fPIC -O2 -DAS_LIBRARY -Iinclude bench/reference.c -o "$work/faultless.so" || exit 2
 if ! ZC_OBJECT=$work/faultless.so BUILD=$work/build tests/library/run.sh "$work/forward" >"$work/said"; then
     cat "$work/said"

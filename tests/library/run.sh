@@ -2,17 +2,17 @@
 # Tests of the static library through its C interface.
 #
 #     tests/library/run.sh [FOLDER]     of libzeppolecape.a; default: target/lib, where `make` writes it
-#     tests/library/run.sh --stand-in   bench/reference.c, the same calls by hand, in its place
+#     tests/library/run.sh --stand-in   bench/reference.c and audit_reference.c, the same calls by hand, in its place
 #
 # PARTS names what runs, all of it by default: header, a program NAME for each tests/library/NAME.c that has a main,
-# bindings examples projects bench facts differential.
+# bindings examples projects bench audit facts differential.
 # SEED and TIMES go to the differential test (1 and 1). BUILD keeps what is built there.
 set -u -o pipefail
 from=$PWD
 cd "$(dirname "$0")/../.."
 
 PROGRAMS=$(grep -l '^int main' tests/library/*.c | xargs -n 1 basename -s .c | tr '\n' ' ')
-PARTS=${PARTS:-header $PROGRAMS bindings examples projects bench facts differential}
+PARTS=${PARTS:-header $PROGRAMS bindings examples projects bench audit facts differential}
 CC=${CC:-gcc}
 CXX=${CXX:-g++}
 WARNINGS="-Wall -Wextra -Wpedantic -Werror"
@@ -32,7 +32,8 @@ case ${1:-} in
 --stand-in)
     PARTS=${PARTS/facts/} # which are the library's
     $CC -std=c11 -O2 $WARNINGS -DAS_LIBRARY -Iinclude -c bench/reference.c -o "$work/library.o" || exit 2
-    ar rcs "$archive" "$work/library.o"
+    $CC -std=c11 -O2 $WARNINGS -DAS_LIBRARY -Iinclude -c bench/audit_reference.c -o "$work/audit.o" || exit 2
+    ar rcs "$archive" "$work/library.o" "$work/audit.o"
     ;;
 *)
     given=${1:-$PWD/target/lib}
@@ -185,6 +186,11 @@ part_bench() {
             holds "library, C and bare alike: $tasks tasks, $slots slots" "$work/bench" check $tasks $slots 100000
         done
     done
+}
+
+part_audit() {
+    holds "the audit's benchmark compiles" $CC -std=gnu11 -O2 -Iinclude bench/audit.c bench/audit_reference.c "$archive" -o "$work/audit"
+    holds "library and C give the same verdicts" "$work/audit" check 200000
 }
 
 part_facts() {

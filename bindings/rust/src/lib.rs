@@ -5,7 +5,8 @@
 //! lock-free is the tasks, between calls: wherever a task is stopped, the others go on.
 //!
 //! [`Queue`] owns its tables. [`Tables`] lends tables that the caller keeps elsewhere, with any
-//! contents and any lengths. [`raw`] holds the C declarations themselves.
+//! contents and any lengths. [`audit()`] checks a history of finished calls. [`raw`] holds the C
+//! declarations themselves.
 //!
 //! ```
 //! use zeppolecape::{Answer, Queue, Side};
@@ -25,6 +26,7 @@
 
 extern crate alloc;
 
+mod audit;
 mod numbers;
 mod queue;
 pub mod raw;
@@ -32,6 +34,7 @@ mod tables;
 #[cfg(test)]
 mod tests;
 
+pub use audit::{audit, audit_words, Finished, Verdict, MOST_CALLS};
 pub use numbers::*;
 pub use queue::Queue;
 pub use raw::{Control, Record};

@@ -105,6 +105,7 @@ refusals! {
     Taken = 32, "the slot is taken";
     Worn = 33, "the Anchor tag is too high for another start", "(see [`Queue::renew`](crate::Queue::renew))";
     Unsound = 34, "the tables are unsound", "(somebody else wrote there)";
+    BadHistory = 40, "not a history that can be judged", "(of [`audit`](crate::audit()) alone)";
 }
 
 impl Refusal {

@@ -117,6 +117,16 @@ pub struct ReportReply {
     pub retries: u64,
 }
 
+/// What an audit answers.
+#[repr(C)]
+#[derive(Clone, Copy, Debug, Default, PartialEq, Eq)]
+pub struct Verdict {
+    /// 0 passes, 1 fails, or the number of a refusal.
+    pub code: u32,
+    /// Fails: the first wrong position, from 1; 0 if the order is no rearrangement.
+    pub position: u32,
+}
+
 #[link(name = "zeppolecape", kind = "static")]
 unsafe extern "C" {
     /// Opens an empty queue. Answers 0, or refuses: 10, 11, 12.
@@ -241,6 +251,15 @@ unsafe extern "C" {
         marks: *mut u64,
         mark_count: usize,
     ) -> Reply;
+
+    /// Checks a history of finished calls, seven words each, against its claimed order of effects.
+    /// Refuses: 40.
+    pub fn zc_audit_words(
+        words: *const u64,
+        word_count: usize,
+        order: *const u64,
+        order_count: usize,
+    ) -> Verdict;
 }
 
 const _: () = {

@@ -168,7 +168,7 @@ fn lent_tables_and_a_lent_record() {
 #[test]
 fn refusals_have_their_numbers() {
     let known: Vec<u64> = (0..100).filter(|&n| Refusal::numbered(n).is_some()).collect();
-    assert_eq!(known, [10, 11, 12, 13, 14, 15, 30, 31, 32, 33, 34]);
+    assert_eq!(known, [10, 11, 12, 13, 14, 15, 30, 31, 32, 33, 34, 40]);
     assert_eq!(Refusal::Worn.to_string(), "33: the Anchor tag is too high for another start");
 }
 
@@ -192,4 +192,41 @@ fn runs_to_its_answer() {
     assert_eq!(queue.clone().run(1, PUSH_STEPS - 1).outcome, Ok(Running(10)));
     assert_eq!(queue.run(1, u64::MAX), Run { outcome: Ok(Pushed), steps: PUSH_STEPS });
     assert_eq!(queue.waiting(), [(1, 11), (2, 12), (3, 13), (4, 21)]);
+}
+
+/// A label pushed, then two pops of it at once; the second gets it.
+fn calls() -> [Finished; 3] {
+    let push = Finished { task: 0, kind: 0, side: 1, label: 700, answer: 2, start: 1, end: 3 };
+    let left = Finished { kind: 1, side: 0, label: 0, answer: 3, start: 4, end: 11, ..push };
+    let right =
+        Finished { task: 1, kind: 1, side: 1, label: 700, answer: 4, start: 5, end: 10 };
+    [push, left, right]
+}
+
+#[test]
+fn verdicts() {
+    assert_eq!(audit(&calls(), &[1, 3, 2]), Ok(Verdict::Passes));
+    assert_eq!(audit(&calls(), &[1, 2, 3]), Ok(Verdict::Fails { position: 2 }));
+    assert_eq!(audit(&calls(), &[2, 1, 3]), Ok(Verdict::Fails { position: 1 }));
+    assert_eq!(audit(&calls(), &[1, 3, 3]), Ok(Verdict::NoRearrangement));
+    assert_eq!(audit(&calls(), &[1, 3]), Ok(Verdict::NoRearrangement));
+    assert_eq!(audit(&[], &[]), Ok(Verdict::Passes));
+    let bad = Finished { answer: 5, ..calls()[0] };
+    assert_eq!(audit(&[bad], &[1]), Err(Refusal::BadHistory));
+    assert_eq!(Refusal::BadHistory.to_string(), "40: not a history that can be judged");
+}
+
+#[test]
+fn as_many_calls_as_fit() {
+    let pop = |n: u64| Finished {
+        kind: 1,
+        answer: 3,
+        start: 2 * n,
+        end: 2 * n + 1,
+        ..Finished::default()
+    };
+    let calls: Vec<Finished> = (0..65).map(pop).collect();
+    let order: Vec<u64> = (1..=65).collect();
+    assert_eq!(audit(&calls[..MOST_CALLS], &order[..MOST_CALLS]), Ok(Verdict::Passes));
+    assert_eq!(audit(&calls, &order), Err(Refusal::BadHistory));
 }
