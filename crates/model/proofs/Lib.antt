@@ -15,6 +15,7 @@ pub mod progress
 pub mod Linearizable
 pub mod NeverUnsound
 pub mod StepBounds
+pub mod LinksBack
 -- Laws of single calls, and the worked cases of the document.
 pub mod laws
 pub mod Bench

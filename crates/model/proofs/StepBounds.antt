@@ -17,7 +17,7 @@ use Rattle.model.proofs.progress.Reached.{Reached, final-reached, open-
 use Rattle.model.proofs.progress.TogetherSteps.{stretch-tells}
 
 -- What holds of the queue that any accepted opening leaves.
-after-opening : (P : Queue → List Request → Type 0) → ((q : Queue) (tasks : ℕ) → Reached tasks q → (os : List Request) → P q os) → AfterOpening P
+pub after-opening : (P : Queue → List Request → Type 0) → ((q : Queue) (tasks : ℕ) → Reached tasks q → (os : List Request) → P q os) → AfterOpening P
 unfolding openQueue
 after-opening P h q tasks slots tag e os = split (eqb (openRefusal q tasks slots) 0)
     (λ z. rw z (h (opened q tasks slots tag) tasks (open-reached q tasks slots tag (eqb-true _ _ z)) os))
