@@ -3,6 +3,7 @@ pub mod Tests
 pub mod Refusals
 pub mod Lengths
 pub mod LentRecord
+pub mod LentSteps
 pub mod OneTouch
 pub mod Onward
 pub mod Mirror
