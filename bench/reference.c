@@ -372,11 +372,44 @@ zc_run_reply zc_run(zc_control *control, zc_record *records, size_t record_count
 }
 #endif
 
+/* The labels waiting, from end to end; 0 where the links lead astray or nothing waits. */
+static uint64_t walked(const zc_control *control, const uint64_t *lefts, const uint64_t *rights)
+{
+    int from_left = zc_anchor_status(control->anchor) == ZC_LPUSH;
+    const uint64_t *links = from_left ? rights : lefts;
+    uint64_t left = zc_anchor_left(control->anchor), right = zc_anchor_right(control->anchor);
+    uint64_t slot = from_left ? left : right, last = from_left ? right : left;
+    uint64_t count = 1;
+    while (slot != last && count < control->slots) {
+        uint64_t link = links[slot];
+        if (!link_sound(link, control->slots) || zc_link_slot(link) == 0)
+            return 0;
+        slot = zc_link_slot(link);
+        count++;
+    }
+    return slot == last ? count : 0;
+}
+
+/* The marks set for slots 1 to slots. */
+static uint64_t marked_slots(const uint64_t *marks, uint64_t slots)
+{
+    uint64_t last = slots / 64, count = 0;
+    for (uint64_t word = 0; word <= last; word++) {
+        uint64_t kept = marks[word];
+        if (word == 0)
+            kept &= ~UINT64_C(1);
+        if (word == last)
+            kept &= UINT64_MAX >> (63 - slots % 64);
+        count += (uint64_t)__builtin_popcountll(kept);
+    }
+    return count;
+}
+
 zc_report_reply CALL(report)(const zc_control *control, const zc_record *records,
                              size_t record_count,
                              TABLES(const uint64_t, const uint32_t, const uint64_t))
 {
-    (void)lefts, (void)rights, (void)labels;
+    (void)labels;
     zc_report_reply reply = {0};
     if (!control_sound(control)) {
         reply.code = ZC_UNSOUND;
@@ -387,6 +420,13 @@ zc_report_reply CALL(report)(const zc_control *control, const zc_record *records
         reply.code = ZC_SHORT;
         return reply;
     }
+    if (zc_anchor_right(control->anchor) != 0) {
+        reply.waiting = walked(control, lefts, rights);
+        if (reply.waiting == 0) {
+            reply.code = ZC_UNSOUND;
+            return reply;
+        }
+    }
     reply.tag = zc_anchor_tag(control->anchor);
     reply.status = zc_anchor_status(control->anchor);
     reply.left = zc_anchor_left(control->anchor);
@@ -394,7 +434,6 @@ zc_report_reply CALL(report)(const zc_control *control, const zc_record *records
     reply.retries = control->retries;
     for (uint64_t task = 0; task < control->tasks; task++)
         reply.busy += records[task].place != 0;
-    for (uint64_t slot = 1; slot <= control->slots; slot++)
-        reply.waiting += (uint64_t)zc_marked(marks, slot);
+    reply.taken = marked_slots(marks, control->slots);
     return reply;
 }

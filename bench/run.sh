@@ -1,5 +1,6 @@
 #!/bin/bash
-# The library's step against the same step by hand in C, and against the bare algorithm.
+# The library's step against the same step by hand in C, and against the bare algorithm; the report
+# against the same report by hand in C.
 #
 #     bench/run.sh [FOLDER]         of libcapi.a and libcapi_record.a; default: target/staticlib,
 #                                   where `rt staticlib capi` and `rt staticlib capi_record` write them
@@ -34,17 +35,20 @@ else
     done
 fi
 
-for source in main reference bare; do
+for source in main reference bare walks; do
     $CC $WARNINGS $OPT -I../include -c $source.c -o "$work/$source.o"
 done
 $CC "$work"/{main,reference,bare}.o "${archives[@]}" -o "$work/bench"
+$CC "$work"/{walks,reference}.o "${archives[@]}" -o "$work/walks"
 
 # Instructions of a whole replay by callgrind; nothing if it cannot tell.
-instructions() { # ENGINE TASKS SLOTS
-    valgrind --tool=callgrind --callgrind-out-file=/dev/null --toggle-collect="replay_$1" \
-        "$work/bench" count "$1" "$2" "$3" $COUNTED 2>&1 >/dev/null |
+collected() { # ENGINE COMMAND..
+    local engine=$1
+    shift
+    valgrind --tool=callgrind --callgrind-out-file=/dev/null --toggle-collect="replay_$engine" "$@" 2>&1 >/dev/null |
         sed -n 's/.*Collected : \([0-9]*\).*/\1/p' || true
 }
+instructions() { collected "$1" "$work/bench" count "$1" "$2" "$3" $COUNTED; } # ENGINE TASKS SLOTS
 
 have_callgrind=yes
 if ! command -v valgrind >/dev/null || [ -z "$(instructions loop 1 3)" ]; then
@@ -90,3 +94,22 @@ for call in step step_record; do
 done
 echo
 echo "Answers and tables of all three were the same in every line."
+echo
+echo "The calls that walk the queue, 1,023 slots; nanoseconds and instructions a call."
+echo
+echo "| call | labels waiting | ns: library | C | library/C | instructions: library | C |"
+echo "|---|---|---|---|---|---|---|"
+for call in report; do
+    for labels in 3 64 1023; do
+        "$work/walks" check $labels
+        "$work/walks" time $call $labels 500 >"$work/times"
+        a=$(awk '$1 == "library" { print $2 }' "$work/times")
+        b=$(awk '$1 == "reference" { print $2 }' "$work/times")
+        ia=- ib=-
+        if [ $have_callgrind = yes ]; then
+            ia=$(($(collected library "$work/walks" count $call library $labels) / 1000))
+            ib=$(($(collected reference "$work/walks" count $call reference $labels) / 1000))
+        fi
+        printf '| zc_%s | %s | %.0f | %.0f | %s | %s | %s |\n' $call $labels "$a" "$b" "$(ratio "$a" "$b")" "$ia" "$ib"
+    done
+done

@@ -131,8 +131,9 @@ pub mod raw {
         pub left: u64,
         pub right: u64,
         pub busy: u64,
-        pub retries: u64,
         pub waiting: u64,
+        pub taken: u64,
+        pub retries: u64,
     }
 
     #[link(name = "capi_record", kind = "static")]
@@ -383,9 +384,11 @@ pub struct Report {
     pub anchor: Anchor,
     /// Tasks with a call under way.
     pub busy: u64,
-    pub retries: u64,
-    /// Marks set for slots 1 to slots, half-done calls included.
+    /// Labels in the queue.
     pub waiting: u64,
+    /// Marks set for slots 1 to slots, half-done calls included.
+    pub taken: u64,
+    pub retries: u64,
 }
 
 /// Lent tables: any contents, any lengths.
@@ -466,7 +469,7 @@ impl Tables<'_> {
         Run { outcome: outcome(raw::Reply { code, label, value }), steps }
     }
 
-    /// Refuses 34 for control, 12.
+    /// Refuses 34 for control, 12, 34 for the walk.
     pub fn report(&self) -> Result<Report, Refusal> {
         report(self.control, self.records, self.lefts, self.rights, self.labels, self.marks)
     }
@@ -497,9 +500,10 @@ fn report(
             marks.len(),
         )
     };
-    let raw::ReportReply { code, tag, status, left, right, busy, retries, waiting } = reply;
+    let raw::ReportReply { code, tag, status, left, right, busy, waiting, taken, retries } = reply;
+    let anchor = Anchor { tag, status, left, right };
     match code {
-        0 => Ok(Report { anchor: Anchor { tag, status, left, right }, busy, retries, waiting }),
+        0 => Ok(Report { anchor, busy, waiting, taken, retries }),
         number => Err(Refusal::answered(number)),
     }
 }
@@ -640,12 +644,13 @@ const _: () = {
     assert!(size_of::<raw::RunReply>() == 24 && align_of::<raw::RunReply>() == 8);
     assert!(offset_of!(raw::RunReply, code) == 0 && offset_of!(raw::RunReply, label) == 4);
     assert!(offset_of!(raw::RunReply, value) == 8 && offset_of!(raw::RunReply, steps) == 16);
-    assert!(size_of::<raw::ReportReply>() == 64 && align_of::<raw::ReportReply>() == 8);
+    assert!(size_of::<raw::ReportReply>() == 72 && align_of::<raw::ReportReply>() == 8);
     assert!(offset_of!(raw::ReportReply, code) == 0 && offset_of!(raw::ReportReply, tag) == 8);
     assert!(offset_of!(raw::ReportReply, status) == 16 && offset_of!(raw::ReportReply, left) == 24);
     assert!(offset_of!(raw::ReportReply, right) == 32 && offset_of!(raw::ReportReply, busy) == 40);
-    assert!(offset_of!(raw::ReportReply, retries) == 48);
-    assert!(offset_of!(raw::ReportReply, waiting) == 56);
+    assert!(offset_of!(raw::ReportReply, waiting) == 48);
+    assert!(offset_of!(raw::ReportReply, taken) == 56);
+    assert!(offset_of!(raw::ReportReply, retries) == 64);
 };
 
 #[cfg(test)]
@@ -788,7 +793,7 @@ mod tests {
         queue.push(2, Side::Left, 3, 3).unwrap();
         reach(&mut queue, 2, 5);
         let anchor = Anchor { tag: 8, status: 2, left: 3, right: 66 };
-        assert_eq!(queue.report(), Report { anchor, busy: 2, retries: 1, waiting: 3 });
+        assert_eq!(queue.report(), Report { anchor, busy: 2, waiting: 2, taken: 3, retries: 1 });
     }
 
     #[test]

@@ -131,7 +131,7 @@ extern "C" {
 #define ZC_WORN 33
 /*
  * The contents of a table contradict each other; never after an opening and calls of this
- * library alone, so somebody else wrote there. Three groups, each tested at its time:
+ * library alone, so somebody else wrote there. Four groups, each tested at its time:
  *  - control: tasks or slots outside their limits; an Anchor with status 3, an end above slots,
  *    just one end null, or unstable with equal ends;
  *  - the record, if busy: place above 11; kind, side or finishing above 1; place 11 in a push;
@@ -140,7 +140,9 @@ extern "C" {
  *    Anchor, or STABLE at places 5 to 10;
  *  - what the step touches: it needs a slot row outside 1 to slots; it meets, at 3, 5 or 7, a link
  *    word with a set bit in 31-15 or a slot above slots (a push at 3: in its own slot); it would
- *    make a change that leaves Anchor unsound or raises a tag past 32 bits.
+ *    make a change that leaves Anchor unsound or raises a tag past 32 bits;
+ *  - the walk of the labels waiting, from one end: before the other end it meets slot 0, a link
+ *    word with a set bit in 31-15 or a slot above slots, or more slots than exist.
  */
 #define ZC_UNSOUND 34
 
@@ -186,8 +188,9 @@ typedef struct zc_report_reply {
     uint64_t code;                     /* 0, or the number of a refusal */
     uint64_t tag, status, left, right; /* the fields of Anchor */
     uint64_t busy;                     /* tasks with a call under way */
+    uint64_t waiting;                  /* labels in the queue */
+    uint64_t taken; /* marks set for slots 1 to slots, half-done calls included */
     uint64_t retries;
-    uint64_t waiting; /* marks set for slots 1 to slots, half-done calls included */
 } zc_report_reply;
 
 #ifdef __cplusplus
@@ -210,11 +213,12 @@ ZC_LAYOUT(offsetof(zc_reply, value) == 8);
 ZC_LAYOUT(sizeof(zc_run_reply) == 24);
 ZC_LAYOUT(offsetof(zc_run_reply, code) == 0 && offsetof(zc_run_reply, label) == 4);
 ZC_LAYOUT(offsetof(zc_run_reply, value) == 8 && offsetof(zc_run_reply, steps) == 16);
-ZC_LAYOUT(sizeof(zc_report_reply) == 64);
+ZC_LAYOUT(sizeof(zc_report_reply) == 72);
 ZC_LAYOUT(offsetof(zc_report_reply, code) == 0 && offsetof(zc_report_reply, tag) == 8);
 ZC_LAYOUT(offsetof(zc_report_reply, status) == 16 && offsetof(zc_report_reply, left) == 24);
 ZC_LAYOUT(offsetof(zc_report_reply, right) == 32 && offsetof(zc_report_reply, busy) == 40);
-ZC_LAYOUT(offsetof(zc_report_reply, retries) == 48 && offsetof(zc_report_reply, waiting) == 56);
+ZC_LAYOUT(offsetof(zc_report_reply, waiting) == 48 && offsetof(zc_report_reply, taken) == 56);
+ZC_LAYOUT(offsetof(zc_report_reply, retries) == 64);
 
 /* ---- The calls ---------------------------------------------------------------------------
  * The tables always come last and in this order, each a pointer and its count of elements:
@@ -290,9 +294,10 @@ zc_run_reply zc_run(zc_control *control, zc_record *records, size_t record_count
                     uint64_t *marks, size_t mark_count);
 
 /*
- * Tells Anchor's fields, the number of busy tasks, retries, and waiting. Writes nothing; of the
- * records it looks at the places alone.
- * Answers code 0, or refuses: 34 for control, 12.
+ * Tells Anchor's fields, the number of busy tasks, the labels waiting, the slots taken, and retries.
+ * Writes nothing; of the records it looks at the places alone. It walks the queue from end to end:
+ * its work grows with the labels waiting.
+ * Answers code 0, or refuses: 34 for control, 12, 34 for the walk.
  */
 zc_report_reply zc_report(const zc_control *control, const zc_record *records, size_t record_count,
                           const uint64_t *lefts, size_t left_count, const uint64_t *rights,
@@ -440,7 +445,8 @@ static inline uint64_t zc_queue_last_row(const zc_queue *queue)
  * The walk goes from the right end along Left links or, under LPUSH, from the left end along Right
  * links: only at the end that the status names may the link back be unfinished. A queue that was
  * written by the calls alone has every label on the walk. Any contents may lie in the tables: it
- * ends before a row that there is not, and takes no more slots than there are.
+ * ends before a row that there is not, and takes no more slots than there are. This loop is not
+ * among what is proved; wherever zc_report is not refused, both count the same.
  */
 static inline size_t zc_queue_waiting(const zc_queue *queue, uint64_t *slots, size_t most)
 {

@@ -184,8 +184,15 @@ a refused push marks its slot|if (zc_anchor_tag(control->anchor) > ZC_LAST_START
         return refuse(ZC_WORN);|marks[slot / 64] \|= UINT64_C(1) << (slot % 64);
     if (zc_anchor_tag(control->anchor) > ZC_LAST_START_TAG)
         return refuse(ZC_WORN);|1
-waiting counts bit 0|uint64_t slot = 1; slot <= control->slots|uint64_t slot = 0; slot <= control->slots|1
-waiting leaves out the last slot|slot <= control->slots; slot++|slot < control->slots; slot++|1
+taken counts bit 0|kept \&= ~UINT64_C(1);|;|1
+taken leaves out bit 0 of a later word|if (word == 0)|if (word <= 1)|1
+taken leaves out the last slot|UINT64_MAX >> (63|UINT64_MAX >> 1 >> (63|1
+waiting by the marks|reply.waiting = walked(control, lefts, rights);|reply.waiting = marked_slots(marks, control->slots);|1
+the walk under LPUSH as under RPUSH|int from_left = zc_anchor_status(control->anchor) == ZC_LPUSH;|int from_left = 0;|1
+the walk tests no spare bits|!link_sound(link, control->slots)|zc_link_slot(link) > control->slots|1
+the walk goes on from slot 0|\|\| zc_link_slot(link) == 0)|)|1
+the walk one slot short|count < control->slots|count + 1 < control->slots|1
+the walk looks at the other end's link|return slot == last ? count : 0;|return slot == last \&\& link_sound(links[slot], control->slots) ? count : 0;|1
 busy counts records beyond the tasks|task < control->tasks; task++|task < record_count; task++|1
 busy looks at more of a record|records[task].place != 0;|records[task].place != 0 \&\& records[task].kind <= 1;|1
 another task's record looked at by a start|if (!record_sound(record, control->slots))|if (!record_sound(record, control->slots) \|\| !record_sound(records, control->slots))|2

@@ -153,10 +153,12 @@ static void push(void)
 /* Anchor is still RPUSH 66, 67 and task 1 busy; task 0 starts as well. */
 static void report(void)
 {
-    unsigned char bytes[64];
+    unsigned char bytes[72];
     put(control, RETRIES, 12345);
     zc_pop(RECORDS, 0, ZC_LEFT, TABLES);
+    marks[0] |= 1 << 5; /* a slot taken that does not wait */
     zc_report_reply reply = zc_report(RECORDS, TABLES);
+    marks[0] &= ~(UINT64_C(1) << 5);
     memcpy(bytes, &reply, sizeof reply);
     equal("report: code", word(bytes, 0), 0);
     equal("report: tag", word(bytes, 8), 0x5a5b5c5f);
@@ -164,8 +166,9 @@ static void report(void)
     equal("report: left", word(bytes, 24), 66);
     equal("report: right", word(bytes, 32), 67);
     equal("report: busy", word(bytes, 40), 2);
-    equal("report: retries", word(bytes, 48), 12345);
-    equal("report: waiting", word(bytes, 56), 2);
+    equal("report: waiting", word(bytes, 48), 2);
+    equal("report: taken", word(bytes, 56), 3);
+    equal("report: retries", word(bytes, 64), 12345);
     equal("report: refused", zc_report((zc_control *)control, (zc_record *)records, 1, TABLES).code,
           ZC_SHORT);
 }

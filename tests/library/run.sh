@@ -147,6 +147,10 @@ part_examples() {
 
 part_bench() {
     holds "benchmark compiles" $CC -std=gnu11 -O2 -Iinclude bench/main.c bench/reference.c bench/bare.c "${archives[@]}" -o "$work/bench"
+    holds "benchmark of the walks compiles" $CC -std=gnu11 -O2 -Iinclude bench/walks.c bench/reference.c "${archives[@]}" -o "$work/walks"
+    for labels in 0 1 2 64 1023; do
+        holds "library and C alike: $labels labels" "$work/walks" check $labels
+    done
     for tasks in 1 5 16; do
         for slots in 3 1023; do
             holds "library, C and bare alike: $tasks tasks, $slots slots" "$work/bench" check $tasks $slots 100000

@@ -22,7 +22,7 @@ startRules t =
 unfoldable pub startRefusal : Tests → ℕ
 startRefusal t = first (startRules t)
 
--- A report names no task.
+-- A report's first two.
 abbrev pub tellingRules : Bool → Bool → List Rule
 tellingRules control fits = rule 34 (not control) ∷ rule 12 (not fits) ∷ []
 

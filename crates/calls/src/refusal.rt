@@ -4,7 +4,7 @@ use model::Record;
 use word::Anchor;
 ghost use mathlib.Core.Path.{_≡_};
 ghost use mathlib.Core.Bool.{true, false, _&&_};
-ghost use lib.Dec.{ltb, leb};
+ghost use lib.Dec.{ltb};
 ghost use Rattle.word.specs.Anchor.{anchorOf};
 ghost use Rattle.model.specs.Tables.{tablesOf};
 ghost use Rattle.model.specs.Sound.{controlSound};
@@ -161,10 +161,10 @@ fn telling_refusal(control: bool, fits: bool) -> u32
     0
 }
 
-/// The report names no task; it meets 34 for control, and 12.
+/// The report before its walk: 34 for control, and 12.
 pub fn report_refusal(
     c: Control,
-    records: usize,
+    enough: bool,
     lefts: usize,
     rights: usize,
     labels: usize,
@@ -173,10 +173,9 @@ pub fn report_refusal(
     ensures { λ n.
         ⌜ n ≡ tellingRefusal
         (controlSound c)
-        (lengthsFit (c .slots) lefts rights labels marks && leb (c .tasks) records) ⌝ }
+        (lengthsFit (c .slots) lefts rights labels marks && enough) ⌝ }
 {
     let control = sound::control_sound(c);
     let fits = sound::rows_fit(c.slots, lefts, rights, labels, marks);
-    let enough = c.tasks <= records as u64;
     telling_refusal(control, fits & enough)
 }

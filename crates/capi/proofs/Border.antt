@@ -15,9 +15,9 @@ use Rattle.model.specs.declared.Reported.{Reported}
 use Rattle.model.specs.declared.Op.{Op}
 use Rattle.model.specs.declared.Op.the-variants.{Push, Pop, Step}
 use Rattle.model.specs.Tables.{Tables, Queue, tablesOf, queueOf, recordAt, idle, zeroed}
-use Rattle.model.specs.Sound.{controlSound, rowsFit}
+use Rattle.model.specs.Sound.{rowsFit}
 use Rattle.model.specs.Refusals.{Lent, among, openRefusal, pushRefusal, popRefusal}
-use Rattle.model.specs.Report.{report}
+use Rattle.model.specs.Report.{report, tell}
 use Rattle.model.specs.Calls.{Acted, Done, openQueue, pushStart, popStart, back, act, actOn, replyOf}
 use Rattle.model.proofs.tests.Truth.{split, not-both}
 use Rattle.table.specs.declared.Acted.{Acted as Moved}
@@ -27,9 +27,9 @@ use Rattle.model.specs.Ends.{endsCall, isMoved}
 use Rattle.calls.specs.declared.opening.OpenedTables.{OpenedTables}
 use Rattle.calls.specs.Opening.{counting, OpenedParts, openTables, whole}
 use Rattle.calls.proofs.Parts.{clear-fits, open-parts}
-use Rattle.calls.specs.Rules.{tellingRefusal}
-use Rattle.calls.specs.Telling.{countable, tell}
-use Rattle.calls.proofs.Counts.{countable-fits, report-parts}
+use Rattle.calls.specs.Telling.{countable}
+use Rattle.calls.proofs.Counts.{countable-fits}
+use Rattle.calls.proofs.Tells.{report-parts}
 use Rattle.rows.specs.Rows.{controlOf, recordsOf, uppersOf, queueIn}
 use Rattle.rows.proofs.Rows.{length-records}
 use Rattle.rows.proofs.OneStep.{lent, lent-among}
@@ -145,6 +145,5 @@ module _ (ws : List ℕ) (rows : List (List ℕ)) (lefts rights labels marks : L
   -- ---- the report
   pub reported : (c : Control) (n k b : ℕ) (r : Reported) → c ≡ controlOf ws → n ≡ length rows
       → k ≡ countable c n → b ≡ busyIn k (recordsOf rows)
-      → r ≡ tell (tellingRefusal (controlSound c) (fit c && leb (c .tasks) n)) c b marks → r ≡ report queue
-  unfolding rowsFit lengthsFit
+      → r ≡ tell (tablesOf c lefts rights labels marks) (leb (c .tasks) n) b → r ≡ report queue
   reported c n k b r ec en ek eb e = e ∙ rw (eb, ek, en, ec, ← length-records rows) (sym (report-parts queue))

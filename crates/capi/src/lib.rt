@@ -30,8 +30,9 @@ pub struct ReportReply {
     pub left: u64,
     pub right: u64,
     pub busy: u64,
-    pub retries: u64,
     pub waiting: u64,
+    pub taken: u64,
+    pub retries: u64,
 }
 
 fn opening_code(o: Opening) -> u32
@@ -54,8 +55,9 @@ fn report_reply(r: Reported) -> ReportReply
             left: 0,
             right: 0,
             busy: 0,
-            retries: 0,
             waiting: 0,
+            taken: 0,
+            retries: 0,
         },
         Reported::Told(t) => ReportReply {
             code: 0,
@@ -64,8 +66,9 @@ fn report_reply(r: Reported) -> ReportReply
             left: t.anchor.left,
             right: t.anchor.right,
             busy: t.busy,
-            retries: t.retries,
             waiting: t.waiting,
+            taken: t.taken,
+            retries: t.retries,
         },
     }
 }
@@ -228,7 +231,7 @@ fn busy(records: &[[u64; rows::RECORD_WORDS]], n: usize) -> u64
     k
 }
 
-/// Tells the fields of Anchor, the busy tasks, the retries and the slots taken.
+/// Tells the fields of Anchor, the busy tasks, the labels waiting, the slots taken and the retries.
 #[no_mangle]
 pub extern "C" fn zc_report(
     control: &[u64; rows::CONTROL_WORDS],
@@ -247,6 +250,6 @@ pub extern "C" fn zc_report(
     let n = records.len();
     let k = report::to_count(c, n);
     let b = busy(records, k);
-    let t = report::told(c, n, b, lefts.len(), rights.len(), labels.len(), marks);
+    let t = report::told(c, n, b, lefts, rights, labels, marks);
     report_reply(t)
 }

@@ -14,6 +14,7 @@ pub mod unsound
 pub mod progress
 pub mod Linearizable
 pub mod NeverUnsound
+pub mod Standing
 pub mod StepBounds
 -- Laws of single calls, and the worked cases of the document.
 pub mod laws

@@ -64,5 +64,5 @@ module _ (q : Queue) (tasks slots tag : ℕ) where
 pub never-unsound : Never34
 unfolding openQueue
 never-unsound q tasks slots tag e os = split (eqb (openRefusal q tasks slots) 0)
-    (λ z. rw z (run-safe os 1 (opened q tasks slots tag) nobody (open-good q tasks slots tag) (open-safe q tasks slots tag (eqb-true _ _ z))))
+    (λ z. rw z (run-safe os 1 (opened q tasks slots tag) nobody (open-good q tasks slots tag) (open-safe q tasks slots tag (eqb-true _ _ z)) .0))
     (λ z. absurd (let h : Refused (openRefusal q tasks slots) ≡ Opened = rw z at e in let w : _≡_ {A = ℕ} 0 1 = cc in omega arith))

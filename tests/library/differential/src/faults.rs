@@ -1,5 +1,6 @@
 //! Every way to be refused, one entry each: planted in a scene that was accepted, it alone decides.
 
+use crate::line::lead_astray;
 use crate::sound::{any_place, busy_record, sound_anchor, Scene};
 use crate::world::{Call, Export};
 use reference::dice::Dice;
@@ -9,7 +10,7 @@ use reference::word::{Anchor, LPUSH, RPUSH, STABLE};
 const LAST_TAG: u64 = 0xffff_ffff;
 const HIGH: u64 = 1 << 32; // lost in a number of 32 bits
 
-/// The order in which a call asks: document 01, below "Refused because of the state".
+/// The order in which a call asks: document 01, below "Refused because of the state"; document 02, #102.
 #[derive(Clone, Copy, Debug, PartialEq, Eq, PartialOrd, Ord)]
 pub enum Group {
     Tasks,
@@ -25,6 +26,7 @@ pub enum Group {
     Taken,
     Worn,
     Touch,
+    Walk,
 }
 
 impl Group {
@@ -40,7 +42,7 @@ impl Group {
             Group::Idle => 31,
             Group::Taken => 32,
             Group::Worn => 33,
-            Group::Control | Group::Record | Group::Touch => 34,
+            Group::Control | Group::Record | Group::Touch | Group::Walk => 34,
         }
     }
 
@@ -55,6 +57,7 @@ impl Group {
             Group::Slot | Group::Taken => &[Push],
             Group::Record => &[Push, Pop, Step, Run, StepRecord],
             Group::Idle | Group::Touch => &[Step, Run, StepRecord],
+            Group::Walk => &[Report],
         };
         exports.contains(&export)
     }
@@ -487,4 +490,19 @@ pub const FAULTS: &[Fault] = &[
         let links = if right { &mut s.world.rights } else { &mut s.world.lefts };
         links.held[record.neighbour as usize] = record.link;
     }),
+    // ---- 34 for the walk.
+    unstable(fault(Group::Walk, "the walk meets a bit of 31-15", |s, d| {
+        lead_astray(s, d, |word, _, d, _| word | 1 << d.between(15, 31));
+    })),
+    unstable(fault(Group::Walk, "the walk meets a slot above slots", |s, d| {
+        lead_astray(s, d, |word, _, d, slots| word & !0x7fff | d.pick(&[slots + 1, 0x7fff]));
+    })),
+    unstable(fault(Group::Walk, "the walk meets slot 0", |s, d| {
+        lead_astray(s, d, |word, _, _, _| word & !0x7fff);
+    })),
+    unstable(fault(Group::Walk, "the walk meets a slot again", |s, d| {
+        lead_astray(s, d, |word, met, d, _| {
+            word & !0x7fff | met[d.between(0, met.len() as u64 - 1) as usize]
+        });
+    })),
 ];

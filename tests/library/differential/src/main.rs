@@ -6,6 +6,7 @@
 
 mod faults;
 mod histories;
+mod line;
 mod noise;
 mod plant;
 mod sound;

@@ -1,5 +1,6 @@
 //! Scenes: sound tables with a call that is accepted on them, though no history led there.
 
+use crate::line::line_up;
 use crate::world::{Call, Lent, World};
 use reference::dice::Dice;
 use reference::tables::{Control, Record, POP, PUSH};
@@ -72,6 +73,9 @@ impl Scene {
             Wanted::Report => Call::Report,
         };
         let mut scene = Scene { world, call, slots, tasks };
+        if wanted == Wanted::Report {
+            line_up(&mut scene, dice, 0);
+        }
         if let Wanted::Step(place, kind)
         | Wanted::Run(place, kind)
         | Wanted::StepRecord(place, kind) = wanted

@@ -103,12 +103,12 @@ impl Call {
     }
 }
 
-/// An answer in numbers: code, label, value; a run's, and its steps; the report's eight fields.
+/// An answer in numbers: code, label, value; a run's, and its steps; the report's nine fields.
 #[derive(Clone, Copy, Debug, PartialEq)]
 pub enum Told {
     Reply(u32, u32, u64),
     Run(u32, u32, u64, u64),
-    Report([u64; 8]),
+    Report([u64; 9]),
 }
 
 impl Told {
@@ -174,8 +174,9 @@ pub fn by_library(world: &mut World, call: Call) -> Told {
                 told.left,
                 told.right,
                 told.busy,
-                told.retries,
                 told.waiting,
+                told.taken,
+                told.retries,
             ]);
         }
     };
@@ -240,10 +241,11 @@ pub fn by_reference(world: &mut World, call: Call) -> Told {
                 told.left,
                 told.right,
                 told.busy,
-                told.retries,
                 told.waiting,
+                told.taken,
+                told.retries,
             ],
-            Err(refusal) => [u64::from(refusal.number()), 0, 0, 0, 0, 0, 0, 0],
+            Err(refusal) => [u64::from(refusal.number()), 0, 0, 0, 0, 0, 0, 0, 0],
         }),
     }
 }
