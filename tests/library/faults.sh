@@ -1,6 +1,7 @@
 #!/bin/bash
 # Do the tests fail when they should? Each line below plants one fault in a copy of
 # bench/reference.c, and the differential test must notice it; what else does is told beside.
+# (audit_faults.sh has those of the audit.)
 #
 #     tests/library/faults.sh [FIRST [LAST]]    lines to try, all of them by default
 set -u -o pipefail
@@ -229,9 +230,8 @@ END
 # The test programs, built once on calls that are handed on to a shared object; all calls are in one.
 mkdir "$work/forward" &&
     gcc -std=gnu11 -O2 -Iinclude -c tests/library/forward.c -o "$work/forward.o" &&
-    ar rcs "$work/forward/libcapi.a" "$work/forward.o" &&
-    ar rcs "$work/forward/libcapi_record.a" &&
-    ar rcs "$work/forward/libcapi_run.a" &&
+    gcc -std=c11 -O2 -DAS_LIBRARY -Iinclude -c bench/audit_reference.c -o "$work/audit.o" &&
+    ar rcs "$work/forward/libzeppolecape.a" "$work/forward.o" "$work/audit.o" &&
     gcc -shared -fPIC -O2 -DAS_LIBRARY -Iinclude bench/reference.c -o "$work/faultless.so" || exit 2
 if ! ZC_OBJECT=$work/faultless.so BUILD=$work/build tests/library/run.sh "$work/forward" >"$work/said"; then
     cat "$work/said"
@@ -240,6 +240,8 @@ if ! ZC_OBJECT=$work/faultless.so BUILD=$work/build tests/library/run.sh "$work/
     exit 1
 fi
 
+bindings=$(find "$work/build/cargo/debug/deps" -name 'zeppolecape-*' -type f -executable | head -n 1)
+
 # The parts that notice the fault in $work/fault.so.
 noticed() {
     export ZC_OBJECT=$work/fault.so
@@ -247,14 +249,14 @@ noticed() {
     timeout 10 "$work/build/fence" >/dev/null 2>&1 || echo -n " fence"
     timeout 10 "$work/build/waiting" >/dev/null 2>&1 || echo -n " waiting"
     timeout 10 "$work/build/taken" >/dev/null 2>&1 || echo -n " taken"
-    timeout 10 "$work/build/bindings" >/dev/null 2>&1 || echo -n " bindings"
+    timeout 10 "$bindings" >/dev/null 2>&1 || echo -n " bindings"
     local seed lost=
     for seed in 1 2 3; do
         timeout 2 "$work/build/executive_c" $seed >/dev/null 2>&1 || lost=yes
     done
     [ -z "$lost" ] || echo -n " example"
     timeout 10 "$work/build/bench" check 5 1023 20000 >/dev/null 2>&1 || echo -n " bench"
-    timeout 100 "$work/build/cargo/release/differential" >/dev/null 2>&1 || echo -n " differential"
+    timeout 100 "$work/build/cargo/checked/library-differential" >/dev/null 2>&1 || echo -n " differential"
 }
 
 caught=0

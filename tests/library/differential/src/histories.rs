@@ -3,7 +3,7 @@
 
 use crate::tally::Tally;
 use crate::world::{by_library, Call, Export, Lent, Told, World};
-use crate::zeppolecape::{POP_STEPS, PUSH_STEPS};
+use zeppolecape::{POP_STEPS, PUSH_STEPS};
 use reference::dice::Dice;
 use reference::tables::{Control, Record, POP, PUSH};
 use reference::word::{Anchor, RPUSH};

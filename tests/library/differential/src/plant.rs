@@ -5,9 +5,9 @@ use crate::faults::{outrun, Fault, Group, FAULTS};
 use crate::sound::{Scene, Wanted};
 use crate::tally::Tally;
 use crate::world::{by_reference, Export};
-use crate::zeppolecape::MOST_RETRIES;
 use reference::dice::Dice;
 use reference::tables::{POP, PUSH};
+use zeppolecape::MOST_RETRIES;
 
 const EXPORTS: [Export; 7] = [
     Export::Open,

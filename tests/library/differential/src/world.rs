@@ -1,9 +1,9 @@
 //! Lent tables, the calls on them, and both implementations behind one face.
 
-use crate::zeppolecape::raw;
 use reference::machine::{Answer, Moved};
 use reference::refusal::Refusal;
 use reference::tables::{Control, Record, Shared, Tables};
+use zeppolecape::raw;
 
 /// A table: `count` entries are lent; those behind them must never change.
 #[derive(Clone, Debug, PartialEq)]
