@@ -1,0 +1,4 @@
+//! The order sheet: whether the labels waiting keep its chained rules.
+mod form;
+mod search;
+mod square;

@@ -1,0 +1,4 @@
+pub mod Chained
+pub mod Turns
+pub mod ListOf
+pub mod Square

@@ -1,0 +1,4 @@
+pub mod Sheet
+pub mod Verdict
+pub mod Squares
+pub mod Extents
