@@ -2,3 +2,4 @@ pub mod Chained
 pub mod Turns
 pub mod ListOf
 pub mod Square
+pub mod Crossing
