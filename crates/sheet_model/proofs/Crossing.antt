@@ -122,14 +122,14 @@ crosses-up at y x (e ∷ l) g h =
     go false false r ih w = ih
 
 -- A walk from the right is one from the left, with positions counted down from 1,024.
-lower-min : (a x : ℕ) → lower a x ≡ min a x
+pub lower-min : (a x : ℕ) → lower a x ≡ min a x
 lower-min a x = go (ltb a x) refl
   where
     go : (b : Bool) → ltb a x ≡ b → cond b a x ≡ min a x
     go true e = let h = ltb-true a x e in omega arith
     go false e = let h = ltb-false a x e in omega arith
 
-higher-max : (a x : ℕ) → higher a x ≡ max a x
+pub higher-max : (a x : ℕ) → higher a x ≡ max a x
 higher-max a x = go (ltb x a) refl
   where
     go : (b : Bool) → ltb x a ≡ b → cond b a x ≡ max a x

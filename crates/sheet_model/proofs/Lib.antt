@@ -3,3 +3,5 @@ pub mod Turns
 pub mod ListOf
 pub mod Square
 pub mod Crossing
+pub mod Noted
+pub mod Broken
