@@ -104,8 +104,10 @@ crosses-up at y x (e ∷ l) g h =
   where
     L : ℕ
     L = lowest true (at + 1) y l
+
     H : ℕ
     H = highest true (at + 1) x l
+
     go : (p q : Bool) → at + 1 ≤ L → leb L H ≡ meets y x l → leb at H ≡ waits x l
         → leb (cond p (lower at L) L) (cond q (higher at H) H) ≡ (p && (q || waits x l)) || meets y x l
     go true true r ih w =
@@ -157,6 +159,7 @@ falls-low at y (e ∷ l) g h =
   where
     H : ℕ
     H = highest true ((1024 - at) + 1) y l
+
     go : (b : Bool) → lowest false (at - 1) y l ≡ 1024 - H
         → cond b (lower at (lowest false (at - 1) y l)) (lowest false (at - 1) y l) ≡ 1024 - cond b (higher (1024 - at) H) H
     go true ih = ap (lower at) ih ∙ flip-low at H (omega arith)
@@ -171,6 +174,7 @@ falls-high at x (e ∷ l) g h =
   where
     L : ℕ
     L = lowest true ((1024 - at) + 1) x l
+
     go : (b : Bool) → highest false (at - 1) x l ≡ 1024 - L
         → cond b (higher at (highest false (at - 1) x l)) (highest false (at - 1) x l) ≡ 1024 - cond b (lower (1024 - at) L) L
     go true ih = ap (higher at) ih ∙ flip-high at L (omega arith)
@@ -191,8 +195,10 @@ crosses-down at y x l g h =
   where
     L : ℕ
     L = lowest true (1024 - at) x l
+
     H : ℕ
     H = highest true (1024 - at) y l
+
     flip : (b : Bool) → leb L H ≡ b → leb (1024 - H) (1024 - L) ≡ leb L H
     flip true e = le-leb (1024 - H) (1024 - L) (let z = leb-true L H e in omega arith) ∙ sym e
     flip false e = lt-leb (1024 - H) (1024 - L) (let z = leb-false L H e in omega (arith, low-bound true (1024 - at) x l)) ∙ sym e

@@ -5,3 +5,4 @@ pub mod Square
 pub mod Crossing
 pub mod Noted
 pub mod Broken
+pub mod Gather

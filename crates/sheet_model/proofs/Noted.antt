@@ -62,6 +62,7 @@ module _ (listed : List ℕ) (once : twice listed ≡ false) (k : ℕ) (here : k
     where
       at-place : x ≡ own → placeOf x listed ≡ k
       at-place z = ap (λ (y : ℕ). placeOf y listed) z ∙ label-place listed k once here
+
       go : (b : Bool) → eqb x own ≡ b → getD (noted listed x at e .low) k 0 ≡ cond b (lower at (getD (e .low) k 0)) (getD (e .low) k 0)
       go true z =
           put-at x _ (e .low) h (eqb-true x own z) ∙ ap (λ (p : ℕ). lower at (getD (e .low) p 0)) (at-place (eqb-true x own z))
@@ -73,6 +74,7 @@ module _ (listed : List ℕ) (once : twice listed ≡ false) (k : ℕ) (here : k
     where
       at-place : x ≡ own → placeOf x listed ≡ k
       at-place z = ap (λ (y : ℕ). placeOf y listed) z ∙ label-place listed k once here
+
       go : (b : Bool) → eqb x own ≡ b → getD (noted listed x at e .high) k 0 ≡ cond b (higher at (getD (e .high) k 0)) (getD (e .high) k 0)
       go true z =
           put-at x _ (e .high) h (eqb-true x own z) ∙ ap (λ (p : ℕ). higher at (getD (e .high) p 0)) (at-place (eqb-true x own z))
@@ -90,6 +92,7 @@ module _ (listed : List ℕ) (once : twice listed ≡ false) (k : ℕ) (here : k
       bound : (b : Bool) {r : ℕ} → r ≡ cond b (lower at (getD (e .low) k 0)) (getD (e .low) k 0) → r ≤ 1024
       bound true z = let w = lower-is at (getD (e .low) k 0) .two in omega arith
       bound false z = omega arith
+
       go : (b : Bool) (v r : ℕ) → min r (cond b (lower at v) v) ≡ min (cond b (lower at r) r) v
       go true v r = rw (lower-min at v, lower-min at r) (omega arith)
       go false v r = refl

@@ -7,13 +7,13 @@ use native.Mathlib.Numerals.{add-one}
 use native.Mathlib.Omega.{arith}
 use lib.Dec.{eqb, leb, ltb}
 use lib.ListN.{length, getD, set, drop, drop-of-length-le, length-drop}
-use lib.Seq.{drop-cons}
+use lib.Seq.{drop-cons, set-out, set-getD}
 use borrow.Author.Tests.{eq-eqb, ne-eqb, leb-true, not-false, lt-ltb, le-ltb, ltb-true, ltb-false}
 use Rattle.model.specs.Sound.{from1}
 use Rattle.model.proofs.tests.Truth.{and-true, split}
 use Rattle.sheet_model.specs.declared.SheetReply.{SheetReply}
 use Rattle.sheet_model.specs.Sheet.{Sheet, before, after, any, twice, outside, malformed}
-use Rattle.sheet_model.specs.Extents.{placeOf}
+use Rattle.sheet_model.specs.Extents.{placeOf, lower, higher, nextAt, position}
 use Rattle.sheet_model.specs.Squares.{crossed, sweep, joinRow, ruleMarked, rulesMarked, rounds, joinVia}
 use Rattle.sheet_model.specs.Verdict.{inRow, inRows, brokenBy, kept}
 
@@ -177,3 +177,35 @@ module _ (s : Sheet) where
   pub others : length (s .listed) ≤ 32 → length (s .rules) ≤ 128 → malformed s ≡ twice (s .listed) || any (outside (length (s .listed))) (s .rules)
   unfolding malformed
   others g h = rw (le-ltb 32 (length (s .listed)) g, le-ltb 128 (length (s .rules)) h)
+
+-- Where a position is put, and where not.
+pub lower-out : (t : List ℕ) (k at : ℕ) → length t ≤ k → t ≡ set t k (lower at (getD t k 0))
+lower-out t k at h = sym (set-out t k _ h)
+
+pub lower-put : (t : List ℕ) (k at : ℕ) → at < getD t k 0 → set t k at ≡ set t k (lower at (getD t k 0))
+lower-put t k at h = ap (λ b. set t k (cond b at (getD t k 0))) (sym (lt-ltb at (getD t k 0) h))
+
+pub lower-kept : (t : List ℕ) (k at : ℕ) → getD t k 0 ≤ at → t ≡ set t k (lower at (getD t k 0))
+lower-kept t k at h = sym (ap (λ b. set t k (cond b at (getD t k 0))) (le-ltb at (getD t k 0) h) ∙ set-getD t k 0)
+
+pub higher-out : (t : List ℕ) (k at : ℕ) → length t ≤ k → t ≡ set t k (higher at (getD t k 0))
+higher-out t k at h = sym (set-out t k _ h)
+
+pub higher-put : (t : List ℕ) (k at : ℕ) → getD t k 0 < at → set t k at ≡ set t k (higher at (getD t k 0))
+higher-put t k at h = ap (λ b. set t k (cond b at (getD t k 0))) (sym (lt-ltb (getD t k 0) at h))
+
+pub higher-kept : (t : List ℕ) (k at : ℕ) → at ≤ getD t k 0 → t ≡ set t k (higher at (getD t k 0))
+higher-kept t k at h = sym (ap (λ b. set t k (cond b at (getD t k 0))) (le-ltb (getD t k 0) at h) ∙ set-getD t k 0)
+
+-- Positions along a walk.
+pub position-on : (up : Bool) (k : ℕ) → k < 1023 → nextAt up (position up k) ≡ position up (k + 1)
+position-on true k h = omega arith
+position-on false k h = omega arith
+
+pub position-low : (up : Bool) (k : ℕ) → k < 1023 → 1 ≤ position up k
+position-low true k h = omega arith
+position-low false k h = omega arith
+
+pub position-high : (up : Bool) (k : ℕ) → k < 1023 → position up k ≤ 1023
+position-high true k h = omega arith
+position-high false k h = omega arith

@@ -1,10 +1,14 @@
 -- Where each listed label waits: the lowest and the highest of its positions, as one walk finds them.
 use mathlib.Core.Bool.{Bool, true, false, cond}
 use mathlib.Core.List.{List, [], _∷_}
-use Prim.Native.Nat.{ℕ, suc, _+_, _-_}
+use Prim.Native.Nat.{ℕ, zero, suc, _+_, _-_}
 use lib.Dec.{ltb, eqb}
 use lib.ListN.{getD, set, replicate}
 use Rattle.model.specs.declared.Entry.{Entry}
+use Rattle.word.specs.Anchor.{anchorOf}
+use Rattle.word.specs.Link.{linkOf}
+use Rattle.model.specs.Tables.{isEmpty}
+use Rattle.model.specs.Sound.{from1, linkSound}
 use Rattle.model.specs.Report.{Walk, entries, broken}
 use Rattle.sheet_model.specs.declared.Extents.{Extents}
 
@@ -40,3 +44,25 @@ notedAll listed up at (x ∷ l) e = notedAll listed up (nextAt up at) l (noted l
 unfoldable pub extentsOf : List ℕ → Bool → ℕ → Walk → Extents → Extents
 extentsOf listed up at (entries l) e = notedAll listed up at l e
 extentsOf listed up at broken e = unseen false
+
+-- The position after k steps.
+abbrev pub position : Bool → ℕ → ℕ
+position up k = cond up (1 + k) (1023 - k)
+
+-- The same as one walk over the words that it reads: from slot x to the slot last, n of them at the most.
+unfoldable pub gather : ℕ → List ℕ → List ℕ → List ℕ → Bool → ℕ → ℕ → ℕ → ℕ → Extents → Extents
+gather slots links labels listed up last zero x at e = unseen false
+gather slots links labels listed up last (suc n) x at e =
+    let f = noted listed (getD labels x 0) at e in
+    let w = getD links x 0 in
+    let onwards = cond (linkSound slots w) (gather slots links labels listed up last n (linkOf w .slot) (nextAt up at) f) (unseen false) in
+    cond (from1 slots x) (cond (eqb x last) f onwards) (unseen false)
+
+-- The walk from the right end along Left links or, under LPUSH, from the left end along Right links.
+unfoldable pub extents : ℕ → ℕ → List ℕ → List ℕ → List ℕ → List ℕ → Extents
+extents slots anchor listed lefts rights labels =
+    let a = anchorOf anchor in
+    cond (isEmpty a) (unseen true)
+    (cond (eqb (a .status) 2)
+    (gather slots rights labels listed true (a .right) slots (a .left) 1 (unseen true))
+    (gather slots lefts labels listed false (a .left) slots (a .right) 1023 (unseen true)))
