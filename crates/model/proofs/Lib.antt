@@ -13,6 +13,7 @@ pub mod tags
 pub mod unsound
 pub mod Linearizable
 pub mod NeverUnsound
+pub mod Standing
 -- Laws of single calls, and the worked cases of the document.
 pub mod laws
 pub mod Bench

@@ -7,7 +7,7 @@ use lib.Dec.{eqb}
 use Rattle.model.specs.Calls.{openQueue, opened}
 use Rattle.model.specs.History.{Linearizable, Linearized, Request, final, ledger, run}
 use Rattle.model.specs.Refusals.{openRefusal}
-use Rattle.model.specs.Report.{entries}
+use Rattle.model.specs.Walk.{entries}
 use Rattle.model.specs.Tables.{Queue}
 use Rattle.model.specs.declared.Opening.the-variants.{Opened, Refused}
 use Rattle.model.proofs.tests.Truth.{split}
@@ -18,7 +18,7 @@ use Rattle.model.proofs.ledger.Opened.{nobody, open-good}
 use Rattle.model.proofs.ledger.Waiting.{waits}
 
 module _ (q : Queue) (tasks slots tag : ℕ) where
-  linearized : (os : List Request) → Linearized (opened q tasks slots tag) os
+  pub linearized : (os : List Request) → Linearized (opened q tasks slots tag) os
   unfolding stateOf
   linearized os =
       let o = opened q tasks slots tag in
@@ -26,7 +26,7 @@ module _ (q : Queue) (tasks slots tag : ℕ) where
       let l = ledger (run o os) in
       record {
         calls = all-lawful (g .0) (final o os) l (g .1) (l .calls) (g .1 .tracks);
-        waits = waits (final o os .tables) (g .1 .inv .owner) (g .1 .book .queue) (g .1 .inv .whole) ∙ ap entries (g .1 .deque);
+        waits = waits (final o os .tables) (g .1 .links) (g .1 .inv .owner) (g .1 .book .queue) (g .1 .inv .whole) ∙ ap entries (g .1 .deque);
       }
 
 pub linearizable : Linearizable

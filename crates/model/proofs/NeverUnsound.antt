@@ -44,7 +44,7 @@ module _ (q : Queue) (tasks slots tag : ℕ) where
     open-cost : (t : ℕ) → cost (stateOf o .task t) ≤ 0
     open-cost t = let z = ap (λ (p : M.Place). cond (spent p (stateOf o .task t .finishing)) 0 (owes (stateOf o .task t .kind))) (all-idle q tasks slots tag t) in omega arith
 
-    open-safe : Safe o
+    pub open-safe : Safe o
     unfolding view opened
     open-safe = record {
       control = open-control;
@@ -64,5 +64,5 @@ module _ (q : Queue) (tasks slots tag : ℕ) where
 pub never-unsound : Never34
 unfolding openQueue
 never-unsound q tasks slots tag e os = split (eqb (openRefusal q tasks slots) 0)
-    (λ z. rw z (run-safe os 1 (opened q tasks slots tag) nobody (open-good q tasks slots tag) (open-safe q tasks slots tag (eqb-true _ _ z))))
+    (λ z. rw z (run-safe os 1 (opened q tasks slots tag) nobody (open-good q tasks slots tag) (open-safe q tasks slots tag (eqb-true _ _ z)) .0))
     (λ z. absurd (let h : Refused (openRefusal q tasks slots) ≡ Opened = rw z at e in let w : _≡_ {A = ℕ} 0 1 = cc in omega arith))

@@ -4,6 +4,7 @@ use mathlib.Core.Bool.{Bool, true, false, _&&_, _||_, not, cond}
 use mathlib.Core.List.{List, [], _∷_}
 use Prim.Native.Nat.{ℕ, suc, _<_, _≤_}
 use lib.Dec.{eqb}
+use lib.ListN.{length}
 use Rattle.word.specs.Anchor.{anchorOf}
 use Rattle.model.specs.declared.Entry.{Entry}
 use Rattle.model.specs.declared.Answer.{Answer}
@@ -14,9 +15,11 @@ use Rattle.model.specs.declared.Op.{Op}
 use Rattle.model.specs.declared.Op.the-variants.{Push, Pop, Step}
 use Rattle.model.specs.Tables.{Queue}
 use Rattle.model.specs.declared.Opening.the-variants.{Opened}
+use Rattle.model.specs.declared.Report.{Report}
 use Rattle.model.specs.declared.Reported.the-variants as reported
 use Rattle.model.specs.Calls.{openQueue, act}
-use Rattle.model.specs.Report.{report, entries, contents}
+use Rattle.model.specs.Walk.{entries, contents}
+use Rattle.model.specs.Report.{report}
 use Rattle.model.specs.Deque.{serve}
 
 -- An operation of a task: an element of the list, with any numbers.
@@ -161,18 +164,26 @@ pub record Linearized (q : Queue) (os : List Request) : Type 0 where
   pub calls : All (λ (c : Call). Lawful c (c .ending)) (ledger (run q os) .calls)
   pub waits : contents (final q os .tables) ≡ entries (ledger (run q os) .deque)
 
--- No operation is refused as unsound, nor is a report after them.
+-- No operation is refused as unsound.
 pub record NeverUnsound (q : Queue) (os : List Request) : Type 0 where
   pub operations : All (λ (e : Event). e .outcome ≡ Refused 34 → ⊥) (run q os)
-  pub reports : report (final q os) ≡ reported.Refused 34 → ⊥
+
+-- A report after them is told, and waiting is the length of the sequential deque's queue.
+pub record Told (q : Queue) (os : List Request) : Type 0 where
+  pub tells : Report
+  pub is : report (final q os) ≡ reported.Told tells
+  pub waiting : tells .waiting ≡ length (ledger (run q os) .deque)
 
 -- The list follows any accepted opening, on any tables; it may be empty, and may name any numbers.
 abbrev pub AfterOpening : (Queue → List Request → Type 0) → Type 0
 AfterOpening P = (q : Queue) (tasks slots tag : ℕ) → openQueue q tasks slots tag .outcome ≡ Opened → (os : List Request) → P (openQueue q tasks slots tag .queue) os
 
--- Demand 3; and that 34 never occurs.
+-- Demand 3; that 34 never occurs; and what a report tells (document 02, #102).
 abbrev pub Linearizable : Type 0
 Linearizable = AfterOpening Linearized
 
 abbrev pub Never34 : Type 0
 Never34 = AfterOpening NeverUnsound
+
+abbrev pub Reports : Type 0
+Reports = AfterOpening Told

@@ -1,0 +1,69 @@
+-- After any accepted opening and any list: what every call that walks relies on, and so what the report tells.
+use mathlib.Core.Path.{_∙_, _≡_, refl}
+use mathlib.Core.Bool.{true}
+use mathlib.Core.List.{List, [], _∷_}
+use Prim.Native.Nat.{ℕ}
+use native.Mathlib.Omega.{arith}
+use lib.Dec.{eqb}
+use borrow.Author.Tests.{eqb-true}
+use Rattle.model.specs.declared.Entry.{Entry}
+use Rattle.model.specs.declared.Opening.the-variants.{Opened, Refused}
+use Rattle.model.specs.declared.Reported.the-variants as reported
+use Rattle.model.specs.Tables.{Queue}
+use Rattle.model.specs.Sound.{controlSound}
+use Rattle.model.specs.Walk.{contents, entries}
+use Rattle.model.specs.Refusals.{openRefusal, reportRefusal}
+use Rattle.model.specs.Calls.{act, openQueue, opened}
+use Rattle.model.specs.Report.{report, told, waiting}
+use Rattle.model.specs.History.{AfterOpening, Reports, Request, final, ledger, run}
+use Rattle.model.proofs.tests.Truth.{split}
+use Rattle.model.proofs.laws.Sizes.{act-fits, fits, open-fits}
+use Rattle.model.proofs.ledger.Opened.{nobody, open-good}
+use Rattle.model.proofs.unsound.Never34.{run-safe}
+use Rattle.model.proofs.Linearizable.{linearized}
+use Rattle.model.proofs.NeverUnsound.{open-safe}
+
+-- Control and Anchor are sound, every table is long enough, and the walk meets the entries d.
+pub record Standing (q : Queue) (d : List Entry) : Type 0 where
+  pub control : controlSound (q .tables .control) ≡ true
+  pub long : fits q ≡ true
+  pub walk : contents (q .tables) ≡ entries d
+
+final-fits : (os : List Request) (q : Queue) → fits (final q os) ≡ fits q
+unfolding final
+final-fits [] q = refl
+final-fits (o ∷ os) q = final-fits os (act q (o .task) (o .op) .queue) ∙ act-fits q (o .task) (o .op)
+
+module _ (q : Queue) (tasks slots tag : ℕ) where
+  abbrev o : Queue
+  o = opened q tasks slots tag
+
+  stands : openRefusal q tasks slots ≡ 0 → (os : List Request) → Standing (final o os) (ledger (run o os) .deque)
+  stands e os = record {
+    control = run-safe os 1 o nobody (open-good q tasks slots tag) (open-safe q tasks slots tag e) .1 .control;
+    long = final-fits os o ∙ open-fits q tasks slots tag;
+    walk = linearized q tasks slots tag os .waits;
+  }
+
+pub standing : AfterOpening (λ q os. Standing (final q os) (ledger (run q os) .deque))
+unfolding openQueue
+standing q tasks slots tag e os = split (eqb (openRefusal q tasks slots) 0)
+    (λ z. rw z (stands q tasks slots tag (eqb-true _ _ z) os))
+    (λ z. absurd (let h : Refused (openRefusal q tasks slots) ≡ Opened = rw z at e in let w : _≡_ {A = ℕ} 0 1 = cc in omega arith))
+
+-- The report's rules, none of which applies.
+report-none : (q : Queue) (d : List Entry) → Standing q d → reportRefusal q ≡ 0
+unfolding reportRefusal
+report-none q d s = rw (s .control, s .long, s .walk)
+
+report-told : (q : Queue) (d : List Entry) → Standing q d → report q ≡ reported.Told (told q)
+unfolding report
+report-told q d s = rw (report-none q d s)
+
+-- Waiting is the length of the sequential deque's queue, and the report is never refused.
+pub reports : Reports
+unfolding waiting
+reports q tasks slots tag e os =
+    let s = standing q tasks slots tag e os in
+    let after = final (openQueue q tasks slots tag .queue) os in
+    record { tells = told after; is = report-told after _ s; waiting = rw (s .walk) }
