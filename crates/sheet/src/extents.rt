@@ -8,6 +8,7 @@ ghost use mathlib.Core.Path.{_≡_};
 ghost use mathlib.Core.Bool.{true, false};
 ghost use Prim.Native.Nat.{_≤_};
 ghost use lib.ListN.{getD, set};
+ghost use Rattle.word.specs.Anchor.{anchorOf};
 ghost use Rattle.sheet_model.specs.Extents.{placeOf, lower, higher, unseen, nextAt, position, gather, extents};
 
 /// Puts a position at k if it is lower than the one there.
@@ -106,7 +107,7 @@ fn gather(
 pub fn extents(c: Control, listed: &[u32], lefts: &[u64], rights: &[u64], labels: &[u32]) -> Extents
     requires { ⌜ c .slots ≤ 1023 ⌝ }
     ensures { λ r.
-        ⌜ r ≡ extents (c .slots) (c .anchor) (now (listed .entry)) (now (lefts .entry)) (now (rights .entry)) (now (labels .entry)) ⌝ }
+        ⌜ r ≡ extents (c .slots) (anchorOf (c .anchor)) (now (listed .entry)) (now (lefts .entry)) (now (rights .entry)) (now (labels .entry)) ⌝ }
 {
     let a = Anchor::unpack(c.anchor);
     if (a.left == 0) & (a.right == 0) {

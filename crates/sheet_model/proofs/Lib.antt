@@ -6,3 +6,4 @@ pub mod Crossing
 pub mod Noted
 pub mod Broken
 pub mod Gather
+pub mod Judged

@@ -5,11 +5,11 @@ use Prim.Native.Nat.{ℕ, zero, suc, _+_, _-_}
 use lib.Dec.{ltb, eqb}
 use lib.ListN.{getD, set, replicate}
 use Rattle.model.specs.declared.Entry.{Entry}
-use Rattle.word.specs.Anchor.{anchorOf}
+use Rattle.word.specs.declared.Anchor.{Anchor}
 use Rattle.word.specs.Link.{linkOf}
 use Rattle.model.specs.Tables.{isEmpty}
 use Rattle.model.specs.Sound.{from1, linkSound}
-use Rattle.model.specs.Report.{Walk, entries, broken}
+use Rattle.model.specs.Walk.{Walk, entries, broken}
 use Rattle.sheet_model.specs.declared.Extents.{Extents}
 
 -- The place of x in a list, from 0; its length where x isn't there.
@@ -59,9 +59,8 @@ gather slots links labels listed up last (suc n) x at e =
     cond (from1 slots x) (cond (eqb x last) f onwards) (unseen false)
 
 -- The walk from the right end along Left links or, under LPUSH, from the left end along Right links.
-unfoldable pub extents : ℕ → ℕ → List ℕ → List ℕ → List ℕ → List ℕ → Extents
-extents slots anchor listed lefts rights labels =
-    let a = anchorOf anchor in
+unfoldable pub extents : ℕ → Anchor → List ℕ → List ℕ → List ℕ → List ℕ → Extents
+extents slots a listed lefts rights labels =
     cond (isEmpty a) (unseen true)
     (cond (eqb (a .status) 2)
     (gather slots rights labels listed true (a .right) slots (a .left) 1 (unseen true))

@@ -1,17 +1,16 @@
 -- What a sheet is answered. (Document 02, #111 and #112.)
-use mathlib.Core.Bool.{Bool, true, false, _&&_, not, cond}
-use mathlib.Core.List.{List, [], _∷_, _++_}
-use Prim.Native.Nat.{ℕ, zero, suc, _+_, _*_, _^_}
-use lib.Dec.{leb, eqb}
-use lib.ListN.{length, drop}
+use mathlib.Core.Bool.{Bool, true, _&&_, not, cond}
+use mathlib.Core.List.{List, [], _∷_}
+use Prim.Native.Nat.{ℕ, zero, suc, _+_}
+use lib.Dec.{eqb}
+use lib.ListN.{length}
 use Rattle.model.specs.declared.Entry.{Entry}
 use Rattle.model.specs.Tables.{Tables}
 use Rattle.model.specs.Sound.{controlSound, rowsFit}
 use Rattle.model.specs.Refusals.{Rule, rule, first}
-use Rattle.model.specs.Report.{Walk, entries, broken, contents}
+use Rattle.model.specs.Walk.{contents, isBroken, met}
 use Rattle.sheet_model.specs.declared.SheetReply.{SheetReply}
-use Rattle.sheet_model.specs.Sheet.{Sheet, malformed, chained, breaks}
-use Rattle.sheet_model.specs.Squares.{listOf, mark}
+use Rattle.sheet_model.specs.Sheet.{Sheet, malformed, breaks}
 
 abbrev pub refused : ℕ → SheetReply
 refused number = record { code = number; first = 0; second = 0 }
@@ -36,15 +35,6 @@ inRows p m a (suc n) = inRow p a 1 m (inRows p m (a + 1) n)
 unfoldable pub verdict : Sheet → List Entry → SheetReply
 verdict s l = inRows (breaks s l) (length (s .listed)) 1 (length (s .listed))
 
-abbrev pub isBroken : Walk → Bool
-isBroken (entries l) = false
-isBroken broken = true
-
--- The entries of a walk; none where it is broken.
-abbrev pub met : Walk → List Entry
-met (entries l) = l
-met broken = []
-
 -- 34 for control and Anchor, 46, 12, and 34 for the walk. Enough: the words that #112 lends.
 abbrev pub sheetRules : Tables → Sheet → Bool → List Rule
 sheetRules q s enough =
@@ -53,6 +43,10 @@ sheetRules q s enough =
     ∷ rule 12 (not (rowsFit (q .control .slots) q && enough))
     ∷ rule 34 (isBroken (contents q))
     ∷ []
+
+-- What stands before the walk.
+unfoldable pub early : Bool → Bool → Bool → ℕ
+early sound bad fit = first (rule 34 (not sound) ∷ rule 46 bad ∷ rule 12 (not fit) ∷ [])
 
 unfoldable pub judge : Tables → Sheet → Bool → SheetReply
 judge q s enough =
