@@ -5,7 +5,8 @@ use native.Mathlib.Nat.{le-antisymm}
 use borrow.Author.Needs.{needs}
 use Rattle.model.specs.declared.Record.{Record}
 use Rattle.model.specs.Tables.{Tables}
-use Rattle.places.specs.Arm.{tablesOf, stepAt}
+use Rattle.model.specs.Tables.{tablesOf}
+use Rattle.places.specs.Arm.{stepAt}
 use Rattle.engine.specs.Parts.{moveOn}
 use Rattle.engine.proofs.Whole.{stopped, at-place, placed, above}
 use Rattle.engine.proofs.move_on.Statement.{statement}
