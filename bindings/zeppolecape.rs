@@ -114,6 +114,35 @@ pub mod raw {
         pub waiting: u64,
     }
 
+    /// Code 0: kept, first and second 0, or the first broken pair by its places; else the number of a
+    /// refusal.
+    #[repr(C)]
+    #[derive(Clone, Copy, Debug, Default, PartialEq, Eq)]
+    pub struct SheetReply {
+        pub code: u64,
+        pub first: u64,
+        pub second: u64,
+    }
+
+    #[link(name = "sheet", kind = "static")]
+    unsafe extern "C" {
+        pub fn zc_sheet(
+            control: *const Control,
+            listed: *const u32,
+            listed_count: usize,
+            rules: *const u32,
+            rule_count: usize,
+            lefts: *const u64,
+            left_count: usize,
+            rights: *const u64,
+            right_count: usize,
+            labels: *const u32,
+            label_count: usize,
+            marks: *const u64,
+            mark_count: usize,
+        ) -> SheetReply;
+    }
+
     #[link(name = "capi_record", kind = "static")]
     unsafe extern "C" {
         pub fn zc_step_record(
@@ -247,6 +276,7 @@ pub enum Refusal {
     Taken = 32,
     Worn = 33,
     Unsound = 34,
+    BadSheet = 46,
 }
 
 impl Refusal {
@@ -257,10 +287,11 @@ impl Refusal {
     /// The refusal with a number.
     pub fn numbered(number: u64) -> Option<Refusal> {
         use Refusal::*;
-        [BadTasks, BadSlots, Short, NoTask, NoSide, NoSlot, Busy, Idle, Taken, Worn, Unsound]
-            .iter()
-            .copied()
-            .find(|refusal| u64::from(refusal.number()) == number)
+        let all = [
+            BadTasks, BadSlots, Short, NoTask, NoSide, NoSlot, Busy, Idle, Taken, Worn, Unsound,
+            BadSheet,
+        ];
+        all.iter().copied().find(|refusal| u64::from(refusal.number()) == number)
     }
 
     /// The refusal that the library answered.
@@ -283,6 +314,7 @@ impl fmt::Display for Refusal {
             Refusal::Taken => "the slot is taken",
             Refusal::Worn => "the Anchor tag is too high for another start",
             Refusal::Unsound => "the tables are unsound",
+            Refusal::BadSheet => "the sheet is malformed",
         };
         write!(out, "{}: {text}", self.number())
     }
@@ -584,6 +616,58 @@ const _: () = {
     assert!(offset_of!(raw::ReportReply, waiting) == 56);
 };
 
+// ---- The order sheet -------------------------------------------------------------------------
+
+pub const MOST_LISTED: usize = 32;
+pub const MOST_RULES: usize = 128;
+
+/// The rule that the label at place `first` of the list, from 1, prints before the one at `second`.
+/// A place above 65,535 becomes 0, which is outside every list.
+pub const fn rule(first: u64, second: u64) -> u32 {
+    const fn place(n: u64) -> u32 {
+        if n > 65_535 {
+            0
+        } else {
+            n as u32
+        }
+    }
+    place(first) << 16 | place(second)
+}
+
+/// Whether the labels waiting keep a sheet.
+#[derive(Clone, Copy, Debug, PartialEq, Eq)]
+pub enum Verdict {
+    Kept,
+    /// The first broken pair, by its places in the list, from 1.
+    Broken {
+        first: u64,
+        second: u64,
+    },
+}
+
+fn verdict(reply: raw::SheetReply) -> Result<Verdict, Refusal> {
+    match reply {
+        raw::SheetReply { code: 0, first: 0, second: 0 } => Ok(Verdict::Kept),
+        raw::SheetReply { code: 0, first, second } => Ok(Verdict::Broken { first, second }),
+        raw::SheetReply { code, .. } => Err(Refusal::answered(code)),
+    }
+}
+
+impl Tables<'_> {
+    /// Refuses 34 for control, 46, 12 (no records), 34 for the links.
+    pub fn sheet(&mut self, listed: &[u32], rules: &[u32]) -> Result<Verdict, Refusal> {
+        let (labels, count) = (listed.as_ptr(), listed.len());
+        verdict(call!(self.zc_sheet(self.control, labels, count, rules.as_ptr(), rules.len())))
+    }
+}
+
+impl Queue {
+    /// Whether the labels waiting keep a sheet of listed labels and rules on their places.
+    pub fn sheet(&mut self, listed: &[u32], rules: &[u32]) -> Result<Verdict, Refusal> {
+        self.lend().sheet(listed, rules)
+    }
+}
+
 #[cfg(test)]
 mod tests {
     use super::*;
@@ -733,7 +817,21 @@ mod tests {
     #[test]
     fn refusals_have_their_numbers() {
         let known: Vec<u64> = (0..100).filter(|&n| Refusal::numbered(n).is_some()).collect();
-        assert_eq!(known, [10, 11, 12, 13, 14, 15, 30, 31, 32, 33, 34]);
+        assert_eq!(known, [10, 11, 12, 13, 14, 15, 30, 31, 32, 33, 34, 46]);
         assert_eq!(Refusal::Worn.to_string(), "33: the Anchor tag is too high for another start");
+    }
+
+    #[test]
+    fn a_sheet_is_kept_or_broken() {
+        let mut queue = Queue::open(1, 3, 0).unwrap();
+        for (slot, label) in [(1, 700), (2, 800)] {
+            queue.push(0, Side::Right, slot, label).unwrap();
+            while let Ok(Answer::Running(_)) = queue.step(0) {}
+        }
+        let listed = [800, 900, 700];
+        assert_eq!(queue.sheet(&listed, &[rule(3, 2)]), Ok(Verdict::Kept));
+        let broken = Ok(Verdict::Broken { first: 1, second: 3 });
+        assert_eq!(queue.sheet(&listed, &[rule(2, 3), rule(1, 2)]), broken);
+        assert_eq!(queue.sheet(&listed, &[rule(1, 4)]), Err(Refusal::BadSheet));
     }
 }

@@ -1,8 +1,8 @@
 #!/bin/bash
 # Tests of the static library through its C interface.
 #
-#     tests/library/run.sh [FOLDER]     of libcapi.a and libcapi_record.a; default: target/staticlib,
-#                                       where `rt staticlib capi` and `rt staticlib capi_record` write them
+#     tests/library/run.sh [FOLDER]     of libcapi.a, libcapi_record.a and libsheet.a; default:
+#                                       target/staticlib, where `rt staticlib capi` and so on write them
 #     tests/library/run.sh --stand-in   bench/reference.c, the same calls by hand, in its place
 #
 # PARTS names what runs: header layout fence waiting taken bindings examples bench differential (all of them).
@@ -25,18 +25,20 @@ fi
 
 # The archives lie in a folder of their own under the names that rustc looks for.
 mkdir -p "$work/library"
-archives=("$work/library/libcapi.a" "$work/library/libcapi_record.a")
+archives=("$work/library/libcapi.a" "$work/library/libcapi_record.a" "$work/library/libsheet.a")
 rm -f "${archives[@]}"
 case ${1:-} in
 --stand-in)
     $CC -std=c11 -O2 $WARNINGS -DAS_LIBRARY -Iinclude -c bench/reference.c -o "$work/library.o" || exit 2
     ar rcs "${archives[0]}" "$work/library.o" # all calls are in one
     ar rcs "${archives[1]}"
+    $CC -std=gnu11 -O2 $WARNINGS -DAS_LIBRARY -Iinclude -c bench/sheet.c -o "$work/sheet.o" || exit 2
+    ar rcs "${archives[2]}" "$work/sheet.o"
     ;;
 *)
     given=${1:-$PWD/target/staticlib}
-    if ! (cd "$from" && cp "$given"/libcapi.a "$given"/libcapi_record.a "$work/library"); then
-        echo "no archives in $given; build them with: rt staticlib capi; rt staticlib capi_record" >&2
+    if ! (cd "$from" && cp "$given"/lib{capi,capi_record,sheet}.a "$work/library"); then
+        echo "no archives in $given; build them with: rt staticlib capi; rt staticlib capi_record; rt staticlib sheet" >&2
         echo "0 passed, 1 failed"
         exit 2
     fi
@@ -134,6 +136,10 @@ part_bindings() {
 part_examples() {
     holds "C example compiles" $CC $WARNINGS -Iinclude examples/c/executive.c "${archives[@]}" -o "$work/executive_c"
     holds "Rust example compiles" rustc --edition 2021 -D warnings -O examples/rust/executive.rs -L "$work/library" -o "$work/executive_rust"
+    holds "C example of a sheet compiles" $CC $WARNINGS -Iinclude examples/c/sheet.c "${archives[@]}" -o "$work/sheet_c"
+    holds "C example of a sheet" "$work/sheet_c"
+    cp "$work/log" "$work/sheet_said"
+    holds "C example of a sheet: the pair is told" grep -qx "a wedge behind the pallet's label: broken, 7105 must print before 9000" "$work/sheet_said"
     for seed in 1 2 3 4 5 6 7 8 9 10 18446744073709551615; do
         holds "C example, seed $seed" "$work/executive_c" $seed
         cp "$work/log" "$work/said_by_c"
@@ -151,6 +157,8 @@ part_bench() {
             holds "library, C and bare alike: $tasks tasks, $slots slots" "$work/bench" check $tasks $slots 100000
         done
     done
+    holds "sheet benchmark compiles" $CC -std=gnu11 -O2 -Iinclude bench/sheet_main.c bench/sheet.c "${archives[@]}" -o "$work/bench_sheet"
+    holds "sheets of library and C alike" "$work/bench_sheet" 1
 }
 
 part_differential() {

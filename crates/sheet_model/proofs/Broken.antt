@@ -13,10 +13,10 @@ use Rattle.model.proofs.tests.Truth.{decide-eq}
 use Rattle.sheet_model.specs.declared.Extents.{Extents}
 use Rattle.sheet_model.specs.declared.SheetReply.{SheetReply}
 use Rattle.sheet_model.specs.Sheet.{Sheet, any, outside, twice, malformed, chained, waits, leftOf, labelAt, breaks}
-use Rattle.sheet_model.specs.Squares.{listOf, mark, squareOf, linked, crossed}
+use Rattle.sheet_model.specs.Squares.{Row, linked, crossed}
 use Rattle.sheet_model.specs.Extents.{placeOf, unseen, notedAll}
 use Rattle.sheet_model.specs.Verdict.{brokenBy, inRow, inRows, verdict}
-use Rattle.sheet_model.proofs.ListOf.{getD-listOf}
+use Rattle.sheet_model.proofs.Square.{Shows, marks, row-at}
 use Rattle.sheet_model.proofs.Crossing.{meets, lowest, highest, crosses-up, crosses-down, meets-reverse, meets-left, meets-self}
 use Rattle.sheet_model.proofs.Noted.{label-place, low-noted, high-noted}
 use Rattle.sheet_model.proofs.Turns.{or-false}
@@ -47,6 +47,21 @@ crosses : (up : Bool) (y x : ℕ) (l : List Entry) → length l ≤ 1023
 crosses true y x l h = crosses-up 1 y x l (omega arith) (omega arith)
 crosses false y x l h = crosses-down 1023 y x l (omega arith) h ∙ sym (meets-reverse y x l)
 
+same-row : (p q : ℕ → ℕ → Bool) (a b m : ℕ) (o : SheetReply) → ((c : ℕ) → b ≤ c → c < b + m → p a c ≡ q a c)
+    → inRow p a b m o ≡ inRow q a b m o
+unfolding inRow
+same-row p q a b zero o h = refl
+same-row p q a b (suc m) o h =
+    λ i. cond (h b (omega arith) (omega arith) i) (brokenBy a b) (same-row p q a (b + 1) m o (λ c f g. h c (omega arith) (omega arith)) i)
+
+same-rows : (p q : ℕ → ℕ → Bool) (k a m : ℕ) → ((b c : ℕ) → a ≤ b → b < a + m → 1 ≤ c → c ≤ k → p b c ≡ q b c)
+    → inRows p k a m ≡ inRows q k a m
+unfolding inRows
+same-rows p q k a zero h = refl
+same-rows p q k a (suc m) h =
+    same-row p q a 1 k (inRows p k (a + 1) m) (λ c f g. h a c (omega arith) (omega arith) f (omega arith))
+    ∙ ap (inRow q a 1 k) (same-rows p q k (a + 1) m (λ b c f g. h b c (omega arith) (omega arith)))
+
 module _ (s : Sheet) (form : Formed s) (up : Bool) (l : List Entry) (short : length l ≤ 1023) where
   abbrev n : ℕ
   n = length (s .listed)
@@ -63,7 +78,8 @@ module _ (s : Sheet) (form : Formed s) (up : Bool) (l : List Entry) (short : len
       → leb (getD (e .low) b 0) (getD (e .high) a 0)
       ≡ cond (eqb (suc a) (suc b)) (waits (getD (s .listed) a 0) (turned up l)) (leftOf (getD (s .listed) b 0) (getD (s .listed) a 0) (turned up l))
   pair a b f g =
-      (λ i. leb (low-noted (s .listed) (form .once) b g (form .few) up (firstAt up) l i) (high-noted (s .listed) (form .once) a f (form .few) up (firstAt up) l i))
+      (λ i. leb (low-noted (s .listed) (form .once) b g (form .few) up (firstAt up) l i)
+      (high-noted (s .listed) (form .once) a f (form .few) up (firstAt up) l i))
       ∙ crosses up (getD (s .listed) b 0) (getD (s .listed) a 0) l short
       ∙ go (decide-eq a b)
     where
@@ -76,43 +92,25 @@ module _ (s : Sheet) (form : Formed s) (up : Bool) (l : List Entry) (short : len
           rw (ne-eqb (suc a) (suc b) (λ w. z (omega arith)))
           (meets-left (getD (s .listed) b 0) (getD (s .listed) a 0) (turned up l) (apart a b f g z))
 
-  abbrev square : List (List ℕ)
-  square = squareOf (linked (s .rules) n)
+  -- A square of either kind that holds the chained rules.
+  module _ {A : Type 0} (r : Row A) (R : (ℕ → Bool) → A) (law : Shows r R) (beyond : List A) where
+    abbrev square : List A
+    square = marks r R law beyond (linked (s .rules) n)
 
-  cell : (a b : ℕ) → a < 32 → b < 32 → not (eqb (getD (getD square a []) b 0) 0) ≡ linked (s .rules) n a b
-  unfolding squareOf
-  cell a b f g =
-      ap (λ (r : List ℕ). not (eqb (getD r b 0) 0)) (getD-listOf (λ a. listOf (λ b. mark (linked (s .rules) n a b)) 32) 32 a [] f)
-      ∙ ap (λ (x : ℕ). not (eqb x 0)) (getD-listOf (λ b. mark (linked (s .rules) n a b)) 32 b 0 g)
-      ∙ unmark (linked (s .rules) n a b)
-    where
-      unmark : (t : Bool) → not (eqb (mark t) 0) ≡ t
-      unmark true = refl
-      unmark false = refl
+    cell : (a b : ℕ) → a < 32 → b < 32 → r .has (getD square a (r .bare)) b ≡ linked (s .rules) n a b
+    cell a b f g =
+        ap (λ (x : A). r .has x b) (row-at r R law beyond (linked (s .rules) n) a f) ∙ law .has (linked (s .rules) n a) b g
 
-  crossed-breaks : (a b : ℕ) → 1 ≤ a → a ≤ n → 1 ≤ b → b ≤ n → crossed square (e .low) (e .high) a b ≡ breaks s (turned up l) a b
-  unfolding breaks chained
-  crossed-breaks zero b f g h k = absurd (omega arith)
-  crossed-breaks (suc a) zero f g h k = absurd (omega arith)
-  crossed-breaks (suc a) (suc b) f g h k =
-      let p : suc a - 1 ≡ a = omega arith in
-      let q : suc b - 1 ≡ b = omega arith in
-      rw (p, q) (λ i. cell a b (let z = form .few in omega arith) (let z = form .few in omega arith) i && pair a b (omega arith) (omega arith) i)
+    crossed-breaks : (a b : ℕ) → 1 ≤ a → a ≤ n → 1 ≤ b → b ≤ n → crossed r square (e .low) (e .high) a b ≡ breaks s (turned up l) a b
+    unfolding breaks chained
+    crossed-breaks zero b f g h k = absurd (omega arith)
+    crossed-breaks (suc a) zero f g h k = absurd (omega arith)
+    crossed-breaks (suc a) (suc b) f g h k =
+        let p : suc a - 1 ≡ a = omega arith in
+        let q : suc b - 1 ≡ b = omega arith in
+        rw (p, q) (λ i. cell a b (let z = form .few in omega arith) (let z = form .few in omega arith) i && pair a b (omega arith) (omega arith) i)
 
-  same-row : (p q : ℕ → ℕ → Bool) (a b m : ℕ) (o : SheetReply) → ((c : ℕ) → b ≤ c → c < b + m → p a c ≡ q a c) → inRow p a b m o ≡ inRow q a b m o
-  unfolding inRow
-  same-row p q a b zero o h = refl
-  same-row p q a b (suc m) o h =
-      λ i. cond (h b (omega arith) (omega arith) i) (brokenBy a b) (same-row p q a (b + 1) m o (λ c f g. h c (omega arith) (omega arith)) i)
-
-  same-rows : (p q : ℕ → ℕ → Bool) (k a m : ℕ) → ((b c : ℕ) → a ≤ b → b < a + m → 1 ≤ c → c ≤ k → p b c ≡ q b c) → inRows p k a m ≡ inRows q k a m
-  unfolding inRows
-  same-rows p q k a zero h = refl
-  same-rows p q k a (suc m) h =
-      same-row p q a 1 k (inRows p k (a + 1) m) (λ c f g. h a c (omega arith) (omega arith) f (omega arith))
-      ∙ ap (inRow q a 1 k) (same-rows p q k (a + 1) m (λ b c f g. h b c (omega arith) (omega arith)))
-
-  pub found-verdict : inRows (crossed square (e .low) (e .high)) n 1 n ≡ verdict s (turned up l)
-  unfolding verdict
-  found-verdict =
-      same-rows (crossed square (e .low) (e .high)) (breaks s (turned up l)) n 1 n (λ b c f g h k. crossed-breaks b c f (omega arith) h k)
+    pub found-verdict : inRows (crossed r square (e .low) (e .high)) n 1 n ≡ verdict s (turned up l)
+    unfolding verdict
+    found-verdict =
+        same-rows (crossed r square (e .low) (e .high)) (breaks s (turned up l)) n 1 n (λ b c f g h k. crossed-breaks b c f (omega arith) h k)

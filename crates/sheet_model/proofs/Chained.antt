@@ -62,7 +62,8 @@ in-list : (n a b : ℕ) (l : List ℕ) → any (outside n) l ≡ false → any (
 in-list n a b [] h e = absurd (not-both e refl)
 in-list n a b (w ∷ l) h e =
     or-cases (eqb (before w) a && eqb (after w) b) (any (λ w. eqb (before w) a && eqb (after w) b) l) e
-    (λ z. let y = eqb-true (after w) b (and-true (eqb (before w) a) (eqb (after w) b) z .1) in split (from1 n (after w)) (λ q. subst (λ v. from1 n v ≡ true) y q) (λ q. absurd (not-both (bad q) h)))
+    (λ z. let y = eqb-true (after w) b (and-true (eqb (before w) a) (eqb (after w) b) z .1) in split (from1 n (after w))
+    (λ q. subst (λ v. from1 n v ≡ true) y q) (λ q. absurd (not-both (bad q) h)))
     (λ z. in-list n a b l (split (any (outside n) l) (λ q. absurd (not-both (or-second (outside n w) q) h)) (λ q. q)) z)
   where
     bad : from1 n (after w) ≡ false → outside n w || any (outside n) l ≡ true

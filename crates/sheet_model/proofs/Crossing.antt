@@ -120,7 +120,9 @@ crosses-up at y x (e ∷ l) g h =
       where
         same : (b : Bool) → leb L H ≡ b → leb L (higher at H) ≡ leb L H
         same true e = le-leb L (higher at H) (let z = leb-true L H e in let b = higher-is at H .two in omega arith) ∙ sym e
-        same false e = lt-leb L (higher at H) (let z = leb-false L H e in let b = higher-is at H .upto (L - 1) (omega arith) (omega arith) in omega arith) ∙ sym e
+        same false e =
+            lt-leb L (higher at H) (let z = leb-false L H e in let b = higher-is at H .upto (L - 1) (omega arith) (omega arith) in omega arith)
+            ∙ sym e
     go false false r ih w = ih
 
 -- A walk from the right is one from the left, with positions counted down from 1,024.
@@ -233,7 +235,8 @@ meets-snoc y x (f ∷ l) e =
 waits-reverse : (x : ℕ) (l : List Entry) → waits x (reverse l) ≡ waits x l
 waits-reverse x [] = refl
 waits-reverse x (e ∷ l) =
-    ap (waits x) (reverse-cons e l) ∙ waits-snoc x (reverse l) e ∙ ap (λ b. b || eqb (e .label) x) (waits-reverse x l) ∙ swap (waits x l) (eqb (e .label) x)
+    ap (waits x) (reverse-cons e l) ∙ waits-snoc x (reverse l) e ∙ ap (λ b. b || eqb (e .label) x) (waits-reverse x l)
+    ∙ swap (waits x l) (eqb (e .label) x)
 
 pub meets-reverse : (y x : ℕ) (l : List Entry) → meets y x (reverse l) ≡ meets x y l
 meets-reverse y x [] = refl
@@ -266,7 +269,8 @@ pub meets-left : (y x : ℕ) (l : List Entry) → (x ≡ y → ⊥) → meets y 
 meets-left y x [] h = refl
 meets-left y x (e ∷ l) h = go (eqb (e .label) y) refl (meets-left y x l h)
   where
-    go : (b : Bool) → eqb (e .label) y ≡ b → meets y x l ≡ leftOf y x l → (b && (eqb (e .label) x || waits x l)) || meets y x l ≡ (b && waits x l) || leftOf y x l
+    go : (b : Bool) → eqb (e .label) y ≡ b → meets y x l ≡ leftOf y x l → (b && (eqb (e .label) x || waits x l)) || meets y x l ≡
+        (b && waits x l) || leftOf y x l
     go true z ih =
         ap (λ b. (b || waits x l) || meets y x l) (ne-eqb (e .label) x (λ w. h (let v = eqb-true (e .label) y z in omega arith)))
         ∙ ap (λ b. waits x l || b) ih

@@ -58,7 +58,12 @@ pub noted-is : (listed : List ℕ) (k x y at : ℕ) (low high low' high' : List 
     → _≡_ {A = Extents} (record { sound = true; low = low'; high = high' }) (noted listed y at (record { sound = true; low = low; high = high }))
 noted-is listed k x y at low high low' high' e f g h =
     let z : k ≡ placeOf y listed = e ∙ zero-plus (placeOf x listed) ∙ ap (λ (v : ℕ). placeOf v listed) f in
-    (λ i. record { sound = true; low = (g ∙ ap (λ (p : ℕ). set low p (lower at (getD low p 0))) z) i; high = (h ∙ ap (λ (p : ℕ). set high p (higher at (getD high p 0))) z) i })
+    (λ i. record {
+      sound = true;
+      low = (g ∙ ap (λ (p : ℕ). set low p (lower at (getD low p 0))) z) i;
+      high =
+          (h ∙ ap (λ (p : ℕ). set high p (higher at (getD high p 0))) z) i;
+    })
   where
     zero-plus : (n : ℕ) → 0 + n ≡ n
     zero-plus n = omega arith
@@ -83,7 +88,8 @@ module _ (slots : ℕ) (links labels listed : List ℕ) (up : Bool) (last : ℕ)
       → gather slots links labels listed up last n x at e ≡ extentsOf listed up at (along slots links labels last n x) e
   unfolding gather along extentsOf
   gather-walk zero x at e = refl
-  gather-walk (suc n) x at e = go (from1 slots x) (eqb x last) (linkSound slots (getD links x 0)) (gather-walk n (linkOf (getD links x 0) .slot) (nextAt up at))
+  gather-walk (suc n) x at e =
+      go (from1 slots x) (eqb x last) (linkSound slots (getD links x 0)) (gather-walk n (linkOf (getD links x 0) .slot) (nextAt up at))
     where
       f : Extents
       f = noted listed (getD labels x 0) at e
@@ -94,8 +100,10 @@ module _ (slots : ℕ) (links labels listed : List ℕ) (up : Bool) (last : ℕ)
       on : Walk
       on = along slots links labels last n (linkOf (getD links x 0) .slot)
 
-      go : (p q r : Bool) → ((d : Extents) → gather slots links labels listed up last n (linkOf (getD links x 0) .slot) (nextAt up at) d ≡ extentsOf listed up (nextAt up at) on d)
-          → cond p (cond q f (cond r (gather slots links labels listed up last n (linkOf (getD links x 0) .slot) (nextAt up at) f) (unseen false))) (unseen false)
+      go : (p q r : Bool) → ((d : Extents) → gather slots links labels listed up last n (linkOf (getD links x 0) .slot)
+          (nextAt up at) d ≡ extentsOf listed up (nextAt up at) on d)
+          → cond p (cond q f (cond r (gather slots links labels listed up last n (linkOf (getD links x 0) .slot) (nextAt up at) f) (unseen false)))
+          (unseen false)
           ≡ extentsOf listed up at (cond p (cond q (entries (y ∷ [])) (andThen y (cond r on broken))) broken) e
       go false q r ih = refl
       go true true r ih = one listed up at y e
@@ -106,7 +114,8 @@ module _ (slots : ℕ) (links labels listed : List ℕ) (up : Bool) (last : ℕ)
 pub along-short : (slots : ℕ) (links labels : List ℕ) (last n x : ℕ) → Short n (along slots links labels last n x)
 unfolding along
 along-short slots links labels last zero x = tt
-along-short slots links labels last (suc n) x = go (from1 slots x) (eqb x last) (linkSound slots (getD links x 0)) (along-short slots links labels last n (linkOf (getD links x 0) .slot))
+along-short slots links labels last (suc n) x =
+    go (from1 slots x) (eqb x last) (linkSound slots (getD links x 0)) (along-short slots links labels last n (linkOf (getD links x 0) .slot))
   where
     y : Entry
     y = record { slot = x; label = getD labels x 0 }
@@ -116,7 +125,8 @@ along-short slots links labels last (suc n) x = go (from1 slots x) (eqb x last) 
     more broken h = tt
 
     go : (p q r : Bool) → Short n (along slots links labels last n (linkOf (getD links x 0) .slot))
-        → Short (suc n) (cond p (cond q (entries (y ∷ [])) (andThen y (cond r (along slots links labels last n (linkOf (getD links x 0) .slot)) broken))) broken)
+        → Short (suc n) (cond p (cond q (entries (y ∷ []))
+        (andThen y (cond r (along slots links labels last n (linkOf (getD links x 0) .slot)) broken))) broken)
     go false q r h = tt
     go true true r h = omega arith
     go true false false h = tt

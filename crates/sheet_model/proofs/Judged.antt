@@ -18,10 +18,12 @@ use Rattle.model.proofs.tests.Truth.{split, and-true, not-both}
 use Rattle.sheet_model.specs.declared.Extents.{Extents}
 use Rattle.sheet_model.specs.declared.SheetReply.{SheetReply}
 use Rattle.sheet_model.specs.Sheet.{Sheet, malformed}
-use Rattle.sheet_model.specs.Squares.{squareOf, linked, crossed}
+use Rattle.sheet_model.specs.Squares.{Row, byteRow, linked, crossed}
 use Rattle.sheet_model.specs.Extents.{unseen, noted, nextAt, notedAll, extentsOf, extents}
 use Rattle.sheet_model.specs.Verdict.{refused, inRows, verdict, early, judge}
 use Rattle.sheet_model.proofs.Broken.{Formed, formed, firstAt, turned, found-verdict}
+use Rattle.sheet_model.proofs.Square.{Shows, marks}
+use Rattle.sheet_model.proofs.ByteRows.{bytes, bytes-show}
 use Rattle.sheet_model.proofs.Gather.{Short, gather-walk, along-short}
 
 pub slots-few : (c : Control) → controlSound c ≡ true → c .slots ≤ 1023
@@ -36,14 +38,16 @@ unfolding notedAll
 stays-sound listed up at [] e h = h
 stays-sound listed up at (x ∷ l) e h = stays-sound listed up (nextAt up at) l (noted listed (x .label) at e) refl
 
--- The square and the extents of a walk w tell the verdict on its entries.
-module _ (s : Sheet) where
-  -- The extents as the call finds them, and its answer from them.
-  abbrev pub extentsIn : Tables → Extents
-  extentsIn q = extents (q .control .slots) (anchorOf (q .control .anchor)) (s .listed) (q .lefts) (q .rights) (q .labels)
+-- The extents as the call finds them.
+abbrev pub extentsIn : Sheet → Tables → Extents
+extentsIn s q = extents (q .control .slots) (anchorOf (q .control .anchor)) (s .listed) (q .lefts) (q .rights) (q .labels)
 
+-- A square of the chained rules and the extents of a walk w tell the verdict on its entries.
+module _ (s : Sheet) {A : Type 0} (r : Row A) (R : (ℕ → Bool) → A) (law : Shows r R) (beyond : List A) where
   abbrev pub found : Extents → SheetReply
-  found e = inRows (crossed (squareOf (linked (s .rules) (length (s .listed)))) (e .low) (e .high)) (length (s .listed)) 1 (length (s .listed))
+  found e =
+      inRows (crossed r (marks r R law beyond (linked (s .rules) (length (s .listed)))) (e .low) (e .high)) (length (s .listed)) 1
+      (length (s .listed))
 
   pub record Tells (e : Extents) (w : Walk) : Type 0 where
     pub sound : e .sound ≡ not (isBroken w)
@@ -54,8 +58,10 @@ module _ (s : Sheet) where
 
   of-walk : (up : Bool) (w : Walk) → Short 1023 w → Tells (extentsOf (s .listed) up (firstAt up) w (unseen true)) (walkFrom (side up) w)
   unfolding extentsOf
-  of-walk true (entries l) h = record { sound = stays-sound (s .listed) true 1 l (unseen true) refl; answer = λ f _. found-verdict s f true l h }
-  of-walk false (entries l) h = record { sound = stays-sound (s .listed) false 1023 l (unseen true) refl; answer = λ f _. found-verdict s f false l h }
+  of-walk true (entries l) h =
+      record { sound = stays-sound (s .listed) true 1 l (unseen true) refl; answer = λ f _. found-verdict s f true l h r R law beyond }
+  of-walk false (entries l) h =
+      record { sound = stays-sound (s .listed) false 1023 l (unseen true) refl; answer = λ f _. found-verdict s f false l h r R law beyond }
   of-walk up broken h = record { sound = refl; answer = λ f e. absurd (not-both e refl) }
 
   shorter : (n : ℕ) (w : Walk) → n ≤ 1023 → Short n w → Short 1023 w
@@ -71,16 +77,19 @@ module _ (s : Sheet) where
         (walkFrom (side up) (along (q .control .slots) links (q .labels) last (q .control .slots) x))
     walked up links last x =
         of-walk up (along (q .control .slots) links (q .labels) last (q .control .slots) x)
-        (shorter (q .control .slots) (along (q .control .slots) links (q .labels) last (q .control .slots) x) few (along-short (q .control .slots) links (q .labels) last (q .control .slots) x))
+        (shorter (q .control .slots) (along (q .control .slots) links (q .labels) last (q .control .slots) x) few
+        (along-short (q .control .slots) links (q .labels) last (q .control .slots) x))
 
-    pub tells : Tells (extentsIn q) (contents q)
+    pub tells : Tells (extentsIn s q) (contents q)
     unfolding extents contents extentsOf notedAll
     tells =
         split (isEmpty a)
         (λ e. rw e (of-walk true (entries []) (omega arith)))
         (λ e. split (eqb (a .status) 2)
-        (λ f. rw (e, f) (rw (gather-walk (q .control .slots) (q .rights) (q .labels) (s .listed) true (a .right) (q .control .slots) (a .left) 1 (unseen true)) (walked true (q .rights) (a .right) (a .left))))
-        (λ f. rw (e, f) (rw (gather-walk (q .control .slots) (q .lefts) (q .labels) (s .listed) false (a .left) (q .control .slots) (a .right) 1023 (unseen true)) (walked false (q .lefts) (a .left) (a .right)))))
+        (λ f. rw (e, f) (rw (gather-walk (q .control .slots) (q .rights) (q .labels) (s .listed) true (a .right) (q .control .slots) (a .left) 1
+        (unseen true)) (walked true (q .rights) (a .right) (a .left))))
+        (λ f. rw (e, f) (rw (gather-walk (q .control .slots) (q .lefts) (q .labels) (s .listed) false (a .left) (q .control .slots) (a .right) 1023
+        (unseen true)) (walked false (q .lefts) (a .left) (a .right)))))
 
 -- What stands before the walk applies, or doesn't.
 early-none : (a b c : Bool) → early a b c ≡ 0 → (a ≡ true) × (b ≡ false) × (c ≡ true)
@@ -124,13 +133,16 @@ module _ (q : Tables) (s : Sheet) (enough : Bool) where
 
     pub judge-lost : extentsIn s q .sound ≡ false → refused 34 ≡ judge q s enough
     unfolding judge
-    judge-lost h = rw (ok .control, ok .form, ok .long, not-false (isBroken (contents q)) (sym (tells s q few .sound) ∙ h))
+    judge-lost h =
+        rw (ok .control, ok .form, ok .long, not-false (isBroken (contents q)) (sym (tells s byteRow bytes bytes-show [] q few .sound) ∙ h))
 
-    pub judge-told : extentsIn s q .sound ≡ true → found s (extentsIn s q) ≡ judge q s enough
+    -- With a square of either kind.
+    pub judge-told : {A : Type 0} (r : Row A) (R : (ℕ → Bool) → A) (law : Shows r R) (beyond : List A) → extentsIn s q .sound ≡ true
+        → found s r R law beyond (extentsIn s q) ≡ judge q s enough
     unfolding judge
-    judge-told h =
-        rw (ok .control, ok .form, ok .long, not-true (isBroken (contents q)) (sym (tells s q few .sound) ∙ h))
-        (tells s q few .answer (formed s (ok .form)) h)
+    judge-told r R law beyond h =
+        rw (ok .control, ok .form, ok .long, not-true (isBroken (contents q)) (sym (tells s r R law beyond q few .sound) ∙ h))
+        (tells s r R law beyond q few .answer (formed s (ok .form)) h)
 
 -- The tests before the walk, one after the other.
 module _ (a b c : Bool) where

@@ -86,7 +86,10 @@ module _ (listed : List ℕ) (once : twice listed ≡ false) (k : ℕ) (here : k
   low-from up at [] e h g = omega arith
   low-from up at (x ∷ l) e h g =
       let z = low-one (x .label) at e h in
-      let t = low-from up (nextAt up at) l (noted listed (x .label) at e) (omega (arith, length-set (e .low) (placeOf (x .label) listed) (lower at (getD (e .low) (placeOf (x .label) listed) 0)))) (bound (eqb (x .label) own) z) in
+      let t =
+      low-from up (nextAt up at) l (noted listed (x .label) at e)
+      (omega (arith, length-set (e .low) (placeOf (x .label) listed) (lower at (getD (e .low) (placeOf (x .label) listed) 0))))
+      (bound (eqb (x .label) own) z) in
       t ∙ ap (min (lowest up (nextAt up at) own l)) z ∙ go (eqb (x .label) own) (getD (e .low) k 0) (lowest up (nextAt up at) own l)
     where
       bound : (b : Bool) {r : ℕ} → r ≡ cond b (lower at (getD (e .low) k 0)) (getD (e .low) k 0) → r ≤ 1024
@@ -103,7 +106,9 @@ module _ (listed : List ℕ) (once : twice listed ≡ false) (k : ℕ) (here : k
   high-from up at [] e h = omega arith
   high-from up at (x ∷ l) e h =
       let z = high-one (x .label) at e h in
-      let t = high-from up (nextAt up at) l (noted listed (x .label) at e) (omega (arith, length-set (e .high) (placeOf (x .label) listed) (higher at (getD (e .high) (placeOf (x .label) listed) 0)))) in
+      let t =
+      high-from up (nextAt up at) l (noted listed (x .label) at e)
+      (omega (arith, length-set (e .high) (placeOf (x .label) listed) (higher at (getD (e .high) (placeOf (x .label) listed) 0)))) in
       t ∙ ap (max (highest up (nextAt up at) own l)) z ∙ go (eqb (x .label) own) (getD (e .high) k 0) (highest up (nextAt up at) own l)
     where
       go : (b : Bool) (v r : ℕ) → max r (cond b (higher at v) v) ≡ max (cond b (higher at r) r) v

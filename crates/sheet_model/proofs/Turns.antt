@@ -14,7 +14,7 @@ use Rattle.model.proofs.tests.Truth.{and-true, split}
 use Rattle.sheet_model.specs.declared.SheetReply.{SheetReply}
 use Rattle.sheet_model.specs.Sheet.{Sheet, before, after, any, twice, outside, malformed}
 use Rattle.sheet_model.specs.Extents.{placeOf, lower, higher, nextAt, position}
-use Rattle.sheet_model.specs.Squares.{crossed, sweep, joinRow, ruleMarked, rulesMarked, rounds, joinVia}
+use Rattle.sheet_model.specs.Squares.{Row, crossed, sweep, ruleMarked, rulesMarked, rounds, joinVia}
 use Rattle.sheet_model.specs.Verdict.{inRow, inRows, brokenBy, kept}
 
 pub or-false : (a b : Bool) → a || b ≡ false → (a ≡ false) × (b ≡ false)
@@ -37,7 +37,8 @@ suc-ltb a b =
 pub any-place : (x : ℕ) (l : List ℕ) → any (eqb x) l ≡ ltb (placeOf x l) (length l)
 unfolding placeOf
 any-place x [] = refl
-any-place x (y ∷ l) = split (eqb x y) (λ e. rw e (sym (lt-ltb 0 (suc (length l)) (omega arith)))) (λ e. rw e (any-place x l ∙ suc-ltb (placeOf x l) (length l)))
+any-place x (y ∷ l) =
+    split (eqb x y) (λ e. rw e (sym (lt-ltb 0 (suc (length l)) (omega arith)))) (λ e. rw e (any-place x l ∙ suc-ltb (placeOf x l) (length l)))
 
 -- The rest of a list from i on: its element at i, and the rest after that.
 module _ (l : List ℕ) (i : ℕ) where
@@ -68,27 +69,33 @@ module _ (l : List ℕ) (i : ℕ) where
   pub any-end : (p : ℕ → Bool) → length l ≤ i → any p (drop i l) ≡ any p l → false ≡ any p l
   any-end p h g = ap (any p) (sym (no-rest h)) ∙ g
 
-  pub twice-here : (r : ℕ) → i < length l → twice (drop i l) ≡ twice l → r ≡ (i + 1) + placeOf (getD l i 0) (drop (i + 1) l) → r < length l → true ≡ twice l
+  pub twice-here : (r : ℕ) → i < length l → twice (drop i l) ≡ twice l → r ≡ (i + 1) + placeOf (getD l i 0)
+      (drop (i + 1) l) → r < length l → true ≡ twice l
   twice-here r h g e f =
-      let t = any-place (getD l i 0) (drop (i + 1) l) ∙ lt-ltb (placeOf (getD l i 0) (drop (i + 1) l)) (length (drop (i + 1) l)) (omega (arith, length-drop (i + 1) l)) in
+      let t =
+      any-place (getD l i 0) (drop (i + 1) l)
+      ∙ lt-ltb (placeOf (getD l i 0) (drop (i + 1) l)) (length (drop (i + 1) l)) (omega (arith, length-drop (i + 1) l)) in
       sym (sym g ∙ ap twice (rest h) ∙ ap (λ b. b || twice (drop (i + 1) l)) t)
 
   pub twice-on : (r : ℕ) → i < length l → twice (drop i l) ≡ twice l → r ≡ (i + 1) + placeOf (getD l i 0) (drop (i + 1) l) → length l ≤ r
       → twice (drop (i + 1) l) ≡ twice l
   twice-on r h g e f =
-      let t = any-place (getD l i 0) (drop (i + 1) l) ∙ le-ltb (placeOf (getD l i 0) (drop (i + 1) l)) (length (drop (i + 1) l)) (omega (arith, length-drop (i + 1) l)) in
+      let t =
+      any-place (getD l i 0) (drop (i + 1) l)
+      ∙ le-ltb (placeOf (getD l i 0) (drop (i + 1) l)) (length (drop (i + 1) l)) (omega (arith, length-drop (i + 1) l)) in
       sym (sym g ∙ ap twice (rest h) ∙ ap (λ b. b || twice (drop (i + 1) l)) t)
 
   pub twice-end : length l ≤ i → twice (drop i l) ≡ twice l → false ≡ twice l
   twice-end h g = ap twice (sym (no-rest h)) ∙ g
 
-  pub rules-on : (m : List (List ℕ)) → i < length l → rulesMarked (drop i l) m ≡ rulesMarked (drop (i + 1) l) (ruleMarked (getD l i 0) m)
+  pub rules-on : {A : Type 0} (r : Row A) (m : List A) → i < length l
+      → rulesMarked r (drop i l) m ≡ rulesMarked r (drop (i + 1) l) (ruleMarked r (getD l i 0) m)
   unfolding rulesMarked
-  rules-on m h = ap (λ (r : List ℕ). rulesMarked r m) (rest h)
+  rules-on r m h = ap (λ (t : List ℕ). rulesMarked r t m) (rest h)
 
-  pub rules-end : (m : List (List ℕ)) → length l ≤ i → rulesMarked (drop i l) m ≡ m
+  pub rules-end : {A : Type 0} (r : Row A) (m : List A) → length l ≤ i → rulesMarked r (drop i l) m ≡ m
   unfolding rulesMarked
-  rules-end m h = ap (λ (r : List ℕ). rulesMarked r m) (no-rest h)
+  rules-end r m h = ap (λ (t : List ℕ). rulesMarked r t m) (no-rest h)
 
 -- A rule of a sheet that has the form points into the list.
 pub record Inside (n w : ℕ) : Type 0 where
@@ -109,7 +116,8 @@ inside n (suc i) (w ∷ l) e h = inside n i l (or-false (outside n w) _ e .1) (o
 
 -- Loops that count to n.
 module _ (n i : ℕ) where
-  pub sweep-on : {A : Type 0} (z : A) (h : ℕ → A → A) (l : List A) → i < n → sweep z h i (n - i) l ≡ sweep z h (i + 1) (n - (i + 1)) (set l i (h i (getD l i z)))
+  pub sweep-on : {A : Type 0} (z : A) (h : ℕ → A → A) (l : List A) → i < n → sweep z h i (n - i) l ≡ sweep z h (i + 1) (n - (i + 1))
+      (set l i (h i (getD l i z)))
   unfolding sweep
   sweep-on z h l g = ap (λ (k : ℕ). sweep z h i k l) (left n i g)
 
@@ -117,22 +125,25 @@ module _ (n i : ℕ) where
   unfolding sweep
   sweep-end z h l g = ap (λ (k : ℕ). sweep z h i k l) (none-left n i g)
 
-  pub rounds-on : (m : List (List ℕ)) → i < n → rounds i (n - i) m ≡ rounds (i + 1) (n - (i + 1)) (sweep [] (joinVia i (getD m i [])) 0 32 m)
+  pub rounds-on : {A : Type 0} (r : Row A) (m : List A) → i < n
+      → rounds r i (n - i) m ≡ rounds r (i + 1) (n - (i + 1)) (sweep (r .bare) (joinVia r i (getD m i (r .bare))) 0 32 m)
   unfolding rounds
-  rounds-on m g = ap (λ (k : ℕ). rounds i k m) (left n i g)
+  rounds-on r m g = ap (λ (k : ℕ). rounds r i k m) (left n i g)
 
-  pub rounds-end : (m : List (List ℕ)) → n ≤ i → rounds i (n - i) m ≡ m
+  pub rounds-end : {A : Type 0} (r : Row A) (m : List A) → n ≤ i → rounds r i (n - i) m ≡ m
   unfolding rounds
-  rounds-end m g = ap (λ (k : ℕ). rounds i k m) (none-left n i g)
+  rounds-end r m g = ap (λ (k : ℕ). rounds r i k m) (none-left n i g)
 
   pub row-here : (p : ℕ → ℕ → Bool) (a : ℕ) (o : SheetReply) → i < n → p a (i + 1) ≡ true → brokenBy a (i + 1) ≡ inRow p a (i + 1) (n - i) o
   unfolding inRow
-  row-here p a o g e = sym (ap (λ (k : ℕ). inRow p a (i + 1) k o) (left n i g) ∙ ap (λ b. cond b (brokenBy a (i + 1)) (inRow p a ((i + 1) + 1) (n - (i + 1)) o)) e)
+  row-here p a o g e =
+      sym (ap (λ (k : ℕ). inRow p a (i + 1) k o) (left n i g) ∙ ap (λ b. cond b (brokenBy a (i + 1)) (inRow p a ((i + 1) + 1) (n - (i + 1)) o)) e)
 
   pub row-on : (p : ℕ → ℕ → Bool) (a : ℕ) (o : SheetReply) → i < n → p a (i + 1) ≡ false
       → inRow p a ((i + 1) + 1) (n - (i + 1)) o ≡ inRow p a (i + 1) (n - i) o
   unfolding inRow
-  row-on p a o g e = sym (ap (λ (k : ℕ). inRow p a (i + 1) k o) (left n i g) ∙ ap (λ b. cond b (brokenBy a (i + 1)) (inRow p a ((i + 1) + 1) (n - (i + 1)) o)) e)
+  row-on p a o g e =
+      sym (ap (λ (k : ℕ). inRow p a (i + 1) k o) (left n i g) ∙ ap (λ b. cond b (brokenBy a (i + 1)) (inRow p a ((i + 1) + 1) (n - (i + 1)) o)) e)
 
   pub row-end : (p : ℕ → ℕ → Bool) (a : ℕ) (o : SheetReply) → n ≤ i → inRow p a (i + 1) (n - i) o ≡ o
   unfolding inRow
@@ -150,19 +161,19 @@ pub all-left : (n : ℕ) → n - 0 ≡ n
 all-left n = omega arith
 
 -- A pair of places counted from 0.
-pub crossed-at : (m : List (List ℕ)) (low high : List ℕ) (a b : ℕ)
-    → crossed m low high (a + 1) (b + 1) ≡ not (eqb (getD (getD m a []) b 0) 0) && leb (getD low b 0) (getD high a 0)
-crossed-at m low high a b = rw (back a, back b)
+pub crossed-at : {A : Type 0} (r : Row A) (m : List A) (low high : List ℕ) (a b : ℕ)
+    → crossed r m low high (a + 1) (b + 1) ≡ r .has (getD m a (r .bare)) b && leb (getD low b 0) (getD high a 0)
+crossed-at r m low high a b = rw (back a, back b)
   where
     back : (n : ℕ) → (n + 1) - 1 ≡ n
     back n = omega arith
 
 -- Whether a row gets another's marks.
-pub join-taken : (k : ℕ) (via : List ℕ) (i : ℕ) (row : List ℕ) → (getD row k 0 ≡ 0 → ⊥) → joinVia k via i row ≡ joinRow via row
-join-taken k via i row h = ap (λ b. cond b row (joinRow via row)) (ne-eqb (getD row k 0) 0 h)
+pub join-taken : {A : Type 0} (r : Row A) (k : ℕ) (via : A) (i : ℕ) (row : A) → r .has row k ≡ true → joinVia r k via i row ≡ r .join via row
+join-taken r k via i row h = ap (λ b. cond b (r .join via row) row) h
 
-pub join-left : (k : ℕ) (via : List ℕ) (i : ℕ) (row : List ℕ) → getD row k 0 ≡ 0 → joinVia k via i row ≡ row
-join-left k via i row h = ap (λ b. cond b row (joinRow via row)) (eq-eqb (getD row k 0) 0 h)
+pub join-left : {A : Type 0} (r : Row A) (k : ℕ) (via : A) (i : ℕ) (row : A) → r .has row k ≡ false → joinVia r k via i row ≡ row
+join-left r k via i row h = ap (λ b. cond b (r .join via row) row) h
 
 -- The tests of a sheet's form, one after the other.
 module _ (s : Sheet) where

@@ -2,3 +2,4 @@ pub mod Sheet
 pub mod Verdict
 pub mod Squares
 pub mod Extents
+pub mod Laws

@@ -8,6 +8,7 @@ mod faults;
 mod histories;
 mod noise;
 mod plant;
+mod sheets;
 mod sound;
 mod tally;
 mod world;
@@ -32,6 +33,7 @@ fn main() -> ExitCode {
     plant::failures(&mut tally, &mut dice, 60 * times);
     noise::noise(&mut tally, &mut dice, 200_000 * times);
     histories::histories(&mut tally, &mut dice, 150 * times, 10_000);
+    sheets::sheets(&mut tally, &mut dice, 100_000 * times);
     tally.check_reached();
     tally.check(tally.mismatches == 0, &format!("{} calls differed", tally.mismatches));
     println!("seed {seed}: {} calls compared", tally.calls);
