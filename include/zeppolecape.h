@@ -15,7 +15,8 @@
  *     make                                          (proves, and writes target/lib/libzeppolecape.a)
  *     cc -Iinclude main.c target/lib/libzeppolecape.a
  *
- * The library is for x86-64. It calls nothing but memset, and that only from zc_open.
+ * The library is for x86-64. It calls nothing but memset, from zc_open, zc_audit_words and the order
+ * sheets, and memcpy, from the order sheets.
  *
  * In short:
  *
@@ -62,7 +63,7 @@
  *   zc_run            192      1298      3024      3024
  *   zc_report         112       227       503     27343
  *   table bytes         -       192       664     21792
- *   code bytes: audit 1804, capi 5987, capi_record 2702, capi_run 3057
+ *   code bytes: audit 1804, capi 5987, capi_record 2702, capi_run 3057, sheet 2272
  * As to the machine: x86-64, System V calling convention. The code uses the red zone (128 bytes
  * below the stack pointer) and SSE registers, no AVX: an interrupt handler that makes a call saves
  * the SSE state first, and an interrupt that is not masked during a call leaves the red zone alone.
@@ -181,6 +182,10 @@ extern "C" {
 
 /* Refusal of zc_audit, because of the input: no history that can be judged. */
 #define ZC_BAD_HISTORY 40
+
+/* Refusal of zc_sheet, because of the input: over 32 labels or 128 rules, a label listed twice, or a
+ * rule that points outside the list. */
+#define ZC_BAD_SHEET 46
 
 /* ---- Types ------------------------------------------------------------------------------ */
 
@@ -384,6 +389,7 @@ static inline const char *zc_refusal_text(uint64_t number)
     case ZC_WORN: return "the Anchor tag is too high for another start";
     case ZC_UNSOUND: return "the tables are unsound";
     case ZC_BAD_HISTORY: return "not a history that can be judged";
+    case ZC_BAD_SHEET: return "the sheet is malformed";
     default: return "not a refusal";
     }
 }
@@ -669,6 +675,52 @@ static inline zc_verdict zc_audit(const zc_finished *calls, size_t call_count,
                                   const uint64_t *order, size_t order_count)
 {
     return zc_audit_words((const uint64_t *)calls, 7 * call_count, order, order_count);
+}
+#endif
+
+/* ---- The order sheet ---------------------------------------------------------------------
+ * A sheet lists up to 32 different labels, and up to 128 rules on their places in the list, from 1:
+ * the label at one place prints before the label at another. Rules chain, also through labels that
+ * aren't waiting. Nothing of a queue is written.
+ */
+#define ZC_MOST_LISTED 32
+#define ZC_MOST_RULES 128
+
+/* Code 0: kept, first and second 0, or the first broken pair by its places in the list. */
+typedef struct zc_sheet_reply {
+    uint64_t code; /* 0, or the number of a refusal; the rest is then 0 */
+    uint64_t first, second;
+} zc_sheet_reply;
+ZC_LAYOUT(sizeof(zc_sheet_reply) == 24);
+ZC_LAYOUT(offsetof(zc_sheet_reply, first) == 8 && offsetof(zc_sheet_reply, second) == 16);
+
+/* The rule that the label at place `first` prints before the one at `second`. A place above 65,535
+ * becomes 0, which is outside every list. */
+static inline uint32_t zc_rule(uint64_t first, uint64_t second)
+{
+    return (uint32_t)(first > 65535 ? 0 : first) << 16 | (uint32_t)(second > 65535 ? 0 : second);
+}
+
+/*
+ * Whether the labels waiting keep the sheet. A chained pair is broken when any copy of the second
+ * waits left of any copy of the first; a label chained to itself as soon as it waits. Of several
+ * broken pairs the one with the smallest first place, then the smallest second, is answered.
+ * Writes nothing. Refuses: 34 for control, 46, 12 (rows and marks only), 34 for the links: the
+ * walk of the labels waiting meets slot 0 early, a link word as ZC_UNSOUND names it, or more slots
+ * than there are.
+ */
+zc_sheet_reply zc_sheet(const zc_control *control, const uint32_t *listed, size_t listed_count,
+                        const uint32_t *rules, size_t rule_count, const uint64_t *lefts,
+                        size_t left_count, const uint64_t *rights, size_t right_count,
+                        const uint32_t *labels, size_t label_count, const uint64_t *marks,
+                        size_t mark_count);
+
+#ifndef ZC_CORE_ONLY
+static inline zc_sheet_reply zc_queue_sheet(const zc_queue *queue, const uint32_t *listed,
+                                            size_t listed_count, const uint32_t *rules,
+                                            size_t rule_count)
+{
+    return zc_sheet(queue->control, listed, listed_count, rules, rule_count, ZC_TABLES(queue));
 }
 #endif
 

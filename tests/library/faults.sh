@@ -231,7 +231,8 @@ END
 mkdir "$work/forward" &&
     gcc -std=gnu11 -O2 -Iinclude -c tests/library/forward.c -o "$work/forward.o" &&
     gcc -std=c11 -O2 -DAS_LIBRARY -Iinclude -c bench/audit_reference.c -o "$work/audit.o" &&
-    ar rcs "$work/forward/libzeppolecape.a" "$work/forward.o" "$work/audit.o" &&
+    gcc -std=c11 -O2 -DAS_LIBRARY -Iinclude -c bench/sheet.c -o "$work/sheet.o" &&
+    ar rcs "$work/forward/libzeppolecape.a" "$work/forward.o" "$work/audit.o" "$work/sheet.o" &&
     gcc -shared -fPIC -O2 -DAS_LIBRARY -Iinclude bench/reference.c -o "$work/faultless.so" || exit 2
 if ! ZC_OBJECT=$work/faultless.so BUILD=$work/build tests/library/run.sh "$work/forward" >"$work/said"; then
     cat "$work/said"

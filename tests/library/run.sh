@@ -2,17 +2,17 @@
 # Tests of the static library through its C interface.
 #
 #     tests/library/run.sh [FOLDER]     of libzeppolecape.a; default: target/lib, where `make` writes it
-#     tests/library/run.sh --stand-in   bench/reference.c and audit_reference.c, the same calls by hand, in its place
+#     tests/library/run.sh --stand-in   bench/reference.c, audit_reference.c and sheet.c, the same calls by hand, in its place
 #
 # PARTS names what runs, all of it by default: header, a program NAME for each tests/library/NAME.c that has a main,
-# bindings examples projects bench audit facts differential.
+# bindings examples projects bench audit sheet facts differential.
 # SEED and TIMES go to the differential test (1 and 1). BUILD keeps what is built there.
 set -u -o pipefail
 from=$PWD
 cd "$(dirname "$0")/../.."
 
 PROGRAMS=$(grep -l '^int main' tests/library/*.c | xargs -n 1 basename -s .c | tr '\n' ' ')
-PARTS=${PARTS:-header $PROGRAMS bindings examples projects bench audit facts differential}
+PARTS=${PARTS:-header $PROGRAMS bindings examples projects bench audit sheet facts differential}
 CC=${CC:-gcc}
 CXX=${CXX:-g++}
 WARNINGS="-Wall -Wextra -Wpedantic -Werror"
@@ -33,7 +33,8 @@ case ${1:-} in
     PARTS=${PARTS/facts/} # which are the library's
     $CC -std=c11 -O2 $WARNINGS -DAS_LIBRARY -Iinclude -c bench/reference.c -o "$work/library.o" || exit 2
     $CC -std=c11 -O2 $WARNINGS -DAS_LIBRARY -Iinclude -c bench/audit_reference.c -o "$work/audit.o" || exit 2
-    ar rcs "$archive" "$work/library.o" "$work/audit.o"
+    $CC -std=c11 -O2 $WARNINGS -DAS_LIBRARY -Iinclude -c bench/sheet.c -o "$work/sheet.o" || exit 2
+    ar rcs "$archive" "$work/library.o" "$work/audit.o" "$work/sheet.o"
     ;;
 *)
     given=${1:-$PWD/target/lib}
@@ -136,18 +137,19 @@ part_bindings() {
     holds "bindings want an absolute path" says_what_is_missing target 'ZEPPOLECAPE_LIB_DIR is not an absolute path: "target"'
 }
 
-# An example in C that checks itself; the last word of its output is its verdict.
-example() { # NAME WORDS..
+# An example in C, and a line that it must print.
+example() { # NAME LINE
     holds "C example $1 compiles" $CC $WARNINGS -Iinclude "examples/c/$1.c" "$archive" -o "$work/$1"
     holds "C example $1" "$work/$1"
     cp "$work/log" "$work/said_by_$1"
-    holds "C example $1: no label lost" grep -qx 'no label lost' "$work/said_by_$1"
+    holds "C example $1: $2" grep -qxF "$2" "$work/said_by_$1"
 }
 
 # The commands that examples/README.md names, with this archive.
 part_examples() {
-    example interrupt
-    example renew
+    example interrupt 'no label lost'
+    example renew 'no label lost'
+    example sheet "a wedge behind the pallet's label: broken, 7105 must print before 9000"
     holds "C example compiles" $CC $WARNINGS -Iinclude examples/c/executive.c "$archive" -o "$work/executive_c"
     holds "Rust example compiles" in_cargo build --release -p executive
     for seed in 1 2 3 4 5 6 7 8 9 10 18446744073709551615; do
@@ -191,6 +193,11 @@ part_bench() {
 part_audit() {
     holds "the audit's benchmark compiles" $CC -std=gnu11 -O2 -Iinclude bench/audit.c bench/audit_reference.c "$archive" -o "$work/audit"
     holds "library and C give the same verdicts" "$work/audit" check 200000
+}
+
+part_sheet() {
+    holds "the sheet's benchmark compiles" $CC -std=gnu11 -O2 -Iinclude bench/sheet_main.c bench/sheet.c "$archive" -o "$work/sheet_bench"
+    holds "library and C judge sheets alike" "$work/sheet_bench" 1
 }
 
 part_facts() {

@@ -106,6 +106,7 @@ refusals! {
     Worn = 33, "the Anchor tag is too high for another start", "(see [`Queue::renew`](crate::Queue::renew))";
     Unsound = 34, "the tables are unsound", "(somebody else wrote there)";
     BadHistory = 40, "not a history that can be judged", "(of [`audit`](crate::audit()) alone)";
+    BadSheet = 46, "the sheet is malformed", "(of [`Queue::sheet`](crate::Queue::sheet) alone)";
 }
 
 impl Refusal {

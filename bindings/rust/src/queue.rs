@@ -1,6 +1,6 @@
 //! The queue that owns its tables.
 
-use crate::tables::{report, Tables};
+use crate::tables::{report, Shared, Tables};
 use crate::{
     link_slot, mark_words, raw, rows, Anchor, Answer, Control, Record, Refusal, Report, Run, Side,
 };
@@ -46,6 +46,11 @@ impl Queue {
             labels: &mut self.labels,
             marks: &mut self.marks,
         }
+    }
+
+    pub(crate) fn shared(&self) -> Shared<'_> {
+        let Queue { control, lefts, rights, labels, marks, .. } = self;
+        Shared { control, lefts, rights, labels, marks }
     }
 
     /// Starts a push of `label` in a free slot.

@@ -127,6 +127,18 @@ pub struct Verdict {
     pub position: u32,
 }
 
+/// What an order sheet is answered: kept, or the first broken pair by its places in the list.
+#[repr(C)]
+#[derive(Clone, Copy, Debug, Default, PartialEq, Eq)]
+pub struct SheetReply {
+    /// 0, or the number of a refusal.
+    pub code: u64,
+    /// The first place of the pair, from 1; 0 if the sheet is kept.
+    pub first: u64,
+    /// The second place of the pair, from 1; 0 if the sheet is kept.
+    pub second: u64,
+}
+
 #[link(name = "zeppolecape", kind = "static")]
 unsafe extern "C" {
     /// Opens an empty queue. Answers 0, or refuses: 10, 11, 12.
@@ -260,6 +272,24 @@ unsafe extern "C" {
         order: *const u64,
         order_count: usize,
     ) -> Verdict;
+
+    /// Whether the labels waiting keep an order sheet.
+    /// Refuses: 34 for control, 46, 12 (rows and marks only), 34 for the walk.
+    pub fn zc_sheet(
+        control: *const Control,
+        listed: *const u32,
+        listed_count: usize,
+        rules: *const u32,
+        rule_count: usize,
+        lefts: *const u64,
+        left_count: usize,
+        rights: *const u64,
+        right_count: usize,
+        labels: *const u32,
+        label_count: usize,
+        marks: *const u64,
+        mark_count: usize,
+    ) -> SheetReply;
 }
 
 const _: () = {
@@ -285,4 +315,7 @@ const _: () = {
     assert!(offset_of!(ReportReply, right) == 32 && offset_of!(ReportReply, busy) == 40);
     assert!(offset_of!(ReportReply, waiting) == 48 && offset_of!(ReportReply, taken) == 56);
     assert!(offset_of!(ReportReply, retries) == 64);
+    assert!(size_of::<SheetReply>() == 24 && align_of::<SheetReply>() == 8);
+    assert!(offset_of!(SheetReply, code) == 0 && offset_of!(SheetReply, first) == 8);
+    assert!(offset_of!(SheetReply, second) == 16);
 };

@@ -42,7 +42,44 @@ macro_rules! call {
     };
 }
 
+/// The tables as calls that only read them are lent them.
+pub(crate) struct Shared<'a> {
+    pub control: &'a Control,
+    pub lefts: &'a [u64],
+    pub rights: &'a [u64],
+    pub labels: &'a [u32],
+    pub marks: &'a [u64],
+}
+
+/// A call that only reads: control, the given arguments, then the tables.
+macro_rules! look {
+    ($tables:ident . $name:ident($($argument:expr),*)) => {
+        // SAFETY: slices are non-null, aligned and as long as the counts that go with them; what is
+        // written is lent by `&mut`. The rest is checked by the library.
+        unsafe {
+            $crate::raw::$name(
+                $tables.control,
+                $($argument,)*
+                $tables.lefts.as_ptr(),
+                $tables.lefts.len(),
+                $tables.rights.as_ptr(),
+                $tables.rights.len(),
+                $tables.labels.as_ptr(),
+                $tables.labels.len(),
+                $tables.marks.as_ptr(),
+                $tables.marks.len(),
+            )
+        }
+    };
+}
+pub(crate) use look;
+
 impl Tables<'_> {
+    pub(crate) fn shared(&self) -> Shared<'_> {
+        let Tables { control, lefts, rights, labels, marks, .. } = self;
+        Shared { control, lefts, rights, labels, marks }
+    }
+
     /// Opens an empty queue. Refuses 10, 11, 12.
     pub fn open(&mut self, tasks: u64, slots: u64, first_tag: u32) -> Result<(), Refusal> {
         let (records, count) = (self.records.as_mut_ptr(), self.records.len());

@@ -168,7 +168,7 @@ fn lent_tables_and_a_lent_record() {
 #[test]
 fn refusals_have_their_numbers() {
     let known: Vec<u64> = (0..100).filter(|&n| Refusal::numbered(n).is_some()).collect();
-    assert_eq!(known, [10, 11, 12, 13, 14, 15, 30, 31, 32, 33, 34, 40]);
+    assert_eq!(known, [10, 11, 12, 13, 14, 15, 30, 31, 32, 33, 34, 40, 46]);
     assert_eq!(Refusal::Worn.to_string(), "33: the Anchor tag is too high for another start");
 }
 
@@ -229,4 +229,19 @@ fn as_many_calls_as_fit() {
     let order: Vec<u64> = (1..=65).collect();
     assert_eq!(audit(&calls[..MOST_CALLS], &order[..MOST_CALLS]), Ok(Verdict::Passes));
     assert_eq!(audit(&calls, &order), Err(Refusal::BadHistory));
+}
+
+#[test]
+fn a_sheet_is_kept_or_broken() {
+    let mut queue = Queue::open(1, 3, 0).unwrap();
+    for (slot, label) in [(1, 700), (2, 800)] {
+        queue.push(0, Side::Right, slot, label).unwrap();
+        finish(&mut queue, 0);
+    }
+    let listed = [800, 900, 700];
+    assert_eq!(queue.sheet(&listed, &[rule(3, 2)]), Ok(SheetVerdict::Kept));
+    let broken = Ok(SheetVerdict::Broken { first: 1, second: 3 });
+    assert_eq!(queue.sheet(&listed, &[rule(2, 3), rule(1, 2)]), broken);
+    assert_eq!(queue.sheet(&listed, &[rule(1, 4)]), Err(Refusal::BadSheet));
+    assert_eq!(queue.sheet(&listed, &[rule(1, 65_539)]), Err(Refusal::BadSheet));
 }

@@ -14,6 +14,7 @@ pub enum Refusal {
     NoSide = 14,
     NoSlot = 15,
     Malformed = 16,
+    Sheet = 46,
     Busy = 30,
     Idle = 31,
     Taken = 32,

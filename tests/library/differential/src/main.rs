@@ -1,6 +1,6 @@
 //! The static library and the second program driven by the same calls, answers and all tables
 //! compared after each: scenes that are accepted, every fault alone and in pairs, tables of any
-//! contents, and histories from an opening. Then audits of histories.
+//! contents, histories from an opening, and order sheets. Then audits of histories.
 //!
 //!     differential [SEED] [TIMES]       all of it
 //!     differential SEED TIMES audit     audits alone
@@ -12,6 +12,7 @@ mod histories;
 mod line;
 mod noise;
 mod plant;
+mod sheets;
 mod sound;
 mod tally;
 mod world;
@@ -48,6 +49,7 @@ fn calls(tally: &mut Tally, dice: &mut Dice, times: u32) {
     plant::failures(tally, dice, 60 * times);
     noise::noise(tally, dice, 200_000 * times);
     histories::histories(tally, dice, 150 * times, 10_000);
+    sheets::sheets(tally, dice, 100_000 * times);
     tally.check_reached();
     tally.check(tally.mismatches == 0, &format!("{} calls differed", tally.mismatches));
 }

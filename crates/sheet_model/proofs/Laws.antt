@@ -1,0 +1,36 @@
+-- The laws of the sheets.
+use mathlib.Core.Bool.{Bool, true, false, _&&_, not, cond}
+use mathlib.Core.List.{List}
+use mathlib.Core.Path.{_≡_}
+use lib.ListN.{length}
+use Rattle.model.specs.declared.Entry.{Entry}
+use Rattle.model.specs.Tables.{Queue}
+use Rattle.model.specs.Sound.{rowsFit}
+use Rattle.model.specs.Refusals.{recordsFit}
+use Rattle.model.specs.Calls.{openQueue}
+use Rattle.model.specs.History.{final, ledger, run}
+use Rattle.model.proofs.tests.Truth.{split, and-true}
+use Rattle.model.proofs.Standing.{Standing, standing}
+use Rattle.sheet_model.specs.Sheet.{Sheet, malformed, chained}
+use Rattle.sheet_model.specs.Verdict.{refused, verdict, judge, sheet}
+use Rattle.sheet_model.specs.Laws.{SquareIsChained, SheetsOfQueues}
+use Rattle.sheet_model.proofs.Broken.{formed}
+use Rattle.sheet_model.proofs.Chained.{chained-of, chained-in}
+
+pub square-is-chained : SquareIsChained
+unfolding chained
+square-is-chained s e a b = record {
+  only = chained-of (s .rules) (length (s .listed)) a b;
+  all = chained-in (s .rules) (length (s .listed)) (formed s e .inside) a b;
+}
+
+judged : (q : Queue) (d : List Entry) (s : Sheet) → Standing q d → sheet (q .tables) s ≡ cond (malformed s) (refused 46) (verdict s d)
+unfolding sheet judge
+judged q d s h =
+    let fit = and-true (rowsFit (q .tables .control .slots) (q .tables)) (recordsFit (q .tables .control .tasks) q) (h .long) .0 in
+    split (malformed s) (λ e. rw (h .control, e)) (λ e. rw (h .control, e, fit, h .walk))
+
+pub sheets-of-queues : SheetsOfQueues
+sheets-of-queues q tasks slots tag e os s =
+    let after = final (openQueue q tasks slots tag .queue) os in
+    judged after (ledger (run (openQueue q tasks slots tag .queue) os) .deque) s (standing q tasks slots tag e os)

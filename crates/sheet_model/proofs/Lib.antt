@@ -1,0 +1,12 @@
+pub mod Chained
+pub mod Turns
+pub mod ListOf
+pub mod Square
+pub mod ByteRows
+pub mod Crossing
+pub mod Noted
+pub mod Broken
+pub mod Gather
+pub mod Judged
+pub mod Laws
+pub mod Worked
