@@ -141,6 +141,23 @@ pub mod raw {
             marks: *const u64,
             mark_count: usize,
         ) -> SheetReply;
+        pub fn zc_sheet_words(
+            control: *const Control,
+            listed: *const u32,
+            listed_count: usize,
+            rules: *const u32,
+            rule_count: usize,
+            words: *mut u32,
+            word_count: usize,
+            lefts: *const u64,
+            left_count: usize,
+            rights: *const u64,
+            right_count: usize,
+            labels: *const u32,
+            label_count: usize,
+            marks: *const u64,
+            mark_count: usize,
+        ) -> SheetReply;
     }
 
     #[link(name = "capi_record", kind = "static")]
@@ -620,6 +637,8 @@ const _: () = {
 
 pub const MOST_LISTED: usize = 32;
 pub const MOST_RULES: usize = 128;
+/// The words that [`Tables::sheet_words`] is lent.
+pub const SHEET_WORDS: usize = 32;
 
 /// The rule that the label at place `first` of the list, from 1, prints before the one at `second`.
 /// A place above 65,535 becomes 0, which is outside every list.
@@ -658,6 +677,27 @@ impl Tables<'_> {
     pub fn sheet(&mut self, listed: &[u32], rules: &[u32]) -> Result<Verdict, Refusal> {
         let (labels, count) = (listed.as_ptr(), listed.len());
         verdict(call!(self.zc_sheet(self.control, labels, count, rules.as_ptr(), rules.len())))
+    }
+
+    /// The same with 32 lent words, which then hold the chained rules: bit b of word a is set if
+    /// place a + 1 is chained before place b + 1. A refusal leaves them.
+    pub fn sheet_words(
+        &mut self,
+        listed: &[u32],
+        rules: &[u32],
+        words: &mut [u32],
+    ) -> Result<Verdict, Refusal> {
+        let (labels, count) = (listed.as_ptr(), listed.len());
+        let (lent, many) = (words.as_mut_ptr(), words.len());
+        verdict(call!(self.zc_sheet_words(
+            self.control,
+            labels,
+            count,
+            rules.as_ptr(),
+            rules.len(),
+            lent,
+            many
+        )))
     }
 }
 
@@ -833,5 +873,8 @@ mod tests {
         let broken = Ok(Verdict::Broken { first: 1, second: 3 });
         assert_eq!(queue.sheet(&listed, &[rule(2, 3), rule(1, 2)]), broken);
         assert_eq!(queue.sheet(&listed, &[rule(1, 4)]), Err(Refusal::BadSheet));
+        let mut words = [9; 33];
+        assert_eq!(queue.lend().sheet_words(&listed, &[rule(2, 3), rule(1, 2)], &mut words), broken);
+        assert_eq!((words[0], words[1], words[2], words[32]), (6, 4, 0, 9));
     }
 }

@@ -271,6 +271,7 @@ zc_report_reply zc_report(const zc_control *control, const zc_record *records, s
  */
 #define ZC_MOST_LISTED 32
 #define ZC_MOST_RULES 128
+#define ZC_SHEET_WORDS 32
 /* Refusal because of the input: over 32 labels or 128 rules, a label listed twice, or a rule that
  * points outside the list. */
 #define ZC_BAD_SHEET 46
@@ -303,6 +304,19 @@ zc_sheet_reply zc_sheet(const zc_control *control, const uint32_t *listed, size_
                         size_t left_count, const uint64_t *rights, size_t right_count,
                         const uint32_t *labels, size_t label_count, const uint64_t *marks,
                         size_t mark_count);
+
+/*
+ * The same with 32 lent words for the chained rules in place of a square on the stack: it answers
+ * as zc_sheet does. With code 0 bit b of word a is then set exactly if place a + 1 is chained
+ * before place b + 1, and all other bits of the 32 words are clear; words beyond keep. A refusal
+ * leaves the words. Refuses: 34 for control, 46, 12 (fewer than 32 words too), 34 for the links.
+ */
+zc_sheet_reply zc_sheet_words(const zc_control *control, const uint32_t *listed,
+                              size_t listed_count, const uint32_t *rules, size_t rule_count,
+                              uint32_t *words, size_t word_count, const uint64_t *lefts,
+                              size_t left_count, const uint64_t *rights, size_t right_count,
+                              const uint32_t *labels, size_t label_count, const uint64_t *marks,
+                              size_t mark_count);
 
 /* ---- An answer taken apart --------------------------------------------------------------- */
 
