@@ -121,3 +121,37 @@ zc_sheet_reply SHEET_CALL(sheet)(const zc_control *control, const uint32_t *list
             }
     return reply;
 }
+
+zc_sheet_reply SHEET_CALL(sheet_words)(const zc_control *control, const uint32_t *listed,
+                                       size_t listed_count, const uint32_t *rules,
+                                       size_t rule_count, uint32_t *words, size_t word_count,
+                                       SHEET_TABLES)
+{
+    (void)marks;
+    size_t n = listed_count;
+    zc_sheet_reply reply = { 0, 0, 0 };
+    struct extents e;
+    reply.code = refusal(control, well_formed(listed, n, rules, rule_count), word_count >= 32,
+                         left_count, right_count, label_count, mark_count);
+    if (reply.code != 0)
+        return reply;
+    if (!extents(&e, control, listed, n, lefts, rights, labels)) {
+        reply.code = ZC_UNSOUND;
+        return reply;
+    }
+    memset(words, 0, 32 * sizeof *words);
+    for (size_t i = 0; i < rule_count; i++)
+        words[(rules[i] >> 16) - 1] |= UINT32_C(1) << ((rules[i] & 0xffff) - 1);
+    for (size_t k = 0; k < n; k++)
+        for (size_t i = 0; i < n; i++)
+            if (words[i] >> k & 1)
+                words[i] |= words[k];
+    for (size_t a = 0; a < n; a++)
+        for (size_t b = 0; b < n; b++)
+            if ((words[a] >> b & 1) && e.low[b] <= e.high[a]) {
+                reply.first = a + 1;
+                reply.second = b + 1;
+                return reply;
+            }
+    return reply;
+}

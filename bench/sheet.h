@@ -17,5 +17,9 @@
 zc_sheet_reply SHEET_CALL(sheet)(const zc_control *control, const uint32_t *listed,
                                  size_t listed_count, const uint32_t *rules, size_t rule_count,
                                  SHEET_TABLES);
+zc_sheet_reply SHEET_CALL(sheet_words)(const zc_control *control, const uint32_t *listed,
+                                       size_t listed_count, const uint32_t *rules,
+                                       size_t rule_count, uint32_t *words, size_t word_count,
+                                       SHEET_TABLES);
 
 #endif

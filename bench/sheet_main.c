@@ -4,7 +4,7 @@
  *
  *     sheet TIMES
  *
- * Each line first checks that both answer alike.
+ * Each line first checks that both answer alike, words included.
  */
 #include "sheet.h"
 
@@ -21,7 +21,7 @@ static zc_control control;
 static uint64_t lefts[ZC_ROWS(ZC_MOST_SLOTS)], rights[ZC_ROWS(ZC_MOST_SLOTS)];
 static uint64_t marks[ZC_MARK_WORDS(ZC_MOST_SLOTS)];
 static uint32_t labels[ZC_ROWS(ZC_MOST_SLOTS)];
-static uint32_t listed[ZC_MOST_LISTED], rules[ZC_MOST_RULES];
+static uint32_t listed[ZC_MOST_LISTED], rules[ZC_MOST_RULES], words[2][ZC_SHEET_WORDS];
 static size_t slots, listed_count, rule_count;
 
 #define SHEET &control, listed, listed_count, rules, rule_count
@@ -58,6 +58,8 @@ static double now(void)
 typedef uint64_t (*one_call)(void);
 static uint64_t library(void) { return zc_sheet(SHEET, TABLES).first; }
 static uint64_t by_hand(void) { return reference_sheet(SHEET, TABLES).first; }
+static uint64_t library_words(void) { return zc_sheet_words(SHEET, words[0], 32, TABLES).first; }
+static uint64_t by_hand_words(void) { return reference_sheet_words(SHEET, words[1], 32, TABLES).first; }
 
 static double took(one_call call)
 {
@@ -111,11 +113,15 @@ static void line(const char *name, const char *what, one_call ours, one_call the
 static void compare(const char *what, int times)
 {
     zc_sheet_reply a = zc_sheet(SHEET, TABLES), b = reference_sheet(SHEET, TABLES);
-    if (memcmp(&a, &b, sizeof a)) {
+    zc_sheet_reply c = zc_sheet_words(SHEET, words[0], 32, TABLES);
+    zc_sheet_reply d = reference_sheet_words(SHEET, words[1], 32, TABLES);
+    if (memcmp(&a, &b, sizeof a) || memcmp(&c, &d, sizeof c) || memcmp(&a, &c, sizeof a) ||
+        memcmp(words[0], words[1], sizeof words[0])) {
         fprintf(stderr, "sheet: the two differ: %s\n", what);
         exit(1);
     }
     line("zc_sheet", what, library, by_hand, times);
+    line("zc_sheet_words", what, library_words, by_hand_words, times);
 }
 
 int main(int count, char **arguments)

@@ -63,7 +63,7 @@
  *   zc_run            192      1298      3024      3024
  *   zc_report         112       227       503     27343
  *   table bytes         -       192       664     21792
- *   code bytes: audit 1804, capi 5987, capi_record 2702, capi_run 3057, sheet 2272
+ *   code bytes: audit 1804, capi 5987, capi_record 2702, capi_run 3057, sheet 4512
  * As to the machine: x86-64, System V calling convention. The code uses the red zone (128 bytes
  * below the stack pointer) and SSE registers, no AVX: an interrupt handler that makes a call saves
  * the SSE state first, and an interrupt that is not masked during a call leaves the red zone alone.
@@ -183,7 +183,7 @@ extern "C" {
 /* Refusal of zc_audit, because of the input: no history that can be judged. */
 #define ZC_BAD_HISTORY 40
 
-/* Refusal of zc_sheet, because of the input: over 32 labels or 128 rules, a label listed twice, or a
+/* Refusal of the order sheets, because of the input: over 32 labels or 128 rules, a label listed twice, or a
  * rule that points outside the list. */
 #define ZC_BAD_SHEET 46
 
@@ -685,6 +685,7 @@ static inline zc_verdict zc_audit(const zc_finished *calls, size_t call_count,
  */
 #define ZC_MOST_LISTED 32
 #define ZC_MOST_RULES 128
+#define ZC_SHEET_WORDS 32 /* that zc_sheet_words is lent */
 
 /* Code 0: kept, first and second 0, or the first broken pair by its places in the list. */
 typedef struct zc_sheet_reply {
@@ -715,12 +716,34 @@ zc_sheet_reply zc_sheet(const zc_control *control, const uint32_t *listed, size_
                         const uint32_t *labels, size_t label_count, const uint64_t *marks,
                         size_t mark_count);
 
+/*
+ * The same with 32 lent words for the chained rules in place of a square on the stack: it answers
+ * as zc_sheet does. With code 0 bit b of word a is then set exactly if place a + 1 is chained
+ * before place b + 1, and all other bits of the 32 words are clear; words beyond keep. A refusal
+ * leaves the words. Refuses: 34 for control, 46, 12 (fewer than 32 words too), 34 for the links.
+ */
+zc_sheet_reply zc_sheet_words(const zc_control *control, const uint32_t *listed,
+                              size_t listed_count, const uint32_t *rules, size_t rule_count,
+                              uint32_t *words, size_t word_count, const uint64_t *lefts,
+                              size_t left_count, const uint64_t *rights, size_t right_count,
+                              const uint32_t *labels, size_t label_count, const uint64_t *marks,
+                              size_t mark_count);
+
 #ifndef ZC_CORE_ONLY
 static inline zc_sheet_reply zc_queue_sheet(const zc_queue *queue, const uint32_t *listed,
                                             size_t listed_count, const uint32_t *rules,
                                             size_t rule_count)
 {
     return zc_sheet(queue->control, listed, listed_count, rules, rule_count, ZC_TABLES(queue));
+}
+
+static inline zc_sheet_reply zc_queue_sheet_words(const zc_queue *queue, const uint32_t *listed,
+                                                  size_t listed_count, const uint32_t *rules,
+                                                  size_t rule_count, uint32_t *words,
+                                                  size_t word_count)
+{
+    return zc_sheet_words(queue->control, listed, listed_count, rules, rule_count, words,
+                          word_count, ZC_TABLES(queue));
 }
 #endif
 

@@ -39,7 +39,7 @@ pub use audit::{audit, audit_words, Finished, Verdict, MOST_CALLS};
 pub use numbers::*;
 pub use queue::Queue;
 pub use raw::{Control, Record};
-pub use sheet::{rule, SheetVerdict, MOST_LISTED, MOST_RULES};
+pub use sheet::{rule, SheetVerdict, MOST_LISTED, MOST_RULES, SHEET_WORDS};
 pub use tables::Tables;
 
 /// The version of this crate, and of the header and the library that it goes with.

@@ -290,6 +290,26 @@ unsafe extern "C" {
         marks: *const u64,
         mark_count: usize,
     ) -> SheetReply;
+
+    /// The same, with 32 lent words for the chained rules.
+    /// Refuses: 34 for control, 46, 12 (words, rows and marks), 34 for the walk.
+    pub fn zc_sheet_words(
+        control: *const Control,
+        listed: *const u32,
+        listed_count: usize,
+        rules: *const u32,
+        rule_count: usize,
+        words: *mut u32,
+        word_count: usize,
+        lefts: *const u64,
+        left_count: usize,
+        rights: *const u64,
+        right_count: usize,
+        labels: *const u32,
+        label_count: usize,
+        marks: *const u64,
+        mark_count: usize,
+    ) -> SheetReply;
 }
 
 const _: () = {

@@ -244,4 +244,8 @@ fn a_sheet_is_kept_or_broken() {
     assert_eq!(queue.sheet(&listed, &[rule(2, 3), rule(1, 2)]), broken);
     assert_eq!(queue.sheet(&listed, &[rule(1, 4)]), Err(Refusal::BadSheet));
     assert_eq!(queue.sheet(&listed, &[rule(1, 65_539)]), Err(Refusal::BadSheet));
+    let mut words = [9; SHEET_WORDS + 1];
+    assert_eq!(queue.sheet_words(&listed, &[rule(2, 3), rule(1, 2)], &mut words), broken);
+    assert_eq!((words[0], words[1], words[2], words[32]), (6, 4, 0, 9));
+    assert_eq!(queue.sheet_words(&listed, &[], &mut words[..31]), Err(Refusal::Short));
 }

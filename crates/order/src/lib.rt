@@ -8,12 +8,13 @@ ghost use Rattle.model.specs.Tables.{tablesOf};
 ghost use Rattle.model.specs.Sound.{controlSound};
 ghost use Rattle.sound.specs.Lengths.{lengthsFit};
 ghost use Rattle.sheet_model.specs.Sheet.{malformed};
-ghost use Rattle.sheet_model.specs.Verdict.{refused, early, sheet};
+ghost use Rattle.sheet_model.specs.Verdict.{refused, early, sheet, Printed, sheetWords};
 
 mod extents;
 mod form;
 mod search;
 mod square;
+mod words;
 
 /// A refusal is its number alone.
 fn refused(number: u64) -> SheetReply
@@ -93,4 +94,47 @@ pub fn sheet(
     let low = e.low;
     let high = e.high;
     search::first_broken(square, n, low, high)
+}
+
+/// The sheet on a smaller printer: the same answer, with 32 lent words for the chained rules in the
+/// square's place.
+pub fn sheet_words(
+    c: Control,
+    listed: &[u32],
+    rules: &[u32],
+    lent: &mut [u32],
+    lefts: &[u64],
+    rights: &[u64],
+    labels: &[u32],
+    marks: &[u64],
+) -> SheetReply
+    ensures { λ r.
+        ⌜ _≡_ {A = Printed} (record { reply = r; words = now (lent .exit) })
+        (sheetWords
+        (tablesOf c (now (lefts .entry)) (now (rights .entry)) (now (labels .entry)) (now (marks .entry)))
+        (record { listed = now (listed .entry); rules = now (rules .entry) })
+        (now (lent .entry))) ⌝ }
+{
+    let why = early(
+        c,
+        listed,
+        rules,
+        32 <= lent.len(),
+        lefts.len(),
+        rights.len(),
+        labels.len(),
+        marks.len(),
+    );
+    if why != 0 {
+        return refused(why);
+    }
+    let e = extents::extents(c, listed, lefts, rights, labels);
+    if !e.sound {
+        return refused(34);
+    }
+    let n = listed.len();
+    words::closure(lent, rules, n);
+    let low = e.low;
+    let high = e.high;
+    words::first_broken(lent, n, low, high)
 }

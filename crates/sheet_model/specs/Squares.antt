@@ -1,7 +1,7 @@
--- The chained rules as a square of marks, and the loops that fill it. (Document 02, #111.)
+-- The chained rules as a square of marks, and the loops that fill it. (Document 02, #111 and #112.)
 use mathlib.Core.Bool.{Bool, _&&_, not, cond}
 use mathlib.Core.List.{List, [], _∷_}
-use Prim.Native.Nat.{ℕ, zero, suc, _+_, _-_}
+use Prim.Native.Nat.{ℕ, zero, suc, _+_, _-_, _*_, _/_, _%_, _^_}
 use lib.Bits.{bitOr}
 use lib.Dec.{eqb, leb}
 use lib.ListN.{getD, set}
@@ -22,6 +22,14 @@ linked rules k a b = through rules k (suc a) (suc b)
 -- A square of 32 by 32 marks, one byte each; row a, column b belong to places a + 1, b + 1.
 unfoldable pub squareOf : (ℕ → ℕ → Bool) → List (List ℕ)
 squareOf f = listOf (λ a. listOf (λ b. mark (f a b)) 32) 32
+
+-- The same as one word a row: bit b of word a.
+unfoldable pub bitsOf : (ℕ → Bool) → ℕ → ℕ
+bitsOf f zero = 0
+bitsOf f (suc n) = mark (f 0) + 2 * bitsOf (λ b. f (suc b)) n
+
+unfoldable pub wordsOf : (ℕ → ℕ → Bool) → List ℕ
+wordsOf f = listOf (λ a. bitsOf (f a) 32) 32
 
 -- One element after the other is replaced, n of them from i on.
 unfoldable pub sweep : {A : Type 0} → A → (ℕ → A → A) → ℕ → ℕ → List A → List A
@@ -45,7 +53,11 @@ joinRow via row = sweep 0 (ored via) 0 32 row
 abbrev pub byteRow : Row (List ℕ)
 byteRow = record { bare = []; has = λ row k. not (eqb (getD row k 0) 0); put = λ row j. set row j 1; join = joinRow }
 
--- Squares of any kind of row.
+-- Rows of bits.
+abbrev pub bitRow : Row ℕ
+bitRow = record { bare = 0; has = λ w k. eqb (w / 2 ^ k % 2) 1; put = λ w j. bitOr w (2 ^ j); join = λ via w. bitOr w via }
+
+-- Squares of either kind.
 module _ {A : Type 0} (r : Row A) where
   -- A rule marks its pair.
   abbrev pub ruleMarked : ℕ → List A → List A

@@ -1,15 +1,16 @@
 -- What a sheet is answered. (Document 02, #111 and #112.)
 use mathlib.Core.Bool.{Bool, true, _&&_, not, cond}
-use mathlib.Core.List.{List, [], _∷_}
+use mathlib.Core.List.{List, [], _∷_, _++_}
 use Prim.Native.Nat.{ℕ, zero, suc, _+_}
-use lib.Dec.{eqb}
-use lib.ListN.{length}
+use lib.Dec.{eqb, leb}
+use lib.ListN.{length, drop}
 use Rattle.model.specs.declared.Entry.{Entry}
 use Rattle.model.specs.Tables.{Tables}
 use Rattle.model.specs.Sound.{controlSound, rowsFit}
 use Rattle.model.specs.Refusals.{Rule, rule, first}
 use Rattle.model.specs.Walk.{contents, isBroken, met}
 use Rattle.sheet_model.specs.declared.SheetReply.{SheetReply}
+use Rattle.sheet_model.specs.Squares.{linked, wordsOf}
 use Rattle.sheet_model.specs.Sheet.{Sheet, malformed, breaks}
 
 abbrev pub refused : ℕ → SheetReply
@@ -56,3 +57,15 @@ judge q s enough =
 -- The order sheet, #111.
 unfoldable pub sheet : Tables → Sheet → SheetReply
 sheet q s = judge q s true
+
+-- The sheet on a smaller printer, #112: what it answers, and the lent words then.
+pub record Printed : Type 0 where
+  pub reply : SheetReply
+  pub words : List ℕ
+
+-- Kept or broken, the first 32 words hold the chained rules; a refusal leaves the words.
+unfoldable pub sheetWords : Tables → Sheet → List ℕ → Printed
+sheetWords q s words =
+    let r = judge q s (leb 32 (length words)) in
+    let n = length (s .listed) in
+    record { reply = r; words = cond (eqb (r .code) 0) (wordsOf (linked (s .rules) n) ++ drop 32 words) words }

@@ -1,4 +1,4 @@
-//! The order sheet: document 02, #111. Chains are followed one by one, and copies are
+//! The order sheet: document 02, #111 and #112. Chains are followed one by one, and copies are
 //! looked at one by one, as the paper words them.
 
 use crate::refusal::{control_sound, shared_long_enough, Refusal};
@@ -7,6 +7,8 @@ use crate::word::{Anchor, Link, Side, LPUSH};
 
 pub const MOST_LISTED: usize = 32;
 pub const MOST_RULES: usize = 128;
+/// The words that the smaller printer lends.
+pub const WORDS: usize = 32;
 
 #[derive(Clone, Copy, Debug, PartialEq, Eq)]
 pub enum Verdict {
@@ -85,12 +87,20 @@ fn out_of_order(waiting: &[u32], first: u32, second: u32) -> bool {
     (0..waiting.len()).any(|at| waiting[at] == second && waiting[at..].contains(&first))
 }
 
-pub fn sheet(shared: &Shared, listed: &[u32], rules: &[u32]) -> Result<Verdict, Refusal> {
+fn judge(
+    shared: &Shared,
+    listed: &[u32],
+    rules: &[u32],
+    enough: bool,
+) -> Result<Verdict, Refusal> {
     control_sound(shared.control)?;
     if !well_formed(listed, rules) {
         return Err(Refusal::Sheet);
     }
     shared_long_enough(shared, shared.control.slots)?;
+    if !enough {
+        return Err(Refusal::Short);
+    }
     let waiting = labels_waiting(shared).ok_or(Refusal::Unsound)?;
     for first in 1..=listed.len() {
         let mut seconds = chained_from(rules, first);
@@ -102,4 +112,22 @@ pub fn sheet(shared: &Shared, listed: &[u32], rules: &[u32]) -> Result<Verdict, 
         }
     }
     Ok(Verdict::Kept)
+}
+
+pub fn sheet(shared: &Shared, listed: &[u32], rules: &[u32]) -> Result<Verdict, Refusal> {
+    judge(shared, listed, rules, true)
+}
+
+/// The sheet on a smaller printer: the chained rules are left in the lent words.
+pub fn sheet_words(
+    shared: &Shared,
+    listed: &[u32],
+    rules: &[u32],
+    words: &mut [u32],
+) -> Result<Verdict, Refusal> {
+    let verdict = judge(shared, listed, rules, words.len() >= WORDS)?;
+    for (row, word) in words[..WORDS].iter_mut().enumerate() {
+        *word = chained_from(rules, row + 1).iter().map(|place| 1 << (place - 1)).sum();
+    }
+    Ok(verdict)
 }

@@ -1,4 +1,4 @@
-//! Order sheets on queues of any shape: cycles, copies, labels that
+//! Order sheets on queues of any shape, both calls on the same inputs: cycles, copies, labels that
 //! don't wait, counts and places at and beyond their limits, damaged tables.
 
 use crate::tally::Tally;
@@ -9,12 +9,13 @@ use reference::tables::Storage;
 use std::collections::BTreeMap;
 use zeppolecape::{raw, rule};
 
-/// A queue and a sheet.
+/// A queue, a sheet, and the words lent.
 #[derive(Clone)]
 struct Case {
     tables: Storage,
     listed: Vec<u32>,
     rules: Vec<u32>,
+    words: Vec<u32>,
 }
 
 /// Labels come from few, so that copies wait and listed ones are met.
@@ -87,7 +88,9 @@ fn draw(dice: &mut Dice) -> Case {
         _ => dice.between(1, last),
     };
     let rules = (0..count).map(|_| rule(place(dice), place(dice))).collect();
-    Case { tables, listed, rules }
+    let long = dice.pick(&[32, 32, 32, 33, 40, 31, 0]);
+    let words = (0..long).map(|_| dice.throw() as u32).collect();
+    Case { tables, listed, rules, words }
 }
 
 /// One table is damaged.
@@ -123,7 +126,7 @@ fn reply(told: raw::SheetReply) -> Told {
     (told.code, told.first, told.second)
 }
 
-/// The library's call.
+/// The library's two calls.
 macro_rules! library {
     ($case:ident . $name:ident($($lent:expr),*)) => {
         reply(unsafe {
@@ -170,14 +173,18 @@ pub fn sheets(tally: &mut Tally, dice: &mut Dice, times: u32) {
         }
         let mut other = case.clone();
         let expected = told(sheet::sheet(&other.tables.lend().shared, &case.listed, &case.rules));
+        let lent = other.tables.lend().shared;
+        let printed = told(sheet::sheet_words(&lent, &case.listed, &case.rules, &mut other.words));
         let ours = library!(case.zc_sheet());
-        tally.calls += 1;
+        let words = (case.words.as_mut_ptr(), case.words.len());
+        let with_words = library!(case.zc_sheet_words(words.0, words.1));
+        tally.calls += 2;
         *reached.entry(sort(expected)).or_default() += 1;
-        if ours != expected {
+        if ours != expected || with_words != printed || case.words != other.words {
             differ += 1;
             if differ <= 5 {
                 println!("MISMATCH sheet {:?} {:x?}", case.listed, case.rules);
-                println!("    {ours:?}, expected {expected:?}");
+                println!("    {ours:?}, expected {expected:?}; {with_words:?}, expected {printed:?}");
             }
         }
     }
