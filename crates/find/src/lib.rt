@@ -1,13 +1,22 @@
 //! Where labels wait, found in one walk of the queue that reads each waiting slot's row once.
+use find_model::FindReply;
+use model::Control;
 use walk::Tally;
+use word::Anchor;
 use word::Link;
 ghost use mathlib.Core.Path.{_≡_};
-ghost use Prim.Native.Nat.{_≤_};
-ghost use lib.ListN.{length};
-ghost use Rattle.model.specs.Walk.{along};
-ghost use Rattle.find_model.specs.Noting.{pick, note};
+ghost use mathlib.Core.List.{List, map};
+ghost use Prim.Native.Nat.{ℕ, _≤_};
+ghost use lib.Dec.{ltb};
+ghost use lib.ListN.{length, replicate};
+ghost use Rattle.model.specs.Tables.{tablesOf};
+ghost use Rattle.model.specs.Sound.{controlSound};
+ghost use Rattle.model.specs.Walk.{along, contents};
+ghost use Rattle.sound.specs.Lengths.{lengthsFit};
+ghost use Rattle.find_model.specs.Find.{refused};
+ghost use Rattle.find_model.specs.Noting.{pick, note, turned};
 ghost use Rattle.find.specs.Sieve.{Sifted};
-ghost use Rattle.find.specs.Looked.{Looked};
+ghost use Rattle.find.specs.Looked.{Looked, Searched, rowsOf, refusalBefore};
 
 fn wide(x: u32) -> u64
     ensures { λ r. ⌜ r ≡ x ⌝ }
@@ -97,4 +106,94 @@ fn look(
         x = link.slot;
     }
     Tally::Broken
+}
+
+/// A position counted from the other end of so many rows.
+fn turned(rows: u64, p: u64) -> u64
+    ensures { λ r. ⌜ r ≡ turned rows p ⌝ }
+{
+    if (1 <= p) & (p <= rows) { rows - p + 1 } else { p }
+}
+
+fn turn(rows: u64, positions: &mut [u64])
+    ensures { λ _. ⌜ now (positions .exit) ≡ map (turned rows) (now (positions .entry)) ⌝ }
+{
+    let mut i = 0;
+    while i < positions.len() {
+        positions[i] = turned(rows, positions[i]);
+        i += 1;
+    }
+}
+
+/// The rows that a walk read; 0 where it is broken.
+fn rows_of(t: Tally) -> u64
+    ensures { λ n. ⌜ n ≡ rowsOf t ⌝ }
+{
+    match t {
+        Tally::Broken => 0,
+        Tally::Labels(n) => n,
+    }
+}
+
+/// From the right end along Left links, or, under LPUSH, from the left end along Right links.
+fn search(
+    c: Control,
+    lefts: &[u64],
+    rights: &[u64],
+    labels: &[u32],
+    asked: &[u32],
+    sieve: &[u64],
+    positions: &mut [u64],
+) -> Tally
+    requires { ⌜ Sifted (now asked) (now sieve) × ((length (now asked) ≤ 32) × (now positions ≡ replicate 32 0)) ⌝ }
+    ensures { λ r.
+        ⌜ ((marks : List ℕ) → Searched (now (asked .entry))
+        (contents (tablesOf c (now (lefts .entry)) (now (rights .entry)) (now (labels .entry)) marks))
+        r (now (positions .exit))) ⌝ }
+{
+    let a = Anchor::unpack(c.anchor);
+    if (a.left == 0) & (a.right == 0) {
+        return Tally::Labels(0);
+    }
+    if a.status == 2 {
+        return look(true, c.slots, a.right, a.left, rights, labels, asked, sieve, positions);
+    }
+    let walked = look(false, c.slots, a.left, a.right, lefts, labels, asked, sieve, positions);
+    turn(rows_of(walked), positions);
+    walked
+}
+
+/// 34 for control and Anchor, 45, 12.
+fn refusal(
+    c: Control,
+    asked: usize,
+    lefts: usize,
+    rights: usize,
+    labels: usize,
+    marks: usize,
+) -> u32
+    ensures { λ n. ⌜ n ≡ refusalBefore (controlSound c) (ltb 32 asked) (lengthsFit (c .slots) lefts rights labels marks) ⌝ }
+{
+    let control = sound::control_sound(c);
+    let fits = sound::rows_fit(c.slots, lefts, rights, labels, marks);
+    if !control {
+        return 34;
+    }
+    if 32 < asked {
+        return 45;
+    }
+    if !fits {
+        return 12;
+    }
+    0
+}
+
+fn refused(number: u32) -> FindReply
+    ensures { λ r. ⌜ r ≡ refused number ⌝ }
+{
+    FindReply {
+        code: number as u64,
+        rows: 0,
+        positions: [0; 32],
+    }
 }
