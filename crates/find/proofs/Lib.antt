@@ -3,3 +3,4 @@ pub mod Sieve
 pub mod Looking
 pub mod Turning
 pub mod Searching
+pub mod Finding

@@ -13,7 +13,8 @@ ghost use Rattle.model.specs.Tables.{tablesOf};
 ghost use Rattle.model.specs.Sound.{controlSound};
 ghost use Rattle.model.specs.Walk.{along, contents};
 ghost use Rattle.sound.specs.Lengths.{lengthsFit};
-ghost use Rattle.find_model.specs.Find.{refused};
+ghost use Rattle.rows.specs.Rows.{controlOf};
+ghost use Rattle.find_model.specs.Find.{find, refused};
 ghost use Rattle.find_model.specs.Noting.{pick, note, turned};
 ghost use Rattle.find.specs.Sieve.{Sifted};
 ghost use Rattle.find.specs.Looked.{Looked, Searched, rowsOf, refusalBefore};
@@ -112,7 +113,11 @@ fn look(
 fn turned(rows: u64, p: u64) -> u64
     ensures { λ r. ⌜ r ≡ turned rows p ⌝ }
 {
-    if (1 <= p) & (p <= rows) { rows - p + 1 } else { p }
+    if (1 <= p) & (p <= rows) {
+        rows - p + 1
+    } else {
+        p
+    }
 }
 
 fn turn(rows: u64, positions: &mut [u64])
@@ -156,9 +161,29 @@ fn search(
         return Tally::Labels(0);
     }
     if a.status == 2 {
-        return look(true, c.slots, a.right, a.left, rights, labels, asked, sieve, positions);
+        return look(
+            true,
+            c.slots,
+            a.right,
+            a.left,
+            rights,
+            labels,
+            asked,
+            sieve,
+            positions,
+        );
     }
-    let walked = look(false, c.slots, a.left, a.right, lefts, labels, asked, sieve, positions);
+    let walked = look(
+        false,
+        c.slots,
+        a.left,
+        a.right,
+        lefts,
+        labels,
+        asked,
+        sieve,
+        positions,
+    );
     turn(rows_of(walked), positions);
     walked
 }
@@ -196,4 +221,63 @@ fn refused(number: u32) -> FindReply
         rows: 0,
         positions: [0; 32],
     }
+}
+
+/// Where the labels asked for wait.
+pub fn find(
+    c: Control,
+    asked: &[u32],
+    lefts: &[u64],
+    rights: &[u64],
+    labels: &[u32],
+    marks: &[u64],
+) -> FindReply
+    ensures { λ r.
+        ⌜ r ≡ find
+        (tablesOf c (now (lefts .entry)) (now (rights .entry)) (now (labels .entry)) (now (marks .entry)))
+        (now (asked .entry)) ⌝ }
+{
+    let why = refusal(
+        c,
+        asked.len(),
+        lefts.len(),
+        rights.len(),
+        labels.len(),
+        marks.len(),
+    );
+    if why != 0 {
+        return refused(why);
+    }
+    let mut sieve: [u64; 16] = [0; 16];
+    sift(asked, &mut sieve);
+    let mut positions: [u64; 32] = [0; 32];
+    let walked = search(c, lefts, rights, labels, asked, &sieve, &mut positions);
+    match walked {
+        Tally::Broken => refused(34),
+        Tally::Labels(rows) => FindReply {
+            code: 0,
+            rows,
+            positions,
+        },
+    }
+}
+
+/// The same for C and Rust, with control lent as its row of words.
+#[no_mangle]
+pub extern "C" fn zc_find(
+    control: &[u64; rows::CONTROL_WORDS],
+    asked: &[u32],
+    lefts: &[u64],
+    rights: &[u64],
+    labels: &[u32],
+    marks: &[u64],
+) -> FindReply
+    ensures { λ r.
+        ⌜ r ≡ find
+        (tablesOf (controlOf (now (control .entry))) (now (lefts .entry)) (now (rights .entry)) (now (labels .entry)) (now (marks .entry)))
+        (now (asked .entry)) ⌝ }
+{
+    let row = *control;
+    let c = rows::control_of(row);
+    find(c, asked, lefts, rights, labels, marks)
 }

@@ -37,12 +37,13 @@ loop-again c =
     let i = l .loop .i in
     let asked = a .asked .now in
     let put : List ℕ → List ℕ = λ ps. set ps i (pick (a .early) (getD asked i 0) (a .y) (a .k) (getD ps i 0)) in
-    let more = note-more (a .early) (a .y) (a .k) i asked (a .positions .now) (omega arith) (omega (arith, l .before .before .before .pre)) in
-    (omega arith,
-    ap (set (l .loop .positions) i) (c .pick .ensures)
-    ∙ ap put (l .loop .inv .1)
-    ∙ sym more
-    ∙ ap (λ (m : ℕ). note (a .early) (a .y) (a .k) (take m asked) (a .positions .now)) (sym (add-one i)))
+    let more = note-more (a .early) (a .y) (a .k) i asked (a .positions .now) (omega arith) (omega (arith, l .before .before .before .pre)) in (
+      omega arith,
+      ap (set (l .loop .positions) i) (c .pick .ensures)
+          ∙ ap put (l .loop .inv .1)
+          ∙ sym more
+          ∙ ap (λ (m : ℕ). note (a .early) (a .y) (a .k) (take m asked) (a .positions .now)) (sym (add-one i)),
+    )
 
 returns : tie.Need-returns Inv-loop μ-loop
 returns c =

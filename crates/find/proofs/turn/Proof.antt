@@ -27,12 +27,13 @@ loop-again c =
     let a = l .before .before .args in
     let i = l .loop .i in
     let ps = a .positions .now in
-    let put : List ℕ → List ℕ = λ qs. set qs i (turned (a .rows) (getD qs i 0)) in
-    (omega (arith, kept l),
-    ap (set (l .loop .positions) i) (c .turned .ensures)
-    ∙ ap put (l .loop .inv .1)
-    ∙ turn-more (turned (a .rows)) i ps (omega (arith, kept l))
-    ∙ ap (λ (m : ℕ). turning (turned (a .rows)) m ps) (sym (add-one i)))
+    let put : List ℕ → List ℕ = λ qs. set qs i (turned (a .rows) (getD qs i 0)) in (
+      omega (arith, kept l),
+      ap (set (l .loop .positions) i) (c .turned .ensures)
+          ∙ ap put (l .loop .inv .1)
+          ∙ turn-more (turned (a .rows)) i ps (omega (arith, kept l))
+          ∙ ap (λ (m : ℕ). turning (turned (a .rows)) m ps) (sym (add-one i)),
+    )
 
 returns : tie.Need-returns Inv-loop μ-loop
 returns c =
