@@ -1,9 +1,9 @@
 #!/bin/bash
-# The library's step against the same step by hand in C, and against the bare algorithm; the report
-# against the same report by hand in C.
+# The library's step against the same step by hand in C, and against the bare algorithm; the calls
+# that walk the queue against the same calls by hand in C.
 #
-#     bench/run.sh [FOLDER]         of libcapi.a and libcapi_record.a; default: target/staticlib,
-#                                   where `rt staticlib capi` and `rt staticlib capi_record` write them
+#     bench/run.sh [FOLDER]         of the archives; default: target/staticlib, where
+#                                   `rt staticlib NAME` writes capi, capi_record and find
 #     bench/run.sh --stand-in       reference.c in the library's place: all ratios should be 1
 #
 # CC (gcc), OPT (-O3), STEPS (100000), TIMES (150) may be set.
@@ -26,7 +26,7 @@ if [ "$folder" = --stand-in ]; then
     archives=("$work/library.o") # all calls are in one
 else
     [ $# -eq 0 ] || folder=$(cd "$OLDPWD" && realpath "$folder")
-    archives=("$folder/libcapi.a" "$folder/libcapi_record.a")
+    archives=("$folder"/lib{capi,capi_record,find}.a)
     for archive in "${archives[@]}"; do
         if [ ! -f "$archive" ]; then
             echo "bench: no archive $archive; build it with: rt staticlib $(basename "${archive%.a}" | sed s/^lib//)" >&2
@@ -99,7 +99,7 @@ echo "The calls that walk the queue, 1,023 slots; nanoseconds and instructions a
 echo
 echo "| call | labels waiting | ns: library | C | library/C | instructions: library | C |"
 echo "|---|---|---|---|---|---|---|"
-for call in report; do
+for call in report find; do
     for labels in 3 64 1023; do
         "$work/walks" check $labels
         "$work/walks" time $call $labels 500 >"$work/times"

@@ -3,12 +3,13 @@
 //! [`Queue`] owns its tables. [`Tables`] lends tables that the caller keeps elsewhere, with any
 //! contents and any lengths. [`raw`] holds the C declarations themselves.
 //!
-//! Take the file in as a module and name the folder of `libcapi.a` and `libcapi_record.a` to the
-//! linker:
+//! Take the file in as a module and name the folder of `libcapi.a`, `libcapi_record.a` and
+//! `libfind.a` to the linker:
 //!
 //! ```text
 //! rt staticlib capi
 //! rt staticlib capi_record
+//! rt staticlib find
 //! rustc --edition 2021 -O main.rs -L target/staticlib
 //! ```
 //!
@@ -21,6 +22,8 @@ pub const MOST_TASKS: u64 = 16;
 pub const MOST_SLOTS: u64 = 1_023;
 /// With a higher Anchor tag a start is refused [`Refusal::Worn`].
 pub const LAST_START_TAG: u64 = 4_294_967_262;
+/// Labels that [`Queue::find`] takes.
+pub const MOST_ASKED: usize = 32;
 /// Where the count of retries stays.
 pub const MOST_RETRIES: u64 = 4_294_967_295;
 
@@ -113,6 +116,32 @@ pub mod raw {
         pub waiting: u64,
         pub taken: u64,
         pub retries: u64,
+    }
+
+    /// Code 0, or the number of a refusal.
+    #[repr(C)]
+    #[derive(Clone, Copy, Debug, Default, PartialEq, Eq)]
+    pub struct FindReply {
+        pub code: u64,
+        pub rows: u64,
+        pub positions: [u64; super::MOST_ASKED],
+    }
+
+    #[link(name = "find", kind = "static")]
+    unsafe extern "C" {
+        pub fn zc_find(
+            control: *const Control,
+            asked: *const u32,
+            asked_count: usize,
+            lefts: *const u64,
+            left_count: usize,
+            rights: *const u64,
+            right_count: usize,
+            labels: *const u32,
+            label_count: usize,
+            marks: *const u64,
+            mark_count: usize,
+        ) -> FindReply;
     }
 
     #[link(name = "capi_record", kind = "static")]
@@ -248,6 +277,7 @@ pub enum Refusal {
     Taken = 32,
     Worn = 33,
     Unsound = 34,
+    ManyAsked = 45,
 }
 
 impl Refusal {
@@ -258,10 +288,10 @@ impl Refusal {
     /// The refusal with a number.
     pub fn numbered(number: u64) -> Option<Refusal> {
         use Refusal::*;
-        [BadTasks, BadSlots, Short, NoTask, NoSide, NoSlot, Busy, Idle, Taken, Worn, Unsound]
-            .iter()
-            .copied()
-            .find(|refusal| u64::from(refusal.number()) == number)
+        let low = [BadTasks, BadSlots, Short, NoTask, NoSide, NoSlot];
+        let high = [Busy, Idle, Taken, Worn, Unsound, ManyAsked];
+        let mut all = low.iter().chain(&high).copied();
+        all.find(|refusal| u64::from(refusal.number()) == number)
     }
 
     /// The refusal that the library answered.
@@ -279,6 +309,7 @@ impl fmt::Display for Refusal {
             Refusal::NoTask => "no such task",
             Refusal::NoSide => "side not 0 or 1",
             Refusal::NoSlot => "slot not 1 to slots",
+            Refusal::ManyAsked => "more than 32 labels asked for",
             Refusal::Busy => "the task is busy",
             Refusal::Idle => "the task is idle",
             Refusal::Taken => "the slot is taken",
@@ -341,6 +372,15 @@ pub struct Report {
     /// Marks set for slots 1 to slots, half-done calls included.
     pub taken: u64,
     pub retries: u64,
+}
+
+/// Where labels wait.
+#[derive(Clone, Debug, PartialEq, Eq)]
+pub struct Found {
+    /// Labels in the queue.
+    pub rows: u64,
+    /// Of each label asked for, from 1 at the left; of equal ones in the queue the leftmost's.
+    pub positions: Vec<Option<u64>>,
 }
 
 /// Lent tables: any contents, any lengths.
@@ -416,6 +456,46 @@ impl Tables<'_> {
     /// Refuses 34 for control, 12, 34 for the walk.
     pub fn report(&self) -> Result<Report, Refusal> {
         report(self.control, self.records, self.lefts, self.rights, self.labels, self.marks)
+    }
+
+    /// Refuses 34 for control, 45, 12, 34 for the walk.
+    pub fn find(&self, asked: &[u32]) -> Result<Found, Refusal> {
+        find(self.control, asked, self.lefts, self.rights, self.labels, self.marks)
+    }
+}
+
+/// Finding only reads too.
+fn find(
+    control: &Control,
+    asked: &[u32],
+    lefts: &[u64],
+    rights: &[u64],
+    labels: &[u32],
+    marks: &[u64],
+) -> Result<Found, Refusal> {
+    // SAFETY: slices are non-null, aligned and as long as the counts that go with them.
+    let reply = unsafe {
+        raw::zc_find(
+            control,
+            asked.as_ptr(),
+            asked.len(),
+            lefts.as_ptr(),
+            lefts.len(),
+            rights.as_ptr(),
+            rights.len(),
+            labels.as_ptr(),
+            labels.len(),
+            marks.as_ptr(),
+            marks.len(),
+        )
+    };
+    match reply.code {
+        0 => {
+            let positions = &reply.positions[..asked.len()];
+            let positions = positions.iter().map(|&at| (at != 0).then_some(at)).collect();
+            Ok(Found { rows: reply.rows, positions })
+        }
+        number => Err(Refusal::answered(number)),
     }
 }
 
@@ -523,6 +603,11 @@ impl Queue {
             .expect("an open queue is sound")
     }
 
+    /// Where up to 32 labels wait; more are refused [`Refusal::ManyAsked`].
+    pub fn find(&self, asked: &[u32]) -> Result<Found, Refusal> {
+        find(&self.control, asked, &self.lefts, &self.rights, &self.labels, &self.marks)
+    }
+
     pub fn control(&self) -> &Control {
         &self.control
     }
@@ -587,6 +672,8 @@ const _: () = {
     assert!(offset_of!(raw::ReportReply, waiting) == 48);
     assert!(offset_of!(raw::ReportReply, taken) == 56);
     assert!(offset_of!(raw::ReportReply, retries) == 64);
+    assert!(size_of::<raw::FindReply>() == 272 && align_of::<raw::FindReply>() == 8);
+    assert!(offset_of!(raw::FindReply, rows) == 8 && offset_of!(raw::FindReply, positions) == 16);
 };
 
 #[cfg(test)]
@@ -697,6 +784,24 @@ mod tests {
     }
 
     #[test]
+    fn find_counts_from_the_left() {
+        let mut queue = Queue::open(1, 5, 0).unwrap();
+        for (side, slot, label) in
+            [(Side::Right, 2, 7), (Side::Right, 3, 8), (Side::Left, 1, 7), (Side::Right, 5, 9)]
+        {
+            queue.push(0, side, slot, label).unwrap();
+            finish(&mut queue, 0);
+        }
+        let found = queue.find(&[9, 7, 1, 8, 7]).unwrap();
+        assert_eq!(
+            found,
+            Found { rows: 4, positions: vec![Some(4), Some(1), None, Some(3), Some(1)] }
+        );
+        assert_eq!(queue.find(&[]).unwrap(), Found { rows: 4, positions: vec![] });
+        assert_eq!(queue.find(&[0; 33]), Err(Refusal::ManyAsked));
+    }
+
+    #[test]
     fn report_tells_every_field() {
         let mut queue = Queue::open(3, 70, 6).unwrap();
         queue.push(0, Side::Right, 65, 1).unwrap();
@@ -738,7 +843,7 @@ mod tests {
     #[test]
     fn refusals_have_their_numbers() {
         let known: Vec<u64> = (0..100).filter(|&n| Refusal::numbered(n).is_some()).collect();
-        assert_eq!(known, [10, 11, 12, 13, 14, 15, 30, 31, 32, 33, 34]);
+        assert_eq!(known, [10, 11, 12, 13, 14, 15, 30, 31, 32, 33, 34, 45]);
         assert_eq!(Refusal::Worn.to_string(), "33: the Anchor tag is too high for another start");
     }
 }

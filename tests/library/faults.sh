@@ -205,6 +205,7 @@ mkdir "$work/forward" &&
     gcc -std=gnu11 -O2 -Iinclude -c tests/library/forward.c -o "$work/forward.o" &&
     ar rcs "$work/forward/libcapi.a" "$work/forward.o" &&
     ar rcs "$work/forward/libcapi_record.a" &&
+    ar rcs "$work/forward/libfind.a" &&
     gcc -shared -fPIC -O2 -DAS_LIBRARY -Iinclude bench/reference.c -o "$work/faultless.so" || exit 2
 if ! ZC_OBJECT=$work/faultless.so BUILD=$work/build tests/library/run.sh "$work/forward" >"$work/said"; then
     cat "$work/said"

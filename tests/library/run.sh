@@ -1,8 +1,8 @@
 #!/bin/bash
 # Tests of the static library through its C interface.
 #
-#     tests/library/run.sh [FOLDER]     of libcapi.a and libcapi_record.a; default: target/staticlib,
-#                                       where `rt staticlib capi` and `rt staticlib capi_record` write them
+#     tests/library/run.sh [FOLDER]     of the archives; default: target/staticlib, where
+#                                       `rt staticlib NAME` writes capi, capi_record and find
 #     tests/library/run.sh --stand-in   bench/reference.c, the same calls by hand, in its place
 #
 # PARTS names what runs: header layout fence waiting taken bindings examples bench differential (all of them).
@@ -25,18 +25,24 @@ fi
 
 # The archives lie in a folder of their own under the names that rustc looks for.
 mkdir -p "$work/library"
-archives=("$work/library/libcapi.a" "$work/library/libcapi_record.a")
+names=(capi capi_record find)
+archives=()
+for name in "${names[@]}"; do
+    archives+=("$work/library/lib$name.a")
+done
 rm -f "${archives[@]}"
 case ${1:-} in
 --stand-in)
     $CC -std=c11 -O2 $WARNINGS -DAS_LIBRARY -Iinclude -c bench/reference.c -o "$work/library.o" || exit 2
     ar rcs "${archives[0]}" "$work/library.o" # all calls are in one
-    ar rcs "${archives[1]}"
+    for archive in "${archives[@]:1}"; do
+        ar rcs "$archive"
+    done
     ;;
 *)
     given=${1:-$PWD/target/staticlib}
-    if ! (cd "$from" && cp "$given"/libcapi.a "$given"/libcapi_record.a "$work/library"); then
-        echo "no archives in $given; build them with: rt staticlib capi; rt staticlib capi_record" >&2
+    if ! (cd "$from" && for name in "${names[@]}"; do cp "$given/lib$name.a" "$work/library" || exit; done); then
+        echo "no archives in $given; build them with rt staticlib NAME: ${names[*]}" >&2
         echo "0 passed, 1 failed"
         exit 2
     fi

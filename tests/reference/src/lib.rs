@@ -1,7 +1,7 @@
-//! An independent implementation of document 01, written from the paper alone.
+//! An independent implementation of documents 01 and 02, written from the papers alone.
 //!
 //! The machine: `word` (packed words), `tables` (what is lent), `refusal` (the
-//! ordered tests), `places` (what a step does), `machine` (the outside calls).
+//! ordered tests), `places` (what a step does), `machine` and `find` (the outside calls).
 //! The program: `runfile` (fields in), `run` (events), `trace` (lines out).
 //! The judge: `clerk` (a sequential deque), `contents` (labels waiting),
 //! `invariant` (what holds between any two steps), `check` (all of them at once).
@@ -14,6 +14,7 @@ pub mod contents;
 pub mod coverage;
 pub mod damage;
 pub mod dice;
+pub mod find;
 pub mod invariant;
 pub mod machine;
 pub mod malformed;

@@ -1,6 +1,7 @@
 //! Histories: an opening, then starts and steps of all tasks in any order, refused ones among them.
 //! Every line of document 01's route must be taken, on both sides.
 
+use crate::line::{any_question, common_label};
 use crate::tally::Tally;
 use crate::world::{by_library, Call, Export, Lent, Told, World};
 use reference::dice::Dice;
@@ -90,10 +91,11 @@ fn next_call(dice: &mut Dice, world: &World) -> Call {
     match start {
         true if dice.percent(55) => {
             let slot = if strange { dice.between(0, slots + 1) } else { dice.between(1, slots) };
-            Call::Push { task, side, slot, label: dice.throw() as u32 }
+            Call::Push { task, side, slot, label: common_label(dice) }
         }
         true => Call::Pop { task, side },
         false if dice.percent(2) => Call::Report,
+        false if dice.percent(2) => any_question(dice),
         false if dice.percent(50) && task < tasks as usize => Call::StepRow { task },
         false => Call::Step { task },
     }

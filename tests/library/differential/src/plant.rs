@@ -9,8 +9,15 @@ use crate::zeppolecape::MOST_RETRIES;
 use reference::dice::Dice;
 use reference::tables::{POP, PUSH};
 
-const EXPORTS: [Export; 6] =
-    [Export::Open, Export::Push, Export::Pop, Export::Step, Export::StepRecord, Export::Report];
+const EXPORTS: [Export; 7] = [
+    Export::Open,
+    Export::Push,
+    Export::Pop,
+    Export::Step,
+    Export::StepRecord,
+    Export::Report,
+    Export::Find,
+];
 
 fn wanted(export: Export, place: Option<u64>, kind: Option<u64>) -> Wanted {
     match export {
@@ -20,6 +27,7 @@ fn wanted(export: Export, place: Option<u64>, kind: Option<u64>) -> Wanted {
         Export::Step => Wanted::Step(place, kind),
         Export::StepRecord => Wanted::StepRecord(place, kind),
         Export::Report => Wanted::Report,
+        Export::Find => Wanted::Find,
     }
 }
 

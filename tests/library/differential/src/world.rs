@@ -1,6 +1,7 @@
 //! Lent tables, the calls on them, and both implementations behind one face.
 
 use crate::zeppolecape::raw;
+use reference::find::{Found, MOST_ASKED};
 use reference::machine::{Answer, Moved};
 use reference::refusal::Refusal;
 use reference::tables::{Control, Record, Shared, Tables};
@@ -70,6 +71,11 @@ pub enum Call {
         task: usize,
     },
     Report,
+    /// The first `count` labels are asked for.
+    Find {
+        asked: [u32; MOST_ASKED + 1],
+        count: usize,
+    },
 }
 
 /// The exported calls.
@@ -81,6 +87,7 @@ pub enum Export {
     Step,
     StepRecord,
     Report,
+    Find,
 }
 
 impl Call {
@@ -92,15 +99,17 @@ impl Call {
             Call::Step { .. } => Export::Step,
             Call::StepRecord | Call::StepRow { .. } => Export::StepRecord,
             Call::Report => Export::Report,
+            Call::Find { .. } => Export::Find,
         }
     }
 }
 
-/// An answer in numbers: code, label, value; the report's nine fields.
+/// An answer in numbers: code, label, value; the report's nine fields; code, rows and positions.
 #[derive(Clone, Copy, Debug, PartialEq)]
 pub enum Told {
     Reply(u32, u32, u64),
     Report([u64; 9]),
+    Find(u64, u64, [u64; MOST_ASKED]),
 }
 
 impl Told {
@@ -108,6 +117,7 @@ impl Told {
         match self {
             Told::Reply(code, ..) => *code,
             Told::Report(fields) => fields[0] as u32,
+            Told::Find(code, ..) => *code as u32,
         }
     }
 }
@@ -167,8 +177,25 @@ pub fn by_library(world: &mut World, call: Call) -> Told {
                 told.retries,
             ]);
         }
+        Call::Find { asked, count } => {
+            let found = library!(world.zc_find(control, asked.as_ptr(), count));
+            return Told::Find(found.code, found.rows, found.positions);
+        }
     };
     Told::Reply(reply.code, reply.label, reply.value)
+}
+
+fn found(answer: Result<Found, Refusal>) -> Told {
+    let mut positions = [0; MOST_ASKED];
+    match answer {
+        Ok(found) => {
+            for (to, at) in positions.iter_mut().zip(&found.positions) {
+                *to = at.unwrap_or(0);
+            }
+            Told::Find(0, found.rows, positions)
+        }
+        Err(refusal) => Told::Find(u64::from(refusal.number()), 0, positions),
+    }
 }
 
 fn refused(refusal: Refusal) -> Told {
@@ -205,6 +232,9 @@ pub fn by_reference(world: &mut World, call: Call) -> Told {
         };
         return moved(shared.step_lent(one));
     }
+    if let Call::Find { asked, count } = call {
+        return found(shared.find(&asked[..count]));
+    }
     let mut tables = Tables { shared, records: world.records.slice() };
     match call {
         Call::Open { tasks, slots, tag } => {
@@ -215,7 +245,7 @@ pub fn by_reference(world: &mut World, call: Call) -> Told {
         }
         Call::Pop { task, side } => started(tables.pop(task as u64, side)),
         Call::Step { task } => moved(tables.step(task as u64)),
-        Call::StepRecord | Call::StepRow { .. } => unreachable!(),
+        Call::StepRecord | Call::StepRow { .. } | Call::Find { .. } => unreachable!(),
         Call::Report => Told::Report(match tables.report() {
             Ok(told) => [
                 0,
