@@ -39,7 +39,8 @@ module _ (q : Tables) (asked : List ℕ) where
   pub turned-away : (n : ℕ) → n ≡ why → (n ≡ 0 → ⊥) → refused n ≡ find q asked
   unfolding find findRefusal
   turned-away n e h =
-      let r = one-applies (controlSound (q .control)) (ltb 32 (length asked)) (rowsFit (q .control .slots) q) (isBroken (contents q)) (λ z. h (e ∙ z)) ∙ sym e in
+      let fits = rowsFit (q .control .slots) q in
+      let r = one-applies (controlSound (q .control)) (ltb 32 (length asked)) fits (isBroken (contents q)) (λ z. h (e ∙ z)) ∙ sym e in
       rw (r, ne-eqb n 0 h)
 
   module _ (n : ℕ) (e : n ≡ why) (z : n ≡ 0) where

@@ -34,7 +34,8 @@ one-more asked sieve after i h e =
     go : getD asked i 0 % 1024 / 64 < length sieve → (j : ℕ) → Dec (j ≡ i) → j < i + 1
         → marked (withMark sieve (getD asked i 0 % 1024) 1) (getD asked j 0 % 1024) ≡ true
     go w j (yes z) g =
-        ap (λ (k : ℕ). marked (withMark sieve (getD asked i 0 % 1024) 1) (getD asked k 0 % 1024)) z ∙ marked-same sieve (getD asked i 0 % 1024) 1 (omega arith) w
+        ap (λ (k : ℕ). marked (withMark sieve (getD asked i 0 % 1024) 1) (getD asked k 0 % 1024)) z
+        ∙ marked-same sieve (getD asked i 0 % 1024) 1 (omega arith) w
     go w j (no z) g = stays-set sieve (getD asked i 0 % 1024) (getD asked j 0 % 1024) w (h .1 j (omega arith))
 
 -- A label whose mark is clear is none of them.

@@ -135,6 +135,7 @@ module _ (asked : List ℕ) (few : length asked ≤ 32) where
   unfolding found
   from-right m =
       let t = turned (length m) in
+      let each-turned = map-map t (λ x. each false x 1 0 m) asked ∙ (λ i. map (λ x. turned-latest x m i) asked) in
       ap (map t) (begun false m)
       ∙ map-append t (map (λ x. each false x 1 0 m) asked) rest
-      ∙ ap₂ (λ (a b : List ℕ). a ++ b) (map-map t (λ x. each false x 1 0 m) asked ∙ (λ i. map (λ x. turned-latest x m i) asked)) (still (length m) (32 - length asked))
+      ∙ ap₂ (λ (a b : List ℕ). a ++ b) each-turned (still (length m) (32 - length asked))

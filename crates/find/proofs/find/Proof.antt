@@ -41,8 +41,12 @@ search-requires c κs =
     (c .before .before .before .sift .ensures, (few (tables r) (asked r) _ (tried r) (e .if1 .left), refl))
 
 -- The walk that was made.
-searched : (s : tie.After-search) → Searched (asked (passed (s .before) .before)) (contents (tables (passed (s .before) .before))) (s .search .result) (s .search .last .1 .1 .1 .1 .1 .1 .0)
-searched s = s .search .ensures (start (passed (s .before) .before) .args .marks .now)
+abbrev tried-at : tie.After-search → tie.After-refusal
+tried-at s = passed (s .before) .before
+
+searched : (s : tie.After-search)
+    → Searched (asked (tried-at s)) (contents (tables (tried-at s))) (s .search .result) (s .search .last .1 .1 .1 .1 .1 .1 .0)
+searched s = s .search .ensures (start (tried-at s) .args .marks .now)
 
 returns-2 : tie.Need-returns-2
 returns-2 c =

@@ -30,7 +30,8 @@ record Kept (early : Bool) (slots last start : ℕ) (links labels asked before n
   notes : Notes slots links labels last early asked n x now (noting early asked 1 before (along slots links labels last slots start))
 
 abbrev Inv-loop : tie.InvT-loop
-Inv-loop early slots last start links labels asked sieve positions₀ n₀ x₀ positions n x = Kept early slots last start links labels asked positions₀ positions n x
+Inv-loop early slots last start links labels asked sieve positions₀ n₀ x₀ positions n x =
+    Kept early slots last start links labels asked positions₀ positions n x
 
 abbrev μ-loop : tie.MeasureT-loop
 μ-loop early slots last start links labels asked sieve positions₀ n₀ x₀ positions n x = slots - n
@@ -46,13 +47,13 @@ loop-holds : tie.Need-loop-holds Inv-loop μ-loop
 loop-holds c =
     let s = c .before .before in
     let a = s .before .before .before .args in
-    let w = along (a .slots) (a .links .now) (a .labels .now) (a .last) (a .slots) (a .start) in
+    let walk : ℕ → Walk = λ m. along (a .slots) (a .links .now) (a .labels .now) (a .last) m (a .start) in
     let e : a .slots - 0 ≡ a .slots = omega arith in
     record {
       few = omega arith;
       reaches = begins (a .slots) (a .links .now) (a .labels .now) (a .last) 0 (a .start) refl;
       long = refl;
-      notes = ap (λ (m : ℕ). noting (a .early) (a .asked .now) 1 (a .positions .now) (along (a .slots) (a .links .now) (a .labels .now) (a .last) m (a .start))) e;
+      notes = ap (λ (m : ℕ). noting (a .early) (a .asked .now) 1 (a .positions .now) (walk m)) e;
     }
 
 -- A walk that is broken, whatever was noted.
@@ -89,9 +90,16 @@ noted-now k = k .before .before .meet .last .1 .1 .1 .1 .1 .0
 real : (k : tie.After-slice-known2 Inv-loop μ-loop) → from1 (given (turn k) .args .slots) (turn k .loop .x) ≡ true
 real k = let e = real-at k in sym (e .before .from1 .ensures) ∙ not-false _ (e .if1 .left)
 
+-- The label and the link word of the slot.
+abbrev label : tie.At-loop Inv-loop μ-loop → ℕ
+label l = getD (given l .args .labels .now) (l .loop .x) 0
+
+abbrev word : tie.At-loop Inv-loop μ-loop → ℕ
+word l = getD (given l .args .links .now) (l .loop .x) 0
+
 noted-is : (k : tie.After-slice-known2 Inv-loop μ-loop)
     → noted-now k
-    ≡ note (given (turn k) .args .early) (getD (given (turn k) .args .labels .now) (turn k .loop .x) 0) (turn k .loop .n + 1) (given (turn k) .args .asked .now) (turn k .loop .positions)
+    ≡ note (given (turn k) .args .early) (label (turn k)) (turn k .loop .n + 1) (given (turn k) .args .asked .now) (turn k .loop .positions)
 noted-is k =
     let l = turn k in
     let a = given l .args in
@@ -102,7 +110,7 @@ long-now : (k : tie.After-slice-known2 Inv-loop μ-loop) → length (noted-now k
 long-now k =
     let l = turn k in
     let a = given l .args in
-    ap length (noted-is k) ∙ note-length (a .early) (getD (a .labels .now) (l .loop .x) 0) (l .loop .n + 1) (a .asked .now) (l .loop .positions) ∙ l .loop .inv .long
+    ap length (noted-is k) ∙ note-length (a .early) (label l) (l .loop .n + 1) (a .asked .now) (l .loop .positions) ∙ l .loop .inv .long
 
 returns-2 : tie.Need-returns-2 Inv-loop μ-loop
 returns-2 c =
@@ -111,16 +119,20 @@ returns-2 c =
     let a = given l .args in
     let e = eq-eqb _ _ (c .if2 .taken) in
     let h = real-at k .before .before .loop-test .taken in
+    let t = counting.stops (a .slots) (a .links .now) (a .labels .now) (a .last) (l .loop .n) (l .loop .x) in
+    let s = stops (a .slots) (a .links .now) (a .labels .now) (a .last) (a .early) (a .asked .now) (l .loop .n) (l .loop .x) (l .loop .positions) in
     record {
-      tally = sym (counting.stops (a .slots) (a .links .now) (a .labels .now) (a .last) (l .loop .n) (l .loop .x) h (real k) e) ∙ l .loop .inv .reaches;
+      tally = sym (t h (real k) e) ∙ l .loop .inv .reaches;
       kept = long-now k;
-      noted = λ f. noted-is k ∙ stops (a .slots) (a .links .now) (a .labels .now) (a .last) (a .early) (a .asked .now) (l .loop .n) (l .loop .x) (l .loop .positions) h (real k) _ (l .loop .inv .notes) e;
+      noted = λ f. noted-is k ∙ s h (real k) _ (l .loop .inv .notes) e;
     }
 
 -- The link word that was read is sound or not.
-judged : (c : tie.After-link-sound Inv-loop μ-loop)
-    → c .link-sound .result ≡ linkSound (given (turn (c .before .before .before)) .args .slots) (getD (given (turn (c .before .before .before)) .args .links .now) (turn (c .before .before .before) .loop .x) 0)
-judged c = c .link-sound .ensures ∙ ap (linkSound (given (turn (c .before .before .before)) .args .slots)) (c .before .word-at .ensures)
+abbrev read-at : tie.After-link-sound Inv-loop μ-loop → tie.At-loop Inv-loop μ-loop
+read-at c = turn (c .before .before .before)
+
+judged : (c : tie.After-link-sound Inv-loop μ-loop) → c .link-sound .result ≡ linkSound (given (read-at c) .args .slots) (word (read-at c))
+judged c = c .link-sound .ensures ∙ ap (linkSound (given (read-at c) .args .slots)) (c .before .word-at .ensures)
 
 returns-3 : tie.Need-returns-3 Inv-loop μ-loop
 returns-3 c =
@@ -128,8 +140,9 @@ returns-3 c =
     let k = i .before in
     let l = turn k in
     let a = given l .args in
-    lost l (noted-now k) (long-now k)
-    (astray (a .slots) (a .links .now) (a .labels .now) (a .last) (l .loop .n) (l .loop .x) (real-at k .before .before .loop-test .taken) (real k) (ne-eqb _ _ (i .if2 .left)) (sym (judged (c .before)) ∙ not-true _ (c .if3 .taken)))
+    let unsound = sym (judged (c .before)) ∙ not-true _ (c .if3 .taken) in
+    let lose = astray (a .slots) (a .links .now) (a .labels .now) (a .last) (l .loop .n) (l .loop .x) in
+    lost l (noted-now k) (long-now k) (lose (real-at k .before .before .loop-test .taken) (real k) (ne-eqb _ _ (i .if2 .left)) unsound)
 
 loop-again : tie.Need-loop-again Inv-loop μ-loop
 loop-again c =
