@@ -11,17 +11,13 @@ use Rattle.model.specs.Sound.{rowsFit}
 use Rattle.model.specs.Walk.{contents, met}
 use Rattle.model.specs.Report.{waiting}
 use Rattle.model.specs.Refusals.{recordsFit}
-use Rattle.model.specs.History.{AfterOpening, final, ledger, run}
 use Rattle.model.proofs.tests.Truth.{and-true}
 use Rattle.model.proofs.Standing.{Standing, standing}
 use Rattle.find_model.specs.declared.FindReply.{FindReply}
-use Rattle.find_model.specs.Find.{find, findRefusal, found, refused}
+use Rattle.find_model.specs.Find.{Finds, find, findRefusal, found, refused}
 
--- Over 32 labels are refused; else each gets its position in the queue d.
-abbrev pub Found : List Entry → Tables → Type 0
-Found d q = (asked : List ℕ) → find q asked ≡ cond (ltb 32 (length asked)) (refused 45) (found d asked)
-
-stands : (q : Queue) (d : List Entry) → Standing q d → Found d (q .tables)
+stands : (q : Queue) (d : List Entry) → Standing q d → (asked : List ℕ)
+    → find (q .tables) asked ≡ cond (ltb 32 (length asked)) (refused 45) (found d asked)
 unfolding find findRefusal
 stands q d s asked =
     let rows = and-true (rowsFit (q .tables .control .slots) (q .tables)) (recordsFit (q .tables .control .tasks) q) (s .long) .0 in
@@ -31,7 +27,7 @@ stands q d s asked =
     go true = refl
     go false = refl
 
-pub finds : AfterOpening (λ q os. Found (ledger (run q os) .deque) (final q os .tables))
+pub finds : Finds
 finds q tasks slots tag e os asked = stands _ _ (standing q tasks slots tag e os) asked
 
 -- The rows reported are the number waiting.

@@ -1,4 +1,5 @@
 -- The positions of some labels among those waiting. (Document 02, #110.)
+use mathlib.Core.Path.{_≡_}
 use mathlib.Core.Bool.{not, cond}
 use mathlib.Core.List.{List, [], _∷_, _++_, map}
 use Prim.Native.Nat.{ℕ, _+_, _-_}
@@ -9,6 +10,7 @@ use Rattle.model.specs.Tables.{Tables}
 use Rattle.model.specs.Sound.{controlSound, rowsFit}
 use Rattle.model.specs.Walk.{contents, isBroken, met}
 use Rattle.model.specs.Refusals.{Rule, rule, first}
+use Rattle.model.specs.History.{AfterOpening, final, ledger, run}
 use Rattle.find_model.specs.declared.FindReply.{FindReply}
 
 -- The position of the leftmost entry with label x, where the list's first entry has position n; 0: not waiting.
@@ -47,3 +49,9 @@ unfoldable pub find : Tables → List ℕ → FindReply
 find q asked =
     let why = findRefusal q asked in
     cond (eqb why 0) (found (met (contents q)) asked) (refused why)
+
+-- After any list following an opening: over 32 labels are refused, never 34; else the positions are those in the sequential deque's queue.
+abbrev pub Finds : Type 0
+Finds =
+    AfterOpening (λ q os. (asked : List ℕ)
+    → find (final q os .tables) asked ≡ cond (ltb 32 (length asked)) (refused 45) (found (ledger (run q os) .deque) asked))
