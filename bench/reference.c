@@ -151,6 +151,18 @@ static inline zc_reply read_neighbour(zc_record *record, const uint64_t *inward,
     return go(record, record->place + 1);
 }
 
+/* What follows a reading of Anchor, made at place 1 or by a failed change at 2 or 4. */
+INLINED zc_reply take_reading(zc_record *record, uint64_t found)
+{
+    bool push = record->kind == ZC_PUSH;
+    record->seen = found;
+    if (zc_anchor_left(found) == 0)
+        return push ? go(record, 2) : answer(record, ZC_EMPTY, 0, 0);
+    if (!push && zc_anchor_left(found) == zc_anchor_right(found))
+        return go(record, 2);
+    return go(record, zc_anchor_status(found) == ZC_STABLE ? 3 : 5);
+}
+
 INLINED zc_reply advance(zc_control *control, zc_record *record, uint64_t *lefts, uint64_t *rights,
                          const uint32_t *labels, uint64_t *marks)
 {
@@ -166,20 +178,12 @@ INLINED zc_reply advance(zc_control *control, zc_record *record, uint64_t *lefts
     uint64_t *outward = right ? rights : lefts;
 
     switch (record->place) {
-    case 1: {
-        uint64_t anchor = control->anchor;
-        record->seen = anchor;
-        if (zc_anchor_left(anchor) == 0)
-            return push ? go(record, 2) : answer(record, ZC_EMPTY, 0, 0);
-        if (!push && zc_anchor_left(anchor) == zc_anchor_right(anchor))
-            return go(record, 2);
-        return go(record, zc_anchor_status(anchor) == ZC_STABLE ? 3 : 5);
-    }
+    case 1: return take_reading(record, control->anchor);
     case 2:
         switch (
             change_anchor(control, seen, successor(seen, status, side, record->own, record->own))) {
         case FORBIDDEN: return refuse(ZC_UNSOUND);
-        case FAILED: return go(record, 1);
+        case FAILED: return take_reading(record, control->anchor);
         default: return push ? answer(record, ZC_PUSHED, 0, 0) : go(record, 11);
         }
     case 3:
@@ -195,7 +199,7 @@ INLINED zc_reply advance(zc_control *control, zc_record *record, uint64_t *lefts
                               : successor(seen, status, side, record->neighbour, far);
         switch (change_anchor(control, seen, wanted)) {
         case FORBIDDEN: return refuse(ZC_UNSOUND);
-        case FAILED: return go(record, 1);
+        case FAILED: return take_reading(record, control->anchor);
         default: break;
         }
         if (!push)
@@ -352,6 +356,21 @@ zc_reply CALL(step_record)(zc_control *control, zc_record *one,
         return refuse(ZC_IDLE);
     return advance(control, one, lefts, rights, labels, marks);
 }
+
+#ifdef AS_LIBRARY
+zc_run_reply zc_run(zc_control *control, zc_record *records, size_t record_count, size_t task,
+                    uint64_t most, TABLES(uint64_t, const uint32_t, uint64_t))
+{
+    for (uint64_t made = 0; made < most; made++) {
+        zc_reply reply = zc_step(control, records, record_count, task, lefts, left_count, rights,
+                                 right_count, labels, label_count, marks, mark_count);
+        if (reply.code != ZC_RUNNING)
+            return (zc_run_reply){reply.code, reply.label, reply.value,
+                                  zc_refused(reply) ? made : made + 1};
+    }
+    return (zc_run_reply){ZC_RUNNING, 0, task < record_count ? records[task].place : 0, most};
+}
+#endif
 
 /* The labels waiting, from end to end; 0 where the links lead astray or nothing waits. */
 static uint64_t walked(const zc_control *control, const uint64_t *lefts, const uint64_t *rights)

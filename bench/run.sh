@@ -2,8 +2,7 @@
 # The library's step against the same step by hand in C, and against the bare algorithm; the calls
 # that walk the queue against the same calls by hand in C.
 #
-#     bench/run.sh [FOLDER]         of the archives; default: target/staticlib, where
-#                                   `rt staticlib NAME` writes capi, capi_record and find
+#     bench/run.sh [FOLDER]         of libzeppolecape.a; default: target/lib, where `make` writes it
 #     bench/run.sh --stand-in       reference.c in the library's place: all ratios should be 1
 #
 # CC (gcc), OPT (-O3), STEPS (100000), TIMES (150) may be set.
@@ -20,26 +19,24 @@ WARNINGS="-std=gnu11 -Wall -Wextra -Werror"
 work=$(mktemp -d)
 trap 'rm -rf "$work"' EXIT
 
-folder=${1:-../target/staticlib}
+folder=${1:-../target/lib}
 if [ "$folder" = --stand-in ]; then
     $CC $WARNINGS $OPT -DAS_LIBRARY -I../include -c reference.c -o "$work/library.o"
-    archives=("$work/library.o") # all calls are in one
+    archive=$work/library.o
 else
     [ $# -eq 0 ] || folder=$(cd "$OLDPWD" && realpath "$folder")
-    archives=("$folder"/lib{capi,capi_record,find}.a)
-    for archive in "${archives[@]}"; do
-        if [ ! -f "$archive" ]; then
-            echo "bench: no archive $archive; build it with: rt staticlib $(basename "${archive%.a}" | sed s/^lib//)" >&2
-            exit 2
-        fi
-    done
+    archive=$folder/libzeppolecape.a
+    if [ ! -f "$archive" ]; then
+        echo "bench: no $archive; build it with: make" >&2
+        exit 2
+    fi
 fi
 
 for source in main reference bare walks; do
     $CC $WARNINGS $OPT -I../include -c $source.c -o "$work/$source.o"
 done
-$CC "$work"/{main,reference,bare}.o "${archives[@]}" -o "$work/bench"
-$CC "$work"/{walks,reference}.o "${archives[@]}" -o "$work/walks"
+$CC "$work"/{main,reference,bare}.o "$archive" -o "$work/bench"
+$CC "$work"/{walks,reference}.o "$archive" -o "$work/walks"
 
 # Instructions of a whole replay by callgrind; nothing if it cannot tell.
 collected() { # ENGINE COMMAND..

@@ -19,6 +19,7 @@ static __typeof__(zc_push) *push_call;
 static __typeof__(zc_pop) *pop_call;
 static __typeof__(zc_step) *step_call;
 static __typeof__(zc_step_record) *step_record_call;
+static __typeof__(zc_run) *run_call;
 static __typeof__(zc_report) *report_call;
 static __typeof__(zc_find) *find_call;
 
@@ -35,6 +36,7 @@ __attribute__((constructor)) static void load(void)
     *(void **)&pop_call = dlsym(object, "zc_pop");
     *(void **)&step_call = dlsym(object, "zc_step");
     *(void **)&step_record_call = dlsym(object, "zc_step_record");
+    *(void **)&run_call = dlsym(object, "zc_run");
     *(void **)&report_call = dlsym(object, "zc_report");
     *(void **)&find_call = dlsym(object, "zc_find");
 }
@@ -68,6 +70,12 @@ zc_reply zc_step_record(zc_control *control, zc_record *one,
                         TABLES(uint64_t, const uint32_t, uint64_t))
 {
     return step_record_call(control, one, LENT);
+}
+
+zc_run_reply zc_run(zc_control *control, zc_record *records, size_t record_count, size_t task,
+                    uint64_t most, TABLES(uint64_t, const uint32_t, uint64_t))
+{
+    return run_call(control, records, record_count, task, most, LENT);
 }
 
 zc_report_reply zc_report(const zc_control *control, const zc_record *records, size_t record_count,

@@ -16,7 +16,7 @@ ghost use Rattle.model.specs.declared.Op.the-variants.{Push, Pop, Step};
 ghost use Rattle.model.specs.Tables.{idle};
 ghost use Rattle.model.specs.Calls.{openQueue, act};
 ghost use Rattle.model.specs.Report.{count, report};
-ghost use Rattle.engine.specs.Ends.{endsCall, isMoved};
+ghost use Rattle.model.specs.Ends.{endsCall, isMoved};
 ghost use Rattle.rows.specs.Rows.{queueIn, recordsOf, uppersOf};
 ghost use Rattle.capi.specs.Replies.{openingCode, reportReplyOf, Coded, coded, Replied, replied};
 
@@ -211,26 +211,7 @@ pub extern "C" fn zc_step(
         (act (queueIn (now (control .entry)) (now (records .entry)) (now (lefts .entry)) (now (rights .entry)) (now (labels .entry)) (now (marks .entry)))
         task Step)) ⌝ }
 {
-    let row = *control;
-    let c = rows::control_of(row);
-    let n = records.len();
-    let why = engine::admit(
-        c,
-        n,
-        task,
-        lefts.len(),
-        rights.len(),
-        labels.len(),
-        marks.len(),
-    );
-    if why != 0 {
-        return operation::reply(engine::refuse(why));
-    }
-    let was = records[task];
-    let r = rows::record_of(was);
-    let m = engine::move_on(c, r, lefts, rights, labels, marks);
-    rows::store(control, &mut records[task], m);
-    let o = m.outcome;
+    let o = rows::step(control, records, task, lefts, rights, labels, marks);
     operation::reply(o)
 }
 

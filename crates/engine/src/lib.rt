@@ -11,7 +11,7 @@ ghost use Rattle.model.specs.Tables.{tablesOf};
 ghost use Rattle.table.specs.Lent.{withTables};
 ghost use Rattle.sound.specs.Lengths.{lengthsFit};
 ghost use Rattle.engine.specs.Parts.{admission, recordRefusal, moveOn};
-ghost use Rattle.engine.specs.Ends.{answerEnds, endsCall, isMoved};
+ghost use Rattle.model.specs.Ends.{answerEnds, endsCall, isMoved, isRunning};
 
 /// Why a step is refused whatever its record holds, or 0: document 01's order. The tables are given
 /// by their lengths.
@@ -166,17 +166,16 @@ pub fn move_on(
     }
     let place = r.place;
     match place {
-        1 => places::at1(c, r),
-        2 => places::at2(c, r),
         3 => places::at3(c, r, lefts, rights),
-        4 => places::at4(c, r),
         5 => places::at5(c, r, lefts, rights),
         6 => places::at6(c, r),
         7 => places::at7(c, r, lefts, rights),
         8 => places::at8(c, r),
         9 => places::at9(c, r, lefts, rights),
         10 => places::at10(c, r),
-        _ => places::at11(c, r, labels, marks),
+        11 => places::at11(c, r, labels, marks),
+        // 1, 2 and 4
+        _ => places::on_anchor(c, r),
     }
 }
 
@@ -209,6 +208,16 @@ pub fn moves(o: Outcome) -> bool
     match o {
         Outcome::Refused(_) => false,
         Outcome::Moved(_) => true,
+    }
+}
+
+/// Whether a step with this outcome was carried out and its call goes on.
+pub fn runs(o: Outcome) -> bool
+    ensures { λ b. ⌜ b ≡ isRunning o ⌝ }
+{
+    match o {
+        Outcome::Refused(_) => false,
+        Outcome::Moved(a) => !answer_ends(a),
     }
 }
 

@@ -11,9 +11,11 @@ pub mod bridge
 pub mod ledger
 pub mod tags
 pub mod unsound
+pub mod progress
 pub mod Linearizable
 pub mod NeverUnsound
 pub mod Standing
+pub mod StepBounds
 -- Laws of single calls, and the worked cases of the document.
 pub mod laws
 pub mod Bench

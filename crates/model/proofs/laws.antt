@@ -6,4 +6,5 @@ pub mod Sizes
 pub mod LentRecord
 pub mod OneTouch
 pub mod Onward
+pub mod FailedChange
 pub mod Mirror

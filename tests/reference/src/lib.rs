@@ -8,6 +8,7 @@
 //! The differential test: `dice`, `script`, `shift`, `scenario`, `malformed`, `coverage`.
 //! For tests that drive the calls themselves: `damage` (tables that no run leaves).
 
+pub mod audit;
 pub mod check;
 pub mod clerk;
 pub mod contents;

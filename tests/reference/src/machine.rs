@@ -79,6 +79,20 @@ impl Tables<'_> {
         step_admitted(&mut self.shared, &mut self.records[task as usize])
     }
 
+    /// Steps one task until a step does not answer running, `most` times at the most: its answer,
+    /// and the steps made. Where no step was left to make the task is running at its place.
+    pub fn run(&mut self, task: u64, most: u64) -> (Answer, u64) {
+        for made in 0..most {
+            match self.step(task) {
+                Ok(Moved::Running(_)) => {}
+                Ok(answer) => return (Ok(answer), made + 1),
+                Err(refusal) => return (Err(refusal), made),
+            }
+        }
+        let place = self.records.get(task as usize).map_or(0, |record| record.place);
+        (Ok(Moved::Running(place)), most)
+    }
+
     /// 34 for control and Anchor, 12, and 34 for the walk.
     pub fn report(&self) -> Result<Report, Refusal> {
         let control = &*self.shared.control;

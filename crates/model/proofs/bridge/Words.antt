@@ -10,7 +10,7 @@ use Rattle.word.specs.Anchor.{AnchorFits, anchorOf, anchorWord, packAnchor}
 use Rattle.word.specs.Link.{linkOf, linkWord, packLink, spareOf}
 use Rattle.word.specs.declared.Anchor as word
 use Rattle.model.proofs.tests.Truth.{agree, split}
-use Rattle.model.proofs.machine.Laws.{same-true, sameLink-true}
+use Rattle.model.proofs.machine.Laws.{same-refl, same-true, sameLink-refl, sameLink-true}
 use Rattle.model.proofs.machine.Machine.{Anchor, Link, code, isStable, same, sameLink, towards}
 use Rattle.model.proofs.bridge.View.{anchorSeen, linkSeen, statusOf}
 
@@ -28,14 +28,6 @@ stable-status (suc (suc (suc n))) h = absurd (omega arith)
 
 pub towards-status : (n : ℕ) → towards (statusOf n) ≡ eqb n 1
 towards-status n = split (eqb n 1) (λ e. rw e) (λ e. split (eqb n 2) (λ f. rw (e, f)) (λ f. rw (e, f)))
-
-same-refl : (a : Anchor) → same a a ≡ true
-unfolding same
-same-refl a = rw (eq-eqb (a .tag) (a .tag) refl, eq-eqb (code (a .status)) (code (a .status)) refl, eq-eqb (a .left) (a .left) refl, eq-eqb (a .right) (a .right) refl)
-
-sameLink-refl : (a : Link) → sameLink a a ≡ true
-unfolding sameLink
-sameLink-refl a = rw (eq-eqb (a .tag) (a .tag) refl, eq-eqb (a .slot) (a .slot) refl)
 
 -- A comparison of Anchor words is one of Anchors.
 pub same-word : (u v : ℕ) → anchorOf u .status ≤ 2 → anchorOf v .status ≤ 2 → same (anchorSeen u) (anchorSeen v) ≡ eqb v u

@@ -18,7 +18,7 @@ use Rattle.model.proofs.machine.Machine as M
 use Rattle.model.proofs.bridge.View.{anchorSeen, answerSeen}
 use Rattle.model.proofs.ledger.Matches.{Final, Last, Matches, matches-mono}
 
-effect-is : (ev : Event) (a : Answer) → B.effect (anchorSeen (ev .before)) (anchorSeen (ev .after)) (answerSeen a) ≡ isEffect ev a
+pub effect-is : (ev : Event) (a : Answer) → B.effect (anchorSeen (ev .before)) (anchorSeen (ev .after)) (answerSeen a) ≡ isEffect ev a
 unfolding isEffect
 effect-is ev (Running p) = refl
 effect-is ev Pushed = refl

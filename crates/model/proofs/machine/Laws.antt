@@ -64,6 +64,14 @@ sameLink-true a b e =
     let q = eqb-true _ _ (e1 .1) in
     λ i. record { tag = p i; slot = q i }
 
+pub same-refl : (a : Anchor) → same a a ≡ true
+unfolding same
+same-refl a = rw (eq-eqb (a .tag) (a .tag) refl, eq-eqb (code (a .status)) (code (a .status)) refl, eq-eqb (a .left) (a .left) refl, eq-eqb (a .right) (a .right) refl)
+
+pub sameLink-refl : (a : Link) → sameLink a a ≡ true
+unfolding sameLink
+sameLink-refl a = rw (eq-eqb (a .tag) (a .tag) refl, eq-eqb (a .slot) (a .slot) refl)
+
 pub aimed-near : (a : Anchor) (d : Bool) (x : ℕ) (st : Status) → tip (aimed a d x st) d ≡ x
 aimed-near a false x st = refl
 aimed-near a true x st = refl

@@ -1,6 +1,6 @@
 -- Sums over the numbers below n.
 use mathlib.Core.Logic.{_≢_, _⊎_, inl, inr}
-use mathlib.Core.Path.{_∙_, _≡_, ap, refl}
+use mathlib.Core.Path.{_∙_, _≡_, ap, refl, subst, sym}
 use Prim.Native.Nat.{_*_, _+_, _<_, _≤_, suc, zero, ℕ}
 use native.Mathlib.Omega.{arith}
 use Rattle.model.proofs.tests.Truth.{decide-eq}
@@ -36,3 +36,18 @@ pub total-le : (f : ℕ → ℕ) (k n : ℕ) → ((t : ℕ) → f t ≤ k) → t
 unfolding total
 total-le f k zero h = omega arith
 total-le f k (suc n) h = omega (arith, h n, total-le f k n h)
+
+-- Sums compared term by term.
+pub total-keep : (f′ f : ℕ → ℕ) (n : ℕ) → ((u : ℕ) → f′ u ≤ f u) → total f′ n ≤ total f n
+unfolding total
+total-keep f′ f zero h = omega arith
+total-keep f′ f (suc n) h = omega (arith, h n, total-keep f′ f n h)
+
+pub total-drop : (f′ f : ℕ → ℕ) (t n : ℕ) → t < n → ((u : ℕ) → f′ u ≤ f u) → f′ t < f t → total f′ n < total f n
+unfolding total
+total-drop f′ f t zero lt h d = absurd (omega arith)
+total-drop f′ f t (suc n) lt h d = go (decide-eq n t) (λ l. total-drop f′ f t n l h d)
+  where
+    go : (n ≡ t) ⊎ (n ≢ t) → (t < n → total f′ n < total f n) → f′ n + total f′ n < f n + total f n
+    go (inl e) ih = let p = total-keep f′ f n h in let z : f′ n < f n = subst (λ u. f′ u < f u) (sym e) d in omega arith
+    go (inr e) ih = omega (arith, h n, ih (omega arith))

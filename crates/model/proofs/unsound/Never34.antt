@@ -104,7 +104,7 @@ module _ (n : ℕ) (q : Queue) (l : Ledger) (g : Matched n q l) (f : Safe q) (t 
   moved : (a : Answer) → Moved a ≡ Refused 34 → ⊥
   moved a e = let w : _≡_ {A = ℕ} 0 1 = cc in omega arith
 
-  act-safe : (o : Op) → After (act q t o)
+  pub act-safe : (o : Op) → After (act q t o)
   unfolding act actOn pushStart popStart step finish
   act-safe (Push side x y) = by-test Put (eqb (pushRefusal G (among q t) r side x) 0)
       (λ e. let p = push-accepted q t side x (eqb-true _ _ e) in

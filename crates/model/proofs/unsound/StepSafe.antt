@@ -79,7 +79,7 @@ module _ (n : ℕ) (q : Queue) (l : Ledger) (g : Matched n q l) (f : Safe q) (t 
       (act-extra t (view G) (g .inv .owner) (g .book .queue) (g .book .calls t) (g .inv .whole) (recOf r) (placeOf (r .place))
       (not-idle (r .place) busy (fine .place)) (own-task n q l g f t z busy) (own-extra n q l g f t z busy))
 
-  keeps : Keeps (G .control .slots) r (m .task)
+  pub keeps : Keeps (G .control .slots) r (m .task)
   keeps =
       let e = row-fine (G .control .slots) r fine in
       let d = eqb (linkSide r) 1 in

@@ -52,14 +52,14 @@ impl Group {
         use Export::*;
         let exports: &[Export] = match self {
             Group::Tasks | Group::Slots => &[Open],
-            Group::Control => &[Push, Pop, Step, StepRecord, Report, Find],
+            Group::Control => &[Push, Pop, Step, Run, StepRecord, Report, Find],
             Group::Many => &[Find],
-            Group::Short => &[Open, Push, Pop, Step, StepRecord, Report, Find],
-            Group::Task => &[Push, Pop, Step],
+            Group::Short => &[Open, Push, Pop, Step, Run, StepRecord, Report, Find],
+            Group::Task => &[Push, Pop, Step, Run],
             Group::Side | Group::Busy | Group::Worn => &[Push, Pop],
             Group::Slot | Group::Taken => &[Push],
-            Group::Record => &[Push, Pop, Step, StepRecord],
-            Group::Idle | Group::Touch => &[Step, StepRecord],
+            Group::Record => &[Push, Pop, Step, Run, StepRecord],
+            Group::Idle | Group::Touch => &[Step, Run, StepRecord],
             Group::Walk => &[Report, Find],
         };
         exports.contains(&export)
@@ -186,7 +186,10 @@ fn spoil_outward(scene: &mut Scene, dice: &mut Dice, bits: bool) {
 
 fn set_task(scene: &mut Scene, number: usize) {
     match &mut scene.call {
-        Call::Push { task, .. } | Call::Pop { task, .. } | Call::Step { task } => *task = number,
+        Call::Push { task, .. }
+        | Call::Pop { task, .. }
+        | Call::Step { task }
+        | Call::Run { task, .. } => *task = number,
         _ => unreachable!(),
     }
 }

@@ -8,6 +8,7 @@ use reference::dice::Dice;
 use reference::tables::{Control, Record, POP, PUSH};
 use reference::word::{Anchor, RPUSH};
 use std::collections::BTreeSet;
+use zeppolecape::{POP_STEPS, PUSH_STEPS};
 
 /// A step taken: kind, place, side as the place sees it, finishing; then code and next place.
 type Line = (u64, u64, u64, u64, u32, u64);
@@ -17,7 +18,7 @@ const PUSHED: (u32, u64) = (2, 0);
 const EMPTY: (u32, u64) = (3, 0);
 const POPPED: (u32, u64) = (4, 0);
 
-/// Document 01's column "next", in full.
+/// Document 01's column "next", in full, with a failed 2 or 4 that goes on as 1 (#106).
 fn route() -> BTreeSet<Line> {
     let mut lines = BTreeSet::new();
     let mut add = |kind, place, finishing, ends: &[(u32, u64)]| {
@@ -28,14 +29,15 @@ fn route() -> BTreeSet<Line> {
         }
     };
     let to = |place: u64| (RUNNING, place);
-    add(PUSH, 1, 0, &[to(2), to(3), to(5)]);
-    add(PUSH, 2, 0, &[PUSHED, to(1)]);
+    for place in [1, 2, 4] {
+        add(PUSH, place, 0, &[to(2), to(3), to(5)]);
+        add(POP, place, 0, &[EMPTY, to(2), to(3), to(5)]);
+    }
+    add(PUSH, 2, 0, &[PUSHED]);
+    add(POP, 2, 0, &[to(11)]);
     add(PUSH, 3, 0, &[to(4)]);
-    add(PUSH, 4, 0, &[to(5), to(1)]);
-    add(POP, 1, 0, &[EMPTY, to(2), to(3), to(5)]);
-    add(POP, 2, 0, &[to(11), to(1)]);
     add(POP, 3, 0, &[to(4)]);
-    add(POP, 4, 0, &[to(11), to(1)]);
+    add(POP, 4, 0, &[to(11)]);
     add(POP, 11, 0, &[POPPED]);
     for (kind, finishing, leave) in [(PUSH, 1, PUSHED), (PUSH, 0, to(1)), (POP, 0, to(1))] {
         add(kind, 5, finishing, &[to(6)]);
@@ -96,6 +98,7 @@ fn next_call(dice: &mut Dice, world: &World) -> Call {
         true => Call::Pop { task, side },
         false if dice.percent(2) => Call::Report,
         false if dice.percent(2) => any_question(dice),
+        false if dice.percent(4) => Call::Run { task, most: dice.between(0, 20) },
         false if dice.percent(50) && task < tasks as usize => Call::StepRow { task },
         false => Call::Step { task },
     }
@@ -123,12 +126,22 @@ fn history(tally: &mut Tally, dice: &mut Dice, taken: &mut BTreeSet<Line>, calls
         let call = next_call(dice, &theirs);
         let before = if let Call::StepRow { .. } = call { Some(ours.clone()) } else { None };
         let record = match call {
-            Call::Step { task } | Call::StepRow { task } => theirs.records.held.get(task).copied(),
+            Call::Step { task } | Call::StepRow { task } | Call::Run { task, .. } => {
+                theirs.records.held.get(task).copied()
+            }
             _ => None,
         };
         let Some(told) = tally.compare(&mut ours, &mut theirs, call) else { return false };
         if told.code() == 34 {
             return false; // never after an opening and engine calls alone
+        }
+        if let (Call::Run { task, most }, Some(record)) = (call, record) {
+            let enough = if record.kind == PUSH { PUSH_STEPS } else { POP_STEPS };
+            let busy = (task as u64) < ours.control.tasks && record.place != 0;
+            if busy && most >= enough && !(2..=4).contains(&told.code()) {
+                println!("{enough} steps alone were not enough: {told:?}");
+                return false;
+            }
         }
         if let (Call::StepRow { task }, Some(before)) = (call, before) {
             if !same_as_step(&before, task, &ours, told) {

@@ -26,6 +26,7 @@ pub enum Wanted {
     Push,
     Pop,
     Step(Option<u64>, Option<u64>),
+    Run(Option<u64>, Option<u64>),
     StepRecord(Option<u64>, Option<u64>),
     Report,
     Find,
@@ -41,6 +42,7 @@ impl Scene {
             Call::Push { task, .. }
             | Call::Pop { task, .. }
             | Call::Step { task }
+            | Call::Run { task, .. }
             | Call::StepRow { task } => &mut self.world.records.held[task],
         }
     }
@@ -68,6 +70,7 @@ impl Scene {
                 Call::Pop { task, side }
             }
             Wanted::Step(..) => Call::Step { task },
+            Wanted::Run(..) => Call::Run { task, most: 1 },
             Wanted::StepRecord(..) if dice.percent(50) => Call::StepRow { task },
             Wanted::StepRecord(..) => Call::StepRecord,
             Wanted::Report => Call::Report,
@@ -77,7 +80,10 @@ impl Scene {
         if let Wanted::Report | Wanted::Find = wanted {
             line_up(&mut scene, dice, 0);
         }
-        if let Wanted::Step(place, kind) | Wanted::StepRecord(place, kind) = wanted {
+        if let Wanted::Step(place, kind)
+        | Wanted::Run(place, kind)
+        | Wanted::StepRecord(place, kind) = wanted
+        {
             let place = place.unwrap_or_else(|| any_place(dice, slots, 11));
             let kind = if place == 11 { POP } else { kind.unwrap_or_else(|| dice.between(0, 1)) };
             scene.ready(dice, place, kind);

@@ -1,10 +1,10 @@
 //! Lent tables, the calls on them, and both implementations behind one face.
 
-use crate::zeppolecape::raw;
 use reference::find::{Found, MOST_ASKED};
 use reference::machine::{Answer, Moved};
 use reference::refusal::Refusal;
 use reference::tables::{Control, Record, Shared, Tables};
+use zeppolecape::raw;
 
 /// A table: `count` entries are lent; those behind them must never change.
 #[derive(Clone, Debug, PartialEq)]
@@ -64,6 +64,11 @@ pub enum Call {
     Step {
         task: usize,
     },
+    /// Steps until one does not answer running.
+    Run {
+        task: usize,
+        most: u64,
+    },
     /// A step on the record lent alone.
     StepRecord,
     /// A step on a task's record, lent where it lies.
@@ -85,6 +90,7 @@ pub enum Export {
     Push,
     Pop,
     Step,
+    Run,
     StepRecord,
     Report,
     Find,
@@ -97,6 +103,7 @@ impl Call {
             Call::Push { .. } => Export::Push,
             Call::Pop { .. } => Export::Pop,
             Call::Step { .. } => Export::Step,
+            Call::Run { .. } => Export::Run,
             Call::StepRecord | Call::StepRow { .. } => Export::StepRecord,
             Call::Report => Export::Report,
             Call::Find { .. } => Export::Find,
@@ -104,10 +111,12 @@ impl Call {
     }
 }
 
-/// An answer in numbers: code, label, value; the report's nine fields; code, rows and positions.
+/// An answer in numbers: code, label, value; a run's, and its steps; the report's nine fields; code,
+/// rows and positions.
 #[derive(Clone, Copy, Debug, PartialEq)]
 pub enum Told {
     Reply(u32, u32, u64),
+    Run(u32, u32, u64, u64),
     Report([u64; 9]),
     Find(u64, u64, [u64; MOST_ASKED]),
 }
@@ -115,7 +124,7 @@ pub enum Told {
 impl Told {
     pub fn code(&self) -> u32 {
         match self {
-            Told::Reply(code, ..) => *code,
+            Told::Reply(code, ..) | Told::Run(code, ..) => *code,
             Told::Report(fields) => fields[0] as u32,
             Told::Find(code, ..) => *code as u32,
         }
@@ -155,6 +164,10 @@ pub fn by_library(world: &mut World, call: Call) -> Told {
         }
         Call::Pop { task, side } => library!(world.zc_pop(control, records, count, task, side)),
         Call::Step { task } => library!(world.zc_step(control, records, count, task)),
+        Call::Run { task, most } => {
+            let told = library!(world.zc_run(control, records, count, task, most));
+            return Told::Run(told.code, told.label, told.value, told.steps);
+        }
         Call::StepRecord => {
             let one: *mut raw::Record = (&raw mut world.one).cast();
             library!(world.zc_step_record(control, one))
@@ -245,6 +258,11 @@ pub fn by_reference(world: &mut World, call: Call) -> Told {
         }
         Call::Pop { task, side } => started(tables.pop(task as u64, side)),
         Call::Step { task } => moved(tables.step(task as u64)),
+        Call::Run { task, most } => {
+            let (answer, steps) = tables.run(task as u64, most);
+            let Told::Reply(code, label, value) = moved(answer) else { unreachable!() };
+            Told::Run(code, label, value, steps)
+        }
         Call::StepRecord | Call::StepRow { .. } | Call::Find { .. } => unreachable!(),
         Call::Report => Told::Report(match tables.report() {
             Ok(told) => [

@@ -1,0 +1,196 @@
+-- All tasks together: at a step with no effect and no answer what its task owes falls, and what any other owes does not rise.
+use mathlib.Core.Bool.{Bool, false, not, true}
+use mathlib.Core.List.{List}
+use mathlib.Core.Logic.{_⊎_, inl, inr}
+use mathlib.Core.Path.{_∙_, _≡_, ap, refl, subst, sym}
+use Prim.Native.Nat.{_<_, _≤_, suc, ℕ}
+use native.Mathlib.Omega.{arith}
+use lib.Dec.{eqb}
+use Rattle.model.specs.declared.Entry.{Entry}
+use Rattle.model.proofs.tests.Truth.{by-test, not-both}
+use Rattle.model.proofs.laws.Tests.{either}
+use Rattle.model.proofs.machine.Clerk.{Call, Noted, effect, noted}
+use Rattle.model.proofs.machine.Laws.{same-true, sameLink-true}
+use Rattle.model.proofs.machine.Machine.{Anchor, Kind, Link, Move, Place, Rec, Shared, Touch, act, aimed, apply, at1, at10, at11, at2, at3}
+use Rattle.model.proofs.machine.Machine.{at4, at5, at6, at7, at8, at9, both, finishes, four, goes, idle, isIdle, isStable, leave, none, one}
+use Rattle.model.proofs.machine.Machine.{ownLink, pop, push, pushing, putAnchor, putLink, running, runs, same, sameLink, settled, three, tip}
+use Rattle.model.proofs.machine.Machine.{towards, two, withLink}
+use Rattle.model.proofs.invariant.Owners.{Owner, Whole}
+use Rattle.model.proofs.invariant.Rely.{Quiet, Turned}
+use Rattle.model.proofs.invariant.Shape.{Made}
+use Rattle.model.proofs.invariant.Tasks.{Grown, Live, Task, way}
+use Rattle.model.proofs.places.Effects.{noted-false}
+use Rattle.model.proofs.places.Place2.{place2}
+use Rattle.model.proofs.places.Place3.{place3}
+use Rattle.model.proofs.places.Place4.{place4}
+use Rattle.model.proofs.places.Place9.{place9}
+use Rattle.model.proofs.places.Shown.{Shown}
+use Rattle.model.proofs.progress.Falls.{Falls, fall1, fall10-done, fall10-failed, fall2-failed, fall3, fall4-failed, fall5, fall6, fall7}
+use Rattle.model.proofs.progress.Falls.{fall8, fall9-done, fall9-failed, popped-running, pushed-running}
+use Rattle.model.proofs.progress.Measure.{owed, owedAt}
+use Rattle.model.proofs.progress.Scale.{back-le, link-le, owed-scale, scale, scale-made, scale-some, scale-unmade, settled-le, together}
+
+-- Neither an effect nor an answer.
+abbrev pub Silent : Shared → Move → Type 0
+Silent s m = (m .answer ≡ running) × (effect (s .anchor) (apply s (m .touch) .anchor) (m .answer) ≡ false)
+
+-- x is what the task owed.
+pub record Calmer (x : ℕ) (s : Shared) (m : Move) : Type 0 where
+  pub own : Silent s m → together (apply s (m .touch)) (m .rec) < x
+  pub others : Silent s m → (u : Rec) → together (apply s (m .touch)) u ≤ together s u
+
+abbrev Untouched : Move → Type 0
+Untouched m = m .touch ≡ none
+
+module _ (x : ℕ) (s : Shared) where
+  -- A step that touches nothing.
+  still : (m : Move) → Untouched m → Falls 1 (scale s) x s m → Calmer x s m
+  still m e f = record {
+    own = λ z. subst (λ g. owed 1 g (apply s (m .touch)) (m .rec) < x) (sym (ap (λ (w : Touch). scale (apply s w)) e)) (f .less (z .0));
+    others = λ z u. subst (λ (w : Touch). together (apply s w) u ≤ together s u) (sym e) (omega arith);
+  }
+
+  -- An effect or an answer.
+  loud : (m : Move) → (Silent s m → ⊥) → Calmer x s m
+  loud m n = record { own = λ z. absurd (n z); others = λ z u. absurd (n z) }
+
+module _ (s : Shared) (r : Rec) where
+  abbrev now : Bool
+  now = same (r .read) (s .anchor)
+
+  abbrev At : Place → Move → Type 0
+  At p m = Calmer (owedAt 1 (scale s) p s r) s m
+
+  leave-none : Untouched (leave none r)
+  leave-none = either Untouched (r .finishing) refl refl
+
+  one-none : (k : Kind) → Untouched (one k s r)
+  one-none push = either Untouched (eqb (s .anchor .left) 0) refl (either Untouched (isStable (s .anchor .status)) refl refl)
+  one-none pop = either Untouched (eqb (s .anchor .left) 0) refl
+      (either Untouched (eqb (s .anchor .left) (s .anchor .right)) refl (either Untouched (isStable (s .anchor .status)) refl refl))
+
+  module _ (t : ℕ) (h : ℕ → Owner) (q : List Entry) (b : Call) (all : Whole s h q) where
+    abbrev after : Move → Noted
+    after m = noted b q (s .anchor) (apply s (m .touch) .anchor) (m .answer)
+
+    -- A done change at 2 or 4 is an effect: the clerk had noted none and has noted one.
+    not-silent : (m : Move) → b .effects ≡ 0 → after m .call .effects ≡ 1 → Silent s m → ⊥
+    not-silent m n o z = let e = ap (λ (w : Noted). w .call .effects)
+        (noted-false b q (s .anchor) (apply s (m .touch) .anchor) (m .answer) (z .1)) in omega arith
+
+    calm2 : (k : Kind) → r .kind ≡ k → Task at2 s h t r b → At at2 (two k s r)
+    calm2 push e w = by-test (At at2) now (λ _. loud _ s _ (λ z. pushed-running (z .0)))
+        (λ n. still _ s (one push s r) (one-none push) (fall2-failed 1 (scale s) (scale-some s) s r h q all (w .0 .early) n push))
+    calm2 pop e w = by-test (At at2) now
+        (λ y. let m = runs (putAnchor (both (r .read) 0)) (goes r at11) in
+        let v : Shown t s h q b m = rw y at (place2 t s h q b all r pop e w) in
+        loud _ s m (not-silent m (w .0 .before .none) (v .finish .after .once)))
+        (λ n. still _ s (one pop s r) (one-none pop) (fall2-failed 1 (scale s) (scale-some s) s r h q all (w .0 .early) n pop))
+
+    calm4 : (k : Kind) → r .kind ≡ k → Task at4 s h t r b → At at4 (four k s r)
+    calm4 push e w = by-test (At at4) now
+        (λ y. let a = aimed (r .read) (r .side) (r .own) (pushing (r .side)) in
+        let m = runs (putAnchor a) (finishes r a) in
+        let v : Shown t s h q b m = rw y at (place4 t s h q b all r push e w) in
+        loud _ s m (not-silent m (w .0 .before .none) (v .finish .stage .once)))
+        (λ n. still _ s (one push s r) (one-none push) (fall4-failed 1 (scale s) (scale-some s) s r h q all (w .0 .early) n push))
+    calm4 pop e w = by-test (At at4) now
+        (λ y. let m = runs (putAnchor (aimed (r .read) (r .side) (r .near) (r .read .status))) (goes r at11) in
+        let v : Shown t s h q b m = rw y at (place4 t s h q b all r pop e w) in
+        loud _ s m (not-silent m (w .0 .before .none) (v .finish .after .once)))
+        (λ n. still _ s (one pop s r) (one-none pop) (fall4-failed 1 (scale s) (scale-some s) s r h q all (w .0 .early) n pop))
+
+    calm3 : (k : Kind) → r .kind ≡ k → Task at3 s h t r b → At at3 (three k s r)
+    calm3 pop e w = still _ s _ refl (fall3 1 (scale s) (scale-some s) s r pop)
+    calm3 push e w = record {
+      own = λ z. omega (
+        arith,
+        owed-scale s (not (r .side)) (r .own) (ownLink s r) refl made (goes r at4),
+        fall3 1 (scale s) (scale-some s) s r push .less
+            (z .0),
+      );
+      others = λ z u. link-le s (not (r .side)) (r .own) (ownLink s r) refl made u;
+    }
+      where
+        s′ : Shared
+        s′ = withLink s (not (r .side)) (r .own) (ownLink s r)
+
+        turn : Quiet s s′ ⊎ Turned s s′ → (e : Bool) → s .anchor .status ≡ pushing e → Made (s .link) (s .anchor) e → Made (s′ .link) (s .anchor) e
+        turn (inl z) = z .made
+        turn (inr z) = absurd (omega (arith, z .later))
+
+        made : (e : Bool) → s .anchor .status ≡ pushing e → Made (s .link) (s .anchor) e → Made (s′ .link) (s .anchor) e
+        made = turn (place3 t s h q b all r push e w .rely (suc t) (λ z. omega arith) .anchor)
+
+    -- 9: who finds the link as read makes the link back, which was not made.
+    calm9 : Task at9 s h t r b → At at9 (act at9 s r)
+    calm9 w = by-test (At at9) (sameLink (r .link) (s .link (way (r .read)) (r .near)))
+        (λ y. done (sameLink-true _ _ y) (w .1 .chance) (rw y at (place9 t s h q b all r w)))
+        (λ y. still _ s (leave none r) leave-none (fall9-failed 1 (scale s) (scale-some s) s r (w .1) y))
+      where
+        e : Bool
+        e = way (r .read)
+
+        v : Link
+        v = record { tag = suc (r .link .tag); slot = tip (r .read) e }
+
+        m : Move
+        m = runs (putLink e (r .near) v) (goes r at10)
+
+        s′ : Shared
+        s′ = withLink s e (r .near) v
+
+        done : r .link ≡ s .link e (r .near) → Live s (r .read) (r .near) (r .link) ⊎ Grown s (r .read) (r .near) (r .link) → Shown t s h q b m → At at9 m
+        done f (inr y) z = absurd (let g = ap (λ (w : Link). w .tag) f in omega (arith, y))
+        done f (inl l) z = record {
+          own = λ y. fall9-done 1 (scale s) (scale-some s) s r (scale s′) v (omega (arith, before)) (l .current) f .less (y .0);
+          others = λ y u. back-le s e (r .near) v before after′ u;
+        }
+          where
+            st : s .anchor .status ≡ pushing e
+            st = ap (λ (a : Anchor). a .status) (sym (l .current)) ∙ w .0 .status
+
+            -- The link as read does not name the end.
+            before : scale s ≡ 9
+            before = scale-unmade s e st (λ y.
+                let made : Made (s .link) (r .read) e = subst (λ (a : Anchor). Made (s .link) a e) (sym (l .current)) y in
+                let named : s .link e (r .near) .slot ≡ tip (r .read) e = rw (l .near) at made in
+                w .1 .other (ap (λ (w : Link). w .slot) f ∙ named))
+
+            after′ : scale s′ ≡ 3
+            after′ = scale-made s′ e st (subst (λ (a : Anchor). Made (s′ .link) a e) (l .current) (z .finish .1 (l .current)))
+
+    -- 10: who finds Anchor as read makes it STABLE.
+    calm10 : Task at10 s h t r b → At at10 (act at10 s r)
+    calm10 w = by-test (At at10) now
+        (λ y. by-test (At at10) (r .finishing) (λ _. loud _ s _ (λ z. pushed-running (z .0))) (λ f. done y f))
+        (λ y. still _ s (leave none r) leave-none (fall10-failed 1 (scale s) (scale-some s) s r y))
+      where
+        m : Move
+        m = runs (putAnchor (settled (r .read))) (goes r at1)
+
+        unsteady : now ≡ true → isStable (s .anchor .status) ≡ false
+        unsteady y = ap (λ (a : Anchor). isStable (a .status)) (sym (same-true (r .read) (s .anchor) y)) ∙ ap isStable (w .0 .status)
+
+        done : now ≡ true → r .finishing ≡ false → At at10 m
+        done y f = record {
+          own = λ z. fall10-done 1 (scale s) (scale-some s) s r 3 y f .less (z .0);
+          others = λ z u. settled-le s (r .read) (unsteady y) u;
+        }
+
+    -- A step of the task.
+    pub calmer : (p : Place) → isIdle p ≡ false → Task p s h t r b → At p (act p s r)
+    calmer idle i w = absurd (not-both refl i)
+    calmer at1 i w = still _ s (one (r .kind) s r) (one-none (r .kind)) (fall1 1 (scale s) (scale-some s) s r h q all (w .0) (r .kind))
+    calmer at2 i w = calm2 (r .kind) refl w
+    calmer at3 i w = calm3 (r .kind) refl w
+    calmer at4 i w = calm4 (r .kind) refl w
+    calmer at5 i w = still _ s (act at5 s r) refl (fall5 1 (scale s) (scale-some s) s r)
+    calmer at6 i w = still _ s (act at6 s r) (either Untouched now refl leave-none) (fall6 1 (scale s) (scale-some s) s r)
+    calmer at7 i w = still _ s (act at7 s r)
+        (either Untouched (eqb (s .link (towards (r .read .status)) (r .near) .slot) (tip (r .read) (towards (r .read .status)))) refl refl)
+        (fall7 1 (scale s) (scale-some s) s r)
+    calmer at8 i w = still _ s (act at8 s r) (either Untouched now refl leave-none) (fall8 1 (scale s) (scale-some s) s r)
+    calmer at9 i w = calm9 w
+    calmer at10 i w = calm10 w
+    calmer at11 i w = loud _ s (act at11 s r) (λ z. popped-running (z .0))
