@@ -1,7 +1,7 @@
 //! Where labels wait.
 
-use crate::numbers::Refusal;
-use crate::raw::{self, Control};
+use crate::tables::{look, Shared};
+use crate::{Queue, Refusal, Tables};
 use alloc::vec::Vec;
 
 /// Where the labels asked for wait.
@@ -13,31 +13,8 @@ pub struct Found {
     pub positions: Vec<Option<u64>>,
 }
 
-/// Finding only reads, so that shared tables will do.
-pub(crate) fn find(
-    control: &Control,
-    asked: &[u32],
-    lefts: &[u64],
-    rights: &[u64],
-    labels: &[u32],
-    marks: &[u64],
-) -> Result<Found, Refusal> {
-    // SAFETY: slices are non-null, aligned and as long as the counts that go with them.
-    let reply = unsafe {
-        raw::zc_find(
-            control,
-            asked.as_ptr(),
-            asked.len(),
-            lefts.as_ptr(),
-            lefts.len(),
-            rights.as_ptr(),
-            rights.len(),
-            labels.as_ptr(),
-            labels.len(),
-            marks.as_ptr(),
-            marks.len(),
-        )
-    };
+fn find(tables: Shared<'_>, asked: &[u32]) -> Result<Found, Refusal> {
+    let reply = look!(tables.zc_find(asked.as_ptr(), asked.len()));
     match reply.code {
         0 => {
             let positions = &reply.positions[..asked.len()];
@@ -45,5 +22,19 @@ pub(crate) fn find(
             Ok(Found { rows: reply.rows, positions })
         }
         number => Err(Refusal::answered(number)),
+    }
+}
+
+impl Tables<'_> {
+    /// Finds up to 32 labels. Refuses 34 for control, 45, 12 (no records), 34 for the walk.
+    pub fn find(&self, asked: &[u32]) -> Result<Found, Refusal> {
+        find(self.shared(), asked)
+    }
+}
+
+impl Queue {
+    /// Where up to 32 labels wait; more are refused [`Refusal::ManyAsked`].
+    pub fn find(&self, asked: &[u32]) -> Result<Found, Refusal> {
+        find(self.shared(), asked)
     }
 }

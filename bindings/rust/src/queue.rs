@@ -1,6 +1,5 @@
 //! The queue that owns its tables.
 
-use crate::find::{find, Found};
 use crate::tables::{report, Shared, Tables};
 use crate::{
     link_slot, mark_words, raw, rows, Anchor, Answer, Control, Record, Refusal, Report, Run, Side,
@@ -129,11 +128,6 @@ impl Queue {
     pub fn report(&self) -> Report {
         report(&self.control, &self.records, &self.lefts, &self.rights, &self.labels, &self.marks)
             .expect("an open queue is sound")
-    }
-
-    /// Where up to 32 labels wait; more are refused [`Refusal::ManyAsked`].
-    pub fn find(&self, asked: &[u32]) -> Result<Found, Refusal> {
-        find(&self.control, asked, &self.lefts, &self.rights, &self.labels, &self.marks)
     }
 
     /// What all tasks share.

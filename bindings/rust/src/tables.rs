@@ -1,6 +1,5 @@
 //! The calls on lent tables.
 
-use crate::find::{find, Found};
 use crate::numbers::outcome;
 use crate::raw;
 use crate::{Anchor, Answer, Control, Record, Refusal, Report, Run};
@@ -132,11 +131,6 @@ impl Tables<'_> {
     /// Reports. Refuses 34 for control, 12, 34 for the walk.
     pub fn report(&self) -> Result<Report, Refusal> {
         report(self.control, self.records, self.lefts, self.rights, self.labels, self.marks)
-    }
-
-    /// Finds up to 32 labels. Refuses 34 for control, 45, 12, 34 for the walk.
-    pub fn find(&self, asked: &[u32]) -> Result<Found, Refusal> {
-        find(self.control, asked, self.lefts, self.rights, self.labels, self.marks)
     }
 }
 
