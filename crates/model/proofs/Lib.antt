@@ -12,10 +12,12 @@ pub mod ledger
 pub mod tags
 pub mod unsound
 pub mod progress
+pub mod Openings
 pub mod Linearizable
 pub mod NeverUnsound
 pub mod Standing
 pub mod StepBounds
+pub mod LinksBack
 -- Laws of single calls, and the worked cases of the document.
 pub mod laws
 pub mod Bench

@@ -1,21 +1,17 @@
 -- Demand 3: after any accepted opening, on any tables, every list of starts and steps is linearized.
 use mathlib.Core.List.{List}
-use mathlib.Core.Path.{_∙_, _≡_, ap}
+use mathlib.Core.Path.{_∙_, ap}
 use Prim.Native.Nat.{ℕ}
-use native.Mathlib.Omega.{arith}
-use lib.Dec.{eqb}
-use Rattle.model.specs.Calls.{openQueue, opened}
+use Rattle.model.specs.Calls.{opened}
 use Rattle.model.specs.History.{Linearizable, Linearized, Request, final, ledger, run}
-use Rattle.model.specs.Refusals.{openRefusal}
 use Rattle.model.specs.Walk.{entries}
 use Rattle.model.specs.Tables.{Queue}
-use Rattle.model.specs.declared.Opening.the-variants.{Opened, Refused}
-use Rattle.model.proofs.tests.Truth.{split}
 use Rattle.model.proofs.bridge.View.{stateOf}
 use Rattle.model.proofs.ledger.Kept.{run-good}
 use Rattle.model.proofs.ledger.Lawful.{all-lawful}
 use Rattle.model.proofs.ledger.Opened.{nobody, open-good}
 use Rattle.model.proofs.ledger.Waiting.{waits}
+use Rattle.model.proofs.Openings.{after-opening}
 
 module _ (q : Queue) (tasks slots tag : ℕ) where
   pub linearized : (os : List Request) → Linearized (opened q tasks slots tag) os
@@ -30,7 +26,4 @@ module _ (q : Queue) (tasks slots tag : ℕ) where
       }
 
 pub linearizable : Linearizable
-unfolding openQueue
-linearizable q tasks slots tag e os = split (eqb (openRefusal q tasks slots) 0)
-    (λ z. rw z (linearized q tasks slots tag os))
-    (λ z. absurd (let h : Refused (openRefusal q tasks slots) ≡ Opened = rw z at e in let w : _≡_ {A = ℕ} 0 1 = cc in omega arith))
+linearizable = after-opening Linearized (λ q tasks slots tag e os. linearized q tasks slots tag os)

@@ -3,19 +3,16 @@ use mathlib.Core.Bool.{cond, true}
 use mathlib.Core.Path.{_∙_, _≡_, ap, refl, subst, sym}
 use Prim.Native.Nat.{_≤_, ℕ}
 use native.Mathlib.Omega.{arith}
-use lib.Dec.{eqb}
-use borrow.Author.Tests.{eqb-true, not-false}
+use borrow.Author.Tests.{not-false}
 use Rattle.word.specs.Anchor.{anchorOf, emptyAnchor, packAnchor}
 use Rattle.word.specs.Link.{linkOf}
-use Rattle.model.specs.Calls.{openQueue, opened}
-use Rattle.model.specs.History.{Never34}
+use Rattle.model.specs.Calls.{opened}
+use Rattle.model.specs.History.{Never34, NeverUnsound}
 use Rattle.model.specs.Refusals.{openRefusal, openRules}
 use Rattle.model.specs.Sound.{controlSound, controlTests}
 use Rattle.model.specs.Tables.{Queue}
-use Rattle.model.specs.declared.Opening.the-variants.{Opened, Refused}
 use Rattle.model.specs.declared.Record.{Record}
 use Rattle.model.proofs.tests.Rules.{_and_, cleared, passes}
-use Rattle.model.proofs.tests.Truth.{split}
 use Rattle.model.proofs.machine.Laws.{stable-pushing}
 use Rattle.model.proofs.machine.Machine as M
 use Rattle.model.proofs.invariant.Fields.{Extra}
@@ -26,6 +23,7 @@ use Rattle.model.proofs.tags.Sum.{total-le}
 use Rattle.model.proofs.unsound.Never34.{run-safe}
 use Rattle.model.proofs.unsound.Safe.{Safe}
 use Rattle.model.proofs.unsound.Tests.{anchor-sound}
+use Rattle.model.proofs.Openings.{after-opening}
 
 module _ (q : Queue) (tasks slots tag : ℕ) where
   abbrev o : Queue
@@ -62,7 +60,5 @@ module _ (q : Queue) (tasks slots tag : ℕ) where
     }
 
 pub never-unsound : Never34
-unfolding openQueue
-never-unsound q tasks slots tag e os = split (eqb (openRefusal q tasks slots) 0)
-    (λ z. rw z (run-safe os 1 (opened q tasks slots tag) nobody (open-good q tasks slots tag) (open-safe q tasks slots tag (eqb-true _ _ z)) .0))
-    (λ z. absurd (let h : Refused (openRefusal q tasks slots) ≡ Opened = rw z at e in let w : _≡_ {A = ℕ} 0 1 = cc in omega arith))
+never-unsound = after-opening NeverUnsound (λ q tasks slots tag e os.
+    run-safe os 1 (opened q tasks slots tag) nobody (open-good q tasks slots tag) (open-safe q tasks slots tag e) .0)

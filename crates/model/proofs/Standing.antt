@@ -3,11 +3,7 @@ use mathlib.Core.Path.{_∙_, _≡_, refl}
 use mathlib.Core.Bool.{true}
 use mathlib.Core.List.{List, [], _∷_}
 use Prim.Native.Nat.{ℕ}
-use native.Mathlib.Omega.{arith}
-use lib.Dec.{eqb}
-use borrow.Author.Tests.{eqb-true}
 use Rattle.model.specs.declared.Entry.{Entry}
-use Rattle.model.specs.declared.Opening.the-variants.{Opened, Refused}
 use Rattle.model.specs.declared.Reported.the-variants as reported
 use Rattle.model.specs.Tables.{Queue}
 use Rattle.model.specs.Sound.{controlSound}
@@ -16,12 +12,12 @@ use Rattle.model.specs.Refusals.{openRefusal, recordsFit, reportRefusal}
 use Rattle.model.specs.Calls.{act, openQueue, opened}
 use Rattle.model.specs.Report.{busy, report, tell, told, waiting}
 use Rattle.model.specs.History.{AfterOpening, Reports, Request, final, ledger, run}
-use Rattle.model.proofs.tests.Truth.{split}
 use Rattle.model.proofs.laws.Sizes.{act-fits, fits, open-fits}
 use Rattle.model.proofs.ledger.Opened.{nobody, open-good}
 use Rattle.model.proofs.unsound.Never34.{run-safe}
 use Rattle.model.proofs.Linearizable.{linearized}
 use Rattle.model.proofs.NeverUnsound.{open-safe}
+use Rattle.model.proofs.Openings.{after-opening}
 
 -- Control and Anchor are sound, every table is long enough, and the walk meets the entries d.
 pub record Standing (q : Queue) (d : List Entry) : Type 0 where
@@ -46,10 +42,7 @@ module _ (q : Queue) (tasks slots tag : ℕ) where
   }
 
 pub standing : AfterOpening (λ q os. Standing (final q os) (ledger (run q os) .deque))
-unfolding openQueue
-standing q tasks slots tag e os = split (eqb (openRefusal q tasks slots) 0)
-    (λ z. rw z (stands q tasks slots tag (eqb-true _ _ z) os))
-    (λ z. absurd (let h : Refused (openRefusal q tasks slots) ≡ Opened = rw z at e in let w : _≡_ {A = ℕ} 0 1 = cc in omega arith))
+standing = after-opening (λ q os. Standing (final q os) (ledger (run q os) .deque)) stands
 
 -- No rule of the report applies.
 report-none : (q : Queue) (d : List Entry) → Standing q d → reportRefusal (q .tables) (recordsFit (q .tables .control .tasks) q) ≡ 0

@@ -13,3 +13,5 @@ pub mod OneTouch
 pub mod Mirror
 pub mod Solo
 pub mod Progress
+pub mod Neighbours
+pub mod LentSteps
