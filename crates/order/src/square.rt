@@ -47,7 +47,7 @@ pub fn closure(rules: &[u32], n: usize) -> [[u8; 32]; 32]
     while k < n {
         let via = square[k];
         let mut i = 0;
-        while i < 32 {
+        while i < n {
             let row = square[i];
             if row[k] != 0 {
                 let joined = join_row(via, row);

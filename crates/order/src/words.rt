@@ -28,13 +28,13 @@ fn mark(words: &mut [u32], rules: &[u32], n: usize)
 /// Each row that has place k marked gets that place's row.
 fn join(words: &mut [u32], n: usize)
     requires { ⌜ (32 ≤ length (now words)) × (n ≤ 32) ⌝ }
-    ensures { λ _. ⌜ now (words .exit) ≡ rounds bitRow 0 n (now (words .entry)) ⌝ }
+    ensures { λ _. ⌜ now (words .exit) ≡ rounds bitRow n 0 n (now (words .entry)) ⌝ }
 {
     let mut k = 0;
     while k < n {
         let via = words[k];
         let mut i = 0;
-        while i < 32 {
+        while i < n {
             if (words[i] >> k) % 2 == 1 {
                 words[i] = words[i] | via;
             }

@@ -111,10 +111,10 @@ unfolding wordsOf listOf bitsOf
 zeros = refl
 
 pub words-chained : (rules : List ℕ) (n : ℕ) (beyond : List ℕ) → n ≤ 32 → any (outside n) rules ≡ false
-    → rounds bitRow 0 n (rulesMarked bitRow rules (replicate 32 0 ++ beyond)) ≡ wordsOf (linked rules n) ++ beyond
+    → rounds bitRow n 0 n (rulesMarked bitRow rules (replicate 32 0 ++ beyond)) ≡ wordsOf (linked rules n) ++ beyond
 unfolding wordsOf
 words-chained rules n beyond k h =
-    ap (λ (l : List ℕ). rounds bitRow 0 n (rulesMarked bitRow rules (l ++ beyond))) zeros ∙ marks-chained bitRow bits bits-show beyond rules n k h
+    ap (λ (l : List ℕ). rounds bitRow n 0 n (rulesMarked bitRow rules (l ++ beyond))) zeros ∙ marks-chained bitRow bits bits-show beyond rules n k h
 
 -- A one shifted within a word.
 pub shl-one : (k : ℕ) → k < 32 → (1 * 2 ^ k) % 4294967296 ≡ 2 ^ k

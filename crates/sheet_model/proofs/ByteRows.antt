@@ -68,7 +68,7 @@ bytes-show = record {
 }
 
 pub square-chained : (rules : List ℕ) (n : ℕ) → n ≤ 32 → any (outside n) rules ≡ false
-    → rounds byteRow 0 n (rulesMarked byteRow rules (replicate 32 (replicate 32 0))) ≡ squareOf (linked rules n)
+    → rounds byteRow n 0 n (rulesMarked byteRow rules (replicate 32 (replicate 32 0))) ≡ squareOf (linked rules n)
 unfolding squareOf listOf
 square-chained rules n k h = marks-chained byteRow bytes bytes-show [] rules n k h
 

@@ -38,12 +38,18 @@ module _ {A : Type 0} where
   length-sweep z h i zero l = refl
   length-sweep z h i (suc n) l = length-sweep z h (i + 1) n (set l i (h i (getD l i z))) ∙ length-set l i (h i (getD l i z))
 
-  -- Elements before the sweep stay.
+  -- Elements before the sweep and beyond it stay.
   pub sweep-before : (z : A) (h : ℕ → A → A) (i n : ℕ) (l : List A) (j : ℕ) → j < i → getD (sweep z h i n l) j z ≡ getD l j z
   unfolding sweep
   sweep-before z h i zero l j g = refl
   sweep-before z h i (suc n) l j g =
       sweep-before z h (i + 1) n (set l i (h i (getD l i z))) j (omega arith) ∙ getD-set-other l i j (h i (getD l i z)) z (omega arith)
+
+  pub sweep-beyond : (z : A) (h : ℕ → A → A) (i n : ℕ) (l : List A) (j : ℕ) → i + n ≤ j → getD (sweep z h i n l) j z ≡ getD l j z
+  unfolding sweep
+  sweep-beyond z h i zero l j g = refl
+  sweep-beyond z h i (suc n) l j g =
+      sweep-beyond z h (i + 1) n (set l i (h i (getD l i z))) j (omega arith) ∙ getD-set-other l i j (h i (getD l i z)) z (omega arith)
 
   pub sweep-at : (z : A) (h : ℕ → A → A) (i n : ℕ) (l : List A) (j : ℕ) → i ≤ j → j < i + n → j < length l
       → getD (sweep z h i n l) j z ≡ h j (getD l j z)

@@ -6,14 +6,14 @@ use mathlib.Core.Path.{_≡_, refl, sym, ap, _∙_}
 use Prim.Native.Nat.{ℕ, zero, suc, _+_, _-_, _≤_, _<_}
 use native.Mathlib.Numerals.{add-one}
 use native.Mathlib.Omega.{arith}
-use lib.Dec.{eqb}
+use lib.Dec.{eqb, ltb}
 use lib.ListN.{length, getD, set, length-set, List·getD-append}
 use lib.Seq.{getD-set-same, getD-set-other, set-append-left}
-use borrow.Author.Tests.{eq-eqb, ne-eqb}
+use borrow.Author.Tests.{eq-eqb, ne-eqb, ltb-true, ltb-false}
 use Rattle.model.proofs.tests.Truth.{decide-eq}
 use Rattle.sheet_model.specs.Sheet.{before, after, any, outside, ruledBefore, through}
 use Rattle.sheet_model.specs.Squares.{Row, listOf, linked, sweep, joinVia, rounds, ruleMarked, rulesMarked}
-use Rattle.sheet_model.proofs.ListOf.{length-listOf, getD-listOf, as-listOf, ext-listOf, sweep-listOf, sweep-append}
+use Rattle.sheet_model.proofs.ListOf.{length-listOf, getD-listOf, as-listOf, ext-listOf, length-sweep, sweep-at, sweep-beyond, sweep-append}
 use Rattle.sheet_model.proofs.Turns.{or-false, inside}
 
 or-none : (a : Bool) → a || false ≡ a
@@ -23,6 +23,21 @@ or-none false = refl
 or-assoc : (a b c : Bool) → (a || b) || c ≡ a || (b || c)
 or-assoc true b c = refl
 or-assoc false b c = refl
+
+-- No chain begins beyond the list.
+not-ruled : (n : ℕ) (l : List ℕ) (a b : ℕ) → any (outside n) l ≡ false → n ≤ a → ruledBefore l (suc a) b ≡ false
+not-ruled n [] a b h g = refl
+not-ruled n (w ∷ l) a b h g =
+    let e = inside n 0 (w ∷ l) h (omega arith) in
+    let z : eqb (before w) (suc a) ≡ false = ne-eqb (before w) (suc a) (λ y. let f = e .first .1 in omega arith) in
+    ap (λ t. (t && eqb (after w) b) || ruledBefore l (suc a) b) z ∙ not-ruled n l a b (or-false (outside n w) (any (outside n) l) h .1) g
+
+not-linked : (n : ℕ) (rules : List ℕ) → any (outside n) rules ≡ false → (k a b : ℕ) → n ≤ a → linked rules k a b ≡ false
+unfolding through
+not-linked n rules h zero a b g = not-ruled n rules a (suc b) h g
+not-linked n rules h (suc k) a b g =
+    (λ i. not-linked n rules h k a b g i || (through rules k (suc a) (suc k) && through rules k (suc k) (suc b)))
+    ∙ ap (λ t. t && through rules k (suc k) (suc b)) (not-linked n rules h k a k g)
 
 -- A kind of row shows 32 marks.
 pub record Shows {A : Type 0} (r : Row A) (R : (ℕ → Bool) → A) : Type 0 where
@@ -55,24 +70,44 @@ module _ {A : Type 0} (r : Row A) (R : (ℕ → Bool) → A) (law : Shows r R) (
       go true = law .join (f a) (f k)
       go false = law .same (f a) (λ b. f a b || false) (λ b _. sym (or-none (f a b)))
 
-  round : (f : ℕ → ℕ → Bool) (k : ℕ) → k < 32
-      → sweep (r .bare) (joinVia r k (getD (marks f) k (r .bare))) 0 32 (marks f) ≡ marks (λ a b. f a b || (f a k && f k b))
-  round f k h =
-      ap (λ (v : A). sweep (r .bare) (joinVia r k v) 0 32 (marks f)) (row-at f k h)
-      ∙ sweep-append (r .bare) (joinVia r k (R (f k))) 0 32 (rowsOf f) beyond (omega (arith, length-listOf (λ a. R (f a)) 32))
+  -- Rows beyond the size have no marks.
+  abbrev Bare : ℕ → (ℕ → ℕ → Bool) → Type 0
+  Bare size f = (a b : ℕ) → size ≤ a → f a b ≡ false
+
+  round : (size : ℕ) (f : ℕ → ℕ → Bool) (k : ℕ) → size ≤ 32 → Bare size f → k < 32
+      → sweep (r .bare) (joinVia r k (getD (marks f) k (r .bare))) 0 size (marks f) ≡ marks (λ a b. f a b || (f a k && f k b))
+  round size f k few none h =
+      ap (λ (v : A). sweep (r .bare) (joinVia r k v) 0 size (marks f)) (row-at f k h)
+      ∙ sweep-append (r .bare) (joinVia r k (R (f k))) 0 size (rowsOf f) beyond (omega (arith, len))
       ∙ ap (λ (l : List A). l ++ beyond)
-      (sweep-listOf (r .bare) (joinVia r k (R (f k))) (λ a. R (f a)) 32
-      ∙ ext-listOf (λ a. joinVia r k (R (f k)) a (R (f a))) (λ a. R (λ b. f a b || (f a k && f k b))) 32 (λ a _. joined-row f k a h))
+      (as-listOf (r .bare) (sweep (r .bare) (joinVia r k (R (f k))) 0 size (rowsOf f)) (λ a. R (λ b. f a b || (f a k && f k b))) 32
+      (length-sweep (r .bare) (joinVia r k (R (f k))) 0 size (rowsOf f) ∙ len) (λ a g. go a g (ltb a size) refl))
+    where
+      len : length (rowsOf f) ≡ 32
+      len = length-listOf (λ a. R (f a)) 32
+
+      go : (a : ℕ) → a < 32 → (t : Bool) → ltb a size ≡ t
+          → getD (sweep (r .bare) (joinVia r k (R (f k))) 0 size (rowsOf f)) a (r .bare) ≡ R (λ b. f a b || (f a k && f k b))
+      go a g true e =
+          sweep-at (r .bare) (joinVia r k (R (f k))) 0 size (rowsOf f) a (omega arith) (let z = ltb-true a size e in omega arith) (omega (arith, len))
+          ∙ ap (joinVia r k (R (f k)) a) (getD-listOf (λ a. R (f a)) 32 a (r .bare) g)
+          ∙ joined-row f k a h
+      go a g false e =
+          sweep-beyond (r .bare) (joinVia r k (R (f k))) 0 size (rowsOf f) a (let z = ltb-false a size e in omega arith)
+          ∙ getD-listOf (λ a. R (f a)) 32 a (r .bare) g
+          ∙ law .same (f a) (λ b. f a b || (f a k && f k b))
+          (λ b _. sym (ap (λ t. f a b || (t && f k b)) (none a k (ltb-false a size e)) ∙ or-none (f a b)))
 
   -- All rounds.
-  all-rounds : (rules : List ℕ) (n k : ℕ) → k + n ≤ 32 → rounds r k n (marks (linked rules k)) ≡ marks (linked rules (k + n))
+  all-rounds : (size : ℕ) (rules : List ℕ) (n k : ℕ) → size ≤ 32 → ((j : ℕ) → Bare size (linked rules j)) → k + n ≤ 32
+      → rounds r size k n (marks (linked rules k)) ≡ marks (linked rules (k + n))
   unfolding rounds through
-  all-rounds rules zero k h = let e : k ≡ k + 0 = omega arith in ap (λ (m : ℕ). marks (linked rules m)) e
-  all-rounds rules (suc n) k h =
+  all-rounds size rules zero k few none h = let e : k ≡ k + 0 = omega arith in ap (λ (m : ℕ). marks (linked rules m)) e
+  all-rounds size rules (suc n) k few none h =
       let e : suc k + n ≡ k + suc n = omega arith in
-      ap (rounds r (k + 1) n) (round (linked rules k) k (omega arith))
-      ∙ ap (λ (m : ℕ). rounds r m n (marks (linked rules (suc k)))) (add-one k)
-      ∙ all-rounds rules n (suc k) (omega arith)
+      ap (rounds r size (k + 1) n) (round size (linked rules k) k few (none k) (omega arith))
+      ∙ ap (λ (m : ℕ). rounds r size m n (marks (linked rules (suc k)))) (add-one k)
+      ∙ all-rounds size rules n (suc k) few none (omega arith)
       ∙ ap (λ (m : ℕ). marks (linked rules m)) e
 
   -- The rules themselves.
@@ -142,10 +177,10 @@ module _ {A : Type 0} (r : Row A) (R : (ℕ → Bool) → A) (law : Shows r R) (
       (λ a b. or-assoc (f a b) (eqb (before w) (suc a) && eqb (after w) (suc b)) (ruledBefore l (suc a) (suc b)))
 
   pub marks-chained : (rules : List ℕ) (n : ℕ) → n ≤ 32 → any (outside n) rules ≡ false
-      → rounds r 0 n (rulesMarked r rules (marks (λ a b. false))) ≡ marks (linked rules n)
+      → rounds r n 0 n (rulesMarked r rules (marks (λ a b. false))) ≡ marks (linked rules n)
   unfolding through
   marks-chained rules n k h =
       let e : 0 + n ≡ n = omega arith in
-      ap (rounds r 0 n) (all-marked n rules (λ a b. false) k h)
-      ∙ all-rounds rules n 0 (omega arith)
+      ap (rounds r n 0 n) (all-marked n rules (λ a b. false) k h)
+      ∙ all-rounds n rules n 0 k (λ j a b g. not-linked n rules h j a b g) (omega arith)
       ∙ ap (λ (m : ℕ). marks (linked rules m)) e

@@ -125,14 +125,14 @@ module _ (n i : ℕ) where
   unfolding sweep
   sweep-end z h l g = ap (λ (k : ℕ). sweep z h i k l) (none-left n i g)
 
-  pub rounds-on : {A : Type 0} (r : Row A) (m : List A) → i < n
-      → rounds r i (n - i) m ≡ rounds r (i + 1) (n - (i + 1)) (sweep (r .bare) (joinVia r i (getD m i (r .bare))) 0 32 m)
+  pub rounds-on : {A : Type 0} (r : Row A) (size : ℕ) (m : List A) → i < n
+      → rounds r size i (n - i) m ≡ rounds r size (i + 1) (n - (i + 1)) (sweep (r .bare) (joinVia r i (getD m i (r .bare))) 0 size m)
   unfolding rounds
-  rounds-on r m g = ap (λ (k : ℕ). rounds r i k m) (left n i g)
+  rounds-on r size m g = ap (λ (k : ℕ). rounds r size i k m) (left n i g)
 
-  pub rounds-end : {A : Type 0} (r : Row A) (m : List A) → n ≤ i → rounds r i (n - i) m ≡ m
+  pub rounds-end : {A : Type 0} (r : Row A) (size : ℕ) (m : List A) → n ≤ i → rounds r size i (n - i) m ≡ m
   unfolding rounds
-  rounds-end r m g = ap (λ (k : ℕ). rounds r i k m) (none-left n i g)
+  rounds-end r size m g = ap (λ (k : ℕ). rounds r size i k m) (none-left n i g)
 
   pub row-here : (p : ℕ → ℕ → Bool) (a : ℕ) (o : SheetReply) → i < n → p a (i + 1) ≡ true → brokenBy a (i + 1) ≡ inRow p a (i + 1) (n - i) o
   unfolding inRow

@@ -67,13 +67,13 @@ module _ {A : Type 0} (r : Row A) where
   rulesMarked [] m = m
   rulesMarked (w ∷ l) m = rulesMarked l (ruleMarked w m)
 
-  -- Round k: each row that has place k + 1 marked gets that place's row.
+  -- Round k: each of the first size rows that has place k + 1 marked gets that place's row.
   abbrev pub joinVia : ℕ → A → ℕ → A → A
   joinVia k via i row = cond (r .has row k) (r .join via row) row
 
-  unfoldable pub rounds : ℕ → ℕ → List A → List A
-  rounds k zero m = m
-  rounds k (suc n) m = rounds (k + 1) n (sweep (r .bare) (joinVia k (getD m k (r .bare))) 0 32 m)
+  unfoldable pub rounds : ℕ → ℕ → ℕ → List A → List A
+  rounds size k zero m = m
+  rounds size k (suc n) m = rounds size (k + 1) n (sweep (r .bare) (joinVia k (getD m k (r .bare))) 0 size m)
 
   -- A pair marked in the square, with the second's lowest position at or below the first's highest; places from 1.
   abbrev pub crossed : List A → List ℕ → List ℕ → ℕ → ℕ → Bool

@@ -26,7 +26,7 @@ returns c =
     let l = p12 .before .before .args .rules .now in
     let n = p12 .before .before .args .n in
     c .before .before .join .ensures
-    ∙ ap (rounds bitRow 0 n) (p4 .before .before .mark .ensures
+    ∙ ap (rounds bitRow n 0 n) (p4 .before .before .mark .ensures
     ∙ ap (rulesMarked bitRow l) (p8 .before .before .zero-labels .ensures ∙ zeroed-all w (p12 .before .before .pre .0)))
     ∙ words-chained l n (drop 32 w) (p12 .before .before .pre .1) (p12 .before .before .pre .2)
 
