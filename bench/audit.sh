@@ -1,7 +1,7 @@
 #!/bin/bash
 # The library's audit of a history against the same audit by hand in C.
 #
-#     bench/audit.sh [FOLDER]       of libaudit.a; default: target/staticlib, where `rt staticlib audit` writes it
+#     bench/audit.sh [FOLDER]       of libzeppolecape.a; default: target/lib, where `make` writes it
 #     bench/audit.sh --stand-in     audit_reference.c in the library's place: all ratios should be 1
 #
 # CC (gcc), OPT (-O3), TIMES (300) may be set.
@@ -17,14 +17,14 @@ WARNINGS="-std=gnu11 -Wall -Wextra -Werror"
 work=$(mktemp -d)
 trap 'rm -rf "$work"' EXIT
 
-folder=${1:-../target/staticlib}
+folder=${1:-../target/lib}
 if [ "$folder" = --stand-in ]; then
     $CC $WARNINGS $OPT -DAS_LIBRARY -I../include -c audit_reference.c -o "$work/library.o"
     library=$work/library.o
 else
     [ $# -eq 0 ] || folder=$(cd "$OLDPWD" && realpath "$folder")
-    library=$folder/libaudit.a
-    [ -f "$library" ] || { echo "bench: no archive $library; build it with: rt staticlib audit" >&2; exit 2; }
+    library=$folder/libzeppolecape.a
+    [ -f "$library" ] || { echo "bench: no $library; build it with: make" >&2; exit 2; }
 fi
 $CC $WARNINGS $OPT -I../include audit.c audit_reference.c "$library" -o "$work/audit"
 "$work/audit" check 100000

@@ -437,3 +437,45 @@ zc_report_reply CALL(report)(const zc_control *control, const zc_record *records
     reply.taken = marked_slots(marks, control->slots);
     return reply;
 }
+
+/* Each row compared with every label asked for. */
+zc_find_reply CALL(find)(const zc_control *control, const uint32_t *asked, size_t asked_count,
+                         TABLES(const uint64_t, const uint32_t, const uint64_t))
+{
+    static const zc_find_reply nothing;
+    zc_find_reply reply = nothing;
+    (void)marks;
+    if (!control_sound(control))
+        reply.code = ZC_UNSOUND;
+    else if (asked_count > ZC_MOST_ASKED)
+        reply.code = ZC_MANY_ASKED;
+    else if (!rows_fit(control->slots, left_count, right_count, label_count, mark_count))
+        reply.code = ZC_SHORT;
+    if (reply.code != 0 || zc_anchor_right(control->anchor) == 0)
+        return reply;
+    int from_left = zc_anchor_status(control->anchor) == ZC_LPUSH;
+    const uint64_t *links = from_left ? rights : lefts;
+    uint64_t left = zc_anchor_left(control->anchor), right = zc_anchor_right(control->anchor);
+    uint64_t slot = from_left ? left : right, last = from_left ? right : left;
+    for (;;) {
+        uint32_t label = labels[slot];
+        reply.rows++;
+        for (size_t at = 0; at < asked_count; at++)
+            if (asked[at] == label && (!from_left || reply.positions[at] == 0))
+                reply.positions[at] = reply.rows;
+        if (slot == last)
+            break;
+        uint64_t link = links[slot];
+        if (reply.rows == control->slots || !link_sound(link, control->slots) ||
+            zc_link_slot(link) == 0) {
+            reply = nothing;
+            reply.code = ZC_UNSOUND;
+            return reply;
+        }
+        slot = zc_link_slot(link);
+    }
+    for (size_t at = 0; !from_left && at < asked_count; at++)
+        if (reply.positions[at] != 0)
+            reply.positions[at] = reply.rows + 1 - reply.positions[at];
+    return reply;
+}

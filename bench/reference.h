@@ -33,5 +33,7 @@ zc_run_reply zc_run(zc_control *control, zc_record *records, size_t record_count
 zc_report_reply CALL(report)(const zc_control *control, const zc_record *records,
                              size_t record_count,
                              TABLES(const uint64_t, const uint32_t, const uint64_t));
+zc_find_reply CALL(find)(const zc_control *control, const uint32_t *asked, size_t asked_count,
+                         TABLES(const uint64_t, const uint32_t, const uint64_t));
 
 #endif

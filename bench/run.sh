@@ -1,6 +1,6 @@
 #!/bin/bash
-# The library's step against the same step by hand in C, and against the bare algorithm; the report
-# against the same report by hand in C.
+# The library's step against the same step by hand in C, and against the bare algorithm; the calls
+# that walk the queue against the same calls by hand in C.
 #
 #     bench/run.sh [FOLDER]         of libzeppolecape.a; default: target/lib, where `make` writes it
 #     bench/run.sh --stand-in       reference.c in the library's place: all ratios should be 1
@@ -96,7 +96,7 @@ echo "The calls that walk the queue, 1,023 slots; nanoseconds and instructions a
 echo
 echo "| call | labels waiting | ns: library | C | library/C | instructions: library | C |"
 echo "|---|---|---|---|---|---|---|"
-for call in report; do
+for call in report find; do
     for labels in 3 64 1023; do
         "$work/walks" check $labels
         "$work/walks" time $call $labels 500 >"$work/times"

@@ -5,12 +5,12 @@
  *     walks time CALL LABELS TIMES   nanoseconds a call, best of TIMES, interleaved: library, C
  *     walks count CALL ENGINE LABELS a thousand calls, for a program that counts instructions
  *
- * CALL is report. ENGINE is library or reference. The queue has 1,023 slots and 16 tasks; the labels
+ * CALL is report, or find: 32 labels, of which half wait. ENGINE is library or reference. The queue has 1,023 slots and 16 tasks; the labels
  * wait in slots drawn at random, so that the next row is seldom near.
  */
 #include "reference.h"
 
-#include <inttypes.h>
+#include <stdbool.h>
 #include <stdio.h>
 #include <stdlib.h>
 #include <string.h>
@@ -21,7 +21,7 @@ enum { SLOTS = ZC_MOST_SLOTS, TASKS = ZC_MOST_TASKS, CALLS = 1000 };
 static zc_control control;
 static zc_record records[TASKS];
 static uint64_t lefts[ZC_ROWS(SLOTS)], rights[ZC_ROWS(SLOTS)], marks[ZC_MARK_WORDS(SLOTS)];
-static uint32_t labels[ZC_ROWS(SLOTS)];
+static uint32_t labels[ZC_ROWS(SLOTS)], asked[ZC_MOST_ASKED];
 
 #define LENT                                                                                       \
     lefts, ZC_ROWS(SLOTS), rights, ZC_ROWS(SLOTS), labels, ZC_ROWS(SLOTS), marks,                  \
@@ -55,20 +55,29 @@ static void line_up(uint64_t count)
     }
     if (count > 0)
         control.anchor = order[0] << 15 | order[count - 1];
+    for (size_t at = 0; at < ZC_MOST_ASKED; at++)
+        asked[at] = at % 2 && count > 0 ? labels[order[draw(count)]] : (uint32_t)draw(UINT64_MAX);
 }
 
+static bool finding;
 static uint64_t sum;
 
 __attribute__((noinline)) static void replay_library(void)
 {
     for (int call = 0; call < CALLS; call++)
-        sum += zc_report(&control, records, TASKS, LENT).waiting;
+        if (finding)
+            sum += zc_find(&control, asked, ZC_MOST_ASKED, LENT).rows;
+        else
+            sum += zc_report(&control, records, TASKS, LENT).waiting;
 }
 
 __attribute__((noinline)) static void replay_reference(void)
 {
     for (int call = 0; call < CALLS; call++)
-        sum += reference_report(&control, records, TASKS, LENT).waiting;
+        if (finding)
+            sum += reference_find(&control, asked, ZC_MOST_ASKED, LENT).rows;
+        else
+            sum += reference_report(&control, records, TASKS, LENT).waiting;
 }
 
 static double best(void (*replay)(void), double so_far)
@@ -85,7 +94,9 @@ static int check(void)
 {
     zc_report_reply ours = zc_report(&control, records, TASKS, LENT);
     zc_report_reply theirs = reference_report(&control, records, TASKS, LENT);
-    if (memcmp(&ours, &theirs, sizeof ours) == 0)
+    zc_find_reply found = zc_find(&control, asked, ZC_MOST_ASKED, LENT);
+    zc_find_reply expected = reference_find(&control, asked, ZC_MOST_ASKED, LENT);
+    if (memcmp(&ours, &theirs, sizeof ours) == 0 && memcmp(&found, &expected, sizeof found) == 0)
         return 0;
     fprintf(stderr, "walks: the library and C answer differently\n");
     return 1;
@@ -98,6 +109,7 @@ int main(int count, char **words)
     line_up(strtoull(words[count - (strcmp(words[1], "time") == 0 ? 2 : 1)], NULL, 10));
     if (strcmp(words[1], "check") == 0)
         return check();
+    finding = strcmp(words[2], "find") == 0;
     if (strcmp(words[1], "time") == 0) {
         double library = 1e18, reference = 1e18;
         for (int times = atoi(words[4]); times > 0; times--) {

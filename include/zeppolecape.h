@@ -16,7 +16,7 @@
  *     cc -Iinclude main.c target/lib/libzeppolecape.a
  *
  * The library is for x86-64. It calls nothing but memset, from zc_open, zc_audit_words and the order
- * sheets, and memcpy, from the order sheets.
+ * sheets, and memcpy, from zc_find and the order sheets.
  *
  * In short:
  *
@@ -63,7 +63,7 @@
  *   zc_run            192      1298      3024      3024
  *   zc_report         112       227       503     27343
  *   table bytes         -       192       664     21792
- *   code bytes: audit 1804, capi 5987, capi_record 2702, capi_run 3057, sheet 3579
+ *   code bytes: audit 1804, capi 5987, capi_record 2702, capi_run 3057, find 3506, sheet 3579
  * As to the machine: x86-64, System V calling convention. The code uses the red zone (128 bytes
  * below the stack pointer) and SSE registers, no AVX: an interrupt handler that makes a call saves
  * the SSE state first, and an interrupt that is not masked during a call leaves the red zone alone.
@@ -105,6 +105,7 @@ extern "C" {
 #define ZC_MOST_TASKS 16
 #define ZC_MOST_SLOTS 1023
 #define ZC_LAST_START_TAG UINT64_C(4294967262) /* with a higher tag a start is refused 33 */
+#define ZC_MOST_ASKED 32
 #define ZC_MOST_RETRIES UINT64_C(4294967295)   /* where the count of retries stays */
 
 /*
@@ -152,6 +153,7 @@ extern "C" {
 #define ZC_NO_TASK 13 /* tasks are 0 to tasks - 1 */
 #define ZC_NO_SIDE 14
 #define ZC_NO_SLOT 15 /* slots are 1 to slots; 0 is null */
+#define ZC_MANY_ASKED 45 /* more than 32 labels asked for */
 
 /* Refusals because of the state. */
 #define ZC_BUSY 30  /* step the task to its answer first */
@@ -234,6 +236,14 @@ typedef struct zc_report_reply {
     uint64_t retries;
 } zc_report_reply;
 
+/* Where labels wait. With a refusal every field but code is 0. */
+typedef struct zc_find_reply {
+    uint64_t code; /* 0, or the number of a refusal */
+    uint64_t rows; /* rows read: the labels in the queue */
+    /* Of each label asked for, in their order: from 1 at the left; 0 not waiting, or not asked for. */
+    uint64_t positions[ZC_MOST_ASKED];
+} zc_find_reply;
+
 #ifdef __cplusplus
 #define ZC_LAYOUT(fact) static_assert(fact, #fact)
 #else
@@ -260,6 +270,9 @@ ZC_LAYOUT(offsetof(zc_report_reply, status) == 16 && offsetof(zc_report_reply, l
 ZC_LAYOUT(offsetof(zc_report_reply, right) == 32 && offsetof(zc_report_reply, busy) == 40);
 ZC_LAYOUT(offsetof(zc_report_reply, waiting) == 48 && offsetof(zc_report_reply, taken) == 56);
 ZC_LAYOUT(offsetof(zc_report_reply, retries) == 64);
+ZC_LAYOUT(sizeof(zc_find_reply) == 272);
+ZC_LAYOUT(offsetof(zc_find_reply, code) == 0 && offsetof(zc_find_reply, rows) == 8);
+ZC_LAYOUT(offsetof(zc_find_reply, positions) == 16);
 
 /* ---- The calls ---------------------------------------------------------------------------
  * The tables always come last and in this order, each a pointer and its count of elements:
@@ -345,6 +358,17 @@ zc_report_reply zc_report(const zc_control *control, const zc_record *records, s
                           size_t right_count, const uint32_t *labels, size_t label_count,
                           const uint64_t *marks, size_t mark_count);
 
+/*
+ * Finds up to 32 labels in the queue, equal ones among them, in one walk that reads each waiting
+ * slot's row once. Of equal labels in the queue the leftmost counts. Writes nothing, and looks at no
+ * records.
+ * Answers code 0, or refuses: 34 for control, 45, 12 (rows and marks only), 34 for the walk.
+ */
+zc_find_reply zc_find(const zc_control *control, const uint32_t *asked, size_t asked_count,
+                      const uint64_t *lefts, size_t left_count, const uint64_t *rights,
+                      size_t right_count, const uint32_t *labels, size_t label_count,
+                      const uint64_t *marks, size_t mark_count);
+
 /* ---- An answer taken apart --------------------------------------------------------------- */
 
 /* Whether a code, of whichever call, is the number of a refusal. */
@@ -383,6 +407,7 @@ static inline const char *zc_refusal_text(uint64_t number)
     case ZC_NO_TASK: return "no such task";
     case ZC_NO_SIDE: return "side not 0 or 1";
     case ZC_NO_SLOT: return "slot not 1 to slots";
+    case ZC_MANY_ASKED: return "more than 32 labels asked for";
     case ZC_BUSY: return "the task is busy";
     case ZC_IDLE: return "the task is idle";
     case ZC_TAKEN: return "the slot is taken";
@@ -491,6 +516,12 @@ static inline zc_run_reply zc_queue_run(const zc_queue *queue, size_t task, uint
 {
     return zc_run(queue->control, queue->records, queue->record_count, task, most,
                   ZC_TABLES(queue));
+}
+
+static inline zc_find_reply zc_queue_find(const zc_queue *queue, const uint32_t *asked,
+                                          size_t asked_count)
+{
+    return zc_find(queue->control, asked, asked_count, ZC_TABLES(queue));
 }
 #endif
 

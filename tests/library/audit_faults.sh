@@ -109,13 +109,14 @@ print(len(lines) // 3)
 END
 ) || { echo "0 passed, 1 failed"; exit 1; }
 
-# The calls of the queue, and an archive for the audit that hands on to a shared object.
-gcc -std=c11 -O2 -DAS_LIBRARY -Iinclude -c bench/reference.c -o "$work/reference.o" &&
-    ar rcs "$work/library/libcapi.a" "$work/reference.o" && ar rcs "$work/library/libcapi_record.a" &&
-    gcc -std=gnu11 -O2 -Iinclude -c tests/library/audit_forward.c -o "$work/forward.o" &&
-    ar rcs "$work/library/libaudit.a" "$work/forward.o" &&
-    ZC_FOLDER="$work/library" cargo build --quiet --release --offline \
-        --manifest-path tests/library/differential/Cargo.toml --target-dir "$work/cargo" || exit 2
+# The other calls by hand, and the audit handed on to a shared object.
+for other in reference sheet; do
+    gcc -std=c11 -O2 -DAS_LIBRARY -Iinclude -c bench/$other.c -o "$work/$other.o" || exit 2
+done
+gcc -std=gnu11 -O2 -Iinclude -c tests/library/audit_forward.c -o "$work/forward.o" &&
+    ar rcs "$work/library/libzeppolecape.a" "$work"/{reference,sheet,forward}.o &&
+    ZEPPOLECAPE_LIB_DIR=$work/library cargo build --quiet --offline --locked --profile checked -p library-differential \
+        --target-dir "$work/cargo" || exit 2
 
 caught=0
 missed=0
@@ -123,7 +124,7 @@ for number in $(seq 0 $((count - 1))); do
     name=$(cat "$work/$number.name")
     gcc -shared -fPIC -std=c11 -O2 -w -DAS_LIBRARY -Iinclude "$work/$number.c" -o "$work/fault.so" || exit 2
     verdict=caught
-    ZC_OBJECT=$work/fault.so timeout 100 "$work/cargo/release/differential" 1 1 audit >/dev/null 2>&1 && verdict=MISSED
+    ZC_OBJECT=$work/fault.so timeout 100 "$work/cargo/checked/library-differential" 1 1 audit >/dev/null 2>&1 && verdict=MISSED
     if [ "$number" -eq 0 ]; then # the audit as it is, which must pass
         [ $verdict = MISSED ] || { echo "the tests fail without any fault"; missed=1; }
     elif [ $verdict = caught ]; then

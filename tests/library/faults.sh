@@ -194,6 +194,13 @@ the walk tests no spare bits|!link_sound(link, control->slots)|zc_link_slot(link
 the walk goes on from slot 0|\|\| zc_link_slot(link) == 0)|)|1
 the walk one slot short|count < control->slots|count + 1 < control->slots|1
 the walk looks at the other end's link|return slot == last ? count : 0;|return slot == last \&\& link_sound(links[slot], control->slots) ? count : 0;|1
+the rightmost of equal labels found|(!from_left \|\| reply.positions[at] == 0)|(from_left \|\| reply.positions[at] == 0)|1
+labels found counted from the right|!from_left \&\& at < asked_count|from_left \&\& at < asked_count|1
+the finding walk under LPUSH as under RPUSH|int from_left = zc_anchor_status(control->anchor) == ZC_LPUSH;|int from_left = 0;|2
+33 labels found|asked_count > ZC_MOST_ASKED|asked_count > ZC_MOST_ASKED + 1|1
+the finding walk one slot short|reply.rows == control->slots|reply.rows + 1 == control->slots|1
+what was noted on a broken walk told|reply = nothing;
+            reply.code = ZC_UNSOUND;|reply.code = ZC_UNSOUND;|1
 busy counts records beyond the tasks|task < control->tasks; task++|task < record_count; task++|1
 busy looks at more of a record|records[task].place != 0;|records[task].place != 0 \&\& records[task].kind <= 1;|1
 another task's record looked at by a start|if (!record_sound(record, control->slots))|if (!record_sound(record, control->slots) \|\| !record_sound(records, control->slots))|2

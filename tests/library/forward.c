@@ -21,6 +21,7 @@ static __typeof__(zc_step) *step_call;
 static __typeof__(zc_step_record) *step_record_call;
 static __typeof__(zc_run) *run_call;
 static __typeof__(zc_report) *report_call;
+static __typeof__(zc_find) *find_call;
 
 __attribute__((constructor)) static void load(void)
 {
@@ -37,6 +38,7 @@ __attribute__((constructor)) static void load(void)
     *(void **)&step_record_call = dlsym(object, "zc_step_record");
     *(void **)&run_call = dlsym(object, "zc_run");
     *(void **)&report_call = dlsym(object, "zc_report");
+    *(void **)&find_call = dlsym(object, "zc_find");
 }
 
 uint32_t zc_open(zc_control *control, zc_record *records, size_t record_count, uint64_t tasks,
@@ -80,4 +82,10 @@ zc_report_reply zc_report(const zc_control *control, const zc_record *records, s
                           TABLES(const uint64_t, const uint32_t, const uint64_t))
 {
     return report_call(control, records, record_count, LENT);
+}
+
+zc_find_reply zc_find(const zc_control *control, const uint32_t *asked, size_t asked_count,
+                      TABLES(const uint64_t, const uint32_t, const uint64_t))
+{
+    return find_call(control, asked, asked_count, LENT);
 }

@@ -173,6 +173,23 @@ static void report(void)
           ZC_SHORT);
 }
 
+/* Slots 66 and 67 wait, with the labels 700 and whatever task 1 pushed. */
+static void find(void)
+{
+    unsigned char bytes[272];
+    uint32_t asked[ZC_MOST_ASKED + 1] = {labels[67], 700, 1};
+    zc_find_reply reply = zc_find((zc_control *)control, asked, 3, TABLES);
+    memcpy(bytes, &reply, sizeof reply);
+    equal("find: code", word(bytes, 0), 0);
+    equal("find: rows", word(bytes, 8), 2);
+    equal("find: the first asked for", word(bytes, 16), 2);
+    equal("find: the second", word(bytes, 24), 1);
+    for (size_t offset = 32; offset < sizeof bytes; offset += 8)
+        equal("find: not waiting, or not asked for", word(bytes, offset), 0);
+    equal("find: refused", zc_find((zc_control *)control, asked, ZC_MOST_ASKED + 1, TABLES).code,
+          ZC_MANY_ASKED);
+}
+
 static void pop(void)
 {
     unsigned char bytes[16];
@@ -195,6 +212,7 @@ int main(void)
     opening();
     push();
     report();
+    find();
     pop();
     printf("%u passed, %u failed\n", passed, failed);
     return failed != 0;

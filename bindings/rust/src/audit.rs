@@ -51,9 +51,8 @@ pub fn audit(calls: &[Finished], order: &[u64]) -> Result<Verdict, Refusal> {
 /// The same on words, seven a call in the order of [`Finished`]; a rest of fewer is no call.
 pub fn audit_words(words: &[u64], order: &[u64]) -> Result<Verdict, Refusal> {
     // SAFETY: slices are non-null, aligned and as long as the counts that go with them.
-    let verdict = unsafe {
-        raw::zc_audit_words(words.as_ptr(), words.len(), order.as_ptr(), order.len())
-    };
+    let verdict =
+        unsafe { raw::zc_audit_words(words.as_ptr(), words.len(), order.as_ptr(), order.len()) };
     match (verdict.code, verdict.position) {
         (0, _) => Ok(Verdict::Passes),
         (1, 0) => Ok(Verdict::NoRearrangement),

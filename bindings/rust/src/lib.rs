@@ -27,6 +27,7 @@
 extern crate alloc;
 
 mod audit;
+mod find;
 mod numbers;
 mod queue;
 pub mod raw;
@@ -36,6 +37,7 @@ mod tables;
 mod tests;
 
 pub use audit::{audit, audit_words, Finished, Verdict, MOST_CALLS};
+pub use find::Found;
 pub use numbers::*;
 pub use queue::Queue;
 pub use raw::{Control, Record};

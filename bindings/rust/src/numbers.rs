@@ -7,6 +7,8 @@ use core::fmt;
 pub const MOST_TASKS: u64 = 16;
 /// The most slots of a queue.
 pub const MOST_SLOTS: u64 = 1_023;
+/// Labels that [`Queue::find`](crate::Queue::find) takes.
+pub const MOST_ASKED: usize = 32;
 /// With a higher Anchor tag a start is refused [`Refusal::Worn`].
 pub const LAST_START_TAG: u64 = 4_294_967_262;
 /// Where the count of retries stays.
@@ -106,6 +108,7 @@ refusals! {
     Worn = 33, "the Anchor tag is too high for another start", "(see [`Queue::renew`](crate::Queue::renew))";
     Unsound = 34, "the tables are unsound", "(somebody else wrote there)";
     BadHistory = 40, "not a history that can be judged", "(of [`audit`](crate::audit()) alone)";
+    ManyAsked = 45, "more than 32 labels asked for", "(of [`Queue::find`](crate::Queue::find) alone)";
     BadSheet = 46, "the sheet is malformed", "(of [`Queue::sheet`](crate::Queue::sheet) alone)";
 }
 

@@ -117,6 +117,18 @@ pub struct ReportReply {
     pub retries: u64,
 }
 
+/// Where labels wait. With a refusal every field but code is 0.
+#[repr(C)]
+#[derive(Clone, Copy, Debug, Default, PartialEq, Eq)]
+pub struct FindReply {
+    /// 0, or the number of a refusal.
+    pub code: u64,
+    /// Rows read: the labels in the queue.
+    pub rows: u64,
+    /// Of each label asked for, from 1 at the left; 0 not waiting, or not asked for.
+    pub positions: [u64; crate::MOST_ASKED],
+}
+
 /// What an audit answers.
 #[repr(C)]
 #[derive(Clone, Copy, Debug, Default, PartialEq, Eq)]
@@ -248,6 +260,22 @@ unsafe extern "C" {
         mark_count: usize,
     ) -> ReportReply;
 
+    /// Finds up to 32 labels in the queue; of equal ones the leftmost counts.
+    /// Refuses: 34 for control, 45, 12 (rows and marks only), 34 for the walk.
+    pub fn zc_find(
+        control: *const Control,
+        asked: *const u32,
+        asked_count: usize,
+        lefts: *const u64,
+        left_count: usize,
+        rights: *const u64,
+        right_count: usize,
+        labels: *const u32,
+        label_count: usize,
+        marks: *const u64,
+        mark_count: usize,
+    ) -> FindReply;
+
     /// The same step on one lent record, which need not lie among the others.
     /// Refuses: 34 for control, 12 (rows and marks only), 34 for the record, 31, 34 for what the step
     /// touches.
@@ -335,6 +363,8 @@ const _: () = {
     assert!(offset_of!(ReportReply, right) == 32 && offset_of!(ReportReply, busy) == 40);
     assert!(offset_of!(ReportReply, waiting) == 48 && offset_of!(ReportReply, taken) == 56);
     assert!(offset_of!(ReportReply, retries) == 64);
+    assert!(size_of::<FindReply>() == 272 && align_of::<FindReply>() == 8);
+    assert!(offset_of!(FindReply, rows) == 8 && offset_of!(FindReply, positions) == 16);
     assert!(size_of::<SheetReply>() == 24 && align_of::<SheetReply>() == 8);
     assert!(offset_of!(SheetReply, code) == 0 && offset_of!(SheetReply, first) == 8);
     assert!(offset_of!(SheetReply, second) == 16);

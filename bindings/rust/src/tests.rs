@@ -3,6 +3,7 @@
 use crate::Answer::*;
 use crate::*;
 use alloc::string::ToString;
+use alloc::vec;
 use alloc::vec::Vec;
 
 /// Steps a task until it answers; the number of steps and the answer.
@@ -127,6 +128,22 @@ fn renewed_with_a_pop_half_done() {
 }
 
 #[test]
+fn find_counts_from_the_left() {
+    let mut queue = Queue::open(1, 5, 0).unwrap();
+    for (side, slot, label) in
+        [(Side::Right, 2, 7), (Side::Right, 3, 8), (Side::Left, 1, 7), (Side::Right, 5, 9)]
+    {
+        queue.push(0, side, slot, label).unwrap();
+        queue.finish(0).unwrap();
+    }
+    let found = queue.find(&[9, 7, 1, 8, 7]).unwrap();
+    let positions = vec![Some(4), Some(1), None, Some(3), Some(1)];
+    assert_eq!(found, Found { rows: 4, positions });
+    assert_eq!(queue.find(&[]).unwrap(), Found { rows: 4, positions: vec![] });
+    assert_eq!(queue.find(&[0; 33]), Err(Refusal::ManyAsked));
+}
+
+#[test]
 fn report_tells_every_field() {
     let mut queue = Queue::open(3, 70, 6).unwrap();
     queue.push(0, Side::Right, 65, 1).unwrap();
@@ -168,7 +185,7 @@ fn lent_tables_and_a_lent_record() {
 #[test]
 fn refusals_have_their_numbers() {
     let known: Vec<u64> = (0..100).filter(|&n| Refusal::numbered(n).is_some()).collect();
-    assert_eq!(known, [10, 11, 12, 13, 14, 15, 30, 31, 32, 33, 34, 40, 46]);
+    assert_eq!(known, [10, 11, 12, 13, 14, 15, 30, 31, 32, 33, 34, 40, 45, 46]);
     assert_eq!(Refusal::Worn.to_string(), "33: the Anchor tag is too high for another start");
 }
 
@@ -198,8 +215,7 @@ fn runs_to_its_answer() {
 fn calls() -> [Finished; 3] {
     let push = Finished { task: 0, kind: 0, side: 1, label: 700, answer: 2, start: 1, end: 3 };
     let left = Finished { kind: 1, side: 0, label: 0, answer: 3, start: 4, end: 11, ..push };
-    let right =
-        Finished { task: 1, kind: 1, side: 1, label: 700, answer: 4, start: 5, end: 10 };
+    let right = Finished { task: 1, kind: 1, side: 1, label: 700, answer: 4, start: 5, end: 10 };
     [push, left, right]
 }
 

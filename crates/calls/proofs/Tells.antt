@@ -12,24 +12,16 @@ use Rattle.model.specs.declared.Reported.{Reported}
 use Rattle.model.specs.declared.Reported.the-variants as reported
 use Rattle.model.specs.Tables.{Tables, Queue, recordAt}
 use Rattle.model.specs.Sound.{controlSound, rowsFit}
-use Rattle.model.specs.Walk.{Walk, entries, broken, contents, isBroken, met}
+use Rattle.model.specs.Walk.{contents, isBroken}
 use Rattle.model.specs.Refusals.{rule, first, reportRules, reportRefusal}
 use Rattle.model.specs.Report.{busy, count, report, tell, told, waiting}
 use Rattle.model.proofs.tests.Rules.{cleared}
 use Rattle.walk.specs.declared.Tally.the-variants.{Broken, Labels}
 use Rattle.walk.specs.Counted.{counted}
+use Rattle.walk.proofs.Counting.{none-counted, all-counted}
 use Rattle.calls.specs.Rules.{tellingRefusal}
 use Rattle.calls.specs.Telling.{countable}
 use Rattle.calls.proofs.Rules.{both}
-
--- What the count of a walk says of it.
-none-counted : (w : Walk) → Broken ≡ counted w → isBroken w ≡ true
-none-counted (entries l) e = absurd (let z : _≡_ {A = ℕ} 0 1 = cc in omega arith)
-none-counted broken e = refl
-
-all-counted : (w : Walk) (n : ℕ) → Labels n ≡ counted w → (isBroken w ≡ false) × (n ≡ length (met w))
-all-counted (entries l) n e = (refl, cc)
-all-counted broken n e = absurd (let z : _≡_ {A = ℕ} 0 1 = cc in omega arith)
 
 none-applies : (a b : Bool) → tellingRefusal a b ≡ 0 → (a ≡ true) × (b ≡ true)
 unfolding tellingRefusal

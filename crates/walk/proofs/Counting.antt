@@ -12,7 +12,7 @@ use Rattle.word.specs.Link.{linkOf}
 use Rattle.model.specs.declared.Entry.{Entry}
 use Rattle.model.specs.Tables.{Tables, isEmpty}
 use Rattle.model.specs.Sound.{from1, linkSound}
-use Rattle.model.specs.Walk.{Walk, along, andThen, broken, contents, entries, walkFrom}
+use Rattle.model.specs.Walk.{Walk, along, andThen, broken, contents, entries, isBroken, met, walkFrom}
 use Rattle.walk.specs.declared.Tally.{Tally}
 use Rattle.walk.specs.declared.Tally.the-variants.{Broken, Labels}
 use Rattle.walk.specs.Counted.{andCounted, counted}
@@ -25,6 +25,15 @@ none-yet broken = refl
 one-more : (n : ℕ) (e : Entry) (w : Walk) → andCounted n (andThen e w) ≡ andCounted (n + 1) w
 one-more n e (entries l) = ap Labels (omega arith)
 one-more n e broken = refl
+
+-- What the count of a walk says of it.
+pub none-counted : (w : Walk) → Broken ≡ counted w → isBroken w ≡ true
+none-counted (entries l) e = absurd (let z : _≡_ {A = ℕ} 0 1 = cc in omega arith)
+none-counted broken e = refl
+
+pub all-counted : (w : Walk) (n : ℕ) → Labels n ≡ counted w → (isBroken w ≡ false) × (n ≡ length (met w))
+all-counted (entries l) n e = (refl, cc)
+all-counted broken n e = absurd (let z : _≡_ {A = ℕ} 0 1 = cc in omega arith)
 
 -- A walk that is turned meets as many.
 either-way : (side : ℕ) (w : Walk) → counted (walkFrom side w) ≡ counted w

@@ -1,7 +1,7 @@
 //! An independent implementation of documents 01 and 02, written from the papers alone.
 //!
 //! The machine: `word` (packed words), `tables` (what is lent), `refusal` (the
-//! ordered tests), `places` (what a step does), `machine` (the outside calls).
+//! ordered tests), `places` (what a step does), `machine` and `find` (the outside calls).
 //! The program: `runfile` (fields in), `run` (events), `trace` (lines out).
 //! Over the tables: `sheet` (document 02, #111 and #112).
 //! The judge: `clerk` (a sequential deque), `contents` (labels waiting),
@@ -16,6 +16,7 @@ pub mod contents;
 pub mod coverage;
 pub mod damage;
 pub mod dice;
+pub mod find;
 pub mod invariant;
 pub mod machine;
 pub mod malformed;

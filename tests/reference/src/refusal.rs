@@ -20,6 +20,7 @@ pub enum Refusal {
     Taken = 32,
     WornTag = 33,
     Unsound = 34,
+    ManyAsked = 45,
 }
 
 impl Refusal {

@@ -60,7 +60,8 @@ returns : tie.Need-returns Inv-loop μ-loop
 returns c labels =
     let l = c .before .before .before in
     let a = l .before .before .args in
-    sym (out (a .slots) (a .links .now) labels (a .last) (l .loop .n) (l .loop .x) (sym (c .before .from1 .ensures) ∙ not-true _ (c .if1 .taken))) ∙ l .loop .inv .1 labels
+    let unreal = sym (c .before .from1 .ensures) ∙ not-true _ (c .if1 .taken) in
+    sym (out (a .slots) (a .links .now) labels (a .last) (l .loop .n) (l .loop .x) unreal) ∙ l .loop .inv .1 labels
 
 returns-2 : tie.Need-returns-2 Inv-loop μ-loop
 returns-2 c labels =
@@ -72,7 +73,8 @@ returns-3 : tie.Need-returns-3 Inv-loop μ-loop
 returns-3 c labels =
     let i = c .before .before .before in
     let d = i .before in
-    let e = astray (slots d) (links d) labels (last d) (n d) (x d) (turn d .loop-test .taken) (real d) (ne-eqb _ _ (i .if2 .left)) (sym (judged (c .before)) ∙ not-true _ (c .if3 .taken)) in
+    let unsound = sym (judged (c .before)) ∙ not-true _ (c .if3 .taken) in
+    let e = astray (slots d) (links d) labels (last d) (n d) (x d) (turn d .loop-test .taken) (real d) (ne-eqb _ _ (i .if2 .left)) unsound in
     sym e ∙ turn d .before .loop .inv .1 labels
 
 loop-again : tie.Need-loop-again Inv-loop μ-loop

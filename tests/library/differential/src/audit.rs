@@ -4,10 +4,10 @@
 use crate::audit_histories::{damage, noise, of_a_run, overlapping, Damage, History};
 use crate::audit_histories::{FAILING, NO_REARRANGEMENT, OPEN, PASSING, REFUSED};
 use crate::tally::Tally;
-use zeppolecape::Refusal;
 use reference::audit::{audit, Finished, Verdict};
 use reference::dice::Dice;
 use std::collections::BTreeMap;
+use zeppolecape::Refusal;
 
 /// The library's verdict; `rest` more words than whole calls are lent.
 fn by_library(history: &History, rest: usize) -> Verdict {

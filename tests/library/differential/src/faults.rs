@@ -16,6 +16,7 @@ pub enum Group {
     Tasks,
     Slots,
     Control,
+    Many,
     Short,
     Task,
     Side,
@@ -34,6 +35,7 @@ impl Group {
         match self {
             Group::Tasks => 10,
             Group::Slots => 11,
+            Group::Many => 45,
             Group::Short => 12,
             Group::Task => 13,
             Group::Side => 14,
@@ -50,14 +52,15 @@ impl Group {
         use Export::*;
         let exports: &[Export] = match self {
             Group::Tasks | Group::Slots => &[Open],
-            Group::Control => &[Push, Pop, Step, Run, StepRecord, Report],
-            Group::Short => &[Open, Push, Pop, Step, Run, StepRecord, Report],
+            Group::Control => &[Push, Pop, Step, Run, StepRecord, Report, Find],
+            Group::Many => &[Find],
+            Group::Short => &[Open, Push, Pop, Step, Run, StepRecord, Report, Find],
             Group::Task => &[Push, Pop, Step, Run],
             Group::Side | Group::Busy | Group::Worn => &[Push, Pop],
             Group::Slot | Group::Taken => &[Push],
             Group::Record => &[Push, Pop, Step, Run, StepRecord],
             Group::Idle | Group::Touch => &[Step, Run, StepRecord],
-            Group::Walk => &[Report],
+            Group::Walk => &[Report, Find],
         };
         exports.contains(&export)
     }
@@ -75,9 +78,10 @@ pub struct Fault {
 }
 
 impl Fault {
-    /// 12 looks at no records where one is lent alone.
+    /// 12 looks at no records where one is lent alone, or none.
     pub fn of(&self, export: Export) -> bool {
-        self.group.of(export) && !(export == Export::StepRecord && self.name == "short records")
+        let without = matches!(export, Export::StepRecord | Export::Find);
+        self.group.of(export) && !(without && self.name == "short records")
     }
 }
 
@@ -289,7 +293,11 @@ pub const FAULTS: &[Fault] = &[
         let status = d.between(RPUSH, LPUSH);
         anchor(s, |a| (a.status, a.left, a.right) = (status, 0, 0));
     }),
-    // ---- 12.
+    // ---- 45, 12.
+    fault(Group::Many, "33 labels asked for", |s, _| match &mut s.call {
+        Call::Find { count, .. } => *count = 33,
+        _ => unreachable!(),
+    }),
     fault(Group::Short, "short records", |s, d| {
         let (tasks, _, _) = needed(s);
         cut(d, &mut s.world.records.count, &mut s.world.records.null, tasks);

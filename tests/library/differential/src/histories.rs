@@ -1,13 +1,14 @@
 //! Histories: an opening, then starts and steps of all tasks in any order, refused ones among them.
 //! Every line of document 01's route must be taken, on both sides.
 
+use crate::line::{any_question, common_label};
 use crate::tally::Tally;
 use crate::world::{by_library, Call, Export, Lent, Told, World};
-use zeppolecape::{POP_STEPS, PUSH_STEPS};
 use reference::dice::Dice;
 use reference::tables::{Control, Record, POP, PUSH};
 use reference::word::{Anchor, RPUSH};
 use std::collections::BTreeSet;
+use zeppolecape::{POP_STEPS, PUSH_STEPS};
 
 /// A step taken: kind, place, side as the place sees it, finishing; then code and next place.
 type Line = (u64, u64, u64, u64, u32, u64);
@@ -92,10 +93,11 @@ fn next_call(dice: &mut Dice, world: &World) -> Call {
     match start {
         true if dice.percent(55) => {
             let slot = if strange { dice.between(0, slots + 1) } else { dice.between(1, slots) };
-            Call::Push { task, side, slot, label: dice.throw() as u32 }
+            Call::Push { task, side, slot, label: common_label(dice) }
         }
         true => Call::Pop { task, side },
         false if dice.percent(2) => Call::Report,
+        false if dice.percent(2) => any_question(dice),
         false if dice.percent(4) => Call::Run { task, most: dice.between(0, 20) },
         false if dice.percent(50) && task < tasks as usize => Call::StepRow { task },
         false => Call::Step { task },

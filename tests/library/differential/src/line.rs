@@ -1,6 +1,7 @@
 //! A queue in the tables: the slots that the walk of the labels waiting meets, and damage on its way.
 
 use crate::sound::{sound_link, wild_word, Scene};
+use crate::world::Call;
 use reference::dice::Dice;
 use reference::word::{Anchor, LPUSH, STABLE};
 
@@ -25,6 +26,11 @@ pub fn line_up(scene: &mut Scene, dice: &mut Dice, least: u64) -> Vec<u64> {
             scene.world.rights.held[row] = wild_word(dice, slots);
         }
     }
+    for row in 0..=slots as usize {
+        if dice.percent(70) {
+            scene.world.labels.held[row] = common_label(dice);
+        }
+    }
     for pair in order.windows(2) {
         let tag = sound_link(dice, slots) >> 32;
         *link(scene, pair[0]) = tag << 32 | pair[1];
@@ -45,6 +51,23 @@ fn some_slots(dice: &mut Dice, slots: u64, least: u64) -> Vec<u64> {
     }
     order.truncate(count as usize);
     order
+}
+
+/// A label that others are like: equal ones are common, and so are those that differ by a multiple
+/// of 1,024.
+pub fn common_label(dice: &mut Dice) -> u32 {
+    let high = if dice.percent(80) { 0 } else { dice.between(0, 0x3f_ffff) as u32 };
+    high << 10 | dice.pick(&[0, 1, 5, 63, 64, 1_023])
+}
+
+/// Up to 32 labels asked for.
+pub fn any_question(dice: &mut Dice) -> Call {
+    let asked = std::array::from_fn(|_| match dice.percent(80) {
+        true => common_label(dice),
+        false => dice.throw() as u32,
+    });
+    let count = if dice.percent(20) { 32 } else { dice.between(0, 32) as usize };
+    Call::Find { asked, count }
 }
 
 /// The link word that the walk follows from a slot.

@@ -9,7 +9,7 @@ use reference::dice::Dice;
 use reference::tables::{POP, PUSH};
 use zeppolecape::MOST_RETRIES;
 
-const EXPORTS: [Export; 7] = [
+const EXPORTS: [Export; 8] = [
     Export::Open,
     Export::Push,
     Export::Pop,
@@ -17,6 +17,7 @@ const EXPORTS: [Export; 7] = [
     Export::Run,
     Export::StepRecord,
     Export::Report,
+    Export::Find,
 ];
 
 fn wanted(export: Export, place: Option<u64>, kind: Option<u64>) -> Wanted {
@@ -28,6 +29,7 @@ fn wanted(export: Export, place: Option<u64>, kind: Option<u64>) -> Wanted {
         Export::Run => Wanted::Run(place, kind),
         Export::StepRecord => Wanted::StepRecord(place, kind),
         Export::Report => Wanted::Report,
+        Export::Find => Wanted::Find,
     }
 }
 

@@ -1,6 +1,6 @@
 //! Scenes: sound tables with a call that is accepted on them, though no history led there.
 
-use crate::line::line_up;
+use crate::line::{any_question, line_up};
 use crate::world::{Call, Lent, World};
 use reference::dice::Dice;
 use reference::tables::{Control, Record, POP, PUSH};
@@ -29,13 +29,16 @@ pub enum Wanted {
     Run(Option<u64>, Option<u64>),
     StepRecord(Option<u64>, Option<u64>),
     Report,
+    Find,
 }
 
 impl Scene {
     /// The record that the call is about.
     pub fn record(&mut self) -> &mut Record {
         match self.call {
-            Call::StepRecord | Call::Open { .. } | Call::Report => &mut self.world.one,
+            Call::StepRecord | Call::Open { .. } | Call::Report | Call::Find { .. } => {
+                &mut self.world.one
+            }
             Call::Push { task, .. }
             | Call::Pop { task, .. }
             | Call::Step { task }
@@ -71,9 +74,10 @@ impl Scene {
             Wanted::StepRecord(..) if dice.percent(50) => Call::StepRow { task },
             Wanted::StepRecord(..) => Call::StepRecord,
             Wanted::Report => Call::Report,
+            Wanted::Find => any_question(dice),
         };
         let mut scene = Scene { world, call, slots, tasks };
-        if wanted == Wanted::Report {
+        if let Wanted::Report | Wanted::Find = wanted {
             line_up(&mut scene, dice, 0);
         }
         if let Wanted::Step(place, kind)

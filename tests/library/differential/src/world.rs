@@ -1,5 +1,6 @@
 //! Lent tables, the calls on them, and both implementations behind one face.
 
+use reference::find::{Found, MOST_ASKED};
 use reference::machine::{Answer, Moved};
 use reference::refusal::Refusal;
 use reference::tables::{Control, Record, Shared, Tables};
@@ -75,6 +76,11 @@ pub enum Call {
         task: usize,
     },
     Report,
+    /// The first `count` labels are asked for.
+    Find {
+        asked: [u32; MOST_ASKED + 1],
+        count: usize,
+    },
 }
 
 /// The exported calls.
@@ -87,6 +93,7 @@ pub enum Export {
     Run,
     StepRecord,
     Report,
+    Find,
 }
 
 impl Call {
@@ -99,16 +106,19 @@ impl Call {
             Call::Run { .. } => Export::Run,
             Call::StepRecord | Call::StepRow { .. } => Export::StepRecord,
             Call::Report => Export::Report,
+            Call::Find { .. } => Export::Find,
         }
     }
 }
 
-/// An answer in numbers: code, label, value; a run's, and its steps; the report's nine fields.
+/// An answer in numbers: code, label, value; a run's, and its steps; the report's nine fields; code,
+/// rows and positions.
 #[derive(Clone, Copy, Debug, PartialEq)]
 pub enum Told {
     Reply(u32, u32, u64),
     Run(u32, u32, u64, u64),
     Report([u64; 9]),
+    Find(u64, u64, [u64; MOST_ASKED]),
 }
 
 impl Told {
@@ -116,6 +126,7 @@ impl Told {
         match self {
             Told::Reply(code, ..) | Told::Run(code, ..) => *code,
             Told::Report(fields) => fields[0] as u32,
+            Told::Find(code, ..) => *code as u32,
         }
     }
 }
@@ -179,8 +190,25 @@ pub fn by_library(world: &mut World, call: Call) -> Told {
                 told.retries,
             ]);
         }
+        Call::Find { asked, count } => {
+            let found = library!(world.zc_find(control, asked.as_ptr(), count));
+            return Told::Find(found.code, found.rows, found.positions);
+        }
     };
     Told::Reply(reply.code, reply.label, reply.value)
+}
+
+fn found(answer: Result<Found, Refusal>) -> Told {
+    let mut positions = [0; MOST_ASKED];
+    match answer {
+        Ok(found) => {
+            for (to, at) in positions.iter_mut().zip(&found.positions) {
+                *to = at.unwrap_or(0);
+            }
+            Told::Find(0, found.rows, positions)
+        }
+        Err(refusal) => Told::Find(u64::from(refusal.number()), 0, positions),
+    }
 }
 
 fn refused(refusal: Refusal) -> Told {
@@ -217,6 +245,9 @@ pub fn by_reference(world: &mut World, call: Call) -> Told {
         };
         return moved(shared.step_lent(one));
     }
+    if let Call::Find { asked, count } = call {
+        return found(shared.find(&asked[..count]));
+    }
     let mut tables = Tables { shared, records: world.records.slice() };
     match call {
         Call::Open { tasks, slots, tag } => {
@@ -232,7 +263,7 @@ pub fn by_reference(world: &mut World, call: Call) -> Told {
             let Told::Reply(code, label, value) = moved(answer) else { unreachable!() };
             Told::Run(code, label, value, steps)
         }
-        Call::StepRecord | Call::StepRow { .. } => unreachable!(),
+        Call::StepRecord | Call::StepRow { .. } | Call::Find { .. } => unreachable!(),
         Call::Report => Told::Report(match tables.report() {
             Ok(told) => [
                 0,
