@@ -1,7 +1,7 @@
 #!/bin/bash
 # Do the tests fail when they should? Each line below plants one fault in a copy of
 # bench/reference.c, and the differential test must notice it; what else does is told beside.
-# (audit_faults.sh has those of the audit.)
+# (part_faults.sh has those of the audit and of the order sheets.)
 #
 #     tests/library/faults.sh [FIRST [LAST]]    lines to try, all of them by default
 set -u -o pipefail

@@ -3,7 +3,7 @@
 //! contents, histories from an opening, and order sheets. Then audits of histories.
 //!
 //!     differential [SEED] [TIMES]       all of it
-//!     differential SEED TIMES audit     audits alone
+//!     differential SEED TIMES PART      audit or sheet alone
 
 mod audit;
 mod audit_histories;
@@ -27,13 +27,18 @@ fn main() -> ExitCode {
         |otherwise: u64| arguments.next().map_or(otherwise, |text| text.parse().expect("a number"));
     let seed = number(1);
     let times = number(1) as u32;
-    let audits_alone = arguments.next().is_some_and(|part| part == "audit");
+    let part = arguments.next().unwrap_or_default();
     let (mut tally, mut dice) = (Tally::default(), Dice::new(seed));
-    if !audits_alone {
+    if part.is_empty() {
         calls(&mut tally, &mut dice, times);
+    }
+    if part != "audit" {
+        sheets::sheets(&mut tally, &mut dice, 100_000 * times);
         println!("seed {seed}: {} calls compared", tally.calls);
     }
-    audit::audits(&mut tally, &mut dice, 4_000 * times);
+    if part != "sheet" {
+        audit::audits(&mut tally, &mut dice, 4_000 * times);
+    }
     println!("{} passed, {} failed", tally.passed, tally.failed);
     if tally.failed == 0 {
         ExitCode::SUCCESS
@@ -49,7 +54,6 @@ fn calls(tally: &mut Tally, dice: &mut Dice, times: u32) {
     plant::failures(tally, dice, 60 * times);
     noise::noise(tally, dice, 200_000 * times);
     histories::histories(tally, dice, 150 * times, 10_000);
-    sheets::sheets(tally, dice, 100_000 * times);
     tally.check_reached();
     tally.check(tally.mismatches == 0, &format!("{} calls differed", tally.mismatches));
 }

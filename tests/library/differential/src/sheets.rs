@@ -98,16 +98,26 @@ fn spoil(dice: &mut Dice, case: &mut Case) {
     let tables = &mut case.tables;
     let slots = tables.control.slots as usize;
     let row = dice.between(0, slots as u64) as usize;
-    match dice.between(0, 9) {
+    match dice.between(0, 11) {
         0 => tables.control.tasks = dice.between(0, 18),
-        1 => tables.control.slots = dice.between(0, 1_030),
+        1 => {
+            let any = dice.between(0, 1_030);
+            tables.control.slots = dice.pick(&[0, 1_024, any]);
+        }
         2 => tables.control.anchor = dice.throw(),
         3 => tables.control.anchor ^= 1 << dice.between(0, 31),
         4 => tables.lefts.truncate(row),
         5 => tables.marks.clear(),
         6 => tables.labels.truncate(row),
-        7 => tables.lefts[row] = dice.between(0, slots as u64 + 1),
-        8 => tables.rights[row] ^= 1 << dice.between(0, 31),
+        7 => tables.rights.truncate(row),
+        8 => tables.lefts[row] = dice.between(0, slots as u64 + 1),
+        9 => {
+            // The walk meets slot 0, whose links lead on.
+            (tables.lefts[row], tables.rights[row]) = (0, 0);
+            tables.lefts[0] = dice.between(1, slots as u64);
+            tables.rights[0] = dice.between(1, slots as u64);
+        }
+        10 => tables.rights[row] ^= 1 << dice.between(0, 31),
         _ => tables.lefts[row] ^= 1 << dice.between(0, 31),
     }
 }
@@ -184,7 +194,9 @@ pub fn sheets(tally: &mut Tally, dice: &mut Dice, times: u32) {
             differ += 1;
             if differ <= 5 {
                 println!("MISMATCH sheet {:?} {:x?}", case.listed, case.rules);
-                println!("    {ours:?}, expected {expected:?}; {with_words:?}, expected {printed:?}");
+                println!(
+                    "    {ours:?}, expected {expected:?}; {with_words:?}, expected {printed:?}"
+                );
             }
         }
     }

@@ -1,0 +1,51 @@
+/*
+ * The calls of the audit and of the order sheets handed on to a shared object, named by ZC_OBJECT;
+ * part_faults.sh alone uses it.
+ */
+#include "zeppolecape.h"
+
+#include <dlfcn.h>
+#include <stdio.h>
+#include <stdlib.h>
+
+#define TABLES                                                                                     \
+    const uint64_t *lefts, size_t left_count, const uint64_t *rights, size_t right_count,          \
+        const uint32_t *labels, size_t label_count, const uint64_t *marks, size_t mark_count
+#define LENT lefts, left_count, rights, right_count, labels, label_count, marks, mark_count
+
+static __typeof__(zc_audit_words) *audit_call;
+static __typeof__(zc_sheet) *sheet_call;
+static __typeof__(zc_sheet_words) *sheet_words_call;
+
+__attribute__((constructor)) static void load(void)
+{
+    const char *name = getenv("ZC_OBJECT");
+    void *object = name == NULL ? NULL : dlopen(name, RTLD_NOW | RTLD_LOCAL);
+    if (object == NULL) {
+        fprintf(stderr, "ZC_OBJECT: %s\n", name == NULL ? "not set" : dlerror());
+        exit(2);
+    }
+    *(void **)&audit_call = dlsym(object, "zc_audit_words");
+    *(void **)&sheet_call = dlsym(object, "zc_sheet");
+    *(void **)&sheet_words_call = dlsym(object, "zc_sheet_words");
+}
+
+zc_verdict zc_audit_words(const uint64_t *words, size_t word_count, const uint64_t *order,
+                          size_t order_count)
+{
+    return audit_call(words, word_count, order, order_count);
+}
+
+zc_sheet_reply zc_sheet(const zc_control *control, const uint32_t *listed, size_t listed_count,
+                        const uint32_t *rules, size_t rule_count, TABLES)
+{
+    return sheet_call(control, listed, listed_count, rules, rule_count, LENT);
+}
+
+zc_sheet_reply zc_sheet_words(const zc_control *control, const uint32_t *listed,
+                              size_t listed_count, const uint32_t *rules, size_t rule_count,
+                              uint32_t *words, size_t word_count, TABLES)
+{
+    return sheet_words_call(control, listed, listed_count, rules, rule_count, words, word_count,
+                            LENT);
+}
