@@ -1,10 +1,12 @@
 -- Demand 3: after any accepted opening, on any tables, every list of starts and steps is linearized.
+use mathlib.Core.Bool.{Bool}
 use mathlib.Core.List.{List}
 use mathlib.Core.Path.{_∙_, _≡_, ap}
 use Prim.Native.Nat.{ℕ}
 use native.Mathlib.Omega.{arith}
 use lib.Dec.{eqb}
-use Rattle.model.specs.Calls.{openQueue, opened}
+use borrow.Author.Tests.{eqb-true}
+use Rattle.model.specs.Calls.{openAs, opened}
 use Rattle.model.specs.History.{Linearizable, Linearized, Request, final, ledger, run}
 use Rattle.model.specs.Refusals.{openRefusal}
 use Rattle.model.specs.Report.{entries}
@@ -14,15 +16,15 @@ use Rattle.model.proofs.tests.Truth.{split}
 use Rattle.model.proofs.bridge.View.{stateOf}
 use Rattle.model.proofs.ledger.Kept.{run-good}
 use Rattle.model.proofs.ledger.Lawful.{all-lawful}
-use Rattle.model.proofs.ledger.Opened.{nobody, open-good}
+use Rattle.model.proofs.ledger.Opened.{nobody, open-good, some-slots}
 use Rattle.model.proofs.ledger.Waiting.{waits}
 
-module _ (q : Queue) (tasks slots tag : ℕ) where
-  linearized : (os : List Request) → Linearized (opened q tasks slots tag) os
+module _ (pooled : Bool) (q : Queue) (tasks slots tag : ℕ) where
+  linearized : openRefusal pooled q tasks slots ≡ 0 → (os : List Request) → Linearized (opened pooled q tasks slots tag) os
   unfolding stateOf
-  linearized os =
-      let o = opened q tasks slots tag in
-      let g = run-good os 1 o nobody (open-good q tasks slots tag) in
+  linearized e os =
+      let o = opened pooled q tasks slots tag in
+      let g = run-good os 1 o nobody (open-good pooled q tasks slots tag (some-slots pooled q tasks slots e)) in
       let l = ledger (run o os) in
       record {
         calls = all-lawful (g .0) (final o os) l (g .1) (l .calls) (g .1 .tracks);
@@ -30,7 +32,7 @@ module _ (q : Queue) (tasks slots tag : ℕ) where
       }
 
 pub linearizable : Linearizable
-unfolding openQueue
-linearizable q tasks slots tag e os = split (eqb (openRefusal q tasks slots) 0)
-    (λ z. rw z (linearized q tasks slots tag os))
-    (λ z. absurd (let h : Refused (openRefusal q tasks slots) ≡ Opened = rw z at e in let w : _≡_ {A = ℕ} 0 1 = cc in omega arith))
+unfolding openAs
+linearizable pooled q tasks slots tag e os = split (eqb (openRefusal pooled q tasks slots) 0)
+    (λ z. rw z (linearized pooled q tasks slots tag (eqb-true _ _ z) os))
+    (λ z. absurd (let h : Refused (openRefusal pooled q tasks slots) ≡ Opened = rw z at e in let w : _≡_ {A = ℕ} 0 1 = cc in omega arith))

@@ -7,13 +7,13 @@ use Prim.Native.Nat.{ℕ, _+_, _*_, _<_, _≤_}
 use lib.Dec.{eqb}
 use lib.ListN.{replicate}
 use Rattle.model.specs.declared.Answer.{Answer}
-use Rattle.model.specs.declared.Answer.the-variants.{Running, Pushed, Empty, Popped}
+use Rattle.model.specs.declared.Answer.the-variants.{Running, Pushed, Empty, Popped, NoSlot}
 use Rattle.model.specs.declared.Outcome.{Outcome}
 use Rattle.model.specs.declared.Outcome.the-variants.{Refused, Moved}
 use Rattle.model.specs.declared.Op.{Op}
-use Rattle.model.specs.declared.Op.the-variants.{Push, Pop, Step}
+use Rattle.model.specs.declared.Op.the-variants.{Push, Pop, Put, Step}
 use Rattle.model.specs.Tables.{Queue, recordAt}
-use Rattle.model.specs.History.{Request, Event, run, final, isEffect, AfterOpening}
+use Rattle.model.specs.History.{Request, Event, run, final, isEffect, AfterOpeningAs}
 
 -- An answer other than running: the call is answered.
 abbrev pub isFinal : Answer → Bool
@@ -21,6 +21,7 @@ isFinal (Running p) = false
 isFinal Pushed = true
 isFinal Empty = true
 isFinal (Popped e) = true
+isFinal NoSlot = true
 
 abbrev pub answersWith : Outcome → Bool
 answersWith (Refused why) = false
@@ -34,6 +35,7 @@ answers e = answersWith (e .outcome)
 abbrev pub tellsBy : Event → Op → Outcome → Bool
 tellsBy e (Push side slot label) o = false
 tellsBy e (Pop side) o = false
+tellsBy e (Put side label) o = false
 tellsBy e Step (Refused why) = false
 tellsBy e Step (Moved a) = isEffect e a || isFinal a
 
@@ -49,6 +51,7 @@ any test (e ∷ es) = test e || any test es
 abbrev pub stepping : Op → Outcome → ℕ
 stepping (Push side slot label) o = 0
 stepping (Pop side) o = 0
+stepping (Put side label) o = 0
 stepping Step (Refused why) = 0
 stepping Step (Moved a) = 1
 
@@ -85,7 +88,7 @@ abbrev pub StretchTells : Queue → List Request → Type 0
 StretchTells q os = (stretch : List Request) → stretchLimit (q .tables .control .tasks) ≤ steps (run (final q os) stretch) → any tells (run (final q os) stretch) ≡ true
 
 abbrev pub SoloBound : Type 0
-SoloBound = AfterOpening SoloWithin
+SoloBound = AfterOpeningAs false SoloWithin
 
 abbrev pub StretchBound : Type 0
-StretchBound = AfterOpening StretchTells
+StretchBound = AfterOpeningAs false StretchTells

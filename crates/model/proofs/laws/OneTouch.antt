@@ -1,4 +1,5 @@
 -- A step changes one shared word at the most, the retry count among them: a failed change is counted and changes nothing else.
+-- The one exception is 14 done, which sets the head, the slot's label and its mark.
 use mathlib.Core.Path.{_≡_, refl}
 use mathlib.Core.Bool.{Bool, true, false, cond}
 use Prim.Native.Nat.{ℕ}
@@ -9,13 +10,13 @@ use Rattle.model.specs.declared.Control.{Control}
 use Rattle.model.specs.declared.Record.{Record}
 use Rattle.model.specs.declared.Op.{Op}
 use Rattle.model.specs.declared.Op.the-variants.{Step}
-use Rattle.model.specs.Tables.{Tables, Queue, idle, recordAt}
-use Rattle.model.specs.Places.{Touch, nothing, setAnchor, setLink, clearMark, Move, linkMet, at1, at2, at3, at4, at5, at6, at7, at9, at10, at11, move, apply}
+use Rattle.model.specs.Tables.{Tables, Queue, isPooled, idle, recordAt}
+use Rattle.model.specs.Places.{Touch, nothing, setAnchor, setLink, clearMark, takeSlot, setNext, setHead, Move, linkMet, at1, at2, at3, at4, at5, at6, at7, at9, at10, at11, at12, at13, at14, at15, at16, at17, move, apply}
 use Rattle.model.specs.Sound.{isPush}
 use Rattle.model.specs.Route.{counted}
 use Rattle.model.specs.Refusals.{Lent, among, alone, stepRefusal}
 use Rattle.model.specs.Calls.{Acted, finish, step, actOn, act, stepLent}
-use Rattle.model.specs.OneTouch.{OneTouch, untouched, anchor, retries, left, right, mark}
+use Rattle.model.specs.OneTouch.{OneTouch, untouched, anchor, retries, left, right, mark, next, head, drawn}
 use Rattle.model.proofs.laws.Tests.{either}
 
 -- A move touches nothing, or its change has not failed.
@@ -60,9 +61,33 @@ module _ (c : Control) (r : Record) (w : ℕ) where
   unfolding at10
   single10 = either Single (eqb (c .anchor) (r .seen)) (touches refl) (counts refl)
 
-  single11 : Single (at11 r)
+  single11 : Single (at11 c r w)
   unfolding at11
-  single11 = touches refl
+  single11 = either Single (isPooled c) (touches refl) (touches refl)
+
+  single12 : Single (at12 c r)
+  unfolding at12
+  single12 = touches refl
+
+  single13 : Single (at13 r w)
+  unfolding at13
+  single13 = touches refl
+
+  single14 : Single (at14 c r)
+  unfolding at14
+  single14 = either Single (eqb (c .head) (r .link)) (touches refl) (counts refl)
+
+  single15 : Single (at15 c r)
+  unfolding at15
+  single15 = touches refl
+
+  single16 : Single (at16 r)
+  unfolding at16
+  single16 = touches refl
+
+  single17 : Single (at17 c r)
+  unfolding at17
+  single17 = either Single (eqb (c .head) (r .link)) (touches refl) (counts refl)
 
   single : Single (move c r w)
   unfolding move
@@ -77,17 +102,26 @@ module _ (c : Control) (r : Record) (w : ℕ) where
       (either Single (eqb (r .place) 8) single6
       (either Single (eqb (r .place) 9) single9
       (either Single (eqb (r .place) 10) single10
-      single11)))))))))
+      (either Single (eqb (r .place) 11) single11
+      (either Single (eqb (r .place) 12) single12
+      (either Single (eqb (r .place) 13) single13
+      (either Single (eqb (r .place) 14) single14
+      (either Single (eqb (r .place) 15) single15
+      (either Single (eqb (r .place) 16) single16
+      single17)))))))))))))))
 
 applied : (t : Touch) (q : Tables) → OneTouch q (apply t q)
 applied nothing q = untouched
 applied (setAnchor w) q = anchor w
 applied (setLink side x w) q = go (eqb side 1)
   where
-    go : (b : Bool) → OneTouch q (record { control = q .control; lefts = cond b (q .lefts) (set (q .lefts) x w); rights = cond b (set (q .rights) x w) (q .rights); labels = q .labels; marks = q .marks })
+    go : (b : Bool) → OneTouch q (record { control = q .control; lefts = cond b (q .lefts) (set (q .lefts) x w); rights = cond b (set (q .rights) x w) (q .rights); labels = q .labels; marks = q .marks; next = q .next })
     go true = right x w
     go false = left x w
 applied (clearMark x) q = mark _ _
+applied (takeSlot w x l) q = drawn w x l
+applied (setNext x v) q = next x v
+applied (setHead w) q = head w
 
 finished : (q : Tables) (r : Record) (m : Move) → Single m → OneTouch q (finish q r m .tables)
 unfolding finish counted

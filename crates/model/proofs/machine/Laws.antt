@@ -6,7 +6,7 @@ use Prim.Native.Nat.{_<_, suc, ℕ}
 use native.Mathlib.Omega.{arith}
 use borrow.Author.Tests.{eq-eqb, eqb-true, ne-eqb}
 use Rattle.model.proofs.tests.Truth.{and-true}
-use Rattle.model.proofs.machine.Machine.{Anchor, Link, Status, aimed, code, pushing, relink, same, sameLink, stable, tip, towards, upd}
+use Rattle.model.proofs.machine.Machine.{Anchor, Link, Status, aimed, both, code, pushing, relink, same, sameLink, stable, tip, towards, upd}
 
 pub upd-same : {A : Type 0} (f : ℕ → A) (x : ℕ) (v : A) → upd f x v x ≡ v
 unfolding upd
@@ -71,6 +71,10 @@ same-refl a = rw (eq-eqb (a .tag) (a .tag) refl, eq-eqb (code (a .status)) (code
 pub sameLink-refl : (a : Link) → sameLink a a ≡ true
 unfolding sameLink
 sameLink-refl a = rw (eq-eqb (a .tag) (a .tag) refl, eq-eqb (a .slot) (a .slot) refl)
+
+pub both-tip : (a : Anchor) (x : ℕ) (d : Bool) → tip (both a x) d ≡ x
+both-tip a x false = refl
+both-tip a x true = refl
 
 pub aimed-near : (a : Anchor) (d : Bool) (x : ℕ) (st : Status) → tip (aimed a d x st) d ≡ x
 aimed-near a false x st = refl
