@@ -1,8 +1,8 @@
 -- No call changes the length of a table.
-use mathlib.Core.Path.{_≡_, ap, refl}
+use mathlib.Core.Path.{_≡_, refl}
 use mathlib.Core.Bool.{Bool, true, false, _||_, not, cond}
 use mathlib.Core.List.{List}
-use Prim.Native.Nat.{ℕ, zero, suc, _+_, _/_, _≤_}
+use Prim.Native.Nat.{ℕ, _+_, _/_, _≤_}
 use native.Mathlib.Omega.{arith}
 use lib.Dec.{eqb, leb, ltb}
 use lib.ListN.{length, set, length-set, length-append, length-replicate, length-drop}
@@ -10,11 +10,12 @@ use borrow.Author.Tests.{leb-true, ltb-true, not-false}
 use Rattle.model.specs.declared.Record.{Record}
 use Rattle.model.specs.declared.Op.{Op}
 use Rattle.model.specs.declared.Op.the-variants.{Push, Pop, Put, Step}
-use Rattle.model.specs.Tables.{Tables, Queue, climb, zeroed, idle, recordAt}
+use Rattle.model.specs.Tables.{Tables, Queue, zeroed, idle, recordAt}
 use Rattle.model.specs.Sound.{rowTests, rowsFit}
 use Rattle.model.specs.Places.{Touch, nothing, setAnchor, setLink, clearMark, takeSlot, setNext, setHead, linkMet, move, apply}
 use Rattle.model.specs.Refusals.{Lent, among, alone, openRules, stepRefusal, pushRefusal, putRefusal, popRefusal}
 use Rattle.model.specs.Calls.{stacked, opened, OpenDone, openAs, Acted, decide, pushStart, putStart, popStart, finish, step, actOn, act, stepLent}
+use Rattle.model.proofs.lists.Range.{length-climb}
 use Rattle.model.proofs.laws.Tests.{either, and-both, every-one}
 use Rattle.model.proofs.laws.Refusals.{OpenDecided, accepted-opening, refused-opening, open-decided}
 
@@ -81,11 +82,6 @@ row-zeroed : (n : ℕ) (l : List ℕ) → ltb n (length l) ≡ true → length (
 row-zeroed n l h = length-zeroed (n + 1) 0 l (omega (arith, ltb-true n (length l) h))
 
 -- All slots stacked.
-length-climb : (k n : ℕ) → length (climb k n) ≡ n
-length-climb k zero = refl
-length-climb k (suc zero) = refl
-length-climb k (suc (suc n)) = ap suc (length-climb (suc k) (suc n))
-
 next-length : (pooled : Bool) (n : ℕ) (l : List ℕ) → not pooled || ltb n (length l) ≡ true → length (cond pooled (stacked n l) l) ≡ length l
 next-length false n l e = refl
 next-length true n l e = let h = ltb-true n (length l) e in simp (length-append, length-climb, length-drop) (omega arith)

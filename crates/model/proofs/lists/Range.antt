@@ -1,10 +1,10 @@
 -- The numbers from k on, n of them; and the list that leads each of them to the next one.
 use mathlib.Core.List.{List, [], _++_, _∷_}
 use mathlib.Core.Logic.{_≢_, _⊎_, inl, inr}
-use mathlib.Core.Path.{_≡_, refl}
+use mathlib.Core.Path.{_≡_, refl, ap}
 use Prim.Native.Nat.{_+_, _<_, _≤_, suc, zero, ℕ}
 use native.Mathlib.Omega.{arith}
-use lib.ListN.{getD}
+use lib.ListN.{length, getD}
 use Rattle.model.specs.History.{All}
 use Rattle.model.specs.Tables.{climb}
 use Rattle.model.proofs.tests.Truth.{decide-eq}
@@ -33,6 +33,11 @@ in-range x k (suc n) l h = go (decide-eq x k) (λ g. in-range x (suc k) n g (ome
     go (inl e) f = inl e
     go (inr e) f = inr (f (omega arith))
 
+pub length-climb : (k n : ℕ) → length (climb k n) ≡ n
+length-climb k zero = refl
+length-climb k (suc zero) = refl
+length-climb k (suc (suc n)) = ap suc (length-climb (suc k) (suc n))
+
 pub climb-step : (k n : ℕ) (r : List ℕ) (i : ℕ) → i < n → getD (climb k (suc n) ++ r) i 0 ≡ k + i
 climb-step k zero r i h = absurd (omega arith)
 climb-step k (suc n) r zero h = omega arith
@@ -41,3 +46,11 @@ climb-step k (suc n) r (suc i) h = omega (arith, climb-step (suc k) n r i (omega
 pub climb-last : (k n : ℕ) (r : List ℕ) → getD (climb k (suc n) ++ r) n 0 ≡ 0
 climb-last k zero r = refl
 climb-last k (suc n) r = climb-last (suc k) n r
+
+-- The last of them, and what lies beyond, leads to none.
+pub climb-out : (k n i : ℕ) → n ≤ suc i → getD (climb k n) i 0 ≡ 0
+climb-out k zero i h = refl
+climb-out k (suc zero) zero h = refl
+climb-out k (suc zero) (suc i) h = refl
+climb-out k (suc (suc n)) zero h = absurd (omega arith)
+climb-out k (suc (suc n)) (suc i) h = climb-out (suc k) (suc n) i (omega arith)
