@@ -12,7 +12,7 @@ use borrow.Author.Tests.{lt-ltb, leb-true, eqb-true}
 use Rattle.model.specs.declared.Control.{Control}
 use Rattle.model.specs.declared.Record.{Record}
 use Rattle.model.specs.declared.Reported.the-variants as reported
-use Rattle.model.specs.Tables.{Queue, marked, recordAt}
+use Rattle.model.specs.Tables.{Queue, isPooled, marked, recordAt}
 use Rattle.model.specs.Sound.{controlSound, rowsFit}
 use Rattle.model.specs.Refusals.{reportRefusal}
 use Rattle.model.specs.Report.{count, busy, waiting, report}
@@ -80,7 +80,7 @@ module _ (q : Queue) where
   control = q .tables .control
 
   abbrev fits : Bool
-  fits = rowsFit (control .slots) (q .tables) && leb (control .tasks) (length (q .records))
+  fits = rowsFit (isPooled control) (control .slots) (q .tables) && leb (control .tasks) (length (q .records))
 
   abbrev why : ℕ
   why = tellingRefusal (controlSound control) fits
@@ -91,10 +91,11 @@ module _ (q : Queue) where
       let h = none-applies (controlSound control) fits e in
       let tasks = both (leb 1 (control .tasks) && leb (control .tasks) 16) _ (h .0) .0 in
       let few = both (leb 1 (control .tasks)) (leb (control .tasks) 16) tasks .1 in
-      let enough = both (rowsFit (control .slots) (q .tables)) (leb (control .tasks) (length (q .records))) (h .1) .1 in
+      let enough = both (rowsFit (isPooled control) (control .slots) (q .tables)) (leb (control .tasks) (length (q .records))) (h .1) .1 in
       rw (few, enough)
 
-  pub report-parts : report q ≡ tell why control (count (λ t. not (eqb (recordAt q t .place) 0)) (countable control (length (q .records)))) (q .tables .marks)
+  pub report-parts : report q
+      ≡ tell why control (count (λ t. not (eqb (recordAt q t .place) 0)) (countable control (length (q .records)))) (q .tables .marks)
   unfolding report tell busy waiting takenSlots reportRefusal tellingRefusal
   report-parts =
       tell-same why control (busy q) _ (q .tables .marks) (λ e. ap (count (λ t. not (eqb (recordAt q t .place) 0))) (sym (all-tasks e)))

@@ -1,3 +1,4 @@
 pub mod Rules
 pub mod Parts
+pub mod Starts
 pub mod Counts

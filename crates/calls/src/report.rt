@@ -9,6 +9,7 @@ ghost use mathlib.Core.Path.{_≡_};
 ghost use mathlib.Core.Bool.{_&&_};
 ghost use lib.Dec.{leb};
 ghost use lib.ListN.{length};
+ghost use Rattle.model.specs.Tables.{isPooled};
 ghost use Rattle.model.specs.Sound.{controlSound};
 ghost use Rattle.sound.specs.Lengths.{lengthsFit};
 ghost use Rattle.calls.specs.Rules.{tellingRefusal};
@@ -57,15 +58,16 @@ pub fn told(
     rights: usize,
     labels: usize,
     marks: &[u64],
+    next: usize,
 ) -> Reported
     ensures { λ r.
         ⌜ r ≡ tell
         (tellingRefusal
         (controlSound c)
-        (lengthsFit (c .slots) lefts rights labels (length (now (marks .entry))) && leb (c .tasks) records))
+        (lengthsFit (isPooled c) (c .slots) lefts rights labels (length (now (marks .entry))) next && leb (c .tasks) records))
         c busy (now (marks .entry)) ⌝ }
 {
-    let why = refusal::report_refusal(c, records, lefts, rights, labels, marks.len());
+    let why = refusal::report_refusal(c, records, lefts, rights, labels, marks.len(), next);
     if why != 0 {
         return Reported::Refused(why);
     }
