@@ -165,17 +165,16 @@ pub fn move_on(
     }
     let place = r.place;
     match place {
-        1 => places::at1(c, r),
-        2 => places::at2(c, r),
         3 => places::at3(c, r, lefts, rights),
-        4 => places::at4(c, r),
         5 => places::at5(c, r, lefts, rights),
         6 => places::at6(c, r),
         7 => places::at7(c, r, lefts, rights),
         8 => places::at8(c, r),
         9 => places::at9(c, r, lefts, rights),
         10 => places::at10(c, r),
-        _ => places::at11(c, r, labels, marks),
+        11 => places::at11(c, r, labels, marks),
+        // 1, 2 and 4
+        _ => places::on_anchor(c, r),
     }
 }
 

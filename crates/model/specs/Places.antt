@@ -99,8 +99,8 @@ reading pop a =
 unfoldable pub at1 : Control → Record → Move
 at1 c r = reads (withSeen r (c .anchor) (r .finishing)) (reading (isPop r) (anchorOf (c .anchor)))
 
--- A change of Anchor at 2 or 4: 0 done, with the record r′. A failed one takes the word that it found as its reading and goes on as place 1:
--- 1 empty, 2 a pop with l = r, 3 STABLE, 4 else. (Request #106.)
+-- A change of Anchor at 2 or 4: 0 done, with the record r′. A failed one takes the word found as its reading and goes on as place 1:
+-- 1 empty, 2 a pop with l = r, 3 STABLE, 4 else. (Document 02: #106.)
 abbrev pub replaces : Control → ℕ → Record → Record → Move
 replaces c word r′ r =
     cond (eqb (c .anchor) (r .seen)) (record { touch = setAnchor word; task = r′; outcome = 0; failed = false })

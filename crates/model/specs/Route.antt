@@ -27,7 +27,7 @@ abbrev pub noSlot : ℕ
 noSlot = 24
 
 -- The column next: a line for each place from 0, where no task steps, and an entry for each outcome from 0.
--- A push never reads a single label as such at place 1, so that entry is 0, no place.
+-- A push never reads a single label as such, so that entry is 0, no place.
 unfoldable pub pushRoute : List (List ℕ)
 pushRoute =
     []

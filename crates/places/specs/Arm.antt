@@ -37,6 +37,10 @@ Steps n c r m =
     (lefts rights labels marks : List ℕ)
     → withTables m lefts rights labels marks ≡ stepAt n (tablesOf c lefts rights labels marks) r
 
+-- The step at the record's place, if that is 1, 2 or 4.
+abbrev pub StepsOnAnchor : Control → Record → made.Acted → Type 0
+StepsOnAnchor c r m = (r .place ≡ 1 → Steps 1 c r m) × (r .place ≡ 2 → Steps 2 c r m) × (r .place ≡ 4 → Steps 4 c r m)
+
 abbrev pub StepsOnLinks : ℕ → Control → Record → List ℕ → List ℕ → made.Acted → List ℕ → List ℕ → Type 0
 StepsOnLinks n c r lefts rights m lefts′ rights′ =
     (labels marks : List ℕ)

@@ -38,7 +38,8 @@ module _ (t : ℕ) (s : Shared) (h : ℕ → Owner) (q : List Entry) (c : Call) 
 
   extra2 : (k : Kind) → r .kind ≡ k → r .finishing ≡ false → Two k (r .read) → Only r → Extras (two k s r)
   extra2 push k f y o = by-test Extras (same (r .read) (s .anchor)) (λ e. record { extra = tt }) (λ e. extra1 push o)
-  extra2 pop k f y o = by-test Extras (same (r .read) (s .anchor)) (λ e. record { extra = (k, f, both-tip (r .read) (r .side) (y .0) (y .1), o .2 k) }) (λ e. extra1 pop o)
+  extra2 pop k f y o = by-test Extras (same (r .read) (s .anchor))
+      (λ e. record { extra = (k, f, both-tip (r .read) (r .side) (y .0) (y .1), o .2 k) }) (λ e. extra1 pop o)
 
   extra3 : (k : Kind) → Only r → Extras (three k s r)
   extra3 push o = record { extra = o }

@@ -12,7 +12,8 @@ use Rattle.model.specs.declared.Control.{Control}
 use Rattle.model.specs.declared.Record.{Record}
 use Rattle.model.specs.Tables.{Tables, isPooled, opposite, far, facing, pushing}
 use Rattle.model.specs.Sound.{isPush, isPop}
-use Rattle.model.specs.Places.{sideOf, Touch, nothing, setAnchor, setLink, clearMark, takeSlot, setNext, setHead, Move, withSeen, withLink, withOwn, reads, changes, reading, replaces, at1, at2, at3, new4, at4, at5, at6, at7, at9, at10, at11, at12, at13, at14, at15, at16, at17, move, apply}
+use Rattle.model.specs.Places.{sideOf, Touch, nothing, setAnchor, setLink, clearMark, takeSlot, setNext, setHead, Move, withSeen, withLink, withOwn, reads, changes, reading, replaces}
+use Rattle.model.specs.Places.{at1, at2, at3, new4, at4, at5, at6, at7, at9, at10, at11, at12, at13, at14, at15, at16, at17, move, apply}
 use Rattle.model.specs.Places as placed
 use Rattle.model.specs.Mirror.{mirrorStatus, mirrorAnchor, mirrorWord, mirrorControl, mirrorTables, mirrorBusy}
 use Rattle.model.proofs.laws.Mirror.Words.{status-stable, mirror-fields, mirror-pack, mirror-equal}
@@ -96,7 +97,11 @@ module _ (c : Control) (r : Record) (w : ℕ) (turned : sideOf (mirrorBusy r) �
       ∙ rw (mirror-equal (c .anchor) (r .seen)) (through mirrorMove (eqb (c .anchor) (r .seen)) refl refl)
 
   -- A change at 2 or 4, which reads on where it fails.
-  anchor-replace : (v v′ : ℕ) (s s′ : Record) → v′ ≡ mirrorWord v → s′ ≡ mirrorBusy s → replaces (mirrorControl c) v′ s′ (mirrorBusy r) ≡ mirrorMove (replaces c v s r)
+  anchor-replace :
+      (v v′ : ℕ) (s s′ : Record)
+      → v′ ≡ mirrorWord v
+      → s′ ≡ mirrorBusy s
+      → replaces (mirrorControl c) v′ s′ (mirrorBusy r) ≡ mirrorMove (replaces c v s r)
   anchor-replace v v′ s s′ e h =
       ap₂ (λ (t : ℕ) (x : Record). replaces (mirrorControl c) t x (mirrorBusy r)) e h
       ∙ rw (mirror-equal (c .anchor) (r .seen)) (through mirrorMove (eqb (c .anchor) (r .seen)) refl
