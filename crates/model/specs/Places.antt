@@ -166,9 +166,13 @@ at11 c r l =
 abbrev pub raised : Record → ℕ → ℕ
 raised r x = packLink (record { tag = linkOf (r .link) .tag + 1; slot = x })
 
--- 12: read the head. 0 its slot is 0, 1 not.
+-- The empty stack: a head with slot 0.
+abbrev pub noneLeft : ℕ → Bool
+noneLeft head = eqb (linkOf head .slot) 0
+
+-- 12: read the head. 0 the stack is empty, 1 not.
 unfoldable pub at12 : Control → Record → Move
-at12 c r = reads (withLink r (c .head)) (cond (eqb (linkOf (c .head) .slot) 0) 0 1)
+at12 c r = reads (withLink r (c .head)) (cond (noneLeft (c .head)) 0 1)
 
 -- 13: read the next of its slot.
 unfoldable pub at13 : Record → ℕ → Move

@@ -54,7 +54,8 @@ pub enum Answer {
     NoSlot,
 }
 
-/// What a start or step answers. A start that is carried out is `Moved` and running, with place 1 next.
+/// What a start or step answers. A start that is carried out is `Moved` and running, with its first place
+/// next: 1, or 12 where it names no slot.
 pub enum Outcome {
     /// With the document's number.
     Refused(u32),

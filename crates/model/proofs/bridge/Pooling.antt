@@ -6,6 +6,7 @@ use lib.Dec.{eqb}
 use borrow.Author.Tests.{eqb-true}
 use Rattle.word.specs.Link.{linkOf, packLink, spareOf}
 use Rattle.model.specs.Places.{at11, at12, at13, at14, at15, at16, at17, linkSide, move, row, sideOf}
+use Rattle.model.specs.Places.{noneLeft}
 use Rattle.model.specs.Route.{answer, goes, onward, popRoute, pushRoute, route}
 use Rattle.model.specs.Tables.{Tables, isPooled}
 use Rattle.model.specs.declared.Record.{Record}
@@ -31,7 +32,7 @@ module _ (q : Tables) (d x l a n w f : ℕ) where
 
   pub place12-push : Seen q (at 12 0)
   unfolding recOf view move at12 row linkSide sideOf onward route pushRoute popRoute goes answer
-  place12-push = split (eqb (linkOf head .slot) 0) (λ e. rw e) (λ e. rw e)
+  place12-push = split (noneLeft head) (λ e. rw e) (λ e. rw e)
 
   pub place13-push : Seen q (at 13 0)
   unfolding recOf view move at13 row linkSide sideOf onward route pushRoute popRoute goes answer

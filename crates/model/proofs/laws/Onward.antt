@@ -15,6 +15,7 @@ use Rattle.model.specs.declared.Record.{Record}
 use Rattle.model.specs.Tables.{isEmpty, isPooled}
 use Rattle.model.specs.Sound.{isPush, isPop, recordSound}
 use Rattle.model.specs.Places.{Move, endSeen, reading, at1, at2, at3, at4, at5, at6, at7, at9, at10, at11, at12, at13, at14, at15, at16, at17, move}
+use Rattle.model.specs.Places.{noneLeft}
 use Rattle.model.specs.Route.{leave, pushed, pushRoute, popRoute, route, onward}
 use Rattle.model.proofs.tests.Truth.{or-first, or-second}
 use Rattle.model.proofs.laws.Tests.{either, by-test, implied, Sound, sound-record}
@@ -121,7 +122,7 @@ module _ (c : Control) (r : Record) (w : ℕ) (kind : leb (r .kind) 1 ≡ true) 
 
   lead12 : isPush r ≡ true → From (r .kind) 12 (at12 c r)
   unfolding at12 route pushRoute popRoute
-  lead12 e = from (either (Leads 12 (r .kind)) (eqb (linkOf (c .head) .slot) 0) (pushes e 12 0 refl) (pushes e 12 1 refl))
+  lead12 e = from (either (Leads 12 (r .kind)) (noneLeft (c .head)) (pushes e 12 0 refl) (pushes e 12 1 refl))
 
   lead13 : isPush r ≡ true → From (r .kind) 13 (at13 r w)
   unfolding at13 route pushRoute popRoute

@@ -23,7 +23,8 @@ range-bounds k (suc n) j m l h = ((omega arith, omega arith), range-bounds (suc 
 pub range-distinct : (k n : ℕ) → Distinct (range k n)
 range-distinct k zero = tt
 range-distinct k (suc n) =
-    (all-map (λ y. (suc k ≤ y) × (y < suc k + n)) (λ y. y ≢ k) (λ y b e. omega (arith, b .0)) (range (suc k) n) (range-bounds (suc k) n (suc k) (suc k + n) (omega arith) (omega arith)), range-distinct (suc k) n)
+    let beyond = range-bounds (suc k) n (suc k) (suc k + n) (omega arith) (omega arith) in
+    (all-map (λ y. (suc k ≤ y) × (y < suc k + n)) (λ y. y ≢ k) (λ y b e. omega (arith, b .0)) (range (suc k) n) beyond, range-distinct (suc k) n)
 
 pub in-range : (x k n : ℕ) → k ≤ x → x < k + n → In x (range k n)
 in-range x k zero l h = absurd (omega arith)

@@ -4,6 +4,7 @@ use mathlib.Core.Path.{_≡_, refl}
 use lib.Dec.{eqb}
 use Rattle.model.proofs.tests.Truth.{by-test, not-both}
 use Rattle.model.proofs.machine.Machine.{Answer, Draw, Give, Kind, Move, Place, Rec, Shared, Touch, act, at1, at10, at11, at12, at13, at14, at15, at16, at17, at2, at3, at4, at5, at6, at7, at8, at9, draw, draws, empty, four, give, gives, idle, isIdle, isStable, leave, noSlot, none, one, pop, popped, push, pushed, putAnchor, running, same, sameLink, settled, three, tip, towards, two}
+use Rattle.model.proofs.machine.Machine.{exhausted}
 
 abbrev pub EndsAt : Answer → Bool → Type 0
 EndsAt running b = b ≡ false
@@ -39,7 +40,7 @@ ends4 push s r = by-test Ends (same (r .read) (s .anchor)) (λ e. record { ends 
 ends4 pop s r = by-test Ends (same (r .read) (s .anchor)) (λ e. record { ends = refl }) (λ e. ends1 pop s r)
 
 ends-draw : (p : Draw) (s : Shared) (r : Rec) → Ends (draws p s r)
-ends-draw at12 s r = by-test Ends (eqb (s .head .slot) 0) (λ e. record { ends = refl }) (λ e. record { ends = refl })
+ends-draw at12 s r = by-test Ends (exhausted (s .head)) (λ e. record { ends = refl }) (λ e. record { ends = refl })
 ends-draw at13 s r = record { ends = refl }
 ends-draw at14 s r = by-test Ends (sameLink (r .link) (s .head)) (λ e. record { ends = refl }) (λ e. record { ends = refl })
 

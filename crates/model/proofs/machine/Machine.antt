@@ -237,9 +237,13 @@ eleven s r = let x = tip (r .read) (r .side) in
 abbrev pub raised : Rec → ℕ → Link
 raised r x = record { tag = suc (r .link .tag); slot = x }
 
+-- The empty stack.
+abbrev pub exhausted : Link → Bool
+exhausted head = eqb (head .slot) 0
+
 -- 12: read the head; slot 0 is the empty stack. 13: read what comes after the head's slot. 14: the head moves on to it, and its slot is the push's.
 abbrev pub draws : Draw → Shared → Rec → Move
-draws at12 s r = cond (eqb (s .head .slot) 0) (ends none noSlot) (runs none (holds r (s .head) (draw at13)))
+draws at12 s r = cond (exhausted (s .head)) (ends none noSlot) (runs none (holds r (s .head) (draw at13)))
 draws at13 s r = runs none (finds r (s .next (r .link .slot)) (draw at14))
 draws at14 s r = let x = r .link .slot in
     cond (sameLink (r .link) (s .head)) (runs (take (raised r (r .near)) x (r .label)) (owns r x (r .label) at1)) (runs none (goes r (draw at12)))

@@ -5,12 +5,13 @@ use mathlib.Core.Logic.{_≢_, _⊎_, inl, inr}
 use mathlib.Core.Path.{_≡_, refl, subst, sym}
 use Prim.Native.Nat.{_≤_, ℕ}
 use lib.Dec.{eqb}
-use borrow.Author.Tests.{eqb-true}
 use Rattle.model.proofs.tests.Truth.{by-test, not-both}
 use Rattle.model.proofs.lists.In.{In}
 use Rattle.model.proofs.lists.Slots.{slots}
 use Rattle.model.proofs.machine.Clerk.{Both, Call, isNoSlot}
 use Rattle.model.proofs.machine.Machine.{Kind, Move, Place, Rec, Shared, Touch, act, at1, at10, at11, at12, at13, at14, at15, at16, at17, at2, at3, at4, at5, at6, at7, at8, at9, draw, four, give, idle, isStable, leave, none, one, pop, push, putAnchor, same, sameLink, settled, three, tip, towards, two}
+use Rattle.model.proofs.machine.Machine.{exhausted}
+use Rattle.model.proofs.machine.Laws.{exhausted-true}
 use Rattle.model.proofs.invariant.Invariant.{Inv}
 use Rattle.model.proofs.invariant.Owners.{Owner, Pool, Spare, free, held, queued}
 use Rattle.model.proofs.invariant.Tasks.{Own, Stage, Task}
@@ -119,7 +120,7 @@ module _ (s : Shared) (r : Rec) where
   act-lacks h t c at9 w = by-test (Lacks s) (sameLink (r .link) (s .link (towards (r .read .status)) (r .near))) (λ e. other refl) (λ e. lacks-leave none)
   act-lacks h t c at10 w = by-test (Lacks s) (same (r .read) (s .anchor)) (λ e. lacks-leave (putAnchor (settled (r .read)))) (λ e. lacks-leave none)
   act-lacks h t c at11 w = by-test (Lacks s) (s .pooled) (λ e. other refl) (λ e. other refl)
-  act-lacks h t c (draw at12) w = by-test (Lacks s) (eqb (s .head .slot) 0) (λ e. record { lacks = λ _. (w .0, eqb-true (s .head .slot) 0 e) }) (λ e. other refl)
+  act-lacks h t c (draw at12) w = by-test (Lacks s) (exhausted (s .head)) (λ e. record { lacks = λ _. (w .0, exhausted-true (s .head) e) }) (λ e. other refl)
   act-lacks h t c (draw at13) w = other refl
   act-lacks h t c (draw at14) w = by-test (Lacks s) (sameLink (r .link) (s .head)) (λ e. other refl) (λ e. other refl)
   act-lacks h t c (give at15) w = other refl

@@ -8,6 +8,7 @@ use Rattle.model.proofs.tests.Truth.{by-test}
 use Rattle.model.proofs.machine.Clerk.{Call}
 use Rattle.model.proofs.machine.Laws.{same-true}
 use Rattle.model.proofs.machine.Machine.{Anchor, Draw, Give, Kind, Move, Place, Rec, Shared, Status, Touch, act, aimed, apply, at1, at10, at11, at12, at13, at14, at15, at16, at17, at2, at3, at4, at5, at6, at7, at8, at9, draw, draws, four, give, gives, idle, isStable, leave, none, one, pop, push, pushing, putAnchor, same, sameLink, settled, stable, three, tip, two, upd}
+use Rattle.model.proofs.machine.Machine.{exhausted}
 use Rattle.model.proofs.invariant.Owners.{Owner}
 use Rattle.model.proofs.invariant.Tags.{cost, owes, spent, unsettled, weight}
 use Rattle.model.proofs.invariant.Tasks.{Task, Three, way}
@@ -85,7 +86,7 @@ module _ (s : Shared) (h : ℕ → Owner) (t : ℕ) (r : Rec) (c : Call) where
 
   -- A push that has no slot yet owes all; who gives one back owes nothing.
   light-draw : (p : Draw) → cost r ≡ owes (r .kind) → Light s r (draws p s r)
-  light-draw at12 e = by-test (Light s r) (eqb (s .head .slot) 0) (λ z. record { less = omega arith }) (λ z. record { less = omega arith })
+  light-draw at12 e = by-test (Light s r) (exhausted (s .head)) (λ z. record { less = omega arith }) (λ z. record { less = omega arith })
   light-draw at13 e = record { less = omega arith }
   light-draw at14 e = by-test (Light s r) (sameLink (r .link) (s .head))
       (λ z. record { less = by-test (λ n. weight s + n ≤ weight s + cost r) (r .finishing) (λ f. omega arith) (λ f. omega arith) }) (λ z. record { less = omega arith })

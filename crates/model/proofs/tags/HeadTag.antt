@@ -10,6 +10,7 @@ use Rattle.model.proofs.tests.Truth.{by-test, decide-eq}
 use Rattle.model.proofs.machine.Clerk.{Call}
 use Rattle.model.proofs.machine.Laws.{aimed-tag, same-true, sameLink-true}
 use Rattle.model.proofs.machine.Machine.{Anchor, Draw, Give, Kind, Link, Move, Place, Rec, Shared, Touch, act, apply, at1, at10, at11, at12, at13, at14, at15, at16, at17, at2, at3, at4, at5, at6, at7, at8, at9, draw, draws, four, give, gives, idle, isStable, leave, none, one, pop, push, pushing, putAnchor, same, sameLink, settled, three, tip, two, upd}
+use Rattle.model.proofs.machine.Machine.{exhausted}
 use Rattle.model.proofs.invariant.Owners.{Owner}
 use Rattle.model.proofs.invariant.Tags.{claims, cost, owes, share, shares, spent}
 use Rattle.model.proofs.invariant.Tasks.{Task, way}
@@ -71,7 +72,7 @@ module _ (s : Shared) (h : ℕ → Owner) (t : ℕ) (r : Rec) (c : Call) where
   -- 14 pays with a push that has its slot now.
   fair-draw : (p : Draw) → r .kind ≡ push → r .finishing ≡ false → share r ≡ 1 → Even s r (draws p s r)
   unfolding mine
-  fair-draw at12 k f e = by-test (Even s r) (eqb (s .head .slot) 0) (λ z. record { even = omega arith }) (λ z. record { even = omega arith })
+  fair-draw at12 k f e = by-test (Even s r) (exhausted (s .head)) (λ z. record { even = omega arith }) (λ z. record { even = omega arith })
   fair-draw at13 k f e = record { even = omega arith }
   fair-draw at14 k f e = by-test (Even s r) (sameLink (r .link) (s .head)) (λ z. record { even = omega (arith, head-of z, claimed push f k) }) (λ z. record { even = omega arith })
 

@@ -14,6 +14,7 @@ use Rattle.model.proofs.machine.Clerk.{Call}
 use Rattle.model.proofs.machine.Laws.{later, relink-across, relink-other, relink-same, same-side, same-true, sameLink-true}
 use Rattle.model.proofs.machine.LinkTags.{relink-keeps}
 use Rattle.model.proofs.machine.Machine.{Anchor, Kind, Link, Move, Place, Rec, Shared, Status, Touch, act, aimed, apply, at1, at10, at11, at12, at13, at14, at15, at16, at17, at2, at3, at4, at5, at6, at7, at8, at9, both, draw, four, give, idle, inner, isStable, leave, none, one, pop, push, pushing, putAnchor, relink, same, sameLink, settled, three, tip, two, withAnchor, withLink}
+use Rattle.model.proofs.machine.Machine.{exhausted}
 use Rattle.model.proofs.invariant.Owners.{Owner, Whole, held, queued}
 use Rattle.model.proofs.invariant.Rely.{Quiet, Turned}
 use Rattle.model.proofs.invariant.Shape.{Made}
@@ -136,7 +137,7 @@ module _ (s : Shared) (g : Tags s) where
     tags at10 w = by-test (Tagged s) (same (r .read) (s .anchor)) (λ e. leaves r (putAnchor (settled (r .read))) (turned (settled (r .read)) (later (r .read) (s .anchor) (same-true _ _ e)))) (λ e. leaves r none g)
     -- From here on neither Anchor nor a link is touched.
     tags at11 w = by-test (Tagged s) (s .pooled) (λ e. record { tagged = record { upper = g .upper; room = g .room } }) (λ e. record { tagged = record { upper = g .upper; room = g .room } })
-    tags (draw at12) w = by-test (Tagged s) (eqb (s .head .slot) 0) (λ e. keeps _ _) (λ e. keeps _ _)
+    tags (draw at12) w = by-test (Tagged s) (exhausted (s .head)) (λ e. keeps _ _) (λ e. keeps _ _)
     tags (draw at13) w = keeps _ _
     tags (draw at14) w = by-test (Tagged s) (sameLink (r .link) (s .head)) (λ e. record { tagged = record { upper = g .upper; room = g .room } }) (λ e. keeps _ _)
     tags (give at15) w = keeps _ _
