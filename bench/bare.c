@@ -42,6 +42,18 @@ static inline bool change(zc_control *control, uint64_t *word, uint64_t seen, ui
     return true;
 }
 
+/* What follows a reading of Anchor, made at place 1 or by a failed change at 2 or 4. */
+static inline zc_reply take_reading(zc_record *record, uint64_t found)
+{
+    bool push = record->kind == ZC_PUSH;
+    record->seen = found;
+    if (zc_anchor_left(found) == 0)
+        return push ? go(record, 2) : answer(record, ZC_EMPTY, 0, 0);
+    if (!push && zc_anchor_left(found) == zc_anchor_right(found))
+        return go(record, 2);
+    return go(record, zc_anchor_status(found) == ZC_STABLE ? 3 : 5);
+}
+
 zc_reply bare_step(zc_control *control, zc_record *record, uint64_t *lefts, uint64_t *rights,
                    const uint32_t *labels, uint64_t *marks)
 {
@@ -56,19 +68,11 @@ zc_reply bare_step(zc_control *control, zc_record *record, uint64_t *lefts, uint
     uint64_t *outward = right ? rights : lefts;
 
     switch (record->place) {
-    case 1: {
-        uint64_t anchor = control->anchor;
-        record->seen = anchor;
-        if (zc_anchor_left(anchor) == 0)
-            return push ? go(record, 2) : answer(record, ZC_EMPTY, 0, 0);
-        if (!push && zc_anchor_left(anchor) == zc_anchor_right(anchor))
-            return go(record, 2);
-        return go(record, zc_anchor_status(anchor) == ZC_STABLE ? 3 : 5);
-    }
+    case 1: return take_reading(record, control->anchor);
     case 2:
         if (!change(control, &control->anchor, seen,
                     successor(seen, status, right, record->own, record->own)))
-            return go(record, 1);
+            return take_reading(record, control->anchor);
         return push ? answer(record, ZC_PUSHED, 0, 0) : go(record, 11);
     case 3:
         if (push)
@@ -81,7 +85,7 @@ zc_reply bare_step(zc_control *control, zc_record *record, uint64_t *lefts, uint
             push ? successor(seen, right ? ZC_RPUSH : ZC_LPUSH, right, record->own, far)
                  : successor(seen, status, right, record->neighbour, far);
         if (!change(control, &control->anchor, seen, wanted))
-            return go(record, 1);
+            return take_reading(record, control->anchor);
         if (!push)
             return go(record, 11);
         record->seen = wanted;

@@ -151,6 +151,18 @@ static inline zc_reply read_neighbour(zc_record *record, const uint64_t *inward,
     return go(record, record->place + 1);
 }
 
+/* What follows a reading of Anchor, made at place 1 or by a failed change at 2 or 4. */
+INLINED zc_reply take_reading(zc_record *record, uint64_t found)
+{
+    bool push = record->kind == ZC_PUSH;
+    record->seen = found;
+    if (zc_anchor_left(found) == 0)
+        return push ? go(record, 2) : answer(record, ZC_EMPTY, 0, 0);
+    if (!push && zc_anchor_left(found) == zc_anchor_right(found))
+        return go(record, 2);
+    return go(record, zc_anchor_status(found) == ZC_STABLE ? 3 : 5);
+}
+
 INLINED zc_reply advance(zc_control *control, zc_record *record, uint64_t *lefts, uint64_t *rights,
                          const uint32_t *labels, uint64_t *marks)
 {
@@ -166,20 +178,12 @@ INLINED zc_reply advance(zc_control *control, zc_record *record, uint64_t *lefts
     uint64_t *outward = right ? rights : lefts;
 
     switch (record->place) {
-    case 1: {
-        uint64_t anchor = control->anchor;
-        record->seen = anchor;
-        if (zc_anchor_left(anchor) == 0)
-            return push ? go(record, 2) : answer(record, ZC_EMPTY, 0, 0);
-        if (!push && zc_anchor_left(anchor) == zc_anchor_right(anchor))
-            return go(record, 2);
-        return go(record, zc_anchor_status(anchor) == ZC_STABLE ? 3 : 5);
-    }
+    case 1: return take_reading(record, control->anchor);
     case 2:
         switch (
             change_anchor(control, seen, successor(seen, status, side, record->own, record->own))) {
         case FORBIDDEN: return refuse(ZC_UNSOUND);
-        case FAILED: return go(record, 1);
+        case FAILED: return take_reading(record, control->anchor);
         default: return push ? answer(record, ZC_PUSHED, 0, 0) : go(record, 11);
         }
     case 3:
@@ -195,7 +199,7 @@ INLINED zc_reply advance(zc_control *control, zc_record *record, uint64_t *lefts
                               : successor(seen, status, side, record->neighbour, far);
         switch (change_anchor(control, seen, wanted)) {
         case FORBIDDEN: return refuse(ZC_UNSOUND);
-        case FAILED: return go(record, 1);
+        case FAILED: return take_reading(record, control->anchor);
         default: break;
         }
         if (!push)

@@ -15,11 +15,34 @@ faults() {
 place 8 dropped|== end ? 10 : 8|== end ? 10 : 9|1
 place 3 resets a link's tag|(inward[record->own] & tag_bits) \| end|end|1
 the mark cleared at the pop's Anchor change|return push ? answer(record, ZC_PUSHED, 0, 0) : go(record, 11);|if (!push) marks[end / 64] &= ~(UINT64_C(1) << (end % 64)); return push ? answer(record, ZC_PUSHED, 0, 0) : go(record, 11);|1
-the status tested before l = r|if (!push && zc_anchor_left(anchor)|if (!push && zc_anchor_status(anchor) != ZC_STABLE && zc_anchor_left(anchor)|1
+the status tested before l = r|if (!push && zc_anchor_left(found)|if (!push && zc_anchor_status(found) != ZC_STABLE && zc_anchor_left(found)|1
 a failed place 9 taken as a failed push|count_retry(control);
             return leave(record);|count_retry(control);
             record->finishing = 0; return go(record, 1);|1
-an answer before Anchor is read|uint64_t anchor = control->anchor;|uint64_t anchor = record->seen;|1
+an answer before Anchor is read|case 1: return take_reading(record, control->anchor);|case 1: return take_reading(record, record->seen);|1
+a failed 2 goes to 1|case FAILED: return take_reading(record, control->anchor);|case FAILED: return go(record, 1);|1
+a failed 4 goes to 1|case FAILED: return take_reading(record, control->anchor);|case FAILED: return go(record, 1);|2
+a failed 9 takes a reading|count_retry(control);
+            return leave(record);|count_retry(control);
+            return record->finishing ? leave(record) : take_reading(record, control->anchor);|1
+a failed 10 takes a reading|if (change_anchor(control, seen, successor(seen, ZC_STABLE, side, end, far)) == FORBIDDEN)
+            return refuse(ZC_UNSOUND);|switch (change_anchor(control, seen, successor(seen, ZC_STABLE, side, end, far))) {
+        case FORBIDDEN: return refuse(ZC_UNSOUND);
+        case FAILED: if (!record->finishing) return take_reading(record, control->anchor);
+        default: break;
+        }|1
+an empty that a failed 2 finds goes to 1|case FAILED: return take_reading|case FAILED: if (zc_anchor_left(control->anchor) == 0) return go(record, 1); return take_reading|1
+an empty that a failed 4 finds goes to 1|case FAILED: return take_reading|case FAILED: if (zc_anchor_left(control->anchor) == 0) return go(record, 1); return take_reading|2
+a reading at 2 not kept|case FAILED: return take_reading(record, control->anchor);|case FAILED: { zc_reply reply = take_reading(record, control->anchor); record->seen = record->place ? seen : 0; return reply; }|1
+a reading at 4 not kept|case FAILED: return take_reading(record, control->anchor);|case FAILED: { zc_reply reply = take_reading(record, control->anchor); record->seen = record->place ? seen : 0; return reply; }|2
+the reading of its own word at 2|case FAILED: return take_reading(record, control->anchor);|case FAILED: return take_reading(record, seen);|1
+the reading of its own word at 4|case FAILED: return take_reading(record, control->anchor);|case FAILED: return take_reading(record, seen);|2
+STABLE before l = r after a failed 2|case FAILED: return take_reading|case FAILED: if (zc_anchor_left(control->anchor) \&\& zc_anchor_status(control->anchor) == ZC_STABLE) { record->seen = control->anchor; return go(record, 3); } return take_reading|1
+STABLE before l = r after a failed 4|case FAILED: return take_reading|case FAILED: if (zc_anchor_left(control->anchor) \&\& zc_anchor_status(control->anchor) == ZC_STABLE) { record->seen = control->anchor; return go(record, 3); } return take_reading|2
+a retry at 2 not counted|case FAILED: return take_reading|case FAILED: control->retries--; return take_reading|1
+a retry at 4 not counted|case FAILED: return take_reading|case FAILED: control->retries--; return take_reading|2
+an empty that a failed change finds is no retry|case FAILED: return take_reading|case FAILED: control->retries -= !push \&\& zc_anchor_left(control->anchor) == 0; return take_reading|1
+a failed 4 forgets the neighbour|case FAILED: return take_reading|case FAILED: record->neighbour = 0; return take_reading|2
 place 6 does not compare|return control->anchor == seen ? go(record, record->place + 1) : leave(record);|return control->anchor == seen \|\| record->place == 6 ? go(record, record->place + 1) : leave(record);|1
 place 4 forgets the new Anchor|record->seen = wanted;|;|1
 place 4 keeps the status in a push|right ? ZC_RPUSH : ZC_LPUSH, side|status, side|1
@@ -212,6 +235,7 @@ noticed() {
     timeout 10 "$work/build/layout" >/dev/null 2>&1 || echo -n " layout"
     timeout 10 "$work/build/fence" >/dev/null 2>&1 || echo -n " fence"
     timeout 10 "$work/build/waiting" >/dev/null 2>&1 || echo -n " waiting"
+    timeout 10 "$work/build/taken" >/dev/null 2>&1 || echo -n " taken"
     timeout 10 "$work/build/bindings" >/dev/null 2>&1 || echo -n " bindings"
     local seed lost=
     for seed in 1 2 3; do

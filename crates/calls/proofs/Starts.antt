@@ -9,7 +9,8 @@ use Rattle.model.specs.declared.Record.{Record}
 use Rattle.model.specs.declared.Answer.the-variants.{Running}
 use Rattle.model.specs.declared.Outcome.the-variants.{Refused, Moved}
 use Rattle.model.specs.Calls.{decide}
-use Rattle.table.specs.Lent.{tablesOf, withTables}
+use Rattle.model.specs.Tables.{tablesOf}
+use Rattle.table.specs.Lent.{withTables}
 use Rattle.calls.specs.Starting.{decided}
 
 module _ (c : Control) (r : Record) (why : ℕ) (task : Record) (lefts rights labels marks next : List ℕ) where

@@ -5,8 +5,8 @@ use word::Anchor;
 ghost use mathlib.Core.Path.{_≡_};
 ghost use mathlib.Core.Bool.{_&&_, cond};
 ghost use lib.Dec.{leb};
+ghost use Rattle.model.specs.Tables.{tablesOf};
 ghost use Rattle.sound.specs.Lengths.{lengthsFit};
-ghost use Rattle.table.specs.Lent.{tablesOf};
 ghost use Rattle.calls.specs.Rules.{openingRefusal};
 ghost use Rattle.calls.specs.Opening.{openedControl, OpenedParts, openTables};
 

@@ -6,11 +6,10 @@ ghost use mathlib.Core.Path.{_≡_};
 ghost use mathlib.Core.Bool.{_&&_};
 ghost use lib.Dec.{ltb, leb};
 ghost use Rattle.word.specs.Anchor.{anchorOf};
-ghost use Rattle.model.specs.Tables.{isPooled};
+ghost use Rattle.model.specs.Tables.{isPooled, tablesOf};
 ghost use Rattle.model.specs.Sound.{controlSound};
 ghost use Rattle.model.specs.Refusals.{pushRefusal, putRefusal, popRefusal};
 ghost use Rattle.sound.specs.Lengths.{lengthsFit};
-ghost use Rattle.table.specs.Lent.{tablesOf};
 ghost use Rattle.calls.specs.Rules.{testsRefusal, startRefusal, tellingRefusal};
 
 /// What only a push is tested for. A start that has no such test passes it.

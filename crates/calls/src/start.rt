@@ -7,8 +7,9 @@ use model::Record;
 use table::Acted;
 ghost use mathlib.Core.Path.{_≡_};
 ghost use lib.Dec.{ltb, leb};
+ghost use Rattle.model.specs.Tables.{tablesOf};
 ghost use Rattle.model.specs.Calls.{pushStart, putStart, popStart};
-ghost use Rattle.table.specs.Lent.{tablesOf, withTables};
+ghost use Rattle.table.specs.Lent.{withTables};
 ghost use Rattle.calls.specs.Starting.{begun, decided};
 
 /// The whole record of a call at its first place.

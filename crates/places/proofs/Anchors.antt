@@ -16,7 +16,8 @@ use Rattle.model.specs.Route.{route, pushRoute, popRoute, goes, counted}
 use Rattle.model.specs.Calls.{finish}
 use Rattle.model.proofs.laws.Onward.{reads-on}
 use Rattle.table.specs.declared.Acted as made
-use Rattle.places.specs.Arm.{withTables, standing, stepAt, Steps, StepsOnAnchor}
+use Rattle.places.specs.Arm.{standing, stepAt, Steps, StepsOnAnchor}
+use Rattle.table.specs.Lent.{withTables}
 use Rattle.places.specs.Ending.{refused, settled, noEntry, bumped, withAnchor, anchorRead, mayChange, remembered, compared, changed}
 use Rattle.places.proofs.Routes.{split, kinds, readings, Quiet, entry, quietly}
 

@@ -68,7 +68,7 @@ const LINK_TAG: &str = "change of a link fails by its tag alone";
 const FRESH_LINK: &str = "task leaves at 8 with a fresh link in hand";
 
 pub struct Coverage {
-    /// Left and right. All ways of document 01 are here from the start, so any other
+    /// Left and right. All ways of the papers are here from the start, so any other
     /// is a fault of the machine.
     ways: BTreeMap<Way, [u64; 2]>,
     things: BTreeMap<Thing, u64>,
@@ -204,14 +204,17 @@ impl Coverage {
     }
 }
 
-/// The ways through the places, read off document 01's table.
+/// The ways through the places, read off document 01's table; a failed 2 or 4 goes on as 1.
 fn all_ways() -> Vec<Way> {
     use Role::{Finishing, Pop, Push};
-    let mut ways = vec![(1, Pop, false, 0), (2, Push, false, 0), (2, Pop, false, 11)];
-    ways.extend([(4, Push, false, 5), (4, Pop, false, 11), (11, Pop, false, 0)]);
+    let mut ways = vec![(1, Pop, false, 0), (2, Pop, true, 0), (4, Pop, true, 0)];
+    ways.extend([(2, Push, false, 0), (2, Pop, false, 11), (11, Pop, false, 0)]);
+    ways.extend([(4, Push, false, 5), (4, Pop, false, 11)]);
     for role in [Push, Pop] {
-        ways.extend([(1, role, false, 2), (1, role, false, 3), (1, role, false, 5)]);
-        ways.extend([(2, role, true, 1), (3, role, false, 4), (4, role, true, 1)]);
+        for (place, failed) in [(1, false), (2, true), (4, true)] {
+            ways.extend([2, 3, 5].map(|next| (place, role, failed, next)));
+        }
+        ways.push((3, role, false, 4));
     }
     for (role, leave) in [(Push, 1), (Finishing, 0), (Pop, 1)] {
         ways.extend([(5, role, false, 6), (6, role, false, 7), (6, role, false, leave)]);

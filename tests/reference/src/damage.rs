@@ -71,6 +71,14 @@ pub const DAMAGES: &[Damage] = &[
         },
     },
     Damage { name: "anchor: last tag", inflict: |s, _| anchor(s, |a| a.tag = LAST_TAG) },
+    Damage {
+        name: "anchor: last tag, and read so",
+        inflict: |s, d| {
+            anchor(s, |a| a.tag = LAST_TAG);
+            let word = s.control.anchor;
+            record(s, d, |r, _| r.seen = word);
+        },
+    },
     Damage { name: "anchor: any word", inflict: |s, d| s.control.anchor = d.throw() },
     Damage {
         name: "short: left links",

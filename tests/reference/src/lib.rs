@@ -1,4 +1,4 @@
-//! An independent implementation of document 01, written from the paper alone.
+//! An independent implementation of documents 01 and 02, written from the papers alone.
 //!
 //! The machine: `word` (packed words), `tables` (what is lent), `refusal` (the
 //! ordered tests), `places` (what a step does), `machine` (the outside calls).

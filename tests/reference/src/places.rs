@@ -1,4 +1,4 @@
-//! What a step does: document 01, "Places"; figures 3 to 5 of 003.
+//! What a step does: document 01, "Places", and document 02, #106; figures 3 to 5 of 003.
 //!
 //! Control, tables' lengths and the record have been found sound. What is left of 34
 //! is tested here, before the place's one write.
@@ -28,10 +28,16 @@ pub(crate) fn advance(shared: &mut Shared, record: &mut Record) -> Answer {
     }
 }
 
-/// Place 1: figure 3 line 1, figure 5 line 11. A pop asks for l = r before the status.
+/// Place 1: figure 3 line 1, figure 5 line 11.
 fn read_anchor(shared: &Shared, record: &mut Record) -> Answer {
-    record.seen = shared.control.anchor;
-    let seen = Anchor::unpack(record.seen);
+    take_reading(record, shared.control.anchor)
+}
+
+/// What follows a reading of Anchor, made at 1 or by a failed change at 2 or 4 (#106).
+/// A pop asks for l = r before the status.
+fn take_reading(record: &mut Record, found: u64) -> Answer {
+    record.seen = found;
+    let seen = Anchor::unpack(found);
     let pop = record.kind == POP;
     match seen {
         _ if seen.is_empty() && pop => answer(record, Moved::Empty),
@@ -47,9 +53,9 @@ fn fill_or_drain(shared: &mut Shared, record: &mut Record) -> Answer {
     let (left, right) = (record.own, record.own);
     let wanted = Anchor { left, right, ..Anchor::unpack(record.seen) };
     match change_anchor(shared, record.seen, wanted)? {
-        None => go(record, 1),
-        Some(_) if record.kind == PUSH => answer(record, Moved::Pushed),
-        Some(_) => go(record, 11),
+        Change::Failed(found) => take_reading(record, found),
+        Change::Done(_) if record.kind == PUSH => answer(record, Moved::Pushed),
+        Change::Done(_) => go(record, 11),
     }
 }
 
@@ -78,9 +84,9 @@ fn move_end(shared: &mut Shared, record: &mut Record) -> Answer {
         _ => seen.with_end(side, record.neighbour),
     };
     match change_anchor(shared, record.seen, wanted)? {
-        None => go(record, 1),
-        Some(_) if record.kind == POP => go(record, 11),
-        Some(word) => {
+        Change::Failed(found) => take_reading(record, found),
+        Change::Done(_) if record.kind == POP => go(record, 11),
+        Change::Done(word) => {
             record.seen = word;
             record.finishing = 1;
             go(record, 5)
@@ -137,16 +143,24 @@ fn take_label(shared: &mut Shared, record: &mut Record) -> Answer {
     answer(record, Moved::Popped { slot, label })
 }
 
-/// A change of Anchor: the new word if done, nothing if failed, 34 if it may not be made.
-fn change_anchor(shared: &mut Shared, seen: u64, wanted: Anchor) -> Result<Option<u64>, Refusal> {
-    if shared.control.anchor != seen {
+/// A change of Anchor: done with the new word, or failed with the word found.
+enum Change {
+    Done(u64),
+    Failed(u64),
+}
+
+/// 34 only for a change that would be made.
+fn change_anchor(shared: &mut Shared, seen: u64, wanted: Anchor) -> Result<Change, Refusal> {
+    let found = shared.control.anchor;
+    if found != seen {
         count_retry(shared);
-        return Ok(None);
+        return Ok(Change::Failed(found));
     }
     demand(wanted.is_sound(shared.control.slots), Refusal::Unsound)?;
     let tag = raised(wanted.tag)?;
-    shared.control.anchor = Anchor { tag, ..wanted }.pack();
-    Ok(Some(shared.control.anchor))
+    let word = Anchor { tag, ..wanted }.pack();
+    shared.control.anchor = word;
+    Ok(Change::Done(word))
 }
 
 /// The next tag, unless it would pass 32 bits.

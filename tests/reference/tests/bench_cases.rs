@@ -3,8 +3,8 @@
 use reference::machine::Moved::{self, Empty, Popped, Pushed, Running};
 use reference::refusal::Refusal;
 use reference::run::{run, Nobody};
-use reference::tables::Storage;
-use reference::word::{Anchor, LPUSH, RPUSH, STABLE};
+use reference::tables::{Control, Record, Storage, POP, PUSH};
+use reference::word::{Anchor, Link, LPUSH, RPUSH, STABLE};
 
 fn opened(tasks: u64, slots: u64, first_tag: u32) -> Storage {
     let mut storage = Storage::default();
@@ -93,17 +93,63 @@ fn pops_take_four_steps_then_three() {
     assert_eq!(finish(&mut storage, 1), (3, Popped { slot: 2, label: 20 }));
 }
 
+/// As document 02, #106, has it: task 1 answers at its second step.
 #[test]
 fn two_pops_on_one_label() {
     let mut storage = opened(2, 1, 0);
-    storage.lend().push(0, 1, 1, 10).expect("starts");
+    storage.lend().push(0, 1, 1, 700).expect("starts");
     finish(&mut storage, 0);
     storage.lend().pop(0, 0).expect("starts");
     storage.lend().pop(1, 1).expect("starts");
-    let answers = [0, 1, 0, 1, 0, 1].map(|task| storage.lend().step(task).expect("steps"));
-    let got = Popped { slot: 1, label: 10 };
-    assert_eq!(answers, [Running(2), Running(2), Running(11), Running(1), got, Empty]);
+    let answers = [0, 1, 0, 1, 0, 1].map(|task| storage.lend().step(task));
+    let got = Popped { slot: 1, label: 700 };
+    let moved = [Running(2), Running(2), Running(11), Empty, got].map(Ok);
+    assert_eq!(answers[..5], moved);
+    assert_eq!(answers[5], Err(Refusal::Idle));
     assert_eq!(storage.lend().report().expect("reports").retries, 1);
+}
+
+/// What a task at 2 or 4 goes on to when another has changed Anchor to this one.
+fn outrun(kind: u64, place: u64, now: Anchor) -> (Moved, Record) {
+    let mut storage = opened(1, 3, 0);
+    let seen = Anchor { tag: 4, status: STABLE, left: 1, right: 2 }.pack();
+    let own = if kind == PUSH { 3 } else { 0 };
+    let link = Link::new(9, 2).0;
+    let record =
+        Record { place, kind, side: 1, own, label: 8, seen, neighbour: 1, link, finishing: 0 };
+    storage.records[0] = record;
+    storage.control.anchor = now.pack();
+    let before = storage.clone();
+    let moved = storage.lend().step(0).expect("a failed change is never refused");
+    assert_eq!(storage.control, Control { retries: 1, ..before.control });
+    let after = storage.records[0];
+    storage.records[0] = record;
+    storage.control.retries = 0;
+    assert_eq!(storage, before, "only control and the record move");
+    (moved, after)
+}
+
+#[test]
+fn a_failed_change_goes_on_as_place_1() {
+    let now = |status, left, right| Anchor { tag: 5, status, left, right };
+    let found = [now(STABLE, 0, 0), now(STABLE, 2, 2), now(STABLE, 2, 1), now(LPUSH, 2, 1)];
+    for place in [2, 4] {
+        for (kind, nexts) in [(PUSH, [2, 3, 3, 5]), (POP, [0, 2, 3, 5])] {
+            for (found, next) in found.into_iter().zip(nexts) {
+                let (moved, after) = outrun(kind, place, found);
+                if next == 0 {
+                    assert_eq!((moved, after), (Empty, Record::default()));
+                    continue;
+                }
+                assert_eq!((moved, after.place), (Running(next), next));
+                assert_eq!(after.seen, found.pack(), "the word found is the reading");
+                assert_eq!(
+                    (after.label, after.neighbour, after.link),
+                    (8, 1, 0x0000_0009_0000_0002)
+                );
+            }
+        }
+    }
 }
 
 #[test]

@@ -149,7 +149,7 @@ fn retries_stay_at_their_most() {
     for (retries, then) in [(5, 6), (0xffff_fffe, 0xffff_ffff), (0xffff_ffff, 0xffff_ffff)] {
         let mut storage = storage.clone();
         storage.control.retries = retries;
-        assert_eq!(storage.lend().step(1), Ok(Moved::Running(1)));
+        assert_eq!(storage.lend().step(1), Ok(Moved::Running(3)));
         assert_eq!(storage.control.retries, then);
     }
 }

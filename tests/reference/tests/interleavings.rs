@@ -104,7 +104,7 @@ fn two_tasks_with_two_calls_each() {
             }
         }
     }
-    assert!(worlds > 400_000, "only {worlds} worlds");
+    assert!(worlds > 390_000, "only {worlds} worlds");
 }
 
 #[test]
@@ -117,5 +117,5 @@ fn three_tasks_with_a_call_each() {
     ];
     let worlds: usize =
         crews.iter().map(|crew| explore(one_waiting(crew.map(|wish| vec![wish]).to_vec()))).sum();
-    assert!(worlds > 200_000, "only {worlds} worlds");
+    assert!(worlds > 190_000, "only {worlds} worlds");
 }

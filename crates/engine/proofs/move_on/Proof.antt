@@ -8,7 +8,9 @@ use borrow.Author.Tests.{eqb-true, eqb-false}
 use Rattle.model.specs.declared.Record.{Record}
 use Rattle.model.specs.Tables.{Tables}
 use Rattle.table.specs.declared.Acted as made
-use Rattle.places.specs.Arm.{tablesOf, withTables, stepAt, Steps}
+use Rattle.model.specs.Tables.{tablesOf}
+use Rattle.table.specs.Lent.{withTables}
+use Rattle.places.specs.Arm.{stepAt, Steps}
 use Rattle.engine.specs.Parts.{recordRefusal, moveOn}
 use Rattle.engine.proofs.Whole.{split, above, below, stopped, at-place, placed}
 use Rattle.engine.proofs.move_on.Statement.{statement}

@@ -16,7 +16,7 @@ const PUSHED: (u32, u64) = (2, 0);
 const EMPTY: (u32, u64) = (3, 0);
 const POPPED: (u32, u64) = (4, 0);
 
-/// Document 01's column "next", in full.
+/// Document 01's column "next", in full, with a failed 2 or 4 that goes on as 1 (#106).
 fn route() -> BTreeSet<Line> {
     let mut lines = BTreeSet::new();
     let mut add = |kind, place, finishing, ends: &[(u32, u64)]| {
@@ -27,14 +27,15 @@ fn route() -> BTreeSet<Line> {
         }
     };
     let to = |place: u64| (RUNNING, place);
-    add(PUSH, 1, 0, &[to(2), to(3), to(5)]);
-    add(PUSH, 2, 0, &[PUSHED, to(1)]);
+    for place in [1, 2, 4] {
+        add(PUSH, place, 0, &[to(2), to(3), to(5)]);
+        add(POP, place, 0, &[EMPTY, to(2), to(3), to(5)]);
+    }
+    add(PUSH, 2, 0, &[PUSHED]);
+    add(POP, 2, 0, &[to(11)]);
     add(PUSH, 3, 0, &[to(4)]);
-    add(PUSH, 4, 0, &[to(5), to(1)]);
-    add(POP, 1, 0, &[EMPTY, to(2), to(3), to(5)]);
-    add(POP, 2, 0, &[to(11), to(1)]);
     add(POP, 3, 0, &[to(4)]);
-    add(POP, 4, 0, &[to(11), to(1)]);
+    add(POP, 4, 0, &[to(11)]);
     add(POP, 11, 0, &[POPPED]);
     for (kind, finishing, leave) in [(PUSH, 1, PUSHED), (PUSH, 0, to(1)), (POP, 0, to(1))] {
         add(kind, 5, finishing, &[to(6)]);
