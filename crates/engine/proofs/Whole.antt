@@ -26,7 +26,8 @@ pub below : {n x : ℕ} → x ≤ suc n → (x ≡ suc n → ⊥) → x ≤ n
 below high other = omega arith
 
 -- The step at a record's own place.
-pub here : (q : Tables) (r : Record) → stepAt (r .place) q r ≡ decide (cond (stepSound (q .control) r (linkMet q r)) 0 34) q r (finish q r (move (q .control) r (linkMet q r)))
+pub here : (q : Tables) (r : Record)
+    → stepAt (r .place) q r ≡ decide (cond (stepSound (q .control) r (linkMet q r)) 0 34) q r (finish q r (move (q .control) r (linkMet q r)))
 unfolding stepAt
 here q r = refl
 
@@ -62,7 +63,9 @@ module _ (q : Tables) (p : Lent) (r : Record) where
   task-there none =
       split (controlSound (q .control))
       (λ a. split (rowsFit (isPooled (q .control)) (q .control .slots) q && p .enough)
-      (λ b. split (p .known) (λ k. (and-eq-true-iff (rowsFit (isPooled (q .control)) (q .control .slots) q) (p .enough) .0 b .1, k)) (λ k. absurd (let h : _≡_ {A = ℕ} 13 0 = simp (a, b, k) at none in omega arith)))
+      (λ b. split (p .known)
+      (λ k. (and-eq-true-iff (rowsFit (isPooled (q .control)) (q .control .slots) q) (p .enough) .0 b .1, k))
+      (λ k. absurd (let h : _≡_ {A = ℕ} 13 0 = simp (a, b, k) at none in omega arith)))
       (λ b. absurd (let h : _≡_ {A = ℕ} 12 0 = simp (a, b) at none in omega arith)))
       (λ a. absurd (let h : _≡_ {A = ℕ} 34 0 = simp a at none in omega arith))
 

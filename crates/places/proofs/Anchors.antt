@@ -128,7 +128,9 @@ module _ (c : Control) (r : Record) where
       → new ≡ packAnchor (facing (r .side) (r .seen / 2 ^ 32 + 1) (anchorOf (r .seen) .status) end end)
       → Tries 2 c r new r (route 2 (r .kind) 0) (anchorRead (bumped c) r)
   unfolding move at2 sideOf route pushRoute popRoute
-  step2 end new e n = replacing 2 (record { needs = refl; meets = refl; heads = refl; nexts = refl }) new r (kinds Quiet 2 (r .kind) 0 refl refl) (reads-on (r .kind) outcome .0) (λ w. rw (n, e))
+  step2 end new e n =
+      replacing 2 (record { needs = refl; meets = refl; heads = refl; nexts = refl }) new r
+      (kinds Quiet 2 (r .kind) 0 refl refl) (reads-on (r .kind) outcome .0) (λ w. rw (n, e))
 
   -- The new Anchor of a push and of a pop at place 4.
   abbrev newPush : ℕ
@@ -140,11 +142,14 @@ module _ (c : Control) (r : Record) where
   push4 : eqb (r .kind) 0 ≡ true → Tries 4 c r newPush (withSeen r newPush 1) (route 4 (r .kind) 0) (anchorRead (bumped c) r)
   unfolding move at4 new4 sideOf route pushRoute popRoute
   push4 k =
-      replacing 4 (record { needs = refl; meets = refl; heads = refl; nexts = refl }) newPush (withSeen r newPush 1) (kinds Quiet 4 (r .kind) 0 refl refl) (reads-on (r .kind) outcome .1) (λ w. rw k)
+      replacing 4 (record { needs = refl; meets = refl; heads = refl; nexts = refl }) newPush (withSeen r newPush 1)
+      (kinds Quiet 4 (r .kind) 0 refl refl) (reads-on (r .kind) outcome .1) (λ w. rw k)
 
   pop4 : eqb (r .kind) 0 ≡ false → Tries 4 c r newPop r (route 4 (r .kind) 0) (anchorRead (bumped c) r)
   unfolding move at4 new4 sideOf route pushRoute popRoute
-  pop4 k = replacing 4 (record { needs = refl; meets = refl; heads = refl; nexts = refl }) newPop r (kinds Quiet 4 (r .kind) 0 refl refl) (reads-on (r .kind) outcome .1) (λ w. rw k)
+  pop4 k =
+      replacing 4 (record { needs = refl; meets = refl; heads = refl; nexts = refl }) newPop r
+      (kinds Quiet 4 (r .kind) 0 refl refl) (reads-on (r .kind) outcome .1) (λ w. rw k)
 
   pub step4 :
       (status end new : ℕ)
@@ -174,15 +179,21 @@ module _ (c : Control) (r : Record) where
 
   pub step6 : Steps 6 c r (compared c r (route 6 (r .kind) 0) (route 6 (r .kind) 1))
   unfolding move at6 route pushRoute popRoute
-  step6 = comparing 6 (record { needs = refl; meets = refl; heads = refl; nexts = refl }) (kinds Quiet 6 (r .kind) 0 refl refl) (kinds Quiet 6 (r .kind) 1 refl refl) (λ w. refl)
+  step6 =
+      comparing 6 (record { needs = refl; meets = refl; heads = refl; nexts = refl })
+      (kinds Quiet 6 (r .kind) 0 refl refl) (kinds Quiet 6 (r .kind) 1 refl refl) (λ w. refl)
 
   pub step8 : Steps 8 c r (compared c r (route 8 (r .kind) 0) (route 8 (r .kind) 1))
   unfolding move at6 route pushRoute popRoute
-  step8 = comparing 8 (record { needs = refl; meets = refl; heads = refl; nexts = refl }) (kinds Quiet 8 (r .kind) 0 refl refl) (kinds Quiet 8 (r .kind) 1 refl refl) (λ w. refl)
+  step8 =
+      comparing 8 (record { needs = refl; meets = refl; heads = refl; nexts = refl })
+      (kinds Quiet 8 (r .kind) 0 refl refl) (kinds Quiet 8 (r .kind) 1 refl refl) (λ w. refl)
 
   abbrev stable : ℕ
   stable = packAnchor (record { tag = r .seen / 2 ^ 32 + 1; status = 0; left = anchorOf (r .seen) .left; right = anchorOf (r .seen) .right })
 
   pub step10 : (new : ℕ) → new ≡ stable → Tries 10 c r new r (route 10 (r .kind) 0) (settled (bumped c) r (route 10 (r .kind) 1) noEntry)
   unfolding move at10 route pushRoute popRoute
-  step10 new e = changing 10 (record { needs = refl; meets = refl; heads = refl; nexts = refl }) new r r 1 (kinds Quiet 10 (r .kind) 0 refl refl) (kinds Quiet 10 (r .kind) 1 refl refl) (λ w. rw e)
+  step10 new e =
+      changing 10 (record { needs = refl; meets = refl; heads = refl; nexts = refl }) new r r 1
+      (kinds Quiet 10 (r .kind) 0 refl refl) (kinds Quiet 10 (r .kind) 1 refl refl) (λ w. rw e)

@@ -10,7 +10,8 @@ returns : tie.Need-returns
 returns c =
     let f = c .before .before in
     let a = f .before .before .before .before .before .before .before .before .before .args in
-    λ ns ms xs. rw (c .refused .ensures) (rw (sym (f .from1 .ensures) ∙ not-true _ (c .before .if1 .taken)) at (step9 (a .c) (a .r) (a .lefts .now) (a .rights .now) ns ms xs))
+    let none = sym (f .from1 .ensures) ∙ not-true _ (c .before .if1 .taken) in
+    λ ns ms xs. rw (c .refused .ensures) (rw none at (step9 (a .c) (a .r) (a .lefts .now) (a .rights .now) ns ms xs))
 
 returns-2 : tie.Need-returns-2
 returns-2 c =

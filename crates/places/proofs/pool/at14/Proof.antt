@@ -26,7 +26,16 @@ returns-2 c =
     let same = eq-eqb _ _ (i .if1 .left) in
     let room = rw (u .unpack .ensures) at (lt-ltb _ _ (t .if2 .taken)) in
     λ ls rs xs.
-    rw (c .settles2 .ensures, c .before .next2 .ensures, m .set-mark .ensures, l .put-label .ensures, h .with-head .ensures, h .before .link-word .ensures, h .before .before .raised .ensures, u .unpack .ensures)
+    rw (
+      c .settles2 .ensures,
+      c .before .next2 .ensures,
+      m .set-mark .ensures,
+      l .put-label .ensures,
+      h .with-head .ensures,
+      h .before .link-word .ensures,
+      h .before .before .raised .ensures,
+      u .unpack .ensures,
+    )
     (rw (same, room) at (step14 (a .c) (a .r) ls rs (a .labels .now) (a .marks .now) xs))
 
 returns-3 : tie.Need-returns-3
