@@ -212,6 +212,7 @@ noticed() {
     timeout 10 "$work/build/layout" >/dev/null 2>&1 || echo -n " layout"
     timeout 10 "$work/build/fence" >/dev/null 2>&1 || echo -n " fence"
     timeout 10 "$work/build/waiting" >/dev/null 2>&1 || echo -n " waiting"
+    timeout 10 "$work/build/taken" >/dev/null 2>&1 || echo -n " taken"
     timeout 10 "$work/build/bindings" >/dev/null 2>&1 || echo -n " bindings"
     local seed lost=
     for seed in 1 2 3; do

@@ -5,13 +5,13 @@
 #                                       where `rt staticlib capi` and `rt staticlib capi_record` write them
 #     tests/library/run.sh --stand-in   bench/reference.c, the same calls by hand, in its place
 #
-# PARTS names what runs: header layout fence waiting bindings examples bench differential (all of them).
+# PARTS names what runs: header layout fence waiting taken bindings examples bench differential (all of them).
 # SEED and TIMES go to the differential test (1 and 1). BUILD keeps what is built there.
 set -u -o pipefail
 from=$PWD
 cd "$(dirname "$0")/../.."
 
-PARTS=${PARTS:-header layout fence waiting bindings examples bench differential}
+PARTS=${PARTS:-header layout fence waiting taken bindings examples bench differential}
 CC=${CC:-gcc}
 CXX=${CXX:-g++}
 WARNINGS="-Wall -Wextra -Wpedantic -Werror"
@@ -107,6 +107,11 @@ part_fence() {
 part_waiting() {
     holds "waiting.c compiles" $CC -std=c11 $WARNINGS -Iinclude tests/library/waiting.c "${archives[@]}" -o "$work/waiting"
     counts "the labels waiting" "$work/waiting"
+}
+
+part_taken() {
+    holds "taken.c compiles" $CC -std=c11 $WARNINGS -Iinclude tests/library/taken.c "${archives[@]}" -o "$work/taken"
+    counts "the slots taken" "$work/taken"
 }
 
 # libtest's summary as ours.

@@ -20,16 +20,6 @@ use Rattle.calls.specs.Rules.{tellingRefusal}
 use Rattle.calls.specs.Telling.{countable, countBusy, takenSlots, told, tell}
 use Rattle.calls.proofs.Rules.{both}
 
-pub taken-next : (marks : List ℕ) (i : ℕ) → takenSlots (i + 1) marks ≡ takenSlots i marks + cond (marked marks (i + 1)) 1 0
-unfolding takenSlots count
-taken-next marks i = ap (count (λ n. marked marks (n + 1))) (add-one i)
-
-pub taken-set : (marks : List ℕ) (i : ℕ) → marked marks (i + 1) ≡ true → takenSlots i marks + 1 ≡ takenSlots (i + 1) marks
-taken-set marks i e = rw (taken-next marks i, e)
-
-pub taken-clear : (marks : List ℕ) (i : ℕ) → marked marks (i + 1) ≡ false → takenSlots i marks ≡ takenSlots (i + 1) marks
-taken-clear marks i e = rw (taken-next marks i, e, add-zero (takenSlots i marks))
-
 -- One record's turn, as long as fewer than 16 were busy.
 pub count-turn : (n : ℕ) (r : Record) → n < 16 → countBusy n r ≡ n + cond (not (eqb (r .place) 0)) 1 0
 unfolding countBusy

@@ -13,7 +13,7 @@ ghost use Rattle.model.specs.Tables.{isPooled};
 ghost use Rattle.model.specs.Sound.{controlSound};
 ghost use Rattle.sound.specs.Lengths.{lengthsFit};
 ghost use Rattle.calls.specs.Rules.{tellingRefusal};
-ghost use Rattle.calls.specs.Telling.{countable, countBusy, takenSlots, tell};
+ghost use Rattle.calls.specs.Telling.{countable, countBusy, tell};
 
 /// How many records the report looks at: one for each task, or none where it will be refused.
 pub fn to_count(c: Control, records: usize) -> usize
@@ -32,21 +32,6 @@ pub fn count_busy(n: u64, r: Record) -> u64
         return n;
     }
     if n < 16 { n + 1 } else { n }
-}
-
-/// The marks set for slots 1 to slots.
-pub fn waiting(slots: u64, marks: &[u64]) -> u64
-    ensures { λ n. ⌜ n ≡ takenSlots slots (now (marks .entry)) ⌝ }
-{
-    let mut n: u64 = 0;
-    let mut i: u64 = 0;
-    while i < slots {
-        i += 1;
-        if table::marked(marks, i) {
-            n += 1;
-        }
-    }
-    n
 }
 
 /// The report, when busy is how many tasks are.
@@ -72,7 +57,7 @@ pub fn told(
         return Reported::Refused(why);
     }
     let anchor = Anchor::unpack(c.anchor);
-    let waiting = waiting(c.slots, marks);
+    let waiting = marks::taken(c.slots, marks);
     Reported::Told(Report {
         anchor,
         busy,

@@ -1,0 +1,110 @@
+-- The ones of a masked word are the marks of its slots.
+use mathlib.Core.Path.{_≡_, refl, sym, ap, ap₂, _∙_}
+use mathlib.Core.Bool.{cond}
+use mathlib.Core.List.{List}
+use Prim.Native.Nat.{ℕ, zero, suc, _+_, _-_, _*_, _/_, _%_, _^_, _<_, _≤_, min}
+use native.Mathlib.Nat.{mod-lt, mod-one, add-zero, add-suc, add-assoc, add-comm, lt-trans, lt-suc-self, le-of-suc-le-suc, not-suc-le-zero}
+use native.Mathlib.Numerals.{one-add}
+use native.Mathlib.Omega.{arith}
+use lib.Dec.{lit<, eqb}
+use lib.ListN.{getD}
+use lib.Pow.{pow-pos, mod-pow-add, field, shr-shr}
+use lib.Count.{ones, ones-cat}
+use Rattle.model.specs.Tables.{bit, marked}
+use Rattle.model.specs.Report.{count}
+use Rattle.marks.specs.Masked.{maskedWord}
+
+-- How many of the slots 1 to n are marked.
+abbrev pub marks : List ℕ → ℕ → ℕ
+marks ws n = count (λ k. marked ws (k + 1)) n
+
+-- f at 0 to n - 1, added up.
+abbrev sum : (ℕ → ℕ) → ℕ → ℕ
+sum f zero = 0
+sum f (suc n) = sum f n + f n
+
+sum-ext : (f g : ℕ → ℕ) (n : ℕ) → ((j : ℕ) → j < n → f j ≡ g j) → sum f n ≡ sum g n
+sum-ext f g zero h = refl
+sum-ext f g (suc n) h = ap₂ (λ (x y : ℕ). x + y) (sum-ext f g n (λ j l. h j (lt-trans l (lt-suc-self n)))) (h n (lt-suc-self n))
+
+ones-digit : (b : ℕ) → b < 2 → ones b ≡ b
+unfolding ones
+ones-digit zero h = refl
+ones-digit (suc zero) h = refl
+ones-digit (suc (suc b)) h = absurd (not-suc-le-zero (le-of-suc-le-suc (le-of-suc-le-suc h)))
+
+-- The ones of the n low bits.
+ones-sum : (x n : ℕ) → ones (x % 2 ^ n) ≡ sum (bit x) n
+ones-sum x zero = ap ones (mod-one x) ∙ ones-digit 0 (lit< tt)
+ones-sum x (suc n) =
+    ap (λ (m : ℕ). ones (x % 2 ^ m)) (sym (one-add n))
+    ∙ ap ones (mod-pow-add x 1 n)
+    ∙ ones-cat n (bit x n) (x % 2 ^ n) (mod-lt x (pow-pos n))
+    ∙ ap₂ (λ (p q : ℕ). p + q) (ones-digit (bit x n) (mod-lt (x / 2 ^ n) (lit< tt))) (ones-sum x n)
+    ∙ add-comm (bit x n) (sum (bit x) n)
+
+one-bit : (b : ℕ) → b < 2 → cond (eqb b 1) 1 0 ≡ b
+one-bit zero h = refl
+one-bit (suc zero) h = refl
+one-bit (suc (suc b)) h = absurd (not-suc-le-zero (le-of-suc-le-suc (le-of-suc-le-suc h)))
+
+-- The mark of slot n + 1, as a number.
+abbrev mark : List ℕ → ℕ → ℕ
+mark ws n = bit (getD ws ((n + 1) / 64) 0) ((n + 1) % 64)
+
+mark-small : (ws : List ℕ) (n : ℕ) → mark ws n < 2
+mark-small ws n = mod-lt _ (lit< tt)
+
+marks-run : (ws : List ℕ) (a m : ℕ) → marks ws (a + m) ≡ marks ws a + sum (λ j. mark ws (a + j)) m
+unfolding count
+marks-run ws a zero = ap (marks ws) (add-zero a) ∙ sym (add-zero (marks ws a))
+marks-run ws a (suc m) =
+    ap (marks ws) (add-suc a m)
+    ∙ ap₂ (λ (x y : ℕ). x + y) (marks-run ws a m) (one-bit (mark ws (a + m)) (mark-small ws (a + m)))
+    ∙ add-assoc (marks ws a) (sum (λ j. mark ws (a + j)) m) (mark ws (a + m))
+
+ones-shifted : (y s : ℕ) → ones (y * 2 ^ s) ≡ ones y
+ones-shifted y s =
+    ap ones (sym (add-zero (y * 2 ^ s)))
+    ∙ ones-cat s y 0 (pow-pos s)
+    ∙ ap (λ (x : ℕ). ones y + x) (ones-digit 0 (lit< tt))
+    ∙ add-zero (ones y)
+
+pub marks-le : (ws : List ℕ) (n : ℕ) → marks ws n ≤ n
+unfolding count
+marks-le ws zero = omega arith
+marks-le ws (suc n) =
+    let b : cond (marked ws (n + 1)) 1 0 < 2 = rw (one-bit (mark ws n) (mark-small ws n)) (mark-small ws n) in
+    let r = marks-le ws n in omega arith
+
+-- The d bits from s on of word k are the marks of d slots from 64 k + s on.
+word-sum : (ws : List ℕ) (k s d a : ℕ) → a + 1 ≡ 64 * k + s → d + s ≤ 64
+    → marks ws (a + d) ≡ marks ws a + ones (getD ws k 0 % 2 ^ (d + s) / 2 ^ s * 2 ^ s)
+word-sum ws k s d a e l =
+    let w = getD ws k 0 in
+    let at : (j : ℕ) → j < d → mark ws (a + j) ≡ bit (w / 2 ^ s) j =
+    λ j g.
+    let q : (a + j + 1) / 64 ≡ k = omega arith in
+    let r : (a + j + 1) % 64 ≡ s + j = omega arith in
+    ap₂ (λ (x y : ℕ). bit (getD ws x 0) y) q r ∙ ap (λ (x : ℕ). x % 2) (sym (shr-shr w s j)) in
+    let o : ones (w % 2 ^ (d + s) / 2 ^ s * 2 ^ s) ≡ sum (bit (w / 2 ^ s)) d =
+    ones-shifted (w % 2 ^ (d + s) / 2 ^ s) s ∙ ap ones (field w d s) ∙ ones-sum (w / 2 ^ s) d in
+    marks-run ws a d ∙ ap (λ (x : ℕ). marks ws a + x) (sum-ext (λ j. mark ws (a + j)) (bit (w / 2 ^ s)) d at ∙ sym o)
+
+-- Word k adds the marks of its slots.
+pub word-step : (ws : List ℕ) (k slots : ℕ) → k ≤ slots / 64
+    → marks ws (min (64 * (k + 1) - 1) slots) ≡ marks ws (min (64 * k - 1) slots) + ones (maskedWord (getD ws k 0) k slots)
+word-step ws zero slots h =
+    let d = min 63 slots in
+    let a : min (64 * 0 - 1) slots ≡ 0 = omega arith in
+    let n : min (64 * (0 + 1) - 1) slots ≡ 0 + d = omega arith in
+    let e : min 64 (slots + 1 - 64 * 0) ≡ d + 1 = omega arith in
+    rw (a, n, e) (word-sum ws 0 1 d 0 refl (omega arith))
+word-step ws (suc k) slots h =
+    let d = min 64 (slots + 1 - 64 * suc k) in
+    let a = 64 * suc k - 1 in
+    let e : (min (64 * (suc k + 1) - 1) slots ≡ a + d) × (min a slots ≡ a) × (1 - suc k ≡ 0) × (a + 1 ≡ 64 * suc k + 0) × (d + 0 ≤ 64) = omega arith in
+    let w = getD ws (suc k) 0 in
+    ap (marks ws) (e .0)
+    ∙ word-sum ws (suc k) 0 d a (e .3) (e .4)
+    ∙ (λ i. marks ws (sym (e .1) i) + ones (w % 2 ^ add-zero d i / 2 ^ sym (e .2) i * 2 ^ sym (e .2) i))
