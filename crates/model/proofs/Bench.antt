@@ -14,7 +14,7 @@ use Rattle.model.specs.Places.{sideOf, row, linkSide, reading, at1, at2,
 use Rattle.model.specs.Route.{pushRoute, popRoute, route, onward, answer, goes, counted}
 use Rattle.model.specs.Refusals.{openRefusal, pushRefusal, popRefusal, stepSound, stepRefusal}
 use Rattle.model.specs.Calls.{opened, openAs, openQueue, pushStart, popStart, finish, step, actOn, act}
-use Rattle.model.specs.Report.{entries, along, contents}
+use Rattle.model.specs.Walk.{entries, along, contents}
 use Rattle.model.specs.History.{Request, Event, run, final}
 
 -- Tables of zeros for 2 tasks and 3 slots, and the queue opened in them with a first tag.

@@ -13,8 +13,10 @@ pub mod ledger
 pub mod tags
 pub mod unsound
 pub mod progress
+pub mod Openings
 pub mod Linearizable
 pub mod NeverUnsound
+pub mod Standing
 pub mod NoSlot
 pub mod StepBounds
 -- Laws of single calls, and the worked cases of the document.

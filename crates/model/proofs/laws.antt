@@ -2,6 +2,7 @@
 pub mod Tests
 pub mod Refusals
 pub mod Lengths
+pub mod Sizes
 pub mod LentRecord
 pub mod OneTouch
 pub mod Onward

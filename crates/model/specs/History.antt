@@ -4,6 +4,7 @@ use mathlib.Core.Bool.{Bool, true, false, _&&_, _||_, not, cond}
 use mathlib.Core.List.{List, [], _∷_}
 use Prim.Native.Nat.{ℕ, suc, _<_, _≤_}
 use lib.Dec.{eqb, leb}
+use lib.ListN.{length}
 use Rattle.word.specs.Anchor.{anchorOf}
 use Rattle.model.specs.declared.Entry.{Entry}
 use Rattle.model.specs.declared.Answer.{Answer}
@@ -16,9 +17,11 @@ use Rattle.model.specs.Tables.{Queue, near, recordAt}
 use Rattle.model.specs.declared.Record.{Record}
 use Rattle.model.specs.Sound.{every, isPush, giving}
 use Rattle.model.specs.declared.Opening.the-variants.{Opened}
+use Rattle.model.specs.declared.Report.{Report}
 use Rattle.model.specs.declared.Reported.the-variants as reported
 use Rattle.model.specs.Calls.{openAs, act}
-use Rattle.model.specs.Report.{report, Walk, entries, contents}
+use Rattle.model.specs.Walk.{Walk, entries, contents}
+use Rattle.model.specs.Report.{report}
 use Rattle.model.specs.Deque.{serveFor}
 
 -- An operation of a task: an element of the list, with any numbers.
@@ -171,10 +174,15 @@ pub record Linearized (q : Queue) (os : List Request) : Type 0 where
   pub calls : All (λ (c : Call). Lawful c (c .ending)) (ledger (run q os) .calls)
   pub waits : contents (final q os .tables) ≡ entries (ledger (run q os) .deque)
 
--- No operation is refused as unsound, nor is a report after them.
+-- No operation is refused as unsound.
 pub record NeverUnsound (q : Queue) (os : List Request) : Type 0 where
   pub operations : All (λ (e : Event). e .outcome ≡ Refused 34 → ⊥) (run q os)
-  pub reports : report (final q os) ≡ reported.Refused 34 → ⊥
+
+-- A report after them is told, and waiting is the length of the sequential deque's queue.
+pub record Told (q : Queue) (os : List Request) : Type 0 where
+  pub tells : Report
+  pub is : report (final q os) ≡ reported.Told tells
+  pub waiting : tells .waiting ≡ length (ledger (run q os) .deque)
 
 -- The list follows any accepted opening, named or pooled, on any tables; it may be empty, and may name any numbers.
 abbrev pub AfterOpeningAs : Bool → (Queue → List Request → Type 0) → Type 0
@@ -183,12 +191,15 @@ AfterOpeningAs pooled P = (q : Queue) (tasks slots tag : ℕ) → openAs pooled 
 abbrev pub AfterOpening : (Queue → List Request → Type 0) → Type 0
 AfterOpening P = (pooled : Bool) → AfterOpeningAs pooled P
 
--- Demand 3; and that 34 never occurs.
+-- Demand 3; that 34 never occurs; and what a report tells (document 02, #102).
 abbrev pub Linearizable : Type 0
 Linearizable = AfterOpening Linearized
 
 abbrev pub Never34 : Type 0
 Never34 = AfterOpening NeverUnsound
+
+abbrev pub Reports : Type 0
+Reports = AfterOpening Told
 
 -- A record holds slot x: a push at 1 to 10 that is not finishing its own; a pop at 11 the end that it took, at 15 to 17 its own.
 unfoldable pub holdsSlot : Record → ℕ → Bool

@@ -2,9 +2,10 @@ pub mod Tables
 pub mod Sound
 pub mod Places
 pub mod Route
+pub mod Deque
+pub mod Walk
 pub mod Refusals
 pub mod Calls
-pub mod Deque
 pub mod Report
 pub mod History
 pub mod OneTouch

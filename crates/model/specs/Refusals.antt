@@ -10,6 +10,7 @@ use Rattle.model.specs.declared.Control.{Control}
 use Rattle.model.specs.declared.Record.{Record}
 use Rattle.model.specs.Tables.{Tables, Queue, isPooled, marked}
 use Rattle.model.specs.Sound.{every, from1, anchorSound, linkSound, controlSound, recordSound, rowsFit}
+use Rattle.model.specs.Walk.{contents, isBroken}
 use Rattle.model.specs.Places.{row, linkMet, Touch, nothing, setAnchor, setLink, clearMark, takeSlot, setNext, setHead, move}
 
 -- A test with its number.
@@ -164,11 +165,12 @@ stepRules q p r =
 unfoldable pub stepRefusal : Tables → Lent → Record → ℕ
 stepRefusal q p r = first (stepRules q p r)
 
--- The report names no task and no slot.
+-- The report names no task and no slot; its last rule is 34 for the walk.
 abbrev pub reportRules : Queue → List Rule
 reportRules q =
     rule 34 (not (controlSound (q .tables .control)))
     ∷ rule 12 (not (rowsFit (isPooled (q .tables .control)) (q .tables .control .slots) (q .tables) && recordsFit (q .tables .control .tasks) q))
+    ∷ rule 34 (isBroken (contents (q .tables)))
     ∷ []
 
 unfoldable pub reportRefusal : Queue → ℕ

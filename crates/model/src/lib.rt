@@ -72,8 +72,11 @@ pub enum Opening {
 pub struct Report {
     pub anchor: Anchor,
     pub busy: u64,
-    pub retries: u64,
+    /// The labels in the queue.
     pub waiting: u64,
+    /// The slots marked, those of half-done calls included.
+    pub taken: u64,
+    pub retries: u64,
 }
 
 pub enum Reported {

@@ -11,9 +11,9 @@ use borrow.Author.Tests.{eq-eqb, eqb-false, eqb-true, le-leb, ne-eqb}
 use Rattle.word.specs.Anchor.{anchorOf}
 use Rattle.word.specs.Link.{linkOf}
 use Rattle.model.specs.History.{All}
-use Rattle.model.specs.Report.{Walk, along, andThen, broken, contents, entries, walkFrom}
-use Rattle.model.specs.Sound.{from1}
-use Rattle.model.specs.Tables.{Tables, far, isEmpty, near, opposite}
+use Rattle.model.specs.Walk.{Walk, along, andThen, broken, contents, entries, walkFrom, whence as side-of}
+use Rattle.model.specs.Sound.{from1, linkSound}
+use Rattle.model.specs.Tables.{Tables, far, isEmpty, links, near, opposite}
 use Rattle.model.specs.declared.Entry.{Entry}
 use Rattle.model.proofs.tests.Truth.{and-of, and-true, by-test, not-both, split}
 use Rattle.model.proofs.lists.All.{all-far, all-map, all-seen}
@@ -29,6 +29,8 @@ use Rattle.model.proofs.invariant.Shape.{Joint, Linked, Rough}
 use Rattle.model.proofs.chain.Ends.{no-entry}
 use Rattle.model.proofs.chain.Sides.{far as far-end, near as near-end, turn}
 use Rattle.model.proofs.places.Owned.{queued-free}
+use Rattle.model.proofs.bridge.Facts.{LinksFine}
+use Rattle.model.proofs.unsound.Tests.{link-sound}
 use Rattle.model.proofs.bridge.View.{anchorSeen, linkAt, statusOf, view}
 
 abbrev Real : Tables → Entry → Type 0
@@ -37,21 +39,24 @@ Real q e = (e .slot ≢ 0) × (e .slot ≤ q .control .slots)
 real-test : (n x : ℕ) → x ≢ 0 → x ≤ n → from1 n x ≡ true
 real-test n x h g = rw (le-leb 1 x (omega arith), le-leb x n g)
 
-module _ (q : Tables) (side : ℕ) (b : Bool) (hb : eqb side 1 ≡ b) where
+module _ (q : Tables) (fine : LinksFine q) (b : Bool) where
   abbrev next : ℕ → ℕ
   next x = linkOf (linkAt q b x) .slot
+
+  sound : (x : ℕ) → x ≤ q .control .slots → linkSound (q .control .slots) (linkAt q b x) ≡ true
+  sound x h = link-sound (q .control .slots) (linkAt q b x) (fine .spare b x h) (fine .slot b x h)
 
   -- From the near entry to the far one.
   along-is : (e : Entry) (l : List Entry) (n : ℕ) → From (λ x y. next x ≡ y) (e .slot) (slots l) → Distinct (slots (e ∷ l))
       → All (λ (z : Entry). getD (q .labels) (z .slot) 0 ≡ z .label) (e ∷ l) → All (Real q) (e ∷ l) → length (e ∷ l) ≤ n
-      → along q side (front (reverse (slots (e ∷ l))) 0) n (e .slot) ≡ entries (e ∷ l)
+      → along (q .control .slots) (cond b (q .rights) (q .lefts)) (q .labels) (front (reverse (slots (e ∷ l))) 0) n (e .slot) ≡ entries (e ∷ l)
   unfolding along
   along-is e l zero c u v r h = absurd (omega arith)
   along-is e [] (suc n) c u v r h = rw (real-test _ _ (r .0 .0) (r .0 .1), eq-eqb (e .slot) (e .slot) refl) (λ i. entries (record { slot = e .slot; label = v .0 i } ∷ []))
   along-is e (f ∷ l) (suc n) c u v r h =
       let g = far-cons (e .slot) (f .slot) (slots l) 0 in
       let ih = along-is f l n (c .1) (u .1) (v .1) (r .1) (omega arith) in
-      rw (real-test _ _ (r .0 .0) (r .0 .1), g, ne-eqb (e .slot) (front (reverse (slots (f ∷ l))) 0) (λ z. all-far (λ y. y ≢ e .slot) (f .slot) (slots l) 0 (u .0) (sym z)), hb, c .0)
+      rw (real-test _ _ (r .0 .0) (r .0 .1), g, ne-eqb (e .slot) (front (reverse (slots (f ∷ l))) 0) (λ z. all-far (λ y. y ≢ e .slot) (f .slot) (slots l) 0 (u .0) (sym z)), sound (e .slot) (r .0 .1), c .0)
       (λ i. andThen (record { slot = e .slot; label = v .0 i }) (ih i))
 
 -- The walk as it is turned to run from left to right.
@@ -92,9 +97,13 @@ opposite-is : (d : Bool) → eqb (cond d 0 1) 1 ≡ not d
 opposite-is false = refl
 opposite-is true = refl
 
-module _ (q : Tables) (h : ℕ → Owner) (l : List Entry) (w : Whole (view q) h l) where
+module _ (q : Tables) (fine : LinksFine q) (h : ℕ → Owner) (l : List Entry) (w : Whole (view q) h l) where
   abbrev A : Anchor
   A = anchorSeen (q .control .anchor)
+
+  -- The walk that begins at a side, from y to x.
+  abbrev from : Bool → ℕ → ℕ → Walk
+  from d x y = along (q .control .slots) (links q (cond d 0 1)) (q .labels) x (q .control .slots) y
 
   low : All (λ x. x ≤ q .control .slots) (slots l)
   unfolding view
@@ -108,7 +117,7 @@ module _ (q : Tables) (h : ℕ → Owner) (l : List Entry) (w : Whole (view q) h
   few = subst (λ k. k ≤ q .control .slots) (length-map l (λ (e : Entry). e .slot)) (pigeon (q .control .slots) (slots l) (w .shape .distinct) (w .shape .real) low)
 
   from-side : (d : Bool) → whence (A .status) ≡ d → (m : List Entry) → seen d l ≡ m → eqb (A .left) 0 ≡ false
-      → turned d (along q (cond d 0 1) (tip A (not d)) (q .control .slots) (tip A d)) ≡ entries l
+      → turned d (from d (tip A (not d)) (tip A d)) ≡ entries l
   unfolding view
   from-side d z [] g e =
       let y : l ≡ seen d [] = sym (seen-seen d l) ∙ ap (λ (l : List Entry). seen d l) g in
@@ -124,8 +133,8 @@ module _ (q : Tables) (h : ℕ → Owner) (l : List Entry) (w : Whole (view q) h
       let r : All (Real q) (x ∷ m) = real (x ∷ m) (subst (λ (l : List ℕ). All (λ x. x ≢ 0) l) s (all-seen (λ x. x ≢ 0) d (slots l) (w .shape .real)))
       (subst (λ (l : List ℕ). All (λ x. x ≤ q .control .slots) l) s (all-seen (λ x. x ≤ q .control .slots) d (slots l) low)) in
       let b : length (x ∷ m) ≤ q .control .slots = let y = ap (λ (l : List Entry). length l) g in omega (arith, length-seen d l, few) in
-      rw (near-end k A (slots l) (w .shape) d (slots (x ∷ m)) s, far-end k A (slots l) (w .shape) d (slots (x ∷ m)) s)
-      (ap (turned d) (along-is q (cond d 0 1) (not d) (opposite-is d) x m (q .control .slots) c u v r b) ∙ ap entries (ap (λ (l : List Entry). seen d l) (sym g) ∙ seen-seen d l))
+      rw (opposite-is d, near-end k A (slots l) (w .shape) d (slots (x ∷ m)) s, far-end k A (slots l) (w .shape) d (slots (x ∷ m)) s)
+      (ap (turned d) (along-is q fine (not d) x m (q .control .slots) c u v r b) ∙ ap entries (ap (λ (l : List Entry). seen d l) (sym g) ∙ seen-seen d l))
 
   -- Null ends: the queue is empty, and then both are null.
   no-left : eqb (A .left) 0 ≡ true → slots l ≡ []
@@ -141,12 +150,12 @@ module _ (q : Tables) (h : ℕ → Owner) (l : List Entry) (w : Whole (view q) h
   unfolding contents view
   waits =
       let a = anchorOf (q .control .anchor) in
-      let side : ℕ = cond (eqb (a .status) 2) 0 1 in
+      let side = side-of (a .status) in
       by-test (λ z. z ≡ entries l) (isEmpty a)
       (λ e. ap entries (sym (slots-nil l (no-left (and-true _ _ e .0)))))
-      (λ e. turned-is side (along q (opposite side) (far side a) (q .control .slots) (near side a))
-      ∙ subst (λ (b : Bool). turned b (along q (cond b 0 1) (cond b (a .left) (a .right)) (q .control .slots) (cond b (a .right) (a .left))) ≡ entries l) (sym (whence-is (a .status)))
-      (subst₂ (λ x y. turned (whence (A .status)) (along q (cond (whence (A .status)) 0 1) x (q .control .slots) y) ≡ entries l)
+      (λ e. turned-is side (along (q .control .slots) (links q (opposite side)) (q .labels) (far side a) (q .control .slots) (near side a))
+      ∙ subst (λ (b : Bool). turned b (from b (cond b (a .left) (a .right)) (cond b (a .right) (a .left))) ≡ entries l) (sym (whence-is (a .status)))
+      (subst₂ (λ x y. turned (whence (A .status)) (from (whence (A .status)) x y) ≡ entries l)
       (tips-far (whence (A .status))) (tip-cond (whence (A .status)))
       (from-side (whence (A .status)) refl (seen (whence (A .status)) l) refl (some-left e))))
     where

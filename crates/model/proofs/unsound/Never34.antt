@@ -6,13 +6,11 @@ use mathlib.Core.Path.{_≡_, ap, subst, sym}
 use Prim.Native.Nat.{suc, ℕ}
 use native.Mathlib.Omega.{arith}
 use lib.Dec.{eqb, leb}
-use lib.ListN.{length}
 use borrow.Author.Tests.{eq-eqb, eqb-false, eqb-true, not-false}
 use Rattle.model.specs.Calls.{Acted, Done, act, actOn, back, finish, popStart, pushStart, putStart, step}
 use Rattle.model.specs.History.{Ledger, NeverUnsound, Request, final, run}
 use Rattle.model.specs.Places.{linkMet}
-use Rattle.model.specs.Refusals.{among, late, popRefusal, pushRefusal, putRefusal, reportRefusal, stepRefusal, stepSound}
-use Rattle.model.specs.Report.{report}
+use Rattle.model.specs.Refusals.{among, late, popRefusal, pushRefusal, putRefusal, stepRefusal, stepSound}
 use Rattle.model.specs.Sound.{controlSound, from1, recordSound, rowsFit}
 use Rattle.model.specs.Tables.{Queue, Tables, asking, idle, isPooled, marked, recordAt, started}
 use Rattle.model.specs.declared.Answer.{Answer}
@@ -20,8 +18,6 @@ use Rattle.model.specs.declared.Op.the-variants.{Pop, Push, Put, Step}
 use Rattle.model.specs.declared.Op.{Op}
 use Rattle.model.specs.declared.Outcome.the-variants.{Moved, Refused}
 use Rattle.model.specs.declared.Record.{Record}
-use Rattle.model.specs.declared.Reported.the-variants as reported
-use Rattle.model.specs.declared.Reported.{Reported}
 use Rattle.model.proofs.tests.Truth.{by-test, decide-eq, not-both}
 use Rattle.model.proofs.lists.Store.{set-back}
 use Rattle.model.proofs.bridge.Accepted.{Lies, lies, pop-accepted, push-accepted, put-accepted, step-accepted}
@@ -139,22 +135,10 @@ module _ (n : ℕ) (q : Queue) (l : Ledger) (g : Matched n q l) (f : Safe q) (t 
       (λ e. let s = step-accepted q t (eqb-true _ _ e) in (moved _, step-safe n q l g f t (s .lies) (s .busy)))
       (λ e. refused (stepRefusal G (among q t) r) step-34)
 
--- Nor is a report.
-report-safe : (q : Queue) → Safe q → report q ≡ reported.Refused 34 → ⊥
-unfolding report reportRefusal
-report-safe q f = by-test (λ (r : Reported). r ≡ reported.Refused 34 → ⊥) (eqb (reportRefusal q) 0)
-    (λ z e. let w : _≡_ {A = ℕ} 0 1 = cc in omega arith)
-    (λ z e. report-34 cc)
-  where
-    report-34 : reportRefusal q ≢ 34
-    report-34 =
-        by-test (λ v. v ≢ 34) (not (controlSound (q .tables .control))) (λ e. absurd (not-both e (ap not (f .control))))
-        (λ e. by-test (λ v. v ≢ 34) (not (rowsFit (isPooled (q .tables .control)) (q .tables .control .slots) (q .tables) && leb (q .tables .control .tasks) (length (q .records)))) (λ e. omega arith) (λ e. omega arith))
-
-pub run-safe : (os : List Request) (n : ℕ) (q : Queue) (l : Ledger) → Matched n q l → Safe q → NeverUnsound q os
+pub run-safe : (os : List Request) (n : ℕ) (q : Queue) (l : Ledger) → Matched n q l → Safe q → NeverUnsound q os × Safe (final q os)
 unfolding run final
-run-safe [] n q l g f = record { operations = tt; reports = report-safe q f }
+run-safe [] n q l g f = (record { operations = tt }, f)
 run-safe (o ∷ os) n q l g f =
     let a = act-safe n q l g f (o .task) (o .op) in
     let h = run-safe os (suc n) (act q (o .task) (o .op) .queue) _ (act-good n q l g (o .task) (o .op)) (a .1) in
-    record { operations = (a .0, h .operations); reports = h .reports }
+    (record { operations = (a .0, h .0 .operations) }, h .1)
