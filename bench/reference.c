@@ -357,11 +357,59 @@ zc_reply CALL(step_record)(zc_control *control, zc_record *one,
     return advance(control, one, lefts, rights, labels, marks);
 }
 
+#ifdef AS_LIBRARY
+zc_run_reply zc_run(zc_control *control, zc_record *records, size_t record_count, size_t task,
+                    uint64_t most, TABLES(uint64_t, const uint32_t, uint64_t))
+{
+    for (uint64_t made = 0; made < most; made++) {
+        zc_reply reply = zc_step(control, records, record_count, task, lefts, left_count, rights,
+                                 right_count, labels, label_count, marks, mark_count);
+        if (reply.code != ZC_RUNNING)
+            return (zc_run_reply){reply.code, reply.label, reply.value,
+                                  zc_refused(reply) ? made : made + 1};
+    }
+    return (zc_run_reply){ZC_RUNNING, 0, task < record_count ? records[task].place : 0, most};
+}
+#endif
+
+/* The labels waiting, from end to end; 0 where the links lead astray or nothing waits. */
+static uint64_t walked(const zc_control *control, const uint64_t *lefts, const uint64_t *rights)
+{
+    int from_left = zc_anchor_status(control->anchor) == ZC_LPUSH;
+    const uint64_t *links = from_left ? rights : lefts;
+    uint64_t left = zc_anchor_left(control->anchor), right = zc_anchor_right(control->anchor);
+    uint64_t slot = from_left ? left : right, last = from_left ? right : left;
+    uint64_t count = 1;
+    while (slot != last && count < control->slots) {
+        uint64_t link = links[slot];
+        if (!link_sound(link, control->slots) || zc_link_slot(link) == 0)
+            return 0;
+        slot = zc_link_slot(link);
+        count++;
+    }
+    return slot == last ? count : 0;
+}
+
+/* The marks set for slots 1 to slots. */
+static uint64_t marked_slots(const uint64_t *marks, uint64_t slots)
+{
+    uint64_t last = slots / 64, count = 0;
+    for (uint64_t word = 0; word <= last; word++) {
+        uint64_t kept = marks[word];
+        if (word == 0)
+            kept &= ~UINT64_C(1);
+        if (word == last)
+            kept &= UINT64_MAX >> (63 - slots % 64);
+        count += (uint64_t)__builtin_popcountll(kept);
+    }
+    return count;
+}
+
 zc_report_reply CALL(report)(const zc_control *control, const zc_record *records,
                              size_t record_count,
                              TABLES(const uint64_t, const uint32_t, const uint64_t))
 {
-    (void)lefts, (void)rights, (void)labels;
+    (void)labels;
     zc_report_reply reply = {0};
     if (!control_sound(control)) {
         reply.code = ZC_UNSOUND;
@@ -372,6 +420,13 @@ zc_report_reply CALL(report)(const zc_control *control, const zc_record *records
         reply.code = ZC_SHORT;
         return reply;
     }
+    if (zc_anchor_right(control->anchor) != 0) {
+        reply.waiting = walked(control, lefts, rights);
+        if (reply.waiting == 0) {
+            reply.code = ZC_UNSOUND;
+            return reply;
+        }
+    }
     reply.tag = zc_anchor_tag(control->anchor);
     reply.status = zc_anchor_status(control->anchor);
     reply.left = zc_anchor_left(control->anchor);
@@ -379,7 +434,48 @@ zc_report_reply CALL(report)(const zc_control *control, const zc_record *records
     reply.retries = control->retries;
     for (uint64_t task = 0; task < control->tasks; task++)
         reply.busy += records[task].place != 0;
-    for (uint64_t slot = 1; slot <= control->slots; slot++)
-        reply.waiting += (uint64_t)zc_marked(marks, slot);
+    reply.taken = marked_slots(marks, control->slots);
+    return reply;
+}
+
+/* Each row compared with every label asked for. */
+zc_find_reply CALL(find)(const zc_control *control, const uint32_t *asked, size_t asked_count,
+                         TABLES(const uint64_t, const uint32_t, const uint64_t))
+{
+    static const zc_find_reply nothing;
+    zc_find_reply reply = nothing;
+    (void)marks;
+    if (!control_sound(control))
+        reply.code = ZC_UNSOUND;
+    else if (asked_count > ZC_MOST_ASKED)
+        reply.code = ZC_MANY_ASKED;
+    else if (!rows_fit(control->slots, left_count, right_count, label_count, mark_count))
+        reply.code = ZC_SHORT;
+    if (reply.code != 0 || zc_anchor_right(control->anchor) == 0)
+        return reply;
+    int from_left = zc_anchor_status(control->anchor) == ZC_LPUSH;
+    const uint64_t *links = from_left ? rights : lefts;
+    uint64_t left = zc_anchor_left(control->anchor), right = zc_anchor_right(control->anchor);
+    uint64_t slot = from_left ? left : right, last = from_left ? right : left;
+    for (;;) {
+        uint32_t label = labels[slot];
+        reply.rows++;
+        for (size_t at = 0; at < asked_count; at++)
+            if (asked[at] == label && (!from_left || reply.positions[at] == 0))
+                reply.positions[at] = reply.rows;
+        if (slot == last)
+            break;
+        uint64_t link = links[slot];
+        if (reply.rows == control->slots || !link_sound(link, control->slots) ||
+            zc_link_slot(link) == 0) {
+            reply = nothing;
+            reply.code = ZC_UNSOUND;
+            return reply;
+        }
+        slot = zc_link_slot(link);
+    }
+    for (size_t at = 0; !from_left && at < asked_count; at++)
+        if (reply.positions[at] != 0)
+            reply.positions[at] = reply.rows + 1 - reply.positions[at];
     return reply;
 }

@@ -26,8 +26,14 @@ zc_reply CALL(step)(zc_control *control, zc_record *records, size_t record_count
                     TABLES(uint64_t, const uint32_t, uint64_t));
 zc_reply CALL(step_record)(zc_control *control, zc_record *one,
                            TABLES(uint64_t, const uint32_t, uint64_t));
+#ifdef AS_LIBRARY /* alone it would be a second caller of the step that is measured */
+zc_run_reply zc_run(zc_control *control, zc_record *records, size_t record_count, size_t task,
+                    uint64_t most, TABLES(uint64_t, const uint32_t, uint64_t));
+#endif
 zc_report_reply CALL(report)(const zc_control *control, const zc_record *records,
                              size_t record_count,
                              TABLES(const uint64_t, const uint32_t, const uint64_t));
+zc_find_reply CALL(find)(const zc_control *control, const uint32_t *asked, size_t asked_count,
+                         TABLES(const uint64_t, const uint32_t, const uint64_t));
 
 #endif

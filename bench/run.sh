@@ -1,8 +1,8 @@
 #!/bin/bash
-# The library's step against the same step by hand in C, and against the bare algorithm.
+# The library's step against the same step by hand in C, and against the bare algorithm; the calls
+# that walk the queue against the same calls by hand in C.
 #
-#     bench/run.sh [FOLDER]         of libcapi.a and libcapi_record.a; default: target/staticlib,
-#                                   where `rt staticlib capi` and `rt staticlib capi_record` write them
+#     bench/run.sh [FOLDER]         of libzeppolecape.a; default: target/lib, where `make` writes it
 #     bench/run.sh --stand-in       reference.c in the library's place: all ratios should be 1
 #
 # CC (gcc), OPT (-O3), STEPS (100000), TIMES (150) may be set.
@@ -19,32 +19,33 @@ WARNINGS="-std=gnu11 -Wall -Wextra -Werror"
 work=$(mktemp -d)
 trap 'rm -rf "$work"' EXIT
 
-folder=${1:-../target/staticlib}
+folder=${1:-../target/lib}
 if [ "$folder" = --stand-in ]; then
     $CC $WARNINGS $OPT -DAS_LIBRARY -I../include -c reference.c -o "$work/library.o"
-    archives=("$work/library.o") # all calls are in one
+    archive=$work/library.o
 else
     [ $# -eq 0 ] || folder=$(cd "$OLDPWD" && realpath "$folder")
-    archives=("$folder/libcapi.a" "$folder/libcapi_record.a")
-    for archive in "${archives[@]}"; do
-        if [ ! -f "$archive" ]; then
-            echo "bench: no archive $archive; build it with: rt staticlib $(basename "${archive%.a}" | sed s/^lib//)" >&2
-            exit 2
-        fi
-    done
+    archive=$folder/libzeppolecape.a
+    if [ ! -f "$archive" ]; then
+        echo "bench: no $archive; build it with: make" >&2
+        exit 2
+    fi
 fi
 
-for source in main reference bare; do
+for source in main reference bare walks; do
     $CC $WARNINGS $OPT -I../include -c $source.c -o "$work/$source.o"
 done
-$CC "$work"/{main,reference,bare}.o "${archives[@]}" -o "$work/bench"
+$CC "$work"/{main,reference,bare}.o "$archive" -o "$work/bench"
+$CC "$work"/{walks,reference}.o "$archive" -o "$work/walks"
 
 # Instructions of a whole replay by callgrind; nothing if it cannot tell.
-instructions() { # ENGINE TASKS SLOTS
-    valgrind --tool=callgrind --callgrind-out-file=/dev/null --toggle-collect="replay_$1" \
-        "$work/bench" count "$1" "$2" "$3" $COUNTED 2>&1 >/dev/null |
+collected() { # ENGINE COMMAND..
+    local engine=$1
+    shift
+    valgrind --tool=callgrind --callgrind-out-file=/dev/null --toggle-collect="replay_$engine" "$@" 2>&1 >/dev/null |
         sed -n 's/.*Collected : \([0-9]*\).*/\1/p' || true
 }
+instructions() { collected "$1" "$work/bench" count "$1" "$2" "$3" $COUNTED; } # ENGINE TASKS SLOTS
 
 have_callgrind=yes
 if ! command -v valgrind >/dev/null || [ -z "$(instructions loop 1 3)" ]; then
@@ -90,3 +91,22 @@ for call in step step_record; do
 done
 echo
 echo "Answers and tables of all three were the same in every line."
+echo
+echo "The calls that walk the queue, 1,023 slots; nanoseconds and instructions a call."
+echo
+echo "| call | labels waiting | ns: library | C | library/C | instructions: library | C |"
+echo "|---|---|---|---|---|---|---|"
+for call in report find; do
+    for labels in 3 64 1023; do
+        "$work/walks" check $labels
+        "$work/walks" time $call $labels 500 >"$work/times"
+        a=$(awk '$1 == "library" { print $2 }' "$work/times")
+        b=$(awk '$1 == "reference" { print $2 }' "$work/times")
+        ia=- ib=-
+        if [ $have_callgrind = yes ]; then
+            ia=$(($(collected library "$work/walks" count $call library $labels) / 1000))
+            ib=$(($(collected reference "$work/walks" count $call reference $labels) / 1000))
+        fi
+        printf '| zc_%s | %s | %.0f | %.0f | %s | %s | %s |\n' $call $labels "$a" "$b" "$(ratio "$a" "$b")" "$ia" "$ib"
+    done
+done

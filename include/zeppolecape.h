@@ -1,27 +1,27 @@
 /*
  * zeppolecape.h - the label queue, a shared deque moved one touch at a time.
  *
- * The library holds no memory of its own. You lend it tables; it opens a queue
- * in them, starts a push or a pop for a task, moves one task by one step, and
- * reports. A step writes one shared word at the most, and an executive may
- * interleave the steps of its tasks in any order and stop any of them anywhere:
- * the others never wait for it. The method is Michael's CAS-based deque.
+ * WHAT IT IS NOT: a queue that two callers may enter at once. One call at a time on a queue. The
+ * library uses plain loads and stores, so it is not for several cores or threads at once, and it
+ * is not re-entrant: mask interrupts (or hold a lock) around each call and around each read of the
+ * tables, as examples/c/interrupt.c does. Two callers at once lose labels, and nothing tells. What
+ * is lock-free is the tasks, between calls: wherever a task is stopped, the others go on.
  *
- *     rt staticlib capi                          (writes target/staticlib/libcapi.a, for x86-64)
- *     cc -Iinclude main.c target/staticlib/libcapi.a
+ * WHAT IT IS. The library holds no memory of its own. You lend it tables; it opens a queue in them,
+ * starts a push or a pop for a task, moves one task by one step, and reports. A step writes one
+ * shared word at the most, and an executive may interleave the steps of its tasks in any order and
+ * stop any of them anywhere: the others never wait for it. The method is Michael's CAS-based deque.
  *
- * A program that calls zc_step_record also links libcapi_record.a (rt staticlib capi_record).
- * The libraries call nothing but memset, and that only from zc_open.
+ *     make                                          (proves, and writes target/lib/libzeppolecape.a)
+ *     cc -Iinclude main.c target/lib/libzeppolecape.a
+ *
+ * The library is for x86-64. It calls nothing but memset, from zc_open, zc_audit_words and the order
+ * sheets, and memcpy, from zc_find and the order sheets.
  *
  * In short:
  *
  *     enum { TASKS = 2, SLOTS = 3 };
- *     zc_control control;
- *     zc_record  records[TASKS];
- *     uint64_t   lefts[ZC_ROWS(SLOTS)], rights[ZC_ROWS(SLOTS)], marks[ZC_MARK_WORDS(SLOTS)];
- *     uint32_t   labels[ZC_ROWS(SLOTS)];
- *     zc_queue   queue = { &control, records, TASKS, lefts, ZC_ROWS(SLOTS), rights, ZC_ROWS(SLOTS),
- *                          labels, ZC_ROWS(SLOTS), marks, ZC_MARK_WORDS(SLOTS) };
+ *     ZC_QUEUE_STORAGE(queue, TASKS, SLOTS);                     the tables, and `queue` to lend them
  *
  *     zc_queue_open(&queue, TASKS, SLOTS, 0);                    answers 0
  *     zc_queue_push(&queue, 0, ZC_RIGHT, 1, 700);                task 0 starts: slot 1, label 700
@@ -34,15 +34,41 @@
  *  - `control`, and `one` of zc_step_record, are not null. Every pointer is aligned
  *    for its type and good for its count of elements (a count is never in bytes).
  *  - No two of the tables overlap, nor do they overlap control or a record.
- *  - One call at a time on a queue. The library uses plain loads and stores: it is
- *    the executive that makes each step one undivided touch. Calls on different
- *    queues are independent.
+ *  - One call at a time on a queue, as said above: it is the executive that makes each step
+ *    one undivided touch. Calls on different queues are independent.
  *  - Between calls the tables are yours to read. Writing into an open queue is
  *    never dangerous to memory, but only a queue that was written by these calls
  *    alone keeps its promises (and never answers 34).
  * Everything else is checked: any number may be passed for any other argument, any
  * contents may lie in the tables, and any table may be too short. A table with
  * count 0 may be null; it is a short table (12) like any other.
+ *
+ * WHO STEPS A TASK. A call belongs to its task's record, not to whoever steps it: a watchdog may
+ * step a task that hangs, to its answer if it likes. The answer goes to the caller of that step and
+ * is told once; the record is then zero. So a watchdog that gets an answer keeps it for the task: a
+ * popped label is nowhere else. The task finds its place 0, and its own next step is refused 31.
+ *
+ * CODES, one convention for all calls: an unsigned number, 0 for an opening or a report carried out,
+ * 1 to 9 for what a call answers, 10 and above for a refusal (zc_is_refusal). A reply holds it in
+ * 32 bits, a report in 64; a uint64_t takes either, and all the ZC_ names below compare with both.
+ *
+ * FACTS, the most that bench/facts.sh saw over random calls; memset's instructions are not counted:
+ *                  stack,   instructions at most, by tasks and slots
+ *                  bytes      1, 3     5, 12  16, 1023
+ *   zc_open            72        75        75        75
+ *   zc_push           136       229       229       229
+ *   zc_pop            120       214       214       214
+ *   zc_step           160       247       247       247
+ *   zc_step_record    168       242       242       242
+ *   zc_run            192      1298      3024      3024
+ *   zc_report         112       227       503     27343
+ *   table bytes         -       192       664     21792
+ *   code bytes: audit 1804, capi 5987, capi_record 2702, capi_run 3057, find 3506, sheet 3579
+ * As to the machine: x86-64, System V calling convention. The code uses the red zone (128 bytes
+ * below the stack pointer) and SSE registers, no AVX: an interrupt handler that makes a call saves
+ * the SSE state first, and an interrupt that is not masked during a call leaves the red zone alone.
+ * A task stepped alone answers within 18 steps in a push and 13 in a pop, wherever the others
+ * stopped (ZC_PUSH_STEPS); between other tasks' steps it may have to try again and again.
  *
  * A REFUSAL is its number alone: every table keeps its contents. If several
  * numbers apply, the first in the order that stands with the call is answered.
@@ -65,12 +91,34 @@
 extern "C" {
 #endif
 
+/* ---- Version ----------------------------------------------------------------------------
+ * Major: a layout, a code, or what a call takes or does has changed: read CHANGELOG.md and compile
+ * again. Minor: something was added. Patch: neither.
+ */
+#define ZC_VERSION_MAJOR 1
+#define ZC_VERSION_MINOR 0
+#define ZC_VERSION_PATCH 0
+#define ZC_VERSION (ZC_VERSION_MAJOR * 10000 + ZC_VERSION_MINOR * 100 + ZC_VERSION_PATCH)
+
 /* ---- Limits and lengths ---------------------------------------------------------------- */
 
 #define ZC_MOST_TASKS 16
 #define ZC_MOST_SLOTS 1023
 #define ZC_LAST_START_TAG UINT64_C(4294967262) /* with a higher tag a start is refused 33 */
+#define ZC_MOST_ASKED 32
 #define ZC_MOST_RETRIES UINT64_C(4294967295)   /* where the count of retries stays */
+
+/*
+ * How long a call may hold up, in a queue that was opened and moved by these calls alone. Figures
+ * for a watchdog; a refused step does not count:
+ *  - a busy task stepped alone answers within ZC_PUSH_STEPS steps for a push and ZC_POP_STEPS for a
+ *    pop, wherever all the others stopped. Both are reached;
+ *  - any ZC_STRETCH(tasks) steps, of whatever tasks, hold one with which a call takes effect or
+ *    answers.
+ */
+#define ZC_PUSH_STEPS 18
+#define ZC_POP_STEPS 13
+#define ZC_STRETCH(tasks) (26 * (uint64_t)(tasks))
 
 /* Entries of lefts, rights and labels: rows 0 to slots (row 0 is null's and stays unused). */
 #define ZC_ROWS(slots) ((size_t)(slots) + 1)
@@ -105,6 +153,7 @@ extern "C" {
 #define ZC_NO_TASK 13 /* tasks are 0 to tasks - 1 */
 #define ZC_NO_SIDE 14
 #define ZC_NO_SLOT 15 /* slots are 1 to slots; 0 is null */
+#define ZC_MANY_ASKED 45 /* more than 32 labels asked for */
 
 /* Refusals because of the state. */
 #define ZC_BUSY 30  /* step the task to its answer first */
@@ -112,13 +161,13 @@ extern "C" {
 #define ZC_TAKEN 32 /* name a slot whose mark is clear, see zc_marked */
 /*
  * Tags are used up, after some four thousand million changes. 33 refuses every start, of pops too:
- * step the running calls to their answers, read out what waits (zc_queue_waiting), and open again,
- * which forgets it.
+ * step the running calls to their answers and read out what waits (zc_queue_drain), open again,
+ * which forgets it, and push it again (zc_queue_refill). examples/c/renew.c does so.
  */
 #define ZC_WORN 33
 /*
  * The contents of a table contradict each other; never after an opening and calls of this
- * library alone, so somebody else wrote there. Three groups, each tested at its time:
+ * library alone, so somebody else wrote there. Four groups, each tested at its time:
  *  - control: tasks or slots outside their limits; an Anchor with status 3, an end above slots,
  *    just one end null, or unstable with equal ends;
  *  - the record, if busy: place above 11; kind, side or finishing above 1; place 11 in a push;
@@ -127,9 +176,18 @@ extern "C" {
  *    Anchor, or STABLE at places 5 to 10;
  *  - what the step touches: it needs a slot row outside 1 to slots; it meets, at 3, 5 or 7, a link
  *    word with a set bit in 31-15 or a slot above slots (a push at 3: in its own slot); it would
- *    make a change that leaves Anchor unsound or raises a tag past 32 bits.
+ *    make a change that leaves Anchor unsound or raises a tag past 32 bits;
+ *  - the walk of the labels waiting, from one end: before the other end it meets slot 0, a link
+ *    word with a set bit in 31-15 or a slot above slots, or more slots than exist.
  */
 #define ZC_UNSOUND 34
+
+/* Refusal of zc_audit, because of the input: no history that can be judged. */
+#define ZC_BAD_HISTORY 40
+
+/* Refusal of the order sheets, because of the input: over 32 labels or 128 rules, a label listed twice, or a
+ * rule that points outside the list. */
+#define ZC_BAD_SHEET 46
 
 /* ---- Types ------------------------------------------------------------------------------ */
 
@@ -161,14 +219,30 @@ typedef struct zc_reply {
     uint64_t value; /* running: the next place; popped: the slot */
 } zc_reply;
 
+/* What a run of steps answers: as zc_reply, and the steps made. */
+typedef struct zc_run_reply {
+    uint32_t code, label;
+    uint64_t value;
+    uint64_t steps; /* a refused step is none */
+} zc_run_reply;
+
 /* What the report tells. With a refusal every field but code is 0. */
 typedef struct zc_report_reply {
     uint64_t code;                     /* 0, or the number of a refusal */
     uint64_t tag, status, left, right; /* the fields of Anchor */
     uint64_t busy;                     /* tasks with a call under way */
+    uint64_t waiting;                  /* labels in the queue */
+    uint64_t taken; /* marks set for slots 1 to slots, half-done calls included */
     uint64_t retries;
-    uint64_t waiting; /* marks set for slots 1 to slots, half-done calls included */
 } zc_report_reply;
+
+/* Where labels wait. With a refusal every field but code is 0. */
+typedef struct zc_find_reply {
+    uint64_t code; /* 0, or the number of a refusal */
+    uint64_t rows; /* rows read: the labels in the queue */
+    /* Of each label asked for, in their order: from 1 at the left; 0 not waiting, or not asked for. */
+    uint64_t positions[ZC_MOST_ASKED];
+} zc_find_reply;
 
 #ifdef __cplusplus
 #define ZC_LAYOUT(fact) static_assert(fact, #fact)
@@ -187,11 +261,18 @@ ZC_LAYOUT(offsetof(zc_record, finishing) == 64);
 ZC_LAYOUT(sizeof(zc_reply) == 16);
 ZC_LAYOUT(offsetof(zc_reply, code) == 0 && offsetof(zc_reply, label) == 4);
 ZC_LAYOUT(offsetof(zc_reply, value) == 8);
-ZC_LAYOUT(sizeof(zc_report_reply) == 64);
+ZC_LAYOUT(sizeof(zc_run_reply) == 24);
+ZC_LAYOUT(offsetof(zc_run_reply, code) == 0 && offsetof(zc_run_reply, label) == 4);
+ZC_LAYOUT(offsetof(zc_run_reply, value) == 8 && offsetof(zc_run_reply, steps) == 16);
+ZC_LAYOUT(sizeof(zc_report_reply) == 72);
 ZC_LAYOUT(offsetof(zc_report_reply, code) == 0 && offsetof(zc_report_reply, tag) == 8);
 ZC_LAYOUT(offsetof(zc_report_reply, status) == 16 && offsetof(zc_report_reply, left) == 24);
 ZC_LAYOUT(offsetof(zc_report_reply, right) == 32 && offsetof(zc_report_reply, busy) == 40);
-ZC_LAYOUT(offsetof(zc_report_reply, retries) == 48 && offsetof(zc_report_reply, waiting) == 56);
+ZC_LAYOUT(offsetof(zc_report_reply, waiting) == 48 && offsetof(zc_report_reply, taken) == 56);
+ZC_LAYOUT(offsetof(zc_report_reply, retries) == 64);
+ZC_LAYOUT(sizeof(zc_find_reply) == 272);
+ZC_LAYOUT(offsetof(zc_find_reply, code) == 0 && offsetof(zc_find_reply, rows) == 8);
+ZC_LAYOUT(offsetof(zc_find_reply, positions) == 16);
 
 /* ---- The calls ---------------------------------------------------------------------------
  * The tables always come last and in this order, each a pointer and its count of elements:
@@ -255,18 +336,45 @@ zc_reply zc_step_record(zc_control *control, zc_record *one, uint64_t *lefts, si
                         size_t label_count, uint64_t *marks, size_t mark_count);
 
 /*
- * Tells Anchor's fields, the number of busy tasks, retries, and waiting. Writes nothing; of the
- * records it looks at the places alone.
- * Answers code 0, or refuses: 34 for control, 12.
+ * Steps a task until a step does not answer running, `most` times at the most, and answers as the
+ * last step did. With `most` steps made, or none to make, the answer is running at the task's place
+ * (0: it is idle). ZC_PUSH_STEPS or ZC_POP_STEPS are always enough.
+ * Refuses as the step does. In a queue that somebody else wrote to, a later step may be refused too:
+ * the `steps` before it are made and stay.
+ */
+zc_run_reply zc_run(zc_control *control, zc_record *records, size_t record_count, size_t task,
+                    uint64_t most, uint64_t *lefts, size_t left_count, uint64_t *rights,
+                    size_t right_count, const uint32_t *labels, size_t label_count,
+                    uint64_t *marks, size_t mark_count);
+
+/*
+ * Tells Anchor's fields, the number of busy tasks, the labels waiting, the slots taken, and retries.
+ * Writes nothing; of the records it looks at the places alone. It walks the queue from end to end:
+ * its work grows with the labels waiting.
+ * Answers code 0, or refuses: 34 for control, 12, 34 for the walk.
  */
 zc_report_reply zc_report(const zc_control *control, const zc_record *records, size_t record_count,
                           const uint64_t *lefts, size_t left_count, const uint64_t *rights,
                           size_t right_count, const uint32_t *labels, size_t label_count,
                           const uint64_t *marks, size_t mark_count);
 
+/*
+ * Finds up to 32 labels in the queue, equal ones among them, in one walk that reads each waiting
+ * slot's row once. Of equal labels in the queue the leftmost counts. Writes nothing, and looks at no
+ * records.
+ * Answers code 0, or refuses: 34 for control, 45, 12 (rows and marks only), 34 for the walk.
+ */
+zc_find_reply zc_find(const zc_control *control, const uint32_t *asked, size_t asked_count,
+                      const uint64_t *lefts, size_t left_count, const uint64_t *rights,
+                      size_t right_count, const uint32_t *labels, size_t label_count,
+                      const uint64_t *marks, size_t mark_count);
+
 /* ---- An answer taken apart --------------------------------------------------------------- */
 
-static inline int zc_refused(zc_reply reply) { return reply.code >= ZC_BAD_TASKS; }
+/* Whether a code, of whichever call, is the number of a refusal. */
+static inline int zc_is_refusal(uint64_t code) { return code >= ZC_BAD_TASKS; }
+
+static inline int zc_refused(zc_reply reply) { return zc_is_refusal(reply.code); }
 
 /* The number of the refusal; 0 if the call was carried out. */
 static inline uint32_t zc_refusal(zc_reply reply) { return zc_refused(reply) ? reply.code : 0; }
@@ -299,11 +407,14 @@ static inline const char *zc_refusal_text(uint64_t number)
     case ZC_NO_TASK: return "no such task";
     case ZC_NO_SIDE: return "side not 0 or 1";
     case ZC_NO_SLOT: return "slot not 1 to slots";
+    case ZC_MANY_ASKED: return "more than 32 labels asked for";
     case ZC_BUSY: return "the task is busy";
     case ZC_IDLE: return "the task is idle";
     case ZC_TAKEN: return "the slot is taken";
     case ZC_WORN: return "the Anchor tag is too high for another start";
     case ZC_UNSOUND: return "the tables are unsound";
+    case ZC_BAD_HISTORY: return "not a history that can be judged";
+    case ZC_BAD_SHEET: return "the sheet is malformed";
     default: return "not a refusal";
     }
 }
@@ -324,7 +435,9 @@ static inline int zc_marked(const uint64_t *marks, uint64_t slot)
 }
 
 /* ---- The tables named once ----------------------------------------------------------------
- * The same calls for a caller who keeps the pointers and counts together.
+ * The same calls for a caller who keeps the pointers and counts together. These wrappers and helpers
+ * are plain C over the calls, or over tables that they only read; the duties are those of the calls,
+ * one at a time among them.
  */
 typedef struct zc_queue {
     zc_control *control;
@@ -339,6 +452,26 @@ typedef struct zc_queue {
     uint64_t *marks;
     size_t mark_count;
 } zc_queue;
+
+/*
+ * Declares the tables of a queue and the zc_queue `name` that lends them, all static and as long as
+ * `tasks` and `slots`, two constants, ask for. The tables are name_tables.labels and so on; what
+ * they take is sizeof name_tables. Open the queue before use.
+ */
+#define ZC_QUEUE_STORAGE(name, tasks, slots)                                                       \
+    ZC_LAYOUT((tasks) >= 1 && (tasks) <= ZC_MOST_TASKS);                                           \
+    ZC_LAYOUT((slots) >= 1 && (slots) <= ZC_MOST_SLOTS);                                           \
+    static struct {                                                                                \
+        zc_control control;                                                                        \
+        zc_record records[tasks];                                                                  \
+        uint64_t lefts[ZC_ROWS(slots)], rights[ZC_ROWS(slots)], marks[ZC_MARK_WORDS(slots)];       \
+        uint32_t labels[ZC_ROWS(slots)];                                                           \
+    } name##_tables;                                                                               \
+    static const zc_queue name = {                                                                 \
+        &name##_tables.control, name##_tables.records, (tasks),                                    \
+        name##_tables.lefts,    ZC_ROWS(slots),        name##_tables.rights, ZC_ROWS(slots),       \
+        name##_tables.labels,   ZC_ROWS(slots),        name##_tables.marks,  ZC_MARK_WORDS(slots), \
+    }
 
 #define ZC_TABLES(queue)                                                                           \
     (queue)->lefts, (queue)->left_count, (queue)->rights, (queue)->right_count, (queue)->labels,   \
@@ -369,14 +502,47 @@ static inline zc_reply zc_queue_step(const zc_queue *queue, size_t task)
     return zc_step(queue->control, queue->records, queue->record_count, task, ZC_TABLES(queue));
 }
 
+/*
+ * ZC_CORE_ONLY, defined before this header, leaves out the wrappers of calls that libcapi.a lacks,
+ * for one who links that archive alone with a compiler that keeps unused inline functions.
+ */
+#ifndef ZC_CORE_ONLY
 static inline zc_reply zc_queue_step_record(const zc_queue *queue, zc_record *one)
 {
     return zc_step_record(queue->control, one, ZC_TABLES(queue));
 }
 
+static inline zc_run_reply zc_queue_run(const zc_queue *queue, size_t task, uint64_t most)
+{
+    return zc_run(queue->control, queue->records, queue->record_count, task, most,
+                  ZC_TABLES(queue));
+}
+
+static inline zc_find_reply zc_queue_find(const zc_queue *queue, const uint32_t *asked,
+                                          size_t asked_count)
+{
+    return zc_find(queue->control, asked, asked_count, ZC_TABLES(queue));
+}
+#endif
+
 static inline zc_report_reply zc_queue_report(const zc_queue *queue)
 {
     return zc_report(queue->control, queue->records, queue->record_count, ZC_TABLES(queue));
+}
+
+/* A slot that no label and no call holds; 0 if all are taken. */
+static inline uint64_t zc_queue_free_slot(const zc_queue *queue)
+{
+    for (size_t word = 0; word < queue->mark_count; word++) {
+        uint64_t clear = ~queue->marks[word];
+        uint64_t slot = (uint64_t)word * 64;
+        if (word == 0)
+            clear &= ~UINT64_C(1); /* slot 0 is null */
+        for (; clear != 0; clear >>= 1, slot++)
+            if (clear & 1)
+                return slot <= queue->control->slots ? slot : 0;
+    }
+    return 0;
 }
 
 /* The last row that control and the lengths of lefts, rights and labels allow; 0: there is none. */
@@ -393,15 +559,17 @@ static inline uint64_t zc_queue_last_row(const zc_queue *queue)
 }
 
 /*
- * The slots of the labels waiting: writes them from left to right to `slots`, which lies apart from
- * the tables, the first `most` if there are more, and answers how many it wrote. Each is a row of
- * labels too.
+ * The labels waiting: writes their slots to `slots` and the labels themselves to `labels`, either of
+ * which may be null and both of which lie apart from the tables, from left to right, the first
+ * `most` if there are more, and answers how many it wrote.
  * The walk goes from the right end along Left links or, under LPUSH, from the left end along Right
  * links: only at the end that the status names may the link back be unfinished. A queue that was
  * written by the calls alone has every label on the walk. Any contents may lie in the tables: it
- * ends before a row that there is not, and takes no more slots than there are.
+ * ends before a row that there is not, and takes no more slots than there are. This loop is not
+ * among what is proved; wherever zc_report is not refused, both count the same.
  */
-static inline size_t zc_queue_waiting(const zc_queue *queue, uint64_t *slots, size_t most)
+static inline size_t zc_queue_read_out(const zc_queue *queue, uint64_t *slots, uint32_t *labels,
+                                       size_t most)
 {
     uint64_t anchor = queue->control->anchor;
     uint64_t left = zc_anchor_left(anchor), right = zc_anchor_right(anchor);
@@ -418,12 +586,197 @@ static inline size_t zc_queue_waiting(const zc_queue *queue, uint64_t *slots, si
     slot = first;
     for (size_t walked = 0; walked < count; walked++) {
         size_t at = from_left ? walked : count - 1 - walked;
-        if (at < most)
+        if (at < most && slots)
             slots[at] = slot;
+        if (at < most && labels)
+            labels[at] = queue->labels[slot];
         slot = zc_link_slot(links[slot]);
     }
     return count < most ? count : most;
 }
+
+/* The slots alone. */
+static inline size_t zc_queue_waiting(const zc_queue *queue, uint64_t *slots, size_t most)
+{
+    return zc_queue_read_out(queue, slots, NULL, most);
+}
+
+/*
+ * Steps one task, alone, until it answers, and gives that answer; a refusal if the task was idle
+ * (31) or the tables are not those of an open queue; running if it has not answered after
+ * ZC_PUSH_STEPS steps, which does not happen in a queue that was written by the calls alone.
+ */
+static inline zc_reply zc_queue_finish(const zc_queue *queue, size_t task)
+{
+    zc_reply reply = zc_queue_step(queue, task);
+    for (int step = 1; step < ZC_PUSH_STEPS && reply.code == ZC_RUNNING; step++)
+        reply = zc_queue_step(queue, task);
+    return reply;
+}
+
+/*
+ * Brings an open queue to rest and reads it out, as 33 asks for. Steps every busy task to its answer
+ * and writes that to answers[task], code 0 for a task that was idle: a popped label is nowhere else.
+ * Then writes the labels waiting, from left to right, to `labels` and answers how many there are.
+ * `answers` has room for each record and `labels` for each slot, both apart from the tables.
+ */
+static inline size_t zc_queue_drain(const zc_queue *queue, zc_reply *answers, uint32_t *labels)
+{
+    const zc_reply none = {0, 0, 0};
+    for (size_t task = 0; task < queue->record_count; task++)
+        answers[task] = queue->records[task].place == 0 ? none : zc_queue_finish(queue, task);
+    return zc_queue_read_out(queue, NULL, labels, zc_queue_last_row(queue));
+}
+
+/*
+ * Pushes `count` labels at the right, in this order, into free slots, by a task that is idle and
+ * stepped alone. Answers 0, or the first refusal (32 where no slot is free), after which the labels
+ * before it are in the queue.
+ */
+static inline uint32_t zc_queue_refill(const zc_queue *queue, size_t task, const uint32_t *labels,
+                                       size_t count)
+{
+    for (size_t at = 0; at < count; at++) {
+        uint64_t slot = zc_queue_free_slot(queue);
+        if (slot == 0)
+            return ZC_TAKEN;
+        zc_reply reply = zc_queue_push(queue, task, ZC_RIGHT, slot, labels[at]);
+        if (!zc_refused(reply))
+            reply = zc_queue_finish(queue, task);
+        if (reply.code != ZC_PUSHED)
+            return zc_refused(reply) ? reply.code : ZC_UNSOUND;
+    }
+    return 0;
+}
+
+/* ---- Histories ---------------------------------------------------------------------------
+ * What another controller did, checked afterwards: its calls with their answers, and the order in
+ * which it claims that they took effect. No queue is needed, and nothing is written.
+ */
+
+#define ZC_MOST_CALLS 64
+
+/* A finished call: seven words, no padding. An event is any number; a later event has a larger one. */
+typedef struct zc_finished {
+    uint64_t task;   /* any number; it is told, and decides nothing */
+    uint64_t kind;   /* ZC_PUSH or ZC_POP */
+    uint64_t side;   /* ZC_LEFT or ZC_RIGHT */
+    uint64_t label;  /* the label pushed or popped; unused with ZC_EMPTY */
+    uint64_t answer; /* ZC_PUSHED, ZC_EMPTY or ZC_POPPED */
+    uint64_t start;  /* the event of its start */
+    uint64_t end;    /* the event of its answer */
+} zc_finished;
+
+/* Codes of a zc_verdict. Any other code is the number of a refusal. */
+#define ZC_PASSES 0
+#define ZC_FAILS 1 /* position: the first wrong one, from 1; 0 if the order is no rearrangement */
+
+typedef struct zc_verdict {
+    uint32_t code;     /* ZC_PASSES, ZC_FAILS, or the number of a refusal */
+    uint32_t position; /* 0 unless ZC_FAILS */
+} zc_verdict;
+
+ZC_LAYOUT(sizeof(zc_finished) == 56);
+ZC_LAYOUT(offsetof(zc_finished, task) == 0 && offsetof(zc_finished, kind) == 8);
+ZC_LAYOUT(offsetof(zc_finished, side) == 16 && offsetof(zc_finished, label) == 24);
+ZC_LAYOUT(offsetof(zc_finished, answer) == 32 && offsetof(zc_finished, start) == 40);
+ZC_LAYOUT(offsetof(zc_finished, end) == 48);
+ZC_LAYOUT(sizeof(zc_verdict) == 8);
+ZC_LAYOUT(offsetof(zc_verdict, code) == 0 && offsetof(zc_verdict, position) == 4);
+
+/*
+ * Checks a history of 0 to 64 finished calls of a queue that was empty at first. `order` is the
+ * claimed order of effects: the calls' numbers, from 1. The history passes if the order names every
+ * call once, no call comes before one that was answered before it started, and a plain queue that
+ * serves the calls in that order gives each its answer. Else the first position of the order is
+ * told whose call has another answer or stands before a call answered before its start; 0 if the
+ * order is not a rearrangement of the calls.
+ * Every history of a queue of this library passes, its effects being the steps that move an end of
+ * Anchor and those that answer empty.
+ * Refuses: 40 (over 64 calls; an answer event not after its start; two events equal; a kind, side
+ * or answer unknown). Nothing in the order is refused.
+ *
+ * The calls are lent as words, seven each in the order of zc_finished; a rest of fewer is no call.
+ */
+zc_verdict zc_audit_words(const uint64_t *words, size_t word_count, const uint64_t *order,
+                          size_t order_count);
+
+#ifndef ZC_CORE_ONLY
+static inline zc_verdict zc_audit(const zc_finished *calls, size_t call_count,
+                                  const uint64_t *order, size_t order_count)
+{
+    return zc_audit_words((const uint64_t *)calls, 7 * call_count, order, order_count);
+}
+#endif
+
+/* ---- The order sheet ---------------------------------------------------------------------
+ * A sheet lists up to 32 different labels, and up to 128 rules on their places in the list, from 1:
+ * the label at one place prints before the label at another. Rules chain, also through labels that
+ * aren't waiting. Nothing of a queue is written.
+ */
+#define ZC_MOST_LISTED 32
+#define ZC_MOST_RULES 128
+#define ZC_SHEET_WORDS 32 /* that zc_sheet_words is lent */
+
+/* Code 0: kept, first and second 0, or the first broken pair by its places in the list. */
+typedef struct zc_sheet_reply {
+    uint64_t code; /* 0, or the number of a refusal; the rest is then 0 */
+    uint64_t first, second;
+} zc_sheet_reply;
+ZC_LAYOUT(sizeof(zc_sheet_reply) == 24);
+ZC_LAYOUT(offsetof(zc_sheet_reply, first) == 8 && offsetof(zc_sheet_reply, second) == 16);
+
+/* The rule that the label at place `first` prints before the one at `second`. A place above 65,535
+ * becomes 0, which is outside every list. */
+static inline uint32_t zc_rule(uint64_t first, uint64_t second)
+{
+    return (uint32_t)(first > 65535 ? 0 : first) << 16 | (uint32_t)(second > 65535 ? 0 : second);
+}
+
+/*
+ * Whether the labels waiting keep the sheet. A chained pair is broken when any copy of the second
+ * waits left of any copy of the first; a label chained to itself as soon as it waits. Of several
+ * broken pairs the one with the smallest first place, then the smallest second, is answered.
+ * Writes nothing. Refuses: 34 for control, 46, 12 (rows and marks only), 34 for the links: the
+ * walk of the labels waiting meets slot 0 early, a link word as ZC_UNSOUND names it, or more slots
+ * than there are.
+ */
+zc_sheet_reply zc_sheet(const zc_control *control, const uint32_t *listed, size_t listed_count,
+                        const uint32_t *rules, size_t rule_count, const uint64_t *lefts,
+                        size_t left_count, const uint64_t *rights, size_t right_count,
+                        const uint32_t *labels, size_t label_count, const uint64_t *marks,
+                        size_t mark_count);
+
+/*
+ * The same with 32 lent words for the chained rules in place of a square on the stack: it answers
+ * as zc_sheet does. With code 0 bit b of word a is then set exactly if place a + 1 is chained
+ * before place b + 1, and all other bits of the 32 words are clear; words beyond keep. A refusal
+ * leaves the words. Refuses: 34 for control, 46, 12 (fewer than 32 words too), 34 for the links.
+ */
+zc_sheet_reply zc_sheet_words(const zc_control *control, const uint32_t *listed,
+                              size_t listed_count, const uint32_t *rules, size_t rule_count,
+                              uint32_t *words, size_t word_count, const uint64_t *lefts,
+                              size_t left_count, const uint64_t *rights, size_t right_count,
+                              const uint32_t *labels, size_t label_count, const uint64_t *marks,
+                              size_t mark_count);
+
+#ifndef ZC_CORE_ONLY
+static inline zc_sheet_reply zc_queue_sheet(const zc_queue *queue, const uint32_t *listed,
+                                            size_t listed_count, const uint32_t *rules,
+                                            size_t rule_count)
+{
+    return zc_sheet(queue->control, listed, listed_count, rules, rule_count, ZC_TABLES(queue));
+}
+
+static inline zc_sheet_reply zc_queue_sheet_words(const zc_queue *queue, const uint32_t *listed,
+                                                  size_t listed_count, const uint32_t *rules,
+                                                  size_t rule_count, uint32_t *words,
+                                                  size_t word_count)
+{
+    return zc_sheet_words(queue->control, listed, listed_count, rules, rule_count, words,
+                          word_count, ZC_TABLES(queue));
+}
+#endif
 
 #ifdef __cplusplus
 }

@@ -1,30 +1,32 @@
 #!/usr/bin/env bash
-# The whole suite against a program: builds and tests the reference, then runs the cases, the
-# examples, the streams and the differential test. The last line adds up everything that ran.
+# The whole suite against a program: the second program's own tests, the cases, examples, run files and
+# streams (tests/suite), and the differential test. The last line adds up everything that ran.
 # usage: tests/run.sh PROGRAM [differential's options]
-#        tests/run.sh --self  [differential's options]   the reference tests itself
+#        tests/run.sh --self  [differential's options]   the second program tests itself
 set -u -o pipefail
 
-[ $# -ge 1 ] || { sed -n '2,5s/^# //p' "$0" >&2; exit 2; }
-root=$(cd "$(dirname "$0")/.." && pwd)
-release=${CARGO_TARGET_DIR:-$root/target/reference}/release
-program=$1
-shift
-streams=() # all of its checks
-if [ "$program" = --self ]; then
-    program=$release/reference
-    # The reference reads the whole file, in its own words where it fails, and Rust opens
-    # /dev/null in place of a closed stream.
-    streams=(pieces lengths)
-elif [ -f "$program" ] && [ -x "$program" ]; then
-    program=$(cd "$(dirname "$program")" && pwd)/$(basename "$program")
-else
-    echo "FAILED no such program: $program"
+[ $# -ge 1 ] || { sed -n '4,5s/^# //p' "$0" >&2; exit 2; }
+from=$PWD
+cd "$(dirname "$0")/.." || exit 2
+release=${CARGO_TARGET_DIR:-$PWD/target/cargo}/release
+if ! cargo build --release --offline --locked -p reference; then
+    echo "FAILED the second program does not build"
     echo "0 passed, 1 failed"
     exit 1
 fi
-
-cd "$root" || exit 2
+skipped=()
+if [ "$1" = --self ]; then
+    TRACE=$release/reference
+    # It reads the whole file, has words and statuses of its own where it fails, and Rust opens
+    # /dev/null in place of a closed stream.
+    skipped=(--skip arguments: --skip status: --skip failures: --skip memory:)
+elif ! TRACE=$(cd "$from" && realpath -e "$1") || [ ! -x "$TRACE" ]; then
+    echo "FAILED no such program: $1"
+    echo "0 passed, 1 failed"
+    exit 1
+fi
+export TRACE
+shift
 log=$(mktemp) || exit 2
 trap 'rm -f "$log"' EXIT
 passed=0
@@ -50,21 +52,9 @@ part() {
     fi
 }
 
-in_reference() {
-    (cd tests/reference && "$@")
-}
-
-if ! in_reference cargo build --release --offline --locked; then
-    echo "FAILED the reference does not build"
-    echo "0 passed, 1 failed"
-    exit 1
-fi
-part "reference" in_reference cargo test --release --offline --locked --quiet
-part "runfile" tests/runfile.sh
-part "cases" tests/cases.sh "$program"
-part "examples" tests/examples.sh "$program"
-part "streams" tests/streams.sh "$program" "${streams[@]}"
-part "differential" timeout 1800 "$release/differential" "$program" "$@"
+part "second program, cases, examples, run files, streams" \
+    cargo test --release --offline --locked --quiet --no-fail-fast -p reference -p suite -- "${skipped[@]}"
+part "differential" timeout 1800 "$release/differential" "$TRACE" "$@"
 
 echo "$passed passed, $failed failed"
 [ "$failed" -eq 0 ]

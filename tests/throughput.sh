@@ -9,8 +9,8 @@ root=$(cd "$(dirname "$0")/.." && pwd)
 program=$(cd "$(dirname "$1")" && pwd)/$(basename "$1")
 steps=${2:-10000000}
 seed=${3:-1}
-release=${CARGO_TARGET_DIR:-$root/target/reference}/release
-(cd "$root/tests/reference" && cargo build --release --offline --locked --quiet)
+release=${CARGO_TARGET_DIR:-$root/target/cargo}/release
+(cd "$root" && cargo build --release --offline --locked --quiet -p reference)
 
 scratch=$root/target/throughput
 mkdir -p "$scratch"

@@ -4,7 +4,8 @@
  * head pops at the left. At the end every label that was pushed must have reached the head once,
  * or still be waiting.
  *
- *     cc -Iinclude examples/c/executive.c target/staticlib/libcapi.a -o executive
+ *     make
+ *     cc -Iinclude examples/c/executive.c target/lib/libzeppolecape.a -o executive
  *     ./executive [seed]
  */
 #include "zeppolecape.h"
@@ -15,23 +16,7 @@
 
 enum { TASKS = 5, HEAD = 0, DESK = 4, SLOTS = 12, TOUCHES = 1000, MOST_LABELS = TOUCHES };
 
-static zc_control control;
-static zc_record records[TASKS];
-static uint64_t lefts[ZC_ROWS(SLOTS)], rights[ZC_ROWS(SLOTS)], marks[ZC_MARK_WORDS(SLOTS)];
-static uint32_t labels[ZC_ROWS(SLOTS)];
-static const zc_queue queue = {
-    .control = &control,
-    .records = records,
-    .record_count = TASKS,
-    .lefts = lefts,
-    .left_count = ZC_ROWS(SLOTS),
-    .rights = rights,
-    .right_count = ZC_ROWS(SLOTS),
-    .labels = labels,
-    .label_count = ZC_ROWS(SLOTS),
-    .marks = marks,
-    .mark_count = ZC_MARK_WORDS(SLOTS),
-};
+ZC_QUEUE_STORAGE(queue, TASKS, SLOTS);
 
 /* What became of label n, the n-th that was started. */
 static int pushed[MOST_LABELS], printed[MOST_LABELS];
@@ -55,15 +40,6 @@ static zc_reply expect(zc_reply reply)
     return reply;
 }
 
-/* A slot that no label and no call holds; 0 if there is none. */
-static uint64_t free_slot(void)
-{
-    for (uint64_t slot = 1; slot <= SLOTS; slot++)
-        if (!zc_marked(marks, slot))
-            return slot;
-    return 0;
-}
-
 /* An idle task starts its next call; a push waits while all slots are taken. */
 static void start(size_t task)
 {
@@ -71,7 +47,7 @@ static void start(size_t task)
         expect(zc_queue_pop(&queue, HEAD, ZC_LEFT));
         return;
     }
-    uint64_t slot = free_slot();
+    uint64_t slot = zc_queue_free_slot(&queue);
     if (slot == 0)
         return;
     uint64_t side = task == DESK ? ZC_LEFT : ZC_RIGHT;
@@ -96,10 +72,10 @@ static void step(size_t task)
 /* Counts the labels still waiting. */
 static uint64_t walk(int *waiting)
 {
-    uint64_t slots[SLOTS];
-    size_t count = zc_queue_waiting(&queue, slots, SLOTS);
+    uint32_t labels[SLOTS];
+    size_t count = zc_queue_read_out(&queue, NULL, labels, SLOTS);
     for (size_t at = 0; at < count; at++)
-        waiting[labels[slots[at]]]++;
+        waiting[labels[at]]++;
     return count;
 }
 
@@ -114,14 +90,14 @@ int main(int argc, char **argv)
     puts("the head got:");
     for (int touch = 0; touch < TOUCHES; touch++) {
         size_t task = random_below(&state, TASKS);
-        if (records[task].place == 0)
+        if (queue_tables.records[task].place == 0)
             start(task);
         else
             step(task);
     }
     /* Alone, a task answers within a few steps; one that does not stays busy in the report. */
     for (size_t task = 0; task < TASKS; task++)
-        for (int touch = 0; touch < TOUCHES && records[task].place != 0; touch++)
+        for (int touch = 0; touch < ZC_PUSH_STEPS && queue_tables.records[task].place != 0; touch++)
             step(task);
 
     zc_report_reply report = zc_queue_report(&queue);

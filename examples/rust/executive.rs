@@ -4,16 +4,12 @@
 //! or still be waiting.
 //!
 //! ```text
-//! rustc --edition 2021 -O examples/rust/executive.rs -L target/staticlib -o executive
-//! ./executive [seed]
+//! make
+//! cargo run --release -p executive [seed]
 //! ```
 
-#[allow(dead_code)] // the example uses a part of the module
-#[path = "../../bindings/zeppolecape.rs"]
-mod zeppolecape;
-
 use std::process::ExitCode;
-use zeppolecape::{Answer, Queue, Refusal, Side};
+use zeppolecape::{Answer, Queue, Refusal, Side, PUSH_STEPS};
 
 const TASKS: usize = 5;
 const HEAD: usize = 0;
@@ -90,7 +86,7 @@ fn run(seed: u64) -> Result<bool, Refusal> {
     }
     // Alone, a task answers within a few steps; one that does not stays busy in the report.
     for task in 0..TASKS {
-        for _ in 0..TOUCHES {
+        for _ in 0..PUSH_STEPS {
             if executive.queue.records()[task].place != 0 {
                 executive.step(task)?;
             }

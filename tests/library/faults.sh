@@ -1,6 +1,7 @@
 #!/bin/bash
 # Do the tests fail when they should? Each line below plants one fault in a copy of
 # bench/reference.c, and the differential test must notice it; what else does is told beside.
+# (audit_faults.sh has those of the audit.)
 #
 #     tests/library/faults.sh [FIRST [LAST]]    lines to try, all of them by default
 set -u -o pipefail
@@ -184,14 +185,31 @@ a refused push marks its slot|if (zc_anchor_tag(control->anchor) > ZC_LAST_START
         return refuse(ZC_WORN);|marks[slot / 64] \|= UINT64_C(1) << (slot % 64);
     if (zc_anchor_tag(control->anchor) > ZC_LAST_START_TAG)
         return refuse(ZC_WORN);|1
-waiting counts bit 0|uint64_t slot = 1; slot <= control->slots|uint64_t slot = 0; slot <= control->slots|1
-waiting leaves out the last slot|slot <= control->slots; slot++|slot < control->slots; slot++|1
+taken counts bit 0|kept \&= ~UINT64_C(1);|;|1
+taken leaves out bit 0 of a later word|if (word == 0)|if (word <= 1)|1
+taken leaves out the last slot|UINT64_MAX >> (63|UINT64_MAX >> 1 >> (63|1
+waiting by the marks|reply.waiting = walked(control, lefts, rights);|reply.waiting = marked_slots(marks, control->slots);|1
+the walk under LPUSH as under RPUSH|int from_left = zc_anchor_status(control->anchor) == ZC_LPUSH;|int from_left = 0;|1
+the walk tests no spare bits|!link_sound(link, control->slots)|zc_link_slot(link) > control->slots|1
+the walk goes on from slot 0|\|\| zc_link_slot(link) == 0)|)|1
+the walk one slot short|count < control->slots|count + 1 < control->slots|1
+the walk looks at the other end's link|return slot == last ? count : 0;|return slot == last \&\& link_sound(links[slot], control->slots) ? count : 0;|1
+the rightmost of equal labels found|(!from_left \|\| reply.positions[at] == 0)|(from_left \|\| reply.positions[at] == 0)|1
+labels found counted from the right|!from_left \&\& at < asked_count|from_left \&\& at < asked_count|1
+the finding walk under LPUSH as under RPUSH|int from_left = zc_anchor_status(control->anchor) == ZC_LPUSH;|int from_left = 0;|2
+33 labels found|asked_count > ZC_MOST_ASKED|asked_count > ZC_MOST_ASKED + 1|1
+the finding walk one slot short|reply.rows == control->slots|reply.rows + 1 == control->slots|1
+what was noted on a broken walk told|reply = nothing;
+            reply.code = ZC_UNSOUND;|reply.code = ZC_UNSOUND;|1
 busy counts records beyond the tasks|task < control->tasks; task++|task < record_count; task++|1
 busy looks at more of a record|records[task].place != 0;|records[task].place != 0 \&\& records[task].kind <= 1;|1
 another task's record looked at by a start|if (!record_sound(record, control->slots))|if (!record_sound(record, control->slots) \|\| !record_sound(records, control->slots))|2
 another task's record looked at by a step|if (!record_sound(record, control->slots))|if (!record_sound(record, control->slots) \|\| !record_sound(records, control->slots))|3
 a lent record's step counts as nothing|return advance(control, one, lefts, rights, labels, marks);|zc_record copy = *one; return advance(control, \&copy, lefts, rights, labels, marks);|1
 a lent record's step writes row 0|return advance(control, one, lefts, rights, labels, marks);|lefts[0]++; return advance(control, one, lefts, rights, labels, marks);|1
+a run that makes one step too many|made < most|made <= most|1
+a run that counts a refused step|zc_refused(reply) ? made : made + 1|made + 1|1
+a run that stops at its first step|if (reply.code != ZC_RUNNING)|if (reply.code != 0)|1
 END
 }
 
@@ -219,15 +237,19 @@ END
 # The test programs, built once on calls that are handed on to a shared object; all calls are in one.
 mkdir "$work/forward" &&
     gcc -std=gnu11 -O2 -Iinclude -c tests/library/forward.c -o "$work/forward.o" &&
-    ar rcs "$work/forward/libcapi.a" "$work/forward.o" &&
-    ar rcs "$work/forward/libcapi_record.a" &&
+    gcc -std=c11 -O2 -DAS_LIBRARY -Iinclude -c bench/audit_reference.c -o "$work/audit.o" &&
+    gcc -std=c11 -O2 -DAS_LIBRARY -Iinclude -c bench/sheet.c -o "$work/sheet.o" &&
+    ar rcs "$work/forward/libzeppolecape.a" "$work/forward.o" "$work/audit.o" "$work/sheet.o" &&
     gcc -shared -fPIC -O2 -DAS_LIBRARY -Iinclude bench/reference.c -o "$work/faultless.so" || exit 2
-if ! ZC_OBJECT=$work/faultless.so BUILD=$work/build tests/library/run.sh "$work/forward" >"$work/said"; then
+parts="layout fence waiting taken bindings examples bench differential" # the facts are the library's
+if ! ZC_OBJECT=$work/faultless.so BUILD=$work/build PARTS=$parts tests/library/run.sh "$work/forward" >"$work/said"; then
     cat "$work/said"
     echo "the tests fail without any fault"
     echo "0 passed, 1 failed"
     exit 1
 fi
+
+bindings=$(find "$work/build/cargo/debug/deps" -name 'zeppolecape-*' -type f -executable | head -n 1)
 
 # The parts that notice the fault in $work/fault.so.
 noticed() {
@@ -236,14 +258,14 @@ noticed() {
     timeout 10 "$work/build/fence" >/dev/null 2>&1 || echo -n " fence"
     timeout 10 "$work/build/waiting" >/dev/null 2>&1 || echo -n " waiting"
     timeout 10 "$work/build/taken" >/dev/null 2>&1 || echo -n " taken"
-    timeout 10 "$work/build/bindings" >/dev/null 2>&1 || echo -n " bindings"
+    timeout 10 "$bindings" >/dev/null 2>&1 || echo -n " bindings"
     local seed lost=
     for seed in 1 2 3; do
         timeout 2 "$work/build/executive_c" $seed >/dev/null 2>&1 || lost=yes
     done
     [ -z "$lost" ] || echo -n " example"
     timeout 10 "$work/build/bench" check 5 1023 20000 >/dev/null 2>&1 || echo -n " bench"
-    timeout 100 "$work/build/cargo/release/differential" >/dev/null 2>&1 || echo -n " differential"
+    timeout 100 "$work/build/cargo/checked/library-differential" >/dev/null 2>&1 || echo -n " differential"
 }
 
 caught=0

@@ -100,13 +100,19 @@ static uint64_t call(zc_queue whole, int *wrong)
     uint64_t tasks = whole.control->tasks, slots = whole.control->slots;
     size_t task = (size_t)draw(tasks);
     uint64_t side = draw(2), slot = 1 + draw(slots), code;
-    switch (draw(8)) {
+    size_t asked_count = (size_t)draw(ZC_MOST_ASKED + 1);
+    uint32_t *asked = last(grounds[6], asked_count * sizeof *asked);
+    switch (draw(9)) {
     case 0: code = zc_queue_push(&queue, task, side, slot, (uint32_t)slot).code; break;
     case 1: code = zc_queue_pop(&queue, task, side).code; break;
     case 2: code = zc_queue_report(&queue).code; break;
     case 3: code = too_short ? zc_queue_open(&queue, tasks, slots, 0) : 0; break;
     case 4:
         code = zc_queue_step_record(&queue, &whole.records[task]).code;
+        too_short = rows_short;
+        break;
+    case 5:
+        code = zc_queue_find(&queue, asked, asked_count).code;
         too_short = rows_short;
         break;
     default: code = zc_queue_step(&queue, task).code; break;
@@ -122,7 +128,7 @@ static uint64_t wild_word(uint64_t slots)
     return draw(8) ? draw(4) << 30 | left << 15 | right : draw(UINT64_MAX) << 20;
 }
 
-/* The walk of the labels waiting, on any contents: within the tables and the room it writes to. */
+/* The walks of the labels waiting, on any contents: within the tables and the room that they have. */
 static int walk(zc_queue whole)
 {
     uint64_t slots = whole.control->slots;
@@ -135,6 +141,8 @@ static int walk(zc_queue whole)
     zc_queue queue = cut_some(whole);
     size_t most = (size_t)draw(slots + 3);
     uint64_t *found = last(grounds[6], most * sizeof *found);
+    zc_queue_report(&queue);
+    zc_queue_find(&queue, NULL, 0);
     size_t count = zc_queue_waiting(&queue, found, most);
     int wrong = count > most || count > whole.control->slots;
     for (size_t at = 0; at < count; at++)

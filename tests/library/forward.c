@@ -19,7 +19,9 @@ static __typeof__(zc_push) *push_call;
 static __typeof__(zc_pop) *pop_call;
 static __typeof__(zc_step) *step_call;
 static __typeof__(zc_step_record) *step_record_call;
+static __typeof__(zc_run) *run_call;
 static __typeof__(zc_report) *report_call;
+static __typeof__(zc_find) *find_call;
 
 __attribute__((constructor)) static void load(void)
 {
@@ -34,7 +36,9 @@ __attribute__((constructor)) static void load(void)
     *(void **)&pop_call = dlsym(object, "zc_pop");
     *(void **)&step_call = dlsym(object, "zc_step");
     *(void **)&step_record_call = dlsym(object, "zc_step_record");
+    *(void **)&run_call = dlsym(object, "zc_run");
     *(void **)&report_call = dlsym(object, "zc_report");
+    *(void **)&find_call = dlsym(object, "zc_find");
 }
 
 uint32_t zc_open(zc_control *control, zc_record *records, size_t record_count, uint64_t tasks,
@@ -68,8 +72,20 @@ zc_reply zc_step_record(zc_control *control, zc_record *one,
     return step_record_call(control, one, LENT);
 }
 
+zc_run_reply zc_run(zc_control *control, zc_record *records, size_t record_count, size_t task,
+                    uint64_t most, TABLES(uint64_t, const uint32_t, uint64_t))
+{
+    return run_call(control, records, record_count, task, most, LENT);
+}
+
 zc_report_reply zc_report(const zc_control *control, const zc_record *records, size_t record_count,
                           TABLES(const uint64_t, const uint32_t, const uint64_t))
 {
     return report_call(control, records, record_count, LENT);
+}
+
+zc_find_reply zc_find(const zc_control *control, const uint32_t *asked, size_t asked_count,
+                      TABLES(const uint64_t, const uint32_t, const uint64_t))
+{
+    return find_call(control, asked, asked_count, LENT);
 }

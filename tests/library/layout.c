@@ -153,10 +153,12 @@ static void push(void)
 /* Anchor is still RPUSH 66, 67 and task 1 busy; task 0 starts as well. */
 static void report(void)
 {
-    unsigned char bytes[64];
+    unsigned char bytes[72];
     put(control, RETRIES, 12345);
     zc_pop(RECORDS, 0, ZC_LEFT, TABLES);
+    marks[0] |= 1 << 5; /* a slot taken that does not wait */
     zc_report_reply reply = zc_report(RECORDS, TABLES);
+    marks[0] &= ~(UINT64_C(1) << 5);
     memcpy(bytes, &reply, sizeof reply);
     equal("report: code", word(bytes, 0), 0);
     equal("report: tag", word(bytes, 8), 0x5a5b5c5f);
@@ -164,10 +166,28 @@ static void report(void)
     equal("report: left", word(bytes, 24), 66);
     equal("report: right", word(bytes, 32), 67);
     equal("report: busy", word(bytes, 40), 2);
-    equal("report: retries", word(bytes, 48), 12345);
-    equal("report: waiting", word(bytes, 56), 2);
+    equal("report: waiting", word(bytes, 48), 2);
+    equal("report: taken", word(bytes, 56), 3);
+    equal("report: retries", word(bytes, 64), 12345);
     equal("report: refused", zc_report((zc_control *)control, (zc_record *)records, 1, TABLES).code,
           ZC_SHORT);
+}
+
+/* Slots 66 and 67 wait, with the labels 700 and whatever task 1 pushed. */
+static void find(void)
+{
+    unsigned char bytes[272];
+    uint32_t asked[ZC_MOST_ASKED + 1] = {labels[67], 700, 1};
+    zc_find_reply reply = zc_find((zc_control *)control, asked, 3, TABLES);
+    memcpy(bytes, &reply, sizeof reply);
+    equal("find: code", word(bytes, 0), 0);
+    equal("find: rows", word(bytes, 8), 2);
+    equal("find: the first asked for", word(bytes, 16), 2);
+    equal("find: the second", word(bytes, 24), 1);
+    for (size_t offset = 32; offset < sizeof bytes; offset += 8)
+        equal("find: not waiting, or not asked for", word(bytes, offset), 0);
+    equal("find: refused", zc_find((zc_control *)control, asked, ZC_MOST_ASKED + 1, TABLES).code,
+          ZC_MANY_ASKED);
 }
 
 static void pop(void)
@@ -192,6 +212,7 @@ int main(void)
     opening();
     push();
     report();
+    find();
     pop();
     printf("%u passed, %u failed\n", passed, failed);
     return failed != 0;

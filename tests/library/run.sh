@@ -1,17 +1,18 @@
 #!/bin/bash
 # Tests of the static library through its C interface.
 #
-#     tests/library/run.sh [FOLDER]     of libcapi.a and libcapi_record.a; default: target/staticlib,
-#                                       where `rt staticlib capi` and `rt staticlib capi_record` write them
-#     tests/library/run.sh --stand-in   bench/reference.c, the same calls by hand, in its place
+#     tests/library/run.sh [FOLDER]     of libzeppolecape.a; default: target/lib, where `make` writes it
+#     tests/library/run.sh --stand-in   bench/reference.c, audit_reference.c and sheet.c, the same calls by hand, in its place
 #
-# PARTS names what runs: header layout fence waiting taken bindings examples bench differential (all of them).
+# PARTS names what runs, all of it by default: header, a program NAME for each tests/library/NAME.c that has a main,
+# bindings examples projects bench audit sheet facts differential.
 # SEED and TIMES go to the differential test (1 and 1). BUILD keeps what is built there.
 set -u -o pipefail
 from=$PWD
 cd "$(dirname "$0")/../.."
 
-PARTS=${PARTS:-header layout fence waiting taken bindings examples bench differential}
+PROGRAMS=$(grep -l '^int main' tests/library/*.c | xargs -n 1 basename -s .c | tr '\n' ' ')
+PARTS=${PARTS:-header $PROGRAMS bindings examples projects bench audit sheet facts differential}
 CC=${CC:-gcc}
 CXX=${CXX:-g++}
 WARNINGS="-Wall -Wextra -Wpedantic -Werror"
@@ -23,20 +24,22 @@ else
     trap 'rm -rf "$work"' EXIT
 fi
 
-# The archives lie in a folder of their own under the names that rustc looks for.
 mkdir -p "$work/library"
-archives=("$work/library/libcapi.a" "$work/library/libcapi_record.a")
-rm -f "${archives[@]}"
+export ZEPPOLECAPE_LIB_DIR=$work/library
+archive=$work/library/libzeppolecape.a
+rm -f "$archive"
 case ${1:-} in
 --stand-in)
+    PARTS=${PARTS/facts/} # which are the library's
     $CC -std=c11 -O2 $WARNINGS -DAS_LIBRARY -Iinclude -c bench/reference.c -o "$work/library.o" || exit 2
-    ar rcs "${archives[0]}" "$work/library.o" # all calls are in one
-    ar rcs "${archives[1]}"
+    $CC -std=c11 -O2 $WARNINGS -DAS_LIBRARY -Iinclude -c bench/audit_reference.c -o "$work/audit.o" || exit 2
+    $CC -std=c11 -O2 $WARNINGS -DAS_LIBRARY -Iinclude -c bench/sheet.c -o "$work/sheet.o" || exit 2
+    ar rcs "$archive" "$work/library.o" "$work/audit.o" "$work/sheet.o"
     ;;
 *)
-    given=${1:-$PWD/target/staticlib}
-    if ! (cd "$from" && cp "$given"/libcapi.a "$given"/libcapi_record.a "$work/library"); then
-        echo "no archives in $given; build them with: rt staticlib capi; rt staticlib capi_record" >&2
+    given=${1:-$PWD/target/lib}
+    if ! (cd "$from" && cp "$given/libzeppolecape.a" "$archive"); then
+        echo "no libzeppolecape.a in $given; build it with: make" >&2
         echo "0 passed, 1 failed"
         exit 2
     fi
@@ -90,62 +93,96 @@ part_header() {
     # Twice in one program, and from two files of it.
     printf '#include "zeppolecape.h"\n#include "zeppolecape.h"\nint other(void) { return zc_refused(zc_reply{34, 0, 0}); }\n' >"$work/two.cc"
     printf '#include "zeppolecape.h"\nint other(void);\nint main() { return !other(); }\n' >"$work/one.cc"
-    holds "header in two files of C++" $CXX -std=c++11 $WARNINGS -Iinclude "$work/one.cc" "$work/two.cc" "${archives[@]}" -o "$work/two"
+    holds "header in two files of C++" $CXX -std=c++11 $WARNINGS -Iinclude "$work/one.cc" "$work/two.cc" "$archive" -o "$work/two"
     holds "a C++ program" "$work/two"
+    # Unused wrappers may be kept by a compiler: with ZC_CORE_ONLY they ask for no call but the core's.
+    printf '#define ZC_CORE_ONLY\n#include "zeppolecape.h"\n' >"$work/core.c"
+    holds "header for the core alone" $CC -fkeep-inline-functions -Iinclude -c "$work/core.c" -o "$work/core.o"
+    holds "the core's calls" test "$(nm -u "$work/core.o" | tr -d ' U' | sort | tr '\n' ' ')" = 'zc_open zc_pop zc_push zc_report zc_step '
+    # The macro refuses what the opening would.
+    for sizes in 0,3 17,3 2,0 2,1024; do
+        printf '#include "zeppolecape.h"\nZC_QUEUE_STORAGE(queue, %s);\n' $sizes >"$work/storage.c"
+        holds "no storage for $sizes" sh -c "! $CC -Iinclude -fsyntax-only $work/storage.c"
+    done
 }
 
-part_layout() {
-    holds "layout.c compiles" $CC -std=c11 $WARNINGS -Iinclude tests/library/layout.c "${archives[@]}" -o "$work/layout"
-    counts "layout seen through the library" "$work/layout"
+# A test program in C that counts for itself.
+program() { # NAME
+    holds "$1.c compiles" $CC -std=c11 $WARNINGS -Iinclude "tests/library/$1.c" "$archive" -o "$work/$1"
+    counts "$1" "$work/$1"
 }
 
-part_fence() {
-    holds "fence.c compiles" $CC -std=c11 $WARNINGS -Iinclude tests/library/fence.c "${archives[@]}" -o "$work/fence"
-    counts "nothing touched outside the counts" "$work/fence"
+in_cargo() { # COMMAND OPTIONS..: on one package, its warnings errors
+    RUSTFLAGS="-D warnings" RUSTDOCFLAGS="-D warnings" cargo "$1" --quiet --offline --locked --target-dir "$work/cargo" "${@:2}"
 }
 
-part_waiting() {
-    holds "waiting.c compiles" $CC -std=c11 $WARNINGS -Iinclude tests/library/waiting.c "${archives[@]}" -o "$work/waiting"
-    counts "the labels waiting" "$work/waiting"
-}
-
-part_taken() {
-    holds "taken.c compiles" $CC -std=c11 $WARNINGS -Iinclude tests/library/taken.c "${archives[@]}" -o "$work/taken"
-    counts "the slots taken" "$work/taken"
-}
-
-# libtest's summary as ours.
+# libtest's summaries as ours.
 bindings_tests() {
-    "$work/bindings" >"$work/libtest" 2>&1
+    in_cargo test -p zeppolecape >"$work/libtest" 2>&1
     local status=$?
-    grep -v '\.\.\. ok$' "$work/libtest"
-    sed -n 's/^test result: .* \([0-9]*\) passed; \([0-9]*\) failed.*/\1 passed, \2 failed/p' "$work/libtest"
+    cat "$work/libtest"
+    awk '/^test result:/ { passed += $4; failed += $6 } END { print passed + 0 " passed, " failed + 0 " failed" }' "$work/libtest"
     return $status
 }
 
-part_bindings() {
-    for edition in 2021 2024; do
-        holds "bindings in edition $edition" rustc --edition $edition -D warnings --test -O bindings/zeppolecape.rs -L "$work/library" -o "$work/bindings"
-    done
-    counts "bindings" bindings_tests
+# A build without the archive must say what is missing.
+says_what_is_missing() { # FOLDER WORDS
+    ! ZEPPOLECAPE_LIB_DIR=$1 in_cargo check -p zeppolecape >"$work/missing" 2>&1 && grep -q "$2" "$work/missing"
 }
 
-# The commands that examples/README.md names, with these archives.
+part_bindings() {
+    counts "bindings" bindings_tests
+    holds "bindings are documented" in_cargo doc -p zeppolecape --no-deps
+    holds "bindings say which archive is missing" says_what_is_missing /nowhere 'there is no /nowhere/libzeppolecape.a'
+    holds "bindings want an absolute path" says_what_is_missing target 'ZEPPOLECAPE_LIB_DIR is not an absolute path: "target"'
+}
+
+# An example in C, and a line that it must print.
+example() { # NAME LINE
+    holds "C example $1 compiles" $CC $WARNINGS -Iinclude "examples/c/$1.c" "$archive" -o "$work/$1"
+    holds "C example $1" "$work/$1"
+    cp "$work/log" "$work/said_by_$1"
+    holds "C example $1: $2" grep -qxF "$2" "$work/said_by_$1"
+}
+
+# The commands that examples/README.md names, with this archive.
 part_examples() {
-    holds "C example compiles" $CC $WARNINGS -Iinclude examples/c/executive.c "${archives[@]}" -o "$work/executive_c"
-    holds "Rust example compiles" rustc --edition 2021 -D warnings -O examples/rust/executive.rs -L "$work/library" -o "$work/executive_rust"
+    example interrupt 'no label lost'
+    example renew 'no label lost'
+    example sheet "a wedge behind the pallet's label: broken, 7105 must print before 9000"
+    holds "C example compiles" $CC $WARNINGS -Iinclude examples/c/executive.c "$archive" -o "$work/executive_c"
+    holds "Rust example compiles" in_cargo build --release -p executive
     for seed in 1 2 3 4 5 6 7 8 9 10 18446744073709551615; do
         holds "C example, seed $seed" "$work/executive_c" $seed
         cp "$work/log" "$work/said_by_c"
         holds "C example, seed $seed: no label lost" grep -qx 'no label lost' "$work/said_by_c"
-        holds "Rust example, seed $seed" "$work/executive_rust" $seed
+        holds "Rust example, seed $seed" "$work/cargo/release/executive" $seed
         cp "$work/log" "$work/said_by_rust"
         holds "examples say the same, seed $seed" cmp "$work/said_by_c" "$work/said_by_rust"
     done
 }
 
+# Installed in a folder of its own, found there by both example projects, and gone again.
+part_projects() {
+    local prefix=$work/prefix
+    rm -rf "$prefix" "$work/project-cmake" "$work/project-pkgconfig"
+    holds "make install" make install PREFIX="$prefix" LIBRARY="$archive"
+    cp -r examples/project-pkgconfig "$work/project-pkgconfig"
+    holds "the project with pkg-config" make -B -C "$work/project-pkgconfig" PKG_CONFIG_PATH="$prefix/lib/pkgconfig" CFLAGS=-Werror
+    holds "the project with pkg-config runs" "$work/project-pkgconfig/printer"
+    holds "the project with CMake: configured" cmake -S examples/project-cmake -B "$work/project-cmake" -DCMAKE_PREFIX_PATH="$prefix"
+    holds "the project with CMake: built" cmake --build "$work/project-cmake"
+    holds "the project with CMake runs" "$work/project-cmake/printer"
+    holds "make uninstall" make uninstall PREFIX="$prefix"
+    holds "nothing is left of it" test -z "$(find "$prefix" -type f)"
+}
+
 part_bench() {
-    holds "benchmark compiles" $CC -std=gnu11 -O2 -Iinclude bench/main.c bench/reference.c bench/bare.c "${archives[@]}" -o "$work/bench"
+    holds "benchmark compiles" $CC -std=gnu11 -O2 -Iinclude bench/main.c bench/reference.c bench/bare.c "$archive" -o "$work/bench"
+    holds "benchmark of the walks compiles" $CC -std=gnu11 -O2 -Iinclude bench/walks.c bench/reference.c "$archive" -o "$work/walks"
+    for labels in 0 1 2 64 1023; do
+        holds "library and C alike: $labels labels" "$work/walks" check $labels
+    done
     for tasks in 1 5 16; do
         for slots in 3 1023; do
             holds "library, C and bare alike: $tasks tasks, $slots slots" "$work/bench" check $tasks $slots 100000
@@ -153,14 +190,27 @@ part_bench() {
     done
 }
 
+part_audit() {
+    holds "the audit's benchmark compiles" $CC -std=gnu11 -O2 -Iinclude bench/audit.c bench/audit_reference.c "$archive" -o "$work/audit"
+    holds "library and C give the same verdicts" "$work/audit" check 200000
+}
+
+part_sheet() {
+    holds "the sheet's benchmark compiles" $CC -std=gnu11 -O2 -Iinclude bench/sheet_main.c bench/sheet.c "$archive" -o "$work/sheet_bench"
+    holds "library and C judge sheets alike" "$work/sheet_bench" 1
+}
+
+part_facts() {
+    counts "figures of bench/facts.txt" bench/facts.sh --check "$work/library"
+}
+
 part_differential() {
-    holds "differential test compiles" env ZC_FOLDER="$work/library" cargo build --quiet --release --offline \
-        --manifest-path tests/library/differential/Cargo.toml --target-dir "$work/cargo"
-    counts "library against the second program" "$work/cargo/release/differential" "${SEED:-1}" "${TIMES:-1}"
+    holds "differential test compiles" in_cargo build --profile checked -p library-differential
+    counts "library against the second program" "$work/cargo/checked/library-differential" "${SEED:-1}" "${TIMES:-1}"
 }
 
 for part in $PARTS; do
-    "part_$part"
+    if [[ " $PROGRAMS " == *" $part "* ]]; then program "$part"; else "part_$part"; fi
 done
 echo "$passed passed, $failed failed"
 [ $failed -eq 0 ] && [ $passed -gt 0 ]

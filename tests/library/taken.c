@@ -25,12 +25,12 @@ static void taken(const char *what, uint64_t slots, uint64_t expected)
     memcpy(before, marks, sizeof marks);
     zc_report_reply reply = zc_report(&control, records, 1, lefts, slots + 1, rights, slots + 1,
                                       labels, slots + 1, marks, slots / 64 + 1);
-    if (reply.code == 0 && reply.waiting == expected && memcmp(before, marks, sizeof marks) == 0) {
+    if (reply.code == 0 && reply.taken == expected && memcmp(before, marks, sizeof marks) == 0) {
         passed++;
         return;
     }
     failed++;
-    printf("FAILED taken, %s, %d slots: %d, expected %d\n", what, (int)slots, (int)reply.waiting,
+    printf("FAILED taken, %s, %d slots: %d, expected %d\n", what, (int)slots, (int)reply.taken,
            (int)expected);
 }
 

@@ -1,6 +1,7 @@
 /*
  * zc_queue_waiting: the order under each status, the first few of many, and tables whose links lead
- * astray, where it must end.
+ * astray, where it must end. zc_report: waiting where links lead astray, and, on tables of any
+ * contents, the same as the header's walk wherever it is told.
  */
 #include "zeppolecape.h"
 
@@ -107,10 +108,92 @@ static void astray(void)
     waits("ends that are no rows", SLOTS, 0);
 }
 
+/* What the report tells of the labels waiting, or its refusal. */
+static void tells(const char *what, uint64_t code, uint64_t expected)
+{
+    zc_report_reply reply = zc_queue_report(&queue);
+    if (reply.code == code && reply.waiting == expected) {
+        passed++;
+        return;
+    }
+    failed++;
+    printf("FAILED report, %s: code %llu, %llu waiting\n", what, (unsigned long long)reply.code,
+           (unsigned long long)reply.waiting);
+}
+
+static void report(void)
+{
+    opened();
+    tells("STABLE", 0, 3);
+    push(ZC_RIGHT, 4, 4);
+    tells("a push on the way does not wait", 0, 3);
+    finish(zc_queue_step(&queue, 0), 5);
+    tells("RPUSH", 0, 4);
+    opened();
+    push(ZC_LEFT, 4, 5);
+    tells("LPUSH", 0, 4);
+    lefts[2] = UINT64_C(1) << 20;
+    lefts[4] = rights[3] = UINT64_C(1) << 31;
+    tells("links that the walk does not follow", 0, 4);
+    uint64_t good = rights[1];
+    rights[1] = good | UINT64_C(1) << 15;
+    tells("a bit of 31-15", ZC_UNSOUND, 0);
+    rights[1] = SLOTS + 1;
+    tells("a slot above slots", ZC_UNSOUND, 0);
+    rights[1] = 0;
+    tells("slot 0", ZC_UNSOUND, 0);
+    rights[1] = 1;
+    tells("a slot that names itself", ZC_UNSOUND, 0);
+    rights[1] = 4;
+    tells("a circle", ZC_UNSOUND, 0);
+    queue.label_count = 3;
+    tells("a circle, and labels too short", ZC_SHORT, 0);
+    queue.label_count = ZC_ROWS(SLOTS);
+    rights[1] = UINT64_C(0xffffffff00000000) | good;
+    tells("any tag", 0, 4);
+}
+
+static uint64_t draw(uint64_t below)
+{
+    static uint64_t state = UINT64_C(88172645463325252);
+    state ^= state << 13;
+    state ^= state >> 7;
+    state ^= state << 17;
+    return (state >> 16) % below;
+}
+
+static void agree(void)
+{
+    unsigned told = 0, refused = 0;
+    for (int times = 0; times < 300000; times++) {
+        control.slots = 1 + draw(SLOTS);
+        control.anchor = draw(3) << 30 | draw(SLOTS + 1) << 15 | draw(SLOTS + 1);
+        for (size_t row = 0; row <= SLOTS; row++) {
+            lefts[row] = draw(30) ? draw(SLOTS + 1) : UINT64_C(1) << draw(64);
+            rights[row] = draw(30) ? draw(SLOTS + 1) : UINT64_C(1) << draw(64);
+        }
+        zc_report_reply reply = zc_queue_report(&queue);
+        uint64_t slots[SLOTS];
+        if (reply.code != 0) {
+            refused++;
+        } else if (zc_queue_waiting(&queue, slots, SLOTS) == reply.waiting) {
+            told++;
+        } else {
+            failed++;
+            printf("FAILED zc_queue_waiting and zc_report differ\n");
+            return;
+        }
+    }
+    passed += told > 10000 && refused > 10000;
+    failed += told <= 10000 || refused <= 10000;
+}
+
 int main(void)
 {
     order();
     astray();
+    report();
+    agree();
     printf("%u passed, %u failed\n", passed, failed);
     return failed != 0;
 }

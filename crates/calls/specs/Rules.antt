@@ -47,7 +47,7 @@ testsOf c fit p r side a = record {
 unfoldable pub startRefusal : Control → Bool → Lent → Record → ℕ → Asked → ℕ
 startRefusal c fit p r side a = testsRefusal (testsOf c fit p r side a)
 
--- A report names no task.
+-- A report's first two.
 abbrev pub tellingRules : Bool → Bool → List Rule
 tellingRules control fits = rule 34 (not control) ∷ rule 12 (not fits) ∷ []
 

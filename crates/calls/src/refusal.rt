@@ -3,8 +3,8 @@ use model::Control;
 use model::Record;
 use word::Anchor;
 ghost use mathlib.Core.Path.{_≡_};
-ghost use mathlib.Core.Bool.{_&&_};
-ghost use lib.Dec.{ltb, leb};
+ghost use mathlib.Core.Bool.{true, false, _&&_};
+ghost use lib.Dec.{ltb};
 ghost use Rattle.word.specs.Anchor.{anchorOf};
 ghost use Rattle.model.specs.Tables.{isPooled, tablesOf};
 ghost use Rattle.model.specs.Sound.{controlSound};
@@ -247,10 +247,10 @@ fn telling_refusal(control: bool, fits: bool) -> u32
     0
 }
 
-/// The report names no task; it meets 34 for control, and 12.
+/// The report before its walk: 34 for control, and 12.
 pub fn report_refusal(
     c: Control,
-    records: usize,
+    enough: bool,
     lefts: usize,
     rights: usize,
     labels: usize,
@@ -260,11 +260,10 @@ pub fn report_refusal(
     ensures { λ n.
         ⌜ n ≡ tellingRefusal
         (controlSound c)
-        (lengthsFit (isPooled c) (c .slots) lefts rights labels marks next && leb (c .tasks) records) ⌝ }
+        (lengthsFit (isPooled c) (c .slots) lefts rights labels marks next && enough) ⌝ }
 {
     let control = sound::control_sound(c);
     let pooled = c.pooled == 1;
     let fits = sound::rows_fit(pooled, c.slots, lefts, rights, labels, marks, next);
-    let enough = c.tasks <= records as u64;
     telling_refusal(control, fits & enough)
 }

@@ -4,16 +4,13 @@ use model::Control;
 use model::Record;
 use model::Report;
 use model::Reported;
+use walk::Tally;
 use word::Anchor;
 ghost use mathlib.Core.Path.{_≡_};
-ghost use mathlib.Core.Bool.{_&&_};
 ghost use lib.Dec.{leb};
-ghost use lib.ListN.{length};
-ghost use Rattle.model.specs.Tables.{isPooled};
-ghost use Rattle.model.specs.Sound.{controlSound};
-ghost use Rattle.sound.specs.Lengths.{lengthsFit};
-ghost use Rattle.calls.specs.Rules.{tellingRefusal};
-ghost use Rattle.calls.specs.Telling.{countable, countBusy, tell};
+ghost use Rattle.model.specs.Tables.{tablesOf};
+ghost use Rattle.model.specs.Report.{tell};
+ghost use Rattle.calls.specs.Telling.{countable, countBusy};
 
 /// How many records the report looks at: one for each task, or none where it will be refused.
 pub fn to_count(c: Control, records: usize) -> usize
@@ -39,29 +36,44 @@ pub fn told(
     c: Control,
     records: usize,
     busy: u64,
-    lefts: usize,
-    rights: usize,
-    labels: usize,
+    lefts: &[u64],
+    rights: &[u64],
+    labels: &[u32],
     marks: &[u64],
-    next: usize,
+    next: &[u64],
 ) -> Reported
     ensures { λ r.
         ⌜ r ≡ tell
-        (tellingRefusal
-        (controlSound c)
-        (lengthsFit (isPooled c) (c .slots) lefts rights labels (length (now (marks .entry))) next && leb (c .tasks) records))
-        c busy (now (marks .entry)) ⌝ }
+        (tablesOf c (now (lefts .entry)) (now (rights .entry)) (now (labels .entry)) (now (marks .entry)) (now (next .entry)))
+        (leb (c .tasks) records)
+        busy ⌝ }
 {
-    let why = refusal::report_refusal(c, records, lefts, rights, labels, marks.len(), next);
+    let enough = c.tasks <= records as u64;
+    let why = refusal::report_refusal(
+        c,
+        enough,
+        lefts.len(),
+        rights.len(),
+        labels.len(),
+        marks.len(),
+        next.len(),
+    );
     if why != 0 {
         return Reported::Refused(why);
     }
-    let anchor = Anchor::unpack(c.anchor);
-    let waiting = marks::taken(c.slots, marks);
-    Reported::Told(Report {
-        anchor,
-        busy,
-        retries: c.retries,
-        waiting,
-    })
+    let walked = walk::waiting(c, lefts, rights);
+    match walked {
+        Tally::Broken => Reported::Refused(34),
+        Tally::Labels(waiting) => {
+            let anchor = Anchor::unpack(c.anchor);
+            let taken = marks::taken(c.slots, marks);
+            Reported::Told(Report {
+                anchor,
+                busy,
+                waiting,
+                taken,
+                retries: c.retries,
+            })
+        }
+    }
 }

@@ -1,45 +1,47 @@
 -- The calls over rows: what their parts say comes to what the call means.
 use mathlib.Core.Path.{_≡_, refl, sym, ap, subst, _∙_}
 use mathlib.Core.Bool.{Bool, true, false, _&&_, cond}
-use mathlib.Core.List.{List, []}
-use Prim.Native.Nat.{ℕ, _<_, _≤_}
+use mathlib.Core.List.{List}
+use Prim.Native.Nat.{ℕ, _≤_}
 use native.Mathlib.Omega.{arith}
-use lib.Dec.{eqb, leb, ltb}
-use lib.ListN.{length, getD, set}
+use lib.Dec.{eqb, leb}
+use lib.ListN.{length, set}
 use lib.Seq.{set-getD}
-use borrow.Author.Tests.{leb-true, ltb-true}
 use Rattle.model.specs.declared.Control.{Control}
 use Rattle.model.specs.declared.Record.{Record}
 use Rattle.model.specs.declared.Outcome.{Outcome}
-use Rattle.model.specs.declared.Outcome.the-variants.{Refused}
 use Rattle.model.specs.declared.Reply.{Reply}
 use Rattle.model.specs.declared.Reported.{Reported}
 use Rattle.model.specs.declared.Op.{Op}
 use Rattle.model.specs.declared.Op.the-variants.{Push, Pop, Step}
 use Rattle.model.specs.Tables.{Tables, Queue, tablesOf, queueOf, recordAt, idle, zeroed}
-use Rattle.model.specs.Sound.{controlSound, rowsFit}
+use Rattle.model.specs.Sound.{rowsFit}
 use Rattle.model.specs.Refusals.{Lent, among, openRefusal, pushRefusal, popRefusal}
-use Rattle.model.specs.Report.{report}
-use Rattle.model.specs.Calls.{Acted, openQueue, pushStart, popStart, back, act, actOn, replyOf}
+use Rattle.model.specs.Report.{report, tell}
+use Rattle.model.specs.Calls.{Acted, Done, openQueue, pushStart, popStart, back, act, actOn, replyOf}
 use Rattle.model.proofs.tests.Truth.{split, not-both}
 use Rattle.table.specs.declared.Acted.{Acted as Moved}
 use Rattle.table.specs.Lent.{withTables}
 use Rattle.sound.specs.Lengths.{lengthsFit}
-use Rattle.engine.specs.Ends.{endsCall, isMoved}
-use Rattle.engine.specs.Parts.{admission, moveOn}
-use Rattle.engine.specs.Stored.{controlAfter, recordAfter}
-use Rattle.engine.proofs.Stored.{stored}
-use Rattle.engine.proofs.Whole.{turned-away, admitted, task-there}
+use Rattle.model.specs.Ends.{endsCall, isMoved}
 use Rattle.calls.specs.declared.opening.OpenedTables.{OpenedTables}
 use Rattle.calls.specs.Opening.{counting, OpenedParts, openTables, whole}
 use Rattle.calls.proofs.Parts.{clear-fits, open-parts}
-use Rattle.calls.specs.Rules.{tellingRefusal}
-use Rattle.calls.specs.Telling.{countable, tell}
-use Rattle.calls.proofs.Counts.{countable-fits, report-parts}
-use Rattle.rows.specs.Rows.{controlOf, recordOf, recordsOf, upperOf, uppersOf, queueIn}
-use Rattle.rows.proofs.Rows.{length-records, record-read, upper-read, record-put, upper-put}
+use Rattle.calls.specs.Telling.{countable}
+use Rattle.calls.proofs.Counts.{countable-fits}
+use Rattle.calls.proofs.Tells.{report-parts}
+use Rattle.rows.specs.Rows.{controlOf, recordsOf, uppersOf, queueIn}
+use Rattle.rows.proofs.Rows.{length-records}
+use Rattle.rows.proofs.OneStep.{lent, lent-among}
 use Rattle.capi.specs.Replies.{openingCode, uppersAt, Coded, coded, Replied, replied}
 use Rattle.capi.proofs.Count.{busyIn}
+
+-- The step, its outcome in numbers.
+pub stepped : (q q′ : Queue) (task : ℕ) (us us′ : List ℕ) (o : Outcome) (r : Reply)
+    → _≡_ {A = Done} (record { queue = q′; outcome = o }) (act q task Step)
+    → us′ ≡ cond (endsCall o) (set us task 0) us → r ≡ replyOf o
+    → _≡_ {A = Replied} (record { queue = q′; uppers = us′; reply = r }) (replied endsCall task us (act q task Step))
+stepped q q′ task us us′ o r e eu er = rw (er, eu) (ap (replied endsCall task us) e)
 
 -- An opening that is refused clears no records.
 clear-uppers : (q : Tables) (n tasks slots tag : ℕ) (us : List ℕ)
@@ -67,71 +69,6 @@ module _ (ws : List ℕ) (rows : List (List ℕ)) (lefts rights labels marks : L
     abbrev r₀ : Record
     r₀ = recordAt queue task
 
-    -- How the task's record is lent, seen from the rows.
-    abbrev pub lent : Control → ℕ → Lent
-    lent c n = record { enough = leb (c .tasks) n; known = ltb task (c .tasks) }
-
-    lent-among : (c : Control) (n : ℕ) → c ≡ controlOf ws → n ≡ length rows → lent c n ≡ among queue task
-    lent-among c n ec en =
-        ap (λ (d : Control). lent d n) ec ∙ ap (lent (controlOf ws)) (en ∙ sym (length-records rows))
-
-    -- ---- the step
-    abbrev pub fault : ℕ
-    fault = admission (controlOf ws) (fit (controlOf ws)) (among queue task)
-
-    pub asked : (c : Control) (n why : ℕ) → c ≡ controlOf ws → n ≡ length rows → why ≡ admission c (fit c) (lent c n) → why ≡ fault
-    asked c n why ec en e =
-        e
-        ∙ ap (admission c (fit c)) (lent-among c n ec en)
-        ∙ ap (λ (d : Control). admission d (fit d) (among queue task)) ec
-
-    pub refused : (why : ℕ) (r : Reply) → why ≡ fault → (why ≡ 0 → ⊥) → r ≡ replyOf (Refused why)
-        → _≡_ {A = Replied} (record { queue = queue; uppers = uppersOf rows; reply = r }) (replied endsCall task (uppersOf rows) (act queue task Step))
-    unfolding act actOn rowsFit lengthsFit
-    refused why r e h er =
-        ap (λ (u : Reply). record { queue = queue; uppers = uppersOf rows; reply = u }) er
-        ∙ ap (λ (l : List Record). record { queue = record { tables = entry; records = l }; uppers = uppersOf rows; reply = replyOf (Refused why) })
-        (sym (set-getD (recordsOf rows) task idle))
-        ∙ ap (λ (a : Acted). replied endsCall task (uppersOf rows) (back queue task a)) (turned-away entry (among queue task) r₀ why e h)
-
-    -- An admitted task has a record.
-    pub there : fault ≡ 0 → task < length rows
-    unfolding rowsFit lengthsFit
-    there e =
-        let both = task-there entry (among queue task) r₀ e in
-        let enough : controlOf ws .tasks ≤ length (recordsOf rows) = leb-true _ _ (both .0) in
-        let known : task < controlOf ws .tasks = ltb-true _ _ (both .1) in
-        omega (arith, enough, known, length-records rows)
-
-    abbrev row₀ : List ℕ
-    row₀ = getD rows task []
-
-    kept-upper : (b : Bool) → set (uppersOf rows) task (cond b 0 (upperOf row₀)) ≡ cond b (set (uppersOf rows) task 0) (uppersOf rows)
-    kept-upper true = refl
-    kept-upper false = ap (set (uppersOf rows) task) (upper-read rows task) ∙ set-getD (uppersOf rows) task 0
-
-    module _ (ws′ row′ lefts′ rights′ marks′ : List ℕ) where
-      pub stepped : (c : Control) (r : Record) (m : Moved) (n : Reply) → c ≡ controlOf ws → r ≡ recordOf row₀ → fault ≡ 0
-          → withTables m lefts′ rights′ labels marks′ ≡ moveOn (tablesOf c lefts rights labels marks) r
-          → controlOf ws′ ≡ controlAfter (controlOf ws) m → recordOf row′ ≡ recordAfter (recordOf row₀) m
-          → upperOf row′ ≡ cond (endsCall (m .outcome)) 0 (upperOf row₀) → n ≡ replyOf (m .outcome)
-          → _≡_ {A = Replied}
-          (record { queue = queueIn ws′ (set rows task row′) lefts′ rights′ labels marks′; uppers = uppersOf (set rows task row′); reply = n })
-          (replied endsCall task (uppersOf rows) (act queue task Step))
-      unfolding act actOn rowsFit lengthsFit
-      stepped c r m n ec er f e e1 e2 e3 en =
-          let e′ : withTables m lefts′ rights′ labels marks′ ≡ moveOn entry r₀ =
-          e
-          ∙ ap (λ (d : Control). moveOn (tablesOf d lefts rights labels marks) r) ec
-          ∙ ap (moveOn entry) (er ∙ record-read rows task) in
-          let left = stored entry (among queue task) r₀ m lefts′ rights′ labels marks′ (e′ ∙ admitted entry (among queue task) r₀ f) in
-          let put : recordsOf (set rows task row′) ≡ set (recordsOf rows) task (recordAfter r₀ m) =
-          record-put rows task row′
-          ∙ ap (set (recordsOf rows) task) (e2 ∙ ap (λ (t : Record). recordAfter t m) (record-read rows task)) in
-          let uppers : uppersOf (set rows task row′) ≡ cond (endsCall (m .outcome)) (set (uppersOf rows) task 0) (uppersOf rows) =
-          upper-put rows task row′ ∙ ap (set (uppersOf rows) task) e3 ∙ kept-upper (endsCall (m .outcome)) in
-          rw (en, e1, put, uppers) (ap (λ (a : Acted). replied endsCall task (uppersOf rows) (back queue task a)) left)
-
     -- ---- the starts: they leave control as it is, and all where they are refused
     abbrev Starts : Record → Acted → Type 0
     Starts r a = (a .tables .control ≡ controlOf ws) × (isMoved (a .outcome) ≡ false → a .task ≡ r)
@@ -149,7 +86,7 @@ module _ (ws : List ℕ) (rows : List (List ℕ)) (lefts rights labels marks : L
       }
 
       pub started : (c : Control) (n : ℕ) (r : Record) (m : Moved) (u : Reply) → c ≡ controlOf ws → n ≡ length rows → r ≡ r₀
-          → withTables m lefts rights labels′ marks′ ≡ actOn (tablesOf c lefts rights labels marks) (lent c n) r o
+          → withTables m lefts rights labels′ marks′ ≡ actOn (tablesOf c lefts rights labels marks) (lent ws rows lefts rights labels marks task c n) r o
           → recordsOf rows′ ≡ cond (isMoved (m .outcome)) (set (recordsOf rows) task (m .task)) (recordsOf rows)
           → uppersOf rows′ ≡ cond (isMoved (m .outcome)) (set (uppersOf rows) task 0) (uppersOf rows) → u ≡ replyOf (m .outcome)
           → _≡_ {A = Replied} (record { queue = queueIn ws rows′ lefts rights labels′ marks′; uppers = uppersOf rows′; reply = u })
@@ -158,7 +95,7 @@ module _ (ws : List ℕ) (rows : List (List ℕ)) (lefts rights labels marks : L
       started c n r m u ec en er e e2 e3 eu =
           let left : withTables m lefts rights labels′ marks′ ≡ actOn entry (among queue task) r₀ o =
           e
-          ∙ ap (λ (p : Lent). actOn (tablesOf c lefts rights labels marks) p r o) (lent-among c n ec en)
+          ∙ ap (λ (p : Lent). actOn (tablesOf c lefts rights labels marks) p r o) (lent-among ws rows lefts rights labels marks task c n ec en)
           ∙ ap (λ (d : Control). actOn (tablesOf d lefts rights labels marks) (among queue task) r o) ec
           ∙ ap (λ (t : Record). actOn entry (among queue task) t o) er in
           let s = subst (Starts r₀) (sym left) (starts (among queue task) r₀) in
@@ -208,6 +145,5 @@ module _ (ws : List ℕ) (rows : List (List ℕ)) (lefts rights labels marks : L
   -- ---- the report
   pub reported : (c : Control) (n k b : ℕ) (r : Reported) → c ≡ controlOf ws → n ≡ length rows
       → k ≡ countable c n → b ≡ busyIn k (recordsOf rows)
-      → r ≡ tell (tellingRefusal (controlSound c) (fit c && leb (c .tasks) n)) c b marks → r ≡ report queue
-  unfolding rowsFit lengthsFit
+      → r ≡ tell (tablesOf c lefts rights labels marks) (leb (c .tasks) n) b → r ≡ report queue
   reported c n k b r ec en ek eb e = e ∙ rw (eb, ek, en, ec, ← length-records rows) (sym (report-parts queue))

@@ -19,7 +19,7 @@ openingCode opening.Opened = 0
 openingCode (opening.Refused n) = n
 
 abbrev pub reportReplyOf : Reported → ReportReply
-reportReplyOf (reported.Refused n) = record { code = n; tag = 0; status = 0; left = 0; right = 0; busy = 0; retries = 0; waiting = 0 }
+reportReplyOf (reported.Refused n) = record { code = n; tag = 0; status = 0; left = 0; right = 0; busy = 0; waiting = 0; taken = 0; retries = 0 }
 reportReplyOf (reported.Told r) =
     record {
       code = 0;
@@ -28,8 +28,9 @@ reportReplyOf (reported.Told r) =
       left = r .anchor .left;
       right = r .anchor .right;
       busy = r .busy;
-      retries = r .retries;
       waiting = r .waiting;
+      taken = r .taken;
+      retries = r .retries;
     }
 
 -- What an opening answers, and what each lent table then holds. The upper halves of the labels' words are in no field: an opening

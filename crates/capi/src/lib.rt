@@ -16,7 +16,7 @@ ghost use Rattle.model.specs.declared.Op.the-variants.{Push, Pop, Step};
 ghost use Rattle.model.specs.Tables.{idle};
 ghost use Rattle.model.specs.Calls.{openQueue, act};
 ghost use Rattle.model.specs.Report.{count, report};
-ghost use Rattle.engine.specs.Ends.{endsCall, isMoved};
+ghost use Rattle.model.specs.Ends.{endsCall, isMoved};
 ghost use Rattle.rows.specs.Rows.{queueIn, recordsOf, uppersOf};
 ghost use Rattle.capi.specs.Replies.{openingCode, reportReplyOf, Coded, coded, Replied, replied};
 
@@ -30,8 +30,9 @@ pub struct ReportReply {
     pub left: u64,
     pub right: u64,
     pub busy: u64,
-    pub retries: u64,
     pub waiting: u64,
+    pub taken: u64,
+    pub retries: u64,
 }
 
 fn opening_code(o: Opening) -> u32
@@ -54,8 +55,9 @@ fn report_reply(r: Reported) -> ReportReply
             left: 0,
             right: 0,
             busy: 0,
-            retries: 0,
             waiting: 0,
+            taken: 0,
+            retries: 0,
         },
         Reported::Told(t) => ReportReply {
             code: 0,
@@ -64,8 +66,9 @@ fn report_reply(r: Reported) -> ReportReply
             left: t.anchor.left,
             right: t.anchor.right,
             busy: t.busy,
-            retries: t.retries,
             waiting: t.waiting,
+            taken: t.taken,
+            retries: t.retries,
         },
     }
 }
@@ -208,26 +211,7 @@ pub extern "C" fn zc_step(
         (act (queueIn (now (control .entry)) (now (records .entry)) (now (lefts .entry)) (now (rights .entry)) (now (labels .entry)) (now (marks .entry)))
         task Step)) ⌝ }
 {
-    let row = *control;
-    let c = rows::control_of(row);
-    let n = records.len();
-    let why = engine::admit(
-        c,
-        n,
-        task,
-        lefts.len(),
-        rights.len(),
-        labels.len(),
-        marks.len(),
-    );
-    if why != 0 {
-        return operation::reply(engine::refuse(why));
-    }
-    let was = records[task];
-    let r = rows::record_of(was);
-    let m = engine::move_on(c, r, lefts, rights, labels, marks);
-    rows::store(control, &mut records[task], m);
-    let o = m.outcome;
+    let o = rows::step(control, records, task, lefts, rights, labels, marks);
     operation::reply(o)
 }
 
@@ -247,7 +231,7 @@ fn busy(records: &[[u64; rows::RECORD_WORDS]], n: usize) -> u64
     k
 }
 
-/// Tells the fields of Anchor, the busy tasks, the retries and the slots taken.
+/// Tells the fields of Anchor, the busy tasks, the labels waiting, the slots taken and the retries.
 #[no_mangle]
 pub extern "C" fn zc_report(
     control: &[u64; rows::CONTROL_WORDS],
@@ -266,6 +250,6 @@ pub extern "C" fn zc_report(
     let n = records.len();
     let k = report::to_count(c, n);
     let b = busy(records, k);
-    let t = report::told(c, n, b, lefts.len(), rights.len(), labels.len(), marks);
+    let t = report::told(c, n, b, lefts, rights, labels, marks);
     report_reply(t)
 }

@@ -11,7 +11,7 @@ use Rattle.model.specs.Refusals.{alone}
 use Rattle.model.specs.Calls.{step, stepLent, replyOf}
 use Rattle.table.specs.declared.Acted.{Acted as Moved}
 use Rattle.table.specs.Lent.{withTables}
-use Rattle.engine.specs.Ends.{endsCall}
+use Rattle.model.specs.Ends.{endsCall}
 use Rattle.engine.specs.Stored.{controlAfter, recordAfter}
 use Rattle.engine.proofs.Stored.{stored}
 use Rattle.rows.specs.Rows.{controlOf, recordOf, upperOf}

@@ -30,10 +30,10 @@ pub extern "C" fn zc_step_record(
         (tablesOf (controlOf (now (control .entry))) (now (lefts .entry)) (now (rights .entry)) (now (labels .entry)) (now (marks .entry)))
         (recordOf (now (task .entry))))) ⌝ }
 {
-    let words = *control;
-    let c = rows::control_of(words);
     let row = *task;
     let r = rows::record_of(row);
+    let words = *control;
+    let c = rows::control_of(words);
     let m = engine::step_alone(c, r, lefts, rights, labels, marks);
     rows::store(control, task, m);
     let o = m.outcome;

@@ -21,7 +21,7 @@ use Rattle.model.specs.Refusals.{Lent, stepSound}
 use Rattle.model.specs.Calls.{Acted, withRetries, finish, step}
 use Rattle.places.specs.Arm.{stepAt}
 use Rattle.engine.specs.Parts.{moveOn}
-use Rattle.engine.specs.Ends.{endsCall, isMoved}
+use Rattle.model.specs.Ends.{endsCall, isMoved}
 use Rattle.engine.proofs.Whole.{split, above, here, why, fault, placed, in-parts}
 
 clash : false ≡ true → ⊥

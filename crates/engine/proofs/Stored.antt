@@ -12,7 +12,7 @@ use Rattle.model.specs.Refusals.{Lent}
 use Rattle.model.specs.Calls.{Acted, step}
 use Rattle.model.proofs.tests.Truth.{split, not-both}
 use Rattle.table.specs.declared.Acted.{Acted as Moved}
-use Rattle.engine.specs.Ends.{endsCall, isMoved}
+use Rattle.model.specs.Ends.{endsCall, isMoved}
 use Rattle.engine.specs.Stored.{controlMoved, recordMoved, controlAfter, recordAfter}
 use Rattle.engine.proofs.Kept.{Kept, Keeps, step-kept}
 

@@ -4,7 +4,7 @@ use Rattle.model.specs.declared.Control.{Control}
 use Rattle.model.specs.declared.Record.{Record}
 use Rattle.model.specs.Tables.{idle}
 use Rattle.table.specs.declared.Acted.{Acted}
-use Rattle.engine.specs.Ends.{endsCall, isMoved}
+use Rattle.model.specs.Ends.{endsCall, isMoved}
 
 -- A control that takes Anchor and retries of another.
 abbrev pub controlMoved : Control → Control → Control

@@ -11,7 +11,7 @@ ghost use Rattle.model.specs.Tables.{isPooled, tablesOf};
 ghost use Rattle.table.specs.Lent.{withTables};
 ghost use Rattle.sound.specs.Lengths.{lengthsFit};
 ghost use Rattle.engine.specs.Parts.{admission, recordRefusal, moveOn};
-ghost use Rattle.engine.specs.Ends.{answerEnds, endsCall, isMoved};
+ghost use Rattle.model.specs.Ends.{answerEnds, endsCall, isMoved, isRunning};
 
 /// Why a step is refused whatever its record holds, or 0: document 01's order. The tables are given
 /// by their lengths.
@@ -225,6 +225,16 @@ pub fn moves(o: Outcome) -> bool
     match o {
         Outcome::Refused(_) => false,
         Outcome::Moved(_) => true,
+    }
+}
+
+/// Whether a step with this outcome was carried out and its call goes on.
+pub fn runs(o: Outcome) -> bool
+    ensures { λ b. ⌜ b ≡ isRunning o ⌝ }
+{
+    match o {
+        Outcome::Refused(_) => false,
+        Outcome::Moved(a) => !answer_ends(a),
     }
 }
 

@@ -1,8 +1,7 @@
 //! How many slots are taken: the ones of each mark word under its mask, added up.
 ghost use mathlib.Core.Path.{_≡_};
-ghost use Prim.Native.Nat.{_+_, _/_, _≤_};
-ghost use Rattle.model.specs.Tables.{marked};
-ghost use Rattle.model.specs.Report.{count};
+ghost use Prim.Native.Nat.{_/_, _≤_};
+ghost use Rattle.model.specs.Report.{takenSlots};
 ghost use Rattle.marks.specs.Masked.{maskedWord};
 
 /// Word k of the marks without bit 0 of word 0 and without the bits above the last slot's.
@@ -22,7 +21,7 @@ fn masked(w: u64, k: u64, slots: u64) -> u64
 
 /// The marks set for slots 1 to slots.
 pub fn taken(slots: u64, marks: &[u64]) -> u64
-    ensures { λ n. ⌜ n ≡ count (λ k. marked (now (marks .entry)) (k + 1)) slots ⌝ }
+    ensures { λ n. ⌜ n ≡ takenSlots slots (now (marks .entry)) ⌝ }
 {
     let mut n: u64 = 0;
     for k in 0..slots / 64 + 1 {

@@ -19,6 +19,7 @@ pub mod NeverUnsound
 pub mod Standing
 pub mod NoSlot
 pub mod StepBounds
+pub mod LinksBack
 -- Laws of single calls, and the worked cases of the document.
 pub mod laws
 pub mod Bench

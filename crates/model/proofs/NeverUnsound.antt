@@ -70,4 +70,5 @@ module _ (pooled : Bool) (q : Queue) (tasks slots tag : ℕ) where
 
 pub never-unsound : Never34
 never-unsound pooled = after-opening pooled NeverUnsound (λ q tasks slots tag e os.
-    run-safe os 1 (opened pooled q tasks slots tag) nobody (open-good pooled q tasks slots tag (some-slots pooled q tasks slots e)) (open-safe pooled q tasks slots tag e) .0)
+    run-safe os 1 (opened pooled q tasks slots tag) nobody (open-good pooled q tasks slots tag (some-slots pooled q tasks slots e))
+    (open-safe pooled q tasks slots tag e) .0)

@@ -8,9 +8,9 @@ use Rattle.model.specs.declared.Reported.the-variants as reported
 use Rattle.model.specs.Tables.{Queue}
 use Rattle.model.specs.Sound.{controlSound}
 use Rattle.model.specs.Walk.{contents, entries}
-use Rattle.model.specs.Refusals.{openRefusal, reportRefusal}
+use Rattle.model.specs.Refusals.{openRefusal, recordsFit, reportRefusal}
 use Rattle.model.specs.Calls.{act, opened}
-use Rattle.model.specs.Report.{report, told, waiting}
+use Rattle.model.specs.Report.{busy, report, tell, told, waiting}
 use Rattle.model.specs.History.{AfterOpening, Reports, Told, Request, final, ledger, run}
 use Rattle.model.proofs.laws.Sizes.{act-fits, fits, open-fits}
 use Rattle.model.proofs.ledger.Opened.{nobody, open-good, some-slots}
@@ -44,13 +44,13 @@ stands pooled q tasks slots tag e os =
 pub standing : AfterOpening (λ q os. Standing (final q os) (ledger (run q os) .deque))
 standing pooled = after-opening pooled (λ q os. Standing (final q os) (ledger (run q os) .deque)) (stands pooled)
 
--- The report's rules, none of which applies.
-report-none : (q : Queue) (d : List Entry) → Standing q d → reportRefusal q ≡ 0
+-- No rule of the report applies.
+report-none : (q : Queue) (d : List Entry) → Standing q d → reportRefusal (q .tables) (recordsFit (q .tables .control .tasks) q) ≡ 0
 unfolding reportRefusal
 report-none q d s = rw (s .control, s .long, s .walk)
 
-report-told : (q : Queue) (d : List Entry) → Standing q d → report q ≡ reported.Told (told q)
-unfolding report
+report-told : (q : Queue) (d : List Entry) → Standing q d → report q ≡ reported.Told (told (q .tables) (busy q))
+unfolding report tell
 report-told q d s = rw (report-none q d s)
 
 -- Waiting is the length of the sequential deque's queue, and the report is never refused.
@@ -59,4 +59,4 @@ unfolding waiting
 reports pooled = after-opening pooled Told (λ q tasks slots tag e os.
     let s = stands pooled q tasks slots tag e os in
     let after = final (opened pooled q tasks slots tag) os in
-    record { tells = told after; is = report-told after _ s; waiting = rw (s .walk) })
+    record { tells = told (after .tables) (busy after); is = report-told after _ s; waiting = rw (s .walk) })

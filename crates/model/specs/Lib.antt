@@ -6,8 +6,12 @@ pub mod Deque
 pub mod Walk
 pub mod Refusals
 pub mod Calls
+pub mod Ends
 pub mod Report
 pub mod History
 pub mod OneTouch
 pub mod Mirror
+pub mod Solo
 pub mod Progress
+pub mod Neighbours
+pub mod LentSteps

@@ -5,31 +5,14 @@ use mathlib.Core.Logic.{_≢_}
 use mathlib.Core.Path.{_≡_}
 use Prim.Native.Nat.{ℕ, _+_, _*_, _<_, _≤_}
 use lib.Dec.{eqb}
-use lib.ListN.{replicate}
-use Rattle.model.specs.declared.Answer.{Answer}
-use Rattle.model.specs.declared.Answer.the-variants.{Running, Pushed, Empty, Popped, NoSlot}
 use Rattle.model.specs.declared.Outcome.{Outcome}
 use Rattle.model.specs.declared.Outcome.the-variants.{Refused, Moved}
 use Rattle.model.specs.declared.Op.{Op}
 use Rattle.model.specs.declared.Op.the-variants.{Push, Pop, Put, Step}
 use Rattle.model.specs.Tables.{Queue, recordAt}
+use Rattle.model.specs.Ends.{answerEnds, endsCall}
 use Rattle.model.specs.History.{Request, Event, run, final, isEffect, AfterOpeningAs}
-
--- An answer other than running: the call is answered.
-abbrev pub isFinal : Answer → Bool
-isFinal (Running p) = false
-isFinal Pushed = true
-isFinal Empty = true
-isFinal (Popped e) = true
-isFinal NoSlot = true
-
-abbrev pub answersWith : Outcome → Bool
-answersWith (Refused why) = false
-answersWith (Moved a) = isFinal a
-
--- A call is answered.
-abbrev pub answers : Event → Bool
-answers e = answersWith (e .outcome)
+use Rattle.model.specs.Solo.{SoloDone, soloRun}
 
 -- A call takes effect or answers: only an accepted step does.
 abbrev pub tellsBy : Event → Op → Outcome → Bool
@@ -37,7 +20,7 @@ tellsBy e (Push side slot label) o = false
 tellsBy e (Pop side) o = false
 tellsBy e (Put side label) o = false
 tellsBy e Step (Refused why) = false
-tellsBy e Step (Moved a) = isEffect e a || isFinal a
+tellsBy e Step (Moved a) = isEffect e a || answerEnds a
 
 abbrev pub tells : Event → Bool
 tells e = tellsBy e (e .op) (e .outcome)
@@ -60,10 +43,6 @@ unfoldable pub steps : List Event → ℕ
 steps [] = 0
 steps (e ∷ es) = stepping (e .op) (e .outcome) + steps es
 
--- Task t stepped alone, n times.
-abbrev pub solo : ℕ → ℕ → List Request
-solo t n = replicate n (record { task = t; op = Step })
-
 -- Within 18 steps for a push and 13 for a pop.
 abbrev pub limit : ℕ → ℕ
 limit kind = cond (eqb kind 0) 18 13
@@ -76,16 +55,23 @@ pub record Busy (q : Queue) (t : ℕ) : Type 0 where
   pub known : t < q .tables .control .tasks
   pub place : recordAt q t .place ≢ 0
 
--- After the list os, wherever it leaves the others: a busy task stepped alone answers within its limit. (No step of it is refused.)
+-- A run of steps ended in an answer, after so many steps at the most. (So none of them was refused.)
+pub record AnsweredWithin (most : ℕ) (d : SoloDone) : Type 0 where
+  pub answered : endsCall (d .outcome) ≡ true
+  pub within : d .steps ≤ most
+
+-- After the list os, wherever it leaves the others: a busy task stepped alone, as often as its limit or more, answers within its limit.
 abbrev pub SoloWithin : Queue → List Request → Type 0
 SoloWithin q os =
     let now = final q os in
-    (t : ℕ) → Busy now t → any answers (run now (solo t (limit (recordAt now t .kind)))) ≡ true
+    (t n : ℕ) → Busy now t → limit (recordAt now t .kind) ≤ n → AnsweredWithin (limit (recordAt now t .kind)) (soloRun n now t)
 
 -- After the list os, with P tasks opened: a stretch that holds 26 times P accepted steps holds a call that takes effect or answers.
 -- (Starts and refused operations may stand between them.)
 abbrev pub StretchTells : Queue → List Request → Type 0
-StretchTells q os = (stretch : List Request) → stretchLimit (q .tables .control .tasks) ≤ steps (run (final q os) stretch) → any tells (run (final q os) stretch) ≡ true
+StretchTells q os =
+    let now = final q os in
+    (stretch : List Request) → stretchLimit (q .tables .control .tasks) ≤ steps (run now stretch) → any tells (run now stretch) ≡ true
 
 abbrev pub SoloBound : Type 0
 SoloBound = AfterOpeningAs false SoloWithin

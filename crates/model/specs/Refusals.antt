@@ -165,13 +165,13 @@ stepRules q p r =
 unfoldable pub stepRefusal : Tables → Lent → Record → ℕ
 stepRefusal q p r = first (stepRules q p r)
 
--- The report names no task and no slot; its last rule is 34 for the walk.
-abbrev pub reportRules : Queue → List Rule
-reportRules q =
-    rule 34 (not (controlSound (q .tables .control)))
-    ∷ rule 12 (not (rowsFit (isPooled (q .tables .control)) (q .tables .control .slots) (q .tables) && recordsFit (q .tables .control .tasks) q))
-    ∷ rule 34 (isBroken (contents (q .tables)))
+-- The report names no task and no slot; 34 for the walk comes last. Enough: there are as many records as tasks.
+abbrev pub reportRules : Tables → Bool → List Rule
+reportRules q enough =
+    rule 34 (not (controlSound (q .control)))
+    ∷ rule 12 (not (rowsFit (isPooled (q .control)) (q .control .slots) q && enough))
+    ∷ rule 34 (isBroken (contents q))
     ∷ []
 
-unfoldable pub reportRefusal : Queue → ℕ
-reportRefusal q = first (reportRules q)
+unfoldable pub reportRefusal : Tables → Bool → ℕ
+reportRefusal q enough = first (reportRules q enough)

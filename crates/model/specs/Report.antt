@@ -10,7 +10,7 @@ use Rattle.model.specs.declared.Reported.{Reported}
 use Rattle.model.specs.declared.Reported.the-variants as reported
 use Rattle.model.specs.Tables.{Tables, Queue, marked, recordAt}
 use Rattle.model.specs.Walk.{contents, met}
-use Rattle.model.specs.Refusals.{reportRefusal}
+use Rattle.model.specs.Refusals.{recordsFit, reportRefusal}
 
 -- How many of the numbers below n pass a test.
 unfoldable pub count : (ℕ → Bool) → ℕ → ℕ
@@ -29,16 +29,20 @@ waiting q = length (met (contents q))
 unfoldable pub takenSlots : ℕ → List ℕ → ℕ
 takenSlots slots marks = count (λ n. marked marks (n + 1)) slots
 
-abbrev pub told : Queue → Report
-told q = record {
-  anchor = anchorOf (q .tables .control .anchor);
-  busy = busy q;
-  waiting = waiting (q .tables);
-  taken = takenSlots (q .tables .control .slots) (q .tables .marks);
-  retries = q .tables .control .retries;
+-- What is told, when busy is how many tasks are.
+abbrev pub told : Tables → ℕ → Report
+told q busy = record {
+  anchor = anchorOf (q .control .anchor);
+  busy = busy;
+  waiting = waiting q;
+  taken = takenSlots (q .control .slots) (q .marks);
+  retries = q .control .retries;
 }
 
+unfoldable pub tell : Tables → Bool → ℕ → Reported
+tell q enough busy =
+    let why = reportRefusal q enough in
+    cond (eqb why 0) (reported.Told (told q busy)) (reported.Refused why)
+
 unfoldable pub report : Queue → Reported
-report q =
-    let why = reportRefusal q in
-    cond (eqb why 0) (reported.Told (told q)) (reported.Refused why)
+report q = tell (q .tables) (recordsFit (q .tables .control .tasks) q) (busy q)

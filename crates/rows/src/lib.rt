@@ -1,16 +1,19 @@
 //! Control and records as rows of words, as C lends them: the one place that knows which word is which
 //! field. To C a control is a struct of so many words, and so is a record.
 use model::Control;
+use model::Outcome;
 use model::Record;
 use table::Acted;
 ghost use mathlib.Core.Path.{_≡_};
 ghost use mathlib.Core.Bool.{cond};
 ghost use Prim.Native.Nat.{_≤_};
 ghost use lib.ListN.{length, getD, set};
+ghost use Rattle.model.specs.declared.Op.the-variants.{Step};
 ghost use Rattle.model.specs.Tables.{idle, zeroed};
-ghost use Rattle.engine.specs.Ends.{endsCall, isMoved};
+ghost use Rattle.model.specs.Calls.{Done, act};
+ghost use Rattle.model.specs.Ends.{endsCall, isMoved};
 ghost use Rattle.engine.specs.Stored.{controlMoved, recordMoved, controlAfter, recordAfter};
-ghost use Rattle.rows.specs.Rows.{controlOf, recordOf, recordsOf, upperOf, uppersOf};
+ghost use Rattle.rows.specs.Rows.{controlOf, recordOf, recordsOf, upperOf, uppersOf, queueIn};
 
 /// The words of a control.
 pub const CONTROL_WORDS: usize = 4;
@@ -171,4 +174,47 @@ pub fn store(control: &mut [u64; CONTROL_WORDS], row: &mut [u64; RECORD_WORDS], 
             *row = next;
         }
     }
+}
+
+/// Moves a task by one step.
+pub fn step(
+    control: &mut [u64; CONTROL_WORDS],
+    records: &mut [[u64; RECORD_WORDS]],
+    task: usize,
+    lefts: &mut [u64],
+    rights: &mut [u64],
+    labels: &[u32],
+    marks: &mut [u64],
+) -> Outcome
+    ensures { λ o.
+        ⌜ _≡_ {A = Done}
+        (record {
+          queue = queueIn (now (control .exit)) (now (records .exit)) (now (lefts .exit)) (now (rights .exit)) (now (labels .entry)) (now (marks .exit));
+          outcome = o;
+        })
+        (act (queueIn (now (control .entry)) (now (records .entry)) (now (lefts .entry)) (now (rights .entry)) (now (labels .entry)) (now (marks .entry)))
+        task Step) ⌝ }
+    ensures { λ o.
+        ⌜ uppersOf (now (records .exit)) ≡ cond (endsCall o) (set (uppersOf (now (records .entry))) task 0) (uppersOf (now (records .entry))) ⌝ }
+{
+    let words = *control;
+    let c = control_of(words);
+    let n = records.len();
+    let why = engine::admit(
+        c,
+        n,
+        task,
+        lefts.len(),
+        rights.len(),
+        labels.len(),
+        marks.len(),
+    );
+    if why != 0 {
+        return engine::refuse(why);
+    }
+    let row = records[task];
+    let r = record_of(row);
+    let m = engine::move_on(c, r, lefts, rights, labels, marks);
+    store(control, &mut records[task], m);
+    m.outcome
 }

@@ -183,6 +183,11 @@ fn rounds(
 }
 
 fn main() {
+    if command::has_arguments(
+        b"usage: trace < RUNFILE > TRACE\nprints the trace of a run file; tools/runfile makes one\n",
+    ) {
+        return;
+    }
     let mut input = [0u8; 65536];
     let mut output = [0u8; 589824];
     let mut rows = [[0u64; rows::RECORD_WORDS]; 16];

@@ -1,10 +1,11 @@
-//! The labels waiting, in order: document 01, "Places", last paragraph.
+//! The labels waiting, in order: document 01, "Places", last paragraph, and document 02, #102.
 
 use crate::clerk::Entry;
 use crate::tables::Shared;
 use crate::word::{Anchor, Link, Side, LPUSH};
 
-/// The entries from left to right, or nothing if the walk leaves the rows or never stops.
+/// The entries from left to right, or nothing if before the other end the walk meets slot 0, such a
+/// link word as 34 names, or more slots than exist.
 pub fn waiting(shared: &Shared) -> Option<Vec<Entry>> {
     let anchor = Anchor::unpack(shared.control.anchor);
     let (from, to) = match anchor.status {
@@ -26,7 +27,11 @@ pub fn waiting(shared: &Shared) -> Option<Vec<Entry>> {
             }
             return Some(entries);
         }
-        slot = Link(shared.links(to)[slot as usize]).slot();
+        let link = Link(shared.links(to)[slot as usize]);
+        if !link.is_sound(shared.control.slots) {
+            return None;
+        }
+        slot = link.slot();
     }
     None
 }

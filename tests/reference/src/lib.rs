@@ -1,19 +1,22 @@
 //! An independent implementation of documents 01 and 02, written from the papers alone.
 //!
 //! The machine: `word` (packed words), `tables` (what is lent), `refusal` (the
-//! ordered tests), `places` (what a step does), `machine` (the outside calls).
+//! ordered tests), `places` (what a step does), `machine` and `find` (the outside calls).
 //! The program: `runfile` (fields in), `run` (events), `trace` (lines out).
+//! Over the tables: `sheet` (document 02, #111 and #112).
 //! The judge: `clerk` (a sequential deque), `contents` (labels waiting),
 //! `invariant` (what holds between any two steps), `check` (all of them at once).
 //! The differential test: `dice`, `script`, `shift`, `scenario`, `malformed`, `coverage`.
 //! For tests that drive the calls themselves: `damage` (tables that no run leaves).
 
+pub mod audit;
 pub mod check;
 pub mod clerk;
 pub mod contents;
 pub mod coverage;
 pub mod damage;
 pub mod dice;
+pub mod find;
 pub mod invariant;
 pub mod machine;
 pub mod malformed;
@@ -23,6 +26,7 @@ pub mod run;
 pub mod runfile;
 pub mod scenario;
 pub mod script;
+pub mod sheet;
 pub mod shift;
 pub mod tables;
 pub mod trace;

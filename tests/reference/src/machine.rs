@@ -3,6 +3,7 @@
 //! Every call makes its tests first, in the paper's order, and writes afterwards:
 //! a refused call leaves every table as it was.
 
+use crate::contents;
 use crate::places::advance;
 use crate::refusal::{self, demand, Refusal, LAST_START_TAG};
 use crate::tables::{Control, Record, Shared, Tables, MOST_SLOTS, MOST_TASKS, POP, PUSH};
@@ -26,8 +27,9 @@ pub struct Report {
     pub left: u64,
     pub right: u64,
     pub busy: u64,
-    pub retries: u64,
     pub waiting: u64,
+    pub taken: u64,
+    pub retries: u64,
 }
 
 impl Tables<'_> {
@@ -77,6 +79,21 @@ impl Tables<'_> {
         step_admitted(&mut self.shared, &mut self.records[task as usize])
     }
 
+    /// Steps one task until a step does not answer running, `most` times at the most: its answer,
+    /// and the steps made. Where no step was left to make the task is running at its place.
+    pub fn run(&mut self, task: u64, most: u64) -> (Answer, u64) {
+        for made in 0..most {
+            match self.step(task) {
+                Ok(Moved::Running(_)) => {}
+                Ok(answer) => return (Ok(answer), made + 1),
+                Err(refusal) => return (Err(refusal), made),
+            }
+        }
+        let place = self.records.get(task as usize).map_or(0, |record| record.place);
+        (Ok(Moved::Running(place)), most)
+    }
+
+    /// 34 for control and Anchor, 12, and 34 for the walk.
     pub fn report(&self) -> Result<Report, Refusal> {
         let control = &*self.shared.control;
         refusal::control_sound(control)?;
@@ -84,9 +101,10 @@ impl Tables<'_> {
         let Anchor { tag, status, left, right } = Anchor::unpack(control.anchor);
         let records = &self.records[..control.tasks as usize];
         let busy = records.iter().filter(|record| record.place != 0).count() as u64;
-        let waiting =
-            (1..=control.slots).filter(|&slot| self.shared.is_marked(slot)).count() as u64;
-        Ok(Report { tag, status, left, right, busy, retries: control.retries, waiting })
+        let waiting = contents::waiting(&self.shared).ok_or(Refusal::Unsound)?.len() as u64;
+        let taken = (1..=control.slots).filter(|&slot| self.shared.is_marked(slot)).count() as u64;
+        let retries = control.retries;
+        Ok(Report { tag, status, left, right, busy, waiting, taken, retries })
     }
 
     /// What every call on a task asks first: 34 for control and Anchor, 12, 13.

@@ -14,11 +14,13 @@ pub enum Refusal {
     NoSide = 14,
     NoSlot = 15,
     Malformed = 16,
+    Sheet = 46,
     Busy = 30,
     Idle = 31,
     Taken = 32,
     WornTag = 33,
     Unsound = 34,
+    ManyAsked = 45,
 }
 
 impl Refusal {

@@ -188,7 +188,7 @@ fn the_report_counts() {
     storage.lend().push(0, 0, 3, 30).expect("starts");
     let report = storage.lend().report().expect("reports");
     assert_eq!((report.tag, report.status, report.left, report.right), (3, STABLE, 1, 2));
-    assert_eq!((report.busy, report.retries, report.waiting), (1, 0, 3));
+    assert_eq!((report.busy, report.waiting, report.taken, report.retries), (1, 2, 3, 0));
     storage.marks[0] |= 1 | 1 << 4;
     assert_eq!(storage.lend().report(), Ok(report), "slots 0 and 4 are not of 1 to 3");
 }

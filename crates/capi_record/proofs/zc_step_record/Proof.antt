@@ -12,7 +12,7 @@ returns c =
     let read = moved .before .before .before .before in
     let put = c .before .store .ensures in
     stepped _ _ _ _ _ _ _ _ _ _ _ _ _ _ _
-    (read .before .before .control-of .ensures) (read .record-of .ensures) (moved .step-alone .ensures)
+    (read .control-of .ensures) (read .before .before .record-of .ensures) (moved .step-alone .ensures)
     (put .0) (put .1 .0) (put .1 .1) (c .reply .ensures)
 
 pub zc-step-record-spec : {M : Type 1} → statement M

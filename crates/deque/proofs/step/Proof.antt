@@ -63,7 +63,7 @@ use Rattle.model.specs.Refusals.{among}
 use Rattle.model.specs.Calls.{step, Done, back, act, actOn}
 use Rattle.sound.specs.Lengths.{lengthsFit}
 use Rattle.engine.specs.Parts.{admission, moveOn}
-use Rattle.engine.specs.Ends.{endsCall, isMoved}
+use Rattle.model.specs.Ends.{endsCall, isMoved}
 use Rattle.engine.proofs.Whole.{turned-away, admitted, task-there}
 use Rattle.deque.proofs.Walk.{control-value, record-value, outcome-value, slice-value, kept, var, part, lets, receive, valued, idle-is, holds, fails, fits-scaled, gives-up}
 use Rattle.deque.proofs.Engine.{Four, Lasts, tabled, unwritten, Lengths, Leaves, Move, slices, returned, moves, Test, asks}

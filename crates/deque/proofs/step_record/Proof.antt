@@ -50,7 +50,7 @@ use Rattle.table.specs.declared.Acted.{Acted as Moved}
 use Rattle.model.specs.Tables.{Tables, idle}
 use Rattle.model.specs.Refusals.{alone}
 use Rattle.model.specs.Calls.{Acted, stepLent}
-use Rattle.engine.specs.Ends.{endsCall, isMoved}
+use Rattle.model.specs.Ends.{endsCall, isMoved}
 use Rattle.deque.proofs.Walk.{control-value, record-value, outcome-value, slice-value, kept, var, part, lets, receive, idle-is, holds, fails}
 use Rattle.deque.proofs.Engine.{Four, Lasts, tabled, unwritten, Lengths, Leaves, Move, slices, returned, moves, Test, asks}
 use Rattle.deque.proofs.Stored.{control-of, task-of, outcome-of, control-after, record-after, control-is, record-is}

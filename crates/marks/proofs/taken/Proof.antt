@@ -5,7 +5,7 @@ use native.Mathlib.Nat.{zero-min}
 use native.Mathlib.Omega.{arith}
 use lib.Count.{ones}
 use borrow.Author.Needs.{needs}
-use Rattle.model.specs.Report.{count}
+use Rattle.model.specs.Report.{count, takenSlots}
 use Rattle.marks.specs.Masked.{maskedWord}
 use Rattle.marks.proofs.Ones.{marks, word-step, marks-le}
 use Rattle.marks.proofs.taken.Statement.{statement}
@@ -54,6 +54,7 @@ loop-again : tie.Need-loop-again Inv-loop μ-loop
 loop-again c = (omega arith, next c)
 
 returns : tie.Need-returns Inv-loop μ-loop
+unfolding takenSlots
 returns c =
     let l = c .before .loop in
     let a = c .before .before .before .args in

@@ -9,11 +9,13 @@ use Rattle.model.specs.declared.Entry.{Entry}
 use Rattle.model.proofs.tests.Truth.{by-test, not-both}
 use Rattle.model.proofs.machine.Clerk.{Call}
 use Rattle.model.proofs.machine.Laws.{sameLink-true}
-use Rattle.model.proofs.machine.Machine.{Kind, Link, Move, Place, Rec, Shared, act, at1, at10, at11, at2, at3, at4, at5, at6, at7, at8, at9, draw, four, give, goes, idle, isIdle, isStable, pop, push, putLink, runs, same, sameLink, tip, two}
+use Rattle.model.proofs.machine.Machine.{Kind, Link, Move, Place, Rec, Shared, act, at1, at10, at11, at2, at3, at4, at5, at6, at7, at8, at9}
+use Rattle.model.proofs.machine.Machine.{draw, four, give, goes, idle, isIdle, isStable, pop, push, putLink, runs, same, sameLink, tip, two}
 use Rattle.model.proofs.invariant.Owners.{Owner, Whole}
 use Rattle.model.proofs.invariant.Tasks.{Grown, Live, Task, way}
 use Rattle.model.proofs.progress.Bounds.{owed-within}
-use Rattle.model.proofs.progress.Falls.{Falls, drop, fall1, fall10-done, fall10-failed, fall11, fall2-failed, fall3, fall4-failed, fall5, fall6, fall7, fall8, fall9-done, fall9-failed, pushed-running}
+use Rattle.model.proofs.progress.Falls.{Falls, drop, fall1, fall10-done, fall10-failed, fall11, fall2-failed, fall3, fall4-failed, fall5}
+use Rattle.model.proofs.progress.Falls.{fall6, fall7, fall8, fall9-done, fall9-failed, pushed-running}
 use Rattle.model.proofs.progress.Measure.{home, owed, owedAt}
 
 -- From a change at 2 or 4 on: a push makes that one and, at 5 to 10, six more at the most; a pop that one and 11.
@@ -79,7 +81,8 @@ module _ (s : Shared) (r : Rec) where
     alone-falls named at8 i w = fall8 _ _ (gap (r .kind)) s r
     alone-falls named at9 i w = alone9 (r .kind) w
     alone-falls named at10 i w = by-test (Own (r .kind) at10) now
-        (λ e. by-test (Own (r .kind) at10) (r .finishing) (λ _. record { less = λ z. absurd (pushed-running z) }) (λ f. fall10-done _ _ (gap (r .kind)) s r _ e f))
+        (λ e. by-test (Own (r .kind) at10) (r .finishing) (λ _. record { less = λ z. absurd (pushed-running z) })
+        (λ f. fall10-done _ _ (gap (r .kind)) s r _ e f))
         (λ e. fall10-failed _ _ (gap (r .kind)) s r e)
     alone-falls named at11 i w = fall11 _ _ (gap (r .kind)) s r named
     alone-falls named (draw p) i w = absurd (not-both (w .0) named)

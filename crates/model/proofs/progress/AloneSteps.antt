@@ -1,5 +1,4 @@
 -- The same of the tables: a busy task stepped alone answers within as many steps as it owes.
-use mathlib.Core.Bool.{_||_, true}
 use mathlib.Core.Logic.{_≢_}
 use mathlib.Core.Path.{_∙_, _≡_, ap, refl, subst, sym}
 use Prim.Native.Nat.{_+_, _<_, _≤_, suc, zero, ℕ}
@@ -8,9 +7,10 @@ use lib.Dec.{eqb, leb}
 use lib.Seq.{getD-set-same}
 use borrow.Author.Tests.{eq-eqb}
 use Rattle.model.specs.Calls.{Acted, Done, act, actOn, back, finish, step}
-use Rattle.model.specs.History.{Ledger, run}
+use Rattle.model.specs.History.{Ledger}
 use Rattle.model.specs.Places.{Move, linkMet, move}
-use Rattle.model.specs.Progress.{Busy, answers, answersWith, any, limit, solo}
+use Rattle.model.specs.Progress.{AnsweredWithin, Busy, limit}
+use Rattle.model.specs.Solo.{soloRun}
 use Rattle.model.specs.Refusals.{among, stepRefusal}
 use Rattle.model.specs.Route.{goes}
 use Rattle.model.specs.Tables.{Queue, Tables, idle, recordAt}
@@ -86,12 +86,15 @@ module _ (n : ℕ) (q : Queue) (l : Ledger) (g : Matched n q l) (f : Safe q) (ta
 
   still : answerSeen a ≡ M.running → r′ .place ≢ 0
   unfolding recOf
-  still e p = not-both (ap (λ (v : ℕ). M.isIdle (placeOf v)) p) (subst (λ (w : M.Answer). EndsAt w (M.isIdle (placeOf (r′ .place)))) e (step-ends q (g .book) (g .inv) (g .links) t (stepping n q l g f t z (b .place)) .ends))
+  still e p = not-both (ap (λ (v : ℕ). M.isIdle (placeOf v)) p)
+      (subst (λ (w : M.Answer). EndsAt w (M.isIdle (placeOf (r′ .place)))) e
+      (step-ends q (g .book) (g .inv) (g .links) t (stepping n q l g f t z (b .place)) .ends))
 
   -- A record gone on keeps its kind.
   same-kind : r′ .place ≢ 0 → r′ .kind ≡ r .kind
   unfolding goes
-  same-kind = by-test (λ (x : Record). x .place ≢ 0 → x .kind ≡ r .kind) (leb (next r m) 17) (λ _ _. keeps n q l g f t z (b .place) .kind) (λ _ e. absurd (e refl))
+  same-kind = by-test (λ (x : Record). x .place ≢ 0 → x .kind ≡ r .kind) (leb (next r m) 17) (λ _ _. keeps n q l g f t z (b .place) .kind)
+      (λ _ e. absurd (e refl))
 
   nearer : answerSeen a ≡ M.running → aloneOf k t (stateOf q′) < aloneOf k t (stateOf q)
   unfolding stateOf
@@ -117,11 +120,14 @@ module _ (n : ℕ) (q : Queue) (l : Ledger) (g : Matched n q l) (f : Safe q) (ta
       (λ e. absurd (not-both (eq-eqb _ _ (taken n q l g f tasks y t b)) e))
 
 -- Within j steps, where it owes no more.
-pub solo-answers : (j tasks : ℕ) (q : Queue) → Reached tasks q → (t : ℕ) → Busy q t
-    → aloneOf (kindOf (recordAt q t .kind)) t (stateOf q) ≤ j → any answers (run q (solo t j)) ≡ true
-unfolding any run
-solo-answers zero tasks q z t b le = absurd (omega (arith, alone-within (kindOf (recordAt q t .kind)) (stateOf q .shared) (stateOf q .task t) .0))
-solo-answers (suc j) tasks q z t b le = go (x .answer) refl (λ e. solo-answers j tasks (d .queue) z′ t (next e .0) (next e .1))
+pub solo-answers : (j n tasks : ℕ) (q : Queue) → Reached tasks q → (t : ℕ) → Busy q t
+    → aloneOf (kindOf (recordAt q t .kind)) t (stateOf q) ≤ j → j ≤ n → AnsweredWithin j (soloRun n q t)
+unfolding soloRun
+solo-answers zero n tasks q z t b le more =
+    absurd (omega (arith, alone-within (kindOf (recordAt q t .kind)) (stateOf q .shared) (stateOf q .task t) .0))
+solo-answers (suc j) zero tasks q z t b le more = absurd (omega (arith, more))
+solo-answers (suc j) (suc n) tasks q z t b le more =
+    run-on (x .answer) refl (λ e. solo-answers j n tasks (d .queue) z′ t (next e .0) (next e .1) (omega (arith, more)))
   where
     d : Done
     d = act q t Step
@@ -132,23 +138,27 @@ solo-answers (suc j) tasks q z t b le = go (x .answer) refl (λ e. solo-answers 
     z′ : Reached tasks (d .queue)
     z′ = act-reached tasks q t Step z
 
-    next : answerSeen (x .answer) ≡ M.running → (Busy (d .queue) t) × (aloneOf (kindOf (recordAt (d .queue) t .kind)) t (stateOf (d .queue)) ≤ j)
+    next : answerSeen (x .answer) ≡ M.running
+        → (Busy (d .queue) t) × (aloneOf (kindOf (recordAt (d .queue) t .kind)) t (stateOf (d .queue)) ≤ j)
     next e = (
       record { known = omega (arith, b .known, z .roomy .tasks-are, z′ .roomy .tasks-are); place = x .busy e },
       subst (λ v. aloneOf (kindOf v) t (stateOf (d .queue)) ≤ j) (sym (x .kind e)) (omega (arith, x .less e)),
     )
 
-    go : (a : Answer) → x .answer ≡ a → (answerSeen (x .answer) ≡ M.running → any answers (run (d .queue) (solo t j)) ≡ true)
-        → answersWith (d .outcome) || any answers (run (d .queue) (solo t j)) ≡ true
-    go (Running p) e ih = rw (x .moved ∙ ap Moved e) (ih (ap answerSeen e))
-    go Pushed e ih = rw (x .moved ∙ ap Moved e)
-    go Empty e ih = rw (x .moved ∙ ap Moved e)
-    go (Popped v) e ih = rw (x .moved ∙ ap Moved e)
-    go NoSlot e ih = rw (x .moved ∙ ap Moved e)
+    run-on : (a : Answer) → x .answer ≡ a → (answerSeen (x .answer) ≡ M.running → AnsweredWithin j (soloRun n (d .queue) t))
+        → AnsweredWithin (suc j) (soloRun (suc n) q t)
+    run-on (Running p) e ih =
+        let h = ih (ap answerSeen e) in
+        rw (x .moved ∙ ap Moved e) (record { answered = h .answered; within = omega (arith, h .within) })
+    run-on Pushed e ih = rw (x .moved ∙ ap Moved e) (record { answered = refl; within = omega arith })
+    run-on Empty e ih = rw (x .moved ∙ ap Moved e) (record { answered = refl; within = omega arith })
+    run-on (Popped v) e ih = rw (x .moved ∙ ap Moved e) (record { answered = refl; within = omega arith })
+    run-on NoSlot e ih = rw (x .moved ∙ ap Moved e) (record { answered = refl; within = omega arith })
 
 -- 18 steps for a push, 13 for a pop.
-pub solo-within : (tasks : ℕ) (q : Queue) → Reached tasks q → (t : ℕ) → Busy q t → any answers (run q (solo t (limit (recordAt q t .kind)))) ≡ true
-solo-within tasks q z t b = solo-answers _ tasks q z t b (enough (recordAt q t .kind))
+pub solo-within : (tasks : ℕ) (q : Queue) → Reached tasks q → (t n : ℕ) → Busy q t → limit (recordAt q t .kind) ≤ n
+    → AnsweredWithin (limit (recordAt q t .kind)) (soloRun n q t)
+solo-within tasks q z t n b more = solo-answers _ n tasks q z t b (enough (recordAt q t .kind)) more
   where
     enough : (k : ℕ) → aloneOf (kindOf k) t (stateOf q) ≤ limit k
     enough k = split (eqb k 0)

@@ -48,4 +48,5 @@ module _ (c g : ℕ) (some : 1 ≤ c) (gap : c + 2 ≤ g) where
     due-within (give p) = (omega arith, omega arith)
 
   pub owed-within : (s : Shared) (r : Rec) → Within (owed c g s r)
-  owed-within s r = either Within (ending (r .place) r) (rest-within (r .place)) (due-within (isStable (s .anchor .status)) (same (r .read) (s .anchor)) (outgrown s r) (r .place))
+  owed-within s r = either Within (ending (r .place) r) (rest-within (r .place))
+      (due-within (isStable (s .anchor .status)) (same (r .read) (s .anchor)) (outgrown s r) (r .place))

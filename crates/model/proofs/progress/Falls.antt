@@ -12,7 +12,9 @@ use Rattle.model.specs.declared.Entry.{Entry}
 use Rattle.model.proofs.tests.Truth.{and-of, and-true, by-test, not-both}
 use Rattle.model.proofs.lists.Slots.{slots}
 use Rattle.model.proofs.machine.Laws.{same-refl, sameLink-refl}
-use Rattle.model.proofs.machine.Machine.{Anchor, Kind, Link, Move, Place, Rec, Shared, act, apply, at1, at10, at11, at2, at3, at4, at5, at6, at7, at8, at9, empty, goes, isIdle, isStable, leave, none, one, pop, popped, push, pushed, putAnchor, putLink, reads, running, runs, same, sameLink, settled, three, tip, towards}
+use Rattle.model.proofs.machine.Machine.{Anchor, Kind, Link, Move, Place, Rec, Shared, act, apply, at1, at10, at11, at2, at3, at4, at5, at6}
+use Rattle.model.proofs.machine.Machine.{at7, at8, at9, empty, goes, isIdle, isStable, leave, none, one, pop, popped, push, pushed, putAnchor}
+use Rattle.model.proofs.machine.Machine.{putLink, reads, running, runs, same, sameLink, settled, three, tip, towards}
 use Rattle.model.proofs.invariant.Owners.{Owner, Whole}
 use Rattle.model.proofs.invariant.Tasks.{Fresh, Grown, Live, Ninth, way}
 use Rattle.model.proofs.chain.Ends.{alike-stable, both-null}
@@ -89,14 +91,16 @@ module _ (c g : ℕ) (gap : c + 2 ≤ g) (s : Shared) (r : Rec) where
       (λ _. record { less = λ _. drop (r .finishing) (λ _. omega arith) (λ _. drop now (λ _. omega arith) (λ _. omega arith)) })
       (λ _. record {
         less = λ _. drop (r .finishing) (λ _. omega arith)
-            (λ _. drop now (λ _. by-test (λ v. v < g + 2) (ltb (w .tag) (w .tag)) (λ z. absurd (let l = ltb-true (w .tag) (w .tag) z in omega arith)) (λ _. omega arith)) (λ _. omega arith));
+            (λ _. drop now (λ _. by-test (λ v. v < g + 2) (ltb (w .tag) (w .tag)) (λ z. absurd (let l = ltb-true (w .tag) (w .tag) z in omega arith))
+            (λ _. omega arith)) (λ _. omega arith));
       })
 
   pub fall8 : At at8 (act at8 s r)
   fall8 = by-test (At at8) now
       (λ e. record {
         less = λ _. drop (r .finishing) (λ _. omega arith)
-            (λ _. by-test (λ v. cond (outgrown s r) (here + 1) g < v) now (λ _. drop (outgrown s r) (λ _. omega arith) (λ _. omega arith)) (λ n. absurd (not-both e n)));
+            (λ _. by-test (λ v. cond (outgrown s r) (here + 1) g < v) now (λ _. drop (outgrown s r) (λ _. omega arith) (λ _. omega arith))
+            (λ n. absurd (not-both e n)));
       })
       (λ e. leaves at8 (stale _ e))
 
@@ -124,7 +128,9 @@ module _ (c g : ℕ) (gap : c + 2 ≤ g) (s : Shared) (r : Rec) where
   fall9-done g′ v lt p e = record {
     less = λ _. drop (r .finishing) (λ _. omega arith)
         (λ _. by-test (λ v. v < cond (outgrown s r) (here + 1) g) now
-        (λ _. by-test (λ v. c + 3 < v) (outgrown s r) (λ y. absurd (let l = ltb-true (r .link .tag) (s .link (way (r .read)) (r .near) .tag) y in let t = ap (λ (w : Link). w .tag) e in omega arith)) (λ _. lt))
+        (λ _. by-test (λ v. c + 3 < v) (outgrown s r)
+        (λ y. absurd (let l = ltb-true (r .link .tag) (s .link (way (r .read)) (r .near) .tag) y in let t = ap (λ (w : Link). w .tag) e in omega arith))
+        (λ _. lt))
         (λ n. absurd (not-both (subst (λ (a : Anchor). same (r .read) a ≡ true) p (same-refl (r .read))) n)));
   }
 
@@ -136,23 +142,30 @@ module _ (c g : ℕ) (gap : c + 2 ≤ g) (s : Shared) (r : Rec) where
 
   -- 1: what is read is current. (With #106 a change that fails at 2 or 4 goes on so too: see `fall2-failed`.)
   module _ (h : ℕ → Owner) (q : List Entry) (all : Whole s h q) (f : r .finishing ≡ false) where
-    reads-at : (p : Place) → due c g steady (same (s .anchor) (s .anchor)) (outgrown s (reads r (s .anchor) p)) p < here → Falls c g here s (runs none (reads r (s .anchor) p))
-    reads-at p lt = record { less = λ _. by-test (λ v. v < here) (ending p r) (λ t. absurd (not-both (and-true (not (isIdle p)) (r .finishing) t .1) f)) (λ _. lt) }
+    reads-at : (p : Place) → due c g steady (same (s .anchor) (s .anchor)) (outgrown s (reads r (s .anchor) p)) p < here
+        → Falls c g here s (runs none (reads r (s .anchor) p))
+    reads-at p lt = record {
+      less = λ _. by-test (λ v. v < here) (ending p r) (λ t. absurd (not-both (and-true (not (isIdle p)) (r .finishing) t .1) f))
+          (λ _. lt);
+    }
 
     -- A single end, or none, is STABLE.
     alone : s .anchor .left ≡ s .anchor .right → steady ≡ true
     alone e = ap isStable (alike-stable (s .link) (s .anchor) (slots q) (all .shape) e)
 
     reads2 : s .anchor .left ≡ s .anchor .right → Falls c g here s (runs none (reads r (s .anchor) at2))
-    reads2 e = reads-at at2 (by-test (λ v. v < here) (steady && same (s .anchor) (s .anchor)) (λ _. by-test (λ v. c < v) steady (λ _. omega arith) (λ _. omega arith))
+    reads2 e = reads-at at2
+        (by-test (λ v. v < here) (steady && same (s .anchor) (s .anchor)) (λ _. by-test (λ v. c < v) steady (λ _. omega arith) (λ _. omega arith))
         (λ z. absurd (not-both (and-of (alone e) (same-refl (s .anchor))) z)))
 
     reads3 : steady ≡ true → Falls c g here s (runs none (reads r (s .anchor) at3))
-    reads3 st = reads-at at3 (by-test (λ v. v < here) (steady && same (s .anchor) (s .anchor)) (λ _. by-test (λ v. c + 1 < v) steady (λ _. omega arith) (λ _. omega arith))
+    reads3 st = reads-at at3
+        (by-test (λ v. v < here) (steady && same (s .anchor) (s .anchor)) (λ _. by-test (λ v. c + 1 < v) steady (λ _. omega arith) (λ _. omega arith))
         (λ z. absurd (not-both (and-of st (same-refl (s .anchor))) z)))
 
     reads5 : steady ≡ false → Falls c g here s (runs none (reads r (s .anchor) at5))
-    reads5 st = reads-at at5 (by-test (λ v. v < here) (same (s .anchor) (s .anchor)) (λ _. by-test (λ v. g + 4 < v) steady (λ z. absurd (not-both z st)) (λ _. omega arith))
+    reads5 st = reads-at at5
+        (by-test (λ v. v < here) (same (s .anchor) (s .anchor)) (λ _. by-test (λ v. g + 4 < v) steady (λ z. absurd (not-both z st)) (λ _. omega arith))
         (λ z. absurd (not-both (same-refl (s .anchor)) z)))
 
     null : eqb (s .anchor .left) 0 ≡ true → s .anchor .left ≡ s .anchor .right
@@ -172,7 +185,8 @@ module _ (c g : ℕ) (gap : c + 2 ≤ g) (s : Shared) (r : Rec) where
     again : (p : Place) → now ≡ false → here < due c g steady now (outgrown s r) p → (k : Kind) → At p (one k s r)
     again p e lt k = record {
       less = λ z. let y = reading-falls k .less z in
-          by-test (λ v. owed c g (apply s (one k s r .touch)) (one k s r .rec) < v) (ending p r) (λ t. absurd (not-both (and-true (not (isIdle p)) (r .finishing) t .1) f)) (λ _. omega arith);
+          by-test (λ v. owed c g (apply s (one k s r .touch)) (one k s r .rec) < v) (ending p r)
+          (λ t. absurd (not-both (and-true (not (isIdle p)) (r .finishing) t .1) f)) (λ _. omega arith);
     }
 
     pub fall2-failed : now ≡ false → (k : Kind) → At at2 (one k s r)

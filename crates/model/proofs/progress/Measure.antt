@@ -12,7 +12,8 @@
 use mathlib.Core.Bool.{Bool, _&&_, cond, not}
 use Prim.Native.Nat.{_+_, ℕ}
 use lib.Dec.{ltb}
-use Rattle.model.proofs.machine.Machine.{Place, Rec, Shared, at1, at10, at11, at2, at3, at4, at5, at6, at7, at8, at9, draw, give, idle, isIdle, isStable, same, towards}
+use Rattle.model.proofs.machine.Machine.{Place, Rec, Shared, at1, at10, at11, at2, at3, at4, at5, at6, at7, at8, at9, draw, give, idle, isIdle}
+use Rattle.model.proofs.machine.Machine.{isStable, same, towards}
 
 -- At place 1.
 abbrev pub home : ℕ → ℕ → Bool → ℕ

@@ -45,7 +45,12 @@ module _ (steady now grown grown′ : Bool) where
   after = home 1 3 steady
 
   after-le : (3 ≤ after) × (after ≤ 8) × (after ≤ home 1 9 steady)
-  after-le = (either (λ z. 3 ≤ z) steady (omega arith) (omega arith), either (λ z. z ≤ 8) steady (omega arith) (omega arith), keep steady (omega arith) (omega arith))
+  after-le = (
+    either (λ z. 3 ≤ z) steady (omega arith) (omega arith),
+    either (λ z. z ≤ 8) steady (omega arith) (omega arith),
+    keep steady (omega arith)
+        (omega arith),
+  )
 
   pub made-le : (p : Place) → due 1 3 steady now grown′ p ≤ due 1 9 steady now grown p
   made-le idle = after-le .2
@@ -56,7 +61,9 @@ module _ (steady now grown grown′ : Bool) where
   made-le at5 = keep now (omega arith) (omega (arith, after-le .2))
   made-le at6 = keep now (omega arith) (omega (arith, after-le .2))
   made-le at7 = keep now (omega arith) (omega (arith, after-le .2))
-  made-le at8 = keep now (past (after + 2) grown′ grown (omega arith) (omega (arith, after-le .0)) (omega (arith, after-le .2)) (omega (arith, after-le .1))) (omega (arith, after-le .2))
+  made-le at8 = keep now
+      (past (after + 2) grown′ grown (omega arith) (omega (arith, after-le .0)) (omega (arith, after-le .2)) (omega (arith, after-le .1)))
+      (omega (arith, after-le .2))
   made-le at9 = past (after + 1) grown′ grown (omega arith) (omega (arith, after-le .0)) (omega (arith, after-le .2)) (omega (arith, after-le .1))
   made-le at10 = keep now (omega arith) (omega (arith, after-le .2))
   made-le at11 = omega arith

@@ -69,7 +69,8 @@ module _ (s : Shared) (d : Bool) (x : ℕ) (v : Link) (tag : v .tag ≡ s .link 
 
   pub link-le : (u : Rec) → together (withLink s d x v) u ≤ together s u
   link-le u =
-      let e = ap (λ (n : ℕ). cond (ending (u .place) u) (rest (u .place)) (due 1 (scale s) (isStable (s .anchor .status)) (same (u .read) (s .anchor)) (ltb (u .link .tag) n) (u .place)))
+      let e = ap (λ (n : ℕ). cond (ending (u .place) u) (rest (u .place))
+      (due 1 (scale s) (isStable (s .anchor .status)) (same (u .read) (s .anchor)) (ltb (u .link .tag) n) (u .place)))
       (relink-keeps (s .link) d x v tag (towards (u .read .status)) (u .near)) in
       omega (arith, owed-scale u)
 
@@ -80,7 +81,9 @@ back-le s d x v before after u =
     let now = same (u .read) (s .anchor) in
     let grown = outgrown s u in
     let grown′ = outgrown (withLink s d x v) u in
-    keep (ending (u .place) u) (omega arith) (subst₂ (λ g′ g. due 1 g′ steady now grown′ (u .place) ≤ due 1 g steady now grown (u .place)) (sym after) (sym before) (made-le steady now grown grown′ (u .place)))
+    keep (ending (u .place) u) (omega arith)
+    (subst₂ (λ g′ g. due 1 g′ steady now grown′ (u .place) ≤ due 1 g steady now grown (u .place)) (sym after) (sym before)
+    (made-le steady now grown grown′ (u .place)))
 
 -- Anchor is changed to STABLE (place 10).
 pub settled-le : (s : Shared) (a : Anchor) → isStable (s .anchor .status) ≡ false → (u : Rec) → together (withAnchor s (settled a)) u ≤ together s u

@@ -11,7 +11,10 @@ use Rattle.model.proofs.tests.Truth.{by-test, not-both}
 use Rattle.model.proofs.laws.Tests.{either}
 use Rattle.model.proofs.machine.Clerk.{Call, Noted, effect, noted}
 use Rattle.model.proofs.machine.Laws.{same-true, sameLink-true}
-use Rattle.model.proofs.machine.Machine.{Anchor, Kind, Link, Move, Place, Rec, Shared, Touch, act, aimed, apply, at1, at10, at11, at2, at3, at4, at5, at6, at7, at8, at9, both, draw, finishes, four, give, goes, idle, isIdle, isStable, leave, none, one, ownLink, pop, push, pushing, putAnchor, putLink, running, runs, same, sameLink, settled, three, tip, towards, two, withLink}
+use Rattle.model.proofs.machine.Machine.{Anchor, Kind, Link, Move, Place, Rec, Shared, Touch, act, aimed, apply, at1, at10, at11, at2, at3}
+use Rattle.model.proofs.machine.Machine.{at4, at5, at6, at7, at8, at9, both, draw, finishes, four, give, goes, idle, isIdle, isStable, leave, none, one}
+use Rattle.model.proofs.machine.Machine.{ownLink, pop, push, pushing, putAnchor, putLink, running, runs, same, sameLink, settled, three, tip}
+use Rattle.model.proofs.machine.Machine.{towards, two, withLink}
 use Rattle.model.proofs.invariant.Owners.{Owner, Whole}
 use Rattle.model.proofs.invariant.Rely.{Quiet, Turned}
 use Rattle.model.proofs.invariant.Shape.{Made}
@@ -22,7 +25,8 @@ use Rattle.model.proofs.places.Place3.{place3}
 use Rattle.model.proofs.places.Place4.{place4}
 use Rattle.model.proofs.places.Place9.{place9}
 use Rattle.model.proofs.places.Shown.{Shown}
-use Rattle.model.proofs.progress.Falls.{Falls, fall1, fall10-done, fall10-failed, fall2-failed, fall3, fall4-failed, fall5, fall6, fall7, fall8, fall9-done, fall9-failed, popped-running, pushed-running}
+use Rattle.model.proofs.progress.Falls.{Falls, fall1, fall10-done, fall10-failed, fall2-failed, fall3, fall4-failed, fall5, fall6, fall7}
+use Rattle.model.proofs.progress.Falls.{fall8, fall9-done, fall9-failed, popped-running, pushed-running}
 use Rattle.model.proofs.progress.Measure.{owed, owedAt}
 use Rattle.model.proofs.progress.Scale.{back-le, link-le, owed-scale, scale, scale-made, scale-some, scale-unmade, settled-le, together}
 
@@ -71,7 +75,8 @@ module _ (s : Shared) (r : Rec) where
 
     -- A done change at 2 or 4 is an effect: the clerk had noted none and has noted one.
     not-silent : (m : Move) → b .effects ≡ 0 → after m .call .effects ≡ 1 → Silent s m → ⊥
-    not-silent m n o z = let e = ap (λ (w : Noted). w .call .effects) (noted-false b q (s .anchor) (apply s (m .touch) .anchor) (m .answer) (z .1)) in omega arith
+    not-silent m n o z = let e = ap (λ (w : Noted). w .call .effects)
+        (noted-false b q (s .anchor) (apply s (m .touch) .anchor) (m .answer) (z .1)) in omega arith
 
     calm2 : (k : Kind) → r .kind ≡ k → Task at2 s h t r b → At at2 (two k s r)
     calm2 push e w = by-test (At at2) now (λ _. loud _ s _ (λ z. pushed-running (z .0)))
@@ -98,7 +103,12 @@ module _ (s : Shared) (r : Rec) where
     calm3 : (k : Kind) → r .kind ≡ k → Task at3 s h t r b → At at3 (three k s r)
     calm3 pop e w = still _ s _ refl (fall3 1 (scale s) (scale-some s) s r pop)
     calm3 push e w = record {
-      own = λ z. omega (arith, owed-scale s (not (r .side)) (r .own) (ownLink s r) refl made (goes r at4), fall3 1 (scale s) (scale-some s) s r push .less (z .0));
+      own = λ z. omega (
+        arith,
+        owed-scale s (not (r .side)) (r .own) (ownLink s r) refl made (goes r at4),
+        fall3 1 (scale s) (scale-some s) s r push .less
+            (z .0),
+      );
       others = λ z u. link-le s (not (r .side)) (r .own) (ownLink s r) refl made u;
     }
       where
@@ -178,7 +188,8 @@ module _ (s : Shared) (r : Rec) where
     calmer named at5 i w = still _ s (act at5 s r) refl (fall5 1 (scale s) (scale-some s) s r)
     calmer named at6 i w = still _ s (act at6 s r) (either Untouched now refl leave-none) (fall6 1 (scale s) (scale-some s) s r)
     calmer named at7 i w = still _ s (act at7 s r)
-        (either Untouched (eqb (s .link (towards (r .read .status)) (r .near) .slot) (tip (r .read) (towards (r .read .status)))) refl refl) (fall7 1 (scale s) (scale-some s) s r)
+        (either Untouched (eqb (s .link (towards (r .read .status)) (r .near) .slot) (tip (r .read) (towards (r .read .status)))) refl refl)
+        (fall7 1 (scale s) (scale-some s) s r)
     calmer named at8 i w = still _ s (act at8 s r) (either Untouched now refl leave-none) (fall8 1 (scale s) (scale-some s) s r)
     calmer named at9 i w = calm9 w
     calmer named at10 i w = calm10 w

@@ -11,7 +11,8 @@ use borrow.Author.Tests.{eqb-true}
 use Rattle.model.specs.Calls.{Acted, Done, act, actOn, back, finish, popStart, pushStart, putStart, step, taken}
 use Rattle.model.specs.History.{Event, Ledger, Request, isEffect, run}
 use Rattle.model.specs.Places.{linkMet, move}
-use Rattle.model.specs.Progress.{any, isFinal, stepping, steps, stretchLimit, tells, tellsBy}
+use Rattle.model.specs.Ends.{answerEnds}
+use Rattle.model.specs.Progress.{any, stepping, steps, stretchLimit, tells, tellsBy}
 use Rattle.model.specs.Refusals.{among, popRefusal, pushRefusal, putRefusal, stepRefusal}
 use Rattle.model.specs.Tables.{Queue, Tables, idle, isPooled, recordAt, started}
 use Rattle.model.specs.declared.Answer.the-variants.{Empty, NoSlot, Popped, Pushed, Running}
@@ -50,13 +51,15 @@ module _ (s : M.Shared) (f : ℕ → M.Rec) (t : ℕ) (s′ : M.Shared) (r′ : 
   each own u = go (decide-eq u t)
     where
       go : (u ≡ t) ⊎ (u ≢ t) → together s′ (upd f t r′ u) ≤ together s (f u)
-      go (inl e) = subst (λ v. together s′ (upd f t r′ v) ≤ together s (f v)) (sym e) (subst (λ (x : M.Rec). together s′ x ≤ together s (f t)) (sym (upd-same f t r′)) own)
+      go (inl e) = subst (λ v. together s′ (upd f t r′ v) ≤ together s (f v)) (sym e)
+          (subst (λ (x : M.Rec). together s′ x ≤ together s (f t)) (sym (upd-same f t r′)) own)
       go (inr e) = subst (λ (x : M.Rec). together s′ x ≤ together s (f u)) (sym (upd-other f t r′ u e)) (others (f u))
 
   pub all-keep : (n : ℕ) → together s′ r′ ≤ together s (f t) → all n (record { shared = s′; task = upd f t r′ }) ≤ all n (record { shared = s; task = f })
   all-keep n own = total-keep _ _ n (each own)
 
-  pub all-drop : (n : ℕ) → t < n → together s′ r′ < together s (f t) → all n (record { shared = s′; task = upd f t r′ }) < all n (record { shared = s; task = f })
+  pub all-drop : (n : ℕ) → t < n → together s′ r′ < together s (f t)
+      → all n (record { shared = s′; task = upd f t r′ }) < all n (record { shared = s; task = f })
   all-drop n lt own = total-drop _ _ t n lt (each (omega arith)) (subst (λ (x : M.Rec). together s′ x < together s (f t)) (sym (upd-same f t r′)) own)
 
 -- A step that tells nothing is silent.
@@ -64,7 +67,7 @@ neither : (a b : Bool) → a || b ≡ false → (a ≡ false) × (b ≡ false)
 neither true b e = absurd (not-both refl e)
 neither false b e = (refl, e)
 
-runs-on : (a : Answer) → isFinal a ≡ false → answerSeen a ≡ M.running
+runs-on : (a : Answer) → answerEnds a ≡ false → answerSeen a ≡ M.running
 runs-on (Running p) e = refl
 runs-on Pushed e = absurd (not-both refl e)
 runs-on Empty e = absurd (not-both refl e)
@@ -83,14 +86,16 @@ module _ (n : ℕ) (q : Queue) (l : Ledger) (g : Matched n q l) (named : isPoole
 
   -- An operation that tells nothing.
   abbrev Hushed : Op → Done → Type 0
-  Hushed o d = tellsBy (record { task = t; op = o; outcome = d .outcome; before = G .control .anchor; after = d .queue .tables .control .anchor }) o (d .outcome) ≡ false
+  Hushed o d = tellsBy (record { task = t; op = o; outcome = d .outcome; before = G .control .anchor; after = d .queue .tables .control .anchor }) o
+      (d .outcome) ≡ false
       → stepping o (d .outcome) + all tasks (stateOf (d .queue)) ≤ all tasks (stateOf q)
 
   abbrev Puts : Op → Acted → Type 0
   Puts o a = Hushed o (back q t a)
 
   refused : (o : Op) (why : ℕ) → Puts o (record { tables = G; task = r; outcome = Refused why })
-  refused o why z = subst (λ (x : List Record). stepping o (Refused why) + all tasks (stateOf (record { tables = G; records = x })) ≤ all tasks (stateOf q)) (sym (set-back (q .records) t idle)) (go o)
+  refused o why z = subst (λ (x : List Record). stepping o (Refused why) + all tasks (stateOf (record { tables = G; records = x })) ≤ all tasks (stateOf q))
+      (sym (set-back (q .records) t idle)) (go o)
     where
       go : (o : Op) → stepping o (Refused why) + all tasks (stateOf q) ≤ all tasks (stateOf q)
       go (Push side x y) = omega arith
@@ -132,13 +137,14 @@ module _ (n : ℕ) (q : Queue) (l : Ledger) (g : Matched n q l) (named : isPoole
     calm : Calmer (together (view G) (recOf r)) (view G) (seenMove G r)
     unfolding recOf stateOf view
     calm = subst (Calmer (together (view G) (recOf r)) (view G)) (step-seen G (s .control) (g .links) r (s .fine) (s .busy) (s .room))
-        (calmer (view G) (recOf r) t (g .inv .owner) (g .book .queue) (g .book .calls t) (g .inv .whole) named (placeOf (r .place)) (not-idle (r .place) (s .busy) (s .fine .place))
+        (calmer (view G) (recOf r) t (g .inv .owner) (g .book .queue) (g .book .calls t) (g .inv .whole) named (placeOf (r .place))
+        (not-idle (r .place) (s .busy) (s .fine .place))
         (subst (λ (x : M.Rec). Task (x .place) (view G) (g .inv .owner) t x (g .book .calls t)) (task-of q t (s .lies .known)) (g .inv .tasks t)))
 
     step-all : tellsBy ev Step (Moved a) ≡ false → suc (all tasks (stateOf q′)) ≤ all tasks (stateOf q)
     unfolding stateOf view
     step-all z =
-        let w = neither (isEffect ev a) (isFinal a) z in
+        let w = neither (isEffect ev a) (answerEnds a) z in
         let is = state-is q (g .book) (g .inv) (g .links) t s in
         let silent : Silent (view G) (seenMove G r) =
         (runs-on a (w .1), ap (λ (x : M.State). effect (view G .anchor) (x .shared .anchor) (answerSeen a)) (sym is) ∙ effect-is ev a ∙ w .0) in
@@ -146,7 +152,8 @@ module _ (n : ℕ) (q : Queue) (l : Ledger) (g : Matched n q l) (named : isPoole
         (all-drop (view G) (stateOf q .task) t (M.apply (view G) (seenMove G r .touch)) (seenMove G r .rec) (calm .others silent) tasks (s .lies .known)
         (omega (arith, calm .own silent, ap (together (view G)) (task-of q t (s .lies .known)))))
 
-  push-put : (side x y : ℕ) → Lies q t → r .place ≡ 0 → Puts (Push side x y) (record { tables = taken G x y; task = started 0 side x y; outcome = Moved (Running 1) })
+  push-put : (side x y : ℕ) → Lies q t → r .place ≡ 0
+      → Puts (Push side x y) (record { tables = taken G x y; task = started 0 side x y; outcome = Moved (Running 1) })
   push-put side x y z free _ = omega (arith, start-all z free (taken G x y .labels) (taken G x y .marks) 0 side x y)
 
   pop-put : (side : ℕ) → Lies q t → r .place ≡ 0 → Puts (Pop side) (record { tables = G; task = started 1 side 0 0; outcome = Moved (Running 1) })
@@ -178,13 +185,21 @@ run-all (o ∷ os) tasks q z e =
     let d = act q (o .task) (o .op) in
     let w = neither _ (any tells (run (d .queue) os)) e in
     let a : stepping (o .op) (d .outcome) + all tasks (stateOf (d .queue)) ≤ all tasks (stateOf q) =
-    subst (λ n. stepping (o .op) (d .outcome) + all n (stateOf (d .queue)) ≤ all n (stateOf q)) (z .roomy .tasks-are) (act-all (z .position) q (z .ledger) (z .matched) (z .roomy .named) (o .task) (o .op) (w .0)) in
+    subst (λ n. stepping (o .op) (d .outcome) + all n (stateOf (d .queue)) ≤ all n (stateOf q)) (z .roomy .tasks-are)
+    (act-all (z .position) q (z .ledger) (z .matched) (z .roomy .named) (o .task) (o .op) (w .0)) in
     let b = run-all os tasks (d .queue) (act-reached tasks q (o .task) (o .op) z) (w .1) in
     omega arith
 
 -- They owe 16 each at the most. (The longest stretch that occurs has 15 steps a task, less 10.)
 pub all-bound : (tasks : ℕ) (q : Queue) → all tasks (stateOf q) ≤ 16 * tasks
-all-bound tasks q = total-le _ 16 tasks (λ t. omega (arith, owed-within 1 (scale (stateOf q .shared)) (omega arith) (scale-some (stateOf q .shared)) (stateOf q .shared) (stateOf q .task t) .1, scale-most (stateOf q .shared)))
+all-bound tasks q = total-le _ 16 tasks
+    (λ t. omega (
+      arith,
+      owed-within 1 (scale (stateOf q .shared)) (omega arith) (scale-some (stateOf q .shared)) (stateOf q .shared)
+          (stateOf q .task t) .1,
+      scale-most (stateOf q .shared),
+    ))
 
 pub stretch-tells : (tasks : ℕ) (q : Queue) → Reached tasks q → (os : List Request) → stretchLimit tasks ≤ steps (run q os) → any tells (run q os) ≡ true
-stretch-tells tasks q z os le = split (any tells (run q os)) (λ e. e) (λ e. absurd (omega (arith, le, run-all os tasks q z e, all-bound tasks q, z .roomy .some)))
+stretch-tells tasks q z os le = split (any tells (run q os)) (λ e. e)
+    (λ e. absurd (omega (arith, le, run-all os tasks q z e, all-bound tasks q, z .roomy .some)))

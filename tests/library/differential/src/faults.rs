@@ -1,5 +1,6 @@
 //! Every way to be refused, one entry each: planted in a scene that was accepted, it alone decides.
 
+use crate::line::lead_astray;
 use crate::sound::{any_place, busy_record, sound_anchor, Scene};
 use crate::world::{Call, Export};
 use reference::dice::Dice;
@@ -9,12 +10,13 @@ use reference::word::{Anchor, LPUSH, RPUSH, STABLE};
 const LAST_TAG: u64 = 0xffff_ffff;
 const HIGH: u64 = 1 << 32; // lost in a number of 32 bits
 
-/// The order in which a call asks: document 01, below "Refused because of the state".
+/// The order in which a call asks: document 01, below "Refused because of the state"; document 02, #102.
 #[derive(Clone, Copy, Debug, PartialEq, Eq, PartialOrd, Ord)]
 pub enum Group {
     Tasks,
     Slots,
     Control,
+    Many,
     Short,
     Task,
     Side,
@@ -25,6 +27,7 @@ pub enum Group {
     Taken,
     Worn,
     Touch,
+    Walk,
 }
 
 impl Group {
@@ -32,6 +35,7 @@ impl Group {
         match self {
             Group::Tasks => 10,
             Group::Slots => 11,
+            Group::Many => 45,
             Group::Short => 12,
             Group::Task => 13,
             Group::Side => 14,
@@ -40,7 +44,7 @@ impl Group {
             Group::Idle => 31,
             Group::Taken => 32,
             Group::Worn => 33,
-            Group::Control | Group::Record | Group::Touch => 34,
+            Group::Control | Group::Record | Group::Touch | Group::Walk => 34,
         }
     }
 
@@ -48,13 +52,15 @@ impl Group {
         use Export::*;
         let exports: &[Export] = match self {
             Group::Tasks | Group::Slots => &[Open],
-            Group::Control => &[Push, Pop, Step, StepRecord, Report],
-            Group::Short => &[Open, Push, Pop, Step, StepRecord, Report],
-            Group::Task => &[Push, Pop, Step],
+            Group::Control => &[Push, Pop, Step, Run, StepRecord, Report, Find],
+            Group::Many => &[Find],
+            Group::Short => &[Open, Push, Pop, Step, Run, StepRecord, Report, Find],
+            Group::Task => &[Push, Pop, Step, Run],
             Group::Side | Group::Busy | Group::Worn => &[Push, Pop],
             Group::Slot | Group::Taken => &[Push],
-            Group::Record => &[Push, Pop, Step, StepRecord],
-            Group::Idle | Group::Touch => &[Step, StepRecord],
+            Group::Record => &[Push, Pop, Step, Run, StepRecord],
+            Group::Idle | Group::Touch => &[Step, Run, StepRecord],
+            Group::Walk => &[Report, Find],
         };
         exports.contains(&export)
     }
@@ -72,9 +78,10 @@ pub struct Fault {
 }
 
 impl Fault {
-    /// 12 looks at no records where one is lent alone.
+    /// 12 looks at no records where one is lent alone, or none.
     pub fn of(&self, export: Export) -> bool {
-        self.group.of(export) && !(export == Export::StepRecord && self.name == "short records")
+        let without = matches!(export, Export::StepRecord | Export::Find);
+        self.group.of(export) && !(without && self.name == "short records")
     }
 }
 
@@ -179,7 +186,10 @@ fn spoil_outward(scene: &mut Scene, dice: &mut Dice, bits: bool) {
 
 fn set_task(scene: &mut Scene, number: usize) {
     match &mut scene.call {
-        Call::Push { task, .. } | Call::Pop { task, .. } | Call::Step { task } => *task = number,
+        Call::Push { task, .. }
+        | Call::Pop { task, .. }
+        | Call::Step { task }
+        | Call::Run { task, .. } => *task = number,
         _ => unreachable!(),
     }
 }
@@ -283,7 +293,11 @@ pub const FAULTS: &[Fault] = &[
         let status = d.between(RPUSH, LPUSH);
         anchor(s, |a| (a.status, a.left, a.right) = (status, 0, 0));
     }),
-    // ---- 12.
+    // ---- 45, 12.
+    fault(Group::Many, "33 labels asked for", |s, _| match &mut s.call {
+        Call::Find { count, .. } => *count = 33,
+        _ => unreachable!(),
+    }),
     fault(Group::Short, "short records", |s, d| {
         let (tasks, _, _) = needed(s);
         cut(d, &mut s.world.records.count, &mut s.world.records.null, tasks);
@@ -484,4 +498,19 @@ pub const FAULTS: &[Fault] = &[
         let links = if right { &mut s.world.rights } else { &mut s.world.lefts };
         links.held[record.neighbour as usize] = record.link;
     }),
+    // ---- 34 for the walk.
+    unstable(fault(Group::Walk, "the walk meets a bit of 31-15", |s, d| {
+        lead_astray(s, d, |word, _, d, _| word | 1 << d.between(15, 31));
+    })),
+    unstable(fault(Group::Walk, "the walk meets a slot above slots", |s, d| {
+        lead_astray(s, d, |word, _, d, slots| word & !0x7fff | d.pick(&[slots + 1, 0x7fff]));
+    })),
+    unstable(fault(Group::Walk, "the walk meets slot 0", |s, d| {
+        lead_astray(s, d, |word, _, _, _| word & !0x7fff);
+    })),
+    unstable(fault(Group::Walk, "the walk meets a slot again", |s, d| {
+        lead_astray(s, d, |word, met, d, _| {
+            word & !0x7fff | met[d.between(0, met.len() as u64 - 1) as usize]
+        });
+    })),
 ];

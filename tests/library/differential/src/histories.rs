@@ -1,12 +1,14 @@
 //! Histories: an opening, then starts and steps of all tasks in any order, refused ones among them.
 //! Every line of document 01's route must be taken, on both sides.
 
+use crate::line::{any_question, common_label};
 use crate::tally::Tally;
 use crate::world::{by_library, Call, Export, Lent, Told, World};
 use reference::dice::Dice;
 use reference::tables::{Control, Record, POP, PUSH};
 use reference::word::{Anchor, RPUSH};
 use std::collections::BTreeSet;
+use zeppolecape::{POP_STEPS, PUSH_STEPS};
 
 /// A step taken: kind, place, side as the place sees it, finishing; then code and next place.
 type Line = (u64, u64, u64, u64, u32, u64);
@@ -91,10 +93,12 @@ fn next_call(dice: &mut Dice, world: &World) -> Call {
     match start {
         true if dice.percent(55) => {
             let slot = if strange { dice.between(0, slots + 1) } else { dice.between(1, slots) };
-            Call::Push { task, side, slot, label: dice.throw() as u32 }
+            Call::Push { task, side, slot, label: common_label(dice) }
         }
         true => Call::Pop { task, side },
         false if dice.percent(2) => Call::Report,
+        false if dice.percent(2) => any_question(dice),
+        false if dice.percent(4) => Call::Run { task, most: dice.between(0, 20) },
         false if dice.percent(50) && task < tasks as usize => Call::StepRow { task },
         false => Call::Step { task },
     }
@@ -122,12 +126,22 @@ fn history(tally: &mut Tally, dice: &mut Dice, taken: &mut BTreeSet<Line>, calls
         let call = next_call(dice, &theirs);
         let before = if let Call::StepRow { .. } = call { Some(ours.clone()) } else { None };
         let record = match call {
-            Call::Step { task } | Call::StepRow { task } => theirs.records.held.get(task).copied(),
+            Call::Step { task } | Call::StepRow { task } | Call::Run { task, .. } => {
+                theirs.records.held.get(task).copied()
+            }
             _ => None,
         };
         let Some(told) = tally.compare(&mut ours, &mut theirs, call) else { return false };
         if told.code() == 34 {
             return false; // never after an opening and engine calls alone
+        }
+        if let (Call::Run { task, most }, Some(record)) = (call, record) {
+            let enough = if record.kind == PUSH { PUSH_STEPS } else { POP_STEPS };
+            let busy = (task as u64) < ours.control.tasks && record.place != 0;
+            if busy && most >= enough && !(2..=4).contains(&told.code()) {
+                println!("{enough} steps alone were not enough: {told:?}");
+                return false;
+            }
         }
         if let (Call::StepRow { task }, Some(before)) = (call, before) {
             if !same_as_step(&before, task, &ours, told) {

@@ -1,19 +1,21 @@
 //! The static library and the second program driven by the same calls, answers and all tables
 //! compared after each: scenes that are accepted, every fault alone and in pairs, tables of any
-//! contents, and histories from an opening.
+//! contents, histories from an opening, and order sheets. Then audits of histories.
 //!
-//!     differential [SEED] [TIMES]
+//!     differential [SEED] [TIMES]       all of it
+//!     differential SEED TIMES audit     audits alone
 
+mod audit;
+mod audit_histories;
 mod faults;
 mod histories;
+mod line;
 mod noise;
 mod plant;
+mod sheets;
 mod sound;
 mod tally;
 mod world;
-#[allow(dead_code)] // the C declarations alone are used
-#[path = "../../../../bindings/zeppolecape.rs"]
-mod zeppolecape;
 
 use reference::dice::Dice;
 use std::process::ExitCode;
@@ -25,20 +27,29 @@ fn main() -> ExitCode {
         |otherwise: u64| arguments.next().map_or(otherwise, |text| text.parse().expect("a number"));
     let seed = number(1);
     let times = number(1) as u32;
+    let audits_alone = arguments.next().is_some_and(|part| part == "audit");
     let (mut tally, mut dice) = (Tally::default(), Dice::new(seed));
-    plant::accepted(&mut tally, &mut dice, 5_000 * times);
-    plant::singles(&mut tally, &mut dice, 60 * times);
-    plant::pairs(&mut tally, &mut dice, 3 * times);
-    plant::failures(&mut tally, &mut dice, 60 * times);
-    noise::noise(&mut tally, &mut dice, 200_000 * times);
-    histories::histories(&mut tally, &mut dice, 150 * times, 10_000);
-    tally.check_reached();
-    tally.check(tally.mismatches == 0, &format!("{} calls differed", tally.mismatches));
-    println!("seed {seed}: {} calls compared", tally.calls);
+    if !audits_alone {
+        calls(&mut tally, &mut dice, times);
+        println!("seed {seed}: {} calls compared", tally.calls);
+    }
+    audit::audits(&mut tally, &mut dice, 4_000 * times);
     println!("{} passed, {} failed", tally.passed, tally.failed);
     if tally.failed == 0 {
         ExitCode::SUCCESS
     } else {
         ExitCode::FAILURE
     }
+}
+
+fn calls(tally: &mut Tally, dice: &mut Dice, times: u32) {
+    plant::accepted(tally, dice, 5_000 * times);
+    plant::singles(tally, dice, 60 * times);
+    plant::pairs(tally, dice, 3 * times);
+    plant::failures(tally, dice, 60 * times);
+    noise::noise(tally, dice, 200_000 * times);
+    histories::histories(tally, dice, 150 * times, 10_000);
+    sheets::sheets(tally, dice, 100_000 * times);
+    tally.check_reached();
+    tally.check(tally.mismatches == 0, &format!("{} calls differed", tally.mismatches));
 }

@@ -73,7 +73,8 @@ fn spoil_arguments(dice: &mut Dice, scene: &mut Scene) {
         Call::Pop { task, side } => {
             (*task, *side) = (wild(dice, most_tasks) as usize, wild(dice, 1));
         }
-        Call::Step { task } => *task = wild(dice, most_tasks) as usize,
+        Call::Step { task } | Call::Run { task, .. } => *task = wild(dice, most_tasks) as usize,
+        Call::Find { count, .. } => *count = dice.between(0, 33) as usize,
         Call::StepRecord | Call::StepRow { .. } | Call::Report => {}
     }
 }
@@ -81,15 +82,20 @@ fn spoil_arguments(dice: &mut Dice, scene: &mut Scene) {
 pub fn noise(tally: &mut Tally, dice: &mut Dice, scenes: u32) {
     let before = tally.mismatches;
     for _ in 0..scenes {
-        let wanted = match dice.between(0, 9) {
+        let wanted = match dice.between(0, 10) {
             0 => Wanted::Open,
             1 => Wanted::Push,
             2 => Wanted::Pop,
-            3..=6 => Wanted::Step(None, None),
+            3..=5 => Wanted::Step(None, None),
+            6 => Wanted::Run(None, None),
             7..=8 => Wanted::StepRecord(None, None),
-            _ => Wanted::Report,
+            9 => Wanted::Report,
+            _ => Wanted::Find,
         };
         let mut scene = Scene::draw(dice, wanted, 1);
+        if let Call::Run { most, .. } = &mut scene.call {
+            *most = dice.between(0, 20);
+        }
         spoil_control(dice, &mut scene);
         spoil_record(dice, &mut scene);
         spoil_rows(dice, &mut scene);

@@ -5,12 +5,20 @@ use crate::faults::{outrun, Fault, Group, FAULTS};
 use crate::sound::{Scene, Wanted};
 use crate::tally::Tally;
 use crate::world::{by_reference, Export};
-use crate::zeppolecape::MOST_RETRIES;
 use reference::dice::Dice;
 use reference::tables::{POP, PUSH};
+use zeppolecape::MOST_RETRIES;
 
-const EXPORTS: [Export; 6] =
-    [Export::Open, Export::Push, Export::Pop, Export::Step, Export::StepRecord, Export::Report];
+const EXPORTS: [Export; 8] = [
+    Export::Open,
+    Export::Push,
+    Export::Pop,
+    Export::Step,
+    Export::Run,
+    Export::StepRecord,
+    Export::Report,
+    Export::Find,
+];
 
 fn wanted(export: Export, place: Option<u64>, kind: Option<u64>) -> Wanted {
     match export {
@@ -18,8 +26,10 @@ fn wanted(export: Export, place: Option<u64>, kind: Option<u64>) -> Wanted {
         Export::Push => Wanted::Push,
         Export::Pop => Wanted::Pop,
         Export::Step => Wanted::Step(place, kind),
+        Export::Run => Wanted::Run(place, kind),
         Export::StepRecord => Wanted::StepRecord(place, kind),
         Export::Report => Wanted::Report,
+        Export::Find => Wanted::Find,
     }
 }
 
@@ -55,7 +65,7 @@ fn fails(tally: &mut Tally, scene: &Scene) -> bool {
 
 /// Changes of Anchor and of a link that fail at the last tag.
 pub fn failures(tally: &mut Tally, dice: &mut Dice, times: u32) {
-    for export in [Export::Step, Export::StepRecord] {
+    for export in [Export::Step, Export::Run, Export::StepRecord] {
         for (place, least) in [(2, 1), (4, 1), (9, 2), (10, 2)] {
             for (kind, name) in [(PUSH, "push"), (POP, "pop")] {
                 let mut holds = true;

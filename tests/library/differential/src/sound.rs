@@ -1,5 +1,6 @@
 //! Scenes: sound tables with a call that is accepted on them, though no history led there.
 
+use crate::line::{any_question, line_up};
 use crate::world::{Call, Lent, World};
 use reference::dice::Dice;
 use reference::tables::{Control, Record, POP, PUSH};
@@ -25,18 +26,23 @@ pub enum Wanted {
     Push,
     Pop,
     Step(Option<u64>, Option<u64>),
+    Run(Option<u64>, Option<u64>),
     StepRecord(Option<u64>, Option<u64>),
     Report,
+    Find,
 }
 
 impl Scene {
     /// The record that the call is about.
     pub fn record(&mut self) -> &mut Record {
         match self.call {
-            Call::StepRecord | Call::Open { .. } | Call::Report => &mut self.world.one,
+            Call::StepRecord | Call::Open { .. } | Call::Report | Call::Find { .. } => {
+                &mut self.world.one
+            }
             Call::Push { task, .. }
             | Call::Pop { task, .. }
             | Call::Step { task }
+            | Call::Run { task, .. }
             | Call::StepRow { task } => &mut self.world.records.held[task],
         }
     }
@@ -64,12 +70,20 @@ impl Scene {
                 Call::Pop { task, side }
             }
             Wanted::Step(..) => Call::Step { task },
+            Wanted::Run(..) => Call::Run { task, most: 1 },
             Wanted::StepRecord(..) if dice.percent(50) => Call::StepRow { task },
             Wanted::StepRecord(..) => Call::StepRecord,
             Wanted::Report => Call::Report,
+            Wanted::Find => any_question(dice),
         };
         let mut scene = Scene { world, call, slots, tasks };
-        if let Wanted::Step(place, kind) | Wanted::StepRecord(place, kind) = wanted {
+        if let Wanted::Report | Wanted::Find = wanted {
+            line_up(&mut scene, dice, 0);
+        }
+        if let Wanted::Step(place, kind)
+        | Wanted::Run(place, kind)
+        | Wanted::StepRecord(place, kind) = wanted
+        {
             let place = place.unwrap_or_else(|| any_place(dice, slots, 11));
             let kind = if place == 11 { POP } else { kind.unwrap_or_else(|| dice.between(0, 1)) };
             scene.ready(dice, place, kind);

@@ -1,9 +1,10 @@
 //! Lent tables, the calls on them, and both implementations behind one face.
 
-use crate::zeppolecape::raw;
+use reference::find::{Found, MOST_ASKED};
 use reference::machine::{Answer, Moved};
 use reference::refusal::Refusal;
 use reference::tables::{Control, Record, Shared, Tables};
+use zeppolecape::raw;
 
 /// A table: `count` entries are lent; those behind them must never change.
 #[derive(Clone, Debug, PartialEq)]
@@ -63,6 +64,11 @@ pub enum Call {
     Step {
         task: usize,
     },
+    /// Steps until one does not answer running.
+    Run {
+        task: usize,
+        most: u64,
+    },
     /// A step on the record lent alone.
     StepRecord,
     /// A step on a task's record, lent where it lies.
@@ -70,6 +76,11 @@ pub enum Call {
         task: usize,
     },
     Report,
+    /// The first `count` labels are asked for.
+    Find {
+        asked: [u32; MOST_ASKED + 1],
+        count: usize,
+    },
 }
 
 /// The exported calls.
@@ -79,8 +90,10 @@ pub enum Export {
     Push,
     Pop,
     Step,
+    Run,
     StepRecord,
     Report,
+    Find,
 }
 
 impl Call {
@@ -90,24 +103,30 @@ impl Call {
             Call::Push { .. } => Export::Push,
             Call::Pop { .. } => Export::Pop,
             Call::Step { .. } => Export::Step,
+            Call::Run { .. } => Export::Run,
             Call::StepRecord | Call::StepRow { .. } => Export::StepRecord,
             Call::Report => Export::Report,
+            Call::Find { .. } => Export::Find,
         }
     }
 }
 
-/// An answer in numbers: code, label, value; the report's eight fields.
+/// An answer in numbers: code, label, value; a run's, and its steps; the report's nine fields; code,
+/// rows and positions.
 #[derive(Clone, Copy, Debug, PartialEq)]
 pub enum Told {
     Reply(u32, u32, u64),
-    Report([u64; 8]),
+    Run(u32, u32, u64, u64),
+    Report([u64; 9]),
+    Find(u64, u64, [u64; MOST_ASKED]),
 }
 
 impl Told {
     pub fn code(&self) -> u32 {
         match self {
-            Told::Reply(code, ..) => *code,
+            Told::Reply(code, ..) | Told::Run(code, ..) => *code,
             Told::Report(fields) => fields[0] as u32,
+            Told::Find(code, ..) => *code as u32,
         }
     }
 }
@@ -145,6 +164,10 @@ pub fn by_library(world: &mut World, call: Call) -> Told {
         }
         Call::Pop { task, side } => library!(world.zc_pop(control, records, count, task, side)),
         Call::Step { task } => library!(world.zc_step(control, records, count, task)),
+        Call::Run { task, most } => {
+            let told = library!(world.zc_run(control, records, count, task, most));
+            return Told::Run(told.code, told.label, told.value, told.steps);
+        }
         Call::StepRecord => {
             let one: *mut raw::Record = (&raw mut world.one).cast();
             library!(world.zc_step_record(control, one))
@@ -162,12 +185,30 @@ pub fn by_library(world: &mut World, call: Call) -> Told {
                 told.left,
                 told.right,
                 told.busy,
-                told.retries,
                 told.waiting,
+                told.taken,
+                told.retries,
             ]);
+        }
+        Call::Find { asked, count } => {
+            let found = library!(world.zc_find(control, asked.as_ptr(), count));
+            return Told::Find(found.code, found.rows, found.positions);
         }
     };
     Told::Reply(reply.code, reply.label, reply.value)
+}
+
+fn found(answer: Result<Found, Refusal>) -> Told {
+    let mut positions = [0; MOST_ASKED];
+    match answer {
+        Ok(found) => {
+            for (to, at) in positions.iter_mut().zip(&found.positions) {
+                *to = at.unwrap_or(0);
+            }
+            Told::Find(0, found.rows, positions)
+        }
+        Err(refusal) => Told::Find(u64::from(refusal.number()), 0, positions),
+    }
 }
 
 fn refused(refusal: Refusal) -> Told {
@@ -204,6 +245,9 @@ pub fn by_reference(world: &mut World, call: Call) -> Told {
         };
         return moved(shared.step_lent(one));
     }
+    if let Call::Find { asked, count } = call {
+        return found(shared.find(&asked[..count]));
+    }
     let mut tables = Tables { shared, records: world.records.slice() };
     match call {
         Call::Open { tasks, slots, tag } => {
@@ -214,7 +258,12 @@ pub fn by_reference(world: &mut World, call: Call) -> Told {
         }
         Call::Pop { task, side } => started(tables.pop(task as u64, side)),
         Call::Step { task } => moved(tables.step(task as u64)),
-        Call::StepRecord | Call::StepRow { .. } => unreachable!(),
+        Call::Run { task, most } => {
+            let (answer, steps) = tables.run(task as u64, most);
+            let Told::Reply(code, label, value) = moved(answer) else { unreachable!() };
+            Told::Run(code, label, value, steps)
+        }
+        Call::StepRecord | Call::StepRow { .. } | Call::Find { .. } => unreachable!(),
         Call::Report => Told::Report(match tables.report() {
             Ok(told) => [
                 0,
@@ -223,10 +272,11 @@ pub fn by_reference(world: &mut World, call: Call) -> Told {
                 told.left,
                 told.right,
                 told.busy,
-                told.retries,
                 told.waiting,
+                told.taken,
+                told.retries,
             ],
-            Err(refusal) => [u64::from(refusal.number()), 0, 0, 0, 0, 0, 0, 0],
+            Err(refusal) => [u64::from(refusal.number()), 0, 0, 0, 0, 0, 0, 0, 0],
         }),
     }
 }

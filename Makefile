@@ -1,0 +1,48 @@
+# The library as one archive, and its installation.
+#
+#     make                        proves the crates and writes target/lib/libzeppolecape.a (some minutes, once)
+#     make install PREFIX=/opt/zc header, archive, pkg-config file and CMake package; DESTDIR is honoured
+#     make uninstall PREFIX=/opt/zc
+#
+# The tests are .ci/run and tests/README.md's commands.
+
+# The crates that export calls. Each is compiled for itself (`rt staticlib NAME`); the library holds them
+# all, and a program takes in only those whose calls it makes.
+EXPORTS = capi capi_record capi_run audit find sheet
+
+PREFIX ?= /usr/local
+LIBRARY ?= target/lib/libzeppolecape.a
+
+version_part = $(shell sed -n 's/^\#define ZC_VERSION_$(1) \([0-9]*\)$$/\1/p' include/zeppolecape.h)
+VERSION := $(call version_part,MAJOR).$(call version_part,MINOR).$(call version_part,PATCH)
+
+# A path may hold spaces: what is installed is named once here, and quoted where it is used.
+HEADER = $(DESTDIR)$(PREFIX)/include/zeppolecape.h
+ARCHIVE = $(DESTDIR)$(PREFIX)/lib/libzeppolecape.a
+PKGCONFIG = $(DESTDIR)$(PREFIX)/lib/pkgconfig
+CMAKE = $(DESTDIR)$(PREFIX)/lib/cmake/zeppolecape
+
+.PHONY: all exports install uninstall
+all: $(LIBRARY)
+
+exports:
+	@for name in $(EXPORTS); do echo "$$name"; done
+
+target/lib/libzeppolecape.a: crates.txt $(shell find crates -name '*.rt' -o -name '*.antt')
+	@command -v rt >/dev/null || { echo "make: the Rattle toolchain (rt) is not on the PATH; see README.md, Requirements" >&2; exit 1; }
+	for name in $(EXPORTS); do rt staticlib $$name || exit 1; done
+	rm -rf target/lib && mkdir -p target/lib/members
+	cd target/lib/members && for name in $(EXPORTS); do ar x ../../staticlib/lib$$name.a || exit 1; done
+	ar rcsD $@ target/lib/members/*.o
+
+install: $(LIBRARY)
+	install -D -m 644 include/zeppolecape.h "$(HEADER)"
+	install -D -m 644 "$(LIBRARY)" "$(ARCHIVE)"
+	install -d "$(PKGCONFIG)" "$(CMAKE)"
+	sed 's/@VERSION@/$(VERSION)/' packaging/zeppolecape.pc.in >"$(PKGCONFIG)/zeppolecape.pc"
+	sed 's/@VERSION@/$(VERSION)/' packaging/zeppolecape-config-version.cmake.in >"$(CMAKE)/zeppolecape-config-version.cmake"
+	install -m 644 packaging/zeppolecape-config.cmake "$(CMAKE)/zeppolecape-config.cmake"
+
+uninstall:
+	rm -f "$(HEADER)" "$(ARCHIVE)" "$(PKGCONFIG)/zeppolecape.pc"
+	rm -rf "$(CMAKE)"

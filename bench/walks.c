@@ -1,0 +1,127 @@
+/*
+ * The calls that walk the queue: the library against the same call by hand in C.
+ *
+ *     walks check LABELS             both answer the same
+ *     walks time CALL LABELS TIMES   nanoseconds a call, best of TIMES, interleaved: library, C
+ *     walks count CALL ENGINE LABELS a thousand calls, for a program that counts instructions
+ *
+ * CALL is report, or find: 32 labels, of which half wait. ENGINE is library or reference. The queue has 1,023 slots and 16 tasks; the labels
+ * wait in slots drawn at random, so that the next row is seldom near.
+ */
+#include "reference.h"
+
+#include <stdbool.h>
+#include <stdio.h>
+#include <stdlib.h>
+#include <string.h>
+#include <time.h>
+
+enum { SLOTS = ZC_MOST_SLOTS, TASKS = ZC_MOST_TASKS, CALLS = 1000 };
+
+static zc_control control;
+static zc_record records[TASKS];
+static uint64_t lefts[ZC_ROWS(SLOTS)], rights[ZC_ROWS(SLOTS)], marks[ZC_MARK_WORDS(SLOTS)];
+static uint32_t labels[ZC_ROWS(SLOTS)], asked[ZC_MOST_ASKED];
+
+#define LENT                                                                                       \
+    lefts, ZC_ROWS(SLOTS), rights, ZC_ROWS(SLOTS), labels, ZC_ROWS(SLOTS), marks,                  \
+        ZC_MARK_WORDS(SLOTS)
+
+static uint64_t draw(uint64_t below)
+{
+    static uint64_t state = UINT64_C(88172645463325252);
+    state ^= state << 13;
+    state ^= state >> 7;
+    state ^= state << 17;
+    return (state >> 16) % below;
+}
+
+/* A STABLE queue of so many labels. */
+static void line_up(uint64_t count)
+{
+    uint64_t order[SLOTS];
+    reference_open(&control, records, TASKS, TASKS, SLOTS, 0, LENT);
+    for (uint64_t at = 0; at < SLOTS; at++)
+        order[at] = at + 1;
+    for (uint64_t at = 0; at < count; at++) {
+        uint64_t other = at + draw(SLOTS - at), slot = order[other];
+        order[other] = order[at];
+        order[at] = slot;
+        labels[slot] = (uint32_t)draw(UINT64_MAX);
+        marks[slot / 64] |= UINT64_C(1) << (slot % 64);
+        lefts[slot] = at == 0 ? 0 : order[at - 1];
+        if (at > 0)
+            rights[order[at - 1]] = slot;
+    }
+    if (count > 0)
+        control.anchor = order[0] << 15 | order[count - 1];
+    for (size_t at = 0; at < ZC_MOST_ASKED; at++)
+        asked[at] = at % 2 && count > 0 ? labels[order[draw(count)]] : (uint32_t)draw(UINT64_MAX);
+}
+
+static bool finding;
+static uint64_t sum;
+
+__attribute__((noinline)) static void replay_library(void)
+{
+    for (int call = 0; call < CALLS; call++)
+        if (finding)
+            sum += zc_find(&control, asked, ZC_MOST_ASKED, LENT).rows;
+        else
+            sum += zc_report(&control, records, TASKS, LENT).waiting;
+}
+
+__attribute__((noinline)) static void replay_reference(void)
+{
+    for (int call = 0; call < CALLS; call++)
+        if (finding)
+            sum += reference_find(&control, asked, ZC_MOST_ASKED, LENT).rows;
+        else
+            sum += reference_report(&control, records, TASKS, LENT).waiting;
+}
+
+static double best(void (*replay)(void), double so_far)
+{
+    struct timespec from, to;
+    clock_gettime(CLOCK_MONOTONIC, &from);
+    replay();
+    clock_gettime(CLOCK_MONOTONIC, &to);
+    double taken = (double)(to.tv_sec - from.tv_sec) * 1e9 + (double)(to.tv_nsec - from.tv_nsec);
+    return taken < so_far ? taken : so_far;
+}
+
+static int check(void)
+{
+    zc_report_reply ours = zc_report(&control, records, TASKS, LENT);
+    zc_report_reply theirs = reference_report(&control, records, TASKS, LENT);
+    zc_find_reply found = zc_find(&control, asked, ZC_MOST_ASKED, LENT);
+    zc_find_reply expected = reference_find(&control, asked, ZC_MOST_ASKED, LENT);
+    if (memcmp(&ours, &theirs, sizeof ours) == 0 && memcmp(&found, &expected, sizeof found) == 0)
+        return 0;
+    fprintf(stderr, "walks: the library and C answer differently\n");
+    return 1;
+}
+
+int main(int count, char **words)
+{
+    if (count < 3)
+        return 2;
+    line_up(strtoull(words[count - (strcmp(words[1], "time") == 0 ? 2 : 1)], NULL, 10));
+    if (strcmp(words[1], "check") == 0)
+        return check();
+    finding = strcmp(words[2], "find") == 0;
+    if (strcmp(words[1], "time") == 0) {
+        double library = 1e18, reference = 1e18;
+        for (int times = atoi(words[4]); times > 0; times--) {
+            library = best(replay_library, library);
+            reference = best(replay_reference, reference);
+        }
+        printf("library %.2f\nreference %.2f\n", library / CALLS, reference / CALLS);
+        return 0;
+    }
+    if (strcmp(words[3], "library") == 0)
+        replay_library();
+    else
+        replay_reference();
+    return sum == 1;
+}

@@ -1,0 +1,48 @@
+//! The label queue: a double-ended queue that up to 16 tasks share, moved one touch at a time.
+//!
+//! It is not a queue that threads or cores may enter at once: the library uses plain loads and
+//! stores, and each call takes the tables by `&mut`, so that one is under way at a time. What is
+//! lock-free is the tasks, between calls: wherever a task is stopped, the others go on.
+//!
+//! [`Queue`] owns its tables. [`Tables`] lends tables that the caller keeps elsewhere, with any
+//! contents and any lengths. [`audit()`] checks a history of finished calls. [`raw`] holds the C
+//! declarations themselves.
+//!
+//! ```
+//! use zeppolecape::{Answer, Queue, Side};
+//!
+//! let mut queue = Queue::open(2, 3, 0)?; // tasks 0 and 1, slots 1 to 3, first tag 0
+//! queue.push(0, Side::Right, 1, 700)?; // task 0 starts: slot 1, label 700
+//! assert_eq!(queue.step(0)?, Answer::Running(2)); // one touch; place 2 comes next
+//! assert_eq!(queue.step(0)?, Answer::Pushed);
+//! queue.pop(1, Side::Left)?;
+//! assert_eq!(queue.finish(1)?, Answer::Popped { slot: 1, label: 700 });
+//! # Ok::<(), zeppolecape::Refusal>(())
+//! ```
+//!
+//! Every call is proved, for all arguments and any contents of the tables, to do what its definition
+//! says. This crate is a thin layer above the proved calls and is not itself proved.
+#![no_std]
+
+extern crate alloc;
+
+mod audit;
+mod find;
+mod numbers;
+mod queue;
+pub mod raw;
+mod sheet;
+mod tables;
+#[cfg(test)]
+mod tests;
+
+pub use audit::{audit, audit_words, Finished, Verdict, MOST_CALLS};
+pub use find::Found;
+pub use numbers::*;
+pub use queue::Queue;
+pub use raw::{Control, Record};
+pub use sheet::{rule, SheetVerdict, MOST_LISTED, MOST_RULES, SHEET_WORDS};
+pub use tables::Tables;
+
+/// The version of this crate, and of the header and the library that it goes with.
+pub const VERSION: &str = env!("CARGO_PKG_VERSION");

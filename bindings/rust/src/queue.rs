@@ -1,0 +1,178 @@
+//! The queue that owns its tables.
+
+use crate::tables::{report, Shared, Tables};
+use crate::{
+    link_slot, mark_words, raw, rows, Anchor, Answer, Control, Record, Refusal, Report, Run, Side,
+};
+use crate::{LAST_START_TAG, MOST_SLOTS, MOST_TASKS, PUSH_STEPS};
+use alloc::vec;
+use alloc::vec::Vec;
+
+/// A queue that owns its tables. They are only written by the library's calls, so that
+/// [`Refusal::Unsound`], [`Refusal::Short`] and [`Refusal::NoSide`] cannot occur after `open`.
+#[derive(Clone, Debug)]
+pub struct Queue {
+    pub(crate) control: Control,
+    records: Vec<Record>,
+    pub(crate) lefts: Vec<u64>,
+    pub(crate) rights: Vec<u64>,
+    labels: Vec<u32>,
+    marks: Vec<u64>,
+}
+
+impl Queue {
+    /// An empty queue for tasks 0 to `tasks` - 1 and slots 1 to `slots`; `first_tag` is any number.
+    pub fn open(tasks: u64, slots: u64, first_tag: u32) -> Result<Queue, Refusal> {
+        // Outside the limits the library refuses; no table is then needed.
+        let (held_tasks, held_slots) = (tasks.min(MOST_TASKS), slots.min(MOST_SLOTS));
+        let mut queue = Queue {
+            control: Control::default(),
+            records: vec![Record::default(); held_tasks as usize],
+            lefts: vec![0; rows(held_slots)],
+            rights: vec![0; rows(held_slots)],
+            labels: vec![0; rows(held_slots)],
+            marks: vec![0; mark_words(held_slots)],
+        };
+        queue.lend().open(tasks, slots, first_tag)?;
+        Ok(queue)
+    }
+
+    fn lend(&mut self) -> Tables<'_> {
+        Tables {
+            control: &mut self.control,
+            records: &mut self.records,
+            lefts: &mut self.lefts,
+            rights: &mut self.rights,
+            labels: &mut self.labels,
+            marks: &mut self.marks,
+        }
+    }
+
+    pub(crate) fn shared(&self) -> Shared<'_> {
+        let Queue { control, lefts, rights, labels, marks, .. } = self;
+        Shared { control, lefts, rights, labels, marks }
+    }
+
+    /// Starts a push of `label` in a free slot.
+    pub fn push(
+        &mut self,
+        task: usize,
+        side: Side,
+        slot: u64,
+        label: u32,
+    ) -> Result<Answer, Refusal> {
+        self.lend().push(task, side as u64, slot, label)
+    }
+
+    /// Starts a pop.
+    pub fn pop(&mut self, task: usize, side: Side) -> Result<Answer, Refusal> {
+        self.lend().pop(task, side as u64)
+    }
+
+    /// Moves one task by one step. A call belongs to its task, whoever steps it; the answer is told
+    /// once, to the caller of the step that answers.
+    pub fn step(&mut self, task: usize) -> Result<Answer, Refusal> {
+        self.lend().step(task)
+    }
+
+    /// Steps one task until it answers, `most` times at the most.
+    pub fn run(&mut self, task: usize, most: u64) -> Run {
+        self.lend().run(task, most)
+    }
+
+    /// Steps one task, alone, to its answer: [`PUSH_STEPS`] are always enough. Refuses as
+    /// [`step`](Queue::step) does.
+    pub fn finish(&mut self, task: usize) -> Result<Answer, Refusal> {
+        self.run(task, PUSH_STEPS).outcome
+    }
+
+    /// What to do about [`Refusal::Worn`]: steps every busy task to its answer, opens again with
+    /// `first_tag`, and pushes the labels that wait again, in their order. The answers, one for each
+    /// task, `None` where it was idle: a popped label is nowhere else.
+    ///
+    /// ```
+    /// use zeppolecape::{Answer, Queue, Refusal, Side, LAST_START_TAG};
+    ///
+    /// let mut queue = Queue::open(2, 3, LAST_START_TAG as u32)?;
+    /// queue.push(0, Side::Right, 2, 700)?;
+    /// queue.finish(0)?;
+    /// assert_eq!(queue.pop(1, Side::Left), Err(Refusal::Worn));
+    /// assert_eq!(queue.renew(0)?, [None, None]);
+    /// queue.pop(1, Side::Left)?;
+    /// assert_eq!(queue.finish(1)?, Answer::Popped { slot: 1, label: 700 });
+    /// # Ok::<(), Refusal>(())
+    /// ```
+    ///
+    /// Refuses [`Refusal::Worn`], and changes nothing, where after `first_tag` there are fewer tags
+    /// than two for each slot.
+    pub fn renew(&mut self, first_tag: u32) -> Result<Vec<Option<Answer>>, Refusal> {
+        if u64::from(first_tag) + 2 * self.control.slots > LAST_START_TAG {
+            return Err(Refusal::Worn);
+        }
+        let mut answers = Vec::with_capacity(self.records.len());
+        for task in 0..self.records.len() {
+            let busy = self.records[task].place != 0;
+            answers.push(if busy { Some(self.finish(task)?) } else { None });
+        }
+        let waiting = self.waiting();
+        let Control { tasks, slots, .. } = self.control;
+        self.lend().open(tasks, slots, first_tag)?;
+        for (slot, (_, label)) in (1..).zip(waiting) {
+            self.push(0, Side::Right, slot, label)?;
+            self.finish(0)?;
+        }
+        Ok(answers)
+    }
+
+    /// Anchor's fields, busy tasks, labels waiting, slots taken, retries.
+    pub fn report(&self) -> Report {
+        report(&self.control, &self.records, &self.lefts, &self.rights, &self.labels, &self.marks)
+            .expect("an open queue is sound")
+    }
+
+    /// What all tasks share.
+    pub fn control(&self) -> &Control {
+        &self.control
+    }
+
+    /// One record for each task.
+    pub fn records(&self) -> &[Record] {
+        &self.records
+    }
+
+    /// Whether a slot is taken.
+    ///
+    /// # Panics
+    /// Where the slot is above the last mark word's.
+    pub fn is_taken(&self, slot: u64) -> bool {
+        self.marks[slot as usize / 64] >> (slot % 64) & 1 == 1
+    }
+
+    /// A slot that no label and no call holds.
+    pub fn free_slot(&self) -> Option<u64> {
+        (1..=self.control.slots).find(|&slot| !self.is_taken(slot))
+    }
+
+    /// The slots and labels that wait, from left to right: from the right end along Left links, or,
+    /// under LPUSH, from the left end along Right links. Never more than there are slots, and no
+    /// row that there is not, whatever the tables hold.
+    pub fn waiting(&self) -> Vec<(u64, u32)> {
+        let Anchor { status, left, right, .. } = Anchor::of(self.control.anchor);
+        let from_left = status == raw::LPUSH;
+        let (links, first, last) = match from_left {
+            true => (&self.rights, left, right),
+            false => (&self.lefts, right, left),
+        };
+        let last_row = self.control.slots.min(links.len() as u64 - 1);
+        let mut found = Vec::new();
+        let mut slot = first;
+        while (1..=last_row).contains(&slot) && (found.len() as u64) < last_row {
+            found.push((slot, self.labels[slot as usize]));
+            slot = if slot == last { 0 } else { link_slot(links[slot as usize]) };
+        }
+        if !from_left {
+            found.reverse();
+        }
+        found
+    }
+}

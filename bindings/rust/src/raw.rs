@@ -1,0 +1,371 @@
+//! The C declarations: the calls, layouts and numbers of `zeppolecape.h`, which says what each call
+//! does, refuses and asks of its caller.
+//!
+//! # Safety
+//! For every call: pointers are aligned and good for their counts of elements, `control` and `one` are
+//! not null, no two tables overlap, and nobody else uses them during the call. Everything else is
+//! checked by the call.
+
+/// Side left.
+pub const LEFT: u64 = 0;
+/// Side right.
+pub const RIGHT: u64 = 1;
+/// Kind of a call, in a record: a push.
+pub const PUSH: u64 = 0;
+/// Kind of a call, in a record: a pop.
+pub const POP: u64 = 1;
+/// Status of Anchor: no push is unfinished.
+pub const STABLE: u64 = 0;
+/// Status of Anchor: the last push at the right may lack its link back.
+pub const RPUSH: u64 = 1;
+/// Status of Anchor: the last push at the left may lack its link back.
+pub const LPUSH: u64 = 2;
+/// Code of a reply: the call goes on, value is the place of its next step.
+pub const RUNNING: u32 = 1;
+/// Code of a reply: the push is answered.
+pub const PUSHED: u32 = 2;
+/// Code of a reply: the pop is answered, nothing was waiting.
+pub const EMPTY: u32 = 3;
+/// Code of a reply: the pop is answered, value is the slot.
+pub const POPPED: u32 = 4;
+
+/// What all tasks share besides rows and marks.
+#[repr(C)]
+#[derive(Clone, Copy, Debug, Default, PartialEq, Eq)]
+pub struct Control {
+    /// Tasks, 1 to 16, numbered from 0.
+    pub tasks: u64,
+    /// Slots, 1 to 1,023, numbered from 1.
+    pub slots: u64,
+    /// Taken apart by [`Anchor::of`](crate::Anchor::of).
+    pub anchor: u64,
+    /// Changes that failed because another task was faster.
+    pub retries: u64,
+}
+
+/// Where a task stands in its call; all zero while it has none.
+#[repr(C)]
+#[derive(Clone, Copy, Debug, Default, PartialEq, Eq)]
+pub struct Record {
+    /// 0 idle, or the place of the next step, 1 to 11.
+    pub place: u64,
+    /// 0 push, 1 pop.
+    pub kind: u64,
+    /// 0 left, 1 right.
+    pub side: u64,
+    /// The slot of a push.
+    pub own: u64,
+    /// The label of a push.
+    pub label: u32,
+    /// The Anchor word as read.
+    pub seen: u64,
+    /// The neighbour slot as read.
+    pub neighbour: u64,
+    /// The link word as read.
+    pub link: u64,
+    /// 1 once a push has taken effect and still has a link to mend.
+    pub finishing: u64,
+}
+
+/// What a start or a step answers.
+#[repr(C)]
+#[derive(Clone, Copy, Debug, Default, PartialEq, Eq)]
+pub struct Reply {
+    /// [`RUNNING`], [`PUSHED`], [`EMPTY`], [`POPPED`], or the number of a refusal.
+    pub code: u32,
+    /// Popped: the label.
+    pub label: u32,
+    /// Running: the next place; popped: the slot.
+    pub value: u64,
+}
+
+/// As [`Reply`], and the steps made; a refused step is none.
+#[repr(C)]
+#[derive(Clone, Copy, Debug, Default, PartialEq, Eq)]
+pub struct RunReply {
+    /// The last step's, or [`RUNNING`] if no step was left to make.
+    pub code: u32,
+    /// Popped: the label.
+    pub label: u32,
+    /// Running: the place; popped: the slot.
+    pub value: u64,
+    /// The steps made.
+    pub steps: u64,
+}
+
+/// What the report tells. With a refusal every field but code is 0.
+#[repr(C)]
+#[derive(Clone, Copy, Debug, Default, PartialEq, Eq)]
+pub struct ReportReply {
+    /// 0, or the number of a refusal.
+    pub code: u64,
+    /// Anchor's tag.
+    pub tag: u64,
+    /// Anchor's status.
+    pub status: u64,
+    /// Anchor's left end.
+    pub left: u64,
+    /// Anchor's right end.
+    pub right: u64,
+    /// Tasks with a call under way.
+    pub busy: u64,
+    /// Labels in the queue.
+    pub waiting: u64,
+    /// Marks set for slots 1 to slots, half-done calls included.
+    pub taken: u64,
+    /// Changes that failed because another task was faster.
+    pub retries: u64,
+}
+
+/// Where labels wait. With a refusal every field but code is 0.
+#[repr(C)]
+#[derive(Clone, Copy, Debug, Default, PartialEq, Eq)]
+pub struct FindReply {
+    /// 0, or the number of a refusal.
+    pub code: u64,
+    /// Rows read: the labels in the queue.
+    pub rows: u64,
+    /// Of each label asked for, from 1 at the left; 0 not waiting, or not asked for.
+    pub positions: [u64; crate::MOST_ASKED],
+}
+
+/// What an audit answers.
+#[repr(C)]
+#[derive(Clone, Copy, Debug, Default, PartialEq, Eq)]
+pub struct Verdict {
+    /// 0 passes, 1 fails, or the number of a refusal.
+    pub code: u32,
+    /// Fails: the first wrong position, from 1; 0 if the order is no rearrangement.
+    pub position: u32,
+}
+
+/// What an order sheet is answered: kept, or the first broken pair by its places in the list.
+#[repr(C)]
+#[derive(Clone, Copy, Debug, Default, PartialEq, Eq)]
+pub struct SheetReply {
+    /// 0, or the number of a refusal.
+    pub code: u64,
+    /// The first place of the pair, from 1; 0 if the sheet is kept.
+    pub first: u64,
+    /// The second place of the pair, from 1; 0 if the sheet is kept.
+    pub second: u64,
+}
+
+#[link(name = "zeppolecape", kind = "static")]
+unsafe extern "C" {
+    /// Opens an empty queue. Answers 0, or refuses: 10, 11, 12.
+    pub fn zc_open(
+        control: *mut Control,
+        records: *mut Record,
+        record_count: usize,
+        tasks: u64,
+        slots: u64,
+        tag: u32,
+        lefts: *mut u64,
+        left_count: usize,
+        rights: *mut u64,
+        right_count: usize,
+        labels: *mut u32,
+        label_count: usize,
+        marks: *mut u64,
+        mark_count: usize,
+    ) -> u32;
+
+    /// Starts a push for an idle task.
+    /// Refuses: 34 for control, 12, 13, 14, 15, 34 for the record, 30, 32, 33.
+    pub fn zc_push(
+        control: *mut Control,
+        records: *mut Record,
+        record_count: usize,
+        task: usize,
+        side: u64,
+        slot: u64,
+        label: u32,
+        lefts: *const u64,
+        left_count: usize,
+        rights: *const u64,
+        right_count: usize,
+        labels: *mut u32,
+        label_count: usize,
+        marks: *mut u64,
+        mark_count: usize,
+    ) -> Reply;
+
+    /// Starts a pop for an idle task.
+    /// Refuses: 34 for control, 12, 13, 14, 34 for the record, 30, 33.
+    pub fn zc_pop(
+        control: *mut Control,
+        records: *mut Record,
+        record_count: usize,
+        task: usize,
+        side: u64,
+        lefts: *const u64,
+        left_count: usize,
+        rights: *const u64,
+        right_count: usize,
+        labels: *const u32,
+        label_count: usize,
+        marks: *const u64,
+        mark_count: usize,
+    ) -> Reply;
+
+    /// Moves a busy task by one step.
+    /// Refuses: 34 for control, 12, 13, 34 for the record, 31, 34 for what the step touches.
+    pub fn zc_step(
+        control: *mut Control,
+        records: *mut Record,
+        record_count: usize,
+        task: usize,
+        lefts: *mut u64,
+        left_count: usize,
+        rights: *mut u64,
+        right_count: usize,
+        labels: *const u32,
+        label_count: usize,
+        marks: *mut u64,
+        mark_count: usize,
+    ) -> Reply;
+
+    /// Steps a task until a step does not answer running, `most` times at the most.
+    /// Refuses as [`zc_step`].
+    pub fn zc_run(
+        control: *mut Control,
+        records: *mut Record,
+        record_count: usize,
+        task: usize,
+        most: u64,
+        lefts: *mut u64,
+        left_count: usize,
+        rights: *mut u64,
+        right_count: usize,
+        labels: *const u32,
+        label_count: usize,
+        marks: *mut u64,
+        mark_count: usize,
+    ) -> RunReply;
+
+    /// Reports; of the records it looks at the places alone.
+    /// Refuses: 34 for control, 12, 34 for the walk.
+    pub fn zc_report(
+        control: *const Control,
+        records: *const Record,
+        record_count: usize,
+        lefts: *const u64,
+        left_count: usize,
+        rights: *const u64,
+        right_count: usize,
+        labels: *const u32,
+        label_count: usize,
+        marks: *const u64,
+        mark_count: usize,
+    ) -> ReportReply;
+
+    /// Finds up to 32 labels in the queue; of equal ones the leftmost counts.
+    /// Refuses: 34 for control, 45, 12 (rows and marks only), 34 for the walk.
+    pub fn zc_find(
+        control: *const Control,
+        asked: *const u32,
+        asked_count: usize,
+        lefts: *const u64,
+        left_count: usize,
+        rights: *const u64,
+        right_count: usize,
+        labels: *const u32,
+        label_count: usize,
+        marks: *const u64,
+        mark_count: usize,
+    ) -> FindReply;
+
+    /// The same step on one lent record, which need not lie among the others.
+    /// Refuses: 34 for control, 12 (rows and marks only), 34 for the record, 31, 34 for what the step
+    /// touches.
+    pub fn zc_step_record(
+        control: *mut Control,
+        one: *mut Record,
+        lefts: *mut u64,
+        left_count: usize,
+        rights: *mut u64,
+        right_count: usize,
+        labels: *const u32,
+        label_count: usize,
+        marks: *mut u64,
+        mark_count: usize,
+    ) -> Reply;
+
+    /// Checks a history of finished calls, seven words each, against its claimed order of effects.
+    /// Refuses: 40.
+    pub fn zc_audit_words(
+        words: *const u64,
+        word_count: usize,
+        order: *const u64,
+        order_count: usize,
+    ) -> Verdict;
+
+    /// Whether the labels waiting keep an order sheet.
+    /// Refuses: 34 for control, 46, 12 (rows and marks only), 34 for the walk.
+    pub fn zc_sheet(
+        control: *const Control,
+        listed: *const u32,
+        listed_count: usize,
+        rules: *const u32,
+        rule_count: usize,
+        lefts: *const u64,
+        left_count: usize,
+        rights: *const u64,
+        right_count: usize,
+        labels: *const u32,
+        label_count: usize,
+        marks: *const u64,
+        mark_count: usize,
+    ) -> SheetReply;
+
+    /// The same, with 32 lent words for the chained rules.
+    /// Refuses: 34 for control, 46, 12 (words, rows and marks), 34 for the walk.
+    pub fn zc_sheet_words(
+        control: *const Control,
+        listed: *const u32,
+        listed_count: usize,
+        rules: *const u32,
+        rule_count: usize,
+        words: *mut u32,
+        word_count: usize,
+        lefts: *const u64,
+        left_count: usize,
+        rights: *const u64,
+        right_count: usize,
+        labels: *const u32,
+        label_count: usize,
+        marks: *const u64,
+        mark_count: usize,
+    ) -> SheetReply;
+}
+
+const _: () = {
+    use core::mem::{align_of, offset_of, size_of};
+    assert!(size_of::<Control>() == 32 && align_of::<Control>() == 8);
+    assert!(offset_of!(Control, tasks) == 0 && offset_of!(Control, slots) == 8);
+    assert!(offset_of!(Control, anchor) == 16 && offset_of!(Control, retries) == 24);
+    assert!(size_of::<Record>() == 72 && align_of::<Record>() == 8);
+    assert!(offset_of!(Record, place) == 0 && offset_of!(Record, kind) == 8);
+    assert!(offset_of!(Record, side) == 16 && offset_of!(Record, own) == 24);
+    assert!(offset_of!(Record, label) == 32 && offset_of!(Record, seen) == 40);
+    assert!(offset_of!(Record, neighbour) == 48 && offset_of!(Record, link) == 56);
+    assert!(offset_of!(Record, finishing) == 64);
+    assert!(size_of::<Reply>() == 16 && align_of::<Reply>() == 8);
+    assert!(offset_of!(Reply, code) == 0 && offset_of!(Reply, label) == 4);
+    assert!(offset_of!(Reply, value) == 8);
+    assert!(size_of::<RunReply>() == 24 && align_of::<RunReply>() == 8);
+    assert!(offset_of!(RunReply, code) == 0 && offset_of!(RunReply, label) == 4);
+    assert!(offset_of!(RunReply, value) == 8 && offset_of!(RunReply, steps) == 16);
+    assert!(size_of::<ReportReply>() == 72 && align_of::<ReportReply>() == 8);
+    assert!(offset_of!(ReportReply, code) == 0 && offset_of!(ReportReply, tag) == 8);
+    assert!(offset_of!(ReportReply, status) == 16 && offset_of!(ReportReply, left) == 24);
+    assert!(offset_of!(ReportReply, right) == 32 && offset_of!(ReportReply, busy) == 40);
+    assert!(offset_of!(ReportReply, waiting) == 48 && offset_of!(ReportReply, taken) == 56);
+    assert!(offset_of!(ReportReply, retries) == 64);
+    assert!(size_of::<FindReply>() == 272 && align_of::<FindReply>() == 8);
+    assert!(offset_of!(FindReply, rows) == 8 && offset_of!(FindReply, positions) == 16);
+    assert!(size_of::<SheetReply>() == 24 && align_of::<SheetReply>() == 8);
+    assert!(offset_of!(SheetReply, code) == 0 && offset_of!(SheetReply, first) == 8);
+    assert!(offset_of!(SheetReply, second) == 16);
+};

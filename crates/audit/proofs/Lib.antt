@@ -1,0 +1,5 @@
+pub mod Loops
+pub mod WordsRead
+pub mod Buffer
+pub mod Turn
+pub mod Whole

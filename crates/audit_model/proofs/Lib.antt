@@ -1,0 +1,11 @@
+pub mod Lists
+pub mod VerdictLaws
+pub mod Order
+pub mod Replayed
+pub mod Events
+pub mod Settled
+pub mod SlotsDropped
+pub mod Numbered
+pub mod HistoriesPass
+pub mod RoundTrip
+pub mod Worked

@@ -1,0 +1,159 @@
+-- For every list of events: its effects, in the order of their places, are what the sequential deque served, with its replies.
+use mathlib.Core.Bool.{_&&_}
+use mathlib.Core.List.{List, [], _∷_, _++_, append-assoc}
+use mathlib.Core.Path.{_≡_, refl, sym, ap, _∙_, subst}
+use Prim.Native.Nat.{ℕ, suc, _<_, _≤_}
+use native.Mathlib.Omega.{arith}
+use lib.Dec.{eqb}
+use lib.ListN.{length}
+use Rattle.model.specs.declared.Answer.{Answer}
+use Rattle.model.specs.declared.Entry.{Entry}
+use Rattle.model.specs.declared.Op.{Op}
+use Rattle.model.specs.declared.Op.the-variants.{Push, Pop, Step}
+use Rattle.model.specs.declared.Outcome.{Outcome}
+use Rattle.model.specs.declared.Outcome.the-variants.{Refused, Moved}
+use Rattle.model.specs.Deque.{serve}
+use Rattle.model.specs.History.{All, Call, Effect, Ending, Event, Ledger}
+use Rattle.model.specs.History.{accept, attend, begins, continued, ended, isEffect, isOpen, ledgerFrom, note, over, stepOf}
+use Rattle.model.proofs.tests.Truth.{by-test}
+use Rattle.audit_model.specs.Written.{Taken, insert, insertAll, taken, effectsOf}
+use Rattle.audit_model.proofs.Lists.{all-append, all-map}
+use Rattle.audit_model.proofs.Order.{insert-all, insert-before, insert-last}
+
+-- Served one after another from deque d, these effects have these replies and leave deque d′.
+abbrev pub Replays : List Taken → List Entry → List Entry → Type 0
+Replays [] d d′ = d ≡ d′
+Replays (t ∷ l) d d′ = let s = serve (t .kind) (t .side) (t .entry) d in (s .reply ≡ t .reply) × Replays l (s .deque) d′
+
+pub replays-append : (l m : List Taken) (a b c : List Entry) → Replays l a b → Replays m b c → Replays (l ++ m) a c
+replays-append [] m a b c h k = subst (λ (x : List Entry). Replays m x c) (sym h) k
+replays-append (t ∷ l) m a b c h k = (h .0, replays-append l m _ b c (h .1) k)
+
+-- Effects before position n.
+abbrev pub EffectsBefore : ℕ → Call → Type 0
+EffectsBefore n c = All (λ (e : Effect). e .at < n) (c .effects)
+
+abbrev AtOrBefore : ℕ → Taken → Type 0
+AtOrBefore n t = t .at ≤ n
+
+abbrev Now : ℕ → Taken → Type 0
+Now n t = t .at ≡ n
+
+-- Earlier effects come before the new ones.
+insert-earlier : (n : ℕ) (f : Effect → Taken) → ((e : Effect) → f e .at ≡ e .at)
+    → (es : List Effect) (l m : List Taken) → All (λ (e : Effect). e .at < n) es → All (Now n) m
+    → insertAll f es (l ++ m) ≡ insertAll f es l ++ m
+insert-earlier n f p [] l m h z = refl
+insert-earlier n f p (e ∷ es) l m h z =
+    ap (insert (f e)) (insert-earlier n f p es l m (h .1) z)
+    ∙ insert-before (f e) (insertAll f es l) m (all-map (λ (u : Taken) w. omega (arith, h .0, p e)) m z)
+
+all-inserted : (n : ℕ) (f : Effect → Taken) → ((e : Effect) → f e .at ≡ e .at)
+    → (es : List Effect) (l : List Taken) → All (λ (e : Effect). e .at < n) es
+    → All (AtOrBefore n) l → All (AtOrBefore n) (insertAll f es l)
+all-inserted n f p [] l h z = z
+all-inserted n f p (e ∷ es) l h z = insert-all (AtOrBefore n) (f e) (insertAll f es l) (omega (arith, h .0, p e)) (all-inserted n f p es l (h .1) z)
+
+pub effects-before : (n : ℕ) (cs : List Call) → All (EffectsBefore n) cs → All (AtOrBefore n) (effectsOf cs)
+effects-before n [] h = tt
+effects-before n (c ∷ cs) h =
+    all-inserted n (taken (length (c ∷ cs)) (c .kind) (c .side) (c .entry)) (λ e. refl) (c .effects) (effectsOf cs)
+    (h .0) (effects-before n cs (h .1))
+
+module _ (n : ℕ) (ev : Event) (a : Answer) (d : List Entry) where
+  -- Calls cs attended to are ledger l: the new effects lie behind the others.
+  pub record Adds (cs : List Call) (l : Ledger) : Type 0 where
+    pub new : List Taken
+    pub count : length (l .calls) ≡ length cs
+    pub effects : effectsOf (l .calls) ≡ effectsOf cs ++ new
+    pub here : All (Now n) new
+    pub replays : Replays new d (l .deque)
+
+  -- A call before others that were attended to keeps its effects where they were.
+  keeps : (c : Call) (cs : List Call) (l : Ledger) → EffectsBefore n c → (g : Adds cs l)
+      → insertAll (taken (suc (length (l .calls))) (c .kind) (c .side) (c .entry)) (c .effects) (effectsOf (l .calls)) ≡ effectsOf (c ∷ cs) ++ g .new
+  keeps c cs l h g = (λ i. insertAll (taken (suc (g .count i)) (c .kind) (c .side) (c .entry)) (c .effects) (g .effects i))
+      ∙ insert-earlier n (taken (length (c ∷ cs)) (c .kind) (c .side) (c .entry)) (λ e. refl) (c .effects) (effectsOf cs) (g .new) h (g .here)
+
+  skips : (c : Call) (e : Ending) (cs : List Call) (l : Ledger) → EffectsBefore n c → Adds cs l → Adds (c ∷ cs) (over (continued c (c .effects) e) l)
+  skips c e cs l h g = record { new = g .new; count = ap suc (g .count); effects = keeps c cs l h g; here = g .here; replays = g .replays }
+
+  -- It takes effect behind them.
+  takes : (c : Call) (cs : List Call) (l : Ledger) → EffectsBefore n c → All (EffectsBefore n) cs → Adds cs l
+      → let s = serve (c .kind) (c .side) (c .entry) (l .deque) in
+      Adds (c ∷ cs) (record { deque = s .deque; calls = continued c (record { at = n; reply = s .reply } ∷ c .effects) (ended n a) ∷ l .calls })
+  takes c cs l h hs g =
+      let s = serve (c .kind) (c .side) (c .entry) (l .deque) in
+      let e : Effect = record { at = n; reply = s .reply } in
+      let t = taken (length (c ∷ cs)) (c .kind) (c .side) (c .entry) e in
+      record {
+        new = g .new ++ (t ∷ []);
+        count = ap suc (g .count);
+        effects =
+            (λ i. insert (taken (suc (g .count i)) (c .kind) (c .side) (c .entry) e) (keeps c cs l h g i))
+            ∙ insert-last t (effectsOf (c ∷ cs) ++ g .new)
+            (all-append (AtOrBefore n) (effectsOf (c ∷ cs)) (g .new)
+            (effects-before n (c ∷ cs) (h, hs)) (all-map (λ (u : Taken) w. omega arith) (g .new) (g .here)))
+            ∙ append-assoc (effectsOf (c ∷ cs)) (g .new) (t ∷ []);
+        here = all-append (Now n) (g .new) (t ∷ []) (g .here) (refl, tt);
+        replays = replays-append (g .new) (t ∷ []) d (l .deque) (s .deque) (g .replays) (refl, refl);
+      }
+
+  pub attend-adds : (cs : List Call) → All (EffectsBefore n) cs → Adds cs (attend n ev a d cs)
+  unfolding attend stepOf
+  attend-adds [] h = record { new = []; count = refl; effects = refl; here = tt; replays = refl }
+  attend-adds (c ∷ cs) h =
+      let l = attend n ev a d cs in
+      let g = attend-adds cs (h .1) in
+      by-test (Adds (c ∷ cs)) (eqb (c .task) (ev .task) && isOpen (c .ending))
+      (λ _. by-test (Adds (c ∷ cs)) (isEffect ev a)
+      (λ _. takes c cs l (h .0) (h .1) g)
+      (λ _. skips c (ended n a) cs l (h .0) g))
+      (λ _. skips c (c .ending) cs l (h .0) g)
+
+-- What an attended call has, by what it was: untouched, gone on, or gone on with an effect.
+pub attend-all : (n : ℕ) (ev : Event) (a : Answer) (P Q : Call → Type 0) → ((c : Call) → P c → Q c)
+    → ((c : Call) → P c → Q (continued c (c .effects) (ended n a)))
+    → ((c : Call) (r : Answer) → P c → Q (continued c (record { at = n; reply = r } ∷ c .effects) (ended n a)))
+    → (d : List Entry) (cs : List Call) → All P cs → All Q (attend n ev a d cs .calls)
+unfolding attend stepOf
+attend-all n ev a P Q f g k d [] h = tt
+attend-all n ev a P Q f g k d (c ∷ cs) h =
+    let r = attend-all n ev a P Q f g k d cs (h .1) in
+    by-test (λ (l : Ledger). All Q (l .calls)) (eqb (c .task) (ev .task) && isOpen (c .ending))
+    (λ _. by-test (λ (l : Ledger). All Q (l .calls)) (isEffect ev a) (λ _. (k c _ (h .0), r)) (λ _. (g c (h .0), r)))
+    (λ _. (f c (h .0), r))
+
+-- Before position n.
+pub record Replayed (n : ℕ) (l : Ledger) : Type 0 where
+  pub before : All (EffectsBefore n) (l .calls)
+  pub replays : Replays (effectsOf (l .calls)) [] (l .deque)
+
+later : (n : ℕ) (c : Call) → EffectsBefore n c → EffectsBefore (suc n) c
+later n c h = all-map (λ (e : Effect) w. omega arith) (c .effects) h
+
+begun : (n t kind side : ℕ) (e : Entry) (l : Ledger) → Replayed n l → Replayed (suc n) (over (begins n t kind side e) l)
+begun n t kind side e l g = record { before = (tt, all-map (later n) (l .calls) (g .before)); replays = g .replays }
+
+accepted : (n : ℕ) (ev : Event) (o : Op) (a : Answer) (l : Ledger) → Replayed n l → Replayed (suc n) (accept n ev o a l)
+unfolding accept
+accepted n ev (Push side slot label) a l g = begun n (ev .task) 0 side _ l g
+accepted n ev (Pop side) a l g = begun n (ev .task) 1 side _ l g
+accepted n ev Step a l g =
+    let z = attend-adds n ev a (l .deque) (l .calls) (g .before) in
+    record {
+      before = attend-all n ev a (EffectsBefore n) (EffectsBefore (suc n)) (later n) (later n) (λ c r h. (omega arith, later n c h))
+          (l .deque) (l .calls) (g .before);
+      replays = subst (λ (k : List Taken). Replays k [] (attend n ev a (l .deque) (l .calls) .deque)) (sym (z .effects))
+          (replays-append (effectsOf (l .calls)) (z .new) [] (l .deque) _ (g .replays) (z .replays));
+    }
+
+noted : (n : ℕ) (ev : Event) (o : Outcome) (l : Ledger) → Replayed n l → Replayed (suc n) (note n ev o l)
+unfolding note
+noted n ev (Refused why) l g = record { before = all-map (later n) (l .calls) (g .before); replays = g .replays }
+noted n ev (Moved a) l g = accepted n ev (ev .op) a l g
+
+pub replayed : (es : List Event) (n : ℕ) (l : Ledger) → Replayed n l → (m : ℕ) × Replayed m (ledgerFrom n l es)
+unfolding ledgerFrom
+replayed [] n l g = (n, g)
+replayed (e ∷ es) n l g = replayed es (suc n) _ (noted n e (e .outcome) l g)

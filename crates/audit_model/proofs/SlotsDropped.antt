@@ -1,0 +1,74 @@
+-- A queue of labels replies as the sequential deque does, the slots left out.
+use mathlib.Core.Bool.{Bool, true, false, cond}
+use mathlib.Core.List.{List, [], _∷_, _++_, map, reverse, reverse-cons}
+use mathlib.Core.Path.{_≡_, refl, sym, ap, _∙_, subst}
+use Prim.Native.Nat.{ℕ}
+use lib.Dec.{eqb}
+use borrow.Author.Tests.{eq-eqb}
+use Rattle.model.specs.declared.Answer.the-variants.{Pushed}
+use Rattle.model.specs.declared.Entry.{Entry}
+use Rattle.model.specs.Deque.{Served, seenFrom, serve, servePop, servePush, takeFirst}
+use Rattle.audit_model.specs.declared.Finished.{Finished}
+use Rattle.audit_model.specs.Audit.{Given, agrees, gives, serveLabel, takeLabel}
+use Rattle.audit_model.specs.Written.{Taken}
+use Rattle.audit_model.proofs.Settled.{Suits, SuitsReply}
+
+abbrev pub labelsOf : List Entry → List ℕ
+labelsOf l = map (λ (e : Entry). e .label) l
+
+labels-snoc : (l : List Entry) (e : Entry) → labelsOf (l ++ (e ∷ [])) ≡ labelsOf l ++ (e .label ∷ [])
+labels-snoc [] e = refl
+labels-snoc (x ∷ l) e = ap (λ (k : List ℕ). x .label ∷ k) (labels-snoc l e)
+
+labels-reverse : (l : List Entry) → labelsOf (reverse l) ≡ reverse (labelsOf l)
+labels-reverse [] = refl
+labels-reverse (x ∷ l) =
+    ap labelsOf (reverse-cons x l)
+    ∙ labels-snoc (reverse l) x
+    ∙ ap (λ (k : List ℕ). k ++ (x .label ∷ [])) (labels-reverse l)
+    ∙ sym (reverse-cons (x .label) (labelsOf l))
+
+seen-labels : (side : ℕ) (l : List Entry) → seenFrom side (labelsOf l) ≡ labelsOf (seenFrom side l)
+seen-labels side l = go (eqb side 1)
+  where
+    go : (b : Bool) → cond b (reverse (labelsOf l)) (labelsOf l) ≡ labelsOf (cond b (reverse l) l)
+    go true = sym (labels-reverse l)
+    go false = refl
+
+-- What was written is what the queue of labels gives.
+pub record Gives (f : Finished) (s : Served) (g : Given) : Type 0 where
+  pub queue : g .queue ≡ labelsOf (s .deque)
+  pub agrees : agrees (f .answer) (f .label) (g .answer) (g .label) ≡ true
+
+push-gives : (f : Finished) (side : ℕ) (e : Entry) (d : List Entry) → SuitsReply f e Pushed
+    → Gives f (servePush side e d) (record { answer = 2; label = 0; queue = seenFrom side (f .label ∷ seenFrom side (labelsOf d)) })
+unfolding servePush agrees
+push-gives f side e d s = record {
+  queue = (λ i. seenFrom side (s .1 i ∷ seen-labels side d i)) ∙ seen-labels side (e ∷ seenFrom side d);
+  agrees = rw (s .0);
+}
+
+pop-gives : (f : Finished) (side : ℕ) (e : Entry) (m : List Entry) → SuitsReply f e (takeFirst side m .reply)
+    → Gives f (takeFirst side m) (takeLabel side (labelsOf m))
+unfolding agrees
+pop-gives f side e [] s = record { queue = refl; agrees = rw s }
+pop-gives f side e (x ∷ m) s = record { queue = seen-labels side m; agrees = rw (s .0, eq-eqb (f .label) (x .label) (s .1)) }
+
+pub label-gives : (f : Finished) (t : Taken) (d : List Entry) → Suits f t → serve (t .kind) (t .side) (t .entry) d .reply ≡ t .reply
+    → Gives f (serve (t .kind) (t .side) (t .entry) d) (gives f (labelsOf d))
+unfolding serve serveLabel servePop servePush
+label-gives f t d s e =
+    subst (λ (g : Given). Gives f (serve (t .kind) (t .side) (t .entry) d) g)
+    (λ i. serveLabel (sym (s .kind) i) (sym (s .side) i) (f .label) (labelsOf d))
+    (go (eqb (t .kind) 0) (subst (SuitsReply f (t .entry)) (sym e) (s .reply)))
+  where
+    go : (b : Bool) → SuitsReply f (t .entry) (cond b (servePush (t .side) (t .entry) d) (servePop (t .side) d) .reply)
+        → Gives f (cond b (servePush (t .side) (t .entry) d) (servePop (t .side) d))
+        (cond b
+        (record { answer = 2; label = 0; queue = seenFrom (t .side) (f .label ∷ seenFrom (t .side) (labelsOf d)) })
+        (takeLabel (t .side) (seenFrom (t .side) (labelsOf d))))
+    go true h = push-gives f (t .side) (t .entry) d h
+    go false h =
+        subst (λ (l : List ℕ). Gives f (takeFirst (t .side) (seenFrom (t .side) d)) (takeLabel (t .side) l))
+        (sym (seen-labels (t .side) d))
+        (pop-gives f (t .side) (t .entry) (seenFrom (t .side) d) h)

@@ -1,0 +1,96 @@
+-- A worked history: a label pushed, then two pops of it at once; the later pop gets it.
+use mathlib.Core.Path.{_≡_, refl}
+use mathlib.Core.List.{List, [], _∷_, _++_, map}
+use Prim.Native.Nat.{ℕ}
+use lib.ListN.{replicate}
+use Rattle.model.specs.declared.Op.the-variants.{Push, Pop, Step}
+use Rattle.model.specs.Tables.{Queue, idle}
+use Rattle.model.specs.Sound.{anchorSound, linkSound, controlSound, recordSound, rowsFit}
+use Rattle.model.specs.Places.{sideOf, row, linkSide, reading, at1, at2, at3, new4, at4, at5, at6, at7, at9, at10, at11, move}
+use Rattle.model.specs.Route.{pushRoute, popRoute, route, onward, answer, goes, counted}
+use Rattle.model.specs.Refusals.{openRefusal, pushRefusal, popRefusal, stepSound, stepRefusal}
+use Rattle.model.specs.Calls.{opened, openQueue, pushStart, popStart, finish, step, actOn, act}
+use Rattle.model.specs.Deque.{serve, servePop, servePush}
+use Rattle.model.specs.History.{Call, Request, accept, attend, isEffect, ledger, ledgerFrom, note, run, stepOf}
+use Rattle.audit_model.specs.declared.Finished.{Finished}
+use Rattle.audit_model.specs.declared.Verdict.the-variants.{Failed, Passed, Refused}
+use Rattle.audit_model.specs.Audit.{accepted, agrees, apart, notEarlier, rearranges, replay, serveLabel, verdict, wellFormed}
+use Rattle.audit_model.specs.Written.{effectOrder, finished, insert}
+
+abbrev zeros : Queue
+zeros = record {
+  tables = record {
+    control = record { tasks = 0; slots = 0; anchor = 0; retries = 0 };
+    lefts = replicate 4 0;
+    rights = replicate 4 0;
+    labels = replicate 4 0;
+    marks = replicate 1 0;
+  };
+  records = replicate 2 idle;
+}
+
+abbrev steps : List ℕ → List Request
+steps l = map (λ t. record { task = t; op = Step }) l
+
+abbrev list : List Request
+list =
+    (record { task = 0; op = Push 1 1 700 } ∷ steps (0 ∷ 0 ∷ []))
+    ++ (record { task = 0; op = Pop 0 } ∷ record { task = 1; op = Pop 1 } ∷ steps (1 ∷ 0 ∷ 1 ∷ 0 ∷ 1 ∷ 0 ∷ []))
+
+abbrev calls : List Call
+calls = ledger (run (openQueue zeros 2 3 0 .queue) list) .calls
+
+abbrev push : Finished
+push = record { task = 0; kind = 0; side = 1; label = 700; answer = 2; start = 1; end = 3 }
+
+abbrev empty : Finished
+empty = record { task = 0; kind = 1; side = 0; label = 0; answer = 3; start = 4; end = 9 }
+
+abbrev popped : ℕ → ℕ → Finished
+popped label start = record { task = 1; kind = 1; side = 1; label = label; answer = 4; start = start; end = 10 }
+
+abbrev history : List Finished
+history = push ∷ empty ∷ popped 700 5 ∷ []
+
+pub record Table : Type 0 where
+  pub written-so : finished calls ≡ history
+  -- the second pop took effect first
+  pub order : effectOrder calls ≡ 1 ∷ 3 ∷ 2 ∷ []
+  pub passes : verdict history (1 ∷ 3 ∷ 2 ∷ []) ≡ Passed
+  -- the first pop would have got the label
+  pub other-answer : verdict history (1 ∷ 2 ∷ 3 ∷ []) ≡ Failed 2
+  -- on an empty queue its answer would be right, but the push was answered before it started
+  pub before-answered : verdict history (2 ∷ 1 ∷ 3 ∷ []) ≡ Failed 1
+  pub twice : verdict history (1 ∷ 3 ∷ 3 ∷ []) ≡ Failed 0
+  pub short : verdict history (1 ∷ 3 ∷ []) ≡ Failed 0
+  pub number-zero : verdict history (1 ∷ 3 ∷ 0 ∷ []) ≡ Failed 0
+  pub nothing : verdict [] [] ≡ Passed
+  -- popped with another label
+  pub other-label : verdict (push ∷ empty ∷ popped 701 5 ∷ []) (1 ∷ 3 ∷ 2 ∷ []) ≡ Failed 2
+  -- the label of empty is not looked at
+  pub no-label : verdict (push ∷ record { task = 0; kind = 1; side = 0; label = 9; answer = 3; start = 4; end = 9 } ∷ popped 700 5 ∷ [])
+      (1 ∷ 3 ∷ 2 ∷ []) ≡ Passed
+  -- a start at another call's answer
+  pub same-event : verdict (push ∷ empty ∷ popped 700 3 ∷ []) (1 ∷ 3 ∷ 2 ∷ []) ≡ Refused 40
+  pub too-many : verdict (replicate 65 push) [] ≡ Refused 40
+
+pub worked : Table
+unfolding openQueue opened openRefusal run act actOn pushStart popStart step finish pushRefusal popRefusal stepRefusal stepSound
+    move at1 at2 at3 new4 at4 at5 at6 at7 at9 at10 at11 reading sideOf row linkSide anchorSound linkSound controlSound recordSound rowsFit
+    pushRoute popRoute route onward answer goes counted ledgerFrom note accept attend stepOf isEffect serve servePush servePop
+    insert verdict accepted wellFormed apart rearranges replay serveLabel agrees notEarlier
+worked = record {
+  written-so = refl;
+  order = refl;
+  passes = refl;
+  other-answer = refl;
+  before-answered = refl;
+  twice = refl;
+  short = refl;
+  number-zero = refl;
+  nothing = refl;
+  other-label = refl;
+  no-label = refl;
+  same-event = refl;
+  too-many = refl;
+}

@@ -1,0 +1,4 @@
+pub mod Audit
+pub mod Words
+pub mod Written
+pub mod Laws

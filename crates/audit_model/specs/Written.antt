@@ -1,0 +1,89 @@
+-- A list of demand 3 written as a history: its places as events, its effects as the order. (Document 02: #103.)
+use mathlib.Core.Path.{_≡_}
+use mathlib.Core.Bool.{cond}
+use mathlib.Core.List.{List, [], _∷_, map, reverse}
+use Prim.Native.Nat.{ℕ, _≤_}
+use lib.Dec.{ltb}
+use lib.ListN.{length}
+use Rattle.model.specs.declared.Answer.{Answer}
+use Rattle.model.specs.declared.Answer.the-variants.{Running, Pushed, Empty, Popped}
+use Rattle.model.specs.declared.Entry.{Entry}
+use Rattle.model.specs.declared.Outcome.the-variants.{Moved}
+use Rattle.model.specs.Calls.{replyOf}
+use Rattle.model.specs.Tables.{Queue}
+use Rattle.model.specs.History.{All, AfterOpening, Call, Effect, Ending, Request, answered, ledger, pending, run}
+use Rattle.audit_model.specs.declared.Finished.{Finished}
+use Rattle.audit_model.specs.declared.Verdict.the-variants.{Passed}
+use Rattle.audit_model.specs.Audit.{nobody, verdict}
+
+-- A push is told with the label that it pushed, a pop with the one that it popped.
+abbrev pub labelTold : Entry → Answer → ℕ
+labelTold e (Running p) = 0
+labelTold e Pushed = e .label
+labelTold e Empty = 0
+labelTold e (Popped x) = x .label
+
+abbrev pub written : Call → Ending → Finished
+written c pending = nobody
+written c (answered n a) = record {
+  task = c .task;
+  kind = c .kind;
+  side = c .side;
+  label = labelTold (c .entry) a;
+  answer = replyOf (Moved a) .code;
+  start = c .start;
+  end = n;
+}
+
+-- The ledger has the latest call first; a history has the first call first, as number 1.
+abbrev pub finished : List Call → List Finished
+finished cs = reverse (map (λ (c : Call). written c (c .ending)) cs)
+
+-- An effect with its call's number, and what the call asked for.
+pub record Taken : Type 0 where
+  pub number : ℕ
+  pub at : ℕ
+  pub reply : Answer
+  pub kind : ℕ
+  pub side : ℕ
+  pub entry : Entry
+
+-- Into its place among effects that lie in order.
+unfoldable pub insert : Taken → List Taken → List Taken
+insert t [] = t ∷ []
+insert t (u ∷ l) = cond (ltb (t .at) (u .at)) (t ∷ u ∷ l) (u ∷ insert t l)
+
+abbrev pub taken : ℕ → ℕ → ℕ → Entry → Effect → Taken
+taken number kind side e f = record { number = number; at = f .at; reply = f .reply; kind = kind; side = side; entry = e }
+
+abbrev pub insertAll : (Effect → Taken) → List Effect → List Taken → List Taken
+insertAll f [] l = l
+insertAll f (e ∷ es) l = insert (f e) (insertAll f es l)
+
+-- All effects, in the order of their places.
+abbrev pub effectsOf : List Call → List Taken
+effectsOf [] = []
+effectsOf (c ∷ cs) = insertAll (taken (length (c ∷ cs)) (c .kind) (c .side) (c .entry)) (c .effects) (effectsOf cs)
+
+abbrev pub effectOrder : List Call → List ℕ
+effectOrder cs = map (λ (t : Taken). t .number) (effectsOf cs)
+
+-- Pushed, empty or popped.
+abbrev pub IsTold : Answer → Type 0
+IsTold (Running p) = ⊥
+IsTold Pushed = Unit {0}
+IsTold Empty = Unit {0}
+IsTold (Popped e) = Unit {0}
+
+abbrev pub IsAnswered : Ending → Type 0
+IsAnswered pending = ⊥
+IsAnswered (answered n a) = IsTold a
+
+-- Any list of demand 3 with at most 64 calls, all answered pushed, popped or empty, passes.
+abbrev pub Passes : Queue → List Request → Type 0
+Passes q os =
+    let cs = ledger (run q os) .calls in
+    All (λ (c : Call). IsAnswered (c .ending)) cs → length cs ≤ 64 → verdict (finished cs) (effectOrder cs) ≡ Passed
+
+abbrev pub HistoriesPass : Type 0
+HistoriesPass = AfterOpening Passes

@@ -1,0 +1,101 @@
+-- The report is told or refused: by control or lengths before the walk, by the walk, or not at all.
+use mathlib.Core.Path.{_≡_, refl, sym, ap, _∙_}
+use mathlib.Core.Bool.{Bool, true, false, _&&_, not, cond}
+use mathlib.Core.List.{[], _∷_}
+use Prim.Native.Nat.{ℕ}
+use native.Mathlib.Omega.{arith}
+use lib.Dec.{eqb, leb}
+use lib.ListN.{length}
+use borrow.Author.Tests.{eqb-true, ne-eqb, not-false}
+use Rattle.model.specs.declared.Control.{Control}
+use Rattle.model.specs.declared.Reported.{Reported}
+use Rattle.model.specs.declared.Reported.the-variants as reported
+use Rattle.model.specs.Tables.{Tables, Queue, recordAt}
+use Rattle.model.specs.Sound.{controlSound, rowsFit}
+use Rattle.model.specs.Walk.{contents, isBroken}
+use Rattle.model.specs.Refusals.{rule, first, reportRules, reportRefusal}
+use Rattle.model.specs.Report.{busy, count, report, tell, told, waiting}
+use Rattle.model.proofs.tests.Rules.{cleared}
+use Rattle.walk.specs.declared.Tally.the-variants.{Broken, Labels}
+use Rattle.walk.specs.Counted.{counted}
+use Rattle.walk.proofs.Counting.{none-counted, all-counted}
+use Rattle.calls.specs.Rules.{tellingRefusal}
+use Rattle.calls.specs.Telling.{countable}
+use Rattle.calls.proofs.Rules.{both}
+
+none-applies : (a b : Bool) → tellingRefusal a b ≡ 0 → (a ≡ true) × (b ≡ true)
+unfolding tellingRefusal
+none-applies true true e = (refl, refl)
+none-applies true false e = let z : ⊥ = omega arith in absurd z
+none-applies false b e = let z : ⊥ = omega arith in absurd z
+
+-- One of the first two rules applies.
+one-applies : (a b c : Bool) → (tellingRefusal a b ≡ 0 → ⊥)
+    → first (rule 34 (not a) ∷ rule 12 (not b) ∷ rule 34 c ∷ []) ≡ tellingRefusal a b
+unfolding tellingRefusal
+one-applies true true c h = absurd (h refl)
+one-applies true false c h = refl
+one-applies false b c h = refl
+
+module _ (q : Tables) (enough : Bool) (busy : ℕ) where
+  abbrev pub why : ℕ
+  why = tellingRefusal (controlSound (q .control)) (rowsFit (q .control .slots) q && enough)
+
+  pub refused : (n : ℕ) → n ≡ why → (n ≡ 0 → ⊥) → reported.Refused n ≡ tell q enough busy
+  unfolding tell reportRefusal
+  refused n e h =
+      let r = one-applies (controlSound (q .control)) (rowsFit (q .control .slots) q && enough) (isBroken (contents q)) (λ z. h (e ∙ z)) ∙ sym e in
+      rw (r, ne-eqb n 0 h)
+
+  module _ (n : ℕ) (e : n ≡ why) (z : n ≡ 0) where
+    passed : (controlSound (q .control) ≡ true) × (rowsFit (q .control .slots) q && enough ≡ true)
+    passed = none-applies _ _ (sym e ∙ z)
+
+    pub astray : Broken ≡ counted (contents q) → reported.Refused 34 ≡ tell q enough busy
+    unfolding tell reportRefusal
+    astray f = rw (passed .0, passed .1, none-counted (contents q) f)
+
+    pub tells : (m : ℕ) → Labels m ≡ counted (contents q)
+        → reported.Told (record {
+          anchor = told q busy .anchor;
+          busy = busy;
+          waiting = m;
+          taken = told q busy .taken;
+          retries = q .control .retries;
+        }) ≡ tell q enough busy
+    unfolding tell reportRefusal waiting
+    tells m f = let g = all-counted (contents q) m f in rw (passed .0, passed .1, g .0, g .1)
+
+-- What is told of a refused report does not depend on the count of busy tasks.
+tell-same : (q : Tables) (enough : Bool) (m n : ℕ) → (reportRefusal q enough ≡ 0 → m ≡ n) → tell q enough m ≡ tell q enough n
+unfolding tell
+tell-same q enough m n h = go (eqb (reportRefusal q enough) 0) refl
+  where
+    told-by : Bool → ℕ → Reported
+    told-by b k = cond b (reported.Told (told q k)) (reported.Refused (reportRefusal q enough))
+
+    go : (b : Bool) → eqb (reportRefusal q enough) 0 ≡ b → told-by b m ≡ told-by b n
+    go true e = ap (told-by true) (h (eqb-true _ 0 e))
+    go false e = refl
+
+-- The report is its parts.
+module _ (q : Queue) where
+  abbrev control : Control
+  control = q .tables .control
+
+  abbrev lent : ℕ
+  lent = length (q .records)
+
+  all-tasks : reportRefusal (q .tables) (leb (control .tasks) lent) ≡ 0 → countable control lent ≡ control .tasks
+  unfolding countable controlSound reportRefusal
+  all-tasks e =
+      let z = cleared (reportRules (q .tables) (leb (control .tasks) lent)) refl e in
+      let tasks = both (leb 1 (control .tasks) && leb (control .tasks) 16) _ (not-false _ (z .0)) .0 in
+      let few = both (leb 1 (control .tasks)) (leb (control .tasks) 16) tasks .1 in
+      let enough = both (rowsFit (control .slots) (q .tables)) (leb (control .tasks) lent) (not-false _ (z .1 .0)) .1 in
+      rw (few, enough)
+
+  pub report-parts : report q ≡ tell (q .tables) (leb (control .tasks) lent) (count (λ t. not (eqb (recordAt q t .place) 0)) (countable control lent))
+  unfolding report busy
+  report-parts =
+      tell-same (q .tables) (leb (control .tasks) lent) (busy q) _ (λ e. ap (count (λ t. not (eqb (recordAt q t .place) 0))) (sym (all-tasks e)))

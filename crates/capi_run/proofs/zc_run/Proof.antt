@@ -1,0 +1,93 @@
+-- With `steps` made, what is left to do leads where the whole run leads; no step so far ended the call.
+use mathlib.Core.Path.{_≡_, refl, sym, _∙_}
+use mathlib.Core.List.{List}
+use Prim.Native.Nat.{ℕ, _-_, _≤_}
+use native.Mathlib.Omega.{arith}
+use lib.ListN.{length}
+use borrow.Author.Needs.{needs}
+use borrow.Author.Tests.{not-true, not-false}
+use Rattle.model.specs.Solo.{soloRun}
+use Rattle.rows.specs.Rows.{queueIn, uppersOf}
+use Rattle.capi_run.proofs.Turns.{left, left-all, left-more, ended, cut, goes-on}
+use Rattle.capi_run.proofs.zc_run.Statement.{statement}
+use Rattle.capi_run.proofs.zc_run.Tie as tie
+
+abbrev Inv-loop : tie.InvT-loop
+Inv-loop control₀ records₀ task most lefts₀ rights₀ labels marks₀ steps₀ control records lefts rights marks steps =
+    (steps ≤ most) × (uppersOf records ≡ uppersOf records₀)
+    × (left task most steps (queueIn control records lefts rights labels marks)
+    ≡ soloRun most (queueIn control₀ records₀ lefts₀ rights₀ labels marks₀) task)
+    × (length records ≡ length records₀) × (length lefts ≡ length lefts₀) × (length rights ≡ length rights₀)
+    × (length marks ≡ length marks₀)
+
+abbrev μ-loop : tie.MeasureT-loop
+μ-loop control₀ records₀ task most lefts₀ rights₀ labels marks₀ steps₀ control records lefts rights marks steps = most - steps
+
+-- The step that was tested, and the turn that made it.
+module _ (told : tie.After-runs Inv-loop μ-loop) where
+  abbrev did : tie.After-step Inv-loop μ-loop
+  did = let lists = told .before .before .before .before in lists .before .before .before .before
+
+  abbrev test : tie.In-loop Inv-loop μ-loop
+  test = let lent = did .before .before .before in lent .before .before .before
+
+returns : tie.Need-returns Inv-loop μ-loop
+returns c =
+    let told = c .before .before .before in
+    let inv = test told .before .loop .inv in
+    let step = did told .step .ensures in
+    ended _ _ _ _ _ _ _ (inv .1) (inv .2) _ _ _ _ _ (test told .loop-test .taken) (step .0)
+    (sym (told .runs .ensures) ∙ not-true _ (c .before .before .if1 .taken)) (step .1) (c .before .made .ensures) (c .run-reply .ensures)
+
+loop-again : tie.Need-loop-again Inv-loop μ-loop
+loop-again c =
+    let told = c .before in
+    let inv = test told .before .loop .inv in
+    let less = test told .loop-test .taken in
+    let step = did told .step in
+    let lists = step .kept .1 .1 .1 in
+    let runs = sym (told .runs .ensures) ∙ not-false _ (c .if1 .left) in (
+      omega arith,
+      step .ensures .1 ∙ rw (goes-on _ runs) (inv .1),
+      left-more _ _ _ _ _ less (step .ensures .0) runs ∙ inv .2,
+      step .kept .1 .0 ∙ inv .3,
+      lists .0 ∙ inv .4,
+      lists .1 .0 ∙ inv .5,
+      lists .1 .1 .1 .0 ∙ inv .6,
+    )
+
+returns-2 : tie.Need-returns-2 Inv-loop μ-loop
+returns-2 c =
+    let out = c .before .before .before .before in
+    let inv = out .before .loop .inv in
+    let past = out .loop-test .left in
+    cut _ _ _ _ _ _ _ (inv .1) (inv .2) _ _ _ (omega arith) (c .before .before .record-at .ensures) (c .before .running .ensures)
+    (c .run-reply2 .ensures)
+
+pub zc-run-spec : {M : Type 1} → statement M
+zc-run-spec =
+    tie.close
+    (tie.spec
+    Inv-loop
+    μ-loop
+    (λ c. (omega arith, refl, sym (left-all _ _ _), refl, refl, refl, refl))
+    (λ c κs. search needs)
+    (λ c κs. search needs)
+    (λ c κs. let less = test (c .before) .loop-test .taken in search needs)
+    (λ c κs. search needs)
+    (λ c. let told = c .before .before .before in did told .step .kept .1 .0 ∙ test told .before .loop .inv .3)
+    (λ c. let told = c .before .before .before in did told .step .kept .1 .1 .1 .0 ∙ test told .before .loop .inv .4)
+    (λ c. let told = c .before .before .before in did told .step .kept .1 .1 .1 .1 .0 ∙ test told .before .loop .inv .5)
+    (λ c. let told = c .before .before .before in did told .step .kept .1 .1 .1 .1 .1 .1 .0 ∙ test told .before .loop .inv .6)
+    returns
+    (λ c. let less = test (c .before) .loop-test .taken in search needs)
+    (λ c. let less = test (c .before) .loop-test .taken in omega arith)
+    loop-again
+    (λ c κs. search needs)
+    (λ c κs. search needs)
+    (λ c κs. search needs)
+    (λ c. search needs)
+    (λ c. search needs)
+    (λ c. search needs)
+    (λ c. search needs)
+    returns-2)

@@ -1,0 +1,62 @@
+-- The answer: refused before the walk, by the walk, or found.
+use mathlib.Core.Path.{_≡_, refl, sym, ap, _∙_}
+use mathlib.Core.Bool.{Bool, true, false, not}
+use mathlib.Core.List.{List, [], _∷_}
+use Prim.Native.Nat.{ℕ, _≤_}
+use native.Mathlib.Omega.{arith}
+use lib.Dec.{ltb}
+use lib.ListN.{length}
+use borrow.Author.Tests.{ltb-false, ne-eqb}
+use Rattle.model.specs.Tables.{Tables}
+use Rattle.model.specs.Sound.{controlSound, rowsFit}
+use Rattle.model.specs.Walk.{contents, isBroken}
+use Rattle.model.specs.Refusals.{rule, first}
+use Rattle.walk.specs.declared.Tally.the-variants.{Broken, Labels}
+use Rattle.walk.proofs.Counting.{all-counted, none-counted}
+use Rattle.find_model.specs.declared.FindReply.{FindReply}
+use Rattle.find_model.specs.Find.{find, findRefusal, found, refused}
+use Rattle.find.specs.Looked.{Searched, refusalBefore}
+
+none-applies : (a b c : Bool) → refusalBefore a b c ≡ 0 → (a ≡ true) × (b ≡ false) × (c ≡ true)
+unfolding refusalBefore
+none-applies true false true e = (refl, refl, refl)
+none-applies true false false e = let z : ⊥ = omega arith in absurd z
+none-applies true true c e = let z : ⊥ = omega arith in absurd z
+none-applies false b c e = let z : ⊥ = omega arith in absurd z
+
+one-applies : (a b c d : Bool) → (refusalBefore a b c ≡ 0 → ⊥)
+    → first (rule 34 (not a) ∷ rule 45 b ∷ rule 12 (not c) ∷ rule 34 d ∷ []) ≡ refusalBefore a b c
+unfolding refusalBefore
+one-applies true false true d h = absurd (h refl)
+one-applies true false false d h = refl
+one-applies true true c d h = refl
+one-applies false b c d h = refl
+
+module _ (q : Tables) (asked : List ℕ) where
+  abbrev pub why : ℕ
+  why = refusalBefore (controlSound (q .control)) (ltb 32 (length asked)) (rowsFit (q .control .slots) q)
+
+  pub turned-away : (n : ℕ) → n ≡ why → (n ≡ 0 → ⊥) → refused n ≡ find q asked
+  unfolding find findRefusal
+  turned-away n e h =
+      let fits = rowsFit (q .control .slots) q in
+      let r = one-applies (controlSound (q .control)) (ltb 32 (length asked)) fits (isBroken (contents q)) (λ z. h (e ∙ z)) ∙ sym e in
+      rw (r, ne-eqb n 0 h)
+
+  module _ (n : ℕ) (e : n ≡ why) (z : n ≡ 0) where
+    passed : (controlSound (q .control) ≡ true) × (ltb 32 (length asked) ≡ false) × (rowsFit (q .control .slots) q ≡ true)
+    passed = none-applies _ _ _ (sym e ∙ z)
+
+    pub few : length asked ≤ 32
+    few = ltb-false 32 (length asked) (passed .1)
+
+    pub lost : (after : List ℕ) → Searched asked (contents q) Broken after → refused 34 ≡ find q asked
+    unfolding find findRefusal
+    lost after s = rw (passed .0, passed .1, passed .2, none-counted (contents q) (s .tally))
+
+    pub finds : (m : ℕ) (after : List ℕ) → Searched asked (contents q) (Labels m) after
+        → _≡_ {A = FindReply} (record { code = 0; rows = m; positions = after }) (find q asked)
+    unfolding find findRefusal found
+    finds m after s =
+        let g = all-counted (contents q) m (s .tally) in
+        rw (passed .0, passed .1, passed .2, g .0, g .1, s .positions (g .0))

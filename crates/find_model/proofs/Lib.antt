@@ -1,0 +1,3 @@
+-- After any list following an opening; and what the walk's order does to a position.
+pub mod Standing
+pub mod Positions

@@ -1,0 +1,30 @@
+-- The positions as a walk finds them, slot by slot, k counting the slots met.
+use mathlib.Core.Bool.{Bool, _&&_, _||_, not, cond}
+use mathlib.Core.List.{List, [], _∷_}
+use Prim.Native.Nat.{ℕ, _+_, _-_}
+use lib.Dec.{eqb}
+use Rattle.model.specs.declared.Entry.{Entry}
+use Rattle.model.specs.Sound.{from1}
+use Rattle.model.specs.Walk.{Walk, entries, broken}
+
+-- What is noted for label x when the k-th slot holds label y and p was noted before: k, or p. Early: the first of equals counts, else the last.
+abbrev pub pick : Bool → ℕ → ℕ → ℕ → ℕ → ℕ
+pick early x y k p = cond (eqb y x && (not early || eqb p 0)) k p
+
+-- For each label asked for.
+abbrev pub note : Bool → ℕ → ℕ → List ℕ → List ℕ → List ℕ
+note early y k [] ps = ps
+note early y k (x ∷ asked) [] = []
+note early y k (x ∷ asked) (p ∷ ps) = pick early x y k p ∷ note early y k asked ps
+
+abbrev pub notes : Bool → List ℕ → ℕ → List ℕ → List Entry → List ℕ
+notes early asked k ps [] = ps
+notes early asked k ps (e ∷ l) = notes early asked (k + 1) (note early (e .label) k asked ps) l
+
+abbrev pub noting : Bool → List ℕ → ℕ → List ℕ → Walk → List ℕ
+noting early asked k ps (entries l) = notes early asked k ps l
+noting early asked k ps broken = []
+
+-- A position counted from the other end of so many rows.
+abbrev pub turned : ℕ → ℕ → ℕ
+turned rows p = cond (from1 rows p) (rows + 1 - p) p

@@ -1,0 +1,43 @@
+use mathlib.Core.Bool.{_&&_}
+use mathlib.Core.Path.{sym, ap, _∙_}
+use borrow.Author.Tests.{not-true, not-false}
+use Rattle.sheet_model.proofs.Judged.{early-34, early-46, early-12, early-0}
+use borrow.Author.Needs.{needs}
+use Rattle.order.proofs.early.Statement.{statement}
+use Rattle.order.proofs.early.Tie as tie
+
+returns : tie.Need-returns
+returns c = early-34 _ _ _ (sym (c .before .control-sound .ensures) ∙ not-true _ (c .if1 .taken))
+
+returns-2 : tie.Need-returns-2
+returns-2 c =
+    early-46 _ _ _ (sym (c .before .before .before .control-sound .ensures) ∙ not-false _ (c .before .before .if1 .left))
+    (sym (c .before .malformed .ensures) ∙ c .if2 .taken)
+
+returns-3 : tie.Need-returns-3
+returns-3 c =
+    let p4 = c .before .before .before .before in
+    let p8 = p4 .before .before .before .before in
+    early-12 _ _ _ (sym (p4 .before .control-sound .ensures) ∙ not-false _ (p4 .if1 .left))
+    (sym (c .before .before .before .malformed .ensures) ∙ c .before .before .if2 .left)
+    (ap (λ b. b && p8 .args .enough) (sym (c .before .rows-fit .ensures)) ∙ not-true _ (c .if3 .taken))
+
+returns-4 : tie.Need-returns-4
+returns-4 c =
+    let p4 = c .before .before .before .before in
+    let p8 = p4 .before .before .before .before in
+    early-0 _ _ _ (sym (p4 .before .control-sound .ensures) ∙ not-false _ (p4 .if1 .left))
+    (sym (c .before .before .before .malformed .ensures) ∙ c .before .before .if2 .left)
+    (ap (λ b. b && p8 .args .enough) (sym (c .before .rows-fit .ensures)) ∙ not-false _ (c .if3 .left))
+
+pub early-spec : {M : Type 1} → statement M
+early-spec =
+    tie.close
+    (tie.spec
+    (λ c κs. search needs)
+    returns
+    (λ c κs. search needs)
+    returns-2
+    (λ c κs. search needs)
+    returns-3
+    returns-4)

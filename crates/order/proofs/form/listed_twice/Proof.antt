@@ -1,0 +1,68 @@
+use Prim.Native.Nat.{ℕ, _≤_, _-_, _+_, _<_}
+use mathlib.Core.Path.{_≡_, refl, sym, ap, _∙_}
+use lib.ListN.{length, drop, getD}
+use borrow.Author.Needs.{needs}
+use Rattle.sheet_model.specs.Sheet.{twice}
+use Rattle.sheet_model.proofs.Turns.{twice-here, twice-on, twice-end}
+use Rattle.order.proofs.form.listed_twice.Statement.{statement}
+use Rattle.order.proofs.form.listed_twice.Tie as tie
+
+abbrev Inv-loop : tie.InvT-loop
+Inv-loop listed n i₀ i =
+    (i ≤ length listed) × (twice (drop i listed) ≡ twice listed)
+
+abbrev μ-loop : tie.MeasureT-loop
+μ-loop listed n i₀ i = length listed - i
+
+loop-holds : tie.Need-loop-holds Inv-loop μ-loop
+loop-holds c = (search needs, refl)
+
+add-place-from : tie.Need-add-place-from Inv-loop μ-loop
+add-place-from c = search needs
+
+mul-place-from : tie.Need-mul-place-from Inv-loop μ-loop
+mul-place-from c = search needs
+
+shared-slice-read-place-from : tie.Need-shared-slice-read-place-from Inv-loop μ-loop
+shared-slice-read-place-from c = search needs
+
+place-from-requires : tie.Need-place-from-requires Inv-loop μ-loop
+place-from-requires c κs = search needs
+
+returns : tie.Need-returns Inv-loop μ-loop
+returns c =
+    twice-here _ (c .before .before .before .before .loop .i) (c .before .place-from .result) (search needs)
+    (c .before .before .before .before .loop .inv .1) (c .before .place-from .ensures) (search needs)
+
+add-i : tie.Need-add-i Inv-loop μ-loop
+add-i c = search needs
+
+loop-less : tie.Need-loop-less Inv-loop μ-loop
+loop-less c = search needs
+
+loop-again : tie.Need-loop-again Inv-loop μ-loop
+loop-again c = (
+  search needs,
+  twice-on _ (c .before .before .before .before .loop .i) (c .before .place-from .result) (search needs)
+      (c .before .before .before .before .loop .inv .1) (c .before .place-from .ensures) (search needs),
+)
+
+returns-2 : tie.Need-returns-2 Inv-loop μ-loop
+returns-2 c = twice-end _ (c .before .loop .i) (search needs) (c .before .loop .inv .1)
+
+pub listed-twice-spec : {M : Type 1} → statement M
+listed-twice-spec =
+    tie.close
+    (tie.spec
+    Inv-loop
+    μ-loop
+    loop-holds
+    add-place-from
+    mul-place-from
+    shared-slice-read-place-from
+    place-from-requires
+    returns
+    add-i
+    loop-less
+    loop-again
+    returns-2)

@@ -1,0 +1,55 @@
+use Prim.Native.Nat.{ℕ, _≤_, _-_, _+_, _<_}
+use mathlib.Core.Path.{_≡_, refl, sym, _∙_}
+use lib.ListN.{length, drop, getD}
+use borrow.Author.Needs.{needs}
+use Rattle.sheet_model.specs.Squares.{sweep, ored, joinRow}
+use Rattle.sheet_model.proofs.Turns.{sweep-on, sweep-end}
+use Rattle.order.proofs.square.join_row.Statement.{statement}
+use Rattle.order.proofs.square.join_row.Tie as tie
+
+abbrev Inv-loop : tie.InvT-loop
+Inv-loop via joined₀ j₀ joined j =
+    (j ≤ 32) × (sweep 0 (ored via) j (32 - j) joined ≡ joinRow via joined₀)
+
+abbrev μ-loop : tie.MeasureT-loop
+μ-loop via joined₀ j₀ joined j = 32 - j
+
+loop-holds : tie.Need-loop-holds Inv-loop μ-loop
+unfolding joinRow
+loop-holds c = (search needs, refl)
+
+array-read-joined : tie.Need-array-read-joined Inv-loop μ-loop
+array-read-joined c = search needs
+
+array-read-joined-2 : tie.Need-array-read-joined-2 Inv-loop μ-loop
+array-read-joined-2 c = search needs
+
+array-write-joined : tie.Need-array-write-joined Inv-loop μ-loop
+array-write-joined c = search needs
+
+add-j : tie.Need-add-j Inv-loop μ-loop
+add-j c = search needs
+
+loop-less : tie.Need-loop-less Inv-loop μ-loop
+loop-less c = search needs
+
+loop-again : tie.Need-loop-again Inv-loop μ-loop
+loop-again c = (search needs, sym (sweep-on 32 (c .before .loop .j) 0 (ored (c .before .before .args .t1)) _ (search needs)) ∙ c .before .loop .inv .1)
+
+returns : tie.Need-returns Inv-loop μ-loop
+returns c = sym (sweep-end 32 (c .before .loop .j) 0 (ored (c .before .before .args .t1)) _ (search needs)) ∙ c .before .loop .inv .1
+
+pub join-row-spec : {M : Type 1} → statement M
+join-row-spec =
+    tie.close
+    (tie.spec
+    Inv-loop
+    μ-loop
+    loop-holds
+    array-read-joined
+    array-read-joined-2
+    array-write-joined
+    add-j
+    loop-less
+    loop-again
+    returns)

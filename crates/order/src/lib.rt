@@ -1,0 +1,140 @@
+//! The order sheet: whether the labels waiting keep its chained rules.
+use model::Control;
+use sheet_model::SheetReply;
+ghost use mathlib.Core.Path.{_≡_};
+ghost use mathlib.Core.Bool.{true, _&&_};
+ghost use lib.ListN.{length};
+ghost use Rattle.model.specs.Tables.{tablesOf};
+ghost use Rattle.model.specs.Sound.{controlSound};
+ghost use Rattle.sound.specs.Lengths.{lengthsFit};
+ghost use Rattle.sheet_model.specs.Sheet.{malformed};
+ghost use Rattle.sheet_model.specs.Verdict.{refused, early, sheet, Printed, sheetWords};
+
+mod extents;
+mod form;
+mod search;
+mod square;
+mod words;
+
+/// A refusal is its number alone.
+fn refused(number: u64) -> SheetReply
+    ensures { λ r. ⌜ r ≡ refused number ⌝ }
+{
+    SheetReply {
+        code: number,
+        first: 0,
+        second: 0,
+    }
+}
+
+/// What stands before the walk: 34 for control and Anchor, 46, 12.
+fn early(
+    c: Control,
+    listed: &[u32],
+    rules: &[u32],
+    enough: bool,
+    lefts: usize,
+    rights: usize,
+    labels: usize,
+    marks: usize,
+) -> u64
+    ensures { λ r.
+        ⌜ r ≡ early
+        (controlSound c)
+        (malformed (record { listed = now (listed .entry); rules = now (rules .entry) }))
+        (lengthsFit (c .slots) lefts rights labels marks && enough) ⌝ }
+{
+    if !sound::control_sound(c) {
+        return 34;
+    }
+    if form::malformed(listed, rules) {
+        return 46;
+    }
+    let fits = sound::rows_fit(c.slots, lefts, rights, labels, marks);
+    if !(fits & enough) {
+        return 12;
+    }
+    0
+}
+
+/// Kept, or the first broken pair, by first then second place in the sheet.
+pub fn sheet(
+    c: Control,
+    listed: &[u32],
+    rules: &[u32],
+    lefts: &[u64],
+    rights: &[u64],
+    labels: &[u32],
+    marks: &[u64],
+) -> SheetReply
+    ensures { λ r.
+        ⌜ r ≡ sheet
+        (tablesOf c (now (lefts .entry)) (now (rights .entry)) (now (labels .entry)) (now (marks .entry)))
+        (record { listed = now (listed .entry); rules = now (rules .entry) }) ⌝ }
+{
+    let why = early(
+        c,
+        listed,
+        rules,
+        true,
+        lefts.len(),
+        rights.len(),
+        labels.len(),
+        marks.len(),
+    );
+    if why != 0 {
+        return refused(why);
+    }
+    let e = extents::extents(c, listed, lefts, rights, labels);
+    if !e.sound {
+        return refused(34);
+    }
+    let n = listed.len();
+    let square = square::closure(rules, n);
+    let low = e.low;
+    let high = e.high;
+    search::first_broken(square, n, low, high)
+}
+
+/// The sheet on a smaller printer: the same answer, with 32 lent words for the chained rules in the
+/// square's place.
+pub fn sheet_words(
+    c: Control,
+    listed: &[u32],
+    rules: &[u32],
+    lent: &mut [u32],
+    lefts: &[u64],
+    rights: &[u64],
+    labels: &[u32],
+    marks: &[u64],
+) -> SheetReply
+    ensures { λ r.
+        ⌜ _≡_ {A = Printed} (record { reply = r; words = now (lent .exit) })
+        (sheetWords
+        (tablesOf c (now (lefts .entry)) (now (rights .entry)) (now (labels .entry)) (now (marks .entry)))
+        (record { listed = now (listed .entry); rules = now (rules .entry) })
+        (now (lent .entry))) ⌝ }
+{
+    let why = early(
+        c,
+        listed,
+        rules,
+        32 <= lent.len(),
+        lefts.len(),
+        rights.len(),
+        labels.len(),
+        marks.len(),
+    );
+    if why != 0 {
+        return refused(why);
+    }
+    let e = extents::extents(c, listed, lefts, rights, labels);
+    if !e.sound {
+        return refused(34);
+    }
+    let n = listed.len();
+    words::closure(lent, rules, n);
+    let low = e.low;
+    let high = e.high;
+    words::first_broken(lent, n, low, high)
+}

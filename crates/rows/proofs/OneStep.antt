@@ -1,0 +1,110 @@
+-- A step over rows: what its parts say comes to what the step means.
+use mathlib.Core.Path.{_≡_, refl, sym, ap, _∙_}
+use mathlib.Core.Bool.{Bool, true, false, cond}
+use mathlib.Core.List.{List, []}
+use Prim.Native.Nat.{ℕ, _<_, _≤_}
+use native.Mathlib.Omega.{arith}
+use lib.Dec.{leb, ltb}
+use lib.ListN.{length, getD, set}
+use lib.Seq.{set-getD}
+use borrow.Author.Tests.{leb-true, ltb-true}
+use Rattle.model.specs.declared.Control.{Control}
+use Rattle.model.specs.declared.Record.{Record}
+use Rattle.model.specs.declared.Outcome.{Outcome}
+use Rattle.model.specs.declared.Outcome.the-variants.{Refused}
+use Rattle.model.specs.declared.Op.the-variants.{Step}
+use Rattle.model.specs.Tables.{Tables, Queue, tablesOf, recordAt, idle}
+use Rattle.model.specs.Ends.{endsCall}
+use Rattle.model.specs.Sound.{rowsFit}
+use Rattle.model.specs.Refusals.{Lent, among}
+use Rattle.model.specs.Calls.{Acted, Done, back, act, actOn}
+use Rattle.table.specs.declared.Acted.{Acted as Moved}
+use Rattle.table.specs.Lent.{withTables}
+use Rattle.sound.specs.Lengths.{lengthsFit}
+use Rattle.engine.specs.Parts.{admission, moveOn}
+use Rattle.engine.specs.Stored.{controlAfter, recordAfter}
+use Rattle.engine.proofs.Stored.{stored}
+use Rattle.engine.proofs.Whole.{turned-away, admitted, task-there}
+use Rattle.rows.specs.Rows.{controlOf, recordOf, recordsOf, upperOf, uppersOf, queueIn}
+use Rattle.rows.proofs.Rows.{length-records, record-read, upper-read, record-put, upper-put}
+
+module _ (ws : List ℕ) (rows : List (List ℕ)) (lefts rights labels marks : List ℕ) (task : ℕ) where
+  abbrev entry : Tables
+  entry = tablesOf (controlOf ws) lefts rights labels marks
+
+  abbrev queue : Queue
+  queue = queueIn ws rows lefts rights labels marks
+
+  abbrev r₀ : Record
+  r₀ = recordAt queue task
+
+  abbrev row₀ : List ℕ
+  row₀ = getD rows task []
+
+  -- Whether tables of these lengths are long enough for a control; how the task's record is lent, seen from the rows.
+  abbrev fit : Control → Bool
+  fit c = lengthsFit (c .slots) (length lefts) (length rights) (length labels) (length marks)
+
+  abbrev pub lent : Control → ℕ → Lent
+  lent c n = record { enough = leb (c .tasks) n; known = ltb task (c .tasks) }
+
+  pub lent-among : (c : Control) (n : ℕ) → c ≡ controlOf ws → n ≡ length rows → lent c n ≡ among queue task
+  lent-among c n ec en =
+      ap (λ (d : Control). lent d n) ec ∙ ap (lent (controlOf ws)) (en ∙ sym (length-records rows))
+
+  abbrev pub fault : ℕ
+  fault = admission (controlOf ws) (fit (controlOf ws)) (among queue task)
+
+  pub asked : (c : Control) (n why : ℕ) → c ≡ controlOf ws → n ≡ length rows → why ≡ admission c (fit c) (lent c n) → why ≡ fault
+  asked c n why ec en e =
+      e
+      ∙ ap (admission c (fit c)) (lent-among c n ec en)
+      ∙ ap (λ (d : Control). admission d (fit d) (among queue task)) ec
+
+  -- Not admitted: the number alone.
+  abbrev Steps : List ℕ → List (List ℕ) → List ℕ → List ℕ → List ℕ → Outcome → Type 0
+  Steps ws′ rows′ lefts′ rights′ marks′ o =
+      (_≡_ {A = Done} (record { queue = queueIn ws′ rows′ lefts′ rights′ labels marks′; outcome = o }) (act queue task Step))
+      × (uppersOf rows′ ≡ cond (endsCall o) (set (uppersOf rows) task 0) (uppersOf rows))
+
+  pub refused : (why : ℕ) (o : Outcome) → why ≡ fault → (why ≡ 0 → ⊥) → o ≡ Refused why → Steps ws rows lefts rights marks o
+  unfolding act actOn rowsFit lengthsFit
+  refused why o e h eo =
+      let same : _≡_ {A = Done} (record { queue = queue; outcome = o }) (act queue task Step) =
+      ap (λ (u : Outcome). record { queue = queue; outcome = u }) eo
+      ∙ ap (λ (l : List Record). record { queue = record { tables = entry; records = l }; outcome = Refused why })
+      (sym (set-getD (recordsOf rows) task idle))
+      ∙ ap (back queue task) (turned-away entry (among queue task) r₀ why e h) in
+      (same, rw eo)
+
+  -- An admitted task has a record.
+  pub there : fault ≡ 0 → task < length rows
+  unfolding rowsFit lengthsFit
+  there e =
+      let both = task-there entry (among queue task) r₀ e in
+      let enough : controlOf ws .tasks ≤ length (recordsOf rows) = leb-true _ _ (both .0) in
+      let known : task < controlOf ws .tasks = ltb-true _ _ (both .1) in
+      omega (arith, enough, known, length-records rows)
+
+  kept-upper : (b : Bool) → set (uppersOf rows) task (cond b 0 (upperOf row₀)) ≡ cond b (set (uppersOf rows) task 0) (uppersOf rows)
+  kept-upper true = refl
+  kept-upper false = ap (set (uppersOf rows) task) (upper-read rows task) ∙ set-getD (uppersOf rows) task 0
+
+  -- Admitted: what it may change is stored.
+  pub stepped : (ws′ row′ lefts′ rights′ marks′ : List ℕ) (c : Control) (r : Record) (m : Moved)
+      → c ≡ controlOf ws → r ≡ recordOf row₀ → fault ≡ 0
+      → withTables m lefts′ rights′ labels marks′ ≡ moveOn (tablesOf c lefts rights labels marks) r
+      → controlOf ws′ ≡ controlAfter (controlOf ws) m → recordOf row′ ≡ recordAfter (recordOf row₀) m
+      → upperOf row′ ≡ cond (endsCall (m .outcome)) 0 (upperOf row₀)
+      → Steps ws′ (set rows task row′) lefts′ rights′ marks′ (m .outcome)
+  unfolding act actOn rowsFit lengthsFit
+  stepped ws′ row′ lefts′ rights′ marks′ c r m ec er f e e1 e2 e3 =
+      let e′ : withTables m lefts′ rights′ labels marks′ ≡ moveOn entry r₀ =
+      e
+      ∙ ap (λ (d : Control). moveOn (tablesOf d lefts rights labels marks) r) ec
+      ∙ ap (moveOn entry) (er ∙ record-read rows task) in
+      let left = stored entry (among queue task) r₀ m lefts′ rights′ labels marks′ (e′ ∙ admitted entry (among queue task) r₀ f) in
+      let put : recordsOf (set rows task row′) ≡ set (recordsOf rows) task (recordAfter r₀ m) =
+      record-put rows task row′
+      ∙ ap (set (recordsOf rows) task) (e2 ∙ ap (λ (t : Record). recordAfter t m) (record-read rows task)) in
+      (rw (e1, put) (ap (back queue task) left), upper-put rows task row′ ∙ ap (set (uppersOf rows) task) e3 ∙ kept-upper (endsCall (m .outcome)))

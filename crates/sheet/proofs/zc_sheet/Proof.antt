@@ -1,0 +1,20 @@
+use mathlib.Core.Path.{ap, _∙_}
+use Rattle.model.specs.declared.Control.{Control}
+use Rattle.model.specs.Tables.{tablesOf}
+use Rattle.sheet_model.specs.Sheet.{Sheet}
+use Rattle.sheet_model.specs.Verdict.{sheet}
+use borrow.Author.Needs.{needs}
+use Rattle.sheet.proofs.zc_sheet.Statement.{statement}
+use Rattle.sheet.proofs.zc_sheet.Tie as tie
+
+returns : tie.Need-returns
+returns c =
+    let p4 = c .before .before .before .before in
+    let p8 = p4 .before .before .before .before in
+    let s : Sheet = record { listed = p8 .before .args .listed .now; rules = p8 .before .args .rules .now } in
+    c .sheet .ensures ∙ ap (λ (k : Control). sheet
+    (tablesOf k (p8 .before .args .lefts .now) (p8 .before .args .rights .now) (p8 .before .args .labels .now) (p8 .before .args .marks .now)) s)
+    (c .before .control-of .ensures)
+
+pub zc-sheet-spec : {M : Type 1} → statement M
+zc-sheet-spec = tie.close (tie.spec (λ c κs. search needs) (λ c κs. search needs) returns)

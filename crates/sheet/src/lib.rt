@@ -1,0 +1,51 @@
+//! The order sheet for C and Rust: the calls of crate `order`, with control lent as C lends it.
+use sheet_model::SheetReply;
+ghost use mathlib.Core.Path.{_≡_};
+ghost use Rattle.model.specs.Tables.{tablesOf};
+ghost use Rattle.rows.specs.Rows.{controlOf};
+ghost use Rattle.sheet_model.specs.Verdict.{sheet, Printed, sheetWords};
+
+/// The order sheet.
+#[no_mangle]
+pub extern "C" fn zc_sheet(
+    control: &[u64; rows::CONTROL_WORDS],
+    listed: &[u32],
+    rules: &[u32],
+    lefts: &[u64],
+    rights: &[u64],
+    labels: &[u32],
+    marks: &[u64],
+) -> SheetReply
+    ensures { λ r.
+        ⌜ r ≡ sheet
+        (tablesOf (controlOf (now (control .entry))) (now (lefts .entry)) (now (rights .entry)) (now (labels .entry)) (now (marks .entry)))
+        (record { listed = now (listed .entry); rules = now (rules .entry) }) ⌝ }
+{
+    let row = *control;
+    let c = rows::control_of(row);
+    order::sheet(c, listed, rules, lefts, rights, labels, marks)
+}
+
+/// The sheet on a smaller printer: the chained rules are kept in the 32 lent words.
+#[no_mangle]
+pub extern "C" fn zc_sheet_words(
+    control: &[u64; rows::CONTROL_WORDS],
+    listed: &[u32],
+    rules: &[u32],
+    words: &mut [u32],
+    lefts: &[u64],
+    rights: &[u64],
+    labels: &[u32],
+    marks: &[u64],
+) -> SheetReply
+    ensures { λ r.
+        ⌜ _≡_ {A = Printed} (record { reply = r; words = now (words .exit) })
+        (sheetWords
+        (tablesOf (controlOf (now (control .entry))) (now (lefts .entry)) (now (rights .entry)) (now (labels .entry)) (now (marks .entry)))
+        (record { listed = now (listed .entry); rules = now (rules .entry) })
+        (now (words .entry))) ⌝ }
+{
+    let row = *control;
+    let c = rows::control_of(row);
+    order::sheet_words(c, listed, rules, words, lefts, rights, labels, marks)
+}

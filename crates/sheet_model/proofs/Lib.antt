@@ -1,0 +1,14 @@
+pub mod Chained
+pub mod Turns
+pub mod ListOf
+pub mod Square
+pub mod ByteRows
+pub mod BitRows
+pub mod Crossing
+pub mod Noted
+pub mod Broken
+pub mod Gather
+pub mod Judged
+pub mod Printed
+pub mod Laws
+pub mod Worked

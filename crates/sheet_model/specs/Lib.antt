@@ -1,0 +1,5 @@
+pub mod Sheet
+pub mod Verdict
+pub mod Squares
+pub mod Extents
+pub mod Laws

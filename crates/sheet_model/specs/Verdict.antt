@@ -1,0 +1,71 @@
+-- What a sheet is answered. (Document 02, #111 and #112.)
+use mathlib.Core.Bool.{Bool, true, _&&_, not, cond}
+use mathlib.Core.List.{List, [], _∷_, _++_}
+use Prim.Native.Nat.{ℕ, zero, suc, _+_}
+use lib.Dec.{eqb, leb}
+use lib.ListN.{length, drop}
+use Rattle.model.specs.declared.Entry.{Entry}
+use Rattle.model.specs.Tables.{Tables}
+use Rattle.model.specs.Sound.{controlSound, rowsFit}
+use Rattle.model.specs.Refusals.{Rule, rule, first}
+use Rattle.model.specs.Walk.{contents, isBroken, met}
+use Rattle.sheet_model.specs.declared.SheetReply.{SheetReply}
+use Rattle.sheet_model.specs.Squares.{linked, wordsOf}
+use Rattle.sheet_model.specs.Sheet.{Sheet, malformed, breaks}
+
+abbrev pub refused : ℕ → SheetReply
+refused number = record { code = number; first = 0; second = 0 }
+
+abbrev pub kept : SheetReply
+kept = record { code = 0; first = 0; second = 0 }
+
+abbrev pub brokenBy : ℕ → ℕ → SheetReply
+brokenBy a b = record { code = 0; first = a; second = b }
+
+-- The first broken pair with first place a and one of n second places from b on; else another answer.
+unfoldable pub inRow : (ℕ → ℕ → Bool) → ℕ → ℕ → ℕ → SheetReply → SheetReply
+inRow p a b zero other = other
+inRow p a b (suc n) other = cond (p a b) (brokenBy a b) (inRow p a (b + 1) n other)
+
+-- The same among n first places from a on, each with m second places from 1 on.
+unfoldable pub inRows : (ℕ → ℕ → Bool) → ℕ → ℕ → ℕ → SheetReply
+inRows p m a zero = kept
+inRows p m a (suc n) = inRow p a 1 m (inRows p m (a + 1) n)
+
+-- Kept, or the first broken pair, by first then second place in the sheet.
+unfoldable pub verdict : Sheet → List Entry → SheetReply
+verdict s l = inRows (breaks s l) (length (s .listed)) 1 (length (s .listed))
+
+-- 34 for control and Anchor, 46, 12, and 34 for the walk. Enough: the words that #112 lends.
+abbrev pub sheetRules : Tables → Sheet → Bool → List Rule
+sheetRules q s enough =
+    rule 34 (not (controlSound (q .control)))
+    ∷ rule 46 (malformed s)
+    ∷ rule 12 (not (rowsFit (q .control .slots) q && enough))
+    ∷ rule 34 (isBroken (contents q))
+    ∷ []
+
+-- What stands before the walk.
+unfoldable pub early : Bool → Bool → Bool → ℕ
+early sound bad fit = first (rule 34 (not sound) ∷ rule 46 bad ∷ rule 12 (not fit) ∷ [])
+
+unfoldable pub judge : Tables → Sheet → Bool → SheetReply
+judge q s enough =
+    let why = first (sheetRules q s enough) in
+    cond (eqb why 0) (verdict s (met (contents q))) (refused why)
+
+-- The order sheet, #111.
+unfoldable pub sheet : Tables → Sheet → SheetReply
+sheet q s = judge q s true
+
+-- The sheet on a smaller printer, #112: what it answers, and the lent words then.
+pub record Printed : Type 0 where
+  pub reply : SheetReply
+  pub words : List ℕ
+
+-- Kept or broken, the first 32 words hold the chained rules; a refusal leaves the words.
+unfoldable pub sheetWords : Tables → Sheet → List ℕ → Printed
+sheetWords q s words =
+    let r = judge q s (leb 32 (length words)) in
+    let n = length (s .listed) in
+    record { reply = r; words = cond (eqb (r .code) 0) (wordsOf (linked (s .rules) n) ++ drop 32 words) words }

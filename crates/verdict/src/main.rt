@@ -1,0 +1,72 @@
+//! Tells the verdict on the history on standard input, a text. `historyfile` reads and judges it.
+mod tell;
+
+use historyfile::judge;
+ghost use mathlib.Core.Path.{_≡_};
+ghost use Prim.Native.Nat.{_≤_};
+ghost use lib.ListN.{length};
+
+/// What was read: how many bytes there are.
+pub struct Input {
+    pub have: usize,
+    pub failed: bool,
+}
+
+// Reads once behind the first `have` bytes; as many as before at the end of the input.
+fn read_more(input: &mut [u8], have: usize) -> Input
+    requires { ⌜ have ≤ length (now input) ⌝ }
+    ensures { λ r. ⌜ r .have ≤ length (now (input .entry)) ⌝ }
+{
+    let got = libc::read(0, &mut input[have..]);
+    let n = have + io::count(got, &input[have..]);
+    Input {
+        have: n,
+        failed: got < 0,
+    }
+}
+
+// Reads to the end of the input, or as much as there is room for.
+fn read_all(input: &mut [u8]) -> Input
+    ensures { λ r. ⌜ r .have ≤ length (now (input .entry)) ⌝ }
+{
+    let mut have = 0;
+    // Each turn leaves less room, or is the last.
+    while have < input.len() {
+        let more = read_more(input, have);
+        let n = more.have;
+        if more.failed | (n <= have) {
+            return more;
+        }
+        have = n;
+    }
+    Input {
+        have: have,
+        failed: false,
+    }
+}
+
+// A buffer that is full may not hold all of the input.
+fn judge_input(input: &mut [u8], values: &mut [u64]) -> bool {
+    let all = read_all(input);
+    if all.failed {
+        return io::write_all(2, b"verdict: cannot read\n");
+    }
+    let n = all.have;
+    if n == input.len() {
+        return io::write_all(2, b"verdict: longer than 65535 bytes\n");
+    }
+    let j = judge::judge(&input[..n], values);
+    tell::tell(j)
+}
+
+fn main() {
+    if os::arg_count() > 1 {
+        tell::help();
+        return;
+    }
+    let mut input = io::large_buffer();
+    let mut values = [0u64; 1024];
+    if !judge_input(&mut input, &mut values) {
+        io::write_all(2, b"verdict: cannot write\n");
+    }
+}

@@ -1,8 +1,0 @@
-//! Names the folder of libcapi.a and libcapi_record.a to the linker.
-fn main() {
-    let folder = std::env::var("ZC_FOLDER").expect("ZC_FOLDER: the folder of the two archives");
-    println!("cargo:rerun-if-env-changed=ZC_FOLDER");
-    println!("cargo:rerun-if-changed={folder}/libcapi.a");
-    println!("cargo:rerun-if-changed={folder}/libcapi_record.a");
-    println!("cargo:rustc-link-search=native={folder}");
-}

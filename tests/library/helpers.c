@@ -1,0 +1,126 @@
+/*
+ * The header's helpers over an open queue: storage, a free slot, finish, drain and refill, and what
+ * they answer where the tables are damaged.
+ */
+#include "zeppolecape.h"
+
+#include <stdio.h>
+
+enum { TASKS = 3, SLOTS = 130 };
+ZC_QUEUE_STORAGE(queue, TASKS, SLOTS);
+
+static unsigned passed, failed;
+
+static void is(const char *what, uint64_t found, uint64_t expected)
+{
+    if (found == expected) {
+        passed++;
+        return;
+    }
+    failed++;
+    printf("FAILED %s: %llu, expected %llu\n", what, (unsigned long long)found,
+           (unsigned long long)expected);
+}
+
+static void storage(void)
+{
+    is("records lent", queue.record_count, TASKS);
+    is("rows lent", queue.left_count + queue.right_count + queue.label_count, 3 * 131);
+    is("mark words lent", queue.mark_count, 3);
+    is("more tasks than there is storage for", zc_queue_open(&queue, TASKS + 1, SLOTS, 0), ZC_SHORT);
+    is("more slots than there is storage for", zc_queue_open(&queue, TASKS, SLOTS + 1, 0), ZC_SHORT);
+    is("opening", zc_queue_open(&queue, TASKS, SLOTS, 0), 0);
+}
+
+static void free_slot(void)
+{
+    zc_queue_open(&queue, TASKS, SLOTS, 0);
+    is("the first free slot", zc_queue_free_slot(&queue), 1);
+    for (uint64_t slot = 1; slot <= SLOTS; slot++) {
+        queue_tables.marks[slot / 64] |= UINT64_C(1) << (slot % 64);
+        is("the next free slot", zc_queue_free_slot(&queue), slot < SLOTS ? slot + 1 : 0);
+    }
+    queue_tables.marks[1] = ~UINT64_C(4);
+    is("a slot given back", zc_queue_free_slot(&queue), 66);
+    zc_queue cut = queue;
+    cut.mark_count = 1;
+    is("the lent marks alone are looked at", zc_queue_free_slot(&cut), 0);
+}
+
+static void finish(void)
+{
+    zc_queue_open(&queue, TASKS, SLOTS, 0);
+    is("an idle task", zc_queue_finish(&queue, 0).code, ZC_IDLE);
+    is("no such task", zc_queue_finish(&queue, TASKS).code, ZC_NO_TASK);
+    zc_queue_push(&queue, 0, ZC_RIGHT, 7, 70);
+    is("a push", zc_queue_finish(&queue, 0).code, ZC_PUSHED);
+    zc_queue_pop(&queue, 1, ZC_RIGHT);
+    zc_reply reply = zc_queue_finish(&queue, 1);
+    is("a pop", reply.code, ZC_POPPED);
+    is("its slot and label", zc_slot(reply) * 1000 + zc_label(reply), 7070);
+    zc_queue_pop(&queue, 1, ZC_RIGHT);
+    is("a pop of nothing", zc_queue_finish(&queue, 1).code, ZC_EMPTY);
+    is("any call's code", (uint64_t)zc_is_refusal(zc_queue_report(&queue).code), 0);
+    queue_tables.control.slots = 0;
+    is("damaged tables", zc_queue_finish(&queue, 1).code, ZC_UNSOUND);
+    is("a refused report's code", (uint64_t)zc_is_refusal(zc_queue_report(&queue).code), 1);
+}
+
+/* Task 0 is stopped in a push that is in the queue, task 1 in a pop that has taken a label. */
+static void drain(void)
+{
+    zc_reply answers[TASKS];
+    uint32_t labels[SLOTS];
+    const uint32_t first[] = {10, 20, 30};
+    zc_queue_open(&queue, TASKS, SLOTS, 0);
+    is("refill", zc_queue_refill(&queue, 2, first, 3), 0);
+    zc_queue_push(&queue, 0, ZC_LEFT, 100, 5);
+    while (queue_tables.records[0].place != 5)
+        zc_queue_step(&queue, 0);
+    zc_queue_pop(&queue, 1, ZC_RIGHT);
+    while (queue_tables.records[1].place != 11)
+        zc_queue_step(&queue, 1);
+    is("labels drained", zc_queue_drain(&queue, answers, labels), 3);
+    is("in order", labels[0] * 10000 + labels[1] * 100 + labels[2], 51020);
+    is("the push's answer", answers[0].code, ZC_PUSHED);
+    is("the pop's answer", answers[1].code * 100 + zc_label(answers[1]), ZC_POPPED * 100 + 30);
+    is("no answer of an idle task", answers[2].code, 0);
+    is("nobody is busy", zc_queue_report(&queue).busy, 0);
+    is("opened again", zc_queue_open(&queue, TASKS, SLOTS, 0), 0);
+    is("nothing waits", zc_queue_read_out(&queue, NULL, labels + 3, SLOTS - 3), 0);
+    is("refilled", zc_queue_refill(&queue, 0, labels, 3), 0);
+    is("three wait again", zc_queue_drain(&queue, answers, labels + 3), 3);
+    is("in the same order", labels[3] * 10000 + labels[4] * 100 + labels[5], 51020);
+}
+
+static void refill(void)
+{
+    static uint32_t labels[SLOTS + 1], found[SLOTS];
+    zc_reply answers[TASKS];
+    for (uint32_t at = 0; at <= SLOTS; at++)
+        labels[at] = 7 * at;
+    zc_queue_open(&queue, TASKS, SLOTS, 0);
+    is("more labels than slots", zc_queue_refill(&queue, 0, labels, SLOTS + 1), ZC_TAKEN);
+    is("as many as there are slots", zc_queue_drain(&queue, answers, found), SLOTS);
+    uint64_t same = 0;
+    for (size_t at = 0; at < SLOTS; at++)
+        same += found[at] == labels[at];
+    is("each at its place", same, SLOTS);
+    zc_queue_open(&queue, TASKS, SLOTS, UINT32_MAX);
+    is("a worn queue", zc_queue_refill(&queue, 0, labels, 1), ZC_WORN);
+    is("no labels", zc_queue_refill(&queue, 0, labels, 0), 0);
+    zc_queue_open(&queue, TASKS, SLOTS, 0);
+    zc_queue_pop(&queue, 0, ZC_LEFT);
+    is("a busy task", zc_queue_refill(&queue, 0, labels, 1), ZC_BUSY);
+}
+
+int main(void)
+{
+    storage();
+    free_slot();
+    finish();
+    drain();
+    refill();
+    printf("%u passed, %u failed\n", passed, failed);
+    return failed != 0;
+}

@@ -1,0 +1,8 @@
+//! Tests made at run time, one for each file or line of a table, with the command line and the
+//! output of Rust's own: `cargo test -p suite --test cases worked_example` runs one by its name.
+
+mod harness;
+mod programs;
+
+pub use harness::{same, Checks, Verdict};
+pub use programs::{root, run_text, shell, texts, trace, Said, Scratch};
