@@ -1,10 +1,11 @@
 -- Demand 3: after any accepted opening, on any tables, every list of starts and steps is linearized.
 use mathlib.Core.Bool.{Bool}
 use mathlib.Core.List.{List}
-use mathlib.Core.Path.{_∙_, ap}
+use mathlib.Core.Path.{_∙_, _≡_, ap}
 use Prim.Native.Nat.{ℕ}
 use Rattle.model.specs.Calls.{opened}
 use Rattle.model.specs.History.{Linearizable, Linearized, Request, final, ledger, run}
+use Rattle.model.specs.Refusals.{openRefusal}
 use Rattle.model.specs.Walk.{entries}
 use Rattle.model.specs.Tables.{Queue}
 use Rattle.model.proofs.bridge.View.{stateOf}
