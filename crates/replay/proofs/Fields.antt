@@ -1,7 +1,7 @@
 -- A field taken at a position: its bytes are there, and what is left to do leads to the same.
 use Prim.Native.Nat.{ℕ, _+_, _-_, _<_, _≤_}
 use mathlib.Core.Path.{_≡_, refl, sym, ap, _∙_, subst}
-use mathlib.Core.Bool.{Bool, true, false, _&&_, not}
+use mathlib.Core.Bool.{Bool, true, false, _&&_, _||_, not, or-false}
 use mathlib.Core.List.{List}
 use native.Mathlib.Omega.{arith}
 use lib.Dec.{leb, eqb}
@@ -9,7 +9,7 @@ use lib.ListN.{length, take, drop, getD, length-drop}
 use lib.Seq.{slice, take-add, drop-at, drop-drop, length-take-le}
 use borrow.Author.Tests.{leb-true}
 use Rattle.runfile.specs.Field.{twoAt, formed, contentOf, fieldOf}
-use Rattle.runfile.specs.declared.field.Found.{Found}
+use Rattle.runfile.specs.declared.Found.{Found}
 use Rattle.runfile.proofs.Prefix.{Seen, seen, ended, cut, wrong, whole}
 use Rattle.replay.specs.Trace.{unmoved, feed}
 use Rattle.replay.specs.Page.{Page, written, carries, Whole, Takes, Reaches}
@@ -32,21 +32,24 @@ pub over-then : (a b : Bool) → (not a && b) ≡ false → b ≡ true → a ≡
 over-then true b e h = refl
 over-then false b e h = clash (sym e ∙ h)
 
-steps-most : (o : Bool) (tag len : ℕ) → formed o tag len ≡ true → eqb tag 1 ≡ false → eqb tag 2 ≡ false → eqb tag 3 ≡ false → len ≤ 4096
+steps-most : (o : Bool) (tag len : ℕ) → formed o tag len ≡ true
+    → (eqb tag 1 || eqb tag 5) ≡ false → eqb tag 2 ≡ false → eqb tag 3 ≡ false → eqb tag 6 ≡ false → len ≤ 4096
 unfolding formed
-steps-most true tag len e p q r =
-    leb-true len 4096 (both (eqb tag 4) (leb len 4096) (rw (q, r) at e) .1)
-steps-most false tag len e p q r = clash (rw p at e)
+steps-most true tag len e p q r s =
+    leb-true len 4096 (both (eqb tag 4) (leb len 4096) (simp (q, r, s, or-false) at e) .1)
+steps-most false tag len e p q r s = clash (rw p at e)
 
 content-whole : (o : Bool) (tag len at n : ℕ) (d : List ℕ) → formed o tag len ≡ true → at + 3 + len ≤ n → Whole (contentOf tag len d) at n
 unfolding contentOf
-content-whole o tag len at n d f h = go (eqb tag 1) refl (eqb tag 2) refl (eqb tag 3) refl
+content-whole o tag len at n d f h = go (eqb tag 1 || eqb tag 5) refl (eqb tag 2) refl (eqb tag 3) refl (eqb tag 6) refl
   where
-    go : (x : Bool) → eqb tag 1 ≡ x → (y : Bool) → eqb tag 2 ≡ y → (z : Bool) → eqb tag 3 ≡ z → Whole (contentOf tag len d) at n
-    go true p y q z s = rw p tt
-    go false p true q z s = rw (p, q) tt
-    go false p false q true s = rw (p, q, s) tt
-    go false p false q false s = rw (p, q, s) (steps-most o tag len f p q s, h)
+    go : (w : Bool) → (eqb tag 1 || eqb tag 5) ≡ w → (x : Bool) → eqb tag 2 ≡ x → (y : Bool) → eqb tag 3 ≡ y → (z : Bool) → eqb tag 6 ≡ z
+        → Whole (contentOf tag len d) at n
+    go true p x q y s z t = rw p tt
+    go false p true q y s z t = rw (p, q) tt
+    go false p false q true s z t = rw (p, q, s) tt
+    go false p false q false s true t = rw (p, q, s, t) tt
+    go false p false q false s false t = rw (p, q, s, t) (steps-most o tag len f p q s t, h)
 
 pub field-whole : (o : Bool) (bytes : List ℕ) (at : ℕ) → Whole (fieldOf o (drop at bytes) .field) at (length bytes)
 field-whole o bytes at = go (fieldOf o (drop at bytes)) (seen o (drop at bytes))

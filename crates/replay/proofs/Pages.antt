@@ -16,13 +16,14 @@ use Rattle.model.specs.declared.Op.the-variants.{Step}
 use Rattle.model.specs.Refusals.{Lent}
 use Rattle.model.specs.Calls.{act}
 use Rattle.model.specs.History.{Request, run, final}
-use Rattle.runfile.proofs.Puts.{sets-append}
+use Rattle.lines.proofs.Puts.{sets-append}
 use Rattle.replay.specs.Run.{Run, Told, next, linesOf, numberOf, operated, stepsOf}
 use Rattle.replay.specs.Trace.{Fed, unmoved, after, feed}
 use Rattle.replay.specs.Page.{Page, written, operates, Reaches, Turned, turned}
 use Rattle.replay.proofs.Feeding.{told, sizeAt, Next, waits, breaks, moves, next-of, feed-over, feed-waits, broken, feed-step}
 
-page-same : (r : Run) (o o′ : List ℕ) (n n′ : ℕ) → o ≡ o′ → n ≡ n′ → _≡_ {A = Page} (record { run = r; out = o; to = n }) (record { run = r; out = o′; to = n′ })
+page-same : (r : Run) (o o′ : List ℕ) (n n′ : ℕ) → o ≡ o′ → n ≡ n′
+    → _≡_ {A = Page} (record { run = r; out = o; to = n }) (record { run = r; out = o′; to = n′ })
 page-same r o o′ n n′ e f = cc
 
 pub written-more : (p : Page) (t u : Told) → written (written p t) u ≡ written p (record { run = u .run; lines = t .lines ++ u .lines })
@@ -80,12 +81,15 @@ module _ (q : Tables) (rs rs′ : List Record) (opened over : Bool) (event ev : 
       (record { run = record { queue = record { tables = q; records = rs }; opened = opened; over = over; event = event }; out = out; to = to })
       (record { task = task; op = op } ∷ []))
   turn-page h i j e k =
-      ap (λ (x : List Record). record { run = record { queue = record { tables = t .tables; records = x }; opened = opened; over = over; event = ev }; out = t .out; to = t .to }) k
+      ap (λ (x : List Record). record { run = with-records x; out = t .out; to = t .to }) k
       ∙ ap (pageAfter rs task opened over ev) e
       ∙ ap (λ (n : ℕ). pageAfter rs task opened over n (turned q lent r task op n out to)) j
       ∙ ap (λ (x : Record). pageAfter rs task opened over (next event) (turned q lent x task op (next event) out to)) i
       ∙ turn-taken q rs opened over event out to task op h
     where
+      with-records : List Record → Run
+      with-records x = record { queue = record { tables = t .tables; records = x }; opened = opened; over = over; event = ev }
+
       lent : Lent
       lent = record { enough = leb (q .control .tasks) 16; known = ltb task (q .control .tasks) }
 
@@ -114,7 +118,10 @@ pub reaches-more : (p p′ p″ : Page) (b b′ b″ : List ℕ) → Reaches p b
 reaches-more p p′ p″ b b′ b″ f g = record {
   wrote = record { run = g .wrote .run; lines = f .wrote .lines ++ g .wrote .lines };
   page = g .page ∙ ap (λ (x : Page). written x (g .wrote)) (f .page) ∙ written-more p (f .wrote) (g .wrote);
-  rest = f .rest ∙ ap (after (f .wrote)) (g .rest) ∙ ap (λ (l : List ℕ). record { run = feed (p″ .run) b″ .run; rest = feed (p″ .run) b″ .rest; lines = l }) (sym (append-assoc (f .wrote .lines) (g .wrote .lines) (feed (p″ .run) b″ .lines)));
+  rest =
+      let last = feed (p″ .run) b″ in
+      f .rest ∙ ap (after (f .wrote)) (g .rest)
+      ∙ ap (λ (l : List ℕ). record { run = last .run; rest = last .rest; lines = l }) (sym (append-assoc (f .wrote .lines) (g .wrote .lines) (last .lines)));
 }
 
 pub reaches-step : (p : Page) (b : List ℕ) → p .run .over ≡ false → Reaches p b (written p (told (p .run) b)) (drop (sizeAt (p .run) b) b)

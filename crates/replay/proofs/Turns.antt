@@ -13,12 +13,13 @@ use Rattle.model.specs.declared.Record.{Record}
 use Rattle.model.specs.declared.Op.{Op}
 use Rattle.model.specs.Tables.{Tables, idle, zeroed}
 use Rattle.model.specs.Refusals.{Lent}
-use Rattle.model.specs.Calls.{Acted, openQueue, actOn}
+use Rattle.model.specs.Calls.{Acted, openAs, actOn}
 use Rattle.table.specs.declared.Acted.{Acted as Moved}
+use Rattle.table.specs.Lent.{tablesOf, withTables}
 use Rattle.calls.specs.Opening.{OpenedParts, openTables, whole}
 use Rattle.calls.proofs.Parts.{open-parts}
-use Rattle.runfile.specs.Line.{Put, fitting, room, lineOf}
-use Rattle.runfile.specs.declared.line.Line.the-variants.{Open, Act}
+use Rattle.lines.specs.Line.{Put, fitting, room, lineOf}
+use Rattle.lines.specs.declared.Line.the-variants.{Open, Act}
 use Rattle.replay.specs.Run.{Told, next, isOpened, opened}
 use Rattle.replay.specs.Trace.{finished}
 use Rattle.replay.specs.Page.{Page, written, opens, breaks, finishes, Turned, turned}
@@ -33,26 +34,21 @@ unfolding fitting
 put-fits out out′ to to′ l h p = rw (le-leb (to + 128) (length out) h) at p
 
 -- An operation done, m, and its line written.
-pub turn-made : (q : Tables) (p : Lent) (r : Record) (task : ℕ) (op : Op) (event : ℕ) (out out′ : List ℕ) (to : ℕ) (m : Moved) (t : Turn) (lefts rights labels marks : List ℕ)
-    → _≡_ {A = Acted}
-    (record {
-      tables = record { control = m .control; lefts = lefts; rights = rights; labels = labels; marks = marks };
-      task = m .task;
-      outcome = m .outcome;
-    })
-    (actOn q p r op)
+pub turn-made : (q : Tables) (p : Lent) (r : Record) (task : ℕ) (op : Op) (event : ℕ) (out out′ : List ℕ) (to : ℕ) (m : Moved) (t : Turn)
+    (lefts rights labels marks next : List ℕ)
+    → withTables m lefts rights labels marks next ≡ actOn q p r op
     → (t .control ≡ m .control) × (t .task ≡ m .task)
     → Put out out′ to (t .to) (lineOf event (Act task op (m .outcome)) (m .control .anchor))
     → _≡_ {A = Turned}
     (record {
-      tables = record { control = t .control; lefts = lefts; rights = rights; labels = labels; marks = marks };
+      tables = tablesOf (t .control) lefts rights labels marks next;
       task = t .task;
       out = out′;
       to = t .to;
     })
     (turned q p r task op event out to)
 unfolding turned
-turn-made q p r task op event out out′ to m t lefts rights labels marks e same w = rw (same .0, same .1, w .stop, w .stored, ← e)
+turn-made q p r task op event out out′ to m t lefts rights labels marks next e same w = rw (same .0, same .1, w .stop, w .stored, ← e)
 
 pub moved-over : (a n : ℕ) → 524288 ≤ n → leb a (n - 524288) ≡ leb (a + 524288) n
 moved-over a n h = go (leb a (n - 524288)) refl
@@ -93,15 +89,19 @@ pub clear-more : (n : ℕ) (d : List Record) → n < length d → set (zeroed n 
 clear-more n d h = subst (λ (k : ℕ). set (zeroed n idle d) n idle ≡ zeroed k idle d) (sym (add-one n)) (fill-suc n idle d h)
 
 -- An opening, from its parts.
-pub open-page : (q : Tables) (rs rs′ : List Record) (opened₀ over₀ good : Bool) (event ev : ℕ) (out out′ : List ℕ) (to to′ tasks slots tag : ℕ) (o : OpenedParts)
-    → length rs ≡ 16 → o ≡ openTables q 16 tasks slots tag → rs′ ≡ zeroed (o .clear) idle rs → good ≡ isOpened (o .outcome) → ev ≡ next event
+pub open-page : (pooled : Bool) (q : Tables) (rs rs′ : List Record) (opened₀ over₀ good : Bool) (event ev : ℕ) (out out′ : List ℕ)
+    (to to′ tasks slots tag : ℕ) (o : OpenedParts)
+    → length rs ≡ 16 → o ≡ openTables pooled q 16 tasks slots tag → rs′ ≡ zeroed (o .clear) idle rs → good ≡ isOpened (o .outcome)
+    → ev ≡ next event
     → Put out out′ to to′ (lineOf ev (Open (o .outcome)) (o .tables .control .anchor))
     → _≡_ {A = Page}
     (record { run = record { queue = record { tables = o .tables; records = rs′ }; opened = good; over = not good; event = ev }; out = out′; to = to′ })
-    (opens (record { run = record { queue = record { tables = q; records = rs }; opened = opened₀; over = over₀; event = event }; out = out; to = to }) tasks slots tag)
+    (opens
+    (record { run = record { queue = record { tables = q; records = rs }; opened = opened₀; over = over₀; event = event }; out = out; to = to })
+    pooled tasks slots tag)
 unfolding opened written
-open-page q rs rs′ opened₀ over₀ good event ev out out′ to to′ tasks slots tag o h e r g n w =
-    let d : openQueue (record { tables = q; records = rs }) tasks slots tag ≡ whole rs o =
-    open-parts (record { tables = q; records = rs }) tasks slots tag
-    ∙ ap (λ (k : ℕ). whole rs (openTables q k tasks slots tag)) h ∙ ap (whole rs) (sym e) in
+open-page pooled q rs rs′ opened₀ over₀ good event ev out out′ to to′ tasks slots tag o h e r g n w =
+    let d : openAs pooled (record { tables = q; records = rs }) tasks slots tag ≡ whole rs o =
+    open-parts pooled (record { tables = q; records = rs }) tasks slots tag
+    ∙ ap (λ (k : ℕ). whole rs (openTables pooled q k tasks slots tag)) h ∙ ap (whole rs) (sym e) in
     rw (d, w .stop, w .stored, r, g, n)

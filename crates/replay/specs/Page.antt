@@ -5,17 +5,18 @@ use Prim.Native.Nat.{ℕ, _+_, _*_, _≤_}
 use lib.ListN.{length, replicate}
 use lib.Seq.{sets}
 use lib.Dec.{leb}
-use mathlib.Core.Bool.{cond}
+use mathlib.Core.Bool.{Bool, cond}
 use Rattle.model.specs.declared.Record.{Record}
 use Rattle.model.specs.declared.Op.{Op}
 use Rattle.model.specs.Tables.{Tables}
 use Rattle.model.specs.Refusals.{Lent}
 use Rattle.model.specs.Calls.{actOn}
-use Rattle.runfile.specs.declared.line.Line.the-variants.{Act}
+use Rattle.table.specs.Lent.{tablesOf}
 use Rattle.runfile.specs.Field.{fieldOf}
-use Rattle.runfile.specs.Line.{lineOf, room, header, fitting}
-use Rattle.runfile.specs.declared.field.Field.{Field}
-use Rattle.runfile.specs.declared.field.Field.the-variants.{Open, Push, Pop, Steps, Malformed, Cut, End}
+use Rattle.runfile.specs.declared.Field.{Field}
+use Rattle.runfile.specs.declared.Field.the-variants.{Open, Push, Pop, Put, Steps, Malformed, Cut, End}
+use Rattle.lines.specs.Line.{lineOf, room, header, fitting}
+use Rattle.lines.specs.declared.Line.the-variants.{Act}
 use Rattle.model.specs.History.{Request}
 use Rattle.replay.specs.Run.{Run, Told, operated, opened, malformed, carried}
 use Rattle.replay.specs.Rows.{rowsOf}
@@ -29,10 +30,10 @@ pub record Page : Type 0 where
   pub out : List ℕ
   pub to : ℕ
 
-abbrev pub pageOf : RunState → List ℕ → List ℕ → List ℕ → List ℕ → List ℕ → List ℕ → Page
-pageOf s out rows lefts rights labels marks = record {
+abbrev pub pageOf : RunState → List ℕ → List ℕ → List ℕ → List ℕ → List ℕ → List ℕ → List ℕ → Page
+pageOf s out rows lefts rights labels marks next = record {
   run = record {
-    queue = record { tables = record { control = s .control; lefts = lefts; rights = rights; labels = labels; marks = marks }; records = rowsOf 16 rows };
+    queue = record { tables = tablesOf (s .control) lefts rights labels marks next; records = rowsOf 16 rows };
     opened = s .opened;
     over = s .over;
     event = s .event;
@@ -48,8 +49,8 @@ written p t = record { run = t .run; out = sets (p .out) (p .to) (t .lines); to 
 abbrev pub operates : Page → List Request → Page
 operates p os = written p (operated (p .run) os)
 
-abbrev pub opens : Page → ℕ → ℕ → ℕ → Page
-opens p tasks slots tag = written p (opened (p .run) tasks slots tag)
+abbrev pub opens : Page → Bool → ℕ → ℕ → ℕ → Page
+opens p pooled tasks slots tag = written p (opened (p .run) pooled tasks slots tag)
 
 abbrev pub breaks : Page → Page
 breaks p = written p (malformed (p .run))
@@ -64,7 +65,8 @@ finishes left p = cond (leb (p .to + room) (length (p .out))) (written p (finish
 -- The first page of a trace: a fresh run, with the header in its buffer.
 pub record Begins (before after : List ℕ) (s : RunState) : Type 0 where
   pub page :
-      pageOf s after (replicate 144 0) (fresh .queue .tables .lefts) (fresh .queue .tables .rights) (fresh .queue .tables .labels) (fresh .queue .tables .marks)
+      (let q = fresh .queue .tables in
+      pageOf s after (replicate 144 0) (q .lefts) (q .rights) (q .labels) (q .marks) (q .next))
       ≡ written (record { run = fresh; out = before; to = 0 }) (record { run = fresh; lines = fitting (length before) 0 header })
   pub start : s .at ≡ 0
 
@@ -91,9 +93,10 @@ pub record Feeds (p : Page) (b : List ℕ) (p′ : Page) (b′ : List ℕ) (word
 
 -- The bytes of a steps field are there.
 abbrev pub Whole : Field → ℕ → ℕ → Type 0
-Whole (Open tasks slots tag) at len = Unit {0}
+Whole (Open pooled tasks slots tag) at len = Unit {0}
 Whole (Push task side slot label) at len = Unit {0}
 Whole (Pop task side) at len = Unit {0}
+Whole (Put task side label) at len = Unit {0}
 Whole (Steps n) at len = (n ≤ 4096) × (at + 3 + n ≤ len)
 Whole Malformed at len = Unit {0}
 Whole Cut at len = Unit {0}

@@ -7,12 +7,12 @@ use Rattle.model.specs.declared.Opening.{Opening}
 use Rattle.model.specs.declared.Opening.the-variants.{Refused, Opened}
 use Rattle.model.specs.declared.Op.the-variants as op
 use Rattle.model.specs.Tables.{Queue}
-use Rattle.model.specs.Calls.{openQueue}
+use Rattle.model.specs.Calls.{openAs}
 use Rattle.model.specs.History.{Request, Event, run, final}
-use Rattle.runfile.specs.Line.{lineOf}
-use Rattle.runfile.specs.declared.line.Line.the-variants as line
-use Rattle.runfile.specs.declared.field.Field.{Field}
-use Rattle.runfile.specs.declared.field.Field.the-variants.{Open, Push, Pop, Steps, Malformed, Cut, End}
+use Rattle.lines.specs.Line.{lineOf}
+use Rattle.lines.specs.declared.Line.the-variants as line
+use Rattle.runfile.specs.declared.Field.{Field}
+use Rattle.runfile.specs.declared.Field.the-variants.{Open, Push, Pop, Put, Steps, Malformed, Cut, End}
 
 -- Between two fields: the queue, whether it was opened, whether the run has ended, and the number of the last event.
 pub record Run : Type 0 where
@@ -54,9 +54,9 @@ abbrev pub isOpened : Opening → Bool
 isOpened (Refused n) = false
 isOpened Opened = true
 
-unfoldable pub opened : Run → ℕ → ℕ → ℕ → Told
-opened r tasks slots tag =
-    let d = openQueue (r .queue) tasks slots tag in
+unfoldable pub opened : Run → Bool → ℕ → ℕ → ℕ → Told
+opened r pooled tasks slots tag =
+    let d = openAs pooled (r .queue) tasks slots tag in
     let good = isOpened (d .outcome) in
     record {
       run = record { queue = d .queue; opened = good; over = not good; event = next (r .event) };
@@ -76,9 +76,10 @@ stepsOf tasks = map (λ t. record { task = t; op = op.Step }) tasks
 
 -- A field carried out; b are the bytes from it on. Where no whole field is, nothing is done.
 unfoldable pub carried : Run → Field → List ℕ → Told
-carried r (Open tasks slots tag) b = opened r tasks slots tag
+carried r (Open pooled tasks slots tag) b = opened r pooled tasks slots tag
 carried r (Push task side slot label) b = operated r (record { task = task; op = op.Push side slot label } ∷ [])
 carried r (Pop task side) b = operated r (record { task = task; op = op.Pop side } ∷ [])
+carried r (Put task side label) b = operated r (record { task = task; op = op.Put side label } ∷ [])
 carried r (Steps n) b = operated r (stepsOf (take n (drop 3 b)))
 carried r Malformed b = malformed r
 carried r Cut b = record { run = r; lines = [] }

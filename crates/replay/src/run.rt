@@ -1,23 +1,14 @@
 //! The run over lent tables: fields in, lines out.
+use crate::acts;
 use crate::rows;
-use crate::turn;
-use crate::turn::Turn;
-use calls::opening;
 use model::Control;
-use model::Opening;
-use runfile::field;
-use runfile::field::Field;
-use runfile::line;
-use runfile::line::Line;
+use runfile::Field;
 ghost use mathlib.Core.Path.{_≡_};
-ghost use mathlib.Core.List.{List, [], _∷_};
-ghost use Prim.Native.Nat.{ℕ, _+_, _*_, _-_, _≤_};
+ghost use mathlib.Core.List.{List};
+ghost use Prim.Native.Nat.{ℕ, _+_, _≤_};
 ghost use lib.Dec.{leb};
 ghost use lib.ListN.{length, drop};
-ghost use lib.Seq.{slice};
-ghost use Rattle.model.specs.declared.Op.the-variants.{Push, Pop};
-ghost use Rattle.replay.specs.Run.{isOpened, stepsOf};
-ghost use Rattle.replay.specs.Page.{pageOf, stateAfter, operates, opens, breaks, carries, Whole, Takes, Feeds, fieldRoom, finishes, Begins};
+ghost use Rattle.replay.specs.Page.{pageOf, carries, Whole, Takes, Feeds, fieldRoom, finishes, Begins};
 
 /// Room in the buffer for the lines of any one field.
 pub const FIELD_ROOM: usize = 524288;
@@ -36,216 +27,6 @@ pub struct RunState {
     pub to: usize,
 }
 
-// The run after an operation of a task.
-fn after(s: RunState, event: u64, m: Turn) -> RunState
-    ensures { λ r. ⌜ r ≡ stateAfter s event m ⌝ }
-{
-    let control = m.control;
-    RunState {
-        control: control,
-        opened: s.opened,
-        over: s.over,
-        event: event,
-        at: s.at,
-        to: m.to,
-    }
-}
-
-// A push started.
-fn push(
-    s: RunState,
-    task: usize,
-    side: u64,
-    slot: u64,
-    label: u32,
-    out: &mut [u8],
-    rows: &mut [u64],
-    lefts: &mut [u64],
-    rights: &mut [u64],
-    labels: &mut [u32],
-    marks: &mut [u64],
-) -> RunState
-    requires { ⌜ (s .to + 128 ≤ length (now out)) × (144 ≤ length (now rows)) ⌝ }
-    ensures { λ r.
-        ⌜ pageOf r (now (out .exit)) (now (rows .exit)) (now (lefts .exit)) (now (rights .exit)) (now (labels .exit)) (now (marks .exit))
-        ≡ operates (pageOf s (now (out .entry)) (now (rows .entry)) (now (lefts .entry)) (now (rights .entry)) (now (labels .entry)) (now (marks .entry))) (record { task = task; op = Push side slot label } ∷ []) ⌝ }
-{
-    let c = s.control;
-    let r = rows::record_at(rows, task);
-    let event = std::num::wrapping_add_u64(s.event, 1);
-    let m = turn::push(
-        c,
-        r,
-        task,
-        side,
-        slot,
-        label,
-        event,
-        out,
-        s.to,
-        lefts,
-        rights,
-        labels,
-        marks,
-    );
-    let moved = m.task;
-    rows::put_record(rows, task, moved);
-    after(s, event, m)
-}
-
-// A pop started.
-fn pop(
-    s: RunState,
-    task: usize,
-    side: u64,
-    out: &mut [u8],
-    rows: &mut [u64],
-    lefts: &mut [u64],
-    rights: &mut [u64],
-    labels: &mut [u32],
-    marks: &mut [u64],
-) -> RunState
-    requires { ⌜ (s .to + 128 ≤ length (now out)) × (144 ≤ length (now rows)) ⌝ }
-    ensures { λ r.
-        ⌜ pageOf r (now (out .exit)) (now (rows .exit)) (now (lefts .exit)) (now (rights .exit)) (now (labels .exit)) (now (marks .exit))
-        ≡ operates (pageOf s (now (out .entry)) (now (rows .entry)) (now (lefts .entry)) (now (rights .entry)) (now (labels .entry)) (now (marks .entry))) (record { task = task; op = Pop side } ∷ []) ⌝ }
-{
-    let c = s.control;
-    let r = rows::record_at(rows, task);
-    let event = std::num::wrapping_add_u64(s.event, 1);
-    let m = turn::pop(
-        c,
-        r,
-        task,
-        side,
-        event,
-        out,
-        s.to,
-        lefts,
-        rights,
-        labels,
-        marks,
-    );
-    let moved = m.task;
-    rows::put_record(rows, task, moved);
-    after(s, event, m)
-}
-
-// One step for each of the task bytes from `from` to `end`.
-fn steps(
-    s: RunState,
-    bytes: &[u8],
-    from: usize,
-    end: usize,
-    out: &mut [u8],
-    rows: &mut [u64],
-    lefts: &mut [u64],
-    rights: &mut [u64],
-    labels: &mut [u32],
-    marks: &mut [u64],
-) -> RunState
-    requires { ⌜ (from ≤ end) × (end ≤ length (now bytes)) × (s .to + 128 * (end - from) ≤ length (now out)) × (144 ≤ length (now rows)) ⌝ }
-    ensures { λ r.
-        ⌜ pageOf r (now (out .exit)) (now (rows .exit)) (now (lefts .exit)) (now (rights .exit)) (now (labels .exit)) (now (marks .exit))
-        ≡ operates (pageOf s (now (out .entry)) (now (rows .entry)) (now (lefts .entry)) (now (rights .entry)) (now (labels .entry)) (now (marks .entry))) (stepsOf (slice from end (now (bytes .entry)))) ⌝ }
-{
-    let mut c = s.control;
-    let mut event = s.event;
-    let mut to = s.to;
-    for i in from..end {
-        let task = bytes[i] as usize;
-        event = std::num::wrapping_add_u64(event, 1);
-        let r = rows::record_at(rows, task);
-        let m = turn::step(c, r, task, event, out, to, lefts, rights, labels, marks);
-        let control = m.control;
-        let moved = m.task;
-        c = control;
-        rows::put_record(rows, task, moved);
-        to = m.to;
-    }
-    RunState {
-        control: c,
-        opened: s.opened,
-        over: s.over,
-        event: event,
-        at: s.at,
-        to: to,
-    }
-}
-
-fn is_opened(o: Opening) -> bool
-    ensures { λ r. ⌜ r ≡ isOpened o ⌝ }
-{
-    match o {
-        Opening::Refused(_) => false,
-        Opening::Opened => true,
-    }
-}
-
-// The opening. A refused one ends the run.
-fn open_queue(
-    s: RunState,
-    tasks: u64,
-    slots: u64,
-    tag: u32,
-    out: &mut [u8],
-    rows: &mut [u64],
-    lefts: &mut [u64],
-    rights: &mut [u64],
-    labels: &mut [u32],
-    marks: &mut [u64],
-) -> RunState
-    requires { ⌜ (s .to + 128 ≤ length (now out)) × (144 ≤ length (now rows)) ⌝ }
-    ensures { λ r.
-        ⌜ pageOf r (now (out .exit)) (now (rows .exit)) (now (lefts .exit)) (now (rights .exit)) (now (labels .exit)) (now (marks .exit))
-        ≡ opens (pageOf s (now (out .entry)) (now (rows .entry)) (now (lefts .entry)) (now (rights .entry)) (now (labels .entry)) (now (marks .entry))) tasks slots tag ⌝ }
-{
-    let c = s.control;
-    let o = opening::open_tables(
-        c,
-        turn::TASKS,
-        tasks,
-        slots,
-        tag,
-        lefts,
-        rights,
-        labels,
-        marks,
-    );
-    let control = o.control;
-    let outcome = o.outcome;
-    rows::clear(rows, o.clear);
-    let good = is_opened(outcome);
-    let event = std::num::wrapping_add_u64(s.event, 1);
-    let to = line::write_line(out, s.to, event, Line::Open(outcome), control.anchor);
-    RunState {
-        control: control,
-        opened: good,
-        over: !good,
-        event: event,
-        at: s.at,
-        to: to,
-    }
-}
-
-// A malformed place, which ends the run.
-fn malformed(s: RunState, out: &mut [u8]) -> RunState
-    requires { ⌜ s .to + 128 ≤ length (now out) ⌝ }
-    ensures { λ r. ⌜ ((ws ls rs bs ms : List ℕ) → pageOf r (now (out .exit)) ws ls rs bs ms ≡ breaks (pageOf s (now (out .entry)) ws ls rs bs ms)) ⌝ }
-{
-    let c = s.control;
-    let event = std::num::wrapping_add_u64(s.event, 1);
-    let to = line::write_line(out, s.to, event, Line::File, c.anchor);
-    RunState {
-        control: c,
-        opened: s.opened,
-        over: true,
-        event: event,
-        at: s.at,
-        to: to,
-    }
-}
-
 fn carry_out(
     s: RunState,
     field: Field,
@@ -257,16 +38,27 @@ fn carry_out(
     rights: &mut [u64],
     labels: &mut [u32],
     marks: &mut [u64],
+    next: &mut [u64],
 ) -> RunState
     requires { ⌜ (s .to + 524288 ≤ length (now out)) × (144 ≤ length (now rows)) ⌝ }
     requires { ⌜ Whole field at (length (now bytes)) ⌝ }
     ensures { λ r.
-        ⌜ pageOf r (now (out .exit)) (now (rows .exit)) (now (lefts .exit)) (now (rights .exit)) (now (labels .exit)) (now (marks .exit))
-        ≡ carries (pageOf s (now (out .entry)) (now (rows .entry)) (now (lefts .entry)) (now (rights .entry)) (now (labels .entry)) (now (marks .entry))) field (drop at (now (bytes .entry))) ⌝ }
+        ⌜ pageOf r (now (out .exit)) (now (rows .exit))
+        (now (lefts .exit)) (now (rights .exit)) (now (labels .exit)) (now (marks .exit)) (now (next .exit))
+        ≡ carries
+        (pageOf s (now (out .entry)) (now (rows .entry))
+        (now (lefts .entry)) (now (rights .entry)) (now (labels .entry)) (now (marks .entry)) (now (next .entry)))
+        field (drop at (now (bytes .entry))) ⌝ }
 {
     match field {
-        Field::Open { tasks, slots, tag } => open_queue(
+        Field::Open {
+            pooled,
+            tasks,
+            slots,
+            tag,
+        } => acts::open_queue(
             s,
+            pooled,
             tasks,
             slots,
             tag,
@@ -276,13 +68,14 @@ fn carry_out(
             rights,
             labels,
             marks,
+            next,
         ),
         Field::Push {
             task,
             side,
             slot,
             label,
-        } => push(
+        } => acts::push(
             s,
             task,
             side,
@@ -294,21 +87,47 @@ fn carry_out(
             rights,
             labels,
             marks,
+            next,
         ),
-        Field::Pop { task, side } => pop(s, task, side, out, rows, lefts, rights, labels, marks),
-        Field::Steps(n) => steps(
+        Field::Pop { task, side } => acts::pop(
             s,
-            bytes,
-            at + field::HEAD,
-            at + field::HEAD + n,
+            task,
+            side,
             out,
             rows,
             lefts,
             rights,
             labels,
             marks,
+            next,
         ),
-        Field::Malformed => malformed(s, out),
+        Field::Put { task, side, label } => acts::put(
+            s,
+            task,
+            side,
+            label,
+            out,
+            rows,
+            lefts,
+            rights,
+            labels,
+            marks,
+            next,
+        ),
+        Field::Steps(n) => acts::steps(
+            s,
+            bytes,
+            at + runfile::HEAD,
+            at + runfile::HEAD + n,
+            out,
+            rows,
+            lefts,
+            rights,
+            labels,
+            marks,
+            next,
+        ),
+        Field::Malformed => acts::malformed(s, out),
         Field::Cut => s,
         Field::End => s,
     }
@@ -334,16 +153,34 @@ fn take_field(
     rights: &mut [u64],
     labels: &mut [u32],
     marks: &mut [u64],
+    next: &mut [u64],
 ) -> RunState
     requires { ⌜ (s .to + 524288 ≤ length (now out)) × (144 ≤ length (now rows)) ⌝ }
     ensures { λ r.
-        ⌜ Takes (pageOf s (now (out .entry)) (now (rows .entry)) (now (lefts .entry)) (now (rights .entry)) (now (labels .entry)) (now (marks .entry))) (drop (s .at) (now (bytes .entry)))
-        (pageOf r (now (out .exit)) (now (rows .exit)) (now (lefts .exit)) (now (rights .exit)) (now (labels .exit)) (now (marks .exit))) (s .at) (r .at) ⌝ }
+        ⌜ Takes
+        (pageOf s (now (out .entry)) (now (rows .entry))
+        (now (lefts .entry)) (now (rights .entry)) (now (labels .entry)) (now (marks .entry)) (now (next .entry)))
+        (drop (s .at) (now (bytes .entry)))
+        (pageOf r (now (out .exit)) (now (rows .exit))
+        (now (lefts .exit)) (now (rights .exit)) (now (labels .exit)) (now (marks .exit)) (now (next .exit)))
+        (s .at) (r .at) ⌝ }
 {
     let at = s.at;
-    let found = field::field_at(bytes, at, s.opened);
+    let found = runfile::field_at(bytes, at, s.opened);
     let field = found.field;
-    let mut q = carry_out(s, field, bytes, at, out, rows, lefts, rights, labels, marks);
+    let mut q = carry_out(
+        s,
+        field,
+        bytes,
+        at,
+        out,
+        rows,
+        lefts,
+        rights,
+        labels,
+        marks,
+        next,
+    );
     q.at = at + found.size;
     q
 }
@@ -358,10 +195,16 @@ pub fn feed(
     rights: &mut [u64],
     labels: &mut [u32],
     marks: &mut [u64],
+    next: &mut [u64],
 ) -> RunState
     ensures { λ r.
-        ⌜ Feeds (pageOf s (now (out .entry)) (now (rows .entry)) (now (lefts .entry)) (now (rights .entry)) (now (labels .entry)) (now (marks .entry))) (drop (s .at) (now (bytes .entry)))
-        (pageOf r (now (out .exit)) (now (rows .exit)) (now (lefts .exit)) (now (rights .exit)) (now (labels .exit)) (now (marks .exit))) (drop (r .at) (now (bytes .entry))) (length (now (rows .entry))) ⌝ }
+        ⌜ Feeds
+        (pageOf s (now (out .entry)) (now (rows .entry))
+        (now (lefts .entry)) (now (rights .entry)) (now (labels .entry)) (now (marks .entry)) (now (next .entry)))
+        (drop (s .at) (now (bytes .entry)))
+        (pageOf r (now (out .exit)) (now (rows .exit))
+        (now (lefts .exit)) (now (rights .exit)) (now (labels .exit)) (now (marks .exit)) (now (next .exit)))
+        (drop (r .at) (now (bytes .entry))) (length (now (rows .entry))) ⌝ }
 {
     let mut q = s;
     if rows.len() < rows::WORDS {
@@ -369,7 +212,7 @@ pub fn feed(
     }
     while !q.over & has_room(out.len(), q.to) {
         let at = q.at;
-        q = take_field(q, bytes, out, rows, lefts, rights, labels, marks);
+        q = take_field(q, bytes, out, rows, lefts, rights, labels, marks, next);
         if q.at == at {
             return q;
         }
@@ -380,14 +223,14 @@ pub fn feed(
 /// The end of the file, where so many bytes are left. Nothing is done where the buffer has no room for a line.
 pub fn finish(s: RunState, left: usize, out: &mut [u8]) -> RunState
     ensures { λ r.
-        ⌜ ((ws ls rs bs ms : List ℕ)
-        → pageOf r (now (out .exit)) ws ls rs bs ms ≡ finishes left (pageOf s (now (out .entry)) ws ls rs bs ms)) ⌝ }
+        ⌜ ((ws ls rs bs ms ns : List ℕ)
+        → pageOf r (now (out .exit)) ws ls rs bs ms ns ≡ finishes left (pageOf s (now (out .entry)) ws ls rs bs ms ns)) ⌝ }
 {
     if s.over | (s.opened & (left == 0)) {
         return s;
     }
-    if line::fits(out.len(), s.to) {
-        malformed(s, out)
+    if lines::fits(out.len(), s.to) {
+        acts::malformed(s, out)
     } else {
         s
     }
@@ -397,13 +240,15 @@ pub fn finish(s: RunState, left: usize, out: &mut [u8]) -> RunState
 pub fn begin(out: &mut [u8]) -> RunState
     ensures { λ r. ⌜ Begins (now (out .entry)) (now (out .exit)) r ⌝ }
 {
-    let to = line::write_header(out, 0);
+    let to = lines::write_header(out, 0);
     RunState {
         control: Control {
             tasks: 0,
             slots: 0,
             anchor: 0,
             retries: 0,
+            pooled: 0,
+            head: 0,
         },
         opened: false,
         over: false,

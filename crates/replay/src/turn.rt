@@ -1,18 +1,18 @@
 //! One operation of one record, with its line.
 use calls::start;
+use lines::Line;
 use model::Control;
 use model::Op;
 use model::Record;
-use runfile::line;
-use runfile::line::Line;
 use table::Acted;
 ghost use mathlib.Core.Path.{_≡_};
 ghost use Prim.Native.Nat.{_+_, _≤_};
 ghost use lib.Dec.{leb, ltb};
 ghost use lib.ListN.{length};
-ghost use Rattle.model.specs.declared.Op.the-variants.{Push, Pop, Step};
-ghost use Rattle.runfile.specs.Line.{Put, lineOf};
-ghost use Rattle.runfile.specs.declared.line.Line.the-variants.{Act};
+ghost use Rattle.model.specs.declared.Op.the-variants as call;
+ghost use Rattle.lines.specs.Line.{Put, lineOf};
+ghost use Rattle.lines.specs.declared.Line.the-variants.{Act};
+ghost use Rattle.table.specs.Lent.{tablesOf};
 ghost use Rattle.replay.specs.Page.{Turned, turned};
 
 /// As many records as an opening can ask for.
@@ -35,7 +35,7 @@ fn tell(m: Acted, task: usize, op: Op, event: u64, out: &mut [u8], to: usize) ->
     let control = m.control;
     let moved = m.task;
     let outcome = m.outcome;
-    let next = line::write_line(
+    let to = lines::write_line(
         out,
         to,
         event,
@@ -45,7 +45,7 @@ fn tell(m: Acted, task: usize, op: Op, event: u64, out: &mut [u8], to: usize) ->
     Turn {
         control: control,
         task: moved,
-        to: next,
+        to,
     }
 }
 
@@ -64,18 +64,20 @@ pub fn push(
     rights: &mut [u64],
     labels: &mut [u32],
     marks: &mut [u64],
+    next: &mut [u64],
 ) -> Turn
     requires { ⌜ to + 128 ≤ length (now out) ⌝ }
     ensures { λ m.
         ⌜ _≡_ {A = Turned}
         (record {
-          tables = record { control = m .control; lefts = now (lefts .exit); rights = now (rights .exit); labels = now (labels .exit); marks = now (marks .exit) };
+          tables = tablesOf (m .control) (now (lefts .exit)) (now (rights .exit)) (now (labels .exit)) (now (marks .exit)) (now (next .exit));
           task = m .task;
           out = now (out .exit);
           to = m .to;
         })
-        (turned (record { control = c; lefts = now (lefts .entry); rights = now (rights .entry); labels = now (labels .entry); marks = now (marks .entry) })
-        (record { enough = leb (c .tasks) 16; known = ltb task (c .tasks) }) r task (Push side slot label) event (now (out .entry)) to) ⌝ }
+        (turned
+        (tablesOf c (now (lefts .entry)) (now (rights .entry)) (now (labels .entry)) (now (marks .entry)) (now (next .entry)))
+        (record { enough = leb (c .tasks) 16; known = ltb task (c .tasks) }) r task (call.Push side slot label) event (now (out .entry)) to) ⌝ }
     ensures { λ m. ⌜ m .to ≤ to + 128 ⌝ }
 {
     let m = start::push_start(
@@ -90,8 +92,55 @@ pub fn push(
         rights,
         labels,
         marks,
+        next,
     );
     tell(m, task, Op::Push { side, slot, label }, event, out, to)
+}
+
+/// A push that names no slot, started.
+pub fn put(
+    c: Control,
+    r: Record,
+    task: usize,
+    side: u64,
+    label: u32,
+    event: u64,
+    out: &mut [u8],
+    to: usize,
+    lefts: &mut [u64],
+    rights: &mut [u64],
+    labels: &mut [u32],
+    marks: &mut [u64],
+    next: &mut [u64],
+) -> Turn
+    requires { ⌜ to + 128 ≤ length (now out) ⌝ }
+    ensures { λ m.
+        ⌜ _≡_ {A = Turned}
+        (record {
+          tables = tablesOf (m .control) (now (lefts .exit)) (now (rights .exit)) (now (labels .exit)) (now (marks .exit)) (now (next .exit));
+          task = m .task;
+          out = now (out .exit);
+          to = m .to;
+        })
+        (turned
+        (tablesOf c (now (lefts .entry)) (now (rights .entry)) (now (labels .entry)) (now (marks .entry)) (now (next .entry)))
+        (record { enough = leb (c .tasks) 16; known = ltb task (c .tasks) }) r task (call.Put side label) event (now (out .entry)) to) ⌝ }
+    ensures { λ m. ⌜ m .to ≤ to + 128 ⌝ }
+{
+    let m = start::put_start(
+        c,
+        r,
+        TASKS,
+        task,
+        side,
+        label,
+        lefts,
+        rights,
+        labels,
+        marks,
+        next,
+    );
+    tell(m, task, Op::Put { side, label }, event, out, to)
 }
 
 /// A pop started.
@@ -107,21 +156,23 @@ pub fn pop(
     rights: &mut [u64],
     labels: &mut [u32],
     marks: &mut [u64],
+    next: &mut [u64],
 ) -> Turn
     requires { ⌜ to + 128 ≤ length (now out) ⌝ }
     ensures { λ m.
         ⌜ _≡_ {A = Turned}
         (record {
-          tables = record { control = m .control; lefts = now (lefts .exit); rights = now (rights .exit); labels = now (labels .exit); marks = now (marks .exit) };
+          tables = tablesOf (m .control) (now (lefts .exit)) (now (rights .exit)) (now (labels .exit)) (now (marks .exit)) (now (next .exit));
           task = m .task;
           out = now (out .exit);
           to = m .to;
         })
-        (turned (record { control = c; lefts = now (lefts .entry); rights = now (rights .entry); labels = now (labels .entry); marks = now (marks .entry) })
-        (record { enough = leb (c .tasks) 16; known = ltb task (c .tasks) }) r task (Pop side) event (now (out .entry)) to) ⌝ }
+        (turned
+        (tablesOf c (now (lefts .entry)) (now (rights .entry)) (now (labels .entry)) (now (marks .entry)) (now (next .entry)))
+        (record { enough = leb (c .tasks) 16; known = ltb task (c .tasks) }) r task (call.Pop side) event (now (out .entry)) to) ⌝ }
     ensures { λ m. ⌜ m .to ≤ to + 128 ⌝ }
 {
-    let m = start::pop_start(c, r, TASKS, task, side, lefts, rights, labels, marks);
+    let m = start::pop_start(c, r, TASKS, task, side, lefts, rights, labels, marks, next);
     tell(m, task, Op::Pop { side }, event, out, to)
 }
 
@@ -137,20 +188,22 @@ pub fn step(
     rights: &mut [u64],
     labels: &mut [u32],
     marks: &mut [u64],
+    next: &mut [u64],
 ) -> Turn
     requires { ⌜ to + 128 ≤ length (now out) ⌝ }
     ensures { λ m.
         ⌜ _≡_ {A = Turned}
         (record {
-          tables = record { control = m .control; lefts = now (lefts .exit); rights = now (rights .exit); labels = now (labels .exit); marks = now (marks .exit) };
+          tables = tablesOf (m .control) (now (lefts .exit)) (now (rights .exit)) (now (labels .exit)) (now (marks .exit)) (now (next .exit));
           task = m .task;
           out = now (out .exit);
           to = m .to;
         })
-        (turned (record { control = c; lefts = now (lefts .entry); rights = now (rights .entry); labels = now (labels .entry); marks = now (marks .entry) })
-        (record { enough = leb (c .tasks) 16; known = ltb task (c .tasks) }) r task Step event (now (out .entry)) to) ⌝ }
+        (turned
+        (tablesOf c (now (lefts .entry)) (now (rights .entry)) (now (labels .entry)) (now (marks .entry)) (now (next .entry)))
+        (record { enough = leb (c .tasks) 16; known = ltb task (c .tasks) }) r task call.Step event (now (out .entry)) to) ⌝ }
     ensures { λ m. ⌜ m .to ≤ to + 128 ⌝ }
 {
-    let m = engine::step(c, r, TASKS, task, lefts, rights, labels, marks);
+    let m = engine::step(c, r, TASKS, task, lefts, rights, labels, marks, next);
     tell(m, task, Op::Step, event, out, to)
 }

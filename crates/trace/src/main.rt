@@ -27,8 +27,9 @@ fn take_page(
     rights: &mut [u64],
     labels: &mut [u32],
     marks: &mut [u64],
+    next: &mut [u64],
 ) -> RunState {
-    let mut q = run::feed(s, bytes, out, rows, lefts, rights, labels, marks);
+    let mut q = run::feed(s, bytes, out, rows, lefts, rights, labels, marks, next);
     let to = q.to;
     if !flush(out, to) {
         q.over = true;
@@ -47,6 +48,7 @@ fn take_piece(
     rights: &mut [u64],
     labels: &mut [u32],
     marks: &mut [u64],
+    next: &mut [u64],
 ) -> RunState {
     let mut q = s;
     q.at = 0;
@@ -54,7 +56,7 @@ fn take_piece(
     while left > 0 {
         left -= 1;
         let at = q.at;
-        q = take_page(q, bytes, out, rows, lefts, rights, labels, marks);
+        q = take_page(q, bytes, out, rows, lefts, rights, labels, marks, next);
         if q.over | (q.at == at) {
             return q;
         }
@@ -122,6 +124,7 @@ fn take_round(
     rights: &mut [u64],
     labels: &mut [u32],
     marks: &mut [u64],
+    next: &mut [u64],
 ) -> Round
     requires { ⌜ have ≤ length (now input) ⌝ }
     ensures { λ r. ⌜ r .have ≤ length (now (input .entry)) ⌝ }
@@ -144,7 +147,17 @@ fn take_round(
             have: have,
         };
     }
-    let r = take_piece(s, &input[..full], out, rows, lefts, rights, labels, marks);
+    let r = take_piece(
+        s,
+        &input[..full],
+        out,
+        rows,
+        lefts,
+        rights,
+        labels,
+        marks,
+        next,
+    );
     let left = slide(input, r.at, full);
     Round {
         state: r,
@@ -160,6 +173,7 @@ fn rounds(
     rights: &mut [u64],
     labels: &mut [u32],
     marks: &mut [u64],
+    next: &mut [u64],
 ) {
     let mut s = run::begin(out);
     let to = s.to;
@@ -172,7 +186,18 @@ fn rounds(
     let mut turns = u64::MAX;
     while turns > 0 {
         turns -= 1;
-        let r = take_round(s, input, have, out, rows, lefts, rights, labels, marks);
+        let r = take_round(
+            s,
+            input,
+            have,
+            out,
+            rows,
+            lefts,
+            rights,
+            labels,
+            marks,
+            next,
+        );
         let q = r.state;
         if q.over {
             return;
@@ -190,6 +215,7 @@ fn main() {
     let mut rights = [0u64; 1024];
     let mut labels = [0u32; 1024];
     let mut marks = [0u64; 16];
+    let mut next = [0u64; 1024];
     rounds(
         &mut input,
         &mut output,
@@ -198,5 +224,6 @@ fn main() {
         &mut rights,
         &mut labels,
         &mut marks,
+        &mut next,
     );
 }

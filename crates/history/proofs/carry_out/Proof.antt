@@ -13,22 +13,22 @@ use Rattle.history.proofs.Turns.{served-all, served-none, served-next}
 use Rattle.history.proofs.carry_out.Statement.{statement}
 use Rattle.history.proofs.carry_out.Tie as tie
 
-abbrev state : Control → List Record → List ℕ → List ℕ → List ℕ → List ℕ → List ℕ → State
-state c rows replies lefts rights labels marks = record { queue = queueOf c rows lefts rights labels marks; replies = replies }
+abbrev state : Control → List Record → List ℕ → List ℕ → List ℕ → List ℕ → List ℕ → List ℕ → State
+state c rows replies lefts rights labels marks next = record { queue = queueOf c rows lefts rights labels marks next; replies = replies }
 
 abbrev Inv-loop : tie.InvT-loop
-Inv-loop count requests replies₀ lefts₀ rights₀ labels₀ marks₀ c₀ rows₀ i₀ replies lefts rights labels marks c rows i =
+Inv-loop count requests replies₀ lefts₀ rights₀ labels₀ marks₀ next₀ c₀ rows₀ i₀ replies lefts rights labels marks next c rows i =
     (i ≤ count) × (count < 9223372036854775808) × (5 * count ≤ length requests) × (3 * count ≤ length replies₀)
-    × (served (3 * i) (state c rows replies lefts rights labels marks) (requestsFrom i (count - i) requests)
-    ≡ served 0 (state c₀ rows₀ replies₀ lefts₀ rights₀ labels₀ marks₀) (requestsFrom 0 count requests))
+    × (served (3 * i) (state c rows replies lefts rights labels marks next) (requestsFrom i (count - i) requests)
+    ≡ served 0 (state c₀ rows₀ replies₀ lefts₀ rights₀ labels₀ marks₀ next₀) (requestsFrom 0 count requests))
     × (length replies ≡ length replies₀) × (length lefts ≡ length lefts₀) × (length rights ≡ length rights₀)
-    × (length labels ≡ length labels₀) × (length marks ≡ length marks₀)
+    × (length labels ≡ length labels₀) × (length marks ≡ length marks₀) × (length next ≡ length next₀)
 
 abbrev μ-loop : tie.MeasureT-loop
-μ-loop count requests replies₀ lefts₀ rights₀ labels₀ marks₀ c₀ rows₀ i₀ replies lefts rights labels marks c rows i = count - i
+μ-loop count requests replies₀ lefts₀ rights₀ labels₀ marks₀ next₀ c₀ rows₀ i₀ replies lefts rights labels marks next c rows i = count - i
 
 loop-holds : tie.Need-loop-holds Inv-loop μ-loop
-loop-holds c = (search needs, search needs, search needs, search needs, served-all _ _ _, refl, refl, refl, refl, refl)
+loop-holds c = (search needs, search needs, search needs, search needs, served-all _ _ _, refl, refl, refl, refl, refl, refl)
 
 add-i : tie.Need-add-i Inv-loop μ-loop
 add-i c =
@@ -55,6 +55,7 @@ loop-again c =
       kept .1 .0 ∙ inv .7,
       kept .1 .1 .0 ∙ inv .8,
       kept .1 .1 .1 .0 ∙ inv .9,
+      kept .1 .1 .1 .1 .0 ∙ inv .10,
     )
 
 returns : tie.Need-returns Inv-loop μ-loop

@@ -21,7 +21,7 @@ returns c =
     let count = done .before .before .before .before .before .before in
     let begun = count .before .before .before .before .before .before .before .before .before .before in
     let none = begun .before .before .before .before .before in
-    serves _ _ _ _ _ _ _ _ _ _ (none .idle .ensures) (begun .open-tables .ensures) (count .count-after .ensures) (done .carry-out .ensures)
+    serves _ _ _ _ _ _ _ _ _ _ _ (none .idle .ensures) (begun .open-tables .ensures) (count .count-after .ensures) (done .carry-out .ensures)
 
 pub serve-spec : {M : Type 1} → statement M
 serve-spec =

@@ -4,8 +4,8 @@ use Rattle.replay.proofs.Turns.{put-fits}
 use Rattle.replay.specs.Run.{malformed}
 use Rattle.replay.specs.Page.{written}
 use borrow.Author.Needs.{needs}
-use Rattle.replay.proofs.run.malformed.Statement.{statement}
-use Rattle.replay.proofs.run.malformed.Tie as tie
+use Rattle.replay.proofs.acts.malformed.Statement.{statement}
+use Rattle.replay.proofs.acts.malformed.Tie as tie
 
 returns : tie.Need-returns
 unfolding written malformed

@@ -7,8 +7,8 @@ use Rattle.replay.proofs.Turns.{put-fits, open-page}
 use Rattle.replay.specs.Rows.{rowsOf}
 use Rattle.replay.proofs.Words.{length-rows}
 use borrow.Author.Needs.{needs}
-use Rattle.replay.proofs.run.open_queue.Statement.{statement}
-use Rattle.replay.proofs.run.open_queue.Tie as tie
+use Rattle.replay.proofs.acts.open_queue.Statement.{statement}
+use Rattle.replay.proofs.acts.open_queue.Tie as tie
 
 clear-requires : tie.Need-clear-requires
 clear-requires c κs =

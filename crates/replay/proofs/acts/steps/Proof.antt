@@ -14,8 +14,8 @@ use Rattle.replay.specs.Page.{Page, operates}
 use Rattle.replay.specs.declared.run.RunState.{RunState}
 use Rattle.replay.proofs.Pages.{turn-page, steps-end, steps-more}
 use Rattle.replay.proofs.Words.{length-rows}
-use Rattle.replay.proofs.run.steps.Statement.{statement}
-use Rattle.replay.proofs.run.steps.Tie as tie
+use Rattle.replay.proofs.acts.steps.Statement.{statement}
+use Rattle.replay.proofs.acts.steps.Tie as tie
 
 abbrev page : RunState → Control → List Record → ℕ → ℕ → List ℕ → List ℕ → List ℕ → List ℕ → List ℕ → Page
 page s c records event to out lefts rights labels marks = record {

@@ -1,7 +1,7 @@
 -- The field found is carried out, and the position moves behind it.
 use mathlib.Core.Path.{refl, sym, subst}
 use lib.ListN.{length}
-use Rattle.runfile.specs.declared.field.Found.{Found}
+use Rattle.runfile.specs.declared.Found.{Found}
 use Rattle.replay.specs.Page.{Whole}
 use Rattle.replay.proofs.Fields.{field-whole, next-fits, takes-made}
 use borrow.Author.Needs.{needs}

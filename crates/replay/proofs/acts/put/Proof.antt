@@ -1,0 +1,29 @@
+-- A turn of the task's record, or of an idle one where there is no such task.
+use borrow.Author.Needs.{needs}
+use Rattle.replay.proofs.Pages.{turn-page}
+use Rattle.replay.proofs.Words.{length-rows}
+use Rattle.replay.proofs.acts.put.Statement.{statement}
+use Rattle.replay.proofs.acts.put.Tie as tie
+
+returns : tie.Need-returns
+returns c =
+    let done = c .before .before .before .before .before .before .before .before .before .before .before .before .before .before .before .before in
+    let begun = done .before .before .before .before .before .before in
+    rw (c .after .ensures) (turn-page _ _ _ _ _ _ _ _ _ _ _ _ _ (length-rows 16 _) (begun .before .record-at .ensures) (begun .wrapping-add-u64 .ensures) (done .put .ensures .0) (c .before .before .before .put-record .ensures))
+
+pub put-spec : {M : Type 1} → statement M
+put-spec =
+    tie.close
+    (tie.spec
+    (λ c κs. search needs)
+    (λ c κs. search needs)
+    (λ c κs. search needs)
+    (λ c κs. c .before .before .before .before .before .before .before .before .before .before .before .before .before .before .before .before .before .before .before .before .before .before .before .before .before .before .before .before .pre .1)
+    (λ c κs. search needs)
+    (λ c. search needs)
+    (λ c. search needs)
+    (λ c. search needs)
+    (λ c. search needs)
+    (λ c. search needs)
+    (λ c. search needs)
+    returns)
