@@ -34,6 +34,10 @@ becomes '# nothing at all' ''
 becomes 'open 16 1023 4294967295' 0100071003ffffffffff
 becomes '  push 255 left 65535 4294967295 # all at their most' 020008ff00ffffffffffff
 becomes 'push 1 right 258 16909060' 0200080101010201020304
+becomes 'open 2 3 258 pooled' 05000702000300000102
+becomes 'open 16 1023 4294967295 pooled' 0500071003ffffffffff
+becomes 'push 1 right 16909060' 060006010101020304
+becomes 'push 255 255 4294967295' 060006ffffffffffff
 becomes 'pop 3 right' 0300020301
 becomes 'pop 3 200' 03000203c8
 becomes 'step' 040000
@@ -42,11 +46,19 @@ becomes 'raw 00 FFfe 10' 00fffe10
 becomes "step $(printf '7 %.0s' $(seq 4096))" "041000$(printf '07%.0s' $(seq 4096))"
 becomes 'step 7*4097' "041000$(printf '07%.0s' $(seq 4096))04000107"
 
-refuses 'open 1 1' '1: open takes 3 words, found 2'
+refuses 'open 1 1' '1: open takes 3 or 4 words, found 2'
+refuses 'open 1 1 0 pooled 0' '1: open takes 3 or 4 words, found 5'
+refuses 'open 1 1 0 named' '1: not pooled: named'
+refuses 'open 1 65536 0 pooled' '1: slots is above 65535: 65536'
 refuses 'open 256 1 0' '1: tasks is above 255: 256'
 refuses 'open 1 65536 0' '1: slots is above 65535: 65536'
 refuses 'open 1 1 4294967296' '1: first tag is above 4294967295: 4294967296'
 refuses $'open 1 1 0\n\n# here\npush 0 up 1 1' '4: side is not left, right or a number: up'
+refuses 'push 0 left' '1: push takes 3 or 4 words, found 2'
+refuses 'push 0 left 1 1 1' '1: push takes 3 or 4 words, found 5'
+refuses 'push 256 left 1' '1: task is above 255: 256'
+refuses 'push 0 up 1' '1: side is not left, right or a number: up'
+refuses 'push 0 left 4294967296' '1: label is above 4294967295: 4294967296'
 refuses 'push 0 256 1 1' '1: side is above 255: 256'
 refuses 'push 0 left 65536 1' '1: slot is above 65535: 65536'
 refuses 'push 0 left 1 -1' '1: label is not a number: -1'
