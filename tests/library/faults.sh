@@ -241,7 +241,11 @@ noticed() {
         timeout 2 "$work/build/executive_c" $seed >/dev/null 2>&1 || lost=yes
     done
     [ -z "$lost" ] || echo -n " example"
-    timeout 10 "$work/build/bench" check 5 1023 20000 >/dev/null 2>&1 || echo -n " bench"
+    local way odd=
+    for way in named pooled; do
+        timeout 10 "$work/build/bench" check $way 5 1023 20000 >/dev/null 2>&1 || odd=yes
+    done
+    [ -z "$odd" ] || echo -n " bench"
     timeout 100 "$work/build/cargo/release/differential" >/dev/null 2>&1 || echo -n " differential"
 }
 

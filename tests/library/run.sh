@@ -141,9 +141,12 @@ part_examples() {
 
 part_bench() {
     holds "benchmark compiles" $CC -std=gnu11 -O2 -Iinclude bench/main.c bench/reference.c bench/bare.c "${archives[@]}" -o "$work/bench"
-    for tasks in 1 5 16; do
-        for slots in 3 1023; do
-            holds "library, C and bare alike: $tasks tasks, $slots slots" "$work/bench" check $tasks $slots 100000
+    for way in named pooled; do
+        for tasks in 1 5 16; do
+            for slots in 3 1023; do
+                holds "library, C and bare alike: $way, $tasks tasks, $slots slots" \
+                    "$work/bench" check $way $tasks $slots 100000
+            done
         done
     done
 }
