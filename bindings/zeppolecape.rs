@@ -24,7 +24,7 @@ pub const LAST_START_TAG: u64 = 4_294_967_262;
 /// Where the count of retries stays.
 pub const MOST_RETRIES: u64 = 4_294_967_295;
 
-/// Entries of `lefts`, `rights` and `labels`.
+/// Entries of `lefts`, `rights`, `labels` and `next`.
 pub const fn rows(slots: u64) -> usize {
     slots as usize + 1
 }
@@ -44,27 +44,31 @@ pub struct Control {
     pub anchor: u64,
     /// Changes that failed because another task was faster.
     pub retries: u64,
+    /// 1 if opened with the slots in a pool, else 0.
+    pub pooled: u64,
+    /// The free slot on top of the pool, laid out like a link word; slot 0: none.
+    pub head: u64,
 }
 
 /// Where a task stands in its call; all zero while it has none.
 #[repr(C)]
 #[derive(Clone, Copy, Debug, Default, PartialEq, Eq)]
 pub struct Record {
-    /// 0 idle, or the place of the next step, 1 to 11.
+    /// 0 idle, or the place of the next step, 1 to 11, in a pooled queue to 17.
     pub place: u64,
     /// 0 push, 1 pop.
     pub kind: u64,
     /// 0 left, 1 right.
     pub side: u64,
-    /// The slot of a push.
+    /// The slot of a push, or that a pop gives back.
     pub own: u64,
-    /// The label of a push.
+    /// Its label.
     pub label: u32,
     /// The Anchor word as read.
     pub seen: u64,
-    /// The neighbour slot as read.
+    /// The neighbour slot as read; at 14 the next of the slot on top of the pool.
     pub neighbour: u64,
-    /// The link word as read.
+    /// The link word as read; at 13 to 17 the pool's head.
     pub link: u64,
     /// 1 once a push has taken effect and still has a link to mend.
     pub finishing: u64,
@@ -89,9 +93,10 @@ pub mod raw {
     pub const PUSHED: u32 = 2;
     pub const EMPTY: u32 = 3;
     pub const POPPED: u32 = 4;
+    pub const NO_FREE_SLOT: u32 = 5;
 
     /// Code 1 running (value: the next place), 2 pushed, 3 empty, 4 popped (value: the slot, with
-    /// its label), else the number of a refusal.
+    /// its label), 5 no free slot, else the number of a refusal.
     #[repr(C)]
     #[derive(Clone, Copy, Debug, Default, PartialEq, Eq)]
     pub struct Reply {
@@ -123,10 +128,12 @@ pub mod raw {
             left_count: usize,
             rights: *mut u64,
             right_count: usize,
-            labels: *const u32,
+            labels: *mut u32,
             label_count: usize,
             marks: *mut u64,
             mark_count: usize,
+            next: *mut u64,
+            next_count: usize,
         ) -> Reply;
     }
 
@@ -149,6 +156,25 @@ pub mod raw {
             mark_count: usize,
         ) -> u32;
 
+        pub fn zc_open_pooled(
+            control: *mut Control,
+            records: *mut Record,
+            record_count: usize,
+            tasks: u64,
+            slots: u64,
+            tag: u32,
+            lefts: *mut u64,
+            left_count: usize,
+            rights: *mut u64,
+            right_count: usize,
+            labels: *mut u32,
+            label_count: usize,
+            marks: *mut u64,
+            mark_count: usize,
+            next: *mut u64,
+            next_count: usize,
+        ) -> u32;
+
         pub fn zc_push(
             control: *mut Control,
             records: *mut Record,
@@ -165,6 +191,27 @@ pub mod raw {
             label_count: usize,
             marks: *mut u64,
             mark_count: usize,
+            next: *const u64,
+            next_count: usize,
+        ) -> Reply;
+
+        pub fn zc_push_pooled(
+            control: *mut Control,
+            records: *mut Record,
+            record_count: usize,
+            task: usize,
+            side: u64,
+            label: u32,
+            lefts: *const u64,
+            left_count: usize,
+            rights: *const u64,
+            right_count: usize,
+            labels: *const u32,
+            label_count: usize,
+            marks: *const u64,
+            mark_count: usize,
+            next: *const u64,
+            next_count: usize,
         ) -> Reply;
 
         pub fn zc_pop(
@@ -181,6 +228,8 @@ pub mod raw {
             label_count: usize,
             marks: *const u64,
             mark_count: usize,
+            next: *const u64,
+            next_count: usize,
         ) -> Reply;
 
         pub fn zc_step(
@@ -192,10 +241,12 @@ pub mod raw {
             left_count: usize,
             rights: *mut u64,
             right_count: usize,
-            labels: *const u32,
+            labels: *mut u32,
             label_count: usize,
             marks: *mut u64,
             mark_count: usize,
+            next: *mut u64,
+            next_count: usize,
         ) -> Reply;
 
         pub fn zc_report(
@@ -210,6 +261,8 @@ pub mod raw {
             label_count: usize,
             marks: *const u64,
             mark_count: usize,
+            next: *const u64,
+            next_count: usize,
         ) -> ReportReply;
     }
 }
@@ -220,7 +273,8 @@ pub enum Side {
     Right = raw::RIGHT as isize,
 }
 
-/// What a start or step answers when it is carried out; a start is running at place 1.
+/// What a start or step answers when it is carried out; a start is running at place 1, a pooled
+/// push at 12.
 #[derive(Clone, Copy, Debug, PartialEq, Eq)]
 pub enum Answer {
     /// With the place of the next step.
@@ -231,6 +285,8 @@ pub enum Answer {
         slot: u64,
         label: u32,
     },
+    /// A pooled push found every slot in use, and nothing was pushed.
+    NoFreeSlot,
 }
 
 /// Why a call was refused, with its number. Every table kept its contents.
@@ -247,6 +303,7 @@ pub enum Refusal {
     Taken = 32,
     Worn = 33,
     Unsound = 34,
+    WrongPush = 41,
 }
 
 impl Refusal {
@@ -257,10 +314,9 @@ impl Refusal {
     /// The refusal with a number.
     pub fn numbered(number: u64) -> Option<Refusal> {
         use Refusal::*;
-        [BadTasks, BadSlots, Short, NoTask, NoSide, NoSlot, Busy, Idle, Taken, Worn, Unsound]
-            .iter()
-            .copied()
-            .find(|refusal| u64::from(refusal.number()) == number)
+        let inputs = [BadTasks, BadSlots, Short, NoTask, NoSide, NoSlot];
+        let states = [Busy, Idle, Taken, Worn, Unsound, WrongPush];
+        inputs.into_iter().chain(states).find(|refusal| u64::from(refusal.number()) == number)
     }
 
     /// The refusal that the library answered.
@@ -283,6 +339,7 @@ impl fmt::Display for Refusal {
             Refusal::Taken => "the slot is taken",
             Refusal::Worn => "the Anchor tag is too high for another start",
             Refusal::Unsound => "the tables are unsound",
+            Refusal::WrongPush => "a slot named in a pooled queue, or none in the other",
         };
         write!(out, "{}: {text}", self.number())
     }
@@ -296,6 +353,7 @@ fn outcome(reply: raw::Reply) -> Result<Answer, Refusal> {
         raw::PUSHED => Ok(Answer::Pushed),
         raw::EMPTY => Ok(Answer::Empty),
         raw::POPPED => Ok(Answer::Popped { slot: reply.value, label: reply.label }),
+        raw::NO_FREE_SLOT => Ok(Answer::NoFreeSlot),
         number => Err(Refusal::answered(u64::from(number))),
     }
 }
@@ -348,11 +406,13 @@ pub struct Tables<'a> {
     pub rights: &'a mut [u64],
     pub labels: &'a mut [u32],
     pub marks: &'a mut [u64],
+    /// Of a pooled queue; else it may be empty.
+    pub next: &'a mut [u64],
 }
 
 /// A call of the library: the given arguments, then the tables, which always come last.
 macro_rules! call {
-    ($tables:ident . $name:ident($($argument:expr),*)) => {
+    ($tables:ident . $name:ident($($argument:expr),*) $($next:ident)?) => {
         // SAFETY: `&mut` slices are non-null, aligned, disjoint and as long as the counts that go
         // with them, and nobody else uses them during the call. The rest is checked by the library.
         unsafe {
@@ -366,22 +426,36 @@ macro_rules! call {
                 $tables.labels.len(),
                 $tables.marks.as_mut_ptr(),
                 $tables.marks.len(),
+                $($tables.$next.as_mut_ptr(), $tables.$next.len(),)?
             )
         }
     };
 }
 
+/// What an opening answers.
+fn opened(code: u32) -> Result<(), Refusal> {
+    match code {
+        0 => Ok(()),
+        number => Err(Refusal::answered(u64::from(number))),
+    }
+}
+
 impl Tables<'_> {
-    /// Refuses 10, 11, 12.
+    /// Pushes will name their slots. Refuses 10, 11, 12.
     pub fn open(&mut self, tasks: u64, slots: u64, first_tag: u32) -> Result<(), Refusal> {
         let (records, count) = (self.records.as_mut_ptr(), self.records.len());
-        match call!(self.zc_open(self.control, records, count, tasks, slots, first_tag)) {
-            0 => Ok(()),
-            number => Err(Refusal::answered(u64::from(number))),
-        }
+        opened(call!(self.zc_open(self.control, records, count, tasks, slots, first_tag)))
     }
 
-    /// Refuses 34 for control, 12, 13, 14, 15, 34 for the record, 30, 32, 33.
+    /// All slots lie in a pool. Refuses 10, 11, 12.
+    pub fn open_pooled(&mut self, tasks: u64, slots: u64, first_tag: u32) -> Result<(), Refusal> {
+        let (records, count) = (self.records.as_mut_ptr(), self.records.len());
+        let code =
+            call!(self.zc_open_pooled(self.control, records, count, tasks, slots, first_tag) next);
+        opened(code)
+    }
+
+    /// Refuses 34 for control, 12, 13, 14, 41, 15, 34 for the record, 30, 32, 33.
     pub fn push(
         &mut self,
         task: usize,
@@ -390,55 +464,67 @@ impl Tables<'_> {
         label: u32,
     ) -> Result<Answer, Refusal> {
         let (records, count) = (self.records.as_mut_ptr(), self.records.len());
-        outcome(call!(self.zc_push(self.control, records, count, task, side, slot, label)))
+        outcome(call!(self.zc_push(self.control, records, count, task, side, slot, label) next))
+    }
+
+    /// Refuses 34 for control, 12, 13, 14, 41, 34 for the record, 30, 33.
+    pub fn push_pooled(&mut self, task: usize, side: u64, label: u32) -> Result<Answer, Refusal> {
+        let (records, count) = (self.records.as_mut_ptr(), self.records.len());
+        outcome(call!(self.zc_push_pooled(self.control, records, count, task, side, label) next))
     }
 
     /// Refuses 34 for control, 12, 13, 14, 34 for the record, 30, 33.
     pub fn pop(&mut self, task: usize, side: u64) -> Result<Answer, Refusal> {
         let (records, count) = (self.records.as_mut_ptr(), self.records.len());
-        outcome(call!(self.zc_pop(self.control, records, count, task, side)))
+        outcome(call!(self.zc_pop(self.control, records, count, task, side) next))
     }
 
     /// Refuses 34 for control, 12, 13, 34 for the record, 31, 34 for what the step touches.
     pub fn step(&mut self, task: usize) -> Result<Answer, Refusal> {
         let (records, count) = (self.records.as_mut_ptr(), self.records.len());
-        outcome(call!(self.zc_step(self.control, records, count, task)))
+        outcome(call!(self.zc_step(self.control, records, count, task) next))
     }
 
     /// The same step on one lent record: no 13, and 12 looks at no records.
     pub fn step_record(&mut self, one: &mut Record) -> Result<Answer, Refusal> {
-        outcome(call!(self.zc_step_record(self.control, one)))
+        outcome(call!(self.zc_step_record(self.control, one) next))
     }
 
     /// Refuses 34 for control, 12.
     pub fn report(&self) -> Result<Report, Refusal> {
-        report(self.control, self.records, self.lefts, self.rights, self.labels, self.marks)
+        let Tables { control, records, lefts, rights, labels, marks, next } = self;
+        report(Lent { control, records, lefts, rights, labels, marks, next })
     }
 }
 
 /// The report only reads, so that shared tables will do.
-fn report(
-    control: &Control,
-    records: &[Record],
-    lefts: &[u64],
-    rights: &[u64],
-    labels: &[u32],
-    marks: &[u64],
-) -> Result<Report, Refusal> {
+struct Lent<'a> {
+    control: &'a Control,
+    records: &'a [Record],
+    lefts: &'a [u64],
+    rights: &'a [u64],
+    labels: &'a [u32],
+    marks: &'a [u64],
+    next: &'a [u64],
+}
+
+fn report(lent: Lent<'_>) -> Result<Report, Refusal> {
     // SAFETY: slices are non-null, aligned and as long as the counts that go with them.
     let reply = unsafe {
         raw::zc_report(
-            control,
-            records.as_ptr(),
-            records.len(),
-            lefts.as_ptr(),
-            lefts.len(),
-            rights.as_ptr(),
-            rights.len(),
-            labels.as_ptr(),
-            labels.len(),
-            marks.as_ptr(),
-            marks.len(),
+            lent.control,
+            lent.records.as_ptr(),
+            lent.records.len(),
+            lent.lefts.as_ptr(),
+            lent.lefts.len(),
+            lent.rights.as_ptr(),
+            lent.rights.len(),
+            lent.labels.as_ptr(),
+            lent.labels.len(),
+            lent.marks.as_ptr(),
+            lent.marks.len(),
+            lent.next.as_ptr(),
+            lent.next.len(),
         )
     };
     let raw::ReportReply { code, tag, status, left, right, busy, retries, waiting } = reply;
@@ -458,23 +544,39 @@ pub struct Queue {
     rights: Vec<u64>,
     labels: Vec<u32>,
     marks: Vec<u64>,
+    next: Vec<u64>,
 }
 
 impl Queue {
-    /// An empty queue for tasks 0 to `tasks` - 1 and slots 1 to `slots`; `first_tag` is any number.
+    /// An empty queue for tasks 0 to `tasks` - 1 and slots 1 to `slots`, which its pushes name;
+    /// `first_tag` is any number.
     pub fn open(tasks: u64, slots: u64, first_tag: u32) -> Result<Queue, Refusal> {
+        let mut queue = Queue::held(tasks, slots);
+        queue.lend().open(tasks, slots, first_tag)?;
+        Ok(queue)
+    }
+
+    /// The same with all slots in a pool, from which its pushes take them.
+    pub fn open_pooled(tasks: u64, slots: u64, first_tag: u32) -> Result<Queue, Refusal> {
+        let mut queue = Queue::held(tasks, slots);
+        queue.next = vec![0; queue.lefts.len()];
+        queue.lend().open_pooled(tasks, slots, first_tag)?;
+        Ok(queue)
+    }
+
+    /// Tables long enough for an opening, without a next table.
+    fn held(tasks: u64, slots: u64) -> Queue {
         // Outside the limits the library refuses; no table is then needed.
         let (held_tasks, held_slots) = (tasks.min(MOST_TASKS), slots.min(MOST_SLOTS));
-        let mut queue = Queue {
+        Queue {
             control: Control::default(),
             records: vec![Record::default(); held_tasks as usize],
             lefts: vec![0; rows(held_slots)],
             rights: vec![0; rows(held_slots)],
             labels: vec![0; rows(held_slots)],
             marks: vec![0; mark_words(held_slots)],
-        };
-        queue.lend().open(tasks, slots, first_tag)?;
-        Ok(queue)
+            next: Vec::new(),
+        }
     }
 
     fn lend(&mut self) -> Tables<'_> {
@@ -485,6 +587,7 @@ impl Queue {
             rights: &mut self.rights,
             labels: &mut self.labels,
             marks: &mut self.marks,
+            next: &mut self.next,
         }
     }
 
@@ -497,6 +600,11 @@ impl Queue {
         label: u32,
     ) -> Result<Answer, Refusal> {
         self.lend().push(task, side as u64, slot, label)
+    }
+
+    /// Starts a push of `label` in a slot of the pool.
+    pub fn push_pooled(&mut self, task: usize, side: Side, label: u32) -> Result<Answer, Refusal> {
+        self.lend().push_pooled(task, side as u64, label)
     }
 
     /// Starts a pop.
@@ -515,7 +623,8 @@ impl Queue {
     }
 
     pub fn report(&self) -> Report {
-        report(&self.control, &self.records, &self.lefts, &self.rights, &self.labels, &self.marks)
+        let Queue { control, records, lefts, rights, labels, marks, next } = self;
+        report(Lent { control, records, lefts, rights, labels, marks, next })
             .expect("an open queue is sound")
     }
 
@@ -533,7 +642,7 @@ impl Queue {
         self.marks[slot as usize / 64] >> (slot % 64) & 1 == 1
     }
 
-    /// A slot that no label and no call holds.
+    /// A slot to be named in a push: no label and no call holds it.
     pub fn free_slot(&self) -> Option<u64> {
         (1..=self.control.slots).find(|&slot| !self.is_taken(slot))
     }
@@ -564,9 +673,10 @@ impl Queue {
 
 const _: () = {
     use std::mem::{align_of, offset_of, size_of};
-    assert!(size_of::<Control>() == 32 && align_of::<Control>() == 8);
+    assert!(size_of::<Control>() == 48 && align_of::<Control>() == 8);
     assert!(offset_of!(Control, tasks) == 0 && offset_of!(Control, slots) == 8);
     assert!(offset_of!(Control, anchor) == 16 && offset_of!(Control, retries) == 24);
+    assert!(offset_of!(Control, pooled) == 32 && offset_of!(Control, head) == 40);
     assert!(size_of::<Record>() == 72 && align_of::<Record>() == 8);
     assert!(offset_of!(Record, place) == 0 && offset_of!(Record, kind) == 8);
     assert!(offset_of!(Record, side) == 16 && offset_of!(Record, own) == 24);
@@ -621,6 +731,22 @@ mod tests {
         assert_eq!(queue.step(1), Ok(Popped { slot: 1, label: 700 }));
         assert_eq!(queue.control().anchor, 0x0000_0002_0000_0000);
         assert_eq!(queue.waiting(), []);
+    }
+
+    #[test]
+    fn slots_from_a_pool() {
+        let mut queue = Queue::open_pooled(2, 1, 0).unwrap();
+        assert_eq!(queue.push_pooled(0, Side::Right, 700), Ok(Running(12)));
+        assert_eq!(finish(&mut queue, 0), (5, Pushed));
+        assert_eq!(queue.waiting(), [(1, 700)]);
+        assert_eq!(queue.push_pooled(0, Side::Left, 701), Ok(Running(12)));
+        assert_eq!(finish(&mut queue, 0), (1, NoFreeSlot));
+        assert_eq!(queue.pop(1, Side::Left), Ok(Running(1)));
+        assert_eq!(finish(&mut queue, 1), (6, Popped { slot: 1, label: 700 }));
+        assert_eq!(queue.control().head, 0x0000_0002_0000_0001);
+        assert_eq!(queue.push(0, Side::Left, 1, 0), Err(Refusal::WrongPush));
+        let mut named = Queue::open(1, 1, 0).unwrap();
+        assert_eq!(named.push_pooled(0, Side::Left, 0), Err(Refusal::WrongPush));
     }
 
     #[test]
@@ -709,6 +835,7 @@ mod tests {
     fn lent_tables_and_a_lent_record() {
         let (mut control, mut records) = (Control::default(), [Record::default(); 1]);
         let (mut lefts, mut rights, mut labels, mut marks) = ([7; 3], [7; 3], [7; 3], [7; 1]);
+        let mut next = [7; 2];
         let mut tables = Tables {
             control: &mut control,
             records: &mut records,
@@ -716,9 +843,17 @@ mod tests {
             rights: &mut rights,
             labels: &mut labels,
             marks: &mut marks,
+            next: &mut next,
         };
         assert_eq!(tables.open(1, 3, 0), Err(Refusal::Short));
         assert_eq!(tables.report(), Err(Refusal::Unsound));
+        assert_eq!(tables.open_pooled(1, 2, 0), Err(Refusal::Short));
+        assert_eq!(tables.open_pooled(1, 1, 0), Ok(()));
+        assert_eq!((tables.control.pooled, tables.control.head), (1, 1));
+        assert_eq!(tables.next, [0, 0]);
+        assert_eq!(tables.push_pooled(0, 2, 0), Err(Refusal::NoSide));
+        tables.next = &mut [];
+        assert_eq!(tables.report(), Err(Refusal::Short));
         assert_eq!(tables.open(1, 1, 0), Ok(()));
         assert_eq!(tables.push(0, 2, 1, 0), Err(Refusal::NoSide));
         assert_eq!(tables.pop(0, 0), Ok(Running(1)));
@@ -733,7 +868,7 @@ mod tests {
     #[test]
     fn refusals_have_their_numbers() {
         let known: Vec<u64> = (0..100).filter(|&n| Refusal::numbered(n).is_some()).collect();
-        assert_eq!(known, [10, 11, 12, 13, 14, 15, 30, 31, 32, 33, 34]);
+        assert_eq!(known, [10, 11, 12, 13, 14, 15, 30, 31, 32, 33, 34, 41]);
         assert_eq!(Refusal::Worn.to_string(), "33: the Anchor tag is too high for another start");
     }
 }
