@@ -87,10 +87,17 @@ impl Fault {
             _ => None,
         };
         let fits = self.pooled.is_none() || way.is_none() || self.pooled == way;
-        let records_seen = export != Export::StepRecord || self.name != "short records";
-        self.group.of(export) && fits && records_seen
+        let seen = match self.name {
+            "short records" => export != Export::StepRecord,
+            SHORT_IN_A_WRONG_PUSH => export == Export::Push,
+            _ => true,
+        };
+        self.group.of(export) && fits && seen
     }
 }
+
+/// A pooled queue's next table too short for a push that names a slot: 12, not 41.
+const SHORT_IN_A_WRONG_PUSH: &str = "short next in a pooled queue";
 
 const fn fault(group: Group, name: &'static str, plant: fn(&mut Scene, &mut Dice)) -> Fault {
     Fault { name, group, place: None, kind: None, pooled: None, least: 1, plant }
@@ -349,6 +356,11 @@ pub const FAULTS: &[Fault] = &[
         let (_, rows, _) = needed(s);
         cut(d, &mut s.world.next.count, &mut s.world.next.null, rows);
     })),
+    named(fault(Group::Short, SHORT_IN_A_WRONG_PUSH, |s, d| {
+        let (_, rows, _) = needed(s);
+        s.world.control.pooled = POOLED;
+        cut(d, &mut s.world.next.count, &mut s.world.next.null, rows);
+    })),
     // ---- 13, 14, 41, 15.
     fault(Group::Task, "task: one too high", |s, _| set_task(s, s.tasks as usize)),
     fault(Group::Task, "task: 2^32", |s, _| set_task(s, HIGH as usize)),
@@ -362,6 +374,15 @@ pub const FAULTS: &[Fault] = &[
     pooled(fault(Group::WrongPush, "no slot named in the other", |s, _| {
         s.world.control.pooled = NAMED;
     })),
+    pooled(fault(
+        Group::WrongPush,
+        "no slot named in the other, whose next is not looked at",
+        |s, d| {
+            let (_, rows, _) = needed(s);
+            s.world.control.pooled = NAMED;
+            cut(d, &mut s.world.next.count, &mut s.world.next.null, rows);
+        },
+    )),
     fault(Group::Slot, "slot 0", |s, _| set_slot(s, 0)),
     fault(Group::Slot, "slot: one too high", |s, _| set_slot(s, s.slots + 1)),
     fault(Group::Slot, "slot 2^32 + 1", |s, _| set_slot(s, HIGH + 1)),
