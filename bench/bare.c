@@ -42,8 +42,20 @@ static inline bool change(zc_control *control, uint64_t *word, uint64_t seen, ui
     return true;
 }
 
+/* What follows a reading of Anchor, made at place 1 or by a failed change at 2 or 4. */
+static inline zc_reply take_reading(zc_record *record, uint64_t found)
+{
+    bool push = record->kind == ZC_PUSH;
+    record->seen = found;
+    if (zc_anchor_left(found) == 0)
+        return push ? go(record, 2) : answer(record, ZC_EMPTY, 0, 0);
+    if (!push && zc_anchor_left(found) == zc_anchor_right(found))
+        return go(record, 2);
+    return go(record, zc_anchor_status(found) == ZC_STABLE ? 3 : 5);
+}
+
 zc_reply bare_step(zc_control *control, zc_record *record, uint64_t *lefts, uint64_t *rights,
-                   const uint32_t *labels, uint64_t *marks)
+                   uint32_t *labels, uint64_t *marks, uint64_t *next)
 {
     uint64_t seen = record->seen;
     uint64_t status = zc_anchor_status(seen);
@@ -56,19 +68,11 @@ zc_reply bare_step(zc_control *control, zc_record *record, uint64_t *lefts, uint
     uint64_t *outward = right ? rights : lefts;
 
     switch (record->place) {
-    case 1: {
-        uint64_t anchor = control->anchor;
-        record->seen = anchor;
-        if (zc_anchor_left(anchor) == 0)
-            return push ? go(record, 2) : answer(record, ZC_EMPTY, 0, 0);
-        if (!push && zc_anchor_left(anchor) == zc_anchor_right(anchor))
-            return go(record, 2);
-        return go(record, zc_anchor_status(anchor) == ZC_STABLE ? 3 : 5);
-    }
+    case 1: return take_reading(record, control->anchor);
     case 2:
         if (!change(control, &control->anchor, seen,
                     successor(seen, status, right, record->own, record->own)))
-            return go(record, 1);
+            return take_reading(record, control->anchor);
         return push ? answer(record, ZC_PUSHED, 0, 0) : go(record, 11);
     case 3:
         if (push)
@@ -81,7 +85,7 @@ zc_reply bare_step(zc_control *control, zc_record *record, uint64_t *lefts, uint
             push ? successor(seen, right ? ZC_RPUSH : ZC_LPUSH, right, record->own, far)
                  : successor(seen, status, right, record->neighbour, far);
         if (!change(control, &control->anchor, seen, wanted))
-            return go(record, 1);
+            return take_reading(record, control->anchor);
         if (!push)
             return go(record, 11);
         record->seen = wanted;
@@ -102,10 +106,37 @@ zc_reply bare_step(zc_control *control, zc_record *record, uint64_t *lefts, uint
     case 10:
         change(control, &control->anchor, seen, successor(seen, ZC_STABLE, right, end, far));
         return leave(record);
-    default: {
+    case 11: {
         uint32_t label = labels[end];
         marks[end / 64] &= ~(UINT64_C(1) << (end % 64));
-        return answer(record, ZC_POPPED, end, label);
+        if (!control->pooled)
+            return answer(record, ZC_POPPED, end, label);
+        record->own = end;
+        record->label = label;
+        return go(record, 15);
     }
+    case 12:
+        if (zc_link_slot(control->head) == 0)
+            return answer(record, ZC_NO_FREE_SLOT, 0, 0);
+        record->link = control->head;
+        return go(record, 13);
+    case 13: record->neighbour = next[zc_link_slot(record->link)]; return go(record, 14);
+    case 14: {
+        uint64_t slot = zc_link_slot(record->link);
+        if (!change(control, &control->head, record->link,
+                    ((record->link & tag_bits) + one_tag) | record->neighbour))
+            return go(record, 12);
+        marks[slot / 64] |= UINT64_C(1) << (slot % 64);
+        labels[slot] = record->label;
+        record->own = slot;
+        return go(record, 1);
+    }
+    case 15: record->link = control->head; return go(record, 16);
+    case 16: next[record->own] = zc_link_slot(record->link); return go(record, 17);
+    default:
+        if (!change(control, &control->head, record->link,
+                    ((record->link & tag_bits) + one_tag) | record->own))
+            return go(record, 15);
+        return answer(record, ZC_POPPED, record->own, record->label);
     }
 }

@@ -63,7 +63,7 @@ impl Executive {
                 print!("{label:3}{}", if self.printed % 20 == 0 { "\n" } else { " " });
                 self.fates[label as usize].printed += 1;
             }
-            Answer::Running(_) | Answer::Empty => {}
+            Answer::Running(_) | Answer::Empty | Answer::NoFreeSlot => {}
         }
         Ok(())
     }

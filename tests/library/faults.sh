@@ -15,11 +15,34 @@ faults() {
 place 8 dropped|== end ? 10 : 8|== end ? 10 : 9|1
 place 3 resets a link's tag|(inward[record->own] & tag_bits) \| end|end|1
 the mark cleared at the pop's Anchor change|return push ? answer(record, ZC_PUSHED, 0, 0) : go(record, 11);|if (!push) marks[end / 64] &= ~(UINT64_C(1) << (end % 64)); return push ? answer(record, ZC_PUSHED, 0, 0) : go(record, 11);|1
-the status tested before l = r|if (!push && zc_anchor_left(anchor)|if (!push && zc_anchor_status(anchor) != ZC_STABLE && zc_anchor_left(anchor)|1
+the status tested before l = r|if (!push && zc_anchor_left(found)|if (!push && zc_anchor_status(found) != ZC_STABLE && zc_anchor_left(found)|1
 a failed place 9 taken as a failed push|count_retry(control);
             return leave(record);|count_retry(control);
             record->finishing = 0; return go(record, 1);|1
-an answer before Anchor is read|uint64_t anchor = control->anchor;|uint64_t anchor = record->seen;|1
+an answer before Anchor is read|case 1: return take_reading(record, control->anchor);|case 1: return take_reading(record, record->seen);|1
+a failed 2 goes to 1|case FAILED: return take_reading(record, control->anchor);|case FAILED: return go(record, 1);|1
+a failed 4 goes to 1|case FAILED: return take_reading(record, control->anchor);|case FAILED: return go(record, 1);|2
+a failed 9 takes a reading|count_retry(control);
+            return leave(record);|count_retry(control);
+            return record->finishing ? leave(record) : take_reading(record, control->anchor);|1
+a failed 10 takes a reading|if (change_anchor(control, seen, successor(seen, ZC_STABLE, side, end, far)) == FORBIDDEN)
+            return refuse(ZC_UNSOUND);|switch (change_anchor(control, seen, successor(seen, ZC_STABLE, side, end, far))) {
+        case FORBIDDEN: return refuse(ZC_UNSOUND);
+        case FAILED: if (!record->finishing) return take_reading(record, control->anchor);
+        default: break;
+        }|1
+an empty that a failed 2 finds goes to 1|case FAILED: return take_reading|case FAILED: if (zc_anchor_left(control->anchor) == 0) return go(record, 1); return take_reading|1
+an empty that a failed 4 finds goes to 1|case FAILED: return take_reading|case FAILED: if (zc_anchor_left(control->anchor) == 0) return go(record, 1); return take_reading|2
+a reading at 2 not kept|case FAILED: return take_reading(record, control->anchor);|case FAILED: { zc_reply reply = take_reading(record, control->anchor); record->seen = record->place ? seen : 0; return reply; }|1
+a reading at 4 not kept|case FAILED: return take_reading(record, control->anchor);|case FAILED: { zc_reply reply = take_reading(record, control->anchor); record->seen = record->place ? seen : 0; return reply; }|2
+the reading of its own word at 2|case FAILED: return take_reading(record, control->anchor);|case FAILED: return take_reading(record, seen);|1
+the reading of its own word at 4|case FAILED: return take_reading(record, control->anchor);|case FAILED: return take_reading(record, seen);|2
+STABLE before l = r after a failed 2|case FAILED: return take_reading|case FAILED: if (zc_anchor_left(control->anchor) \&\& zc_anchor_status(control->anchor) == ZC_STABLE) { record->seen = control->anchor; return go(record, 3); } return take_reading|1
+STABLE before l = r after a failed 4|case FAILED: return take_reading|case FAILED: if (zc_anchor_left(control->anchor) \&\& zc_anchor_status(control->anchor) == ZC_STABLE) { record->seen = control->anchor; return go(record, 3); } return take_reading|2
+a retry at 2 not counted|case FAILED: return take_reading|case FAILED: control->retries--; return take_reading|1
+a retry at 4 not counted|case FAILED: return take_reading|case FAILED: control->retries--; return take_reading|2
+an empty that a failed change finds is no retry|case FAILED: return take_reading|case FAILED: control->retries -= !push \&\& zc_anchor_left(control->anchor) == 0; return take_reading|1
+a failed 4 forgets the neighbour|case FAILED: return take_reading|case FAILED: record->neighbour = 0; return take_reading|2
 place 6 does not compare|return control->anchor == seen ? go(record, record->place + 1) : leave(record);|return control->anchor == seen \|\| record->place == 6 ? go(record, record->place + 1) : leave(record);|1
 place 4 forgets the new Anchor|record->seen = wanted;|;|1
 place 4 keeps the status in a push|right ? ZC_RPUSH : ZC_LPUSH, side|status, side|1
@@ -53,15 +76,30 @@ a link's slot not seen|&& zc_link_slot(link) <= slots|&& (slots \|\| link)|1
 tasks of control not seen|within(control->tasks, ZC_MOST_TASKS) &&||1
 slots of control one too many|within(control->slots, ZC_MOST_SLOTS)|within(control->slots, ZC_MOST_SLOTS + 1)|1
 tasks of control in 32 bits|within(control->tasks, ZC_MOST_TASKS)|within((uint32_t)control->tasks, ZC_MOST_TASKS)|1
-place 12 let through|record->place > 11|record->place > 12|1
+place 12 let through in a named queue|(control->pooled ? 17 : 11)|(control->pooled ? 17 : 12)|1
+places 12 to 17 let through in a named queue|(control->pooled ? 17 : 11)|17|1
+place 18 let through|(control->pooled ? 17 : 11)|(control->pooled ? 18 : 11)|1
 kind 2 let through|record->kind > ZC_POP|record->kind > 2|1
 side 2 let through in a record|record->side > ZC_RIGHT|record->side > 2|1
 finishing 2 let through|record->finishing > 1|record->finishing > 2|1
-finishing in a pop let through|record->own != 0 \|\| record->finishing != 0|record->own != 0|1
-finishing in a pop let through before 5|record->own != 0 \|\| record->finishing != 0|record->own != 0 \|\| (record->finishing != 0 \&\& record->place > 4)|1
-finishing in a pop let through at 11|record->own != 0 \|\| record->finishing != 0|record->own != 0 \|\| (record->finishing != 0 \&\& record->place != 11)|1
-own slot in a pop let through|record->own != 0 \|\| record->finishing != 0|record->finishing != 0|1
-own slot 0 in a push let through|!within(record->own, slots) \|\||record->own > slots \|\||1
+finishing in a pop let through|asking(record) \|\| record->finishing != 0|asking(record)|1
+finishing in a pop let through before 5|asking(record) \|\| record->finishing != 0|asking(record) \|\| (record->finishing != 0 \&\& record->place > 4)|1
+finishing in a pop let through at 11|asking(record) \|\| record->finishing != 0|asking(record) \|\| (record->finishing != 0 \&\& record->place != 11)|1
+finishing in a pop let through at 15 to 17|asking(record) \|\| record->finishing != 0|asking(record) \|\| (record->finishing != 0 \&\& !giving(record))|1
+finishing let through at 12 to 14|if (record->finishing != 0 && !helping(record))|if (record->finishing != 0 \&\& !helping(record) \&\& !asking(record))|1
+places 12 to 14 in a pop let through|asking(record) \|\| record->finishing != 0|record->finishing != 0|1
+places 15 to 17 in a push let through|giving(record) \|\| record->place == 11|record->place == 11|1
+own slot in a pop let through|: record->own == 0|: record->kind == ZC_POP \|\| record->own == 0|1
+own slot let through at 12 to 14|: record->own == 0|: asking(record) \|\| record->own == 0|1
+own slot 0 in a push let through|held ? within(record->own, slots)|held ? record->own <= slots \&\& (!giving(record) \|\| record->own != 0)|1
+own slot 0 in a pop let through at 15 to 17|held ? within(record->own, slots)|held ? record->own <= slots \&\& (giving(record) \|\| record->own != 0)|1
+own slot above slots let through at 15 to 17|held ? within(record->own, slots)|held ? giving(record) \|\| within(record->own, slots)|1
+slot 0 in the link let through at 13|(record->place == 13 \|\| record->place == 14) &&|record->place == 14 \&\&|1
+slot 0 in the link let through at 14|(record->place == 13 \|\| record->place == 14) &&|record->place == 13 \&\&|1
+slot 0 in the link not let through at 15|(record->place == 13 \|\| record->place == 14) &&|record->place >= 13 \&\& record->place <= 15 \&\&|1
+pooled 2 let through|control->pooled <= 1 &&|control->pooled <= 2 \&\&|1
+pooled in 32 bits|control->pooled <= 1 &&|(uint32_t)control->pooled <= 1 \&\&|1
+the head looked at in control|control->pooled <= 1 &&|control->pooled <= 1 \&\& (!control->pooled \|\| link_sound(control->head, control->slots)) \&\&|1
 place 11 in a push let through|\|\| record->place == 11)|)|1
 finishing before 5 let through|if (record->finishing != 0 && !helping(record))|if (0)|1
 neighbour not seen|record->neighbour > slots \|\||0 \|\||1
@@ -80,17 +118,29 @@ short labels not seen|label_count > slots &&|label_count + 1 > slots &&|1
 short marks not seen|mark_count > slots / 64|mark_count >= slots / 64|1
 mark words counted too many|mark_count > slots / 64|mark_count > (slots + 63) / 64|1
 short records not seen by the push|record_count < control->tasks|0 \&\& record_count|1
-short records not seen by the pop|record_count < control->tasks|0 \&\& record_count|2
-short records not seen by the step|record_count < control->tasks|0 \&\& record_count|3
-short records not seen by the report|record_count < control->tasks|0 \&\& record_count|4
+short records not seen by the pooled push|record_count < control->tasks|0 \&\& record_count|2
+short records not seen by the pop|record_count < control->tasks|0 \&\& record_count|3
+short records not seen by the step|record_count < control->tasks|0 \&\& record_count|4
+short records not seen by the report|record_count < control->tasks|0 \&\& record_count|5
+short next not seen|next_count > control->slots|next_count + 1 > control->slots|1
+short next not seen by the push|!next_fits(control, next_count) \|\||0 \|\||1
+short next not seen by the pooled push|!next_fits(control, next_count) \|\||0 \|\||2
+short next not seen by the pop|!next_fits(control, next_count) \|\||0 \|\||3
+short next not seen by the step|!next_fits(control, next_count) \|\||0 \|\||4
+short next not seen by the report|!next_fits(control, next_count) \|\||0 \|\||5
+short next not seen for a lent record|!next_fits(control, next_count))|0)|1
+short next not seen by the pooled opening|next_count <= slots|next_count < slots|1
+short next looked for in a named queue|!control->pooled \|\| next_count|next_count|1
 records read before 12 by the push|if (!control_sound(control))|(void)((volatile zc_record *)records)->place; if (!control_sound(control))|1
-records read before 12 by the pop|if (!control_sound(control))|(void)((volatile zc_record *)records)->place; if (!control_sound(control))|2
-records read before 12 by the step|if (!control_sound(control))|(void)((volatile zc_record *)records)->place; if (!control_sound(control))|3
-records read before 12 by the report|if (!control_sound(control))|(void)((volatile const zc_record *)records)->place; if (!control_sound(control))|5
+records read before 12 by the pop|if (!control_sound(control))|(void)((volatile zc_record *)records)->place; if (!control_sound(control))|3
+records read before 12 by the step|if (!control_sound(control))|(void)((volatile zc_record *)records)->place; if (!control_sound(control))|4
+records read before 12 by the report|if (!control_sound(control))|(void)((volatile const zc_record *)records)->place; if (!control_sound(control))|6
 task one too high in the push|task >= control->tasks|task > control->tasks|1
-task one too high in the step|task >= control->tasks|task > control->tasks|3
-task in 32 bits|task >= control->tasks|(uint32_t)task >= control->tasks|2
-side 2 in a pop|if (side > ZC_RIGHT)|if (side > 2)|2
+task one too high in the pooled push|task >= control->tasks|task > control->tasks|2
+task one too high in the step|task >= control->tasks|task > control->tasks|4
+task in 32 bits|task >= control->tasks|(uint32_t)task >= control->tasks|3
+side 2 in a pooled push|if (side > ZC_RIGHT)|if (side > 2)|2
+side 2 in a pop|if (side > ZC_RIGHT)|if (side > 2)|3
 side in 32 bits|if (side > ZC_RIGHT)|if ((uint32_t)side > ZC_RIGHT)|1
 slot 0 in a push|if (!within(slot, control->slots))|if (slot > control->slots)|1
 32 before 30|if (record->place != 0)
@@ -108,24 +158,125 @@ slot 0 in a push|if (!within(slot, control->slots))|if (slot > control->slots)|1
 15 before 14|if (side > ZC_RIGHT)|if (!within(slot, control->slots))
         return refuse(ZC_NO_SLOT);
     if (side > ZC_RIGHT)|1
-30 before 34 for the record|if (!record_sound(record, control->slots))
+30 before 34 for the record|if (!record_sound(record, control))
         return refuse(ZC_UNSOUND);
     if (record->place != 0)|if (record->place != 0)|1
 13 before 12 in the step|if (!rows_fit(control->slots, left_count, right_count, label_count, mark_count) \|\|
-        record_count < control->tasks)
+        !next_fits(control, next_count) \|\| record_count < control->tasks)
         return refuse(ZC_SHORT);
     if (task >= control->tasks)|if (task >= control->tasks)
         return refuse(ZC_NO_TASK);
     if (!rows_fit(control->slots, left_count, right_count, label_count, mark_count) \|\|
-        record_count < control->tasks)
+        !next_fits(control, next_count) \|\| record_count < control->tasks)
         return refuse(ZC_SHORT);
-    if (task >= control->tasks)|3
-31 before 12 for a lent record|if (!rows_fit(control->slots, left_count, right_count, label_count, mark_count))
+    if (task >= control->tasks)|4
+31 before 12 for a lent record|if (!rows_fit(control->slots, left_count, right_count, label_count, mark_count) \|\|
+        !next_fits(control, next_count))
         return|if (one->place == 0) return refuse(ZC_IDLE);
-    if (!rows_fit(control->slots, left_count, right_count, label_count, mark_count))
+    if (!rows_fit(control->slots, left_count, right_count, label_count, mark_count) \|\|
+        !next_fits(control, next_count))
         return|1
 33 one too early|> ZC_LAST_START_TAG|>= ZC_LAST_START_TAG|1
-33 one too late|> ZC_LAST_START_TAG|> ZC_LAST_START_TAG + 1|2
+33 one too late in a pooled push|> ZC_LAST_START_TAG|> ZC_LAST_START_TAG + 1|2
+33 one too late|> ZC_LAST_START_TAG|> ZC_LAST_START_TAG + 1|3
+41 missing for a slot in a pooled queue|if (control->pooled)
+        return refuse(ZC_WRONG_PUSH);||1
+41 missing for no slot in the other|if (!control->pooled)
+        return refuse(ZC_WRONG_PUSH);||1
+15 before 41|if (control->pooled)
+        return refuse(ZC_WRONG_PUSH);
+    if (!within(slot, control->slots))
+        return refuse(ZC_NO_SLOT);|if (!within(slot, control->slots))
+        return refuse(ZC_NO_SLOT);
+    if (control->pooled)
+        return refuse(ZC_WRONG_PUSH);|1
+41 before 14 in the push|if (side > ZC_RIGHT)
+        return refuse(ZC_NO_SIDE);
+    if (control->pooled)
+        return refuse(ZC_WRONG_PUSH);|if (control->pooled)
+        return refuse(ZC_WRONG_PUSH);
+    if (side > ZC_RIGHT)
+        return refuse(ZC_NO_SIDE);|1
+41 before 14 in the pooled push|if (side > ZC_RIGHT)
+        return refuse(ZC_NO_SIDE);
+    if (!control->pooled)
+        return refuse(ZC_WRONG_PUSH);|if (!control->pooled)
+        return refuse(ZC_WRONG_PUSH);
+    if (side > ZC_RIGHT)
+        return refuse(ZC_NO_SIDE);|1
+34 for the record before 41|if (!control->pooled)
+        return refuse(ZC_WRONG_PUSH);
+    zc_record *record = &records[task];
+    if (!record_sound(record, control))
+        return refuse(ZC_UNSOUND);|zc_record *record = \&records[task];
+    if (!record_sound(record, control))
+        return refuse(ZC_UNSOUND);
+    if (!control->pooled)
+        return refuse(ZC_WRONG_PUSH);|1
+41 for an empty pool|if (!control->pooled)
+        return refuse(ZC_WRONG_PUSH);|if (!control->pooled \|\| zc_link_slot(control->head) == 0)
+        return refuse(ZC_WRONG_PUSH);|1
+a pooled push starts at 1|return go(record, 12);|return go(record, 1);|2
+a pooled push start without its label|record->label = label;|;|3
+a pooled push start that changes the head|record->label = label;
+    return go(record, 12);|record->label = label; control->head += one_tag;
+    return go(record, 12);|1
+the head's tag kept|control->head = ((read & tag_bits) + one_tag) \| slot;|control->head = (read \& tag_bits) \| slot;|1
+the head's tag raised at 14 alone|default: return answer(record, ZC_POPPED, record->own, record->label);|default: control->head -= one_tag; return answer(record, ZC_POPPED, record->own, record->label);|1
+the head's tag raised at 17 alone|    labels[slot] = record->label;|    control->head -= one_tag; labels[slot] = record->label;|1
+the head compared by its slot alone|if (control->head != read) {|if (zc_link_slot(control->head) != zc_link_slot(read)) {|1
+the head changed without a compare|if (control->head != read) {|if (0) {|1
+the last tag raised, head|if (zc_link_tag(read) == last_tag)
+        return FORBIDDEN;||1
+the last tag refused before the compare at the head|if (control->head != read) {|if (zc_link_tag(read) == last_tag) return FORBIDDEN;
+    if (control->head != read) {|1
+retries not counted at the head|count_retry(control);
+        return FAILED;|return FAILED;|2
+the mark not set at 14|marks[slot / 64] \|= UINT64_C(1) << (slot % 64);|;|1
+a marked slot refused at 14|uint64_t slot = zc_link_slot(record->link);|uint64_t slot = zc_link_slot(record->link); if (control->head == record->link \&\& zc_marked(marks, slot)) return refuse(ZC_UNSOUND);|1
+the label not stored at 14|    labels[slot] = record->label;|    ;|1
+the own slot not filled at 14|record->own = slot;|;|1
+link and neighbour cleared at 14|record->own = slot;|record->own = slot; record->link = 0; record->neighbour = 0;|1
+a failed 14 goes to 13|case FAILED: return go(record, 12);|case FAILED: return go(record, 13);|1
+a failed 14 goes on from the head found|case FAILED: return go(record, 12);|case FAILED: if (link_sound(control->head, control->slots) \&\& zc_link_slot(control->head)) { record->link = control->head; return go(record, 13); } return go(record, 12);|1
+a failed 14 answers no slot|case FAILED: return go(record, 12);|case FAILED: return answer(record, ZC_NO_FREE_SLOT, 0, 0);|1
+a failed 17 goes to 16|case FAILED: return go(record, 15);|case FAILED: return go(record, 16);|1
+a failed 17 writes no next again|case FAILED: return go(record, 15);|case FAILED: if (link_sound(control->head, control->slots)) { record->link = control->head; return go(record, 17); } return go(record, 15);|1
+the next not read at 13|record->neighbour = below;|;|1
+the next of the head now read at 13|next[zc_link_slot(record->link)]|next[zc_link_slot(control->head) <= slots ? zc_link_slot(control->head) : 0]|1
+a next above slots not seen|if (below > slots)|if (0)|1
+a next seen in 32 bits|if (below > slots)|if ((uint32_t)below > slots)|1
+the next not written at 16|next[record->own] = zc_link_slot(record->link);|;|1
+the next written with a tag|next[record->own] = zc_link_slot(record->link);|next[record->own] = record->link;|1
+the next written of the head now|next[record->own] = zc_link_slot(record->link);|next[record->own] = zc_link_slot(control->head);|1
+a pooled pop answers at 11|if (!control->pooled)
+            return answer|if (1)
+            return answer|1
+the mark kept to 17|marks[end / 64] &= ~(UINT64_C(1) << (end % 64));|if (!control->pooled) marks[end / 64] \&= ~(UINT64_C(1) << (end % 64));|1
+the own slot not kept at 11|record->own = end;|record->own = 1;|1
+the label not kept at 11|record->label = label;|;|1
+the Anchor as read cleared at 11|record->own = end;|record->own = end; record->seen = 0;|1
+no slot before 34 for the head|if (!link_sound(head, control->slots))
+        return refuse(ZC_UNSOUND);
+    if (record->kind == ZC_PUSH && zc_link_slot(head) == 0)
+        return answer(record, ZC_NO_FREE_SLOT, 0, 0);|if (record->kind == ZC_PUSH \&\& zc_link_slot(head) == 0)
+        return answer(record, ZC_NO_FREE_SLOT, 0, 0);
+    if (!link_sound(head, control->slots))
+        return refuse(ZC_UNSOUND);|1
+no slot for a pop|record->kind == ZC_PUSH && zc_link_slot(head) == 0|zc_link_slot(head) == 0|1
+no slot with one left|zc_link_slot(head) == 0)|zc_link_slot(head) == 0 \|\| zc_link_slot(head) == control->slots)|1
+no slot answered as empty|ZC_NO_FREE_SLOT, 0, 0|ZC_EMPTY, 0, 0|1
+a head's bits and slot not seen|if (!link_sound(head, control->slots))|if (0)|1
+the head not kept at 12 and 15|record->link = head;|;|1
+the first head is the last slot|control->head = 1;|control->head = slots;|1
+the first head has the first tag|control->head = 1;|control->head = (uint64_t)tag << 32 \| 1;|1
+the last next not zeroed|next[slots] = 0;|;|1
+the next of 0 not zeroed|next[0] = 0;|;|1
+the pooled opening writes beyond|for (uint64_t slot = 1; slot < slots; slot++)|for (uint64_t slot = 1; slot < next_count; slot++)|1
+the pooled opening says named|control->pooled = 1;|;|1
+the named opening keeps pooled|control->pooled = 0;|;|1
+the named opening keeps the head|control->head = 0;|;|1
+12 before 10 and 11 in the pooled opening|if (within(tasks, ZC_MOST_TASKS) && within(slots, ZC_MOST_SLOTS) && next_count <= slots)|if (next_count <= slots)|1
 the last tag raised, Anchor|zc_anchor_tag(seen) == last_tag \|\| ||1
 the last tag raised, link|if (zc_link_tag(record->link) == last_tag)|if (0)|1
 the last tag refused before the compare at 2|case 2:|case 2: if (zc_anchor_tag(seen) == last_tag) return refuse(ZC_UNSOUND);|1
@@ -156,7 +307,7 @@ the first tag left out|(uint64_t)tag << 32|0 * tag|1
 a start keeps old fields|memset(record, 0, sizeof *record);
     record->side|record->side|1
 a push start without its label|labels[slot] = label;|;|1
-a push start without its mark|marks[slot / 64] \|= UINT64_C(1) << (slot % 64);|;|1
+a push start without its mark|marks[slot / 64] \|= UINT64_C(1) << (slot % 64);|;|2
 a refused push marks its slot|if (zc_anchor_tag(control->anchor) > ZC_LAST_START_TAG)
         return refuse(ZC_WORN);|marks[slot / 64] \|= UINT64_C(1) << (slot % 64);
     if (zc_anchor_tag(control->anchor) > ZC_LAST_START_TAG)
@@ -165,10 +316,10 @@ waiting counts bit 0|uint64_t slot = 1; slot <= control->slots|uint64_t slot = 0
 waiting leaves out the last slot|slot <= control->slots; slot++|slot < control->slots; slot++|1
 busy counts records beyond the tasks|task < control->tasks; task++|task < record_count; task++|1
 busy looks at more of a record|records[task].place != 0;|records[task].place != 0 \&\& records[task].kind <= 1;|1
-another task's record looked at by a start|if (!record_sound(record, control->slots))|if (!record_sound(record, control->slots) \|\| !record_sound(records, control->slots))|2
-another task's record looked at by a step|if (!record_sound(record, control->slots))|if (!record_sound(record, control->slots) \|\| !record_sound(records, control->slots))|3
-a lent record's step counts as nothing|return advance(control, one, lefts, rights, labels, marks);|zc_record copy = *one; return advance(control, \&copy, lefts, rights, labels, marks);|1
-a lent record's step writes row 0|return advance(control, one, lefts, rights, labels, marks);|lefts[0]++; return advance(control, one, lefts, rights, labels, marks);|1
+another task's record looked at by a start|if (!record_sound(record, control))|if (!record_sound(record, control) \|\| !record_sound(records, control))|3
+another task's record looked at by a step|if (!record_sound(record, control))|if (!record_sound(record, control) \|\| !record_sound(records, control))|4
+a lent record's step counts as nothing|return advance(control, one, lefts, rights, labels, marks, next);|zc_record copy = *one; return advance(control, \&copy, lefts, rights, labels, marks, next);|1
+a lent record's step writes row 0|return advance(control, one, lefts, rights, labels, marks, next);|lefts[0]++; return advance(control, one, lefts, rights, labels, marks, next);|1
 END
 }
 
@@ -220,7 +371,11 @@ noticed() {
         timeout 2 "$work/build/executive_c" $seed >/dev/null 2>&1 || lost=yes
     done
     [ -z "$lost" ] || echo -n " example"
-    timeout 10 "$work/build/bench" check 5 1023 20000 >/dev/null 2>&1 || echo -n " bench"
+    local way odd=
+    for way in named pooled; do
+        timeout 10 "$work/build/bench" check $way 5 1023 20000 >/dev/null 2>&1 || odd=yes
+    done
+    [ -z "$odd" ] || echo -n " bench"
     timeout 100 "$work/build/cargo/checked/library-differential" >/dev/null 2>&1 || echo -n " differential"
 }
 

@@ -12,10 +12,10 @@ pub const LAST_START_TAG: u64 = 4_294_967_262;
 /// Where the count of retries stays.
 pub const MOST_RETRIES: u64 = 4_294_967_295;
 
-/// The most steps that a busy task needs to its answer when it is stepped alone (a pop: 13).
+/// The most steps that a busy task needs to its answer, stepped alone, where slots are named (a pop: 13).
 pub const MOST_ALONE: u32 = 18;
 
-/// Entries of `lefts`, `rights` and `labels`.
+/// Entries of `lefts`, `rights`, `labels` and `next`.
 pub const fn rows(slots: u64) -> usize {
     slots as usize + 1
 }
@@ -34,7 +34,8 @@ pub enum Side {
     Right = raw::RIGHT as isize,
 }
 
-/// What a start or step answers when it is carried out; a start is running at place 1.
+/// What a start or step answers when it is carried out; a start is running at place 1, a pooled
+/// push at 12.
 #[derive(Clone, Copy, Debug, PartialEq, Eq)]
 pub enum Answer {
     /// With the place of the next step.
@@ -50,6 +51,8 @@ pub enum Answer {
         /// Its label.
         label: u32,
     },
+    /// A pooled push found every slot in use, and nothing was pushed.
+    NoFreeSlot,
 }
 
 /// Why a call was refused, with its number. Every table kept its contents.
@@ -77,6 +80,8 @@ pub enum Refusal {
     Worn = 33,
     /// The tables contradict each other: somebody else wrote there.
     Unsound = 34,
+    /// A push that names a slot in a pooled queue, or none in the other.
+    WrongPush = 41,
 }
 
 impl Refusal {
@@ -88,10 +93,9 @@ impl Refusal {
     /// The refusal with a number.
     pub fn numbered(number: u64) -> Option<Refusal> {
         use Refusal::*;
-        [BadTasks, BadSlots, Short, NoTask, NoSide, NoSlot, Busy, Idle, Taken, Worn, Unsound]
-            .iter()
-            .copied()
-            .find(|refusal| u64::from(refusal.number()) == number)
+        let inputs = [BadTasks, BadSlots, Short, NoTask, NoSide, NoSlot];
+        let states = [Busy, Idle, Taken, Worn, Unsound, WrongPush];
+        inputs.into_iter().chain(states).find(|refusal| u64::from(refusal.number()) == number)
     }
 
     /// The refusal that the library answered.
@@ -114,6 +118,7 @@ impl fmt::Display for Refusal {
             Refusal::Taken => "the slot is taken",
             Refusal::Worn => "the Anchor tag is too high for another start",
             Refusal::Unsound => "the tables are unsound",
+            Refusal::WrongPush => "a slot named in a pooled queue, or none in the other",
         };
         write!(out, "{}: {text}", self.number())
     }
@@ -128,6 +133,7 @@ pub(crate) fn outcome(reply: raw::Reply) -> Result<Answer, Refusal> {
         raw::PUSHED => Ok(Answer::Pushed),
         raw::EMPTY => Ok(Answer::Empty),
         raw::POPPED => Ok(Answer::Popped { slot: reply.value, label: reply.label }),
+        raw::NO_FREE_SLOT => Ok(Answer::NoFreeSlot),
         number => Err(Refusal::answered(u64::from(number))),
     }
 }

@@ -1,6 +1,6 @@
 //! The queue that owns its tables.
 
-use crate::tables::{report, Tables};
+use crate::tables::{report, Lent, Tables};
 use crate::{
     link_slot, mark_words, raw, rows, Anchor, Answer, Control, Record, Refusal, Report, Side,
 };
@@ -18,23 +18,39 @@ pub struct Queue {
     pub(crate) rights: Vec<u64>,
     labels: Vec<u32>,
     marks: Vec<u64>,
+    next: Vec<u64>,
 }
 
 impl Queue {
-    /// An empty queue for tasks 0 to `tasks` - 1 and slots 1 to `slots`; `first_tag` is any number.
+    /// An empty queue for tasks 0 to `tasks` - 1 and slots 1 to `slots`, which its pushes name;
+    /// `first_tag` is any number.
     pub fn open(tasks: u64, slots: u64, first_tag: u32) -> Result<Queue, Refusal> {
+        let mut queue = Queue::held(tasks, slots);
+        queue.lend().open(tasks, slots, first_tag)?;
+        Ok(queue)
+    }
+
+    /// The same with all slots in a pool, from which its pushes take them.
+    pub fn open_pooled(tasks: u64, slots: u64, first_tag: u32) -> Result<Queue, Refusal> {
+        let mut queue = Queue::held(tasks, slots);
+        queue.next = vec![0; queue.lefts.len()];
+        queue.lend().open_pooled(tasks, slots, first_tag)?;
+        Ok(queue)
+    }
+
+    /// Tables long enough for an opening, without a next table.
+    fn held(tasks: u64, slots: u64) -> Queue {
         // Outside the limits the library refuses; no table is then needed.
         let (held_tasks, held_slots) = (tasks.min(MOST_TASKS), slots.min(MOST_SLOTS));
-        let mut queue = Queue {
+        Queue {
             control: Control::default(),
             records: vec![Record::default(); held_tasks as usize],
             lefts: vec![0; rows(held_slots)],
             rights: vec![0; rows(held_slots)],
             labels: vec![0; rows(held_slots)],
             marks: vec![0; mark_words(held_slots)],
-        };
-        queue.lend().open(tasks, slots, first_tag)?;
-        Ok(queue)
+            next: Vec::new(),
+        }
     }
 
     fn lend(&mut self) -> Tables<'_> {
@@ -45,6 +61,7 @@ impl Queue {
             rights: &mut self.rights,
             labels: &mut self.labels,
             marks: &mut self.marks,
+            next: &mut self.next,
         }
     }
 
@@ -59,6 +76,11 @@ impl Queue {
         self.lend().push(task, side as u64, slot, label)
     }
 
+    /// Starts a push of `label` in a slot of the pool.
+    pub fn push_pooled(&mut self, task: usize, side: Side, label: u32) -> Result<Answer, Refusal> {
+        self.lend().push_pooled(task, side as u64, label)
+    }
+
     /// Starts a pop.
     pub fn pop(&mut self, task: usize, side: Side) -> Result<Answer, Refusal> {
         self.lend().pop(task, side as u64)
@@ -70,7 +92,8 @@ impl Queue {
         self.lend().step(task)
     }
 
-    /// Steps one task, alone, to its answer; it has one within [`MOST_ALONE`](crate::MOST_ALONE) steps.
+    /// Steps one task, alone, to its answer; where slots are named it has one
+    /// within [`MOST_ALONE`](crate::MOST_ALONE) steps.
     /// Refuses as [`step`](Queue::step) does.
     pub fn finish(&mut self, task: usize) -> Result<Answer, Refusal> {
         let mut answer = self.step(task)?;
@@ -109,10 +132,16 @@ impl Queue {
             answers.push(if busy { Some(self.finish(task)?) } else { None });
         }
         let waiting = self.waiting();
-        let Control { tasks, slots, .. } = self.control;
-        self.lend().open(tasks, slots, first_tag)?;
+        let Control { tasks, slots, pooled, .. } = self.control;
+        match pooled {
+            0 => self.lend().open(tasks, slots, first_tag)?,
+            _ => self.lend().open_pooled(tasks, slots, first_tag)?,
+        }
         for (slot, (_, label)) in (1..).zip(waiting) {
-            self.push(0, Side::Right, slot, label)?;
+            match pooled {
+                0 => self.push(0, Side::Right, slot, label)?,
+                _ => self.push_pooled(0, Side::Right, label)?,
+            };
             self.finish(0)?;
         }
         Ok(answers)
@@ -120,7 +149,8 @@ impl Queue {
 
     /// Anchor's fields, busy tasks, retries, slots taken.
     pub fn report(&self) -> Report {
-        report(&self.control, &self.records, &self.lefts, &self.rights, &self.labels, &self.marks)
+        let Queue { control, records, lefts, rights, labels, marks, next } = self;
+        report(Lent { control, records, lefts, rights, labels, marks, next })
             .expect("an open queue is sound")
     }
 
@@ -142,7 +172,7 @@ impl Queue {
         self.marks[slot as usize / 64] >> (slot % 64) & 1 == 1
     }
 
-    /// A slot that no label and no call holds.
+    /// A slot to be named in a push: no label and no call holds it.
     pub fn free_slot(&self) -> Option<u64> {
         (1..=self.control.slots).find(|&slot| !self.is_taken(slot))
     }

@@ -2,7 +2,7 @@
 //! succeed where it must not. For tests that drive the calls on arbitrary contents.
 
 use crate::dice::Dice;
-use crate::tables::{Record, Storage, POP};
+use crate::tables::{Record, Storage, POP, PUSH};
 use crate::word::{Anchor, Link, LAST_TAG, LPUSH, RPUSH, STABLE};
 
 pub struct Damage {
@@ -24,6 +24,43 @@ pub const DAMAGES: &[Damage] = &[
     Damage {
         name: "control: retries",
         inflict: |s, d| s.control.retries = d.pick(&[LAST_TAG - 1, LAST_TAG, u64::MAX]),
+    },
+    Damage {
+        name: "control: pooled",
+        inflict: |s, d| s.control.pooled = d.pick(&[2, 255, 1 << 32, u64::MAX]),
+    },
+    Damage {
+        name: "control: the other way of opening",
+        inflict: |s, _| s.control.pooled = 1 - s.control.pooled.min(1),
+    },
+    Damage { name: "head: any link word", inflict: |s, d| s.control.head = any_link(s, d) },
+    Damage {
+        name: "head: empty",
+        inflict: |s, d| s.control.head = Link::new(d.pick(&[0, 9, LAST_TAG]), 0).0,
+    },
+    Damage {
+        name: "head: last tag, and read so",
+        inflict: |s, d| {
+            let word = Link::new(LAST_TAG, slot(s, d)).0;
+            s.control.head = word;
+            record(s, d, |r, _| r.link = word);
+        },
+    },
+    Damage {
+        name: "head: as read",
+        inflict: |s, d| {
+            let word = s.control.head;
+            record(s, d, |r, _| r.link = word);
+        },
+    },
+    Damage {
+        name: "next: any row",
+        inflict: |s, d| {
+            let (next, row) = (any_slot(s, d), d.between(0, 5) as usize);
+            if let Some(word) = s.next.get_mut(row) {
+                *word = next;
+            }
+        },
     },
     Damage { name: "anchor: status 3", inflict: |s, _| anchor(s, |a| a.status = 3) },
     Damage {
@@ -71,6 +108,14 @@ pub const DAMAGES: &[Damage] = &[
         },
     },
     Damage { name: "anchor: last tag", inflict: |s, _| anchor(s, |a| a.tag = LAST_TAG) },
+    Damage {
+        name: "anchor: last tag, and read so",
+        inflict: |s, d| {
+            anchor(s, |a| a.tag = LAST_TAG);
+            let word = s.control.anchor;
+            record(s, d, |r, _| r.seen = word);
+        },
+    },
     Damage { name: "anchor: any word", inflict: |s, d| s.control.anchor = d.throw() },
     Damage {
         name: "short: left links",
@@ -101,6 +146,13 @@ pub const DAMAGES: &[Damage] = &[
         },
     },
     Damage {
+        name: "short: next",
+        inflict: |s, d| {
+            let n = rows(s, d);
+            s.next.truncate(n)
+        },
+    },
+    Damage {
         name: "short: records",
         inflict: |s, d| {
             let tasks = s.control.tasks.clamp(1, 16) as usize;
@@ -109,11 +161,11 @@ pub const DAMAGES: &[Damage] = &[
     },
     Damage {
         name: "record: place",
-        inflict: |s, d| record(s, d, |r, d| r.place = d.pick(&[12, 13, u64::MAX])),
+        inflict: |s, d| record(s, d, |r, d| r.place = d.pick(&[18, 1 << 32, u64::MAX])),
     },
     Damage {
         name: "record: another place",
-        inflict: |s, d| record(s, d, |r, d| r.place = d.between(0, 11)),
+        inflict: |s, d| record(s, d, |r, d| r.place = d.between(0, 17)),
     },
     Damage {
         name: "record: kind",
@@ -187,9 +239,14 @@ pub const DAMAGES: &[Damage] = &[
             let link = any_link(s, d);
             let (slots, word) = (s.control.slots.clamp(1, 9), s.control.anchor);
             record(s, d, |r, d| {
-                let kind = d.between(0, 1);
-                let own = if kind == POP { 0 } else { d.between(1, slots) };
-                let (place, side) = (d.between(1, 11), d.between(0, 1));
+                let (place, side) = (d.between(1, 17), d.between(0, 1));
+                let kind = match place {
+                    11 | 15..=17 => POP,
+                    12..=14 => PUSH,
+                    _ => d.between(0, 1),
+                };
+                let held = if kind == PUSH { place <= 10 } else { place >= 15 };
+                let own = if held { d.between(1, slots) } else { 0 };
                 let neighbour = d.between(0, slots);
                 *r = Record { place, kind, side, own, neighbour, link, seen: word, ..*r };
             });

@@ -1,10 +1,10 @@
-//! An independent implementation of document 01, written from the paper alone.
+//! An independent implementation of documents 01 and 02, written from the papers alone.
 //!
 //! The machine: `word` (packed words), `tables` (what is lent), `refusal` (the
 //! ordered tests), `places` (what a step does), `machine` (the outside calls).
 //! The program: `runfile` (fields in), `run` (events), `trace` (lines out).
-//! The judge: `clerk` (a sequential deque), `contents` (labels waiting),
-//! `invariant` (what holds between any two steps), `check` (all of them at once).
+//! The judge: `clerk` (a sequential deque), `contents` (labels waiting), `pool` (free
+//! slots), `invariant` (what holds between any two steps), `check` (all of them at once).
 //! The differential test: `dice`, `script`, `shift`, `scenario`, `malformed`, `coverage`.
 //! For tests that drive the calls themselves: `damage` (tables that no run leaves).
 
@@ -18,6 +18,7 @@ pub mod invariant;
 pub mod machine;
 pub mod malformed;
 mod places;
+pub mod pool;
 pub mod refusal;
 pub mod run;
 pub mod runfile;

@@ -1,10 +1,10 @@
 //! Document 01's worked example and its bench cases, on the library.
 
-use reference::machine::Moved::{self, Empty, Popped, Pushed, Running};
+use reference::machine::Moved::{self, Empty, NoSlot, Popped, Pushed, Running};
 use reference::refusal::Refusal;
 use reference::run::{run, Nobody};
-use reference::tables::Storage;
-use reference::word::{Anchor, LPUSH, RPUSH, STABLE};
+use reference::tables::{Control, Record, Storage, POP, PUSH};
+use reference::word::{Anchor, Link, LPUSH, RPUSH, STABLE};
 
 fn opened(tasks: u64, slots: u64, first_tag: u32) -> Storage {
     let mut storage = Storage::default();
@@ -93,17 +93,63 @@ fn pops_take_four_steps_then_three() {
     assert_eq!(finish(&mut storage, 1), (3, Popped { slot: 2, label: 20 }));
 }
 
+/// As document 02, #106, has it: task 1 answers at its second step.
 #[test]
 fn two_pops_on_one_label() {
     let mut storage = opened(2, 1, 0);
-    storage.lend().push(0, 1, 1, 10).expect("starts");
+    storage.lend().push(0, 1, 1, 700).expect("starts");
     finish(&mut storage, 0);
     storage.lend().pop(0, 0).expect("starts");
     storage.lend().pop(1, 1).expect("starts");
-    let answers = [0, 1, 0, 1, 0, 1].map(|task| storage.lend().step(task).expect("steps"));
-    let got = Popped { slot: 1, label: 10 };
-    assert_eq!(answers, [Running(2), Running(2), Running(11), Running(1), got, Empty]);
+    let answers = [0, 1, 0, 1, 0, 1].map(|task| storage.lend().step(task));
+    let got = Popped { slot: 1, label: 700 };
+    let moved = [Running(2), Running(2), Running(11), Empty, got].map(Ok);
+    assert_eq!(answers[..5], moved);
+    assert_eq!(answers[5], Err(Refusal::Idle));
     assert_eq!(storage.lend().report().expect("reports").retries, 1);
+}
+
+/// What a task at 2 or 4 goes on to when another has changed Anchor to this one.
+fn outrun(kind: u64, place: u64, now: Anchor) -> (Moved, Record) {
+    let mut storage = opened(1, 3, 0);
+    let seen = Anchor { tag: 4, status: STABLE, left: 1, right: 2 }.pack();
+    let own = if kind == PUSH { 3 } else { 0 };
+    let link = Link::new(9, 2).0;
+    let record =
+        Record { place, kind, side: 1, own, label: 8, seen, neighbour: 1, link, finishing: 0 };
+    storage.records[0] = record;
+    storage.control.anchor = now.pack();
+    let before = storage.clone();
+    let moved = storage.lend().step(0).expect("a failed change is never refused");
+    assert_eq!(storage.control, Control { retries: 1, ..before.control });
+    let after = storage.records[0];
+    storage.records[0] = record;
+    storage.control.retries = 0;
+    assert_eq!(storage, before, "only control and the record move");
+    (moved, after)
+}
+
+#[test]
+fn a_failed_change_goes_on_as_place_1() {
+    let now = |status, left, right| Anchor { tag: 5, status, left, right };
+    let found = [now(STABLE, 0, 0), now(STABLE, 2, 2), now(STABLE, 2, 1), now(LPUSH, 2, 1)];
+    for place in [2, 4] {
+        for (kind, nexts) in [(PUSH, [2, 3, 3, 5]), (POP, [0, 2, 3, 5])] {
+            for (found, next) in found.into_iter().zip(nexts) {
+                let (moved, after) = outrun(kind, place, found);
+                if next == 0 {
+                    assert_eq!((moved, after), (Empty, Record::default()));
+                    continue;
+                }
+                assert_eq!((moved, after.place), (Running(next), next));
+                assert_eq!(after.seen, found.pack(), "the word found is the reading");
+                assert_eq!(
+                    (after.label, after.neighbour, after.link),
+                    (8, 1, 0x0000_0009_0000_0002)
+                );
+            }
+        }
+    }
 }
 
 #[test]
@@ -136,6 +182,87 @@ fn sixteen_pushes_at_the_last_tag() {
     assert_eq!(storage.control.anchor >> 32, 4_294_967_262 + 31);
 }
 
+/// A pooled queue with one task and so many slots.
+fn pooled(slots: u64) -> Storage {
+    let mut storage = Storage::default();
+    storage.lend().open_pooled(1, slots, 7).expect("opens");
+    storage
+}
+
+#[test]
+fn a_pooled_opening() {
+    let mut storage = Storage::default();
+    storage.next.fill(9);
+    storage.lend().open_pooled(2, 3, 0xffff_ffff).expect("opens");
+    let anchor = 0xffff_ffff << 32;
+    let control = Control { tasks: 2, slots: 3, anchor, retries: 0, pooled: 1, head: 1 };
+    assert_eq!(storage.control, control);
+    assert_eq!(storage.next[..5], [0, 2, 3, 0, 9]);
+    let before = storage.next.clone();
+    storage.lend().open(2, 3, 0).expect("opens");
+    assert_eq!((storage.control.pooled, storage.control.head), (0, 0));
+    assert_eq!(storage.next, before, "a named opening leaves the next table");
+    storage.next.truncate(3);
+    assert_eq!(storage.lend().open_pooled(2, 3, 0), Err(Refusal::Short));
+    assert_eq!(storage.lend().open_pooled(17, 1_024, 0), Err(Refusal::Tasks));
+    assert_eq!(storage.lend().open_pooled(16, 1_024, 0), Err(Refusal::Slots));
+    assert_eq!(storage.lend().open(2, 3, 0), Ok(()), "nor looks at its length");
+}
+
+/// One push and one pop alone, and head and next table after each.
+#[test]
+fn a_slot_from_the_pool_and_back() {
+    let mut storage = pooled(2);
+    storage.lend().push_pooled(0, 1, 700).expect("starts");
+    let started = Record { place: 12, side: 1, label: 700, ..Record::default() };
+    assert_eq!(storage.records[0], started);
+    assert_eq!((storage.control.head, storage.marks[0], storage.labels[1]), (1, 0, 0));
+    let moved = [12, 13, 14].map(|_| storage.lend().step(0));
+    assert_eq!(moved, [Ok(Running(13)), Ok(Running(14)), Ok(Running(1))]);
+    assert_eq!(storage.control.head, 0x0000_0001_0000_0002);
+    assert_eq!((storage.marks[0], storage.labels[1]), (2, 700));
+    let got = Record { place: 1, own: 1, neighbour: 2, link: 1, ..started };
+    assert_eq!(storage.records[0], got, "link and neighbour stay");
+    assert_eq!(finish(&mut storage, 0), (2, Pushed));
+    storage.lend().pop(0, 0).expect("starts");
+    let moved = [1, 2, 11].map(|_| storage.lend().step(0));
+    assert_eq!(moved, [Ok(Running(2)), Ok(Running(11)), Ok(Running(15))]);
+    assert_eq!((storage.marks[0], storage.records[0].own, storage.records[0].label), (0, 1, 700));
+    assert_eq!(finish(&mut storage, 0), (3, Popped { slot: 1, label: 700 }));
+    assert_eq!(storage.control.head, 0x0000_0002_0000_0001);
+    assert_eq!(storage.next[..3], [0, 2, 0]);
+    assert_eq!(storage.records[0], Record::default());
+}
+
+#[test]
+fn the_pool_runs_out() {
+    let mut storage = pooled(1);
+    for (steps, answer) in [(5, Pushed), (1, NoSlot), (1, NoSlot)] {
+        storage.lend().push_pooled(0, 0, 1).expect("starts");
+        assert_eq!(finish(&mut storage, 0), (steps, answer));
+    }
+    assert_eq!(storage.records[0], Record::default());
+    assert_eq!(storage.control.head, 0x0000_0001_0000_0000);
+}
+
+/// 41 stands between 14 and 15, before all that the record and the marks decide.
+#[test]
+fn the_wrong_push() {
+    let mut storage = pooled(1);
+    assert_eq!(storage.lend().push(1, 2, 5, 0), Err(Refusal::NoTask));
+    assert_eq!(storage.lend().push(0, 2, 5, 0), Err(Refusal::NoSide));
+    assert_eq!(storage.lend().push(0, 0, 5, 0), Err(Refusal::WrongPush));
+    storage.records[0].place = 99;
+    assert_eq!(storage.lend().push(0, 0, 1, 0), Err(Refusal::WrongPush));
+    assert_eq!(storage.lend().push_pooled(0, 0, 0), Err(Refusal::Unsound));
+    let mut storage = opened(1, 1, 4_294_967_263);
+    assert_eq!(storage.lend().push_pooled(0, 0, 0), Err(Refusal::WrongPush));
+    storage.control.pooled = 1;
+    assert_eq!(storage.lend().push_pooled(0, 0, 0), Err(Refusal::WornTag));
+    storage.control.pooled = 2;
+    assert_eq!(storage.lend().push_pooled(0, 0, 0), Err(Refusal::Unsound));
+}
+
 #[test]
 fn the_report_counts() {
     let mut storage = two_waiting();
@@ -152,9 +279,9 @@ fn an_opening_keeps_what_lies_beyond() {
     let mut storage = Storage::default();
     storage.lefts.fill(7);
     storage.marks.fill(7);
-    storage.records.iter_mut().for_each(|record| record.place = 12);
+    storage.records.iter_mut().for_each(|record| record.place = 18);
     storage.lend().open(2, 64, 5).expect("opens");
     assert_eq!((storage.lefts[64], storage.lefts[65]), (0, 7));
     assert_eq!((storage.marks[1], storage.marks[2]), (0, 7));
-    assert_eq!((storage.records[1].place, storage.records[2].place), (0, 12));
+    assert_eq!((storage.records[1].place, storage.records[2].place), (0, 18));
 }

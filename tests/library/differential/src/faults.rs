@@ -3,13 +3,14 @@
 use crate::sound::{any_place, busy_record, sound_anchor, Scene};
 use crate::world::{Call, Export};
 use reference::dice::Dice;
-use reference::tables::{POP, PUSH};
-use reference::word::{Anchor, LPUSH, RPUSH, STABLE};
+use reference::tables::{NAMED, POOLED, POP, PUSH};
+use reference::word::{Anchor, Link, LPUSH, RPUSH, STABLE};
 
 const LAST_TAG: u64 = 0xffff_ffff;
 const HIGH: u64 = 1 << 32; // lost in a number of 32 bits
 
-/// The order in which a call asks: document 01, below "Refused because of the state".
+/// The order in which a call asks: document 01, below "Refused because of the state"; 41 stands
+/// after 14.
 #[derive(Clone, Copy, Debug, PartialEq, Eq, PartialOrd, Ord)]
 pub enum Group {
     Tasks,
@@ -18,6 +19,7 @@ pub enum Group {
     Short,
     Task,
     Side,
+    WrongPush,
     Slot,
     Record,
     Busy,
@@ -40,6 +42,7 @@ impl Group {
             Group::Idle => 31,
             Group::Taken => 32,
             Group::Worn => 33,
+            Group::WrongPush => 41,
             Group::Control | Group::Record | Group::Touch => 34,
         }
     }
@@ -47,13 +50,14 @@ impl Group {
     pub fn of(self, export: Export) -> bool {
         use Export::*;
         let exports: &[Export] = match self {
-            Group::Tasks | Group::Slots => &[Open],
-            Group::Control => &[Push, Pop, Step, StepRecord, Report],
-            Group::Short => &[Open, Push, Pop, Step, StepRecord, Report],
-            Group::Task => &[Push, Pop, Step],
-            Group::Side | Group::Busy | Group::Worn => &[Push, Pop],
+            Group::Tasks | Group::Slots => &[Open, OpenPooled],
+            Group::Control => &[Push, PushPooled, Pop, Step, StepRecord, Report],
+            Group::Short => &[Open, OpenPooled, Push, PushPooled, Pop, Step, StepRecord, Report],
+            Group::Task => &[Push, PushPooled, Pop, Step],
+            Group::Side | Group::Busy | Group::Worn => &[Push, PushPooled, Pop],
+            Group::WrongPush => &[Push, PushPooled],
             Group::Slot | Group::Taken => &[Push],
-            Group::Record => &[Push, Pop, Step, StepRecord],
+            Group::Record => &[Push, PushPooled, Pop, Step, StepRecord],
             Group::Idle | Group::Touch => &[Step, StepRecord],
         };
         exports.contains(&export)
@@ -66,25 +70,52 @@ pub struct Fault {
     /// Where a step must stand for it, and of which kind; none: anywhere.
     pub place: Option<u64>,
     pub kind: Option<u64>,
+    /// The way of opening that it needs; none: either.
+    pub pooled: Option<bool>,
     /// The slots that its scene has at least.
     pub least: u64,
     pub plant: fn(&mut Scene, &mut Dice),
 }
 
 impl Fault {
-    /// 12 looks at no records where one is lent alone.
+    /// 12 looks at no records where one is lent alone. A fault of one way of opening is none in
+    /// a push of the other.
     pub fn of(&self, export: Export) -> bool {
-        self.group.of(export) && !(export == Export::StepRecord && self.name == "short records")
+        let way = match export {
+            Export::Open | Export::Push => Some(false),
+            Export::OpenPooled | Export::PushPooled => Some(true),
+            _ => None,
+        };
+        let fits = self.pooled.is_none() || way.is_none() || self.pooled == way;
+        let seen = match self.name {
+            "short records" => export != Export::StepRecord,
+            SHORT_IN_A_WRONG_PUSH => export == Export::Push,
+            _ => true,
+        };
+        self.group.of(export) && fits && seen
     }
 }
 
+/// A pooled queue's next table too short for a push that names a slot: 12, not 41.
+const SHORT_IN_A_WRONG_PUSH: &str = "short next in a pooled queue";
+
 const fn fault(group: Group, name: &'static str, plant: fn(&mut Scene, &mut Dice)) -> Fault {
-    Fault { name, group, place: None, kind: None, least: 1, plant }
+    Fault { name, group, place: None, kind: None, pooled: None, least: 1, plant }
 }
 
 const fn at(place: u64, kind: u64, name: &'static str, plant: fn(&mut Scene, &mut Dice)) -> Fault {
     let least = if place >= 5 && place <= 10 { 2 } else { 1 };
-    Fault { name, group: Group::Touch, place: Some(place), kind: Some(kind), least, plant }
+    let (place, kind) = (Some(place), Some(kind));
+    Fault { name, group: Group::Touch, place, kind, pooled: None, least, plant }
+}
+
+/// A fault of a pooled queue, or of one with named slots.
+const fn pooled(fault: Fault) -> Fault {
+    Fault { pooled: Some(true), ..fault }
+}
+
+const fn named(fault: Fault) -> Fault {
+    Fault { pooled: Some(false), ..fault }
 }
 
 /// A fault with an unstable Anchor that is sound: its ends are two slots.
@@ -113,8 +144,12 @@ fn needed(scene: &Scene) -> (usize, usize, usize) {
 
 /// A busy record to be damaged: a start's task is made busy first.
 fn busy(scene: &mut Scene, dice: &mut Dice, place: Option<u64>, kind: Option<u64>) {
-    let place = place.unwrap_or_else(|| any_place(dice, scene.slots, 10));
     let kind = kind.unwrap_or_else(|| dice.between(0, 1));
+    let place = place.unwrap_or_else(|| match scene.is_pooled() && dice.percent(30) {
+        false => any_place(dice, scene.slots, 10),
+        true if kind == PUSH => dice.between(12, 14),
+        true => dice.between(15, 17),
+    });
     let record = busy_record(dice, scene.slots, place, kind);
     *scene.record() = record;
 }
@@ -179,14 +214,19 @@ fn spoil_outward(scene: &mut Scene, dice: &mut Dice, bits: bool) {
 
 fn set_task(scene: &mut Scene, number: usize) {
     match &mut scene.call {
-        Call::Push { task, .. } | Call::Pop { task, .. } | Call::Step { task } => *task = number,
+        Call::Push { task, .. }
+        | Call::PushPooled { task, .. }
+        | Call::Pop { task, .. }
+        | Call::Step { task } => *task = number,
         _ => unreachable!(),
     }
 }
 
 fn set_side(scene: &mut Scene, number: u64) {
     match &mut scene.call {
-        Call::Push { side, .. } | Call::Pop { side, .. } => *side = number,
+        Call::Push { side, .. } | Call::PushPooled { side, .. } | Call::Pop { side, .. } => {
+            *side = number
+        }
         _ => unreachable!(),
     }
 }
@@ -200,7 +240,7 @@ fn set_slot(scene: &mut Scene, number: u64) {
 
 fn set_opening(scene: &mut Scene, new_tasks: Option<u64>, new_slots: Option<u64>) {
     match &mut scene.call {
-        Call::Open { tasks, slots, .. } => {
+        Call::Open { tasks, slots, .. } | Call::OpenPooled { tasks, slots, .. } => {
             *tasks = new_tasks.unwrap_or(*tasks);
             *slots = new_slots.unwrap_or(*slots);
         }
@@ -213,6 +253,7 @@ fn set_opening(scene: &mut Scene, new_tasks: Option<u64>, new_slots: Option<u64>
 pub fn outrun(scene: &mut Scene, dice: &mut Dice) {
     match scene.record().place {
         9 => outrun_link(scene, dice),
+        14 | 17 => outrun_head(scene, dice),
         _ => outrun_anchor(scene, dice),
     }
 }
@@ -223,6 +264,11 @@ fn outrun_link(scene: &mut Scene, dice: &mut Dice) {
     let record = *scene.record();
     let links = if right { &mut scene.world.rights } else { &mut scene.world.lefts };
     links.held[record.neighbour as usize] = record.link ^ dice.pick(&[1, 1 << 32]);
+}
+
+fn outrun_head(scene: &mut Scene, dice: &mut Dice) {
+    scene.record().link |= LAST_TAG << 32;
+    scene.world.control.head = scene.record().link ^ dice.pick(&[1, 1 << 15, 1 << 32]);
 }
 
 fn outrun_anchor(scene: &mut Scene, dice: &mut Dice) {
@@ -253,6 +299,8 @@ pub const FAULTS: &[Fault] = &[
     }),
     fault(Group::Control, "control: 1,024 slots", |s, _| s.world.control.slots = 1_024),
     fault(Group::Control, "control: 2^32 more slots", |s, _| s.world.control.slots += HIGH),
+    fault(Group::Control, "control: pooled 2", |s, _| s.world.control.pooled = 2),
+    fault(Group::Control, "control: pooled 2^32 more", |s, _| s.world.control.pooled += HIGH),
     fault(Group::Control, "Anchor: status 3", |s, _| {
         let right = s.slots.min(2);
         anchor(s, |a| (a.status, a.left, a.right) = (3, 1, right));
@@ -304,22 +352,94 @@ pub const FAULTS: &[Fault] = &[
         let (_, _, words) = needed(s);
         cut(d, &mut s.world.marks.count, &mut s.world.marks.null, words);
     }),
-    // ---- 13, 14, 15.
+    pooled(fault(Group::Short, "short next", |s, d| {
+        let (_, rows, _) = needed(s);
+        cut(d, &mut s.world.next.count, &mut s.world.next.null, rows);
+    })),
+    named(fault(Group::Short, SHORT_IN_A_WRONG_PUSH, |s, d| {
+        let (_, rows, _) = needed(s);
+        s.world.control.pooled = POOLED;
+        cut(d, &mut s.world.next.count, &mut s.world.next.null, rows);
+    })),
+    // ---- 13, 14, 41, 15.
     fault(Group::Task, "task: one too high", |s, _| set_task(s, s.tasks as usize)),
     fault(Group::Task, "task: 2^32", |s, _| set_task(s, HIGH as usize)),
     fault(Group::Task, "task: the highest number", |s, _| set_task(s, usize::MAX)),
     fault(Group::Side, "side 2", |s, _| set_side(s, 2)),
     fault(Group::Side, "side 2^32 + 1", |s, _| set_side(s, HIGH + 1)),
     fault(Group::Side, "side: the highest number", |s, _| set_side(s, u64::MAX)),
+    named(fault(Group::WrongPush, "a slot named in a pooled queue", |s, _| {
+        s.world.control.pooled = POOLED;
+    })),
+    pooled(fault(Group::WrongPush, "no slot named in the other", |s, _| {
+        s.world.control.pooled = NAMED;
+    })),
+    pooled(fault(
+        Group::WrongPush,
+        "no slot named in the other, whose next is not looked at",
+        |s, d| {
+            let (_, rows, _) = needed(s);
+            s.world.control.pooled = NAMED;
+            cut(d, &mut s.world.next.count, &mut s.world.next.null, rows);
+        },
+    )),
     fault(Group::Slot, "slot 0", |s, _| set_slot(s, 0)),
     fault(Group::Slot, "slot: one too high", |s, _| set_slot(s, s.slots + 1)),
     fault(Group::Slot, "slot 2^32 + 1", |s, _| set_slot(s, HIGH + 1)),
     fault(Group::Slot, "slot: the highest number", |s, _| set_slot(s, u64::MAX)),
     // ---- 34 for the record.
-    fault(Group::Record, "place 12", |s, d| {
-        busy(s, d, None, Some(POP));
-        s.record().place = 12;
+    named(fault(Group::Record, "place 12 to 14 in a named queue", |s, d| {
+        let place = d.between(12, 14);
+        busy(s, d, Some(place), Some(PUSH));
+    })),
+    named(fault(Group::Record, "place 15 to 17 in a named queue", |s, d| {
+        let place = d.between(15, 17);
+        busy(s, d, Some(place), Some(POP));
+    })),
+    fault(Group::Record, "place 18", |s, d| {
+        busy(s, d, None, None);
+        s.record().place = 18;
     }),
+    pooled(fault(Group::Record, "place 12 to 14 in a pop", |s, d| {
+        let place = d.between(12, 14);
+        busy(s, d, Some(place), Some(PUSH));
+        s.record().kind = POP;
+    })),
+    pooled(fault(Group::Record, "place 15 to 17 in a push", |s, d| {
+        let place = d.between(15, 17);
+        busy(s, d, Some(place), Some(POP));
+        s.record().kind = PUSH;
+    })),
+    pooled(fault(Group::Record, "finishing in a push at 12 to 14", |s, d| {
+        let place = d.between(12, 14);
+        busy(s, d, Some(place), Some(PUSH));
+        s.record().finishing = 1;
+    })),
+    pooled(fault(Group::Record, "finishing in a pop at 15 to 17", |s, d| {
+        let place = d.between(15, 17);
+        busy(s, d, Some(place), Some(POP));
+        s.record().finishing = 1;
+    })),
+    pooled(fault(Group::Record, "own slot in a push at 12 to 14", |s, d| {
+        let place = d.between(12, 14);
+        busy(s, d, Some(place), Some(PUSH));
+        s.record().own = d.pick(&[1, HIGH]);
+    })),
+    pooled(fault(Group::Record, "own slot 0 in a pop at 15 to 17", |s, d| {
+        let place = d.between(15, 17);
+        busy(s, d, Some(place), Some(POP));
+        s.record().own = 0;
+    })),
+    pooled(fault(Group::Record, "own slot above slots in a pop at 15 to 17", |s, d| {
+        let place = d.between(15, 17);
+        busy(s, d, Some(place), Some(POP));
+        s.record().own = d.pick(&[s.slots + 1, HIGH + 1, u64::MAX]);
+    })),
+    pooled(fault(Group::Record, "slot 0 in the link at 13 and 14", |s, d| {
+        let place = d.between(13, 14);
+        busy(s, d, Some(place), Some(PUSH));
+        s.record().link &= !0x7fff;
+    })),
     fault(Group::Record, "place 2^32 + 1", |s, d| {
         busy(s, d, Some(1), None);
         s.record().place = HIGH + 1;
@@ -349,7 +469,8 @@ pub const FAULTS: &[Fault] = &[
         s.record().finishing += HIGH;
     })),
     fault(Group::Record, "place 11 in a push", |s, d| {
-        busy(s, d, None, Some(PUSH));
+        let place = d.between(1, 4);
+        busy(s, d, Some(place), Some(PUSH));
         s.record().place = 11;
         s.record().finishing = 0;
     }),
@@ -373,15 +494,18 @@ pub const FAULTS: &[Fault] = &[
         s.record().finishing = 1;
     }),
     fault(Group::Record, "own slot 0 in a push", |s, d| {
-        busy(s, d, None, Some(PUSH));
+        let place = any_place(d, s.slots, 10);
+        busy(s, d, Some(place), Some(PUSH));
         s.record().own = 0;
     }),
     fault(Group::Record, "own slot above slots in a push", |s, d| {
-        busy(s, d, None, Some(PUSH));
+        let place = any_place(d, s.slots, 10);
+        busy(s, d, Some(place), Some(PUSH));
         s.record().own = d.pick(&[s.slots + 1, HIGH + 1, u64::MAX]);
     }),
     fault(Group::Record, "own slot in a pop", |s, d| {
-        busy(s, d, None, Some(POP));
+        let place = any_place(d, s.slots, 11);
+        busy(s, d, Some(place), Some(POP));
         s.record().own = d.pick(&[1, HIGH]);
     }),
     fault(Group::Record, "neighbour above slots", |s, d| {
@@ -477,6 +601,34 @@ pub const FAULTS: &[Fault] = &[
     at(4, POP, "4: a pop at the last tag", |s, _| current(s, |a| a.tag = LAST_TAG)),
     at(10, PUSH, "10: a push at the last tag", |s, _| current(s, |a| a.tag = LAST_TAG)),
     at(10, POP, "10: a pop at the last tag", |s, _| current(s, |a| a.tag = LAST_TAG)),
+    at(12, PUSH, "12: a head with a bit of 31-15", |s, d| {
+        s.world.control.head |= 1 << d.between(15, 31);
+    }),
+    at(12, PUSH, "12: an empty head with a bit of 31-15", |s, d| {
+        s.world.control.head &= !0x7fff;
+        s.world.control.head |= 1 << d.between(15, 31);
+    }),
+    at(12, PUSH, "12: a head above slots", |s, d| {
+        s.world.control.head = Link::new(0, d.pick(&[s.slots + 1, 0x7fff])).0;
+    }),
+    at(15, POP, "15: a head with a bit of 31-15", |s, d| {
+        s.world.control.head |= 1 << d.between(15, 31);
+    }),
+    at(15, POP, "15: a head above slots", |s, d| {
+        s.world.control.head = Link::new(0, d.pick(&[s.slots + 1, 0x7fff])).0;
+    }),
+    at(13, PUSH, "13: a next above slots", |s, d| {
+        let row = Link(s.record().link).slot() as usize;
+        s.world.next.held[row] = d.pick(&[s.slots + 1, HIGH, HIGH + 1, u64::MAX]);
+    }),
+    at(14, PUSH, "14: a head at the last tag", |s, _| {
+        s.record().link |= LAST_TAG << 32;
+        s.world.control.head = s.record().link;
+    }),
+    at(17, POP, "17: a head at the last tag", |s, _| {
+        s.record().link |= LAST_TAG << 32;
+        s.world.control.head = s.record().link;
+    }),
     at(9, PUSH, "9: a link at the last tag", |s, _| {
         let (_, right) = viewed(s);
         s.record().link |= LAST_TAG << 32;

@@ -28,7 +28,7 @@ fn main() -> ExitCode {
     plant::pairs(&mut tally, &mut dice, 3 * times);
     plant::failures(&mut tally, &mut dice, 60 * times);
     noise::noise(&mut tally, &mut dice, 200_000 * times);
-    histories::histories(&mut tally, &mut dice, 150 * times, 10_000);
+    histories::histories(&mut tally, &mut dice, 400 * times, 10_000);
     tally.check_reached();
     tally.check(tally.mismatches == 0, &format!("{} calls differed", tally.mismatches));
     println!("seed {seed}: {} calls compared", tally.calls);

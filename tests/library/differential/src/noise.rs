@@ -3,7 +3,7 @@
 
 use crate::sound::{wild, wild_record, wild_word, Scene, Wanted};
 use crate::tally::Tally;
-use crate::world::{Call, Lent};
+use crate::world::{Call, Export, Lent};
 use reference::dice::Dice;
 
 fn spoil_count<T>(dice: &mut Dice, table: &mut Lent<T>) {
@@ -15,7 +15,9 @@ fn spoil_count<T>(dice: &mut Dice, table: &mut Lent<T>) {
 
 fn spoil_control(dice: &mut Dice, scene: &mut Scene) {
     let control = &mut scene.world.control;
-    match dice.between(0, 40) {
+    match dice.between(0, 44) {
+        6 => control.pooled = wild(dice, 1),
+        7..=9 => control.head = wild_word(dice, scene.slots),
         0 => control.tasks = wild(dice, 16),
         1 => control.slots = wild(dice, scene.slots),
         2..=4 => control.anchor = wild_word(dice, scene.slots),
@@ -27,10 +29,12 @@ fn spoil_control(dice: &mut Dice, scene: &mut Scene) {
 fn spoil_record(dice: &mut Dice, scene: &mut Scene) {
     let slots = scene.slots;
     let (anchor, random) = (scene.world.control.anchor, wild_record(dice));
+    let head = scene.world.control.head;
     let word = wild_word(dice, slots);
     let small = wild(dice, slots);
     let record = scene.record();
-    match dice.between(0, 20) {
+    match dice.between(0, 23) {
+        13..=15 => record.link = head,
         0 => *record = random,
         1 => record.place = random.place,
         2 => record.kind = random.kind,
@@ -52,6 +56,7 @@ fn spoil_rows(dice: &mut Dice, scene: &mut Scene) {
             if dice.percent(30) {
                 scene.world.lefts.held[row] = wild_word(dice, scene.slots);
                 scene.world.rights.held[row] = wild_word(dice, scene.slots);
+                scene.world.next.held[row] = wild(dice, scene.slots);
             }
         }
     }
@@ -63,14 +68,14 @@ fn spoil_arguments(dice: &mut Dice, scene: &mut Scene) {
     }
     let (most_tasks, most_slots) = (scene.tasks, scene.slots);
     match &mut scene.call {
-        Call::Open { tasks, slots, .. } => {
+        Call::Open { tasks, slots, .. } | Call::OpenPooled { tasks, slots, .. } => {
             (*tasks, *slots) = (wild(dice, most_tasks), wild(dice, most_slots));
         }
         Call::Push { task, side, slot, .. } => {
             (*side, *slot) = (wild(dice, 1), wild(dice, most_slots));
             *task = wild(dice, most_tasks) as usize;
         }
-        Call::Pop { task, side } => {
+        Call::Pop { task, side } | Call::PushPooled { task, side, .. } => {
             (*task, *side) = (wild(dice, most_tasks) as usize, wild(dice, 1));
         }
         Call::Step { task } => *task = wild(dice, most_tasks) as usize,
@@ -81,15 +86,17 @@ fn spoil_arguments(dice: &mut Dice, scene: &mut Scene) {
 pub fn noise(tally: &mut Tally, dice: &mut Dice, scenes: u32) {
     let before = tally.mismatches;
     for _ in 0..scenes {
-        let wanted = match dice.between(0, 9) {
-            0 => Wanted::Open,
-            1 => Wanted::Push,
-            2 => Wanted::Pop,
-            3..=6 => Wanted::Step(None, None),
-            7..=8 => Wanted::StepRecord(None, None),
-            _ => Wanted::Report,
+        let export = match dice.between(0, 13) {
+            0 => Export::Open,
+            1 => Export::OpenPooled,
+            2 => Export::Push,
+            3 => Export::PushPooled,
+            4 => Export::Pop,
+            5..=9 => Export::Step,
+            10..=12 => Export::StepRecord,
+            _ => Export::Report,
         };
-        let mut scene = Scene::draw(dice, wanted, 1);
+        let mut scene = Scene::draw(dice, Wanted::any(export), 1);
         spoil_control(dice, &mut scene);
         spoil_record(dice, &mut scene);
         spoil_rows(dice, &mut scene);
@@ -97,6 +104,7 @@ pub fn noise(tally: &mut Tally, dice: &mut Dice, scenes: u32) {
         spoil_count(dice, &mut scene.world.rights);
         spoil_count(dice, &mut scene.world.labels);
         spoil_count(dice, &mut scene.world.marks);
+        spoil_count(dice, &mut scene.world.next);
         spoil_count(dice, &mut scene.world.records);
         spoil_arguments(dice, &mut scene);
         let (mut ours, mut theirs) = (scene.world.clone(), scene.world);
