@@ -55,49 +55,55 @@ pub enum Answer {
     NoFreeSlot,
 }
 
-/// Why a call was refused, with its number. Every table kept its contents.
-#[derive(Clone, Copy, Debug, PartialEq, Eq)]
-pub enum Refusal {
-    /// Tasks not 1 to 16.
-    BadTasks = 10,
-    /// Slots not 1 to 1,023.
-    BadSlots = 11,
-    /// A lent table is too short.
-    Short = 12,
-    /// No such task.
-    NoTask = 13,
-    /// Side not 0 or 1.
-    NoSide = 14,
-    /// Slot not 1 to slots.
-    NoSlot = 15,
-    /// A start for a task that is busy.
-    Busy = 30,
-    /// A step of a task that is idle.
-    Idle = 31,
-    /// A push into a slot that is taken.
-    Taken = 32,
-    /// A start with the Anchor tag above [`LAST_START_TAG`]; see [`Queue::renew`](crate::Queue::renew).
-    Worn = 33,
-    /// The tables contradict each other: somebody else wrote there.
-    Unsound = 34,
-    /// A push that names a slot in a pooled queue, or none in the other.
-    WrongPush = 41,
+/// The refusals, each with its number and its words.
+macro_rules! refusals {
+    ($($name:ident = $number:literal, $words:literal $(, $more:literal)?;)*) => {
+        /// Why a call was refused, with its number. Every table kept its contents.
+        #[derive(Clone, Copy, Debug, PartialEq, Eq)]
+        pub enum Refusal {
+            $(#[doc = $words] $(#[doc = $more])? $name = $number,)*
+        }
+
+        impl Refusal {
+            /// Its number.
+            pub fn number(self) -> u32 {
+                self as u32
+            }
+
+            /// The refusal with a number.
+            pub fn numbered(number: u64) -> Option<Refusal> {
+                match number {
+                    $($number => Some(Refusal::$name),)*
+                    _ => None,
+                }
+            }
+
+            /// Why, in words.
+            pub fn words(self) -> &'static str {
+                match self {
+                    $(Refusal::$name => $words,)*
+                }
+            }
+        }
+    };
+}
+
+refusals! {
+    BadTasks = 10, "tasks not 1 to 16";
+    BadSlots = 11, "slots not 1 to 1,023";
+    Short = 12, "a lent table is too short";
+    NoTask = 13, "no such task";
+    NoSide = 14, "side not 0 or 1";
+    NoSlot = 15, "slot not 1 to slots";
+    Busy = 30, "the task is busy";
+    Idle = 31, "the task is idle";
+    Taken = 32, "the slot is taken";
+    Worn = 33, "the Anchor tag is too high for another start", "(see [`Queue::renew`](crate::Queue::renew))";
+    Unsound = 34, "the tables are unsound", "(somebody else wrote there)";
+    WrongPush = 41, "a slot named in a pooled queue, or none in the other";
 }
 
 impl Refusal {
-    /// Its number.
-    pub fn number(self) -> u32 {
-        self as u32
-    }
-
-    /// The refusal with a number.
-    pub fn numbered(number: u64) -> Option<Refusal> {
-        use Refusal::*;
-        let inputs = [BadTasks, BadSlots, Short, NoTask, NoSide, NoSlot];
-        let states = [Busy, Idle, Taken, Worn, Unsound, WrongPush];
-        inputs.into_iter().chain(states).find(|refusal| u64::from(refusal.number()) == number)
-    }
-
     /// The refusal that the library answered.
     pub(crate) fn answered(number: u64) -> Refusal {
         Refusal::numbered(number).unwrap_or_else(|| panic!("the library answered code {number}"))
@@ -106,21 +112,7 @@ impl Refusal {
 
 impl fmt::Display for Refusal {
     fn fmt(&self, out: &mut fmt::Formatter<'_>) -> fmt::Result {
-        let text = match self {
-            Refusal::BadTasks => "tasks not 1 to 16",
-            Refusal::BadSlots => "slots not 1 to 1,023",
-            Refusal::Short => "a lent table is too short",
-            Refusal::NoTask => "no such task",
-            Refusal::NoSide => "side not 0 or 1",
-            Refusal::NoSlot => "slot not 1 to slots",
-            Refusal::Busy => "the task is busy",
-            Refusal::Idle => "the task is idle",
-            Refusal::Taken => "the slot is taken",
-            Refusal::Worn => "the Anchor tag is too high for another start",
-            Refusal::Unsound => "the tables are unsound",
-            Refusal::WrongPush => "a slot named in a pooled queue, or none in the other",
-        };
-        write!(out, "{}: {text}", self.number())
+        write!(out, "{}: {}", self.number(), self.words())
     }
 }
 

@@ -5,6 +5,7 @@ use word::Anchor;
 ghost use mathlib.Core.Path.{_≡_};
 ghost use mathlib.Core.Bool.{_&&_};
 ghost use lib.Dec.{leb};
+ghost use Rattle.model.specs.Tables.{tablesOf};
 ghost use Rattle.sound.specs.Lengths.{lengthsFit};
 ghost use Rattle.calls.specs.Rules.{openingRefusal};
 ghost use Rattle.calls.specs.Opening.{openedControl, OpenedParts, openTables};
@@ -69,12 +70,12 @@ pub fn open_tables(
     ensures { λ m.
         ⌜ _≡_ {A = OpenedParts}
         (record {
-          tables = record { control = m .control; lefts = now (lefts .exit); rights = now (rights .exit); labels = now (labels .exit); marks = now (marks .exit) };
+          tables = tablesOf (m .control) (now (lefts .exit)) (now (rights .exit)) (now (labels .exit)) (now (marks .exit));
           clear = m .clear;
           outcome = m .outcome;
         })
         (openTables
-        (record { control = c; lefts = now (lefts .entry); rights = now (rights .entry); labels = now (labels .entry); marks = now (marks .entry) })
+        (tablesOf c (now (lefts .entry)) (now (rights .entry)) (now (labels .entry)) (now (marks .entry)))
         records tasks slots tag) ⌝ }
 {
     let why = open_refusal(

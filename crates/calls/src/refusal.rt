@@ -6,6 +6,7 @@ ghost use mathlib.Core.Path.{_≡_};
 ghost use mathlib.Core.Bool.{true, false, _&&_};
 ghost use lib.Dec.{ltb, leb};
 ghost use Rattle.word.specs.Anchor.{anchorOf};
+ghost use Rattle.model.specs.Tables.{tablesOf};
 ghost use Rattle.model.specs.Sound.{controlSound};
 ghost use Rattle.model.specs.Refusals.{pushRefusal, popRefusal};
 ghost use Rattle.calls.specs.Rules.{startRefusal, tellingRefusal};
@@ -79,7 +80,7 @@ pub fn push_refusal(
 ) -> u32
     ensures { λ n.
         ⌜ n ≡ pushRefusal
-        (record { control = c; lefts = now (lefts .entry); rights = now (rights .entry); labels = now (labels .entry); marks = now (marks .entry) })
+        (tablesOf c (now (lefts .entry)) (now (rights .entry)) (now (labels .entry)) (now (marks .entry)))
         (record { enough = enough; known = known })
         r side slot ⌝ }
 {
@@ -121,7 +122,7 @@ pub fn pop_refusal(
 ) -> u32
     ensures { λ n.
         ⌜ n ≡ popRefusal
-        (record { control = c; lefts = now (lefts .entry); rights = now (rights .entry); labels = now (labels .entry); marks = now (marks .entry) })
+        (tablesOf c (now (lefts .entry)) (now (rights .entry)) (now (labels .entry)) (now (marks .entry)))
         (record { enough = enough; known = known })
         r side ⌝ }
 {

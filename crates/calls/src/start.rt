@@ -7,9 +7,9 @@ use model::Record;
 use table::Acted;
 ghost use mathlib.Core.Path.{_≡_};
 ghost use lib.Dec.{ltb, leb};
-ghost use Rattle.model.specs.Tables.{started};
-ghost use Rattle.model.specs.Calls as calls;
+ghost use Rattle.model.specs.Tables.{tablesOf, started};
 ghost use Rattle.model.specs.Calls.{pushStart, popStart};
+ghost use Rattle.table.specs.Lent.{withTables};
 
 /// The whole record of a call at place 1.
 fn started(kind: u64, side: u64, own: u64, label: u32) -> Record
@@ -40,16 +40,11 @@ pub fn pop_start(
     marks: &[u64],
 ) -> Acted
     ensures { λ m.
-        ⌜ _≡_ {A = calls.Acted}
-        (record {
-          tables = record { control = m .control; lefts = now (lefts .entry); rights = now (rights .entry); labels = now (labels .entry); marks = now (marks .entry) };
-          task = m .task;
-          outcome = m .outcome;
-        })
-        (popStart
-        (record { control = c; lefts = now (lefts .entry); rights = now (rights .entry); labels = now (labels .entry); marks = now (marks .entry) })
+        ⌜ withTables m (now (lefts .entry)) (now (rights .entry)) (now (labels .entry)) (now (marks .entry))
+        ≡ popStart
+        (tablesOf c (now (lefts .entry)) (now (rights .entry)) (now (labels .entry)) (now (marks .entry)))
         (record { enough = leb (c .tasks) records; known = ltb task (c .tasks) })
-        r side) ⌝ }
+        r side ⌝ }
 {
     let enough = c.tasks <= records as u64;
     let known = (task as u64) < c.tasks;
@@ -85,16 +80,11 @@ pub fn push_start(
     marks: &mut [u64],
 ) -> Acted
     ensures { λ m.
-        ⌜ _≡_ {A = calls.Acted}
-        (record {
-          tables = record { control = m .control; lefts = now (lefts .entry); rights = now (rights .entry); labels = now (labels .exit); marks = now (marks .exit) };
-          task = m .task;
-          outcome = m .outcome;
-        })
-        (pushStart
-        (record { control = c; lefts = now (lefts .entry); rights = now (rights .entry); labels = now (labels .entry); marks = now (marks .entry) })
+        ⌜ withTables m (now (lefts .entry)) (now (rights .entry)) (now (labels .exit)) (now (marks .exit))
+        ≡ pushStart
+        (tablesOf c (now (lefts .entry)) (now (rights .entry)) (now (labels .entry)) (now (marks .entry)))
         (record { enough = leb (c .tasks) records; known = ltb task (c .tasks) })
-        r side slot label) ⌝ }
+        r side slot label ⌝ }
 {
     let enough = c.tasks <= records as u64;
     let known = (task as u64) < c.tasks;

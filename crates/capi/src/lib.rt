@@ -1,15 +1,23 @@
-//! The label queue for C and Rust: each call is the one of crate `deque`, with its answer in numbers.
-//! The step of one lent record stands in crate `capi_record`.
-use model::Control;
+//! The label queue for C and Rust. Control and records are lent as rows of words, which in memory are the
+//! structs of the header. The step of one lent record stands in crate `capi_record`.
+use calls::opening;
+use calls::report;
+use calls::start;
 use model::Opening;
-use model::Record;
 use model::Reply;
 use model::Report;
 use model::Reported;
 ghost use mathlib.Core.Path.{_≡_};
+ghost use mathlib.Core.Bool.{not};
+ghost use Prim.Native.Nat.{_≤_};
+ghost use lib.Dec.{eqb};
+ghost use lib.ListN.{length, getD};
 ghost use Rattle.model.specs.declared.Op.the-variants.{Push, Pop, Step};
+ghost use Rattle.model.specs.Tables.{idle};
 ghost use Rattle.model.specs.Calls.{openQueue, act};
-ghost use Rattle.model.specs.Report.{report};
+ghost use Rattle.model.specs.Report.{count, report};
+ghost use Rattle.engine.specs.Ends.{endsCall, isMoved};
+ghost use Rattle.rows.specs.Rows.{queueIn, recordsOf, uppersOf};
 ghost use Rattle.capi.specs.Replies.{openingCode, reportReplyOf, Coded, coded, Replied, replied};
 
 /// A report in numbers.
@@ -65,8 +73,8 @@ fn report_reply(r: Reported) -> ReportReply
 /// Opens a queue: 0, or the number of a refusal.
 #[no_mangle]
 pub extern "C" fn zc_open(
-    control: &mut Control,
-    records: &mut [Record],
+    control: &mut [u64; rows::CONTROL_WORDS],
+    records: &mut [[u64; rows::RECORD_WORDS]],
     tasks: u64,
     slots: u64,
     tag: u32,
@@ -78,36 +86,31 @@ pub extern "C" fn zc_open(
     ensures { λ r.
         ⌜ _≡_ {A = Coded}
         (record {
-          queue = record {
-            tables = record { control = now (control .exit); lefts = now (lefts .exit); rights = now (rights .exit); labels = now (labels .exit); marks = now (marks .exit) };
-            records = now (records .exit);
-          };
+          queue = queueIn (now (control .exit)) (now (records .exit)) (now (lefts .exit)) (now (rights .exit)) (now (labels .exit)) (now (marks .exit));
+          uppers = uppersOf (now (records .exit));
           code = r;
         })
-        (coded (openQueue (record {
-          tables = record { control = now (control .entry); lefts = now (lefts .entry); rights = now (rights .entry); labels = now (labels .entry); marks = now (marks .entry) };
-          records = now (records .entry);
-        }) tasks slots tag)) ⌝ }
+        (coded tasks (uppersOf (now (records .entry)))
+        (openQueue (queueIn (now (control .entry)) (now (records .entry)) (now (lefts .entry)) (now (rights .entry)) (now (labels .entry)) (now (marks .entry)))
+        tasks slots tag)) ⌝ }
 {
-    let o = deque::open(
-        control,
-        records,
-        tasks,
-        slots,
-        tag,
-        lefts,
-        rights,
-        labels,
-        marks,
-    );
+    let n = records.len();
+    let row = *control;
+    let c = rows::control_of(row);
+    let m = opening::open_tables(c, n, tasks, slots, tag, lefts, rights, labels, marks);
+    let d = m.control;
+    let after = rows::control_row(d);
+    *control = after;
+    rows::clear(records, m.clear);
+    let o = m.outcome;
     opening_code(o)
 }
 
 /// Starts a push of a label in a slot, for a task.
 #[no_mangle]
 pub extern "C" fn zc_push(
-    control: &mut Control,
-    records: &mut [Record],
+    control: &[u64; rows::CONTROL_WORDS],
+    records: &mut [[u64; rows::RECORD_WORDS]],
     task: usize,
     side: u64,
     slot: u64,
@@ -120,20 +123,22 @@ pub extern "C" fn zc_push(
     ensures { λ r.
         ⌜ _≡_ {A = Replied}
         (record {
-          queue = record {
-            tables = record { control = now (control .exit); lefts = now (lefts .entry); rights = now (rights .entry); labels = now (labels .exit); marks = now (marks .exit) };
-            records = now (records .exit);
-          };
+          queue = queueIn (now (control .entry)) (now (records .exit)) (now (lefts .entry)) (now (rights .entry)) (now (labels .exit)) (now (marks .exit));
+          uppers = uppersOf (now (records .exit));
           reply = r;
         })
-        (replied (act (record {
-          tables = record { control = now (control .entry); lefts = now (lefts .entry); rights = now (rights .entry); labels = now (labels .entry); marks = now (marks .entry) };
-          records = now (records .entry);
-        }) task (Push side slot label))) ⌝ }
+        (replied isMoved task (uppersOf (now (records .entry)))
+        (act (queueIn (now (control .entry)) (now (records .entry)) (now (lefts .entry)) (now (rights .entry)) (now (labels .entry)) (now (marks .entry)))
+        task (Push side slot label))) ⌝ }
 {
-    let o = deque::push(
-        control,
-        records,
+    let row = *control;
+    let c = rows::control_of(row);
+    let n = records.len();
+    let r = rows::record_at(records, task);
+    let m = start::push_start(
+        c,
+        r,
+        n,
         task,
         side,
         slot,
@@ -143,14 +148,16 @@ pub extern "C" fn zc_push(
         labels,
         marks,
     );
+    rows::store_start(records, task, m);
+    let o = m.outcome;
     operation::reply(o)
 }
 
 /// Starts a pop for a task.
 #[no_mangle]
 pub extern "C" fn zc_pop(
-    control: &mut Control,
-    records: &mut [Record],
+    control: &[u64; rows::CONTROL_WORDS],
+    records: &mut [[u64; rows::RECORD_WORDS]],
     task: usize,
     side: u64,
     lefts: &[u64],
@@ -161,26 +168,29 @@ pub extern "C" fn zc_pop(
     ensures { λ r.
         ⌜ _≡_ {A = Replied}
         (record {
-          queue = record {
-            tables = record { control = now (control .exit); lefts = now (lefts .entry); rights = now (rights .entry); labels = now (labels .entry); marks = now (marks .entry) };
-            records = now (records .exit);
-          };
+          queue = queueIn (now (control .entry)) (now (records .exit)) (now (lefts .entry)) (now (rights .entry)) (now (labels .entry)) (now (marks .entry));
+          uppers = uppersOf (now (records .exit));
           reply = r;
         })
-        (replied (act (record {
-          tables = record { control = now (control .entry); lefts = now (lefts .entry); rights = now (rights .entry); labels = now (labels .entry); marks = now (marks .entry) };
-          records = now (records .entry);
-        }) task (Pop side))) ⌝ }
+        (replied isMoved task (uppersOf (now (records .entry)))
+        (act (queueIn (now (control .entry)) (now (records .entry)) (now (lefts .entry)) (now (rights .entry)) (now (labels .entry)) (now (marks .entry)))
+        task (Pop side))) ⌝ }
 {
-    let o = deque::pop(control, records, task, side, lefts, rights, labels, marks);
+    let row = *control;
+    let c = rows::control_of(row);
+    let n = records.len();
+    let r = rows::record_at(records, task);
+    let m = start::pop_start(c, r, n, task, side, lefts, rights, labels, marks);
+    rows::store_start(records, task, m);
+    let o = m.outcome;
     operation::reply(o)
 }
 
 /// Moves a task by one step.
 #[no_mangle]
 pub extern "C" fn zc_step(
-    control: &mut Control,
-    records: &mut [Record],
+    control: &mut [u64; rows::CONTROL_WORDS],
+    records: &mut [[u64; rows::RECORD_WORDS]],
     task: usize,
     lefts: &mut [u64],
     rights: &mut [u64],
@@ -190,37 +200,72 @@ pub extern "C" fn zc_step(
     ensures { λ r.
         ⌜ _≡_ {A = Replied}
         (record {
-          queue = record {
-            tables = record { control = now (control .exit); lefts = now (lefts .exit); rights = now (rights .exit); labels = now (labels .entry); marks = now (marks .exit) };
-            records = now (records .exit);
-          };
+          queue = queueIn (now (control .exit)) (now (records .exit)) (now (lefts .exit)) (now (rights .exit)) (now (labels .entry)) (now (marks .exit));
+          uppers = uppersOf (now (records .exit));
           reply = r;
         })
-        (replied (act (record {
-          tables = record { control = now (control .entry); lefts = now (lefts .entry); rights = now (rights .entry); labels = now (labels .entry); marks = now (marks .entry) };
-          records = now (records .entry);
-        }) task Step)) ⌝ }
+        (replied endsCall task (uppersOf (now (records .entry)))
+        (act (queueIn (now (control .entry)) (now (records .entry)) (now (lefts .entry)) (now (rights .entry)) (now (labels .entry)) (now (marks .entry)))
+        task Step)) ⌝ }
 {
-    let o = deque::step(control, records, task, lefts, rights, labels, marks);
+    let row = *control;
+    let c = rows::control_of(row);
+    let n = records.len();
+    let why = engine::admit(
+        c,
+        n,
+        task,
+        lefts.len(),
+        rights.len(),
+        labels.len(),
+        marks.len(),
+    );
+    if why != 0 {
+        return operation::reply(engine::refuse(why));
+    }
+    let was = records[task];
+    let r = rows::record_of(was);
+    let m = engine::move_on(c, r, lefts, rights, labels, marks);
+    rows::store(control, &mut records[task], m);
+    let o = m.outcome;
     operation::reply(o)
+}
+
+// How many of the first n records are busy tasks'.
+fn busy(records: &[[u64; rows::RECORD_WORDS]], n: usize) -> u64
+    requires { ⌜ (n ≤ length (now records)) × (n ≤ 16) ⌝ }
+    ensures { λ k. ⌜ k ≡ count (λ t. not (eqb (getD (recordsOf (now (records .entry))) t idle .place) 0)) n ⌝ }
+{
+    let mut k: u64 = 0;
+    let mut i: usize = 0;
+    while i < n {
+        let row = records[i];
+        let r = rows::record_of(row);
+        k = report::count_busy(k, r);
+        i += 1;
+    }
+    k
 }
 
 /// Tells the fields of Anchor, the busy tasks, the retries and the slots taken.
 #[no_mangle]
 pub extern "C" fn zc_report(
-    control: &Control,
-    records: &[Record],
+    control: &[u64; rows::CONTROL_WORDS],
+    records: &[[u64; rows::RECORD_WORDS]],
     lefts: &[u64],
     rights: &[u64],
     labels: &[u32],
     marks: &[u64],
 ) -> ReportReply
     ensures { λ r.
-        ⌜ r ≡ reportReplyOf (report (record {
-          tables = record { control = now (control .entry); lefts = now (lefts .entry); rights = now (rights .entry); labels = now (labels .entry); marks = now (marks .entry) };
-          records = now (records .entry);
-        })) ⌝ }
+        ⌜ r ≡ reportReplyOf (report
+        (queueIn (now (control .entry)) (now (records .entry)) (now (lefts .entry)) (now (rights .entry)) (now (labels .entry)) (now (marks .entry)))) ⌝ }
 {
-    let o = deque::report(control, records, lefts, rights, labels, marks);
-    report_reply(o)
+    let row = *control;
+    let c = rows::control_of(row);
+    let n = records.len();
+    let k = report::to_count(c, n);
+    let b = busy(records, k);
+    let t = report::told(c, n, b, lefts.len(), rights.len(), labels.len(), marks);
+    report_reply(t)
 }

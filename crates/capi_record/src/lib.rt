@@ -1,17 +1,17 @@
 //! The step of one lent record for C and Rust. It has an archive of its own: a step that two calls
 //! of one archive share is compiled once and not into either, which makes both slower.
-use model::Control;
-use model::Record;
 use model::Reply;
 ghost use mathlib.Core.Path.{_≡_};
+ghost use Rattle.model.specs.Tables.{tablesOf};
 ghost use Rattle.model.specs.Calls.{stepLent};
+ghost use Rattle.rows.specs.Rows.{controlOf, recordOf, upperOf};
 ghost use Rattle.capi_record.specs.Replies.{RepliedAlone, repliedAlone};
 
 /// Moves the task of one lent record by one step.
 #[no_mangle]
 pub extern "C" fn zc_step_record(
-    control: &mut Control,
-    task: &mut Record,
+    control: &mut [u64; rows::CONTROL_WORDS],
+    task: &mut [u64; rows::RECORD_WORDS],
     lefts: &mut [u64],
     rights: &mut [u64],
     labels: &[u32],
@@ -20,12 +20,22 @@ pub extern "C" fn zc_step_record(
     ensures { λ r.
         ⌜ _≡_ {A = RepliedAlone}
         (record {
-          tables = record { control = now (control .exit); lefts = now (lefts .exit); rights = now (rights .exit); labels = now (labels .entry); marks = now (marks .exit) };
-          task = now (task .exit);
+          tables = tablesOf (controlOf (now (control .exit))) (now (lefts .exit)) (now (rights .exit)) (now (labels .entry)) (now (marks .exit));
+          task = recordOf (now (task .exit));
+          upper = upperOf (now (task .exit));
           reply = r;
         })
-        (repliedAlone (stepLent (record { control = now (control .entry); lefts = now (lefts .entry); rights = now (rights .entry); labels = now (labels .entry); marks = now (marks .entry) }) (now (task .entry)))) ⌝ }
+        (repliedAlone (upperOf (now (task .entry)))
+        (stepLent
+        (tablesOf (controlOf (now (control .entry))) (now (lefts .entry)) (now (rights .entry)) (now (labels .entry)) (now (marks .entry)))
+        (recordOf (now (task .entry))))) ⌝ }
 {
-    let o = deque::step_record(control, task, lefts, rights, labels, marks);
+    let words = *control;
+    let c = rows::control_of(words);
+    let row = *task;
+    let r = rows::record_of(row);
+    let m = engine::step_alone(c, r, lefts, rights, labels, marks);
+    rows::store(control, task, m);
+    let o = m.outcome;
     operation::reply(o)
 }

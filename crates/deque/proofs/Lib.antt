@@ -1,4 +1,3 @@
-pub mod Count
 pub mod Engine
 pub mod Frame
 pub mod Stored

@@ -53,16 +53,19 @@ module _ (r : Record) where
     moves1 = record { kind = refl; side = refl; own = refl; label = refl }
 
     moves2 : Moves (at2 c r)
-    unfolding at2
-    moves2 = either (eqb (c .anchor) (r .seen)) _ _ itself itself
+    unfolding at1 at2
+    moves2 = either (eqb (c .anchor) (r .seen)) _ _ itself moves1
 
     moves3 : Moves (at3 r w)
     unfolding at3
     moves3 = either (isPush r) _ _ itself (record { kind = refl; side = refl; own = refl; label = refl })
 
     moves4 : Moves (at4 c r)
-    unfolding at4
-    moves4 = either (eqb (c .anchor) (r .seen)) _ _ (pushing (isPush r) (withSeen r (new4 r) 1) (record { kind = refl; side = refl; own = refl; label = refl })) itself
+    unfolding at1 at4
+    moves4 =
+        either (eqb (c .anchor) (r .seen)) _ _
+        (pushing (isPush r) (withSeen r (new4 r) 1) (record { kind = refl; side = refl; own = refl; label = refl }))
+        moves1
 
     moves5 : Moves (at5 r w)
     unfolding at5

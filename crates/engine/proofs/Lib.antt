@@ -1,2 +1,3 @@
 pub mod Kept
+pub mod Stored
 pub mod Whole

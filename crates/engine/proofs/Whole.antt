@@ -15,12 +15,15 @@ use Rattle.model.specs.Calls.{decide, finish, step}
 use Rattle.places.specs.Arm.{stepAt}
 use Rattle.engine.specs.Parts.{admission, recordRefusal, moveOn}
 
-split : {A : Type 0} (b : Bool) → (b ≡ true → A) → (b ≡ false → A) → A
+pub split : {A : Type 0} (b : Bool) → (b ≡ true → A) → (b ≡ false → A) → A
 split true f g = f refl
 split false f g = g refl
 
 pub above : {n x : ℕ} → n ≤ x → (x ≡ n → ⊥) → suc n ≤ x
 above low other = omega arith
+
+pub below : {n x : ℕ} → x ≤ suc n → (x ≡ suc n → ⊥) → x ≤ n
+below high other = omega arith
 
 -- The step at a record's own place.
 here : (q : Tables) (r : Record) → stepAt (r .place) q r ≡ decide (cond (stepSound (q .control) r (linkMet q r)) 0 34) q r (finish q r (move (q .control) r (linkMet q r)))

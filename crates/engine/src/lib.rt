@@ -7,7 +7,8 @@ use table::Acted;
 ghost use mathlib.Core.Path.{_≡_};
 ghost use lib.Dec.{leb, ltb};
 ghost use Rattle.model.specs.Calls.{step, stepLent};
-ghost use Rattle.places.specs.Arm.{tablesOf, withTables};
+ghost use Rattle.model.specs.Tables.{tablesOf};
+ghost use Rattle.table.specs.Lent.{withTables};
 ghost use Rattle.sound.specs.Lengths.{lengthsFit};
 ghost use Rattle.engine.specs.Parts.{admission, recordRefusal, moveOn};
 ghost use Rattle.engine.specs.Ends.{answerEnds, endsCall, isMoved};
@@ -165,17 +166,16 @@ pub fn move_on(
     }
     let place = r.place;
     match place {
-        1 => places::at1(c, r),
-        2 => places::at2(c, r),
         3 => places::at3(c, r, lefts, rights),
-        4 => places::at4(c, r),
         5 => places::at5(c, r, lefts, rights),
         6 => places::at6(c, r),
         7 => places::at7(c, r, lefts, rights),
         8 => places::at8(c, r),
         9 => places::at9(c, r, lefts, rights),
         10 => places::at10(c, r),
-        _ => places::at11(c, r, labels, marks),
+        11 => places::at11(c, r, labels, marks),
+        // 1, 2 and 4
+        _ => places::on_anchor(c, r),
     }
 }
 

@@ -4,18 +4,12 @@ use mathlib.Core.Path.{_≡_}
 use Prim.Native.Nat.{ℕ}
 use lib.ListN.{length, replicate}
 use lib.Seq.{sets}
-use Rattle.model.specs.declared.Control.{Control}
-use Rattle.model.specs.declared.Record.{Record}
 use Rattle.model.specs.declared.Opening.{Opening}
 use Rattle.model.specs.declared.Opening.the-variants.{Refused, Opened}
-use Rattle.model.specs.Tables.{Queue, idle}
+use Rattle.model.specs.Tables.{Queue, queueOf, idle}
 use Rattle.model.specs.Calls.{openQueue}
 use Rattle.model.specs.History.{Request, run, final, Linearized, NeverUnsound}
 use Rattle.history.specs.Words.{requestsOf, repliesOf, room}
-
-abbrev pub queueOf : Control → List Record → List ℕ → List ℕ → List ℕ → List ℕ → Queue
-queueOf c rs lefts rights labels marks =
-    record { tables = record { control = c; lefts = lefts; rights = rights; labels = labels; marks = marks }; records = rs }
 
 -- Before the opening: the lent tables as they are, control zero, sixteen idle records.
 abbrev pub unopened : List ℕ → List ℕ → List ℕ → List ℕ → Queue

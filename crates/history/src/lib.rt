@@ -14,7 +14,8 @@ ghost use mathlib.Core.Path.{_≡_};
 ghost use Prim.Native.Nat.{_*_, _≤_};
 ghost use lib.ListN.{length};
 ghost use Rattle.history.specs.Words.{requestsOf};
-ghost use Rattle.history.specs.Serving.{queueOf, unopened, State, served, countAfter, Serves};
+ghost use Rattle.model.specs.Tables.{queueOf};
+ghost use Rattle.history.specs.Serving.{unopened, State, served, countAfter, Serves};
 
 /// What is left beside the lent tables, and what was done.
 pub struct Served {

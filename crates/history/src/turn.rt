@@ -5,7 +5,7 @@ use model::Outcome;
 use model::Record;
 ghost use mathlib.Core.Path.{_≡_};
 ghost use Rattle.model.specs.Calls as calls;
-ghost use Rattle.history.specs.Serving.{queueOf};
+ghost use Rattle.model.specs.Tables.{queueOf};
 
 /// As many records as an opening can ask for.
 pub const TASKS: usize = 16;

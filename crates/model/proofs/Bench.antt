@@ -86,7 +86,7 @@ pub record Table : Type 0 where
   pub single-pop : outcomes one (pop 0 1 ∷ steps (replicate 3 0)) ≡ at 1 ∷ at 2 ∷ at 11 ∷ got 1 700 ∷ []
   -- left pop (task 0) and right pop (task 1) on one label, steps 0 1 0 1 0 1: task 0 gets it, task 1 answers empty
   pub race : outcomes one (pop 0 0 ∷ pop 1 1 ∷ steps (0 ∷ 1 ∷ 0 ∷ 1 ∷ 0 ∷ 1 ∷ []))
-      ≡ at 1 ∷ at 1 ∷ at 2 ∷ at 2 ∷ at 11 ∷ at 1 ∷ got 1 700 ∷ Moved Empty ∷ []
+      ≡ at 1 ∷ at 1 ∷ at 2 ∷ at 2 ∷ at 11 ∷ Moved Empty ∷ got 1 700 ∷ Refused 31 ∷ []
   -- start at tag 4,294,967,262 accepted, at 4,294,967,263 refused 33
   pub push-at-last-tag : outcomes (fresh 4294967262) (push 0 1 1 700 ∷ []) ≡ at 1 ∷ []
   pub push-past-it : outcomes (fresh 4294967263) (push 0 1 1 700 ∷ []) ≡ Refused 33 ∷ []

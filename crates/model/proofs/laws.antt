@@ -5,4 +5,5 @@ pub mod Lengths
 pub mod LentRecord
 pub mod OneTouch
 pub mod Onward
+pub mod FailedChange
 pub mod Mirror

@@ -84,12 +84,19 @@ reading pop a =
 unfoldable pub at1 : Control → Record → Move
 at1 c r = reads (withSeen r (c .anchor) (r .finishing)) (reading (isPop r) (anchorOf (c .anchor)))
 
+-- A change of Anchor at 2 or 4: 0 done, with the record r′. A failed one takes the word found as its reading and goes on as place 1:
+-- 1 empty, 2 a pop with l = r, 3 STABLE, 4 else. (Document 02: #106.)
+abbrev pub replaces : Control → ℕ → Record → Record → Move
+replaces c word r′ r =
+    cond (eqb (c .anchor) (r .seen)) (record { touch = setAnchor word; task = r′; outcome = 0; failed = false })
+    (record { touch = nothing; task = withSeen r (c .anchor) (r .finishing); outcome = reading (isPop r) (anchorOf (c .anchor)) + 1; failed = true })
+
 -- 2: change Anchor to own, own, s; a pop to null, null, s.
 unfoldable pub at2 : Control → Record → Move
 at2 c r =
     let a = anchorOf (r .seen) in
     let end : ℕ = cond (isPush r) (r .own) 0 in
-    changes (c .anchor) (r .seen) (setAnchor (packAnchor (facing (sideOf r) (a .tag + 1) (a .status) end end))) r r
+    replaces c (packAnchor (facing (sideOf r) (a .tag + 1) (a .status) end end)) r r
 
 -- 3: put r into own slot's Left, its tag kept; a pop reads r's Left as neighbour. w is the link word met.
 unfoldable pub at3 : Record → ℕ → Move
@@ -108,7 +115,7 @@ new4 r =
     (packAnchor (facing d (a .tag + 1) (a .status) (r .neighbour) (far d a)))
 
 unfoldable pub at4 : Control → Record → Move
-at4 c r = changes (c .anchor) (r .seen) (setAnchor (new4 r)) (cond (isPush r) (withSeen r (new4 r) 1) r) r
+at4 c r = replaces c (new4 r) (cond (isPush r) (withSeen r (new4 r) 1) r) r
 
 -- 5: read r's Left as neighbour.
 unfoldable pub at5 : Record → ℕ → Move

@@ -24,14 +24,14 @@ abbrev pub popped : ℕ
 popped = 23
 
 -- The column next: a line for each place from 0, where no task steps, and an entry for each outcome from 0.
--- A push never reads a single label as such at place 1, so that entry is 0, no place.
+-- A push never reads a single label as such, so that entry is 0, no place.
 unfoldable pub pushRoute : List (List ℕ)
 pushRoute =
     []
     ∷ (2 ∷ 0 ∷ 3 ∷ 5 ∷ [])  -- 1: empty, -, STABLE, else
-    ∷ (pushed ∷ 1 ∷ [])  -- 2: done, failed
+    ∷ (pushed ∷ 2 ∷ 0 ∷ 3 ∷ 5 ∷ [])  -- 2: done, failed and read as at 1
     ∷ (4 ∷ [])  -- 3
-    ∷ (5 ∷ 1 ∷ [])  -- 4: done, failed
+    ∷ (5 ∷ 2 ∷ 0 ∷ 3 ∷ 5 ∷ [])  -- 4: done, failed and read as at 1
     ∷ (6 ∷ [])  -- 5
     ∷ (7 ∷ leave ∷ [])  -- 6: equal, else
     ∷ (10 ∷ 8 ∷ [])  -- 7: names r, else
@@ -44,9 +44,9 @@ unfoldable pub popRoute : List (List ℕ)
 popRoute =
     []
     ∷ (empty ∷ 2 ∷ 3 ∷ 5 ∷ [])  -- 1: empty, l = r, STABLE, else
-    ∷ (11 ∷ 1 ∷ [])  -- 2: done, failed
+    ∷ (11 ∷ empty ∷ 2 ∷ 3 ∷ 5 ∷ [])  -- 2: done, failed and read as at 1
     ∷ (4 ∷ [])  -- 3
-    ∷ (11 ∷ 1 ∷ [])  -- 4: done, failed
+    ∷ (11 ∷ empty ∷ 2 ∷ 3 ∷ 5 ∷ [])  -- 4: done, failed and read as at 1
     ∷ (6 ∷ [])  -- 5, as a push
     ∷ (7 ∷ leave ∷ [])  -- 6, as a push
     ∷ (10 ∷ 8 ∷ [])  -- 7, as a push

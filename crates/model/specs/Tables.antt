@@ -21,6 +21,15 @@ pub record Queue : Type 0 where
   pub tables : Tables
   pub records : List Record
 
+-- Both, as a call is lent them.
+abbrev pub tablesOf : Control → List ℕ → List ℕ → List ℕ → List ℕ → Tables
+tablesOf control lefts rights labels marks =
+    record { control = control; lefts = lefts; rights = rights; labels = labels; marks = marks }
+
+abbrev pub queueOf : Control → List Record → List ℕ → List ℕ → List ℕ → List ℕ → Queue
+queueOf control records lefts rights labels marks =
+    record { tables = tablesOf control lefts rights labels marks; records = records }
+
 -- Side 0 is left, 1 is right. Left is the mirror of right through the definitions from here to `named`; no place is written twice.
 abbrev pub opposite : ℕ → ℕ
 opposite side = cond (eqb side 1) 0 1

@@ -10,8 +10,9 @@ use table::Acted;
 ghost use mathlib.Core.Path.{_≡_};
 ghost use lib.Dec.{leb, ltb};
 ghost use Rattle.model.specs.declared.Outcome.the-variants.{Moved};
-ghost use Rattle.model.specs.Tables.{idle};
+ghost use Rattle.model.specs.Tables.{tablesOf, idle};
 ghost use Rattle.model.specs.Calls as calls;
+ghost use Rattle.table.specs.Lent.{withTables};
 
 /// The record of a task that has no call.
 pub fn idle() -> Record
@@ -43,14 +44,9 @@ pub fn act(
     marks: &mut [u64],
 ) -> Acted
     ensures { λ m.
-        ⌜ _≡_ {A = calls.Acted}
-        (record {
-          tables = record { control = m .control; lefts = now (lefts .exit); rights = now (rights .exit); labels = now (labels .exit); marks = now (marks .exit) };
-          task = m .task;
-          outcome = m .outcome;
-        })
-        (calls.actOn (record { control = c; lefts = now (lefts .entry); rights = now (rights .entry); labels = now (labels .entry); marks = now (marks .entry) })
-        (record { enough = leb (c .tasks) records; known = ltb task (c .tasks) }) r op) ⌝ }
+        ⌜ withTables m (now (lefts .exit)) (now (rights .exit)) (now (labels .exit)) (now (marks .exit))
+        ≡ calls.actOn (tablesOf c (now (lefts .entry)) (now (rights .entry)) (now (labels .entry)) (now (marks .entry)))
+        (record { enough = leb (c .tasks) records; known = ltb task (c .tasks) }) r op ⌝ }
 {
     match op {
         Op::Push { side, slot, label } => start::push_start(

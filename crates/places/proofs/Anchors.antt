@@ -1,7 +1,8 @@
 -- The model's step at the places that touch Anchor alone, in the terms of this crate: 1, 2, 4, 6, 8 and 10.
-use mathlib.Core.Path.{_≡_, refl, sym, ap, subst, _∙_}
+use mathlib.Core.Path.{_≡_, refl, ap}
 use mathlib.Core.Bool.{true, false, _&&_, cond}
 use Prim.Native.Nat.{ℕ, _+_, _/_, _^_}
+use native.Mathlib.Omega.{arith}
 use lib.Dec.{eqb, ltb}
 use borrow.Author.Tests.{eq-eqb, ne-eqb}
 use Rattle.word.specs.Anchor.{anchorOf, packAnchor}
@@ -9,113 +10,139 @@ use Rattle.model.specs.declared.Control.{Control}
 use Rattle.model.specs.declared.Record.{Record}
 use Rattle.model.specs.Tables.{far, facing, pushing}
 use Rattle.model.specs.Sound.{isPop, anchorSound}
-use Rattle.model.specs.Places.{reading, withSeen, row, sideOf, setAnchor, compares, changes, at1, at2, new4, at4, at6, at10, move}
+use Rattle.model.specs.Places.{reading, withSeen, row, sideOf, nothing, setAnchor, Move, compares, at1, at2, new4, at4, at6, at10, move}
 use Rattle.model.specs.Refusals.{needsRow, meetsLink, stepSound}
 use Rattle.model.specs.Route.{route, pushRoute, popRoute, goes, counted}
 use Rattle.model.specs.Calls.{finish}
+use Rattle.model.proofs.laws.Onward.{reads-on}
 use Rattle.table.specs.declared.Acted as made
-use Rattle.places.specs.Arm.{withTables, standing, stepAt, Steps}
-use Rattle.places.specs.Ending.{refused, settled, noEntry, bumped, withAnchor, mayChange, remembered, compared, changed}
+use Rattle.places.specs.Arm.{standing, stepAt, Steps, StepsOnAnchor}
+use Rattle.table.specs.Lent.{withTables}
+use Rattle.places.specs.Ending.{refused, settled, noEntry, bumped, withAnchor, anchorRead, mayChange, remembered, compared, changed}
 use Rattle.places.proofs.Routes.{split, kinds, readings, Quiet, entry, quietly}
 
--- A place that needs no slot row and meets no link, and whose routes answer quietly.
-record Plain (r : Record) (n : ℕ) : Type 0 where
-  needs : needsRow (standing n r) ≡ false
-  meets : meetsLink (standing n r) ≡ false
-  first : Quiet (route n (r .kind) 0)
-  second : Quiet (route n (r .kind) 1)
+-- The step at place n tries to change Anchor: the change fails, is denied or is made.
+pub record Tries (n : ℕ) (c : Control) (r : Record) (new : ℕ) (t : Record) (done : ℕ) (failed : made.Acted) : Type 0 where
+  pub steps : Steps n c r (changed c r new t done failed)
 
-plain :
-    (r : Record) (n : ℕ)
-    → needsRow (standing n r) ≡ false
-    → meetsLink (standing n r) ≡ false
-    → Quiet (route n 0 0)
-    → Quiet (route n 1 0)
-    → Quiet (route n 0 1)
-    → Quiet (route n 1 1)
-    → Plain r n
-plain r n needs meets a b c d =
-    record { needs = needs; meets = meets; first = kinds Quiet n (r .kind) 0 a b; second = kinds Quiet n (r .kind) 1 c d }
+module _ {n : ℕ} {c : Control} {r : Record} {new : ℕ} {t : Record} {done : ℕ} {failed : made.Acted} (tried : Tries n c r new t done failed) where
+  pub fails : (c .anchor ≡ r .seen → ⊥) → Steps n c r failed
+  unfolding changed
+  fails h = rw (ne-eqb _ _ h) at (tried .steps)
+
+  pub denies : c .anchor ≡ r .seen → mayChange (c .slots) (r .seen) new ≡ false → Steps n c r (refused c r)
+  unfolding changed mayChange
+  denies h s = rw (eq-eqb _ _ h, s) at (tried .steps)
+
+  pub makes : c .anchor ≡ r .seen → mayChange (c .slots) (r .seen) new ≡ true → Steps n c r (settled (withAnchor c new) t done noEntry)
+  unfolding changed mayChange
+  makes h s = rw (eq-eqb _ _ h, s) at (tried .steps)
 
 module _ (c : Control) (r : Record) where
-  pub step1 : Steps 1 c r (settled c (withSeen r (c .anchor) (r .finishing)) (route 1 (r .kind) (reading (isPop r) (anchorOf (c .anchor)))) noEntry)
-  unfolding stepAt stepSound move at1 finish settled goes counted route pushRoute popRoute
-  step1 ls rs ns ms =
-      ap (λ m. withTables m ls rs ns ms)
-      (quietly c (withSeen r (c .anchor) (r .finishing)) (route 1 (r .kind) (reading (isPop r) (anchorOf (c .anchor)))) (entry (row (standing 1 r)) ns)
-      (readings (λ o. Quiet (route 1 (r .kind) o)) (isPop r) (anchorOf (c .anchor))
+  -- The outcome of reading Anchor, and the record with the word read.
+  abbrev outcome : ℕ
+  outcome = reading (isPop r) (anchorOf (c .anchor))
+
+  abbrev seeing : Record
+  seeing = withSeen r (c .anchor) (r .finishing)
+
+  read-quiet : Quiet (route 1 (r .kind) outcome)
+  unfolding route pushRoute popRoute
+  read-quiet =
+      readings (λ o. Quiet (route 1 (r .kind) o)) (isPop r) (anchorOf (c .anchor))
       (kinds Quiet 1 (r .kind) 0 refl refl)
       (kinds Quiet 1 (r .kind) 1 refl refl)
       (kinds Quiet 1 (r .kind) 2 refl refl)
-      (kinds Quiet 1 (r .kind) 3 refl refl)))
+      (kinds Quiet 1 (r .kind) 3 refl refl)
 
-  module _ (n : ℕ) (p : Plain r n) where
+  pub step1 : Steps 1 c r (anchorRead c r)
+  unfolding stepAt stepSound move at1 finish anchorRead settled goes counted
+  step1 ls rs ns ms =
+      ap (λ m. withTables m ls rs ns ms)
+      (quietly c seeing (route 1 (r .kind) outcome) (entry (row (standing 1 r)) ns) read-quiet)
+
+  -- A place that needs no slot row and meets no link.
+  module _ (n : ℕ) (needs : needsRow (standing n r) ≡ false) (meets : meetsLink (standing n r) ≡ false) where
+    abbrev leads : ℕ → ℕ
+    leads o = route n (r .kind) o
+
     -- A comparison of Anchor: places 6 and 8.
     comparing :
-        ((w : ℕ) → move c (standing n r) w ≡ compares (c .anchor) (r .seen) (standing n r))
-        → Steps n c r (compared c r (route n (r .kind) 0) (route n (r .kind) 1))
+        Quiet (leads 0)
+        → Quiet (leads 1)
+        → ((w : ℕ) → move c (standing n r) w ≡ compares (c .anchor) (r .seen) (standing n r))
+        → Steps n c r (compared c r (leads 0) (leads 1))
     unfolding stepAt stepSound finish compared settled goes counted
-    comparing moves ls rs ns ms =
+    comparing first second moves ls rs ns ms =
+        let e = entry (row (standing n r)) ns in
         split (eqb (c .anchor) (r .seen))
-        (λ h. rw (moves, p .needs, p .meets, h) (ap (λ m. withTables m ls rs ns ms) (quietly c r (route n (r .kind) 0) (entry (row (standing n r)) ns) (p .first))))
-        (λ h. rw (moves, p .needs, p .meets, h) (ap (λ m. withTables m ls rs ns ms) (quietly c r (route n (r .kind) 1) (entry (row (standing n r)) ns) (p .second))))
+        (λ h. rw (moves, needs, meets, h) (ap (λ m. withTables m ls rs ns ms) (quietly c r (leads 0) e first)))
+        (λ h. rw (moves, needs, meets, h) (ap (λ m. withTables m ls rs ns ms) (quietly c r (leads 1) e second)))
 
-    -- A change of Anchor: places 2, 4 and 10.
+    -- A change of Anchor, places 2, 4 and 10: done, with the record t; failed, with the record u and the outcome o.
+    abbrev trying : ℕ → Record → Record → ℕ → Move
+    trying new t u o =
+        cond (eqb (c .anchor) (r .seen)) (record { touch = setAnchor new; task = standing n t; outcome = 0; failed = false })
+        (record { touch = nothing; task = standing n u; outcome = o; failed = true })
+
     changing :
-        (new : ℕ) (t : Record)
-        → ((w : ℕ) → move c (standing n r) w ≡ changes (c .anchor) (r .seen) (setAnchor new) (standing n t) (standing n r))
-        → Steps n c r (changed c r new t (route n (r .kind) 0) (route n (r .kind) 1))
+        (new : ℕ) (t u : Record) (o : ℕ)
+        → Quiet (leads 0)
+        → Quiet (leads o)
+        → ((w : ℕ) → move c (standing n r) w ≡ trying new t u o)
+        → Tries n c r new t (leads 0) (settled (bumped c) u (leads o) noEntry)
     unfolding stepAt stepSound finish changed settled goes counted
-    changing new t moves ls rs ns ms =
-        split (eqb (c .anchor) (r .seen))
-        (λ h. split (anchorSound (c .slots) (anchorOf new) && ltb (anchorOf (r .seen) .tag) 4294967295)
-        (λ s. rw (moves, p .needs, p .meets, h, s) (ap (λ m. withTables m ls rs ns ms) (quietly (withAnchor c new) t (route n (r .kind) 0) (entry (row (standing n r)) ns) (p .first))))
-        (λ s. rw (moves, p .needs, p .meets, h, s)))
-        (λ h. rw (moves, p .needs, p .meets, h) (ap (λ m. withTables m ls rs ns ms) (quietly (bumped c) r (route n (r .kind) 1) (entry (row (standing n r)) ns) (p .second))))
+    changing new t u o first second moves = record {
+      steps = λ ls rs ns ms.
+          let e = entry (row (standing n r)) ns in
+          split (eqb (c .anchor) (r .seen))
+          (λ h. split (anchorSound (c .slots) (anchorOf new) && ltb (anchorOf (r .seen) .tag) 4294967295)
+          (λ s. rw (moves, needs, meets, h, s) (ap (λ m. withTables m ls rs ns ms) (quietly (withAnchor c new) t (leads 0) e first)))
+          (λ s. rw (moves, needs, meets, h, s)))
+          (λ h. rw (moves, needs, meets, h) (ap (λ m. withTables m ls rs ns ms) (quietly (bumped c) u (leads o) e second)));
+    }
 
-  -- A change failed, denied, made.
-  module _ (new : ℕ) (t : Record) (done failed : ℕ) where
-    pub fails : (c .anchor ≡ r .seen → ⊥) → settled (bumped c) r failed noEntry ≡ changed c r new t done failed
-    unfolding changed
-    fails h = simp (ne-eqb _ _ h)
-
-    pub denies : (m : made.Acted) → m ≡ refused c r → c .anchor ≡ r .seen → mayChange (c .slots) (r .seen) new ≡ false → m ≡ changed c r new t done failed
-    unfolding changed mayChange
-    denies m e h s = e ∙ simp (eq-eqb _ _ h, s)
-
-    pub makes : c .anchor ≡ r .seen → mayChange (c .slots) (r .seen) new ≡ true → settled (withAnchor c new) t done noEntry ≡ changed c r new t done failed
-    unfolding changed mayChange
-    makes h s = simp (eq-eqb _ _ h, s)
+    -- Where a failed change reads on: places 2 and 4.
+    replacing :
+        (new : ℕ) (t : Record)
+        → Quiet (leads 0)
+        → leads (outcome + 1) ≡ route 1 (r .kind) outcome
+        → ((w : ℕ) → move c (standing n r) w ≡ trying new t seeing (outcome + 1))
+        → Tries n c r new t (leads 0) (anchorRead (bumped c) r)
+    unfolding anchorRead
+    replacing new t first on moves =
+        rw on at (changing new t seeing (outcome + 1) first (rw on read-quiet) moves)
 
   pub step2 :
       (end new : ℕ)
       → end ≡ cond (eqb (r .kind) 0) (r .own) 0
       → new ≡ packAnchor (facing (r .side) (r .seen / 2 ^ 32 + 1) (anchorOf (r .seen) .status) end end)
-      → Steps 2 c r (changed c r new r (route 2 (r .kind) 0) (route 2 (r .kind) 1))
+      → Tries 2 c r new r (route 2 (r .kind) 0) (anchorRead (bumped c) r)
   unfolding move at2 sideOf route pushRoute popRoute
-  step2 end new e n = changing 2 (plain r 2 refl refl refl refl refl refl) new r (λ w. rw (n, e))
+  step2 end new e n = replacing 2 refl refl new r (kinds Quiet 2 (r .kind) 0 refl refl) (reads-on (r .kind) outcome .0) (λ w. rw (n, e))
 
   -- The new Anchor of a push and of a pop at place 4.
-  abbrev pub newPush : ℕ
+  abbrev newPush : ℕ
   newPush = packAnchor (facing (r .side) (r .seen / 2 ^ 32 + 1) (pushing (r .side)) (r .own) (far (r .side) (anchorOf (r .seen))))
 
-  abbrev pub newPop : ℕ
+  abbrev newPop : ℕ
   newPop = packAnchor (facing (r .side) (r .seen / 2 ^ 32 + 1) (anchorOf (r .seen) .status) (r .neighbour) (far (r .side) (anchorOf (r .seen))))
 
-  pub push4 : eqb (r .kind) 0 ≡ true → Steps 4 c r (changed c r newPush (withSeen r newPush 1) (route 4 (r .kind) 0) (route 4 (r .kind) 1))
+  push4 : eqb (r .kind) 0 ≡ true → Tries 4 c r newPush (withSeen r newPush 1) (route 4 (r .kind) 0) (anchorRead (bumped c) r)
   unfolding move at4 new4 sideOf route pushRoute popRoute
-  push4 k = changing 4 (plain r 4 refl refl refl refl refl refl) newPush (withSeen r newPush 1) (λ w. rw k)
+  push4 k =
+      replacing 4 refl refl newPush (withSeen r newPush 1) (kinds Quiet 4 (r .kind) 0 refl refl) (reads-on (r .kind) outcome .1) (λ w. rw k)
 
-  pub pop4 : eqb (r .kind) 0 ≡ false → Steps 4 c r (changed c r newPop r (route 4 (r .kind) 0) (route 4 (r .kind) 1))
+  pop4 : eqb (r .kind) 0 ≡ false → Tries 4 c r newPop r (route 4 (r .kind) 0) (anchorRead (bumped c) r)
   unfolding move at4 new4 sideOf route pushRoute popRoute
-  pop4 k = changing 4 (plain r 4 refl refl refl refl refl refl) newPop r (λ w. rw k)
+  pop4 k = replacing 4 refl refl newPop r (kinds Quiet 4 (r .kind) 0 refl refl) (reads-on (r .kind) outcome .1) (λ w. rw k)
 
   pub step4 :
       (status end new : ℕ)
       → status ≡ cond (eqb (r .kind) 0) (pushing (r .side)) (anchorOf (r .seen) .status)
       → end ≡ cond (eqb (r .kind) 0) (r .own) (r .neighbour)
       → new ≡ packAnchor (facing (r .side) (r .seen / 2 ^ 32 + 1) status end (far (r .side) (anchorOf (r .seen))))
-      → Steps 4 c r (changed c r new (remembered r new) (route 4 (r .kind) 0) (route 4 (r .kind) 1))
+      → Tries 4 c r new (remembered r new) (route 4 (r .kind) 0) (anchorRead (bumped c) r)
   unfolding remembered
   step4 status end new s e n =
       split (eqb (r .kind) 0)
@@ -123,22 +150,30 @@ module _ (c : Control) (r : Record) where
       (λ k. rw (n, s, e, k) (pop4 k))
 
   -- A failed change doesn't depend on the word it would have made.
-  pub failed4 : (c .anchor ≡ r .seen → ⊥) → Steps 4 c r (settled (bumped c) r (route 4 (r .kind) 1) noEntry)
-  failed4 h =
-      let new = packAnchor (facing (r .side) (r .seen / 2 ^ 32 + 1) (cond (eqb (r .kind) 0) (pushing (r .side)) (anchorOf (r .seen) .status)) (cond (eqb (r .kind) 0) (r .own) (r .neighbour)) (far (r .side) (anchorOf (r .seen)))) in
-      subst (λ (m : made.Acted). Steps 4 c r m) (sym (fails new (remembered r new) (route 4 (r .kind) 0) (route 4 (r .kind) 1) h)) (step4 _ _ new refl refl refl)
+  failed2 : (c .anchor ≡ r .seen → ⊥) → Steps 2 c r (anchorRead (bumped c) r)
+  failed2 h = fails (step2 _ _ refl refl) h
+
+  failed4 : (c .anchor ≡ r .seen → ⊥) → Steps 4 c r (anchorRead (bumped c) r)
+  failed4 h = split (eqb (r .kind) 0) (λ k. fails (push4 k) h) (λ k. fails (pop4 k) h)
+
+  -- By the record's place: 1, or a failed change.
+  pub reads-first : r .place ≡ 1 → StepsOnAnchor c r (anchorRead c r)
+  reads-first at = (λ _. step1, λ two. absurd (omega arith), λ four. absurd (omega arith))
+
+  pub reads-failed : (r .place ≡ 1 → ⊥) → (c .anchor ≡ r .seen → ⊥) → StepsOnAnchor c r (anchorRead (bumped c) r)
+  reads-failed later moved = (λ one. absurd (later one), λ _. failed2 moved, λ _. failed4 moved)
 
   pub step6 : Steps 6 c r (compared c r (route 6 (r .kind) 0) (route 6 (r .kind) 1))
   unfolding move at6 route pushRoute popRoute
-  step6 = comparing 6 (plain r 6 refl refl refl refl refl refl) (λ w. refl)
+  step6 = comparing 6 refl refl (kinds Quiet 6 (r .kind) 0 refl refl) (kinds Quiet 6 (r .kind) 1 refl refl) (λ w. refl)
 
   pub step8 : Steps 8 c r (compared c r (route 8 (r .kind) 0) (route 8 (r .kind) 1))
   unfolding move at6 route pushRoute popRoute
-  step8 = comparing 8 (plain r 8 refl refl refl refl refl refl) (λ w. refl)
+  step8 = comparing 8 refl refl (kinds Quiet 8 (r .kind) 0 refl refl) (kinds Quiet 8 (r .kind) 1 refl refl) (λ w. refl)
 
-  abbrev pub stable : ℕ
+  abbrev stable : ℕ
   stable = packAnchor (record { tag = r .seen / 2 ^ 32 + 1; status = 0; left = anchorOf (r .seen) .left; right = anchorOf (r .seen) .right })
 
-  pub step10 : (new : ℕ) → new ≡ stable → Steps 10 c r (changed c r new r (route 10 (r .kind) 0) (route 10 (r .kind) 1))
+  pub step10 : (new : ℕ) → new ≡ stable → Tries 10 c r new r (route 10 (r .kind) 0) (settled (bumped c) r (route 10 (r .kind) 1) noEntry)
   unfolding move at10 route pushRoute popRoute
-  step10 new e = changing 10 (plain r 10 refl refl refl refl refl refl) new r (λ w. rw e)
+  step10 new e = changing 10 refl refl new r r 1 (kinds Quiet 10 (r .kind) 0 refl refl) (kinds Quiet 10 (r .kind) 1 refl refl) (λ w. rw e)

@@ -9,14 +9,15 @@ use Rattle.word.specs.Anchor.{anchorOf}
 use Rattle.word.specs.Link.{linkOf, packLink}
 use Rattle.model.specs.declared.Control.{Control}
 use Rattle.model.specs.declared.Record.{Record}
-use Rattle.model.specs.Tables.{Tables, withMark}
+use Rattle.model.specs.Tables.{Tables, tablesOf, withMark}
 use Rattle.model.specs.Sound.{from1, linkSound}
 use Rattle.model.specs.Places.{withNeighbour, withLink, row, sideOf, linkSide, at3, at5, at7, at9, at11, move}
 use Rattle.model.specs.Refusals.{stepSound}
 use Rattle.model.specs.Route.{route, pushRoute, popRoute, goes, counted}
 use Rattle.model.specs.Calls.{Acted, finish}
 use Rattle.table.specs.declared.Acted as made
-use Rattle.places.specs.Arm.{tablesOf, withTables, stepAt}
+use Rattle.places.specs.Arm.{stepAt}
+use Rattle.table.specs.Lent.{withTables}
 use Rattle.places.specs.Ending.{refused, settled, noEntry, bumped, rowSound, neighbourRead, linkRead}
 use Rattle.places.proofs.Routes.{split, kinds, Quiet, entry, quietly}
 

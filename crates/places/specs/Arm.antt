@@ -5,20 +5,12 @@ use mathlib.Core.List.{List}
 use Prim.Native.Nat.{ℕ}
 use Rattle.model.specs.declared.Control.{Control}
 use Rattle.model.specs.declared.Record.{Record}
-use Rattle.model.specs.Tables.{Tables}
+use Rattle.model.specs.Tables.{Tables, tablesOf}
 use Rattle.model.specs.Places.{linkMet, move}
 use Rattle.model.specs.Refusals.{stepSound}
 use Rattle.model.specs.Calls.{Acted, decide, finish}
 use Rattle.table.specs.declared.Acted as made
-
-abbrev pub tablesOf : Control → List ℕ → List ℕ → List ℕ → List ℕ → Tables
-tablesOf c lefts rights labels marks =
-    record { control = c; lefts = lefts; rights = rights; labels = labels; marks = marks }
-
--- What a function hands back by value, with the tables it was lent.
-abbrev pub withTables : made.Acted → List ℕ → List ℕ → List ℕ → List ℕ → Acted
-withTables m lefts rights labels marks =
-    record { tables = tablesOf (m .control) lefts rights labels marks; task = m .task; outcome = m .outcome }
+use Rattle.table.specs.Lent.{withTables}
 
 abbrev pub standing : ℕ → Record → Record
 standing n r =
@@ -36,6 +28,10 @@ abbrev pub Steps : ℕ → Control → Record → made.Acted → Type 0
 Steps n c r m =
     (lefts rights labels marks : List ℕ)
     → withTables m lefts rights labels marks ≡ stepAt n (tablesOf c lefts rights labels marks) r
+
+-- The step at the record's place, if that is 1, 2 or 4.
+abbrev pub StepsOnAnchor : Control → Record → made.Acted → Type 0
+StepsOnAnchor c r m = (r .place ≡ 1 → Steps 1 c r m) × (r .place ≡ 2 → Steps 2 c r m) × (r .place ≡ 4 → Steps 4 c r m)
 
 abbrev pub StepsOnLinks : ℕ → Control → Record → List ℕ → List ℕ → made.Acted → List ℕ → List ℕ → Type 0
 StepsOnLinks n c r lefts rights m lefts′ rights′ =

@@ -8,9 +8,9 @@ use Rattle.model.specs.declared.Control.{Control}
 use Rattle.model.specs.declared.Record.{Record}
 use Rattle.model.specs.declared.Entry.{Entry}
 use Rattle.model.specs.declared.Outcome.the-variants.{Refused, Moved}
-use Rattle.model.specs.Sound.{from1, anchorSound, linkSound}
-use Rattle.model.specs.Places.{withSeen, withNeighbour, withLink}
-use Rattle.model.specs.Route.{onward, goes, answer, counted}
+use Rattle.model.specs.Sound.{from1, isPop, anchorSound, linkSound}
+use Rattle.model.specs.Places.{withSeen, withNeighbour, withLink, reading}
+use Rattle.model.specs.Route.{route, onward, goes, answer, counted}
 use Rattle.table.specs.declared.Acted as made
 
 abbrev pub refused : Control → Record → made.Acted
@@ -31,17 +31,22 @@ withAnchor c w = record { tasks = c .tasks; slots = c .slots; anchor = w; retrie
 abbrev pub noEntry : Entry
 noEntry = record { slot = 0; label = 0 }
 
+-- Anchor is taken for the word as read, and the record goes on by it as at place 1.
+unfoldable pub anchorRead : Control → Record → made.Acted
+anchorRead c r =
+    settled c (withSeen r (c .anchor) (r .finishing)) (route 1 (r .kind) (reading (isPop r) (anchorOf (c .anchor)))) noEntry
+
 -- The tag as read can be raised, and the new Anchor is sound.
 unfoldable pub mayChange : ℕ → ℕ → ℕ → Bool
 mayChange slots seen new = anchorSound slots (anchorOf new) && ltb (anchorOf seen .tag) 4294967295
 
--- A change of Anchor from the word as read to new: done leads the record t on, failed the record r.
-unfoldable pub changed : Control → Record → ℕ → Record → ℕ → ℕ → made.Acted
+-- A change of Anchor from the word as read to new: done leads the record t on; failed is what a failed one comes to.
+unfoldable pub changed : Control → Record → ℕ → Record → ℕ → made.Acted → made.Acted
 changed c r new t done failed =
     let sound = anchorSound (c .slots) (anchorOf new) && ltb (anchorOf (r .seen) .tag) 4294967295 in
     cond (eqb (c .anchor) (r .seen))
     (cond sound (settled (withAnchor c new) t done noEntry) (refused c r))
-    (settled (bumped c) r failed noEntry)
+    failed
 
 -- A push whose change of Anchor at place 4 is done remembers the new word, and is finishing.
 unfoldable pub remembered : Record → ℕ → Record

@@ -1,4 +1,4 @@
-//! What each place does with the tables lent to it, one function a place.
+//! What each place does with the tables lent to it, one function a place; 1, 2 and 4 meet in one.
 //!
 //! Every function carries out the step at its place, whatever its arguments:
 //! it refuses with 34 what the place may not touch and then changes nothing.
@@ -14,28 +14,31 @@ use model::Record;
 use table::Acted;
 use word::Anchor;
 use word::Link;
-ghost use Rattle.places.specs.Arm.{Steps, StepsOnLinks, StepsOnMarks};
+ghost use mathlib.Core.Path.{_≡_};
+ghost use Rattle.places.specs.Arm.{Steps, StepsOnAnchor, StepsOnLinks, StepsOnMarks};
 
-/// Place 1: read Anchor. (Figure 3, line 1; figure 5, line 11.)
-pub fn at1(c: Control, r: Record) -> Acted
-    ensures { λ m. ⌜ Steps 1 c r m ⌝ }
+/// Places 1, 2 and 4: read Anchor (figure 3, line 1; figure 5, line 11), or change it where it is
+/// as read. A failed change is counted, takes the word found for its reading, and goes on as place 1.
+pub fn on_anchor(c: Control, r: Record) -> Acted
+    ensures { λ m. ⌜ StepsOnAnchor c r m ⌝ }
 {
-    let a = Anchor::unpack(c.anchor);
-    let mut t = r;
-    t.seen = c.anchor;
-    step::settles(c, t, next::after_reading(r.kind, a), step::NO_ENTRY)
+    let mut d = c;
+    if r.place != 1 {
+        if c.anchor == r.seen {
+            return if r.place == 2 { at2(c, r) } else { at4(c, r) };
+        }
+        d = step::bumped(c);
+    }
+    step::reads_anchor(d, r)
 }
 
-/// Place 2: change Anchor to own, own, s; a pop to null, null, s. (Figure 3, line 2; figure 5, line 12.)
-pub fn at2(c: Control, r: Record) -> Acted
-    ensures { λ m. ⌜ Steps 2 c r m ⌝ }
+/// Place 2, Anchor as read: change it to own, own, s; a pop to null, null, s. (Figure 3, line 2; figure 5, line 12.)
+fn at2(c: Control, r: Record) -> Acted
+    ensures { λ m. ⌜ (c .anchor ≡ r .seen → Steps 2 c r m) ⌝ }
 {
     let a = Anchor::unpack(r.seen);
     let end = side::choose(r.kind == 0, r.own, 0);
     let new = side::facing(r.side == 1, step::raised(r.seen), a.status, end, end);
-    if c.anchor != r.seen {
-        return step::settles(step::bumped(c), r, next::next(2, r.kind, 1), step::NO_ENTRY);
-    }
     if !step::may_change(c.slots, r.seen, new) {
         return step::refused(c, r);
     }
@@ -65,14 +68,11 @@ pub fn at3(c: Control, r: Record, lefts: &mut [u64], rights: &mut [u64]) -> Acte
     step::reads_neighbour(c, r, end, w, next::next(3, r.kind, 0))
 }
 
-/// Place 4: change Anchor to l, own, RPUSH, and remember it, finishing; a pop to l, neighbour, s.
-/// (Figure 3, line 4; figure 5, line 14.)
-pub fn at4(c: Control, r: Record) -> Acted
-    ensures { λ m. ⌜ Steps 4 c r m ⌝ }
+/// Place 4, Anchor as read: change it to l, own, RPUSH, and remember it, finishing; a pop to
+/// l, neighbour, s. (Figure 3, line 4; figure 5, line 14.)
+fn at4(c: Control, r: Record) -> Acted
+    ensures { λ m. ⌜ (c .anchor ≡ r .seen → Steps 4 c r m) ⌝ }
 {
-    if c.anchor != r.seen {
-        return step::settles(step::bumped(c), r, next::next(4, r.kind, 1), step::NO_ENTRY);
-    }
     let right = r.side == 1;
     let a = Anchor::unpack(r.seen);
     let far = side::far(right, a);

@@ -15,13 +15,14 @@ pub const EMPTY: u8 = 22;
 
 pub const POPPED: u8 = 23;
 
-// For each place the four outcomes of a push, then of a pop.
+// For each place the first four outcomes of a push, then of a pop. A failed change at 2 or 4 goes
+// by place 1's.
 const NEXT: [[[u8; 4]; 2]; 12] = [
     [[0, 0, 0, 0], [0, 0, 0, 0]],
     [[2, 0, 3, 5], [EMPTY, 2, 3, 5]],
-    [[PUSHED, 1, 0, 0], [11, 1, 0, 0]],
+    [[PUSHED, 2, 0, 3], [11, EMPTY, 2, 3]],
     [[4, 0, 0, 0], [4, 0, 0, 0]],
-    [[5, 1, 0, 0], [11, 1, 0, 0]],
+    [[5, 2, 0, 3], [11, EMPTY, 2, 3]],
     [[6, 0, 0, 0], [6, 0, 0, 0]],
     [[7, LEAVE, 0, 0], [7, LEAVE, 0, 0]],
     [[10, 8, 0, 0], [10, 8, 0, 0]],

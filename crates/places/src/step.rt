@@ -13,7 +13,8 @@ ghost use Prim.Native.Nat.{_+_, _/_, _^_};
 ghost use Rattle.word.specs.Link.{packLink};
 ghost use Rattle.model.specs.Tables.{idle};
 ghost use Rattle.model.specs.Route.{goes};
-ghost use Rattle.places.specs.Ending.{refused, settled, bumped, mayChange, withAnchor, remembered, compared, rowSound, neighbourRead, linkRead};
+ghost use Rattle.places.specs.Ending.{refused, settled, anchorRead, bumped, mayChange, withAnchor, remembered};
+ghost use Rattle.places.specs.Ending.{compared, rowSound, neighbourRead, linkRead};
 
 /// For a step that pops nothing.
 pub const NO_ENTRY: Entry = Entry { slot: 0, label: 0 };
@@ -86,6 +87,16 @@ pub fn settles(c: Control, t: Record, n: u8, e: Entry) -> Acted
     } else {
         goes(c, t, n)
     }
+}
+
+/// Takes Anchor for the word as read and goes on by it: place 1, and a failed change at 2 or 4.
+pub fn reads_anchor(c: Control, r: Record) -> Acted
+    ensures { λ m. ⌜ m ≡ anchorRead c r ⌝ }
+{
+    let a = Anchor::unpack(c.anchor);
+    let mut t = r;
+    t.seen = c.anchor;
+    settles(c, t, next::after_reading(r.kind, a), NO_ENTRY)
 }
 
 /// One more failed change, up to the ceiling.

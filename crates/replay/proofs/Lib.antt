@@ -1,6 +1,5 @@
 pub mod Feeding
 pub mod Pages
-pub mod Words
 pub mod Turns
 pub mod Fields
 pub mod Whole

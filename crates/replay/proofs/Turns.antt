@@ -1,17 +1,15 @@
 -- What the code of a turn, an opening and a malformed place leaves, as the definitions have it.
-use Prim.Native.Nat.{ℕ, zero, suc, _+_, _-_, _≤_, _<_}
-use mathlib.Core.Path.{_≡_, refl, sym, ap, _∙_, subst}
+use Prim.Native.Nat.{ℕ, _+_, _-_, _≤_}
+use mathlib.Core.Path.{_≡_, refl, sym, ap, _∙_}
 use mathlib.Core.Bool.{Bool, true, false, _&&_, _||_, not, cond}
-use mathlib.Core.List.{List, [], _∷_, _++_}
-use native.Mathlib.Nat.{not-suc-le-zero, le-of-suc-le-suc}
-use native.Mathlib.Numerals.{add-one}
+use mathlib.Core.List.{List}
 use native.Mathlib.Omega.{arith}
 use lib.Dec.{leb, eqb}
-use lib.ListN.{length, set, drop, replicate}
+use lib.ListN.{length}
 use borrow.Author.Tests.{leb-true, leb-false, le-leb, lt-leb}
 use Rattle.model.specs.declared.Record.{Record}
 use Rattle.model.specs.declared.Op.{Op}
-use Rattle.model.specs.Tables.{Tables, idle, zeroed}
+use Rattle.model.specs.Tables.{Tables, tablesOf, idle, zeroed}
 use Rattle.model.specs.Refusals.{Lent}
 use Rattle.model.specs.Calls.{Acted, openQueue, actOn}
 use Rattle.table.specs.declared.Acted.{Acted as Moved}
@@ -36,7 +34,7 @@ put-fits out out′ to to′ l h p = rw (le-leb (to + 128) (length out) h) at p
 pub turn-made : (q : Tables) (p : Lent) (r : Record) (task : ℕ) (op : Op) (event : ℕ) (out out′ : List ℕ) (to : ℕ) (m : Moved) (t : Turn) (lefts rights labels marks : List ℕ)
     → _≡_ {A = Acted}
     (record {
-      tables = record { control = m .control; lefts = lefts; rights = rights; labels = labels; marks = marks };
+      tables = tablesOf (m .control) lefts rights labels marks;
       task = m .task;
       outcome = m .outcome;
     })
@@ -45,7 +43,7 @@ pub turn-made : (q : Tables) (p : Lent) (r : Record) (task : ℕ) (op : Op) (eve
     → Put out out′ to (t .to) (lineOf event (Act task op (m .outcome)) (m .control .anchor))
     → _≡_ {A = Turned}
     (record {
-      tables = record { control = t .control; lefts = lefts; rights = rights; labels = labels; marks = marks };
+      tables = tablesOf (t .control) lefts rights labels marks;
       task = t .task;
       out = out′;
       to = t .to;
@@ -82,15 +80,6 @@ module _ (left : ℕ) (p : Page) where
   pub finishes-short : leb (p .to + room) (length (p .out)) ≡ false → finishes left p ≡ p
   unfolding finishes
   finishes-short f = cond-false (leb (p .to + room) (length (p .out))) _ _ f
-
--- Records cleared from the front.
-fill-suc : (n : ℕ) (v : Record) (d : List Record) → n < length d → set (replicate n v ++ drop n d) n v ≡ replicate (suc n) v ++ drop (suc n) d
-fill-suc n v [] h = absurd (not-suc-le-zero h)
-fill-suc zero v (x ∷ d) h = refl
-fill-suc (suc n) v (x ∷ d) h = ap (λ (t : List Record). v ∷ t) (fill-suc n v d (le-of-suc-le-suc h))
-
-pub clear-more : (n : ℕ) (d : List Record) → n < length d → set (zeroed n idle d) n idle ≡ zeroed (n + 1) idle d
-clear-more n d h = subst (λ (k : ℕ). set (zeroed n idle d) n idle ≡ zeroed k idle d) (sym (add-one n)) (fill-suc n idle d h)
 
 -- An opening, from its parts.
 pub open-page : (q : Tables) (rs rs′ : List Record) (opened₀ over₀ good : Bool) (event ev : ℕ) (out out′ : List ℕ) (to to′ tasks slots tag : ℕ) (o : OpenedParts)

@@ -39,9 +39,9 @@ module _ (before file : List ℕ) where
   told = record { run = fed .run; lines = fed .lines }
 
   -- With room for a field nothing is left to do.
-  all-done : (p p′ : Page) (rest : List ℕ) (words : ℕ) → p ≡ first → Feeds p file p′ rest words → 144 ≤ words → p′ .to + fieldRoom ≤ length (p′ .out) → (p′ ≡ written first told) × (rest ≡ fed .rest)
+  all-done : (p p′ : Page) (rest : List ℕ) (rows : ℕ) → p ≡ first → Feeds p file p′ rest rows → rows ≡ 16 → p′ .to + fieldRoom ≤ length (p′ .out) → (p′ ≡ written first told) × (rest ≡ fed .rest)
   unfolding written
-  all-done p p′ rest words e f w fits =
+  all-done p p′ rest rows e f w fits =
       let same : fed ≡ after (f .reaches .wrote) (unmoved (p′ .run) rest) = ap (λ (x : Page). feed (x .run) file) (sym e) ∙ f .reaches .rest ∙ ap (after (f .reaches .wrote)) (f .done w fits) in
       let wrote : told ≡ f .reaches .wrote = ap (λ (x : Fed). record { run = x .run; lines = x .lines }) same ∙ rw (append-nil, ap (λ (x : Page). x .run) (f .reaches .page)) in
       (f .reaches .page ∙ ap (λ (x : Page). written x (f .reaches .wrote)) e ∙ ap (written first) (sym wrote), ap (λ (x : Fed). x .rest) (sym same))
@@ -55,14 +55,14 @@ module _ (before file : List ℕ) where
   unfolding finishes written
   fits-line h = cond-true _ _ _ (le-leb (written first told .to + room) (length (written first told .out)) (omega (arith, h)))
 
-  pub whole-trace : (p p′ : Page) (rest : List ℕ) (words : ℕ) → room ≤ length before
+  pub whole-trace : (p p′ : Page) (rest : List ℕ) (rows : ℕ) → room ≤ length before
       → p ≡ written empty (record { run = fresh; lines = fitting (length before) 0 header })
-      → Feeds p file p′ rest words
-      → 144 ≤ words
+      → Feeds p file p′ rest rows
+      → rows ≡ 16
       → p′ .to + fieldRoom ≤ length (p′ .out)
       → finishes (length rest) p′ ≡ written empty (record { run = last .run; lines = traceOf file })
-  whole-trace p p′ rest words h b f w fits =
-      let e = all-done p p′ rest words (begun p h b) f w fits in
+  whole-trace p p′ rest rows h b f w fits =
+      let e = all-done p p′ rest rows (begun p h b) f w fits in
       ap (λ (x : Page). finishes (length rest) x) (e .0) ∙ ap (λ (l : List ℕ). finishes (length l) (written first told)) (e .1) ∙ ended (fits-line (rw (e .0) at fits))
 
 -- What was written from the front of a buffer, where it fits, is what stands there.

@@ -1,4 +1,3 @@
 pub mod Run
 pub mod Trace
-pub mod Rows
 pub mod Page

@@ -8,7 +8,7 @@ use lib.Dec.{leb}
 use mathlib.Core.Bool.{cond}
 use Rattle.model.specs.declared.Record.{Record}
 use Rattle.model.specs.declared.Op.{Op}
-use Rattle.model.specs.Tables.{Tables}
+use Rattle.model.specs.Tables.{Tables, queueOf}
 use Rattle.model.specs.Refusals.{Lent}
 use Rattle.model.specs.Calls.{actOn}
 use Rattle.runfile.specs.declared.line.Line.the-variants.{Act}
@@ -18,7 +18,7 @@ use Rattle.runfile.specs.declared.field.Field.{Field}
 use Rattle.runfile.specs.declared.field.Field.the-variants.{Open, Push, Pop, Steps, Malformed, Cut, End}
 use Rattle.model.specs.History.{Request}
 use Rattle.replay.specs.Run.{Run, Told, operated, opened, malformed, carried}
-use Rattle.replay.specs.Rows.{rowsOf}
+use Rattle.rows.specs.Rows.{recordsOf}
 use Rattle.replay.specs.Trace.{unmoved, after, feed, finished, fresh}
 use Rattle.replay.specs.declared.run.RunState.{RunState}
 use Rattle.replay.specs.declared.turn.Turn.{Turn}
@@ -29,10 +29,10 @@ pub record Page : Type 0 where
   pub out : List ℕ
   pub to : ℕ
 
-abbrev pub pageOf : RunState → List ℕ → List ℕ → List ℕ → List ℕ → List ℕ → List ℕ → Page
+abbrev pub pageOf : RunState → List ℕ → List (List ℕ) → List ℕ → List ℕ → List ℕ → List ℕ → Page
 pageOf s out rows lefts rights labels marks = record {
   run = record {
-    queue = record { tables = record { control = s .control; lefts = lefts; rights = rights; labels = labels; marks = marks }; records = rowsOf 16 rows };
+    queue = queueOf (s .control) (recordsOf rows) lefts rights labels marks;
     opened = s .opened;
     over = s .over;
     event = s .event;
@@ -64,7 +64,7 @@ finishes left p = cond (leb (p .to + room) (length (p .out))) (written p (finish
 -- The first page of a trace: a fresh run, with the header in its buffer.
 pub record Begins (before after : List ℕ) (s : RunState) : Type 0 where
   pub page :
-      pageOf s after (replicate 144 0) (fresh .queue .tables .lefts) (fresh .queue .tables .rights) (fresh .queue .tables .labels) (fresh .queue .tables .marks)
+      pageOf s after (replicate 16 (replicate 9 0)) (fresh .queue .tables .lefts) (fresh .queue .tables .rights) (fresh .queue .tables .labels) (fresh .queue .tables .marks)
       ≡ written (record { run = fresh; out = before; to = 0 }) (record { run = fresh; lines = fitting (length before) 0 header })
   pub start : s .at ≡ 0
 
@@ -84,10 +84,10 @@ pub record Reaches (p : Page) (b : List ℕ) (p′ : Page) (b′ : List ℕ) : T
   pub page : p′ ≡ written p wrote
   pub rest : feed (p .run) b ≡ after wrote (feed (p′ .run) b′)
 
--- The same, and with room for a field, and words for all records, nothing is left to do.
-pub record Feeds (p : Page) (b : List ℕ) (p′ : Page) (b′ : List ℕ) (words : ℕ) : Type 0 where
+-- The same, and with room for a field, and a row for each record, nothing is left to do.
+pub record Feeds (p : Page) (b : List ℕ) (p′ : Page) (b′ : List ℕ) (rows : ℕ) : Type 0 where
   pub reaches : Reaches p b p′ b′
-  pub done : 144 ≤ words → p′ .to + fieldRoom ≤ length (p′ .out) → feed (p′ .run) b′ ≡ unmoved (p′ .run) b′
+  pub done : rows ≡ 16 → p′ .to + fieldRoom ≤ length (p′ .out) → feed (p′ .run) b′ ≡ unmoved (p′ .run) b′
 
 -- The bytes of a steps field are there.
 abbrev pub Whole : Field → ℕ → ℕ → Type 0

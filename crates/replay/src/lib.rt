@@ -2,6 +2,5 @@
 //!
 //! What a whole file prints is `traceOf` of `specs/Trace.antt`. `begin`, `feed` and `finish` write just
 //! that, in whatever pieces the file comes; reading it and writing the buffer out is left to the program.
-mod rows;
 pub mod run;
 mod turn;

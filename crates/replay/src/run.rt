@@ -1,5 +1,4 @@
 //! The run over lent tables: fields in, lines out.
-use crate::rows;
 use crate::turn;
 use crate::turn::Turn;
 use calls::opening;
@@ -59,13 +58,13 @@ fn push(
     slot: u64,
     label: u32,
     out: &mut [u8],
-    rows: &mut [u64],
+    rows: &mut [[u64; rows::RECORD_WORDS]],
     lefts: &mut [u64],
     rights: &mut [u64],
     labels: &mut [u32],
     marks: &mut [u64],
 ) -> RunState
-    requires { ⌜ (s .to + 128 ≤ length (now out)) × (144 ≤ length (now rows)) ⌝ }
+    requires { ⌜ (s .to + 128 ≤ length (now out)) × (length (now rows) ≡ 16) ⌝ }
     ensures { λ r.
         ⌜ pageOf r (now (out .exit)) (now (rows .exit)) (now (lefts .exit)) (now (rights .exit)) (now (labels .exit)) (now (marks .exit))
         ≡ operates (pageOf s (now (out .entry)) (now (rows .entry)) (now (lefts .entry)) (now (rights .entry)) (now (labels .entry)) (now (marks .entry))) (record { task = task; op = Push side slot label } ∷ []) ⌝ }
@@ -99,13 +98,13 @@ fn pop(
     task: usize,
     side: u64,
     out: &mut [u8],
-    rows: &mut [u64],
+    rows: &mut [[u64; rows::RECORD_WORDS]],
     lefts: &mut [u64],
     rights: &mut [u64],
     labels: &mut [u32],
     marks: &mut [u64],
 ) -> RunState
-    requires { ⌜ (s .to + 128 ≤ length (now out)) × (144 ≤ length (now rows)) ⌝ }
+    requires { ⌜ (s .to + 128 ≤ length (now out)) × (length (now rows) ≡ 16) ⌝ }
     ensures { λ r.
         ⌜ pageOf r (now (out .exit)) (now (rows .exit)) (now (lefts .exit)) (now (rights .exit)) (now (labels .exit)) (now (marks .exit))
         ≡ operates (pageOf s (now (out .entry)) (now (rows .entry)) (now (lefts .entry)) (now (rights .entry)) (now (labels .entry)) (now (marks .entry))) (record { task = task; op = Pop side } ∷ []) ⌝ }
@@ -138,13 +137,13 @@ fn steps(
     from: usize,
     end: usize,
     out: &mut [u8],
-    rows: &mut [u64],
+    rows: &mut [[u64; rows::RECORD_WORDS]],
     lefts: &mut [u64],
     rights: &mut [u64],
     labels: &mut [u32],
     marks: &mut [u64],
 ) -> RunState
-    requires { ⌜ (from ≤ end) × (end ≤ length (now bytes)) × (s .to + 128 * (end - from) ≤ length (now out)) × (144 ≤ length (now rows)) ⌝ }
+    requires { ⌜ (from ≤ end) × (end ≤ length (now bytes)) × (s .to + 128 * (end - from) ≤ length (now out)) × (length (now rows) ≡ 16) ⌝ }
     ensures { λ r.
         ⌜ pageOf r (now (out .exit)) (now (rows .exit)) (now (lefts .exit)) (now (rights .exit)) (now (labels .exit)) (now (marks .exit))
         ≡ operates (pageOf s (now (out .entry)) (now (rows .entry)) (now (lefts .entry)) (now (rights .entry)) (now (labels .entry)) (now (marks .entry))) (stepsOf (slice from end (now (bytes .entry)))) ⌝ }
@@ -189,13 +188,13 @@ fn open_queue(
     slots: u64,
     tag: u32,
     out: &mut [u8],
-    rows: &mut [u64],
+    rows: &mut [[u64; rows::RECORD_WORDS]],
     lefts: &mut [u64],
     rights: &mut [u64],
     labels: &mut [u32],
     marks: &mut [u64],
 ) -> RunState
-    requires { ⌜ (s .to + 128 ≤ length (now out)) × (144 ≤ length (now rows)) ⌝ }
+    requires { ⌜ (s .to + 128 ≤ length (now out)) × (length (now rows) ≡ 16) ⌝ }
     ensures { λ r.
         ⌜ pageOf r (now (out .exit)) (now (rows .exit)) (now (lefts .exit)) (now (rights .exit)) (now (labels .exit)) (now (marks .exit))
         ≡ opens (pageOf s (now (out .entry)) (now (rows .entry)) (now (lefts .entry)) (now (rights .entry)) (now (labels .entry)) (now (marks .entry))) tasks slots tag ⌝ }
@@ -231,7 +230,7 @@ fn open_queue(
 // A malformed place, which ends the run.
 fn malformed(s: RunState, out: &mut [u8]) -> RunState
     requires { ⌜ s .to + 128 ≤ length (now out) ⌝ }
-    ensures { λ r. ⌜ ((ws ls rs bs ms : List ℕ) → pageOf r (now (out .exit)) ws ls rs bs ms ≡ breaks (pageOf s (now (out .entry)) ws ls rs bs ms)) ⌝ }
+    ensures { λ r. ⌜ ((ws : List (List ℕ)) (ls rs bs ms : List ℕ) → pageOf r (now (out .exit)) ws ls rs bs ms ≡ breaks (pageOf s (now (out .entry)) ws ls rs bs ms)) ⌝ }
 {
     let c = s.control;
     let event = std::num::wrapping_add_u64(s.event, 1);
@@ -252,13 +251,13 @@ fn carry_out(
     bytes: &[u8],
     at: usize,
     out: &mut [u8],
-    rows: &mut [u64],
+    rows: &mut [[u64; rows::RECORD_WORDS]],
     lefts: &mut [u64],
     rights: &mut [u64],
     labels: &mut [u32],
     marks: &mut [u64],
 ) -> RunState
-    requires { ⌜ (s .to + 524288 ≤ length (now out)) × (144 ≤ length (now rows)) ⌝ }
+    requires { ⌜ (s .to + 524288 ≤ length (now out)) × (length (now rows) ≡ 16) ⌝ }
     requires { ⌜ Whole field at (length (now bytes)) ⌝ }
     ensures { λ r.
         ⌜ pageOf r (now (out .exit)) (now (rows .exit)) (now (lefts .exit)) (now (rights .exit)) (now (labels .exit)) (now (marks .exit))
@@ -329,13 +328,13 @@ fn take_field(
     s: RunState,
     bytes: &[u8],
     out: &mut [u8],
-    rows: &mut [u64],
+    rows: &mut [[u64; rows::RECORD_WORDS]],
     lefts: &mut [u64],
     rights: &mut [u64],
     labels: &mut [u32],
     marks: &mut [u64],
 ) -> RunState
-    requires { ⌜ (s .to + 524288 ≤ length (now out)) × (144 ≤ length (now rows)) ⌝ }
+    requires { ⌜ (s .to + 524288 ≤ length (now out)) × (length (now rows) ≡ 16) ⌝ }
     ensures { λ r.
         ⌜ Takes (pageOf s (now (out .entry)) (now (rows .entry)) (now (lefts .entry)) (now (rights .entry)) (now (labels .entry)) (now (marks .entry))) (drop (s .at) (now (bytes .entry)))
         (pageOf r (now (out .exit)) (now (rows .exit)) (now (lefts .exit)) (now (rights .exit)) (now (labels .exit)) (now (marks .exit))) (s .at) (r .at) ⌝ }
@@ -348,12 +347,13 @@ fn take_field(
     q
 }
 
-/// Every whole field from the reading position on, while the buffer has room. Nothing is done where `rows` has no room for all records.
+/// Every whole field from the reading position on, while the buffer has room. Nothing is done where `rows` are not as many as
+/// an opening can ask for.
 pub fn feed(
     s: RunState,
     bytes: &[u8],
     out: &mut [u8],
-    rows: &mut [u64],
+    rows: &mut [[u64; rows::RECORD_WORDS]],
     lefts: &mut [u64],
     rights: &mut [u64],
     labels: &mut [u32],
@@ -364,7 +364,7 @@ pub fn feed(
         (pageOf r (now (out .exit)) (now (rows .exit)) (now (lefts .exit)) (now (rights .exit)) (now (labels .exit)) (now (marks .exit))) (drop (r .at) (now (bytes .entry))) (length (now (rows .entry))) ⌝ }
 {
     let mut q = s;
-    if rows.len() < rows::WORDS {
+    if rows.len() != turn::TASKS {
         return q;
     }
     while !q.over & has_room(out.len(), q.to) {
@@ -380,7 +380,7 @@ pub fn feed(
 /// The end of the file, where so many bytes are left. Nothing is done where the buffer has no room for a line.
 pub fn finish(s: RunState, left: usize, out: &mut [u8]) -> RunState
     ensures { λ r.
-        ⌜ ((ws ls rs bs ms : List ℕ)
+        ⌜ ((ws : List (List ℕ)) (ls rs bs ms : List ℕ)
         → pageOf r (now (out .exit)) ws ls rs bs ms ≡ finishes left (pageOf s (now (out .entry)) ws ls rs bs ms)) ⌝ }
 {
     if s.over | (s.opened & (left == 0)) {

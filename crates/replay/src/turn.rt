@@ -11,6 +11,7 @@ ghost use Prim.Native.Nat.{_+_, _≤_};
 ghost use lib.Dec.{leb, ltb};
 ghost use lib.ListN.{length};
 ghost use Rattle.model.specs.declared.Op.the-variants.{Push, Pop, Step};
+ghost use Rattle.model.specs.Tables.{tablesOf};
 ghost use Rattle.runfile.specs.Line.{Put, lineOf};
 ghost use Rattle.runfile.specs.declared.line.Line.the-variants.{Act};
 ghost use Rattle.replay.specs.Page.{Turned, turned};
@@ -69,12 +70,12 @@ pub fn push(
     ensures { λ m.
         ⌜ _≡_ {A = Turned}
         (record {
-          tables = record { control = m .control; lefts = now (lefts .exit); rights = now (rights .exit); labels = now (labels .exit); marks = now (marks .exit) };
+          tables = tablesOf (m .control) (now (lefts .exit)) (now (rights .exit)) (now (labels .exit)) (now (marks .exit));
           task = m .task;
           out = now (out .exit);
           to = m .to;
         })
-        (turned (record { control = c; lefts = now (lefts .entry); rights = now (rights .entry); labels = now (labels .entry); marks = now (marks .entry) })
+        (turned (tablesOf c (now (lefts .entry)) (now (rights .entry)) (now (labels .entry)) (now (marks .entry)))
         (record { enough = leb (c .tasks) 16; known = ltb task (c .tasks) }) r task (Push side slot label) event (now (out .entry)) to) ⌝ }
     ensures { λ m. ⌜ m .to ≤ to + 128 ⌝ }
 {
@@ -112,12 +113,12 @@ pub fn pop(
     ensures { λ m.
         ⌜ _≡_ {A = Turned}
         (record {
-          tables = record { control = m .control; lefts = now (lefts .exit); rights = now (rights .exit); labels = now (labels .exit); marks = now (marks .exit) };
+          tables = tablesOf (m .control) (now (lefts .exit)) (now (rights .exit)) (now (labels .exit)) (now (marks .exit));
           task = m .task;
           out = now (out .exit);
           to = m .to;
         })
-        (turned (record { control = c; lefts = now (lefts .entry); rights = now (rights .entry); labels = now (labels .entry); marks = now (marks .entry) })
+        (turned (tablesOf c (now (lefts .entry)) (now (rights .entry)) (now (labels .entry)) (now (marks .entry)))
         (record { enough = leb (c .tasks) 16; known = ltb task (c .tasks) }) r task (Pop side) event (now (out .entry)) to) ⌝ }
     ensures { λ m. ⌜ m .to ≤ to + 128 ⌝ }
 {
@@ -142,12 +143,12 @@ pub fn step(
     ensures { λ m.
         ⌜ _≡_ {A = Turned}
         (record {
-          tables = record { control = m .control; lefts = now (lefts .exit); rights = now (rights .exit); labels = now (labels .exit); marks = now (marks .exit) };
+          tables = tablesOf (m .control) (now (lefts .exit)) (now (rights .exit)) (now (labels .exit)) (now (marks .exit));
           task = m .task;
           out = now (out .exit);
           to = m .to;
         })
-        (turned (record { control = c; lefts = now (lefts .entry); rights = now (rights .entry); labels = now (labels .entry); marks = now (marks .entry) })
+        (turned (tablesOf c (now (lefts .entry)) (now (rights .entry)) (now (labels .entry)) (now (marks .entry)))
         (record { enough = leb (c .tasks) 16; known = ltb task (c .tasks) }) r task Step event (now (out .entry)) to) ⌝ }
     ensures { λ m. ⌜ m .to ≤ to + 128 ⌝ }
 {

@@ -22,7 +22,7 @@ fn take_page(
     s: RunState,
     bytes: &[u8],
     out: &mut [u8],
-    rows: &mut [u64],
+    rows: &mut [[u64; rows::RECORD_WORDS]],
     lefts: &mut [u64],
     rights: &mut [u64],
     labels: &mut [u32],
@@ -42,7 +42,7 @@ fn take_piece(
     s: RunState,
     bytes: &[u8],
     out: &mut [u8],
-    rows: &mut [u64],
+    rows: &mut [[u64; rows::RECORD_WORDS]],
     lefts: &mut [u64],
     rights: &mut [u64],
     labels: &mut [u32],
@@ -117,7 +117,7 @@ fn take_round(
     input: &mut [u8],
     have: usize,
     out: &mut [u8],
-    rows: &mut [u64],
+    rows: &mut [[u64; rows::RECORD_WORDS]],
     lefts: &mut [u64],
     rights: &mut [u64],
     labels: &mut [u32],
@@ -155,7 +155,7 @@ fn take_round(
 fn rounds(
     input: &mut [u8],
     out: &mut [u8],
-    rows: &mut [u64],
+    rows: &mut [[u64; rows::RECORD_WORDS]],
     lefts: &mut [u64],
     rights: &mut [u64],
     labels: &mut [u32],
@@ -190,7 +190,7 @@ fn main() {
     }
     let mut input = [0u8; 65536];
     let mut output = [0u8; 589824];
-    let mut rows = [0u64; 144];
+    let mut rows = [[0u64; rows::RECORD_WORDS]; 16];
     let mut lefts = [0u64; 1024];
     let mut rights = [0u64; 1024];
     let mut labels = [0u32; 1024];

@@ -67,10 +67,10 @@ fn run(command: &mut Command) -> Said {
     }
 }
 
-/// A line of shell, with these names set and at most a minute of time.
+/// A line of shell, with these names set and at most ten minutes of time.
 pub fn shell(line: &str, names: &[(&str, &Path)]) -> Said {
     let mut command = Command::new("timeout");
-    command.args(["60", "bash", "-c", line]).env("TRACE", trace()).env("ROOT", root());
+    command.args(["600", "bash", "-c", line]).env("TRACE", trace()).env("ROOT", root());
     run(command.envs(names.iter().copied()).stdin(Stdio::null()))
 }
 

@@ -89,7 +89,7 @@ fn failures(checks: &mut Checks) {
         ("failures: a closed output", r#""$TRACE" < "$RUN" >&-"#),
         (
             "failures: a full device while the input waits",
-            r#"mkfifo "$FOLDER/pipe"; timeout 20 "$TRACE" <> "$FOLDER/pipe" > /dev/full"#,
+            r#"mkfifo "$FOLDER/pipe"; timeout 60 "$TRACE" <> "$FOLDER/pipe" > /dev/full"#,
         ),
     ];
     for (name, line) in writes {
@@ -122,7 +122,7 @@ fn in_pieces(seed: u64) -> Verdict {
     let scratch = Scratch::make();
     let out = scratch.path("trace");
     let mut child = Command::new("timeout")
-        .args(["60".as_ref(), trace().as_os_str()])
+        .args(["600".as_ref(), trace().as_os_str()])
         .stdin(Stdio::piped())
         .stdout(std::fs::File::create(&out).map_err(|error| error.to_string())?)
         .spawn()
@@ -167,7 +167,7 @@ fn little_memory() -> Verdict {
     let scratch = Scratch::make();
     let run_file = scratch.file("run", &file);
     let mut child = Command::new("bash")
-        .args(["-c", r#"ulimit -v 16384; exec timeout 300 "$TRACE" < "$RUN""#])
+        .args(["-c", r#"ulimit -v 16384; exec timeout 600 "$TRACE" < "$RUN""#])
         .env("TRACE", trace())
         .env("RUN", &run_file)
         .stdout(Stdio::piped())

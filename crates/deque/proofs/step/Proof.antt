@@ -67,7 +67,8 @@ use Rattle.engine.specs.Ends.{endsCall, isMoved}
 use Rattle.engine.proofs.Whole.{turned-away, admitted, task-there}
 use Rattle.deque.proofs.Walk.{control-value, record-value, outcome-value, slice-value, kept, var, part, lets, receive, valued, idle-is, holds, fails, fits-scaled, gives-up}
 use Rattle.deque.proofs.Engine.{Four, Lasts, tabled, unwritten, Lengths, Leaves, Move, slices, returned, moves, Test, asks}
-use Rattle.deque.proofs.Stored.{control-of, task-of, outcome-of, control-after, record-after, control-is, record-is, over, going, unmoved}
+use Rattle.deque.proofs.Stored.{control-of, task-of, outcome-of, control-after, record-after, control-is, record-is}
+use Rattle.engine.proofs.Stored.{over, going, unmoved}
 use Rattle.deque.proofs.Frame.{Blocks, env-of, Cell, full, bare, cells, allocates, frees-all}
 use Rattle.model.proofs.Control as K
 use Rattle.model.proofs.Control.Laws as K′

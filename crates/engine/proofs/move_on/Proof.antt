@@ -2,12 +2,17 @@
 use mathlib.Core.Path.{_≡_, sym, _∙_}
 use Prim.Native.Nat.{ℕ, _≤_}
 use native.Mathlib.Nat.{le-antisymm}
+use lib.Dec.{eqb}
 use borrow.Author.Needs.{needs}
+use borrow.Author.Tests.{eqb-true, eqb-false}
 use Rattle.model.specs.declared.Record.{Record}
 use Rattle.model.specs.Tables.{Tables}
-use Rattle.places.specs.Arm.{tablesOf, stepAt}
-use Rattle.engine.specs.Parts.{moveOn}
-use Rattle.engine.proofs.Whole.{stopped, at-place, placed, above}
+use Rattle.table.specs.declared.Acted as made
+use Rattle.model.specs.Tables.{tablesOf}
+use Rattle.table.specs.Lent.{withTables}
+use Rattle.places.specs.Arm.{stepAt, Steps}
+use Rattle.engine.specs.Parts.{recordRefusal, moveOn}
+use Rattle.engine.proofs.Whole.{split, above, below, stopped, at-place, placed}
 use Rattle.engine.proofs.move_on.Statement.{statement}
 use Rattle.engine.proofs.move_on.Tie as tie
 
@@ -21,76 +26,85 @@ module _ (a : tie.Start) where
 
 returns : tie.Need-returns
 returns c =
-    let a = c .before .before .before .before .before .before .before in
-    rw (c .refused .ensures) (stopped (q a) (r a) _ (c .before .before .refusal .ensures) (c .before .if1 .taken))
+    let f = c .before .before in
+    let a = f .before .before .before .before .before in
+    rw (c .refused .ensures) (stopped (q a) (r a) _ (f .refusal .ensures) (c .before .if1 .taken))
 
 -- Past the refusals it is the step at the record's place.
 module _ (e : tie.Else1) where
   abbrev start : tie.Start
-  start = e .before .before .before .before .before .before
+  start = let f = e .before in f .before .before .before .before .before
 
-  arrives : (n : ℕ) → r start .place ≡ n → stepAt n (q start) (r start) ≡ moveOn (q start) (r start)
-  arrives n at = at-place (q start) (r start) n (sym (e .before .refusal .ensures) ∙ e .if1 .left) at
+  abbrev now : Tables
+  now = q start
+
+  passed : recordRefusal (now .control .slots) (r start) ≡ 0
+  passed = sym (e .before .refusal .ensures) ∙ e .if1 .left
+
+  arrives : (n : ℕ) → r start .place ≡ n → stepAt n now (r start) ≡ moveOn now (r start)
+  arrives n at = at-place now (r start) n passed at
+
+  -- A place that is lent no table.
+  alone : (n : ℕ) (m : made.Acted) → Steps n (now .control) (r start) m → r start .place ≡ n
+      → withTables m (now .lefts) (now .rights) (now .labels) (now .marks) ≡ moveOn now (r start)
+  alone n m steps at = steps (now .lefts) (now .rights) (now .labels) (now .marks) ∙ arrives n at
 
   range : (1 ≤ r start .place) × (r start .place ≤ 11)
-  range = placed (q start) (r start) (sym (e .before .refusal .ensures) ∙ e .if1 .left)
+  range = placed now (r start) passed
 
 returns-2 : tie.Need-returns-2
 returns-2 c =
-    let m = c .before in
-    c .at1 .ensures (q (start (m .before)) .lefts) (q (start (m .before)) .rights) (q (start (m .before)) .labels) (q (start (m .before)) .marks) ∙ arrives (m .before) 1 (m .match .keys1)
+    let d = c .before .before .before .before in
+    let m = d .before .before .before in
+    d .at3 .ensures (now (m .before) .labels) (now (m .before) .marks) ∙ arrives (m .before) 3 (m .match .keys1)
 
 returns-3 : tie.Need-returns-3
 returns-3 c =
-    let m = c .before in
-    c .at2 .ensures (q (start (m .before)) .lefts) (q (start (m .before)) .rights) (q (start (m .before)) .labels) (q (start (m .before)) .marks) ∙ arrives (m .before) 2 (m .match .keys2)
+    let m = c .before .before .before in
+    c .at5 .ensures (now (m .before) .labels) (now (m .before) .marks) ∙ arrives (m .before) 5 (m .match .keys2)
 
 returns-4 : tie.Need-returns-4
-returns-4 c =
-    let m = c .before .before .before .before .before .before .before in
-    c .before .before .before .before .at3 .ensures (q (start (m .before)) .labels) (q (start (m .before)) .marks) ∙ arrives (m .before) 3 (m .match .keys3)
+returns-4 c = let m = c .before in alone (m .before) 6 _ (c .at6 .ensures) (m .match .keys3)
 
 returns-5 : tie.Need-returns-5
 returns-5 c =
-    let m = c .before in
-    c .at4 .ensures (q (start (m .before)) .lefts) (q (start (m .before)) .rights) (q (start (m .before)) .labels) (q (start (m .before)) .marks) ∙ arrives (m .before) 4 (m .match .keys4)
+    let m = c .before .before .before in
+    c .at7 .ensures (now (m .before) .labels) (now (m .before) .marks) ∙ arrives (m .before) 7 (m .match .keys4)
 
 returns-6 : tie.Need-returns-6
-returns-6 c =
-    let m = c .before .before .before in
-    c .at5 .ensures (q (start (m .before)) .labels) (q (start (m .before)) .marks) ∙ arrives (m .before) 5 (m .match .keys5)
+returns-6 c = let m = c .before in alone (m .before) 8 _ (c .at8 .ensures) (m .match .keys5)
 
 returns-7 : tie.Need-returns-7
 returns-7 c =
-    let m = c .before in
-    c .at6 .ensures (q (start (m .before)) .lefts) (q (start (m .before)) .rights) (q (start (m .before)) .labels) (q (start (m .before)) .marks) ∙ arrives (m .before) 6 (m .match .keys6)
+    let d = c .before .before .before .before in
+    let m = d .before .before .before in
+    d .at9 .ensures (now (m .before) .labels) (now (m .before) .marks) ∙ arrives (m .before) 9 (m .match .keys6)
 
 returns-8 : tie.Need-returns-8
-returns-8 c =
-    let m = c .before .before .before in
-    c .at7 .ensures (q (start (m .before)) .labels) (q (start (m .before)) .marks) ∙ arrives (m .before) 7 (m .match .keys7)
+returns-8 c = let m = c .before in alone (m .before) 10 _ (c .at10 .ensures) (m .match .keys7)
 
 returns-9 : tie.Need-returns-9
 returns-9 c =
-    let m = c .before in
-    c .at8 .ensures (q (start (m .before)) .lefts) (q (start (m .before)) .rights) (q (start (m .before)) .labels) (q (start (m .before)) .marks) ∙ arrives (m .before) 8 (m .match .keys8)
+    let d = c .before .before in
+    let m = d .before .before in
+    d .at11 .ensures (now (m .before) .lefts) (now (m .before) .rights) ∙ arrives (m .before) 11 (m .match .keys8)
 
+-- None of these, so 1, 2 or 4.
 returns-10 : tie.Need-returns-10
 returns-10 c =
-    let m = c .before .before .before .before .before .before .before in
-    c .before .before .before .before .at9 .ensures (q (start (m .before)) .labels) (q (start (m .before)) .marks) ∙ arrives (m .before) 9 (m .match .keys9)
-
-returns-11 : tie.Need-returns-11
-returns-11 c =
     let m = c .before in
-    c .at10 .ensures (q (start (m .before)) .lefts) (q (start (m .before)) .rights) (q (start (m .before)) .labels) (q (start (m .before)) .marks) ∙ arrives (m .before) 10 (m .match .keys10)
-
-returns-12 : tie.Need-returns-12
-returns-12 c =
-    let m = c .before .before .before .before in
     let h = m .match .rest in
-    let low = (above (above (above (above (above (above (above (above (above (above (range (m .before) .0) (h .0 .0 .0 .0 .0 .0 .0 .0 .0 .1)) (h .0 .0 .0 .0 .0 .0 .0 .0 .1)) (h .0 .0 .0 .0 .0 .0 .0 .1)) (h .0 .0 .0 .0 .0 .0 .1)) (h .0 .0 .0 .0 .0 .1)) (h .0 .0 .0 .0 .1)) (h .0 .0 .0 .1)) (h .0 .0 .1)) (h .0 .1)) (h .1)) in
-    c .before .before .at11 .ensures (q (start (m .before)) .lefts) (q (start (m .before)) .rights) ∙ arrives (m .before) 11 (le-antisymm (range (m .before) .1) low)
+    let g = h .0 .0 .0 .0 in
+    let done = c .on-anchor .ensures in
+    let low = range (m .before) .0 in
+    let eight = below (below (below (range (m .before) .1) (h .1)) (h .0 .1)) (h .0 .0 .1) in
+    let high = below (below (below (below eight (h .0 .0 .0 .1)) (g .1)) (g .0 .1)) (g .0 .0 .1) in
+    split (eqb (r (start (m .before)) .place) 1)
+    (λ e. let one = eqb-true _ _ e in alone (m .before) 1 _ (done .0 one) one)
+    (λ n. split (eqb (r (start (m .before)) .place) 2)
+    (λ e. let two = eqb-true _ _ e in alone (m .before) 2 _ (done .1 two) two)
+    (λ k. let three = above (above low (eqb-false _ _ n)) (eqb-false _ _ k) in
+    let four = le-antisymm high (above three (g .0 .0 .0 .1)) in alone (m .before) 4 _ (done .2 four) four))
 
 pub move-on-spec : {M : Type 1} → statement M
 move-on-spec =
@@ -108,25 +122,21 @@ move-on-spec =
     (λ _ _. tt)
     (λ _ _. tt)
     (λ _ _. tt)
-    (λ _ _. tt)
-    (λ _ _. tt)
+    (λ c. search needs)
+    (λ c. search needs)
     returns-2
+    (λ c. search needs)
+    (λ c. search needs)
     returns-3
-    (λ c. search needs)
-    (λ c. search needs)
     returns-4
+    (λ c. search needs)
+    (λ c. search needs)
     returns-5
-    (λ c. search needs)
-    (λ c. search needs)
     returns-6
+    (λ c. search needs)
+    (λ c. search needs)
     returns-7
-    (λ c. search needs)
-    (λ c. search needs)
     returns-8
+    (λ c. search needs)
     returns-9
-    (λ c. search needs)
-    (λ c. search needs)
-    returns-10
-    returns-11
-    (λ c. search needs)
-    returns-12)
+    returns-10)

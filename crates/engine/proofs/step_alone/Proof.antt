@@ -5,7 +5,7 @@ use Rattle.model.specs.Calls.{stepLent}
 use Rattle.model.specs.Sound.{rowsFit}
 use Rattle.model.specs.Refusals.{Lent, alone}
 use Rattle.model.specs.Tables.{Tables}
-use Rattle.places.specs.Arm.{tablesOf}
+use Rattle.model.specs.Tables.{tablesOf}
 use Rattle.sound.specs.Lengths.{lengthsFit}
 use Rattle.engine.proofs.Whole.{turned-away, admitted}
 use Rattle.engine.proofs.step_alone.Statement.{statement}

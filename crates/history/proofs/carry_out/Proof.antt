@@ -8,7 +8,8 @@ use lib.ListN.{length}
 use Rattle.model.specs.declared.Control.{Control}
 use Rattle.model.specs.declared.Record.{Record}
 use Rattle.history.specs.Words.{requestsFrom}
-use Rattle.history.specs.Serving.{State, queueOf, served}
+use Rattle.history.specs.Serving.{State, served}
+use Rattle.model.specs.Tables.{queueOf}
 use Rattle.history.proofs.Turns.{served-all, served-none, served-next}
 use Rattle.history.proofs.carry_out.Statement.{statement}
 use Rattle.history.proofs.carry_out.Tie as tie

@@ -34,9 +34,10 @@ module _ (c : Control) (r : Record) (w : ℕ) (P : Touch → Record → Type 0) 
   unfolding move at1 at2 at3 at4 at5 at6 at7 at9 at10 at11
   by-move same read found held two four-push four-pop ten three nine eleven =
       by-test Holds (eqb (r .place) 1) (λ e. read)
-      (λ e. by-test Holds (eqb (r .place) 2) (λ e. by-test Holds (eqb (c .anchor) (r .seen)) (λ e. two) (λ e. same))
+      (λ e. by-test Holds (eqb (r .place) 2) (λ e. by-test Holds (eqb (c .anchor) (r .seen)) (λ e. two) (λ e. read))
       (λ e. by-test Holds (eqb (r .place) 3) (λ e. by-test Holds (eqb (r .kind) 0) (λ e. three) (λ e. found))
-      (λ e. by-test Holds (eqb (r .place) 4) (λ e. by-test Holds (eqb (c .anchor) (r .seen)) (λ e. by-test (P (setAnchor (new4 r))) (eqb (r .kind) 0) (λ e. four-push) (λ e. four-pop)) (λ e. same))
+      (λ e. by-test Holds (eqb (r .place) 4)
+      (λ e. by-test Holds (eqb (c .anchor) (r .seen)) (λ e. by-test (P (setAnchor (new4 r))) (eqb (r .kind) 0) (λ e. four-push) (λ e. four-pop)) (λ e. read))
       (λ e. by-test Holds (eqb (r .place) 5) (λ e. found)
       (λ e. by-test Holds (eqb (r .place) 6) (λ e. same)
       (λ e. by-test Holds (eqb (r .place) 7) (λ e. held)

@@ -44,11 +44,14 @@ module _ (q : Tables) (c : ControlFine (q .control)) (k : LinksFine q) (r : Reco
       let f = r .finishing in
       let now = c .anchor .status in
       let read = h .seen .status in
+      let null = c .anchor .null in
       by-place Here
-      (λ _ m. kinds 1 (λ e. place1-push q d x l a n w f now (c .anchor .null)) (λ e. place1-pop q d x l a n w f now (c .anchor .null)))
-      (λ _ m. kinds 2 (λ e. place2-push q d x l a n w f now read m (own-small e)) (λ e. place2-pop q d x l a n w f now read m))
+      (λ _ m. kinds 1 (λ e. place1-push q d x l a n w f now null) (λ e. place1-pop q d x l a n w f now null))
+      (λ _ m. kinds 2 (λ e. place2-push q d x l a n w f now null read m (own-small e)) (λ e. place2-pop q d x l a n w f now null read m))
       (λ _ m. kinds 3 (λ e. place3-push q d x l a n w f (λ b. k .tag b x (h .own-push e .1))) (λ e. place3-pop q d x l a n w f))
-      (λ _ m. kinds 4 (λ e. place4-push q d x l a n w f now read m (own-small e)) (λ e. place4-pop q d x l a n w f now read m (omega (arith, h .neighbour, c .slots))))
+      (λ _ m. kinds 4
+      (λ e. place4-push q d x l a n w f now null read m (own-small e))
+      (λ e. place4-pop q d x l a n w f now null read m (omega (arith, h .neighbour, c .slots))))
       (λ _ m. place5 q (r .kind) d x l a n w f)
       (λ _ m. place6 q (r .kind) d x l a n w f now read)
       (λ _ m. place7 q (r .kind) d x l a n w f)

@@ -31,25 +31,37 @@ module _ (q : Tables) (d x l a n w f : ℕ) where
       none-right : eqb (anchorOf now .left) 0 ≡ true → eqb (anchorOf now .right) 0 ≡ true
       none-right e = eq-eqb _ _ (null (eqb-true _ _ e))
 
+      stable : M.isStable (statusOf (anchorOf now .status)) ≡ eqb (anchorOf now .status) 0
+      stable = stable-status (anchorOf now .status) now-status
+
+      -- The cases of a reading: at place 1, and after a failed change.
+      abbrev some : Bool → Type 0 → Type 0
+      some b A = eqb (anchorOf now .left) 0 ≡ false → eqb (anchorOf now .status) 0 ≡ b → A
+
+      push-reads : {A : Type 0} → (eqb (anchorOf now .left) 0 ≡ true → A) → some true A → some false A → A
+      push-reads none settled pushing =
+          split (eqb (anchorOf now .left) 0) none (λ z. split (eqb (anchorOf now .status) 0) (settled z) (pushing z))
+
+      abbrev single : Bool → Type 0 → Type 0
+      single b A = eqb (anchorOf now .left) (anchorOf now .right) ≡ b → A
+
+      pop-reads : {A : Type 0} → (eqb (anchorOf now .left) 0 ≡ true → A)
+          → (eqb (anchorOf now .left) 0 ≡ false → single true A) → single false (some true A) → single false (some false A) → A
+      pop-reads none only settled pushing =
+          split (eqb (anchorOf now .left) (anchorOf now .right))
+          (λ g. split (eqb (anchorOf now .left) 0) none (λ z. only z g))
+          (λ g. push-reads none (settled g) (pushing g))
+
       pub place1-push : Seen q (at 1 0)
       unfolding recOf view move at1 reading onward route pushRoute popRoute goes answer
-      place1-push =
-          let b = anchorOf now in
-          let st = stable-status (b .status) now-status in
-          split (eqb (b .left) 0) (λ e. rw (e, none-right e))
-          (λ e. split (eqb (b .status) 0) (λ z. rw (e, st, z)) (λ z. rw (e, st, z)))
+      place1-push = push-reads (λ z. rw (z, none-right z)) (λ z y. rw (z, stable, y)) (λ z y. rw (z, stable, y))
 
       pub place1-pop : Seen q (at 1 1)
       unfolding recOf view move at1 reading onward route pushRoute popRoute goes answer
-      place1-pop =
-          let b = anchorOf now in
-          let st = stable-status (b .status) now-status in
-          split (eqb (b .left) 0) (λ e. rw (e, none-right e))
-          (λ e. split (eqb (b .left) (b .right)) (λ g. rw (e, g))
-          (λ g. split (eqb (b .status) 0) (λ z. rw (e, g, st, z)) (λ z. rw (e, g, st, z))))
+      place1-pop = pop-reads (λ z. rw (z, none-right z)) (λ z g. rw (z, g)) (λ g z y. rw (z, g, stable, y)) (λ g z y. rw (z, g, stable, y))
 
-    -- A change of Anchor raises its tag, which has room.
-    module _ (read-status : anchorOf a .status ≤ 2) (room : AnchorRoom q (at 0 0)) where
+    -- A change of Anchor raises its tag, which has room; a failed one reads.
+    module _ (null : anchorOf now .left ≡ 0 → anchorOf now .right ≡ 0) (read-status : anchorOf a .status ≤ 2) (room : AnchorRoom q (at 0 0)) where
       equal : M.same (anchorSeen a) (anchorSeen now) ≡ eqb now a
       equal = same-word a now read-status now-status
 
@@ -60,12 +72,17 @@ module _ (q : Tables) (d x l a n w f : ℕ) where
           split (eqb d 1) (λ g. rw g z) (λ g. rw g z)
 
       pub place2-push : x < 2 ^ 15 → Seen q (at 2 0)
-      unfolding recOf view move at2 row linkSide sideOf onward route pushRoute popRoute goes answer
-      place2-push h = split (eqb now a) (λ e. rw (equal, e) (same-touch (both-back x h e))) (λ e. rw (equal, e))
+      unfolding recOf view move at2 reading row linkSide sideOf onward route pushRoute popRoute goes answer
+      place2-push h =
+          split (eqb now a) (λ e. rw (equal, e) (same-touch (both-back x h e)))
+          (λ e. push-reads null (λ z. rw (equal, e, z, none-right null z)) (λ z y. rw (equal, e, z, stable null, y)) (λ z y. rw (equal, e, z, stable null, y)))
 
       pub place2-pop : Seen q (at 2 1)
-      unfolding recOf view move at2 row linkSide sideOf onward route pushRoute popRoute goes answer
-      place2-pop = split (eqb now a) (λ e. rw (equal, e) (same-touch (both-back 0 (omega arith) e))) (λ e. rw (equal, e))
+      unfolding recOf view move at2 reading row linkSide sideOf onward route pushRoute popRoute goes answer
+      place2-pop =
+          split (eqb now a) (λ e. rw (equal, e) (same-touch (both-back 0 (omega arith) e)))
+          (λ e. pop-reads null (λ z. rw (equal, e, z, none-right null z)) (λ z g. rw (equal, e, z, g))
+          (λ g z y. rw (equal, e, z, g, stable null, y)) (λ g z y. rw (equal, e, z, g, stable null, y)))
 
       push-back : x < 2 ^ 15 → eqb now a ≡ true → M.aimed (anchorSeen a) (eqb d 1) x (M.pushing (eqb d 1)) ≡ anchorSeen (new4 (at 4 0))
       unfolding new4 sideOf
@@ -80,13 +97,17 @@ module _ (q : Tables) (d x l a n w f : ℕ) where
           (λ g. rw g (sym (anchor-back (anchorOf a .tag) (anchorOf a .status) n (anchorOf a .right) (room (eqb-true _ _ e)) read-status h (omega arith))))
 
       pub place4-push : x < 2 ^ 15 → Seen q (at 4 0)
-      unfolding recOf view move at4 row linkSide sideOf onward route pushRoute popRoute goes answer
-      place4-push h = split (eqb now a)
-          (λ e. rw (equal, e) (ap (λ (b : M.Anchor). M.runs (M.putAnchor b) (M.finishes (recOf (at 4 0)) b)) (push-back h e))) (λ e. rw (equal, e))
+      unfolding recOf view move at4 reading row linkSide sideOf onward route pushRoute popRoute goes answer
+      place4-push h =
+          split (eqb now a) (λ e. rw (equal, e) (ap (λ (b : M.Anchor). M.runs (M.putAnchor b) (M.finishes (recOf (at 4 0)) b)) (push-back h e)))
+          (λ e. push-reads null (λ z. rw (equal, e, z, none-right null z)) (λ z y. rw (equal, e, z, stable null, y)) (λ z y. rw (equal, e, z, stable null, y)))
 
       pub place4-pop : n < 2 ^ 15 → Seen q (at 4 1)
-      unfolding recOf view move at4 row linkSide sideOf onward route pushRoute popRoute goes answer
-      place4-pop h = split (eqb now a) (λ e. rw (equal, e) (same-touch (ap M.putAnchor (pop-back h e)))) (λ e. rw (equal, e))
+      unfolding recOf view move at4 reading row linkSide sideOf onward route pushRoute popRoute goes answer
+      place4-pop h =
+          split (eqb now a) (λ e. rw (equal, e) (same-touch (ap M.putAnchor (pop-back h e))))
+          (λ e. pop-reads null (λ z. rw (equal, e, z, none-right null z)) (λ z g. rw (equal, e, z, g))
+          (λ g z y. rw (equal, e, z, g, stable null, y)) (λ g z y. rw (equal, e, z, g, stable null, y)))
 
   pub place3-push : ((b : Bool) → linkOf (linkAt q b x) .tag < 2 ^ 32) → Seen q (at 3 0)
   unfolding recOf view move at3 row linkSide sideOf onward route pushRoute popRoute goes answer

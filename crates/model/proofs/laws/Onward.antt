@@ -1,9 +1,11 @@
 -- A step of a busy, sound record leads on: to a place other than 0, or to an answer.
 use mathlib.Core.Path.{_≡_, refl, sym, subst}
 use mathlib.Core.Bool.{Bool, true, false, cond}
-use Prim.Native.Nat.{ℕ, zero, suc, _≤_, _<_}
+use mathlib.Core.List.{List, []}
+use Prim.Native.Nat.{ℕ, _+_, zero, suc, _≤_, _<_}
 use native.Mathlib.Omega.{arith}
 use lib.Dec.{eqb, leb}
+use lib.ListN.{getD}
 use borrow.Author.Tests.{eq-eqb, eqb-true, eqb-false, leb-true}
 use Rattle.word.specs.declared.Anchor.{Anchor}
 use Rattle.word.specs.Anchor.{anchorOf}
@@ -41,6 +43,14 @@ reading-leads (suc zero) k a =
     either (Leads 1 1) (isEmpty a) refl (either (Leads 1 1) (eqb (a .left) (a .right)) refl (either (Leads 1 1) (eqb (a .status) 0) refl refl))
 reading-leads (suc (suc kind)) k a = absurd (omega (arith, leb-true (suc (suc kind)) 1 k))
 
+-- After a failed change at 2 or 4 the route is place 1's.
+pub reads-on : (kind o : ℕ) → (route 2 kind (o + 1) ≡ route 1 kind o) × (route 4 kind (o + 1) ≡ route 1 kind o)
+unfolding route pushRoute popRoute
+reads-on kind o =
+    let next : o + 1 ≡ suc o = omega arith in
+    by-test (λ (l : List (List ℕ)). (getD (getD l 2 []) (o + 1) 0 ≡ getD (getD l 1 []) o 0) × (getD (getD l 4 []) (o + 1) 0 ≡ getD (getD l 1 []) o 0))
+    (eqb kind 0) (λ _. rw next (refl, refl)) (λ _. rw next (refl, refl))
+
 -- A move from place p leads on; kept shut, so that a chain of tests is gone through test by test.
 data From (kind p : ℕ) (m : Move) : Type 0 where
   from : Leads p kind (m .outcome) → From kind p m
@@ -52,13 +62,19 @@ module _ (c : Control) (r : Record) (w : ℕ) (kind : leb (r .kind) 1 ≡ true) 
   entry : (p outcome : ℕ) → Leads p 0 outcome → Leads p 1 outcome → Leads p (r .kind) outcome
   entry p outcome h g = by-kind p outcome (r .kind) kind h g
 
+  abbrev outcome : ℕ
+  outcome = reading (isPop r) (anchorOf (c .anchor))
+
+  read : Leads 1 (r .kind) outcome
+  read = reading-leads (r .kind) kind (anchorOf (c .anchor))
+
   lead1 : From (r .kind) 1 (at1 c r)
   unfolding at1
-  lead1 = from (reading-leads (r .kind) kind (anchorOf (c .anchor)))
+  lead1 = from read
 
   lead2 : From (r .kind) 2 (at2 c r)
   unfolding at2 route pushRoute popRoute
-  lead2 = either (From (r .kind) 2) (eqb (c .anchor) (r .seen)) (from (entry 2 0 refl refl)) (from (entry 2 1 refl refl))
+  lead2 = either (From (r .kind) 2) (eqb (c .anchor) (r .seen)) (from (entry 2 0 refl refl)) (from (rw (reads-on (r .kind) outcome .0) read))
 
   lead3 : From (r .kind) 3 (at3 r w)
   unfolding at3 route pushRoute popRoute
@@ -66,7 +82,7 @@ module _ (c : Control) (r : Record) (w : ℕ) (kind : leb (r .kind) 1 ≡ true) 
 
   lead4 : From (r .kind) 4 (at4 c r)
   unfolding at4 route pushRoute popRoute
-  lead4 = either (From (r .kind) 4) (eqb (c .anchor) (r .seen)) (from (entry 4 0 refl refl)) (from (entry 4 1 refl refl))
+  lead4 = either (From (r .kind) 4) (eqb (c .anchor) (r .seen)) (from (entry 4 0 refl refl)) (from (rw (reads-on (r .kind) outcome .1) read))
 
   lead5 : From (r .kind) 5 (at5 r w)
   unfolding at5 route pushRoute popRoute

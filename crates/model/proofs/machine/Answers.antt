@@ -26,16 +26,16 @@ ends1 pop s r = by-test Ends (eqb (s .anchor .left) 0) (λ e. record { ends = re
     (λ e. by-test Ends (isStable (s .anchor .status)) (λ e. record { ends = refl }) (λ e. record { ends = refl })))
 
 ends2 : (k : Kind) (s : Shared) (r : Rec) → Ends (two k s r)
-ends2 push s r = by-test Ends (same (r .read) (s .anchor)) (λ e. record { ends = refl }) (λ e. record { ends = refl })
-ends2 pop s r = by-test Ends (same (r .read) (s .anchor)) (λ e. record { ends = refl }) (λ e. record { ends = refl })
+ends2 push s r = by-test Ends (same (r .read) (s .anchor)) (λ e. record { ends = refl }) (λ e. ends1 push s r)
+ends2 pop s r = by-test Ends (same (r .read) (s .anchor)) (λ e. record { ends = refl }) (λ e. ends1 pop s r)
 
 ends3 : (k : Kind) (s : Shared) (r : Rec) → Ends (three k s r)
 ends3 push s r = record { ends = refl }
 ends3 pop s r = record { ends = refl }
 
 ends4 : (k : Kind) (s : Shared) (r : Rec) → Ends (four k s r)
-ends4 push s r = by-test Ends (same (r .read) (s .anchor)) (λ e. record { ends = refl }) (λ e. record { ends = refl })
-ends4 pop s r = by-test Ends (same (r .read) (s .anchor)) (λ e. record { ends = refl }) (λ e. record { ends = refl })
+ends4 push s r = by-test Ends (same (r .read) (s .anchor)) (λ e. record { ends = refl }) (λ e. ends1 push s r)
+ends4 pop s r = by-test Ends (same (r .read) (s .anchor)) (λ e. record { ends = refl }) (λ e. ends1 pop s r)
 
 pub act-ends : (p : Place) (s : Shared) (r : Rec) → isIdle p ≡ false → Ends (act p s r)
 act-ends idle s r e = absurd (not-both refl e)

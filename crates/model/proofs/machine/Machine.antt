@@ -173,8 +173,8 @@ one pop s r = cond (eqb (s .anchor .left) 0) (ends none empty)
 
 -- 2: the first entry put, the only one taken.
 abbrev pub two : Kind → Shared → Rec → Move
-two push s r = cond (same (r .read) (s .anchor)) (ends (putAnchor (both (r .read) (r .own))) pushed) (runs none (goes r at1))
-two pop s r = cond (same (r .read) (s .anchor)) (runs (putAnchor (both (r .read) 0)) (goes r at11)) (runs none (goes r at1))
+two push s r = cond (same (r .read) (s .anchor)) (ends (putAnchor (both (r .read) (r .own))) pushed) (one push s r)
+two pop s r = cond (same (r .read) (s .anchor)) (runs (putAnchor (both (r .read) 0)) (goes r at11)) (one pop s r)
 
 -- The link that a push writes in its own slot, its tag kept.
 abbrev pub ownLink : Shared → Rec → Link
@@ -188,9 +188,9 @@ three pop s r = runs none (finds r (inner s (r .side) (tip (r .read) (r .side)))
 -- 4: an end put or taken.
 abbrev pub four : Kind → Shared → Rec → Move
 four push s r = let a = aimed (r .read) (r .side) (r .own) (pushing (r .side)) in
-    cond (same (r .read) (s .anchor)) (runs (putAnchor a) (finishes r a)) (runs none (goes r at1))
+    cond (same (r .read) (s .anchor)) (runs (putAnchor a) (finishes r a)) (one push s r)
 four pop s r =
-    cond (same (r .read) (s .anchor)) (runs (putAnchor (aimed (r .read) (r .side) (r .near) (r .read .status))) (goes r at11)) (runs none (goes r at1))
+    cond (same (r .read) (s .anchor)) (runs (putAnchor (aimed (r .read) (r .side) (r .near) (r .read .status))) (goes r at11)) (one pop s r)
 
 -- 9: the link back, as read, is changed to name the end.
 abbrev pub nine : Shared → Rec → Bool → Move

@@ -18,12 +18,13 @@ use Rattle.model.proofs.invariant.Tasks.{Own, Task, Two}
 use Rattle.model.proofs.chain.Changes.{first-shape, last-shape}
 use Rattle.model.proofs.chain.Ends.{both-null, no-entry, single, small}
 use Rattle.model.proofs.places.Effects.{left-effect}
+use Rattle.model.proofs.places.Place1.{place1}
 use Rattle.model.proofs.places.Shown.{Shown}
 use Rattle.model.proofs.places.Taking.{back, pop-good, push-good}
 
 module _ (t : ℕ) (s : Shared) (h : ℕ → Owner) (q : List Entry) (c : Call) (all : Whole s h q) (r : Rec) where
   pub place2 : (k : Kind) → r .kind ≡ k → Task at2 s h t r c → Shown t s h q c (two k s r)
-  place2 push k w = by-test (Shown t s h q c) (same (r .read) (s .anchor)) ok (λ e. back all r (w .0 .before) (w .0 .early))
+  place2 push k w = by-test (Shown t s h q c) (same (r .read) (s .anchor)) ok (λ e. place1 t s h q c all r push k (w .0 .early, w .0 .before))
     where
       ok : same (r .read) (s .anchor) ≡ true → Shown t s h q c (ends (putAnchor (both (r .read) (r .own))) pushed)
       ok z =
@@ -37,7 +38,7 @@ module _ (t : ℕ) (s : Shared) (h : ℕ → Owner) (q : List Entry) (c : Call) 
           (subst (λ z. Shape (s .link) (both (r .read) (r .own)) z) (sym (ap (λ (z : List ℕ). put (r .side) (r .own) z) n ∙ put-nil (r .side) (r .own)))
           (subst (λ b. Shape (s .link) (both b (r .own)) (r .own ∷ [])) (sym p) (first-shape (s .link) (s .anchor) (slots q) (all .shape) (r .own) e (o .0))))
           (refl, record { once = ap suc (w .0 .before .none); agrees = refl })
-  place2 pop k w = by-test (Shown t s h q c) (same (r .read) (s .anchor)) ok (λ e. back all r (w .0 .before) (w .0 .early))
+  place2 pop k w = by-test (Shown t s h q c) (same (r .read) (s .anchor)) ok (λ e. place1 t s h q c all r pop k (w .0 .early, w .0 .before))
     where
       ok : same (r .read) (s .anchor) ≡ true → Shown t s h q c (runs (putAnchor (both (r .read) 0)) (goes r at11))
       ok z =

@@ -17,13 +17,14 @@ use Rattle.model.proofs.invariant.Tasks.{Four, Own, Task, Three}
 use Rattle.model.proofs.chain.Changes.{inner-apart, pop-shape, push-shape}
 use Rattle.model.proofs.chain.Ends.{both-null, ends-real}
 use Rattle.model.proofs.places.Effects.{aimed-effect}
+use Rattle.model.proofs.places.Place1.{place1}
 use Rattle.model.proofs.places.Owned.{queued-held}
 use Rattle.model.proofs.places.Shown.{Shown, read-now}
 use Rattle.model.proofs.places.Taking.{back, end-entry, not-in, pop-good, push-good}
 
 module _ (t : ℕ) (s : Shared) (h : ℕ → Owner) (q : List Entry) (c : Call) (all : Whole s h q) (r : Rec) where
   pub place4 : (k : Kind) → r .kind ≡ k → Task at4 s h t r c → Shown t s h q c (four k s r)
-  place4 push k w = by-test (Shown t s h q c) (same (r .read) (s .anchor)) ok (λ e. back all r (w .0 .before) (w .0 .early))
+  place4 push k w = by-test (Shown t s h q c) (same (r .read) (s .anchor)) ok (λ e. place1 t s h q c all r push k (w .0 .early, w .0 .before))
     where
       a : Anchor
       a = aimed (r .read) (r .side) (r .own) (pushing (r .side))
@@ -46,7 +47,7 @@ module _ (t : ℕ) (s : Shared) (h : ℕ → Owner) (q : List Entry) (c : Call) 
             read = read-now a;
             status = aimed-way (r .read) (r .side) (r .own);
           })
-  place4 pop k w = by-test (Shown t s h q c) (same (r .read) (s .anchor)) ok (λ e. back all r (w .0 .before) (w .0 .early))
+  place4 pop k w = by-test (Shown t s h q c) (same (r .read) (s .anchor)) ok (λ e. place1 t s h q c all r pop k (w .0 .early, w .0 .before))
     where
       a : Anchor
       a = aimed (r .read) (r .side) (r .near) (r .read .status)

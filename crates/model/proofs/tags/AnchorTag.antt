@@ -58,9 +58,9 @@ module _ (s : Shared) (h : ℕ → Owner) (t : ℕ) (r : Rec) (c : Call) where
   light2 : (k : Kind) → r .kind ≡ k → r .finishing ≡ false → cost r ≡ busy → Light s r (two k s r)
   unfolding busy
   light2 push g f e = by-test (Light s r) (same (r .read) (s .anchor))
-      (λ z. let p = same-true (r .read) (s .anchor) z in record { less = omega (arith, tag-of p, status-of p, owed push f g) }) (λ z. record { less = omega arith })
+      (λ z. let p = same-true (r .read) (s .anchor) z in record { less = omega (arith, tag-of p, status-of p, owed push f g) }) (λ z. light1 push e)
   light2 pop g f e = by-test (Light s r) (same (r .read) (s .anchor))
-      (λ z. let p = same-true (r .read) (s .anchor) z in record { less = omega (arith, tag-of p, status-of p, owed pop f g) }) (λ z. record { less = omega arith })
+      (λ z. let p = same-true (r .read) (s .anchor) z in record { less = omega (arith, tag-of p, status-of p, owed pop f g) }) (λ z. light1 pop e)
 
   aimed-weight : (a : Anchor) (d : Bool) (x : ℕ) (st : Status) → aimed a d x st .tag + unsettled (aimed a d x st .status) ≡ suc (a .tag) + unsettled st
   aimed-weight a false x st = refl
@@ -70,10 +70,10 @@ module _ (s : Shared) (h : ℕ → Owner) (t : ℕ) (r : Rec) (c : Call) where
   unfolding busy
   light4 push g f st e = by-test (Light s r) (same (r .read) (s .anchor))
       (λ z. let p = same-true (r .read) (s .anchor) z in
-      record { less = omega (arith, tag-of p, owed push f g, aimed-weight (r .read) (r .side) (r .own) (pushing (r .side))) }) (λ z. record { less = omega arith })
+      record { less = omega (arith, tag-of p, owed push f g, aimed-weight (r .read) (r .side) (r .own) (pushing (r .side))) }) (λ z. light1 push e)
   light4 pop g f st e = by-test (Light s r) (same (r .read) (s .anchor))
       (λ z. let p = same-true (r .read) (s .anchor) z in
-      record { less = omega (arith, tag-of p, status-of p, owed pop f g, aimed-weight (r .read) (r .side) (r .near) (r .read .status)) }) (λ z. record { less = omega arith })
+      record { less = omega (arith, tag-of p, status-of p, owed pop f g, aimed-weight (r .read) (r .side) (r .near) (r .read .status)) }) (λ z. light1 pop e)
 
   stable-of : (k : Kind) → Three k (r .read) → r .read .status ≡ stable
   stable-of push w = w .0

@@ -64,8 +64,10 @@ module _ (s : Shared) (g : Tags s) where
         (λ e. by-test (Tagged s) (eqb (s .anchor .left) (s .anchor .right)) (λ f. keeps _ _) (λ f. by-test (Tagged s) (isStable (s .anchor .status)) (λ f. keeps _ _) (λ f. keeps _ _)))
 
     tags2 : (k : Kind) → Tagged s (two k s r)
-    tags2 push = by-test (Tagged s) (same (r .read) (s .anchor)) (λ e. record { tagged = turned (both (r .read) (r .own)) (later (r .read) (s .anchor) (same-true _ _ e)) }) (λ e. keeps _ _)
-    tags2 pop = by-test (Tagged s) (same (r .read) (s .anchor)) (λ e. record { tagged = turned (both (r .read) 0) (later (r .read) (s .anchor) (same-true _ _ e)) }) (λ e. keeps _ _)
+    tags2 push = by-test (Tagged s) (same (r .read) (s .anchor))
+        (λ e. record { tagged = turned (both (r .read) (r .own)) (later (r .read) (s .anchor) (same-true _ _ e)) }) (λ e. tags1 push)
+    tags2 pop = by-test (Tagged s) (same (r .read) (s .anchor))
+        (λ e. record { tagged = turned (both (r .read) 0) (later (r .read) (s .anchor) (same-true _ _ e)) }) (λ e. tags1 pop)
 
     own-tags : (x : ℕ) → (x ≢ 0) × (h x ≡ held t) → (d : Bool) (v : Link) → v .tag ≡ s .link d x .tag → Tags (withLink s d x v)
     own-tags x o d v e = record {
@@ -85,8 +87,10 @@ module _ (s : Shared) (g : Tags s) where
     tags3 pop o = keeps _ _
 
     tags4 : (k : Kind) → Tagged s (four k s r)
-    tags4 push = by-test (Tagged s) (same (r .read) (s .anchor)) (λ e. record { tagged = aimed-tags (r .read) (r .side) (r .own) _ (same-true _ _ e) }) (λ e. keeps _ _)
-    tags4 pop = by-test (Tagged s) (same (r .read) (s .anchor)) (λ e. record { tagged = aimed-tags (r .read) (r .side) (r .near) _ (same-true _ _ e) }) (λ e. keeps _ _)
+    tags4 push = by-test (Tagged s) (same (r .read) (s .anchor))
+        (λ e. record { tagged = aimed-tags (r .read) (r .side) (r .own) _ (same-true _ _ e) }) (λ e. tags1 push)
+    tags4 pop = by-test (Tagged s) (same (r .read) (s .anchor))
+        (λ e. record { tagged = aimed-tags (r .read) (r .side) (r .near) _ (same-true _ _ e) }) (λ e. tags1 pop)
 
     tags9 : Task at9 s h t r c → r .link ≡ s .link (way (r .read)) (r .near) → Live s (r .read) (r .near) (r .link) ⊎ (r .link .tag < s .link (way (r .read)) (r .near) .tag)
         → Tags (withLink s (way (r .read)) (r .near) (record { tag = suc (r .link .tag); slot = tip (r .read) (way (r .read)) }))

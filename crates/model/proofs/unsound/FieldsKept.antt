@@ -36,19 +36,20 @@ module _ (t : ℕ) (s : Shared) (h : ℕ → Owner) (q : List Entry) (c : Call) 
       (λ e. by-test Extras (isStable (s .anchor .status)) (λ e. record { extra = o }) (λ e. record { extra = o })))
 
   extra2 : (k : Kind) → r .kind ≡ k → r .finishing ≡ false → Two k (r .read) → Only r → Extras (two k s r)
-  extra2 push k f y o = by-test Extras (same (r .read) (s .anchor)) (λ e. record { extra = tt }) (λ e. record { extra = o })
-  extra2 pop k f y o = by-test Extras (same (r .read) (s .anchor)) (λ e. record { extra = (k, f, both-tip (r .read) (r .side) (y .0) (y .1)) }) (λ e. record { extra = o })
+  extra2 push k f y o = by-test Extras (same (r .read) (s .anchor)) (λ e. record { extra = tt }) (λ e. extra1 push o)
+  extra2 pop k f y o = by-test Extras (same (r .read) (s .anchor))
+      (λ e. record { extra = (k, f, both-tip (r .read) (r .side) (y .0) (y .1)) }) (λ e. extra1 pop o)
 
   extra3 : (k : Kind) → Only r → Extras (three k s r)
   extra3 push o = record { extra = o }
   extra3 pop o = record { extra = o }
 
   extra4 : (k : Kind) → r .kind ≡ k → r .finishing ≡ false → Three k (r .read) → Only r → Extras (four k s r)
-  extra4 push k f y o = by-test Extras (same (r .read) (s .anchor)) (λ e. record { extra = λ z. k }) (λ e. record { extra = o })
+  extra4 push k f y o = by-test Extras (same (r .read) (s .anchor)) (λ e. record { extra = λ z. k }) (λ e. extra1 push o)
   extra4 pop k f y o = by-test Extras (same (r .read) (s .anchor))
       (λ e. let p = same-true (r .read) (s .anchor) e in
       record { extra = (k, f, subst (λ (a : Anchor). tip a (r .side) ≢ 0) (sym p) (ends-real (s .link) (s .anchor) (slots q) (w .shape) (subst (λ (a : Anchor). a .left ≢ a .right) p (y .1)) (r .side))) })
-      (λ e. record { extra = o })
+      (λ e. extra1 pop o)
 
   pub act-extra : (p : Place) → isIdle p ≡ false → Task p s h t r c → Extra p r → Extras (act p s r)
   act-extra idle i y o = absurd (not-both refl i)

@@ -3,9 +3,8 @@ use mathlib.Core.Path.{sym, _∙_}
 use borrow.Author.Tests.{not-true, not-false}
 use borrow.Author.Needs.{needs}
 use Rattle.model.specs.Route.{route}
-use Rattle.places.specs.Arm.{Steps}
-use Rattle.places.specs.Ending.{changed}
-use Rattle.places.proofs.Anchors.{fails, denies, makes, step10}
+use Rattle.places.specs.Ending.{settled, noEntry, bumped}
+use Rattle.places.proofs.Anchors.{Tries, fails, denies, makes, step10}
 use Rattle.places.proofs.at10.Statement.{statement}
 use Rattle.places.proofs.at10.Tie as tie
 
@@ -13,27 +12,29 @@ module _ (b : tie.After-pack) where
   abbrev a : tie.Start
   a = b .before .before .before
 
-  tried : Steps 10 (a .args .c) (a .args .r) (changed (a .args .c) (a .args .r) (b .pack .result) (a .args .r) (route 10 (a .args .r .kind) 0) (route 10 (a .args .r .kind) 1))
+  tried :
+      Tries 10 (a .args .c) (a .args .r) (b .pack .result) (a .args .r) (route 10 (a .args .r .kind) 0)
+      (settled (bumped (a .args .c)) (a .args .r) (route 10 (a .args .r .kind) 1) noEntry)
   tried =
       step10 (a .args .c) (a .args .r) (b .pack .result) (rw (b .before .raised .ensures, b .before .before .unpack .ensures) at (b .pack .ensures))
 
 returns : tie.Need-returns
 returns c =
-    let b = c .before .before .before .before .before .before in
-    let s = a b .args in
-    rw (c .settles .ensures, c .before .next .ensures, c .before .before .bumped .ensures, fails (s .c) (s .r) (b .pack .result) (s .r) (route 10 (s .r .kind) 0) (route 10 (s .r .kind) 1) (c .before .before .before .if1 .taken)) (tried b)
+    let i = c .before .before .before in
+    rw (c .settles .ensures, c .before .next .ensures, c .before .before .bumped .ensures) (fails (tried (i .before .before .before)) (i .if1 .taken))
 
 returns-2 : tie.Need-returns-2
 returns-2 c =
-    let b = c .before .before .before .before .before .before in
-    let s = a b .args in
-    rw (denies (s .c) (s .r) (b .pack .result) (s .r) (route 10 (s .r .kind) 0) (route 10 (s .r .kind) 1) (c .refused .result) (c .refused .ensures) (c .before .before .before .if1 .left) (sym (c .before .before .may-change .ensures) ∙ not-true _ (c .before .if2 .taken))) (tried b)
+    let i = c .before .before .before in
+    rw (c .refused .ensures)
+    (denies (tried (i .before .before .before)) (i .if1 .left) (sym (c .before .before .may-change .ensures) ∙ not-true _ (c .before .if2 .taken)))
 
 returns-3 : tie.Need-returns-3
 returns-3 c =
-    let b = c .before .before .before .before .before .before .before .before in
-    let s = a b .args in
-    rw (c .settles2 .ensures, c .before .next2 .ensures, c .before .before .with-anchor .ensures, makes (s .c) (s .r) (b .pack .result) (s .r) (route 10 (s .r .kind) 0) (route 10 (s .r .kind) 1) (c .before .before .before .before .before .if1 .left) (sym (c .before .before .before .before .may-change .ensures) ∙ not-false _ (c .before .before .before .if2 .left))) (tried b)
+    let m = c .before .before .before .before in
+    let i = m .before in
+    rw (c .settles2 .ensures, c .before .next2 .ensures, c .before .before .with-anchor .ensures)
+    (makes (tried (i .before .before .before)) (i .if1 .left) (sym (m .may-change .ensures) ∙ not-false _ (c .before .before .before .if2 .left)))
 
 pub at10-spec : {M : Type 1} → statement M
 at10-spec =

@@ -1,40 +1,33 @@
--- `step2`, with what the calls answer put in; a change fails, is denied or is made.
+-- `step2`, with what the calls answer put in; the change is denied or made.
 use mathlib.Core.Path.{sym, _∙_}
 use borrow.Author.Tests.{not-true, not-false}
 use borrow.Author.Needs.{needs}
 use Rattle.model.specs.Route.{route}
-use Rattle.places.specs.Arm.{Steps}
-use Rattle.places.specs.Ending.{changed}
-use Rattle.places.proofs.Anchors.{fails, denies, makes, step2}
+use Rattle.places.specs.Ending.{anchorRead, bumped}
+use Rattle.places.proofs.Anchors.{Tries, denies, makes, step2}
 use Rattle.places.proofs.at2.Statement.{statement}
 use Rattle.places.proofs.at2.Tie as tie
 
 module _ (b : tie.After-facing) where
   abbrev a : tie.Start
-  a = b .before .before .before .before .before .before
+  a = let d = b .before .before .before in d .before .before .before
 
-  tried : Steps 2 (a .args .c) (a .args .r) (changed (a .args .c) (a .args .r) (b .facing .result) (a .args .r) (route 2 (a .args .r .kind) 0) (route 2 (a .args .r .kind) 1))
+  tried : Tries 2 (a .args .c) (a .args .r) (b .facing .result) (a .args .r) (route 2 (a .args .r .kind) 0) (anchorRead (bumped (a .args .c)) (a .args .r))
   tried =
       let d = b .before .before .before in
-      step2 (a .args .c) (a .args .r) (d .choose .result) (b .facing .result) (d .choose .ensures) (rw (d .before .before .unpack .ensures, b .before .raised .ensures) at (b .facing .ensures))
+      step2 (a .args .c) (a .args .r) (d .choose .result) (b .facing .result) (d .choose .ensures)
+      (rw (d .before .before .unpack .ensures, b .before .raised .ensures) at (b .facing .ensures))
 
 returns : tie.Need-returns
-returns c =
-    let b = c .before .before .before .before .before .before in
-    let s = a b .args in
-    rw (c .settles .ensures, c .before .next .ensures, c .before .before .bumped .ensures, fails (s .c) (s .r) (b .facing .result) (s .r) (route 2 (s .r .kind) 0) (route 2 (s .r .kind) 1) (c .before .before .before .if1 .taken)) (tried b)
+returns c same =
+    let m = c .before .before in
+    rw (c .refused .ensures) (denies (tried (m .before)) same (sym (m .may-change .ensures) ∙ not-true _ (c .before .if1 .taken)))
 
 returns-2 : tie.Need-returns-2
-returns-2 c =
-    let b = c .before .before .before .before .before .before in
-    let s = a b .args in
-    rw (denies (s .c) (s .r) (b .facing .result) (s .r) (route 2 (s .r .kind) 0) (route 2 (s .r .kind) 1) (c .refused .result) (c .refused .ensures) (c .before .before .before .if1 .left) (sym (c .before .before .may-change .ensures) ∙ not-true _ (c .before .if2 .taken))) (tried b)
-
-returns-3 : tie.Need-returns-3
-returns-3 c =
-    let b = c .before .before .before .before .before .before .before .before in
-    let s = a b .args in
-    rw (c .settles2 .ensures, c .before .next2 .ensures, c .before .before .with-anchor .ensures, makes (s .c) (s .r) (b .facing .result) (s .r) (route 2 (s .r .kind) 0) (route 2 (s .r .kind) 1) (c .before .before .before .before .before .if1 .left) (sym (c .before .before .before .before .may-change .ensures) ∙ not-false _ (c .before .before .before .if2 .left))) (tried b)
+returns-2 c same =
+    let m = c .before .before .before .before in
+    rw (c .settles .ensures, c .before .next .ensures, c .before .before .with-anchor .ensures)
+    (makes (tried (m .before)) same (sym (m .may-change .ensures) ∙ not-false _ (c .before .before .before .if1 .left)))
 
 pub at2-spec : {M : Type 1} → statement M
 at2-spec =
@@ -45,13 +38,9 @@ at2-spec =
     (λ _ _. tt)
     (λ _ _. tt)
     (λ _ _. tt)
-    (λ c κs. search needs)
     (λ _ _. tt)
     returns
     (λ _ _. tt)
-    (λ _ _. tt)
-    returns-2
-    (λ _ _. tt)
     (λ c κs. search needs)
     (λ _ _. tt)
-    returns-3)
+    returns-2)

@@ -12,7 +12,8 @@ use Rattle.model.specs.declared.Control.{Control}
 use Rattle.model.specs.declared.Record.{Record}
 use Rattle.model.specs.Tables.{Tables, opposite, far, facing, pushing}
 use Rattle.model.specs.Sound.{isPush, isPop}
-use Rattle.model.specs.Places.{sideOf, Touch, nothing, setAnchor, setLink, clearMark, Move, withSeen, withLink, reads, changes, reading, at1, at2, at3, new4, at4, at5, at6, at7, at9, at10, at11, move, apply}
+use Rattle.model.specs.Places.{sideOf, Touch, nothing, setAnchor, setLink, clearMark, Move, withSeen, withLink, reads, changes, reading, replaces}
+use Rattle.model.specs.Places.{at1, at2, at3, new4, at4, at5, at6, at7, at9, at10, at11, move, apply}
 use Rattle.model.specs.Mirror.{mirrorStatus, mirrorAnchor, mirrorWord, mirrorControl, mirrorTables, mirrorBusy}
 use Rattle.model.proofs.laws.Mirror.Words.{status-stable, mirror-fields, mirror-pack, mirror-equal}
 use Rattle.model.proofs.laws.Mirror.Sides.{far-mirror, facing-mirror, pushing-mirror, pushing-small, end-mirror, row-mirror, link-side-mirror}
@@ -87,6 +88,18 @@ module _ (c : Control) (r : Record) (w : ℕ) (turned : sideOf (mirrorBusy r) �
       ap₂ (λ (t : Touch) (x : Record). changes (mirrorWord (c .anchor)) (mirrorWord (r .seen)) t x (mirrorBusy r)) (ap setAnchor e) h
       ∙ rw (mirror-equal (c .anchor) (r .seen)) (through mirrorMove (eqb (c .anchor) (r .seen)) refl refl)
 
+  -- A change at 2 or 4, which reads on where it fails.
+  anchor-replace :
+      (v v′ : ℕ) (s s′ : Record)
+      → v′ ≡ mirrorWord v
+      → s′ ≡ mirrorBusy s
+      → replaces (mirrorControl c) v′ s′ (mirrorBusy r) ≡ mirrorMove (replaces c v s r)
+  anchor-replace v v′ s s′ e h =
+      ap₂ (λ (t : ℕ) (x : Record). replaces (mirrorControl c) t x (mirrorBusy r)) e h
+      ∙ rw (mirror-equal (c .anchor) (r .seen)) (through mirrorMove (eqb (c .anchor) (r .seen)) refl
+      (ap (λ (o : ℕ). record { touch = nothing; task = withSeen (mirrorBusy r) (mirrorWord (c .anchor)) (r .finishing); outcome = o + 1; failed = true })
+      (ap (reading (isPop r)) (mirror-fields (c .anchor)) ∙ reading-mirror (isPop r) (anchorOf (c .anchor)))))
+
   mirror1 : at1 (mirrorControl c) (mirrorBusy r) ≡ mirrorMove (at1 c r)
   unfolding at1
   mirror1 =
@@ -97,7 +110,7 @@ module _ (c : Control) (r : Record) (w : ℕ) (turned : sideOf (mirrorBusy r) �
   unfolding at2
   mirror2 =
       let end : ℕ = cond (isPush r) (r .own) 0 in
-      anchor-change _ _ r _ (raised (anchorOf (r .seen) .status) _ end end _ (omega arith) status-read refl) refl
+      anchor-replace _ _ r _ (raised (anchorOf (r .seen) .status) _ end end _ (omega arith) status-read refl) refl
 
   mirror3 : at3 (mirrorBusy r) w ≡ mirrorMove (at3 r w)
   unfolding at3
@@ -121,7 +134,7 @@ module _ (c : Control) (r : Record) (w : ℕ) (turned : sideOf (mirrorBusy r) �
   mirror4 : at4 (mirrorControl c) (mirrorBusy r) ≡ mirrorMove (at4 c r)
   unfolding at4
   mirror4 =
-      anchor-change (new4 r) _ _ _ new4-mirror
+      anchor-replace (new4 r) _ _ _ new4-mirror
       (through mirrorBusy (isPush r) (ap (λ (v : ℕ). withSeen (mirrorBusy r) v 1) new4-mirror) refl)
 
   mirror5 : at5 (mirrorBusy r) w ≡ mirrorMove (at5 r w)

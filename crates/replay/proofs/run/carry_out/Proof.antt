@@ -12,49 +12,49 @@ use Rattle.replay.proofs.run.carry_out.Tie as tie
 
 add-steps : tie.Need-add-steps
 add-steps c =
-    let h = rw (c .before .field4 .given .1) at (c .before .before .before .before .before .before .before .before .before .before .pre .1) in
+    let h = rw (c .before .field4 .given .1) at (c .before .before .before .before .before .before .before .before .before .pre .1) in
     omega arith
 
 add-steps-2 : tie.Need-add-steps-2
 add-steps-2 c =
-    let h = rw (c .before .field4 .given .1) at (c .before .before .before .before .before .before .before .before .before .before .pre .1) in
+    let h = rw (c .before .field4 .given .1) at (c .before .before .before .before .before .before .before .before .before .pre .1) in
     omega arith
 
 add-steps-3 : tie.Need-add-steps-3
 add-steps-3 c =
-    let h = rw (c .before .field4 .given .1) at (c .before .before .before .before .before .before .before .before .before .before .pre .1) in
+    let h = rw (c .before .field4 .given .1) at (c .before .before .before .before .before .before .before .before .before .pre .1) in
     omega arith
 
 steps-requires : tie.Need-steps-requires
 steps-requires c κs =
-    let h = rw (c .before .before .before .before .before .before .before .field4 .given .1) at (c .before .before .before .before .before .before .before .before .before .before .before .before .before .before .before .before .pre .1) in
-    let fits = c .before .before .before .before .before .before .before .before .before .before .before .before .before .before .before .before .pre .0 .0 in
-    (omega arith, omega arith, omega arith, c .before .before .before .before .before .before .before .before .before .before .before .before .before .before .before .before .pre .0 .1)
+    let h = rw (c .before .before .before .before .before .before .before .field4 .given .1) at (c .before .before .before .before .before .before .before .before .before .before .before .before .before .before .before .pre .1) in
+    let fits = c .before .before .before .before .before .before .before .before .before .before .before .before .before .before .before .pre .0 .0 in
+    (omega arith, omega arith, omega arith, c .before .before .before .before .before .before .before .before .before .before .before .before .before .before .before .pre .0 .1)
 
 returns : tie.Need-returns
 unfolding carried
 returns c =
-    let done = c .before .before .before .before .before .before .before .before .before .before .before .before in
+    let done = c .before .before .before .before .before .before .before .before .before .before .before in
     rw (done .before .before .before .before .before .before .before .before .field .given .1) (done .open-queue .ensures)
 
 returns-2 : tie.Need-returns-2
 unfolding carried
 returns-2 c =
-    let done = c .before .before .before .before .before .before .before .before .before .before .before .before in
+    let done = c .before .before .before .before .before .before .before .before .before .before .before in
     rw (done .before .before .before .before .before .before .before .before .field2 .given .1) (done .push .ensures)
 
 returns-3 : tie.Need-returns-3
 unfolding carried
 returns-3 c =
-    let done = c .before .before .before .before .before .before .before .before .before .before .before .before in
+    let done = c .before .before .before .before .before .before .before .before .before .before .before in
     rw (done .before .before .before .before .before .before .before .before .field3 .given .1) (done .pop .ensures)
 
 returns-4 : tie.Need-returns-4
 unfolding carried
 returns-4 c =
-    let done = c .before .before .before .before .before .before .before .before .before .before .before .before in
+    let done = c .before .before .before .before .before .before .before .before .before .before .before in
     let told = done .before .before .before .before .before .before .before .before in
-    let first = told .before .before .before .before .before .before .before .before .before in
+    let first = told .before .before .before .before .before .before .before .before in
     let here = told .field4 .given .1 in
     let h = rw here at (first .pre .1) in
     let there : first .args .at + 3 ≤ length (first .args .bytes .now) = omega arith in

@@ -10,18 +10,18 @@ use Rattle.replay.proofs.run.take_field.Tie as tie
 
 carry-out-requires : tie.Need-carry-out-requires
 carry-out-requires c κs =
-    let first = c .before .before .before .before .before .before .before .before .before .before .before .before .before .before in
+    let first = c .before .before .before .before .before .before .before .before .before .before .before .before .before in
     (first .pre, subst (λ (f : Found). Whole (f .field) (first .args .s .at) (length (first .args .bytes .now))) (sym (c .before .before .before .before .before .before .field-at .ensures .0)) (field-whole (first .args .s .opened) (first .args .bytes .now) (first .args .s .at)))
 
 add-q : tie.Need-add-q
 add-q c =
-    let first = c .before .before .before .before .before .before .before .before .before .before .before .before .before .before .before .before .before .before .before .before .before .before .before .before .before .before .before .before in
-    record { fits = next-fits _ _ (length (first .args .bytes .now)) (first .good .0 .1 .1 .1 .1 .1 .1 .0 .1) (first .good .1 .0 .0) (c .before .before .before .before .before .before .before .before .before .before .before .before .before .before .before .before .before .before .before .before .field-at .ensures .1) }
+    let first = c .before .before .before .before .before .before .before .before .before .before .before .before .before .before .before .before .before .before .before .before .before .before .before .before .before .before in
+    record { fits = next-fits _ _ (length (first .args .bytes .now)) (first .good .0 .1 .1 .1 .1 .1 .1 .0 .1) (first .good .1 .0 .0) (c .before .before .before .before .before .before .before .before .before .before .before .before .before .before .before .before .before .before .before .field-at .ensures .1) }
 
 returns : tie.Need-returns
 returns c =
-    let found = c .before .before .before .before .before .before .before .before .before .before .before .before .before .before .before .before .before .before .before .before .field-at .ensures in
-    takes-made _ _ _ _ _ _ (found .0) (c .before .before .before .before .before .before .before .before .before .before .before .before .before .carry-out .ensures) refl (found .1)
+    let found = c .before .before .before .before .before .before .before .before .before .before .before .before .before .before .before .before .before .before .before .field-at .ensures in
+    takes-made _ _ _ _ _ _ (found .0) (c .before .before .before .before .before .before .before .before .before .before .before .before .carry-out .ensures) refl (found .1)
 
 pub take-field-spec : {M : Type 1} → statement M
 take-field-spec =

@@ -1,0 +1,32 @@
+-- What is stored of control and record after a step: no more than it may have changed.
+use mathlib.Core.Bool.{cond}
+use Rattle.model.specs.declared.Control.{Control}
+use Rattle.model.specs.declared.Record.{Record}
+use Rattle.model.specs.Tables.{idle}
+use Rattle.table.specs.declared.Acted.{Acted}
+use Rattle.engine.specs.Ends.{endsCall, isMoved}
+
+-- A control that takes Anchor and retries of another.
+abbrev pub controlMoved : Control → Control → Control
+controlMoved old c = record { tasks = old .tasks; slots = old .slots; anchor = c .anchor; retries = c .retries }
+
+-- A record that takes all of another but what its call began with: kind, side, own slot and label.
+abbrev pub recordMoved : Record → Record → Record
+recordMoved old r = record {
+  place = r .place;
+  kind = old .kind;
+  side = old .side;
+  own = old .own;
+  label = old .label;
+  seen = r .seen;
+  neighbour = r .neighbour;
+  link = r .link;
+  finishing = r .finishing;
+}
+
+-- Nothing where the step was refused; a record all zero where it ended the call.
+unfoldable pub controlAfter : Control → Acted → Control
+controlAfter c m = cond (isMoved (m .outcome)) (controlMoved c (m .control)) c
+
+unfoldable pub recordAfter : Record → Acted → Record
+recordAfter r m = cond (isMoved (m .outcome)) (cond (endsCall (m .outcome)) idle (recordMoved r (m .task))) r

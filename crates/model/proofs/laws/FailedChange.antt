@@ -1,0 +1,62 @@
+-- A change that fails at 2 or 4 reads Anchor as place 1 would, all in the same step, and is counted. (Document 02: #106.)
+use mathlib.Core.Path.{_≡_, sym, subst}
+use mathlib.Core.Bool.{true, false}
+use mathlib.Core.Logic.{_⊎_, inl, inr}
+use Prim.Native.Nat.{ℕ}
+use lib.Dec.{eqb}
+use Rattle.word.specs.Anchor.{anchorOf}
+use Rattle.model.specs.declared.Record.{Record}
+use Rattle.model.specs.Tables.{Tables}
+use Rattle.model.specs.Sound.{isPop, controlSound, recordSound, rowsFit}
+use Rattle.model.specs.Places.{sideOf, row, reading, at1, at2, at4, move}
+use Rattle.model.specs.Route.{counted, goes}
+use Rattle.model.specs.Refusals.{Lent, stepSound, stepRefusal}
+use Rattle.model.specs.Calls.{withRetries, finish, step}
+use Rattle.model.proofs.laws.Onward.{reads-on}
+
+module _ (q : Tables) (p : Lent) (r : Record) where
+  -- The record at another place, and the tables with one more failed change.
+  abbrev at : ℕ → Record
+  at place = record {
+    place = place;
+    kind = r .kind;
+    side = r .side;
+    own = r .own;
+    label = r .label;
+    seen = r .seen;
+    neighbour = r .neighbour;
+    link = r .link;
+    finishing = r .finishing;
+  }
+
+  abbrev retried : Tables
+  retried = withRetries q (counted (q .control .retries) true)
+
+  -- A step at this place that is not refused is place 1's.
+  abbrev ReadsAs1 : ℕ → Type 0
+  ReadsAs1 place = stepRefusal q p (at place) ≡ 0 → step q p (at place) ≡ step retried p (at 1)
+
+  abbrev outcome : ℕ
+  outcome = reading (isPop r) (anchorOf (q .control .anchor))
+
+  module _ (moved : eqb (q .control .anchor) (r .seen) ≡ false) where
+    same2 : stepRefusal retried p (at 1) ≡ stepRefusal q p (at 2)
+    unfolding stepRefusal stepSound recordSound controlSound rowsFit move at1 at2
+    same2 = rw moved
+
+    failed2 : ReadsAs1 2
+    unfolding step finish move at1 at2 row sideOf counted goes
+    failed2 none = rw (same2, none, moved, reads-on (r .kind) outcome .0)
+
+    same4 : stepRefusal retried p (at 1) ≡ stepRefusal q p (at 4)
+    unfolding stepRefusal stepSound recordSound controlSound rowsFit move at1 at4
+    same4 = rw moved
+
+    failed4 : ReadsAs1 4
+    unfolding step finish move at1 at4 row sideOf counted goes
+    failed4 none = rw (same4, none, moved, reads-on (r .kind) outcome .1)
+
+  -- The law.
+  pub failed-change : (r .place ≡ 2) ⊎ (r .place ≡ 4) → eqb (q .control .anchor) (r .seen) ≡ false → ReadsAs1 (r .place)
+  failed-change (inl here) moved = subst (λ (n : ℕ). ReadsAs1 n) (sym here) (failed2 moved)
+  failed-change (inr here) moved = subst (λ (n : ℕ). ReadsAs1 n) (sym here) (failed4 moved)

@@ -1,0 +1,12 @@
+-- Tasks and slots are kept.
+use Rattle.rows.specs.Rows.{controlOf}
+use borrow.Author.Needs.{needs}
+use Rattle.rows.proofs.control_moved.Statement.{statement}
+use Rattle.rows.proofs.control_moved.Tie as tie
+
+returns : tie.Need-returns
+unfolding controlOf
+returns c = search needs
+
+pub control-moved-spec : {M : Type 1} → statement M
+control-moved-spec = tie.close (tie.spec (λ c. search needs) (λ c. search needs) returns)

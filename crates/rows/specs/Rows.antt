@@ -1,0 +1,41 @@
+-- Control and records as rows of words, in the order of their fields.
+use mathlib.Core.List.{List, [], _∷_}
+use Prim.Native.Nat.{ℕ, _/_, _%_, _^_}
+use lib.ListN.{getD}
+use Rattle.model.specs.declared.Control.{Control}
+use Rattle.model.specs.declared.Record.{Record}
+use Rattle.model.specs.Tables.{Queue, queueOf}
+
+unfoldable pub controlOf : List ℕ → Control
+controlOf ws = record { tasks = getD ws 0 0; slots = getD ws 1 0; anchor = getD ws 2 0; retries = getD ws 3 0 }
+
+-- A label has 32 bits.
+unfoldable pub recordOf : List ℕ → Record
+recordOf ws = record {
+  place = getD ws 0 0;
+  kind = getD ws 1 0;
+  side = getD ws 2 0;
+  own = getD ws 3 0;
+  label = getD ws 4 0 % 2 ^ 32;
+  seen = getD ws 5 0;
+  neighbour = getD ws 6 0;
+  link = getD ws 7 0;
+  finishing = getD ws 8 0;
+}
+
+-- The upper half of the label's word is in no field: with the record it makes up the whole row.
+unfoldable pub upperOf : List ℕ → ℕ
+upperOf ws = getD ws 4 0 / 2 ^ 32
+
+-- The same of each row.
+unfoldable pub recordsOf : List (List ℕ) → List Record
+recordsOf [] = []
+recordsOf (ws ∷ rows) = recordOf ws ∷ recordsOf rows
+
+unfoldable pub uppersOf : List (List ℕ) → List ℕ
+uppersOf [] = []
+uppersOf (ws ∷ rows) = upperOf ws ∷ uppersOf rows
+
+-- A queue whose control and records are lent as rows.
+abbrev pub queueIn : List ℕ → List (List ℕ) → List ℕ → List ℕ → List ℕ → List ℕ → Queue
+queueIn control rows = queueOf (controlOf control) (recordsOf rows)

@@ -1,0 +1,174 @@
+//! Control and records as rows of words, as C lends them: the one place that knows which word is which
+//! field. To C a control is a struct of so many words, and so is a record.
+use model::Control;
+use model::Record;
+use table::Acted;
+ghost use mathlib.Core.Path.{_≡_};
+ghost use mathlib.Core.Bool.{cond};
+ghost use Prim.Native.Nat.{_≤_};
+ghost use lib.ListN.{length, getD, set};
+ghost use Rattle.model.specs.Tables.{idle, zeroed};
+ghost use Rattle.engine.specs.Ends.{endsCall, isMoved};
+ghost use Rattle.engine.specs.Stored.{controlMoved, recordMoved, controlAfter, recordAfter};
+ghost use Rattle.rows.specs.Rows.{controlOf, recordOf, recordsOf, upperOf, uppersOf};
+
+/// The words of a control.
+pub const CONTROL_WORDS: usize = 4;
+
+/// The words of a record.
+pub const RECORD_WORDS: usize = 9;
+
+// A label is below this. The upper half of its word is in no field.
+const LABELS: u64 = 4294967296;
+
+/// The control that a row is.
+pub fn control_of(row: [u64; CONTROL_WORDS]) -> Control
+    ensures { λ c. ⌜ c ≡ controlOf row ⌝ }
+{
+    Control {
+        tasks: row[0],
+        slots: row[1],
+        anchor: row[2],
+        retries: row[3],
+    }
+}
+
+/// The row of a control.
+pub fn control_row(c: Control) -> [u64; CONTROL_WORDS]
+    ensures { λ row. ⌜ controlOf row ≡ c ⌝ }
+{
+    [c.tasks, c.slots, c.anchor, c.retries]
+}
+
+/// The row of a control after a step.
+pub fn control_moved(row: [u64; CONTROL_WORDS], c: Control) -> [u64; CONTROL_WORDS]
+    ensures { λ after. ⌜ controlOf after ≡ controlMoved (controlOf row) c ⌝ }
+{
+    [row[0], row[1], c.anchor, c.retries]
+}
+
+/// The record that a row is.
+pub fn record_of(row: [u64; RECORD_WORDS]) -> Record
+    ensures { λ r. ⌜ r ≡ recordOf row ⌝ }
+{
+    Record {
+        place: row[0],
+        kind: row[1],
+        side: row[2],
+        own: row[3],
+        label: (row[4] % LABELS) as u32,
+        seen: row[5],
+        neighbour: row[6],
+        link: row[7],
+        finishing: row[8],
+    }
+}
+
+/// The row of a record.
+pub fn record_row(r: Record) -> [u64; RECORD_WORDS]
+    ensures { λ row. ⌜ (recordOf row ≡ r) × (upperOf row ≡ 0) ⌝ }
+{
+    [
+        r.place,
+        r.kind,
+        r.side,
+        r.own,
+        r.label as u64,
+        r.seen,
+        r.neighbour,
+        r.link,
+        r.finishing,
+    ]
+}
+
+/// The row of a record after a step whose call goes on.
+pub fn record_moved(row: [u64; RECORD_WORDS], r: Record) -> [u64; RECORD_WORDS]
+    ensures { λ after. ⌜ (recordOf after ≡ recordMoved (recordOf row) r) × (upperOf after ≡ upperOf row) ⌝ }
+{
+    [
+        r.place,
+        row[1],
+        row[2],
+        row[3],
+        row[4],
+        r.seen,
+        r.neighbour,
+        r.link,
+        r.finishing,
+    ]
+}
+
+/// A task's record, or an idle one where there is none.
+pub fn record_at(rows: &[[u64; RECORD_WORDS]], task: usize) -> Record
+    ensures { λ r. ⌜ r ≡ getD (recordsOf (now (rows .entry))) task idle ⌝ }
+{
+    if task < rows.len() {
+        let row = rows[task];
+        record_of(row)
+    } else {
+        record_of([0; RECORD_WORDS])
+    }
+}
+
+/// A task's record stored, where there is one.
+pub fn put_record(rows: &mut [[u64; RECORD_WORDS]], task: usize, r: Record)
+    ensures { λ _. ⌜ recordsOf (now (rows .exit)) ≡ set (recordsOf (now (rows .entry))) task r ⌝ }
+    ensures { λ _. ⌜ uppersOf (now (rows .exit)) ≡ set (uppersOf (now (rows .entry))) task 0 ⌝ }
+{
+    if task < rows.len() {
+        let row = record_row(r);
+        rows[task] = row;
+    }
+}
+
+/// What a start wrote of its record, stored: nothing if it was refused.
+pub fn store_start(rows: &mut [[u64; RECORD_WORDS]], task: usize, m: Acted)
+    ensures { λ _.
+        ⌜ recordsOf (now (rows .exit))
+        ≡ cond (isMoved (m .outcome)) (set (recordsOf (now (rows .entry))) task (m .task)) (recordsOf (now (rows .entry))) ⌝ }
+    ensures { λ _.
+        ⌜ uppersOf (now (rows .exit))
+        ≡ cond (isMoved (m .outcome)) (set (uppersOf (now (rows .entry))) task 0) (uppersOf (now (rows .entry))) ⌝ }
+{
+    let o = m.outcome;
+    if engine::moves(o) {
+        let r = m.task;
+        put_record(rows, task, r);
+    }
+}
+
+/// The first n records made idle.
+pub fn clear(rows: &mut [[u64; RECORD_WORDS]], n: usize)
+    requires { ⌜ n ≤ length (now rows) ⌝ }
+    ensures { λ _. ⌜ recordsOf (now (rows .exit)) ≡ zeroed n idle (recordsOf (now (rows .entry))) ⌝ }
+    ensures { λ _. ⌜ uppersOf (now (rows .exit)) ≡ zeroed n 0 (uppersOf (now (rows .entry))) ⌝ }
+{
+    let mut i: usize = 0;
+    while i < n {
+        rows[i] = [0; RECORD_WORDS];
+        i += 1;
+    }
+}
+
+/// What a step may change, stored: nothing if it was refused, a row all zero if it ended the call.
+pub fn store(control: &mut [u64; CONTROL_WORDS], row: &mut [u64; RECORD_WORDS], m: Acted)
+    ensures { λ _. ⌜ controlOf (now (control .exit)) ≡ controlAfter (controlOf (now (control .entry))) m ⌝ }
+    ensures { λ _. ⌜ recordOf (now (row .exit)) ≡ recordAfter (recordOf (now (row .entry))) m ⌝ }
+    ensures { λ _. ⌜ upperOf (now (row .exit)) ≡ cond (endsCall (m .outcome)) 0 (upperOf (now (row .entry))) ⌝ }
+{
+    let o = m.outcome;
+    if engine::moves(o) {
+        let old = *control;
+        let c = m.control;
+        let after = control_moved(old, c);
+        *control = after;
+        if engine::ends(o) {
+            *row = [0; RECORD_WORDS];
+        } else {
+            let was = *row;
+            let r = m.task;
+            let next = record_moved(was, r);
+            *row = next;
+        }
+    }
+}
