@@ -59,14 +59,14 @@
  * FACTS, the most that bench/facts.sh saw over random calls; memset's instructions are not counted:
  *                  stack,   instructions at most, by tasks and slots
  *                  bytes      1, 3     5, 12  16, 1023
- *   zc_open            88        92       122       178
- *   zc_push           584       340       340       340
- *   zc_pop            560       323       323       323
- *   zc_step           160       245       245       245
- *   zc_step_record    168       239       239       239
- *   zc_report          72       149       293     11510
+ *   zc_open            72        75        75        75
+ *   zc_push           136       229       229       229
+ *   zc_pop            120       214       214       214
+ *   zc_step           168       245       245       245
+ *   zc_step_record    168       246       246       246
+ *   zc_report          72       136       178       749
  *   table bytes         -       192       664     21792
- *   code bytes: capi 7207, capi_record 2662
+ *   code bytes: capi 5609, capi_record 2720
  * As to the machine: x86-64, System V calling convention. The code uses the red zone (128 bytes
  * below the stack pointer) and SSE registers, no AVX: an interrupt handler that makes a call saves
  * the SSE state first, and an interrupt that is not masked during a call leaves the red zone alone.
