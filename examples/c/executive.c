@@ -1,8 +1,9 @@
 /*
  * A small executive: five tasks share one label queue and take turns at random, one touch at a
  * time. Three scales push labels at the right, the reprint desk pushes at the left, and the print
- * head pops at the left. At the end every label that was pushed must have reached the head once,
- * or still be waiting.
+ * head pops at the left. Slots come from the queue's pool; while there is none a push is started
+ * again. At the end every label that was pushed must have reached the head once, or still be
+ * waiting.
  *
  *     cc -Iinclude examples/c/executive.c target/staticlib/libcapi.a -o executive
  *     ./executive [seed]
@@ -17,7 +18,8 @@ enum { TASKS = 5, HEAD = 0, DESK = 4, SLOTS = 12, TOUCHES = 1000, MOST_LABELS = 
 
 static zc_control control;
 static zc_record records[TASKS];
-static uint64_t lefts[ZC_ROWS(SLOTS)], rights[ZC_ROWS(SLOTS)], marks[ZC_MARK_WORDS(SLOTS)];
+static uint64_t lefts[ZC_ROWS(SLOTS)], rights[ZC_ROWS(SLOTS)], next[ZC_ROWS(SLOTS)];
+static uint64_t marks[ZC_MARK_WORDS(SLOTS)];
 static uint32_t labels[ZC_ROWS(SLOTS)];
 static const zc_queue queue = {
     .control = &control,
@@ -31,11 +33,14 @@ static const zc_queue queue = {
     .label_count = ZC_ROWS(SLOTS),
     .marks = marks,
     .mark_count = ZC_MARK_WORDS(SLOTS),
+    .next = next,
+    .next_count = ZC_ROWS(SLOTS),
 };
 
 /* What became of label n, the n-th that was started. */
 static int pushed[MOST_LABELS], printed[MOST_LABELS];
 static uint32_t under_way[TASKS], next_label, printed_count;
+static int put_off[TASKS]; /* the task's label found no slot */
 
 static uint64_t random_below(uint64_t *state, uint64_t limit)
 {
@@ -55,28 +60,18 @@ static zc_reply expect(zc_reply reply)
     return reply;
 }
 
-/* A slot that no label and no call holds; 0 if there is none. */
-static uint64_t free_slot(void)
-{
-    for (uint64_t slot = 1; slot <= SLOTS; slot++)
-        if (!zc_marked(marks, slot))
-            return slot;
-    return 0;
-}
-
-/* An idle task starts its next call; a push waits while all slots are taken. */
+/* An idle task starts its next call, or a push that was put off. */
 static void start(size_t task)
 {
     if (task == HEAD) {
         expect(zc_queue_pop(&queue, HEAD, ZC_LEFT));
         return;
     }
-    uint64_t slot = free_slot();
-    if (slot == 0)
-        return;
     uint64_t side = task == DESK ? ZC_LEFT : ZC_RIGHT;
-    under_way[task] = next_label++;
-    expect(zc_queue_push(&queue, task, side, slot, under_way[task]));
+    if (!put_off[task])
+        under_way[task] = next_label++;
+    put_off[task] = 0;
+    expect(zc_queue_push_pooled(&queue, task, side, under_way[task]));
 }
 
 /* A busy task makes one step. */
@@ -85,6 +80,7 @@ static void step(size_t task)
     zc_reply reply = expect(zc_queue_step(&queue, task));
     switch (reply.code) {
     case ZC_PUSHED: pushed[under_way[task]]++; break;
+    case ZC_NO_FREE_SLOT: put_off[task] = 1; break;
     case ZC_POPPED:
         printf("%3" PRIu32 "%s", zc_label(reply), ++printed_count % 20 ? " " : "\n");
         printed[zc_label(reply)]++;
@@ -109,7 +105,7 @@ int main(int argc, char **argv)
     uint64_t state = argc > 1 ? strtoull(argv[1], NULL, 10) : 1;
     state = state * UINT64_C(0x9e3779b97f4a7c15) | 1;
 
-    if (zc_queue_open(&queue, TASKS, SLOTS, 0) != 0)
+    if (zc_queue_open_pooled(&queue, TASKS, SLOTS, 0) != 0)
         return 2;
     puts("the head got:");
     for (int touch = 0; touch < TOUCHES; touch++) {
@@ -126,12 +122,16 @@ int main(int argc, char **argv)
 
     zc_report_reply report = zc_queue_report(&queue);
     uint64_t count = walk(waiting);
+    uint32_t left_over = 0;
+    for (size_t task = 0; task < TASKS; task++)
+        left_over += (uint32_t)put_off[task];
     printf("\n%" PRIu32 " pushed, %" PRIu32 " printed, %" PRIu64 " waiting, %" PRIu64 " retries\n",
-           next_label, printed_count, count, report.retries);
+           next_label - left_over, printed_count, count, report.retries);
 
-    int lost = report.code != 0 || report.busy != 0 || report.waiting != count;
+    int lost = report.code != 0 || report.busy != 0 || report.waiting != count ||
+               printed_count + count != next_label - left_over;
     for (uint32_t label = 0; label < next_label; label++)
-        if (pushed[label] != 1 || printed[label] + waiting[label] != 1) {
+        if (pushed[label] > 1 || printed[label] + waiting[label] != pushed[label]) {
             printf("label %" PRIu32 ": pushed %d, printed %d, waiting %d\n", label, pushed[label],
                    printed[label], waiting[label]);
             lost = 1;

@@ -15,7 +15,7 @@ pub struct Judge {
     clerk: Clerk,
     /// Anchor before the event that comes next.
     anchor: u64,
-    /// A slot that nobody used when a task at 12 was about to step.
+    /// A slot that nobody used when a push without a slot was about to step.
     idle_slot: Option<u64>,
 }
 
@@ -24,7 +24,7 @@ impl Watcher for Judge {
         let control = &*tables.shared.control;
         let records = &tables.records[..control.tasks as usize];
         let record = task.and_then(|task| records.get(usize::from(task)));
-        let asking = record.is_some_and(|record| record.place == 12);
+        let asking = record.is_some_and(|record| (12..=14).contains(&record.place));
         self.anchor = control.anchor;
         self.idle_slot = if asking { pool::idle_slot(tables) } else { None };
     }
