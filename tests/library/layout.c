@@ -243,7 +243,11 @@ static void pool(void)
     equal("the head after 17", word(control, TOP), UINT64_C(0x0000000200000001));
     put(control, TOP, UINT64_C(0x0000000200000000));
     zc_push_pooled(RECORDS, 0, ZC_LEFT, 9, TABLES);
-    equal("code of no free slot", step(0).code, ZC_NO_FREE_SLOT);
+    reply = step(0);
+    equal("code of no free slot", reply.code, ZC_NO_FREE_SLOT);
+    equal("no free slot is an answer", (uint64_t)zc_answered(reply), 1);
+    equal("no free slot is no refusal", (uint64_t)zc_refused(reply), 0);
+    equal("the label of an idle record", half(records, LABEL), 0);
     equal("a named push", zc_push(RECORDS, 0, ZC_LEFT, 1, 9, TABLES).code, ZC_WRONG_PUSH);
 }
 

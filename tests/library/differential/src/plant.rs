@@ -88,11 +88,26 @@ pub fn failures(tally: &mut Tally, dice: &mut Dice, times: u32) {
     }
 }
 
+/// A named queue is accepted with any next table, or none at all.
+fn accepted_without_next(tally: &mut Tally, dice: &mut Dice, mut scene: Scene) {
+    let export = scene.call.export();
+    if export == Export::OpenPooled || (export != Export::Open && scene.is_pooled()) {
+        return;
+    }
+    scene.world.next.count = dice.between(0, scene.slots) as usize;
+    scene.world.next.null = scene.world.next.count == 0;
+    let (mut ours, mut theirs) = (scene.world.clone(), scene.world);
+    if let Some(told) = tally.compare(&mut ours, &mut theirs, scene.call) {
+        assert!(told.code() < 10, "{:?} was refused for its next table", scene.call);
+    }
+}
+
 pub fn accepted(tally: &mut Tally, dice: &mut Dice, times: u32) {
     for export in EXPORTS {
         let before = tally.mismatches;
         for _ in 0..times {
-            accepted_scene(tally, dice, Wanted::any(export), 1);
+            let scene = accepted_scene(tally, dice, Wanted::any(export), 1);
+            accepted_without_next(tally, dice, scene);
         }
         tally.check(tally.mismatches == before, &format!("{export:?}: accepted scenes"));
     }
