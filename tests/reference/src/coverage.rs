@@ -7,27 +7,10 @@ use crate::pool;
 use crate::refusal::LAST_START_TAG;
 use crate::run::{Call, Event, Reply, Watcher};
 use crate::tables::{Control, Record, Tables, MOST_SLOTS, MOST_TASKS, POOLED, POP};
+use crate::ways::{self, Role, Way};
 use crate::word::{Anchor, Link, Side};
 use std::collections::BTreeMap;
 use std::fmt::{self, Display, Formatter};
-
-/// A push before its effect, a push after it, a pop.
-#[derive(Clone, Copy, Debug, PartialEq, Eq, PartialOrd, Ord)]
-enum Role {
-    Push,
-    Finishing,
-    Pop,
-}
-
-/// A way through a place; `next` is 0 for an answer, `failed` a counted retry.
-#[derive(Clone, Copy, Debug, PartialEq, Eq, PartialOrd, Ord)]
-struct Way {
-    pooled: bool,
-    place: u64,
-    role: Role,
-    failed: bool,
-    next: u64,
-}
 
 /// Something counted by its name.
 #[derive(Clone, Copy, PartialEq, Eq, PartialOrd, Ord)]
@@ -145,7 +128,7 @@ impl Watcher for Coverage {
 impl Coverage {
     /// Nothing reached yet; `kinds` are the kinds of file that shall come.
     pub fn new(kinds: impl IntoIterator<Item = &'static str>) -> Coverage {
-        let ways = all_ways().into_iter().map(|way| (way, [0, 0])).collect();
+        let ways = ways::all().into_iter().map(|way| (way, [0, 0])).collect();
         let things = all_things().into_iter().chain(kinds.into_iter().map(Thing::File));
         let things = things.map(|thing| (thing, 0)).collect();
         Coverage { ways, things, before: Before::default() }
@@ -262,42 +245,6 @@ impl Coverage {
     }
 }
 
-/// The ways through the places of both ways of opening: they differ from 11 on.
-fn all_ways() -> Vec<Way> {
-    use Role::{Pop, Push};
-    let mut pooled = vec![(12, Push, false, 0), (12, Push, false, 13), (13, Push, false, 14)];
-    pooled.extend([(14, Push, false, 1), (14, Push, true, 12), (11, Pop, false, 15)]);
-    pooled.extend([(15, Pop, false, 16), (16, Pop, false, 17)]);
-    pooled.extend([(17, Pop, false, 0), (17, Pop, true, 15)]);
-    let named = vec![(11, Pop, false, 0)];
-    let both = [(false, named), (true, pooled)].into_iter().flat_map(|(pooled, ways)| {
-        shared_ways().into_iter().chain(ways).map(move |way| (pooled, way))
-    });
-    both.map(|(pooled, (place, role, failed, next))| Way { pooled, place, role, failed, next })
-        .collect()
-}
-
-/// Places 1 to 10, read off document 01's table; a failed 2 or 4 goes on as 1 (#106).
-fn shared_ways() -> Vec<(u64, Role, bool, u64)> {
-    use Role::{Finishing, Pop, Push};
-    let mut ways = vec![(1, Pop, false, 0), (2, Pop, true, 0), (4, Pop, true, 0)];
-    ways.extend([(2, Push, false, 0), (2, Pop, false, 11)]);
-    ways.extend([(4, Push, false, 5), (4, Pop, false, 11)]);
-    for role in [Push, Pop] {
-        for (place, failed) in [(1, false), (2, true), (4, true)] {
-            ways.extend([2, 3, 5].map(|next| (place, role, failed, next)));
-        }
-        ways.push((3, role, false, 4));
-    }
-    for (role, leave) in [(Push, 1), (Finishing, 0), (Pop, 1)] {
-        ways.extend([(5, role, false, 6), (6, role, false, 7), (6, role, false, leave)]);
-        ways.extend([(7, role, false, 8), (7, role, false, 10), (8, role, false, 9)]);
-        ways.extend([(8, role, false, leave), (9, role, false, 10), (9, role, true, leave)]);
-        ways.extend([(10, role, false, leave), (10, role, true, leave)]);
-    }
-    ways
-}
-
 fn all_things() -> Vec<Thing> {
     let mut things: Vec<Thing> = (1..=MOST_TASKS).map(Thing::Tasks).collect();
     for (call, numbers) in REFUSALS {
@@ -312,19 +259,6 @@ fn all_things() -> Vec<Thing> {
     things.extend([HEAD_TAG, STALE_NEXT, TAKEN_AGAIN].map(Thing::Fooled));
     things.extend([ALL_WAITING, PUSH_HOLDS, POP_READS, POP_GIVES].map(Thing::NoSlot));
     things
-}
-
-impl Display for Way {
-    fn fmt(&self, out: &mut Formatter) -> fmt::Result {
-        let role = format!("{:?}", self.role).to_lowercase();
-        let outcome = if self.failed { "failed" } else { "" };
-        let queue = if self.pooled { "pooled" } else { "named" };
-        write!(out, "{queue:7}place {:2} {role:10}{outcome:7}", self.place)?;
-        match self.next {
-            0 => write!(out, "answers"),
-            next => write!(out, "to {next}"),
-        }
-    }
 }
 
 impl Display for Thing {

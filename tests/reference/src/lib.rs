@@ -5,7 +5,7 @@
 //! The program: `runfile` (fields in), `run` (events), `trace` (lines out).
 //! The judge: `clerk` (a sequential deque), `contents` (labels waiting), `pool` (free
 //! slots), `invariant` (what holds between any two steps), `check` (all of them at once).
-//! The differential test: `dice`, `script`, `shift`, `scenario`, `malformed`, `coverage`.
+//! The differential test: `dice`, `script`, `shift`, `scenario`, `malformed`, `coverage`, `ways`.
 //! For tests that drive the calls themselves: `damage` (tables that no run leaves).
 
 pub mod check;
@@ -27,4 +27,5 @@ pub mod script;
 pub mod shift;
 pub mod tables;
 pub mod trace;
+mod ways;
 pub mod word;

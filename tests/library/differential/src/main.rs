@@ -10,6 +10,7 @@ mod noise;
 mod plant;
 mod sound;
 mod tally;
+mod wild;
 mod world;
 #[allow(dead_code)] // the C declarations alone are used
 #[path = "../../../../bindings/zeppolecape.rs"]

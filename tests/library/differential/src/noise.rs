@@ -1,8 +1,9 @@
 //! Tables of any contents: sound scenes with several fields spoiled at random, nothing expected
 //! but that both sides do the same.
 
-use crate::sound::{wild, wild_record, wild_word, Scene, Wanted};
+use crate::sound::{Scene, Wanted};
 use crate::tally::Tally;
+use crate::wild::{wild, wild_record, wild_word};
 use crate::world::{Call, Export, Lent};
 use reference::dice::Dice;
 

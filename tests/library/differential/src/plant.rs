@@ -1,7 +1,7 @@
 //! Faults planted alone and in pairs: of two, the one that is asked for first decides. And changes
 //! that fail at the last tag, which are no faults.
 
-use crate::faults::{outrun, Fault, Group, FAULTS};
+use crate::faults::{self, outrun, Fault, Group};
 use crate::sound::{Scene, Wanted};
 use crate::tally::Tally;
 use crate::world::{by_reference, Export};
@@ -115,7 +115,7 @@ pub fn accepted(tally: &mut Tally, dice: &mut Dice, times: u32) {
 
 pub fn singles(tally: &mut Tally, dice: &mut Dice, times: u32) {
     for export in EXPORTS {
-        for fault in FAULTS.iter().filter(|fault| fault.of(export)) {
+        for fault in faults::all().filter(|fault| fault.of(export)) {
             let mut holds = true;
             for _ in 0..times {
                 let wanted = wanted(export, fault);
@@ -149,10 +149,10 @@ fn wanted_pair(export: Export, first: &Fault, second: &Fault) -> Wanted {
 
 pub fn pairs(tally: &mut Tally, dice: &mut Dice, times: u32) {
     for export in EXPORTS {
-        for first in FAULTS.iter().filter(|fault| fault.of(export)) {
+        for first in faults::all().filter(|fault| fault.of(export)) {
             let mut holds = true;
             let mut planted = false;
-            for second in FAULTS.iter().filter(|second| second.of(export)) {
+            for second in faults::all().filter(|second| second.of(export)) {
                 if !together(first, second) {
                     continue;
                 }
