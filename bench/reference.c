@@ -46,18 +46,16 @@ static inline bool helping(const zc_record *record)
     return record->place >= 5 && record->place <= 10;
 }
 
-/* Places 12 to 14, of a push that has no slot yet, and 15 to 17, of a pop that still has one. */
-static inline bool asking(const zc_record *record)
+/* Places 12 to 17 of a pooled queue. */
+static inline bool pool_place_sound(const zc_record *record, uint64_t slots)
 {
-    return record->place >= 12 && record->place <= 14;
-}
-
-static inline bool giving(const zc_record *record) { return record->place >= 15; }
-
-static inline bool own_fits(const zc_record *record, uint64_t slots)
-{
-    bool held = record->kind == ZC_POP ? giving(record) : !asking(record);
-    return held ? within(record->own, slots) : record->own == 0;
+    if (record->place > 17 || record->finishing != 0)
+        return false;
+    if (record->place >= 15)
+        return record->kind == ZC_POP && within(record->own, slots);
+    if (record->kind != ZC_PUSH || record->own != 0)
+        return false;
+    return record->place == 12 || zc_link_slot(record->link) != 0;
 }
 
 static inline bool record_sound(const zc_record *record, const zc_control *control)
@@ -65,22 +63,23 @@ static inline bool record_sound(const zc_record *record, const zc_control *contr
     uint64_t slots = control->slots;
     if (record->place == 0)
         return true;
-    if (record->place > (control->pooled ? 17 : 11) || record->kind > ZC_POP ||
-        record->side > ZC_RIGHT || record->finishing > 1 || !own_fits(record, slots))
+    if (record->kind > ZC_POP || record->side > ZC_RIGHT || record->finishing > 1)
         return false;
-    if (record->kind == ZC_POP) {
-        if (asking(record) || record->finishing != 0)
-            return false;
-    } else {
-        if (giving(record) || record->place == 11)
-            return false;
-        if (record->finishing != 0 && !helping(record))
-            return false;
+    if (record->place <= 11) {
+        if (record->kind == ZC_POP) {
+            if (record->own != 0 || record->finishing != 0)
+                return false;
+        } else {
+            if (!within(record->own, slots) || record->place == 11)
+                return false;
+            if (record->finishing != 0 && !helping(record))
+                return false;
+        }
+    } else if (!control->pooled || !pool_place_sound(record, slots)) {
+        return false;
     }
     if (record->neighbour > slots || !link_sound(record->link, slots) ||
         !anchor_sound(record->seen, slots))
-        return false;
-    if ((record->place == 13 || record->place == 14) && zc_link_slot(record->link) == 0)
         return false;
     return !helping(record) || zc_anchor_status(record->seen) != ZC_STABLE;
 }

@@ -76,27 +76,27 @@ a link's slot not seen|&& zc_link_slot(link) <= slots|&& (slots \|\| link)|1
 tasks of control not seen|within(control->tasks, ZC_MOST_TASKS) &&||1
 slots of control one too many|within(control->slots, ZC_MOST_SLOTS)|within(control->slots, ZC_MOST_SLOTS + 1)|1
 tasks of control in 32 bits|within(control->tasks, ZC_MOST_TASKS)|within((uint32_t)control->tasks, ZC_MOST_TASKS)|1
-place 12 let through in a named queue|(control->pooled ? 17 : 11)|(control->pooled ? 17 : 12)|1
-places 12 to 17 let through in a named queue|(control->pooled ? 17 : 11)|17|1
-place 18 let through|(control->pooled ? 17 : 11)|(control->pooled ? 18 : 11)|1
+places 12 to 17 let through in a named queue|!control->pooled \|\| !pool_place_sound|!pool_place_sound|1
+place 18 let through|record->place > 17 \|\||record->place > 18 \|\||1
 kind 2 let through|record->kind > ZC_POP|record->kind > 2|1
 side 2 let through in a record|record->side > ZC_RIGHT|record->side > 2|1
 finishing 2 let through|record->finishing > 1|record->finishing > 2|1
-finishing in a pop let through|asking(record) \|\| record->finishing != 0|asking(record)|1
-finishing in a pop let through before 5|asking(record) \|\| record->finishing != 0|asking(record) \|\| (record->finishing != 0 \&\& record->place > 4)|1
-finishing in a pop let through at 11|asking(record) \|\| record->finishing != 0|asking(record) \|\| (record->finishing != 0 \&\& record->place != 11)|1
-finishing in a pop let through at 15 to 17|asking(record) \|\| record->finishing != 0|asking(record) \|\| (record->finishing != 0 \&\& !giving(record))|1
-finishing let through at 12 to 14|if (record->finishing != 0 && !helping(record))|if (record->finishing != 0 \&\& !helping(record) \&\& !asking(record))|1
-places 12 to 14 in a pop let through|asking(record) \|\| record->finishing != 0|record->finishing != 0|1
-places 15 to 17 in a push let through|giving(record) \|\| record->place == 11|record->place == 11|1
-own slot in a pop let through|: record->own == 0|: record->kind == ZC_POP \|\| record->own == 0|1
-own slot let through at 12 to 14|: record->own == 0|: asking(record) \|\| record->own == 0|1
-own slot 0 in a push let through|held ? within(record->own, slots)|held ? record->own <= slots \&\& (!giving(record) \|\| record->own != 0)|1
-own slot 0 in a pop let through at 15 to 17|held ? within(record->own, slots)|held ? record->own <= slots \&\& (giving(record) \|\| record->own != 0)|1
-own slot above slots let through at 15 to 17|held ? within(record->own, slots)|held ? giving(record) \|\| within(record->own, slots)|1
-slot 0 in the link let through at 13|(record->place == 13 \|\| record->place == 14) &&|record->place == 14 \&\&|1
-slot 0 in the link let through at 14|(record->place == 13 \|\| record->place == 14) &&|record->place == 13 \&\&|1
-slot 0 in the link not let through at 15|(record->place == 13 \|\| record->place == 14) &&|record->place >= 13 \&\& record->place <= 15 \&\&|1
+finishing in a pop let through|record->own != 0 \|\| record->finishing != 0|record->own != 0|1
+finishing in a pop let through before 5|record->own != 0 \|\| record->finishing != 0|record->own != 0 \|\| (record->finishing != 0 \&\& record->place > 4)|1
+finishing in a pop let through at 11|record->own != 0 \|\| record->finishing != 0|record->own != 0 \|\| (record->finishing != 0 \&\& record->place != 11)|1
+finishing in a pop let through at 15 to 17|record->place > 17 \|\| record->finishing != 0|record->place > 17 \|\| (record->finishing != 0 \&\& record->place < 15)|1
+finishing let through at 12 to 14|record->place > 17 \|\| record->finishing != 0|record->place > 17 \|\| (record->finishing != 0 \&\& record->place >= 15)|1
+places 12 to 14 in a pop let through|record->kind != ZC_PUSH \|\| record->own != 0|record->own != 0|1
+places 15 to 17 in a push let through|record->kind == ZC_POP && within(record->own, slots)|within(record->own, slots)|1
+own slot in a pop let through|record->own != 0 \|\| record->finishing != 0|record->finishing != 0|1
+own slot let through at 12 to 14|record->kind != ZC_PUSH \|\| record->own != 0|record->kind != ZC_PUSH|1
+own slot 0 in a push let through|!within(record->own, slots) \|\||record->own > slots \|\||1
+own slot 0 in a pop let through at 15 to 17|record->kind == ZC_POP && within(record->own, slots)|record->kind == ZC_POP \&\& record->own <= slots|1
+own slot above slots let through at 15 to 17|record->kind == ZC_POP && within(record->own, slots)|record->kind == ZC_POP \&\& record->own != 0|1
+slot 0 in the link let through at 13|record->place == 12 \|\||record->place <= 13 \|\||1
+slot 0 in the link let through at 14|record->place == 12 \|\||record->place != 13 \|\||1
+slot 0 in the link not let through at 12|record->place == 12 \|\| zc_link_slot|zc_link_slot|1
+slot 0 in the link not let through at 15|record->kind == ZC_POP && within(record->own, slots)|record->kind == ZC_POP \&\& within(record->own, slots) \&\& (record->place != 15 \|\| zc_link_slot(record->link) != 0)|1
 pooled 2 let through|control->pooled <= 1 &&|control->pooled <= 2 \&\&|1
 pooled in 32 bits|control->pooled <= 1 &&|(uint32_t)control->pooled <= 1 \&\&|1
 the head looked at in control|control->pooled <= 1 &&|control->pooled <= 1 \&\& (!control->pooled \|\| link_sound(control->head, control->slots)) \&\&|1
