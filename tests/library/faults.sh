@@ -357,24 +357,28 @@ if ! ZC_OBJECT=$work/faultless.so BUILD=$work/build tests/library/run.sh "$work/
     exit 1
 fi
 
+# Runs a program with so many seconds of processor time, so that one that hangs is stopped and a
+# busy machine is not taken for it.
+limited() { # SECONDS COMMAND..
+    { (ulimit -t "$1" && shift && exec "$@") >/dev/null 2>&1; } 2>/dev/null
+}
+
 # The parts that notice the fault in $work/fault.so.
 noticed() {
     export ZC_OBJECT=$work/fault.so
-    timeout 10 "$work/build/layout" >/dev/null 2>&1 || echo -n " layout"
-    timeout 10 "$work/build/fence" >/dev/null 2>&1 || echo -n " fence"
-    timeout 10 "$work/build/waiting" >/dev/null 2>&1 || echo -n " waiting"
-    timeout 10 "$work/build/bindings" >/dev/null 2>&1 || echo -n " bindings"
-    local seed lost=
+    local part way seed odd= lost=
+    for part in layout fence waiting bindings; do
+        limited 10 "$work/build/$part" || echo -n " $part"
+    done
     for seed in 1 2 3; do
-        timeout 2 "$work/build/executive_c" $seed >/dev/null 2>&1 || lost=yes
+        limited 2 "$work/build/executive_c" $seed || lost=yes
     done
     [ -z "$lost" ] || echo -n " example"
-    local way odd=
     for way in named pooled; do
-        timeout 10 "$work/build/bench" check $way 5 1023 20000 >/dev/null 2>&1 || odd=yes
+        limited 10 "$work/build/bench" check $way 5 1023 20000 || odd=yes
     done
     [ -z "$odd" ] || echo -n " bench"
-    timeout 100 "$work/build/cargo/release/differential" >/dev/null 2>&1 || echo -n " differential"
+    limited 100 "$work/build/cargo/release/differential" || echo -n " differential"
 }
 
 caught=0
