@@ -31,7 +31,7 @@ unfoldable pub report : Queue → Reported
 report q =
     let why = reportRefusal q in
     cond (eqb why 0)
-    (reported.Told (record { anchor = anchorOf (q .tables .control .anchor); busy = busy q; retries = q .tables .control .retries; waiting = waiting (q .tables) }))
+    (reported.Told (record { anchor = anchorOf (q .tables .control .anchor); busy = busy q; waiting = waiting (q .tables) }))
     (reported.Refused why)
 
 -- A walk of the queue: its entries, or broken.
