@@ -15,6 +15,8 @@ pub mod unsound
 pub mod progress
 pub mod Linearizable
 pub mod NeverUnsound
+pub mod Openings
+pub mod Retries
 pub mod NoSlot
 pub mod StepBounds
 -- Laws of single calls, and the worked cases of the document.

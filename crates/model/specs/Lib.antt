@@ -10,3 +10,4 @@ pub mod History
 pub mod OneTouch
 pub mod Mirror
 pub mod Progress
+pub mod Retries

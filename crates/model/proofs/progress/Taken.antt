@@ -39,7 +39,7 @@ pub record Roomy (tasks : ℕ) (q : Queue) : Type 0 where
 abbrev SameSize : Tables → Acted → Type 0
 SameSize g a = (a .tables .control .tasks ≡ g .control .tasks) × (a .tables .control .slots ≡ g .control .slots) × (a .tables .control .pooled ≡ g .control .pooled)
 
-same-size : (q : Queue) (t : ℕ) (o : Op) → SameSize (q .tables) (actOn (q .tables) (among q t) (taskAt q t) o)
+pub same-size : (q : Queue) (t : ℕ) (o : Op) → SameSize (q .tables) (actOn (q .tables) (among q t) (taskAt q t) o)
 unfolding actOn pushStart putStart popStart step finish
 same-size q t (Push side x y) = by-test (SameSize (q .tables)) (eqb (pushRefusal (q .tables) (among q t) (recordAt q t) side x) 0) (λ _. (refl, refl, refl)) (λ _. (refl, refl, refl))
 same-size q t (Pop side) = by-test (SameSize (q .tables)) (eqb (popRefusal (q .tables) (among q t) (recordAt q t) side) 0) (λ _. (refl, refl, refl)) (λ _. (refl, refl, refl))
