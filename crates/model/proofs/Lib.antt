@@ -13,9 +13,9 @@ pub mod ledger
 pub mod tags
 pub mod unsound
 pub mod progress
+pub mod Openings
 pub mod Linearizable
 pub mod NeverUnsound
-pub mod Openings
 pub mod Retries
 pub mod NoSlot
 pub mod StepBounds

@@ -3,21 +3,17 @@ use mathlib.Core.Bool.{Bool}
 use mathlib.Core.List.{List}
 use mathlib.Core.Path.{_∙_, _≡_, ap}
 use Prim.Native.Nat.{ℕ}
-use native.Mathlib.Omega.{arith}
-use lib.Dec.{eqb}
-use borrow.Author.Tests.{eqb-true}
-use Rattle.model.specs.Calls.{openAs, opened}
+use Rattle.model.specs.Calls.{opened}
 use Rattle.model.specs.History.{Linearizable, Linearized, Request, final, ledger, run}
 use Rattle.model.specs.Refusals.{openRefusal}
 use Rattle.model.specs.Report.{entries}
 use Rattle.model.specs.Tables.{Queue}
-use Rattle.model.specs.declared.Opening.the-variants.{Opened, Refused}
-use Rattle.model.proofs.tests.Truth.{split}
 use Rattle.model.proofs.bridge.View.{stateOf}
 use Rattle.model.proofs.ledger.Kept.{run-good}
 use Rattle.model.proofs.ledger.Lawful.{all-lawful}
 use Rattle.model.proofs.ledger.Opened.{nobody, open-good, some-slots}
 use Rattle.model.proofs.ledger.Waiting.{waits}
+use Rattle.model.proofs.Openings.{after-opening}
 
 module _ (pooled : Bool) (q : Queue) (tasks slots tag : ℕ) where
   linearized : openRefusal pooled q tasks slots ≡ 0 → (os : List Request) → Linearized (opened pooled q tasks slots tag) os
@@ -32,7 +28,4 @@ module _ (pooled : Bool) (q : Queue) (tasks slots tag : ℕ) where
       }
 
 pub linearizable : Linearizable
-unfolding openAs
-linearizable pooled q tasks slots tag e os = split (eqb (openRefusal pooled q tasks slots) 0)
-    (λ z. rw z (linearized pooled q tasks slots tag (eqb-true _ _ z) os))
-    (λ z. absurd (let h : Refused (openRefusal pooled q tasks slots) ≡ Opened = rw z at e in let w : _≡_ {A = ℕ} 0 1 = cc in omega arith))
+linearizable pooled = after-opening pooled Linearized (linearized pooled)

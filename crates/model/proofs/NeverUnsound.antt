@@ -3,19 +3,18 @@ use mathlib.Core.Bool.{Bool, cond, true}
 use mathlib.Core.Path.{_∙_, _≡_, ap, refl, subst, sym}
 use Prim.Native.Nat.{_≤_, ℕ}
 use native.Mathlib.Omega.{arith}
-use lib.Dec.{eqb, leb}
-use borrow.Author.Tests.{eqb-true, not-false}
+use lib.Dec.{leb}
+use borrow.Author.Tests.{not-false}
 use Rattle.word.specs.Anchor.{anchorOf, emptyAnchor, packAnchor}
 use Rattle.word.specs.Link.{linkOf}
-use Rattle.model.specs.Calls.{openAs, opened}
-use Rattle.model.specs.History.{Never34}
+use Rattle.model.specs.Calls.{opened}
+use Rattle.model.specs.History.{Never34, NeverUnsound}
 use Rattle.model.specs.Refusals.{openRefusal, openRules}
 use Rattle.model.specs.Sound.{controlSound, controlTests}
 use Rattle.model.specs.Tables.{Queue}
-use Rattle.model.specs.declared.Opening.the-variants.{Opened, Refused}
 use Rattle.model.specs.declared.Record.{Record}
 use Rattle.model.proofs.tests.Rules.{_and_, cleared, passes}
-use Rattle.model.proofs.tests.Truth.{by-test, split}
+use Rattle.model.proofs.tests.Truth.{by-test}
 use Rattle.model.proofs.machine.Laws.{stable-pushing}
 use Rattle.model.proofs.machine.Machine as M
 use Rattle.model.proofs.invariant.Fields.{Extra}
@@ -26,6 +25,7 @@ use Rattle.model.proofs.tags.Sum.{total-le}
 use Rattle.model.proofs.unsound.Never34.{run-safe}
 use Rattle.model.proofs.unsound.Safe.{Safe}
 use Rattle.model.proofs.unsound.Tests.{anchor-sound}
+use Rattle.model.proofs.Openings.{after-opening}
 
 module _ (pooled : Bool) (q : Queue) (tasks slots tag : ℕ) where
   abbrev o : Queue
@@ -69,8 +69,5 @@ module _ (pooled : Bool) (q : Queue) (tasks slots tag : ℕ) where
     }
 
 pub never-unsound : Never34
-unfolding openAs
-never-unsound pooled q tasks slots tag e os = split (eqb (openRefusal pooled q tasks slots) 0)
-    (λ z. let a = eqb-true (openRefusal pooled q tasks slots) 0 z in
-    rw z (run-safe os 1 (opened pooled q tasks slots tag) nobody (open-good pooled q tasks slots tag (some-slots pooled q tasks slots a)) (open-safe pooled q tasks slots tag a)))
-    (λ z. absurd (let h : Refused (openRefusal pooled q tasks slots) ≡ Opened = rw z at e in let w : _≡_ {A = ℕ} 0 1 = cc in omega arith))
+never-unsound pooled = after-opening pooled NeverUnsound (λ q tasks slots tag e os.
+    run-safe os 1 (opened pooled q tasks slots tag) nobody (open-good pooled q tasks slots tag (some-slots pooled q tasks slots e)) (open-safe pooled q tasks slots tag e))

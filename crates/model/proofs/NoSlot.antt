@@ -10,9 +10,9 @@ use lib.Dec.{eqb, leb, ltb}
 use lib.ListN.{List·getD-eq-default}
 use borrow.Author.Tests.{eq-eqb, eqb-true, ltb-true}
 use Rattle.word.specs.Anchor.{anchorOf}
-use Rattle.model.specs.Calls.{Acted, act, actOn, finish, openAs, opened, step}
+use Rattle.model.specs.Calls.{Acted, act, actOn, finish, opened, step}
 use Rattle.model.specs.History.{InUse, NoSlotRight, NoSlotTrue, Waits, final, here, holds, holdsSlot, later, ledger, run, waits}
-use Rattle.model.specs.Refusals.{among, openRefusal, stepRefusal}
+use Rattle.model.specs.Refusals.{among, stepRefusal}
 use Rattle.model.specs.Report.{entries}
 use Rattle.model.specs.Tables.{atPlace, Queue, Tables, recordAt}
 use Rattle.model.specs.declared.Answer.the-variants.{NoSlot}
@@ -20,11 +20,11 @@ use Rattle.model.specs.declared.Answer.{Answer}
 use Rattle.model.specs.declared.Entry.{Entry}
 use Rattle.model.specs.declared.Op.the-variants.{Step}
 use Rattle.model.specs.declared.Opening.the-variants as opening
-use Rattle.model.specs.declared.Outcome.the-variants.{Moved, Refused}
+use Rattle.model.specs.declared.Outcome.the-variants.{Moved}
 use Rattle.model.specs.declared.Record.{Record}
 use Rattle.model.proofs.tests.ByPlace.{by-place}
 use Rattle.model.proofs.tests.Rules.{_and_, passes}
-use Rattle.model.proofs.tests.Truth.{by-test, decide-eq, split}
+use Rattle.model.proofs.tests.Truth.{by-test, decide-eq}
 use Rattle.model.proofs.lists.In.{In}
 use Rattle.model.proofs.lists.Slots.{slots}
 use Rattle.model.proofs.machine.Clerk as B
@@ -40,6 +40,7 @@ use Rattle.model.proofs.ledger.Matched.{Matched}
 use Rattle.model.proofs.ledger.Opened.{nobody, open-good, some-slots}
 use Rattle.model.proofs.ledger.Waiting as waiting
 use Rattle.model.proofs.unsound.Suits.{kind-push}
+use Rattle.model.proofs.Openings.{after-opening}
 
 -- A slot of the clerk's deque waits.
 in-waits : (l : List Entry) (x : ℕ) → In x (slots l) → Waits x (entries l)
@@ -128,13 +129,7 @@ module _ (n : ℕ) (q : Queue) (l : _) (g : Matched n q l) (t : ℕ) where
       (λ z e. absurd (let w : _≡_ {A = ℕ} 0 1 = cc in omega arith))
 
 pub no-slot-right : NoSlotRight
-unfolding openAs
-no-slot-right q tasks slots tag e os = split (eqb (openRefusal true q tasks slots) 0)
-    (λ z. rw z (truly (eqb-true _ _ z)))
-    (λ z. absurd (let h : opening.Refused (openRefusal true q tasks slots) ≡ opening.Opened = rw z at e in let w : _≡_ {A = ℕ} 0 1 = cc in omega arith))
-  where
-    truly : openRefusal true q tasks slots ≡ 0 → NoSlotTrue (opened true q tasks slots tag) os
-    truly z t =
-        let o = opened true q tasks slots tag in
-        let g = run-good os 1 o nobody (open-good true q tasks slots tag (some-slots true q tasks slots z)) in
-        told-truly (g .0) (final o os) (ledger (run o os)) (g .1) t
+no-slot-right = after-opening true NoSlotTrue (λ q tasks slots tag e os t.
+    let o = opened true q tasks slots tag in
+    let g = run-good os 1 o nobody (open-good true q tasks slots tag (some-slots true q tasks slots e)) in
+    told-truly (g .0) (final o os) (ledger (run o os)) (g .1) t)

@@ -11,7 +11,6 @@ use Rattle.model.specs.History.{Ledger}
 use Rattle.model.specs.Places.{linkMet, move}
 use Rattle.model.specs.Progress.{Busy}
 use Rattle.model.specs.Refusals.{among, openRefusal, openRules, popRefusal, pushRefusal, putRefusal, recordsFit, stepRefusal}
-use Rattle.model.specs.Route.{counted}
 use Rattle.model.specs.Sound.{rowTests, rowsFit}
 use Rattle.model.specs.Tables.{Queue, Tables, isPooled, recordAt, taskAt}
 use Rattle.model.specs.declared.Op.the-variants.{Pop, Push, Put, Step}
