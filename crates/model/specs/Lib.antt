@@ -11,3 +11,4 @@ pub mod OneTouch
 pub mod Mirror
 pub mod Progress
 pub mod Retries
+pub mod Accounts
