@@ -17,6 +17,8 @@ pub mod Openings
 pub mod Linearizable
 pub mod NeverUnsound
 pub mod Standing
+pub mod Retries
+pub mod Accounts
 pub mod NoSlot
 pub mod StepBounds
 -- Laws of single calls, and the worked cases of the document.

@@ -4,6 +4,7 @@ pub mod Served
 pub mod Attended
 pub mod Matched
 pub mod Kept
+pub mod Balance
 pub mod Lawful
 pub mod Waiting
 pub mod Opened

@@ -11,3 +11,5 @@ pub mod History
 pub mod OneTouch
 pub mod Mirror
 pub mod Progress
+pub mod Retries
+pub mod Accounts

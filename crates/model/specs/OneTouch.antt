@@ -4,20 +4,12 @@ use lib.ListN.{set}
 use Rattle.model.specs.Tables.{Tables}
 use Rattle.model.specs.Places.{withHead, taken}
 
--- Tables q, and those that differ from q in one word at the most: Anchor, the retries, a link word, a word of marks, a next, the head.
+-- Tables q, and those that differ from q in one word at the most: Anchor, a link word, a word of marks, a next, the head.
 -- Where a slot is drawn (14) head, label and mark are set at once.
 pub data OneTouch (q : Tables) : Tables → Type 0 where
   untouched : OneTouch q q
   anchor : (w : ℕ) → OneTouch q (record {
-    control = record { tasks = q .control .tasks; slots = q .control .slots; anchor = w; retries = q .control .retries; pooled = q .control .pooled; head = q .control .head };
-    lefts = q .lefts;
-    rights = q .rights;
-    labels = q .labels;
-    marks = q .marks;
-    next = q .next;
-  })
-  retries : (n : ℕ) → OneTouch q (record {
-    control = record { tasks = q .control .tasks; slots = q .control .slots; anchor = q .control .anchor; retries = n; pooled = q .control .pooled; head = q .control .head };
+    control = record { tasks = q .control .tasks; slots = q .control .slots; anchor = w; pooled = q .control .pooled; head = q .control .head };
     lefts = q .lefts;
     rights = q .rights;
     labels = q .labels;

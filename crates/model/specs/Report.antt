@@ -35,7 +35,6 @@ told q = record {
   busy = busy q;
   waiting = waiting (q .tables);
   taken = takenSlots (q .tables .control .slots) (q .tables .marks);
-  retries = q .tables .control .retries;
 }
 
 unfoldable pub report : Queue → Reported

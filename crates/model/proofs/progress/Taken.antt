@@ -6,14 +6,13 @@ use native.Mathlib.Omega.{arith}
 use lib.Dec.{eqb}
 use lib.ListN.{length}
 use borrow.Author.Tests.{eq-eqb, le-leb, leb-true, lt-ltb, ltb-true, ne-eqb, not-false}
-use Rattle.model.specs.Calls.{Acted, act, actOn, finish, openAs, opened, popStart, pushStart, putStart, step, withRetries}
+use Rattle.model.specs.Calls.{Acted, act, actOn, finish, openAs, opened, popStart, pushStart, putStart, step}
 use Rattle.model.specs.History.{Ledger}
 use Rattle.model.specs.Places.{linkMet, move}
 use Rattle.model.specs.Progress.{Busy}
 use Rattle.model.specs.Refusals.{among, openRefusal, openRules, popRefusal, pushRefusal, putRefusal, recordsFit, stepRefusal}
-use Rattle.model.specs.Route.{counted}
 use Rattle.model.specs.Sound.{rowTests, rowsFit}
-use Rattle.model.specs.Tables.{Queue, Tables, isPooled, recordAt}
+use Rattle.model.specs.Tables.{Queue, Tables, isPooled, recordAt, taskAt}
 use Rattle.model.specs.declared.Op.the-variants.{Pop, Push, Put, Step}
 use Rattle.model.specs.declared.Op.{Op}
 use Rattle.model.specs.declared.Record.{Record}
@@ -39,14 +38,14 @@ pub record Roomy (tasks : ℕ) (q : Queue) : Type 0 where
 abbrev SameSize : Tables → Acted → Type 0
 SameSize g a = (a .tables .control .tasks ≡ g .control .tasks) × (a .tables .control .slots ≡ g .control .slots) × (a .tables .control .pooled ≡ g .control .pooled)
 
-same-size : (q : Queue) (t : ℕ) (o : Op) → SameSize (q .tables) (actOn (q .tables) (among q t) (recordAt q t) o)
+pub same-size : (q : Queue) (t : ℕ) (o : Op) → SameSize (q .tables) (actOn (q .tables) (among q t) (taskAt q t) o)
 unfolding actOn pushStart putStart popStart step finish
 same-size q t (Push side x y) = by-test (SameSize (q .tables)) (eqb (pushRefusal (q .tables) (among q t) (recordAt q t) side x) 0) (λ _. (refl, refl, refl)) (λ _. (refl, refl, refl))
 same-size q t (Pop side) = by-test (SameSize (q .tables)) (eqb (popRefusal (q .tables) (among q t) (recordAt q t) side) 0) (λ _. (refl, refl, refl)) (λ _. (refl, refl, refl))
 same-size q t (Put side y) = by-test (SameSize (q .tables)) (eqb (putRefusal (q .tables) (among q t) (recordAt q t) side) 0) (λ _. (refl, refl, refl)) (λ _. (refl, refl, refl))
 same-size q t Step =
     let m = move (q .tables .control) (recordAt q t) (linkMet (q .tables) (recordAt q t)) in
-    let g = withRetries (q .tables) (counted (q .tables .control .retries) (m .failed)) in
+    let g = q .tables in
     by-test (SameSize (q .tables)) (eqb (stepRefusal (q .tables) (among q t) (recordAt q t)) 0) (λ _. (touched-tasks (m .touch) g, touched-slots (m .touch) g, touched-pooled (m .touch) g)) (λ _. (refl, refl, refl))
 
 pub act-roomy : (n : ℕ) (q : Queue) (t : ℕ) (o : Op) → Roomy n q → Roomy n (act q t o .queue)
