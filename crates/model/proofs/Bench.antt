@@ -1,5 +1,6 @@
 -- The bench cases that document 01 marks with a star, as one table. Each line holds by computing the meanings.
 use mathlib.Core.Path.{_≡_, refl}
+use mathlib.Core.Bool.{true}
 use mathlib.Core.List.{List, [], _∷_, map}
 use Prim.Native.Nat.{ℕ}
 use lib.ListN.{getD, replicate}
@@ -7,6 +8,7 @@ use Rattle.word.specs.Anchor.{packAnchor}
 use Rattle.model.specs.declared.Answer.the-variants.{Running, Pushed, Empty, Popped}
 use Rattle.model.specs.declared.Outcome.{Outcome}
 use Rattle.model.specs.declared.Outcome.the-variants.{Refused, Moved}
+use Rattle.model.specs.declared.Opening.the-variants.{Opened}
 use Rattle.model.specs.declared.Op.the-variants.{Push, Pop, Step}
 use Rattle.model.specs.Tables.{Queue, unused}
 use Rattle.model.specs.Sound.{anchorSound, linkSound, controlSound, recordSound, rowsFit}
@@ -65,11 +67,17 @@ one = final (fresh 0) pushFirst
 abbrev two : Queue
 two = final one pushSecond
 
+-- From the last tag that a start is accepted at: slot 1 pushed, task 1 busy, and the tag one too high.
+abbrev worn : Queue
+worn = final (fresh 4294967262) (push 0 1 1 700 ∷ pop 1 1 ∷ steps (replicate 2 0))
+
 pub record Table : Type 0 where
   -- tag 1, STABLE, 1, 1 packs to 0x0000000100008001
   pub packs-stable : packAnchor (record { tag = 1; status = 0; left = 1; right = 1 }) ≡ 0x0000000100008001
   -- tag 2, RPUSH, 1, 2 packs to 0x0000000240008002
   pub packs-pushing : packAnchor (record { tag = 2; status = 1; left = 1; right = 2 }) ≡ 0x0000000240008002
+  -- 2 tasks and 3 slots open
+  pub opens : openQueue zeros 2 3 0 .outcome ≡ Opened
   -- pop on empty: 1 step
   pub pop-on-empty : outcomes (fresh 0) (pop 0 1 ∷ steps (0 ∷ [])) ≡ at 1 ∷ Moved Empty ∷ []
   -- push on empty: 2 steps
@@ -93,12 +101,18 @@ pub record Table : Type 0 where
   pub push-past-it : outcomes (fresh 4294967263) (push 0 1 1 700 ∷ []) ≡ Refused 33 ∷ []
   pub pop-at-last-tag : outcomes (fresh 4294967262) (pop 0 1 ∷ []) ≡ at 1 ∷ []
   pub pop-past-it : outcomes (fresh 4294967263) (pop 0 1 ∷ []) ≡ Refused 33 ∷ []
+  -- the order of 30, 32 and 33: all three apply, then the last two, then the last
+  pub start-order : outcomes worn (push 1 1 1 5 ∷ push 0 1 1 5 ∷ push 0 1 2 5 ∷ []) ≡ Refused 30 ∷ Refused 32 ∷ Refused 33 ∷ []
+  -- retries stay at 4,294,967,295 once there
+  pub ceiling-reached : counted 4294967294 true ≡ 4294967295
+  pub ceiling-kept : counted 4294967295 true ≡ 4294967295
 
 pub bench : Table
 unfolding openAs opened openRefusal run final act actOn pushStart popStart step finish pushRefusal popRefusal stepRefusal stepSound move at1 at2 at3 new4 at4 at5 at6 at7 at9 at10 at11 reading sideOf row linkSide anchorSound linkSound controlSound recordSound rowsFit pushRoute popRoute route onward answer goes counted along contents
 bench = record {
   packs-stable = refl;
   packs-pushing = refl;
+  opens = refl;
   pop-on-empty = refl;
   push-on-empty = refl;
   second-push = refl;
@@ -112,4 +126,7 @@ bench = record {
   push-past-it = refl;
   pop-at-last-tag = refl;
   pop-past-it = refl;
+  start-order = refl;
+  ceiling-reached = refl;
+  ceiling-kept = refl;
 }

@@ -21,6 +21,7 @@ pub mod Retries
 pub mod Accounts
 pub mod NoSlot
 pub mod StepBounds
+pub mod LinksBack
 -- Laws of single calls, and the worked cases of the document.
 pub mod laws
 pub mod Bench

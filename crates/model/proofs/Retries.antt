@@ -24,7 +24,7 @@ use Rattle.model.proofs.machine.Machine.{upd}
 use Rattle.model.proofs.tags.Sum.{total, total-one, total-upd}
 use Rattle.model.proofs.bridge.Accepted.{Lies, step-accepted}
 use Rattle.model.proofs.ledger.Opened.{zeroed-at}
-use Rattle.model.proofs.progress.Taken.{same-size}
+use Rattle.model.proofs.laws.Sizes.{act-tasks}
 use Rattle.model.proofs.Openings.{after-opening}
 
 -- The count of a task.
@@ -80,10 +80,6 @@ module _ (q : Queue) (t : ℕ) (o : Op) where
   abbrev q′ : Queue
   q′ = act q t o .queue
 
-  same-tasks : q′ .tables .control .tasks ≡ q .tables .control .tasks
-  unfolding act
-  same-tasks = same-size q t o .0
-
   abbrev new : TaskRecord
   new = actOn (q .tables) (among q t) (taskAt q t) o .task
 
@@ -91,7 +87,7 @@ module _ (q : Queue) (t : ℕ) (o : Op) where
   unfolding act sum counted
   kept e =
       let c : new .retries ≡ own q t = count-of q t o ∙ rw e in
-      ap (λ (f : ℕ → ℕ). total f (q′ .tables .control .tasks)) (fun-ext (same-column (q .records) t new c)) ∙ ap (total (own q)) same-tasks
+      ap (λ (f : ℕ → ℕ). total f (q′ .tables .control .tasks)) (fun-ext (same-column (q .records) t new c)) ∙ ap (total (own q)) (act-tasks q t o)
 
   raised : fails q t o ≡ true → sum q < 4294967295 → sum q′ ≡ suc (sum q)
   unfolding act sum counted
@@ -101,7 +97,7 @@ module _ (q : Queue) (t : ℕ) (o : Op) where
       let c : new .retries ≡ own q t + 1 = count-of q t o ∙ rw (e, lt-ltb (own q t) 4294967295 (omega arith)) in
       let w : sum q′ ≡ total (upd (own q) t (new .retries)) (q .tables .control .tasks) =
       ap (λ (f : ℕ → ℕ). total f (q′ .tables .control .tasks)) (other-column (q .records) t new (omega (arith, z .length, z .known)))
-      ∙ ap (total (upd (own q) t (new .retries))) same-tasks in
+      ∙ ap (total (upd (own q) t (new .retries))) (act-tasks q t o) in
       omega (arith, w, c, total-upd (own q) t (new .retries) (q .tables .control .tasks) (z .known))
 
 -- The old count never falls.

@@ -3,3 +3,4 @@ pub mod Sides
 pub mod Ends
 pub mod Changes
 pub mod Links
+pub mod Joints

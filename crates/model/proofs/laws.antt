@@ -4,6 +4,7 @@ pub mod Refusals
 pub mod Lengths
 pub mod Sizes
 pub mod LentRecord
+pub mod LentSteps
 pub mod OneTouch
 pub mod Onward
 pub mod Mirror

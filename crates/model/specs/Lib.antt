@@ -13,3 +13,5 @@ pub mod Mirror
 pub mod Progress
 pub mod Retries
 pub mod Accounts
+pub mod Neighbours
+pub mod LentSteps

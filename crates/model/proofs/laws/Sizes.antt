@@ -1,5 +1,5 @@
 -- A start or step keeps the numbers of tasks and slots; so tables that were long enough stay so.
-use mathlib.Core.Path.{_≡_, refl}
+use mathlib.Core.Path.{_≡_, ap, refl}
 use mathlib.Core.Bool.{Bool, _&&_, _||_, cond, false, not, true}
 use mathlib.Core.List.{List, [], _∷_}
 use Prim.Native.Nat.{ℕ, _+_, _/_}
@@ -19,12 +19,12 @@ use Rattle.model.proofs.laws.Tests.{either}
 use Rattle.model.proofs.laws.Lengths.{Lengths, act-lengths, lengths}
 use Rattle.model.proofs.lists.Range.{length-climb}
 
-record Sizes : Type 0 where
-  tasks : ℕ
-  slots : ℕ
-  pooled : ℕ
+pub record Sizes : Type 0 where
+  pub tasks : ℕ
+  pub slots : ℕ
+  pub pooled : ℕ
 
-abbrev sizes : Tables → Sizes
+abbrev pub sizes : Tables → Sizes
 sizes q = record { tasks = q .control .tasks; slots = q .control .slots; pooled = q .control .pooled }
 
 touched : (x : Touch) (q : Tables) → sizes (apply x q) ≡ sizes q
@@ -46,6 +46,19 @@ act-on q p r (Pop side) = settled (popRefusal q p (r .call) side) q r _ refl
 act-on q p r (Put side label) = settled (putRefusal q p (r .call) side) q r _ refl
 act-on q p r Step = settled (stepRefusal q p (r .call)) q r _ (touched (move (q .control) (r .call) (linkMet q (r .call)) .touch) _)
 
+pub act-sizes : (q : Queue) (t : ℕ) (o : Op) → sizes (act q t o .queue .tables) ≡ sizes (q .tables)
+unfolding act
+act-sizes q t o = act-on (q .tables) (among q t) (taskAt q t) o
+
+pub act-tasks : (q : Queue) (t : ℕ) (o : Op) → act q t o .queue .tables .control .tasks ≡ q .tables .control .tasks
+act-tasks q t o = ap (λ (s : Sizes). s .tasks) (act-sizes q t o)
+
+pub act-slots : (q : Queue) (t : ℕ) (o : Op) → act q t o .queue .tables .control .slots ≡ q .tables .control .slots
+act-slots q t o = ap (λ (s : Sizes). s .slots) (act-sizes q t o)
+
+pub act-pooled : (q : Queue) (t : ℕ) (o : Op) → act q t o .queue .tables .control .pooled ≡ q .tables .control .pooled
+act-pooled q t o = ap (λ (s : Sizes). s .pooled) (act-sizes q t o)
+
 -- Every table is long enough: what 12 asks.
 abbrev pub fits : Queue → Bool
 fits q = rowsFit (isPooled (q .tables .control)) (q .tables .control .slots) (q .tables) && recordsFit (q .tables .control .tasks) q
@@ -60,7 +73,7 @@ pub act-fits : (q : Queue) (t : ℕ) (o : Op) → fits (act q t o .queue) ≡ fi
 unfolding act rowsFit
 act-fits q t o =
     let n = act-lengths q t o in
-    λ i. fitting (act-on (q .tables) (among q t) (taskAt q t) o i) (n .tables i) (n .records i)
+    λ i. fitting (act-sizes q t o i) (n .tables i) (n .records i)
 
 -- An opening leaves rows and records as it zeroed them, or more.
 row-left : (n : ℕ) (l : List ℕ) → ltb n (length (zeroed (n + 1) 0 l)) ≡ true

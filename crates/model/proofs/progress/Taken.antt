@@ -6,22 +6,20 @@ use native.Mathlib.Omega.{arith}
 use lib.Dec.{eqb}
 use lib.ListN.{length}
 use borrow.Author.Tests.{eq-eqb, le-leb, leb-true, lt-ltb, ltb-true, ne-eqb, not-false}
-use Rattle.model.specs.Calls.{Acted, act, actOn, finish, openAs, opened, popStart, pushStart, putStart, step}
+use Rattle.model.specs.Calls.{act, openAs, opened, step}
 use Rattle.model.specs.History.{Ledger}
-use Rattle.model.specs.Places.{linkMet, move}
 use Rattle.model.specs.Progress.{Busy}
-use Rattle.model.specs.Refusals.{among, openRefusal, openRules, popRefusal, pushRefusal, putRefusal, recordsFit, stepRefusal}
+use Rattle.model.specs.Refusals.{among, openRefusal, openRules, recordsFit, stepRefusal}
 use Rattle.model.specs.Sound.{rowTests, rowsFit}
-use Rattle.model.specs.Tables.{Queue, Tables, isPooled, recordAt, taskAt}
-use Rattle.model.specs.declared.Op.the-variants.{Pop, Push, Put, Step}
+use Rattle.model.specs.Tables.{Queue, Tables, isPooled, recordAt}
 use Rattle.model.specs.declared.Op.{Op}
 use Rattle.model.specs.declared.Record.{Record}
 use Rattle.model.proofs.tests.Rules.{_and_, cleared, passes, tests}
-use Rattle.model.proofs.tests.Truth.{and-of, and-true, by-test, not-both, or-first}
+use Rattle.model.proofs.tests.Truth.{and-of, and-true, not-both, or-first}
+use Rattle.model.proofs.laws.Sizes.{act-pooled, act-slots, act-tasks}
 use Rattle.model.proofs.laws.Lengths.{Lengths, SameLengths, act-lengths, open-lengths}
 use Rattle.model.proofs.bridge.Accepted.{Lies}
 use Rattle.model.proofs.bridge.Facts.{RowsFine, from1-true}
-use Rattle.model.proofs.bridge.Stores.{touched-pooled, touched-slots, touched-tasks}
 use Rattle.model.proofs.ledger.Matched.{Matched}
 use Rattle.model.proofs.unsound.Safe.{Safe}
 use Rattle.model.proofs.unsound.StepSound.{own-sound, step-sound}
@@ -34,35 +32,19 @@ pub record Roomy (tasks : ℕ) (q : Queue) : Type 0 where
   pub rows : RowsFine (q .tables)
   pub records : tasks ≤ length (q .records)
 
--- No operation changes their number.
-abbrev SameSize : Tables → Acted → Type 0
-SameSize g a = (a .tables .control .tasks ≡ g .control .tasks) × (a .tables .control .slots ≡ g .control .slots) × (a .tables .control .pooled ≡ g .control .pooled)
-
-pub same-size : (q : Queue) (t : ℕ) (o : Op) → SameSize (q .tables) (actOn (q .tables) (among q t) (taskAt q t) o)
-unfolding actOn pushStart putStart popStart step finish
-same-size q t (Push side x y) = by-test (SameSize (q .tables)) (eqb (pushRefusal (q .tables) (among q t) (recordAt q t) side x) 0) (λ _. (refl, refl, refl)) (λ _. (refl, refl, refl))
-same-size q t (Pop side) = by-test (SameSize (q .tables)) (eqb (popRefusal (q .tables) (among q t) (recordAt q t) side) 0) (λ _. (refl, refl, refl)) (λ _. (refl, refl, refl))
-same-size q t (Put side y) = by-test (SameSize (q .tables)) (eqb (putRefusal (q .tables) (among q t) (recordAt q t) side) 0) (λ _. (refl, refl, refl)) (λ _. (refl, refl, refl))
-same-size q t Step =
-    let m = move (q .tables .control) (recordAt q t) (linkMet (q .tables) (recordAt q t)) in
-    let g = q .tables in
-    by-test (SameSize (q .tables)) (eqb (stepRefusal (q .tables) (among q t) (recordAt q t)) 0) (λ _. (touched-tasks (m .touch) g, touched-slots (m .touch) g, touched-pooled (m .touch) g)) (λ _. (refl, refl, refl))
-
 pub act-roomy : (n : ℕ) (q : Queue) (t : ℕ) (o : Op) → Roomy n q → Roomy n (act q t o .queue)
-unfolding act
 act-roomy n q t o y =
-    let z = same-size q t o in
     let l = act-lengths q t o in
     record {
       some = y .some;
-      named = ap (λ (v : ℕ). eqb v 1) (z .2) ∙ y .named;
-      tasks-are = z .0 ∙ y .tasks-are;
+      named = ap (λ (v : ℕ). eqb v 1) (act-pooled q t o) ∙ y .named;
+      tasks-are = act-tasks q t o ∙ y .tasks-are;
       rows = record {
-        lefts = omega (arith, z .1, y .rows .lefts, ap (λ (x : Lengths). x .lefts) (l .tables));
-        rights = omega (arith, z .1, y .rows .rights, ap (λ (x : Lengths). x .rights) (l .tables));
-        labels = omega (arith, z .1, y .rows .labels, ap (λ (x : Lengths). x .labels) (l .tables));
-        marks = omega (arith, z .1, y .rows .marks, ap (λ (x : Lengths). x .marks) (l .tables));
-        next = λ p. absurd (not-both p (ap (λ (v : ℕ). eqb v 1) (z .2) ∙ y .named));
+        lefts = omega (arith, act-slots q t o, y .rows .lefts, ap (λ (x : Lengths). x .lefts) (l .tables));
+        rights = omega (arith, act-slots q t o, y .rows .rights, ap (λ (x : Lengths). x .rights) (l .tables));
+        labels = omega (arith, act-slots q t o, y .rows .labels, ap (λ (x : Lengths). x .labels) (l .tables));
+        marks = omega (arith, act-slots q t o, y .rows .marks, ap (λ (x : Lengths). x .marks) (l .tables));
+        next = λ p. absurd (not-both p (ap (λ (v : ℕ). eqb v 1) (act-pooled q t o) ∙ y .named));
       };
       records = omega (arith, y .records, l .records);
     }
