@@ -1,3 +1,5 @@
 pub mod Lists
+pub mod Parts
 pub mod Cut
 pub mod CutCalls
+pub mod Copied
