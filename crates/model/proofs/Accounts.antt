@@ -143,7 +143,7 @@ module _ (n : ℕ) (q : Queue) (l : Ledger) (g : Matched n q l) where
       rest : (t : ℕ) → opens t cs ≤ opens t (l .calls)
       rest t = by-test (λ k. k ≤ opens t (l .calls) → opens t cs ≤ opens t (l .calls)) (eqb (c .task) t && isOpen (c .ending)) (λ z k. omega arith) (λ z k. k) (h t)
 
-accounted : (w : ℕ → ℕ) (pooled : Bool) → AfterOpeningAs pooled (Accounted w)
+pub accounted : (w : ℕ → ℕ) (pooled : Bool) → AfterOpeningAs pooled (Accounted w)
 unfolding stateOf sumOf
 accounted w pooled = after-opening pooled (Accounted w) (λ q tasks slots tag e os.
     let o = opened pooled q tasks slots tag in

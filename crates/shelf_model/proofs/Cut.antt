@@ -2,20 +2,17 @@
 use mathlib.Core.Bool.{Bool, true, false, _&&_, _||_, cond, not}
 use mathlib.Core.List.{List, [], _∷_}
 use mathlib.Core.Logic.{_≢_}
-use mathlib.Core.Path.{_≡_, _∙_, ap, ap₂, refl, subst, sym}
-use Prim.Native.Nat.{ℕ, zero, suc, _<_, _≤_, _/_, _%_}
+use mathlib.Core.Path.{_≡_, _∙_, ap, refl}
+use Prim.Native.Nat.{ℕ, suc, _≤_, _/_, _%_}
 use native.Mathlib.Omega.{arith}
-use lib.Dec.{eqb, leb, ltb}
+use lib.Dec.{eqb, ltb}
 use lib.ListN.{getD, length, set, take}
-use borrow.Author.Tests.{eqb-false, eqb-true, le-leb, leb-true, lt-ltb, ltb-true, not-false}
-use Rattle.word.specs.Anchor.{anchorOf}
-use Rattle.word.specs.Link.{linkOf}
-use Rattle.model.specs.declared.Control.{Control}
+use borrow.Author.Tests.{eqb-false, eqb-true, not-false}
 use Rattle.model.specs.declared.Record.{Record}
 use Rattle.model.specs.declared.TaskRecord.{TaskRecord}
-use Rattle.model.specs.Tables.{Tables, Queue, bit, isPooled, links, marked, near, putBit, recordAt, taskAt, unused, withMark}
-use Rattle.model.specs.Sound.{from1, recordSound, rowsFit}
-use Rattle.model.specs.Places.{Touch, nothing, setAnchor, setLink, clearMark, takeSlot, setNext, setHead, Move, apply, withHead, linkMet, linkSide, move, row, sideOf}
+use Rattle.model.specs.Tables.{Tables, bit, isPooled, links, marked, putBit, withMark}
+use Rattle.model.specs.Sound.{recordSound, rowsFit}
+use Rattle.model.specs.Places.{Touch, nothing, setAnchor, setLink, clearMark, takeSlot, setNext, setHead, Move, apply, withHead, linkMet, linkSide, move, row}
 use Rattle.model.specs.declared.Outcome.the-variants.{Moved, Refused}
 use Rattle.model.specs.Sound.{controlSound}
 use Rattle.model.specs.Route.{answer, onward, route}
@@ -26,7 +23,7 @@ use Rattle.model.proofs.bridge.Facts.{RecordFine, control-fine, record-fine}
 use Rattle.model.proofs.bridge.Stores.{TouchFine}
 use Rattle.model.proofs.bridge.Touches.{beyond, move-fine, row-fine}
 use Rattle.shelf_model.specs.Cut.{cut, cutTables}
-use Rattle.shelf_model.proofs.Lists.{enough-take, get-take, longer-take, same-test, set-take}
+use Rattle.shelf_model.proofs.Lists.{get-take, longer-take, set-take}
 
 -- Tables are long enough when cut just where they are.
 next-fits : (b : Bool) (n : ℕ) (l : List ℕ) → not b || ltb n (length (cond b (take (suc n) l) [])) ≡ not b || ltb n (length l)

@@ -1,24 +1,22 @@
 -- Starts, whole operations, lists of them and the walk: the queue cut to its lengths does as the queue.
 use mathlib.Core.Bool.{Bool, true, false, _&&_, cond, not}
 use mathlib.Core.List.{List, [], _∷_}
-use mathlib.Core.Path.{_≡_, _∙_, ap, ap₂, refl, subst, sym}
-use Prim.Native.Nat.{ℕ, zero, suc, _<_, _≤_}
+use mathlib.Core.Path.{_≡_, _∙_, ap, ap₂, refl, sym}
+use Prim.Native.Nat.{ℕ, zero, suc, _≤_}
 use native.Mathlib.Omega.{arith}
 use lib.Dec.{eqb, leb, ltb}
 use lib.ListN.{getD, set, take}
 use lib.Seq.{set-getD}
-use borrow.Author.Tests.{eqb-true, ltb-true, not-false}
+use borrow.Author.Tests.{ltb-true, not-false}
 use Rattle.word.specs.Anchor.{anchorOf}
 use Rattle.word.specs.Link.{linkOf}
-use Rattle.model.specs.declared.Entry.{Entry}
 use Rattle.model.specs.declared.Answer.the-variants.{Running}
 use Rattle.model.specs.declared.Op.{Op}
 use Rattle.model.specs.declared.Op.the-variants.{Push, Pop, Put, Step}
-use Rattle.model.specs.declared.Outcome.{Outcome}
 use Rattle.model.specs.declared.Outcome.the-variants.{Moved, Refused}
 use Rattle.model.specs.declared.Record.{Record}
 use Rattle.model.specs.declared.TaskRecord.{TaskRecord}
-use Rattle.model.specs.Tables.{Queue, Tables, asking, far, isEmpty, isPooled, links, marked, near, opposite, recordAt, started, taskAt, unused, withCall}
+use Rattle.model.specs.Tables.{Queue, Tables, asking, far, isEmpty, isPooled, links, near, opposite, started, taskAt, unused, withCall}
 use Rattle.model.specs.Sound.{controlSound, from1, linkSound, recordSound, rowsFit}
 use Rattle.model.specs.Places.{taken}
 use Rattle.model.specs.Refusals.{Lent, among, first, isBusy, late, popRefusal, pushRefusal, pushRules, putRefusal, rule, stepRefusal}
@@ -26,7 +24,7 @@ use Rattle.model.specs.Calls.{Acted, Done, act, actOn, back, decide, popStart, 
 use Rattle.model.specs.Walk.{Walk, along, andThen, broken, contents, entries, walkFrom, whence}
 use Rattle.model.specs.History.{Event, Request, final, run}
 use Rattle.model.proofs.tests.Rules.{cleared}
-use Rattle.model.proofs.tests.Truth.{by-test, split}
+use Rattle.model.proofs.tests.Truth.{split}
 use Rattle.model.proofs.bridge.Facts.{from1-true}
 use Rattle.model.proofs.laws.Sizes.{act-tasks}
 use Rattle.shelf_model.specs.Cut.{cut, cutTables}

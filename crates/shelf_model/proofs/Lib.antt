@@ -3,3 +3,5 @@ pub mod Parts
 pub mod Cut
 pub mod CutCalls
 pub mod Copied
+pub mod Changeovers
+pub mod Promises

@@ -1,14 +1,14 @@
 -- Eight parts of a flat table: one replaced, the others as they were.
 use mathlib.Core.List.{List, [], _∷_, _++_, append-assoc}
 use mathlib.Core.Logic.{_≢_, _⊎_, inl, inr}
-use mathlib.Core.Path.{_≡_, _∙_, ap, refl, subst, sym}
+use mathlib.Core.Path.{_≡_, _∙_, ap, refl, sym}
 use Prim.Native.Nat.{ℕ, zero, suc, _+_, _*_, _/_, _-_, _<_, _≤_}
 use native.Mathlib.Nat.{mul-le-mul-right, suc-mul}
 use native.Mathlib.Decide.{decLt}
 use native.Mathlib.Omega.{arith}
 use lib.Arith.{lt-of-le-ne}
-use lib.ListN.{drop, length, length-append, length-drop, length-take, take}
-use lib.Seq.{drop-append-add, drop-append-le, drop-at, drop-drop, drop-nil, length-take-le, take-append-le, take-at, take-nil, take-take}
+use lib.ListN.{drop, length, length-append, length-drop, take}
+use lib.Seq.{drop-append-add, drop-append-le, drop-at, drop-drop, length-take-le, take-append-le, take-at, take-nil, take-take}
 use Rattle.shelf_model.specs.Shelves.{over, part, share, withPart}
 
 module _ {A : Type 0} where
@@ -53,11 +53,11 @@ module _ {A : Type 0} (l p : List A) (a s : ℕ) (long : length p ≡ s) (room :
   put-behind b h =
       let c : length (take a l ++ p) + (b - (a + s)) ≡ b = let d = length-append (take a l) p in omega (arith, front, long) in
       ap (λ (m : List A). take s m) (
-        ap (λ (m : List A). drop b m) (sym (append-assoc (take a l) p (drop (a + s) l)))
-        ∙ ap (λ (n : ℕ). drop n ((take a l ++ p) ++ drop (a + s) l)) (sym c)
-        ∙ drop-append-add (take a l ++ p) (drop (a + s) l) (b - (a + s))
-        ∙ drop-drop (b - (a + s)) (a + s) l
-        ∙ ap (λ (n : ℕ). drop n l) (let z : a + s + (b - (a + s)) ≡ b = omega arith in z)
+      ap (λ (m : List A). drop b m) (sym (append-assoc (take a l) p (drop (a + s) l)))
+      ∙ ap (λ (n : ℕ). drop n ((take a l ++ p) ++ drop (a + s) l)) (sym c)
+      ∙ drop-append-add (take a l ++ p) (drop (a + s) l) (b - (a + s))
+      ∙ drop-drop (b - (a + s)) (a + s) l
+      ∙ ap (λ (n : ℕ). drop n l) (let z : a + s + (b - (a + s)) ≡ b = omega arith in z)
       )
 
 apart : (m n : ℕ) → m ≢ n → (m < n) ⊎ (n < m)

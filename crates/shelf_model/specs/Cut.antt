@@ -1,7 +1,7 @@
 -- A queue cut to its lengths. (Document 02, #109: entries beyond the length keep their values; what they hold matters to no call.)
 use mathlib.Core.Bool.{cond}
-use mathlib.Core.List.{List, []}
-use Prim.Native.Nat.{ℕ, suc, _/_}
+use mathlib.Core.List.{[]}
+use Prim.Native.Nat.{suc, _/_}
 use lib.ListN.{take}
 use Rattle.model.specs.Tables.{Tables, Queue, isPooled}
 
