@@ -32,6 +32,13 @@ impl World {
         World { storage, judge: Judge::default(), wishes }
     }
 
+    fn pooled(slots: u64, wishes: Vec<Vec<Wish>>) -> World {
+        let tasks = wishes.len() as u64;
+        let mut storage = Storage::fitting(tasks, slots);
+        storage.lend().open_pooled(tasks, slots, 0).expect("opens");
+        World { storage, judge: Judge::default(), wishes }
+    }
+
     /// The world after the task's next event, or nothing if it has none.
     fn after(&self, task: u8) -> Option<World> {
         let mut world = self.clone();
@@ -58,10 +65,14 @@ impl World {
                 tables.pop(task.into(), side.into()).expect("an idle task starts");
                 Call::Pop { side }
             }
+            Wish::Push(side) if tables.shared.is_pooled() => {
+                tables.push_pooled(task.into(), side.into(), task.into()).expect("starts");
+                Call::Push { side, slot: None, label: task.into() }
+            }
             Wish::Push(side) => {
                 let slot = (1..=SLOTS).find(|&slot| !tables.shared.is_marked(slot))?;
                 tables.push(task.into(), side.into(), slot, task.into()).expect("a free slot");
-                Call::Push { side, slot: slot as u16, label: task.into() }
+                Call::Push { side, slot: Some(slot as u16), label: task.into() }
             }
         })
     }
@@ -118,4 +129,32 @@ fn three_tasks_with_a_call_each() {
     let worlds: usize =
         crews.iter().map(|crew| explore(one_waiting(crew.map(|wish| vec![wish]).to_vec()))).sum();
     assert!(worlds > 190_000, "only {worlds} worlds");
+}
+
+#[test]
+fn two_tasks_share_a_pool() {
+    let mut worlds = 0;
+    for slots in [1, 2] {
+        for first in WISHES {
+            for second in WISHES {
+                let wishes = vec![vec![Wish::Pop(0), first], vec![Wish::Push(1), second]];
+                worlds += explore(World::pooled(slots, wishes.clone()));
+                let longer =
+                    wishes.into_iter().map(|wishes| [wishes, vec![Wish::Push(0)]].concat());
+                worlds += explore(World::pooled(slots, longer.collect()));
+            }
+        }
+    }
+    assert!(worlds > 100_000, "only {worlds} worlds");
+}
+
+#[test]
+fn three_tasks_share_a_pool() {
+    let (left, right) = (0, 1);
+    let crews = [
+        [vec![Wish::Push(right)], vec![Wish::Push(left)], vec![Wish::Pop(left), Wish::Push(right)]],
+        [vec![Wish::Push(right)], vec![Wish::Pop(left)], vec![Wish::Pop(right), Wish::Push(left)]],
+    ];
+    let worlds: usize = crews.map(|crew| explore(World::pooled(2, crew.to_vec()))).iter().sum();
+    assert!(worlds > 100_000, "only {worlds} worlds");
 }
