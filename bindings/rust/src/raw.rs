@@ -28,6 +28,8 @@ pub const PUSHED: u32 = 2;
 pub const EMPTY: u32 = 3;
 /// Code of a reply: the pop is answered, value is the slot.
 pub const POPPED: u32 = 4;
+/// Code of a reply: a pooled push is answered, every slot was in use.
+pub const NO_FREE_SLOT: u32 = 5;
 
 /// What all tasks share besides rows and marks.
 #[repr(C)]
@@ -41,27 +43,31 @@ pub struct Control {
     pub anchor: u64,
     /// Changes that failed because another task was faster.
     pub retries: u64,
+    /// 1 if opened with the slots in a pool, else 0.
+    pub pooled: u64,
+    /// The free slot on top of the pool, laid out like a link word; slot 0: none.
+    pub head: u64,
 }
 
 /// Where a task stands in its call; all zero while it has none.
 #[repr(C)]
 #[derive(Clone, Copy, Debug, Default, PartialEq, Eq)]
 pub struct Record {
-    /// 0 idle, or the place of the next step, 1 to 11.
+    /// 0 idle, or the place of the next step, 1 to 11, in a pooled queue to 17.
     pub place: u64,
     /// 0 push, 1 pop.
     pub kind: u64,
     /// 0 left, 1 right.
     pub side: u64,
-    /// The slot of a push.
+    /// The slot of a push, or that a pop gives back.
     pub own: u64,
-    /// The label of a push.
+    /// Its label.
     pub label: u32,
     /// The Anchor word as read.
     pub seen: u64,
-    /// The neighbour slot as read.
+    /// The neighbour slot as read; at 14 the next of the slot on top of the pool.
     pub neighbour: u64,
-    /// The link word as read.
+    /// The link word as read; at 13 to 17 the pool's head.
     pub link: u64,
     /// 1 once a push has taken effect and still has a link to mend.
     pub finishing: u64,
@@ -71,7 +77,7 @@ pub struct Record {
 #[repr(C)]
 #[derive(Clone, Copy, Debug, Default, PartialEq, Eq)]
 pub struct Reply {
-    /// [`RUNNING`], [`PUSHED`], [`EMPTY`], [`POPPED`], or the number of a refusal.
+    /// [`RUNNING`], [`PUSHED`], [`EMPTY`], [`POPPED`], [`NO_FREE_SLOT`], or the number of a refusal.
     pub code: u32,
     /// Popped: the label.
     pub label: u32,
@@ -171,8 +177,28 @@ unsafe extern "C" {
         mark_count: usize,
     ) -> u32;
 
+    /// Opens an empty queue with all slots in a pool. Answers 0, or refuses: 10, 11, 12.
+    pub fn zc_open_pooled(
+        control: *mut Control,
+        records: *mut Record,
+        record_count: usize,
+        tasks: u64,
+        slots: u64,
+        tag: u32,
+        lefts: *mut u64,
+        left_count: usize,
+        rights: *mut u64,
+        right_count: usize,
+        labels: *mut u32,
+        label_count: usize,
+        marks: *mut u64,
+        mark_count: usize,
+        next: *mut u64,
+        next_count: usize,
+    ) -> u32;
+
     /// Starts a push for an idle task.
-    /// Refuses: 34 for control, 12, 13, 14, 15, 34 for the record, 30, 32, 33.
+    /// Refuses: 34 for control, 12, 13, 14, 41, 15, 34 for the record, 30, 32, 33.
     pub fn zc_push(
         control: *mut Control,
         records: *mut Record,
@@ -189,6 +215,29 @@ unsafe extern "C" {
         label_count: usize,
         marks: *mut u64,
         mark_count: usize,
+        next: *const u64,
+        next_count: usize,
+    ) -> Reply;
+
+    /// Starts a push for an idle task, with a slot from the pool.
+    /// Refuses: 34 for control, 12, 13, 14, 41, 34 for the record, 30, 33.
+    pub fn zc_push_pooled(
+        control: *mut Control,
+        records: *mut Record,
+        record_count: usize,
+        task: usize,
+        side: u64,
+        label: u32,
+        lefts: *const u64,
+        left_count: usize,
+        rights: *const u64,
+        right_count: usize,
+        labels: *const u32,
+        label_count: usize,
+        marks: *const u64,
+        mark_count: usize,
+        next: *const u64,
+        next_count: usize,
     ) -> Reply;
 
     /// Starts a pop for an idle task.
@@ -207,6 +256,8 @@ unsafe extern "C" {
         label_count: usize,
         marks: *const u64,
         mark_count: usize,
+        next: *const u64,
+        next_count: usize,
     ) -> Reply;
 
     /// Moves a busy task by one step.
@@ -220,10 +271,12 @@ unsafe extern "C" {
         left_count: usize,
         rights: *mut u64,
         right_count: usize,
-        labels: *const u32,
+        labels: *mut u32,
         label_count: usize,
         marks: *mut u64,
         mark_count: usize,
+        next: *mut u64,
+        next_count: usize,
     ) -> Reply;
 
     /// Steps a task until a step does not answer running, `most` times at the most.
@@ -238,10 +291,12 @@ unsafe extern "C" {
         left_count: usize,
         rights: *mut u64,
         right_count: usize,
-        labels: *const u32,
+        labels: *mut u32,
         label_count: usize,
         marks: *mut u64,
         mark_count: usize,
+        next: *mut u64,
+        next_count: usize,
     ) -> RunReply;
 
     /// Reports; of the records it looks at the places alone.
@@ -258,6 +313,8 @@ unsafe extern "C" {
         label_count: usize,
         marks: *const u64,
         mark_count: usize,
+        next: *const u64,
+        next_count: usize,
     ) -> ReportReply;
 
     /// Finds up to 32 labels in the queue; of equal ones the leftmost counts.
@@ -286,10 +343,12 @@ unsafe extern "C" {
         left_count: usize,
         rights: *mut u64,
         right_count: usize,
-        labels: *const u32,
+        labels: *mut u32,
         label_count: usize,
         marks: *mut u64,
         mark_count: usize,
+        next: *mut u64,
+        next_count: usize,
     ) -> Reply;
 
     /// Checks a history of finished calls, seven words each, against its claimed order of effects.
@@ -342,9 +401,10 @@ unsafe extern "C" {
 
 const _: () = {
     use core::mem::{align_of, offset_of, size_of};
-    assert!(size_of::<Control>() == 32 && align_of::<Control>() == 8);
+    assert!(size_of::<Control>() == 48 && align_of::<Control>() == 8);
     assert!(offset_of!(Control, tasks) == 0 && offset_of!(Control, slots) == 8);
     assert!(offset_of!(Control, anchor) == 16 && offset_of!(Control, retries) == 24);
+    assert!(offset_of!(Control, pooled) == 32 && offset_of!(Control, head) == 40);
     assert!(size_of::<Record>() == 72 && align_of::<Record>() == 8);
     assert!(offset_of!(Record, place) == 0 && offset_of!(Record, kind) == 8);
     assert!(offset_of!(Record, side) == 16 && offset_of!(Record, own) == 24);

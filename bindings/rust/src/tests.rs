@@ -41,6 +41,35 @@ fn documents_run() {
 }
 
 #[test]
+fn slots_from_a_pool() {
+    let mut queue = Queue::open_pooled(2, 1, 0).unwrap();
+    assert_eq!(queue.push_pooled(0, Side::Right, 700), Ok(Running(12)));
+    assert_eq!(finish(&mut queue, 0), (5, Pushed));
+    assert_eq!(queue.waiting(), [(1, 700)]);
+    assert_eq!(queue.push_pooled(0, Side::Left, 701), Ok(Running(12)));
+    assert_eq!(finish(&mut queue, 0), (1, NoFreeSlot));
+    assert_eq!(queue.pop(1, Side::Left), Ok(Running(1)));
+    assert_eq!(finish(&mut queue, 1), (6, Popped { slot: 1, label: 700 }));
+    assert_eq!(queue.control().head, 0x0000_0002_0000_0001);
+    assert_eq!(queue.push(0, Side::Left, 1, 0), Err(Refusal::WrongPush));
+    let mut named = Queue::open(1, 1, 0).unwrap();
+    assert_eq!(named.push_pooled(0, Side::Left, 0), Err(Refusal::WrongPush));
+}
+
+#[test]
+fn a_pool_renewed() {
+    let mut queue = Queue::open_pooled(2, 3, 0).unwrap();
+    for label in [10, 20, 30] {
+        queue.push_pooled(0, Side::Right, label).unwrap();
+        finish(&mut queue, 0);
+    }
+    queue.push_pooled(1, Side::Left, 40).unwrap();
+    assert_eq!(queue.renew(0), Ok([None, Some(NoFreeSlot)].to_vec()));
+    assert_eq!(queue.waiting(), [(1, 10), (2, 20), (3, 30)]);
+    assert_eq!(queue.control().pooled, 1);
+}
+
+#[test]
 fn two_labels() {
     let mut queue = Queue::open(1, 2, 0).unwrap();
     queue.push(0, Side::Right, 1, 10).unwrap();
@@ -161,6 +190,7 @@ fn report_tells_every_field() {
 fn lent_tables_and_a_lent_record() {
     let (mut control, mut records) = (Control::default(), [Record::default(); 1]);
     let (mut lefts, mut rights, mut labels, mut marks) = ([7; 3], [7; 3], [7; 3], [7; 1]);
+    let mut next = [7; 2];
     let mut tables = Tables {
         control: &mut control,
         records: &mut records,
@@ -168,9 +198,17 @@ fn lent_tables_and_a_lent_record() {
         rights: &mut rights,
         labels: &mut labels,
         marks: &mut marks,
+        next: &mut next,
     };
     assert_eq!(tables.open(1, 3, 0), Err(Refusal::Short));
     assert_eq!(tables.report(), Err(Refusal::Unsound));
+    assert_eq!(tables.open_pooled(1, 2, 0), Err(Refusal::Short));
+    assert_eq!(tables.open_pooled(1, 1, 0), Ok(()));
+    assert_eq!((tables.control.pooled, tables.control.head), (1, 1));
+    assert_eq!(tables.next, [0, 0]);
+    assert_eq!(tables.push_pooled(0, 2, 0), Err(Refusal::NoSide));
+    tables.next = &mut [];
+    assert_eq!(tables.report(), Err(Refusal::Short));
     assert_eq!(tables.open(1, 1, 0), Ok(()));
     assert_eq!(tables.push(0, 2, 1, 0), Err(Refusal::NoSide));
     assert_eq!(tables.pop(0, 0), Ok(Running(1)));
@@ -185,7 +223,7 @@ fn lent_tables_and_a_lent_record() {
 #[test]
 fn refusals_have_their_numbers() {
     let known: Vec<u64> = (0..100).filter(|&n| Refusal::numbered(n).is_some()).collect();
-    assert_eq!(known, [10, 11, 12, 13, 14, 15, 30, 31, 32, 33, 34, 40, 45, 46]);
+    assert_eq!(known, [10, 11, 12, 13, 14, 15, 30, 31, 32, 33, 34, 40, 41, 45, 46]);
     assert_eq!(Refusal::Worn.to_string(), "33: the Anchor tag is too high for another start");
 }
 
