@@ -8,6 +8,7 @@
 
 enum { TASKS = 3, SLOTS = 130 };
 ZC_QUEUE_STORAGE(queue, TASKS, SLOTS);
+ZC_NAMED_STORAGE(named, TASKS, SLOTS);
 
 static unsigned passed, failed;
 
@@ -30,6 +31,12 @@ static void storage(void)
     is("more tasks than there is storage for", zc_queue_open(&queue, TASKS + 1, SLOTS, 0), ZC_SHORT);
     is("more slots than there is storage for", zc_queue_open(&queue, TASKS, SLOTS + 1, 0), ZC_SHORT);
     is("opening", zc_queue_open(&queue, TASKS, SLOTS, 0), 0);
+    is("next rows lent", queue.next_count, 131);
+    is("opening with a pool", zc_queue_open_pooled(&queue, TASKS, SLOTS, 0), 0);
+    is("no next rows lent", named.next_count, 0);
+    is("opening without a next table", zc_queue_open(&named, TASKS, SLOTS, 0), 0);
+    is("a pool without a next table", zc_queue_open_pooled(&named, TASKS, SLOTS, 0), ZC_SHORT);
+    is("bytes saved", sizeof queue_tables - sizeof named_tables, 8 * 131);
 }
 
 static void free_slot(void)
@@ -114,6 +121,20 @@ static void refill(void)
     is("a busy task", zc_queue_refill(&queue, 0, labels, 1), ZC_BUSY);
 }
 
+/* The same in a pooled queue, where a push without a slot is answered, not refused. */
+static void pooled(void)
+{
+    static uint32_t labels[SLOTS + 1], found[SLOTS];
+    zc_reply answers[TASKS];
+    zc_queue_open_pooled(&queue, TASKS, SLOTS, 0);
+    is("more labels than the pool has slots", zc_queue_refill(&queue, 0, labels, SLOTS + 1), ZC_TAKEN);
+    zc_queue_push_pooled(&queue, 1, ZC_LEFT, 7);
+    zc_queue_pop(&queue, 2, ZC_LEFT);
+    is("labels of a full pool", zc_queue_drain(&queue, answers, found), SLOTS - 1);
+    is("no slot", answers[1].code, ZC_NO_FREE_SLOT);
+    is("a pop", answers[2].code, ZC_POPPED);
+}
+
 int main(void)
 {
     storage();
@@ -121,6 +142,7 @@ int main(void)
     finish();
     drain();
     refill();
+    pooled();
     printf("%u passed, %u failed\n", passed, failed);
     return failed != 0;
 }

@@ -15,6 +15,7 @@ mod plant;
 mod sheets;
 mod sound;
 mod tally;
+mod wild;
 mod world;
 
 use reference::dice::Dice;

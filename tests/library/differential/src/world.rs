@@ -42,6 +42,7 @@ pub struct World {
     pub rights: Lent<u64>,
     pub labels: Lent<u32>,
     pub marks: Lent<u64>,
+    pub next: Lent<u64>,
 }
 
 #[derive(Clone, Copy, Debug, PartialEq)]
@@ -51,10 +52,20 @@ pub enum Call {
         slots: u64,
         tag: u32,
     },
+    OpenPooled {
+        tasks: u64,
+        slots: u64,
+        tag: u32,
+    },
     Push {
         task: usize,
         side: u64,
         slot: u64,
+        label: u32,
+    },
+    PushPooled {
+        task: usize,
+        side: u64,
         label: u32,
     },
     Pop {
@@ -87,7 +98,9 @@ pub enum Call {
 #[derive(Clone, Copy, Debug, PartialEq, Eq, Hash, PartialOrd, Ord)]
 pub enum Export {
     Open,
+    OpenPooled,
     Push,
+    PushPooled,
     Pop,
     Step,
     Run,
@@ -100,7 +113,9 @@ impl Call {
     pub fn export(&self) -> Export {
         match self {
             Call::Open { .. } => Export::Open,
+            Call::OpenPooled { .. } => Export::OpenPooled,
             Call::Push { .. } => Export::Push,
+            Call::PushPooled { .. } => Export::PushPooled,
             Call::Pop { .. } => Export::Pop,
             Call::Step { .. } => Export::Step,
             Call::Run { .. } => Export::Run,
@@ -133,7 +148,7 @@ impl Told {
 
 /// The library's tables behind the given arguments.
 macro_rules! library {
-    ($world:ident . $name:ident($($argument:expr),*)) => {
+    ($world:ident . $name:ident($($argument:expr),*) $($next:ident)?) => {
         unsafe {
             raw::$name(
                 $($argument,)*
@@ -145,6 +160,7 @@ macro_rules! library {
                 $world.labels.count,
                 $world.marks.pointer(),
                 $world.marks.count,
+                $($world.$next.pointer(), $world.$next.count,)?
             )
         }
     };
@@ -159,25 +175,35 @@ pub fn by_library(world: &mut World, call: Call) -> Told {
             let code = library!(world.zc_open(control, records, count, tasks, slots, tag));
             return Told::Reply(code, 0, 0);
         }
-        Call::Push { task, side, slot, label } => {
-            library!(world.zc_push(control, records, count, task, side, slot, label))
+        Call::OpenPooled { tasks, slots, tag } => {
+            let code =
+                library!(world.zc_open_pooled(control, records, count, tasks, slots, tag) next);
+            return Told::Reply(code, 0, 0);
         }
-        Call::Pop { task, side } => library!(world.zc_pop(control, records, count, task, side)),
-        Call::Step { task } => library!(world.zc_step(control, records, count, task)),
+        Call::Push { task, side, slot, label } => {
+            library!(world.zc_push(control, records, count, task, side, slot, label) next)
+        }
+        Call::PushPooled { task, side, label } => {
+            library!(world.zc_push_pooled(control, records, count, task, side, label) next)
+        }
+        Call::Pop { task, side } => {
+            library!(world.zc_pop(control, records, count, task, side) next)
+        }
+        Call::Step { task } => library!(world.zc_step(control, records, count, task) next),
         Call::Run { task, most } => {
-            let told = library!(world.zc_run(control, records, count, task, most));
+            let told = library!(world.zc_run(control, records, count, task, most) next);
             return Told::Run(told.code, told.label, told.value, told.steps);
         }
         Call::StepRecord => {
             let one: *mut raw::Record = (&raw mut world.one).cast();
-            library!(world.zc_step_record(control, one))
+            library!(world.zc_step_record(control, one) next)
         }
         Call::StepRow { task } => {
             let one: *mut raw::Record = (&raw mut world.records.held[task]).cast();
-            library!(world.zc_step_record(control, one))
+            library!(world.zc_step_record(control, one) next)
         }
         Call::Report => {
-            let told = library!(world.zc_report(control, records, count));
+            let told = library!(world.zc_report(control, records, count) next);
             return Told::Report([
                 told.code,
                 told.tag,
@@ -215,8 +241,13 @@ fn refused(refusal: Refusal) -> Told {
     Told::Reply(u32::from(refusal.number()), 0, 0)
 }
 
-fn started(answer: Result<(), Refusal>) -> Told {
-    answer.map_or_else(refused, |()| Told::Reply(1, 0, 1))
+/// A start carried out is running at its first place.
+fn started(answer: Result<(), Refusal>, place: u64) -> Told {
+    answer.map_or_else(refused, |()| Told::Reply(1, 0, place))
+}
+
+fn opened(answer: Result<(), Refusal>) -> Told {
+    answer.map_or_else(refused, |()| Told::Reply(0, 0, 0))
 }
 
 fn moved(answer: Answer) -> Told {
@@ -225,6 +256,7 @@ fn moved(answer: Answer) -> Told {
         Ok(Moved::Pushed) => Told::Reply(2, 0, 0),
         Ok(Moved::Empty) => Told::Reply(3, 0, 0),
         Ok(Moved::Popped { slot, label }) => Told::Reply(4, label, slot),
+        Ok(Moved::NoSlot) => Told::Reply(5, 0, 0),
         Err(refusal) => refused(refusal),
     }
 }
@@ -236,6 +268,7 @@ pub fn by_reference(world: &mut World, call: Call) -> Told {
         rights: world.rights.slice(),
         labels: world.labels.slice(),
         marks: world.marks.slice(),
+        next: world.next.slice(),
     };
     if let Call::StepRecord | Call::StepRow { .. } = call {
         let mut shared = shared;
@@ -250,13 +283,15 @@ pub fn by_reference(world: &mut World, call: Call) -> Told {
     }
     let mut tables = Tables { shared, records: world.records.slice() };
     match call {
-        Call::Open { tasks, slots, tag } => {
-            tables.open(tasks, slots, tag).map_or_else(refused, |()| Told::Reply(0, 0, 0))
-        }
+        Call::Open { tasks, slots, tag } => opened(tables.open(tasks, slots, tag)),
+        Call::OpenPooled { tasks, slots, tag } => opened(tables.open_pooled(tasks, slots, tag)),
         Call::Push { task, side, slot, label } => {
-            started(tables.push(task as u64, side, slot, label))
+            started(tables.push(task as u64, side, slot, label), 1)
         }
-        Call::Pop { task, side } => started(tables.pop(task as u64, side)),
+        Call::PushPooled { task, side, label } => {
+            started(tables.push_pooled(task as u64, side, label), 12)
+        }
+        Call::Pop { task, side } => started(tables.pop(task as u64, side), 1),
         Call::Step { task } => moved(tables.step(task as u64)),
         Call::Run { task, most } => {
             let (answer, steps) = tables.run(task as u64, most);
@@ -302,4 +337,5 @@ pub fn difference(ours: &World, theirs: &World) -> Option<String> {
         .or_else(|| rows("rights", &ours.rights, &theirs.rights))
         .or_else(|| rows("labels", &ours.labels, &theirs.labels))
         .or_else(|| rows("marks", &ours.marks, &theirs.marks))
+        .or_else(|| rows("next", &ours.next, &theirs.next))
 }
