@@ -5,6 +5,7 @@
 #
 #     tests/library/faults.sh [FIRST [LAST]]    entries to try, all of them by default
 #     LISTS=pool tests/library/faults.sh        those of one list: places, refusals, pool, calls
+#     ALONE=yes tests/library/faults.sh         the differential test alone, which is quicker
 set -u -o pipefail
 cd "$(dirname "$0")/../.."
 
@@ -42,6 +43,7 @@ mkdir "$work/forward" &&
     ar rcs "$work/forward/libzeppolecape.a" "$work/forward.o" "$work/audit.o" "$work/sheet.o" &&
     gcc -shared -fPIC -O2 -DAS_LIBRARY -Iinclude bench/reference.c -o "$work/faultless.so" || exit 2
 parts="layout fence waiting taken bindings examples bench differential" # the facts are the library's
+[ -z "${ALONE:-}" ] || parts=differential
 if ! ZC_OBJECT=$work/faultless.so BUILD=$work/build PARTS=$parts tests/library/run.sh "$work/forward" >"$work/said"; then
     cat "$work/said"
     echo "the tests fail without any fault"
@@ -49,7 +51,7 @@ if ! ZC_OBJECT=$work/faultless.so BUILD=$work/build PARTS=$parts tests/library/r
     exit 1
 fi
 
-bindings=$(find "$work/build/cargo/debug/deps" -name 'zeppolecape-*' -type f -executable | head -n 1)
+[ -n "${ALONE:-}" ] || bindings=$(find "$work/build/cargo/debug/deps" -name 'zeppolecape-*' -type f -executable | head -n 1)
 
 # Runs a program with so many seconds of processor time, so that one that hangs is stopped and a
 # busy machine is not taken for it.
@@ -60,6 +62,11 @@ limited() { # SECONDS COMMAND..
 # The parts that notice the fault in $work/fault.so.
 noticed() {
     export ZC_OBJECT=$work/fault.so
+    [ -n "${ALONE:-}" ] || others
+    limited 100 "$work/build/cargo/checked/library-differential" 1 1 calls || echo -n " differential"
+}
+
+others() {
     local part way seed odd= lost=
     for part in layout fence waiting taken; do
         limited 10 "$work/build/$part" || echo -n " $part"
@@ -73,7 +80,6 @@ noticed() {
         limited 10 "$work/build/bench" check $way 5 1023 20000 || odd=yes
     done
     [ -z "$odd" ] || echo -n " bench"
-    limited 100 "$work/build/cargo/checked/library-differential" || echo -n " differential"
 }
 
 caught=0

@@ -121,6 +121,12 @@ static void refill(void)
     is("a busy task", zc_queue_refill(&queue, 0, labels, 1), ZC_BUSY);
 }
 
+static void steps(size_t task, int count)
+{
+    while (count-- > 0)
+        zc_queue_step(&queue, task);
+}
+
 /* The same in a pooled queue, where a push without a slot is answered, not refused. */
 static void pooled(void)
 {
@@ -133,6 +139,45 @@ static void pooled(void)
     is("labels of a full pool", zc_queue_drain(&queue, answers, found), SLOTS - 1);
     is("no slot", answers[1].code, ZC_NO_FREE_SLOT);
     is("a pop", answers[2].code, ZC_POPPED);
+    zc_queue_pop(&queue, 2, ZC_LEFT);
+    steps(2, 4);
+    is("a pop that still holds its slot", queue_tables.records[2].place, 15);
+    is("two slots unmarked, one in the pool", zc_queue_refill(&queue, 0, labels, 2), ZC_TAKEN);
+}
+
+/* A label pushed at the right; `count` steps of it. */
+static void push(size_t task, uint32_t label, int count)
+{
+    zc_queue_push_pooled(&queue, task, ZC_RIGHT, label);
+    steps(task, count);
+}
+
+/* Task 1 before the longest way of a push, or of a pop: tests/cases/solo_pooled_*. */
+static void before_longest(uint64_t kind)
+{
+    zc_queue_open_pooled(&queue, TASKS, SLOTS, 0);
+    push(0, 11, 5);
+    if (kind == ZC_PUSH)
+        push(1, 21, 1);
+    push(0, 12, 6);
+    if (kind == ZC_PUSH)
+        return;
+    zc_queue_pop(&queue, 1, ZC_RIGHT);
+    steps(1, 1);
+    steps(0, 6);
+    push(0, 13, 6);
+}
+
+static void longest(void)
+{
+    before_longest(ZC_PUSH);
+    is("20 steps of a push", zc_queue_run(&queue, 1, ZC_POOLED_PUSH_STEPS - 1).code, ZC_RUNNING);
+    is("its 21st", zc_queue_step(&queue, 1).code, ZC_PUSHED);
+    before_longest(ZC_PUSH);
+    is("the longest push", zc_queue_finish(&queue, 1).code, ZC_PUSHED);
+    before_longest(ZC_POP);
+    is("15 steps of a pop", zc_queue_run(&queue, 1, ZC_POOLED_POP_STEPS - 1).code, ZC_RUNNING);
+    is("its 16th", zc_queue_step(&queue, 1).code, ZC_POPPED);
 }
 
 int main(void)
@@ -143,6 +188,7 @@ int main(void)
     drain();
     refill();
     pooled();
+    longest();
     printf("%u passed, %u failed\n", passed, failed);
     return failed != 0;
 }

@@ -115,8 +115,8 @@ impl Queue {
     /// ```
     /// use zeppolecape::{Answer, Queue, Refusal, Side, LAST_START_TAG};
     ///
-    /// let mut queue = Queue::open(2, 3, LAST_START_TAG as u32)?;
-    /// queue.push(0, Side::Right, 2, 700)?;
+    /// let mut queue = Queue::open_pooled(2, 3, LAST_START_TAG as u32)?;
+    /// queue.push_pooled(0, Side::Right, 700)?;
     /// queue.finish(0)?;
     /// assert_eq!(queue.pop(1, Side::Left), Err(Refusal::Worn));
     /// assert_eq!(queue.renew(0)?, [None, None]);

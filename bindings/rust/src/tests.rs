@@ -41,35 +41,6 @@ fn documents_run() {
 }
 
 #[test]
-fn slots_from_a_pool() {
-    let mut queue = Queue::open_pooled(2, 1, 0).unwrap();
-    assert_eq!(queue.push_pooled(0, Side::Right, 700), Ok(Running(12)));
-    assert_eq!(finish(&mut queue, 0), (5, Pushed));
-    assert_eq!(queue.waiting(), [(1, 700)]);
-    assert_eq!(queue.push_pooled(0, Side::Left, 701), Ok(Running(12)));
-    assert_eq!(finish(&mut queue, 0), (1, NoFreeSlot));
-    assert_eq!(queue.pop(1, Side::Left), Ok(Running(1)));
-    assert_eq!(finish(&mut queue, 1), (6, Popped { slot: 1, label: 700 }));
-    assert_eq!(queue.control().head, 0x0000_0002_0000_0001);
-    assert_eq!(queue.push(0, Side::Left, 1, 0), Err(Refusal::WrongPush));
-    let mut named = Queue::open(1, 1, 0).unwrap();
-    assert_eq!(named.push_pooled(0, Side::Left, 0), Err(Refusal::WrongPush));
-}
-
-#[test]
-fn a_pool_renewed() {
-    let mut queue = Queue::open_pooled(2, 3, 0).unwrap();
-    for label in [10, 20, 30] {
-        queue.push_pooled(0, Side::Right, label).unwrap();
-        finish(&mut queue, 0);
-    }
-    queue.push_pooled(1, Side::Left, 40).unwrap();
-    assert_eq!(queue.renew(0), Ok([None, Some(NoFreeSlot)].to_vec()));
-    assert_eq!(queue.waiting(), [(1, 10), (2, 20), (3, 30)]);
-    assert_eq!(queue.control().pooled, 1);
-}
-
-#[test]
 fn two_labels() {
     let mut queue = Queue::open(1, 2, 0).unwrap();
     queue.push(0, Side::Right, 1, 10).unwrap();
