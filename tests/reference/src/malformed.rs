@@ -23,14 +23,15 @@ const OPENING: [u8; 10] = [OPEN, 0, 7, 2, 0, 3, 0, 0, 0, 0];
 const POOLED: [u8; 10] = [OPEN_POOLED, 0, 7, 2, 0, 3, 0, 0, 0, 0];
 const OPENINGS: [[u8; 10]; 2] = [OPENING, POOLED];
 
-/// What each content should be: tag and length.
-const LENGTHS: [(u8, usize); 6] =
-    [(OPEN, 7), (PUSH, 8), (POP, 2), (STEPS, MOST_STEPS), (OPEN_POOLED, 7), (PUSH_POOLED, 6)];
+/// How long each content of a fixed length is.
+const LENGTHS: [(u8, usize); 5] =
+    [(OPEN, 7), (PUSH, 8), (POP, 2), (OPEN_POOLED, 7), (PUSH_POOLED, 6)];
 
 pub fn all() -> Vec<Broken> {
     let mut files = vec![Broken { kind: "empty file", file: Vec::new() }];
     cuts(&mut files);
     wrong_lengths(&mut files);
+    steps_lengths(&mut files);
     unknown_tags(&mut files);
     before_opening(&mut files);
     second_openings(&mut files);
@@ -61,31 +62,46 @@ fn cuts(files: &mut Vec<Broken>) {
     }
 }
 
-/// Each length off by one, with the content as long as it says, and with the right content.
+/// Every other length up to one more, and one that is right in its low byte, in either queue.
 fn wrong_lengths(files: &mut Vec<Broken>) {
     for (tag, right) in LENGTHS {
-        for length in [right - 1, right, right + 1] {
-            let (kind, start) = match (tag, length == right) {
-                (STEPS, _) if length <= right => ("steps at their most", &OPENING[..]),
-                (STEPS, _) => ("steps over-long", &OPENING[..]),
-                (OPEN | OPEN_POOLED, false) => ("wrong length", &[][..]),
-                (_, false) => ("wrong length", &OPENING[..]),
-                _ => continue,
-            };
-            let mut whole = start.to_vec();
-            append(&mut whole, tag, &vec![0; length]);
-            append(&mut whole, STEPS, &[0]);
-            let mut lying = start.to_vec();
-            lying.push(tag);
-            lying.extend_from_slice(&(length as u16).to_be_bytes());
-            lying.extend(vec![0; right]);
-            files.push(Broken { kind, file: whole });
-            files.push(Broken { kind, file: lying });
+        for length in (0..=right + 1).chain([right + 256]).filter(|&length| length != right) {
+            for opening in OPENINGS {
+                let start = if tag == OPEN || tag == OPEN_POOLED { &[][..] } else { &opening[..] };
+                field_of(files, "wrong length", start, tag, length, right);
+            }
         }
+    }
+}
+
+fn steps_lengths(files: &mut Vec<Broken>) {
+    for length in [MOST_STEPS - 1, MOST_STEPS, MOST_STEPS + 1] {
+        let kind = if length > MOST_STEPS { "steps over-long" } else { "steps at their most" };
+        field_of(files, kind, &OPENING, STEPS, length, MOST_STEPS);
     }
     let mut longest = OPENING.to_vec();
     append(&mut longest, STEPS, &vec![0; 0xffff]);
     files.push(Broken { kind: "steps over-long", file: longest });
+}
+
+/// A field of a length, with the content as long as it says, and with the right content.
+fn field_of(
+    files: &mut Vec<Broken>,
+    kind: &'static str,
+    start: &[u8],
+    tag: u8,
+    length: usize,
+    right: usize,
+) {
+    let mut whole = start.to_vec();
+    append(&mut whole, tag, &vec![0; length]);
+    append(&mut whole, STEPS, &[0]);
+    let mut lying = start.to_vec();
+    lying.push(tag);
+    lying.extend_from_slice(&(length as u16).to_be_bytes());
+    lying.extend(vec![0; right]);
+    files.push(Broken { kind, file: whole });
+    files.push(Broken { kind, file: lying });
 }
 
 /// Every byte that is no tag, as the first field and after an opening and a step.

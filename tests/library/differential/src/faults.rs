@@ -5,7 +5,8 @@ mod record;
 mod touch;
 mod walk;
 
-use crate::sound::{any_place, busy_record, Scene};
+use crate::records::{any_place, busy_record};
+use crate::sound::Scene;
 use crate::world::Export;
 use reference::dice::Dice;
 use reference::tables::PUSH;

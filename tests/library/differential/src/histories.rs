@@ -2,8 +2,9 @@
 //! Every line of the route must be taken, on both sides and in both ways of opening.
 
 use crate::line::{any_question, common_label};
+use crate::ours::by_library;
 use crate::tally::Tally;
-use crate::world::{by_library, Call, Export, Lent, Told, World};
+use crate::world::{Call, Export, Lent, Told, World};
 use reference::dice::Dice;
 use reference::tables::{Control, Record, NAMED, POOLED, POP, PUSH};
 use reference::word::{Anchor, RPUSH};

@@ -11,10 +11,13 @@ mod faults;
 mod histories;
 mod line;
 mod noise;
+mod ours;
 mod plant;
+mod records;
 mod sheets;
 mod sound;
 mod tally;
+mod theirs;
 mod wild;
 mod world;
 

@@ -4,7 +4,8 @@
 use crate::faults::{self, outrun, Fault, Group};
 use crate::sound::{Scene, Wanted};
 use crate::tally::Tally;
-use crate::world::{by_reference, Export};
+use crate::theirs::by_reference;
+use crate::world::Export;
 use reference::dice::Dice;
 use reference::tables::{POP, PUSH};
 use zeppolecape::MOST_RETRIES;

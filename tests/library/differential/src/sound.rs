@@ -1,11 +1,12 @@
 //! Scenes: sound tables with a call that is accepted on them, though no history led there.
 
 use crate::line::{any_question, line_up};
-use crate::wild::{any_retries, wild_control, wild_record, wild_word};
+use crate::records::{any_place, any_record, busy_record, helping, idle_record, kind_at};
+use crate::wild::{any_retries, wild_control, wild_word};
 use crate::world::{Call, Export, Lent, World};
 use reference::dice::Dice;
-use reference::tables::{Control, Record, NAMED, POOLED, POP, PUSH};
-use reference::word::{Anchor, Link, LPUSH, RPUSH, STABLE};
+use reference::tables::{Control, Record, NAMED, POOLED, PUSH};
+use reference::word::{Anchor, LPUSH, RPUSH, STABLE};
 
 const LAST_TAG: u64 = 0xffff_ffff;
 const LAST_START_TAG: u64 = 4_294_967_262;
@@ -156,15 +157,6 @@ impl Scene {
     }
 }
 
-/// The kind of a call at a place: from 11 on there is only one.
-fn kind_at(place: u64, kind: Option<u64>, dice: &mut Dice) -> u64 {
-    match place {
-        11 | 15..=17 => POP,
-        12..=14 => PUSH,
-        _ => kind.unwrap_or_else(|| dice.between(0, 1)),
-    }
-}
-
 /// An Anchor as read with which the step at a place is accepted.
 fn seen_at(dice: &mut Dice, slots: u64, place: u64) -> Anchor {
     let status = if helping(place) { dice.between(RPUSH, LPUSH) } else { STABLE };
@@ -178,21 +170,6 @@ fn seen_at(dice: &mut Dice, slots: u64, place: u64) -> Anchor {
         return Anchor { right: left, ..seen };
     }
     seen
-}
-
-/// The places of a stabilise.
-fn helping(place: u64) -> bool {
-    (5..=10).contains(&place)
-}
-
-/// A place up to `last`: with one slot no Anchor is unstable, so that nobody stands at 5 to 10.
-pub fn any_place(dice: &mut Dice, slots: u64, last: u64) -> u64 {
-    loop {
-        let place = dice.between(1, last);
-        if slots > 1 || !helping(place) {
-            return place;
-        }
-    }
 }
 
 fn few_or_many(dice: &mut Dice) -> u64 {
@@ -228,52 +205,6 @@ pub fn sound_anchor(dice: &mut Dice, slots: u64) -> u64 {
 pub fn sound_link(dice: &mut Dice, slots: u64) -> u64 {
     let tag = dice.pick(&[0, 1, 77, LAST_TAG - 1]);
     tag << 32 | dice.between(0, slots)
-}
-
-/// Idle; its other fields are anything, for nobody looks at them.
-pub fn idle_record(dice: &mut Dice) -> Record {
-    let mut record = Record::default();
-    if dice.percent(50) {
-        record = wild_record(dice);
-        record.place = 0;
-    }
-    record
-}
-
-/// A sound record; at 5 to 10 there must be two slots.
-pub fn busy_record(dice: &mut Dice, slots: u64, place: u64, kind: u64) -> Record {
-    let helping = helping(place);
-    let mut seen = sound_anchor(dice, slots);
-    while helping && Anchor::unpack(seen).status == STABLE {
-        seen = sound_anchor(dice, slots);
-    }
-    let mut link = sound_link(dice, slots);
-    while matches!(place, 13 | 14) && Link(link).slot() == 0 {
-        link = sound_link(dice, slots);
-    }
-    let held = if kind == PUSH { place <= 10 } else { place >= 15 };
-    Record {
-        place,
-        kind,
-        side: dice.between(0, 1),
-        own: if held { dice.between(1, slots) } else { 0 },
-        label: dice.throw() as u32,
-        seen,
-        neighbour: dice.between(0, slots),
-        link,
-        finishing: if kind == PUSH && helping { dice.between(0, 1) } else { 0 },
-    }
-}
-
-/// The record of a task that the call is not about: nobody looks at more than its place.
-fn any_record(dice: &mut Dice, slots: u64) -> Record {
-    let place = any_place(dice, slots, 17);
-    let kind = kind_at(place, None, dice);
-    match dice.between(0, 2) {
-        0 => idle_record(dice),
-        1 => wild_record(dice),
-        _ => busy_record(dice, slots, place, kind),
-    }
 }
 
 fn sound_world(dice: &mut Dice, tasks: u64, slots: u64, pooled: bool) -> World {

@@ -1,6 +1,8 @@
 //! What was compared and what was reached.
 
-use crate::world::{by_library, by_reference, difference, Call, Export, Told, World};
+use crate::ours::by_library;
+use crate::theirs::by_reference;
+use crate::world::{difference, Call, Export, Told, World};
 use std::collections::BTreeMap;
 
 /// How many mismatches are printed, and after how many the test gives up.

@@ -1,7 +1,8 @@
 //! 34 for the record.
 
 use super::{busy, fault, named, pooled, unstable, Fault, Group, HIGH};
-use crate::sound::{any_place, Scene};
+use crate::records::any_place;
+use crate::sound::Scene;
 use reference::dice::Dice;
 use reference::tables::{POP, PUSH};
 use reference::word::{Anchor, LPUSH, RPUSH, STABLE};
