@@ -98,7 +98,7 @@ part_header() {
     # Unused wrappers may be kept by a compiler: with ZC_CORE_ONLY they ask for no call but the core's.
     printf '#define ZC_CORE_ONLY\n#include "zeppolecape.h"\n' >"$work/core.c"
     holds "header for the core alone" $CC -fkeep-inline-functions -Iinclude -c "$work/core.c" -o "$work/core.o"
-    holds "the core's calls" test "$(nm -u "$work/core.o" | tr -d ' U' | sort | tr '\n' ' ')" = 'zc_open zc_pop zc_push zc_report zc_step '
+    holds "the core's calls" test "$(nm -u "$work/core.o" | tr -d ' U' | sort | tr '\n' ' ')" = 'zc_open zc_open_pooled zc_pop zc_push zc_push_pooled zc_report zc_step '
     # The macro refuses what the opening would.
     for sizes in 0,3 17,3 2,0 2,1024; do
         printf '#include "zeppolecape.h"\nZC_QUEUE_STORAGE(queue, %s);\n' $sizes >"$work/storage.c"
@@ -183,9 +183,12 @@ part_bench() {
     for labels in 0 1 2 64 1023; do
         holds "library and C alike: $labels labels" "$work/walks" check $labels
     done
-    for tasks in 1 5 16; do
-        for slots in 3 1023; do
-            holds "library, C and bare alike: $tasks tasks, $slots slots" "$work/bench" check $tasks $slots 100000
+    for way in named pooled; do
+        for tasks in 1 5 16; do
+            for slots in 3 1023; do
+                holds "library, C and bare alike: $way, $tasks tasks, $slots slots" \
+                    "$work/bench" check $way $tasks $slots 100000
+            done
         done
     done
 }
