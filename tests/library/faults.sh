@@ -51,7 +51,13 @@ if ! ZC_OBJECT=$work/faultless.so BUILD=$work/build PARTS=$parts tests/library/r
     exit 1
 fi
 
-[ -n "${ALONE:-}" ] || bindings=$(find "$work/build/cargo/debug/deps" -name 'zeppolecape-*' -type f -executable | head -n 1)
+# The tests of the Rust crate.
+bindings() {
+    local program
+    for program in $(find "$work/build/cargo/debug/deps" -type f -executable \( -name 'zeppolecape-*' -o -name 'pool-*' \)); do
+        limited 10 "$program" || return 1
+    done
+}
 
 # Runs a program with so many seconds of processor time, so that one that hangs is stopped and a
 # busy machine is not taken for it.
@@ -71,7 +77,7 @@ others() {
     for part in layout fence waiting taken; do
         limited 10 "$work/build/$part" || echo -n " $part"
     done
-    limited 10 "$bindings" || echo -n " bindings"
+    bindings || echo -n " bindings"
     for seed in 1 2 3; do
         limited 2 "$work/build/executive_c" $seed || lost=yes
     done
