@@ -83,10 +83,30 @@ fn carry_out(
             slots,
             tag,
         } => acts::open_queue(
-            s, pooled, tasks, slots, tag, out, rows, lefts, rights, labels, marks, next,
+            s,
+            pooled,
+            tasks,
+            slots,
+            tag,
+            out,
+            rows,
+            lefts,
+            rights,
+            labels,
+            marks,
+            next,
         ),
         Field::Start { task, op } => acts::operate(
-            s, task, op, out, rows, lefts, rights, labels, marks, next,
+            s,
+            task,
+            op,
+            out,
+            rows,
+            lefts,
+            rights,
+            labels,
+            marks,
+            next,
         ),
         Field::Steps(n) => acts::steps(
             s,
@@ -141,7 +161,17 @@ pub fn take(
         let found = runfile::field_at(bytes, at, s.opened);
         let field = found.field;
         let mut q = carry_out(
-            s, field, bytes, at, out, rows, lefts, rights, labels, marks, next,
+            s,
+            field,
+            bytes,
+            at,
+            out,
+            rows,
+            lefts,
+            rights,
+            labels,
+            marks,
+            next,
         );
         q.at = at + found.size;
         return q;

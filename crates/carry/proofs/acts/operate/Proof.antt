@@ -30,9 +30,10 @@ returns c =
     let marks = told .before .before .before .before in
     let rights = marks .before .before .before .before in
     let lefts = rights .before .before .before .before in
-    let made = lefts .before in
-    (operate-page _ _ _ _ _ _ _ _ _ _ _ _ _ _ _ _ _ _ _ refl (read made .record-at .ensures) (made .act .ensures) (told .answer .ensures .0 _ _ _ _ _),
-      told .answer .ensures .1)
+    let made = lefts .before in (
+      operate-page _ _ _ _ _ _ _ _ _ _ _ _ _ _ _ _ _ _ _ refl (read made .record-at .ensures) (made .act .ensures) (told .answer .ensures .0 _ _ _ _ _),
+      told .answer .ensures .1,
+    )
 
 pub operate-spec : {M : Type 1} → statement M
 operate-spec =
