@@ -143,7 +143,10 @@ module _ (n : ℕ) (r : Run) (b c : List ℕ) where
       ∙ ap (λ (f : Fed). joined f c) (sym (feed-more n r b e))
     where
       again : (f : Fed) → after (told r b) (joined f c) ≡ joined (after (told r b) f) c
-      again f = let g = feed (f .run) (f .rest ++ c) in ap (λ (l : List ℕ). record { run = g .run; rest = g .rest; lines = l }) (sym (append-assoc (told r b .lines) (f .lines) (g .lines)))
+      again f =
+          let g = feed (f .run) (f .rest ++ c) in
+          let same = append-assoc (told r b .lines) (f .lines) (g .lines) in
+          ap (λ (l : List ℕ). record { run = g .run; rest = g .rest; lines = l }) (sym same)
 
 first-fed : (r : Run) (c : List ℕ) → feed r c ≡ joined (feedIn zero r []) c
 unfolding feedIn

@@ -1,2 +1,4 @@
 pub mod Feeding
 pub mod Loop
+pub mod Pages
+pub mod Whole

@@ -36,41 +36,54 @@ steps-requires c κs =
     let fits = first told .pre .0 in
     (omega arith, omega arith, omega arith)
 
+-- The call of each field, from the arm's end.
+module _ (c : tie.After-slice-known12) where
+  abbrev opened : tie.After-open-queue
+  opened =
+      let marks = c .before .before .before .before in
+      let lefts = marks .before .before .before .before in
+      let out = lefts .before .before .before .before in
+      out .before
+
+module _ (c : tie.After-slice-known18) where
+  abbrev operated : tie.After-operate
+  operated =
+      let marks = c .before .before .before .before in
+      let lefts = marks .before .before .before .before in
+      let out = lefts .before .before .before .before in
+      out .before
+
+module _ (c : tie.After-slice-known24) where
+  abbrev stepped : tie.After-steps
+  stepped =
+      let marks = c .before .before .before .before in
+      let lefts = marks .before .before .before .before in
+      let out = lefts .before .before .before .before in
+      out .before
+
 returns : tie.Need-returns
-unfolding carried uppersAfter emptied
+unfolding carried uppersAfter
 returns c =
-    let marks = c .before .before .before .before in
-    let lefts = marks .before .before .before .before in
-    let out = lefts .before .before .before .before in
-    let done = out .before in
-    let lent = done .before .before .before .before in
+    let lent = opened c .before .before .before .before in
     let told = lent .before .before .before .before in
-    rw (told .before .field .given .1) (done .open-queue .ensures)
+    rw (told .before .field .given .1) (opened c .open-queue .ensures)
 
 returns-2 : tie.Need-returns-2
 unfolding carried uppersAfter emptied
 returns-2 c =
-    let marks = c .before .before .before .before in
-    let lefts = marks .before .before .before .before in
-    let out = lefts .before .before .before .before in
-    let done = out .before in
-    let lent = done .before .before .before .before in
+    let lent = operated c .before .before .before .before in
     let told = lent .before .before .before .before in
-    rw (told .before .field2 .given .1) (done .operate .ensures .0)
+    rw (told .before .field2 .given .1) (operated c .operate .ensures .0)
 
 returns-3 : tie.Need-returns-3
 unfolding carried uppersAfter
 returns-3 c =
-    let marks = c .before .before .before .before in
-    let lefts = marks .before .before .before .before in
-    let out = lefts .before .before .before .before in
-    let done = out .before in
-    let lent = done .before .before .before .before in
+    let lent = stepped c .before .before .before .before in
     let told = lent .before .before .before .before in
     let args = first told .args in
     let h = steps-whole _ _ _ _ (told .before .field3 .given .1) (first told .pre .1) in
     let from : args .at + 3 ≤ length (args .bytes .now) = omega arith in
-    rw (told .before .field3 .given .1, ← steps-content (args .at) _ (args .bytes .now) from) (done .steps .ensures)
+    rw (told .before .field3 .given .1, ← steps-content (args .at) _ (args .bytes .now) from) (stepped c .steps .ensures)
 
 returns-4 : tie.Need-returns-4
 unfolding carried uppersAfter
@@ -105,29 +118,29 @@ carry-out-spec =
     (λ c κs. search needs)
     (λ c. search needs)
     (λ c. search needs)
-    (λ c. search needs)
-    (λ c. search needs)
-    (λ c. search needs)
-    (λ c. search needs)
-    (λ c. search needs)
-    (λ c. search needs)
-    (λ c. search needs)
+    (λ c. opened c .open-queue .kept .1 .1 .1 .1 .1 .0)
+    (λ c. opened c .open-queue .kept .1 .1 .1 .1 .1 .1 .0)
+    (λ c. opened c .open-queue .kept .1 .1 .1 .1 .1 .1 .1 .0)
+    (λ c. opened c .open-queue .kept .1 .1 .1 .1 .1 .1 .1 .1 .0)
+    (λ c. opened c .open-queue .kept .1 .1 .1 .1 .1 .1 .1 .1 .1 .0)
+    (λ c. opened c .open-queue .kept .1 .1 .1 .1 .1 .1 .1 .1 .1 .1 .0)
+    (λ c. opened c .open-queue .kept .1 .1 .1 .1 .1 .1 .1 .1 .1 .1 .1 .0)
     returns
-    (λ c. search needs)
-    (λ c. search needs)
-    (λ c. search needs)
-    (λ c. search needs)
-    (λ c. search needs)
-    (λ c. search needs)
-    (λ c. search needs)
+    (λ c. operated c .operate .kept .1 .1 .1 .0)
+    (λ c. operated c .operate .kept .1 .1 .1 .1 .0)
+    (λ c. operated c .operate .kept .1 .1 .1 .1 .1 .0)
+    (λ c. operated c .operate .kept .1 .1 .1 .1 .1 .1 .0)
+    (λ c. operated c .operate .kept .1 .1 .1 .1 .1 .1 .1 .0)
+    (λ c. operated c .operate .kept .1 .1 .1 .1 .1 .1 .1 .1 .0)
+    (λ c. operated c .operate .kept .1 .1 .1 .1 .1 .1 .1 .1 .1 .0)
     returns-2
-    (λ c. search needs)
-    (λ c. search needs)
-    (λ c. search needs)
-    (λ c. search needs)
-    (λ c. search needs)
-    (λ c. search needs)
-    (λ c. search needs)
+    (λ c. stepped c .steps .kept .1 .1 .1 .1 .0)
+    (λ c. stepped c .steps .kept .1 .1 .1 .1 .1 .0)
+    (λ c. stepped c .steps .kept .1 .1 .1 .1 .1 .1 .0)
+    (λ c. stepped c .steps .kept .1 .1 .1 .1 .1 .1 .1 .0)
+    (λ c. stepped c .steps .kept .1 .1 .1 .1 .1 .1 .1 .1 .0)
+    (λ c. stepped c .steps .kept .1 .1 .1 .1 .1 .1 .1 .1 .1 .0)
+    (λ c. stepped c .steps .kept .1 .1 .1 .1 .1 .1 .1 .1 .1 .1 .0)
     returns-3
     (λ c. search needs)
     returns-4

@@ -66,12 +66,12 @@ take-spec =
     (λ c κs. search needs)
     carry-out-requires
     add-q
-    (λ c. search needs)
-    (λ c. search needs)
-    (λ c. search needs)
-    (λ c. search needs)
-    (λ c. search needs)
-    (λ c. search needs)
-    (λ c. search needs)
+    (λ c. done c .carry-out .kept .1 .1 .1 .1 .0)
+    (λ c. done c .carry-out .kept .1 .1 .1 .1 .1 .0)
+    (λ c. done c .carry-out .kept .1 .1 .1 .1 .1 .1 .0)
+    (λ c. done c .carry-out .kept .1 .1 .1 .1 .1 .1 .1 .0)
+    (λ c. done c .carry-out .kept .1 .1 .1 .1 .1 .1 .1 .1 .0)
+    (λ c. done c .carry-out .kept .1 .1 .1 .1 .1 .1 .1 .1 .1 .0)
+    (λ c. done c .carry-out .kept .1 .1 .1 .1 .1 .1 .1 .1 .1 .1 .0)
     returns
     returns-2)

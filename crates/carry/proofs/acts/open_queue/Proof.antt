@@ -27,17 +27,28 @@ clear-requires c κs =
     let n = length (first made .args .rows .now) in
     subst (λ (x : OpenedParts). x .clear ≤ n) (sym (made .open-tables .ensures)) (clear-fits _ _ n _ _ _)
 
+-- The line, the clearing before it, and the opening before that.
+module _ (c : tie.After-slice-known12) where
+  abbrev put : tie.After-wrapping-add-u64
+  put = c .before .before .before .before
+
+  abbrev cleared : tie.After-clear
+  cleared = put .before .before .before
+
+  abbrev made : tie.After-open-tables
+  made =
+      let marks = cleared .before .before .before .before in
+      let rights = marks .before .before .before .before in
+      let lefts = rights .before .before .before .before in
+      lefts .before
+
 returns : tie.Need-returns
 returns c =
-    let put = c .before .before .before .before in
-    let cleared = put .before .before .before in
-    let tables = cleared .before .before .before .before in
-    let rights = tables .before .before .before .before in
-    let lefts = rights .before .before .before .before in
-    let made = lefts .before in
-    open-page _ _ _ _ _ _ _ _ _ _ _ _ _ (sym (length-records _)) (made .open-tables .ensures) (cleared .clear .ensures .0) (cleared .clear .ensures .1)
-    (put .before .is-opened .ensures) (put .wrapping-add-u64 .ensures)
-    (put-fits _ _ _ _ _ (first made .pre) (c .before .before .write-line .ensures .0))
+    let e = cleared c .clear .ensures in
+    let m = made c in
+    open-page _ _ _ _ _ _ _ _ _ _ _ _ _ (sym (length-records _)) (m .open-tables .ensures) (e .0) (e .1)
+    (put c .before .is-opened .ensures) (put c .wrapping-add-u64 .ensures)
+    (put-fits _ _ _ _ _ (first m .pre) (c .before .before .write-line .ensures .0))
 
 pub open-queue-spec : {M : Type 1} → statement M
 open-queue-spec =
@@ -48,11 +59,11 @@ open-queue-spec =
     (λ c κs. search needs)
     (λ c κs. search needs)
     (λ c κs. search needs)
-    (λ c. search needs)
-    (λ c. search needs)
-    (λ c. search needs)
-    (λ c. search needs)
-    (λ c. search needs)
-    (λ c. search needs)
-    (λ c. search needs)
+    (λ c. c .before .before .write-line .kept .0)
+    (λ c. cleared c .clear .kept .0)
+    (λ c. made c .open-tables .kept .1 .1 .1 .1 .1 .1 .0)
+    (λ c. made c .open-tables .kept .1 .1 .1 .1 .1 .1 .1 .0)
+    (λ c. made c .open-tables .kept .1 .1 .1 .1 .1 .1 .1 .1 .0)
+    (λ c. made c .open-tables .kept .1 .1 .1 .1 .1 .1 .1 .1 .1 .0)
+    (λ c. made c .open-tables .kept .1 .1 .1 .1 .1 .1 .1 .1 .1 .1 .0)
     returns)

@@ -24,16 +24,23 @@ answer-requires c κs =
     let rights = marks .before .before .before .before in
     first (rights .before .before .before .before) .pre
 
+-- The answer, and the operation before it.
+module _ (c : tie.After-rows) where
+  abbrev told : tie.After-answer
+  told = c .before .before .before
+
+  abbrev made : tie.After-act
+  made =
+      let marks = told .before .before .before .before in
+      let rights = marks .before .before .before .before in
+      let lefts = rights .before .before .before .before in
+      lefts .before
+
 returns : tie.Need-returns
 returns c =
-    let told = c .before .before .before in
-    let marks = told .before .before .before .before in
-    let rights = marks .before .before .before .before in
-    let lefts = rights .before .before .before .before in
-    let made = lefts .before in (
-      operate-page _ _ _ _ _ _ _ _ _ _ _ _ _ _ _ _ _ _ _ refl (read made .record-at .ensures) (made .act .ensures) (told .answer .ensures .0 _ _ _ _ _),
-      told .answer .ensures .1,
-    )
+    let e = told c .answer .ensures in
+    let m = made c in
+    (operate-page _ _ _ _ _ _ _ _ _ _ _ _ _ _ _ _ _ _ _ refl (read m .record-at .ensures) (m .act .ensures) (e .0 _ _ _ _ _), e .1)
 
 pub operate-spec : {M : Type 1} → statement M
 operate-spec =
@@ -42,11 +49,11 @@ operate-spec =
     (λ c κs. search needs)
     (λ c κs. search needs)
     answer-requires
-    (λ c. search needs)
-    (λ c. search needs)
-    (λ c. search needs)
-    (λ c. search needs)
-    (λ c. search needs)
-    (λ c. search needs)
-    (λ c. search needs)
+    (λ c. told c .answer .kept .1 .1 .1 .1 .0)
+    (λ c. told c .answer .kept .1 .1 .1 .1 .1 .0)
+    (λ c. made c .act .kept .1 .1 .1 .1 .1 .0)
+    (λ c. made c .act .kept .1 .1 .1 .1 .1 .1 .0)
+    (λ c. made c .act .kept .1 .1 .1 .1 .1 .1 .1 .0)
+    (λ c. made c .act .kept .1 .1 .1 .1 .1 .1 .1 .1 .0)
+    (λ c. made c .act .kept .1 .1 .1 .1 .1 .1 .1 .1 .1 .0)
     returns)
