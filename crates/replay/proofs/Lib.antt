@@ -1,5 +1,2 @@
 pub mod Feeding
-pub mod Pages
-pub mod Turns
-pub mod Fields
-pub mod Whole
+pub mod Loop
