@@ -68,7 +68,7 @@
  *   zc_run            192      1298      3024      3024
  *   zc_report         112       227       503     27343
  *   table bytes         -       192       664     21792
- *   code bytes: audit 1804, capi 5987, capi_record 2702, capi_run 3057, find 3506, sheet 3579
+ *   code bytes: audit 1804, capi 5987, capi_record 2702, capi_run 3057, find 3506, sheet 3496
  * As to the machine: x86-64, System V calling convention. The code uses the red zone (128 bytes
  * below the stack pointer) and SSE registers, no AVX: an interrupt handler that makes a call saves
  * the SSE state first, and an interrupt that is not masked during a call leaves the red zone alone.
