@@ -1,4 +1,5 @@
 pub mod Rules
 pub mod Parts
+pub mod Starts
 pub mod Counts
 pub mod Tells

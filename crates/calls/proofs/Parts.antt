@@ -1,6 +1,6 @@
 -- An opening's parts make the opening: an accepted one finds every table long enough, a refused one zeroes nothing.
 use mathlib.Core.Path.{_≡_, refl, sym, ap, _∙_}
-use mathlib.Core.Bool.{Bool, true, false, _&&_, not, cond}
+use mathlib.Core.Bool.{Bool, true, false, _&&_, _||_, not, cond}
 use mathlib.Core.List.{List, [], _∷_}
 use Prim.Native.Nat.{ℕ, _+_, _/_, _≤_}
 use native.Mathlib.Omega.{arith}
@@ -11,8 +11,9 @@ use Rattle.model.specs.declared.Opening.the-variants as opening
 use Rattle.model.specs.Tables.{Tables, Queue, idle, zeroed}
 use Rattle.model.specs.Sound.{rowsFit}
 use Rattle.model.specs.Refusals.{rule, first, openRefusal}
-use Rattle.model.specs.Calls.{opened, openQueue, OpenDone}
+use Rattle.model.specs.Calls.{stacked, opened, openAs, OpenDone}
 use Rattle.table.specs.Zeroing.{zeroing}
+use Rattle.table.specs.Stacking.{stacking}
 use Rattle.calls.specs.Rules.{openingRefusal}
 use Rattle.calls.specs.Opening.{openedControl, counting, OpenedParts, openTables, whole}
 use Rattle.calls.proofs.Rules.{both}
@@ -42,43 +43,57 @@ zeroes : (n : ℕ) (l : List ℕ) → ltb n (length l) ≡ true → zeroing (n +
 unfolding zeroing
 zeroes n l e = rw (le-leb (n + 1) (length l) (omega (arith, ltb-true n (length l) e)))
 
-module _ (q : Tables) (records tasks slots : ℕ) where
-  abbrev why : ℕ
-  why = openingRefusal tasks slots (rowsFit slots q && leb tasks records)
+-- A pooled queue's next table that has a row for each slot is stacked, a named queue's kept.
+stacks : (pooled : Bool) (slots : ℕ) (l : List ℕ) → not pooled || ltb slots (length l) ≡ true
+    → stacking pooled slots l ≡ cond pooled (stacked slots l) l
+unfolding stacking
+stacks true slots l e = rw e
+stacks false slots l e = refl
 
-  counted : openRefusal (counting q records) tasks slots ≡ why
+module _ (pooled : Bool) (q : Tables) (records tasks slots : ℕ) where
+  abbrev fits : Bool
+  fits = rowsFit pooled slots q && leb tasks records
+
+  abbrev why : ℕ
+  why = openingRefusal tasks slots fits
+
+  counted : openRefusal pooled (counting q records) tasks slots ≡ why
   unfolding openRefusal openingRefusal
   counted = rw (length-replicate records idle)
 
   pub refused-parts : (tag : ℕ) → (why ≡ 0 → ⊥)
-      → _≡_ {A = OpenedParts} (record { tables = q; clear = 0; outcome = opening.Refused why }) (openTables q records tasks slots tag)
-  unfolding openTables openQueue
+      → _≡_ {A = OpenedParts} (record { tables = q; clear = 0; outcome = opening.Refused why }) (openTables pooled q records tasks slots tag)
+  unfolding openTables openAs
   refused-parts tag h = rw (counted, ne-eqb why 0 h)
 
-  abbrev zeroedTables : ℕ → Tables
-  zeroedTables tag = record {
-    control = openedControl tasks slots tag;
+  abbrev openedTables : ℕ → Tables
+  openedTables tag = record {
+    control = openedControl pooled tasks slots tag;
     lefts = zeroing (slots + 1) (q .lefts);
     rights = zeroing (slots + 1) (q .rights);
     labels = zeroing (slots + 1) (q .labels);
     marks = zeroing (slots / 64 + 1) (q .marks);
+    next = stacking pooled slots (q .next);
   }
 
   pub opened-parts : (tag : ℕ) → why ≡ 0
-      → _≡_ {A = OpenedParts} (record { tables = zeroedTables tag; clear = tasks; outcome = opening.Opened }) (openTables q records tasks slots tag)
-  unfolding openTables openQueue opened rowsFit
+      → _≡_ {A = OpenedParts} (record { tables = openedTables tag; clear = tasks; outcome = opening.Opened })
+      (openTables pooled q records tasks slots tag)
+  unfolding openTables openAs opened rowsFit
   opened-parts tag h =
-      let f = both (rowsFit slots q) (leb tasks records) (accepted tasks slots (rowsFit slots q && leb tasks records) h .fit) .0 in
+      let f = both (rowsFit pooled slots q) (leb tasks records) (accepted tasks slots fits h .fit) .0 in
       let l = both (ltb slots (length (q .lefts))) _ f in
       let r = both (ltb slots (length (q .rights))) _ (l .1) in
       let b = both (ltb slots (length (q .labels))) _ (r .1) in
+      let m = both (ltb (slots / 64) (length (q .marks))) _ (b .1) in
       rw (
         counted,
         eq-eqb why 0 h,
         zeroes slots (q .lefts) (l .0),
         zeroes slots (q .rights) (r .0),
         zeroes slots (q .labels) (b .0),
-        zeroes (slots / 64) (q .marks) (b .1),
+        zeroes (slots / 64) (q .marks) (m .0),
+        stacks pooled slots (q .next) (m .1),
       )
 
   at-most : (b : Bool) → (b ≡ true → tasks ≤ records) → cond b tasks 0 ≤ records
@@ -86,22 +101,24 @@ module _ (q : Tables) (records tasks slots : ℕ) where
   at-most false h = omega arith
 
   -- No more records are zeroed than are lent.
-  pub clear-fits : (tag : ℕ) → openTables q records tasks slots tag .clear ≤ records
+  pub clear-fits : (tag : ℕ) → openTables pooled q records tasks slots tag .clear ≤ records
   unfolding openTables
   clear-fits tag =
-      rw counted (at-most (eqb why 0) (λ e. leb-true tasks records (both (rowsFit slots q) _ (accepted tasks slots _ (eqb-true why 0 e) .fit) .1)))
+      let enough : eqb why 0 ≡ true → leb tasks records ≡ true =
+      λ e. both (rowsFit pooled slots q) _ (accepted tasks slots fits (eqb-true why 0 e) .fit) .1 in
+      rw counted (at-most (eqb why 0) (λ e. leb-true tasks records (enough e)))
 
 -- The opening of a queue is its parts.
-module _ (q : Queue) (tasks slots tag : ℕ) where
+module _ (pooled : Bool) (q : Queue) (tasks slots tag : ℕ) where
   abbrev few : Queue
   few = counting (q .tables) (length (q .records))
 
-  same-why : openRefusal few tasks slots ≡ openRefusal q tasks slots
+  same-why : openRefusal pooled few tasks slots ≡ openRefusal pooled q tasks slots
   unfolding openRefusal
   same-why = rw (length-replicate (length (q .records)) idle)
 
   abbrev done : Bool → ℕ → Queue → OpenDone
-  done b n p = cond b (record { queue = opened p tasks slots tag; outcome = opening.Opened }) (record { queue = p; outcome = opening.Refused n })
+  done b n p = cond b (record { queue = opened pooled p tasks slots tag; outcome = opening.Opened }) (record { queue = p; outcome = opening.Refused n })
 
   abbrev parts : Bool → ℕ → OpenedParts
   parts b n = record { tables = done b n few .queue .tables; clear = cond b tasks 0; outcome = done b n few .outcome }
@@ -111,7 +128,9 @@ module _ (q : Queue) (tasks slots tag : ℕ) where
   joined true n = refl
   joined false n = refl
 
-  pub open-parts : openQueue q tasks slots tag ≡ whole (q .records) (openTables (q .tables) (length (q .records)) tasks slots tag)
-  unfolding openTables openQueue
+  pub open-parts : openAs pooled q tasks slots tag
+      ≡ whole (q .records) (openTables pooled (q .tables) (length (q .records)) tasks slots tag)
+  unfolding openTables openAs
   open-parts =
-      joined (eqb (openRefusal q tasks slots) 0) (openRefusal q tasks slots) ∙ ap (λ (n : ℕ). whole (q .records) (parts (eqb n 0) n)) (sym same-why)
+      let n = openRefusal pooled q tasks slots in
+      joined (eqb n 0) n ∙ ap (λ (n : ℕ). whole (q .records) (parts (eqb n 0) n)) (sym same-why)

@@ -5,7 +5,7 @@ use mathlib.Core.List.{List, [], _∷_}
 use Prim.Native.Nat.{ℕ}
 use Rattle.model.specs.Refusals.{Rule, first}
 use Rattle.calls.specs.declared.refusal.Tests.{Tests}
-use Rattle.calls.specs.Rules.{startRules, startRefusal, tellingRules, tellingRefusal, openingRules, openingRefusal}
+use Rattle.calls.specs.Rules.{testsRules, testsRefusal, tellingRules, tellingRefusal, openingRules, openingRefusal}
 
 pub both : (a b : Bool) → a && b ≡ true → (a ≡ true) × (b ≡ true)
 both true b e = (refl, e)
@@ -22,9 +22,9 @@ tried none = refl
 tried (stop e) = rw e
 tried (pass e t) = rw e (tried t)
 
-pub start-tried : (t : Tests) {n : ℕ} → Tried (startRules t) n → n ≡ startRefusal t
-unfolding startRefusal
-start-tried t h = tried h
+pub tests-tried : (t : Tests) {n : ℕ} → Tried (testsRules t) n → n ≡ testsRefusal t
+unfolding testsRefusal
+tests-tried t h = tried h
 
 pub telling-tried : (a b : Bool) {n : ℕ} → Tried (tellingRules a b) n → n ≡ tellingRefusal a b
 unfolding tellingRefusal

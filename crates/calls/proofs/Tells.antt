@@ -10,7 +10,7 @@ use borrow.Author.Tests.{eqb-true, ne-eqb, not-false}
 use Rattle.model.specs.declared.Control.{Control}
 use Rattle.model.specs.declared.Reported.{Reported}
 use Rattle.model.specs.declared.Reported.the-variants as reported
-use Rattle.model.specs.Tables.{Tables, Queue, recordAt}
+use Rattle.model.specs.Tables.{Tables, Queue, isPooled, recordAt}
 use Rattle.model.specs.Sound.{controlSound, rowsFit}
 use Rattle.model.specs.Walk.{contents, isBroken}
 use Rattle.model.specs.Refusals.{rule, first, reportRules, reportRefusal}
@@ -39,16 +39,17 @@ one-applies false b c h = refl
 
 module _ (q : Tables) (enough : Bool) (busy : ℕ) where
   abbrev pub why : ℕ
-  why = tellingRefusal (controlSound (q .control)) (rowsFit (q .control .slots) q && enough)
+  why = tellingRefusal (controlSound (q .control)) (rowsFit (isPooled (q .control)) (q .control .slots) q && enough)
 
   pub refused : (n : ℕ) → n ≡ why → (n ≡ 0 → ⊥) → reported.Refused n ≡ tell q enough busy
   unfolding tell reportRefusal
   refused n e h =
-      let r = one-applies (controlSound (q .control)) (rowsFit (q .control .slots) q && enough) (isBroken (contents q)) (λ z. h (e ∙ z)) ∙ sym e in
+      let fits = rowsFit (isPooled (q .control)) (q .control .slots) q && enough in
+      let r = one-applies (controlSound (q .control)) fits (isBroken (contents q)) (λ z. h (e ∙ z)) ∙ sym e in
       rw (r, ne-eqb n 0 h)
 
   module _ (n : ℕ) (e : n ≡ why) (z : n ≡ 0) where
-    passed : (controlSound (q .control) ≡ true) × (rowsFit (q .control .slots) q && enough ≡ true)
+    passed : (controlSound (q .control) ≡ true) × (rowsFit (isPooled (q .control)) (q .control .slots) q && enough ≡ true)
     passed = none-applies _ _ (sym e ∙ z)
 
     pub astray : Broken ≡ counted (contents q) → reported.Refused 34 ≡ tell q enough busy
@@ -92,7 +93,7 @@ module _ (q : Queue) where
       let z = cleared (reportRules (q .tables) (leb (control .tasks) lent)) refl e in
       let tasks = both (leb 1 (control .tasks) && leb (control .tasks) 16) _ (not-false _ (z .0)) .0 in
       let few = both (leb 1 (control .tasks)) (leb (control .tasks) 16) tasks .1 in
-      let enough = both (rowsFit (control .slots) (q .tables)) (leb (control .tasks) lent) (not-false _ (z .1 .0)) .1 in
+      let enough = both (rowsFit (isPooled control) (control .slots) (q .tables)) (leb (control .tasks) lent) (not-false _ (z .1 .0)) .1 in
       rw (few, enough)
 
   pub report-parts : report q ≡ tell (q .tables) (leb (control .tasks) lent) (count (λ t. not (eqb (recordAt q t .place) 0)) (countable control lent))

@@ -1,3 +1,4 @@
 pub mod Rules
 pub mod Opening
+pub mod Starting
 pub mod Telling

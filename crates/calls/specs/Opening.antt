@@ -1,5 +1,5 @@
 -- An opening in parts: the tables, and how many records are zeroed.
-use mathlib.Core.Bool.{cond}
+use mathlib.Core.Bool.{Bool, cond}
 use mathlib.Core.List.{List}
 use Prim.Native.Nat.{ℕ}
 use lib.Dec.{eqb}
@@ -10,10 +10,17 @@ use Rattle.model.specs.declared.Record.{Record}
 use Rattle.model.specs.declared.Opening.{Opening}
 use Rattle.model.specs.Tables.{Tables, Queue, idle, zeroed}
 use Rattle.model.specs.Refusals.{openRefusal}
-use Rattle.model.specs.Calls.{OpenDone, openQueue}
+use Rattle.model.specs.Calls.{OpenDone, openAs}
 
-abbrev pub openedControl : ℕ → ℕ → ℕ → Control
-openedControl tasks slots tag = record { tasks = tasks; slots = slots; anchor = packAnchor (emptyAnchor tag); retries = 0 }
+abbrev pub openedControl : Bool → ℕ → ℕ → ℕ → Control
+openedControl pooled tasks slots tag = record {
+  tasks = tasks;
+  slots = slots;
+  anchor = packAnchor (emptyAnchor tag);
+  retries = 0;
+  pooled = cond pooled 1 0;
+  head = cond pooled 1 0;
+}
 
 -- A queue with n records, of which only the number counts.
 abbrev pub counting : Tables → ℕ → Queue
@@ -24,10 +31,10 @@ pub record OpenedParts : Type 0 where
   pub clear : ℕ
   pub outcome : Opening
 
-unfoldable pub openTables : Tables → ℕ → ℕ → ℕ → ℕ → OpenedParts
-openTables q records tasks slots tag =
-    let done = openQueue (counting q records) tasks slots tag in
-    let clear : ℕ = cond (eqb (openRefusal (counting q records) tasks slots) 0) tasks 0 in
+unfoldable pub openTables : Bool → Tables → ℕ → ℕ → ℕ → ℕ → OpenedParts
+openTables pooled q records tasks slots tag =
+    let done = openAs pooled (counting q records) tasks slots tag in
+    let clear : ℕ = cond (eqb (openRefusal pooled (counting q records) tasks slots) 0) tasks 0 in
     record { tables = done .queue .tables; clear = clear; outcome = done .outcome }
 
 -- The parts with the lent records make the whole.

@@ -1,17 +1,24 @@
 -- The rules over tests already made: of a start, of a report, of an opening.
-use mathlib.Core.Bool.{Bool, not}
+use mathlib.Core.Bool.{Bool, _&&_, not}
 use mathlib.Core.List.{List, [], _∷_}
 use Prim.Native.Nat.{ℕ}
-use Rattle.model.specs.Sound.{from1}
-use Rattle.model.specs.Refusals.{Rule, rule, first}
+use lib.Dec.{leb, eqb, ltb}
+use Rattle.word.specs.Anchor.{anchorOf}
+use Rattle.model.specs.declared.Control.{Control}
+use Rattle.model.specs.declared.Record.{Record}
+use Rattle.model.specs.Tables.{isPooled}
+use Rattle.model.specs.Sound.{from1, controlSound, recordSound}
+use Rattle.model.specs.Refusals.{Rule, rule, first, Lent}
+use Rattle.calls.specs.declared.refusal.Asked.{Asked}
 use Rattle.calls.specs.declared.refusal.Tests.{Tests}
 
-abbrev pub startRules : Tests → List Rule
-startRules t =
+abbrev pub testsRules : Tests → List Rule
+testsRules t =
     rule 34 (not (t .control))
     ∷ rule 12 (not (t .fits))
     ∷ rule 13 (not (t .known))
     ∷ rule 14 (not (t .side))
+    ∷ rule 41 (t .wrong)
     ∷ rule 15 (not (t .slot))
     ∷ rule 34 (not (t .task))
     ∷ rule 30 (not (t .idle))
@@ -19,8 +26,26 @@ startRules t =
     ∷ rule 33 (t .late)
     ∷ []
 
-unfoldable pub startRefusal : Tests → ℕ
-startRefusal t = first (startRules t)
+unfoldable pub testsRefusal : Tests → ℕ
+testsRefusal t = first (testsRules t)
+
+-- The tests that every start makes, with those that only a push is asked; `fit`: whether the tables are long enough.
+abbrev pub testsOf : Control → Bool → Lent → Record → ℕ → Asked → Tests
+testsOf c fit p r side a = record {
+  control = controlSound c;
+  fits = fit && p .enough;
+  known = p .known;
+  side = leb side 1;
+  wrong = a .wrong;
+  slot = a .slot;
+  task = recordSound (isPooled c) (c .slots) r;
+  idle = eqb (r .place) 0;
+  taken = a .taken;
+  late = ltb 4294967262 (anchorOf (c .anchor) .tag);
+}
+
+unfoldable pub startRefusal : Control → Bool → Lent → Record → ℕ → Asked → ℕ
+startRefusal c fit p r side a = testsRefusal (testsOf c fit p r side a)
 
 -- A report's first two.
 abbrev pub tellingRules : Bool → Bool → List Rule

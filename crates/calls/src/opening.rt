@@ -1,9 +1,9 @@
-// An opening: all of it but the records, which the caller zeroes.
+// An opening, of a pooled queue or of a named one: all of it but the records, which the caller zeroes.
 use model::Control;
 use model::Opening;
 use word::Anchor;
 ghost use mathlib.Core.Path.{_≡_};
-ghost use mathlib.Core.Bool.{_&&_};
+ghost use mathlib.Core.Bool.{_&&_, cond};
 ghost use lib.Dec.{leb};
 ghost use Rattle.model.specs.Tables.{tablesOf};
 ghost use Rattle.sound.specs.Lengths.{lengthsFit};
@@ -19,6 +19,7 @@ pub struct OpenedTables {
 }
 
 fn open_refusal(
+    pooled: bool,
     tasks: u64,
     slots: u64,
     records: usize,
@@ -26,8 +27,10 @@ fn open_refusal(
     rights: usize,
     labels: usize,
     marks: usize,
+    next: usize,
 ) -> u32
-    ensures { λ n. ⌜ n ≡ openingRefusal tasks slots (lengthsFit slots lefts rights labels marks && leb tasks records) ⌝ }
+    ensures { λ n.
+        ⌜ n ≡ openingRefusal tasks slots (lengthsFit pooled slots lefts rights labels marks next && leb tasks records) ⌝ }
 {
     if !sound::from1(16, tasks) {
         return 10;
@@ -35,7 +38,7 @@ fn open_refusal(
     if !sound::from1(1023, slots) {
         return 11;
     }
-    let fits = sound::rows_fit(slots, lefts, rights, labels, marks);
+    let fits = sound::rows_fit(pooled, slots, lefts, rights, labels, marks, next);
     let enough = tasks <= records as u64;
     if !(fits & enough) {
         return 12;
@@ -43,21 +46,32 @@ fn open_refusal(
     0
 }
 
-fn opened_control(tasks: u64, slots: u64, tag: u32) -> Control
-    ensures { λ c. ⌜ c ≡ openedControl tasks slots tag ⌝ }
+/// The number of the way in control; and the first head, which in a pooled queue is tag 0 and slot 1.
+fn way(pooled: bool) -> u64
+    ensures { λ n. ⌜ n ≡ cond pooled 1 0 ⌝ }
+{
+    if pooled { 1 } else { 0 }
+}
+
+fn opened_control(pooled: bool, tasks: u64, slots: u64, tag: u32) -> Control
+    ensures { λ c. ⌜ c ≡ openedControl pooled tasks slots tag ⌝ }
 {
     let empty = Anchor::empty(tag as u64);
     let anchor = empty.pack();
+    let way = way(pooled);
     Control {
         tasks,
         slots,
         anchor,
         retries: 0,
+        pooled: way,
+        head: way,
     }
 }
 
 pub fn open_tables(
     c: Control,
+    pooled: bool,
     records: usize,
     tasks: u64,
     slots: u64,
@@ -66,19 +80,21 @@ pub fn open_tables(
     rights: &mut [u64],
     labels: &mut [u32],
     marks: &mut [u64],
+    next: &mut [u64],
 ) -> OpenedTables
     ensures { λ m.
         ⌜ _≡_ {A = OpenedParts}
         (record {
-          tables = tablesOf (m .control) (now (lefts .exit)) (now (rights .exit)) (now (labels .exit)) (now (marks .exit));
+          tables = tablesOf (m .control) (now (lefts .exit)) (now (rights .exit)) (now (labels .exit)) (now (marks .exit)) (now (next .exit));
           clear = m .clear;
           outcome = m .outcome;
         })
-        (openTables
-        (tablesOf c (now (lefts .entry)) (now (rights .entry)) (now (labels .entry)) (now (marks .entry)))
+        (openTables pooled
+        (tablesOf c (now (lefts .entry)) (now (rights .entry)) (now (labels .entry)) (now (marks .entry)) (now (next .entry)))
         records tasks slots tag) ⌝ }
 {
     let why = open_refusal(
+        pooled,
         tasks,
         slots,
         records,
@@ -86,6 +102,7 @@ pub fn open_tables(
         rights.len(),
         labels.len(),
         marks.len(),
+        next.len(),
     );
     if why != 0 {
         return OpenedTables {
@@ -99,7 +116,8 @@ pub fn open_tables(
     table::zero_words(rights, rows);
     table::zero_labels(labels, rows);
     table::zero_words(marks, slots / 64 + 1);
-    let control = opened_control(tasks, slots, tag);
+    table::stack_slots(pooled, next, slots);
+    let control = opened_control(pooled, tasks, slots, tag);
     OpenedTables {
         control,
         clear: tasks as usize,

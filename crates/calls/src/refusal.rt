@@ -6,11 +6,21 @@ ghost use mathlib.Core.Path.{_≡_};
 ghost use mathlib.Core.Bool.{true, false, _&&_};
 ghost use lib.Dec.{ltb};
 ghost use Rattle.word.specs.Anchor.{anchorOf};
-ghost use Rattle.model.specs.Tables.{tablesOf};
+ghost use Rattle.model.specs.Tables.{isPooled, tablesOf};
 ghost use Rattle.model.specs.Sound.{controlSound};
-ghost use Rattle.model.specs.Refusals.{pushRefusal, popRefusal};
-ghost use Rattle.calls.specs.Rules.{startRefusal, tellingRefusal};
+ghost use Rattle.model.specs.Refusals.{pushRefusal, putRefusal, popRefusal};
 ghost use Rattle.sound.specs.Lengths.{lengthsFit};
+ghost use Rattle.calls.specs.Rules.{testsRefusal, startRefusal, tellingRefusal};
+
+/// What only a push is tested for. A start that has no such test passes it.
+struct Asked {
+    /// It names a slot in a pooled queue, or none in a named one.
+    wrong: bool,
+    /// The slot that it names is 1 to slots.
+    slot: bool,
+    /// That slot's mark is set.
+    taken: bool,
+}
 
 /// The tests of a start.
 struct Tests {
@@ -18,6 +28,7 @@ struct Tests {
     fits: bool,
     known: bool,
     side: bool,
+    wrong: bool,
     slot: bool,
     task: bool,
     idle: bool,
@@ -25,8 +36,8 @@ struct Tests {
     late: bool,
 }
 
-fn start_refusal(t: Tests) -> u32
-    ensures { λ n. ⌜ n ≡ startRefusal t ⌝ }
+fn tests_refusal(t: Tests) -> u32
+    ensures { λ n. ⌜ n ≡ testsRefusal t ⌝ }
 {
     if !t.control {
         return 34;
@@ -39,6 +50,9 @@ fn start_refusal(t: Tests) -> u32
     }
     if !t.side {
         return 14;
+    }
+    if t.wrong {
+        return 41;
     }
     if !t.slot {
         return 15;
@@ -66,6 +80,46 @@ fn late(anchor: u64) -> bool
     4294967262 < a.tag
 }
 
+/// The tests that every start makes, with those that only a push is asked. The tables are given by
+/// their lengths.
+fn start_refusal(
+    c: Control,
+    r: Record,
+    enough: bool,
+    known: bool,
+    side: u64,
+    asked: Asked,
+    lefts: usize,
+    rights: usize,
+    labels: usize,
+    marks: usize,
+    next: usize,
+) -> u32
+    ensures { λ n.
+        ⌜ n ≡ startRefusal c
+        (lengthsFit (isPooled c) (c .slots) lefts rights labels marks next)
+        (record { enough = enough; known = known })
+        r side asked ⌝ }
+{
+    let pooled = c.pooled == 1;
+    let control = sound::control_sound(c);
+    let fits = sound::rows_fit(pooled, c.slots, lefts, rights, labels, marks, next);
+    let task = sound::record_sound(pooled, c.slots, r);
+    let late = late(c.anchor);
+    tests_refusal(Tests {
+        control,
+        fits: fits & enough,
+        known,
+        side: side <= 1,
+        wrong: asked.wrong,
+        slot: asked.slot,
+        task,
+        idle: r.place == 0,
+        taken: asked.taken,
+        late,
+    })
+}
+
 pub fn push_refusal(
     c: Control,
     r: Record,
@@ -77,36 +131,71 @@ pub fn push_refusal(
     rights: &[u64],
     labels: &[u32],
     marks: &[u64],
+    next: &[u64],
 ) -> u32
     ensures { λ n.
         ⌜ n ≡ pushRefusal
-        (tablesOf c (now (lefts .entry)) (now (rights .entry)) (now (labels .entry)) (now (marks .entry)))
+        (tablesOf c (now (lefts .entry)) (now (rights .entry)) (now (labels .entry)) (now (marks .entry)) (now (next .entry)))
         (record { enough = enough; known = known })
         r side slot ⌝ }
 {
-    let control = sound::control_sound(c);
-    let fits = sound::rows_fit(
-        c.slots,
+    let named = sound::from1(c.slots, slot);
+    let taken = table::marked(marks, slot);
+    start_refusal(
+        c,
+        r,
+        enough,
+        known,
+        side,
+        Asked {
+            wrong: c.pooled == 1,
+            slot: named,
+            taken,
+        },
         lefts.len(),
         rights.len(),
         labels.len(),
         marks.len(),
-    );
-    let named = sound::from1(c.slots, slot);
-    let task = sound::record_sound(c.slots, r);
-    let taken = table::marked(marks, slot);
-    let late = late(c.anchor);
-    start_refusal(Tests {
-        control,
-        fits: fits & enough,
+        next.len(),
+    )
+}
+
+/// A push that names no slot.
+pub fn put_refusal(
+    c: Control,
+    r: Record,
+    enough: bool,
+    known: bool,
+    side: u64,
+    lefts: &[u64],
+    rights: &[u64],
+    labels: &[u32],
+    marks: &[u64],
+    next: &[u64],
+) -> u32
+    ensures { λ n.
+        ⌜ n ≡ putRefusal
+        (tablesOf c (now (lefts .entry)) (now (rights .entry)) (now (labels .entry)) (now (marks .entry)) (now (next .entry)))
+        (record { enough = enough; known = known })
+        r side ⌝ }
+{
+    start_refusal(
+        c,
+        r,
+        enough,
         known,
-        side: side <= 1,
-        slot: named,
-        task,
-        idle: r.place == 0,
-        taken,
-        late,
-    })
+        side,
+        Asked {
+            wrong: c.pooled != 1,
+            slot: true,
+            taken: false,
+        },
+        lefts.len(),
+        rights.len(),
+        labels.len(),
+        marks.len(),
+        next.len(),
+    )
 }
 
 pub fn pop_refusal(
@@ -119,34 +208,31 @@ pub fn pop_refusal(
     rights: &[u64],
     labels: &[u32],
     marks: &[u64],
+    next: &[u64],
 ) -> u32
     ensures { λ n.
         ⌜ n ≡ popRefusal
-        (tablesOf c (now (lefts .entry)) (now (rights .entry)) (now (labels .entry)) (now (marks .entry)))
+        (tablesOf c (now (lefts .entry)) (now (rights .entry)) (now (labels .entry)) (now (marks .entry)) (now (next .entry)))
         (record { enough = enough; known = known })
         r side ⌝ }
 {
-    let control = sound::control_sound(c);
-    let fits = sound::rows_fit(
-        c.slots,
+    start_refusal(
+        c,
+        r,
+        enough,
+        known,
+        side,
+        Asked {
+            wrong: false,
+            slot: true,
+            taken: false,
+        },
         lefts.len(),
         rights.len(),
         labels.len(),
         marks.len(),
-    );
-    let task = sound::record_sound(c.slots, r);
-    let late = late(c.anchor);
-    start_refusal(Tests {
-        control,
-        fits: fits & enough,
-        known,
-        side: side <= 1,
-        slot: true,
-        task,
-        idle: r.place == 0,
-        taken: false,
-        late,
-    })
+        next.len(),
+    )
 }
 
 fn telling_refusal(control: bool, fits: bool) -> u32
@@ -169,13 +255,15 @@ pub fn report_refusal(
     rights: usize,
     labels: usize,
     marks: usize,
+    next: usize,
 ) -> u32
     ensures { λ n.
         ⌜ n ≡ tellingRefusal
         (controlSound c)
-        (lengthsFit (c .slots) lefts rights labels marks && enough) ⌝ }
+        (lengthsFit (isPooled c) (c .slots) lefts rights labels marks next && enough) ⌝ }
 {
     let control = sound::control_sound(c);
-    let fits = sound::rows_fit(c.slots, lefts, rights, labels, marks);
+    let pooled = c.pooled == 1;
+    let fits = sound::rows_fit(pooled, c.slots, lefts, rights, labels, marks, next);
     telling_refusal(control, fits & enough)
 }

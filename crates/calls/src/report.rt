@@ -40,10 +40,11 @@ pub fn told(
     rights: &[u64],
     labels: &[u32],
     marks: &[u64],
+    next: &[u64],
 ) -> Reported
     ensures { λ r.
         ⌜ r ≡ tell
-        (tablesOf c (now (lefts .entry)) (now (rights .entry)) (now (labels .entry)) (now (marks .entry)))
+        (tablesOf c (now (lefts .entry)) (now (rights .entry)) (now (labels .entry)) (now (marks .entry)) (now (next .entry)))
         (leb (c .tasks) records)
         busy ⌝ }
 {
@@ -55,6 +56,7 @@ pub fn told(
         rights.len(),
         labels.len(),
         marks.len(),
+        next.len(),
     );
     if why != 0 {
         return Reported::Refused(why);

@@ -1,4 +1,4 @@
-// The starts of a push and of a pop.
+// The starts of a push that names its slot, of one that names none, and of a pop.
 use crate::refusal;
 use model::Answer;
 use model::Control;
@@ -7,16 +7,17 @@ use model::Record;
 use table::Acted;
 ghost use mathlib.Core.Path.{_≡_};
 ghost use lib.Dec.{ltb, leb};
-ghost use Rattle.model.specs.Tables.{tablesOf, started};
-ghost use Rattle.model.specs.Calls.{pushStart, popStart};
+ghost use Rattle.model.specs.Tables.{tablesOf};
+ghost use Rattle.model.specs.Calls.{pushStart, putStart, popStart};
 ghost use Rattle.table.specs.Lent.{withTables};
+ghost use Rattle.calls.specs.Starting.{begun, decided};
 
-/// The whole record of a call at place 1.
-fn started(kind: u64, side: u64, own: u64, label: u32) -> Record
-    ensures { λ r. ⌜ r ≡ started kind side own label ⌝ }
+/// The whole record of a call at its first place.
+fn begun(place: u64, kind: u64, side: u64, own: u64, label: u32) -> Record
+    ensures { λ r. ⌜ r ≡ begun place kind side own label ⌝ }
 {
     Record {
-        place: 1,
+        place,
         kind,
         side,
         own,
@@ -28,30 +29,12 @@ fn started(kind: u64, side: u64, own: u64, label: u32) -> Record
     }
 }
 
-pub fn pop_start(
-    c: Control,
-    r: Record,
-    records: usize,
-    task: usize,
-    side: u64,
-    lefts: &[u64],
-    rights: &[u64],
-    labels: &[u32],
-    marks: &[u64],
-) -> Acted
-    ensures { λ m.
-        ⌜ withTables m (now (lefts .entry)) (now (rights .entry)) (now (labels .entry)) (now (marks .entry))
-        ≡ popStart
-        (tablesOf c (now (lefts .entry)) (now (rights .entry)) (now (labels .entry)) (now (marks .entry)))
-        (record { enough = leb (c .tasks) records; known = ltb task (c .tasks) })
-        r side ⌝ }
+/// A start that writes nothing but its record.
+fn decided(c: Control, r: Record, why: u32, task: Record) -> Acted
+    ensures { λ m. ⌜ m ≡ decided c r why task ⌝ }
 {
-    let enough = c.tasks <= records as u64;
-    let known = (task as u64) < c.tasks;
-    let why = refusal::pop_refusal(c, r, enough, known, side, lefts, rights, labels, marks);
     if why == 0 {
-        let task = started(1, side, 0, 0);
-        let answer = Answer::Running(1);
+        let answer = Answer::Running(task.place);
         Acted {
             control: c,
             task,
@@ -66,6 +49,82 @@ pub fn pop_start(
     }
 }
 
+pub fn pop_start(
+    c: Control,
+    r: Record,
+    records: usize,
+    task: usize,
+    side: u64,
+    lefts: &[u64],
+    rights: &[u64],
+    labels: &[u32],
+    marks: &[u64],
+    next: &[u64],
+) -> Acted
+    ensures { λ m.
+        ⌜ withTables m (now (lefts .entry)) (now (rights .entry)) (now (labels .entry)) (now (marks .entry)) (now (next .entry))
+        ≡ popStart
+        (tablesOf c (now (lefts .entry)) (now (rights .entry)) (now (labels .entry)) (now (marks .entry)) (now (next .entry)))
+        (record { enough = leb (c .tasks) records; known = ltb task (c .tasks) })
+        r side ⌝ }
+{
+    let enough = c.tasks <= records as u64;
+    let known = (task as u64) < c.tasks;
+    let why = refusal::pop_refusal(
+        c,
+        r,
+        enough,
+        known,
+        side,
+        lefts,
+        rights,
+        labels,
+        marks,
+        next,
+    );
+    let pop = begun(1, 1, side, 0, 0);
+    decided(c, r, why, pop)
+}
+
+/// A push that names no slot: it draws one from the stack, at 12 to 14.
+pub fn put_start(
+    c: Control,
+    r: Record,
+    records: usize,
+    task: usize,
+    side: u64,
+    label: u32,
+    lefts: &[u64],
+    rights: &[u64],
+    labels: &[u32],
+    marks: &[u64],
+    next: &[u64],
+) -> Acted
+    ensures { λ m.
+        ⌜ withTables m (now (lefts .entry)) (now (rights .entry)) (now (labels .entry)) (now (marks .entry)) (now (next .entry))
+        ≡ putStart
+        (tablesOf c (now (lefts .entry)) (now (rights .entry)) (now (labels .entry)) (now (marks .entry)) (now (next .entry)))
+        (record { enough = leb (c .tasks) records; known = ltb task (c .tasks) })
+        r side label ⌝ }
+{
+    let enough = c.tasks <= records as u64;
+    let known = (task as u64) < c.tasks;
+    let why = refusal::put_refusal(
+        c,
+        r,
+        enough,
+        known,
+        side,
+        lefts,
+        rights,
+        labels,
+        marks,
+        next,
+    );
+    let push = begun(12, 0, side, 0, label);
+    decided(c, r, why, push)
+}
+
 pub fn push_start(
     c: Control,
     r: Record,
@@ -78,11 +137,12 @@ pub fn push_start(
     rights: &[u64],
     labels: &mut [u32],
     marks: &mut [u64],
+    next: &[u64],
 ) -> Acted
     ensures { λ m.
-        ⌜ withTables m (now (lefts .entry)) (now (rights .entry)) (now (labels .exit)) (now (marks .exit))
+        ⌜ withTables m (now (lefts .entry)) (now (rights .entry)) (now (labels .exit)) (now (marks .exit)) (now (next .entry))
         ≡ pushStart
-        (tablesOf c (now (lefts .entry)) (now (rights .entry)) (now (labels .entry)) (now (marks .entry)))
+        (tablesOf c (now (lefts .entry)) (now (rights .entry)) (now (labels .entry)) (now (marks .entry)) (now (next .entry)))
         (record { enough = leb (c .tasks) records; known = ltb task (c .tasks) })
         r side slot label ⌝ }
 {
@@ -99,21 +159,13 @@ pub fn push_start(
         rights,
         labels,
         marks,
+        next,
     );
+    let push = begun(1, 0, side, slot, label);
     if why != 0 {
-        return Acted {
-            control: c,
-            task: r,
-            outcome: Outcome::Refused(why),
-        };
+        return decided(c, r, why, push);
     }
     table::put_label(labels, slot, label);
     table::set_mark(marks, slot);
-    let task = started(0, side, slot, label);
-    let answer = Answer::Running(1);
-    Acted {
-        control: c,
-        task,
-        outcome: Outcome::Moved(answer),
-    }
+    decided(c, r, why, push)
 }

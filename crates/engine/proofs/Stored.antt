@@ -38,42 +38,46 @@ module _ (c : Control) (r : Record) (m : Moved) where
   stored-nothing a = (rw a, rw a)
 
 -- A control or record whose kept fields are its own.
-whole-control : (c old : Control) → c .tasks ≡ old .tasks → c .slots ≡ old .slots → controlMoved old c ≡ c
-whole-control c old e1 e2 = ap (λ (n : ℕ). of n (old .slots)) (sym e1) ∙ ap (of (c .tasks)) (sym e2)
+whole-control : (c old : Control) → c .tasks ≡ old .tasks → c .slots ≡ old .slots → c .pooled ≡ old .pooled → controlMoved old c ≡ c
+whole-control c old e1 e2 e3 =
+    ap (λ (n : ℕ). of n (old .slots) (old .pooled)) (sym e1) ∙ ap (λ (n : ℕ). of (c .tasks) n (old .pooled)) (sym e2) ∙ ap (of (c .tasks) (c .slots)) (sym e3)
   where
-    of : ℕ → ℕ → Control
-    of tasks slots = record { tasks = tasks; slots = slots; anchor = c .anchor; retries = c .retries }
+    of : ℕ → ℕ → ℕ → Control
+    of tasks slots pooled = record {
+      tasks = tasks;
+      slots = slots;
+      anchor = c .anchor;
+      retries = c .retries;
+      pooled = pooled;
+      head = c .head;
+    }
 
-whole-record : (r old : Record) → Keeps old r → recordMoved old r ≡ r
-whole-record r old k =
-    ap (λ (n : ℕ). of n (old .side) (old .own) (old .label)) (sym (k .kind))
-    ∙ ap (λ (n : ℕ). of (r .kind) n (old .own) (old .label)) (sym (k .side))
-    ∙ ap (λ (n : ℕ). of (r .kind) (r .side) n (old .label)) (sym (k .own))
-    ∙ ap (of (r .kind) (r .side) (r .own)) (sym (k .label))
+whole-record : (named : Type 0) (r old : Record) → Keeps named old r → recordMoved old r ≡ r
+whole-record named r old k = ap (λ (n : ℕ). of n (old .side)) (sym (k .kind)) ∙ ap (of (r .kind)) (sym (k .side))
   where
-    of : ℕ → ℕ → ℕ → ℕ → Record
-    of kind side own label = record {
+    of : ℕ → ℕ → Record
+    of kind side = record {
       place = r .place;
       kind = kind;
       side = side;
-      own = own;
-      label = label;
+      own = r .own;
+      label = r .label;
       seen = r .seen;
       neighbour = r .neighbour;
       link = r .link;
       finishing = r .finishing;
     }
 
-module _ (q : Tables) (p : Lent) (r : Record) (m : Moved) (lefts rights labels marks : List ℕ) where
+module _ (q : Tables) (p : Lent) (r : Record) (m : Moved) (lefts rights labels marks next : List ℕ) where
   abbrev pub leaves : Control → Record → Acted
-  leaves c t = record { tables = tablesOf c lefts rights labels marks; task = t; outcome = m .outcome }
+  leaves c t = record { tables = tablesOf c lefts rights labels marks next; task = t; outcome = m .outcome }
 
   module _ (e : leaves (m .control) (m .task) ≡ step q p r) where
     kept : Kept q r (leaves (m .control) (m .task))
     kept = subst (Kept q r) (sym e) (step-kept q r p)
 
     same-control : controlMoved (q .control) (m .control) ≡ m .control
-    same-control = whole-control (m .control) (q .control) (kept .tasks) (kept .slots)
+    same-control = whole-control (m .control) (q .control) (kept .tasks) (kept .slots) (kept .pooled)
 
     pub over : endsCall (m .outcome) ≡ true → leaves (controlMoved (q .control) (m .control)) idle ≡ step q p r
     over h = ap (λ (c : Control). leaves c idle) same-control ∙ ap (leaves (m .control)) (sym (kept .zero h)) ∙ e
@@ -82,7 +86,7 @@ module _ (q : Tables) (p : Lent) (r : Record) (m : Moved) (lefts rights labels m
         → leaves (controlMoved (q .control) (m .control)) (recordMoved r (m .task)) ≡ step q p r
     going h =
         ap (λ (c : Control). leaves c (recordMoved r (m .task))) same-control
-        ∙ ap (leaves (m .control)) (whole-record (m .task) r (kept .keeps h)) ∙ e
+        ∙ ap (leaves (m .control)) (whole-record _ (m .task) r (kept .keeps h)) ∙ e
 
     pub unmoved : isMoved (m .outcome) ≡ false → leaves (q .control) r ≡ step q p r
     unmoved h =

@@ -7,7 +7,7 @@ use lib.Dec.{eqb}
 use borrow.Author.Tests.{leb-true, eqb-false, ne-eqb}
 use Rattle.model.specs.declared.Record.{Record}
 use Rattle.model.specs.declared.Outcome.the-variants.{Refused}
-use Rattle.model.specs.Tables.{Tables}
+use Rattle.model.specs.Tables.{Tables, isPooled}
 use Rattle.model.specs.Sound.{controlSound, recordSound, rowsFit}
 use Rattle.model.specs.Places.{linkMet, move}
 use Rattle.model.specs.Refusals.{Lent, stepSound, stepRefusal}
@@ -26,21 +26,22 @@ pub below : {n x : ℕ} → x ≤ suc n → (x ≡ suc n → ⊥) → x ≤ n
 below high other = omega arith
 
 -- The step at a record's own place.
-here : (q : Tables) (r : Record) → stepAt (r .place) q r ≡ decide (cond (stepSound (q .control) r (linkMet q r)) 0 34) q r (finish q r (move (q .control) r (linkMet q r)))
+pub here : (q : Tables) (r : Record)
+    → stepAt (r .place) q r ≡ decide (cond (stepSound (q .control) r (linkMet q r)) 0 34) q r (finish q r (move (q .control) r (linkMet q r)))
 unfolding stepAt
 here q r = refl
 
 module _ (q : Tables) (p : Lent) (r : Record) where
-  abbrev why : ℕ
-  why = admission (q .control) (rowsFit (q .control .slots) q) p
+  abbrev pub why : ℕ
+  why = admission (q .control) (rowsFit (isPooled (q .control)) (q .control .slots) q) p
 
-  in-parts : step q p r ≡ cond (eqb why 0) (moveOn q r) (record { tables = q; task = r; outcome = Refused why })
+  pub in-parts : step q p r ≡ cond (eqb why 0) (moveOn q r) (record { tables = q; task = r; outcome = Refused why })
   unfolding step stepRefusal admission recordRefusal moveOn
   in-parts =
       split (controlSound (q .control))
-      (λ a. split (rowsFit (q .control .slots) q && p .enough)
+      (λ a. split (rowsFit (isPooled (q .control)) (q .control .slots) q && p .enough)
       (λ b. split (p .known)
-      (λ k. split (recordSound (q .control .slots) r)
+      (λ k. split (recordSound (isPooled (q .control)) (q .control .slots) r)
       (λ s. split (eqb (r .place) 0)
       (λ z. simp (a, b, k, s, z))
       (λ z. split (stepSound (q .control) r (linkMet q r)) (λ t. simp (a, b, k, s, z, here, t)) (λ t. simp (a, b, k, s, z, here, t))))
@@ -61,14 +62,16 @@ module _ (q : Tables) (p : Lent) (r : Record) where
   unfolding admission
   task-there none =
       split (controlSound (q .control))
-      (λ a. split (rowsFit (q .control .slots) q && p .enough)
-      (λ b. split (p .known) (λ k. (and-eq-true-iff (rowsFit (q .control .slots) q) (p .enough) .0 b .1, k)) (λ k. absurd (let h : _≡_ {A = ℕ} 13 0 = simp (a, b, k) at none in omega arith)))
+      (λ a. split (rowsFit (isPooled (q .control)) (q .control .slots) q && p .enough)
+      (λ b. split (p .known)
+      (λ k. (and-eq-true-iff (rowsFit (isPooled (q .control)) (q .control .slots) q) (p .enough) .0 b .1, k))
+      (λ k. absurd (let h : _≡_ {A = ℕ} 13 0 = simp (a, b, k) at none in omega arith)))
       (λ b. absurd (let h : _≡_ {A = ℕ} 12 0 = simp (a, b) at none in omega arith)))
       (λ a. absurd (let h : _≡_ {A = ℕ} 34 0 = simp a at none in omega arith))
 
 module _ (q : Tables) (r : Record) where
-  abbrev fault : ℕ
-  fault = recordRefusal (q .control .slots) r
+  abbrev pub fault : ℕ
+  fault = recordRefusal (isPooled (q .control)) (q .control .slots) r
 
   pub stopped : (w : ℕ) → w ≡ fault → (w ≡ 0 → ⊥) → record { tables = q; task = r; outcome = Refused w } ≡ moveOn q r
   unfolding moveOn
@@ -78,16 +81,24 @@ module _ (q : Tables) (r : Record) where
   unfolding moveOn
   at-place n none at = ap (λ (k : ℕ). stepAt k q r) (sym at) ∙ rw none
 
-  -- Past the refusals the place is 1 to 11.
-  pub placed : fault ≡ 0 → (1 ≤ r .place) × (r .place ≤ 11)
+  -- Past the refusals the place is 1 to 17, and in a named queue 1 to 11.
+  pub placed : fault ≡ 0 → (1 ≤ r .place) × (r .place ≤ cond (isPooled (q .control)) 17 11)
   unfolding recordRefusal recordSound
   placed none =
-      split (recordSound (q .control .slots) r)
+      split (recordSound (isPooled (q .control)) (q .control .slots) r)
       (λ s. split (eqb (r .place) 0)
       (λ z. never (simp (s, z) at none))
-      (λ z. let high : r .place ≤ 11 = leb-true _ _ (and-eq-true-iff _ _ .0 (rw z at s) .0) in
-      let low : r .place ≡ 0 → ⊥ = eqb-false _ _ z in omega arith))
+      (λ z. (busy (eqb-false _ _ z), leb-true _ _ (and-eq-true-iff _ _ .0 (rw z at s) .0))))
       (λ s. never (simp s at none))
     where
-      never : {n : ℕ} → suc n ≡ 0 → (1 ≤ r .place) × (r .place ≤ 11)
+      busy : (r .place ≡ 0 → ⊥) → 1 ≤ r .place
+      busy other = omega arith
+
+      never : {n : ℕ} → suc n ≡ 0 → (1 ≤ r .place) × (r .place ≤ cond (isPooled (q .control)) 17 11)
       never h = absurd (omega arith)
+
+  pub below-18 : fault ≡ 0 → r .place ≤ 17
+  below-18 none = split (isPooled (q .control)) (λ e. rw e at (placed none .1)) (λ e. wider (rw e at (placed none .1)))
+    where
+      wider : r .place ≤ 11 → r .place ≤ 17
+      wider h = omega arith

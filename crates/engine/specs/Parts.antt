@@ -6,7 +6,7 @@ use lib.Dec.{eqb}
 use Rattle.model.specs.declared.Control.{Control}
 use Rattle.model.specs.declared.Record.{Record}
 use Rattle.model.specs.declared.Outcome.the-variants.{Refused}
-use Rattle.model.specs.Tables.{Tables}
+use Rattle.model.specs.Tables.{Tables, isPooled}
 use Rattle.model.specs.Sound.{controlSound, recordSound}
 use Rattle.model.specs.Refusals.{Rule, rule, first, Lent}
 use Rattle.model.specs.Calls.{Acted}
@@ -20,14 +20,14 @@ unfoldable pub admission : Control → Bool → Lent → ℕ
 admission c fit p = first (admissionRules c fit p)
 
 -- The rules of the record.
-abbrev pub recordRules : ℕ → Record → List Rule
-recordRules slots r = rule 34 (not (recordSound slots r)) ∷ rule 31 (eqb (r .place) 0) ∷ []
+abbrev pub recordRules : Bool → ℕ → Record → List Rule
+recordRules pooled slots r = rule 34 (not (recordSound pooled slots r)) ∷ rule 31 (eqb (r .place) 0) ∷ []
 
-unfoldable pub recordRefusal : ℕ → Record → ℕ
-recordRefusal slots r = first (recordRules slots r)
+unfoldable pub recordRefusal : Bool → ℕ → Record → ℕ
+recordRefusal pooled slots r = first (recordRules pooled slots r)
 
 -- The step of a record that is admitted.
 unfoldable pub moveOn : Tables → Record → Acted
 moveOn q r =
-    let why = recordRefusal (q .control .slots) r in
+    let why = recordRefusal (isPooled (q .control)) (q .control .slots) r in
     cond (eqb why 0) (stepAt (r .place) q r) (record { tables = q; task = r; outcome = Refused why })

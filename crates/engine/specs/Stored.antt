@@ -6,18 +6,25 @@ use Rattle.model.specs.Tables.{idle}
 use Rattle.table.specs.declared.Acted.{Acted}
 use Rattle.model.specs.Ends.{endsCall, isMoved}
 
--- A control that takes Anchor and retries of another.
+-- A control that takes Anchor, retries and head of another.
 abbrev pub controlMoved : Control → Control → Control
-controlMoved old c = record { tasks = old .tasks; slots = old .slots; anchor = c .anchor; retries = c .retries }
+controlMoved old c = record {
+  tasks = old .tasks;
+  slots = old .slots;
+  anchor = c .anchor;
+  retries = c .retries;
+  pooled = old .pooled;
+  head = c .head;
+}
 
--- A record that takes all of another but what its call began with: kind, side, own slot and label.
+-- A record that takes all of another but its call's kind and side.
 abbrev pub recordMoved : Record → Record → Record
 recordMoved old r = record {
   place = r .place;
   kind = old .kind;
   side = old .side;
-  own = old .own;
-  label = old .label;
+  own = r .own;
+  label = r .label;
   seen = r .seen;
   neighbour = r .neighbour;
   link = r .link;

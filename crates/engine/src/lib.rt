@@ -7,7 +7,7 @@ use table::Acted;
 ghost use mathlib.Core.Path.{_≡_};
 ghost use lib.Dec.{leb, ltb};
 ghost use Rattle.model.specs.Calls.{step, stepLent};
-ghost use Rattle.model.specs.Tables.{tablesOf};
+ghost use Rattle.model.specs.Tables.{isPooled, tablesOf};
 ghost use Rattle.table.specs.Lent.{withTables};
 ghost use Rattle.sound.specs.Lengths.{lengthsFit};
 ghost use Rattle.engine.specs.Parts.{admission, recordRefusal, moveOn};
@@ -23,14 +23,17 @@ fn admission(
     rights: usize,
     labels: usize,
     marks: usize,
+    next: usize,
 ) -> u32
     ensures { λ why.
-        ⌜ why ≡ admission c (lengthsFit (c .slots) lefts rights labels marks) (record { enough = enough; known = known }) ⌝ }
+        ⌜ why
+        ≡ admission c (lengthsFit (isPooled c) (c .slots) lefts rights labels marks next) (record { enough = enough; known = known }) ⌝ }
 {
     if !sound::control_sound(c) {
         return 34;
     }
-    let fit = sound::rows_fit(c.slots, lefts, rights, labels, marks) & enough;
+    let pooled = c.pooled == 1;
+    let fit = sound::rows_fit(pooled, c.slots, lefts, rights, labels, marks, next) & enough;
     if !fit {
         return 12;
     }
@@ -46,26 +49,27 @@ pub fn admit(
     rights: usize,
     labels: usize,
     marks: usize,
+    next: usize,
 ) -> u32
     ensures { λ why.
         ⌜ why
-        ≡ admission c (lengthsFit (c .slots) lefts rights labels marks)
+        ≡ admission c (lengthsFit (isPooled c) (c .slots) lefts rights labels marks next)
         (record { enough = leb (c .tasks) records; known = ltb task (c .tasks) }) ⌝ }
 {
     let enough = c.tasks <= records as u64;
     let known = (task as u64) < c.tasks;
-    admission(c, enough, known, lefts, rights, labels, marks)
+    admission(c, enough, known, lefts, rights, labels, marks, next)
 }
 
 /// Why an admitted step is refused before its place is looked at, or 0. An idle record is sound
 /// whatever it holds.
-fn refusal(slots: u64, r: Record) -> u32
-    ensures { λ why. ⌜ why ≡ recordRefusal slots r ⌝ }
+fn refusal(pooled: bool, slots: u64, r: Record) -> u32
+    ensures { λ why. ⌜ why ≡ recordRefusal pooled slots r ⌝ }
 {
     if r.place == 0 {
         return 31;
     }
-    if !sound::call_sound(slots, r) {
+    if !sound::call_sound(pooled, slots, r) {
         return 34;
     }
     if !sound::reads_sound(slots, r) {
@@ -93,12 +97,13 @@ pub fn step(
     task: usize,
     lefts: &mut [u64],
     rights: &mut [u64],
-    labels: &[u32],
+    labels: &mut [u32],
     marks: &mut [u64],
+    next: &mut [u64],
 ) -> Acted
     ensures { λ m.
-        ⌜ withTables m (now (lefts .exit)) (now (rights .exit)) (now (labels .entry)) (now (marks .exit))
-        ≡ step (tablesOf c (now (lefts .entry)) (now (rights .entry)) (now (labels .entry)) (now (marks .entry)))
+        ⌜ withTables m (now (lefts .exit)) (now (rights .exit)) (now (labels .exit)) (now (marks .exit)) (now (next .exit))
+        ≡ step (tablesOf c (now (lefts .entry)) (now (rights .entry)) (now (labels .entry)) (now (marks .entry)) (now (next .entry)))
         (record { enough = leb (c .tasks) records; known = ltb task (c .tasks) })
         r ⌝ }
 {
@@ -110,11 +115,12 @@ pub fn step(
         rights.len(),
         labels.len(),
         marks.len(),
+        next.len(),
     );
     if why != 0 {
         return refused(c, r, why);
     }
-    move_on(c, r, lefts, rights, labels, marks)
+    move_on(c, r, lefts, rights, labels, marks, next)
 }
 
 /// A step of a record lent alone: 13 can't occur and 12 looks at no records.
@@ -123,12 +129,13 @@ pub fn step_alone(
     r: Record,
     lefts: &mut [u64],
     rights: &mut [u64],
-    labels: &[u32],
+    labels: &mut [u32],
     marks: &mut [u64],
+    next: &mut [u64],
 ) -> Acted
     ensures { λ m.
-        ⌜ withTables m (now (lefts .exit)) (now (rights .exit)) (now (labels .entry)) (now (marks .exit))
-        ≡ stepLent (tablesOf c (now (lefts .entry)) (now (rights .entry)) (now (labels .entry)) (now (marks .entry))) r ⌝ }
+        ⌜ withTables m (now (lefts .exit)) (now (rights .exit)) (now (labels .exit)) (now (marks .exit)) (now (next .exit))
+        ≡ stepLent (tablesOf c (now (lefts .entry)) (now (rights .entry)) (now (labels .entry)) (now (marks .entry)) (now (next .entry))) r ⌝ }
 {
     // No record is wanting, and the task is known by it.
     let lent = true;
@@ -140,11 +147,12 @@ pub fn step_alone(
         rights.len(),
         labels.len(),
         marks.len(),
+        next.len(),
     );
     if why != 0 {
         return refused(c, r, why);
     }
-    move_on(c, r, lefts, rights, labels, marks)
+    move_on(c, r, lefts, rights, labels, marks, next)
 }
 
 /// The step of a record once it is admitted.
@@ -153,14 +161,16 @@ pub fn move_on(
     r: Record,
     lefts: &mut [u64],
     rights: &mut [u64],
-    labels: &[u32],
+    labels: &mut [u32],
     marks: &mut [u64],
+    next: &mut [u64],
 ) -> Acted
     ensures { λ m.
-        ⌜ withTables m (now (lefts .exit)) (now (rights .exit)) (now (labels .entry)) (now (marks .exit))
-        ≡ moveOn (tablesOf c (now (lefts .entry)) (now (rights .entry)) (now (labels .entry)) (now (marks .entry))) r ⌝ }
+        ⌜ withTables m (now (lefts .exit)) (now (rights .exit)) (now (labels .exit)) (now (marks .exit)) (now (next .exit))
+        ≡ moveOn (tablesOf c (now (lefts .entry)) (now (rights .entry)) (now (labels .entry)) (now (marks .entry)) (now (next .entry))) r ⌝ }
 {
-    let why = refusal(c.slots, r);
+    let pooled = c.pooled == 1;
+    let why = refusal(pooled, c.slots, r);
     if why != 0 {
         return refused(c, r, why);
     }
@@ -174,6 +184,12 @@ pub fn move_on(
         9 => places::at9(c, r, lefts, rights),
         10 => places::at10(c, r),
         11 => places::at11(c, r, labels, marks),
+        12 => places::pool::at12(c, r),
+        13 => places::pool::at13(c, r, next),
+        14 => places::pool::at14(c, r, labels, marks),
+        15 => places::pool::at15(c, r),
+        16 => places::pool::at16(c, r, next),
+        17 => places::pool::at17(c, r),
         // 1, 2 and 4
         _ => places::on_anchor(c, r),
     }
@@ -187,11 +203,12 @@ fn answer_ends(a: Answer) -> bool
         Answer::Pushed => true,
         Answer::Empty => true,
         Answer::Popped(_) => true,
+        Answer::NoSlot => true,
     }
 }
 
 /// Whether a step with this outcome ended its call: the record is then all zero. After any other
-/// outcome it keeps its kind, side, own slot and label.
+/// outcome it keeps its kind and side, and in a named queue its own slot and label.
 pub fn ends(o: Outcome) -> bool
     ensures { λ b. ⌜ b ≡ endsCall o ⌝ }
 {

@@ -15,7 +15,7 @@ use Rattle.model.specs.Sound.{anchorSound, linkSound, controlSound, reco
 use Rattle.model.specs.Places.{sideOf, row, linkSide, reading, at1, at2, at3, new4, at4, at5, at6, at7, at9, at10, at11, move}
 use Rattle.model.specs.Route.{pushRoute, popRoute, route, onward, answer, goes, counted}
 use Rattle.model.specs.Refusals.{openRefusal, pushRefusal, popRefusal, stepSound, stepRefusal}
-use Rattle.model.specs.Calls.{opened, openQueue, pushStart, popStart, finish, step, actOn, act}
+use Rattle.model.specs.Calls.{opened, openAs, openQueue, pushStart, popStart, finish, step, actOn, act}
 use Rattle.model.specs.Walk.{entries, along, contents}
 use Rattle.model.specs.History.{Request, Event, run, final}
 
@@ -23,11 +23,12 @@ use Rattle.model.specs.History.{Request, Event, run, final}
 abbrev zeros : Queue
 zeros = record {
   tables = record {
-    control = record { tasks = 0; slots = 0; anchor = 0; retries = 0 };
+    control = record { tasks = 0; slots = 0; anchor = 0; retries = 0; pooled = 0; head = 0 };
     lefts = replicate 4 0;
     rights = replicate 4 0;
     labels = replicate 4 0;
     marks = replicate 1 0;
+    next = [];
   };
   records = replicate 2 idle;
 }
@@ -107,7 +108,7 @@ pub record Table : Type 0 where
   pub ceiling-kept : counted 4294967295 true ≡ 4294967295
 
 pub bench : Table
-unfolding openQueue opened openRefusal run final act actOn pushStart popStart step finish pushRefusal popRefusal stepRefusal stepSound move at1 at2 at3 new4 at4 at5 at6 at7 at9 at10 at11 reading sideOf row linkSide anchorSound linkSound controlSound recordSound rowsFit pushRoute popRoute route onward answer goes counted along contents
+unfolding openAs opened openRefusal run final act actOn pushStart popStart step finish pushRefusal popRefusal stepRefusal stepSound move at1 at2 at3 new4 at4 at5 at6 at7 at9 at10 at11 reading sideOf row linkSide anchorSound linkSound controlSound recordSound rowsFit pushRoute popRoute route onward answer goes counted along contents
 bench = record {
   packs-stable = refl;
   packs-pushing = refl;

@@ -1,4 +1,5 @@
--- Two theorems over the meanings: Linearizable (demand 3) and NeverUnsound (34 never occurs).
+-- Three theorems over the meanings: Linearizable (demand 3) and NeverUnsound (34 never occurs), for named and pooled queues alike, and NoSlot
+-- (a pooled push is answered *no slot* only where every slot is in use).
 -- A step of the tables is a step of a decoded machine (bridge), which keeps an invariant (invariant, chain, places);
 -- a clerk's book follows the machine and matches the ledger (ledger); bounds on tags and fields keep every table sound (tags, unsound).
 pub mod tests
@@ -16,6 +17,7 @@ pub mod Openings
 pub mod Linearizable
 pub mod NeverUnsound
 pub mod Standing
+pub mod NoSlot
 pub mod StepBounds
 pub mod LinksBack
 -- Laws of single calls, and the worked cases of the document.

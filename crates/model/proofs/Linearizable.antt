@@ -1,24 +1,26 @@
 -- Demand 3: after any accepted opening, on any tables, every list of starts and steps is linearized.
+use mathlib.Core.Bool.{Bool}
 use mathlib.Core.List.{List}
-use mathlib.Core.Path.{_∙_, ap}
+use mathlib.Core.Path.{_∙_, _≡_, ap}
 use Prim.Native.Nat.{ℕ}
 use Rattle.model.specs.Calls.{opened}
 use Rattle.model.specs.History.{Linearizable, Linearized, Request, final, ledger, run}
+use Rattle.model.specs.Refusals.{openRefusal}
 use Rattle.model.specs.Walk.{entries}
 use Rattle.model.specs.Tables.{Queue}
 use Rattle.model.proofs.bridge.View.{stateOf}
 use Rattle.model.proofs.ledger.Kept.{run-good}
 use Rattle.model.proofs.ledger.Lawful.{all-lawful}
-use Rattle.model.proofs.ledger.Opened.{nobody, open-good}
+use Rattle.model.proofs.ledger.Opened.{nobody, open-good, some-slots}
 use Rattle.model.proofs.ledger.Waiting.{waits}
 use Rattle.model.proofs.Openings.{after-opening}
 
-module _ (q : Queue) (tasks slots tag : ℕ) where
-  pub linearized : (os : List Request) → Linearized (opened q tasks slots tag) os
+module _ (pooled : Bool) (q : Queue) (tasks slots tag : ℕ) where
+  pub linearized : openRefusal pooled q tasks slots ≡ 0 → (os : List Request) → Linearized (opened pooled q tasks slots tag) os
   unfolding stateOf
-  linearized os =
-      let o = opened q tasks slots tag in
-      let g = run-good os 1 o nobody (open-good q tasks slots tag) in
+  linearized e os =
+      let o = opened pooled q tasks slots tag in
+      let g = run-good os 1 o nobody (open-good pooled q tasks slots tag (some-slots pooled q tasks slots e)) in
       let l = ledger (run o os) in
       record {
         calls = all-lawful (g .0) (final o os) l (g .1) (l .calls) (g .1 .tracks);
@@ -26,4 +28,4 @@ module _ (q : Queue) (tasks slots tag : ℕ) where
       }
 
 pub linearizable : Linearizable
-linearizable = after-opening Linearized (λ q tasks slots tag e os. linearized q tasks slots tag os)
+linearizable pooled = after-opening pooled Linearized (linearized pooled)

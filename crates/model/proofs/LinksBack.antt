@@ -23,7 +23,7 @@ use Rattle.model.proofs.bridge.View.{stateOf, statusOf, view}
 use Rattle.model.proofs.ledger.Matched.{Matched}
 use Rattle.model.proofs.ledger.Waiting.{waits}
 use Rattle.model.proofs.ledger.Kept.{run-good}
-use Rattle.model.proofs.ledger.Opened.{nobody, open-good}
+use Rattle.model.proofs.ledger.Opened.{nobody, open-good, some-slots}
 use Rattle.model.proofs.Openings.{after-opening}
 
 -- The decoded status of a push is the number of its status.
@@ -52,7 +52,7 @@ joined q n l m before after x y e =
     }
 
 pub links-back : LinksBack
-links-back = after-opening NeighboursJoined (λ q tasks slots tag e os.
-    let o = opened q tasks slots tag in
-    let g = run-good os 1 o nobody (open-good q tasks slots tag) in
+links-back pooled = after-opening pooled NeighboursJoined (λ q tasks slots tag e os.
+    let o = opened pooled q tasks slots tag in
+    let g = run-good os 1 o nobody (open-good pooled q tasks slots tag (some-slots pooled q tasks slots e)) in
     joined (final o os) (g .0) _ (g .1))

@@ -1,8 +1,9 @@
 -- After any accepted opening, on any tables, no start or step is ever refused as unsound (34).
-use mathlib.Core.Bool.{cond, true}
+use mathlib.Core.Bool.{Bool, cond, true}
 use mathlib.Core.Path.{_∙_, _≡_, ap, refl, subst, sym}
 use Prim.Native.Nat.{_≤_, ℕ}
 use native.Mathlib.Omega.{arith}
+use lib.Dec.{leb}
 use borrow.Author.Tests.{not-false}
 use Rattle.word.specs.Anchor.{anchorOf, emptyAnchor, packAnchor}
 use Rattle.word.specs.Link.{linkOf}
@@ -13,52 +14,61 @@ use Rattle.model.specs.Sound.{controlSound, controlTests}
 use Rattle.model.specs.Tables.{Queue}
 use Rattle.model.specs.declared.Record.{Record}
 use Rattle.model.proofs.tests.Rules.{_and_, cleared, passes}
+use Rattle.model.proofs.tests.Truth.{by-test}
 use Rattle.model.proofs.machine.Laws.{stable-pushing}
 use Rattle.model.proofs.machine.Machine as M
 use Rattle.model.proofs.invariant.Fields.{Extra}
-use Rattle.model.proofs.invariant.Tags.{cost, owes, spent, unsettled}
+use Rattle.model.proofs.invariant.Tags.{cost, owes, share, shares, spent, unsettled}
 use Rattle.model.proofs.bridge.View.{stateOf, view}
-use Rattle.model.proofs.ledger.Opened.{all-idle, empty-left, empty-right, empty-status, no-record, nobody, open-good, zero-links}
+use Rattle.model.proofs.ledger.Opened.{all-idle, empty-left, empty-right, empty-status, no-record, nobody, open-good, some-slots, zero-links}
 use Rattle.model.proofs.tags.Sum.{total-le}
 use Rattle.model.proofs.unsound.Never34.{run-safe}
 use Rattle.model.proofs.unsound.Safe.{Safe}
 use Rattle.model.proofs.unsound.Tests.{anchor-sound}
 use Rattle.model.proofs.Openings.{after-opening}
 
-module _ (q : Queue) (tasks slots tag : ℕ) where
+module _ (pooled : Bool) (q : Queue) (tasks slots tag : ℕ) where
   abbrev o : Queue
-  o = opened q tasks slots tag
+  o = opened pooled q tasks slots tag
 
-  module _ (e : openRefusal q tasks slots ≡ 0) where
+  module _ (e : openRefusal pooled q tasks slots ≡ 0) where
     open-control : controlSound (o .tables .control) ≡ true
     unfolding openRefusal opened controlSound
     open-control =
-        let z = cleared (openRules q tasks slots) refl e in
+        let z = cleared (openRules pooled q tasks slots) refl e in
         let a = anchor-sound slots (anchorOf (packAnchor (emptyAnchor tag)))
-        (record { status = omega arith; left = omega arith; right = omega arith; null = λ z. empty-right q tasks slots tag; full = λ z. empty-left q tasks slots tag; single = λ z. omega arith }) in
-        passes (controlTests (o .tables .control)) (not-false _ (z .0) and not-false _ (z .1 .0) and a and tt)
+        (record { status = omega arith; left = omega arith; right = omega arith; null = λ z. empty-right pooled q tasks slots tag; full = λ z. empty-left pooled q tasks slots tag; single = λ z. omega arith }) in
+        passes (controlTests (o .tables .control)) (not-false _ (z .0) and not-false _ (z .1 .0) and a and by-test (λ n. leb n 1 ≡ true) pooled (λ e. refl) (λ e. refl) and tt)
 
     -- Nobody owes a change.
     open-cost : (t : ℕ) → cost (stateOf o .task t) ≤ 0
-    open-cost t = let z = ap (λ (p : M.Place). cond (spent p (stateOf o .task t .finishing)) 0 (owes (stateOf o .task t .kind))) (all-idle q tasks slots tag t) in omega arith
+    open-cost t = let z = ap (λ (p : M.Place). cond (spent p (stateOf o .task t .finishing)) 0 (owes (stateOf o .task t .kind))) (all-idle pooled q tasks slots tag t) in omega arith
+
+    open-share : (t : ℕ) → share (stateOf o .task t) ≤ 1
+    open-share t = let z = ap (λ (p : M.Place). shares p (stateOf o .task t .finishing) (stateOf o .task t .kind)) (all-idle pooled q tasks slots tag t) in omega arith
 
     pub open-safe : Safe o
     unfolding view opened
     open-safe = record {
       control = open-control;
-      fine = λ t lt b. absurd (b (ap (λ (r : Record). r .place) (no-record q tasks slots tag t lt)));
-      extra = λ t. subst (λ p. Extra p (stateOf o .task t)) (sym (all-idle q tasks slots tag t)) tt;
+      fine = λ t lt b. absurd (b (ap (λ (r : Record). r .place) (no-record pooled q tasks slots tag t lt)));
+      extra = λ t. subst (λ p. Extra p (stateOf o .task t)) (sym (all-idle pooled q tasks slots tag t)) tt;
       tags = record {
-        upper = zero-links q tasks slots tag (λ w. linkOf w .tag ≤ anchorOf (packAnchor (emptyAnchor tag)) .tag) (omega arith);
-        room = λ d st. absurd (stable-pushing (sym (empty-status q tasks slots tag) ∙ st));
+        upper = zero-links pooled q tasks slots tag (λ w. linkOf w .tag ≤ anchorOf (packAnchor (emptyAnchor tag)) .tag) (omega arith);
+        room = λ d st. absurd (stable-pushing (sym (empty-status pooled q tasks slots tag) ∙ st));
       };
       bound =
           let z = total-le (λ u. cost (stateOf o .task u)) 0 tasks open-cost in
-          let w = ap unsettled (empty-status q tasks slots tag) in
+          let w = ap unsettled (empty-status pooled q tasks slots tag) in
           let v : anchorOf (packAnchor (emptyAnchor tag)) .tag ≤ 4294967295 = omega arith in
+          omega arith;
+      head =
+          let z = total-le (λ u. share (stateOf o .task u)) 1 tasks open-share in
+          let w : linkOf (cond pooled 1 0) .tag ≡ 0 = by-test (λ n. linkOf n .tag ≡ 0) pooled (λ e. refl) (λ e. refl) in
           omega arith;
     }
 
 pub never-unsound : Never34
-never-unsound = after-opening NeverUnsound (λ q tasks slots tag e os.
-    run-safe os 1 (opened q tasks slots tag) nobody (open-good q tasks slots tag) (open-safe q tasks slots tag e) .0)
+never-unsound pooled = after-opening pooled NeverUnsound (λ q tasks slots tag e os.
+    run-safe os 1 (opened pooled q tasks slots tag) nobody (open-good pooled q tasks slots tag (some-slots pooled q tasks slots e))
+    (open-safe pooled q tasks slots tag e) .0)

@@ -1,4 +1,5 @@
 -- What holds of the queue that every accepted opening leaves, and of any list after it.
+use mathlib.Core.Bool.{Bool}
 use mathlib.Core.List.{List}
 use mathlib.Core.Path.{_≡_}
 use Prim.Native.Nat.{ℕ}
@@ -8,14 +9,14 @@ use borrow.Author.Tests.{eqb-true}
 use Rattle.model.specs.declared.Opening.the-variants.{Opened, Refused}
 use Rattle.model.specs.Tables.{Queue}
 use Rattle.model.specs.Refusals.{openRefusal}
-use Rattle.model.specs.Calls.{openQueue, opened}
-use Rattle.model.specs.History.{AfterOpening, Request}
+use Rattle.model.specs.Calls.{openAs, opened}
+use Rattle.model.specs.History.{AfterOpeningAs, Request}
 use Rattle.model.proofs.tests.Truth.{split}
 
-pub after-opening : (P : Queue → List Request → Type 0)
-    → ((q : Queue) (tasks slots tag : ℕ) → openRefusal q tasks slots ≡ 0 → (os : List Request) → P (opened q tasks slots tag) os)
-    → AfterOpening P
-unfolding openQueue
-after-opening P h q tasks slots tag e os = split (eqb (openRefusal q tasks slots) 0)
+pub after-opening : (pooled : Bool) (P : Queue → List Request → Type 0)
+    → ((q : Queue) (tasks slots tag : ℕ) → openRefusal pooled q tasks slots ≡ 0 → (os : List Request) → P (opened pooled q tasks slots tag) os)
+    → AfterOpeningAs pooled P
+unfolding openAs
+after-opening pooled P h q tasks slots tag e os = split (eqb (openRefusal pooled q tasks slots) 0)
     (λ z. rw z (h q tasks slots tag (eqb-true _ _ z) os))
-    (λ z. absurd (let f : Refused (openRefusal q tasks slots) ≡ Opened = rw z at e in let w : _≡_ {A = ℕ} 0 1 = cc in omega arith))
+    (λ z. absurd (let f : Refused (openRefusal pooled q tasks slots) ≡ Opened = rw z at e in let w : _≡_ {A = ℕ} 0 1 = cc in omega arith))

@@ -1,6 +1,6 @@
 -- After any accepted opening and any list: what every call that walks relies on, and so what the report tells.
 use mathlib.Core.Path.{_∙_, _≡_, refl}
-use mathlib.Core.Bool.{true}
+use mathlib.Core.Bool.{Bool, true}
 use mathlib.Core.List.{List, [], _∷_}
 use Prim.Native.Nat.{ℕ}
 use Rattle.model.specs.declared.Entry.{Entry}
@@ -9,11 +9,11 @@ use Rattle.model.specs.Tables.{Queue}
 use Rattle.model.specs.Sound.{controlSound}
 use Rattle.model.specs.Walk.{contents, entries}
 use Rattle.model.specs.Refusals.{openRefusal, recordsFit, reportRefusal}
-use Rattle.model.specs.Calls.{act, openQueue, opened}
+use Rattle.model.specs.Calls.{act, opened}
 use Rattle.model.specs.Report.{busy, report, tell, told, waiting}
-use Rattle.model.specs.History.{AfterOpening, Reports, Request, final, ledger, run}
+use Rattle.model.specs.History.{AfterOpening, Reports, Told, Request, final, ledger, run}
 use Rattle.model.proofs.laws.Sizes.{act-fits, fits, open-fits}
-use Rattle.model.proofs.ledger.Opened.{nobody, open-good}
+use Rattle.model.proofs.ledger.Opened.{nobody, open-good, some-slots}
 use Rattle.model.proofs.unsound.Never34.{run-safe}
 use Rattle.model.proofs.Linearizable.{linearized}
 use Rattle.model.proofs.NeverUnsound.{open-safe}
@@ -30,19 +30,19 @@ unfolding final
 final-fits [] q = refl
 final-fits (o ∷ os) q = final-fits os (act q (o .task) (o .op) .queue) ∙ act-fits q (o .task) (o .op)
 
-module _ (q : Queue) (tasks slots tag : ℕ) where
-  abbrev o : Queue
-  o = opened q tasks slots tag
-
-  stands : openRefusal q tasks slots ≡ 0 → (os : List Request) → Standing (final o os) (ledger (run o os) .deque)
-  stands e os = record {
-    control = run-safe os 1 o nobody (open-good q tasks slots tag) (open-safe q tasks slots tag e) .1 .control;
-    long = final-fits os o ∙ open-fits q tasks slots tag;
-    walk = linearized q tasks slots tag os .waits;
-  }
+stands : (pooled : Bool) (q : Queue) (tasks slots tag : ℕ) → openRefusal pooled q tasks slots ≡ 0 → (os : List Request)
+    → let o = opened pooled q tasks slots tag in Standing (final o os) (ledger (run o os) .deque)
+stands pooled q tasks slots tag e os =
+    let o = opened pooled q tasks slots tag in
+    let begun = open-good pooled q tasks slots tag (some-slots pooled q tasks slots e) in
+    record {
+      control = run-safe os 1 o nobody begun (open-safe pooled q tasks slots tag e) .1 .control;
+      long = final-fits os o ∙ open-fits pooled q tasks slots tag;
+      walk = linearized pooled q tasks slots tag e os .waits;
+    }
 
 pub standing : AfterOpening (λ q os. Standing (final q os) (ledger (run q os) .deque))
-standing = after-opening (λ q os. Standing (final q os) (ledger (run q os) .deque)) stands
+standing pooled = after-opening pooled (λ q os. Standing (final q os) (ledger (run q os) .deque)) (stands pooled)
 
 -- No rule of the report applies.
 report-none : (q : Queue) (d : List Entry) → Standing q d → reportRefusal (q .tables) (recordsFit (q .tables .control .tasks) q) ≡ 0
@@ -56,7 +56,7 @@ report-told q d s = rw (report-none q d s)
 -- Waiting is the length of the sequential deque's queue, and the report is never refused.
 pub reports : Reports
 unfolding waiting
-reports q tasks slots tag e os =
-    let s = standing q tasks slots tag e os in
-    let after = final (openQueue q tasks slots tag .queue) os in
-    record { tells = told (after .tables) (busy after); is = report-told after _ s; waiting = rw (s .walk) }
+reports pooled = after-opening pooled Told (λ q tasks slots tag e os.
+    let s = stands pooled q tasks slots tag e os in
+    let after = final (opened pooled q tasks slots tag) os in
+    record { tells = told (after .tables) (busy after); is = report-told after _ s; waiting = rw (s .walk) })

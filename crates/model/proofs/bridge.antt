@@ -5,6 +5,7 @@ pub mod Marks
 pub mod Facts
 pub mod Trying
 pub mod Helping
+pub mod Pooling
 pub mod EveryPlace
 pub mod Stores
 pub mod ByMove

@@ -11,8 +11,13 @@ pub mod Place3
 pub mod Places5to8
 pub mod Place9
 pub mod Place10
+pub mod Owning
+pub mod Stack
 pub mod Place11
+pub mod Places12to14
+pub mod Places15to17
 pub mod Step
 pub mod Start
 pub mod Opening
 pub mod AtMostOnce
+pub mod NoSlot

@@ -2,4 +2,5 @@
 pub mod Sum
 pub mod AnchorTag
 pub mod LinkTag
+pub mod HeadTag
 pub mod Bounds

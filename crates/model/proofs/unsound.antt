@@ -2,6 +2,7 @@
 pub mod FieldsKept
 pub mod AnchorFields
 pub mod Tests
+pub mod Suits
 pub mod Moves
 pub mod Safe
 pub mod StepSound

@@ -1,32 +1,40 @@
 -- What every call answers and what each table then holds. (Document 01: Tables, Places, and how a call is refused.)
-use mathlib.Core.Bool.{cond}
+use mathlib.Core.Bool.{Bool, true, false, cond}
+use mathlib.Core.List.{List, _∷_, _++_}
 use Prim.Native.Nat.{ℕ, _+_, _/_}
 use lib.Dec.{eqb}
-use lib.ListN.{getD, set}
+use lib.ListN.{getD, set, drop}
 use Rattle.word.specs.Anchor.{packAnchor, emptyAnchor}
 use Rattle.model.specs.declared.Record.{Record}
-use Rattle.model.specs.declared.Answer.the-variants.{Running, Pushed, Empty, Popped}
+use Rattle.model.specs.declared.Entry.{Entry}
+use Rattle.model.specs.declared.Answer.the-variants.{Running, Pushed, Empty, Popped, NoSlot}
 use Rattle.model.specs.declared.Outcome.{Outcome}
 use Rattle.model.specs.declared.Outcome.the-variants.{Refused, Moved}
 use Rattle.model.specs.declared.Opening.{Opening}
 use Rattle.model.specs.declared.Opening.the-variants as opening
 use Rattle.model.specs.declared.Op.{Op}
-use Rattle.model.specs.declared.Op.the-variants.{Push, Pop, Step}
+use Rattle.model.specs.declared.Op.the-variants.{Push, Pop, Put, Step}
 use Rattle.model.specs.declared.Reply.{Reply}
-use Rattle.model.specs.Tables.{Tables, Queue, withMark, idle, started, recordAt, zeroed}
+use Rattle.model.specs.Tables.{Tables, Queue, idle, started, asking, recordAt, zeroed, climb}
 use Rattle.model.specs.Places.{row, linkMet, Move, move, apply}
+pub use Rattle.model.specs.Places.{taken}
 use Rattle.model.specs.Route.{route, onward, answer, goes, counted}
-use Rattle.model.specs.Refusals.{openRefusal, Lent, among, alone, pushRefusal, popRefusal, stepRefusal}
+use Rattle.model.specs.Refusals.{openRefusal, Lent, among, alone, pushRefusal, putRefusal, popRefusal, stepRefusal}
 
 -- Opening: rows 0 to slots, the records, marks and retries zeroed; Anchor empty and STABLE with the first tag.
-unfoldable pub opened : Queue → ℕ → ℕ → ℕ → Queue
-opened q tasks slots tag = record {
+-- A pooled opening also stacks all slots: the head is tag 0 and slot 1, each slot's next the one above, the last one's 0.
+abbrev pub stacked : ℕ → List ℕ → List ℕ
+stacked slots l = 0 ∷ climb 2 slots ++ drop (slots + 1) l
+
+unfoldable pub opened : Bool → Queue → ℕ → ℕ → ℕ → Queue
+opened pooled q tasks slots tag = record {
   tables = record {
-    control = record { tasks = tasks; slots = slots; anchor = packAnchor (emptyAnchor tag); retries = 0 };
+    control = record { tasks = tasks; slots = slots; anchor = packAnchor (emptyAnchor tag); retries = 0; pooled = cond pooled 1 0; head = cond pooled 1 0 };
     lefts = zeroed (slots + 1) 0 (q .tables .lefts);
     rights = zeroed (slots + 1) 0 (q .tables .rights);
     labels = zeroed (slots + 1) 0 (q .tables .labels);
     marks = zeroed (slots / 64 + 1) 0 (q .tables .marks);
+    next = cond pooled (stacked slots (q .tables .next)) (q .tables .next);
   };
   records = zeroed tasks idle (q .records);
 }
@@ -35,12 +43,19 @@ pub record OpenDone : Type 0 where
   pub queue : Queue
   pub outcome : Opening
 
-unfoldable pub openQueue : Queue → ℕ → ℕ → ℕ → OpenDone
-openQueue q tasks slots tag =
-    let why = openRefusal q tasks slots in
+unfoldable pub openAs : Bool → Queue → ℕ → ℕ → ℕ → OpenDone
+openAs pooled q tasks slots tag =
+    let why = openRefusal pooled q tasks slots in
     cond (eqb why 0)
-    (record { queue = opened q tasks slots tag; outcome = opening.Opened })
+    (record { queue = opened pooled q tasks slots tag; outcome = opening.Opened })
     (record { queue = q; outcome = opening.Refused why })
+
+-- The two ways of opening.
+abbrev pub openQueue : Queue → ℕ → ℕ → ℕ → OpenDone
+openQueue q tasks slots tag = openAs false q tasks slots tag
+
+abbrev pub openPooled : Queue → ℕ → ℕ → ℕ → OpenDone
+openPooled q tasks slots tag = openAs true q tasks slots tag
 
 -- What a start or step of one record leaves of tables and record, and its outcome.
 pub record Acted : Type 0 where
@@ -53,19 +68,16 @@ abbrev pub decide : ℕ → Tables → Record → Acted → Acted
 decide why q r done = cond (eqb why 0) done (record { tables = q; task = r; outcome = Refused why })
 
 -- A push start also stores the label in the named slot's row and sets its mark.
-abbrev pub taken : Tables → ℕ → ℕ → Tables
-taken q slot label = record {
-  control = q .control;
-  lefts = q .lefts;
-  rights = q .rights;
-  labels = set (q .labels) slot label;
-  marks = withMark (q .marks) slot 1;
-}
-
 unfoldable pub pushStart : Tables → Lent → Record → ℕ → ℕ → ℕ → Acted
 pushStart q p r side slot label =
     decide (pushRefusal q p r side slot) q r
     (record { tables = taken q slot label; task = started 0 side slot label; outcome = Moved (Running 1) })
+
+-- One that names no slot only writes the record.
+unfoldable pub putStart : Tables → Lent → Record → ℕ → ℕ → Acted
+putStart q p r side label =
+    decide (putRefusal q p r side) q r
+    (record { tables = q; task = asking side label; outcome = Moved (Running 12) })
 
 unfoldable pub popStart : Tables → Lent → Record → ℕ → Acted
 popStart q p r side =
@@ -75,12 +87,17 @@ popStart q p r side =
 -- The tables with the retries counted.
 abbrev pub withRetries : Tables → ℕ → Tables
 withRetries q n = record {
-  control = record { tasks = q .control .tasks; slots = q .control .slots; anchor = q .control .anchor; retries = n };
+  control = record { tasks = q .control .tasks; slots = q .control .slots; anchor = q .control .anchor; retries = n; pooled = q .control .pooled; head = q .control .head };
   lefts = q .lefts;
   rights = q .rights;
   labels = q .labels;
   marks = q .marks;
+  next = q .next;
 }
+
+-- The entry that a pop answers: the end taken with the label found, or, once the slot is given back, the record's.
+abbrev pub entryOf : Tables → Record → Entry
+entryOf q r = record { slot = row r; label = cond (eqb (r .place) 17) (r .label) (getD (q .labels) (row r) 0) }
 
 -- A place's move made: its touch, the retries, the record gone on, the answer.
 unfoldable pub finish : Tables → Record → Move → Acted
@@ -89,7 +106,7 @@ finish q r m =
     record {
       tables = apply (m .touch) (withRetries q (counted (q .control .retries) (m .failed)));
       task = goes (m .task) n;
-      outcome = Moved (answer n (record { slot = row r; label = getD (q .labels) (row r) 0 }));
+      outcome = Moved (answer n (entryOf q r));
     }
 
 unfoldable pub step : Tables → Lent → Record → Acted
@@ -99,6 +116,7 @@ step q p r = decide (stepRefusal q p r) q r (finish q r (move (q .control) r (li
 unfoldable pub actOn : Tables → Lent → Record → Op → Acted
 actOn q p r (Push side slot label) = pushStart q p r side slot label
 actOn q p r (Pop side) = popStart q p r side
+actOn q p r (Put side label) = putStart q p r side label
 actOn q p r Step = step q p r
 
 -- A start or step of task t: its record is put back where it lay.
@@ -123,3 +141,4 @@ replyOf (Moved (Running p)) = record { code = 1; label = 0; value = p }
 replyOf (Moved Pushed) = record { code = 2; label = 0; value = 0 }
 replyOf (Moved Empty) = record { code = 3; label = 0; value = 0 }
 replyOf (Moved (Popped e)) = record { code = 4; label = e .label; value = e .slot }
+replyOf (Moved NoSlot) = record { code = 5; label = 0; value = 0 }

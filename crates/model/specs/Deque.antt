@@ -1,11 +1,11 @@
 -- The sequential deque. (Document 01: The clerk.)
-use mathlib.Core.Bool.{cond}
+use mathlib.Core.Bool.{Bool, true, false, cond}
 use mathlib.Core.List.{List, [], _∷_, reverse}
 use Prim.Native.Nat.{ℕ}
 use lib.Dec.{eqb}
 use Rattle.model.specs.declared.Entry.{Entry}
 use Rattle.model.specs.declared.Answer.{Answer}
-use Rattle.model.specs.declared.Answer.the-variants.{Pushed, Empty, Popped}
+use Rattle.model.specs.declared.Answer.the-variants.{Running, Pushed, Empty, Popped, NoSlot}
 
 -- A deque is a list from left to right; seen from a side, the end there comes first.
 abbrev pub seenFrom : {A : Type 0} → ℕ → List A → List A
@@ -31,3 +31,14 @@ servePop side l = takeFirst side (seenFrom side l)
 -- The call's kind and side, and a push's entry.
 unfoldable pub serve : ℕ → ℕ → Entry → List Entry → Served
 serve kind side e l = cond (eqb kind 0) (servePush side e l) (servePop side l)
+
+-- A push that is answered *no slot* gets the same reply, and the deque stays.
+abbrev pub saysNoSlot : Answer → Bool
+saysNoSlot (Running p) = false
+saysNoSlot Pushed = false
+saysNoSlot Empty = false
+saysNoSlot (Popped e) = false
+saysNoSlot NoSlot = true
+
+unfoldable pub serveFor : Answer → ℕ → ℕ → Entry → List Entry → Served
+serveFor a kind side e l = cond (saysNoSlot a) (record { reply = NoSlot; deque = l }) (serve kind side e l)

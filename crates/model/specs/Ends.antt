@@ -1,7 +1,7 @@
--- Which outcomes are no refusals, and which of them end a call: pushed, empty and popped.
+-- Which outcomes are no refusals, and which of them end a call: pushed, empty, popped and no slot.
 use mathlib.Core.Bool.{Bool, true, false, not}
 use Rattle.model.specs.declared.Answer.{Answer}
-use Rattle.model.specs.declared.Answer.the-variants.{Running, Pushed, Empty, Popped}
+use Rattle.model.specs.declared.Answer.the-variants.{Running, Pushed, Empty, Popped, NoSlot}
 use Rattle.model.specs.declared.Outcome.{Outcome}
 use Rattle.model.specs.declared.Outcome.the-variants.{Refused, Moved}
 
@@ -10,6 +10,7 @@ answerEnds (Running n) = false
 answerEnds Pushed = true
 answerEnds Empty = true
 answerEnds (Popped e) = true
+answerEnds NoSlot = true
 
 abbrev pub isMoved : Outcome → Bool
 isMoved (Refused n) = false

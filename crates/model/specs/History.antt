@@ -3,24 +3,26 @@ use mathlib.Core.Path.{_≡_}
 use mathlib.Core.Bool.{Bool, true, false, _&&_, _||_, not, cond}
 use mathlib.Core.List.{List, [], _∷_}
 use Prim.Native.Nat.{ℕ, suc, _<_, _≤_}
-use lib.Dec.{eqb}
+use lib.Dec.{eqb, leb}
 use lib.ListN.{length}
 use Rattle.word.specs.Anchor.{anchorOf}
 use Rattle.model.specs.declared.Entry.{Entry}
 use Rattle.model.specs.declared.Answer.{Answer}
-use Rattle.model.specs.declared.Answer.the-variants.{Running, Pushed, Empty, Popped}
+use Rattle.model.specs.declared.Answer.the-variants.{Running, Pushed, Empty, Popped, NoSlot}
 use Rattle.model.specs.declared.Outcome.{Outcome}
 use Rattle.model.specs.declared.Outcome.the-variants.{Refused, Moved}
 use Rattle.model.specs.declared.Op.{Op}
-use Rattle.model.specs.declared.Op.the-variants.{Push, Pop, Step}
-use Rattle.model.specs.Tables.{Queue}
+use Rattle.model.specs.declared.Op.the-variants.{Push, Pop, Put, Step}
+use Rattle.model.specs.Tables.{Queue, near, recordAt}
+use Rattle.model.specs.declared.Record.{Record}
+use Rattle.model.specs.Sound.{every, isPush, giving}
 use Rattle.model.specs.declared.Opening.the-variants.{Opened}
 use Rattle.model.specs.declared.Report.{Report}
 use Rattle.model.specs.declared.Reported.the-variants as reported
-use Rattle.model.specs.Calls.{openQueue, act}
-use Rattle.model.specs.Walk.{entries, contents}
+use Rattle.model.specs.Calls.{openAs, act}
+use Rattle.model.specs.Walk.{Walk, entries, contents}
 use Rattle.model.specs.Report.{report}
-use Rattle.model.specs.Deque.{serve}
+use Rattle.model.specs.Deque.{serveFor}
 
 -- An operation of a task: an element of the list, with any numbers.
 pub record Request : Type 0 where
@@ -83,11 +85,13 @@ abbrev pub isOpen : Ending → Bool
 isOpen pending = true
 isOpen (answered n a) = false
 
-abbrev pub saysEmpty : Answer → Bool
-saysEmpty (Running p) = false
-saysEmpty Pushed = false
-saysEmpty Empty = true
-saysEmpty (Popped e) = false
+-- The answers that are effects though the queue stays: empty, no slot.
+abbrev pub saysNone : Answer → Bool
+saysNone (Running p) = false
+saysNone Pushed = false
+saysNone Empty = true
+saysNone (Popped e) = false
+saysNone NoSlot = true
 
 -- The first answer other than running ends the call.
 abbrev pub ended : ℕ → Answer → Ending
@@ -95,18 +99,23 @@ ended n (Running p) = pending
 ended n Pushed = answered n Pushed
 ended n Empty = answered n Empty
 ended n (Popped e) = answered n (Popped e)
+ended n NoSlot = answered n NoSlot
 
--- A step is an effect if it leaves one or both ends of Anchor other than before, or answers empty.
+-- A step is an effect if it leaves one or both ends of Anchor other than before, or answers empty or no slot.
 unfoldable pub isEffect : Event → Answer → Bool
 isEffect e a =
     let b = anchorOf (e .before) in
     let c = anchorOf (e .after) in
-    not (eqb (b .left) (c .left) && eqb (b .right) (c .right)) || saysEmpty a
+    not (eqb (b .left) (c .left) && eqb (b .right) (c .right)) || saysNone a
+
+-- A push that named no slot (its entry has slot 0) is told, at its effect, with the end at its side of Anchor after that step.
+abbrev pub toldEntry : Call → Event → Entry
+toldEntry c e = record { slot = cond (eqb (c .entry .slot) 0) (near (c .side) (anchorOf (e .after))) (c .entry .slot); label = c .entry .label }
 
 -- The step at position n of call c: at an effect the sequential deque serves the call.
 unfoldable pub stepOf : ℕ → Event → Answer → List Entry → Call → List Call → Ledger
 stepOf n e a d c cs =
-    let s = serve (c .kind) (c .side) (c .entry) d in
+    let s = serveFor a (c .kind) (c .side) (toldEntry c e) d in
     cond (isEffect e a)
     (record { deque = s .deque; calls = continued c (record { at = n; reply = s .reply } ∷ c .effects) (ended n a) ∷ cs })
     (record { deque = d; calls = continued c (c .effects) (ended n a) ∷ cs })
@@ -122,6 +131,7 @@ attend n e a d (c ∷ cs) =
 unfoldable pub accept : ℕ → Event → Op → Answer → Ledger → Ledger
 accept n e (Push side slot label) a l = over (begins n (e .task) 0 side (record { slot = slot; label = label })) l
 accept n e (Pop side) a l = over (begins n (e .task) 1 side (record { slot = 0; label = 0 })) l
+accept n e (Put side label) a l = over (begins n (e .task) 0 side (record { slot = 0; label = label })) l
 accept n e Step a l = attend n e a (l .deque) (l .calls)
 
 unfoldable pub note : ℕ → Event → Outcome → Ledger → Ledger
@@ -174,9 +184,12 @@ pub record Told (q : Queue) (os : List Request) : Type 0 where
   pub is : report (final q os) ≡ reported.Told tells
   pub waiting : tells .waiting ≡ length (ledger (run q os) .deque)
 
--- The list follows any accepted opening, on any tables; it may be empty, and may name any numbers.
+-- The list follows any accepted opening, named or pooled, on any tables; it may be empty, and may name any numbers.
+abbrev pub AfterOpeningAs : Bool → (Queue → List Request → Type 0) → Type 0
+AfterOpeningAs pooled P = (q : Queue) (tasks slots tag : ℕ) → openAs pooled q tasks slots tag .outcome ≡ Opened → (os : List Request) → P (openAs pooled q tasks slots tag .queue) os
+
 abbrev pub AfterOpening : (Queue → List Request → Type 0) → Type 0
-AfterOpening P = (q : Queue) (tasks slots tag : ℕ) → openQueue q tasks slots tag .outcome ≡ Opened → (os : List Request) → P (openQueue q tasks slots tag .queue) os
+AfterOpening P = (pooled : Bool) → AfterOpeningAs pooled P
 
 -- Demand 3; that 34 never occurs; and what a report tells (document 02, #102).
 abbrev pub Linearizable : Type 0
@@ -187,3 +200,26 @@ Never34 = AfterOpening NeverUnsound
 
 abbrev pub Reports : Type 0
 Reports = AfterOpening Told
+
+-- A record holds slot x: a push at 1 to 10 that is not finishing its own; a pop at 11 the end that it took, at 15 to 17 its own.
+unfoldable pub holdsSlot : Record → ℕ → Bool
+holdsSlot r x =
+    cond (leb (r .place) 10) (every (leb 1 (r .place) ∷ isPush r ∷ not (eqb (r .finishing) 1) ∷ eqb (r .own) x ∷ []))
+    (cond (eqb (r .place) 11) (eqb (near (r .side) (anchorOf (r .seen))) x)
+    (giving r && eqb (r .own) x))
+
+pub data Waits (x : ℕ) : Walk → Type 0 where
+  here : (e : Entry) (l : List Entry) → x ≡ e .slot → Waits x (entries (e ∷ l))
+  later : (e : Entry) (l : List Entry) → Waits x (entries l) → Waits x (entries (e ∷ l))
+
+-- Slot x is in use: it waits in the queue, or a task holds it.
+pub data InUse (q : Queue) (x : ℕ) : Type 0 where
+  waits : Waits x (contents (q .tables)) → InUse q x
+  holds : (t : ℕ) → t < q .tables .control .tasks → holdsSlot (recordAt q t) x ≡ true → InUse q x
+
+-- *No slot* is true: if a step after the list answers so, every slot was in use. (Request #104. Without it a program that loses slots passes.)
+abbrev pub NoSlotTrue : Queue → List Request → Type 0
+NoSlotTrue q os = (t : ℕ) → act (final q os) t Step .outcome ≡ Moved NoSlot → (x : ℕ) → 1 ≤ x → x ≤ final q os .tables .control .slots → InUse (final q os) x
+
+abbrev pub NoSlotRight : Type 0
+NoSlotRight = AfterOpeningAs true NoSlotTrue

@@ -8,7 +8,7 @@ use Rattle.word.specs.Anchor.{anchorOf, anchorWord}
 use Rattle.model.specs.declared.Control.{Control}
 use Rattle.model.specs.declared.Record.{Record}
 use Rattle.model.specs.declared.Op.{Op}
-use Rattle.model.specs.declared.Op.the-variants.{Push, Pop, Step}
+use Rattle.model.specs.declared.Op.the-variants.{Push, Pop, Put, Step}
 use Rattle.model.specs.Tables.{Tables, Queue}
 use Rattle.model.specs.Calls.{OpenDone, Acted, Done}
 
@@ -26,10 +26,10 @@ unfoldable pub mirrorWord : ℕ → ℕ
 mirrorWord w = anchorWord (mirrorAnchor (anchorOf w))
 
 abbrev pub mirrorControl : Control → Control
-mirrorControl c = record { tasks = c .tasks; slots = c .slots; anchor = mirrorWord (c .anchor); retries = c .retries }
+mirrorControl c = record { tasks = c .tasks; slots = c .slots; anchor = mirrorWord (c .anchor); retries = c .retries; pooled = c .pooled; head = c .head }
 
 abbrev pub mirrorTables : Tables → Tables
-mirrorTables q = record { control = mirrorControl (q .control); lefts = q .rights; rights = q .lefts; labels = q .labels; marks = q .marks }
+mirrorTables q = record { control = mirrorControl (q .control); lefts = q .rights; rights = q .lefts; labels = q .labels; marks = q .marks; next = q .next }
 
 -- A record's side and its Anchor as read. An idle record has no side.
 abbrev pub mirrorBusy : Record → Record
@@ -54,6 +54,7 @@ mirrorQueue q = record { tables = mirrorTables (q .tables); records = map mirror
 abbrev pub mirrorOp : Op → Op
 mirrorOp (Push side slot label) = Push (mirrorSide side) slot label
 mirrorOp (Pop side) = Pop (mirrorSide side)
+mirrorOp (Put side label) = Put (mirrorSide side) label
 mirrorOp Step = Step
 
 -- What a call leaves.

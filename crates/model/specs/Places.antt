@@ -8,8 +8,8 @@ use Rattle.word.specs.Anchor.{anchorOf, packAnchor}
 use Rattle.word.specs.Link.{linkOf, packLink}
 use Rattle.model.specs.declared.Control.{Control}
 use Rattle.model.specs.declared.Record.{Record}
-use Rattle.model.specs.Tables.{Tables, opposite, near, far, facing, links, pushing, named, isEmpty, withMark}
-use Rattle.model.specs.Sound.{isPush, isPop, helping}
+use Rattle.model.specs.Tables.{Tables, isPooled, opposite, near, far, facing, links, pushing, named, isEmpty, withMark}
+use Rattle.model.specs.Sound.{isPush, isPop, helping, drawing, giving}
 
 -- The side: at 1 to 4 and 11 the task's, at 5 to 10 the one that the status as read names.
 unfoldable pub sideOf : Record → ℕ
@@ -19,25 +19,36 @@ sideOf r = cond (helping r) (named (anchorOf (r .seen) .status)) (r .side)
 abbrev pub endSeen : Record → ℕ
 endSeen r = near (sideOf r) (anchorOf (r .seen))
 
--- The slot whose row or mark a place touches: the neighbour at 7 and 9, a push's own slot at 3, else the end as read.
+-- The slot whose row or mark a place touches: the neighbour at 7 and 9, a push's own slot at 3, the slot of the head as read at 13 and 14,
+-- a pop's own slot at 16 and 17, else the end as read.
 unfoldable pub row : Record → ℕ
 row r =
     cond (eqb (r .place) 7 || eqb (r .place) 9) (r .neighbour)
-    (cond (eqb (r .place) 3 && isPush r) (r .own) (endSeen r))
+    (cond (eqb (r .place) 3 && isPush r) (r .own)
+    (cond (drawing r) (linkOf (r .link) .slot)
+    (cond (giving r) (r .own)
+    (endSeen r))))
 
 -- The link word of that row: Left at 3 and 5, Right at 7 and 9.
 unfoldable pub linkSide : Record → ℕ
 linkSide r = cond (eqb (r .place) 3 || eqb (r .place) 5) (opposite (sideOf r)) (sideOf r)
 
+-- What a place finds in that row: the label at 11, the next slot at 13, else the link word.
 abbrev pub linkMet : Tables → Record → ℕ
-linkMet q r = getD (links q (linkSide r)) (row r) 0
+linkMet q r =
+    cond (eqb (r .place) 11) (getD (q .labels) (row r) 0)
+    (cond (eqb (r .place) 13) (getD (q .next) (row r) 0)
+    (getD (links q (linkSide r)) (row r) 0))
 
--- A touch of the shared tables: at most one word is written.
+-- A touch of the shared tables: at most one word is written, but where a slot is drawn, which sets the head, the slot's label and its mark.
 pub data Touch : Type 0 where
   nothing : Touch
   setAnchor : (word : ℕ) → Touch
   setLink : (side slot word : ℕ) → Touch
   clearMark : (slot : ℕ) → Touch
+  takeSlot : (word slot label : ℕ) → Touch
+  setNext : (slot next : ℕ) → Touch
+  setHead : (word : ℕ) → Touch
 
 -- What a place does: its touch, the record with its new fields, the outcome that the route goes by, whether a change failed.
 pub record Move : Type 0 where
@@ -58,6 +69,10 @@ withNeighbour r n =
 abbrev pub withLink : Record → ℕ → Record
 withLink r w =
     record { place = r .place; kind = r .kind; side = r .side; own = r .own; label = r .label; seen = r .seen; neighbour = r .neighbour; link = w; finishing = r .finishing }
+
+abbrev pub withOwn : Record → ℕ → ℕ → Record
+withOwn r x l =
+    record { place = r .place; kind = r .kind; side = r .side; own = x; label = l; seen = r .seen; neighbour = r .neighbour; link = r .link; finishing = r .finishing }
 
 -- A place that only reads.
 abbrev pub reads : Record → ℕ → Move
@@ -140,10 +155,46 @@ at10 c r =
     changes (c .anchor) (r .seen) (setAnchor (packAnchor (record { tag = a .tag + 1; status = 0; left = a .left; right = a .right }))) r r
 
 -- 11: read the label of r, the end taken (it goes into the answer, below in `Calls`), and clear its mark.
-unfoldable pub at11 : Record → Move
-at11 r = record { touch = clearMark (row r); task = r; outcome = 0; failed = false }
+-- In a pooled queue slot and label go into the record, and the slot is given back first.
+unfoldable pub at11 : Control → Record → ℕ → Move
+at11 c r l =
+    cond (isPooled c)
+    (record { touch = clearMark (row r); task = withOwn r (row r) l; outcome = 1; failed = false })
+    (record { touch = clearMark (row r); task = r; outcome = 0; failed = false })
 
--- What the place of a record does, where w is the link word that it meets.
+-- The head as read with its tag raised, which names slot x.
+abbrev pub raised : Record → ℕ → ℕ
+raised r x = packLink (record { tag = linkOf (r .link) .tag + 1; slot = x })
+
+-- The empty stack: a head with slot 0.
+abbrev pub noneLeft : ℕ → Bool
+noneLeft head = eqb (linkOf head .slot) 0
+
+-- 12: read the head. 0 the stack is empty, 1 not.
+unfoldable pub at12 : Control → Record → Move
+at12 c r = reads (withLink r (c .head)) (cond (noneLeft (c .head)) 0 1)
+
+-- 13: read the next of its slot.
+unfoldable pub at13 : Record → ℕ → Move
+at13 r n = reads (withNeighbour r n) 0
+
+-- 14: change the head to that next; the slot is the push's, marked and with its label.
+unfoldable pub at14 : Control → Record → Move
+at14 c r = changes (c .head) (r .link) (takeSlot (raised r (r .neighbour)) (row r) (r .label)) (withOwn r (row r) (r .label)) r
+
+-- 15: read the head.
+unfoldable pub at15 : Control → Record → Move
+at15 c r = reads (withLink r (c .head)) 0
+
+-- 16: put its slot into the own slot's next.
+unfoldable pub at16 : Record → Move
+at16 r = record { touch = setNext (row r) (linkOf (r .link) .slot); task = r; outcome = 0; failed = false }
+
+-- 17: change the head to the own slot.
+unfoldable pub at17 : Control → Record → Move
+at17 c r = changes (c .head) (r .link) (setHead (raised r (r .own))) r r
+
+-- What the place of a record does, where w is what it finds in its row.
 unfoldable pub move : Control → Record → ℕ → Move
 move c r w =
     cond (eqb (r .place) 1) (at1 c r)
@@ -156,24 +207,56 @@ move c r w =
     (cond (eqb (r .place) 8) (at6 c r)
     (cond (eqb (r .place) 9) (at9 r w)
     (cond (eqb (r .place) 10) (at10 c r)
-    (at11 r))))))))))
+    (cond (eqb (r .place) 11) (at11 c r w)
+    (cond (eqb (r .place) 12) (at12 c r)
+    (cond (eqb (r .place) 13) (at13 r w)
+    (cond (eqb (r .place) 14) (at14 c r)
+    (cond (eqb (r .place) 15) (at15 c r)
+    (cond (eqb (r .place) 16) (at16 r)
+    (at17 c r))))))))))))))))
 
 -- The tables after a touch.
-abbrev pub apply : Touch → Tables → Tables
-apply nothing q = q
-apply (setAnchor w) q = record {
-  control = record { tasks = q .control .tasks; slots = q .control .slots; anchor = w; retries = q .control .retries };
+abbrev pub withAnchor : Tables → ℕ → Tables
+withAnchor q w = record {
+  control = record { tasks = q .control .tasks; slots = q .control .slots; anchor = w; retries = q .control .retries; pooled = q .control .pooled; head = q .control .head };
   lefts = q .lefts;
   rights = q .rights;
   labels = q .labels;
   marks = q .marks;
+  next = q .next;
 }
+
+abbrev pub withHead : Tables → ℕ → Tables
+withHead q w = record {
+  control = record { tasks = q .control .tasks; slots = q .control .slots; anchor = q .control .anchor; retries = q .control .retries; pooled = q .control .pooled; head = w };
+  lefts = q .lefts;
+  rights = q .rights;
+  labels = q .labels;
+  marks = q .marks;
+  next = q .next;
+}
+
+-- A label stored in a slot's row, and its mark set.
+abbrev pub taken : Tables → ℕ → ℕ → Tables
+taken q slot label = record {
+  control = q .control;
+  lefts = q .lefts;
+  rights = q .rights;
+  labels = set (q .labels) slot label;
+  marks = withMark (q .marks) slot 1;
+  next = q .next;
+}
+
+abbrev pub apply : Touch → Tables → Tables
+apply nothing q = q
+apply (setAnchor w) q = withAnchor q w
 apply (setLink side x w) q = record {
   control = q .control;
   lefts = cond (eqb side 1) (q .lefts) (set (q .lefts) x w);
   rights = cond (eqb side 1) (set (q .rights) x w) (q .rights);
   labels = q .labels;
   marks = q .marks;
+  next = q .next;
 }
 apply (clearMark x) q = record {
   control = q .control;
@@ -181,4 +264,15 @@ apply (clearMark x) q = record {
   rights = q .rights;
   labels = q .labels;
   marks = withMark (q .marks) x 0;
+  next = q .next;
 }
+apply (takeSlot w x l) q = taken (withHead q w) x l
+apply (setNext x v) q = record {
+  control = q .control;
+  lefts = q .lefts;
+  rights = q .rights;
+  labels = q .labels;
+  marks = q .marks;
+  next = set (q .next) x v;
+}
+apply (setHead w) q = withHead q w

@@ -8,16 +8,17 @@ use lib.Dec.{eqb}
 use Rattle.model.specs.declared.Outcome.{Outcome}
 use Rattle.model.specs.declared.Outcome.the-variants.{Refused, Moved}
 use Rattle.model.specs.declared.Op.{Op}
-use Rattle.model.specs.declared.Op.the-variants.{Push, Pop, Step}
+use Rattle.model.specs.declared.Op.the-variants.{Push, Pop, Put, Step}
 use Rattle.model.specs.Tables.{Queue, recordAt}
 use Rattle.model.specs.Ends.{answerEnds, endsCall}
-use Rattle.model.specs.History.{Request, Event, run, final, isEffect, AfterOpening}
+use Rattle.model.specs.History.{Request, Event, run, final, isEffect, AfterOpeningAs}
 use Rattle.model.specs.Solo.{SoloDone, soloRun}
 
 -- A call takes effect or answers: only an accepted step does.
 abbrev pub tellsBy : Event → Op → Outcome → Bool
 tellsBy e (Push side slot label) o = false
 tellsBy e (Pop side) o = false
+tellsBy e (Put side label) o = false
 tellsBy e Step (Refused why) = false
 tellsBy e Step (Moved a) = isEffect e a || answerEnds a
 
@@ -33,6 +34,7 @@ any test (e ∷ es) = test e || any test es
 abbrev pub stepping : Op → Outcome → ℕ
 stepping (Push side slot label) o = 0
 stepping (Pop side) o = 0
+stepping (Put side label) o = 0
 stepping Step (Refused why) = 0
 stepping Step (Moved a) = 1
 
@@ -72,7 +74,7 @@ StretchTells q os =
     (stretch : List Request) → stretchLimit (q .tables .control .tasks) ≤ steps (run now stretch) → any tells (run now stretch) ≡ true
 
 abbrev pub SoloBound : Type 0
-SoloBound = AfterOpening SoloWithin
+SoloBound = AfterOpeningAs false SoloWithin
 
 abbrev pub StretchBound : Type 0
-StretchBound = AfterOpening StretchTells
+StretchBound = AfterOpeningAs false StretchTells

@@ -8,10 +8,10 @@ use Rattle.word.specs.Anchor.{anchorOf}
 use Rattle.word.specs.Link.{linkOf}
 use Rattle.model.specs.declared.Control.{Control}
 use Rattle.model.specs.declared.Record.{Record}
-use Rattle.model.specs.Tables.{Tables, Queue, marked}
+use Rattle.model.specs.Tables.{Tables, Queue, isPooled, marked}
 use Rattle.model.specs.Sound.{every, from1, anchorSound, linkSound, controlSound, recordSound, rowsFit}
 use Rattle.model.specs.Walk.{contents, isBroken}
-use Rattle.model.specs.Places.{row, linkMet, Touch, nothing, setAnchor, setLink, clearMark, move}
+use Rattle.model.specs.Places.{row, linkMet, Touch, nothing, setAnchor, setLink, clearMark, takeSlot, setNext, setHead, move}
 
 -- A test with its number.
 pub record Rule : Type 0 where
@@ -30,16 +30,16 @@ first (r ∷ l) = cond (r .applies) (r .number) (first l)
 abbrev pub recordsFit : ℕ → Queue → Bool
 recordsFit tasks q = leb tasks (length (q .records))
 
--- When opening: 10, 11, 12.
-abbrev pub openRules : Queue → ℕ → ℕ → List Rule
-openRules q tasks slots =
+-- When opening, a pooled queue or a named one: 10, 11, 12.
+abbrev pub openRules : Bool → Queue → ℕ → ℕ → List Rule
+openRules pooled q tasks slots =
     rule 10 (not (from1 16 tasks))
     ∷ rule 11 (not (from1 1023 slots))
-    ∷ rule 12 (not (rowsFit slots (q .tables) && recordsFit tasks q))
+    ∷ rule 12 (not (rowsFit pooled slots (q .tables) && recordsFit tasks q))
     ∷ []
 
-unfoldable pub openRefusal : Queue → ℕ → ℕ → ℕ
-openRefusal q tasks slots = first (openRules q tasks slots)
+unfoldable pub openRefusal : Bool → Queue → ℕ → ℕ → ℕ
+openRefusal pooled q tasks slots = first (openRules pooled q tasks slots)
 
 -- What 12 and 13 see of the records: they are as many as the tasks, and the task is one of these.
 pub record Lent : Type 0 where
@@ -64,11 +64,12 @@ late q = ltb 4294967262 (anchorOf (q .control .anchor) .tag)
 abbrev pub pushRules : Tables → Lent → Record → ℕ → ℕ → List Rule
 pushRules q p r side slot =
     rule 34 (not (controlSound (q .control)))
-    ∷ rule 12 (not (rowsFit (q .control .slots) q && p .enough))
+    ∷ rule 12 (not (rowsFit (isPooled (q .control)) (q .control .slots) q && p .enough))
     ∷ rule 13 (not (p .known))
     ∷ rule 14 (not (leb side 1))
+    ∷ rule 41 (isPooled (q .control))
     ∷ rule 15 (not (from1 (q .control .slots) slot))
-    ∷ rule 34 (not (recordSound (q .control .slots) r))
+    ∷ rule 34 (not (recordSound (isPooled (q .control)) (q .control .slots) r))
     ∷ rule 30 (isBusy r)
     ∷ rule 32 (marked (q .marks) slot)
     ∷ rule 33 (late q)
@@ -77,13 +78,29 @@ pushRules q p r side slot =
 unfoldable pub pushRefusal : Tables → Lent → Record → ℕ → ℕ → ℕ
 pushRefusal q p r side slot = first (pushRules q p r side slot)
 
+-- A push that names no slot has neither 15 nor 32, and does not look at the head.
+abbrev pub putRules : Tables → Lent → Record → ℕ → List Rule
+putRules q p r side =
+    rule 34 (not (controlSound (q .control)))
+    ∷ rule 12 (not (rowsFit (isPooled (q .control)) (q .control .slots) q && p .enough))
+    ∷ rule 13 (not (p .known))
+    ∷ rule 14 (not (leb side 1))
+    ∷ rule 41 (not (isPooled (q .control)))
+    ∷ rule 34 (not (recordSound (isPooled (q .control)) (q .control .slots) r))
+    ∷ rule 30 (isBusy r)
+    ∷ rule 33 (late q)
+    ∷ []
+
+unfoldable pub putRefusal : Tables → Lent → Record → ℕ → ℕ
+putRefusal q p r side = first (putRules q p r side)
+
 abbrev pub popRules : Tables → Lent → Record → ℕ → List Rule
 popRules q p r side =
     rule 34 (not (controlSound (q .control)))
-    ∷ rule 12 (not (rowsFit (q .control .slots) q && p .enough))
+    ∷ rule 12 (not (rowsFit (isPooled (q .control)) (q .control .slots) q && p .enough))
     ∷ rule 13 (not (p .known))
     ∷ rule 14 (not (leb side 1))
-    ∷ rule 34 (not (recordSound (q .control .slots) r))
+    ∷ rule 34 (not (recordSound (isPooled (q .control)) (q .control .slots) r))
     ∷ rule 30 (isBusy r)
     ∷ rule 33 (late q)
     ∷ []
@@ -98,12 +115,19 @@ needsRow r = eqb (r .place) 3 || eqb (r .place) 5 || eqb (r .place) 7 || eqb (r 
 abbrev pub meetsLink : Record → Bool
 meetsLink r = eqb (r .place) 3 || eqb (r .place) 5 || eqb (r .place) 7
 
+-- It looks at the head's soundness at 12 and 15, and at a next slot at 13.
+abbrev pub meetsHead : Record → Bool
+meetsHead r = eqb (r .place) 12 || eqb (r .place) 15
+
 -- A change leaves Anchor sound.
 abbrev pub leavesSound : ℕ → Touch → Bool
 leavesSound slots nothing = true
 leavesSound slots (setAnchor w) = anchorSound slots (anchorOf w)
 leavesSound slots (setLink side x w) = true
 leavesSound slots (clearMark x) = true
+leavesSound slots (takeSlot w x l) = true
+leavesSound slots (setNext x v) = true
+leavesSound slots (setHead w) = true
 
 -- A change raises no tag past 32 bits; place 3 raises none.
 abbrev pub hasRoom : Record → Touch → Bool
@@ -111,6 +135,9 @@ hasRoom r nothing = true
 hasRoom r (setAnchor w) = ltb (anchorOf (r .seen) .tag) 4294967295
 hasRoom r (setLink side x w) = eqb (r .place) 3 || ltb (linkOf (r .link) .tag) 4294967295
 hasRoom r (clearMark x) = true
+hasRoom r (takeSlot w x l) = ltb (linkOf (r .link) .tag) 4294967295
+hasRoom r (setNext x v) = true
+hasRoom r (setHead w) = ltb (linkOf (r .link) .tag) 4294967295
 
 abbrev pub stepTests : Control → Record → ℕ → List Bool
 stepTests c r w =
@@ -118,6 +145,8 @@ stepTests c r w =
     ∷ (not (meetsLink r) || linkSound (c .slots) w)
     ∷ leavesSound (c .slots) (move c r w .touch)
     ∷ hasRoom r (move c r w .touch)
+    ∷ (not (meetsHead r) || linkSound (c .slots) (c .head))
+    ∷ (not (eqb (r .place) 13) || leb w (c .slots))
     ∷ []
 
 unfoldable pub stepSound : Control → Record → ℕ → Bool
@@ -126,9 +155,9 @@ stepSound c r w = every (stepTests c r w)
 abbrev pub stepRules : Tables → Lent → Record → List Rule
 stepRules q p r =
     rule 34 (not (controlSound (q .control)))
-    ∷ rule 12 (not (rowsFit (q .control .slots) q && p .enough))
+    ∷ rule 12 (not (rowsFit (isPooled (q .control)) (q .control .slots) q && p .enough))
     ∷ rule 13 (not (p .known))
-    ∷ rule 34 (not (recordSound (q .control .slots) r))
+    ∷ rule 34 (not (recordSound (isPooled (q .control)) (q .control .slots) r))
     ∷ rule 31 (eqb (r .place) 0)
     ∷ rule 34 (not (stepSound (q .control) r (linkMet q r)))
     ∷ []
@@ -140,7 +169,7 @@ stepRefusal q p r = first (stepRules q p r)
 abbrev pub reportRules : Tables → Bool → List Rule
 reportRules q enough =
     rule 34 (not (controlSound (q .control)))
-    ∷ rule 12 (not (rowsFit (q .control .slots) q && enough))
+    ∷ rule 12 (not (rowsFit (isPooled (q .control)) (q .control .slots) q && enough))
     ∷ rule 34 (isBroken (contents q))
     ∷ []
 

@@ -7,10 +7,10 @@ use lib.ListN.{getD}
 use Rattle.model.specs.declared.Record.{Record}
 use Rattle.model.specs.declared.Entry.{Entry}
 use Rattle.model.specs.declared.Answer.{Answer}
-use Rattle.model.specs.declared.Answer.the-variants.{Running, Pushed, Empty, Popped}
-use Rattle.model.specs.Tables.{idle}
+use Rattle.model.specs.declared.Answer.the-variants.{Running, Pushed, Empty, Popped, NoSlot}
+use Rattle.model.specs.Tables.{atPlace, idle}
 
--- Where a route leads: to a place, 1 to 11, or to one of these.
+-- Where a route leads: to a place, 1 to 17, or to one of these.
 abbrev pub leave : ℕ
 leave = 20
 
@@ -22,6 +22,9 @@ empty = 22
 
 abbrev pub popped : ℕ
 popped = 23
+
+abbrev pub noSlot : ℕ
+noSlot = 24
 
 -- The column next: a line for each place from 0, where no task steps, and an entry for each outcome from 0.
 -- A push never reads a single label as such, so that entry is 0, no place.
@@ -38,6 +41,10 @@ pushRoute =
     ∷ (9 ∷ leave ∷ [])  -- 8: equal, else
     ∷ (10 ∷ leave ∷ [])  -- 9: done, failed
     ∷ (leave ∷ leave ∷ [])  -- 10: done, failed
+    ∷ []  -- 11: no push
+    ∷ (noSlot ∷ 13 ∷ [])  -- 12: slot 0, else
+    ∷ (14 ∷ [])  -- 13
+    ∷ (1 ∷ 12 ∷ [])  -- 14: done, failed
     ∷ []
 
 unfoldable pub popRoute : List (List ℕ)
@@ -53,7 +60,13 @@ popRoute =
     ∷ (9 ∷ leave ∷ [])  -- 8, as a push
     ∷ (10 ∷ leave ∷ [])  -- 9, as a push
     ∷ (leave ∷ leave ∷ [])  -- 10, as a push
-    ∷ (popped ∷ [])  -- 11
+    ∷ (popped ∷ 15 ∷ [])  -- 11: named, pooled
+    ∷ []  -- 12 to 14: no pop
+    ∷ []
+    ∷ []
+    ∷ (16 ∷ [])  -- 15
+    ∷ (17 ∷ [])  -- 16
+    ∷ (popped ∷ 15 ∷ [])  -- 17: done, failed
     ∷ []
 
 unfoldable pub route : ℕ → ℕ → ℕ → ℕ
@@ -63,19 +76,20 @@ route place kind outcome = getD (getD (cond (eqb kind 0) pushRoute popRoute) pla
 unfoldable pub onward : ℕ → ℕ → ℕ
 onward n finishing = cond (eqb n leave) (cond (eqb finishing 1) pushed 1) n
 
--- A step's answer: running with its next place, pushed, empty, or popped with slot and label.
+-- A step's answer: running with its next place, pushed, empty, popped with slot and label, or no slot.
 unfoldable pub answer : ℕ → Entry → Answer
 answer n e =
     cond (eqb n pushed) Pushed
     (cond (eqb n empty) Empty
     (cond (eqb n popped) (Popped e)
-    (Running n)))
+    (cond (eqb n noSlot) NoSlot
+    (Running n))))
 
 -- The record at its next place; after an answer it is all zero.
 unfoldable pub goes : Record → ℕ → Record
 goes r n =
-    cond (leb n 11)
-    (record { place = n; kind = r .kind; side = r .side; own = r .own; label = r .label; seen = r .seen; neighbour = r .neighbour; link = r .link; finishing = r .finishing })
+    cond (leb n 17)
+    (atPlace r n)
     idle
 
 -- Retries count the failed changes and stay at 4,294,967,295 once there.

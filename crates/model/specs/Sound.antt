@@ -1,5 +1,5 @@
 -- What is sound, and which tables are long enough: refusals 34 and 12. (Document 01: Refused because of the input, .. of the state.)
-use mathlib.Core.Bool.{Bool, true, _&&_, _||_, not, Bool·beq}
+use mathlib.Core.Bool.{Bool, true, _&&_, _||_, not, cond, Bool·beq}
 use mathlib.Core.List.{List, [], _∷_}
 use Prim.Native.Nat.{ℕ, _/_}
 use lib.Dec.{ltb, leb, eqb}
@@ -32,6 +32,17 @@ isPop r = eqb (r .kind) 1
 abbrev pub helping : Record → Bool
 helping r = leb 5 (r .place) && leb (r .place) 10
 
+-- At 12 to 14 a push draws its slot, at 15 to 17 a pop gives it back: in a pooled queue alone.
+abbrev pub drawing : Record → Bool
+drawing r = leb 12 (r .place) && leb (r .place) 14
+
+abbrev pub giving : Record → Bool
+giving r = leb 15 (r .place)
+
+-- A push has a slot of its own but at 12 to 14, a pop only at 15 to 17.
+abbrev pub owning : Record → Bool
+owning r = cond (isPush r) (not (drawing r)) (giving r)
+
 -- Anchor: no status 3, no end above slots, not just one end null, not unstable with equal ends.
 abbrev pub anchorTests : ℕ → Anchor → List Bool
 anchorTests slots a =
@@ -49,44 +60,48 @@ anchorSound slots a = every (anchorTests slots a)
 unfoldable pub linkSound : ℕ → ℕ → Bool
 linkSound slots w = eqb (spareOf w) 0 && leb (linkOf w .slot) slots
 
--- Control: tasks and slots within limits, Anchor sound.
+-- Control: tasks and slots within limits, Anchor sound, named or pooled.
 abbrev pub controlTests : Control → List Bool
 controlTests c =
     from1 16 (c .tasks)
     ∷ from1 1023 (c .slots)
     ∷ anchorSound (c .slots) (anchorOf (c .anchor))
+    ∷ leb (c .pooled) 1
     ∷ []
 
 unfoldable pub controlSound : Control → Bool
 controlSound c = every (controlTests c)
 
--- Record: idle, or each field within its meaning.
-abbrev pub recordTests : ℕ → Record → List Bool
-recordTests slots r =
-    leb (r .place) 11
+-- Record: idle, or each field within its meaning, in a pooled queue or in a named one.
+abbrev pub recordTests : Bool → ℕ → Record → List Bool
+recordTests pooled slots r =
+    leb (r .place) (cond pooled 17 11)
     ∷ leb (r .kind) 1
     ∷ leb (r .side) 1
     ∷ leb (r .finishing) 1
-    ∷ (not (eqb (r .place) 11) || isPop r)
+    ∷ (not (eqb (r .place) 11 || giving r) || isPop r)
+    ∷ (not (drawing r) || isPush r)
     ∷ (eqb (r .finishing) 0 || (isPush r && helping r))
-    ∷ ((isPop r && eqb (r .own) 0) || (isPush r && from1 slots (r .own)))
+    ∷ cond (owning r) (from1 slots (r .own)) (eqb (r .own) 0)
     ∷ leb (r .neighbour) slots
     ∷ linkSound slots (r .link)
+    ∷ (not (eqb (r .place) 13 || eqb (r .place) 14) || not (eqb (linkOf (r .link) .slot) 0))
     ∷ anchorSound slots (anchorOf (r .seen))
     ∷ (not (helping r) || not (eqb (anchorOf (r .seen) .status) 0))
     ∷ []
 
-unfoldable pub recordSound : ℕ → Record → Bool
-recordSound slots r = eqb (r .place) 0 || every (recordTests slots r)
+unfoldable pub recordSound : Bool → ℕ → Record → Bool
+recordSound pooled slots r = eqb (r .place) 0 || every (recordTests pooled slots r)
 
--- Long enough: rows slots + 1, mark words (slots div 64) + 1.
-abbrev pub rowTests : ℕ → Tables → List Bool
-rowTests slots q =
+-- Long enough: rows slots + 1, mark words (slots div 64) + 1; the next table counts in a pooled queue alone.
+abbrev pub rowTests : Bool → ℕ → Tables → List Bool
+rowTests pooled slots q =
     ltb slots (length (q .lefts))
     ∷ ltb slots (length (q .rights))
     ∷ ltb slots (length (q .labels))
     ∷ ltb (slots / 64) (length (q .marks))
+    ∷ (not pooled || ltb slots (length (q .next)))
     ∷ []
 
-unfoldable pub rowsFit : ℕ → Tables → Bool
-rowsFit slots q = every (rowTests slots q)
+unfoldable pub rowsFit : Bool → ℕ → Tables → Bool
+rowsFit pooled slots q = every (rowTests pooled slots q)

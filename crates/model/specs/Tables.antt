@@ -1,20 +1,25 @@
 -- The lent tables as lists of numbers. (Document 01: Tables.)
 use mathlib.Core.Bool.{Bool, _&&_, cond}
-use mathlib.Core.List.{List, _++_}
-use Prim.Native.Nat.{ℕ, _+_, _*_, _/_, _%_, _^_}
+use mathlib.Core.List.{List, [], _∷_, _++_}
+use Prim.Native.Nat.{ℕ, zero, suc, _+_, _*_, _/_, _%_, _^_}
 use lib.Dec.{eqb}
 use lib.ListN.{getD, set, replicate, drop}
 use Rattle.word.specs.declared.Anchor.{Anchor}
 use Rattle.model.specs.declared.Control.{Control}
 use Rattle.model.specs.declared.Record.{Record}
 
--- What all tasks share: control, the slot rows (a Left and a Right link word and a label), the marks.
+-- What all tasks share: control, the slot rows (a Left and a Right link word and a label), the marks; in a pooled queue the next table too.
 pub record Tables : Type 0 where
   pub control : Control
   pub lefts : List ℕ
   pub rights : List ℕ
   pub labels : List ℕ
   pub marks : List ℕ
+  pub next : List ℕ
+
+-- Pooled, not named. (Request #104.)
+abbrev pub isPooled : Control → Bool
+isPooled c = eqb (c .pooled) 1
 
 -- The tables with the task records, one for each task.
 pub record Queue : Type 0 where
@@ -22,13 +27,13 @@ pub record Queue : Type 0 where
   pub records : List Record
 
 -- Both, as a call is lent them.
-abbrev pub tablesOf : Control → List ℕ → List ℕ → List ℕ → List ℕ → Tables
-tablesOf control lefts rights labels marks =
-    record { control = control; lefts = lefts; rights = rights; labels = labels; marks = marks }
+abbrev pub tablesOf : Control → List ℕ → List ℕ → List ℕ → List ℕ → List ℕ → Tables
+tablesOf control lefts rights labels marks next =
+    record { control = control; lefts = lefts; rights = rights; labels = labels; marks = marks; next = next }
 
-abbrev pub queueOf : Control → List Record → List ℕ → List ℕ → List ℕ → List ℕ → Queue
-queueOf control records lefts rights labels marks =
-    record { tables = tablesOf control lefts rights labels marks; records = records }
+abbrev pub queueOf : Control → List Record → List ℕ → List ℕ → List ℕ → List ℕ → List ℕ → Queue
+queueOf control records lefts rights labels marks next =
+    record { tables = tablesOf control lefts rights labels marks next; records = records }
 
 -- Side 0 is left, 1 is right. Left is the mirror of right through the definitions from here to `named`; no place is written twice.
 abbrev pub opposite : ℕ → ℕ
@@ -84,9 +89,25 @@ abbrev pub started : ℕ → ℕ → ℕ → ℕ → Record
 started kind side own label =
     record { place = 1; kind = kind; side = side; own = own; label = label; seen = 0; neighbour = 0; link = 0; finishing = 0 }
 
+-- A push start that names no slot: place 12, side and label.
+abbrev pub asking : ℕ → ℕ → Record
+asking side label =
+    record { place = 12; kind = 0; side = side; own = 0; label = label; seen = 0; neighbour = 0; link = 0; finishing = 0 }
+
+-- A record at another place.
+abbrev pub atPlace : Record → ℕ → Record
+atPlace r p =
+    record { place = p; kind = r .kind; side = r .side; own = r .own; label = r .label; seen = r .seen; neighbour = r .neighbour; link = r .link; finishing = r .finishing }
+
 abbrev pub recordAt : Queue → ℕ → Record
 recordAt q t = getD (q .records) t idle
 
+-- Numbers from k up that end with 0, n of them in all: where each slot from 1 leads to the next one, and the last to none.
+abbrev pub climb : ℕ → ℕ → List ℕ
+climb k zero = []
+climb k (suc zero) = 0 ∷ []
+climb k (suc (suc n)) = k ∷ climb (suc k) (suc n)
+
 -- The first n entries zeroed; entries beyond keep their values.
 abbrev pub zeroed : {A : Type 0} → ℕ → A → List A → List A
-zeroed n zero l = replicate n zero ++ drop n l
+zeroed n z l = replicate n z ++ drop n l

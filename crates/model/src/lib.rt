@@ -8,20 +8,24 @@ pub struct Control {
     pub slots: u64,
     pub anchor: u64,
     pub retries: u64,
+    /// 0 a named queue, where a push names its slot; 1 a pooled one, where it draws it from the stack.
+    pub pooled: u64,
+    /// The stack's head word; 0 in a named queue.
+    pub head: u64,
 }
 
 /// Where a task stands in its call; all zero while it has none.
 #[repr(C)]
 pub struct Record {
-    /// 0 idle, or the place of the next step, 1 to 11.
+    /// 0 idle, or the place of the next step, 1 to 17.
     pub place: u64,
     /// 0 push, 1 pop.
     pub kind: u64,
     /// 0 left, 1 right.
     pub side: u64,
-    /// The slot of a push.
+    /// The slot of a push, or of a pop that gives it back.
     pub own: u64,
-    /// The label of a push.
+    /// The label of a push, or of a pop that gives its slot back.
     pub label: u32,
     /// The Anchor word as read.
     pub seen: u64,
@@ -46,9 +50,12 @@ pub enum Answer {
     Pushed,
     Empty,
     Popped(Entry),
+    /// Every slot was in use.
+    NoSlot,
 }
 
-/// What a start or step answers. A start that is carried out is `Moved` and running, with place 1 next.
+/// What a start or step answers. A start that is carried out is `Moved` and running, with its first place
+/// next: 1, or 12 where it names no slot.
 pub enum Outcome {
     /// With the document's number.
     Refused(u32),
@@ -81,13 +88,15 @@ pub enum Reported {
 pub enum Op {
     Push { side: u64, slot: u64, label: u32 },
     Pop { side: u64 },
+    /// A push that names no slot.
+    Put { side: u64, label: u32 },
     Step,
 }
 
 /// An outcome in numbers, as C sees it.
 #[repr(C)]
 pub struct Reply {
-    /// 1 running, 2 pushed, 3 empty, 4 popped, or the number of a refusal.
+    /// 1 running, 2 pushed, 3 empty, 4 popped, 5 no slot, or the number of a refusal.
     pub code: u32,
     /// The label popped.
     pub label: u32,

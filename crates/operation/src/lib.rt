@@ -42,11 +42,14 @@ pub fn act(
     rights: &mut [u64],
     labels: &mut [u32],
     marks: &mut [u64],
+    next: &mut [u64],
 ) -> Acted
     ensures { λ m.
-        ⌜ withTables m (now (lefts .exit)) (now (rights .exit)) (now (labels .exit)) (now (marks .exit))
-        ≡ calls.actOn (tablesOf c (now (lefts .entry)) (now (rights .entry)) (now (labels .entry)) (now (marks .entry)))
-        (record { enough = leb (c .tasks) records; known = ltb task (c .tasks) }) r op ⌝ }
+        ⌜ withTables m (now (lefts .exit)) (now (rights .exit)) (now (labels .exit)) (now (marks .exit)) (now (next .exit))
+        ≡ calls.actOn
+        (tablesOf c (now (lefts .entry)) (now (rights .entry)) (now (labels .entry)) (now (marks .entry)) (now (next .entry)))
+        (record { enough = leb (c .tasks) records; known = ltb task (c .tasks) })
+        r op ⌝ }
 {
     match op {
         Op::Push { side, slot, label } => start::push_start(
@@ -61,6 +64,7 @@ pub fn act(
             rights,
             labels,
             marks,
+            next,
         ),
         Op::Pop { side } => start::pop_start(
             c,
@@ -72,8 +76,22 @@ pub fn act(
             rights,
             labels,
             marks,
+            next,
         ),
-        Op::Step => engine::step(c, r, records, task, lefts, rights, labels, marks),
+        Op::Put { side, label } => start::put_start(
+            c,
+            r,
+            records,
+            task,
+            side,
+            label,
+            lefts,
+            rights,
+            labels,
+            marks,
+            next,
+        ),
+        Op::Step => engine::step(c, r, records, task, lefts, rights, labels, marks, next),
     }
 }
 
@@ -100,6 +118,11 @@ fn answer_reply(a: Answer) -> Reply
             code: 4,
             label: entry.label,
             value: entry.slot,
+        },
+        Answer::NoSlot => Reply {
+            code: 5,
+            label: 0,
+            value: 0,
         },
     }
 }

@@ -1,6 +1,6 @@
 -- The model's step at the places that touch Anchor alone, in the terms of this crate: 1, 2, 4, 6, 8 and 10.
 use mathlib.Core.Path.{_≡_, refl, ap}
-use mathlib.Core.Bool.{true, false, _&&_, cond}
+use mathlib.Core.Bool.{true, false, cond}
 use Prim.Native.Nat.{ℕ, _+_, _/_, _^_}
 use native.Mathlib.Omega.{arith}
 use lib.Dec.{eqb, ltb}
@@ -8,18 +8,18 @@ use borrow.Author.Tests.{eq-eqb, ne-eqb}
 use Rattle.word.specs.Anchor.{anchorOf, packAnchor}
 use Rattle.model.specs.declared.Control.{Control}
 use Rattle.model.specs.declared.Record.{Record}
-use Rattle.model.specs.Tables.{far, facing, pushing}
+use Rattle.model.specs.Tables.{atPlace, far, facing, pushing, tablesOf}
 use Rattle.model.specs.Sound.{isPop, anchorSound}
 use Rattle.model.specs.Places.{reading, withSeen, row, sideOf, nothing, setAnchor, Move, compares, at1, at2, new4, at4, at6, at10, move}
-use Rattle.model.specs.Refusals.{needsRow, meetsLink, stepSound}
+use Rattle.model.specs.Refusals.{needsRow, meetsLink, meetsHead, stepSound}
 use Rattle.model.specs.Route.{route, pushRoute, popRoute, goes, counted}
-use Rattle.model.specs.Calls.{finish}
+use Rattle.model.specs.Calls.{entryOf, finish}
 use Rattle.model.proofs.laws.Onward.{reads-on}
 use Rattle.table.specs.declared.Acted as made
-use Rattle.places.specs.Arm.{standing, stepAt, Steps, StepsOnAnchor}
 use Rattle.table.specs.Lent.{withTables}
+use Rattle.places.specs.Arm.{stepAt, Steps, StepsOnAnchor}
 use Rattle.places.specs.Ending.{refused, settled, noEntry, bumped, withAnchor, anchorRead, mayChange, remembered, compared, changed}
-use Rattle.places.proofs.Routes.{split, kinds, readings, Quiet, entry, quietly}
+use Rattle.places.proofs.Routes.{split, kinds, readings, Quiet, quietly}
 
 -- The step at place n tries to change Anchor: the change fails, is denied or is made.
 pub record Tries (n : ℕ) (c : Control) (r : Record) (new : ℕ) (t : Record) (done : ℕ) (failed : made.Acted) : Type 0 where
@@ -57,12 +57,18 @@ module _ (c : Control) (r : Record) where
 
   pub step1 : Steps 1 c r (anchorRead c r)
   unfolding stepAt stepSound move at1 finish anchorRead settled goes counted
-  step1 ls rs ns ms =
-      ap (λ m. withTables m ls rs ns ms)
-      (quietly c seeing (route 1 (r .kind) outcome) (entry (row (standing 1 r)) ns) read-quiet)
+  step1 ls rs ns ms xs =
+      ap (λ m. withTables m ls rs ns ms xs)
+      (quietly c seeing (route 1 (r .kind) outcome) (entryOf (tablesOf c ls rs ns ms xs) (atPlace r 1)) read-quiet)
 
-  -- A place that needs no slot row and meets no link.
-  module _ (n : ℕ) (needs : needsRow (standing n r) ≡ false) (meets : meetsLink (standing n r) ≡ false) where
+  -- A place that needs no slot row and meets no link, head or next slot.
+  record Plain (n : ℕ) : Type 0 where
+    needs : needsRow (atPlace r n) ≡ false
+    meets : meetsLink (atPlace r n) ≡ false
+    heads : meetsHead (atPlace r n) ≡ false
+    nexts : eqb n 13 ≡ false
+
+  module _ (n : ℕ) (p : Plain n) where
     abbrev leads : ℕ → ℕ
     leads o = route n (r .kind) o
 
@@ -70,36 +76,39 @@ module _ (c : Control) (r : Record) where
     comparing :
         Quiet (leads 0)
         → Quiet (leads 1)
-        → ((w : ℕ) → move c (standing n r) w ≡ compares (c .anchor) (r .seen) (standing n r))
+        → ((w : ℕ) → move c (atPlace r n) w ≡ compares (c .anchor) (r .seen) (atPlace r n))
         → Steps n c r (compared c r (leads 0) (leads 1))
     unfolding stepAt stepSound finish compared settled goes counted
-    comparing first second moves ls rs ns ms =
-        let e = entry (row (standing n r)) ns in
+    comparing first second moves ls rs ns ms xs =
+        let e = entryOf (tablesOf c ls rs ns ms xs) (atPlace r n) in
         split (eqb (c .anchor) (r .seen))
-        (λ h. rw (moves, needs, meets, h) (ap (λ m. withTables m ls rs ns ms) (quietly c r (leads 0) e first)))
-        (λ h. rw (moves, needs, meets, h) (ap (λ m. withTables m ls rs ns ms) (quietly c r (leads 1) e second)))
+        (λ h. rw (moves, p .needs, p .meets, p .heads, p .nexts, h) (ap (λ m. withTables m ls rs ns ms xs) (quietly c r (leads 0) e first)))
+        (λ h. rw (moves, p .needs, p .meets, p .heads, p .nexts, h) (ap (λ m. withTables m ls rs ns ms xs) (quietly c r (leads 1) e second)))
 
     -- A change of Anchor, places 2, 4 and 10: done, with the record t; failed, with the record u and the outcome o.
     abbrev trying : ℕ → Record → Record → ℕ → Move
     trying new t u o =
-        cond (eqb (c .anchor) (r .seen)) (record { touch = setAnchor new; task = standing n t; outcome = 0; failed = false })
-        (record { touch = nothing; task = standing n u; outcome = o; failed = true })
+        cond (eqb (c .anchor) (r .seen)) (record { touch = setAnchor new; task = atPlace t n; outcome = 0; failed = false })
+        (record { touch = nothing; task = atPlace u n; outcome = o; failed = true })
 
     changing :
         (new : ℕ) (t u : Record) (o : ℕ)
         → Quiet (leads 0)
         → Quiet (leads o)
-        → ((w : ℕ) → move c (standing n r) w ≡ trying new t u o)
+        → ((w : ℕ) → move c (atPlace r n) w ≡ trying new t u o)
         → Tries n c r new t (leads 0) (settled (bumped c) u (leads o) noEntry)
     unfolding stepAt stepSound finish changed settled goes counted
     changing new t u o first second moves = record {
-      steps = λ ls rs ns ms.
-          let e = entry (row (standing n r)) ns in
+      steps = λ ls rs ns ms xs.
+          let e = entryOf (tablesOf c ls rs ns ms xs) (atPlace r n) in
           split (eqb (c .anchor) (r .seen))
-          (λ h. split (anchorSound (c .slots) (anchorOf new) && ltb (anchorOf (r .seen) .tag) 4294967295)
-          (λ s. rw (moves, needs, meets, h, s) (ap (λ m. withTables m ls rs ns ms) (quietly (withAnchor c new) t (leads 0) e first)))
-          (λ s. rw (moves, needs, meets, h, s)))
-          (λ h. rw (moves, needs, meets, h) (ap (λ m. withTables m ls rs ns ms) (quietly (bumped c) u (leads o) e second)));
+          (λ h. split (anchorSound (c .slots) (anchorOf new))
+          (λ s. split (ltb (anchorOf (r .seen) .tag) 4294967295)
+          (λ l. rw (moves, p .needs, p .meets, p .heads, p .nexts, h, s, l)
+          (ap (λ m. withTables m ls rs ns ms xs) (quietly (withAnchor c new) t (leads 0) e first)))
+          (λ l. rw (moves, p .needs, p .meets, p .heads, p .nexts, h, s, l)))
+          (λ s. rw (moves, p .needs, p .meets, p .heads, p .nexts, h, s)))
+          (λ h. rw (moves, p .needs, p .meets, p .heads, p .nexts, h) (ap (λ m. withTables m ls rs ns ms xs) (quietly (bumped c) u (leads o) e second)));
     }
 
     -- Where a failed change reads on: places 2 and 4.
@@ -107,7 +116,7 @@ module _ (c : Control) (r : Record) where
         (new : ℕ) (t : Record)
         → Quiet (leads 0)
         → leads (outcome + 1) ≡ route 1 (r .kind) outcome
-        → ((w : ℕ) → move c (standing n r) w ≡ trying new t seeing (outcome + 1))
+        → ((w : ℕ) → move c (atPlace r n) w ≡ trying new t seeing (outcome + 1))
         → Tries n c r new t (leads 0) (anchorRead (bumped c) r)
     unfolding anchorRead
     replacing new t first on moves =
@@ -119,7 +128,9 @@ module _ (c : Control) (r : Record) where
       → new ≡ packAnchor (facing (r .side) (r .seen / 2 ^ 32 + 1) (anchorOf (r .seen) .status) end end)
       → Tries 2 c r new r (route 2 (r .kind) 0) (anchorRead (bumped c) r)
   unfolding move at2 sideOf route pushRoute popRoute
-  step2 end new e n = replacing 2 refl refl new r (kinds Quiet 2 (r .kind) 0 refl refl) (reads-on (r .kind) outcome .0) (λ w. rw (n, e))
+  step2 end new e n =
+      replacing 2 (record { needs = refl; meets = refl; heads = refl; nexts = refl }) new r
+      (kinds Quiet 2 (r .kind) 0 refl refl) (reads-on (r .kind) outcome .0) (λ w. rw (n, e))
 
   -- The new Anchor of a push and of a pop at place 4.
   abbrev newPush : ℕ
@@ -131,11 +142,14 @@ module _ (c : Control) (r : Record) where
   push4 : eqb (r .kind) 0 ≡ true → Tries 4 c r newPush (withSeen r newPush 1) (route 4 (r .kind) 0) (anchorRead (bumped c) r)
   unfolding move at4 new4 sideOf route pushRoute popRoute
   push4 k =
-      replacing 4 refl refl newPush (withSeen r newPush 1) (kinds Quiet 4 (r .kind) 0 refl refl) (reads-on (r .kind) outcome .1) (λ w. rw k)
+      replacing 4 (record { needs = refl; meets = refl; heads = refl; nexts = refl }) newPush (withSeen r newPush 1)
+      (kinds Quiet 4 (r .kind) 0 refl refl) (reads-on (r .kind) outcome .1) (λ w. rw k)
 
   pop4 : eqb (r .kind) 0 ≡ false → Tries 4 c r newPop r (route 4 (r .kind) 0) (anchorRead (bumped c) r)
   unfolding move at4 new4 sideOf route pushRoute popRoute
-  pop4 k = replacing 4 refl refl newPop r (kinds Quiet 4 (r .kind) 0 refl refl) (reads-on (r .kind) outcome .1) (λ w. rw k)
+  pop4 k =
+      replacing 4 (record { needs = refl; meets = refl; heads = refl; nexts = refl }) newPop r
+      (kinds Quiet 4 (r .kind) 0 refl refl) (reads-on (r .kind) outcome .1) (λ w. rw k)
 
   pub step4 :
       (status end new : ℕ)
@@ -165,15 +179,21 @@ module _ (c : Control) (r : Record) where
 
   pub step6 : Steps 6 c r (compared c r (route 6 (r .kind) 0) (route 6 (r .kind) 1))
   unfolding move at6 route pushRoute popRoute
-  step6 = comparing 6 refl refl (kinds Quiet 6 (r .kind) 0 refl refl) (kinds Quiet 6 (r .kind) 1 refl refl) (λ w. refl)
+  step6 =
+      comparing 6 (record { needs = refl; meets = refl; heads = refl; nexts = refl })
+      (kinds Quiet 6 (r .kind) 0 refl refl) (kinds Quiet 6 (r .kind) 1 refl refl) (λ w. refl)
 
   pub step8 : Steps 8 c r (compared c r (route 8 (r .kind) 0) (route 8 (r .kind) 1))
   unfolding move at6 route pushRoute popRoute
-  step8 = comparing 8 refl refl (kinds Quiet 8 (r .kind) 0 refl refl) (kinds Quiet 8 (r .kind) 1 refl refl) (λ w. refl)
+  step8 =
+      comparing 8 (record { needs = refl; meets = refl; heads = refl; nexts = refl })
+      (kinds Quiet 8 (r .kind) 0 refl refl) (kinds Quiet 8 (r .kind) 1 refl refl) (λ w. refl)
 
   abbrev stable : ℕ
   stable = packAnchor (record { tag = r .seen / 2 ^ 32 + 1; status = 0; left = anchorOf (r .seen) .left; right = anchorOf (r .seen) .right })
 
   pub step10 : (new : ℕ) → new ≡ stable → Tries 10 c r new r (route 10 (r .kind) 0) (settled (bumped c) r (route 10 (r .kind) 1) noEntry)
   unfolding move at10 route pushRoute popRoute
-  step10 new e = changing 10 refl refl new r r 1 (kinds Quiet 10 (r .kind) 0 refl refl) (kinds Quiet 10 (r .kind) 1 refl refl) (λ w. rw e)
+  step10 new e =
+      changing 10 (record { needs = refl; meets = refl; heads = refl; nexts = refl }) new r r 1
+      (kinds Quiet 10 (r .kind) 0 refl refl) (kinds Quiet 10 (r .kind) 1 refl refl) (λ w. rw e)

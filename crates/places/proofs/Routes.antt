@@ -1,4 +1,4 @@
--- The route's entries, and why only place 11 names an entry in its answer.
+-- The route's entries, and why only places 11 and 17 name an entry in their answer.
 use mathlib.Core.Path.{_≡_, refl}
 use mathlib.Core.Bool.{Bool, true, false, _&&_}
 use mathlib.Core.List.{List}
@@ -35,7 +35,7 @@ readings P pop a empty single stable unstable =
 abbrev pub Quiet : ℕ → Type 0
 Quiet n = eqb n popped ≡ false
 
--- The entry that the model's answer would name.
+-- The entry that the model's answer would name at the places that touch slot x.
 abbrev pub entry : ℕ → List ℕ → Entry
 entry x labels = record { slot = x; label = getD labels x 0 }
 

@@ -9,15 +9,15 @@ use Rattle.word.specs.Anchor.{anchorOf}
 use Rattle.word.specs.Link.{linkOf, packLink}
 use Rattle.model.specs.declared.Control.{Control}
 use Rattle.model.specs.declared.Record.{Record}
-use Rattle.model.specs.Tables.{Tables, tablesOf, withMark}
+use Rattle.model.specs.Tables.{Tables, isPooled, withMark, tablesOf}
 use Rattle.model.specs.Sound.{from1, linkSound}
-use Rattle.model.specs.Places.{withNeighbour, withLink, row, sideOf, linkSide, at3, at5, at7, at9, at11, move}
+use Rattle.model.specs.Places.{withNeighbour, withLink, withOwn, row, sideOf, linkSide, at3, at5, at7, at9, at11, move}
 use Rattle.model.specs.Refusals.{stepSound}
 use Rattle.model.specs.Route.{route, pushRoute, popRoute, goes, counted}
 use Rattle.model.specs.Calls.{Acted, finish}
 use Rattle.table.specs.declared.Acted as made
-use Rattle.places.specs.Arm.{stepAt}
 use Rattle.table.specs.Lent.{withTables}
+use Rattle.places.specs.Arm.{stepAt}
 use Rattle.places.specs.Ending.{refused, settled, noEntry, bumped, rowSound, neighbourRead, linkRead}
 use Rattle.places.proofs.Routes.{split, kinds, Quiet, entry, quietly}
 
@@ -41,16 +41,16 @@ module _ (c : Control) (r : Record) where
   abbrev pub named : Bool
   named = eqb (anchorOf (r .seen) .status) 1
 
-  module _ (ls rs ns ms : List ℕ) where
+  module _ (ls rs ns ms xs : List ℕ) where
     abbrev lent : made.Acted → Acted
-    lent m = withTables m ls rs ns ms
+    lent m = withTables m ls rs ns ms xs
 
     abbrev q : Tables
-    q = tablesOf c ls rs ns ms
+    q = tablesOf c ls rs ns ms xs
 
     -- Slot x's link word stored at a side.
     abbrev pub linked : made.Acted → Bool → ℕ → ℕ → Acted
-    linked m right x w = withTables m (cond right ls (set ls x w)) (cond right (set rs x w) rs) ns ms
+    linked m right x w = withTables m (cond right ls (set ls x w)) (cond right (set rs x w) rs) ns ms xs
 
     pub push3 :
         eqb (r .kind) 0 ≡ true
@@ -121,10 +121,27 @@ module _ (c : Control) (r : Record) where
         (λ s. simp (mirror, f, s) (ap lent (quietly (bumped c) r (route 9 (r .kind) 1) (entry (r .neighbour) ns) (kinds Quiet 9 (r .kind) 1 refl refl)))))
         (λ f. simp (mirror, f))
 
-    pub step11 :
+    -- The label of the end taken is the answer's, or in a pooled queue the record's.
+    pub named11 : isPooled c ≡ false →
         cond (from1 (c .slots) (end own))
-        (withTables (settled c r (route 11 (r .kind) 0) (entry (end own) ns)) ls rs ns (withMark ms (end own) 0))
+        (withTables (settled c r (route 11 (r .kind) 0) (entry (end own) ns)) ls rs ns (withMark ms (end own) 0) xs)
         (lent (refused c r))
         ≡ stepAt 11 q r
     unfolding stepAt stepSound move row sideOf at11 finish settled goes counted
-    step11 = split (from1 (c .slots) (end own)) (λ f. simp f) (λ f. simp f)
+    named11 p = split (from1 (c .slots) (end own)) (λ f. simp (p, f)) (λ f. simp (p, f))
+
+    pub pooled11 : isPooled c ≡ true →
+        cond (from1 (c .slots) (end own))
+        (withTables (settled c (withOwn r (end own) (getD ns (end own) 0)) (route 11 (r .kind) 1) noEntry) ls rs ns (withMark ms (end own) 0) xs)
+        (lent (refused c r))
+        ≡ stepAt 11 q r
+    unfolding stepAt stepSound move row sideOf at11 finish settled goes counted route pushRoute popRoute
+    pooled11 p = split (from1 (c .slots) (end own))
+        (λ f. simp (p, f)
+        (ap (λ m. withTables m ls rs ns (withMark ms (end own) 0) xs)
+        (quietly c (withOwn r (end own) (getD ns (end own) 0)) (route 11 (r .kind) 1) (entry (end own) ns) (kinds Quiet 11 (r .kind) 1 refl refl))))
+        (λ f. simp (p, f))
+
+    pub refused11 : from1 (c .slots) (end own) ≡ false → lent (refused c r) ≡ stepAt 11 q r
+    unfolding stepAt stepSound move row sideOf at11 finish
+    refused11 f = split (isPooled c) (λ p. simp (p, f)) (λ p. simp (p, f))

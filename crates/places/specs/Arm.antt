@@ -5,29 +5,25 @@ use mathlib.Core.List.{List}
 use Prim.Native.Nat.{ℕ}
 use Rattle.model.specs.declared.Control.{Control}
 use Rattle.model.specs.declared.Record.{Record}
-use Rattle.model.specs.Tables.{Tables, tablesOf}
+use Rattle.model.specs.Tables.{Tables, atPlace, tablesOf}
 use Rattle.model.specs.Places.{linkMet, move}
 use Rattle.model.specs.Refusals.{stepSound}
 use Rattle.model.specs.Calls.{Acted, decide, finish}
 use Rattle.table.specs.declared.Acted as made
 use Rattle.table.specs.Lent.{withTables}
 
-abbrev pub standing : ℕ → Record → Record
-standing n r =
-    record { place = n; kind = r .kind; side = r .side; own = r .own; label = r .label; seen = r .seen; neighbour = r .neighbour; link = r .link; finishing = r .finishing }
-
 -- 34 for what place n touches, else what it does.
 unfoldable pub stepAt : ℕ → Tables → Record → Acted
 stepAt n q r =
-    let s = standing n r in
+    let s = atPlace r n in
     let w = linkMet q s in
     decide (cond (stepSound (q .control) s w) 0 34) q r (finish q s (move (q .control) s w))
 
--- A function carries out the step at place n, whatever the tables hold that it is not lent: none, the links, the labels and marks.
+-- A function carries out the step at place n, whatever the tables hold that it is not lent: none, the links, labels and marks, the next table.
 abbrev pub Steps : ℕ → Control → Record → made.Acted → Type 0
 Steps n c r m =
-    (lefts rights labels marks : List ℕ)
-    → withTables m lefts rights labels marks ≡ stepAt n (tablesOf c lefts rights labels marks) r
+    (lefts rights labels marks next : List ℕ)
+    → withTables m lefts rights labels marks next ≡ stepAt n (tablesOf c lefts rights labels marks next) r
 
 -- The step at the record's place, if that is 1, 2 or 4.
 abbrev pub StepsOnAnchor : Control → Record → made.Acted → Type 0
@@ -35,10 +31,15 @@ StepsOnAnchor c r m = (r .place ≡ 1 → Steps 1 c r m) × (r .place ≡ 2 → 
 
 abbrev pub StepsOnLinks : ℕ → Control → Record → List ℕ → List ℕ → made.Acted → List ℕ → List ℕ → Type 0
 StepsOnLinks n c r lefts rights m lefts′ rights′ =
-    (labels marks : List ℕ)
-    → withTables m lefts′ rights′ labels marks ≡ stepAt n (tablesOf c lefts rights labels marks) r
+    (labels marks next : List ℕ)
+    → withTables m lefts′ rights′ labels marks next ≡ stepAt n (tablesOf c lefts rights labels marks next) r
 
-abbrev pub StepsOnMarks : ℕ → Control → Record → List ℕ → List ℕ → made.Acted → List ℕ → Type 0
-StepsOnMarks n c r labels marks m marks′ =
-    (lefts rights : List ℕ)
-    → withTables m lefts rights labels marks′ ≡ stepAt n (tablesOf c lefts rights labels marks) r
+abbrev pub StepsOnMarks : ℕ → Control → Record → List ℕ → List ℕ → made.Acted → List ℕ → List ℕ → Type 0
+StepsOnMarks n c r labels marks m labels′ marks′ =
+    (lefts rights next : List ℕ)
+    → withTables m lefts rights labels′ marks′ next ≡ stepAt n (tablesOf c lefts rights labels marks next) r
+
+abbrev pub StepsOnNext : ℕ → Control → Record → List ℕ → made.Acted → List ℕ → Type 0
+StepsOnNext n c r next m next′ =
+    (lefts rights labels marks : List ℕ)
+    → withTables m lefts rights labels marks next′ ≡ stepAt n (tablesOf c lefts rights labels marks next) r

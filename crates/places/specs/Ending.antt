@@ -1,4 +1,4 @@
--- How a step ends, by value: refused, gone on, Anchor compared or changed, a link read.
+-- How a step ends, by value: refused, gone on, Anchor compared or changed, a link or the head read.
 use mathlib.Core.Bool.{Bool, true, _&&_, cond}
 use Prim.Native.Nat.{ℕ}
 use lib.Dec.{eqb, ltb}
@@ -23,10 +23,22 @@ settled c t n e =
     record { control = c; task = goes t m; outcome = Moved (answer m e) }
 
 abbrev pub bumped : Control → Control
-bumped c = record { tasks = c .tasks; slots = c .slots; anchor = c .anchor; retries = counted (c .retries) true }
+bumped c = record {
+  tasks = c .tasks;
+  slots = c .slots;
+  anchor = c .anchor;
+  retries = counted (c .retries) true;
+  pooled = c .pooled;
+  head = c .head;
+}
 
 abbrev pub withAnchor : Control → ℕ → Control
-withAnchor c w = record { tasks = c .tasks; slots = c .slots; anchor = w; retries = c .retries }
+withAnchor c w =
+    record { tasks = c .tasks; slots = c .slots; anchor = w; retries = c .retries; pooled = c .pooled; head = c .head }
+
+abbrev pub withHead : Control → ℕ → Control
+withHead c w =
+    record { tasks = c .tasks; slots = c .slots; anchor = c .anchor; retries = c .retries; pooled = c .pooled; head = w }
 
 abbrev pub noEntry : Entry
 noEntry = record { slot = 0; label = 0 }
@@ -70,4 +82,12 @@ unfoldable pub linkRead : Control → Record → ℕ → ℕ → ℕ → ℕ →
 linkRead c r end w same other =
     cond (rowSound (c .slots) (r .neighbour) w)
     (cond (eqb (linkOf w .slot) end) (settled c (withLink r w) same noEntry) (settled c (withLink r w) other noEntry))
+    (refused c r)
+
+-- The head is remembered; its slot may be 0.
+unfoldable pub headRead : Control → Record → ℕ → ℕ → made.Acted
+headRead c r none other =
+    let t = withLink r (c .head) in
+    cond (linkSound (c .slots) (c .head))
+    (cond (eqb (linkOf (c .head) .slot) 0) (settled c t none noEntry) (settled c t other noEntry))
     (refused c r)

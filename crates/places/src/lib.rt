@@ -1,10 +1,12 @@
-//! What each place does with the tables lent to it, one function a place; 1, 2 and 4 meet in one.
+//! What each place does with the tables lent to it, one function a place; 1, 2 and 4 meet in one, and
+//! 12 to 17, where a pooled queue draws its slots and gets them back, are in `pool`.
 //!
 //! Every function carries out the step at its place, whatever its arguments:
 //! it refuses with 34 what the place may not touch and then changes nothing.
 //! Line numbers are those of source 003. Figures 3 and 5 show the right side;
 //! at places 5 to 10, figure 4, the side is the one that the status as read names.
 mod next;
+pub mod pool;
 mod side;
 mod step;
 
@@ -183,16 +185,23 @@ pub fn at10(c: Control, r: Record) -> Acted
     step::settles(d, r, next::next(10, r.kind, 0), step::NO_ENTRY)
 }
 
-/// Place 11: read the label of the end taken and clear its mark. (Figure 5, after the loop.)
+/// Place 11: read the label of the end taken and clear its mark. (Figure 5, after the loop.) In a
+/// pooled queue slot and label are kept in the record, and the slot is given back first.
 pub fn at11(c: Control, r: Record, labels: &[u32], marks: &mut [u64]) -> Acted
     ensures { λ m.
-        ⌜ StepsOnMarks 11 c r (now (labels .entry)) (now (marks .entry)) m (now (marks .exit)) ⌝ }
+        ⌜ StepsOnMarks 11 c r (now (labels .entry)) (now (marks .entry)) m (now (labels .entry)) (now (marks .exit)) ⌝ }
 {
     let a = Anchor::unpack(r.seen);
     let end = side::near(r.side == 1, a);
     if sound::from1(c.slots, end) {
         let label = table::label_at(labels, end);
         table::clear_mark(marks, end);
+        if c.pooled == 1 {
+            let mut t = r;
+            t.own = end;
+            t.label = label;
+            return step::settles(c, t, next::next(11, r.kind, 1), step::NO_ENTRY);
+        }
         return step::settles(c, r, next::next(11, r.kind, 0), Entry { slot: end, label });
     }
     step::refused(c, r)

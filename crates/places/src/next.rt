@@ -15,9 +15,11 @@ pub const EMPTY: u8 = 22;
 
 pub const POPPED: u8 = 23;
 
+pub const NO_SLOT: u8 = 24;
+
 // For each place the first four outcomes of a push, then of a pop. A failed change at 2 or 4 goes
 // by place 1's.
-const NEXT: [[[u8; 4]; 2]; 12] = [
+const NEXT: [[[u8; 4]; 2]; 18] = [
     [[0, 0, 0, 0], [0, 0, 0, 0]],
     [[2, 0, 3, 5], [EMPTY, 2, 3, 5]],
     [[PUSHED, 2, 0, 3], [11, EMPTY, 2, 3]],
@@ -29,11 +31,17 @@ const NEXT: [[[u8; 4]; 2]; 12] = [
     [[9, LEAVE, 0, 0], [9, LEAVE, 0, 0]],
     [[10, LEAVE, 0, 0], [10, LEAVE, 0, 0]],
     [[LEAVE, LEAVE, 0, 0], [LEAVE, LEAVE, 0, 0]],
-    [[0, 0, 0, 0], [POPPED, 0, 0, 0]],
+    [[0, 0, 0, 0], [POPPED, 15, 0, 0]],
+    [[NO_SLOT, 13, 0, 0], [0, 0, 0, 0]],
+    [[14, 0, 0, 0], [0, 0, 0, 0]],
+    [[1, 12, 0, 0], [0, 0, 0, 0]],
+    [[0, 0, 0, 0], [16, 0, 0, 0]],
+    [[0, 0, 0, 0], [17, 0, 0, 0]],
+    [[0, 0, 0, 0], [POPPED, 15, 0, 0]],
 ];
 
 pub fn next(place: usize, kind: u64, outcome: usize) -> u8
-    requires { ⌜ (place < 12) × (outcome < 4) ⌝ }
+    requires { ⌜ (place < 18) × (outcome < 4) ⌝ }
     ensures { λ r. ⌜ r ≡ route place kind outcome ⌝ }
 {
     let kinds = NEXT[place];

@@ -13,8 +13,8 @@ ghost use Prim.Native.Nat.{_+_, _/_, _^_};
 ghost use Rattle.word.specs.Link.{packLink};
 ghost use Rattle.model.specs.Tables.{idle};
 ghost use Rattle.model.specs.Route.{goes};
-ghost use Rattle.places.specs.Ending.{refused, settled, anchorRead, bumped, mayChange, withAnchor, remembered};
-ghost use Rattle.places.specs.Ending.{compared, rowSound, neighbourRead, linkRead};
+ghost use Rattle.places.specs.Ending.{refused, settled, anchorRead, bumped, mayChange, withAnchor, withHead, remembered};
+ghost use Rattle.places.specs.Ending.{compared, rowSound, neighbourRead, linkRead, headRead};
 
 /// For a step that pops nothing.
 pub const NO_ENTRY: Entry = Entry { slot: 0, label: 0 };
@@ -35,7 +35,7 @@ fn goes(c: Control, t: Record, n: u8) -> Acted
     ensures { λ m. ⌜ m ≡ record { control = c; task = goes t n; outcome = Outcome.Moved (Answer.Running n) } ⌝ }
 {
     let place = n as u64;
-    if n > 11 {
+    if n > 17 {
         return ends(c, Answer::Running(place));
     }
     let mut gone = t;
@@ -84,6 +84,8 @@ pub fn settles(c: Control, t: Record, n: u8, e: Entry) -> Acted
         ends(c, Answer::Empty)
     } else if n == next::POPPED {
         ends(c, Answer::Popped(e))
+    } else if n == next::NO_SLOT {
+        ends(c, Answer::NoSlot)
     } else {
         goes(c, t, n)
     }
@@ -133,6 +135,15 @@ pub fn with_anchor(c: Control, new: u64) -> Control
 {
     let mut d = c;
     d.anchor = new;
+    d
+}
+
+/// The control with another head.
+pub fn with_head(c: Control, new: u64) -> Control
+    ensures { λ d. ⌜ d ≡ withHead c new ⌝ }
+{
+    let mut d = c;
+    d.head = new;
     d
 }
 
@@ -196,6 +207,22 @@ pub fn reads_link(c: Control, r: Record, end: u64, w: u64, same: u8, other: u8) 
         t.link = w;
         if link.slot == end {
             return settles(c, t, same, NO_ENTRY);
+        }
+        return settles(c, t, other, NO_ENTRY);
+    }
+    refused(c, r)
+}
+
+/// Remembers the head, whose slot may be 0.
+pub fn reads_head(c: Control, r: Record, none: u8, other: u8) -> Acted
+    ensures { λ m. ⌜ m ≡ headRead c r none other ⌝ }
+{
+    if sound::link_sound(c.slots, c.head) {
+        let head = Link::unpack(c.head);
+        let mut t = r;
+        t.link = c.head;
+        if head.slot == 0 {
+            return settles(c, t, none, NO_ENTRY);
         }
         return settles(c, t, other, NO_ENTRY);
     }

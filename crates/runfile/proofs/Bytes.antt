@@ -9,7 +9,7 @@ use lib.ListN.{length, getD, drop, length-drop}
 use lib.Seq.{getD-drop, drop-drop}
 use borrow.Author.Tests.{lt-leb, le-leb, lt-ltb, le-ltb}
 use Rattle.runfile.specs.Field.{twoAt, fourAt, formed, contentOf, missing, fieldOf}
-use Rattle.runfile.specs.declared.field.Field.the-variants.{Malformed, Cut, End}
+use Rattle.runfile.specs.declared.Field.the-variants.{Malformed, Cut, End}
 
 module _ (s : List ℕ) (at : ℕ) where
   pub byte-here : getD (drop at s) 0 0 ≡ getD s at 0

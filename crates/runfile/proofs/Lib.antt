@@ -1,7 +1,2 @@
 pub mod Bytes
 pub mod Prefix
-pub mod Puts
-pub mod Lanes
-pub mod Glyphs
-pub mod Digits
-pub mod Decimal

@@ -1,7 +1,7 @@
 -- A field that is there whole, or malformed, stays the same however many bytes follow: so a file may come in pieces.
 use Prim.Native.Nat.{ℕ, _+_, _-_, _<_, _≤_}
 use mathlib.Core.Path.{_≡_, refl, subst}
-use mathlib.Core.Bool.{Bool, true, false, _||_}
+use mathlib.Core.Bool.{Bool, true, false, _||_, or-false}
 use mathlib.Core.List.{List, _++_}
 use native.Mathlib.Omega.{arith}
 use lib.ListN.{length, getD, drop, length-append, length-drop, List·getD-append}
@@ -9,8 +9,8 @@ use lib.Seq.{drop-append-le}
 use lib.Dec.{ltb, leb, eqb}
 use borrow.Author.Tests.{leb-true, ltb-false, eqb-true, lt-leb, le-ltb}
 use Rattle.runfile.specs.Field.{twoAt, fourAt, formed, contentOf, missing, fieldOf}
-use Rattle.runfile.specs.declared.field.Field.the-variants.{Malformed, Cut, End}
-use Rattle.runfile.specs.declared.field.Found.{Found}
+use Rattle.runfile.specs.declared.Field.the-variants.{Malformed, Cut, End}
+use Rattle.runfile.specs.declared.Found.{Found}
 
 clash : {P : Type 0} → _≡_ {A = Bool} false true → P
 clash z = absurd (let y : _≡_ {A = ℕ} 0 1 = cc in omega arith)
@@ -36,28 +36,30 @@ seen o b = go (leb (length b) 0) refl (ltb (length b) 3) refl (formed o (getD b 
     go false p false q true r true t = rw (p, q, r, t) cut
     go false p false q true r false t = rw (p, q, r, t) (whole r (ltb-false (length b) (3 + twoAt b 1) t))
 
-formed-one : (len : ℕ) (o : Bool) → formed o 1 len ≡ true → 7 ≤ len
+-- How long a well-formed field's content is.
+formed-open : (tag len : ℕ) (o : Bool) → (eqb tag 1 || eqb tag 5) ≡ true → formed o tag len ≡ true → 7 ≤ len
 unfolding formed
-formed-one len true e = clash e
-formed-one len false e = omega (arith, eqb-true len 7 e)
-
-formed-two : (len : ℕ) (o : Bool) → formed o 2 len ≡ true → 8 ≤ len
-unfolding formed
-formed-two len true e = go (eqb len 8) refl e
+formed-open tag len false t e = omega (arith, eqb-true len 7 (rw t at e))
+formed-open tag len true t e = go (eqb tag 1) refl t
   where
-    go : (b : Bool) → eqb len 8 ≡ b → ((b || false) || false) ≡ true → 8 ≤ len
-    go true h z = omega (arith, eqb-true len 8 h)
-    go false h z = clash z
-formed-two len false e = clash e
+    go : (b : Bool) → eqb tag 1 ≡ b → (b || eqb tag 5) ≡ true → 7 ≤ len
+    go true p q = clash (subst (λ (k : ℕ). formed true k len ≡ true) (eqb-true tag 1 p) e)
+    go false p q = clash (subst (λ (k : ℕ). formed true k len ≡ true) (eqb-true tag 5 q) e)
 
-formed-three : (len : ℕ) (o : Bool) → formed o 3 len ≡ true → 2 ≤ len
+formed-push : (len : ℕ) (o : Bool) → formed o 2 len ≡ true → 8 ≤ len
 unfolding formed
-formed-three len true e = go (eqb len 2) refl e
-  where
-    go : (b : Bool) → eqb len 2 ≡ b → (b || false) ≡ true → 2 ≤ len
-    go true h z = omega (arith, eqb-true len 2 h)
-    go false h z = clash z
-formed-three len false e = clash e
+formed-push len true e = omega (arith, eqb-true len 8 (simp or-false at e))
+formed-push len false e = clash e
+
+formed-pop : (len : ℕ) (o : Bool) → formed o 3 len ≡ true → 2 ≤ len
+unfolding formed
+formed-pop len true e = omega (arith, eqb-true len 2 (simp or-false at e))
+formed-pop len false e = clash e
+
+formed-put : (len : ℕ) (o : Bool) → formed o 6 len ≡ true → 6 ≤ len
+unfolding formed
+formed-put len true e = omega (arith, eqb-true len 6 e)
+formed-put len false e = clash e
 
 module _ (b c : List ℕ) where
   same-byte : (i : ℕ) → i < length b → getD (b ++ c) i 0 ≡ getD b i 0
@@ -73,23 +75,26 @@ module _ (b c : List ℕ) where
 
   same-content : (tag len : ℕ) (o : Bool) → formed o tag len ≡ true → len ≤ length b → contentOf tag len (b ++ c) ≡ contentOf tag len b
   unfolding contentOf
-  same-content tag len o e h = go (eqb tag 1) refl (eqb tag 2) refl (eqb tag 3) refl
+  same-content tag len o e h = go (eqb tag 1 || eqb tag 5) refl (eqb tag 2) refl (eqb tag 3) refl (eqb tag 6) refl
     where
       form : (k : ℕ) → eqb tag k ≡ true → formed o k len ≡ true
       form k p = subst (λ (t : ℕ). formed o t len ≡ true) (eqb-true tag k p) e
 
-      go : (x : Bool) → eqb tag 1 ≡ x → (y : Bool) → eqb tag 2 ≡ y → (z : Bool) → eqb tag 3 ≡ z
+      go : (w : Bool) → (eqb tag 1 || eqb tag 5) ≡ w → (x : Bool) → eqb tag 2 ≡ x → (y : Bool) → eqb tag 3 ≡ y → (z : Bool) → eqb tag 6 ≡ z
           → contentOf tag len (b ++ c) ≡ contentOf tag len b
-      go true p y q z r =
-          let k : 7 ≤ len = formed-one len o (form 1 p) in
+      go true p x q y r z t =
+          let k : 7 ≤ len = formed-open tag len o p e in
           rw (p, same-byte 0 (omega arith), same-two 1 (omega arith), same-four 3 (omega arith))
-      go false p true q z r =
-          let k : 8 ≤ len = formed-two len o (form 2 q) in
+      go false p true q y r z t =
+          let k : 8 ≤ len = formed-push len o (form 2 q) in
           rw (p, q, same-byte 0 (omega arith), same-byte 1 (omega arith), same-two 2 (omega arith), same-four 4 (omega arith))
-      go false p false q true r =
-          let k : 2 ≤ len = formed-three len o (form 3 r) in
+      go false p false q true r z t =
+          let k : 2 ≤ len = formed-pop len o (form 3 r) in
           rw (p, q, r, same-byte 0 (omega arith), same-byte 1 (omega arith))
-      go false p false q false r = rw (p, q, r)
+      go false p false q false r true t =
+          let k : 6 ≤ len = formed-put len o (form 6 t) in
+          rw (p, q, r, t, same-byte 0 (omega arith), same-byte 1 (omega arith), same-four 2 (omega arith))
+      go false p false q false r false t = rw (p, q, r, t)
 
 module _ (o : Bool) (b c : List ℕ) where
   longer : length (b ++ c) ≡ length b + length c

@@ -4,9 +4,10 @@ use mathlib.Core.Bool.{Bool, _&&_, _||_, cond}
 use mathlib.Core.List.{List}
 use lib.ListN.{length, getD, drop}
 use lib.Dec.{ltb, leb, eqb}
-use Rattle.runfile.specs.declared.field.Field.{Field}
-use Rattle.runfile.specs.declared.field.Field.the-variants.{Open, Push, Pop, Steps, Malformed, Cut, End}
-use Rattle.runfile.specs.declared.field.Found.{Found}
+use Rattle.model.specs.declared.Op.the-variants.{Push, Pop, Put}
+use Rattle.runfile.specs.declared.Field.{Field}
+use Rattle.runfile.specs.declared.Field.the-variants.{Open, Start, Steps, Malformed, Cut, End}
+use Rattle.runfile.specs.declared.Found.{Found}
 
 -- Numbers, high byte first.
 unfoldable pub twoAt : List ℕ → ℕ → ℕ
@@ -15,20 +16,21 @@ twoAt b i = getD b i 0 * 256 + getD b (i + 1) 0
 unfoldable pub fourAt : List ℕ → ℕ → ℕ
 fourAt b i = twoAt b i * 65536 + twoAt b (i + 2)
 
--- The tags with their lengths. 01 comes first and only there.
+-- The tags with their lengths. One of 01 and 05 comes first and neither later.
 unfoldable pub formed : Bool → ℕ → ℕ → Bool
 formed opened tag len =
     cond opened
-    ((eqb tag 2 && eqb len 8) || (eqb tag 3 && eqb len 2) || (eqb tag 4 && leb len 4096))
-    (eqb tag 1 && eqb len 7)
+    ((eqb tag 2 && eqb len 8) || (eqb tag 3 && eqb len 2) || (eqb tag 4 && leb len 4096) || (eqb tag 6 && eqb len 6))
+    ((eqb tag 1 || eqb tag 5) && eqb len 7)
 
--- 01 open: tasks, slots, first tag. 02 push: task, side, slot, label. 03 pop: task, side. 04 steps.
+-- 01 open: tasks, slots, first tag; 05 the same, pooled. 02 push: task, side, slot, label; 06 without the slot. 03 pop: task, side. 04 steps.
 unfoldable pub contentOf : ℕ → ℕ → List ℕ → Field
 contentOf tag len b =
-    cond (eqb tag 1) (Open (getD b 0 0) (twoAt b 1) (fourAt b 3))
-    (cond (eqb tag 2) (Push (getD b 0 0) (getD b 1 0) (twoAt b 2) (fourAt b 4))
-    (cond (eqb tag 3) (Pop (getD b 0 0) (getD b 1 0))
-    (Steps len)))
+    cond (eqb tag 1 || eqb tag 5) (Open (eqb tag 5) (getD b 0 0) (twoAt b 1) (fourAt b 3))
+    (cond (eqb tag 2) (Start (getD b 0 0) (Push (getD b 1 0) (twoAt b 2) (fourAt b 4)))
+    (cond (eqb tag 3) (Start (getD b 0 0) (Pop (getD b 1 0)))
+    (cond (eqb tag 6) (Start (getD b 0 0) (Put (getD b 1 0) (fourAt b 2)))
+    (Steps len))))
 
 -- Where there is no whole field.
 abbrev pub missing : Field → Found

@@ -1,22 +1,29 @@
--- The tests of a busy record in two parts: what its call started with, and what it has read.
-use mathlib.Core.Path.{_≡_, sym}
-use mathlib.Core.Bool.{Bool, true, false, _&&_, _||_, not, and-assoc}
+-- The tests of a busy record in two parts: what its place asks of it, and whether what it has read is sound.
+use mathlib.Core.Path.{_≡_, refl, sym, _∙_}
+use mathlib.Core.Bool.{Bool, true, false, _&&_, _||_, not, cond, and-assoc}
 use mathlib.Core.List.{[], _∷_}
 use Prim.Native.Nat.{ℕ}
 use lib.Dec.{leb, eqb}
 use Rattle.word.specs.Anchor.{anchorOf}
+use Rattle.word.specs.Link.{linkOf}
 use Rattle.model.specs.declared.Record.{Record}
-use Rattle.model.specs.Sound.{every, from1, isPush, isPop, helping, linkSound, anchorSound, recordSound}
+use Rattle.model.specs.Sound.{every, from1, isPush, isPop, helping, drawing, giving, owning, linkSound, anchorSound, recordSound}
 
-unfoldable pub callSound : ℕ → Record → Bool
-callSound slots r =
-    every (leb (r .place) 11
+-- At 13 and 14 the head as read names a slot.
+abbrev pub headNamed : Record → Bool
+headNamed r = not (eqb (r .place) 13 || eqb (r .place) 14) || not (eqb (linkOf (r .link) .slot) 0)
+
+unfoldable pub callSound : Bool → ℕ → Record → Bool
+callSound pooled slots r =
+    every (leb (r .place) (cond pooled 17 11)
     ∷ leb (r .kind) 1
     ∷ leb (r .side) 1
     ∷ leb (r .finishing) 1
-    ∷ (not (eqb (r .place) 11) || isPop r)
+    ∷ (not (eqb (r .place) 11 || giving r) || isPop r)
+    ∷ (not (drawing r) || isPush r)
     ∷ (eqb (r .finishing) 0 || (isPush r && helping r))
-    ∷ ((isPop r && eqb (r .own) 0) || (isPush r && from1 slots (r .own)))
+    ∷ cond (owning r) (from1 slots (r .own)) (eqb (r .own) 0)
+    ∷ headNamed r
     ∷ [])
 
 unfoldable pub readsSound : ℕ → Record → Bool
@@ -27,14 +34,23 @@ readsSound slots r =
     ∷ (not (helping r) || not (eqb (anchorOf (r .seen) .status) 0))
     ∷ [])
 
+-- A test that stands fourth from the end is made first.
+moved : (h n l a s : Bool) → (h && (n && (l && (a && s)))) ≡ (n && (l && (h && (a && s))))
+moved true n l a s = refl
+moved false true true a s = refl
+moved false true false a s = refl
+moved false false l a s = refl
+
 -- They are those of the document's rule.
-pub parts : (slots : ℕ) (r : Record) → (eqb (r .place) 0 || (callSound slots r && readsSound slots r)) ≡ recordSound slots r
+pub parts : (pooled : Bool) (slots : ℕ) (r : Record)
+    → (eqb (r .place) 0 || (callSound pooled slots r && readsSound slots r)) ≡ recordSound pooled slots r
 unfolding callSound readsSound recordSound
-parts slots r = simp and-assoc
+parts pooled slots r = simp (and-assoc, moved (headNamed r))
 
 -- An idle record is sound; a busy one is if both parts are.
-pub idle-sound : (slots : ℕ) (r : Record) → eqb (r .place) 0 ≡ true → recordSound slots r ≡ true
-idle-sound slots r idle = rw idle at (sym (parts slots r))
+pub idle-sound : (pooled : Bool) (slots : ℕ) (r : Record) → eqb (r .place) 0 ≡ true → recordSound pooled slots r ≡ true
+idle-sound pooled slots r idle = rw idle at (sym (parts pooled slots r))
 
-pub busy-sound : (slots : ℕ) (r : Record) → eqb (r .place) 0 ≡ false → (callSound slots r && readsSound slots r) ≡ recordSound slots r
-busy-sound slots r busy = rw busy at (parts slots r)
+pub busy-sound : (pooled : Bool) (slots : ℕ) (r : Record)
+    → eqb (r .place) 0 ≡ false → (callSound pooled slots r && readsSound slots r) ≡ recordSound pooled slots r
+busy-sound pooled slots r busy = rw busy at (parts pooled slots r)

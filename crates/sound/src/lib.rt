@@ -4,6 +4,8 @@ use model::Record;
 use word::Anchor;
 use word::Link;
 ghost use mathlib.Core.Path.{_≡_};
+ghost use mathlib.Core.Bool.{true};
+ghost use Prim.Native.Nat.{_<_};
 ghost use Rattle.word.specs.Anchor.{anchorOf};
 ghost use Rattle.model.specs.Sound.{from1, anchorSound, linkSound, controlSound, recordSound};
 ghost use Rattle.sound.specs.Lengths.{lengthsFit};
@@ -43,15 +45,35 @@ pub fn control_sound(c: Control) -> bool
     let tasks = from1(16, c.tasks);
     let slots = from1(1023, c.slots);
     let anchor = anchor_sound(c.slots, c.anchor);
-    tasks & slots & anchor
+    tasks & slots & anchor & (c.pooled <= 1)
 }
 
-/// Whether the fields that a call starts with are within their meanings: place, kind, side, own slot,
-/// and whether it is finishing.
-pub fn call_sound(slots: u64, r: Record) -> bool
-    ensures { λ b. ⌜ b ≡ callSound slots r ⌝ }
+/// What places 12 to 17 ask of a record: a push that draws its slot has none yet, and at 13 and 14 a
+/// head as read that names one; a pop that gives its slot back has it.
+fn pool_sound(slots: u64, r: Record) -> bool
+    requires { ⌜ 11 < r .place ⌝ }
+    ensures { λ b. ⌜ b ≡ callSound true slots r ⌝ }
 {
-    let within = (r.place <= 11) & (r.side <= 1) & (r.finishing <= 1);
+    let within = (r.place <= 17) & (r.side <= 1) & (r.finishing == 0);
+    if r.place <= 14 {
+        let head = Link::unpack(r.link);
+        return within & (r.kind == 0) & (r.own == 0) & ((r.place == 12) | (head.slot != 0));
+    }
+    let slot = from1(slots, r.own);
+    within & (r.kind == 1) & slot
+}
+
+/// What its place asks of a record: kind, side, own slot, whether it is finishing, whether the head
+/// as read names a slot. Only a pooled queue has places beyond 11, and only there it matters which
+/// of the two a queue is.
+pub fn call_sound(pooled: bool, slots: u64, r: Record) -> bool
+    ensures { λ b. ⌜ b ≡ callSound pooled slots r ⌝ }
+{
+    if 11 < r.place {
+        let pool = pool_sound(slots, r);
+        return pooled & pool;
+    }
+    let within = (r.side <= 1) & (r.finishing <= 1);
     if r.kind == 0 {
         let helping = (5 <= r.place) & (r.place <= 10);
         let slot = from1(slots, r.own);
@@ -60,7 +82,7 @@ pub fn call_sound(slots: u64, r: Record) -> bool
     within & (r.kind == 1) & (r.finishing == 0) & (r.own == 0)
 }
 
-/// Whether what a call has read is: neighbour, link and Anchor.
+/// Whether what a call has read is sound: neighbour, link word and Anchor.
 pub fn reads_sound(slots: u64, r: Record) -> bool
     ensures { λ b. ⌜ b ≡ readsSound slots r ⌝ }
 {
@@ -72,18 +94,31 @@ pub fn reads_sound(slots: u64, r: Record) -> bool
 }
 
 /// Idle, or each field within its meaning.
-pub fn record_sound(slots: u64, r: Record) -> bool
-    ensures { λ b. ⌜ b ≡ recordSound slots r ⌝ }
+pub fn record_sound(pooled: bool, slots: u64, r: Record) -> bool
+    ensures { λ b. ⌜ b ≡ recordSound pooled slots r ⌝ }
 {
-    let call = call_sound(slots, r);
+    let call = call_sound(pooled, slots, r);
     let reads = reads_sound(slots, r);
     (r.place == 0) | (call & reads)
 }
 
-/// Whether tables of these lengths have rows 0 to slots and the mark words for them.
-pub fn rows_fit(slots: u64, lefts: usize, rights: usize, labels: usize, marks: usize) -> bool
-    ensures { λ r. ⌜ r ≡ lengthsFit slots lefts rights labels marks ⌝ }
+/// Whether tables of these lengths have rows 0 to slots and the mark words for them. The next table
+/// counts in a pooled queue alone.
+pub fn rows_fit(
+    pooled: bool,
+    slots: u64,
+    lefts: usize,
+    rights: usize,
+    labels: usize,
+    marks: usize,
+    next: usize,
+) -> bool
+    ensures { λ r. ⌜ r ≡ lengthsFit pooled slots lefts rights labels marks next ⌝ }
 {
     let last = slots as usize;
-    (last < lefts) & (last < rights) & (last < labels) & (last / 64 < marks)
+    (last < lefts)
+        & (last < rights)
+        & (last < labels)
+        & (last / 64 < marks)
+        & (!pooled | (last < next))
 }

@@ -5,6 +5,6 @@ use Rattle.model.specs.Tables.{tablesOf}
 use Rattle.model.specs.Calls as calls
 use Rattle.table.specs.declared.Acted.{Acted}
 
-abbrev pub withTables : Acted → List ℕ → List ℕ → List ℕ → List ℕ → calls.Acted
-withTables m lefts rights labels marks =
-    record { tables = tablesOf (m .control) lefts rights labels marks; task = m .task; outcome = m .outcome }
+abbrev pub withTables : Acted → List ℕ → List ℕ → List ℕ → List ℕ → List ℕ → calls.Acted
+withTables m lefts rights labels marks next =
+    record { tables = tablesOf (m .control) lefts rights labels marks next; task = m .task; outcome = m .outcome }

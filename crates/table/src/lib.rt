@@ -4,10 +4,13 @@ use model::Control;
 use model::Outcome;
 use model::Record;
 ghost use mathlib.Core.Path.{_≡_};
-ghost use Prim.Native.Nat.{_≤_};
+ghost use mathlib.Core.List.{_∷_};
+ghost use Prim.Native.Nat.{_<_, _≤_};
 ghost use lib.ListN.{length, getD, set};
-ghost use Rattle.model.specs.Tables.{marked, withMark, zeroed};
+ghost use Rattle.model.specs.Tables.{marked, withMark, zeroed, climb};
+ghost use Rattle.model.specs.Calls.{stacked};
 ghost use Rattle.table.specs.Zeroing.{zeroing};
+ghost use Rattle.table.specs.Stacking.{stacking};
 
 /// What a start or step leaves of control and record, and its outcome.
 pub struct Acted {
@@ -111,5 +114,37 @@ pub fn zero_labels(t: &mut [u32], n: u64)
     let k = n as usize;
     if k <= t.len() {
         fill_labels(t, k);
+    }
+}
+
+/// Where slot i leads when all slots are stacked: to the one above, the last one to none.
+fn above(slots: u64, i: u64) -> u64
+    ensures { λ r. ⌜ r ≡ getD (0 ∷ climb 2 slots) i 0 ⌝ }
+{
+    if i == 0 {
+        return 0;
+    }
+    if i < slots { i + 1 } else { 0 }
+}
+
+fn fill_stack(t: &mut [u64], slots: u64)
+    requires { ⌜ slots < length (now t) ⌝ }
+    ensures { λ _. ⌜ now (t .exit) ≡ stacked slots (now (t .entry)) ⌝ }
+{
+    let rows = slots as usize + 1;
+    let mut i = 0;
+    while i < rows {
+        t[i] = above(slots, i as u64);
+        i += 1;
+    }
+}
+
+/// Stacks all slots in a next table that has a row for each, in a pooled queue.
+pub fn stack_slots(pooled: bool, t: &mut [u64], slots: u64)
+    ensures { λ _. ⌜ now (t .exit) ≡ stacking pooled slots (now (t .entry)) ⌝ }
+{
+    let last = slots as usize;
+    if pooled & (last < t.len()) {
+        fill_stack(t, slots);
     }
 }

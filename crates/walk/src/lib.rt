@@ -44,7 +44,7 @@ fn count(slots: u64, links: &[u64], last: u64, first: u64) -> Tally
 /// From the right end along Left links, or, under LPUSH, from the left end along Right links.
 pub fn waiting(c: Control, lefts: &[u64], rights: &[u64]) -> Tally
     ensures { λ r.
-        ⌜ ((labels marks : List ℕ) → r ≡ counted (contents (tablesOf c (now (lefts .entry)) (now (rights .entry)) labels marks))) ⌝ }
+        ⌜ ((labels marks next : List ℕ) → r ≡ counted (contents (tablesOf c (now (lefts .entry)) (now (rights .entry)) labels marks next))) ⌝ }
 {
     let a = Anchor::unpack(c.anchor);
     if (a.left == 0) & (a.right == 0) {

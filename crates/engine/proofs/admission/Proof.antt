@@ -12,16 +12,18 @@ returns c = simp (sym (c .before .control-sound .ensures) ∙ not-true _ (c .if1
 returns-2 : tie.Need-returns-2
 unfolding admission
 returns-2 c =
+    let i = c .before .before .before in
     simp (
-      sym (c .before .before .before .control-sound .ensures) ∙ not-false _ (c .before .before .if1 .left),
+      sym (i .before .control-sound .ensures) ∙ not-false _ (i .if1 .left),
       rw (c .before .rows-fit .ensures) at (c .if2 .taken),
     )
 
 returns-3 : tie.Need-returns-3
 unfolding admission
 returns-3 c =
+    let i = c .before .before .before .before in
     simp (
-      sym (c .before .before .before .before .control-sound .ensures) ∙ not-false _ (c .before .before .before .if1 .left),
+      sym (i .before .control-sound .ensures) ∙ not-false _ (i .if1 .left),
       rw (c .before .before .rows-fit .ensures) at (c .before .if2 .left),
       c .if3 .taken,
     )
@@ -29,8 +31,9 @@ returns-3 c =
 returns-4 : tie.Need-returns-4
 unfolding admission
 returns-4 c =
+    let i = c .before .before .before .before in
     simp (
-      sym (c .before .before .before .before .control-sound .ensures) ∙ not-false _ (c .before .before .before .if1 .left),
+      sym (i .before .control-sound .ensures) ∙ not-false _ (i .if1 .left),
       rw (c .before .before .rows-fit .ensures) at (c .before .if2 .left),
       c .if3 .left,
     )

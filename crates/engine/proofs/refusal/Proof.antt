@@ -10,7 +10,7 @@ returns : tie.Need-returns
 unfolding recordRefusal
 returns c =
     let a = c .before .before .args in
-    simp (idle-sound (a .slots) (a .r) (eq-eqb _ _ (c .if1 .taken)), eq-eqb _ _ (c .if1 .taken))
+    simp (idle-sound (a .pooled) (a .slots) (a .r) (eq-eqb _ _ (c .if1 .taken)), eq-eqb _ _ (c .if1 .taken))
 
 returns-2 : tie.Need-returns-2
 unfolding recordRefusal
@@ -18,7 +18,7 @@ returns-2 c =
     let b = c .before .before in
     let a = b .before .before .args in
     simp (
-      sym (busy-sound (a .slots) (a .r) (ne-eqb _ _ (b .if1 .left))),
+      sym (busy-sound (a .pooled) (a .slots) (a .r) (ne-eqb _ _ (b .if1 .left))),
       sym (c .before .call-sound .ensures) ∙ not-true _ (c .if2 .taken),
     )
 
@@ -28,7 +28,7 @@ returns-3 c =
     let b = c .before .before .before .before in
     let a = b .before .before .args in
     simp (
-      sym (busy-sound (a .slots) (a .r) (ne-eqb _ _ (b .if1 .left))),
+      sym (busy-sound (a .pooled) (a .slots) (a .r) (ne-eqb _ _ (b .if1 .left))),
       sym (c .before .before .before .call-sound .ensures) ∙ not-false _ (c .before .before .if2 .left),
       sym (c .before .reads-sound .ensures) ∙ not-true _ (c .if3 .taken),
     )
@@ -40,7 +40,7 @@ returns-4 c =
     let a = b .before .before .args in
     simp (
       ne-eqb _ _ (b .if1 .left),
-      sym (busy-sound (a .slots) (a .r) (ne-eqb _ _ (b .if1 .left))),
+      sym (busy-sound (a .pooled) (a .slots) (a .r) (ne-eqb _ _ (b .if1 .left))),
       sym (c .before .before .before .call-sound .ensures) ∙ not-false _ (c .before .before .if2 .left),
       sym (c .before .reads-sound .ensures) ∙ not-false _ (c .if3 .left),
     )

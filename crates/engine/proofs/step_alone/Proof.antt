@@ -4,8 +4,7 @@ use borrow.Author.Needs.{needs}
 use Rattle.model.specs.Calls.{stepLent}
 use Rattle.model.specs.Sound.{rowsFit}
 use Rattle.model.specs.Refusals.{Lent, alone}
-use Rattle.model.specs.Tables.{Tables}
-use Rattle.model.specs.Tables.{tablesOf}
+use Rattle.model.specs.Tables.{Tables, tablesOf}
 use Rattle.sound.specs.Lengths.{lengthsFit}
 use Rattle.engine.proofs.Whole.{turned-away, admitted}
 use Rattle.engine.proofs.step_alone.Statement.{statement}
@@ -14,7 +13,7 @@ use Rattle.engine.proofs.step_alone.Tie as tie
 -- The arguments, in the model's terms.
 module _ (a : tie.Start) where
   abbrev q : Tables
-  q = tablesOf (a .args .c) (a .args .lefts .now) (a .args .rights .now) (a .args .labels .now) (a .args .marks .now)
+  q = tablesOf (a .args .c) (a .args .lefts .now) (a .args .rights .now) (a .args .labels .now) (a .args .marks .now) (a .args .next .now)
 
   abbrev p : Lent
   p = alone
@@ -22,15 +21,21 @@ module _ (a : tie.Start) where
 returns : tie.Need-returns
 unfolding stepLent rowsFit lengthsFit
 returns c =
-    let a = c .before .before .before .before .before .before .before in
-    rw (c .refused .ensures) (turned-away (q a) (p a) (a .args .r) _ (c .before .before .admission .ensures) (c .before .if1 .taken))
+    let f = c .before .before in
+    let s = f .before .before .before in
+    let a = s .before .before .before in
+    rw (c .refused .ensures) (turned-away (q a) (p a) (a .args .r) _ (f .admission .ensures) (c .before .if1 .taken))
 
 returns-2 : tie.Need-returns-2
 unfolding stepLent rowsFit lengthsFit
 returns-2 c =
-    let told = c .before .before .before .before .before .before .before .before .before .before in
-    let a = told .before .before .before .before .before .before in
-    c .before .before .before .before .before .before .move-on .ensures ∙ admitted (q a) (p a) (a .args .r) (sym (told .before .admission .ensures) ∙ told .if1 .left)
+    let l = c .before .before .before .before in
+    let m = l .before .before .before .before .before .before in
+    let n = m .before .before .before in
+    let told = n .before .before .before in
+    let s = told .before .before .before .before in
+    let a = s .before .before .before in
+    m .move-on .ensures ∙ admitted (q a) (p a) (a .args .r) (sym (told .before .admission .ensures) ∙ told .if1 .left)
 
 pub step-alone-spec : {M : Type 1} → statement M
 step-alone-spec =
@@ -40,6 +45,8 @@ step-alone-spec =
     (λ _ _. tt)
     returns
     (λ _ _. tt)
+    (λ c. search needs)
+    (λ c. search needs)
     (λ c. search needs)
     (λ c. search needs)
     (λ c. search needs)

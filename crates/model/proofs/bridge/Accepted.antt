@@ -6,9 +6,9 @@ use Prim.Native.Nat.{_<_, _≤_, ℕ}
 use lib.ListN.{length}
 use borrow.Author.Tests.{eqb-false, eqb-true, leb-true, ltb-true, not-false}
 use Rattle.model.specs.Places.{linkMet}
-use Rattle.model.specs.Refusals.{among, late, popRefusal, popRules, pushRefusal, pushRules, stepRefusal, stepRules, stepSound, stepTests}
+use Rattle.model.specs.Refusals.{among, late, popRefusal, popRules, pushRefusal, pushRules, putRefusal, putRules, stepRefusal, stepRules, stepSound, stepTests}
 use Rattle.model.specs.Sound.{rowsFit}
-use Rattle.model.specs.Tables.{Queue, marked, recordAt}
+use Rattle.model.specs.Tables.{Queue, isPooled, marked, recordAt}
 use Rattle.model.proofs.tests.Rules.{cleared, tests}
 use Rattle.model.proofs.tests.Truth.{and-true}
 use Rattle.model.proofs.bridge.Decoded.{RoomAt}
@@ -26,7 +26,7 @@ module _ (q : Queue) (t : ℕ) where
   pub record Stepping : Type 0 where
     pub lies : Lies
     pub control : ControlFine (q .tables .control)
-    pub fine : RecordFine (q .tables .control .slots) (recordAt q t)
+    pub fine : RecordFine (isPooled (q .tables .control)) (q .tables .control .slots) (recordAt q t)
     pub busy : recordAt q t .place ≢ 0
     pub room : RoomAt (q .tables) (recordAt q t) (placeOf (recordAt q t .place))
 
@@ -41,28 +41,45 @@ module _ (q : Queue) (t : ℕ) where
     pub real : 1 ≤ slot
     pub within : slot ≤ q .tables .control .slots
     pub unmarked : marked (q .tables .marks) slot ≡ false
+    pub named : isPooled (q .tables .control) ≡ false
 
-  pub lies : rowsFit (q .tables .control .slots) (q .tables) && among q t .enough ≡ true → among q t .known ≡ true → Lies
+  pub lies : rowsFit (isPooled (q .tables .control)) (q .tables .control .slots) (q .tables) && among q t .enough ≡ true → among q t .known ≡ true → Lies
   lies e k =
-      let z = and-true (rowsFit (q .tables .control .slots) (q .tables)) (among q t .enough) e in
+      let z = and-true (rowsFit (isPooled (q .tables .control)) (q .tables .control .slots) (q .tables)) (among q t .enough) e in
       record { rows = rows-fine (q .tables) (z .0); length = leb-true _ _ (z .1); known = ltb-true _ _ k }
 
   pub push-accepted : (side slot : ℕ) → pushRefusal (q .tables) (among q t) (recordAt q t) side slot ≡ 0 → Pushing side slot
   unfolding pushRefusal
   push-accepted side slot e =
       let z = cleared (pushRules (q .tables) (among q t) (recordAt q t) side slot) refl e in
-      let s = from1-true (q .tables .control .slots) slot (not-false _ (z .1 .1 .1 .1 .0)) in
+      let rest = z .1 .1 .1 .1 .1 in
+      let s = from1-true (q .tables .control .slots) slot (not-false _ (rest .0)) in
       record {
         starting = record {
           lies = lies (not-false _ (z .1 .0)) (not-false _ (z .1 .1 .0));
           side = leb-true _ _ (not-false _ (z .1 .1 .1 .0));
-          free = eqb-true _ _ (not-false _ (z .1 .1 .1 .1 .1 .1 .0));
-          early = z .1 .1 .1 .1 .1 .1 .1 .1 .0;
+          free = eqb-true _ _ (not-false _ (rest .1 .1 .0));
+          early = rest .1 .1 .1 .1 .0;
         };
         real = s .0;
         within = s .1;
-        unmarked = z .1 .1 .1 .1 .1 .1 .1 .0;
+        unmarked = rest .1 .1 .1 .0;
+        named = z .1 .1 .1 .1 .0;
       }
+
+  pub put-accepted : (side : ℕ) → putRefusal (q .tables) (among q t) (recordAt q t) side ≡ 0 → Starting side × (isPooled (q .tables .control) ≡ true)
+  unfolding putRefusal
+  put-accepted side e =
+      let z = cleared (putRules (q .tables) (among q t) (recordAt q t) side) refl e in
+      let rest = z .1 .1 .1 .1 .1 in (
+        record {
+          lies = lies (not-false _ (z .1 .0)) (not-false _ (z .1 .1 .0));
+          side = leb-true _ _ (not-false _ (z .1 .1 .1 .0));
+          free = eqb-true _ _ (not-false _ (rest .1 .0));
+          early = rest .1 .1 .0;
+        },
+        not-false _ (z .1 .1 .1 .1 .0),
+      )
 
   pub pop-accepted : (side : ℕ) → popRefusal (q .tables) (among q t) (recordAt q t) side ≡ 0 → Starting side
   unfolding popRefusal
@@ -82,7 +99,7 @@ module _ (q : Queue) (t : ℕ) where
       let w = linkMet (q .tables) r in
       let z = cleared (stepRules (q .tables) (among q t) r) refl e in
       let b = eqb-false (r .place) 0 (z .1 .1 .1 .1 .0) in
-      let h = record-fine (q .tables .control .slots) r (not-false _ (z .1 .1 .1 .0)) b in
+      let h = record-fine (isPooled (q .tables .control)) (q .tables .control .slots) r (not-false _ (z .1 .1 .1 .0)) b in
       let y = tests (stepTests (q .tables .control) r w) (not-false _ (z .1 .1 .1 .1 .1 .0)) in
       record {
         lies = lies (not-false _ (z .1 .0)) (not-false _ (z .1 .1 .0));

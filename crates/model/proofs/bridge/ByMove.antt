@@ -1,47 +1,79 @@
--- What holds of the move of each place, done or failed, holds of every move.
+-- What holds of the move of each place, done or failed, holds of every move of a busy record.
 use mathlib.Core.Bool.{cond}
-use Prim.Native.Nat.{ℕ, _+_}
+use mathlib.Core.Logic.{_≢_}
+use mathlib.Core.Path.{_≡_, refl}
+use Prim.Native.Nat.{ℕ, _+_, _≤_}
+use native.Mathlib.Omega.{arith}
 use lib.Dec.{eqb}
 use Rattle.word.specs.Anchor.{anchorOf, packAnchor}
 use Rattle.word.specs.Link.{linkOf, packLink}
-use Rattle.model.specs.Places.{Move, Touch, at1, at10, at11, at2, at3, at4, at5, at6, at7, at9, clearMark, endSeen, linkSide, move, new4, nothing, row, setAnchor, setLink, sideOf, withLink, withNeighbour, withSeen}
+use Rattle.model.specs.Places.{Move, Touch, at1, at10, at11, at12, at13, at14, at15, at16, at17, at2, at3, at4, at5, at6, at7, at9, clearMark, endSeen, linkSide, move, new4, nothing, raised, row, setAnchor, setHead, setLink, setNext, sideOf, takeSlot, withLink, withNeighbour, withOwn, withSeen}
 use Rattle.model.specs.Sound.{isPush}
-use Rattle.model.specs.Tables.{facing}
+use Rattle.model.specs.Tables.{atPlace, facing, isPooled}
 use Rattle.model.specs.declared.Control.{Control}
 use Rattle.model.specs.declared.Record.{Record}
+use Rattle.model.proofs.tests.ByPlace.{by-place}
 use Rattle.model.proofs.tests.Truth.{by-test}
 
-module _ (c : Control) (r : Record) (w : ℕ) (P : Touch → Record → Type 0) where
+-- The touches of a change of Anchor at 2 and 10, and of a link at 3 and 9.
+abbrev pub both : Record → ℕ
+both r = let a = anchorOf (r .seen) in
+    let end : ℕ = cond (isPush r) (r .own) 0 in
+    packAnchor (facing (sideOf r) (a .tag + 1) (a .status) end end)
+
+abbrev pub settled : Record → ℕ
+settled r = let a = anchorOf (r .seen) in packAnchor (record { tag = a .tag + 1; status = 0; left = a .left; right = a .right })
+
+abbrev pub named : Record → ℕ → ℕ
+named r tag = packLink (record { tag = tag; slot = endSeen r })
+
+module _ (c : Control) (w : ℕ) (P : Touch → Record → Type 0) where
   abbrev Holds : Move → Type 0
   Holds m = P (m .touch) (m .task)
 
-  -- The touches of a change of Anchor at 2 and 10, and of a link at 3 and 9.
-  abbrev both : ℕ
-  both = let a = anchorOf (r .seen) in
-      let end : ℕ = cond (isPush r) (r .own) 0 in
-      packAnchor (facing (sideOf r) (a .tag + 1) (a .status) end end)
+  -- One fact for each kind of move; those that only some places make have the place as an equation.
+  pub record Moves (r : Record) : Type 0 where
+    pub same : P nothing r
+    pub read : P nothing (withSeen r (c .anchor) (r .finishing))
+    pub found : r .place ≤ 10 → P nothing (withNeighbour r (linkOf w .slot))
+    pub met : r .place ≤ 10 → P nothing (withLink r w)
+    pub two : P (setAnchor (both r)) r
+    pub four-push : P (setAnchor (new4 r)) (withSeen r (new4 r) 1)
+    pub four-pop : P (setAnchor (new4 r)) r
+    pub ten : P (setAnchor (settled r)) r
+    pub three : P (setLink (linkSide r) (row r) (named r (linkOf w .tag))) r
+    pub nine : P (setLink (linkSide r) (row r) (named r (linkOf (r .link) .tag + 1))) r
+    pub eleven : P (clearMark (row r)) r
+    pub keeps : r .place ≡ 11 → P (clearMark (row r)) (withOwn r (row r) w)
+    pub head : 11 ≤ r .place → P nothing (withLink r (c .head))
+    pub next : r .place ≡ 13 → P nothing (withNeighbour r w)
+    pub draws : r .place ≡ 14 → P (takeSlot (raised r (r .neighbour)) (row r) (r .label)) (withOwn r (row r) (r .label))
+    pub links : r .place ≡ 16 → P (setNext (row r) (linkOf (r .link) .slot)) r
+    pub gives : r .place ≡ 17 → P (setHead (raised r (r .own))) r
 
-  abbrev settled : ℕ
-  settled = let a = anchorOf (r .seen) in packAnchor (record { tag = a .tag + 1; status = 0; left = a .left; right = a .right })
+  module _ (r : Record) where
+    abbrev at : ℕ → Record
+    at p = atPlace r p
 
-  abbrev named : ℕ → ℕ
-  named tag = packLink (record { tag = tag; slot = endSeen r })
-
-  pub by-move : P nothing r → P nothing (withSeen r (c .anchor) (r .finishing)) → P nothing (withNeighbour r (linkOf w .slot)) → P nothing (withLink r w)
-      → P (setAnchor both) r → P (setAnchor (new4 r)) (withSeen r (new4 r) 1) → P (setAnchor (new4 r)) r → P (setAnchor settled) r
-      → P (setLink (linkSide r) (row r) (named (linkOf w .tag))) r → P (setLink (linkSide r) (row r) (named (linkOf (r .link) .tag + 1))) r → P (clearMark (row r)) r
-      → Holds (move c r w)
-  unfolding move at1 at2 at3 at4 at5 at6 at7 at9 at10 at11
-  by-move same read found held two four-push four-pop ten three nine eleven =
-      by-test Holds (eqb (r .place) 1) (λ e. read)
-      (λ e. by-test Holds (eqb (r .place) 2) (λ e. by-test Holds (eqb (c .anchor) (r .seen)) (λ e. two) (λ e. read))
-      (λ e. by-test Holds (eqb (r .place) 3) (λ e. by-test Holds (eqb (r .kind) 0) (λ e. three) (λ e. found))
-      (λ e. by-test Holds (eqb (r .place) 4)
-      (λ e. by-test Holds (eqb (c .anchor) (r .seen)) (λ e. by-test (P (setAnchor (new4 r))) (eqb (r .kind) 0) (λ e. four-push) (λ e. four-pop)) (λ e. read))
-      (λ e. by-test Holds (eqb (r .place) 5) (λ e. found)
-      (λ e. by-test Holds (eqb (r .place) 6) (λ e. same)
-      (λ e. by-test Holds (eqb (r .place) 7) (λ e. held)
-      (λ e. by-test Holds (eqb (r .place) 8) (λ e. same)
-      (λ e. by-test Holds (eqb (r .place) 9) (λ e. by-test Holds (eqb w (r .link)) (λ e. nine) (λ e. same))
-      (λ e. by-test Holds (eqb (r .place) 10) (λ e. by-test Holds (eqb (c .anchor) (r .seen)) (λ e. ten) (λ e. same))
-      (λ e. eleven))))))))))
+    pub by-move : r .place ≢ 0 → r .place ≤ 17 → Moves r → Holds (move c r w)
+    unfolding move at1 at2 at3 at4 at5 at6 at7 at9 at10 at11 at12 at13 at14 at15 at16 at17
+    by-move busy h = by-place (λ p. Moves (at p) → Holds (move c (at p) w))
+        (λ m. m .read)
+        (λ m. by-test Holds (eqb (c .anchor) (r .seen)) (λ e. m .two) (λ e. m .read))
+        (λ m. by-test Holds (eqb (r .kind) 0) (λ e. m .three) (λ e. m .found (omega arith)))
+        (λ m. by-test Holds (eqb (c .anchor) (r .seen))
+        (λ e. by-test (P (setAnchor (new4 (at 4)))) (eqb (r .kind) 0) (λ e. m .four-push) (λ e. m .four-pop)) (λ e. m .read))
+        (λ m. m .found (omega arith))
+        (λ m. m .same)
+        (λ m. m .met (omega arith))
+        (λ m. m .same)
+        (λ m. by-test Holds (eqb w (r .link)) (λ e. m .nine) (λ e. m .same))
+        (λ m. by-test Holds (eqb (c .anchor) (r .seen)) (λ e. m .ten) (λ e. m .same))
+        (λ m. by-test Holds (isPooled c) (λ e. m .keeps refl) (λ e. m .eleven))
+        (λ m. m .head (omega arith))
+        (λ m. m .next refl)
+        (λ m. by-test Holds (eqb (c .head) (r .link)) (λ e. m .draws refl) (λ e. m .same))
+        (λ m. m .head (omega arith))
+        (λ m. m .links refl)
+        (λ m. by-test Holds (eqb (c .head) (r .link)) (λ e. m .gives refl) (λ e. m .same))
+        (r .place) busy h

@@ -6,7 +6,8 @@ use lib.Dec.{eqb}
 use lib.ListN.{getD}
 use Rattle.word.specs.Anchor.{anchorOf}
 use Rattle.word.specs.Link.{linkOf}
-use Rattle.model.specs.Places.{Move, linkMet, move, row}
+use Rattle.model.specs.Calls.{entryOf}
+use Rattle.model.specs.Places.{Move, linkMet, move}
 use Rattle.model.specs.Route.{answer, goes, onward, popRoute, pushRoute, route}
 use Rattle.model.specs.Tables.{Tables}
 use Rattle.model.specs.declared.Record.{Record}
@@ -24,7 +25,7 @@ seenMove q r =
     record {
       touch = touchSeen (m .touch);
       rec = recOf (goes (m .task) (next r m));
-      answer = answerSeen (answer (next r m) (record { slot = row r; label = getD (q .labels) (row r) 0 }));
+      answer = answerSeen (answer (next r m) (entryOf q r));
     }
 
 -- The step of a record is that of the decoded machine.
@@ -37,6 +38,9 @@ AnchorRoom q r = q .control .anchor ≡ r .seen → anchorOf (r .seen) .tag < 42
 
 abbrev pub LinkRoom : Tables → Record → Type 0
 LinkRoom q r = linkAt q (eqb (anchorOf (r .seen) .status) 1) (r .neighbour) ≡ r .link → linkOf (r .link) .tag < 4294967295
+
+abbrev pub HeadRoom : Tables → Record → Type 0
+HeadRoom q r = q .control .head ≡ r .link → linkOf (r .link) .tag < 4294967295
 
 abbrev pub RoomAt : Tables → Record → M.Place → Type 0
 RoomAt q r M.idle = Unit {0}
@@ -51,6 +55,12 @@ RoomAt q r M.at8 = Unit {0}
 RoomAt q r M.at9 = LinkRoom q r
 RoomAt q r M.at10 = AnchorRoom q r
 RoomAt q r M.at11 = Unit {0}
+RoomAt q r (M.draw M.at12) = Unit {0}
+RoomAt q r (M.draw M.at13) = Unit {0}
+RoomAt q r (M.draw M.at14) = HeadRoom q r
+RoomAt q r (M.give M.at15) = Unit {0}
+RoomAt q r (M.give M.at16) = Unit {0}
+RoomAt q r (M.give M.at17) = HeadRoom q r
 
 -- The route of a place that push and pop share.
 pub route-shared : (p k o : ℕ) → getD pushRoute p [] ≡ getD popRoute p [] → route p k o ≡ getD (getD popRoute p []) o 0

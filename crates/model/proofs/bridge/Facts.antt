@@ -1,21 +1,21 @@
 -- What the tests of soundness and of length say, as facts.
-use mathlib.Core.Bool.{Bool, _&&_, _||_, not, true}
+use mathlib.Core.Bool.{Bool, cond, false, not, true}
 use mathlib.Core.Logic.{_≢_}
-use mathlib.Core.Path.{_∙_, _≡_, ap, sym}
+use mathlib.Core.Path.{_∙_, _≡_, ap, refl, sym}
 use Prim.Native.Nat.{_/_, _<_, _^_, _≤_, ℕ}
 use native.Mathlib.Omega.{arith}
 use lib.Dec.{eqb, leb}
-use lib.ListN.{length}
-use borrow.Author.Tests.{eq-eqb, eqb-true, leb-true, ltb-true, ne-eqb}
+use lib.ListN.{getD, length}
+use borrow.Author.Tests.{eq-eqb, eqb-true, le-leb, leb-true, ltb-true, ne-eqb}
 use Rattle.word.specs.Anchor.{anchorOf}
 use Rattle.word.specs.Link.{linkOf, spareOf}
 use Rattle.word.specs.declared.Anchor.{Anchor}
-use Rattle.model.specs.Sound.{anchorSound, anchorTests, controlSound, controlTests, from1, linkSound, recordSound, recordTests, rowTests, rowsFit}
-use Rattle.model.specs.Tables.{Tables}
+use Rattle.model.specs.Sound.{giving, owning, anchorSound, anchorTests, controlSound, controlTests, from1, linkSound, recordSound, recordTests, rowTests, rowsFit}
+use Rattle.model.specs.Tables.{Tables, isPooled}
 use Rattle.model.specs.declared.Control.{Control}
 use Rattle.model.specs.declared.Record.{Record}
 use Rattle.model.proofs.tests.Rules.{tests}
-use Rattle.model.proofs.tests.Truth.{and-true, beq-eq, or-cases, or-left, or-right}
+use Rattle.model.proofs.tests.Truth.{and-of, and-true, beq-eq, not-both, or-first, or-left, or-right, or-second}
 use Rattle.model.proofs.bridge.View.{linkAt}
 
 pub record AnchorFine (slots : ℕ) (a : Anchor) : Type 0 where
@@ -40,14 +40,17 @@ anchor-fine slots a e =
       single = λ p. eqb-true _ _ (or-left _ _ (z .1 .1 .1 .1 .0) (ap not (eq-eqb _ _ p)));
     }
 
-pub record RecordFine (slots : ℕ) (r : Record) : Type 0 where
-  pub place : r .place ≤ 11
+-- A busy record's fields are within their ranges, and its kind suits its place. (What its own slot is, Task and Extra say.)
+pub record RecordFine (pooled : Bool) (slots : ℕ) (r : Record) : Type 0 where
+  pub place : r .place ≤ 17
+  pub named : pooled ≡ false → r .place ≤ 11
   pub kind : r .kind ≤ 1
   pub side : r .side ≤ 1
   pub finishing : r .finishing ≤ 1
   pub last : r .place ≡ 11 → r .kind ≡ 1
-  pub own-pop : r .kind ≡ 1 → r .own ≡ 0
-  pub own-push : r .kind ≡ 0 → (1 ≤ r .own) × (r .own ≤ slots)
+  pub gives : 15 ≤ r .place → r .kind ≡ 1
+  pub draws : 12 ≤ r .place → r .place ≤ 14 → r .kind ≡ 0
+  pub own : r .own ≤ slots
   pub neighbour : r .neighbour ≤ slots
   pub spare : spareOf (r .link) ≡ 0
   pub link : linkOf (r .link) .slot ≤ slots
@@ -56,33 +59,39 @@ pub record RecordFine (slots : ℕ) (r : Record) : Type 0 where
 pub from1-true : (n x : ℕ) → from1 n x ≡ true → (1 ≤ x) × (x ≤ n)
 from1-true n x e = let z = and-true (leb 1 x) (leb x n) e in (leb-true _ _ (z .0), leb-true _ _ (z .1))
 
-own-fine : (slots k x : ℕ) → (eqb k 1 && eqb x 0) || (eqb k 0 && from1 slots x) ≡ true → (k ≡ 1 → x ≡ 0) × (k ≡ 0 → (1 ≤ x) × (x ≤ slots))
-own-fine slots k x e = or-cases (eqb k 1 && eqb x 0) (eqb k 0 && from1 slots x) e
-    (λ g. let h = and-true (eqb k 1) (eqb x 0) g in let a = eqb-true k 1 (h .0) in (λ p. eqb-true _ _ (h .1), λ p. absurd (omega arith)))
-    (λ g. let h = and-true (eqb k 0) (from1 slots x) g in let a = eqb-true k 0 (h .0) in (λ p. absurd (omega arith), λ p. from1-true slots x (h .1)))
+own-fine : (slots x : ℕ) (b : Bool) → cond b (from1 slots x) (eqb x 0) ≡ true → x ≤ slots
+own-fine slots x true e = from1-true slots x e .1
+own-fine slots x false e = omega (arith, eqb-true x 0 e)
 
-link-fine : (slots w : ℕ) → linkSound slots w ≡ true → (spareOf w ≡ 0) × (linkOf w .slot ≤ slots)
+place-fine : (b : Bool) (p : ℕ) → leb p (cond b 17 11) ≡ true → (p ≤ 17) × (b ≡ false → p ≤ 11)
+place-fine true p e = (leb-true _ _ e, λ z. absurd (not-both refl z))
+place-fine false p e = let h = leb-true p 11 e in (omega arith, λ z. h)
+
+pub link-fine : (slots w : ℕ) → linkSound slots w ≡ true → (spareOf w ≡ 0) × (linkOf w .slot ≤ slots)
 unfolding linkSound
 link-fine slots w e = let z = and-true (eqb (spareOf w) 0) (leb (linkOf w .slot) slots) e in (eqb-true _ _ (z .0), leb-true _ _ (z .1))
 
-pub record-fine : (slots : ℕ) (r : Record) → recordSound slots r ≡ true → r .place ≢ 0 → RecordFine slots r
+pub record-fine : (pooled : Bool) (slots : ℕ) (r : Record) → recordSound pooled slots r ≡ true → r .place ≢ 0 → RecordFine pooled slots r
 unfolding recordSound
-record-fine slots r e n =
-    let z = tests (recordTests slots r) (or-right _ _ e (ne-eqb _ _ n)) in
-    let own = own-fine slots (r .kind) (r .own) (z .1 .1 .1 .1 .1 .1 .0) in
-    let lk = link-fine slots (r .link) (z .1 .1 .1 .1 .1 .1 .1 .1 .0) in
+record-fine pooled slots r e n =
+    let z = tests (recordTests pooled slots r) (or-right _ _ e (ne-eqb _ _ n)) in
+    let place = place-fine pooled (r .place) (z .0) in
+    let rest = z .1 .1 .1 .1 .1 .1 .1 in
+    let lk = link-fine slots (r .link) (rest .1 .1 .0) in
     record {
-      place = leb-true _ _ (z .0);
+      place = place .0;
+      named = place .1;
       kind = leb-true _ _ (z .1 .0);
       side = leb-true _ _ (z .1 .1 .0);
       finishing = leb-true _ _ (z .1 .1 .1 .0);
-      last = λ p. eqb-true _ _ (or-right _ _ (z .1 .1 .1 .1 .0) (ap not (eq-eqb _ _ p)));
-      own-pop = own .0;
-      own-push = own .1;
-      neighbour = leb-true _ _ (z .1 .1 .1 .1 .1 .1 .1 .0);
+      last = λ p. eqb-true _ _ (or-right _ _ (z .1 .1 .1 .1 .0) (ap not (or-first (giving r) (eq-eqb _ _ p))));
+      gives = λ p. eqb-true _ _ (or-right _ _ (z .1 .1 .1 .1 .0) (ap not (or-second (eqb (r .place) 11) (le-leb _ _ p))));
+      draws = λ p l. eqb-true _ _ (or-right _ _ (z .1 .1 .1 .1 .1 .0) (ap not (and-of (le-leb _ _ p) (le-leb _ _ l))));
+      own = own-fine slots (r .own) (owning r) (rest .0);
+      neighbour = leb-true _ _ (rest .1 .0);
       spare = lk .0;
       link = lk .1;
-      seen = anchor-fine slots _ (z .1 .1 .1 .1 .1 .1 .1 .1 .1 .0);
+      seen = anchor-fine slots _ (rest .1 .1 .1 .1 .0);
     }
 
 pub record ControlFine (c : Control) : Type 0 where
@@ -104,15 +113,25 @@ pub record RowsFine (q : Tables) : Type 0 where
   pub rights : q .control .slots < length (q .rights)
   pub labels : q .control .slots < length (q .labels)
   pub marks : q .control .slots / 64 < length (q .marks)
+  pub next : isPooled (q .control) ≡ true → q .control .slots < length (q .next)
 
-pub rows-fine : (q : Tables) → rowsFit (q .control .slots) q ≡ true → RowsFine q
+pub rows-fine : (q : Tables) → rowsFit (isPooled (q .control)) (q .control .slots) q ≡ true → RowsFine q
 unfolding rowsFit
 rows-fine q e =
-    let z = tests (rowTests (q .control .slots) q) e in
-    record { lefts = ltb-true _ _ (z .0); rights = ltb-true _ _ (z .1 .0); labels = ltb-true _ _ (z .1 .1 .0); marks = ltb-true _ _ (z .1 .1 .1 .0) }
+    let z = tests (rowTests (isPooled (q .control)) (q .control .slots) q) e in
+    record {
+      lefts = ltb-true _ _ (z .0);
+      rights = ltb-true _ _ (z .1 .0);
+      labels = ltb-true _ _ (z .1 .1 .0);
+      marks = ltb-true _ _ (z .1 .1 .1 .0);
+      next = λ p. ltb-true _ _ (or-right _ _ (z .1 .1 .1 .1 .0) (ap not p));
+    }
 
--- Every link word of rows 0 to slots is sound. (No test says so of all of them: it is kept from the opening on.)
+-- Every link word of rows 0 to slots is sound, and so are, in a pooled queue, every next and the head. (16. No test says so of all of them:
+-- it is kept from the opening on.)
 pub record LinksFine (q : Tables) : Type 0 where
   pub spare : (d : Bool) (x : ℕ) → x ≤ q .control .slots → spareOf (linkAt q d x) ≡ 0
   pub tag : (d : Bool) (x : ℕ) → x ≤ q .control .slots → linkOf (linkAt q d x) .tag < 2 ^ 32
   pub slot : (d : Bool) (x : ℕ) → x ≤ q .control .slots → linkOf (linkAt q d x) .slot ≤ q .control .slots
+  pub next : isPooled (q .control) ≡ true → (x : ℕ) → x ≤ q .control .slots → getD (q .next) x 0 ≤ q .control .slots
+  pub head : (spareOf (q .control .head) ≡ 0) × (linkOf (q .control .head) .slot ≤ q .control .slots) × (linkOf (q .control .head) .tag < 2 ^ 32)

@@ -1,5 +1,5 @@
 -- Accepted starts and steps of the tables are those of the decoded machine, so they keep the invariant.
-use mathlib.Core.Bool.{cond, false}
+use mathlib.Core.Bool.{cond, false, true}
 use mathlib.Core.Logic.{_≢_}
 use mathlib.Core.Path.{_∙_, _≡_, ap, refl, subst, sym}
 use Prim.Native.Nat.{_<_, _≤_, ℕ}
@@ -7,30 +7,32 @@ use native.Mathlib.Omega.{arith}
 use lib.Dec.{eqb, ltb}
 use lib.ListN.{getD, set}
 use borrow.Author.Tests.{lt-ltb}
-use Rattle.model.specs.Calls.{finish, taken, withRetries}
-use Rattle.model.specs.Places.{Move, linkMet, move, row}
+use Rattle.model.specs.Calls.{entryOf, finish, withRetries}
+use Rattle.model.specs.Places.{Move, Touch, clearMark, linkMet, move, nothing, setAnchor, setHead, setLink, setNext, takeSlot, taken}
 use Rattle.model.specs.Route.{answer, counted, goes}
-use Rattle.model.specs.Tables.{Queue, Tables, idle, marked, recordAt, started}
+use Rattle.model.specs.Tables.{Queue, Tables, asking, idle, isPooled, marked, recordAt, started}
 use Rattle.model.specs.declared.Answer as answered
 use Rattle.model.specs.declared.Record.{Record}
 use Rattle.model.proofs.tests.ByPlace.{by-place}
+use Rattle.model.proofs.tests.Truth.{not-both}
 use Rattle.model.proofs.machine.Answers.{Ends, act-ends}
 use Rattle.model.proofs.machine.Clerk as B
 use Rattle.model.proofs.machine.Machine as M
 use Rattle.model.proofs.machine.Machine.{upd}
 use Rattle.model.proofs.invariant.Invariant.{Inv}
-use Rattle.model.proofs.places.Start.{pop-inv, push-inv}
-use Rattle.model.proofs.places.Step.{step-inv}
+use Rattle.model.proofs.places.Start.{ask-inv, pop-inv, push-inv}
+use Rattle.model.proofs.places.Step.{step-inv, step-stands}
+use Rattle.model.proofs.places.Shown.{Stands}
 use Rattle.model.proofs.bridge.Accepted.{Lies, Stepping}
 use Rattle.model.proofs.bridge.Decoded.{next, seenMove}
 use Rattle.model.proofs.bridge.EveryPlace.{step-seen}
 use Rattle.model.proofs.bridge.Facts.{LinksFine}
-use Rattle.model.proofs.bridge.Stores.{links-touched, task-set, touched-tasks, view-taken, view-touched}
+use Rattle.model.proofs.bridge.Stores.{TouchFine, links-touched, task-set, touched-pooled, touched-tasks, view-taken, view-touched}
 use Rattle.model.proofs.bridge.Touches.{move-fine}
-use Rattle.model.proofs.bridge.View.{answerSeen, placeOf, recOf, stateOf, view}
+use Rattle.model.proofs.bridge.View.{answerSeen, placeOf, recOf, stateOf, touchSeen, view}
 
-pub not-idle : (p : ℕ) → p ≢ 0 → p ≤ 11 → M.isIdle (placeOf p) ≡ false
-not-idle p n h = by-place (λ p. M.isIdle (placeOf p) ≡ false) refl refl refl refl refl refl refl refl refl refl refl p n h
+pub not-idle : (p : ℕ) → p ≢ 0 → p ≤ 17 → M.isIdle (placeOf p) ≡ false
+not-idle p n h = by-place (λ p. M.isIdle (placeOf p) ≡ false) refl refl refl refl refl refl refl refl refl refl refl refl refl refl refl refl refl p n h
 
 pub task-of : (q : Queue) (t : ℕ) → t < q .tables .control .tasks → stateOf q .task t ≡ recOf (recordAt q t)
 unfolding stateOf
@@ -56,7 +58,7 @@ module _ (q : Queue) (b : B.Book) (i : Inv (record { state = stateOf q; book = b
     abbrev seenAfter : M.Move → Type 0
     seenAfter m = Inv (record {
       state = record { shared = M.apply (view g) (m .touch); task = upd (stateOf q .task) t (m .rec) };
-      book = B.stepped b t (B.noted (b .calls t) (b .queue) (view g .anchor) (M.apply (view g) (m .touch) .anchor) (m .answer)) (m .answer);
+      book = B.stepped b t (B.noted (B.granted (m .touch) (b .calls t)) (b .queue) (view g .anchor) (M.apply (view g) (m .touch) .anchor) (m .answer)) (m .answer);
     })
 
     seen : M.act (placeOf (r .place)) (view g) (recOf r) ≡ seenMove g r
@@ -72,7 +74,7 @@ module _ (q : Queue) (b : B.Book) (i : Inv (record { state = stateOf q; book = b
     stepped = record { tables = finish g r m .tables; records = set (q .records) t (finish g r m .task) }
 
     abbrev pub reply : answered.Answer
-    reply = answer (next r m) (record { slot = row r; label = getD (g .labels) (row r) 0 })
+    reply = answer (next r m) (entryOf g r)
 
     pub state-is : stateOf stepped ≡ record { shared = M.apply (view g) (seenMove g r .touch); task = upd (stateOf q .task) t (seenMove g r .rec) }
     unfolding stateOf finish
@@ -81,7 +83,7 @@ module _ (q : Queue) (b : B.Book) (i : Inv (record { state = stateOf q; book = b
         let r′ = goes (m .task) (next r m) in
         (λ j. record { shared = view (finish g r m .tables); task = λ u. cond (ltb u (touched-tasks (m .touch) (withRetries g n) j)) (recOf (getD (set (q .records) t r′) u idle)) M.blank })
         ∙ (λ j. record {
-          shared = view-touched g (s .lies .rows) n (m .touch) (move-fine (g .control .slots) r (s .fine) (g .control) (linkMet g r)) j;
+          shared = view-touched g (s .lies .rows) n (m .touch) (move-fine (isPooled (g .control)) (g .control .slots) r (s .fine) (s .control .slots) (g .control) (linkMet g r) (s .busy)) j;
           task = task-set (g .control .tasks) (q .records) t r′ (omega (arith, s .lies .length, s .lies .known)) (s .lies .known) j;
         })
 
@@ -92,19 +94,68 @@ module _ (q : Queue) (b : B.Book) (i : Inv (record { state = stateOf q; book = b
     unfolding recOf
     step-ends = subst Ends seen (act-ends (placeOf (r .place)) (view g) (recOf r) (not-idle (r .place) (s .busy) (s .fine .place)))
 
-    pub step-keeps : Inv (record { state = stateOf stepped; book = B.stepped b t (B.noted (b .calls t) (b .queue) (view g .anchor) (view (stepped .tables) .anchor) (answerSeen reply)) (answerSeen reply) })
+    pub step-keeps : Inv (record { state = stateOf stepped; book = B.stepped b t (B.noted (B.granted (touchSeen (m .touch)) (b .calls t)) (b .queue) (view g .anchor) (view (stepped .tables) .anchor) (answerSeen reply)) (answerSeen reply) })
     unfolding stateOf
     step-keeps =
         let After : M.State → Type 0 =
-        λ s. Inv (record { state = s; book = B.stepped b t (B.noted (b .calls t) (b .queue) (view g .anchor) (s .shared .anchor) (answerSeen reply)) (answerSeen reply) }) in
+        λ s. Inv (record { state = s; book = B.stepped b t (B.noted (B.granted (touchSeen (m .touch)) (b .calls t)) (b .queue) (view g .anchor) (s .shared .anchor) (answerSeen reply)) (answerSeen reply) }) in
         subst After (sym state-is) step-seen-keeps
+
+    touch-fine : TouchFine (isPooled (g .control)) (g .control .slots) (m .touch)
+    touch-fine = move-fine (isPooled (g .control)) (g .control .slots) r (s .fine) (s .control .slots) (g .control) (linkMet g r) (s .busy)
+
+    -- In a named queue no slot is drawn.
+    pub step-grants : (c : B.Call) → isPooled (g .control) ≡ false → B.granted (touchSeen (m .touch)) c ≡ c
+    step-grants c e = go (m .touch) touch-fine
+      where
+        go : (w : Touch) → TouchFine (isPooled (g .control)) (g .control .slots) w → B.granted (touchSeen w) c ≡ c
+        go nothing f = refl
+        go (setAnchor a) f = refl
+        go (setLink side x v) f = refl
+        go (clearMark x) f = refl
+        go (takeSlot v x l) f = absurd (not-both (f .0) e)
+        go (setNext x v) f = refl
+        go (setHead v) f = refl
+
+    pub step-pooled : isPooled (stepped .tables .control) ≡ isPooled (g .control)
+    unfolding finish
+    step-pooled = ap (λ (n : ℕ). eqb n 1) (touched-pooled (m .touch) (withRetries g (counted (g .control .retries) (m .failed))))
+
+    -- A push that has its effect stands at the end of its side.
+    pub step-told : let k = B.granted (touchSeen (m .touch)) (b .calls t) in
+        B.effect (view g .anchor) (view (stepped .tables) .anchor) (answerSeen reply) ≡ true → B.isNoSlot (answerSeen reply) ≡ false → k .kind ≡ M.push
+        → M.tip (view (stepped .tables) .anchor) (k .side) ≡ k .slot
+    unfolding stateOf recOf
+    step-told e n k =
+        let busy : M.isIdle (stateOf q .task t .place) ≡ false = ap (λ (x : M.Rec). M.isIdle (x .place)) (task-of q t (s .lies .known)) ∙ not-idle (r .place) (s .busy) (s .fine .place) in
+        let stands : Stands (view g) (b .calls t) (seenMove g r) =
+        subst (Stands (view g) (b .calls t)) (ap (λ (x : M.Rec). M.act (x .place) (view g) x) (task-of q t (s .lies .known)) ∙ seen) (step-stands (record { state = stateOf q; book = b }) i t busy) in
+        let is = ap (λ (z : M.State). z .shared .anchor) state-is in
+        go (m .touch) (subst (λ (a : M.Anchor). B.effect (view g .anchor) a (answerSeen reply) ≡ true → B.isNoSlot (answerSeen reply) ≡ false → b .calls t .kind ≡ M.push
+        → M.tip a (b .calls t .side) ≡ B.granted (touchSeen (m .touch)) (b .calls t) .slot) (sym is) stands) e n k
+      where
+        go : (w : Touch) → (B.effect (view g .anchor) (view (stepped .tables) .anchor) (answerSeen reply) ≡ true → B.isNoSlot (answerSeen reply) ≡ false → b .calls t .kind ≡ M.push
+            → M.tip (view (stepped .tables) .anchor) (b .calls t .side) ≡ B.granted (touchSeen w) (b .calls t) .slot)
+            → let k = B.granted (touchSeen w) (b .calls t) in B.effect (view g .anchor) (view (stepped .tables) .anchor) (answerSeen reply) ≡ true → B.isNoSlot (answerSeen reply) ≡ false → k .kind ≡ M.push
+            → M.tip (view (stepped .tables) .anchor) (k .side) ≡ k .slot
+        go nothing f = f
+        go (setAnchor a) f = f
+        go (setLink side x v) f = f
+        go (clearMark x) f = f
+        go (takeSlot v x l) f = f
+        go (setNext x v) f = f
+        go (setHead v) f = f
 
     pub step-links : LinksFine (stepped .tables)
     unfolding finish
-    step-links = links-touched g (s .lies .rows) k (counted (g .control .retries) (m .failed)) (m .touch) (move-fine (g .control .slots) r (s .fine) (g .control) (linkMet g r))
+    step-links = links-touched g (s .lies .rows) k (counted (g .control .retries) (m .failed)) (m .touch) (move-fine (isPooled (g .control)) (g .control .slots) r (s .fine) (s .control .slots) (g .control) (linkMet g r) (s .busy))
 
   -- Accepted starts.
-  module _ (z : Lies q t) where
+  module _ (z : Lies q t) (free : recordAt q t .place ≡ 0) where
+    ready : stateOf q .task t .place ≡ M.idle
+    unfolding recOf
+    ready = ap (λ (x : M.Rec). x .place) (task-of q t (z .known)) ∙ ap placeOf free
+
     rec-started : (kind side x l : ℕ) → recOf (started kind side x l) ≡ M.started (cond (eqb kind 0) M.push M.pop) (eqb side 1) x l
     unfolding recOf
     rec-started kind side x l = refl
@@ -120,13 +171,22 @@ module _ (q : Queue) (b : B.Book) (i : Inv (record { state = stateOf q; book = b
     unfolding stateOf
     pop-keeps side = subst (λ (s : M.State). Inv (record { state = s; book = B.begun b t (B.opened M.pop (eqb side 1) 0 0) }))
         (sym (λ j. record { shared = view g; task = tasks-are 1 side 0 0 j }))
-        (pop-inv (record { state = stateOf q; book = b }) i t (eqb side 1))
+        (pop-inv (record { state = stateOf q; book = b }) i t (eqb side 1) ready)
 
-    pub push-keeps : (side x l : ℕ) → 1 ≤ x → x ≤ g .control .slots → marked (g .marks) x ≡ false → Inv (record {
+    pub put-keeps : (side l : ℕ) → isPooled (g .control) ≡ true → Inv (record {
+      state = stateOf (record { tables = g; records = set (q .records) t (asking side l) });
+      book = B.begun b t (B.opened M.push (eqb side 1) 0 l);
+    })
+    unfolding stateOf recOf view
+    put-keeps side l pooled = subst (λ (s : M.State). Inv (record { state = s; book = B.begun b t (B.opened M.push (eqb side 1) 0 l) }))
+        (sym (λ j. record { shared = view g; task = put-back q t z (asking side l) j }))
+        (ask-inv (record { state = stateOf q; book = b }) i t (eqb side 1) l ready pooled)
+
+    pub push-keeps : (side x l : ℕ) → 1 ≤ x → x ≤ g .control .slots → isPooled (g .control) ≡ false → marked (g .marks) x ≡ false → Inv (record {
       state = stateOf (record { tables = taken g x l; records = set (q .records) t (started 0 side x l) });
       book = B.begun b t (B.opened M.push (eqb side 1) x l);
     })
     unfolding stateOf view
-    push-keeps side x l real low clear = subst (λ (s : M.State). Inv (record { state = s; book = B.begun b t (B.opened M.push (eqb side 1) x l) }))
+    push-keeps side x l real low named clear = subst (λ (s : M.State). Inv (record { state = s; book = B.begun b t (B.opened M.push (eqb side 1) x l) }))
         (sym (λ j. record { shared = view-taken g (z .rows) x l low j; task = tasks-are 0 side x l j }))
-        (push-inv (record { state = stateOf q; book = b }) i t (eqb side 1) x l (λ e. omega arith) low clear)
+        (push-inv (record { state = stateOf q; book = b }) i t (eqb side 1) x l ready (λ e. omega arith) low named clear)

@@ -10,9 +10,9 @@ use lib.ListN.{getD, length, set}
 use lib.Seq.{getD-set-other, getD-set-same}
 use borrow.Author.Tests.{eqb-false, eqb-true, lt-ltb}
 use Rattle.word.specs.Link.{linkOf, spareOf}
-use Rattle.model.specs.Calls.{taken, withRetries}
-use Rattle.model.specs.Places.{Touch, apply, clearMark, nothing, setAnchor, setLink}
-use Rattle.model.specs.Tables.{Tables, idle, marked, withMark}
+use Rattle.model.specs.Calls.{withRetries}
+use Rattle.model.specs.Places.{Touch, apply, clearMark, nothing, setAnchor, setHead, setLink, setNext, takeSlot, taken}
+use Rattle.model.specs.Tables.{Tables, isPooled, idle, marked, withMark}
 use Rattle.model.specs.declared.Record.{Record}
 use Rattle.model.proofs.tests.Truth.{by-test, decide-eq, split}
 use Rattle.model.proofs.machine.Machine as M
@@ -50,19 +50,40 @@ touched-tasks nothing q = refl
 touched-tasks (setAnchor w) q = refl
 touched-tasks (setLink side x w) q = refl
 touched-tasks (clearMark x) q = refl
+touched-tasks (takeSlot w x l) q = refl
+touched-tasks (setNext x v) q = refl
+touched-tasks (setHead w) q = refl
 
 pub touched-slots : (t : Touch) (q : Tables) → apply t q .control .slots ≡ q .control .slots
 touched-slots nothing q = refl
 touched-slots (setAnchor w) q = refl
 touched-slots (setLink side x w) q = refl
 touched-slots (clearMark x) q = refl
+touched-slots (takeSlot w x l) q = refl
+touched-slots (setNext x v) q = refl
+touched-slots (setHead w) q = refl
+
+pub touched-pooled : (t : Touch) (q : Tables) → apply t q .control .pooled ≡ q .control .pooled
+touched-pooled nothing q = refl
+touched-pooled (setAnchor w) q = refl
+touched-pooled (setLink side x w) q = refl
+touched-pooled (clearMark x) q = refl
+touched-pooled (takeSlot w x l) q = refl
+touched-pooled (setNext x v) q = refl
+touched-pooled (setHead w) q = refl
 
 -- A touch within the rows, and a sound link word.
-abbrev pub TouchFine : ℕ → Touch → Type 0
-TouchFine slots nothing = Unit {0}
-TouchFine slots (setAnchor w) = Unit {0}
-TouchFine slots (setLink side x w) = (x ≤ slots) × (spareOf w ≡ 0) × (linkOf w .slot ≤ slots) × (linkOf w .tag < 2 ^ 32)
-TouchFine slots (clearMark x) = x ≤ slots
+abbrev pub WordFine : ℕ → ℕ → Type 0
+WordFine slots w = (spareOf w ≡ 0) × (linkOf w .slot ≤ slots) × (linkOf w .tag < 2 ^ 32)
+
+abbrev pub TouchFine : Bool → ℕ → Touch → Type 0
+TouchFine pooled slots nothing = Unit {0}
+TouchFine pooled slots (setAnchor w) = Unit {0}
+TouchFine pooled slots (setLink side x w) = (x ≤ slots) × WordFine slots w
+TouchFine pooled slots (clearMark x) = x ≤ slots
+TouchFine pooled slots (takeSlot w x l) = (pooled ≡ true) × (x ≤ slots) × WordFine slots w
+TouchFine pooled slots (setNext x v) = (pooled ≡ true) × (x ≤ slots) × (v ≤ slots)
+TouchFine pooled slots (setHead w) = WordFine slots w
 
 set-keeps : (P : ℕ → Type 0) (l : List ℕ) (x w y : ℕ) → x < length l → P w → P (getD l y 0) → P (getD (set l x w) y 0)
 set-keeps P l x w y h p g = go (decide-eq y x)
@@ -78,43 +99,84 @@ module _ (q : Tables) (h : RowsFine q) where
       (λ e. rw e (fun-ext (elim [ false ↦ refl | true ↦ upd-list linkSeen (q .rights) 0 w x (omega (arith, h .rights)) ])))
       (λ e. rw e (fun-ext (elim [ false ↦ upd-list linkSeen (q .lefts) 0 w x (omega (arith, h .lefts)) | true ↦ refl ])))
 
-  pub view-touched : (n : ℕ) (t : Touch) → TouchFine (q .control .slots) t → view (apply t (withRetries q n)) ≡ M.apply (view q) (touchSeen t)
+  pub view-touched : (n : ℕ) (t : Touch) → TouchFine (isPooled (q .control)) (q .control .slots) t → view (apply t (withRetries q n)) ≡ M.apply (view q) (touchSeen t)
   unfolding view
   view-touched n nothing f = refl
   view-touched n (setAnchor w) f = refl
   view-touched n (setLink side x w) f = λ i. record {
     slots = q .control .slots;
+    pooled = view q .pooled;
     anchor = view q .anchor;
+    head = view q .head;
+    next = view q .next;
     link = relinked n side x w (f .0) i;
     label = view q .label;
     mark = view q .mark;
   }
   view-touched n (clearMark x) f = λ i. record {
     slots = q .control .slots;
+    pooled = view q .pooled;
     anchor = view q .anchor;
+    head = view q .head;
+    next = view q .next;
     link = view q .link;
     label = view q .label;
     mark = upd-mark (q .marks) x 0 (omega arith) (omega (arith, h .marks)) i;
   }
+  view-touched n (takeSlot w x l) f = λ i. record {
+    slots = q .control .slots;
+    pooled = view q .pooled;
+    anchor = view q .anchor;
+    head = linkSeen w;
+    next = view q .next;
+    link = view q .link;
+    label = upd-list (λ v. v) (q .labels) 0 l x (omega (arith, h .labels, f .1)) i;
+    mark = upd-mark (q .marks) x 1 (omega arith) (omega (arith, h .marks, f .1)) i;
+  }
+  view-touched n (setNext x v) f = λ i. record {
+    slots = q .control .slots;
+    pooled = view q .pooled;
+    anchor = view q .anchor;
+    head = view q .head;
+    next = upd-list (λ v. v) (q .next) 0 v x (omega (arith, h .next (f .0), f .1)) i;
+    link = view q .link;
+    label = view q .label;
+    mark = view q .mark;
+  }
+  view-touched n (setHead w) f = refl
 
   pub view-taken : (x l : ℕ) → x ≤ q .control .slots → view (taken q x l) ≡ M.withLabel (view q) x l
   unfolding view
   view-taken x l hx = λ i. record {
     slots = q .control .slots;
+    pooled = view q .pooled;
     anchor = view q .anchor;
+    head = view q .head;
+    next = view q .next;
     link = view q .link;
     label = upd-list (λ v. v) (q .labels) 0 l x (omega (arith, h .labels)) i;
     mark = upd-mark (q .marks) x 1 (omega arith) (omega (arith, h .marks)) i;
   }
 
-  pub links-touched : LinksFine q → (n : ℕ) (t : Touch) → TouchFine (q .control .slots) t → LinksFine (apply t (withRetries q n))
-  links-touched k n nothing f = record { spare = k .spare; tag = k .tag; slot = k .slot }
-  links-touched k n (setAnchor w) f = record { spare = k .spare; tag = k .tag; slot = k .slot }
-  links-touched k n (clearMark x) f = record { spare = k .spare; tag = k .tag; slot = k .slot }
+  pub links-touched : LinksFine q → (n : ℕ) (t : Touch) → TouchFine (isPooled (q .control)) (q .control .slots) t → LinksFine (apply t (withRetries q n))
+  links-touched k n nothing f = record { spare = k .spare; tag = k .tag; slot = k .slot; next = k .next; head = k .head }
+  links-touched k n (setAnchor w) f = record { spare = k .spare; tag = k .tag; slot = k .slot; next = k .next; head = k .head }
+  links-touched k n (clearMark x) f = record { spare = k .spare; tag = k .tag; slot = k .slot; next = k .next; head = k .head }
+  links-touched k n (takeSlot w x l) f = record { spare = k .spare; tag = k .tag; slot = k .slot; next = k .next; head = f .2 }
+  links-touched k n (setHead w) f = record { spare = k .spare; tag = k .tag; slot = k .slot; next = k .next; head = f }
+  links-touched k n (setNext x v) f = record {
+    spare = k .spare;
+    tag = k .tag;
+    slot = k .slot;
+    next = λ p y g. set-keeps (λ z. z ≤ q .control .slots) (q .next) x v y (omega (arith, h .next p, f .1)) (f .2) (k .next p y g);
+    head = k .head;
+  }
   links-touched k n (setLink side x w) f = record {
-    spare = λ d y g. stays (λ v. spareOf v ≡ 0) (f .1) d y (λ d. k .spare d y g);
-    tag = λ d y g. stays (λ v. linkOf v .tag < 2 ^ 32) (f .3) d y (λ d. k .tag d y g);
-    slot = λ d y g. stays (λ v. linkOf v .slot ≤ q .control .slots) (f .2) d y (λ d. k .slot d y g);
+    spare = λ d y g. stays (λ v. spareOf v ≡ 0) (f .1 .0) d y (λ d. k .spare d y g);
+    tag = λ d y g. stays (λ v. linkOf v .tag < 2 ^ 32) (f .1 .2) d y (λ d. k .tag d y g);
+    slot = λ d y g. stays (λ v. linkOf v .slot ≤ q .control .slots) (f .1 .1) d y (λ d. k .slot d y g);
+    next = k .next;
+    head = k .head;
   }
     where
       stays : (P : ℕ → Type 0) → P w → (d : Bool) (y : ℕ) → ((d : Bool) → P (linkAt q d y)) → P (linkAt (apply (setLink side x w) (withRetries q n)) d y)

@@ -1,20 +1,29 @@
 -- What a place touches lies within the rows, and a link word that it writes is sound.
-use mathlib.Core.Bool.{_&&_, _||_}
+use mathlib.Core.Bool.{Bool, _&&_, _||_, true}
+use mathlib.Core.Logic.{_≢_}
 use mathlib.Core.Path.{_≡_}
 use Prim.Native.Nat.{_%_, _*_, _+_, _/_, _<_, _^_, _≤_, ℕ}
 use native.Mathlib.Omega.{arith}
 use lib.Dec.{eqb}
-use borrow.Author.Tests.{eqb-true}
 use Rattle.word.specs.Link.{linkOf, packLink}
 use Rattle.model.specs.Places.{endSeen, linkSide, move, row, setLink, sideOf}
+use Rattle.model.specs.Sound.{drawing, giving}
 use Rattle.model.specs.declared.Control.{Control}
 use Rattle.model.specs.declared.Record.{Record}
-use Rattle.model.proofs.tests.Truth.{and-true, by-test}
+use Rattle.model.proofs.tests.Truth.{by-test, split}
 use Rattle.model.proofs.bridge.ByMove.{by-move}
 use Rattle.model.proofs.bridge.Facts.{RecordFine}
-use Rattle.model.proofs.bridge.Stores.{TouchFine}
+use Rattle.model.proofs.bridge.Stores.{TouchFine, WordFine}
 
-module _ (slots : ℕ) (r : Record) (h : RecordFine slots r) where
+-- A packed link word is sound.
+pub word-fine : (slots t n : ℕ) → n ≤ slots → n < 2 ^ 15 → WordFine slots (packLink (record { tag = t; slot = n }))
+word-fine slots t n g s =
+    let p : (t % 4294967296 * 4294967296 + n % 32768) / 32768 % 131072 ≡ 0 = omega arith in
+    let o : (t % 4294967296 * 4294967296 + n % 32768) % 32768 ≤ slots = omega arith in
+    let u : (t % 4294967296 * 4294967296 + n % 32768) / 4294967296 < 4294967296 = omega arith in
+    (p, o, u)
+
+module _ (pooled : Bool) (slots : ℕ) (r : Record) (h : RecordFine pooled slots r) where
   end-fine : endSeen r ≤ slots
   end-fine = by-test (λ v. v ≤ slots) (eqb (sideOf r) 1) (λ e. h .seen .right) (λ e. h .seen .left)
 
@@ -24,18 +33,34 @@ module _ (slots : ℕ) (r : Record) (h : RecordFine slots r) where
   pub row-fine : row r ≤ slots
   unfolding row
   row-fine = by-test (λ v. v ≤ slots) (eqb (r .place) 7 || eqb (r .place) 9) (λ e. h .neighbour)
-      (λ e. by-test (λ v. v ≤ slots) (eqb (r .place) 3 && eqb (r .kind) 0)
-      (λ g. h .own-push (eqb-true _ _ (and-true (eqb (r .place) 3) (eqb (r .kind) 0) g .1)) .1) (λ g. end-fine))
+      (λ e. by-test (λ v. v ≤ slots) (eqb (r .place) 3 && eqb (r .kind) 0) (λ g. h .own)
+      (λ g. by-test (λ v. v ≤ slots) (drawing r) (λ e. h .link)
+      (λ g. by-test (λ v. v ≤ slots) (giving r) (λ e. h .own) (λ e. end-fine))))
 
-  word-fine : (t : ℕ) → TouchFine slots (setLink (linkSide r) (row r) (packLink (record { tag = t; slot = endSeen r })))
-  word-fine t =
-      let s = end-small in
-      let g = end-fine in
-      let n = endSeen r in
-      let p : (t % 4294967296 * 4294967296 + n % 32768) / 32768 % 131072 ≡ 0 = omega arith in
-      let o : (t % 4294967296 * 4294967296 + n % 32768) % 32768 ≤ slots = omega arith in
-      let u : (t % 4294967296 * 4294967296 + n % 32768) / 4294967296 < 4294967296 = omega arith in
-      (row-fine, p, o, u)
+  link-touch : (t : ℕ) → TouchFine pooled slots (setLink (linkSide r) (row r) (packLink (record { tag = t; slot = endSeen r })))
+  link-touch t = (row-fine, word-fine slots t (endSeen r) end-fine end-small)
 
-  pub move-fine : (c : Control) (w : ℕ) → TouchFine slots (move c r w .touch)
-  move-fine c w = by-move c r w (λ t _. TouchFine slots t) tt tt tt tt tt tt tt tt (word-fine (linkOf w .tag)) (word-fine (linkOf (r .link) .tag + 1)) row-fine
+  -- Only a pooled queue has places beyond 11.
+  pub beyond : 12 ≤ r .place → pooled ≡ true
+  beyond l = split pooled (λ e. e) (λ e. absurd (let z = h .named e in omega arith))
+
+  pub move-fine : slots ≤ 1023 → (c : Control) (w : ℕ) → r .place ≢ 0 → TouchFine pooled slots (move c r w .touch)
+  move-fine low c w busy = by-move c w (λ t _. TouchFine pooled slots t) r busy (h .place) (record {
+    same = tt;
+    read = tt;
+    found = λ e. tt;
+    met = λ e. tt;
+    two = tt;
+    four-push = tt;
+    four-pop = tt;
+    ten = tt;
+    three = link-touch (linkOf w .tag);
+    nine = link-touch (linkOf (r .link) .tag + 1);
+    eleven = row-fine;
+    keeps = λ e. row-fine;
+    head = λ e. tt;
+    next = λ e. tt;
+    draws = λ e. (beyond (omega arith), row-fine, word-fine slots _ (r .neighbour) (h .neighbour) (omega (arith, h .neighbour)));
+    links = λ e. (beyond (omega arith), row-fine, h .link);
+    gives = λ e. word-fine slots _ (r .own) (h .own) (omega (arith, h .own));
+  })

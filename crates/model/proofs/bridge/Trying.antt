@@ -1,4 +1,4 @@
--- Places 1 to 4 and 11, where push and pop differ: a step of the tables is a step of the decoded machine.
+-- Places 1 to 4, where push and pop differ: a step of the tables is a step of the decoded machine.
 use mathlib.Core.Bool.{Bool, false, true}
 use mathlib.Core.Path.{_≡_, ap, sym}
 use Prim.Native.Nat.{_+_, _<_, _^_, _≤_, ℕ}
@@ -7,7 +7,7 @@ use lib.Dec.{eqb}
 use borrow.Author.Tests.{eq-eqb, eqb-true}
 use Rattle.word.specs.Anchor.{anchorOf, packAnchor}
 use Rattle.word.specs.Link.{linkOf}
-use Rattle.model.specs.Places.{at1, at11, at2, at3, at4, linkSide, move, new4, reading, row, sideOf}
+use Rattle.model.specs.Places.{at1, at2, at3, at4, linkSide, move, new4, reading, row, sideOf}
 use Rattle.model.specs.Route.{answer, goes, onward, popRoute, pushRoute, route}
 use Rattle.model.specs.Tables.{Tables, facing}
 use Rattle.model.specs.declared.Record.{Record}
@@ -118,7 +118,3 @@ module _ (q : Tables) (d x l a n w f : ℕ) where
   pub place3-pop : Seen q (at 3 1)
   unfolding recOf view move at3 row linkSide sideOf onward route pushRoute popRoute goes answer
   place3-pop = split (eqb d 1) (λ e. rw e) (λ e. rw e)
-
-  pub place11-pop : Seen q (at 11 1)
-  unfolding recOf view move at11 row linkSide sideOf onward route pushRoute popRoute goes answer
-  place11-pop = split (eqb d 1) (λ e. rw e) (λ e. rw e)

@@ -1,11 +1,13 @@
 -- Who has a slot. One owner a slot says at once that no two tasks have the same one, and that none of theirs is queued.
-use mathlib.Core.Bool.{true}
-use mathlib.Core.List.{List}
+use mathlib.Core.Bool.{Bool, false, true}
+use mathlib.Core.List.{List, [], _∷_}
 use mathlib.Core.Logic.{_≢_}
 use mathlib.Core.Path.{_≡_}
 use Prim.Native.Nat.{_≤_, ℕ}
 use Rattle.model.specs.History.{All}
 use Rattle.model.specs.declared.Entry.{Entry}
+use Rattle.model.proofs.lists.Deque.{Distinct}
+use Rattle.model.proofs.lists.In.{In}
 use Rattle.model.proofs.lists.Slots.{slots}
 use Rattle.model.proofs.machine.Machine.{Shared}
 use Rattle.model.proofs.invariant.Shape.{Shape}
@@ -15,11 +17,34 @@ pub data Owner : Type 0 where
   free queued : Owner
   held : ℕ → Owner
 
+-- From slot x along next: the slots of k, then null.
+abbrev pub Stack : (ℕ → ℕ) → ℕ → List ℕ → Type 0
+Stack f x [] = x ≡ 0
+Stack f x (y ∷ l) = (x ≡ y) × (y ≢ 0) × Stack f (f y) l
+
+-- (14) The stack of a pooled queue: distinct slots of 1 to n that nobody has, from the head's slot along next.
+pub record Pool (n : ℕ) (f : ℕ → ℕ) (top : ℕ) (h : ℕ → Owner) : Type 0 where
+  pub stack : List ℕ
+  pub chain : Stack f top stack
+  pub distinct : Distinct stack
+  pub unowned : All (λ x. h x ≡ free) stack
+  pub within : All (λ x. x ≤ n) stack
+  -- (15) Nothing is lost: every free slot is there.
+  pub full : (x : ℕ) → x ≢ 0 → x ≤ n → h x ≡ free → In x stack
+
+-- How a push learns that a slot is nobody's. In a named queue by its mark: (1, 7, 8) a slot that somebody has is marked.
+-- In a pooled queue, where marks tell nothing, by the stack. (It names the fields that it speaks of, so that it stands where another changes.)
+abbrev pub Spare : Bool → ℕ → (ℕ → Bool) → (ℕ → ℕ) → ℕ → (ℕ → Owner) → Type 0
+Spare false n m f top h = (x : ℕ) → h x ≢ free → m x ≡ true
+Spare true n m f top h = Pool n f top h
+
 -- The queue part of the invariant: q is the clerk's deque.
 pub record Whole (s : Shared) (h : ℕ → Owner) (q : List Entry) : Type 0 where
   pub shape : Shape (s .link) (s .anchor) (slots q)
   pub owned : All (λ x. h x ≡ queued) (slots q)
+  pub listed : (x : ℕ) → h x ≡ queued → In x (slots q)
   -- Each entry's label is its row's.
   pub labels : All (λ (e : Entry). s .label (e .slot) ≡ e .label) q
-  -- (1, 7, 8) A slot that somebody has is marked, and is one of 1 to slots.
-  pub marks : (x : ℕ) → h x ≢ free → (s .mark x ≡ true) × (x ≤ s .slots)
+  -- (1, 7, 8) A slot that somebody has is one of 1 to slots.
+  pub bounds : (x : ℕ) → h x ≢ free → (x ≢ 0) × (x ≤ s .slots)
+  pub spare : Spare (s .pooled) (s .slots) (s .mark) (s .next) (s .head .slot) h

@@ -1,5 +1,5 @@
--- What a step of one task leaves to another, u: its own slots, links' tags that only grow, and an Anchor that is kept or has turned
--- to a higher tag, which it does only when the link back is made.
+-- What a step of one task leaves to another, u: its own slots, links' tags that only grow, an Anchor that is kept or has turned
+-- to a higher tag, which it does only when the link back is made, and a head of the stack that is kept or has a higher tag.
 use mathlib.Core.Bool.{Bool, not}
 use mathlib.Core.Logic.{_⊎_}
 use mathlib.Core.Path.{_≡_}
@@ -24,9 +24,17 @@ pub record Spared (s s′ : Shared) (h′ : ℕ → Owner) (u x : ℕ) : Type 0 
   pub owner : h′ x ≡ held u
   pub label : s′ .label x ≡ s .label x
   pub links : (e : Bool) → s′ .link e x ≡ s .link e x
+  pub next : s′ .next x ≡ s .next x
+
+-- The head is the same word, with the same slot after its own; or its tag has grown.
+pub record Stacked (s s′ : Shared) : Type 0 where
+  pub pooled : s′ .pooled ≡ s .pooled
+  pub head : ((s′ .head ≡ s .head) × (s′ .next (s .head .slot) ≡ s .next (s .head .slot))) ⊎ (s .head .tag < s′ .head .tag)
 
 pub record Rely (u : ℕ) (s : Shared) (h : ℕ → Owner) (s′ : Shared) (h′ : ℕ → Owner) : Type 0 where
   pub spared : (x : ℕ) → h x ≡ held u → Spared s s′ h′ u x
+  pub back : (x : ℕ) → h′ x ≡ held u → h x ≡ held u
   pub tags : (e : Bool) (y : ℕ) → s .link e y .tag ≤ s′ .link e y .tag
   pub words : (e : Bool) (y : ℕ) → h y ≡ queued → (s′ .link e y ≡ s .link e y) ⊎ (s .link e y .tag < s′ .link e y .tag)
   pub anchor : Quiet s s′ ⊎ Turned s s′
+  pub stack : Stacked s s′

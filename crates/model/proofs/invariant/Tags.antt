@@ -1,9 +1,9 @@
 -- The tag part of the invariant. (It serves the claim that 34 never occurs; linearizability needs no bound on tags.)
-use mathlib.Core.Bool.{Bool, cond, true}
+use mathlib.Core.Bool.{Bool, cond, false, true}
 use mathlib.Core.Logic.{_⊎_}
 use mathlib.Core.Path.{_≡_}
 use Prim.Native.Nat.{_+_, _<_, _≤_, ℕ}
-use Rattle.model.proofs.machine.Machine.{Kind, Place, Rec, Shared, Status, at1, at10, at11, at2, at3, at4, at5, at6, at7, at8, at9, idle, pop, push, pushing, stable}
+use Rattle.model.proofs.machine.Machine.{Kind, Place, Rec, Shared, Status, at1, at10, at11, at2, at3, at4, at5, at6, at7, at8, at9, draw, give, idle, pop, push, pushing, stable}
 use Rattle.model.proofs.invariant.Shape.{Made}
 
 -- (3) Each link's tag is at most Anchor's; while the link back is not made, the tags of that side are below it.
@@ -11,12 +11,37 @@ pub record Tags (s : Shared) : Type 0 where
   pub upper : (e : Bool) (y : ℕ) → y ≤ s .slots → s .link e y .tag ≤ s .anchor .tag
   pub room : (e : Bool) → s .anchor .status ≡ pushing e → Made (s .link) (s .anchor) e ⊎ ((y : ℕ) → y ≤ s .slots → s .link e y .tag < s .anchor .tag)
 
+-- (17) What a task's calls have left the head's tag behind Anchor's: 1, and 1 more for a pop after its effect, 1 less for a push that has its
+-- slot and not yet its effect. With H for the head's tag and T for Anchor's, H + shares ≤ T + tasks.
+abbrev pub claims : Kind → ℕ
+claims push = 0
+claims pop = 1
+
+abbrev pub shares : Place → Bool → Kind → ℕ
+shares idle f k = 1
+shares at1 f k = cond f 1 (claims k)
+shares at2 f k = cond f 1 (claims k)
+shares at3 f k = cond f 1 (claims k)
+shares at4 f k = cond f 1 (claims k)
+shares at5 f k = cond f 1 (claims k)
+shares at6 f k = cond f 1 (claims k)
+shares at7 f k = cond f 1 (claims k)
+shares at8 f k = cond f 1 (claims k)
+shares at9 f k = cond f 1 (claims k)
+shares at10 f k = cond f 1 (claims k)
+shares at11 f k = 2
+shares (draw p) f k = 1
+shares (give p) f k = 2
+
+abbrev pub share : Rec → ℕ
+share r = shares (r .place) (r .finishing) (r .kind)
+
 -- (4) The changes of Anchor that are still owed: a push before its effect two (place 4, then 10), a pop one, an unstable Anchor one.
 abbrev pub owes : Kind → ℕ
 owes push = 2
 owes pop = 1
 
--- The task owes nothing: it is idle, a pop at 11, or a push that is finishing.
+-- The task owes nothing: it is idle, a pop at 11 or 15 to 17, or a push that is finishing.
 abbrev pub spent : Place → Bool → Bool
 spent idle f = true
 spent at1 f = f
@@ -30,6 +55,8 @@ spent at8 f = f
 spent at9 f = f
 spent at10 f = f
 spent at11 f = true
+spent (draw p) f = false
+spent (give p) f = true
 
 abbrev pub cost : Rec → ℕ
 cost r = cond (spent (r .place) (r .finishing)) 0 (owes (r .kind))

@@ -6,7 +6,7 @@ use mathlib.Core.Logic.{_≢_, _⊎_}
 use mathlib.Core.Path.{_≡_}
 use Prim.Native.Nat.{_<_, _≤_, ℕ}
 use Rattle.model.proofs.machine.Clerk.{Call}
-use Rattle.model.proofs.machine.Machine.{Anchor, Answer, Kind, Link, Place, Rec, Shared, at1, at10, at11, at2, at3, at4, at5, at6, at7, at8, at9, idle, inner, pop, popped, push, pushed, pushing, stable, tip, towards}
+use Rattle.model.proofs.machine.Machine.{Anchor, Answer, Draw, Give, Kind, Link, Place, Rec, Shared, at1, at10, at11, at12, at13, at14, at15, at16, at17, at2, at3, at4, at5, at6, at7, at8, at9, draw, give, idle, inner, pop, popped, push, pushed, pushing, stable, tip, towards}
 use Rattle.model.proofs.invariant.Owners.{Owner, held}
 use Rattle.model.proofs.invariant.Shape.{Made}
 
@@ -17,10 +17,17 @@ pub record Agrees (k : Kind) (d : Bool) (x l : ℕ) (c : Call) : Type 0 where
   pub slot : c .slot ≡ x
   pub label : c .label ≡ l
 
+-- (15) Task t has no slot, and none but x.
+abbrev pub Bare : (ℕ → Owner) → ℕ → Type 0
+Bare h t = (y : ℕ) → h y ≡ held t → ⊥
+
+abbrev pub Sole : (ℕ → Owner) → ℕ → ℕ → Type 0
+Sole h t x = (y : ℕ) → h y ≡ held t → y ≡ x
+
 -- (7) A push before its effect owns its slot, whose row has the record's label.
 abbrev pub Own : Kind → (ℕ → ℕ) → (ℕ → Owner) → ℕ → ℕ → ℕ → Type 0
-Own push g h t x l = (x ≢ 0) × (h x ≡ held t) × (g x ≡ l)
-Own pop g h t x l = Unit {0}
+Own push g h t x l = (x ≢ 0) × (h x ≡ held t) × (g x ≡ l) × Sole h t x
+Own pop g h t x l = Bare h t
 
 -- Before its effect a call has none.
 pub record Before (g : ℕ → ℕ) (h : ℕ → Owner) (t : ℕ) (k : Kind) (d : Bool) (x l : ℕ) (c : Call) : Type 0 where
@@ -36,7 +43,7 @@ pub record After (c : Call) (a : Answer) : Type 0 where
 -- At 5 to 10 a finishing push is after its effect, any other task before it.
 abbrev pub Stage : Bool → (ℕ → ℕ) → (ℕ → Owner) → ℕ → Kind → Bool → ℕ → ℕ → Call → Type 0
 Stage false g h t k d x l c = Before g h t k d x l c
-Stage true g h t k d x l c = After c pushed
+Stage true g h t k d x l c = After c pushed × Bare h t
 
 -- (5) A's tag is not above Anchor's, and equal to it only if A is current: once Anchor has changed, A is never current again.
 pub record Read (b a : Anchor) : Type 0 where
@@ -110,6 +117,40 @@ pub record Ninth (s : Shared) (a : Anchor) (n : ℕ) (w : Link) : Type 0 where
 pub record Eleventh (g : ℕ → ℕ) (h : ℕ → Owner) (t x : ℕ) (c : Call) : Type 0 where
   pub after : After c (popped x (g x))
   pub holds : h x ≡ held t
+  pub sole : Sole h t x
+
+-- Places 12 to 14: a push that has no slot yet.
+pub record Draws (h : ℕ → Owner) (t : ℕ) (f : Bool) (k : Kind) (d : Bool) (x l : ℕ) (c : Call) : Type 0 where
+  pub early : f ≡ false
+  pub kind : k ≡ push
+  pub agrees : Agrees k d x l c
+  pub none : c .effects ≡ 0
+  pub bare : Bare h t
+
+-- (18) Place 13: the head as read, a, is the head, b, or its tag is past for good.
+abbrev pub Thirteenth : Link → Link → Type 0
+Thirteenth b a = (a ≡ b) ⊎ (a .tag < b .tag)
+
+-- (19) Place 14: it is the head, and n the next of its slot; or its tag is past for good.
+abbrev pub Fourteenth : (ℕ → ℕ) → Link → Link → ℕ → Type 0
+Fourteenth f b a n = ((a ≡ b) × (f (a .slot) ≡ n)) ⊎ (a .tag < b .tag)
+
+abbrev pub Drawing : Draw → Shared → Rec → Type 0
+Drawing at12 s r = Unit {0}
+Drawing at13 s r = (r .link .slot ≢ 0) × Thirteenth (s .head) (r .link)
+Drawing at14 s r = (r .link .slot ≢ 0) × Fourteenth (s .next) (s .head) (r .link) (r .near)
+
+-- (8) Places 15 to 17: the pop owns its slot still, and will answer what its record holds.
+pub record Gives (h : ℕ → Owner) (t x l : ℕ) (c : Call) : Type 0 where
+  pub after : After c (popped x l)
+  pub holds : h x ≡ held t
+  pub sole : Sole h t x
+
+-- (20) Place 17: the next of the own slot is the slot of the head as read, whether that is the head or not.
+abbrev pub Giving : Give → Shared → Rec → Type 0
+Giving at15 s r = Unit {0}
+Giving at16 s r = Unit {0}
+Giving at17 s r = s .next (r .own) ≡ r .link .slot
 
 abbrev Begins : Shared → (ℕ → Owner) → ℕ → Rec → Call → Type 0
 Begins s h t r c = Before (s .label) h t (r .kind) (r .side) (r .own) (r .label) c
@@ -122,7 +163,7 @@ Helping s h t r c = Helps (s .label) (s .anchor) h t (r .finishing) (r .kind) (r
 
 -- The task part of the invariant, place by place. (9) At 6 and 7 the neighbour is e's if current. (13) At 10, if current, the link back is made.
 abbrev pub Task : Place → Shared → (ℕ → Owner) → ℕ → Rec → Call → Type 0
-Task idle s h t r c = c .effects ≡ 0
+Task idle s h t r c = (c .effects ≡ 0) × Bare h t
 Task at1 s h t r c = (r .finishing ≡ false) × Begins s h t r c
 Task at2 s h t r c = Trying s h t r c × Two (r .kind) (r .read)
 Task at3 s h t r c = Trying s h t r c × Three (r .kind) (r .read)
@@ -134,3 +175,5 @@ Task at8 s h t r c = Helping s h t r c × Eighth s (r .read) (r .near) (r .link)
 Task at9 s h t r c = Helping s h t r c × Ninth s (r .read) (r .near) (r .link)
 Task at10 s h t r c = Helping s h t r c × (r .read ≡ s .anchor → Made (s .link) (r .read) (way (r .read)))
 Task at11 s h t r c = Eleventh (s .label) h t (tip (r .read) (r .side)) c
+Task (draw p) s h t r c = (s .pooled ≡ true) × Draws h t (r .finishing) (r .kind) (r .side) (r .own) (r .label) c × Drawing p s r
+Task (give p) s h t r c = (s .pooled ≡ true) × Gives h t (r .own) (r .label) c × Giving p s r

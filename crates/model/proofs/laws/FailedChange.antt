@@ -6,12 +6,13 @@ use Prim.Native.Nat.{ℕ}
 use lib.Dec.{eqb}
 use Rattle.word.specs.Anchor.{anchorOf}
 use Rattle.model.specs.declared.Record.{Record}
-use Rattle.model.specs.Tables.{Tables}
+use Rattle.model.specs.Tables.{Tables, isPooled}
 use Rattle.model.specs.Sound.{isPop, controlSound, recordSound, rowsFit}
 use Rattle.model.specs.Places.{sideOf, row, reading, at1, at2, at4, move}
 use Rattle.model.specs.Route.{counted, goes}
 use Rattle.model.specs.Refusals.{Lent, stepSound, stepRefusal}
 use Rattle.model.specs.Calls.{withRetries, finish, step}
+use Rattle.model.proofs.tests.Truth.{split}
 use Rattle.model.proofs.laws.Onward.{reads-on}
 
 module _ (q : Tables) (p : Lent) (r : Record) where
@@ -42,7 +43,7 @@ module _ (q : Tables) (p : Lent) (r : Record) where
   module _ (moved : eqb (q .control .anchor) (r .seen) ≡ false) where
     same2 : stepRefusal retried p (at 1) ≡ stepRefusal q p (at 2)
     unfolding stepRefusal stepSound recordSound controlSound rowsFit move at1 at2
-    same2 = rw moved
+    same2 = split (isPooled (q .control)) (λ e. rw (moved, e)) (λ e. rw (moved, e))
 
     failed2 : ReadsAs1 2
     unfolding step finish move at1 at2 row sideOf counted goes
@@ -50,7 +51,7 @@ module _ (q : Tables) (p : Lent) (r : Record) where
 
     same4 : stepRefusal retried p (at 1) ≡ stepRefusal q p (at 4)
     unfolding stepRefusal stepSound recordSound controlSound rowsFit move at1 at4
-    same4 = rw moved
+    same4 = split (isPooled (q .control)) (λ e. rw (moved, e)) (λ e. rw (moved, e))
 
     failed4 : ReadsAs1 4
     unfolding step finish move at1 at4 row sideOf counted goes

@@ -1,6 +1,6 @@
 -- No call changes the length of a table.
 use mathlib.Core.Path.{_≡_, refl}
-use mathlib.Core.Bool.{Bool, true, false, cond}
+use mathlib.Core.Bool.{Bool, true, false, _||_, not, cond}
 use mathlib.Core.List.{List}
 use Prim.Native.Nat.{ℕ, _+_, _/_, _≤_}
 use native.Mathlib.Omega.{arith}
@@ -9,12 +9,13 @@ use lib.ListN.{length, set, length-set, length-append, length-replicate, length-
 use borrow.Author.Tests.{leb-true, ltb-true, not-false}
 use Rattle.model.specs.declared.Record.{Record}
 use Rattle.model.specs.declared.Op.{Op}
-use Rattle.model.specs.declared.Op.the-variants.{Push, Pop, Step}
+use Rattle.model.specs.declared.Op.the-variants.{Push, Pop, Put, Step}
 use Rattle.model.specs.Tables.{Tables, Queue, zeroed, idle, recordAt}
 use Rattle.model.specs.Sound.{rowTests, rowsFit}
-use Rattle.model.specs.Places.{Touch, nothing, setAnchor, setLink, clearMark, linkMet, move, apply}
-use Rattle.model.specs.Refusals.{Lent, among, alone, openRules, stepRefusal, pushRefusal, popRefusal}
-use Rattle.model.specs.Calls.{opened, OpenDone, openQueue, Acted, decide, pushStart, popStart, finish, step, actOn, act, stepLent}
+use Rattle.model.specs.Places.{Touch, nothing, setAnchor, setLink, clearMark, takeSlot, setNext, setHead, linkMet, move, apply}
+use Rattle.model.specs.Refusals.{Lent, among, alone, openRules, stepRefusal, pushRefusal, putRefusal, popRefusal}
+use Rattle.model.specs.Calls.{stacked, opened, OpenDone, openAs, Acted, decide, pushStart, putStart, popStart, finish, step, actOn, act, stepLent}
+use Rattle.model.proofs.lists.Range.{length-climb}
 use Rattle.model.proofs.laws.Tests.{either, and-both, every-one}
 use Rattle.model.proofs.laws.Refusals.{OpenDecided, accepted-opening, refused-opening, open-decided}
 
@@ -23,9 +24,10 @@ pub record Lengths : Type 0 where
   pub rights : ℕ
   pub labels : ℕ
   pub marks : ℕ
+  pub next : ℕ
 
 abbrev pub lengths : Tables → Lengths
-lengths q = record { lefts = length (q .lefts); rights = length (q .rights); labels = length (q .labels); marks = length (q .marks) }
+lengths q = record { lefts = length (q .lefts); rights = length (q .rights); labels = length (q .labels); marks = length (q .marks); next = length (q .next) }
 
 pub record SameLengths (before after : Queue) : Type 0 where
   pub tables : lengths (after .tables) ≡ lengths (before .tables)
@@ -43,19 +45,24 @@ touched (setLink side x w) q = go (eqb side 1)
       rights = cond right (set (q .rights) x w) (q .rights);
       labels = q .labels;
       marks = q .marks;
+      next = q .next;
     }) ≡ lengths q
     go true = rw length-set
     go false = rw length-set
 touched (clearMark x) q = simp length-set
+touched (takeSlot w x l) q = simp length-set
+touched (setNext x v) q = simp length-set
+touched (setHead w) q = refl
 
 -- Refused or carried out.
 settled : (why : ℕ) (q : Tables) (r : Record) (done : Acted) → lengths (done .tables) ≡ lengths q → lengths (decide why q r done .tables) ≡ lengths q
 settled why q r done e = either (λ (a : Acted). lengths (a .tables) ≡ lengths q) (eqb why 0) e refl
 
 act-on : (q : Tables) (p : Lent) (r : Record) (o : Op) → lengths (actOn q p r o .tables) ≡ lengths q
-unfolding actOn pushStart popStart step finish
+unfolding actOn pushStart putStart popStart step finish
 act-on q p r (Push side slot label) = settled (pushRefusal q p r side slot) q r _ (simp length-set)
 act-on q p r (Pop side) = settled (popRefusal q p r side) q r _ refl
+act-on q p r (Put side label) = settled (putRefusal q p r side) q r _ refl
 act-on q p r Step = settled (stepRefusal q p r) q r _ (touched (move (q .control) r (linkMet q r) .touch) _)
 
 -- The laws.
@@ -74,21 +81,27 @@ length-zeroed n z l h = simp (length-append, length-replicate, length-drop) (ome
 row-zeroed : (n : ℕ) (l : List ℕ) → ltb n (length l) ≡ true → length (zeroed (n + 1) 0 l) ≡ length l
 row-zeroed n l h = length-zeroed (n + 1) 0 l (omega (arith, ltb-true n (length l) h))
 
-pub open-lengths : (q : Queue) (tasks slots tag : ℕ) → SameLengths q (openQueue q tasks slots tag .queue)
+-- All slots stacked.
+next-length : (pooled : Bool) (n : ℕ) (l : List ℕ) → not pooled || ltb n (length l) ≡ true → length (cond pooled (stacked n l) l) ≡ length l
+next-length false n l e = refl
+next-length true n l e = let h = ltb-true n (length l) e in simp (length-append, length-climb, length-drop) (omega arith)
+
+pub open-lengths : (pooled : Bool) (q : Queue) (tasks slots tag : ℕ) → SameLengths q (openAs pooled q tasks slots tag .queue)
 unfolding opened rowsFit
-open-lengths q tasks slots tag = go (open-decided q tasks slots tag)
+open-lengths pooled q tasks slots tag = go (open-decided pooled q tasks slots tag)
   where
-    go : {done : OpenDone} → OpenDecided (openRules q tasks slots) q (opened q tasks slots tag) done → SameLengths q (done .queue)
+    go : {done : OpenDone} → OpenDecided (openRules pooled q tasks slots) q (opened pooled q tasks slots tag) done → SameLengths q (done .queue)
     go (refused-opening n f) = record { tables = refl; records = refl }
     go (accepted-opening f) =
-        let long = and-both (rowsFit slots (q .tables)) (leb tasks (length (q .records))) (not-false _ (f .1 .1 .0)) in
-        let rows = every-one (rowTests slots (q .tables)) (long .0) in
+        let long = and-both (rowsFit pooled slots (q .tables)) (leb tasks (length (q .records))) (not-false _ (f .1 .1 .0)) in
+        let rows = every-one (rowTests pooled slots (q .tables)) (long .0) in
         record {
           tables = λ i. record {
             lefts = row-zeroed slots (q .tables .lefts) (rows .0) i;
             rights = row-zeroed slots (q .tables .rights) (rows .1 .0) i;
             labels = row-zeroed slots (q .tables .labels) (rows .1 .1 .0) i;
             marks = row-zeroed (slots / 64) (q .tables .marks) (rows .1 .1 .1 .0) i;
+            next = next-length pooled slots (q .tables .next) (rows .1 .1 .1 .1 .0) i;
           };
           records = length-zeroed tasks idle (q .records) (leb-true _ _ (long .1));
         }

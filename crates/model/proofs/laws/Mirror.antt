@@ -19,13 +19,14 @@ use Rattle.model.specs.declared.Answer.the-variants.{Running}
 use Rattle.model.specs.declared.Outcome.the-variants.{Moved}
 use Rattle.model.specs.declared.Opening.the-variants as opening
 use Rattle.model.specs.declared.Op.{Op}
-use Rattle.model.specs.declared.Op.the-variants.{Push, Pop, Step}
-use Rattle.model.specs.Tables.{Tables, Queue, idle, started, recordAt, zeroed}
-use Rattle.model.specs.Refusals.{openRefusal, Lent, among, alone, pushRefusal, popRefusal}
-use Rattle.model.specs.Calls.{opened, OpenDone, openQueue, Acted, decide, taken, pushStart, popStart, actOn, back, act, stepLent}
+use Rattle.model.specs.declared.Op.the-variants.{Push, Pop, Put, Step}
+use Rattle.model.specs.Tables.{Tables, Queue, asking, idle, started, recordAt, zeroed}
+use Rattle.model.specs.Places.{taken}
+use Rattle.model.specs.Refusals.{openRefusal, Lent, among, alone, pushRefusal, putRefusal, popRefusal}
+use Rattle.model.specs.Calls.{stacked, opened, OpenDone, openAs, Acted, decide, pushStart, putStart, popStart, actOn, back, act, stepLent}
 use Rattle.model.specs.Mirror.{mirrorSide, mirrorStatus, mirrorWord, mirrorTables, mirrorRecord, mirrorQueue, mirrorOp, mirrorActed, mirrorOpened, mirrorDone}
 use Rattle.model.proofs.laws.Mirror.Words.{mirror-pack}
-use Rattle.model.proofs.laws.Mirror.Sound.{rows-fit-mirror, push-refusal-mirror, pop-refusal-mirror}
+use Rattle.model.proofs.laws.Mirror.Sound.{rows-fit-mirror, push-refusal-mirror, put-refusal-mirror, pop-refusal-mirror}
 use Rattle.model.proofs.laws.Mirror.Steps.{decide-mirror, step-mirror}
 
 -- A start or step of one record.
@@ -33,8 +34,12 @@ started-mirror : (kind side own label : ℕ) → started kind (mirrorSide side) 
 unfolding mirrorRecord mirrorWord mirrorStatus
 started-mirror kind side own label = refl
 
+asking-mirror : (side label : ℕ) → asking (mirrorSide side) label ≡ mirrorRecord (asking side label)
+unfolding mirrorRecord mirrorWord mirrorStatus
+asking-mirror side label = refl
+
 act-on-mirror : (q : Tables) (p : Lent) (r : Record) (o : Op) → actOn (mirrorTables q) p (mirrorRecord r) (mirrorOp o) ≡ mirrorActed (actOn q p r o)
-unfolding actOn pushStart popStart
+unfolding actOn pushStart putStart popStart
 act-on-mirror q p r (Push side slot label) =
     let begun : (Tables → ℕ → Acted) = λ q side. record { tables = taken q slot label; task = started 0 side slot label; outcome = Moved (Running 1) } in
     ap (λ (why : ℕ). decide why (mirrorTables q) (mirrorRecord r) (begun (mirrorTables q) (mirrorSide side))) (push-refusal-mirror q p r side slot)
@@ -45,6 +50,11 @@ act-on-mirror q p r (Pop side) =
     ap (λ (why : ℕ). decide why (mirrorTables q) (mirrorRecord r) (begun (mirrorTables q) (mirrorSide side))) (pop-refusal-mirror q p r side)
     ∙ decide-mirror (popRefusal q p r side) q r (begun q side) (begun (mirrorTables q) (mirrorSide side))
     (λ e i. record { tables = mirrorTables q; task = started-mirror 1 side 0 0 i; outcome = Moved (Running 1) })
+act-on-mirror q p r (Put side label) =
+    let begun : (Tables → ℕ → Acted) = λ q side. record { tables = q; task = asking side label; outcome = Moved (Running 12) } in
+    ap (λ (why : ℕ). decide why (mirrorTables q) (mirrorRecord r) (begun (mirrorTables q) (mirrorSide side))) (put-refusal-mirror q p r side)
+    ∙ decide-mirror (putRefusal q p r side) q r (begun q side) (begun (mirrorTables q) (mirrorSide side))
+    (λ e i. record { tables = mirrorTables q; task = asking-mirror side label i; outcome = Moved (Running 12) })
 act-on-mirror q p r Step = step-mirror q p r
 
 pub lent-mirror : (q : Tables) (r : Record) → stepLent (mirrorTables q) (mirrorRecord r) ≡ mirrorActed (stepLent q r)
@@ -91,33 +101,34 @@ map-zeroed f n z l = ap (λ (m : List _). replicate n (f z) ++ m) (map-drop f n 
     go zero = refl
     go (suc k) = ap (λ (m : List _). f z ∷ m) (go k)
 
-open-refusal-mirror : (q : Queue) (tasks slots : ℕ) → openRefusal (mirrorQueue q) tasks slots ≡ openRefusal q tasks slots
+open-refusal-mirror : (pooled : Bool) (q : Queue) (tasks slots : ℕ) → openRefusal pooled (mirrorQueue q) tasks slots ≡ openRefusal pooled q tasks slots
 unfolding openRefusal
-open-refusal-mirror q tasks slots = rw (rows-fit-mirror slots (q .tables), length-map (q .records) mirrorRecord) refl
+open-refusal-mirror pooled q tasks slots = rw (rows-fit-mirror pooled slots (q .tables), length-map (q .records) mirrorRecord) refl
 
-opened-mirror : (q : Queue) (tasks slots tag : ℕ) → opened (mirrorQueue q) tasks slots tag ≡ mirrorQueue (opened q tasks slots tag)
+opened-mirror : (pooled : Bool) (q : Queue) (tasks slots tag : ℕ) → opened pooled (mirrorQueue q) tasks slots tag ≡ mirrorQueue (opened pooled q tasks slots tag)
 unfolding opened mirrorRecord mirrorStatus
-opened-mirror q tasks slots tag = λ i. record {
+opened-mirror pooled q tasks slots tag = λ i. record {
   tables = record {
-    control = record { tasks = tasks; slots = slots; anchor = mirror-pack (emptyAnchor tag) (omega arith) i; retries = 0 };
+    control = record { tasks = tasks; slots = slots; anchor = mirror-pack (emptyAnchor tag) (omega arith) i; retries = 0; pooled = cond pooled 1 0; head = cond pooled 1 0 };
     lefts = zeroed (slots + 1) 0 (q .tables .rights);
     rights = zeroed (slots + 1) 0 (q .tables .lefts);
     labels = zeroed (slots + 1) 0 (q .tables .labels);
     marks = zeroed (slots / 64 + 1) 0 (q .tables .marks);
+    next = cond pooled (stacked slots (q .tables .next)) (q .tables .next);
   };
   records = map-zeroed mirrorRecord tasks idle (q .records) i;
 }
 
-pub open-mirror : (q : Queue) (tasks slots tag : ℕ) → openQueue (mirrorQueue q) tasks slots tag ≡ mirrorOpened (openQueue q tasks slots tag)
-unfolding openQueue
-open-mirror q tasks slots tag =
-    ap₂ (settled (mirrorQueue q)) (open-refusal-mirror q tasks slots) (opened-mirror q tasks slots tag)
-    ∙ go (eqb (openRefusal q tasks slots) 0) (openRefusal q tasks slots)
+pub open-mirror : (pooled : Bool) (q : Queue) (tasks slots tag : ℕ) → openAs pooled (mirrorQueue q) tasks slots tag ≡ mirrorOpened (openAs pooled q tasks slots tag)
+unfolding openAs
+open-mirror pooled q tasks slots tag =
+    ap₂ (settled (mirrorQueue q)) (open-refusal-mirror pooled q tasks slots) (opened-mirror pooled q tasks slots tag)
+    ∙ go (eqb (openRefusal pooled q tasks slots) 0) (openRefusal pooled q tasks slots)
   where
     settled : Queue → ℕ → Queue → OpenDone
     settled q why new = cond (eqb why 0) (record { queue = new; outcome = opening.Opened }) (record { queue = q; outcome = opening.Refused why })
 
-    go : (b : Bool) (why : ℕ) → cond b (record { queue = mirrorQueue (opened q tasks slots tag); outcome = opening.Opened }) (record { queue = mirrorQueue q; outcome = opening.Refused why })
-        ≡ mirrorOpened (cond b (record { queue = opened q tasks slots tag; outcome = opening.Opened }) (record { queue = q; outcome = opening.Refused why }))
+    go : (b : Bool) (why : ℕ) → cond b (record { queue = mirrorQueue (opened pooled q tasks slots tag); outcome = opening.Opened }) (record { queue = mirrorQueue q; outcome = opening.Refused why })
+        ≡ mirrorOpened (cond b (record { queue = opened pooled q tasks slots tag; outcome = opening.Opened }) (record { queue = q; outcome = opening.Refused why }))
     go true why = refl
     go false why = refl

@@ -1,111 +1,157 @@
 -- A step changes one shared word at the most, the retry count among them: a failed change is counted and changes nothing else.
+-- The one exception is 14 done, which sets the head, the slot's label and its mark.
 use mathlib.Core.Path.{_≡_, refl}
 use mathlib.Core.Bool.{Bool, true, false, cond}
 use Prim.Native.Nat.{ℕ}
 use lib.Dec.{eqb}
 use lib.ListN.{set}
 use lib.Seq.{getD-set-other}
+use borrow.Author.Tests.{eqb-true}
 use Rattle.model.specs.declared.Control.{Control}
 use Rattle.model.specs.declared.Record.{Record}
 use Rattle.model.specs.declared.Op.{Op}
 use Rattle.model.specs.declared.Op.the-variants.{Step}
-use Rattle.model.specs.Tables.{Tables, Queue, idle, recordAt}
-use Rattle.model.specs.Places.{Touch, nothing, setAnchor, setLink, clearMark, Move, linkMet, at1, at2, at3, at4, at5, at6, at7, at9, at10, at11, move, apply}
+use Rattle.model.specs.Tables.{Tables, Queue, isPooled, idle, recordAt}
+use Rattle.model.specs.Places.{Touch, nothing, setAnchor, setLink, clearMark, takeSlot, setNext, setHead, Move, linkMet, move, apply}
+use Rattle.model.specs.Places.{at1, at2, at3, at4, at5, at6, at7, at9, at10, at11, at12, at13, at14, at15, at16, at17}
 use Rattle.model.specs.Sound.{isPush}
 use Rattle.model.specs.Route.{counted}
 use Rattle.model.specs.Refusals.{Lent, among, alone, stepRefusal}
 use Rattle.model.specs.Calls.{Acted, finish, step, actOn, act, stepLent}
-use Rattle.model.specs.OneTouch.{OneTouch, untouched, anchor, retries, left, right, mark}
-use Rattle.model.proofs.laws.Tests.{either}
+use Rattle.model.specs.OneTouch.{OneTouch, untouched, anchor, retries, left, right, mark, next, head, drawn, withLefts, withRights}
+use Rattle.model.proofs.laws.Tests.{either, by-test}
+
+-- A slot is drawn at 14 alone.
+abbrev Draws14 : ℕ → Touch → Type 0
+Draws14 place nothing = Unit {0}
+Draws14 place (setAnchor w) = Unit {0}
+Draws14 place (setLink side x w) = Unit {0}
+Draws14 place (clearMark x) = Unit {0}
+Draws14 place (takeSlot w x l) = place ≡ 14
+Draws14 place (setNext x v) = Unit {0}
+Draws14 place (setHead w) = Unit {0}
 
 -- A move touches nothing, or its change has not failed.
-data Single (m : Move) : Type 0 where
-  touches : m .failed ≡ false → Single m
-  counts : m .touch ≡ nothing → Single m
+data Single (place : ℕ) (m : Move) : Type 0 where
+  touches : m .failed ≡ false → Draws14 place (m .touch) → Single place m
+  counts : m .touch ≡ nothing → Single place m
 
 module _ (c : Control) (r : Record) (w : ℕ) where
-  single1 : Single (at1 c r)
+  single1 : Single (r .place) (at1 c r)
   unfolding at1
-  single1 = touches refl
+  single1 = touches refl tt
 
-  single2 : Single (at2 c r)
+  single2 : Single (r .place) (at2 c r)
   unfolding at2
-  single2 = either Single (eqb (c .anchor) (r .seen)) (touches refl) (counts refl)
+  single2 = either (Single (r .place)) (eqb (c .anchor) (r .seen)) (touches refl tt) (counts refl)
 
-  single3 : Single (at3 r w)
+  single3 : Single (r .place) (at3 r w)
   unfolding at3
-  single3 = either Single (isPush r) (touches refl) (touches refl)
+  single3 = either (Single (r .place)) (isPush r) (touches refl tt) (touches refl tt)
 
-  single4 : Single (at4 c r)
+  single4 : Single (r .place) (at4 c r)
   unfolding at4
-  single4 = either Single (eqb (c .anchor) (r .seen)) (touches refl) (counts refl)
+  single4 = either (Single (r .place)) (eqb (c .anchor) (r .seen)) (touches refl tt) (counts refl)
 
-  single5 : Single (at5 r w)
+  single5 : Single (r .place) (at5 r w)
   unfolding at5
-  single5 = touches refl
+  single5 = touches refl tt
 
-  single6 : Single (at6 c r)
+  single6 : Single (r .place) (at6 c r)
   unfolding at6
-  single6 = touches refl
+  single6 = touches refl tt
 
-  single7 : Single (at7 r w)
+  single7 : Single (r .place) (at7 r w)
   unfolding at7
-  single7 = touches refl
+  single7 = touches refl tt
 
-  single9 : Single (at9 r w)
+  single9 : Single (r .place) (at9 r w)
   unfolding at9
-  single9 = either Single (eqb w (r .link)) (touches refl) (counts refl)
+  single9 = either (Single (r .place)) (eqb w (r .link)) (touches refl tt) (counts refl)
 
-  single10 : Single (at10 c r)
+  single10 : Single (r .place) (at10 c r)
   unfolding at10
-  single10 = either Single (eqb (c .anchor) (r .seen)) (touches refl) (counts refl)
+  single10 = either (Single (r .place)) (eqb (c .anchor) (r .seen)) (touches refl tt) (counts refl)
 
-  single11 : Single (at11 r)
+  single11 : Single (r .place) (at11 c r w)
   unfolding at11
-  single11 = touches refl
+  single11 = either (Single (r .place)) (isPooled c) (touches refl tt) (touches refl tt)
 
-  single : Single (move c r w)
+  single12 : Single (r .place) (at12 c r)
+  unfolding at12
+  single12 = touches refl tt
+
+  single13 : Single (r .place) (at13 r w)
+  unfolding at13
+  single13 = touches refl tt
+
+  single14 : r .place ≡ 14 → Single (r .place) (at14 c r)
+  unfolding at14
+  single14 e = either (Single (r .place)) (eqb (c .head) (r .link)) (touches refl e) (counts refl)
+
+  single15 : Single (r .place) (at15 c r)
+  unfolding at15
+  single15 = touches refl tt
+
+  single16 : Single (r .place) (at16 r)
+  unfolding at16
+  single16 = touches refl tt
+
+  single17 : Single (r .place) (at17 c r)
+  unfolding at17
+  single17 = either (Single (r .place)) (eqb (c .head) (r .link)) (touches refl tt) (counts refl)
+
+  single : Single (r .place) (move c r w)
   unfolding move
   single =
-      either Single (eqb (r .place) 1) single1
-      (either Single (eqb (r .place) 2) single2
-      (either Single (eqb (r .place) 3) single3
-      (either Single (eqb (r .place) 4) single4
-      (either Single (eqb (r .place) 5) single5
-      (either Single (eqb (r .place) 6) single6
-      (either Single (eqb (r .place) 7) single7
-      (either Single (eqb (r .place) 8) single6
-      (either Single (eqb (r .place) 9) single9
-      (either Single (eqb (r .place) 10) single10
-      single11)))))))))
+      either (Single (r .place)) (eqb (r .place) 1) single1
+      (either (Single (r .place)) (eqb (r .place) 2) single2
+      (either (Single (r .place)) (eqb (r .place) 3) single3
+      (either (Single (r .place)) (eqb (r .place) 4) single4
+      (either (Single (r .place)) (eqb (r .place) 5) single5
+      (either (Single (r .place)) (eqb (r .place) 6) single6
+      (either (Single (r .place)) (eqb (r .place) 7) single7
+      (either (Single (r .place)) (eqb (r .place) 8) single6
+      (either (Single (r .place)) (eqb (r .place) 9) single9
+      (either (Single (r .place)) (eqb (r .place) 10) single10
+      (either (Single (r .place)) (eqb (r .place) 11) single11
+      (either (Single (r .place)) (eqb (r .place) 12) single12
+      (either (Single (r .place)) (eqb (r .place) 13) single13
+      (by-test (Single (r .place)) (eqb (r .place) 14) (λ e. single14 (eqb-true (r .place) 14 e))
+      (λ _. either (Single (r .place)) (eqb (r .place) 15) single15
+      (either (Single (r .place)) (eqb (r .place) 16) single16
+      single17)))))))))))))))
 
-applied : (t : Touch) (q : Tables) → OneTouch q (apply t q)
-applied nothing q = untouched
-applied (setAnchor w) q = anchor w
-applied (setLink side x w) q = go (eqb side 1)
+applied : (place : ℕ) (t : Touch) (q : Tables) → Draws14 place t → OneTouch place q (apply t q)
+applied place nothing q d = untouched
+applied place (setAnchor w) q d = anchor w
+applied place (setLink side x w) q d = go (eqb side 1)
   where
-    go : (b : Bool) → OneTouch q (record { control = q .control; lefts = cond b (q .lefts) (set (q .lefts) x w); rights = cond b (set (q .rights) x w) (q .rights); labels = q .labels; marks = q .marks })
+    go : (b : Bool) → OneTouch place q (withRights (withLefts q (cond b (q .lefts) (set (q .lefts) x w))) (cond b (set (q .rights) x w) (q .rights)))
     go true = right x w
     go false = left x w
-applied (clearMark x) q = mark _ _
+applied place (clearMark x) q d = mark _ _
+applied place (takeSlot w x l) q d = drawn w x l d
+applied place (setNext x v) q d = next x v
+applied place (setHead w) q d = head w
 
-finished : (q : Tables) (r : Record) (m : Move) → Single m → OneTouch q (finish q r m .tables)
+finished : (q : Tables) (r : Record) (m : Move) → Single (r .place) m → OneTouch (r .place) q (finish q r m .tables)
 unfolding finish counted
-finished q r m (touches e) = rw e (applied (m .touch) q)
+finished q r m (touches e d) = rw e (applied (r .place) (m .touch) q d)
 finished q r m (counts e) = rw e (retries _)
 
-step-touch : (q : Tables) (p : Lent) (r : Record) → OneTouch q (step q p r .tables)
+step-touch : (q : Tables) (p : Lent) (r : Record) → OneTouch (r .place) q (step q p r .tables)
 unfolding step
 step-touch q p r =
-    either (λ (a : Acted). OneTouch q (a .tables)) (eqb (stepRefusal q p r) 0)
+    either (λ (a : Acted). OneTouch (r .place) q (a .tables)) (eqb (stepRefusal q p r) 0)
     (finished q r (move (q .control) r (linkMet q r)) (single (q .control) r (linkMet q r))) untouched
 
 -- The laws, for all arguments.
-pub lent-touch : (q : Tables) (r : Record) → OneTouch q (stepLent q r .tables)
+pub lent-touch : (q : Tables) (r : Record) → OneTouch (r .place) q (stepLent q r .tables)
 unfolding stepLent
 lent-touch q r = step-touch q alone r
 
-pub act-touch : (q : Queue) (t : ℕ) → OneTouch (q .tables) (act q t Step .queue .tables)
+pub act-touch : (q : Queue) (t : ℕ) → OneTouch (recordAt q t .place) (q .tables) (act q t Step .queue .tables)
 unfolding act actOn
 act-touch q t = step-touch (q .tables) (among q t) (recordAt q t)
 

@@ -1,21 +1,23 @@
 -- A step of a busy, sound record leads on: to a place other than 0, or to an answer.
 use mathlib.Core.Path.{_≡_, refl, sym, subst}
-use mathlib.Core.Bool.{Bool, true, false, cond}
+use mathlib.Core.Bool.{Bool, true, false, _&&_, _||_, cond}
 use mathlib.Core.List.{List, []}
 use Prim.Native.Nat.{ℕ, _+_, zero, suc, _≤_, _<_}
 use native.Mathlib.Omega.{arith}
 use lib.Dec.{eqb, leb}
 use lib.ListN.{getD}
-use borrow.Author.Tests.{eq-eqb, eqb-true, eqb-false, leb-true}
+use borrow.Author.Tests.{eq-eqb, eqb-true, eqb-false, le-leb, leb-true}
 use Rattle.word.specs.declared.Anchor.{Anchor}
 use Rattle.word.specs.Anchor.{anchorOf}
 use Rattle.word.specs.Link.{linkOf}
 use Rattle.model.specs.declared.Control.{Control}
 use Rattle.model.specs.declared.Record.{Record}
-use Rattle.model.specs.Tables.{isEmpty}
+use Rattle.model.specs.Tables.{isEmpty, isPooled}
 use Rattle.model.specs.Sound.{isPush, isPop, recordSound}
-use Rattle.model.specs.Places.{Move, endSeen, reading, at1, at2, at3, at4, at5, at6, at7, at9, at10, at11, move}
+use Rattle.model.specs.Places.{Move, endSeen, reading, at1, at2, at3, at4, at5, at6, at7, at9, at10, at11, at12, at13, at14, at15, at16, at17, move}
+use Rattle.model.specs.Places.{noneLeft}
 use Rattle.model.specs.Route.{leave, pushed, pushRoute, popRoute, route, onward}
+use Rattle.model.proofs.tests.Truth.{or-first, or-second}
 use Rattle.model.proofs.laws.Tests.{either, by-test, implied, Sound, sound-record}
 
 abbrev Leads : ℕ → ℕ → ℕ → Type 0
@@ -108,35 +110,78 @@ module _ (c : Control) (r : Record) (w : ℕ) (kind : leb (r .kind) 1 ≡ true) 
   unfolding at10 route pushRoute popRoute
   lead10 = either (From (r .kind) 10) (eqb (c .anchor) (r .seen)) (from (entry 10 0 refl refl)) (from (entry 10 1 refl refl))
 
-  lead11 : isPop r ≡ true → From (r .kind) 11 (at11 r)
+  pops : isPop r ≡ true → (p outcome : ℕ) → Leads p 1 outcome → Leads p (r .kind) outcome
+  pops e p outcome h = subst (λ (k : ℕ). Leads p k outcome) (sym (eqb-true (r .kind) 1 e)) h
+
+  pushes : isPush r ≡ true → (p outcome : ℕ) → Leads p 0 outcome → Leads p (r .kind) outcome
+  pushes e p outcome h = subst (λ (k : ℕ). Leads p k outcome) (sym (eqb-true (r .kind) 0 e)) h
+
+  lead11 : isPop r ≡ true → From (r .kind) 11 (at11 c r w)
   unfolding at11 route pushRoute popRoute
-  lead11 e = from (subst (λ (k : ℕ). Leads 11 k 0) (sym (eqb-true (r .kind) 1 e)) refl)
+  lead11 e = either (From (r .kind) 11) (isPooled c) (from (pops e 11 1 refl)) (from (pops e 11 0 refl))
 
-  -- The place is i, or above it.
-  turn : (i : ℕ) {x y : Move} → i ≤ r .place → From (r .kind) i x → (i < r .place → From (r .kind) (r .place) y)
-      → From (r .kind) (r .place) (cond (eqb (r .place) i) x y)
-  turn i {x} {y} h here above =
-      by-test (From (r .kind) (r .place)) (eqb (r .place) i)
-      (λ e. subst (λ (p : ℕ). From (r .kind) p x) (sym (eqb-true (r .place) i e)) here)
-      (λ e. above (later (eqb-false (r .place) i e)))
-    where
-      later : (r .place ≡ i → ⊥) → i < r .place
-      later n = omega arith
+  lead12 : isPush r ≡ true → From (r .kind) 12 (at12 c r)
+  unfolding at12 route pushRoute popRoute
+  lead12 e = from (either (Leads 12 (r .kind)) (noneLeft (c .head)) (pushes e 12 0 refl) (pushes e 12 1 refl))
 
-  last : Sound r → 10 < r .place → From (r .kind) (r .place) (at11 r)
-  last sound h =
-      let eleven : r .place ≡ 11 = omega (arith, leb-true (r .place) 11 (sound .place)) in
-      subst (λ (p : ℕ). From (r .kind) p (at11 r)) (sym eleven) (lead11 (implied (eqb (r .place) 11) (isPop r) (sound .pops) (eq-eqb (r .place) 11 eleven)))
+  lead13 : isPush r ≡ true → From (r .kind) 13 (at13 r w)
+  unfolding at13 route pushRoute popRoute
+  lead13 e = from (pushes e 13 0 refl)
 
-  leads : Sound r → eqb (r .place) 0 ≡ false → From (r .kind) (r .place) (move c r w)
-  unfolding move
-  leads sound busy =
-      turn 1 (omega (arith, eqb-false (r .place) 0 busy)) lead1 (λ h. turn 2 h lead2 (λ h. turn 3 h lead3 (λ h. turn 4 h lead4 (λ h. turn 5 h lead5
-      (λ h. turn 6 h lead6 (λ h. turn 7 h lead7 (λ h. turn 8 h lead8 (λ h. turn 9 h lead9 (λ h. turn 10 h lead10 (last sound))))))))))
+  lead14 : isPush r ≡ true → From (r .kind) 14 (at14 c r)
+  unfolding at14 route pushRoute popRoute
+  lead14 e = either (From (r .kind) 14) (eqb (c .head) (r .link)) (from (pushes e 14 0 refl)) (from (pushes e 14 1 refl))
+
+  lead15 : isPop r ≡ true → From (r .kind) 15 (at15 c r)
+  unfolding at15 route pushRoute popRoute
+  lead15 e = from (pops e 15 0 refl)
+
+  lead16 : isPop r ≡ true → From (r .kind) 16 (at16 r)
+  unfolding at16 route pushRoute popRoute
+  lead16 e = from (pops e 16 0 refl)
+
+  lead17 : isPop r ≡ true → From (r .kind) 17 (at17 c r)
+  unfolding at17 route pushRoute popRoute
+  lead17 e = either (From (r .kind) 17) (eqb (c .head) (r .link)) (from (pops e 17 0 refl)) (from (pops e 17 1 refl))
+
+  module _ (sound : Sound r) where
+    is-pop : eqb (r .place) 11 || leb 15 (r .place) ≡ true → isPop r ≡ true
+    is-pop e = implied (eqb (r .place) 11 || leb 15 (r .place)) (isPop r) (sound .pops) e
+
+    is-push : 12 ≤ r .place → r .place ≤ 14 → isPush r ≡ true
+    is-push l h = implied (leb 12 (r .place) && leb (r .place) 14) (isPush r) (sound .pushes) (rw (le-leb 12 (r .place) l, le-leb (r .place) 14 h))
+
+    gives : 15 ≤ r .place → isPop r ≡ true
+    gives l = is-pop (or-second (eqb (r .place) 11) (le-leb 15 (r .place) l))
+
+    -- The place is i, or above it.
+    turn : (i : ℕ) {x y : Move} → i ≤ r .place → (r .place ≡ i → From (r .kind) i x) → (i < r .place → From (r .kind) (r .place) y)
+        → From (r .kind) (r .place) (cond (eqb (r .place) i) x y)
+    turn i {x} {y} h here above =
+        by-test (From (r .kind) (r .place)) (eqb (r .place) i)
+        (λ e. let z = eqb-true (r .place) i e in subst (λ (p : ℕ). From (r .kind) p x) (sym z) (here z))
+        (λ e. above (later (eqb-false (r .place) i e)))
+      where
+        later : (r .place ≡ i → ⊥) → i < r .place
+        later n = omega arith
+
+    last : 16 < r .place → From (r .kind) (r .place) (at17 c r)
+    last h =
+        let z : r .place ≡ 17 = omega (arith, leb-true (r .place) 17 (sound .place)) in
+        subst (λ (p : ℕ). From (r .kind) p (at17 c r)) (sym z) (lead17 (gives (omega arith)))
+
+    leads : eqb (r .place) 0 ≡ false → From (r .kind) (r .place) (move c r w)
+    unfolding move
+    leads busy =
+        turn 1 (omega (arith, eqb-false (r .place) 0 busy)) (λ _. lead1) (λ h. turn 2 h (λ _. lead2) (λ h. turn 3 h (λ _. lead3) (λ h. turn 4 h (λ _. lead4) (λ h. turn 5 h (λ _. lead5)
+        (λ h. turn 6 h (λ _. lead6) (λ h. turn 7 h (λ _. lead7) (λ h. turn 8 h (λ _. lead8) (λ h. turn 9 h (λ _. lead9) (λ h. turn 10 h (λ _. lead10)
+        (λ h. turn 11 h (λ e. lead11 (is-pop (or-first _ (eq-eqb (r .place) 11 e)))) (λ h. turn 12 h (λ e. lead12 (is-push h (omega arith)))
+        (λ h. turn 13 h (λ e. lead13 (is-push (omega arith) (omega arith))) (λ h. turn 14 h (λ e. lead14 (is-push (omega arith) (omega arith)))
+        (λ h. turn 15 h (λ e. lead15 (gives h)) (λ h. turn 16 h (λ e. lead16 (gives (omega arith))) last)))))))))))))))
 
 -- The law.
-pub leads-on : (slots : ℕ) (c : Control) (r : Record) (w : ℕ) → recordSound slots r ≡ true → eqb (r .place) 0 ≡ false
+pub leads-on : (pooled : Bool) (slots : ℕ) (c : Control) (r : Record) (w : ℕ) → recordSound pooled slots r ≡ true → eqb (r .place) 0 ≡ false
     → let m = move c r w in eqb (onward (route (r .place) (r .kind) (m .outcome)) (m .task .finishing)) 0 ≡ false
-leads-on slots c r w sound busy =
-    let facts = sound-record slots r sound busy in
+leads-on pooled slots c r w sound busy =
+    let facts = sound-record pooled slots r sound busy in
     onward-leads _ _ (leads-from (leads c r w (facts .kind) facts busy))

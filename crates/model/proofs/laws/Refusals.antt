@@ -13,11 +13,11 @@ use Rattle.model.specs.declared.Answer.the-variants.{Running}
 use Rattle.model.specs.declared.Outcome.the-variants.{Refused, Moved}
 use Rattle.model.specs.declared.Opening.the-variants as opening
 use Rattle.model.specs.declared.Op.{Op}
-use Rattle.model.specs.declared.Op.the-variants.{Push, Pop, Step}
+use Rattle.model.specs.declared.Op.the-variants.{Push, Pop, Put, Step}
 use Rattle.model.specs.Tables.{Tables, Queue, idle, recordAt}
-use Rattle.model.specs.Refusals.{Rule, rule, first, openRules, openRefusal, Lent, among, alone, pushRules, pushRefusal, popRules, popRefusal, stepRules, stepRefusal}
+use Rattle.model.specs.Refusals.{Rule, rule, first, openRules, openRefusal, Lent, among, alone, pushRules, pushRefusal, putRules, putRefusal, popRules, popRefusal, stepRules, stepRefusal}
 use Rattle.model.specs.History.{All}
-use Rattle.model.specs.Calls.{opened, OpenDone, openQueue, Acted, decide, pushStart, popStart, finish, step, actOn, back, act, stepLent}
+use Rattle.model.specs.Calls.{opened, OpenDone, openAs, Acted, decide, pushStart, putStart, popStart, finish, step, actOn, back, act, stepLent}
 use Rattle.model.proofs.laws.Tests.{and-both}
 
 -- No rule of a list applies; and the first of a list to apply has number n.
@@ -73,12 +73,14 @@ decided-by rules h q r done a e = go (first rules) (find rules h)
 abbrev pub rulesOf : Tables → Lent → Record → Op → List Rule
 rulesOf q p r (Push side slot label) = pushRules q p r side slot
 rulesOf q p r (Pop side) = popRules q p r side
+rulesOf q p r (Put side label) = putRules q p r side
 rulesOf q p r Step = stepRules q p r
 
 pub decided : (q : Tables) (p : Lent) (r : Record) (o : Op) → Decided (rulesOf q p r o) q r (actOn q p r o)
-unfolding actOn pushStart popStart step finish pushRefusal popRefusal stepRefusal
+unfolding actOn pushStart putStart popStart step finish pushRefusal putRefusal popRefusal stepRefusal
 decided q p r (Push side slot label) = decided-by (pushRules q p r side slot) refl q r _ (Running 1) refl
 decided q p r (Pop side) = decided-by (popRules q p r side) refl q r _ (Running 1) refl
+decided q p r (Put side label) = decided-by (putRules q p r side) refl q r _ (Running 12) refl
 decided q p r Step = decided-by (stepRules q p r) refl q r _ _ refl
 
 -- What a refused start or step of a record leaves.
@@ -102,19 +104,19 @@ pub data OpenDecided (rules : List Rule) (q new : Queue) : OpenDone → Type 0 w
   accepted-opening : NoneApplies rules → OpenDecided rules q new (record { queue = new; outcome = opening.Opened })
   refused-opening : (n : ℕ) → FirstApplies n rules → OpenDecided rules q new (record { queue = q; outcome = opening.Refused n })
 
-pub open-decided : (q : Queue) (tasks slots tag : ℕ) → OpenDecided (openRules q tasks slots) q (opened q tasks slots tag) (openQueue q tasks slots tag)
-unfolding openQueue openRefusal
-open-decided q tasks slots tag = go (find (openRules q tasks slots) refl)
+pub open-decided : (pooled : Bool) (q : Queue) (tasks slots tag : ℕ) → OpenDecided (openRules pooled q tasks slots) q (opened pooled q tasks slots tag) (openAs pooled q tasks slots tag)
+unfolding openAs openRefusal
+open-decided pooled q tasks slots tag = go (find (openRules pooled q tasks slots) refl)
   where
-    go : {n : ℕ} → Found (openRules q tasks slots) n
-        → OpenDecided (openRules q tasks slots) q (opened q tasks slots tag)
-        (cond (eqb n 0) (record { queue = opened q tasks slots tag; outcome = opening.Opened }) (record { queue = q; outcome = opening.Refused n }))
+    go : {n : ℕ} → Found (openRules pooled q tasks slots) n
+        → OpenDecided (openRules pooled q tasks slots) q (opened pooled q tasks slots tag)
+        (cond (eqb n 0) (record { queue = opened pooled q tasks slots tag; outcome = opening.Opened }) (record { queue = q; outcome = opening.Refused n }))
     go (none f) = accepted-opening f
     go (some n h f) = rw (ne-eqb n 0 (λ e. omega arith)) (refused-opening n f)
 
-pub open-refused : (q : Queue) (tasks slots tag n : ℕ) → openQueue q tasks slots tag .outcome ≡ opening.Refused n → openQueue q tasks slots tag .queue ≡ q
-open-refused q tasks slots tag n h = go (open-decided q tasks slots tag) h
+pub open-refused : (pooled : Bool) (q : Queue) (tasks slots tag n : ℕ) → openAs pooled q tasks slots tag .outcome ≡ opening.Refused n → openAs pooled q tasks slots tag .queue ≡ q
+open-refused pooled q tasks slots tag n h = go (open-decided pooled q tasks slots tag) h
   where
-    go : {done : OpenDone} → OpenDecided (openRules q tasks slots) q (opened q tasks slots tag) done → done .outcome ≡ opening.Refused n → done .queue ≡ q
+    go : {done : OpenDone} → OpenDecided (openRules pooled q tasks slots) q (opened pooled q tasks slots tag) done → done .outcome ≡ opening.Refused n → done .queue ≡ q
     go (accepted-opening f) h = absurd (let z : _≡_ {A = ℕ} 0 1 = cc in omega arith)
     go (refused-opening m f) h = refl

@@ -5,9 +5,10 @@ use mathlib.Core.List.{List, [], _∷_}
 use Prim.Native.Nat.{ℕ}
 use native.Mathlib.Omega.{arith}
 use lib.Dec.{eqb, leb}
+use borrow.Author.Tests.{le-leb, leb-true}
 use Rattle.word.specs.Anchor.{anchorOf}
 use Rattle.model.specs.declared.Record.{Record}
-use Rattle.model.specs.Sound.{every, isPop, helping, anchorTests, anchorSound, recordTests, recordSound}
+use Rattle.model.specs.Sound.{every, isPop, isPush, drawing, giving, helping, anchorTests, anchorSound, recordTests, recordSound}
 use Rattle.model.specs.History.{All}
 
 -- What holds of both outcomes of a test; the second form keeps the test's value.
@@ -38,23 +39,30 @@ otherwise false b e h = e
 
 -- What the laws use of a busy, sound record.
 pub record Sound (r : Record) : Type 0 where
-  pub place : leb (r .place) 11 ≡ true
+  pub place : leb (r .place) 17 ≡ true
   pub kind : leb (r .kind) 1 ≡ true
   pub side : leb (r .side) 1 ≡ true
-  pub pops : not (eqb (r .place) 11) || isPop r ≡ true
+  pub pops : not (eqb (r .place) 11 || giving r) || isPop r ≡ true
+  pub pushes : not (drawing r) || isPush r ≡ true
   pub status : leb (anchorOf (r .seen) .status) 2 ≡ true
   pub unstable : not (helping r) || not (eqb (anchorOf (r .seen) .status) 0) ≡ true
 
-pub sound-record : (slots : ℕ) (r : Record) → recordSound slots r ≡ true → eqb (r .place) 0 ≡ false → Sound r
+at-most : (pooled : Bool) (p : ℕ) → leb p (cond pooled 17 11) ≡ true → leb p 17 ≡ true
+at-most true p e = e
+at-most false p e = le-leb p 17 (omega (arith, leb-true p 11 e))
+
+pub sound-record : (pooled : Bool) (slots : ℕ) (r : Record) → recordSound pooled slots r ≡ true → eqb (r .place) 0 ≡ false → Sound r
 unfolding recordSound anchorSound
-sound-record slots r sound busy =
-    let tests = every-one (recordTests slots r) (otherwise (eqb (r .place) 0) (every (recordTests slots r)) sound busy) in
-    let anchor = every-one (anchorTests slots (anchorOf (r .seen))) (tests .1 .1 .1 .1 .1 .1 .1 .1 .1 .0) in
+sound-record pooled slots r sound busy =
+    let tests = every-one (recordTests pooled slots r) (otherwise (eqb (r .place) 0) (every (recordTests pooled slots r)) sound busy) in
+    let rest = tests .1 .1 .1 .1 .1 .1 .1 in
+    let anchor = every-one (anchorTests slots (anchorOf (r .seen))) (rest .1 .1 .1 .1 .0) in
     record {
-      place = tests .0;
+      place = at-most pooled (r .place) (tests .0);
       kind = tests .1 .0;
       side = tests .1 .1 .0;
       pops = tests .1 .1 .1 .1 .0;
+      pushes = tests .1 .1 .1 .1 .1 .0;
       status = anchor .0;
-      unstable = tests .1 .1 .1 .1 .1 .1 .1 .1 .1 .1 .0;
+      unstable = rest .1 .1 .1 .1 .1 .0;
     }

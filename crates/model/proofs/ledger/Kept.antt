@@ -7,16 +7,17 @@ use Prim.Native.Nat.{suc, ℕ}
 use native.Mathlib.Omega.{arith}
 use lib.Dec.{eqb}
 use lib.ListN.{set}
-use borrow.Author.Tests.{eq-eqb, eqb-true, ne-eqb}
-use Rattle.model.specs.Calls.{Acted, Done, act, actOn, back, finish, popStart, pushStart, step, taken}
-use Rattle.model.specs.History.{All, Event, Ledger, Request, accept, attend, begins, final, ledgerFrom, note, over, run}
-use Rattle.model.specs.Places.{linkMet, move}
-use Rattle.model.specs.Refusals.{among, popRefusal, pushRefusal, stepRefusal}
-use Rattle.model.specs.Tables.{Queue, idle, recordAt, started}
-use Rattle.model.specs.declared.Answer.the-variants.{Empty, Popped, Pushed, Running}
+use borrow.Author.Tests.{eq-eqb, eqb-false, eqb-true, ne-eqb}
+use Rattle.word.specs.Anchor.{anchorOf}
+use Rattle.model.specs.Calls.{Acted, Done, act, actOn, back, finish, popStart, pushStart, putStart, step}
+use Rattle.model.specs.History.{All, Call, Event, Ledger, Request, accept, attend, begins, final, ledgerFrom, note, over, run}
+use Rattle.model.specs.Places.{linkMet, move, taken}
+use Rattle.model.specs.Refusals.{among, popRefusal, pushRefusal, putRefusal, stepRefusal}
+use Rattle.model.specs.Tables.{Queue, asking, idle, isPooled, recordAt, started}
+use Rattle.model.specs.declared.Answer.the-variants.{Empty, NoSlot, Popped, Pushed, Running}
 use Rattle.model.specs.declared.Answer.{Answer}
 use Rattle.model.specs.declared.Entry.{Entry}
-use Rattle.model.specs.declared.Op.the-variants.{Pop, Push, Step}
+use Rattle.model.specs.declared.Op.the-variants.{Pop, Push, Put, Step}
 use Rattle.model.specs.declared.Op.{Op}
 use Rattle.model.specs.declared.Outcome.the-variants.{Moved, Refused}
 use Rattle.model.specs.declared.Record.{Record}
@@ -28,26 +29,45 @@ use Rattle.model.proofs.machine.Laws.{upd-other, upd-same}
 use Rattle.model.proofs.machine.Machine as M
 use Rattle.model.proofs.machine.Machine.{upd}
 use Rattle.model.proofs.invariant.Invariant.{Inv}
-use Rattle.model.proofs.bridge.Accepted.{Lies, Pushing, Stepping, pop-accepted, push-accepted, step-accepted}
+use Rattle.model.proofs.bridge.Accepted.{Lies, Pushing, Stepping, pop-accepted, push-accepted, put-accepted, step-accepted}
 use Rattle.model.proofs.bridge.Decoded.{seenMove}
 use Rattle.model.proofs.bridge.Facts.{LinksFine}
-use Rattle.model.proofs.bridge.Operations.{not-idle, pop-keeps, push-keeps, put-back, reply, step-ends, step-keeps, step-links, step-task, stepped, task-of}
-use Rattle.model.proofs.bridge.View.{answerSeen, kindOf, placeOf, recOf, stateOf, view}
+use Rattle.model.proofs.bridge.Operations.{not-idle, pop-keeps, push-keeps, put-back, put-keeps, reply, step-ends, step-grants, step-keeps, step-links, step-pooled, step-task, step-told, stepped, task-of}
+use Rattle.model.proofs.bridge.View.{anchorSeen, answerSeen, kindOf, placeOf, recOf, stateOf, touchSeen, view}
 use Rattle.model.proofs.ledger.Attended.{Attended, attend-keeps, bookAfter, goingOn}
 use Rattle.model.proofs.ledger.Matched.{Matched, busyNo}
-use Rattle.model.proofs.ledger.Matches.{Final, Matches, opens, rest-keeps, tracks-mono}
+use Rattle.model.proofs.ledger.Matches.{Final, Matches, Names, Tracks, matches-granted, opens, rest-keeps, tracks-mono}
+use Rattle.model.proofs.ledger.Served.{Told, effect-is, no-slot-is}
 
 goes-on : (a : Answer) (b : Bool) → EndsAt (answerSeen a) b → goingOn a ≡ busyNo b
 goes-on (Running p) b e = rw e
 goes-on Pushed b e = rw e
 goes-on Empty b e = rw e
 goes-on (Popped x) b e = rw e
+goes-on NoSlot b e = rw e
 
 kept-head : (b : B.Book) (t : ℕ) (w : B.Noted) (a : Answer) → All B.Kept (B.stepped b t w (answerSeen a) .closed) → Final a → B.Kept (record { call = w .call; answer = answerSeen a })
 kept-head b t w (Running p) h f = absurd f
 kept-head b t w Pushed h f = h .0
 kept-head b t w Empty h f = h .0
 kept-head b t w (Popped e) h f = h .0
+kept-head b t w NoSlot h f = h .0
+
+-- The end that an effect sets at a push's side is the slot that the ledger tells: the one named, if one was.
+told-end : (c : Call) (k : B.Call) (ev : Event) (a : Answer) (p : Bool) → k .side ≡ eqb (c .side) 1 → Names p (k .slot) (c .entry .slot)
+    → (B.effect (anchorSeen (ev .before)) (anchorSeen (ev .after)) (answerSeen a) ≡ true → B.isNoSlot (answerSeen a) ≡ false → k .kind ≡ M.push → M.tip (anchorSeen (ev .after)) (k .side) ≡ k .slot)
+    → Told c k ev a
+told-end c k ev a p side names f e z y = by-test (λ x. k .slot ≡ x) (eqb (c .entry .slot) 0)
+    (λ _. sym (f (effect-is ev a ∙ e) (no-slot-is a ∙ z) y) ∙ ap (λ (d : Bool). M.tip (anchorSeen (ev .after)) d) side ∙ end (eqb (c .side) 1))
+    (λ w. named p w names)
+  where
+    end : (d : Bool) → M.tip (anchorSeen (ev .after)) d ≡ cond d (anchorOf (ev .after) .right) (anchorOf (ev .after) .left)
+    end false = refl
+    end true = refl
+
+    named : (p : Bool) → eqb (c .entry .slot) 0 ≡ false → Names p (k .slot) (c .entry .slot) → k .slot ≡ c .entry .slot
+    named false w n = n
+    named true w n = absurd (eqb-false _ _ w n)
 
 module _ (n : ℕ) (q : Queue) (l : Ledger) (g : Matched n q l) (t : ℕ) where
   abbrev r : Record
@@ -56,14 +76,14 @@ module _ (n : ℕ) (q : Queue) (l : Ledger) (g : Matched n q l) (t : ℕ) where
   abbrev After : Op → Done → Type 0
   After o d = Matched (suc n) (d .queue) (note n (record { task = t; op = o; outcome = d .outcome; before = q .tables .control .anchor; after = d .queue .tables .control .anchor }) (d .outcome) l)
 
-  abbrev Put : Op → Acted → Type 0
-  Put o a = After o (back q t a)
+  abbrev Puts : Op → Acted → Type 0
+  Puts o a = After o (back q t a)
 
   -- A refused operation puts the record back as it was.
-  refused : (o : Op) (why : ℕ) → Put o (record { tables = q .tables; task = r; outcome = Refused why })
+  refused : (o : Op) (why : ℕ) → Puts o (record { tables = q .tables; task = r; outcome = Refused why })
   unfolding note
   refused o why = subst (λ (x : List Record). Matched (suc n) (record { tables = q .tables; records = x }) l) (sym (set-back (q .records) t idle))
-      (record { book = g .book; inv = g .inv; links = g .links; deque = g .deque; tracks = tracks-mono n (g .book .calls) (l .calls) (g .tracks); busy = g .busy })
+      (record { book = g .book; inv = g .inv; links = g .links; deque = g .deque; tracks = tracks-mono (isPooled (q .tables .control)) n (g .book .calls) (l .calls) (g .tracks); busy = g .busy })
 
   module _ (s : Stepping q t) where
     abbrev q′ : Queue
@@ -78,7 +98,11 @@ module _ (n : ℕ) (q : Queue) (l : Ledger) (g : Matched n q l) (t : ℕ) where
     abbrev b : B.Book
     b = g .book
 
-    kept : Inv (record { state = stateOf q′; book = bookAfter b t ev a })
+    -- The call, with its slot if that is drawn now.
+    abbrev k : B.Call
+    k = B.granted (touchSeen (move (q .tables .control) r (linkMet (q .tables) r) .touch)) (b .calls t)
+
+    kept : Inv (record { state = stateOf q′; book = bookAfter b t k ev a })
     unfolding view
     kept = step-keeps q b (g .inv) (g .links) t s
 
@@ -86,18 +110,25 @@ module _ (n : ℕ) (q : Queue) (l : Ledger) (g : Matched n q l) (t : ℕ) where
     unfolding recOf
     was-busy = ap (λ (x : M.Rec). M.isIdle (x .place)) (task-of q t (s .lies .known)) ∙ not-idle (r .place) (s .busy) (s .fine .place)
 
-    attended : Attended n b t ev a (l .calls) (attend n ev a (l .deque) (l .calls))
-    attended = subst (λ d. Attended n b t ev a (l .calls) (attend n ev a d (l .calls))) (g .deque)
-        (attend-keeps n b ev a (kept-head b t _ a (kept .kept)) (l .calls) (g .busy t ∙ ap busyNo was-busy) (g .tracks))
+    -- In a named queue no slot is drawn, and a push that has its effect stands at the end of its side.
+    ready : (c : Call) → Matches (isPooled (q .tables .control)) n c (b .calls t) → Matches (isPooled (q .tables .control)) n c k × Told c k ev a
+    unfolding view
+    ready c m =
+        let m′ = matches-granted (isPooled (q .tables .control)) n c (b .calls t) (touchSeen (move (q .tables .control) r (linkMet (q .tables) r) .touch)) (step-grants q b (g .inv) (g .links) t s (b .calls t)) m in
+        (m′, told-end c k ev a (isPooled (q .tables .control)) (m′ .side) (m′ .slot) (step-told q b (g .inv) (g .links) t s))
 
-    step-good : Put Step (finish (q .tables) r (move (q .tables .control) r (linkMet (q .tables) r)))
+    attended : Attended (isPooled (q .tables .control)) n b t k ev a (l .calls) (attend n ev a (l .deque) (l .calls))
+    attended = subst (λ d. Attended (isPooled (q .tables .control)) n b t k ev a (l .calls) (attend n ev a d (l .calls))) (g .deque)
+        (attend-keeps (isPooled (q .tables .control)) n b k ev a ready (kept-head b t _ a (kept .kept)) (l .calls) (g .busy t ∙ ap busyNo was-busy) (g .tracks))
+
+    step-good : Puts Step (finish (q .tables) r (move (q .tables .control) r (linkMet (q .tables) r)))
     unfolding note accept finish
     step-good = record {
-      book = bookAfter b t ev a;
+      book = bookAfter b t k ev a;
       inv = kept;
       links = step-links q b (g .inv) (g .links) t s;
       deque = attended .deque;
-      tracks = attended .tracks;
+      tracks = subst (λ p. Tracks p (suc n) (bookAfter b t k ev a .calls) (attend n ev a (l .deque) (l .calls) .calls)) (sym (step-pooled q b (g .inv) (g .links) t s)) (attended .tracks);
       busy = λ u. go u (decide-eq u t);
     }
       where
@@ -117,57 +148,71 @@ module _ (n : ℕ) (q : Queue) (l : Ledger) (g : Matched n q l) (t : ℕ) where
     unfolding recOf
     was-idle = g .busy t ∙ ap (λ (x : M.Rec). busyNo (M.isIdle (x .place))) (task-of q t (z .known)) ∙ ap (λ (p : ℕ). busyNo (M.isIdle (placeOf p))) free
 
-    begun : (q′ : Queue) (kind side : ℕ) (e : Entry) → ((u : ℕ) → stateOf q′ .task u ≡ upd (stateOf q .task) t (recOf (started kind side (e .slot) (e .label))) u)
+    begun : (q′ : Queue) (new : Record) (kind side : ℕ) (e : Entry) → M.isIdle (recOf new .place) ≡ false → isPooled (q′ .tables .control) ≡ isPooled (q .tables .control)
+        → ((u : ℕ) → stateOf q′ .task u ≡ upd (stateOf q .task) t (recOf new) u) → Names (isPooled (q .tables .control)) (e .slot) (e .slot)
         → Inv (record { state = stateOf q′; book = B.begun (g .book) t (B.opened (kindOf kind) (eqb side 1) (e .slot) (e .label)) }) → LinksFine (q′ .tables)
         → Matched (suc n) q′ (over (begins n t kind side e) l)
     unfolding recOf
-    begun q′ kind side e is i k =
+    begun q′ new kind side e up p is names i k =
         let c = B.opened (kindOf kind) (eqb side 1) (e .slot) (e .label) in
+        let w = isPooled (q .tables .control) in
         record {
           book = B.begun (g .book) t c;
           inv = i;
           links = k;
           deque = g .deque;
-          tracks = (
-            subst (Matches (suc n) (begins n t kind side e)) (sym (upd-same (g .book .calls) t c))
-                (record { kind = refl; side = refl; slot = refl; label = refl; begun = omega arith; count = refl; last = tt }),
-            rest-keeps n (g .book .calls) (upd (g .book .calls) t c) t (λ u z. upd-other (g .book .calls) t c u z) (l .calls) was-idle (g .tracks),
+          tracks = subst (λ p. Tracks p (suc n) (upd (g .book .calls) t c) (begins n t kind side e ∷ l .calls)) (sym p) (
+            subst (Matches w (suc n) (begins n t kind side e)) (sym (upd-same (g .book .calls) t c))
+                (record { kind = refl; side = refl; slot = names; label = refl; begun = omega arith; count = refl; last = tt }),
+            rest-keeps w n (g .book .calls) (upd (g .book .calls) t c) t (λ u z. upd-other (g .book .calls) t c u z) (l .calls) was-idle (g .tracks),
           );
           busy = λ u. go u (decide-eq u t);
         }
       where
-        new : Record
-        new = started kind side (e .slot) (e .label)
-
         go : (u : ℕ) → (u ≡ t) ⊎ (u ≢ t) → cond (eqb t u && true) (suc (opens u (l .calls))) (opens u (l .calls)) ≡ busyNo (M.isIdle (stateOf q′ .task u .place))
         go u (inl z) = subst (λ u. cond (eqb t u && true) (suc (opens u (l .calls))) (opens u (l .calls)) ≡ busyNo (M.isIdle (stateOf q′ .task u .place))) (sym z)
-            (ap (λ (b : Bool). cond (b && true) (suc (opens t (l .calls))) (opens t (l .calls))) (eq-eqb t t refl) ∙ ap suc was-idle
+            (ap (λ (b : Bool). cond (b && true) (suc (opens t (l .calls))) (opens t (l .calls))) (eq-eqb t t refl) ∙ ap suc was-idle ∙ ap busyNo (sym up)
             ∙ ap (λ (x : M.Rec). busyNo (M.isIdle (x .place))) (sym (is t ∙ upd-same (stateOf q .task) t (recOf new))))
         go u (inr z) = ap (λ (b : Bool). cond (b && true) (suc (opens u (l .calls))) (opens u (l .calls))) (ne-eqb t u (λ w. z (sym w))) ∙ g .busy u
             ∙ ap (λ (x : M.Rec). busyNo (M.isIdle (x .place))) (sym (is u ∙ upd-other (stateOf q .task) t (recOf new) u z))
 
+    -- A start that names no slot, or takes none.
+    unnamed : (p : Bool) → Names p 0 0
+    unnamed false = refl
+    unnamed true = refl
+
     replaced : (x : Record) (u : ℕ) → stateOf (record { tables = q .tables; records = set (q .records) t x }) .task u ≡ upd (stateOf q .task) t (recOf x) u
     replaced x u = ap (λ (f : ℕ → M.Rec). f u) (put-back q t z x)
 
-    pop-good : (side : ℕ) → Put (Pop side) (record { tables = q .tables; task = started 1 side 0 0; outcome = Moved (Running 1) })
-    unfolding note accept
-    pop-good side = begun (record { tables = q .tables; records = set (q .records) t (started 1 side 0 0) }) 1 side (record { slot = 0; label = 0 }) (replaced (started 1 side 0 0))
-        (pop-keeps q (g .book) (g .inv) (g .links) t z side) (g .links)
+    pop-good : (side : ℕ) → Puts (Pop side) (record { tables = q .tables; task = started 1 side 0 0; outcome = Moved (Running 1) })
+    unfolding note accept recOf
+    pop-good side = begun (record { tables = q .tables; records = set (q .records) t (started 1 side 0 0) }) (started 1 side 0 0) 1 side (record { slot = 0; label = 0 }) refl refl
+        (replaced (started 1 side 0 0)) (unnamed (isPooled (q .tables .control))) (pop-keeps q (g .book) (g .inv) (g .links) t z free side) (g .links)
 
-    push-good : (side x y : ℕ) → Pushing q t side x → Put (Push side x y) (record { tables = taken (q .tables) x y; task = started 0 side x y; outcome = Moved (Running 1) })
-    unfolding note accept stateOf
-    push-good side x y p = begun (record { tables = taken (q .tables) x y; records = set (q .records) t (started 0 side x y) }) 0 side (record { slot = x; label = y }) (replaced (started 0 side x y))
-        (push-keeps q (g .book) (g .inv) (g .links) t z side x y (p .real) (p .within) (p .unmarked)) (record { spare = g .links .spare; tag = g .links .tag; slot = g .links .slot })
+    put-good : (side y : ℕ) → isPooled (q .tables .control) ≡ true → Puts (Put side y) (record { tables = q .tables; task = asking side y; outcome = Moved (Running 12) })
+    unfolding note accept recOf
+    put-good side y p = begun (record { tables = q .tables; records = set (q .records) t (asking side y) }) (asking side y) 0 side (record { slot = 0; label = y }) refl refl
+        (replaced (asking side y)) (unnamed (isPooled (q .tables .control))) (put-keeps q (g .book) (g .inv) (g .links) t z free side y p) (g .links)
+
+    push-good : (side x y : ℕ) → Pushing q t side x → Puts (Push side x y) (record { tables = taken (q .tables) x y; task = started 0 side x y; outcome = Moved (Running 1) })
+    unfolding note accept stateOf recOf
+    push-good side x y p = begun (record { tables = taken (q .tables) x y; records = set (q .records) t (started 0 side x y) }) (started 0 side x y) 0 side (record { slot = x; label = y }) refl refl
+        (replaced (started 0 side x y)) (subst (λ b. Names b x x) (sym (p .named)) refl)
+        (push-keeps q (g .book) (g .inv) (g .links) t z free side x y (p .real) (p .within) (p .named) (p .unmarked))
+        (record { spare = g .links .spare; tag = g .links .tag; slot = g .links .slot; next = g .links .next; head = g .links .head })
 
   pub act-good : (o : Op) → After o (act q t o)
-  unfolding act actOn pushStart popStart step
-  act-good (Push side x y) = by-test (Put (Push side x y)) (eqb (pushRefusal (q .tables) (among q t) r side x) 0)
+  unfolding act actOn pushStart putStart popStart step
+  act-good (Push side x y) = by-test (Puts (Push side x y)) (eqb (pushRefusal (q .tables) (among q t) r side x) 0)
       (λ e. let p = push-accepted q t side x (eqb-true _ _ e) in push-good (p .starting .lies) (p .starting .free) side x y p)
       (λ e. refused (Push side x y) (pushRefusal (q .tables) (among q t) r side x))
-  act-good (Pop side) = by-test (Put (Pop side)) (eqb (popRefusal (q .tables) (among q t) r side) 0)
+  act-good (Pop side) = by-test (Puts (Pop side)) (eqb (popRefusal (q .tables) (among q t) r side) 0)
       (λ e. let p = pop-accepted q t side (eqb-true _ _ e) in pop-good (p .lies) (p .free) side)
       (λ e. refused (Pop side) (popRefusal (q .tables) (among q t) r side))
-  act-good Step = by-test (Put Step) (eqb (stepRefusal (q .tables) (among q t) r) 0)
+  act-good (Put side y) = by-test (Puts (Put side y)) (eqb (putRefusal (q .tables) (among q t) r side) 0)
+      (λ e. let p = put-accepted q t side (eqb-true _ _ e) in put-good (p .0 .lies) (p .0 .free) side y (p .1))
+      (λ e. refused (Put side y) (putRefusal (q .tables) (among q t) r side))
+  act-good Step = by-test (Puts Step) (eqb (stepRefusal (q .tables) (among q t) r) 0)
       (λ e. step-good (step-accepted q t (eqb-true _ _ e))) (λ e. refused Step (stepRefusal (q .tables) (among q t) r))
 
 pub run-good : (os : List Request) (n : ℕ) (q : Queue) (l : Ledger) → Matched n q l → (m : ℕ) × Matched m (final q os) (ledgerFrom n l (run q os))

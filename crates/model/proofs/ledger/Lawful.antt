@@ -5,13 +5,13 @@ use Prim.Native.Nat.{_≤_, ℕ}
 use native.Mathlib.Omega.{arith}
 use lib.ListN.{length}
 use Rattle.model.specs.History.{All, AtMostOnce, Call, Effect, Ending, Lawful, Ledger, answered, pending}
-use Rattle.model.specs.Tables.{Queue}
+use Rattle.model.specs.Tables.{Queue, isPooled}
 use Rattle.model.proofs.places.AtMostOnce.{few-effects}
 use Rattle.model.proofs.ledger.Matched.{Matched}
 use Rattle.model.proofs.ledger.Matches.{Last, Tracked, Tracks}
 
 module _ (n : ℕ) (q : Queue) (l : Ledger) (g : Matched n q l) where
-  lawful : (c : Call) (e : Ending) → Tracked n (g .book .calls) c e → Lawful c e
+  lawful : (c : Call) (e : Ending) → Tracked (isPooled (q .tables .control)) n (g .book .calls) c e → Lawful c e
   lawful c pending h = go (c .effects) (h .count) (h .last)
     where
       few : g .book .calls (c .task) .effects ≤ 1
@@ -23,6 +23,6 @@ module _ (n : ℕ) (q : Queue) (l : Ledger) (g : Matched n q l) where
       go (x ∷ y ∷ es) e f = absurd (omega (arith, few))
   lawful c (answered m a) h = h
 
-  pub all-lawful : (cs : List Call) → Tracks n (g .book .calls) cs → All (λ (c : Call). Lawful c (c .ending)) cs
+  pub all-lawful : (cs : List Call) → Tracks (isPooled (q .tables .control)) n (g .book .calls) cs → All (λ (c : Call). Lawful c (c .ending)) cs
   all-lawful [] h = tt
   all-lawful (c ∷ cs) h = (lawful c (c .ending) (h .0), all-lawful cs (h .1))

@@ -3,7 +3,7 @@ use mathlib.Core.Bool.{Bool, cond}
 use mathlib.Core.Path.{_≡_}
 use Prim.Native.Nat.{ℕ}
 use Rattle.model.specs.History.{Ledger}
-use Rattle.model.specs.Tables.{Queue}
+use Rattle.model.specs.Tables.{Queue, isPooled}
 use Rattle.model.proofs.machine.Clerk as B
 use Rattle.model.proofs.machine.Machine as M
 use Rattle.model.proofs.invariant.Invariant.{Inv}
@@ -20,5 +20,5 @@ pub record Matched (n : ℕ) (q : Queue) (l : Ledger) : Type 0 where
   pub inv : Inv (record { state = stateOf q; book = book })
   pub links : LinksFine (q .tables)
   pub deque : book .queue ≡ l .deque
-  pub tracks : Tracks n (book .calls) (l .calls)
+  pub tracks : Tracks (isPooled (q .tables .control)) n (book .calls) (l .calls)
   pub busy : (t : ℕ) → opens t (l .calls) ≡ busyNo (M.isIdle (stateOf q .task t .place))

@@ -9,10 +9,11 @@ use lib.Dec.{eqb}
 use lib.ListN.{length}
 use borrow.Author.Tests.{eq-eqb}
 use Rattle.model.specs.History.{All, Call, Effect, Ending, Once, answered, isOpen, pending}
-use Rattle.model.specs.declared.Answer.the-variants.{Empty, Popped, Pushed, Running}
+use Rattle.model.specs.declared.Answer.the-variants.{Empty, NoSlot, Popped, Pushed, Running}
 use Rattle.model.specs.declared.Answer.{Answer}
 use Rattle.model.proofs.tests.Truth.{not-both}
 use Rattle.model.proofs.machine.Clerk as B
+use Rattle.model.proofs.machine.Machine.{Touch, clear, none, putAnchor, putHead, putLink, putNext, take}
 use Rattle.model.proofs.bridge.View.{answerSeen, kindOf}
 
 -- An answer that ends a call.
@@ -21,6 +22,7 @@ Final (Running p) = ⊥
 Final Pushed = Unit {0}
 Final Empty = Unit {0}
 Final (Popped e) = Unit {0}
+Final NoSlot = Unit {0}
 
 pub same-answer : (a b : Answer) → Final a → answerSeen b ≡ answerSeen a → a ≡ b
 same-answer (Running p) b f e = absurd f
@@ -28,15 +30,23 @@ same-answer Pushed (Running p) f e = absurd (let z : _≡_ {A = ℕ} 0 1 = cc in
 same-answer Pushed Pushed f e = refl
 same-answer Pushed Empty f e = absurd (let z : _≡_ {A = ℕ} 0 1 = cc in omega arith)
 same-answer Pushed (Popped d) f e = absurd (let z : _≡_ {A = ℕ} 0 1 = cc in omega arith)
+same-answer Pushed NoSlot f e = absurd (let z : _≡_ {A = ℕ} 0 1 = cc in omega arith)
 same-answer Empty (Running p) f e = absurd (let z : _≡_ {A = ℕ} 0 1 = cc in omega arith)
 same-answer Empty Pushed f e = absurd (let z : _≡_ {A = ℕ} 0 1 = cc in omega arith)
 same-answer Empty Empty f e = refl
 same-answer Empty (Popped d) f e = absurd (let z : _≡_ {A = ℕ} 0 1 = cc in omega arith)
+same-answer Empty NoSlot f e = absurd (let z : _≡_ {A = ℕ} 0 1 = cc in omega arith)
 same-answer (Popped c) (Running p) f e = absurd (let z : _≡_ {A = ℕ} 0 1 = cc in omega arith)
 same-answer (Popped c) Pushed f e = absurd (let z : _≡_ {A = ℕ} 0 1 = cc in omega arith)
 same-answer (Popped c) Empty f e = absurd (let z : _≡_ {A = ℕ} 0 1 = cc in omega arith)
 same-answer (Popped c) (Popped d) f e =
     let p : c .slot ≡ d .slot = cc in let r : c .label ≡ d .label = cc in λ i. Popped (record { slot = p i; label = r i })
+same-answer (Popped c) NoSlot f e = absurd (let z : _≡_ {A = ℕ} 0 1 = cc in omega arith)
+same-answer NoSlot (Running p) f e = absurd (let z : _≡_ {A = ℕ} 0 1 = cc in omega arith)
+same-answer NoSlot Pushed f e = absurd (let z : _≡_ {A = ℕ} 0 1 = cc in omega arith)
+same-answer NoSlot Empty f e = absurd (let z : _≡_ {A = ℕ} 0 1 = cc in omega arith)
+same-answer NoSlot (Popped d) f e = absurd (let z : _≡_ {A = ℕ} 0 1 = cc in omega arith)
+same-answer NoSlot NoSlot f e = refl
 
 -- The latest effect.
 pub record Latest (n : ℕ) (c : Call) (k : B.Call) (e : Effect) : Type 0 where
@@ -49,22 +59,28 @@ abbrev pub Last : ℕ → Call → B.Call → List Effect → Type 0
 Last n c k [] = Unit {0}
 Last n c k (e ∷ l) = Latest n c k e
 
+-- In a named queue a call's slot is the one that its start named, in the book as in the ledger. In a pooled queue a start names none; the book
+-- has the slot once it is drawn.
+abbrev pub Names : Bool → ℕ → ℕ → Type 0
+Names false x y = x ≡ y
+Names true x y = y ≡ 0
+
 -- An open call, before position n, and the one in the book.
-pub record Matches (n : ℕ) (c : Call) (k : B.Call) : Type 0 where
+pub record Matches (p : Bool) (n : ℕ) (c : Call) (k : B.Call) : Type 0 where
   pub kind : k .kind ≡ kindOf (c .kind)
   pub side : k .side ≡ eqb (c .side) 1
-  pub slot : k .slot ≡ c .entry .slot
+  pub slot : Names p (k .slot) (c .entry .slot)
   pub label : k .label ≡ c .entry .label
   pub begun : c .start < n
   pub count : k .effects ≡ length (c .effects)
   pub last : Last n c k (c .effects)
 
-abbrev pub Tracked : ℕ → (ℕ → B.Call) → Call → Ending → Type 0
-Tracked n f c pending = Matches n c (f (c .task))
-Tracked n f c (answered m a) = Once c m a
+abbrev pub Tracked : Bool → ℕ → (ℕ → B.Call) → Call → Ending → Type 0
+Tracked p n f c pending = Matches p n c (f (c .task))
+Tracked p n f c (answered m a) = Once c m a
 
-abbrev pub Tracks : ℕ → (ℕ → B.Call) → List Call → Type 0
-Tracks n f cs = All (λ (c : Call). Tracked n f c (c .ending)) cs
+abbrev pub Tracks : Bool → ℕ → (ℕ → B.Call) → List Call → Type 0
+Tracks p n f cs = All (λ (c : Call). Tracked p n f c (c .ending)) cs
 
 abbrev pub opens : ℕ → List Call → ℕ
 opens t [] = 0
@@ -74,27 +90,45 @@ last-mono : (n : ℕ) (c : Call) (k : B.Call) (l : List Effect) → Last n c k l
 last-mono n c k [] h = tt
 last-mono n c k (e ∷ l) h = record { told = h .told; final = h .final; begun = h .begun; past = omega (arith, h .past) }
 
-pub matches-mono : (n : ℕ) (c : Call) (k : B.Call) → Matches n c k → Matches (suc n) c k
-matches-mono n c k h = record { kind = h .kind; side = h .side; slot = h .slot; label = h .label; begun = omega (arith, h .begun); count = h .count; last = last-mono n c k (c .effects) (h .last) }
+pub matches-mono : (p : Bool) (n : ℕ) (c : Call) (k : B.Call) → Matches p n c k → Matches p (suc n) c k
+matches-mono p n c k h = record { kind = h .kind; side = h .side; slot = h .slot; label = h .label; begun = omega (arith, h .begun); count = h .count; last = last-mono n c k (c .effects) (h .last) }
 
-pub tracks-mono : (n : ℕ) (f : ℕ → B.Call) (cs : List Call) → Tracks n f cs → Tracks (suc n) f cs
-tracks-mono n f [] h = tt
-tracks-mono n f (c ∷ cs) h = (go (c .ending) (h .0), tracks-mono n f cs (h .1))
+pub tracks-mono : (p : Bool) (n : ℕ) (f : ℕ → B.Call) (cs : List Call) → Tracks p n f cs → Tracks p (suc n) f cs
+tracks-mono p n f [] h = tt
+tracks-mono p n f (c ∷ cs) h = (go (c .ending) (h .0), tracks-mono p n f cs (h .1))
   where
-    go : (e : Ending) → Tracked n f c e → Tracked (suc n) f c e
-    go pending m = matches-mono n c (f (c .task)) m
+    go : (e : Ending) → Tracked p n f c e → Tracked p (suc n) f c e
+    go pending m = matches-mono p n c (f (c .task)) m
     go (answered m a) o = o
 
-module _ (n : ℕ) (f g : ℕ → B.Call) (t : ℕ) (same : (u : ℕ) → u ≢ t → g u ≡ f u) where
+module _ (p : Bool) (n : ℕ) (f g : ℕ → B.Call) (t : ℕ) (same : (u : ℕ) → u ≢ t → g u ≡ f u) where
   -- A call that is not the open one of the task.
-  pub apart : (c : Call) (e : Ending) → eqb (c .task) t && isOpen e ≡ false → Tracked n f c e → Tracked (suc n) g c e
-  apart c pending z h = subst (Matches (suc n) c) (sym (same (c .task) (λ p. not-both (ap (λ (b : Bool). b && true) (eq-eqb _ _ p)) z))) (matches-mono n c (f (c .task)) h)
+  pub apart : (c : Call) (e : Ending) → eqb (c .task) t && isOpen e ≡ false → Tracked p n f c e → Tracked p (suc n) g c e
+  apart c pending z h = subst (Matches p (suc n) c) (sym (same (c .task) (λ y. not-both (ap (λ (b : Bool). b && true) (eq-eqb _ _ y)) z))) (matches-mono p n c (f (c .task)) h)
   apart c (answered m a) z h = h
 
-  pub rest-keeps : (cs : List Call) → opens t cs ≡ 0 → Tracks n f cs → Tracks (suc n) g cs
+  pub rest-keeps : (cs : List Call) → opens t cs ≡ 0 → Tracks p n f cs → Tracks p (suc n) g cs
   rest-keeps [] z h = tt
   rest-keeps (c ∷ cs) z h = go (eqb (c .task) t && isOpen (c .ending)) refl (λ w. rest-keeps cs w (h .1))
     where
-      go : (b : Bool) → eqb (c .task) t && isOpen (c .ending) ≡ b → (opens t cs ≡ 0 → Tracks (suc n) g cs) → Tracks (suc n) g (c ∷ cs)
+      go : (b : Bool) → eqb (c .task) t && isOpen (c .ending) ≡ b → (opens t cs ≡ 0 → Tracks p (suc n) g cs) → Tracks p (suc n) g (c ∷ cs)
       go true e r = absurd (let w = ap (λ (b : Bool). cond b (suc (opens t cs)) (opens t cs)) (sym e) ∙ z in omega arith)
       go false e r = (apart c (c .ending) e (h .0), r (ap (λ (b : Bool). cond b (suc (opens t cs)) (opens t cs)) (sym e) ∙ z))
+
+-- A slot drawn from the pool.
+pub matches-granted : (p : Bool) (n : ℕ) (c : Call) (k : B.Call) (g : Touch) → (p ≡ false → B.granted g k ≡ k) → Matches p n c k → Matches p n c (B.granted g k)
+matches-granted false n c k g e h = subst (Matches false n c) (sym (e refl)) h
+matches-granted true n c k g e h = go g
+  where
+    go : (g : Touch) → Matches true n c (B.granted g k)
+    go none = h
+    go (putAnchor a) = h
+    go (putLink d x v) = h
+    go (clear x) = h
+    go (take w x l) = record { kind = h .kind; side = h .side; slot = h .slot; label = h .label; begun = h .begun; count = h .count; last = last-granted (c .effects) (h .last) }
+      where
+        last-granted : (l : List Effect) → Last n c k l → Last n c (B.granted (take w x 0) k) l
+        last-granted [] m = tt
+        last-granted (e ∷ l) m = record { told = m .told; final = m .final; begun = m .begun; past = m .past }
+    go (putNext x v) = h
+    go (putHead w) = h

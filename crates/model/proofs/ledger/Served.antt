@@ -5,9 +5,9 @@ use mathlib.Core.Path.{_∙_, _≡_, ap, refl, subst, sym}
 use Prim.Native.Nat.{suc, ℕ}
 use native.Mathlib.Omega.{arith}
 use lib.Dec.{eqb}
-use Rattle.model.specs.Deque.{Served, serve, servePop, servePush, takeFirst}
-use Rattle.model.specs.History.{Call, Effect, Ending, Event, Ledger, continued, ended, isEffect, stepOf}
-use Rattle.model.specs.declared.Answer.the-variants.{Empty, Popped, Pushed, Running}
+use Rattle.model.specs.Deque.{Served, saysNoSlot, serve, serveFor, servePop, servePush, takeFirst}
+use Rattle.model.specs.History.{Call, Effect, Ending, Event, Ledger, continued, ended, isEffect, stepOf, toldEntry}
+use Rattle.model.specs.declared.Answer.the-variants.{Empty, NoSlot, Popped, Pushed, Running}
 use Rattle.model.specs.declared.Answer.{Answer}
 use Rattle.model.specs.declared.Entry.{Entry}
 use Rattle.model.proofs.tests.Truth.{split}
@@ -24,6 +24,14 @@ effect-is ev (Running p) = refl
 effect-is ev Pushed = refl
 effect-is ev Empty = refl
 effect-is ev (Popped e) = refl
+effect-is ev NoSlot = refl
+
+pub no-slot-is : (a : Answer) → B.isNoSlot (answerSeen a) ≡ saysNoSlot a
+no-slot-is (Running p) = refl
+no-slot-is Pushed = refl
+no-slot-is Empty = refl
+no-slot-is (Popped e) = refl
+no-slot-is NoSlot = refl
 
 pub record Agrees (c : Call) (k : B.Call) (d : List Entry) (s : Served) (w : B.Noted) : Type 0 where
   pub deque : w .queue ≡ s .deque
@@ -38,42 +46,55 @@ unfolding took
 serve-pop c k d side [] e = record { deque = ap (λ (l : List Entry). seen (eqb side 1) (rest l)) e ∙ seen-nil (eqb side 1); told = refl; final = tt; call = refl }
 serve-pop c k d side (x ∷ m) e = record { deque = ap (λ (l : List Entry). seen (eqb side 1) (rest l)) e; told = refl; final = tt; call = refl }
 
-serve-is : (c : Call) (k : B.Call) → k .side ≡ eqb (c .side) 1 → k .slot ≡ c .entry .slot → k .label ≡ c .entry .label → (d : List Entry) (b : Bool)
-    → Agrees c k d (cond b (servePush (c .side) (c .entry) d) (servePop (c .side) d)) (B.served (cond b M.push M.pop) k d)
+serve-is : (c : Call) (k : B.Call) (e : Entry) → k .side ≡ eqb (c .side) 1 → k .label ≡ e .label → (d : List Entry) (b : Bool) → (b ≡ true → k .slot ≡ e .slot)
+    → Agrees c k d (cond b (servePush (c .side) e d) (servePop (c .side) d)) (B.served (cond b M.push M.pop) k d)
 unfolding servePush servePop put
-serve-is c k side slot label d true = record { deque = λ i. put (side i) (record { slot = slot i; label = label i }) d; told = refl; final = tt; call = refl }
-serve-is c k side slot label d false =
+serve-is c k e side label d true slot = record { deque = λ i. put (side i) (record { slot = slot refl i; label = label i }) d; told = refl; final = tt; call = refl }
+serve-is c k e side label d false slot =
     subst (λ (b : Bool). Agrees c k d (servePop (c .side) d) (record { call = B.told k (B.given (seen b d)); queue = took b d })) (sym side) (serve-pop c k d (c .side) (seen (eqb (c .side) 1) d) refl)
 
 -- The call after the step.
-pub record Stepped (n : ℕ) (a : Answer) (c : Call) (cs : List Call) (w : B.Noted) (l : Ledger) : Type 0 where
+pub record Stepped (p : Bool) (n : ℕ) (a : Answer) (c : Call) (cs : List Call) (w : B.Noted) (l : Ledger) : Type 0 where
   pub call : Call
   pub calls : l .calls ≡ call ∷ cs
   pub task : call .task ≡ c .task
   pub ending : call .ending ≡ ended n a
   pub deque : w .queue ≡ l .deque
-  pub matches : Matches (suc n) call (w .call)
+  pub matches : Matches p (suc n) call (w .call)
 
 last-other : (n : ℕ) (c : Call) (k : B.Call) (l : List Effect) (e : Ending) (m : List Effect) → Last n c k l → Last n (continued c m e) k l
 last-other n c k [] e m h = tt
 last-other n c k (x ∷ l) e m h = record { told = h .told; final = h .final; begun = h .begun; past = h .past }
 
-module _ (n : ℕ) (ev : Event) (a : Answer) (d : List Entry) (c : Call) (k : B.Call) (h : Matches n c k) (cs : List Call) where
+-- A push that the deque serves has the slot that the ledger tells.
+abbrev pub Told : Call → B.Call → Event → Answer → Type 0
+Told c k ev a = isEffect ev a ≡ true → saysNoSlot a ≡ false → k .kind ≡ M.push → k .slot ≡ toldEntry c ev .slot
+
+module _ (p : Bool) (n : ℕ) (ev : Event) (a : Answer) (d : List Entry) (c : Call) (k : B.Call) (h : Matches p n c k) (cs : List Call) (t : Told c k ev a) where
   abbrev s : Served
-  s = serve (c .kind) (c .side) (c .entry) d
+  s = serveFor a (c .kind) (c .side) (toldEntry c ev) d
 
-  pub agrees : Agrees c k d s (B.served (k .kind) k d)
-  unfolding serve
-  agrees = subst (λ z. Agrees c k d s (B.served z k d)) (sym (h .kind)) (serve-is c k (h .side) (h .slot) (h .label) d (eqb (c .kind) 0))
+  abbrev w : B.Noted
+  w = cond (saysNoSlot a) (record { call = B.told k M.noSlot; queue = d }) (B.served (k .kind) k d)
 
-  with-effect : Stepped n a c cs (B.served (k .kind) k d) (record { deque = s .deque; calls = continued c (record { at = n; reply = s .reply } ∷ c .effects) (ended n a) ∷ cs })
-  with-effect = record {
+  kind-is : (b : Bool) → b ≡ true → cond b M.push M.pop ≡ M.push
+  kind-is b e = ap (λ (b : Bool). cond b M.push M.pop) e
+
+  agrees : isEffect ev a ≡ true → Agrees c k d s w
+  unfolding serve serveFor
+  agrees e = split (saysNoSlot a)
+      (λ z. rw z (record { deque = refl; told = refl; final = tt; call = refl }))
+      (λ z. rw z (subst (λ y. Agrees c k d (serve (c .kind) (c .side) (toldEntry c ev) d) (B.served y k d)) (sym (h .kind))
+      (serve-is c k (toldEntry c ev) (h .side) (h .label) d (eqb (c .kind) 0) (λ y. t e z (h .kind ∙ kind-is (eqb (c .kind) 0) y)))))
+
+  with-effect : isEffect ev a ≡ true → Stepped p n a c cs w (record { deque = s .deque; calls = continued c (record { at = n; reply = s .reply } ∷ c .effects) (ended n a) ∷ cs })
+  with-effect e = let g = agrees e in record {
     call = continued c (record { at = n; reply = s .reply } ∷ c .effects) (ended n a);
     calls = refl;
     task = refl;
     ending = refl;
-    deque = agrees .deque;
-    matches = subst (Matches (suc n) (continued c (record { at = n; reply = s .reply } ∷ c .effects) (ended n a))) (sym (agrees .call))
+    deque = g .deque;
+    matches = subst (Matches p (suc n) (continued c (record { at = n; reply = s .reply } ∷ c .effects) (ended n a))) (sym (g .call))
         (record {
           kind = h .kind;
           side = h .side;
@@ -81,12 +102,12 @@ module _ (n : ℕ) (ev : Event) (a : Answer) (d : List Entry) (c : Call) (k : B.
           label = h .label;
           begun = omega (arith, h .begun);
           count = ap suc (h .count);
-          last = record { told = agrees .told; final = agrees .final; begun = h .begun; past = omega arith };
+          last = record { told = g .told; final = g .final; begun = h .begun; past = omega arith };
         });
   }
 
-  without : Stepped n a c cs (record { call = k; queue = d }) (record { deque = d; calls = continued c (c .effects) (ended n a) ∷ cs })
-  without = let m = matches-mono n c k h in record {
+  without : Stepped p n a c cs (record { call = k; queue = d }) (record { deque = d; calls = continued c (c .effects) (ended n a) ∷ cs })
+  without = let m = matches-mono p n c k h in record {
     call = continued c (c .effects) (ended n a);
     calls = refl;
     task = refl;
@@ -95,6 +116,6 @@ module _ (n : ℕ) (ev : Event) (a : Answer) (d : List Entry) (c : Call) (k : B.
     matches = record { kind = m .kind; side = m .side; slot = m .slot; label = m .label; begun = m .begun; count = m .count; last = last-other (suc n) c k (c .effects) (ended n a) (c .effects) (m .last) };
   }
 
-  pub step-call : Stepped n a c cs (B.noted k d (anchorSeen (ev .before)) (anchorSeen (ev .after)) (answerSeen a)) (stepOf n ev a d c cs)
+  pub step-call : Stepped p n a c cs (B.noted k d (anchorSeen (ev .before)) (anchorSeen (ev .after)) (answerSeen a)) (stepOf n ev a d c cs)
   unfolding stepOf B.noted
-  step-call = split (isEffect ev a) (λ e. rw (effect-is ev a, e) with-effect) (λ e. rw (effect-is ev a, e) without)
+  step-call = split (isEffect ev a) (λ e. rw (effect-is ev a, e, no-slot-is a) (with-effect e)) (λ e. rw (effect-is ev a, e) without)

@@ -107,7 +107,7 @@ module _ (q : Tables) (fine : LinksFine q) (h : ℕ → Owner) (l : List Entry) 
 
   low : All (λ x. x ≤ q .control .slots) (slots l)
   unfolding view
-  low = all-map (λ x. h x ≡ queued) _ (λ x e. w .marks x (λ f. queued-free (sym e ∙ f)) .1) (slots l) (w .owned)
+  low = all-map (λ x. h x ≡ queued) _ (λ x e. w .bounds x (λ f. queued-free (sym e ∙ f)) .1) (slots l) (w .owned)
 
   real : (m : List Entry) → All (λ x. x ≢ 0) (slots m) → All (λ x. x ≤ q .control .slots) (slots m) → All (Real q) m
   real [] a b = tt

@@ -3,12 +3,14 @@ use mathlib.Core.Bool.{Bool, false, true}
 use mathlib.Core.Path.{_≡_, refl}
 use lib.Dec.{eqb}
 use Rattle.model.proofs.tests.Truth.{by-test, not-both}
-use Rattle.model.proofs.machine.Machine.{Answer, Kind, Move, Place, Rec, Shared, Touch, act, at1, at10, at11, at2, at3, at4, at5, at6, at7, at8, at9, empty, four, idle, isIdle, isStable, leave, none, one, pop, popped, push, pushed, putAnchor, running, same, sameLink, settled, three, tip, towards, two}
+use Rattle.model.proofs.machine.Machine.{Answer, Draw, Give, Kind, Move, Place, Rec, Shared, Touch, act, at1, at10, at11, at12, at13, at14, at15, at16, at17, at2, at3, at4, at5, at6, at7, at8, at9, draw, draws, empty, four, give, gives, idle, isIdle, isStable, leave, noSlot, none, one, pop, popped, push, pushed, putAnchor, running, same, sameLink, settled, three, tip, towards, two}
+use Rattle.model.proofs.machine.Machine.{exhausted}
 
 abbrev pub EndsAt : Answer → Bool → Type 0
 EndsAt running b = b ≡ false
 EndsAt pushed b = b ≡ true
 EndsAt empty b = b ≡ true
+EndsAt noSlot b = b ≡ true
 EndsAt (popped x l) b = b ≡ true
 
 -- (A record, so that the Move can be read off where a test is split.)
@@ -37,6 +39,16 @@ ends4 : (k : Kind) (s : Shared) (r : Rec) → Ends (four k s r)
 ends4 push s r = by-test Ends (same (r .read) (s .anchor)) (λ e. record { ends = refl }) (λ e. ends1 push s r)
 ends4 pop s r = by-test Ends (same (r .read) (s .anchor)) (λ e. record { ends = refl }) (λ e. ends1 pop s r)
 
+ends-draw : (p : Draw) (s : Shared) (r : Rec) → Ends (draws p s r)
+ends-draw at12 s r = by-test Ends (exhausted (s .head)) (λ e. record { ends = refl }) (λ e. record { ends = refl })
+ends-draw at13 s r = record { ends = refl }
+ends-draw at14 s r = by-test Ends (sameLink (r .link) (s .head)) (λ e. record { ends = refl }) (λ e. record { ends = refl })
+
+ends-give : (p : Give) (s : Shared) (r : Rec) → Ends (gives p s r)
+ends-give at15 s r = record { ends = refl }
+ends-give at16 s r = record { ends = refl }
+ends-give at17 s r = by-test Ends (sameLink (r .link) (s .head)) (λ e. record { ends = refl }) (λ e. record { ends = refl })
+
 pub act-ends : (p : Place) (s : Shared) (r : Rec) → isIdle p ≡ false → Ends (act p s r)
 act-ends idle s r e = absurd (not-both refl e)
 act-ends at1 s r e = ends1 (r .kind) s r
@@ -49,4 +61,6 @@ act-ends at7 s r e = by-test Ends (eqb (s .link (towards (r .read .status)) (r .
 act-ends at8 s r e = by-test Ends (same (r .read) (s .anchor)) (λ e. record { ends = refl }) (λ e. leaves none r)
 act-ends at9 s r e = by-test Ends (sameLink (r .link) (s .link (towards (r .read .status)) (r .near))) (λ e. record { ends = refl }) (λ e. leaves none r)
 act-ends at10 s r e = by-test Ends (same (r .read) (s .anchor)) (λ e. leaves (putAnchor (settled (r .read))) r) (λ e. leaves none r)
-act-ends at11 s r e = record { ends = refl }
+act-ends at11 s r e = by-test Ends (s .pooled) (λ e. record { ends = refl }) (λ e. record { ends = refl })
+act-ends (draw p) s r e = ends-draw p s r
+act-ends (give p) s r e = ends-give p s r

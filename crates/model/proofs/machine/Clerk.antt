@@ -6,7 +6,7 @@ use Prim.Native.Nat.{suc, ℕ}
 use lib.Dec.{eqb}
 use Rattle.model.specs.declared.Entry.{Entry}
 use Rattle.model.proofs.lists.Deque.{put, seen, took}
-use Rattle.model.proofs.machine.Machine.{Anchor, Answer, Kind, State, Status, empty, pop, popped, push, pushed, pushing, running, stable, upd}
+use Rattle.model.proofs.machine.Machine.{Anchor, Answer, Kind, State, Status, Touch, clear, empty, noSlot, none, pop, popped, push, pushed, pushing, putAnchor, putHead, putLink, putNext, running, stable, take, upd}
 
 -- A call: what its start named, the number of its effects so far, and what the clerk answered last.
 pub record Call : Type 0 where
@@ -48,18 +48,39 @@ abbrev pub served : Kind → Call → List Entry → Noted
 served push c q = record { call = told c pushed; queue = put (c .side) (record { slot = c .slot; label = c .label }) q }
 served pop c q = record { call = told c (given (seen (c .side) q)); queue = took (c .side) q }
 
-abbrev pub isEmpty : Answer → Bool
-isEmpty running = false
-isEmpty pushed = false
-isEmpty empty = true
-isEmpty (popped x l) = false
+-- The answers that are effects though the deque stays as it is.
+abbrev pub unmoving : Answer → Bool
+unmoving running = false
+unmoving pushed = false
+unmoving empty = true
+unmoving noSlot = true
+unmoving (popped x l) = false
+
+abbrev pub isNoSlot : Answer → Bool
+isNoSlot running = false
+isNoSlot pushed = false
+isNoSlot empty = false
+isNoSlot noSlot = true
+isNoSlot (popped x l) = false
 
 -- An effect is seen from Anchor's ends and the answer.
 abbrev pub effect : Anchor → Anchor → Answer → Bool
-effect a b w = not (eqb (a .left) (b .left) && eqb (a .right) (b .right)) || isEmpty w
+effect a b w = not (eqb (a .left) (b .left) && eqb (a .right) (b .right)) || unmoving w
 
+-- To *no slot* the clerk replies the same, and his deque stays.
 unfoldable pub noted : Call → List Entry → Anchor → Anchor → Answer → Noted
-noted c q a b w = cond (effect a b w) (served (c .kind) c q) (record { call = c; queue = q })
+noted c q a b w =
+    cond (effect a b w) (cond (isNoSlot w) (record { call = told c noSlot; queue = q }) (served (c .kind) c q)) (record { call = c; queue = q })
+
+-- A push that draws its slot has named it from then on.
+abbrev pub granted : Touch → Call → Call
+granted none c = c
+granted (putAnchor a) c = c
+granted (putLink d x v) c = c
+granted (clear x) c = c
+granted (take w x l) c = record { kind = c .kind; side = c .side; slot = x; label = c .label; effects = c .effects; told = c .told }
+granted (putNext x v) c = c
+granted (putHead w) c = c
 
 abbrev pub stays : Book → ℕ → Noted → Book
 stays b t n = record { queue = n .queue; calls = upd (b .calls) t (n .call); closed = b .closed }
@@ -72,6 +93,7 @@ abbrev pub stepped : Book → ℕ → Noted → Answer → Book
 stepped b t n running = stays b t n
 stepped b t n pushed = closes b t n pushed
 stepped b t n empty = closes b t n empty
+stepped b t n noSlot = closes b t n noSlot
 stepped b t n (popped x l) = closes b t n (popped x l)
 
 abbrev pub begun : Book → ℕ → Call → Book

@@ -1,12 +1,13 @@
 -- Stores in the decoded tables, comparisons of Anchors and links, and the ends of a changed Anchor.
 use mathlib.Core.Bool.{Bool, false, not, true}
 use mathlib.Core.Logic.{_≢_}
-use mathlib.Core.Path.{_≡_, ap, refl}
+use mathlib.Core.Path.{_≡_, ap, refl, subst}
 use Prim.Native.Nat.{_<_, suc, ℕ}
 use native.Mathlib.Omega.{arith}
 use borrow.Author.Tests.{eq-eqb, eqb-true, ne-eqb}
-use Rattle.model.proofs.tests.Truth.{and-true}
-use Rattle.model.proofs.machine.Machine.{Anchor, Link, Status, aimed, code, pushing, relink, same, sameLink, stable, tip, towards, upd}
+use Rattle.model.proofs.tests.Truth.{and-true, not-both}
+use Rattle.model.proofs.machine.Machine.{Anchor, Link, Status, aimed, both, code, pushing, relink, same, sameLink, stable, tip, towards, upd}
+use Rattle.model.proofs.machine.Machine.{exhausted}
 
 pub upd-same : {A : Type 0} (f : ℕ → A) (x : ℕ) (v : A) → upd f x v x ≡ v
 unfolding upd
@@ -72,6 +73,10 @@ pub sameLink-refl : (a : Link) → sameLink a a ≡ true
 unfolding sameLink
 sameLink-refl a = rw (eq-eqb (a .tag) (a .tag) refl, eq-eqb (a .slot) (a .slot) refl)
 
+pub both-tip : (a : Anchor) (x : ℕ) (d : Bool) → tip (both a x) d ≡ x
+both-tip a x false = refl
+both-tip a x true = refl
+
 pub aimed-near : (a : Anchor) (d : Bool) (x : ℕ) (st : Status) → tip (aimed a d x st) d ≡ x
 aimed-near a false x st = refl
 aimed-near a true x st = refl
@@ -105,3 +110,13 @@ stable-pushing p = let z : _≡_ {A = ℕ} 0 1 = cc in omega arith
 -- A change raises the tag of the Anchor that it found current.
 pub later : (a b : Anchor) → a ≡ b → b .tag < suc (a .tag)
 later a b p = let e = ap (λ (z : Anchor). z .tag) p in omega arith
+
+-- What the test of an empty stack tells. Only the sentence on *no slot* asks for the first.
+pub exhausted-true : (head : Link) → exhausted head ≡ true → head .slot ≡ 0
+exhausted-true head e = eqb-true (head .slot) 0 e
+
+pub exhausted-false : (head : Link) → exhausted head ≡ false → head .slot ≢ 0
+exhausted-false head e z = go (head .tag) (head .slot) e z
+  where
+    go : (tag slot : ℕ) → exhausted (record { tag = tag; slot = slot }) ≡ false → slot ≢ 0
+    go tag slot f y = not-both refl (subst (λ (n : ℕ). exhausted (record { tag = tag; slot = n }) ≡ false) y f)

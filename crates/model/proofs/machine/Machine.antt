@@ -1,5 +1,5 @@
 -- The machine of document 003, figures 3 to 5, over decoded words: places, kinds and statuses are data, tables are functions.
--- A place does one touch of what the tasks share. Side true is right.
+-- A place does one touch of what the tasks share (14 done: the head with its slot's label and mark). Side true is right.
 use mathlib.Core.Bool.{Bool, _&&_, cond, false, not, true}
 use Prim.Native.Nat.{suc, ℕ}
 use lib.Dec.{eqb}
@@ -53,8 +53,17 @@ abbrev pub isStable : Status → Bool
 isStable stable = true
 isStable (pushing d) = false
 
+-- The places that only a pooled queue has: a push draws its slot from the stack, a pop gives it back.
+pub data Draw : Type 0 where
+  at12 at13 at14 : Draw
+
+pub data Give : Type 0 where
+  at15 at16 at17 : Give
+
 pub data Place : Type 0 where
   idle at1 at2 at3 at4 at5 at6 at7 at8 at9 at10 at11 : Place
+  draw : Draw → Place
+  give : Give → Place
 
 pub data Kind : Type 0 where
   push pop : Kind
@@ -80,6 +89,10 @@ noLink = record { tag = 0; slot = 0 }
 abbrev pub started : Kind → Bool → ℕ → ℕ → Rec
 started k d x l = record { place = at1; kind = k; side = d; own = x; label = l; read = noAnchor; near = 0; link = noLink; finishing = false }
 
+-- A push that names no slot.
+abbrev pub asking : Bool → ℕ → Rec
+asking d l = record { place = draw at12; kind = push; side = d; own = 0; label = l; read = noAnchor; near = 0; link = noLink; finishing = false }
+
 abbrev pub blank : Rec
 blank = record { place = idle; kind = push; side = false; own = 0; label = 0; read = noAnchor; near = 0; link = noLink; finishing = false }
 
@@ -95,14 +108,20 @@ finds r x p = record { place = p; kind = r .kind; side = r .side; own = r .own; 
 abbrev pub holds : Rec → Link → Place → Rec
 holds r w p = record { place = p; kind = r .kind; side = r .side; own = r .own; label = r .label; read = r .read; near = r .near; link = w; finishing = r .finishing }
 
+abbrev pub owns : Rec → ℕ → ℕ → Place → Rec
+owns r x l p = record { place = p; kind = r .kind; side = r .side; own = x; label = l; read = r .read; near = r .near; link = r .link; finishing = r .finishing }
+
 abbrev pub finishes : Rec → Anchor → Rec
 finishes r a = record { place = at5; kind = r .kind; side = r .side; own = r .own; label = r .label; read = a; near = r .near; link = r .link; finishing = true }
 
--- What the tasks share.
+-- What the tasks share. Head, a word as a link's, and next count in a pooled queue alone.
 pub record Shared : Type 0 where
   pub slots : ℕ
+  pub pooled : Bool
   pub anchor : Anchor
+  pub head : Link
   pub link : Bool → ℕ → Link
+  pub next : ℕ → ℕ
   pub label : ℕ → ℕ
   pub mark : ℕ → Bool
 
@@ -116,33 +135,45 @@ relink k true x v false = k false
 relink k true x v true = upd (k true) x v
 
 abbrev pub withAnchor : Shared → Anchor → Shared
-withAnchor s a = record { slots = s .slots; anchor = a; link = s .link; label = s .label; mark = s .mark }
+withAnchor s a = record { slots = s .slots; pooled = s .pooled; anchor = a; head = s .head; link = s .link; next = s .next; label = s .label; mark = s .mark }
 
 abbrev pub withLink : Shared → Bool → ℕ → Link → Shared
-withLink s d x v = record { slots = s .slots; anchor = s .anchor; link = relink (s .link) d x v; label = s .label; mark = s .mark }
+withLink s d x v = record { slots = s .slots; pooled = s .pooled; anchor = s .anchor; head = s .head; link = relink (s .link) d x v; next = s .next; label = s .label; mark = s .mark }
 
 abbrev pub withMark : Shared → ℕ → Bool → Shared
-withMark s x b = record { slots = s .slots; anchor = s .anchor; link = s .link; label = s .label; mark = upd (s .mark) x b }
+withMark s x b = record { slots = s .slots; pooled = s .pooled; anchor = s .anchor; head = s .head; link = s .link; next = s .next; label = s .label; mark = upd (s .mark) x b }
 
 abbrev pub withLabel : Shared → ℕ → ℕ → Shared
-withLabel s x l = record { slots = s .slots; anchor = s .anchor; link = s .link; label = upd (s .label) x l; mark = upd (s .mark) x true }
+withLabel s x l = record { slots = s .slots; pooled = s .pooled; anchor = s .anchor; head = s .head; link = s .link; next = s .next; label = upd (s .label) x l; mark = upd (s .mark) x true }
+
+abbrev pub withHead : Shared → Link → Shared
+withHead s w = record { slots = s .slots; pooled = s .pooled; anchor = s .anchor; head = w; link = s .link; next = s .next; label = s .label; mark = s .mark }
+
+abbrev pub withNext : Shared → ℕ → ℕ → Shared
+withNext s x v = record { slots = s .slots; pooled = s .pooled; anchor = s .anchor; head = s .head; link = s .link; next = upd (s .next) x v; label = s .label; mark = s .mark }
 
 pub data Answer : Type 0 where
-  running pushed empty : Answer
+  running pushed empty noSlot : Answer
   popped : ℕ → ℕ → Answer
 
--- The one shared word that a step may change.
+-- What a step may change: one shared word, but where a slot is drawn. Then the head, the slot's label and its mark are set at once.
 pub data Touch : Type 0 where
   none : Touch
   putAnchor : Anchor → Touch
   putLink : Bool → ℕ → Link → Touch
   clear : ℕ → Touch
+  take : Link → ℕ → ℕ → Touch
+  putNext : ℕ → ℕ → Touch
+  putHead : Link → Touch
 
 abbrev pub apply : Shared → Touch → Shared
 apply s none = s
 apply s (putAnchor a) = withAnchor s a
 apply s (putLink d x v) = withLink s d x v
 apply s (clear x) = withMark s x false
+apply s (take w x l) = withLabel (withHead s w) x l
+apply s (putNext x v) = withNext s x v
+apply s (putHead w) = withHead s w
 
 -- One step of a task with a record: what it changes, the record then, and the answer.
 pub record Move : Type 0 where
@@ -197,9 +228,31 @@ abbrev pub nine : Shared → Rec → Bool → Move
 nine s r e = cond (sameLink (r .link) (s .link e (r .near)))
     (runs (putLink e (r .near) (record { tag = suc (r .link .tag); slot = tip (r .read) e })) (goes r at10)) (leave none r)
 
--- 11: the label of the end taken; its mark is cleared.
+-- 11: the label of the end taken; its mark is cleared. A pooled queue's pop remembers both, and gives the slot back first.
 abbrev pub eleven : Shared → Rec → Move
-eleven s r = let x = tip (r .read) (r .side) in ends (clear x) (popped x (s .label x))
+eleven s r = let x = tip (r .read) (r .side) in
+    cond (s .pooled) (runs (clear x) (owns r x (s .label x) (give at15))) (ends (clear x) (popped x (s .label x)))
+
+-- The head as read with its tag raised: of the slot that it names from now on.
+abbrev pub raised : Rec → ℕ → Link
+raised r x = record { tag = suc (r .link .tag); slot = x }
+
+-- The empty stack.
+abbrev pub exhausted : Link → Bool
+exhausted head = eqb (head .slot) 0
+
+-- 12: read the head; slot 0 is the empty stack. 13: read what comes after the head's slot. 14: the head moves on to it, and its slot is the push's.
+abbrev pub draws : Draw → Shared → Rec → Move
+draws at12 s r = cond (exhausted (s .head)) (ends none noSlot) (runs none (holds r (s .head) (draw at13)))
+draws at13 s r = runs none (finds r (s .next (r .link .slot)) (draw at14))
+draws at14 s r = let x = r .link .slot in
+    cond (sameLink (r .link) (s .head)) (runs (take (raised r (r .near)) x (r .label)) (owns r x (r .label) at1)) (runs none (goes r (draw at12)))
+
+-- 15: read the head. 16: the own slot's next is the head's slot. 17: the head moves to the own slot.
+abbrev pub gives : Give → Shared → Rec → Move
+gives at15 s r = runs none (holds r (s .head) (give at16))
+gives at16 s r = runs (putNext (r .own) (r .link .slot)) (goes r (give at17))
+gives at17 s r = cond (sameLink (r .link) (s .head)) (ends (putHead (raised r (r .own))) (popped (r .own) (r .label))) (runs none (goes r (give at15)))
 
 -- A step of a record at its place. At 5 to 10 the side is the one that the status as read names.
 abbrev pub act : Place → Shared → Rec → Move
@@ -216,6 +269,8 @@ act at8 s r = cond (same (r .read) (s .anchor)) (runs none (goes r at9)) (leave 
 act at9 s r = nine s r (towards (r .read .status))
 act at10 s r = cond (same (r .read) (s .anchor)) (leave (putAnchor (settled (r .read))) r) (leave none r)
 act at11 s r = eleven s r
+act (draw p) s r = draws p s r
+act (give p) s r = gives p s r
 
 -- The whole machine.
 pub record State : Type 0 where
@@ -235,6 +290,8 @@ isIdle at8 = false
 isIdle at9 = false
 isIdle at10 = false
 isIdle at11 = false
+isIdle (draw p) = false
+isIdle (give p) = false
 
 abbrev pub moved : State → ℕ → Shared → Rec → State
 moved s t g r = record { shared = g; task = upd (s .task) t r }

@@ -9,15 +9,15 @@ use borrow.Author.Tests.{eq-eqb, ne-eqb}
 use Rattle.model.specs.declared.Entry.{Entry}
 use Rattle.model.proofs.tests.Truth.{or-second}
 use Rattle.model.proofs.lists.Deque.{put, seen, took}
-use Rattle.model.proofs.machine.Clerk.{Call, effect, given, isEmpty, noted, served, told}
-use Rattle.model.proofs.machine.Machine.{Anchor, Answer, Kind, Status, aimed, empty, pop, push, pushed, tip}
+use Rattle.model.proofs.machine.Clerk.{Call, effect, given, isNoSlot, noted, served, told, unmoving}
+use Rattle.model.proofs.machine.Machine.{Anchor, Answer, Kind, Status, aimed, empty, noSlot, pop, push, pushed, tip}
 use Rattle.model.proofs.invariant.Tasks.{Agrees}
 
 pub noted-false : (c : Call) (q : List Entry) (a b : Anchor) (w : Answer) → effect a b w ≡ false → noted c q a b w ≡ record { call = c; queue = q }
 unfolding noted
 noted-false c q a b w e = rw e
 
-pub no-effect : (a b : Anchor) (w : Answer) → isEmpty w ≡ false → a .left ≡ b .left → a .right ≡ b .right → effect a b w ≡ false
+pub no-effect : (a b : Anchor) (w : Answer) → unmoving w ≡ false → a .left ≡ b .left → a .right ≡ b .right → effect a b w ≡ false
 no-effect a b w e l r = rw (eq-eqb (a .left) (b .left) l, eq-eqb (a .right) (b .right) r, e)
 
 pub left-effect : (a b : Anchor) (w : Answer) → a .left ≢ b .left → effect a b w ≡ true
@@ -26,23 +26,28 @@ left-effect a b w l = rw (ne-eqb (a .left) (b .left) l)
 right-effect : (a b : Anchor) (w : Answer) → a .right ≢ b .right → effect a b w ≡ true
 right-effect a b w r = rw (ne-eqb (a .right) (b .right) r) (go (eqb (a .left) (b .left)))
   where
-    go : (y : Bool) → not (y && false) || isEmpty w ≡ true
+    go : (y : Bool) → not (y && false) || unmoving w ≡ true
     go true = refl
     go false = refl
 
 pub empty-effect : (a b : Anchor) → effect a b empty ≡ true
 empty-effect a b = or-second (not (eqb (a .left) (b .left) && eqb (a .right) (b .right))) refl
 
+-- *No slot*: the clerk replies the same, and his deque stays.
+pub noted-none : (c : Call) (q : List Entry) (a b : Anchor) → noted c q a b noSlot ≡ record { call = told c noSlot; queue = q }
+unfolding noted
+noted-none c q a b = rw (or-second (not (eqb (a .left) (b .left) && eqb (a .right) (b .right))) refl)
+
 pub aimed-effect : (a : Anchor) (d : Bool) (x : ℕ) (st : Status) (w : Answer) → x ≢ tip a d → effect a (aimed a d x st) w ≡ true
 aimed-effect a false x st w h = left-effect a (aimed a false x st) w (λ e. h (sym e))
 aimed-effect a true x st w h = right-effect a (aimed a true x st) w (λ e. h (sym e))
 
-module _ {k : Kind} {d : Bool} {x l : ℕ} (c : Call) (g : Agrees k d x l c) (q : List Entry) (a b : Anchor) (w : Answer) (e : effect a b w ≡ true) where
+module _ {k : Kind} {d : Bool} {x l : ℕ} (c : Call) (g : Agrees k d x l c) (q : List Entry) (a b : Anchor) (w : Answer) (e : effect a b w ≡ true) (n : isNoSlot w ≡ false) where
   pub noted-push : k ≡ push → noted c q a b w ≡ record { call = told c pushed; queue = put d (record { slot = x; label = l }) q }
   unfolding noted
-  noted-push p = rw e (ap (λ (z : Kind). served z c q) (g .kind ∙ p)
+  noted-push p = rw (e, n) (ap (λ (z : Kind). served z c q) (g .kind ∙ p)
       ∙ (λ i. record { call = told c pushed; queue = put (g .side i) (record { slot = g .slot i; label = g .label i }) q }))
 
   pub noted-pop : k ≡ pop → noted c q a b w ≡ record { call = told c (given (seen d q)); queue = took d q }
   unfolding noted
-  noted-pop p = rw e (ap (λ (z : Kind). served z c q) (g .kind ∙ p) ∙ (λ i. record { call = told c (given (seen (g .side i) q)); queue = took (g .side i) q }))
+  noted-pop p = rw (e, n) (ap (λ (z : Kind). served z c q) (g .kind ∙ p) ∙ (λ i. record { call = told c (given (seen (g .side i) q)); queue = took (g .side i) q }))

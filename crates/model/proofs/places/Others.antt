@@ -1,4 +1,4 @@
--- A step of one task keeps what holds of another's record. (Lines 5 to 13 survive; at 9 by `outrun`.)
+-- A step of one task keeps what holds of another's record. (Lines 5 to 13 and 18 to 20 survive; at 9 by `outrun`.)
 use mathlib.Core.Bool.{Bool, false, not, true}
 use mathlib.Core.List.{List}
 use mathlib.Core.Logic.{_⊎_, inl, inr}
@@ -8,24 +8,27 @@ use native.Mathlib.Omega.{arith}
 use Rattle.model.specs.declared.Entry.{Entry}
 use Rattle.model.proofs.lists.Slots.{slots}
 use Rattle.model.proofs.machine.Clerk.{Call}
-use Rattle.model.proofs.machine.Machine.{Anchor, Kind, Link, Place, Rec, Shared, at1, at10, at11, at2, at3, at4, at5, at6, at7, at8, at9, idle, inner, pop, push, pushing, tip}
-use Rattle.model.proofs.invariant.Owners.{Owner, Whole, queued}
+use Rattle.model.proofs.machine.Machine.{Anchor, Draw, Give, Kind, Link, Place, Rec, Shared, at1, at10, at11, at12, at13, at14, at15, at16, at17, at2, at3, at4, at5, at6, at7, at8, at9, draw, give, idle, inner, pop, push, pushing, tip}
+use Rattle.model.proofs.invariant.Owners.{Owner, Whole, held, queued}
 use Rattle.model.proofs.invariant.Rely.{Faces, Quiet, Rely, Turned}
 use Rattle.model.proofs.invariant.Shape.{Made}
-use Rattle.model.proofs.invariant.Tasks.{Before, Eighth, Four, Fresh, Grown, Helps, Live, Near, Ninth, Other, Own, Read, Stage, Task, Three, Tries, way}
+use Rattle.model.proofs.invariant.Tasks.{Bare, Before, Drawing, Eighth, Four, Fourteenth, Fresh, Giving, Grown, Helps, Live, Near, Ninth, Other, Own, Read, Stage, Task, Thirteenth, Three, Tries, way}
 use Rattle.model.proofs.chain.Links.{inner-in}
 
 module _ (u : ℕ) (s : Shared) (h : ℕ → Owner) (s′ : Shared) (h′ : ℕ → Owner) (y : Rely u s h s′ h′) where
+  keep-bare : Bare h u → Bare h′ u
+  keep-bare b z e = b z (y .back z e)
+
   keep-own : (k : Kind) (x l : ℕ) → Own k (s .label) h u x l → Own k (s′ .label) h′ u x l
-  keep-own push x l o = (o .0, y .spared x (o .1) .owner, y .spared x (o .1) .label ∙ o .2)
-  keep-own pop x l o = tt
+  keep-own push x l o = (o .0, y .spared x (o .1) .owner, y .spared x (o .1) .label ∙ o .2, λ z e. o .3 z (y .back z e))
+  keep-own pop x l o = keep-bare o
 
   keep-before : {k : Kind} {d : Bool} {x l : ℕ} {c : Call} → Before (s .label) h u k d x l c → Before (s′ .label) h′ u k d x l c
   keep-before {k} {x = x} {l} b = record { agrees = b .agrees; none = b .none; own = keep-own k x l (b .own) }
 
   keep-stage : (f : Bool) (k : Kind) (d : Bool) (x l : ℕ) (c : Call) → Stage f (s .label) h u k d x l c → Stage f (s′ .label) h′ u k d x l c
   keep-stage false k d x l c b = keep-before b
-  keep-stage true k d x l c b = b
+  keep-stage true k d x l c b = (b .0, keep-bare (b .1))
 
   module _ (a : Anchor) where
     -- An Anchor that is read and stands now stood before, and nothing happened to it.
@@ -121,8 +124,38 @@ module _ (u : ℕ) (s : Shared) (h : ℕ → Owner) (s′ : Shared) (h′ : ℕ 
                 })
             go (inl l) (inr z) = inr (outrun z (v .other) l st)
 
+  -- A head as read that is the head was it before; one that is past stays past.
+  keep-thirteenth : (a : Link) → Thirteenth (s .head) a → Thirteenth (s′ .head) a
+  keep-thirteenth a w = go w (y .stack .head)
+    where
+      go : Thirteenth (s .head) a → ((s′ .head ≡ s .head) × (s′ .next (s .head .slot) ≡ s .next (s .head .slot))) ⊎ (s .head .tag < s′ .head .tag) → Thirteenth (s′ .head) a
+      go (inl e) (inl k) = inl (e ∙ sym (k .0))
+      go (inl e) (inr l) = inr (omega (arith, ap (λ (w : Link). w .tag) e))
+      go (inr g) (inl k) = inr (omega (arith, ap (λ (w : Link). w .tag) (k .0)))
+      go (inr g) (inr l) = inr (omega arith)
+
+  keep-fourteenth : (a : Link) (n : ℕ) → Fourteenth (s .next) (s .head) a n → Fourteenth (s′ .next) (s′ .head) a n
+  keep-fourteenth a n w = go w (y .stack .head)
+    where
+      go : Fourteenth (s .next) (s .head) a n → ((s′ .head ≡ s .head) × (s′ .next (s .head .slot) ≡ s .next (s .head .slot))) ⊎ (s .head .tag < s′ .head .tag)
+          → Fourteenth (s′ .next) (s′ .head) a n
+      go (inl e) (inl k) = inl (e .0 ∙ sym (k .0), ap (λ (w : Link). s′ .next (w .slot)) (e .0) ∙ k .1 ∙ ap (λ (w : Link). s .next (w .slot)) (sym (e .0)) ∙ e .1)
+      go (inl e) (inr l) = inr (omega (arith, ap (λ (w : Link). w .tag) (e .0)))
+      go (inr g) (inl k) = inr (omega (arith, ap (λ (w : Link). w .tag) (k .0)))
+      go (inr g) (inr l) = inr (omega arith)
+
+  keep-drawing : (p : Draw) (r : Rec) → Drawing p s r → Drawing p s′ r
+  keep-drawing at12 r w = tt
+  keep-drawing at13 r w = (w .0, keep-thirteenth (r .link) (w .1))
+  keep-drawing at14 r w = (w .0, keep-fourteenth (r .link) (r .near) (w .1))
+
+  keep-giving : (p : Give) (r : Rec) → h (r .own) ≡ held u → Giving p s r → Giving p s′ r
+  keep-giving at15 r e w = tt
+  keep-giving at16 r e w = tt
+  keep-giving at17 r e w = y .spared (r .own) e .next ∙ w
+
   pub keep : (q : List Entry) → Whole s h q → (p : Place) (r : Rec) (c : Call) → Task p s h u r c → Task p s′ h′ u r c
-  keep q all idle r c w = w
+  keep q all idle r c w = (w .0, keep-bare (w .1))
   keep q all at1 r c w = (w .0, keep-before (w .1))
   keep q all at2 r c w = (keep-tries (r .read) (w .0), w .1)
   keep q all at3 r c w = (keep-tries (r .read) (w .0), w .1)
@@ -136,4 +169,8 @@ module _ (u : ℕ) (s : Shared) (h : ℕ → Owner) (s′ : Shared) (h′ : ℕ 
   keep q all at10 r c w = (keep-helps (r .read) (w .0), keep-made (r .read) (w .0 .read) (w .0 .status) (w .1))
   keep q all at11 r c w =
       let z = y .spared (tip (r .read) (r .side)) (w .holds) in
-      record { after = record { once = w .after .once; told = rw (z .label) (w .after .told) }; holds = z .owner }
+      record { after = record { once = w .after .once; told = rw (z .label) (w .after .told) }; holds = z .owner; sole = λ x e. w .sole x (y .back x e) }
+  keep q all (draw p) r c w = (y .stack .pooled ∙ w .0, record { early = w .1 .early; kind = w .1 .kind; agrees = w .1 .agrees; none = w .1 .none; bare = keep-bare (w .1 .bare) }, keep-drawing p r (w .2))
+  keep q all (give p) r c w =
+      let z = y .spared (r .own) (w .1 .holds) in
+      (y .stack .pooled ∙ w .0, record { after = w .1 .after; holds = z .owner; sole = λ x e. w .1 .sole x (y .back x e) }, keep-giving p r (w .1 .holds) (w .2))

@@ -31,9 +31,11 @@ module _ (t : ℕ) (s : Shared) (h : ℕ → Owner) (q : List Entry) (c : Call) 
           (record {
             shape = subst (λ (b : Anchor). Shape (s .link) (settled b) (slots q)) (sym p) (settled-shape (s .link) (s .anchor) (slots q) (all .shape) e st made);
             owned = all .owned;
+            listed = all .listed;
             labels = all .labels;
-            marks = all .marks;
+            bounds = all .bounds;
+            spare = all .spare;
           })
           (rely-turn (settled (r .read)) h (let g = ap (λ (b : Anchor). b .tag) p in omega arith)
-          (λ e′ st′. subst (λ f. Made (s .link) (s .anchor) f) (same-side (sym st ∙ st′)) made) (λ u x n f. f))
+          (λ e′ st′. subst (λ f. Made (s .link) (s .anchor) f) (same-side (sym st ∙ st′)) made) (λ u x n f. f) (λ u x n f. f))
           (w .0 .stage)

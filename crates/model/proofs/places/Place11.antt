@@ -1,43 +1,53 @@
--- Place 11: the slot taken is given back.
+-- Place 11: the label of the slot taken is read. In a named queue the slot is given up; in a pooled queue the task keeps it for 15 to 17.
 use mathlib.Core.Bool.{false, true}
 use mathlib.Core.List.{List}
 use mathlib.Core.Logic.{_≢_, _⊎_, inl, inr}
-use mathlib.Core.Path.{_∙_, _≡_, ap, refl, sym}
-use Prim.Native.Nat.{_≤_, ℕ}
-use native.Mathlib.Omega.{arith}
+use mathlib.Core.Path.{_∙_, _≡_, ap, refl, subst, sym}
+use Prim.Native.Nat.{ℕ}
 use Rattle.model.specs.declared.Entry.{Entry}
-use Rattle.model.proofs.tests.Truth.{decide-eq}
-use Rattle.model.proofs.lists.All.{all-map}
-use Rattle.model.proofs.lists.Slots.{slots}
+use Rattle.model.proofs.tests.Truth.{by-test, decide-eq}
 use Rattle.model.proofs.machine.Clerk.{Call}
 use Rattle.model.proofs.machine.Laws.{upd-other, upd-same}
-use Rattle.model.proofs.machine.Machine.{Rec, Shared, act, at11, clear, ends, popped, tip, upd}
-use Rattle.model.proofs.invariant.Owners.{Owner, Whole, free, queued}
+use Rattle.model.proofs.machine.Machine.{Rec, Shared, act, at11, at15, clear, ends, give, owns, popped, running, runs, tip, upd}
+use Rattle.model.proofs.invariant.Owners.{Owner, Spare, Whole, free}
 use Rattle.model.proofs.invariant.Tasks.{Task}
 use Rattle.model.proofs.places.Effects.{no-effect}
-use Rattle.model.proofs.places.Owned.{owner-kept, queued-held}
-use Rattle.model.proofs.places.Shown.{Shown, plain}
+use Rattle.model.proofs.places.Owning.{frees-bare, frees-rely, frees-whole}
+use Rattle.model.proofs.places.Shown.{Shown, plain, rely-marks, stack-same}
 
 module _ (t : ℕ) (s : Shared) (h : ℕ → Owner) (q : List Entry) (c : Call) (all : Whole s h q) (r : Rec) where
   pub place11 : Task at11 s h t r c → Shown t s h q c (act at11 s r)
-  place11 w =
-      let x = tip (r .read) (r .side) in
-      plain (ends (clear x) (popped x (s .label x))) (upd h x free) (no-effect (s .anchor) (s .anchor) (popped x (s .label x)) refl refl refl)
-      (record {
-        shape = all .shape;
-        owned = all-map (λ y. h y ≡ queued) _ (λ y e. upd-other h x free y (λ z. queued-held (sym e ∙ ap h z ∙ w .holds)) ∙ e) (slots q) (all .owned);
-        labels = all .labels;
-        marks = λ y n. cleared y n (decide-eq y x);
-      })
-      (λ u n. record {
-        spared = λ y e. record { owner = owner-kept h x free t (inl (w .holds)) u y n e; label = refl; links = λ b. refl };
-        tags = λ e y. omega arith;
-        words = λ e y p. inl refl;
-        anchor = inl (record { kept = refl; inward = λ e f. refl; made = λ e st m. m });
-      })
-      (refl, record { once = w .after .once; agrees = sym (w .after .told) })
+  place11 w = by-test (Shown t s h q c) (s .pooled) keeps frees
     where
-      cleared : (y : ℕ) → upd h (tip (r .read) (r .side)) free y ≢ free → (y ≡ tip (r .read) (r .side)) ⊎ (y ≢ tip (r .read) (r .side))
-          → (upd (s .mark) (tip (r .read) (r .side)) false y ≡ true) × (y ≤ s .slots)
-      cleared y n (inl z) = absurd (n (ap (λ (v : ℕ). upd h (tip (r .read) (r .side)) free v) z ∙ upd-same h (tip (r .read) (r .side)) free))
-      cleared y n (inr z) = let m = all .marks y (λ e. n (upd-other h _ free y z ∙ e)) in (upd-other (s .mark) _ false y z ∙ m .0, m .1)
+      x : ℕ
+      x = tip (r .read) (r .side)
+
+      -- Marks tell nothing in a pooled queue.
+      keeps : s .pooled ≡ true → Shown t s h q c (runs (clear x) (owns r x (s .label x) (give at15)))
+      keeps e =
+          plain (runs (clear x) (owns r x (s .label x) (give at15))) h (no-effect (s .anchor) (s .anchor) running refl refl refl)
+          (record {
+            shape = all .shape;
+            owned = all .owned;
+            listed = all .listed;
+            labels = all .labels;
+            bounds = all .bounds;
+            spare = subst (λ b. Spare b (s .slots) (s .mark) (s .next) (s .head .slot) h → Spare b (s .slots) (upd (s .mark) x false) (s .next) (s .head .slot) h) (sym e) (λ z. z) (all .spare);
+          })
+          (λ u n. rely-marks (upd (s .mark) x false) u)
+          (e, record { after = w .after; holds = w .holds; sole = w .sole }, tt)
+
+      unmarked : ((y : ℕ) → h y ≢ free → s .mark y ≡ true) → (y : ℕ) → upd h x free y ≢ free → upd (s .mark) x false y ≡ true
+      unmarked m y n = go (decide-eq y x)
+        where
+          go : (y ≡ x) ⊎ (y ≢ x) → upd (s .mark) x false y ≡ true
+          go (inl z) = absurd (n (ap (λ (v : ℕ). upd h x free v) z ∙ upd-same h x free))
+          go (inr z) = upd-other (s .mark) x false y z ∙ m y (λ e. n (upd-other h x free y z ∙ e))
+
+      frees : s .pooled ≡ false → Shown t s h q c (ends (clear x) (popped x (s .label x)))
+      frees e =
+          plain (ends (clear x) (popped x (s .label x))) (upd h x free) (no-effect (s .anchor) (s .anchor) (popped x (s .label x)) refl refl refl)
+          (frees-whole all t x (w .holds) (upd (s .mark) x false) (s .head)
+          (subst (λ b. Spare b (s .slots) (s .mark) (s .next) (s .head .slot) h → Spare b (s .slots) (upd (s .mark) x false) (s .next) (s .head .slot) (upd h x free)) (sym e) unmarked (all .spare)))
+          (frees-rely all t x (w .holds) (upd (s .mark) x false) (s .head) (stack-same refl refl refl))
+          (refl, record { once = w .after .once; agrees = sym (w .after .told) }, frees-bare all t x (w .holds) (upd (s .mark) x false) (s .head) (w .sole))

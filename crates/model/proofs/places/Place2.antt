@@ -10,7 +10,7 @@ use Rattle.model.proofs.lists.Deque.{put, rest, took}
 use Rattle.model.proofs.lists.Ends.{put-nil, took-one}
 use Rattle.model.proofs.lists.Slots.{slots}
 use Rattle.model.proofs.machine.Clerk.{Call}
-use Rattle.model.proofs.machine.Laws.{later, same-true}
+use Rattle.model.proofs.machine.Laws.{both-tip, later, same-true}
 use Rattle.model.proofs.machine.Machine.{Anchor, Kind, Rec, Shared, at11, at2, both, ends, goes, pop, push, pushed, putAnchor, running, runs, same, two}
 use Rattle.model.proofs.invariant.Owners.{Owner, Whole}
 use Rattle.model.proofs.invariant.Shape.{Shape}
@@ -20,7 +20,7 @@ use Rattle.model.proofs.chain.Ends.{both-null, no-entry, single, small}
 use Rattle.model.proofs.places.Effects.{left-effect}
 use Rattle.model.proofs.places.Place1.{place1}
 use Rattle.model.proofs.places.Shown.{Shown}
-use Rattle.model.proofs.places.Taking.{back, pop-good, push-good}
+use Rattle.model.proofs.places.Taking.{pop-good, push-good, put-bare}
 
 module _ (t : ℕ) (s : Shared) (h : ℕ → Owner) (q : List Entry) (c : Call) (all : Whole s h q) (r : Rec) where
   pub place2 : (k : Kind) → r .kind ≡ k → Task at2 s h t r c → Shown t s h q c (two k s r)
@@ -33,11 +33,11 @@ module _ (t : ℕ) (s : Shared) (h : ℕ → Owner) (q : List Entry) (c : Call) 
           let e = ap (λ (z : Anchor). z .left) (sym p) ∙ subst (λ z. Two z (r .read)) k (w .1) in
           let n = no-entry (s .link) (s .anchor) (slots q) (all .shape) e in
           push-good all r (ends (putAnchor (both (r .read) (r .own))) pushed) k (w .0 .before)
-          (left-effect (s .anchor) (both (r .read) (r .own)) pushed (λ f. o .0 (sym f ∙ e)))
-          (both (r .read) (r .own)) refl (later (r .read) (s .anchor) p) (small (s .link) (s .anchor) (slots q) (all .shape) (ap (λ (z : List ℕ). rest z) n))
+          (left-effect (s .anchor) (both (r .read) (r .own)) pushed (λ f. o .0 (sym f ∙ e))) refl
+          (both (r .read) (r .own)) refl (both-tip (r .read) (r .own) (r .side)) (later (r .read) (s .anchor) p) (small (s .link) (s .anchor) (slots q) (all .shape) (ap (λ (z : List ℕ). rest z) n))
           (subst (λ z. Shape (s .link) (both (r .read) (r .own)) z) (sym (ap (λ (z : List ℕ). put (r .side) (r .own) z) n ∙ put-nil (r .side) (r .own)))
           (subst (λ b. Shape (s .link) (both b (r .own)) (r .own ∷ [])) (sym p) (first-shape (s .link) (s .anchor) (slots q) (all .shape) (r .own) e (o .0))))
-          (refl, record { once = ap suc (w .0 .before .none); agrees = refl })
+          (refl, record { once = ap suc (w .0 .before .none); agrees = refl }, put-bare h t (r .own) (o .3))
   place2 pop k w = by-test (Shown t s h q c) (same (r .read) (s .anchor)) ok (λ e. place1 t s h q c all r pop k (w .0 .early, w .0 .before))
     where
       ok : same (r .read) (s .anchor) ≡ true → Shown t s h q c (runs (putAnchor (both (r .read) 0)) (goes r at11))

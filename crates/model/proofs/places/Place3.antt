@@ -19,7 +19,7 @@ use Rattle.model.proofs.invariant.Tasks.{Four, Own, Task}
 use Rattle.model.proofs.chain.Links.{frame-shape, inner-in}
 use Rattle.model.proofs.places.Effects.{no-effect}
 use Rattle.model.proofs.places.Owned.{held-inj, queued-held}
-use Rattle.model.proofs.places.Shown.{Shown, plain, still}
+use Rattle.model.proofs.places.Shown.{Shown, plain, stack-same, still}
 
 module _ (t : ℕ) (s : Shared) (h : ℕ → Owner) (q : List Entry) (c : Call) (all : Whole s h q) (r : Rec) where
   module _ (x : ℕ) (o : (x ≢ 0) × (h x ≡ held t)) (d : Bool) (v : Link) (g : v .tag ≡ s .link d x .tag) where
@@ -35,13 +35,16 @@ module _ (t : ℕ) (s : Shared) (h : ℕ → Owner) (q : List Entry) (c : Call) 
       shape = frame-shape (s .link) (s .anchor) (slots q) (all .shape) d (relink (s .link) d x v)
           (all-map (λ y. h y ≡ queued) _ (λ y n e. relink-other (s .link) d x v e y (not-own y n)) (slots q) (all .owned));
       owned = all .owned;
+      listed = all .listed;
       labels = all .labels;
-      marks = all .marks;
+      bounds = all .bounds;
+      spare = all .spare;
     }
 
     pub own-rely : (u : ℕ) → u ≢ t → Rely u s h (withLink s d x v) h
     own-rely u n = record {
-      spared = λ y e. record { owner = e; label = refl; links = λ b. relink-other (s .link) d x v b y (λ z. n (held-inj (sym e ∙ ap h z ∙ o .1))) };
+      spared = λ y e. record { owner = e; label = refl; links = λ b. relink-other (s .link) d x v b y (λ z. n (held-inj (sym e ∙ ap h z ∙ o .1))); next = refl };
+      back = λ y e. e;
       tags = λ e y. let z = relink-keeps (s .link) d x v g e y in omega arith;
       words = λ e y p. inl (relink-other (s .link) d x v e y (not-own y p));
       anchor = inl (record {
@@ -52,6 +55,7 @@ module _ (t : ℕ) (s : Shared) (h : ℕ → Owner) (q : List Entry) (c : Call) 
             ∙ ap (λ (w : Link). w .slot) (relink-other (s .link) d x v e (s .link (not e) (tip (s .anchor) e) .slot)
             (not-own _ (inner-in (s .link) (s .anchor) (slots q) (all .shape) e (λ z. h z ≡ queued) st (all .owned)))) ∙ m;
       });
+      stack = stack-same refl refl refl;
     }
 
   pub place3 : (k : Kind) → r .kind ≡ k → Task at3 s h t r c → Shown t s h q c (three k s r)

@@ -9,7 +9,7 @@ use Rattle.model.proofs.tests.Truth.{by-test}
 use Rattle.model.proofs.lists.Deque.{put, took}
 use Rattle.model.proofs.lists.Slots.{slots}
 use Rattle.model.proofs.machine.Clerk.{Call, effect}
-use Rattle.model.proofs.machine.Laws.{later, aimed-tag, aimed-way, same-true}
+use Rattle.model.proofs.machine.Laws.{aimed-near, aimed-tag, aimed-way, later, same-true}
 use Rattle.model.proofs.machine.Machine.{Anchor, Kind, Rec, Shared, aimed, at11, at4, finishes, four, goes, inner, pop, push, pushing, putAnchor, running, runs, same, stable, tip}
 use Rattle.model.proofs.invariant.Owners.{Owner, Whole}
 use Rattle.model.proofs.invariant.Shape.{Shape}
@@ -20,7 +20,7 @@ use Rattle.model.proofs.places.Effects.{aimed-effect}
 use Rattle.model.proofs.places.Place1.{place1}
 use Rattle.model.proofs.places.Owned.{queued-held}
 use Rattle.model.proofs.places.Shown.{Shown, read-now}
-use Rattle.model.proofs.places.Taking.{back, end-entry, not-in, pop-good, push-good}
+use Rattle.model.proofs.places.Taking.{end-entry, not-in, pop-good, push-good, put-bare}
 
 module _ (t : ℕ) (s : Shared) (h : ℕ → Owner) (q : List Entry) (c : Call) (all : Whole s h q) (r : Rec) where
   pub place4 : (k : Kind) → r .kind ≡ k → Task at4 s h t r c → Shown t s h q c (four k s r)
@@ -39,11 +39,11 @@ module _ (t : ℕ) (s : Shared) (h : ℕ → Owner) (q : List Entry) (c : Call) 
           push-good all r (runs (putAnchor a) (finishes r a)) k (w .0 .before)
           (subst (λ b. effect (s .anchor) (aimed b (r .side) (r .own) (pushing (r .side))) running ≡ true) (sym p)
           (aimed-effect (s .anchor) (r .side) (r .own) (pushing (r .side)) running (λ e. queued-held (sym (end-entry all (r .side) (r .own) e (o .0) .1) ∙ o .1))))
-          a refl (subst (λ n. s .anchor .tag < n) (sym (aimed-tag (r .read) (r .side) (r .own) (pushing (r .side)))) (later (r .read) (s .anchor) p)) (g .0)
+          refl a refl (aimed-near (r .read) (r .side) (r .own) (pushing (r .side))) (subst (λ n. s .anchor .tag < n) (sym (aimed-tag (r .read) (r .side) (r .own) (pushing (r .side)))) (later (r .read) (s .anchor) p)) (g .0)
           (subst (λ b. Shape (s .link) (aimed b (r .side) (r .own) (pushing (r .side))) (put (r .side) (r .own) (slots q))) (sym p)
           (push-shape (s .link) (s .anchor) (slots q) (all .shape) (r .side) (r .own) (g .0) ne (o .0) (not-in all (o .1)) (f ∙ ap (λ (b : Anchor). tip b (r .side)) p)))
           (record {
-            stage = record { once = ap suc (w .0 .before .none); told = refl };
+            stage = (record { once = ap suc (w .0 .before .none); told = refl }, put-bare h t (r .own) (o .3));
             read = read-now a;
             status = aimed-way (r .read) (r .side) (r .own);
           })

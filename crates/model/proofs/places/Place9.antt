@@ -20,7 +20,7 @@ use Rattle.model.proofs.chain.Links.{back-shape, inner-in}
 use Rattle.model.proofs.places.Effects.{no-effect}
 use Rattle.model.proofs.places.Owned.{queued-held}
 use Rattle.model.proofs.places.Places5to8.{away}
-use Rattle.model.proofs.places.Shown.{Shown, plain}
+use Rattle.model.proofs.places.Shown.{Shown, plain, stack-same}
 
 module _ (t : ℕ) (s : Shared) (h : ℕ → Owner) (q : List Entry) (c : Call) (all : Whole s h q) (r : Rec) where
   module _ (e : Bool) (st : s .anchor .status ≡ pushing e) (v : Link) (names : v .slot ≡ tip (s .anchor) e) where
@@ -35,11 +35,12 @@ module _ (t : ℕ) (s : Shared) (h : ℕ → Owner) (q : List Entry) (c : Call) 
         ∙ ap (λ (w : Link). w .slot) (relink-same (s .link) e back-at v) ∙ names
 
     back-whole : Whole (withLink s e back-at v) h q
-    back-whole = record { shape = back-shape (s .link) (s .anchor) (slots q) (all .shape) e v st names; owned = all .owned; labels = all .labels; marks = all .marks }
+    back-whole = record { shape = back-shape (s .link) (s .anchor) (slots q) (all .shape) e v st names; owned = all .owned; listed = all .listed; labels = all .labels; bounds = all .bounds; spare = all .spare }
 
     back-rely : s .link e back-at .tag < v .tag → (u : ℕ) → u ≢ t → Rely u s h (withLink s e back-at v) h
     back-rely lt u n = record {
-      spared = λ y g. record { owner = g; label = refl; links = λ b. relink-other (s .link) e back-at v b y (λ z. queued-held (sym back-queued ∙ sym (ap h z) ∙ g)) };
+      spared = λ y g. record { owner = g; label = refl; links = λ b. relink-other (s .link) e back-at v b y (λ z. queued-held (sym back-queued ∙ sym (ap h z) ∙ g)); next = refl };
+      back = λ y g. g;
       tags = λ b y. grows-le (relink-grows (s .link) e back-at v lt b y);
       words = λ b y p. relink-grows (s .link) e back-at v lt b y;
       anchor = inl (record {
@@ -47,6 +48,7 @@ module _ (t : ℕ) (s : Shared) (h : ℕ → Owner) (q : List Entry) (c : Call) 
         inward = λ b f. facing b f;
         made = λ b st′ m. subst (λ f. Made (relink (s .link) e back-at v) (s .anchor) f) (same-side (sym st ∙ st′)) back-made;
       });
+      stack = stack-same refl refl refl;
     }
       where
         facing : (b : Bool) → (s .anchor .status ≡ stable) ⊎ (s .anchor .status ≡ pushing b) → relink (s .link) e back-at v (not b) (tip (s .anchor) b) ≡ s .link (not b) (tip (s .anchor) b)

@@ -6,13 +6,13 @@ use mathlib.Core.Path.{_≡_, refl, subst, subst₂, sym}
 use Prim.Native.Nat.{ℕ}
 use Rattle.model.specs.declared.Entry.{Entry}
 use Rattle.model.proofs.tests.Truth.{decide-eq, not-both}
-use Rattle.model.proofs.machine.Clerk.{Both, Call, Noted, noCall, noted, stepped}
+use Rattle.model.proofs.machine.Clerk.{Both, Call, Kept, Noted, closes, granted, noCall, noted, stepped}
 use Rattle.model.proofs.machine.Laws.{upd-other, upd-same}
-use Rattle.model.proofs.machine.Machine.{Answer, Place, Rec, Shared, act, apply, at1, at10, at11, at2, at3, at4, at5, at6, at7, at8, at9, empty, idle, isIdle, moved, popped, pushed, running, upd}
+use Rattle.model.proofs.machine.Machine.{Answer, Place, Rec, Shared, act, apply, at1, at10, at11, at2, at3, at4, at5, at6, at7, at8, at9, blank, draw, empty, give, idle, isIdle, moved, noSlot, popped, pushed, running, upd}
 use Rattle.model.proofs.invariant.Invariant.{Inv}
 use Rattle.model.proofs.invariant.Owners.{Owner, Whole}
 use Rattle.model.proofs.invariant.Rely.{Rely}
-use Rattle.model.proofs.invariant.Tasks.{Task}
+use Rattle.model.proofs.invariant.Tasks.{Bare, Task}
 use Rattle.model.proofs.places.Others.{keep}
 use Rattle.model.proofs.places.Place1.{place1}
 use Rattle.model.proofs.places.Place10.{place10}
@@ -22,7 +22,9 @@ use Rattle.model.proofs.places.Place3.{place3}
 use Rattle.model.proofs.places.Place4.{place4}
 use Rattle.model.proofs.places.Place9.{place9}
 use Rattle.model.proofs.places.Places5to8.{place5, place6, place7, place8}
-use Rattle.model.proofs.places.Shown.{Finish, Shown}
+use Rattle.model.proofs.places.Places12to14.{place12to14}
+use Rattle.model.proofs.places.Places15to17.{place15to17}
+use Rattle.model.proofs.places.Shown.{Finish, Shown, Stands}
 
 -- One step, by places.
 places : (t : ℕ) (s : Shared) (h : ℕ → Owner) (q : List Entry) (c : Call) → Whole s h q → (r : Rec) (p : Place) → isIdle p ≡ false → Task p s h t r c → Shown t s h q c (act p s r)
@@ -38,6 +40,8 @@ places t s h q c all r at8 i w = place8 t s h q c all r w
 places t s h q c all r at9 i w = place9 t s h q c all r w
 places t s h q c all r at10 i w = place10 t s h q c all r w
 places t s h q c all r at11 i w = place11 t s h q c all r w
+places t s h q c all r (draw p) i w = place12to14 t s h q c all r p w
+places t s h q c all r (give p) i w = place15to17 t s h q c all r p w
 
 -- One record and one call are replaced, and the others keep what they have.
 pub tasks-upd : (s : Shared) (h : ℕ → Owner) (f : ℕ → Rec) (g : ℕ → Call) (t : ℕ) (r : Rec) (c : Call)
@@ -55,39 +59,38 @@ module _ (p : Both) (i : Inv p) where
       → (u : ℕ) → u ≢ t → Task (p .state .task u .place) s h u (p .state .task u) (p .book .calls u)
   others t s h y u n = keep u (p .state .shared) (i .owner) s h (y u n) (p .book .queue) (i .whole) (p .state .task u .place) (p .state .task u) (p .book .calls u) (i .tasks u)
 
-  -- An accepted step.
+  -- An accepted step that answers, and one that may.
+  answer : (t : ℕ) (s : Shared) (r : Rec) (h : ℕ → Owner) (n : Noted) (w : Answer) → Whole s h (n .queue) → ((u : ℕ) → u ≢ t → Rely u (p .state .shared) (i .owner) s h)
+      → (r ≡ blank) × Kept (record { call = n .call; answer = w }) × Bare h t → Inv (record { state = record { shared = s; task = upd (p .state .task) t r }; book = closes (p .book) t n w })
+  answer t s r h n w a y f =
+      record {
+        owner = h;
+        whole = a;
+        kept = (f .1, i .kept);
+        tasks = tasks-upd s h (p .state .task) (p .book .calls) t r noCall (others t s h y) (subst (λ (x : Rec). Task (x .place) s h t x noCall) (sym (f .0)) (refl, f .2));
+      }
+
   absorb : (t : ℕ) (s : Shared) (r : Rec) (h : ℕ → Owner) (n : Noted) (w : Answer) → Whole s h (n .queue) → ((u : ℕ) → u ≢ t → Rely u (p .state .shared) (i .owner) s h)
       → Finish w s h t r (n .call) → Inv (record { state = record { shared = s; task = upd (p .state .task) t r }; book = stepped (p .book) t n w })
   absorb t s r h n running a y f =
       record { owner = h; whole = a; kept = i .kept; tasks = tasks-upd s h (p .state .task) (p .book .calls) t r (n .call) (others t s h y) f }
-  absorb t s r h n pushed a y f =
-      record {
-        owner = h;
-        whole = a;
-        kept = (f .1, i .kept);
-        tasks = tasks-upd s h (p .state .task) (p .book .calls) t r noCall (others t s h y) (subst (λ (x : Rec). Task (x .place) s h t x noCall) (sym (f .0)) refl);
-      }
-  absorb t s r h n empty a y f =
-      record {
-        owner = h;
-        whole = a;
-        kept = (f .1, i .kept);
-        tasks = tasks-upd s h (p .state .task) (p .book .calls) t r noCall (others t s h y) (subst (λ (x : Rec). Task (x .place) s h t x noCall) (sym (f .0)) refl);
-      }
-  absorb t s r h n (popped x l) a y f =
-      record {
-        owner = h;
-        whole = a;
-        kept = (f .1, i .kept);
-        tasks = tasks-upd s h (p .state .task) (p .book .calls) t r noCall (others t s h y) (subst (λ (x : Rec). Task (x .place) s h t x noCall) (sym (f .0)) refl);
-      }
+  absorb t s r h n pushed a y f = answer t s r h n pushed a y f
+  absorb t s r h n empty a y f = answer t s r h n empty a y f
+  absorb t s r h n noSlot a y f = answer t s r h n noSlot a y f
+  absorb t s r h n (popped x l) a y f = answer t s r h n (popped x l) a y f
 
   pub step-inv : (t : ℕ) → isIdle (p .state .task t .place) ≡ false
       → let m = act (p .state .task t .place) (p .state .shared) (p .state .task t) in
       let g = apply (p .state .shared) (m .touch) in
-      Inv (record { state = moved (p .state) t g (m .rec); book = stepped (p .book) t (noted (p .book .calls t) (p .book .queue) (p .state .shared .anchor) (g .anchor) (m .answer)) (m .answer) })
+      Inv (record { state = moved (p .state) t g (m .rec); book = stepped (p .book) t (noted (granted (m .touch) (p .book .calls t)) (p .book .queue) (p .state .shared .anchor) (g .anchor) (m .answer)) (m .answer) })
   step-inv t e =
       let r = p .state .task t in
       let m = act (r .place) (p .state .shared) r in
       let g = places t (p .state .shared) (i .owner) (p .book .queue) (p .book .calls t) (i .whole) r (r .place) e (i .tasks t) in
       absorb t (apply (p .state .shared) (m .touch)) (m .rec) (g .owner) _ (m .answer) (g .whole) (g .rely) (g .finish)
+
+  -- A push that has its effect stands at the end of its side.
+  pub step-stands : (t : ℕ) → isIdle (p .state .task t .place) ≡ false → Stands (p .state .shared) (p .book .calls t) (act (p .state .task t .place) (p .state .shared) (p .state .task t))
+  step-stands t e =
+      let r = p .state .task t in
+      places t (p .state .shared) (i .owner) (p .book .queue) (p .book .calls t) (i .whole) r (r .place) e (i .tasks t) .stands

@@ -10,7 +10,7 @@ use Rattle.model.proofs.tests.Truth.{by-test, not-both}
 use Rattle.model.proofs.machine.Clerk.{Call}
 use Rattle.model.proofs.machine.Laws.{sameLink-true}
 use Rattle.model.proofs.machine.Machine.{Kind, Link, Move, Place, Rec, Shared, act, at1, at10, at11, at2, at3, at4, at5, at6, at7, at8, at9}
-use Rattle.model.proofs.machine.Machine.{four, goes, idle, isIdle, isStable, pop, push, putLink, runs, same, sameLink, tip, two}
+use Rattle.model.proofs.machine.Machine.{draw, four, give, goes, idle, isIdle, isStable, pop, push, putLink, runs, same, sameLink, tip, two}
 use Rattle.model.proofs.invariant.Owners.{Owner, Whole}
 use Rattle.model.proofs.invariant.Tasks.{Grown, Live, Task, way}
 use Rattle.model.proofs.progress.Bounds.{owed-within}
@@ -69,22 +69,24 @@ module _ (s : Shared) (r : Rec) where
         done e (inr y) = absurd (let t = ap (λ (w : Link). w .tag) e in omega (arith, y))
 
     -- A step of the task.
-    pub alone-falls : (p : Place) → isIdle p ≡ false → Task p s h t r b → Own (r .kind) p (act p s r)
-    alone-falls idle i w = absurd (not-both refl i)
-    alone-falls at1 i w = fall1 _ _ (gap (r .kind)) s r h q all (w .0) (r .kind)
-    alone-falls at2 i w = alone2 (r .kind) (w .0 .early)
-    alone-falls at3 i w = fall3 _ _ (gap (r .kind)) s r (r .kind)
-    alone-falls at4 i w = alone4 (r .kind) (w .0 .early)
-    alone-falls at5 i w = fall5 _ _ (gap (r .kind)) s r
-    alone-falls at6 i w = fall6 _ _ (gap (r .kind)) s r
-    alone-falls at7 i w = fall7 _ _ (gap (r .kind)) s r
-    alone-falls at8 i w = fall8 _ _ (gap (r .kind)) s r
-    alone-falls at9 i w = alone9 (r .kind) w
-    alone-falls at10 i w = by-test (Own (r .kind) at10) now
+    pub alone-falls : s .pooled ≡ false → (p : Place) → isIdle p ≡ false → Task p s h t r b → Own (r .kind) p (act p s r)
+    alone-falls named idle i w = absurd (not-both refl i)
+    alone-falls named at1 i w = fall1 _ _ (gap (r .kind)) s r h q all (w .0) (r .kind)
+    alone-falls named at2 i w = alone2 (r .kind) (w .0 .early)
+    alone-falls named at3 i w = fall3 _ _ (gap (r .kind)) s r (r .kind)
+    alone-falls named at4 i w = alone4 (r .kind) (w .0 .early)
+    alone-falls named at5 i w = fall5 _ _ (gap (r .kind)) s r
+    alone-falls named at6 i w = fall6 _ _ (gap (r .kind)) s r
+    alone-falls named at7 i w = fall7 _ _ (gap (r .kind)) s r
+    alone-falls named at8 i w = fall8 _ _ (gap (r .kind)) s r
+    alone-falls named at9 i w = alone9 (r .kind) w
+    alone-falls named at10 i w = by-test (Own (r .kind) at10) now
         (λ e. by-test (Own (r .kind) at10) (r .finishing) (λ _. record { less = λ z. absurd (pushed-running z) })
         (λ f. fall10-done _ _ (gap (r .kind)) s r _ e f))
         (λ e. fall10-failed _ _ (gap (r .kind)) s r e)
-    alone-falls at11 i w = fall11 _ _ (gap (r .kind)) s r
+    alone-falls named at11 i w = fall11 _ _ (gap (r .kind)) s r named
+    alone-falls named (draw p) i w = absurd (not-both (w .0) named)
+    alone-falls named (give p) i w = absurd (not-both (w .0) named)
 
 -- One step at least, and at most 18 for a push and 13 for a pop.
 pub alone-within : (k : Kind) (s : Shared) (r : Rec) → (1 ≤ alone k s r) × (alone k s r ≤ spend k + 11)

@@ -14,7 +14,7 @@ use Rattle.model.specs.Solo.{soloRun}
 use Rattle.model.specs.Refusals.{among, stepRefusal}
 use Rattle.model.specs.Route.{goes}
 use Rattle.model.specs.Tables.{Queue, Tables, idle, recordAt}
-use Rattle.model.specs.declared.Answer.the-variants.{Empty, Popped, Pushed, Running}
+use Rattle.model.specs.declared.Answer.the-variants.{Empty, NoSlot, Popped, Pushed, Running}
 use Rattle.model.specs.declared.Answer.{Answer}
 use Rattle.model.specs.declared.Op.the-variants.{Step}
 use Rattle.model.specs.declared.Outcome.the-variants.{Moved}
@@ -74,9 +74,9 @@ module _ (n : ℕ) (q : Queue) (l : Ledger) (g : Matched n q l) (f : Safe q) (ta
   a = reply q (g .book) (g .inv) (g .links) t (stepping n q l g f t z (b .place))
 
   falls : Falls (spend k) (spend k + 4) (alone k (view G) (recOf r)) (view G) (seenMove G r)
-  unfolding recOf stateOf
+  unfolding recOf stateOf view
   falls = subst (Falls (spend k) (spend k + 4) (alone k (view G) (recOf r)) (view G)) (seen n q l g f t z (b .place))
-      (alone-falls (view G) (recOf r) (g .inv .owner) t (g .book .queue) (g .book .calls t) (g .inv .whole) (placeOf (r .place))
+      (alone-falls (view G) (recOf r) (g .inv .owner) t (g .book .queue) (g .book .calls t) (g .inv .whole) (y .named) (placeOf (r .place))
       (not-idle (r .place) (b .place) (h n q l g f t z (b .place) .place)) (own-task n q l g f t z (b .place)))
 
   -- The record that is put back.
@@ -93,7 +93,7 @@ module _ (n : ℕ) (q : Queue) (l : Ledger) (g : Matched n q l) (f : Safe q) (ta
   -- A record gone on keeps its kind.
   same-kind : r′ .place ≢ 0 → r′ .kind ≡ r .kind
   unfolding goes
-  same-kind = by-test (λ (x : Record). x .place ≢ 0 → x .kind ≡ r .kind) (leb (next r m) 11) (λ _ _. keeps n q l g f t z (b .place) .kind)
+  same-kind = by-test (λ (x : Record). x .place ≢ 0 → x .kind ≡ r .kind) (leb (next r m) 17) (λ _ _. keeps n q l g f t z (b .place) .kind)
       (λ _ e. absurd (e refl))
 
   nearer : answerSeen a ≡ M.running → aloneOf k t (stateOf q′) < aloneOf k t (stateOf q)
@@ -153,6 +153,7 @@ solo-answers (suc j) (suc n) tasks q z t b le more =
     run-on Pushed e ih = rw (x .moved ∙ ap Moved e) (record { answered = refl; within = omega arith })
     run-on Empty e ih = rw (x .moved ∙ ap Moved e) (record { answered = refl; within = omega arith })
     run-on (Popped v) e ih = rw (x .moved ∙ ap Moved e) (record { answered = refl; within = omega arith })
+    run-on NoSlot e ih = rw (x .moved ∙ ap Moved e) (record { answered = refl; within = omega arith })
 
 -- 18 steps for a push, 13 for a pop.
 pub solo-within : (tasks : ℕ) (q : Queue) → Reached tasks q → (t n : ℕ) → Busy q t → limit (recordAt q t .kind) ≤ n

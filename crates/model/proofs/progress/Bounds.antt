@@ -3,7 +3,7 @@ use mathlib.Core.Bool.{Bool, _&&_}
 use Prim.Native.Nat.{_+_, _≤_, ℕ}
 use native.Mathlib.Omega.{arith}
 use Rattle.model.proofs.laws.Tests.{either}
-use Rattle.model.proofs.machine.Machine.{Place, Rec, Shared, at1, at10, at11, at2, at3, at4, at5, at6, at7, at8, at9, idle, isStable, same}
+use Rattle.model.proofs.machine.Machine.{Place, Rec, Shared, at1, at10, at11, at2, at3, at4, at5, at6, at7, at8, at9, draw, give, idle, isStable, same}
 use Rattle.model.proofs.progress.Measure.{due, ending, home, outgrown, owed, rest}
 
 module _ (c g : ℕ) (some : 1 ≤ c) (gap : c + 2 ≤ g) where
@@ -23,6 +23,8 @@ module _ (c g : ℕ) (some : 1 ≤ c) (gap : c + 2 ≤ g) where
   rest-within at9 = (omega arith, omega arith)
   rest-within at10 = (omega arith, omega arith)
   rest-within at11 = (omega arith, omega arith)
+  rest-within (draw p) = (omega arith, omega arith)
+  rest-within (give p) = (omega arith, omega arith)
 
   module _ (steady now grown : Bool) where
     -- Up to two steps more than at place 1.
@@ -42,6 +44,8 @@ module _ (c g : ℕ) (some : 1 ≤ c) (gap : c + 2 ≤ g) where
     due-within at9 = either Within grown (more 1 (omega arith)) (omega arith, omega arith)
     due-within at10 = either Within now (omega arith, omega arith) (more 1 (omega arith))
     due-within at11 = (omega arith, omega arith)
+    due-within (draw p) = either Within steady (omega arith, omega arith) (omega arith, omega arith)
+    due-within (give p) = (omega arith, omega arith)
 
   pub owed-within : (s : Shared) (r : Rec) → Within (owed c g s r)
   owed-within s r = either Within (ending (r .place) r) (rest-within (r .place))

@@ -196,5 +196,5 @@ module _ (c g : ℕ) (gap : c + 2 ≤ g) (s : Shared) (r : Rec) where
     fall4-failed e k = again at4 e (missed e) k
 
   -- 11 answers.
-  pub fall11 : At at11 (act at11 s r)
-  fall11 = record { less = λ z. absurd (popped-running z) }
+  pub fall11 : s .pooled ≡ false → At at11 (act at11 s r)
+  fall11 named = by-test (At at11) (s .pooled) (λ e. absurd (not-both e named)) (λ e. record { less = λ z. absurd (popped-running z) })

@@ -8,11 +8,12 @@
 --   1     under RPUSH or LPUSH                 g + 5
 -- A task that will find its word changed goes back to 1 within one step, from 3, 5 and 7 within two, and starts anew.
 -- A finishing push only goes on from 5 to 10: it answers where another task goes to 1.
+-- (The bounds are for named queues, where the places of a pool do not occur.)
 use mathlib.Core.Bool.{Bool, _&&_, cond, not}
 use Prim.Native.Nat.{_+_, ℕ}
 use lib.Dec.{ltb}
-use Rattle.model.proofs.machine.Machine.{Place, Rec, Shared, at1, at10, at11, at2, at3, at4, at5, at6, at7, at8, at9, idle, isIdle, isStable}
-use Rattle.model.proofs.machine.Machine.{same, towards}
+use Rattle.model.proofs.machine.Machine.{Place, Rec, Shared, at1, at10, at11, at2, at3, at4, at5, at6, at7, at8, at9, draw, give, idle, isIdle}
+use Rattle.model.proofs.machine.Machine.{isStable, same, towards}
 
 -- At place 1.
 abbrev pub home : ℕ → ℕ → Bool → ℕ
@@ -33,6 +34,8 @@ due c g steady now grown at8 = cond now (cond grown (home c g steady + 2) (g + 1
 due c g steady now grown at9 = cond grown (home c g steady + 1) g
 due c g steady now grown at10 = cond now (c + 3) (home c g steady + 1)
 due c g steady now grown at11 = 1
+due c g steady now grown (draw p) = home c g steady
+due c g steady now grown (give p) = 1
 
 -- A finishing push (the places other than 5 to 10 do not occur).
 abbrev pub rest : Place → ℕ
@@ -48,6 +51,8 @@ rest at8 = 3
 rest at9 = 2
 rest at10 = 1
 rest at11 = 1
+rest (draw p) = 1
+rest (give p) = 1
 
 -- The link that the neighbour has now has a higher tag than the link as read.
 abbrev pub outgrown : Shared → Rec → Bool

@@ -4,7 +4,7 @@ use mathlib.Core.Bool.{Bool, _&&_, cond, false, true}
 use Prim.Native.Nat.{_+_, _≤_, ℕ}
 use native.Mathlib.Omega.{arith}
 use Rattle.model.proofs.laws.Tests.{either}
-use Rattle.model.proofs.machine.Machine.{Place, at1, at10, at11, at2, at3, at4, at5, at6, at7, at8, at9, idle}
+use Rattle.model.proofs.machine.Machine.{Place, at1, at10, at11, at2, at3, at4, at5, at6, at7, at8, at9, draw, give, idle}
 use Rattle.model.proofs.progress.Measure.{due, home}
 
 -- Branches on one test, arm by arm; and on two, past a number between.
@@ -36,6 +36,8 @@ module _ (c g′ g : ℕ) (le : g′ ≤ g) (steady now grown : Bool) where
   scale-le at9 = keep grown (omega (arith, home-le)) (omega arith)
   scale-le at10 = keep now (omega arith) (omega (arith, home-le))
   scale-le at11 = omega arith
+  scale-le (draw p) = home-le
+  scale-le (give p) = omega arith
 
 -- The link back is made: who waits at 8 or 9 to do it may find that its link has grown.
 module _ (steady now grown grown′ : Bool) where
@@ -65,6 +67,8 @@ module _ (steady now grown grown′ : Bool) where
   made-le at9 = past (after + 1) grown′ grown (omega arith) (omega (arith, after-le .0)) (omega (arith, after-le .2)) (omega (arith, after-le .1))
   made-le at10 = keep now (omega arith) (omega (arith, after-le .2))
   made-le at11 = omega arith
+  made-le (draw p) = after-le .2
+  made-le (give p) = omega arith
 
 -- Anchor is changed to STABLE: who had read it, or not, has not read it now (or had read ahead, which does not occur).
 pub stable-le : (now now′ grown : Bool) (p : Place) → due 1 3 true now′ grown p ≤ due 1 3 false now grown p
@@ -81,3 +85,5 @@ stable-le now now′ false at8 = past 4 now′ now (omega arith) (omega arith) (
 stable-le now now′ grown at9 = keep grown (omega arith) (omega arith)
 stable-le now now′ grown at10 = past 4 now′ now (omega arith) (omega arith) (omega arith) (omega arith)
 stable-le now now′ grown at11 = omega arith
+stable-le now now′ grown (draw p) = omega arith
+stable-le now now′ grown (give p) = omega arith

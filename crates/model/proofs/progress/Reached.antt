@@ -1,4 +1,5 @@
--- What holds of every queue that an accepted opening and a list of operations have made.
+-- What holds of every queue that an accepted named opening and a list of operations have made.
+use mathlib.Core.Bool.{false}
 use mathlib.Core.List.{List, [], _∷_}
 use mathlib.Core.Path.{_≡_}
 use Prim.Native.Nat.{suc, ℕ}
@@ -9,7 +10,7 @@ use Rattle.model.specs.Tables.{Queue}
 use Rattle.model.specs.declared.Op.{Op}
 use Rattle.model.proofs.ledger.Kept.{act-good}
 use Rattle.model.proofs.ledger.Matched.{Matched}
-use Rattle.model.proofs.ledger.Opened.{nobody, open-good}
+use Rattle.model.proofs.ledger.Opened.{nobody, open-good, some-slots}
 use Rattle.model.proofs.unsound.Never34.{act-safe}
 use Rattle.model.proofs.unsound.Safe.{Safe}
 use Rattle.model.proofs.NeverUnsound.{open-safe}
@@ -36,11 +37,11 @@ unfolding final
 final-reached [] tasks q z = z
 final-reached (o ∷ os) tasks q z = final-reached os tasks (act q (o .task) (o .op) .queue) (act-reached tasks q (o .task) (o .op) z)
 
-pub open-reached : (q : Queue) (tasks slots tag : ℕ) → openRefusal q tasks slots ≡ 0 → Reached tasks (opened q tasks slots tag)
+pub open-reached : (q : Queue) (tasks slots tag : ℕ) → openRefusal false q tasks slots ≡ 0 → Reached tasks (opened false q tasks slots tag)
 open-reached q tasks slots tag e = record {
   position = 1;
   ledger = nobody;
-  matched = open-good q tasks slots tag;
-  safe = open-safe q tasks slots tag e;
+  matched = open-good false q tasks slots tag (some-slots false q tasks slots e);
+  safe = open-safe false q tasks slots tag e;
   roomy = open-roomy q tasks slots tag e;
 }

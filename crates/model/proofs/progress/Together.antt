@@ -12,7 +12,7 @@ use Rattle.model.proofs.laws.Tests.{either}
 use Rattle.model.proofs.machine.Clerk.{Call, Noted, effect, noted}
 use Rattle.model.proofs.machine.Laws.{same-true, sameLink-true}
 use Rattle.model.proofs.machine.Machine.{Anchor, Kind, Link, Move, Place, Rec, Shared, Touch, act, aimed, apply, at1, at10, at11, at2, at3}
-use Rattle.model.proofs.machine.Machine.{at4, at5, at6, at7, at8, at9, both, finishes, four, goes, idle, isIdle, isStable, leave, none, one}
+use Rattle.model.proofs.machine.Machine.{at4, at5, at6, at7, at8, at9, both, draw, finishes, four, give, goes, idle, isIdle, isStable, leave, none, one}
 use Rattle.model.proofs.machine.Machine.{ownLink, pop, push, pushing, putAnchor, putLink, running, runs, same, sameLink, settled, three, tip}
 use Rattle.model.proofs.machine.Machine.{towards, two, withLink}
 use Rattle.model.proofs.invariant.Owners.{Owner, Whole}
@@ -92,7 +92,7 @@ module _ (s : Shared) (r : Rec) where
         (λ y. let a = aimed (r .read) (r .side) (r .own) (pushing (r .side)) in
         let m = runs (putAnchor a) (finishes r a) in
         let v : Shown t s h q b m = rw y at (place4 t s h q b all r push e w) in
-        loud _ s m (not-silent m (w .0 .before .none) (v .finish .stage .once)))
+        loud _ s m (not-silent m (w .0 .before .none) (v .finish .stage .0 .once)))
         (λ n. still _ s (one push s r) (one-none push) (fall4-failed 1 (scale s) (scale-some s) s r h q all (w .0 .early) n push))
     calm4 pop e w = by-test (At at4) now
         (λ y. let m = runs (putAnchor (aimed (r .read) (r .side) (r .near) (r .read .status))) (goes r at11) in
@@ -179,18 +179,20 @@ module _ (s : Shared) (r : Rec) where
         }
 
     -- A step of the task.
-    pub calmer : (p : Place) → isIdle p ≡ false → Task p s h t r b → At p (act p s r)
-    calmer idle i w = absurd (not-both refl i)
-    calmer at1 i w = still _ s (one (r .kind) s r) (one-none (r .kind)) (fall1 1 (scale s) (scale-some s) s r h q all (w .0) (r .kind))
-    calmer at2 i w = calm2 (r .kind) refl w
-    calmer at3 i w = calm3 (r .kind) refl w
-    calmer at4 i w = calm4 (r .kind) refl w
-    calmer at5 i w = still _ s (act at5 s r) refl (fall5 1 (scale s) (scale-some s) s r)
-    calmer at6 i w = still _ s (act at6 s r) (either Untouched now refl leave-none) (fall6 1 (scale s) (scale-some s) s r)
-    calmer at7 i w = still _ s (act at7 s r)
+    pub calmer : s .pooled ≡ false → (p : Place) → isIdle p ≡ false → Task p s h t r b → At p (act p s r)
+    calmer named idle i w = absurd (not-both refl i)
+    calmer named at1 i w = still _ s (one (r .kind) s r) (one-none (r .kind)) (fall1 1 (scale s) (scale-some s) s r h q all (w .0) (r .kind))
+    calmer named at2 i w = calm2 (r .kind) refl w
+    calmer named at3 i w = calm3 (r .kind) refl w
+    calmer named at4 i w = calm4 (r .kind) refl w
+    calmer named at5 i w = still _ s (act at5 s r) refl (fall5 1 (scale s) (scale-some s) s r)
+    calmer named at6 i w = still _ s (act at6 s r) (either Untouched now refl leave-none) (fall6 1 (scale s) (scale-some s) s r)
+    calmer named at7 i w = still _ s (act at7 s r)
         (either Untouched (eqb (s .link (towards (r .read .status)) (r .near) .slot) (tip (r .read) (towards (r .read .status)))) refl refl)
         (fall7 1 (scale s) (scale-some s) s r)
-    calmer at8 i w = still _ s (act at8 s r) (either Untouched now refl leave-none) (fall8 1 (scale s) (scale-some s) s r)
-    calmer at9 i w = calm9 w
-    calmer at10 i w = calm10 w
-    calmer at11 i w = loud _ s (act at11 s r) (λ z. popped-running (z .0))
+    calmer named at8 i w = still _ s (act at8 s r) (either Untouched now refl leave-none) (fall8 1 (scale s) (scale-some s) s r)
+    calmer named at9 i w = calm9 w
+    calmer named at10 i w = calm10 w
+    calmer named at11 i w = by-test (At at11) (s .pooled) (λ e. absurd (not-both e named)) (λ e. loud _ s _ (λ z. popped-running (z .0)))
+    calmer named (draw p) i w = absurd (not-both (w .0) named)
+    calmer named (give p) i w = absurd (not-both (w .0) named)

@@ -8,16 +8,16 @@ use native.Mathlib.Omega.{arith}
 use lib.Dec.{eqb}
 use lib.ListN.{set}
 use borrow.Author.Tests.{eqb-true}
-use Rattle.model.specs.Calls.{Acted, Done, act, actOn, back, finish, popStart, pushStart, step, taken}
+use Rattle.model.specs.Calls.{Acted, Done, act, actOn, back, finish, popStart, pushStart, putStart, step, taken}
 use Rattle.model.specs.History.{Event, Ledger, Request, isEffect, run}
 use Rattle.model.specs.Places.{linkMet, move}
 use Rattle.model.specs.Ends.{answerEnds}
 use Rattle.model.specs.Progress.{any, stepping, steps, stretchLimit, tells, tellsBy}
-use Rattle.model.specs.Refusals.{among, popRefusal, pushRefusal, stepRefusal}
-use Rattle.model.specs.Tables.{Queue, Tables, idle, recordAt, started}
-use Rattle.model.specs.declared.Answer.the-variants.{Empty, Popped, Pushed, Running}
+use Rattle.model.specs.Refusals.{among, popRefusal, pushRefusal, putRefusal, stepRefusal}
+use Rattle.model.specs.Tables.{Queue, Tables, idle, isPooled, recordAt, started}
+use Rattle.model.specs.declared.Answer.the-variants.{Empty, NoSlot, Popped, Pushed, Running}
 use Rattle.model.specs.declared.Answer.{Answer}
-use Rattle.model.specs.declared.Op.the-variants.{Pop, Push, Step}
+use Rattle.model.specs.declared.Op.the-variants.{Pop, Push, Put, Step}
 use Rattle.model.specs.declared.Op.{Op}
 use Rattle.model.specs.declared.Outcome.the-variants.{Moved, Refused}
 use Rattle.model.specs.declared.Record.{Record}
@@ -28,7 +28,7 @@ use Rattle.model.proofs.machine.Laws.{upd-other, upd-same}
 use Rattle.model.proofs.machine.Machine as M
 use Rattle.model.proofs.machine.Machine.{upd}
 use Rattle.model.proofs.invariant.Tasks.{Task}
-use Rattle.model.proofs.bridge.Accepted.{Lies, Stepping, pop-accepted, push-accepted, step-accepted}
+use Rattle.model.proofs.bridge.Accepted.{Lies, Stepping, pop-accepted, push-accepted, put-accepted, step-accepted}
 use Rattle.model.proofs.bridge.Decoded.{seenMove}
 use Rattle.model.proofs.bridge.EveryPlace.{step-seen}
 use Rattle.model.proofs.bridge.Operations.{not-idle, put-back, reply, state-is, stepped, task-of}
@@ -72,8 +72,9 @@ runs-on (Running p) e = refl
 runs-on Pushed e = absurd (not-both refl e)
 runs-on Empty e = absurd (not-both refl e)
 runs-on (Popped v) e = absurd (not-both refl e)
+runs-on NoSlot e = absurd (not-both refl e)
 
-module _ (n : ℕ) (q : Queue) (l : Ledger) (g : Matched n q l) (t : ℕ) where
+module _ (n : ℕ) (q : Queue) (l : Ledger) (g : Matched n q l) (named : isPooled (q .tables .control) ≡ false) (t : ℕ) where
   abbrev r : Record
   r = recordAt q t
 
@@ -89,16 +90,17 @@ module _ (n : ℕ) (q : Queue) (l : Ledger) (g : Matched n q l) (t : ℕ) where
       (d .outcome) ≡ false
       → stepping o (d .outcome) + all tasks (stateOf (d .queue)) ≤ all tasks (stateOf q)
 
-  abbrev Put : Op → Acted → Type 0
-  Put o a = Hushed o (back q t a)
+  abbrev Puts : Op → Acted → Type 0
+  Puts o a = Hushed o (back q t a)
 
-  refused : (o : Op) (why : ℕ) → Put o (record { tables = G; task = r; outcome = Refused why })
+  refused : (o : Op) (why : ℕ) → Puts o (record { tables = G; task = r; outcome = Refused why })
   refused o why z = subst (λ (x : List Record). stepping o (Refused why) + all tasks (stateOf (record { tables = G; records = x })) ≤ all tasks (stateOf q))
       (sym (set-back (q .records) t idle)) (go o)
     where
       go : (o : Op) → stepping o (Refused why) + all tasks (stateOf q) ≤ all tasks (stateOf q)
       go (Push side x y) = omega arith
       go (Pop side) = omega arith
+      go (Put side label) = omega arith
       go Step = omega arith
 
   -- A start: an idle task owes as much as one at place 1.
@@ -108,7 +110,7 @@ module _ (n : ℕ) (q : Queue) (l : Ledger) (g : Matched n q l) (t : ℕ) where
 
     abbrev begun : Queue
     begun = record {
-      tables = record { control = G .control; lefts = G .lefts; rights = G .rights; labels = labels; marks = marks };
+      tables = record { control = G .control; lefts = G .lefts; rights = G .rights; labels = labels; marks = marks; next = G .next };
       records = set (q .records) t new;
     }
 
@@ -133,9 +135,9 @@ module _ (n : ℕ) (q : Queue) (l : Ledger) (g : Matched n q l) (t : ℕ) where
     ev = record { task = t; op = Step; outcome = Moved a; before = G .control .anchor; after = q′ .tables .control .anchor }
 
     calm : Calmer (together (view G) (recOf r)) (view G) (seenMove G r)
-    unfolding recOf stateOf
+    unfolding recOf stateOf view
     calm = subst (Calmer (together (view G) (recOf r)) (view G)) (step-seen G (s .control) (g .links) r (s .fine) (s .busy) (s .room))
-        (calmer (view G) (recOf r) t (g .inv .owner) (g .book .queue) (g .book .calls t) (g .inv .whole) (placeOf (r .place))
+        (calmer (view G) (recOf r) t (g .inv .owner) (g .book .queue) (g .book .calls t) (g .inv .whole) named (placeOf (r .place))
         (not-idle (r .place) (s .busy) (s .fine .place))
         (subst (λ (x : M.Rec). Task (x .place) (view G) (g .inv .owner) t x (g .book .calls t)) (task-of q t (s .lies .known)) (g .inv .tasks t)))
 
@@ -151,25 +153,28 @@ module _ (n : ℕ) (q : Queue) (l : Ledger) (g : Matched n q l) (t : ℕ) where
         (omega (arith, calm .own silent, ap (together (view G)) (task-of q t (s .lies .known)))))
 
   push-put : (side x y : ℕ) → Lies q t → r .place ≡ 0
-      → Put (Push side x y) (record { tables = taken G x y; task = started 0 side x y; outcome = Moved (Running 1) })
+      → Puts (Push side x y) (record { tables = taken G x y; task = started 0 side x y; outcome = Moved (Running 1) })
   push-put side x y z free _ = omega (arith, start-all z free (taken G x y .labels) (taken G x y .marks) 0 side x y)
 
-  pop-put : (side : ℕ) → Lies q t → r .place ≡ 0 → Put (Pop side) (record { tables = G; task = started 1 side 0 0; outcome = Moved (Running 1) })
+  pop-put : (side : ℕ) → Lies q t → r .place ≡ 0 → Puts (Pop side) (record { tables = G; task = started 1 side 0 0; outcome = Moved (Running 1) })
   pop-put side z free _ = omega (arith, start-all z free (G .labels) (G .marks) 1 side 0 0)
 
-  step-put : Stepping q t → Put Step (finish G r (move (G .control) r (linkMet G r)))
+  step-put : Stepping q t → Puts Step (finish G r (move (G .control) r (linkMet G r)))
   unfolding finish
   step-put s z = omega (arith, step-all s z)
 
   pub act-all : (o : Op) → Hushed o (act q t o)
-  unfolding act actOn pushStart popStart step
-  act-all (Push side x y) = by-test (Put (Push side x y)) (eqb (pushRefusal G (among q t) r side x) 0)
+  unfolding act actOn pushStart putStart popStart step
+  act-all (Push side x y) = by-test (Puts (Push side x y)) (eqb (pushRefusal G (among q t) r side x) 0)
       (λ e. let p = push-accepted q t side x (eqb-true _ _ e) in push-put side x y (p .starting .lies) (p .starting .free))
       (λ e. refused (Push side x y) (pushRefusal G (among q t) r side x))
-  act-all (Pop side) = by-test (Put (Pop side)) (eqb (popRefusal G (among q t) r side) 0)
+  act-all (Pop side) = by-test (Puts (Pop side)) (eqb (popRefusal G (among q t) r side) 0)
       (λ e. let p = pop-accepted q t side (eqb-true _ _ e) in pop-put side (p .lies) (p .free))
       (λ e. refused (Pop side) (popRefusal G (among q t) r side))
-  act-all Step = by-test (Put Step) (eqb (stepRefusal G (among q t) r) 0)
+  act-all (Put side y) = by-test (Puts (Put side y)) (eqb (putRefusal G (among q t) r side) 0)
+      (λ e. absurd (not-both (put-accepted q t side (eqb-true _ _ e) .1) named))
+      (λ e. refused (Put side y) (putRefusal G (among q t) r side))
+  act-all Step = by-test (Puts Step) (eqb (stepRefusal G (among q t) r) 0)
       (λ e. step-put (step-accepted q t (eqb-true _ _ e))) (λ e. refused Step (stepRefusal G (among q t) r))
 
 -- A list of operations that tells nothing has no more accepted steps than the tasks owe at its beginning.
@@ -181,7 +186,7 @@ run-all (o ∷ os) tasks q z e =
     let w = neither _ (any tells (run (d .queue) os)) e in
     let a : stepping (o .op) (d .outcome) + all tasks (stateOf (d .queue)) ≤ all tasks (stateOf q) =
     subst (λ n. stepping (o .op) (d .outcome) + all n (stateOf (d .queue)) ≤ all n (stateOf q)) (z .roomy .tasks-are)
-    (act-all (z .position) q (z .ledger) (z .matched) (o .task) (o .op) (w .0)) in
+    (act-all (z .position) q (z .ledger) (z .matched) (z .roomy .named) (o .task) (o .op) (w .0)) in
     let b = run-all os tasks (d .queue) (act-reached tasks q (o .task) (o .op) z) (w .1) in
     omega arith
 

@@ -1,18 +1,18 @@
 -- Anchor's tag and the changes of it that are still to come never grow together; a start at a tag up to 4,294,967,262 has room for all.
 use mathlib.Core.Bool.{Bool, cond, false, true}
-use mathlib.Core.Logic.{_≢_, _⊎_, inl, inr}
-use mathlib.Core.Path.{_∙_, _≡_, ap, fun-ext, refl, subst, sym}
+use mathlib.Core.Path.{_∙_, _≡_, ap, refl}
 use Prim.Native.Nat.{_*_, _+_, _<_, _≤_, suc, ℕ}
 use native.Mathlib.Omega.{arith}
 use lib.Dec.{eqb}
-use Rattle.model.proofs.tests.Truth.{by-test, decide-eq}
+use Rattle.model.proofs.tests.Truth.{by-test}
 use Rattle.model.proofs.machine.Clerk.{Call}
-use Rattle.model.proofs.machine.Laws.{same-true, upd-other, upd-same}
-use Rattle.model.proofs.machine.Machine.{Anchor, Kind, Move, Place, Rec, Shared, Status, Touch, act, aimed, apply, at1, at10, at11, at2, at3, at4, at5, at6, at7, at8, at9, four, idle, isStable, leave, none, one, pop, push, pushing, putAnchor, same, sameLink, settled, stable, three, tip, two, upd}
+use Rattle.model.proofs.machine.Laws.{same-true}
+use Rattle.model.proofs.machine.Machine.{Anchor, Draw, Give, Kind, Move, Place, Rec, Shared, Status, Touch, act, aimed, apply, at1, at10, at11, at12, at13, at14, at15, at16, at17, at2, at3, at4, at5, at6, at7, at8, at9, draw, draws, four, give, gives, idle, isStable, leave, none, one, pop, push, pushing, putAnchor, same, sameLink, settled, stable, three, tip, two, upd}
+use Rattle.model.proofs.machine.Machine.{exhausted}
 use Rattle.model.proofs.invariant.Owners.{Owner}
 use Rattle.model.proofs.invariant.Tags.{cost, owes, spent, unsettled, weight}
 use Rattle.model.proofs.invariant.Tasks.{Task, Three, way}
-use Rattle.model.proofs.tags.Sum.{total, total-le, total-upd}
+use Rattle.model.proofs.tags.Sum.{total, total-at, total-le}
 
 pub record Light (s : Shared) (r : Rec) (m : Move) : Type 0 where
   pub less : weight (apply s (m .touch)) + cost (m .rec) ≤ weight s + cost r
@@ -84,6 +84,18 @@ module _ (s : Shared) (h : ℕ → Owner) (t : ℕ) (r : Rec) (c : Call) where
   light3 push e = record { less = omega arith }
   light3 pop e = record { less = omega arith }
 
+  -- A push that has no slot yet owes all; who gives one back owes nothing.
+  light-draw : (p : Draw) → cost r ≡ owes (r .kind) → Light s r (draws p s r)
+  light-draw at12 e = by-test (Light s r) (exhausted (s .head)) (λ z. record { less = omega arith }) (λ z. record { less = omega arith })
+  light-draw at13 e = record { less = omega arith }
+  light-draw at14 e = by-test (Light s r) (sameLink (r .link) (s .head))
+      (λ z. record { less = by-test (λ n. weight s + n ≤ weight s + cost r) (r .finishing) (λ f. omega arith) (λ f. omega arith) }) (λ z. record { less = omega arith })
+
+  light-give : (p : Give) → Light s r (gives p s r)
+  light-give at15 = record { less = omega arith }
+  light-give at16 = record { less = omega arith }
+  light-give at17 = by-test (Light s r) (sameLink (r .link) (s .head)) (λ z. record { less = omega arith }) (λ z. record { less = omega arith })
+
   spends : (p : Place) → r .place ≡ p → spent p (r .finishing) ≡ r .finishing → cost r ≡ busy
   unfolding busy
   spends p e f = ap (λ (b : Bool). cond b 0 (owes (r .kind))) (ap (λ (z : Place). spent z (r .finishing)) e ∙ f)
@@ -108,23 +120,15 @@ module _ (s : Shared) (h : ℕ → Owner) (t : ℕ) (r : Rec) (c : Call) where
       let u : unsettled (r .read .status) ≡ 1 = ap unsettled (w .0 .status) in
       light-leave (putAnchor (settled (r .read))) (omega (arith, tag-of p, status-of p)) g)
       (λ z. light-leave none (omega arith) g)
-  light at11 e w = record { less = omega arith }
+  light at11 e w = by-test (Light s r) (s .pooled) (λ z. record { less = omega arith }) (λ z. record { less = omega arith })
+  light (draw p) e w = light-draw p (ap (λ (z : Place). cond (spent z (r .finishing)) 0 (owes (r .kind))) e)
+  light (give p) e w = light-give p
 
 -- Over all tasks.
 module _ (s : Shared) (f : ℕ → Rec) (n t : ℕ) (lt : t < n) where
-  total-cost : (r : Rec) → total (λ u. cost (upd f t r u)) n + cost (f t) ≡ total (λ u. cost (f u)) n + cost r
-  total-cost r = ap (λ (k : ℕ → ℕ). total k n + cost (f t)) (fun-ext (λ u. by-test′ u)) ∙ total-upd (λ u. cost (f u)) t (cost r) n lt
-    where
-      by-test′ : (u : ℕ) → cost (upd f t r u) ≡ upd (λ u. cost (f u)) t (cost r) u
-      by-test′ u = go (decide-eq u t)
-        where
-          go : (u ≡ t) ⊎ (u ≢ t) → cost (upd f t r u) ≡ upd (λ u. cost (f u)) t (cost r) u
-          go (inl z) = subst (λ u. cost (upd f t r u) ≡ upd (λ u. cost (f u)) t (cost r) u) (sym z) (ap cost (upd-same f t r) ∙ sym (upd-same (λ u. cost (f u)) t (cost r)))
-          go (inr z) = ap cost (upd-other f t r u z) ∙ sym (upd-other (λ u. cost (f u)) t (cost r) u z)
-
   -- A step.
   pub step-bound : (m : Move) (b : ℕ) → Light s (f t) m → weight s + total (λ u. cost (f u)) n ≤ b → weight (apply s (m .touch)) + total (λ u. cost (upd f t (m .rec) u)) n ≤ b
-  step-bound m b l h = omega (arith, l .less, total-cost (m .rec))
+  step-bound m b l h = omega (arith, l .less, total-at cost f t (m .rec) n lt)
 
   -- A start, below the limit of refusal 33: Anchor's tag, one change to settle, and two for each task.
   pub start-bound : (s′ : Shared) (r : Rec) (b : ℕ) → s′ .anchor ≡ s .anchor → s .anchor .tag + 1 + 2 * n ≤ b → weight s′ + total (λ u. cost (upd f t r u)) n ≤ b

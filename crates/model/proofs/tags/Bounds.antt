@@ -1,19 +1,20 @@
 -- The bounds on tags leave room for every change that a step makes.
 use mathlib.Core.Bool.{Bool, true}
 use mathlib.Core.Logic.{_≢_}
-use mathlib.Core.Path.{_∙_, _≡_, ap, refl}
-use Prim.Native.Nat.{_+_, _≤_, suc, ℕ}
+use mathlib.Core.Path.{_∙_, _≡_, ap, refl, subst}
+use Prim.Native.Nat.{_+_, _<_, _≤_, suc, ℕ}
 use native.Mathlib.Omega.{arith}
 use lib.Dec.{eqb}
 use borrow.Author.Tests.{eq-eqb}
 use Rattle.word.specs.Anchor.{anchorOf}
-use Rattle.model.specs.Tables.{Tables}
+use Rattle.word.specs.Link.{linkOf}
+use Rattle.model.specs.Tables.{atPlace, Tables, isPooled}
 use Rattle.model.specs.declared.Record.{Record}
 use Rattle.model.proofs.tests.ByPlace.{by-place}
 use Rattle.model.proofs.tests.Truth.{by-test}
 use Rattle.model.proofs.machine.Laws.{aimed-tag, relink-same}
 use Rattle.model.proofs.machine.Machine as M
-use Rattle.model.proofs.invariant.Tags.{Tags, cost, weight}
+use Rattle.model.proofs.invariant.Tags.{Tags, cost, owes, share, weight}
 use Rattle.model.proofs.bridge.Decoded.{RoomAt}
 use Rattle.model.proofs.bridge.Facts.{ControlFine, LinksFine, RecordFine}
 use Rattle.model.proofs.bridge.View.{anchorSeen, kindOf, linkAt, linkSeen, placeOf, recOf, view}
@@ -45,12 +46,12 @@ module _ (s : M.Shared) (r : M.Rec) where
       let z = ap (λ (w : M.Link). w .tag) (relink-same (s .link) d (r .near) v) in
       omega (arith, y .upper d (r .near) h)
 
-module _ (q : Tables) (c : ControlFine (q .control)) (k : LinksFine q) (r : Record) (h : RecordFine (q .control .slots) r) (low : anchorOf (q .control .anchor) .tag ≤ 4294967295) where
+module _ (q : Tables) (c : ControlFine (q .control)) (k : LinksFine q) (r : Record) (h : RecordFine (isPooled (q .control)) (q .control .slots) r) (low : anchorOf (q .control .anchor) .tag ≤ 4294967295) where
   abbrev at : ℕ → Record
-  at p = record { place = p; kind = r .kind; side = r .side; own = r .own; label = r .label; seen = r .seen; neighbour = r .neighbour; link = r .link; finishing = r .finishing }
+  at p = atPlace r p
 
   abbrev Bounds : ℕ → Type 0
-  Bounds p = weight (view q) + cost (recOf (at p)) ≤ 4294967295 → Light (view q) (recOf (at p)) (M.act (placeOf p) (view q) (recOf (at p)))
+  Bounds p = (12 ≤ p → p ≤ 14 → r .kind ≡ 0) → (2 ≤ share (recOf (at p)) + cost (recOf (at p)) → suc (linkOf (q .control .head) .tag) ≤ 4294967295) → weight (view q) + cost (recOf (at p)) ≤ 4294967295 → Light (view q) (recOf (at p)) (M.act (placeOf p) (view q) (recOf (at p)))
       → Tagged (view q) (M.act (placeOf p) (view q) (recOf (at p))) → RoomAt q (at p) (placeOf p)
 
   current : q .control .anchor ≡ r .seen → M.same (anchorSeen (r .seen)) (anchorSeen (q .control .anchor)) ≡ true
@@ -63,18 +64,27 @@ module _ (q : Tables) (c : ControlFine (q .control)) (k : LinksFine q) (r : Reco
       ap (λ (b : Bool). M.sameLink (linkSeen (r .link)) (linkSeen (linkAt q b (r .neighbour)))) (towards-status (anchorOf (r .seen) .status))
       ∙ same-link-word (r .link) (linkAt q d (r .neighbour)) (h .spare) (k .spare d (r .neighbour) (h .neighbour)) ∙ eq-eqb _ _ z
 
+  raise : q .control .head ≡ r .link → suc (linkOf (q .control .head) .tag) ≤ 4294967295 → linkOf (r .link) .tag < 4294967295
+  raise z l = subst (λ w. linkOf w .tag < 4294967295) z (omega arith)
+
   pub room-bounded : r .place ≢ 0 → Bounds (r .place)
   unfolding recOf view
   room-bounded busy = by-place Bounds
-      (λ b l g. tt)
-      (λ b l g z. omega (arith, room2 (view q) (recOf (at 2)) (kindOf (r .kind)) (current z) l))
-      (λ b l g. tt)
-      (λ b l g z. omega (arith, room4 (view q) (recOf (at 4)) (kindOf (r .kind)) (current z) l))
-      (λ b l g. tt)
-      (λ b l g. tt)
-      (λ b l g. tt)
-      (λ b l g. tt)
-      (λ b l g z. omega (arith, low, room9 (view q) (recOf (at 9)) (unchanged z) (h .neighbour) g))
-      (λ b l g z. omega (arith, room10 (view q) (recOf (at 10)) (current z) l))
-      (λ b l g. tt)
+      (λ p i b l g. tt)
+      (λ p i b l g z. omega (arith, room2 (view q) (recOf (at 2)) (kindOf (r .kind)) (current z) l))
+      (λ p i b l g. tt)
+      (λ p i b l g z. omega (arith, room4 (view q) (recOf (at 4)) (kindOf (r .kind)) (current z) l))
+      (λ p i b l g. tt)
+      (λ p i b l g. tt)
+      (λ p i b l g. tt)
+      (λ p i b l g. tt)
+      (λ p i b l g z. omega (arith, low, room9 (view q) (recOf (at 9)) (unchanged z) (h .neighbour) g))
+      (λ p i b l g z. omega (arith, room10 (view q) (recOf (at 10)) (current z) l))
+      (λ p i b l g. tt)
+      (λ p i b l g. tt)
+      (λ p i b l g. tt)
+      (λ p i b l g z. raise z (i (let k : owes (kindOf (r .kind)) ≡ 2 = ap (λ (n : ℕ). owes (kindOf n)) (p (omega arith) (omega arith)) in omega arith)))
+      (λ p i b l g. tt)
+      (λ p i b l g. tt)
+      (λ p i b l g z. raise z (i (omega arith)))
       (r .place) busy (h .place)

@@ -13,7 +13,8 @@ use Rattle.model.proofs.lists.Slots.{slots}
 use Rattle.model.proofs.machine.Clerk.{Call}
 use Rattle.model.proofs.machine.Laws.{later, relink-across, relink-other, relink-same, same-side, same-true, sameLink-true}
 use Rattle.model.proofs.machine.LinkTags.{relink-keeps}
-use Rattle.model.proofs.machine.Machine.{Anchor, Kind, Link, Move, Place, Rec, Shared, Status, Touch, act, aimed, apply, at1, at10, at11, at2, at3, at4, at5, at6, at7, at8, at9, both, four, idle, inner, isStable, leave, none, one, pop, push, pushing, putAnchor, relink, same, sameLink, settled, three, tip, two, withAnchor, withLink}
+use Rattle.model.proofs.machine.Machine.{Anchor, Kind, Link, Move, Place, Rec, Shared, Status, Touch, act, aimed, apply, at1, at10, at11, at12, at13, at14, at15, at16, at17, at2, at3, at4, at5, at6, at7, at8, at9, both, draw, four, give, idle, inner, isStable, leave, none, one, pop, push, pushing, putAnchor, relink, same, sameLink, settled, three, tip, two, withAnchor, withLink}
+use Rattle.model.proofs.machine.Machine.{exhausted}
 use Rattle.model.proofs.invariant.Owners.{Owner, Whole, held, queued}
 use Rattle.model.proofs.invariant.Rely.{Quiet, Turned}
 use Rattle.model.proofs.invariant.Shape.{Made}
@@ -113,7 +114,7 @@ module _ (s : Shared) (g : Tags s) where
         n = ap (λ (b : Anchor). inner s e (tip b e)) (sym (l .current)) ∙ l .near
 
         low : x ≤ s .slots
-        low = inner-in (s .link) (s .anchor) (slots q) (all .shape) e (λ z. z ≤ s .slots) st (all-map (λ z. h z ≡ queued) _ (λ z e. all .marks z (λ f. queued-free (sym e ∙ f)) .1) (slots q) (all .owned))
+        low = inner-in (s .link) (s .anchor) (slots q) (all .shape) e (λ z. z ≤ s .slots) st (all-map (λ z. h z ≡ queued) _ (λ z e. all .bounds z (λ f. queued-free (sym e ∙ f)) .1) (slots q) (all .owned))
 
         lt : Made (s .link) (s .anchor) e ⊎ ((y : ℕ) → y ≤ s .slots → s .link e y .tag < s .anchor .tag) → suc (r .link .tag) ≤ s .anchor .tag
         lt (inl m) = absurd (w .1 .other (ap (λ (w : Link). w .slot) z ∙ ap (λ (y : ℕ). s .link e y .slot) (sym n) ∙ m ∙ ap (λ (b : Anchor). tip b e) (sym (l .current))))
@@ -134,4 +135,11 @@ module _ (s : Shared) (g : Tags s) where
     tags at8 w = by-test (Tagged s) (same (r .read) (s .anchor)) (λ e. keeps _ _) (λ e. leaves r none g)
     tags at9 w = by-test (Tagged s) (sameLink (r .link) (s .link (way (r .read)) (r .near))) (λ e. record { tagged = tags9 w (sameLink-true _ _ e) (w .1 .chance) }) (λ e. leaves r none g)
     tags at10 w = by-test (Tagged s) (same (r .read) (s .anchor)) (λ e. leaves r (putAnchor (settled (r .read))) (turned (settled (r .read)) (later (r .read) (s .anchor) (same-true _ _ e)))) (λ e. leaves r none g)
-    tags at11 w = record { tagged = record { upper = g .upper; room = g .room } }
+    -- From here on neither Anchor nor a link is touched.
+    tags at11 w = by-test (Tagged s) (s .pooled) (λ e. record { tagged = record { upper = g .upper; room = g .room } }) (λ e. record { tagged = record { upper = g .upper; room = g .room } })
+    tags (draw at12) w = by-test (Tagged s) (exhausted (s .head)) (λ e. keeps _ _) (λ e. keeps _ _)
+    tags (draw at13) w = keeps _ _
+    tags (draw at14) w = by-test (Tagged s) (sameLink (r .link) (s .head)) (λ e. record { tagged = record { upper = g .upper; room = g .room } }) (λ e. keeps _ _)
+    tags (give at15) w = keeps _ _
+    tags (give at16) w = record { tagged = record { upper = g .upper; room = g .room } }
+    tags (give at17) w = by-test (Tagged s) (sameLink (r .link) (s .head)) (λ e. record { tagged = record { upper = g .upper; room = g .room } }) (λ e. keeps _ _)

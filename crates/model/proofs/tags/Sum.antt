@@ -1,6 +1,6 @@
 -- Sums over the numbers below n.
 use mathlib.Core.Logic.{_≢_, _⊎_, inl, inr}
-use mathlib.Core.Path.{_∙_, _≡_, ap, refl, subst, sym}
+use mathlib.Core.Path.{_∙_, _≡_, ap, fun-ext, refl, subst, sym}
 use Prim.Native.Nat.{_*_, _+_, _<_, _≤_, suc, zero, ℕ}
 use native.Mathlib.Omega.{arith}
 use Rattle.model.proofs.tests.Truth.{decide-eq}
@@ -28,6 +28,14 @@ total-upd f t v (suc n) h = go (λ l. total-upd f t v n l) (decide-eq n t)
         let c = ap f z in
         omega arith
     go ih (inr z) = let a = upd-other f t v n z in omega (arith, ih (omega arith))
+
+-- The same of a function of records, one of which is replaced.
+pub total-at : {A : Type 0} (g : A → ℕ) (f : ℕ → A) (t : ℕ) (v : A) (n : ℕ) → t < n → total (λ u. g (upd f t v u)) n + g (f t) ≡ total (λ u. g (f u)) n + g v
+total-at g f t v n lt = ap (λ (k : ℕ → ℕ). total k n + g (f t)) (fun-ext (λ u. one u (decide-eq u t))) ∙ total-upd (λ u. g (f u)) t (g v) n lt
+  where
+    one : (u : ℕ) → (u ≡ t) ⊎ (u ≢ t) → g (upd f t v u) ≡ upd (λ u. g (f u)) t (g v) u
+    one u (inl z) = subst (λ u. g (upd f t v u) ≡ upd (λ u. g (f u)) t (g v) u) (sym z) (ap g (upd-same f t v) ∙ sym (upd-same (λ u. g (f u)) t (g v)))
+    one u (inr z) = ap g (upd-other f t v u z) ∙ sym (upd-other (λ u. g (f u)) t (g v) u z)
 
 pub total-one : (f : ℕ → ℕ) (t n : ℕ) → t < n → f t ≤ total f n
 total-one f t n h = omega (arith, total-upd f t 0 n h)

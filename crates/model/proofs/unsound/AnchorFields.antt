@@ -5,7 +5,7 @@ use mathlib.Core.Path.{_∙_, _≡_, refl, subst, sym}
 use Prim.Native.Nat.{_≤_, suc, zero, ℕ}
 use native.Mathlib.Omega.{arith}
 use Rattle.word.specs.Anchor.{anchorOf}
-use Rattle.model.specs.Places.{Touch, clearMark, nothing, setAnchor, setLink}
+use Rattle.model.specs.Places.{Touch, clearMark, nothing, setAnchor, setHead, setLink, setNext, takeSlot}
 use Rattle.model.specs.Refusals.{leavesSound}
 use Rattle.model.specs.Tables.{Tables}
 use Rattle.model.specs.declared.Entry.{Entry}
@@ -25,7 +25,7 @@ use Rattle.model.proofs.unsound.Tests.{anchor-sound}
 
 tip-low : (s : Shared) (h : ℕ → Owner) (q : List Entry) → Whole s h q → (d : Bool) → tip (s .anchor) d ≤ s .slots
 tip-low s h q w d = subst (λ x. x ≤ s .slots) (sym (w .shape .tips d)) (all-front (λ x. x ≤ s .slots) (seen d (slots q)) 0
-    (all-seen (λ x. x ≤ s .slots) d (slots q) (all-map (λ x. h x ≡ queued) _ (λ x e. w .marks x (λ f. queued-free (sym e ∙ f)) .1) (slots q) (w .owned))) (omega arith))
+    (all-seen (λ x. x ≤ s .slots) d (slots q) (all-map (λ x. h x ≡ queued) _ (λ x e. w .bounds x (λ f. queued-free (sym e ∙ f)) .1) (slots q) (w .owned))) (omega arith))
 
 stable-zero : (n : ℕ) → n ≤ 2 → statusOf n ≡ M.stable → n ≡ 0
 stable-zero zero h e = refl
@@ -55,3 +55,6 @@ module _ (q : Tables) where
   touch-sound (setAnchor a) h l w st = anchor-sound (q .control .slots) (anchorOf a) (whole-fine a _ h l refl refl w st)
   touch-sound (setLink side x v) h l w st = refl
   touch-sound (clearMark x) h l w st = refl
+  touch-sound (takeSlot v x y) h l w st = refl
+  touch-sound (setNext x v) h l w st = refl
+  touch-sound (setHead v) h l w st = refl

@@ -2,29 +2,29 @@
 use mathlib.Core.Bool.{Bool, _&&_, false, not, true}
 use mathlib.Core.List.{List, [], _∷_}
 use mathlib.Core.Logic.{_≢_, _⊎_, inl, inr}
-use mathlib.Core.Path.{_≡_, ap, refl, subst, sym}
+use mathlib.Core.Path.{_≡_, ap, subst, sym}
 use Prim.Native.Nat.{suc, ℕ}
 use native.Mathlib.Omega.{arith}
 use lib.Dec.{eqb, leb}
 use borrow.Author.Tests.{eq-eqb, eqb-false, eqb-true, not-false}
-use Rattle.model.specs.Calls.{Acted, Done, act, actOn, back, finish, popStart, pushStart, step}
+use Rattle.model.specs.Calls.{Acted, Done, act, actOn, back, finish, popStart, pushStart, putStart, step}
 use Rattle.model.specs.History.{Ledger, NeverUnsound, Request, final, run}
 use Rattle.model.specs.Places.{linkMet}
-use Rattle.model.specs.Refusals.{among, late, popRefusal, pushRefusal, stepRefusal, stepSound}
+use Rattle.model.specs.Refusals.{among, late, popRefusal, pushRefusal, putRefusal, stepRefusal, stepSound}
 use Rattle.model.specs.Sound.{controlSound, from1, recordSound, rowsFit}
-use Rattle.model.specs.Tables.{Queue, Tables, idle, marked, recordAt}
+use Rattle.model.specs.Tables.{Queue, Tables, asking, idle, isPooled, marked, recordAt, started}
 use Rattle.model.specs.declared.Answer.{Answer}
-use Rattle.model.specs.declared.Op.the-variants.{Pop, Push, Step}
+use Rattle.model.specs.declared.Op.the-variants.{Pop, Push, Put, Step}
 use Rattle.model.specs.declared.Op.{Op}
 use Rattle.model.specs.declared.Outcome.the-variants.{Moved, Refused}
 use Rattle.model.specs.declared.Record.{Record}
 use Rattle.model.proofs.tests.Truth.{by-test, decide-eq, not-both}
 use Rattle.model.proofs.lists.Store.{set-back}
-use Rattle.model.proofs.bridge.Accepted.{Lies, lies, pop-accepted, push-accepted, step-accepted}
+use Rattle.model.proofs.bridge.Accepted.{Lies, lies, pop-accepted, push-accepted, put-accepted, step-accepted}
 use Rattle.model.proofs.ledger.Kept.{act-good}
 use Rattle.model.proofs.ledger.Matched.{Matched}
 use Rattle.model.proofs.unsound.Safe.{Safe}
-use Rattle.model.proofs.unsound.StartSafe.{start-safe, started-fine}
+use Rattle.model.proofs.unsound.StartSafe.{pop-begins, push-begins, put-begins, start-safe}
 use Rattle.model.proofs.unsound.StepSafe.{step-safe}
 use Rattle.model.proofs.unsound.StepSound.{own-sound, step-sound}
 
@@ -36,11 +36,11 @@ module _ (n : ℕ) (q : Queue) (l : Ledger) (g : Matched n q l) (f : Safe q) (t 
   G = q .tables
 
   -- No rule of 34 applies.
-  record-passes : Lies q t → recordSound (G .control .slots) r ≡ true
+  record-passes : Lies q t → recordSound (isPooled (G .control)) (G .control .slots) r ≡ true
   unfolding recordSound
   record-passes z = go (decide-eq (r .place) 0)
     where
-      go : (r .place ≡ 0) ⊎ (r .place ≢ 0) → recordSound (G .control .slots) r ≡ true
+      go : (r .place ≡ 0) ⊎ (r .place ≢ 0) → recordSound (isPooled (G .control)) (G .control .slots) r ≡ true
       go (inl e) = rw (eq-eqb (r .place) 0 e)
       go (inr e) = own-sound n q l g f t z e
 
@@ -51,7 +51,7 @@ module _ (n : ℕ) (q : Queue) (l : Ledger) (g : Matched n q l) (f : Safe q) (t 
   Not34 v = v ≢ 34
 
   abbrev fits : Bool
-  fits = rowsFit (G .control .slots) G && among q t .enough
+  fits = rowsFit (isPooled (G .control)) (G .control .slots) G && among q t .enough
 
   found : not fits ≡ false → not (among q t .known) ≡ false → Lies q t
   found e k = lies q t (not-false _ e) (not-false _ k)
@@ -63,11 +63,24 @@ module _ (n : ℕ) (q : Queue) (l : Ledger) (g : Matched n q l) (f : Safe q) (t 
       (λ e. by-test Not34 (not fits) (λ e. omega arith)
       (λ z. by-test Not34 (not (among q t .known)) (λ e. omega arith)
       (λ k. by-test Not34 (not (leb side 1)) (λ e. omega arith)
+      (λ e. by-test Not34 (isPooled (G .control)) (λ e. omega arith)
       (λ e. by-test Not34 (not (from1 (G .control .slots) x)) (λ e. omega arith)
-      (λ e. by-test Not34 (not (recordSound (G .control .slots) r)) (λ e. absurd (never (record-passes (found z k)) e))
+      (λ e. by-test Not34 (not (recordSound (isPooled (G .control)) (G .control .slots) r)) (λ e. absurd (never (record-passes (found z k)) e))
       (λ e. by-test Not34 (not (eqb (r .place) 0)) (λ e. omega arith)
       (λ e. by-test Not34 (marked (G .marks) x) (λ e. omega arith)
-      (λ e. by-test Not34 (late G) (λ e. omega arith) (λ e. omega arith)))))))))
+      (λ e. by-test Not34 (late G) (λ e. omega arith) (λ e. omega arith))))))))))
+
+  put-34 : (side : ℕ) → Not34 (putRefusal G (among q t) r side)
+  unfolding putRefusal
+  put-34 side =
+      by-test Not34 (not (controlSound (G .control))) (λ e. absurd (never (f .control) e))
+      (λ e. by-test Not34 (not fits) (λ e. omega arith)
+      (λ z. by-test Not34 (not (among q t .known)) (λ e. omega arith)
+      (λ k. by-test Not34 (not (leb side 1)) (λ e. omega arith)
+      (λ e. by-test Not34 (not (isPooled (G .control))) (λ e. omega arith)
+      (λ e. by-test Not34 (not (recordSound (isPooled (G .control)) (G .control .slots) r)) (λ e. absurd (never (record-passes (found z k)) e))
+      (λ e. by-test Not34 (not (eqb (r .place) 0)) (λ e. omega arith)
+      (λ e. by-test Not34 (late G) (λ e. omega arith) (λ e. omega arith))))))))
 
   pop-34 : (side : ℕ) → Not34 (popRefusal G (among q t) r side)
   unfolding popRefusal
@@ -76,7 +89,7 @@ module _ (n : ℕ) (q : Queue) (l : Ledger) (g : Matched n q l) (f : Safe q) (t 
       (λ e. by-test Not34 (not fits) (λ e. omega arith)
       (λ z. by-test Not34 (not (among q t .known)) (λ e. omega arith)
       (λ k. by-test Not34 (not (leb side 1)) (λ e. omega arith)
-      (λ e. by-test Not34 (not (recordSound (G .control .slots) r)) (λ e. absurd (never (record-passes (found z k)) e))
+      (λ e. by-test Not34 (not (recordSound (isPooled (G .control)) (G .control .slots) r)) (λ e. absurd (never (record-passes (found z k)) e))
       (λ e. by-test Not34 (not (eqb (r .place) 0)) (λ e. omega arith)
       (λ e. by-test Not34 (late G) (λ e. omega arith) (λ e. omega arith)))))))
 
@@ -86,7 +99,7 @@ module _ (n : ℕ) (q : Queue) (l : Ledger) (g : Matched n q l) (f : Safe q) (t 
       by-test Not34 (not (controlSound (G .control))) (λ e. absurd (never (f .control) e))
       (λ e. by-test Not34 (not fits) (λ e. omega arith)
       (λ z. by-test Not34 (not (among q t .known)) (λ e. omega arith)
-      (λ k. by-test Not34 (not (recordSound (G .control .slots) r)) (λ e. absurd (never (record-passes (found z k)) e))
+      (λ k. by-test Not34 (not (recordSound (isPooled (G .control)) (G .control .slots) r)) (λ e. absurd (never (record-passes (found z k)) e))
       (λ e. by-test Not34 (eqb (r .place) 0) (λ e. omega arith)
       (λ b. by-test Not34 (not (stepSound (G .control) r (linkMet G r)))
       (λ e. absurd (never (step-sound n q l g f t (found z k) (eqb-false _ _ b)) e)) (λ e. omega arith))))))
@@ -95,28 +108,30 @@ module _ (n : ℕ) (q : Queue) (l : Ledger) (g : Matched n q l) (f : Safe q) (t 
   abbrev After : Done → Type 0
   After d = (d .outcome ≡ Refused 34 → ⊥) × Safe (d .queue)
 
-  abbrev Put : Acted → Type 0
-  Put a = After (back q t a)
+  abbrev Puts : Acted → Type 0
+  Puts a = After (back q t a)
 
-  refused : (why : ℕ) → Not34 why → Put (record { tables = G; task = r; outcome = Refused why })
+  refused : (why : ℕ) → Not34 why → Puts (record { tables = G; task = r; outcome = Refused why })
   refused why h = (λ e. h cc, subst (λ (x : List Record). Safe (record { tables = G; records = x })) (sym (set-back (q .records) t idle)) f)
 
   moved : (a : Answer) → Moved a ≡ Refused 34 → ⊥
   moved a e = let w : _≡_ {A = ℕ} 0 1 = cc in omega arith
 
   pub act-safe : (o : Op) → After (act q t o)
-  unfolding act actOn pushStart popStart step finish
-  act-safe (Push side x y) = by-test Put (eqb (pushRefusal G (among q t) r side x) 0)
+  unfolding act actOn pushStart putStart popStart step finish
+  act-safe (Push side x y) = by-test Puts (eqb (pushRefusal G (among q t) r side x) 0)
       (λ e. let p = push-accepted q t side x (eqb-true _ _ e) in
-      let h = started-fine (G .control .slots) 0 side x y (omega arith) (p .starting .side) (λ e. absurd (omega arith)) (λ e. (p .real, p .within)) in
-      (moved _, start-safe q f t (p .starting .lies) (p .starting .early) _ _ 0 side x y h))
+      (moved _, start-safe q f t (p .starting .lies) (p .starting .early) (p .starting .free) _ _ (started 0 side x y) (push-begins (isPooled (G .control)) (G .control .slots) side x y (p .starting .side) (p .real) (p .within))))
       (λ e. refused (pushRefusal G (among q t) r side x) (push-34 side x))
-  act-safe (Pop side) = by-test Put (eqb (popRefusal G (among q t) r side) 0)
+  act-safe (Pop side) = by-test Puts (eqb (popRefusal G (among q t) r side) 0)
       (λ e. let p = pop-accepted q t side (eqb-true _ _ e) in
-      let h = started-fine (G .control .slots) 1 side 0 0 (omega arith) (p .side) (λ e. refl) (λ e. absurd (omega arith)) in
-      (moved _, start-safe q f t (p .lies) (p .early) _ _ 1 side 0 0 h))
+      (moved _, start-safe q f t (p .lies) (p .early) (p .free) _ _ (started 1 side 0 0) (pop-begins (isPooled (G .control)) (G .control .slots) side (p .side))))
       (λ e. refused (popRefusal G (among q t) r side) (pop-34 side))
-  act-safe Step = by-test Put (eqb (stepRefusal G (among q t) r) 0)
+  act-safe (Put side y) = by-test Puts (eqb (putRefusal G (among q t) r side) 0)
+      (λ e. let p = put-accepted q t side (eqb-true _ _ e) in
+      (moved _, start-safe q f t (p .0 .lies) (p .0 .early) (p .0 .free) _ _ (asking side y) (put-begins (isPooled (G .control)) (G .control .slots) side y (p .1) (p .0 .side))))
+      (λ e. refused (putRefusal G (among q t) r side) (put-34 side))
+  act-safe Step = by-test Puts (eqb (stepRefusal G (among q t) r) 0)
       (λ e. let s = step-accepted q t (eqb-true _ _ e) in (moved _, step-safe n q l g f t (s .lies) (s .busy)))
       (λ e. refused (stepRefusal G (among q t) r) step-34)
 

@@ -1,5 +1,5 @@
 -- A start leaves everything as sound as it was: its tag limit pays for the changes that the new call owes.
-use mathlib.Core.Bool.{false}
+use mathlib.Core.Bool.{Bool, false, true}
 use mathlib.Core.List.{List}
 use mathlib.Core.Logic.{_≢_, _⊎_, inl, inr}
 use mathlib.Core.Path.{_∙_, _≡_, ap, refl, subst, sym}
@@ -10,51 +10,95 @@ use lib.Seq.{getD-set-other, getD-set-same}
 use borrow.Author.Tests.{ltb-false}
 use Rattle.word.specs.Anchor.{anchorOf}
 use Rattle.model.specs.Refusals.{late}
-use Rattle.model.specs.Tables.{Queue, Tables, idle, recordAt, started}
+use Rattle.model.specs.Tables.{Queue, Tables, asking, idle, isPooled, recordAt, started}
 use Rattle.model.specs.declared.Record.{Record}
 use Rattle.model.proofs.tests.Truth.{decide-eq, not-both}
 use Rattle.model.proofs.machine.Laws.{upd-other, upd-same}
 use Rattle.model.proofs.machine.Machine as M
 use Rattle.model.proofs.machine.Machine.{upd}
 use Rattle.model.proofs.invariant.Fields.{Extra}
-use Rattle.model.proofs.invariant.Tags.{cost, weight}
+use Rattle.model.proofs.invariant.Tags.{cost, share, weight}
+use Rattle.model.proofs.places.Owned.{push-pop}
 use Rattle.model.proofs.bridge.Accepted.{Lies}
 use Rattle.model.proofs.bridge.Facts.{AnchorFine, RecordFine, control-fine}
-use Rattle.model.proofs.bridge.Operations.{put-back}
-use Rattle.model.proofs.bridge.View.{recOf, stateOf, view}
+use Rattle.model.proofs.bridge.Operations.{put-back, task-of}
+use Rattle.model.proofs.bridge.View.{placeOf, recOf, stateOf, view}
 use Rattle.model.proofs.tags.AnchorTag.{start-bound}
+use Rattle.model.proofs.tags.HeadTag.{head-start}
 use Rattle.model.proofs.tags.Sum.{total}
 use Rattle.model.proofs.unsound.Safe.{Safe}
 
 zero-anchor : (slots : ℕ) → AnchorFine slots (anchorOf 0)
 zero-anchor slots = record { status = omega arith; left = omega arith; right = omega arith; null = λ e. refl; full = λ e. refl; single = λ e. refl }
 
-pub started-fine : (slots kind side x y : ℕ) → kind ≤ 1 → side ≤ 1 → (kind ≡ 1 → x ≡ 0) → (kind ≡ 0 → (1 ≤ x) × (x ≤ slots)) → RecordFine slots (started kind side x y)
-started-fine slots kind side x y hk hs pop push = record {
+pub started-fine : (pooled : Bool) (slots kind side x y : ℕ) → kind ≤ 1 → side ≤ 1 → x ≤ slots → RecordFine pooled slots (started kind side x y)
+started-fine pooled slots kind side x y hk hs hx = record {
   place = omega arith;
+  named = λ e. omega arith;
   kind = hk;
   side = hs;
   finishing = omega arith;
   last = λ e. absurd (omega arith);
-  own-pop = pop;
-  own-push = push;
+  gives = λ e. absurd (omega arith);
+  draws = λ e g. absurd (omega arith);
+  own = hx;
   neighbour = omega arith;
   spare = refl;
   link = omega arith;
   seen = zero-anchor slots;
 }
 
-module _ (q : Queue) (f : Safe q) (t : ℕ) (z : Lies q t) (early : late (q .tables) ≡ false) (labels marks : List ℕ) (kind side x y : ℕ)
-    (h : RecordFine (q .tables .control .slots) (started kind side x y)) where
-  abbrev new : Record
-  new = started kind side x y
+pub asking-fine : (pooled : Bool) (slots side y : ℕ) → pooled ≡ true → side ≤ 1 → RecordFine pooled slots (asking side y)
+asking-fine pooled slots side y p hs = record {
+  place = omega arith;
+  named = λ e. absurd (not-both p e);
+  kind = omega arith;
+  side = hs;
+  finishing = omega arith;
+  last = λ e. absurd (omega arith);
+  gives = λ e. absurd (omega arith);
+  draws = λ e g. refl;
+  own = omega arith;
+  neighbour = omega arith;
+  spare = refl;
+  link = omega arith;
+  seen = zero-anchor slots;
+}
 
+-- A record that a start may write: sound, with a share of 1 at the most.
+pub record Begins (pooled : Bool) (slots : ℕ) (new : Record) : Type 0 where
+  pub fine : RecordFine pooled slots new
+  pub extra : Extra (recOf new .place) (recOf new)
+  pub share : share (recOf new) ≤ 1
+
+pub push-begins : (pooled : Bool) (slots side x y : ℕ) → side ≤ 1 → 1 ≤ x → x ≤ slots → Begins pooled slots (started 0 side x y)
+unfolding recOf
+push-begins pooled slots side x y hs some low = record {
+  fine = started-fine pooled slots 0 side x y (omega arith) hs low;
+  extra = (λ e. absurd (not-both e refl), λ e z. omega arith, λ e. absurd (push-pop e));
+  share = omega arith;
+}
+
+pub pop-begins : (pooled : Bool) (slots side : ℕ) → side ≤ 1 → Begins pooled slots (started 1 side 0 0)
+unfolding recOf
+pop-begins pooled slots side hs = record {
+  fine = started-fine pooled slots 1 side 0 0 (omega arith) hs (omega arith);
+  extra = (λ e. absurd (not-both e refl), λ e. absurd (push-pop (sym e)), λ e. refl);
+  share = omega arith;
+}
+
+pub put-begins : (pooled : Bool) (slots side y : ℕ) → pooled ≡ true → side ≤ 1 → Begins pooled slots (asking side y)
+unfolding recOf
+put-begins pooled slots side y p hs = record { fine = asking-fine pooled slots side y p hs; extra = refl; share = omega arith }
+
+module _ (q : Queue) (f : Safe q) (t : ℕ) (z : Lies q t) (early : late (q .tables) ≡ false) (free : recordAt q t .place ≡ 0) (labels marks : List ℕ) (new : Record)
+    (h : Begins (isPooled (q .tables .control)) (q .tables .control .slots) new) where
   abbrev G : Tables
   G = q .tables
 
   abbrev q′ : Queue
   q′ = record {
-    tables = record { control = G .control; lefts = G .lefts; rights = G .rights; labels = labels; marks = marks };
+    tables = record { control = G .control; lefts = G .lefts; rights = G .rights; labels = labels; marks = marks; next = G .next };
     records = set (q .records) t new;
   }
 
@@ -62,20 +106,20 @@ module _ (q : Queue) (f : Safe q) (t : ℕ) (z : Lies q t) (early : late (q .tab
   unfolding stateOf
   tasks-are = put-back q t z new
 
-  fine′ : (u : ℕ) → u < G .control .tasks → recordAt q′ u .place ≢ 0 → RecordFine (G .control .slots) (recordAt q′ u)
+  fine′ : (u : ℕ) → u < G .control .tasks → recordAt q′ u .place ≢ 0 → RecordFine (isPooled (G .control)) (G .control .slots) (recordAt q′ u)
   fine′ u lu = go (decide-eq u t)
     where
-      go : (u ≡ t) ⊎ (u ≢ t) → recordAt q′ u .place ≢ 0 → RecordFine (G .control .slots) (recordAt q′ u)
-      go (inl e) = subst (λ (v : Record). v .place ≢ 0 → RecordFine (G .control .slots) v)
-          (sym (ap (λ (v : ℕ). getD (set (q .records) t new) v idle) e ∙ getD-set-same (q .records) t new idle (omega (arith, z .length, z .known)))) (λ b. h)
-      go (inr e) = subst (λ (v : Record). v .place ≢ 0 → RecordFine (G .control .slots) v) (sym (getD-set-other (q .records) t u new idle e)) (f .fine u lu)
+      go : (u ≡ t) ⊎ (u ≢ t) → recordAt q′ u .place ≢ 0 → RecordFine (isPooled (G .control)) (G .control .slots) (recordAt q′ u)
+      go (inl e) = subst (λ (v : Record). v .place ≢ 0 → RecordFine (isPooled (G .control)) (G .control .slots) v)
+          (sym (ap (λ (v : ℕ). getD (set (q .records) t new) v idle) e ∙ getD-set-same (q .records) t new idle (omega (arith, z .length, z .known)))) (λ b. h .fine)
+      go (inr e) = subst (λ (v : Record). v .place ≢ 0 → RecordFine (isPooled (G .control)) (G .control .slots) v) (sym (getD-set-other (q .records) t u new idle e)) (f .fine u lu)
 
   extra′ : (u : ℕ) → Extra (stateOf q′ .task u .place) (stateOf q′ .task u)
   unfolding recOf
   extra′ u = subst (λ (v : M.Rec). Extra (v .place) v) (sym (ap (λ (f : ℕ → M.Rec). f u) tasks-are)) (go (decide-eq u t))
     where
       go : (u ≡ t) ⊎ (u ≢ t) → Extra (upd (stateOf q .task) t (recOf new) u .place) (upd (stateOf q .task) t (recOf new) u)
-      go (inl e) = subst (λ (v : M.Rec). Extra (v .place) v) (sym (ap (λ (v : ℕ). upd (stateOf q .task) t (recOf new) v) e ∙ upd-same (stateOf q .task) t (recOf new))) (λ f. absurd (not-both f refl))
+      go (inl e) = subst (λ (v : M.Rec). Extra (v .place) v) (sym (ap (λ (v : ℕ). upd (stateOf q .task) t (recOf new) v) e ∙ upd-same (stateOf q .task) t (recOf new))) (h .extra)
       go (inr e) = subst (λ (v : M.Rec). Extra (v .place) v) (sym (upd-other (stateOf q .task) t (recOf new) u e)) (f .extra u)
 
   bound′ : weight (view (q′ .tables)) + total (λ u. cost (stateOf q′ .task u)) (G .control .tasks) ≤ 4294967295
@@ -86,6 +130,11 @@ module _ (q : Queue) (f : Safe q) (t : ℕ) (z : Lies q t) (early : late (q .tab
       (start-bound (view G) (stateOf q .task) (G .control .tasks) t (z .known) (view (q′ .tables)) (recOf new) 4294967295 refl
       (omega (arith, control-fine (G .control) (f .control) .tasks)))
 
+  head′ : view G .head .tag + total (λ u. share (stateOf q′ .task u)) (G .control .tasks) ≤ view G .anchor .tag + G .control .tasks
+  unfolding recOf
+  head′ = subst (λ (k : ℕ → M.Rec). view G .head .tag + total (λ u. share (k u)) (G .control .tasks) ≤ view G .anchor .tag + G .control .tasks) (sym tasks-are)
+      (head-start (stateOf q .task) (G .control .tasks) t (z .known) (recOf new) (ap (λ (x : M.Rec). x .place) (task-of q t (z .known)) ∙ ap placeOf free) (h .share) (view G .head .tag) (view G .anchor .tag) (f .head))
+
   pub start-safe : Safe q′
   unfolding view
-  start-safe = record { control = f .control; fine = fine′; extra = extra′; tags = record { upper = f .tags .upper; room = f .tags .room }; bound = bound′ }
+  start-safe = record { control = f .control; fine = fine′; extra = extra′; tags = record { upper = f .tags .upper; room = f .tags .room }; bound = bound′; head = head′ }

@@ -1,26 +1,27 @@
 -- A step of a busy task passes every test of soundness.
-use mathlib.Core.Bool.{Bool, _&&_, _||_, cond, false, not, true}
+use mathlib.Core.Bool.{Bool, _||_, cond, false, not, true}
 use mathlib.Core.Logic.{_≢_}
 use mathlib.Core.Path.{_∙_, _≡_, ap, refl, subst, sym}
-use Prim.Native.Nat.{_≤_, ℕ}
+use Prim.Native.Nat.{_+_, _≤_, suc, ℕ}
 use native.Mathlib.Omega.{arith}
 use lib.Dec.{eqb, leb}
-use borrow.Author.Tests.{eq-eqb, eqb-true, le-leb}
+use borrow.Author.Tests.{eq-eqb, eqb-true, le-leb, ne-eqb}
 use Rattle.word.specs.Anchor.{anchorOf}
+use Rattle.word.specs.Link.{linkOf, spareOf}
 use Rattle.word.specs.declared.Anchor as word
 use Rattle.model.specs.History.{Ledger}
 use Rattle.model.specs.Places.{Move, linkMet, linkSide, move, row, sideOf}
-use Rattle.model.specs.Refusals.{leavesSound, meetsLink, stepSound, stepTests}
+use Rattle.model.specs.Refusals.{leavesSound, meetsHead, meetsLink, needsRow, stepSound, stepTests}
 use Rattle.model.specs.Sound.{from1, linkSound, recordSound}
-use Rattle.model.specs.Tables.{Queue, Tables, named, near, recordAt}
+use Rattle.model.specs.Tables.{atPlace, Queue, Tables, isPooled, named, near, recordAt}
 use Rattle.model.specs.declared.Record.{Record}
 use Rattle.model.proofs.tests.ByPlace.{by-place}
 use Rattle.model.proofs.tests.Rules.{_and_, passes}
-use Rattle.model.proofs.tests.Truth.{by-test, not-both, or-second}
+use Rattle.model.proofs.tests.Truth.{by-test, not-both, or-cases, or-first, or-second, split}
 use Rattle.model.proofs.machine.Clerk as B
 use Rattle.model.proofs.machine.Machine as M
 use Rattle.model.proofs.invariant.Fields.{Extra}
-use Rattle.model.proofs.invariant.Tags.{cost}
+use Rattle.model.proofs.invariant.Tags.{cost, share}
 use Rattle.model.proofs.invariant.Tasks.{Task, Three}
 use Rattle.model.proofs.bridge.Accepted.{Lies, Stepping}
 use Rattle.model.proofs.bridge.Decoded.{RoomAt, seenMove}
@@ -28,11 +29,12 @@ use Rattle.model.proofs.bridge.EveryPlace.{step-seen}
 use Rattle.model.proofs.bridge.Facts.{AnchorFine, ControlFine, RecordFine, control-fine}
 use Rattle.model.proofs.bridge.Operations.{step-seen-keeps, task-of}
 use Rattle.model.proofs.bridge.Room.{room-testing}
-use Rattle.model.proofs.bridge.Touches.{row-fine}
+use Rattle.model.proofs.bridge.Touches.{beyond, row-fine}
 use Rattle.model.proofs.bridge.View.{anchorSeen, placeOf, recOf, stateOf, view}
 use Rattle.model.proofs.ledger.Matched.{Matched}
 use Rattle.model.proofs.tags.AnchorTag.{Light, light}
 use Rattle.model.proofs.tags.Bounds.{room-bounded}
+use Rattle.model.proofs.tags.HeadTag.{Even, fair, head-room}
 use Rattle.model.proofs.tags.LinkTag.{Tagged, tags}
 use Rattle.model.proofs.tags.Sum.{total-one}
 use Rattle.model.proofs.unsound.AnchorFields.{touch-sound}
@@ -58,7 +60,7 @@ module _ (n : ℕ) (q : Queue) (l : Ledger) (g : Matched n q l) (f : Safe q) (t 
   control-is = control-fine (G .control) (f .control)
 
   module _ (z : Lies q t) (busy : r .place ≢ 0) where
-    pub h : RecordFine (G .control .slots) r
+    pub h : RecordFine (isPooled (G .control)) (G .control .slots) r
     h = f .fine t (z .known) busy
 
     pub own-task : Task (placeOf (r .place)) (view G) (g .inv .owner) t (recOf r) (b .calls t)
@@ -69,8 +71,8 @@ module _ (n : ℕ) (q : Queue) (l : Ledger) (g : Matched n q l) (f : Safe q) (t 
     unfolding recOf
     own-extra = subst (λ (x : M.Rec). Extra (x .place) x) (task-of q t (z .known)) (f .extra t)
 
-    pub own-sound : recordSound (G .control .slots) r ≡ true
-    own-sound = record-sound (G .control .slots) r h (view G) (g .inv .owner) t (b .calls t) busy own-task own-extra
+    pub own-sound : recordSound (isPooled (G .control)) (G .control .slots) r ≡ true
+    own-sound = record-sound (isPooled (G .control)) (G .control .slots) r h (view G) (g .inv .owner) t (b .calls t) busy own-task own-extra
 
     pub lighter : Light (view G) (recOf r) (M.act (placeOf (r .place)) (view G) (recOf r))
     unfolding recOf
@@ -80,10 +82,19 @@ module _ (n : ℕ) (q : Queue) (l : Ledger) (g : Matched n q l) (f : Safe q) (t 
     unfolding stateOf
     tagged = tags (view G) (f .tags) (g .inv .owner) t (recOf r) (b .calls t) (b .queue) (g .inv .whole) (placeOf (r .place)) own-task
 
+    pub evener : Even (view G) (recOf r) (M.act (placeOf (r .place)) (view G) (recOf r))
+    unfolding recOf
+    evener = fair (view G) (g .inv .owner) t (recOf r) (b .calls t) (placeOf (r .place)) refl own-task
+
     -- The tags have room.
+    head-fits : 2 ≤ share (recOf r) + cost (recOf r) → suc (linkOf (G .control .head) .tag) ≤ 4294967295
+    unfolding view
+    head-fits e = head-room (stateOf q .task) (view G .head .tag) (view G .anchor .tag) 4294967295 t (G .control .tasks) (z .known)
+        (subst (λ (x : M.Rec). 2 ≤ share x + cost x) (sym (task-of q t (z .known))) e) (f .head) (omega (arith, f .bound))
+
     room : RoomAt G r (placeOf (r .place))
     unfolding view
-    room = room-bounded G control-is (g .links) r h (omega (arith, f .bound)) busy
+    room = room-bounded G control-is (g .links) r h (omega (arith, f .bound)) busy (h .draws) head-fits
         (let y = total-one (λ u. cost (stateOf q .task u)) t (G .control .tasks) (z .known) in let v = ap cost (task-of q t (z .known)) in omega (arith, f .bound)) lighter tagged
 
     pub stepping : Stepping q t
@@ -93,12 +104,11 @@ module _ (n : ℕ) (q : Queue) (l : Ledger) (g : Matched n q l) (f : Safe q) (t 
     seen = step-seen G control-is (g .links) r h busy room
 
     -- The row that a place needs.
-    abbrev rowAt : ℕ → ℕ
-    rowAt p = cond (eqb p 7 || eqb p 9) (r .neighbour)
-        (cond (eqb p 3 && eqb (r .kind) 0) (r .own) (near (cond (leb 5 p && leb p 10) (named (anchorOf (r .seen) .status)) (r .side)) (anchorOf (r .seen))))
+    abbrev at : ℕ → Record
+    at p = atPlace r p
 
     abbrev Rowed : ℕ → Type 0
-    Rowed p = not (eqb p 3 || eqb p 5 || eqb p 7 || eqb p 9 || eqb p 11) || from1 (G .control .slots) (rowAt p) ≡ true
+    Rowed p = not (needsRow (at p)) || from1 (G .control .slots) (row (at p)) ≡ true
 
     real : (x : ℕ) → x ≢ 0 → x ≤ G .control .slots → from1 (G .control .slots) x ≡ true
     real x n e = rw (le-leb 1 x (omega arith), le-leb x (G .control .slots) e)
@@ -113,19 +123,19 @@ module _ (n : ℕ) (q : Queue) (l : Ledger) (g : Matched n q l) (f : Safe q) (t 
     Says p = Task (placeOf p) (view G) (g .inv .owner) t (recOf r) (b .calls t) → Extra (placeOf p) (recOf r) → Rowed p
 
     row3 : Says 3
-    unfolding recOf
+    unfolding recOf row sideOf
     row3 y x = by-test (λ v. from1 (G .control .slots) v ≡ true) (eqb (r .kind) 0)
-        (λ e. let o = h .own-push (eqb-true _ _ e) in real (r .own) (λ z. let o1 = o .0 in omega arith) (o .1))
+        (λ e. real (r .own) (x .1 (rw e)) (h .own))
         (λ e. let th : Three M.pop (anchorSeen (r .seen)) = subst (λ (b : Bool). Three (cond b M.push M.pop) (anchorSeen (r .seen))) e (y .1) in
         near-fine (r .side) (near-real (G .control .slots) (anchorOf (r .seen)) (h .seen) (th .1) (eqb (r .side) 1)))
 
     row5 : Says 5
-    unfolding recOf
+    unfolding recOf row sideOf
     row5 y x = near-fine (named (anchorOf (r .seen) .status)) (near-real (G .control .slots) (anchorOf (r .seen)) (h .seen)
         (λ z. not-both (eq-eqb _ _ (h .seen .single z)) (unstable (anchorOf (r .seen) .status) _ (y .status))) (eqb (named (anchorOf (r .seen) .status)) 1))
 
     row11 : Says 11
-    unfolding recOf
+    unfolding recOf row sideOf
     row11 y x = near-fine (r .side) (subst (λ v. v ≢ 0) (tip-cond (eqb (r .side) 1)) (x .2))
       where
         tip-cond : (d : Bool) → M.tip (anchorSeen (r .seen)) d ≡ cond d (anchorOf (r .seen) .right) (anchorOf (r .seen) .left)
@@ -133,7 +143,7 @@ module _ (n : ℕ) (q : Queue) (l : Ledger) (g : Matched n q l) (f : Safe q) (t 
         tip-cond true = refl
 
     row-sound : Rowed (r .place)
-    unfolding recOf
+    unfolding recOf row sideOf
     row-sound = by-place Says
         (λ y x. refl)
         (λ y x. refl)
@@ -146,22 +156,49 @@ module _ (n : ℕ) (q : Queue) (l : Ledger) (g : Matched n q l) (f : Safe q) (t 
         (λ y x. neighbour-fine (x .1))
         (λ y x. refl)
         row11
+        (λ y x. refl)
+        (λ y x. refl)
+        (λ y x. refl)
+        (λ y x. refl)
+        (λ y x. refl)
+        (λ y x. refl)
         (r .place) busy (h .place) own-task own-extra
 
-    met-sound : linkSound (G .control .slots) (linkMet G r) ≡ true
-    met-sound =
-        let e = row-fine (G .control .slots) r h in
+    -- What it finds there: a link word up to 10, a next at 13.
+    pub met-link : r .place ≤ 10 → (spareOf (linkMet G r) ≡ 0) × (linkOf (linkMet G r) .slot ≤ G .control .slots)
+    met-link le =
+        let e = row-fine (isPooled (G .control)) (G .control .slots) r h in
         let d = eqb (linkSide r) 1 in
-        link-sound (G .control .slots) (linkMet G r) (g .links .spare d (row r) e) (g .links .slot d (row r) e)
+        rw (ne-eqb (r .place) 11 (λ z. omega arith), ne-eqb (r .place) 13 (λ z. omega arith)) (g .links .spare d (row r) e, g .links .slot d (row r) e)
+
+    pub met-next : r .place ≡ 13 → linkMet G r ≤ G .control .slots
+    met-next e =
+        let p : isPooled (G .control) ≡ true = beyond (isPooled (G .control)) (G .control .slots) r h (omega arith) in
+        rw (ne-eqb (r .place) 11 (λ z. omega arith), eq-eqb (r .place) 13 e) (g .links .next p (row r) (row-fine (isPooled (G .control)) (G .control .slots) r h))
+
+    link-test : not (meetsLink r) || linkSound (G .control .slots) (linkMet G r) ≡ true
+    link-test = split (meetsLink r)
+        (λ e. let m = met-link (met-low e) in or-second (not (meetsLink r)) (link-sound (G .control .slots) (linkMet G r) (m .0) (m .1)))
+        (λ e. or-first _ (ap not e))
+      where
+        met-low : meetsLink r ≡ true → r .place ≤ 10
+        met-low e = or-cases (eqb (r .place) 3 || eqb (r .place) 5) (eqb (r .place) 7) e
+            (λ y. or-cases (eqb (r .place) 3) (eqb (r .place) 5) y (λ x. omega (arith, eqb-true (r .place) 3 x)) (λ x. omega (arith, eqb-true (r .place) 5 x)))
+            (λ y. omega (arith, eqb-true (r .place) 7 y))
+
+    next-test : not (eqb (r .place) 13) || leb (linkMet G r) (G .control .slots) ≡ true
+    next-test = split (eqb (r .place) 13)
+        (λ e. or-second (not (eqb (r .place) 13)) (le-leb _ _ (met-next (eqb-true _ _ e)))) (λ e. or-first _ (ap not e))
 
     abbrev m : Move
     m = move (G .control) r (linkMet G r)
 
     pub new-sound : leavesSound (G .control .slots) (m .touch) ≡ true
     new-sound = let a = step-seen-keeps q b (g .inv) (g .links) t stepping in
-        touch-sound G (m .touch) (a .owner) _ (a .whole) (move-status (G .control) r (linkMet G r) h)
+        touch-sound G (m .touch) (a .owner) _ (a .whole) (move-status (isPooled (G .control)) (G .control) r (linkMet G r) h busy)
 
     pub step-sound : stepSound (G .control) r (linkMet G r) ≡ true
-    unfolding stepSound row sideOf
+    unfolding stepSound
     step-sound = passes (stepTests (G .control) r (linkMet G r))
-        (row-sound and or-second (not (meetsLink r)) met-sound and new-sound and room-testing G r busy (h .place) room and tt)
+        (row-sound and link-test and new-sound and room-testing G r busy (h .place) room
+        and or-second (not (meetsHead r)) (link-sound (G .control .slots) (G .control .head) (g .links .head .0) (g .links .head .1)) and next-test and tt)

@@ -1,11 +1,11 @@
 -- Facts as tests: an Anchor, a link word and a busy record within their meaning pass the tests of soundness.
 use mathlib.Core.Bool.{Bool, _&&_, _||_, cond, false, not, true}
-use mathlib.Core.Logic.{_≢_, _⊎_, inl, inr}
-use mathlib.Core.Path.{_≡_, ap, refl, subst}
+use mathlib.Core.Logic.{_≢_}
+use mathlib.Core.Path.{_∙_, _≡_, ap, refl, subst, sym}
 use Prim.Native.Nat.{_≤_, ℕ}
 use native.Mathlib.Omega.{arith}
 use lib.Dec.{eqb, leb}
-use borrow.Author.Tests.{eq-eqb, eqb-false, eqb-true, le-leb}
+use borrow.Author.Tests.{eq-eqb, eqb-false, eqb-true, le-leb, leb-true, ne-eqb}
 use Rattle.word.specs.Anchor.{anchorOf}
 use Rattle.word.specs.Link.{linkOf, spareOf}
 use Rattle.word.specs.declared.Anchor.{Anchor}
@@ -13,12 +13,13 @@ use Rattle.model.specs.Sound.{anchorSound, anchorTests, from1, linkSound
 use Rattle.model.specs.declared.Record.{Record}
 use Rattle.model.proofs.tests.ByPlace.{by-place}
 use Rattle.model.proofs.tests.Rules.{_and_, passes}
-use Rattle.model.proofs.tests.Truth.{agree, and-of, beq-of, decide-eq, or-first, or-second, split}
+use Rattle.model.proofs.tests.Truth.{agree, and-of, and-true, beq-of, or-cases, or-first, or-second, split}
 use Rattle.model.proofs.machine.Clerk.{Call}
 use Rattle.model.proofs.machine.Machine as M
 use Rattle.model.proofs.invariant.Fields.{Extra}
 use Rattle.model.proofs.invariant.Owners.{Owner}
 use Rattle.model.proofs.invariant.Tasks.{Task}
+use Rattle.model.proofs.places.Owned.{push-pop}
 use Rattle.model.proofs.bridge.Facts.{AnchorFine, RecordFine}
 use Rattle.model.proofs.bridge.View.{kindOf, placeOf, recOf, statusOf}
 
@@ -56,7 +57,7 @@ unstable n d e = split (eqb n 0) (λ z. absurd (go n (eqb-true n 0 z) e)) (λ z.
     go : (n : ℕ) → n ≡ 0 → statusOf n ≡ M.pushing d → ⊥
     go n z e = let f : M.stable ≡ M.pushing d = subst (λ n. statusOf n ≡ M.pushing d) z e in let w : _≡_ {A = ℕ} 0 1 = cc in omega arith
 
-module _ (slots : ℕ) (r : Record) (h : RecordFine slots r) where
+module _ (pooled : Bool) (slots : ℕ) (r : Record) (h : RecordFine pooled slots r) where
   early : (p : ℕ) → leb 5 p && leb p 10 ≡ false → eqb (r .finishing) 1 ≡ false → Placed (r .finishing) (r .kind) (anchorOf (r .seen) .status) p
   early p z e = (or-first _ (small-zero (r .finishing) (h .finishing) e), rw z)
 
@@ -67,44 +68,85 @@ module _ (slots : ℕ) (r : Record) (h : RecordFine slots r) where
     rw (unstable _ d s) (or-second (not (leb 5 p && leb p 10)) refl),
   )
 
-  own : (r .kind ≡ 0) ⊎ (r .kind ≢ 0) → (eqb (r .kind) 1 && eqb (r .own) 0) || (eqb (r .kind) 0 && from1 slots (r .own)) ≡ true
-  own (inl z) = or-second (eqb (r .kind) 1 && eqb (r .own) 0) (and-of (eq-eqb _ _ z) (and-of (le-leb _ _ (h .own-push z .0)) (le-leb _ _ (h .own-push z .1))))
-  own (inr z) = let k : r .kind ≡ 1 = omega (arith, h .kind) in or-first _ (and-of (eq-eqb _ _ k) (eq-eqb _ _ (h .own-pop k)))
+  -- The tests of the own slot: at 1 to 11, 12 to 14, 15 to 17.
+  abbrev Owned : ℕ → Type 0
+  Owned p = cond (cond (eqb (r .kind) 0) (not (leb 12 p && leb p 14)) (leb 15 p)) (from1 slots (r .own)) (eqb (r .own) 0) ≡ true
+
+  real : r .own ≢ 0 → from1 slots (r .own) ≡ true
+  real n = and-of (le-leb 1 (r .own) (omega arith)) (le-leb _ _ (h .own))
+
+  own-trying : (kindOf (r .kind) ≡ M.push → r .own ≢ 0) → (kindOf (r .kind) ≡ M.pop → r .own ≡ 0) → cond (cond (eqb (r .kind) 0) true false) (from1 slots (r .own)) (eqb (r .own) 0) ≡ true
+  own-trying push pop = split (eqb (r .kind) 0) (λ e. rw e (real (push (rw e)))) (λ e. rw e (eq-eqb _ _ (pop (rw e))))
+
+  own-drawing : r .own ≡ 0 → cond (cond (eqb (r .kind) 0) false false) (from1 slots (r .own)) (eqb (r .own) 0) ≡ true
+  own-drawing z = split (eqb (r .kind) 0) (λ e. rw e (eq-eqb _ _ z)) (λ e. rw e (eq-eqb _ _ z))
+
+  own-giving : r .own ≢ 0 → cond (cond (eqb (r .kind) 0) true true) (from1 slots (r .own)) (eqb (r .own) 0) ≡ true
+  own-giving n = split (eqb (r .kind) 0) (λ e. rw e (real n)) (λ e. rw e (real n))
+
+  -- The test of the head as read at 13 and 14.
+  abbrev Topped : ℕ → Type 0
+  Topped p = not (eqb p 13 || eqb p 14) || not (eqb (linkOf (r .link) .slot) 0) ≡ true
+
+  topped : linkOf (r .link) .slot ≢ 0 → not (eqb (linkOf (r .link) .slot) 0) ≡ true
+  topped n = rw (ne-eqb _ 0 n)
+
+  place-test : leb (r .place) (cond pooled 17 11) ≡ true
+  place-test = split pooled (λ e. rw e (le-leb _ _ (h .place))) (λ e. rw e (le-leb _ _ (h .named e)))
+
+  pop-test : not (eqb (r .place) 11 || leb 15 (r .place)) || eqb (r .kind) 1 ≡ true
+  pop-test = split (eqb (r .place) 11 || leb 15 (r .place))
+      (λ e. or-second (not (eqb (r .place) 11 || leb 15 (r .place)))
+      (or-cases (eqb (r .place) 11) (leb 15 (r .place)) e (λ z. eq-eqb _ _ (h .last (eqb-true _ _ z))) (λ z. eq-eqb _ _ (h .gives (leb-true _ _ z)))))
+      (λ e. or-first _ (ap not e))
+
+  push-test : not (leb 12 (r .place) && leb (r .place) 14) || eqb (r .kind) 0 ≡ true
+  push-test = split (leb 12 (r .place) && leb (r .place) 14)
+      (λ e. let z = and-true (leb 12 (r .place)) (leb (r .place) 14) e in or-second (not (leb 12 (r .place) && leb (r .place) 14)) (eq-eqb _ _ (h .draws (leb-true _ _ (z .0)) (leb-true _ _ (z .1)))))
+      (λ e. or-first _ (ap not e))
 
   module _ (s : M.Shared) (o : ℕ → Owner) (t : ℕ) (c : Call) where
     abbrev Says : ℕ → Type 0
-    Says p = Task (placeOf p) s o t (recOf r) c → Extra (placeOf p) (recOf r) → Placed (r .finishing) (r .kind) (anchorOf (r .seen) .status) p
+    Says p = Task (placeOf p) s o t (recOf r) c → Extra (placeOf p) (recOf r) → Placed (r .finishing) (r .kind) (anchorOf (r .seen) .status) p × Owned p × Topped p
 
     placed : r .place ≢ 0 → Says (r .place)
     unfolding recOf
     placed b = by-place Says
-        (λ y x. early 1 refl (y .0))
-        (λ y x. early 2 refl (y .0 .early))
-        (λ y x. early 3 refl (y .0 .early))
-        (λ y x. early 4 refl (y .0 .early))
-        (λ y x. late 5 refl x _ (y .status))
-        (λ y x. late 6 refl x _ (y .0 .status))
-        (λ y x. late 7 refl (x .0) _ (y .0 .status))
-        (λ y x. late 8 refl (x .0) _ (y .0 .status))
-        (λ y x. late 9 refl (x .0) _ (y .0 .status))
-        (λ y x. late 10 refl x _ (y .0 .status))
-        (λ y x. early 11 refl (x .1))
+        (λ y x. (early 1 refl (y .0), own-trying (x .1) (x .2), refl))
+        (λ y x. (early 2 refl (y .0 .early), own-trying (x .1) (x .2), refl))
+        (λ y x. (early 3 refl (y .0 .early), own-trying (x .1) (x .2), refl))
+        (λ y x. (early 4 refl (y .0 .early), own-trying (x .1) (x .2), refl))
+        (λ y x. (late 5 refl (x .0) _ (y .status), own-trying (x .1) (x .2), refl))
+        (λ y x. (late 6 refl (x .0) _ (y .0 .status), own-trying (x .1) (x .2), refl))
+        (λ y x. (late 7 refl (x .0 .0) _ (y .0 .status), own-trying (x .0 .1) (x .0 .2), refl))
+        (λ y x. (late 8 refl (x .0 .0) _ (y .0 .status), own-trying (x .0 .1) (x .0 .2), refl))
+        (λ y x. (late 9 refl (x .0 .0) _ (y .0 .status), own-trying (x .0 .1) (x .0 .2), refl))
+        (λ y x. (late 10 refl (x .0) _ (y .0 .status), own-trying (x .1) (x .2), refl))
+        (λ y x. (early 11 refl (x .1), own-trying (λ e. absurd (push-pop (sym e ∙ x .0))) (λ e. x .3), refl))
+        (λ y x. (early 12 refl (y .1 .early), own-drawing x, refl))
+        (λ y x. (early 13 refl (y .1 .early), own-drawing x, topped (y .2 .0)))
+        (λ y x. (early 14 refl (y .1 .early), own-drawing x, topped (y .2 .0)))
+        (λ y x. (early 15 refl (x .1), own-giving (x .2), refl))
+        (λ y x. (early 16 refl (x .1), own-giving (x .2), refl))
+        (λ y x. (early 17 refl (x .1), own-giving (x .2), refl))
         (r .place) b (h .place)
 
-    pub record-sound : r .place ≢ 0 → Task (placeOf (r .place)) s o t (recOf r) c → Extra (placeOf (r .place)) (recOf r) → recordSound slots r ≡ true
+    pub record-sound : r .place ≢ 0 → Task (placeOf (r .place)) s o t (recOf r) c → Extra (placeOf (r .place)) (recOf r) → recordSound pooled slots r ≡ true
     unfolding recordSound
     record-sound b y x =
         let p = placed b y x in
-        or-second (eqb (r .place) 0) (passes (recordTests slots r)
-        (le-leb _ _ (h .place)
+        or-second (eqb (r .place) 0) (passes (recordTests pooled slots r)
+        (place-test
         and le-leb _ _ (h .kind)
         and le-leb _ _ (h .side)
         and le-leb _ _ (h .finishing)
-        and split (eqb (r .place) 11) (λ e. or-second (not (eqb (r .place) 11)) (eq-eqb _ _ (h .last (eqb-true _ _ e)))) (λ e. or-first _ (ap not e))
-        and p .0
-        and own (decide-eq (r .kind) 0)
+        and pop-test
+        and push-test
+        and p .0 .0
+        and p .1
         and le-leb _ _ (h .neighbour)
         and link-sound slots (r .link) (h .spare) (h .link)
+        and p .2
         and anchor-sound slots (anchorOf (r .seen)) (h .seen)
-        and p .1
+        and p .0 .1
         and tt))

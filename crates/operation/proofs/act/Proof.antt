@@ -6,15 +6,31 @@ use Rattle.operation.proofs.act.Tie as tie
 
 returns : tie.Need-returns
 unfolding actOn
-returns c = rw (c .before .before .before .before .before .before .before .before .before .before .op .given .1) (c .before .before .before .before .push-start .ensures)
+returns c =
+    let done = c .before .before .before .before in
+    let lent = done .before .before .before .before in
+    rw (lent .before .before .before .op .given .1) (done .push-start .ensures)
 
 returns-2 : tie.Need-returns-2
 unfolding actOn
-returns-2 c = rw (c .before .before .before .before .before .before .op2 .given .1) (c .pop-start .ensures)
+returns-2 c =
+    let lent = c .before .before .before .before in
+    rw (lent .before .before .before .op2 .given .1) (c .pop-start .ensures)
 
 returns-3 : tie.Need-returns-3
 unfolding actOn
-returns-3 c = rw (c .before .before .before .before .before .before .before .before .before .before .before .enum-told .given .1) (c .before .before .before .before .before .before .step .ensures)
+returns-3 c =
+    let lent = c .before .before .before .before in
+    rw (lent .before .before .before .op3 .given .1) (c .put-start .ensures)
+
+returns-4 : tie.Need-returns-4
+unfolding actOn
+returns-4 c =
+    let labels = c .before .before .before .before in
+    let lefts = labels .before .before .before .before in
+    let done = lefts .before .before in
+    let lent = done .before .before .before .before in
+    rw (lent .before .before .enum-told .given .1) (done .step .ensures)
 
 pub act-spec : {M : Type 1} → statement M
 act-spec =
@@ -27,10 +43,14 @@ act-spec =
     (λ c. search needs)
     (λ c κs. search needs)
     (λ c. search needs)
+    (λ c κs. search needs)
+    (λ c. search needs)
+    (λ c. search needs)
     (λ c. search needs)
     (λ c. search needs)
     (λ c. search needs)
     returns
+    (λ c. search needs)
     (λ c. search needs)
     (λ c. search needs)
     (λ c. search needs)
@@ -40,4 +60,11 @@ act-spec =
     (λ c. search needs)
     (λ c. search needs)
     (λ c. search needs)
-    returns-3)
+    (λ c. search needs)
+    returns-3
+    (λ c. search needs)
+    (λ c. search needs)
+    (λ c. search needs)
+    (λ c. search needs)
+    (λ c. search needs)
+    returns-4)

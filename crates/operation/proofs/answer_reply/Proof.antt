@@ -23,5 +23,20 @@ returns-3 c = sym (ap moved (c .enum-told2 .given .1))
 returns-4 : tie.Need-returns-4
 returns-4 c = sym (ap moved (c .before .a2 .given .1))
 
+returns-5 : tie.Need-returns-5
+returns-5 c = sym (ap moved (c .enum-told3 .given .1))
+
 pub answer-reply-spec : {M : Type 1} → statement M
-answer-reply-spec = tie.close (tie.spec (λ c. search needs) (λ c. search needs) (λ c. search needs) (λ c. search needs) returns returns-2 returns-3 returns-4)
+answer-reply-spec =
+    tie.close
+    (tie.spec
+    (λ c. search needs)
+    (λ c. search needs)
+    (λ c. search needs)
+    (λ c. search needs)
+    (λ c. search needs)
+    returns
+    returns-2
+    returns-3
+    returns-4
+    returns-5)

@@ -6,7 +6,9 @@ use Rattle.sound.proofs.control_sound.Tie as tie
 
 returns : tie.Need-returns
 unfolding controlSound
-returns c = simp (c .anchor-sound .ensures, c .before .from12 .ensures, c .before .before .from1 .ensures, and-assoc)
+returns c =
+    let calls = c .before in
+    simp (calls .anchor-sound .ensures, calls .before .from12 .ensures, calls .before .before .from1 .ensures, and-assoc)
 
 pub control-sound-spec : {M : Type 1} → statement M
 control-sound-spec = tie.close (tie.spec (λ _ _. tt) (λ _ _. tt) (λ _ _. tt) returns)

@@ -16,11 +16,11 @@ use Rattle.walk.proofs.Counting.{count-left, count-right}
 use Rattle.walk.proofs.waiting.Statement.{statement}
 use Rattle.walk.proofs.waiting.Tie as tie
 
--- The tables, whatever their labels and marks.
-abbrev tables : tie.After-unpack → List ℕ → List ℕ → Tables
-tables u labels marks =
+-- The tables, whatever their labels, marks and next rows.
+abbrev tables : tie.After-unpack → List ℕ → List ℕ → List ℕ → Tables
+tables u labels marks next =
     let a = u .before .before .before .args in
-    tablesOf (a .c) (a .lefts .now) (a .rights .now) labels marks
+    tablesOf (a .c) (a .lefts .now) (a .rights .now) labels marks next
 
 -- The walk along some links of them, with the Anchor as unpacked.
 abbrev found : tie.After-unpack → List ℕ → List ℕ → (Anchor → ℕ) → (Anchor → ℕ) → Anchor → Tally
@@ -34,25 +34,25 @@ status : (u : tie.After-unpack) → eqb (u .unpack .result .status) 2 ≡ eqb (a
 status u = ap (λ (a : Anchor). eqb (a .status) 2) (u .unpack .ensures)
 
 returns : tie.Need-returns
-returns c labels marks =
+returns c labels marks next =
     let u = c .before .before .before in
-    sym (ap counted (empty (tables u labels marks) (sym (ap isEmpty (u .unpack .ensures)) ∙ c .if1 .taken)))
+    sym (ap counted (empty (tables u labels marks next) (sym (ap isEmpty (u .unpack .ensures)) ∙ c .if1 .taken)))
 
 returns-2 : tie.Need-returns-2
-returns-2 c labels marks =
+returns-2 c labels marks next =
     let e = c .before .before .before in
     let u = e .before .before .before in
-    let q = tables u labels marks in
+    let q = tables u labels marks next in
     let way = count-left q (filled e) (sym (status u) ∙ eq-eqb _ _ (c .before .if2 .taken)) in
     c .count .ensures labels
     ∙ ap (found u (q .rights) labels (λ (a : Anchor). a .right) (λ (a : Anchor). a .left)) (u .unpack .ensures)
     ∙ sym way
 
 returns-3 : tie.Need-returns-3
-returns-3 c labels marks =
+returns-3 c labels marks next =
     let e = c .before .before .before in
     let u = e .before .before .before in
-    let q = tables u labels marks in
+    let q = tables u labels marks next in
     let way = count-right q (filled e) (sym (status u) ∙ ne-eqb _ _ (c .before .if2 .left)) in
     c .count2 .ensures labels
     ∙ ap (found u (q .lefts) labels (λ (a : Anchor). a .left) (λ (a : Anchor). a .right)) (u .unpack .ensures)

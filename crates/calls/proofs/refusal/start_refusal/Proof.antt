@@ -1,37 +1,19 @@
--- The tests are the rules', in their order.
-use Rattle.calls.proofs.Rules.{none, stop, pass, start-tried}
+-- Each test is what its call ensures.
+use Rattle.calls.specs.Rules.{startRefusal}
 use Rattle.calls.proofs.refusal.start_refusal.Statement.{statement}
 use Rattle.calls.proofs.refusal.start_refusal.Tie as tie
 
 returns : tie.Need-returns
-returns c = start-tried _ (stop (cc))
-
-returns-2 : tie.Need-returns-2
-returns-2 c = start-tried _ (pass (cc) (stop (cc)))
-
-returns-3 : tie.Need-returns-3
-returns-3 c = start-tried _ (pass (cc) (pass (cc) (stop (cc))))
-
-returns-4 : tie.Need-returns-4
-returns-4 c = start-tried _ (pass (cc) (pass (cc) (pass (cc) (stop (cc)))))
-
-returns-5 : tie.Need-returns-5
-returns-5 c = start-tried _ (pass (cc) (pass (cc) (pass (cc) (pass (cc) (stop (cc))))))
-
-returns-6 : tie.Need-returns-6
-returns-6 c = start-tried _ (pass (cc) (pass (cc) (pass (cc) (pass (cc) (pass (cc) (stop (cc)))))))
-
-returns-7 : tie.Need-returns-7
-returns-7 c = start-tried _ (pass (cc) (pass (cc) (pass (cc) (pass (cc) (pass (cc) (pass (cc) (stop (cc))))))))
-
-returns-8 : tie.Need-returns-8
-returns-8 c = start-tried _ (pass (cc) (pass (cc) (pass (cc) (pass (cc) (pass (cc) (pass (cc) (pass (cc) (stop (cc)))))))))
-
-returns-9 : tie.Need-returns-9
-returns-9 c = start-tried _ (pass (cc) (pass (cc) (pass (cc) (pass (cc) (pass (cc) (pass (cc) (pass (cc) (pass (cc) (stop (cc))))))))))
-
-returns-10 : tie.Need-returns-10
-returns-10 c = start-tried _ (pass (cc) (pass (cc) (pass (cc) (pass (cc) (pass (cc) (pass (cc) (pass (cc) (pass (cc) (pass (cc) (none))))))))))
+unfolding startRefusal
+returns c =
+    let calls = c .before .before in
+    rw (
+      c .tests-refusal .ensures,
+      calls .late .ensures,
+      calls .before .record-sound .ensures,
+      calls .before .before .rows-fit .ensures,
+      calls .before .before .before .control-sound .ensures,
+    )
 
 pub start-refusal-spec : {M : Type 1} → statement M
-start-refusal-spec = tie.close (tie.spec returns returns-2 returns-3 returns-4 returns-5 returns-6 returns-7 returns-8 returns-9 returns-10)
+start-refusal-spec = tie.close (tie.spec (λ _ _. tt) (λ _ _. tt) (λ _ _. tt) (λ _ _. tt) (λ _ _. tt) returns)

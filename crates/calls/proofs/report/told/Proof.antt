@@ -14,10 +14,10 @@ use Rattle.calls.proofs.report.told.Tie as tie
 
 -- What the call was given, where the first two rules have been tried.
 abbrev start : tie.After-report-refusal → tie.Start
-start r = let lists = r .before .before .before in lists .before .before .before
+start r = let lists = r .before .before .before in lists .before .before .before .before
 
 abbrev tables : tie.After-report-refusal → Tables
-tables r = let a = start r .args in tablesOf (a .c) (a .lefts .now) (a .rights .now) (a .labels .now) (a .marks .now)
+tables r = let a = start r .args in tablesOf (a .c) (a .lefts .now) (a .rights .now) (a .labels .now) (a .marks .now) (a .next .now)
 
 abbrev enough : tie.After-report-refusal → Bool
 enough r = leb (start r .args .c .tasks) (start r .args .records)
@@ -32,7 +32,7 @@ returns c = let r = c .before in refused (tables r) (enough r) (start r .args .b
 
 -- The walk, where the first two rules passed.
 walked : (w : tie.After-waiting) → w .waiting .result ≡ counted (contents (tables (w .before .before)))
-walked w = let a = start (w .before .before) .args in w .waiting .ensures (a .labels .now) (a .marks .now)
+walked w = let a = start (w .before .before) .args in w .waiting .ensures (a .labels .now) (a .marks .now) (a .next .now)
 
 returns-2 : tie.Need-returns-2
 returns-2 c =

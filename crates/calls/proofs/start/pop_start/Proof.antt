@@ -1,16 +1,18 @@
--- Accepted: what each call ensures. Refused: everything is as it was.
-use borrow.Author.Tests.{eq-eqb, ne-eqb}
+-- What each call ensures; the number decides.
 use Rattle.model.specs.Calls.{popStart}
+use Rattle.calls.specs.Starting.{begun}
+use Rattle.calls.proofs.Starts.{on-tables}
 use Rattle.calls.proofs.start.pop_start.Statement.{statement}
 use Rattle.calls.proofs.start.pop_start.Tie as tie
 
 returns : tie.Need-returns
 unfolding popStart
-returns c = let why = c .before .before .pop-refusal in rw (c .started .ensures, ← why .ensures, eq-eqb (why .result) 0 (c .before .if1 .taken))
-
-returns-2 : tie.Need-returns-2
-unfolding popStart
-returns-2 c = let why = c .before .pop-refusal in rw (← why .ensures, ne-eqb (why .result) 0 (c .if1 .left))
+returns c =
+    let why = c .before .before .pop-refusal in
+    let lent = c .before .before .before .before in
+    let a = lent .before .before .before .before .before .before .args in
+    rw (c .decided .ensures, c .before .begun .ensures, ← why .ensures)
+    (on-tables (a .c) (a .r) (why .result) (begun 1 1 (a .side) 0 0) (a .lefts .now) (a .rights .now) (a .labels .now) (a .marks .now) (a .next .now))
 
 pub pop-start-spec : {M : Type 1} → statement M
-pop-start-spec = tie.close (tie.spec (λ _ _. tt) (λ _ _. tt) returns returns-2)
+pop-start-spec = tie.close (tie.spec (λ _ _. tt) (λ _ _. tt) (λ _ _. tt) returns)

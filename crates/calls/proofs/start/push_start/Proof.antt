@@ -7,19 +7,39 @@ use Rattle.calls.proofs.start.push_start.Tie as tie
 
 returns : tie.Need-returns
 unfolding pushStart
-returns c = let why = c .before .push-refusal in rw (← why .ensures, ne-eqb (why .result) 0 (c .if1 .taken))
+returns c =
+    let why = c .before .before .before .push-refusal in
+    rw (c .decided .ensures, ← why .ensures, ne-eqb (why .result) 0 (c .before .if1 .taken))
 
 returns-2 : tie.Need-returns-2
 unfolding pushStart
 returns-2 c =
-    let why = c .before .before .before .before .before .before .before .before .before .before .push-refusal in
+    let marked = c .before .before .before in
+    let stored = marked .before .before .before .before in
+    let test = stored .before .before in
+    let why = test .before .before .push-refusal in
     rw (
-      c .started .ensures,
-      c .before .before .before .set-mark .ensures,
-      c .before .before .before .before .before .before .before .put-label .ensures,
+      c .decided2 .ensures,
+      marked .set-mark .ensures,
+      stored .put-label .ensures,
+      test .before .begun .ensures,
       ← why .ensures,
-      eq-eqb (why .result) 0 (c .before .before .before .before .before .before .before .before .before .if1 .left),
+      eq-eqb (why .result) 0 (test .if1 .left),
     )
 
 pub push-start-spec : {M : Type 1} → statement M
-push-start-spec = tie.close (tie.spec (λ _ _. tt) (λ c. search needs) (λ c. search needs) returns (λ _ _. tt) (λ _ _. tt) (λ _ _. tt) (λ c. search needs) (λ c. search needs) returns-2)
+push-start-spec =
+    tie.close
+    (tie.spec
+    (λ _ _. tt)
+    (λ _ _. tt)
+    (λ _ _. tt)
+    (λ c. search needs)
+    (λ c. search needs)
+    returns
+    (λ _ _. tt)
+    (λ _ _. tt)
+    (λ _ _. tt)
+    (λ c. search needs)
+    (λ c. search needs)
+    returns-2)

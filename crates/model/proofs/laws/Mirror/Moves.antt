@@ -10,10 +10,11 @@ use Rattle.word.specs.Anchor.{anchorOf, packAnchor}
 use Rattle.word.specs.Link.{linkOf, packLink}
 use Rattle.model.specs.declared.Control.{Control}
 use Rattle.model.specs.declared.Record.{Record}
-use Rattle.model.specs.Tables.{Tables, opposite, far, facing, pushing}
+use Rattle.model.specs.Tables.{Tables, isPooled, opposite, far, facing, pushing}
 use Rattle.model.specs.Sound.{isPush, isPop}
-use Rattle.model.specs.Places.{sideOf, Touch, nothing, setAnchor, setLink, clearMark, Move, withSeen, withLink, reads, changes, reading, replaces}
-use Rattle.model.specs.Places.{at1, at2, at3, new4, at4, at5, at6, at7, at9, at10, at11, move, apply}
+use Rattle.model.specs.Places.{sideOf, Touch, nothing, setAnchor, setLink, clearMark, takeSlot, setNext, setHead, Move, withSeen, withLink, withOwn, reads, changes, reading, replaces}
+use Rattle.model.specs.Places.{at1, at2, at3, new4, at4, at5, at6, at7, at9, at10, at11, at12, at13, at14, at15, at16, at17, move, apply}
+use Rattle.model.specs.Places as placed
 use Rattle.model.specs.Mirror.{mirrorStatus, mirrorAnchor, mirrorWord, mirrorControl, mirrorTables, mirrorBusy}
 use Rattle.model.proofs.laws.Mirror.Words.{status-stable, mirror-fields, mirror-pack, mirror-equal}
 use Rattle.model.proofs.laws.Mirror.Sides.{far-mirror, facing-mirror, pushing-mirror, pushing-small, end-mirror, row-mirror, link-side-mirror}
@@ -24,6 +25,9 @@ mirrorTouch nothing = nothing
 mirrorTouch (setAnchor w) = setAnchor (mirrorWord w)
 mirrorTouch (setLink side x w) = setLink (opposite side) x w
 mirrorTouch (clearMark x) = clearMark x
+mirrorTouch (takeSlot w x l) = takeSlot w x l
+mirrorTouch (setNext x v) = setNext x v
+mirrorTouch (setHead w) = setHead w
 
 abbrev pub mirrorMove : Move → Move
 mirrorMove m = record { touch = mirrorTouch (m .touch); task = mirrorBusy (m .task); outcome = m .outcome; failed = m .failed }
@@ -40,10 +44,14 @@ apply-mirror (setLink side x w) q = go (eqb side 1)
           rights = cond b (q .lefts) (set (q .lefts) x w);
           labels = q .labels;
           marks = q .marks;
+          next = q .next;
         }
     go true = refl
     go false = refl
 apply-mirror (clearMark x) q = refl
+apply-mirror (takeSlot w x l) q = refl
+apply-mirror (setNext x v) q = refl
+apply-mirror (setHead w) q = refl
 
 -- A function of what a test picks.
 through : {A B : Type 0} (f : A → B) (b : Bool) {x y : A} {x′ y′ : B} → x′ ≡ f x → y′ ≡ f y → cond b x′ y′ ≡ f (cond b x y)
@@ -169,9 +177,37 @@ module _ (c : Control) (r : Record) (w : ℕ) (turned : sideOf (mirrorBusy r) �
       anchor-change (packAnchor stable) _ r _
       (ap (λ (b : Anchor). packAnchor (record { tag = b .tag + 1; status = 0; left = b .left; right = b .right })) (mirror-fields (r .seen)) ∙ mirror-pack stable (omega arith)) refl
 
-  mirror11 : at11 (mirrorBusy r) ≡ mirrorMove (at11 r)
+  mirror11 : at11 (mirrorControl c) (mirrorBusy r) w ≡ mirrorMove (at11 c r w)
   unfolding at11
-  mirror11 = ap (λ (x : ℕ). record { touch = clearMark x; task = mirrorBusy r; outcome = 0; failed = false }) (row-mirror r turned)
+  mirror11 = through mirrorMove (isPooled c)
+      (λ i. record { touch = clearMark (row-mirror r turned i); task = withOwn (mirrorBusy r) (row-mirror r turned i) w; outcome = 1; failed = false })
+      (λ i. record { touch = clearMark (row-mirror r turned i); task = mirrorBusy r; outcome = 0; failed = false })
+
+  mirror12 : at12 (mirrorControl c) (mirrorBusy r) ≡ mirrorMove (at12 c r)
+  unfolding at12
+  mirror12 = refl
+
+  mirror13 : at13 (mirrorBusy r) w ≡ mirrorMove (at13 r w)
+  unfolding at13
+  mirror13 = refl
+
+  mirror14 : at14 (mirrorControl c) (mirrorBusy r) ≡ mirrorMove (at14 c r)
+  unfolding at14
+  mirror14 = through mirrorMove (eqb (c .head) (r .link))
+      (λ i. record { touch = takeSlot (placed.raised r (r .neighbour)) (row-mirror r turned i) (r .label); task = withOwn (mirrorBusy r) (row-mirror r turned i) (r .label); outcome = 0; failed = false })
+      refl
+
+  mirror15 : at15 (mirrorControl c) (mirrorBusy r) ≡ mirrorMove (at15 c r)
+  unfolding at15
+  mirror15 = refl
+
+  mirror16 : at16 (mirrorBusy r) ≡ mirrorMove (at16 r)
+  unfolding at16
+  mirror16 = λ i. record { touch = setNext (row-mirror r turned i) (linkOf (r .link) .slot); task = mirrorBusy r; outcome = 0; failed = false }
+
+  mirror17 : at17 (mirrorControl c) (mirrorBusy r) ≡ mirrorMove (at17 c r)
+  unfolding at17
+  mirror17 = through mirrorMove (eqb (c .head) (r .link)) refl refl
 
   pub move-mirror : move (mirrorControl c) (mirrorBusy r) w ≡ mirrorMove (move c r w)
   unfolding move
@@ -186,4 +222,10 @@ module _ (c : Control) (r : Record) (w : ℕ) (turned : sideOf (mirrorBusy r) �
       (both (eqb (r .place) 8) (mirrors mirror6)
       (both (eqb (r .place) 9) (mirrors mirror9)
       (both (eqb (r .place) 10) (mirrors mirror10)
-      (mirrors mirror11)))))))))))
+      (both (eqb (r .place) 11) (mirrors mirror11)
+      (both (eqb (r .place) 12) (mirrors mirror12)
+      (both (eqb (r .place) 13) (mirrors mirror13)
+      (both (eqb (r .place) 14) (mirrors mirror14)
+      (both (eqb (r .place) 15) (mirrors mirror15)
+      (both (eqb (r .place) 16) (mirrors mirror16)
+      (mirrors mirror17)))))))))))))))))

@@ -9,9 +9,10 @@ use lib.ListN.{getD}
 use borrow.Author.Tests.{leb-true}
 use Rattle.word.specs.declared.Anchor.{Anchor}
 use Rattle.word.specs.Anchor.{anchorOf}
+use Rattle.word.specs.Link.{linkOf}
 use Rattle.model.specs.declared.Record.{Record}
 use Rattle.model.specs.Tables.{Tables, opposite, near, far, facing, links, pushing, named}
-use Rattle.model.specs.Sound.{helping, isPush}
+use Rattle.model.specs.Sound.{drawing, giving, helping, isPush}
 use Rattle.model.specs.Places.{sideOf, endSeen, row, linkSide, linkMet}
 use Rattle.model.specs.Mirror.{mirrorSide, mirrorStatus, mirrorAnchor, mirrorTables, mirrorBusy}
 use Rattle.model.proofs.laws.Mirror.Words.{mirror-fields}
@@ -87,7 +88,8 @@ module _ (r : Record) where
 
     pub row-mirror : row (mirrorBusy r) ≡ row r
     unfolding row
-    row-mirror = ap (λ (x : ℕ). cond (eqb (r .place) 7 || eqb (r .place) 9) (r .neighbour) (cond (eqb (r .place) 3 && isPush r) (r .own) x)) end-mirror
+    row-mirror = ap (λ (x : ℕ). cond (eqb (r .place) 7 || eqb (r .place) 9) (r .neighbour)
+        (cond (eqb (r .place) 3 && isPush r) (r .own) (cond (drawing r) (linkOf (r .link) .slot) (cond (giving r) (r .own) x)))) end-mirror
 
     pub link-side-mirror : linkSide (mirrorBusy r) ≡ opposite (linkSide r)
     unfolding linkSide
@@ -99,4 +101,5 @@ module _ (r : Record) where
 
     pub link-met-mirror : (q : Tables) → linkMet (mirrorTables q) (mirrorBusy r) ≡ linkMet q r
     link-met-mirror q =
-        ap₂ (λ (d x : ℕ). getD (links (mirrorTables q) d) x 0) link-side-mirror row-mirror ∙ ap (λ (l : List ℕ). getD l (row r) 0) (links-mirror (linkSide r) q)
+        ap₂ (λ (d x : ℕ). cond (eqb (r .place) 11) (getD (q .labels) x 0) (cond (eqb (r .place) 13) (getD (q .next) x 0) (getD (links (mirrorTables q) d) x 0))) link-side-mirror row-mirror
+        ∙ ap (λ (l : List ℕ). cond (eqb (r .place) 11) (getD (q .labels) (row r) 0) (cond (eqb (r .place) 13) (getD (q .next) (row r) 0) (getD l (row r) 0))) (links-mirror (linkSide r) q)

@@ -10,9 +10,9 @@ use Rattle.word.specs.declared.Anchor.{Anchor}
 use Rattle.word.specs.Anchor.{anchorOf}
 use Rattle.model.specs.declared.Control.{Control}
 use Rattle.model.specs.declared.Record.{Record}
-use Rattle.model.specs.Tables.{Tables}
+use Rattle.model.specs.Tables.{Tables, isPooled}
 use Rattle.model.specs.Sound.{from1, anchorSound, controlSound, recordSound, rowsFit}
-use Rattle.model.specs.Refusals.{Lent, pushRefusal, popRefusal}
+use Rattle.model.specs.Refusals.{Lent, pushRefusal, putRefusal, popRefusal}
 use Rattle.model.specs.Mirror.{mirrorSide, mirrorAnchor, mirrorWord, mirrorControl, mirrorTables, mirrorBusy, mirrorRecord}
 use Rattle.model.proofs.laws.Mirror.Words.{status-stable, status-range, mirror-fields}
 
@@ -57,19 +57,19 @@ stable-mirror w = ap (λ (a : Anchor). eqb (a .status) 0) (mirror-fields w) ∙ 
 
 pub control-sound-mirror : (c : Control) → controlSound (mirrorControl c) ≡ controlSound c
 unfolding controlSound
-control-sound-mirror c = ap (λ (b : Bool). from1 16 (c .tasks) && (from1 1023 (c .slots) && b)) (word-sound-mirror (c .slots) (c .anchor))
+control-sound-mirror c = ap (λ (b : Bool). from1 16 (c .tasks) && (from1 1023 (c .slots) && (b && leb (c .pooled) 1))) (word-sound-mirror (c .slots) (c .anchor))
 
-pub busy-sound-mirror : (slots : ℕ) (r : Record) → recordSound slots (mirrorBusy r) ≡ recordSound slots r
+pub busy-sound-mirror : (pooled : Bool) (slots : ℕ) (r : Record) → recordSound pooled slots (mirrorBusy r) ≡ recordSound pooled slots r
 unfolding recordSound
-busy-sound-mirror slots r = rw (side-range (r .side), word-sound-mirror slots (r .seen), stable-mirror (r .seen)) refl
+busy-sound-mirror pooled slots r = rw (side-range (r .side), word-sound-mirror slots (r .seen), stable-mirror (r .seen)) refl
 
-pub record-sound-mirror : (slots : ℕ) (r : Record) → recordSound slots (mirrorRecord r) ≡ recordSound slots r
+pub record-sound-mirror : (pooled : Bool) (slots : ℕ) (r : Record) → recordSound pooled slots (mirrorRecord r) ≡ recordSound pooled slots r
 unfolding mirrorRecord
-record-sound-mirror slots r = go (eqb (r .place) 0)
+record-sound-mirror pooled slots r = go (eqb (r .place) 0)
   where
-    go : (b : Bool) → recordSound slots (cond b r (mirrorBusy r)) ≡ recordSound slots r
+    go : (b : Bool) → recordSound pooled slots (cond b r (mirrorBusy r)) ≡ recordSound pooled slots r
     go true = refl
-    go false = busy-sound-mirror slots r
+    go false = busy-sound-mirror pooled slots r
 
 pub place-mirror : (r : Record) → mirrorRecord r .place ≡ r .place
 unfolding mirrorRecord
@@ -79,23 +79,29 @@ place-mirror r = go (eqb (r .place) 0)
     go true = refl
     go false = refl
 
-pub rows-fit-mirror : (slots : ℕ) (q : Tables) → rowsFit slots (mirrorTables q) ≡ rowsFit slots q
+pub rows-fit-mirror : (pooled : Bool) (slots : ℕ) (q : Tables) → rowsFit pooled slots (mirrorTables q) ≡ rowsFit pooled slots q
 unfolding rowsFit
-rows-fit-mirror slots q = go (ltb slots (length (q .lefts))) (ltb slots (length (q .rights)))
+rows-fit-mirror pooled slots q = go (ltb slots (length (q .lefts))) (ltb slots (length (q .rights)))
+    (ltb slots (length (q .labels)) && (ltb (slots / 64) (length (q .marks)) && (not pooled || ltb slots (length (q .next)))))
   where
-    go : (l r : Bool) → r && (l && (ltb slots (length (q .labels)) && ltb (slots / 64) (length (q .marks)))) ≡ l && (r && (ltb slots (length (q .labels)) && ltb (slots / 64) (length (q .marks))))
-    go true true = refl
-    go true false = refl
-    go false true = refl
-    go false false = refl
+    go : (l r rest : Bool) → r && (l && rest) ≡ l && (r && rest)
+    go true true rest = refl
+    go true false rest = refl
+    go false true rest = refl
+    go false false rest = refl
 
 module _ (q : Tables) (p : Lent) (r : Record) (side : ℕ) where
   pub push-refusal-mirror : (slot : ℕ) → pushRefusal (mirrorTables q) p (mirrorRecord r) (mirrorSide side) slot ≡ pushRefusal q p r side slot
   unfolding pushRefusal
   push-refusal-mirror slot =
-      rw (control-sound-mirror (q .control), rows-fit-mirror (q .control .slots) q, side-range side, record-sound-mirror (q .control .slots) r, place-mirror r, tag-mirror (q .control .anchor)) refl
+      rw (control-sound-mirror (q .control), rows-fit-mirror (isPooled (q .control)) (q .control .slots) q, side-range side, record-sound-mirror (isPooled (q .control)) (q .control .slots) r, place-mirror r, tag-mirror (q .control .anchor)) refl
 
   pub pop-refusal-mirror : popRefusal (mirrorTables q) p (mirrorRecord r) (mirrorSide side) ≡ popRefusal q p r side
   unfolding popRefusal
   pop-refusal-mirror =
-      rw (control-sound-mirror (q .control), rows-fit-mirror (q .control .slots) q, side-range side, record-sound-mirror (q .control .slots) r, place-mirror r, tag-mirror (q .control .anchor)) refl
+      rw (control-sound-mirror (q .control), rows-fit-mirror (isPooled (q .control)) (q .control .slots) q, side-range side, record-sound-mirror (isPooled (q .control)) (q .control .slots) r, place-mirror r, tag-mirror (q .control .anchor)) refl
+
+  pub put-refusal-mirror : putRefusal (mirrorTables q) p (mirrorRecord r) (mirrorSide side) ≡ putRefusal q p r side
+  unfolding putRefusal
+  put-refusal-mirror =
+      rw (control-sound-mirror (q .control), rows-fit-mirror (isPooled (q .control)) (q .control .slots) q, side-range side, record-sound-mirror (isPooled (q .control)) (q .control .slots) r, place-mirror r, tag-mirror (q .control .anchor)) refl

@@ -9,11 +9,11 @@ use borrow.Author.Tests.{eqb-true, not-false}
 use Rattle.model.specs.declared.Control.{Control}
 use Rattle.model.specs.declared.Record.{Record}
 use Rattle.model.specs.declared.Outcome.the-variants.{Refused, Moved}
-use Rattle.model.specs.Tables.{Tables, opposite, idle}
+use Rattle.model.specs.Tables.{atPlace, Tables, isPooled, opposite, idle}
 use Rattle.model.specs.Sound.{from1, every, linkSound, controlSound, recordSound, rowsFit}
-use Rattle.model.specs.Places.{sideOf, row, linkMet, Touch, nothing, setAnchor, setLink, clearMark, Move, move}
+use Rattle.model.specs.Places.{sideOf, row, linkMet, Touch, nothing, setAnchor, setLink, clearMark, takeSlot, setNext, setHead, Move, move}
 use Rattle.model.specs.Route.{route, onward, answer, goes, counted}
-use Rattle.model.specs.Refusals.{Lent, rule, first, needsRow, meetsLink, leavesSound, hasRoom, stepSound, stepRules, stepRefusal}
+use Rattle.model.specs.Refusals.{Lent, rule, first, needsRow, meetsLink, meetsHead, leavesSound, hasRoom, stepSound, stepRules, stepRefusal}
 use Rattle.model.specs.Calls.{Acted, decide, withRetries, finish, step}
 use Rattle.model.specs.Mirror.{mirrorControl, mirrorTables, mirrorBusy, mirrorRecord, mirrorActed}
 use Rattle.model.proofs.laws.Tests.{sound-record}
@@ -28,20 +28,26 @@ unfolding mirrorRecord
 busy-record r e = ap (λ (b : Bool). cond b r (mirrorBusy r)) e
 
 -- A busy, sound record steps on the opposite side.
-turned : (slots : ℕ) (r : Record) → recordSound slots r ≡ true → eqb (r .place) 0 ≡ false → sideOf (mirrorBusy r) ≡ opposite (sideOf r)
-turned slots r sound busy = let facts = sound-record slots r sound busy in side-mirror r (facts .side) (facts .status) (facts .unstable)
+turned : (pooled : Bool) (slots : ℕ) (r : Record) → recordSound pooled slots r ≡ true → eqb (r .place) 0 ≡ false → sideOf (mirrorBusy r) ≡ opposite (sideOf r)
+turned pooled slots r sound busy = let facts = sound-record pooled slots r sound busy in side-mirror r (facts .side) (facts .status) (facts .unstable)
 
 leaves-mirror : (slots : ℕ) (t : Touch) → leavesSound slots (mirrorTouch t) ≡ leavesSound slots t
 leaves-mirror slots nothing = refl
 leaves-mirror slots (setAnchor w) = word-sound-mirror slots w
 leaves-mirror slots (setLink side x w) = refl
 leaves-mirror slots (clearMark x) = refl
+leaves-mirror slots (takeSlot w x l) = refl
+leaves-mirror slots (setNext x v) = refl
+leaves-mirror slots (setHead w) = refl
 
 room-mirror : (r : Record) (t : Touch) → hasRoom (mirrorBusy r) (mirrorTouch t) ≡ hasRoom r t
 room-mirror r nothing = refl
 room-mirror r (setAnchor w) = ap (λ (n : ℕ). ltb n 4294967295) (tag-mirror (r .seen))
 room-mirror r (setLink side x w) = refl
 room-mirror r (clearMark x) = refl
+room-mirror r (takeSlot w x l) = refl
+room-mirror r (setNext x v) = refl
+room-mirror r (setHead w) = refl
 
 step-sound-mirror : (c : Control) (r : Record) (w : ℕ) → sideOf (mirrorBusy r) ≡ opposite (sideOf r) → stepSound (mirrorControl c) (mirrorBusy r) w ≡ stepSound c r w
 unfolding stepSound
@@ -54,15 +60,17 @@ step-sound-mirror c r w side =
     ∷ (not (meetsLink r) || linkSound (c .slots) w)
     ∷ leaves i
     ∷ room i
+    ∷ (not (meetsHead r) || linkSound (c .slots) (c .head))
+    ∷ (not (eqb (r .place) 13) || leb w (c .slots))
     ∷ []
     )
 
 module _ (q : Tables) (r : Record) where
   -- The last rule is asked of busy, sound records alone.
-  last-rule : recordSound (q .control .slots) r ≡ true → eqb (r .place) 0 ≡ false
+  last-rule : recordSound (isPooled (q .control)) (q .control .slots) r ≡ true → eqb (r .place) 0 ≡ false
       → stepSound (mirrorControl (q .control)) (mirrorRecord r) (linkMet (mirrorTables q) (mirrorRecord r)) ≡ stepSound (q .control) r (linkMet q r)
   last-rule sound busy =
-      let side = turned (q .control .slots) r sound busy in
+      let side = turned (isPooled (q .control)) (q .control .slots) r sound busy in
       ap (λ (x : Record). stepSound (mirrorControl (q .control)) x (linkMet (mirrorTables q) x)) (busy-record r busy)
       ∙ ap (stepSound (mirrorControl (q .control)) (mirrorBusy r)) (link-met-mirror r side q)
       ∙ step-sound-mirror (q .control) r (linkMet q r) side
@@ -76,18 +84,14 @@ module _ (q : Tables) (r : Record) where
   step-refusal-mirror : (p : Lent) → stepRefusal (mirrorTables q) p (mirrorRecord r) ≡ stepRefusal q p r
   unfolding stepRefusal
   step-refusal-mirror p =
-      rw (control-sound-mirror (q .control), rows-fit-mirror (q .control .slots) q, record-sound-mirror (q .control .slots) r, ap (λ (n : ℕ). eqb n 0) (place-mirror r))
-      (ap (λ (n : ℕ). first (rule 34 (not (controlSound (q .control))) ∷ rule 12 (not (rowsFit (q .control .slots) q && p .enough)) ∷ rule 13 (not (p .known)) ∷ rule n true ∷ []))
-      (last-three (recordSound (q .control .slots) r) (eqb (r .place) 0) _ _ last-rule))
+      rw (control-sound-mirror (q .control), rows-fit-mirror (isPooled (q .control)) (q .control .slots) q, record-sound-mirror (isPooled (q .control)) (q .control .slots) r, ap (λ (n : ℕ). eqb n 0) (place-mirror r))
+      (ap (λ (n : ℕ). first (rule 34 (not (controlSound (q .control))) ∷ rule 12 (not (rowsFit (isPooled (q .control)) (q .control .slots) q && p .enough)) ∷ rule 13 (not (p .known)) ∷ rule n true ∷ []))
+      (last-three (recordSound (isPooled (q .control)) (q .control .slots) r) (eqb (r .place) 0) _ _ last-rule))
 
 -- The record gone on.
-abbrev atPlace : Record → ℕ → Record
-atPlace r n =
-    record { place = n; kind = r .kind; side = r .side; own = r .own; label = r .label; seen = r .seen; neighbour = r .neighbour; link = r .link; finishing = r .finishing }
-
 goes-mirror : (r : Record) (n : ℕ) → eqb n 0 ≡ false → goes (mirrorBusy r) n ≡ mirrorRecord (goes r n)
 unfolding goes mirrorRecord
-goes-mirror r n h = go (leb n 11)
+goes-mirror r n h = go (leb n 17)
   where
     go : (b : Bool) → cond b (mirrorBusy (atPlace r n)) idle ≡ mirrorRecord (cond b (atPlace r n) idle)
     go true = sym (busy-record (atPlace r n) h)
@@ -99,7 +103,7 @@ unfolding finish
 finish-mirror q r m same on = λ i. record {
   tables = apply-mirror (m .touch) (withRetries q (counted (q .control .retries) (m .failed))) i;
   task = goes-mirror (m .task) (onward (route (r .place) (r .kind) (m .outcome)) (m .task .finishing)) on i;
-  outcome = Moved (answer (onward (route (r .place) (r .kind) (m .outcome)) (m .task .finishing)) (record { slot = same i; label = getD (q .labels) (same i) 0 }));
+  outcome = Moved (answer (onward (route (r .place) (r .kind) (m .outcome)) (m .task .finishing)) (record { slot = same i; label = cond (eqb (r .place) 17) (r .label) (getD (q .labels) (same i) 0) }));
 }
 
 -- Refused, or carried out.
@@ -115,14 +119,14 @@ decide-mirror why q r done done′ h = go (eqb why 0) refl
 abbrev carried : Tables → Record → Acted
 carried q r = finish q r (move (q .control) r (linkMet q r))
 
-carried-mirror : (q : Tables) (r : Record) → recordSound (q .control .slots) r ≡ true → eqb (r .place) 0 ≡ false
+carried-mirror : (q : Tables) (r : Record) → recordSound (isPooled (q .control)) (q .control .slots) r ≡ true → eqb (r .place) 0 ≡ false
     → carried (mirrorTables q) (mirrorRecord r) ≡ mirrorActed (carried q r)
 carried-mirror q r sound busy =
-    let side = turned (q .control .slots) r sound busy in
+    let side = turned (isPooled (q .control)) (q .control .slots) r sound busy in
     ap (carried (mirrorTables q)) (busy-record r busy)
     ∙ ap (λ (w : ℕ). finish (mirrorTables q) (mirrorBusy r) (move (mirrorControl (q .control)) (mirrorBusy r) w)) (link-met-mirror r side q)
     ∙ ap (finish (mirrorTables q) (mirrorBusy r)) (move-mirror (q .control) r (linkMet q r) side)
-    ∙ finish-mirror q r (move (q .control) r (linkMet q r)) (row-mirror r side) (leads-on (q .control .slots) (q .control) r (linkMet q r) sound busy)
+    ∙ finish-mirror q r (move (q .control) r (linkMet q r)) (row-mirror r side) (leads-on (isPooled (q .control)) (q .control .slots) (q .control) r (linkMet q r) sound busy)
 
 pub step-mirror : (q : Tables) (p : Lent) (r : Record) → step (mirrorTables q) p (mirrorRecord r) ≡ mirrorActed (step q p r)
 unfolding step stepRefusal

@@ -39,11 +39,12 @@ records-twice (r ∷ l) = ap₂ (λ (x : Record) (m : List Record). x ∷ m) (re
 pub mirror-twice : (q : Queue) → mirrorQueue (mirrorQueue q) ≡ q
 mirror-twice q = λ i. record {
   tables = record {
-    control = record { tasks = q .tables .control .tasks; slots = q .tables .control .slots; anchor = mirror-involutive (q .tables .control .anchor) i; retries = q .tables .control .retries };
+    control = record { tasks = q .tables .control .tasks; slots = q .tables .control .slots; anchor = mirror-involutive (q .tables .control .anchor) i; retries = q .tables .control .retries; pooled = q .tables .control .pooled; head = q .tables .control .head };
     lefts = q .tables .lefts;
     rights = q .tables .rights;
     labels = q .tables .labels;
     marks = q .tables .marks;
+    next = q .tables .next;
   };
   records = records-twice (q .records) i;
 }

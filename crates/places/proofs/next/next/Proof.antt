@@ -11,11 +11,11 @@ use Rattle.places.proofs.next.next.Statement.{statement}
 use Rattle.places.proofs.next.next.Tie as tie
 
 abbrev rows : List (List (List ℕ))
-rows = table (λ p. table (λ k. table (route p k) 4) 2) 12
+rows = table (λ p. table (λ k. table (route p k) 4) 2) 18
 
-entry : (place kind outcome : ℕ) → place < 12 → kind < 2 → outcome < 4 → getD (getD (getD rows place []) kind []) outcome 0 ≡ route place kind outcome
+entry : (place kind outcome : ℕ) → place < 18 → kind < 2 → outcome < 4 → getD (getD (getD rows place []) kind []) outcome 0 ≡ route place kind outcome
 entry place kind outcome p k o =
-    ap (λ (kinds : List (List ℕ)). getD (getD kinds kind []) outcome 0) (at (λ p. table (λ k. table (route p k) 4) 2) 12 place [] p)
+    ap (λ (kinds : List (List ℕ)). getD (getD kinds kind []) outcome 0) (at (λ p. table (λ k. table (route p k) 4) 2) 18 place [] p)
     ∙ ap (λ (outcomes : List ℕ). getD outcomes outcome 0) (at (λ k. table (route place k) 4) 2 kind [] k)
     ∙ at (route place kind) 4 outcome 0 o
 

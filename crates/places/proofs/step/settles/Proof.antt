@@ -26,12 +26,37 @@ unfolding settled onward goes answer
 returns-5 c = simp (c .ends4 .ensures, c .before .if5 .taken)
 
 returns-6 : tie.Need-returns-6
+unfolding settled onward goes answer
+returns-6 c = simp (c .ends5 .ensures, c .before .if6 .taken)
+
+returns-7 : tie.Need-returns-7
 unfolding settled onward answer
-returns-6 c =
-    simp
-    (c .goes2 .ensures, ne-eqb _ 23 (c .before .if5 .left), ne-eqb _ 22 (c .before .before .if4 .left), ne-eqb _ 21 (c .before .before .before .if3 .left), ne-eqb _ 20 (c .before .before .before .before .if1 .left))
+returns-7 c =
+    let p = c .before .before in
+    simp (
+      c .goes2 .ensures,
+      ne-eqb _ 24 (c .before .if6 .left),
+      ne-eqb _ 23 (p .if5 .left),
+      ne-eqb _ 22 (p .before .if4 .left),
+      ne-eqb _ 21 (p .before .before .if3 .left),
+      ne-eqb _ 20 (p .before .before .before .if1 .left),
+    )
 
 pub settles-spec : {M : Type 1} → statement M
 settles-spec =
     tie.close
-    (tie.spec (λ _ _. tt) (λ _ _. tt) (λ _ _. tt) (λ _ _. tt) (λ _ _. tt) (λ _ _. tt) returns returns-2 returns-3 returns-4 returns-5 returns-6)
+    (tie.spec
+    (λ _ _. tt)
+    (λ _ _. tt)
+    (λ _ _. tt)
+    (λ _ _. tt)
+    (λ _ _. tt)
+    (λ _ _. tt)
+    (λ _ _. tt)
+    returns
+    returns-2
+    returns-3
+    returns-4
+    returns-5
+    returns-6
+    returns-7)

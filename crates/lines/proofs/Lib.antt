@@ -1,0 +1,5 @@
+pub mod Puts
+pub mod Lanes
+pub mod Glyphs
+pub mod Digits
+pub mod Decimal

@@ -1,0 +1,16 @@
+-- A word, then a number.
+use Rattle.lines.proofs.Puts.{put-more}
+use Rattle.lines.specs.Line.{numbered}
+use borrow.Author.Needs.{needs}
+use Rattle.lines.proofs.number.put_numbered.Statement.{statement}
+use Rattle.lines.proofs.number.put_numbered.Tie as tie
+
+same-length : tie.Need-same-length
+same-length c = search needs
+
+returns : tie.Need-returns
+unfolding numbered
+returns c = (put-more (c .before .before .before .before .before .before .put-text .ensures) (c .before .before .put-decimal .ensures .0), search needs)
+
+pub put-numbered-spec : {M : Type 1} → statement M
+put-numbered-spec = tie.close (tie.spec (λ c κs. search needs) (λ c κs. search needs) same-length returns)

@@ -1,0 +1,13 @@
+-- The call, then its outcome.
+use Rattle.lines.proofs.Puts.{put-more}
+use Rattle.lines.specs.Line.{told}
+use borrow.Author.Needs.{needs}
+use Rattle.lines.proofs.put_act.Statement.{statement}
+use Rattle.lines.proofs.put_act.Tie as tie
+
+returns : tie.Need-returns
+unfolding told
+returns c = (put-more (c .before .before .before .before .before .before .put-call .ensures .0) (c .before .before .put-outcome .ensures .0), search needs)
+
+pub put-act-spec : {M : Type 1} → statement M
+put-act-spec = tie.close (tie.spec (λ c κs. search needs) (λ c κs. search needs) (λ c. search needs) returns)

@@ -1,0 +1,20 @@
+-- The task, then the word.
+use Rattle.lines.proofs.Puts.{put-more}
+use Rattle.lines.specs.Line.{callOf}
+use borrow.Author.Needs.{needs}
+use Rattle.lines.proofs.put_call.Statement.{statement}
+use Rattle.lines.proofs.put_call.Tie as tie
+
+returns : tie.Need-returns
+unfolding callOf
+returns c = (put-more (c .before .before .before .before .before .before .put-numbered .ensures .0) (c .before .before .put-word .ensures .0), search needs)
+
+pub put-call-spec : {M : Type 1} → statement M
+put-call-spec =
+    tie.close
+    (tie.spec
+    (λ c. search needs)
+    (λ c κs. search needs)
+    (λ c κs. search needs)
+    (λ c. search needs)
+    returns)

@@ -1,0 +1,129 @@
+-- A line of the trace, byte by byte. (Document 01: The run file and its trace.)
+use Prim.Native.Nat.{ℕ, zero, suc, _+_, _/_, _%_, _^_}
+use mathlib.Core.Path.{_≡_}
+use mathlib.Core.Bool.{cond}
+use mathlib.Core.List.{List, [], _∷_, _++_}
+use lib.ListN.{length}
+use lib.Seq.{sets}
+use lib.Dec.{ltb, leb}
+use Rattle.model.specs.declared.Entry.{Entry}
+use Rattle.model.specs.declared.Answer.{Answer}
+use Rattle.model.specs.declared.Answer.the-variants.{Running, Pushed, Empty, Popped, NoSlot}
+use Rattle.model.specs.declared.Outcome.{Outcome}
+use Rattle.model.specs.declared.Outcome.the-variants.{Refused, Moved}
+use Rattle.model.specs.declared.Opening.{Opening}
+use Rattle.model.specs.declared.Opening.the-variants as opening
+use Rattle.model.specs.declared.Op.{Op}
+use Rattle.model.specs.declared.Op.the-variants as op
+use Rattle.lines.specs.declared.Line.{Line}
+use Rattle.lines.specs.declared.Line.the-variants.{Open, Act, File}
+
+-- The decimal digits of n, at most more + 1 of them; a number below 2 ^ 64 has at most 20.
+unfoldable pub decimalIn : ℕ → ℕ → List ℕ
+decimalIn zero n = (48 + n % 10) ∷ []
+decimalIn (suc more) n = cond (ltb n 10) [] (decimalIn more (n / 10)) ++ ((48 + n % 10) ∷ [])
+
+unfoldable pub decimal : ℕ → List ℕ
+decimal n = decimalIn 19 n
+
+-- The last two decimal digits.
+unfoldable pub lastTwo : ℕ → List ℕ
+lastTwo n = (48 + n / 10 % 10) ∷ (48 + n % 10) ∷ []
+
+-- The last four hexadecimal digits of n, and sixteen of a word.
+unfoldable pub glyph : ℕ → ℕ
+glyph d = cond (ltb d 10) (48 + d) (87 + d)
+
+unfoldable pub hexFour : ℕ → List ℕ
+hexFour n = glyph (n / 2 ^ 12 % 16) ∷ glyph (n / 2 ^ 8 % 16) ∷ glyph (n / 2 ^ 4 % 16) ∷ glyph (n % 16) ∷ []
+
+unfoldable pub hex : ℕ → List ℕ
+hex w = hexFour (w / 2 ^ 48) ++ hexFour (w / 2 ^ 32) ++ hexFour (w / 2 ^ 16) ++ hexFour w
+
+-- The n low bytes of a word, the lowest first.
+unfoldable pub bytesOf : ℕ → ℕ → List ℕ
+bytesOf zero g = []
+bytesOf (suc n) g = g % 256 ∷ bytesOf n (g / 256)
+
+-- Words, and a word with a number behind it.
+unfoldable pub numbered : List ℕ → ℕ → List ℕ
+numbered word n = word ++ decimal n
+
+abbrev pub ok : List ℕ
+ok = 111 ∷ 107 ∷ []
+
+abbrev pub no : List ℕ
+no = 110 ∷ 111 ∷ []
+
+-- Task as given, and the call: " TASK push ", with a slot or without, " TASK pop ", " TASK step ".
+abbrev pub callWord : Op → List ℕ
+callWord (op.Push side slot label) = 32 ∷ 112 ∷ 117 ∷ 115 ∷ 104 ∷ 32 ∷ []
+callWord (op.Pop side) = 32 ∷ 112 ∷ 111 ∷ 112 ∷ 32 ∷ []
+callWord (op.Put side label) = 32 ∷ 112 ∷ 117 ∷ 115 ∷ 104 ∷ 32 ∷ []
+callWord op.Step = 32 ∷ 115 ∷ 116 ∷ 101 ∷ 112 ∷ 32 ∷ []
+
+unfoldable pub callOf : ℕ → Op → List ℕ
+callOf task op = numbered (32 ∷ []) task ++ callWord op
+
+-- Popped: "got:SLOT:LABEL".
+unfoldable pub entryOf : Entry → List ℕ
+entryOf e = numbered (103 ∷ 111 ∷ 116 ∷ 58 ∷ []) (e .slot) ++ numbered (58 ∷ []) (e .label)
+
+-- Running: "atPLACE"; "pushed"; "empty"; "noslot".
+unfoldable pub answerOf : Answer → List ℕ
+answerOf (Running p) = numbered (97 ∷ 116 ∷ []) p
+answerOf Pushed = 112 ∷ 117 ∷ 115 ∷ 104 ∷ 101 ∷ 100 ∷ []
+answerOf Empty = 101 ∷ 109 ∷ 112 ∷ 116 ∷ 121 ∷ []
+answerOf (Popped e) = entryOf e
+answerOf NoSlot = 110 ∷ 111 ∷ 115 ∷ 108 ∷ 111 ∷ 116 ∷ []
+
+-- A start carried out is "ok".
+abbrev pub moved : Op → Answer → List ℕ
+moved (op.Push side slot label) a = ok
+moved (op.Pop side) a = ok
+moved (op.Put side label) a = ok
+moved op.Step a = answerOf a
+
+-- A refusal: "no" and its number.
+unfoldable pub outcomeOf : Op → Outcome → List ℕ
+outcomeOf op (Refused n) = numbered no n
+outcomeOf op (Moved a) = moved op a
+
+unfoldable pub openingOf : Opening → List ℕ
+openingOf (opening.Refused n) = numbered no n
+openingOf opening.Opened = ok
+
+-- " TASK CALL ANSWER": the task is - for an opening, " - open ", and for a malformed place, " - file no16".
+unfoldable pub told : Line → List ℕ
+told (Open o) = (32 ∷ 45 ∷ 32 ∷ 111 ∷ 112 ∷ 101 ∷ 110 ∷ 32 ∷ []) ++ openingOf o
+told (Act task op outcome) = callOf task op ++ outcomeOf op outcome
+told File = 32 ∷ 45 ∷ 32 ∷ 102 ∷ 105 ∷ 108 ∷ 101 ∷ 32 ∷ 110 ∷ 111 ∷ 49 ∷ 54 ∷ []
+
+-- " ANCHOR" and the line's end.
+unfoldable pub anchorOf : ℕ → List ℕ
+anchorOf w = (32 ∷ []) ++ hex w ++ (10 ∷ [])
+
+unfoldable pub lineOf : ℕ → Line → ℕ → List ℕ
+lineOf event line anchor = decimal event ++ told line ++ anchorOf anchor
+
+-- "event task call answer anchor"
+unfoldable pub header : List ℕ
+header =
+    (101 ∷ 118 ∷ 101 ∷ 110 ∷ 116 ∷ 32 ∷ [])
+    ++ (116 ∷ 97 ∷ 115 ∷ 107 ∷ 32 ∷ [])
+    ++ (99 ∷ 97 ∷ 108 ∷ 108 ∷ 32 ∷ [])
+    ++ (97 ∷ 110 ∷ 115 ∷ 119 ∷ 101 ∷ 114 ∷ 32 ∷ [])
+    ++ (97 ∷ 110 ∷ 99 ∷ 104 ∷ 111 ∷ 114 ∷ 10 ∷ [])
+
+-- No line is longer.
+abbrev pub room : ℕ
+room = 128
+
+-- Bytes were stored from position at on, and r is the position after them.
+pub record Put (before after : List ℕ) (at r : ℕ) (bytes : List ℕ) : Type 0 where
+  pub stop : r ≡ at + length bytes
+  pub stored : after ≡ sets before at bytes
+
+-- Bytes that are written where a buffer of n bytes has room for the longest line at a position, and otherwise not.
+unfoldable pub fitting : ℕ → ℕ → List ℕ → List ℕ
+fitting n at bytes = cond (leb (at + room) n) bytes []

@@ -1,0 +1,135 @@
+-- *No slot* is true: when a step answers so, every slot is in the queue or a task's. (Request #104.)
+use mathlib.Core.Bool.{Bool, cond, false, not, true}
+use mathlib.Core.List.{List, [], _∷_}
+use mathlib.Core.Logic.{_≢_, _⊎_, inl, inr}
+use mathlib.Core.Path.{_∙_, _≡_, ap, refl, subst, sym}
+use Prim.Native.Nat.{_<_, _≤_, ℕ}
+use native.Mathlib.Decide.{decLt}
+use native.Mathlib.Omega.{arith}
+use lib.Dec.{eqb, leb, ltb}
+use lib.ListN.{List·getD-eq-default}
+use borrow.Author.Tests.{eq-eqb, eqb-true, ltb-true}
+use Rattle.word.specs.Anchor.{anchorOf}
+use Rattle.model.specs.Calls.{Acted, act, actOn, finish, opened, step}
+use Rattle.model.specs.History.{InUse, NoSlotRight, NoSlotTrue, Waits, final, here, holds, holdsSlot, later, ledger, run, waits}
+use Rattle.model.specs.Refusals.{among, stepRefusal}
+use Rattle.model.specs.Walk.{entries}
+use Rattle.model.specs.Tables.{atPlace, Queue, Tables, recordAt}
+use Rattle.model.specs.declared.Answer.the-variants.{NoSlot}
+use Rattle.model.specs.declared.Answer.{Answer}
+use Rattle.model.specs.declared.Entry.{Entry}
+use Rattle.model.specs.declared.Op.the-variants.{Step}
+use Rattle.model.specs.declared.Opening.the-variants as opening
+use Rattle.model.specs.declared.Outcome.the-variants.{Moved}
+use Rattle.model.specs.declared.Record.{Record}
+use Rattle.model.proofs.tests.ByPlace.{by-place}
+use Rattle.model.proofs.tests.Rules.{_and_, passes}
+use Rattle.model.proofs.tests.Truth.{by-test, decide-eq}
+use Rattle.model.proofs.lists.In.{In}
+use Rattle.model.proofs.lists.Slots.{slots}
+use Rattle.model.proofs.machine.Clerk as B
+use Rattle.model.proofs.machine.Machine as M
+use Rattle.model.proofs.invariant.Tasks.{Task}
+use Rattle.model.proofs.places.NoSlot.{Holds, Lacks, act-lacks, no-slot}
+use Rattle.model.proofs.bridge.Accepted.{Stepping, step-accepted}
+use Rattle.model.proofs.bridge.EveryPlace.{step-seen}
+use Rattle.model.proofs.bridge.Operations.{reply, task-of}
+use Rattle.model.proofs.bridge.View.{anchorSeen, answerSeen, kindOf, placeList, placeOf, recOf, stateOf, view}
+use Rattle.model.proofs.ledger.Kept.{run-good}
+use Rattle.model.proofs.ledger.Matched.{Matched}
+use Rattle.model.proofs.ledger.Opened.{nobody, open-good, some-slots}
+use Rattle.model.proofs.ledger.Waiting as waiting
+use Rattle.model.proofs.unsound.Suits.{kind-push}
+use Rattle.model.proofs.Openings.{after-opening}
+
+-- A slot of the clerk's deque waits.
+in-waits : (l : List Entry) (x : ℕ) → In x (slots l) → Waits x (entries l)
+in-waits [] x i = absurd i
+in-waits (e ∷ l) x (inl z) = here e l z
+in-waits (e ∷ l) x (inr i) = later e l (in-waits l x i)
+
+-- What a decoded record holds, the record holds.
+module _ (r : Record) (x : ℕ) where
+  abbrev at : ℕ → Record
+  at p = atPlace r p
+
+  abbrev Here : ℕ → Type 0
+  Here p = Holds (placeOf p) (recOf r) x → holdsSlot (at p) x ≡ true
+
+  pushing : (p : ℕ) → leb p 10 ≡ true → leb 1 p ≡ true → (kindOf (r .kind) ≡ M.push) × (eqb (r .finishing) 1 ≡ false) × (r .own ≡ x) → holdsSlot (at p) x ≡ true
+  unfolding holdsSlot
+  pushing p l s w = rw l (passes (leb 1 p ∷ eqb (r .kind) 0 ∷ not (eqb (r .finishing) 1) ∷ eqb (r .own) x ∷ []) (s and eq-eqb _ _ (kind-push (r .kind) (w .0)) and ap not (w .1) and eq-eqb _ _ (w .2) and tt))
+
+  tip-near : (d : Bool) → M.tip (anchorSeen (r .seen)) d ≡ cond d (anchorOf (r .seen) .right) (anchorOf (r .seen) .left)
+  tip-near false = refl
+  tip-near true = refl
+
+  holds-place : (p : ℕ) → p ≢ 0 → p ≤ 17 → Here p
+  unfolding recOf holdsSlot
+  holds-place = by-place Here
+      (λ w. pushing 1 refl refl w)
+      (λ w. pushing 2 refl refl w)
+      (λ w. pushing 3 refl refl w)
+      (λ w. pushing 4 refl refl w)
+      (λ w. pushing 5 refl refl w)
+      (λ w. pushing 6 refl refl w)
+      (λ w. pushing 7 refl refl w)
+      (λ w. pushing 8 refl refl w)
+      (λ w. pushing 9 refl refl w)
+      (λ w. pushing 10 refl refl w)
+      (λ w. eq-eqb _ _ (sym (tip-near (eqb (r .side) 1)) ∙ w))
+      (λ w. absurd w)
+      (λ w. absurd w)
+      (λ w. absurd w)
+      (λ w. eq-eqb _ _ w)
+      (λ w. eq-eqb _ _ w)
+      (λ w. eq-eqb _ _ w)
+
+  pub holds-is : Holds (recOf r .place) (recOf r) x → holdsSlot r x ≡ true
+  unfolding recOf
+  holds-is w = go (decide-eq (r .place) 0) (decLt 17 (r .place))
+    where
+      go : (r .place ≡ 0) ⊎ (r .place ≢ 0) → Dec (17 < r .place) → holdsSlot r x ≡ true
+      go (inl z) d = absurd (subst (λ p. Holds (placeOf p) (recOf r) x) z w)
+      go (inr z) (yes l) = absurd (subst (λ (p : M.Place). Holds p (recOf r) x) (List·getD-eq-default placeList M.idle {n = r .place} (omega arith)) w)
+      go (inr z) (no l) = holds-place (r .place) z (omega arith) w
+
+module _ (n : ℕ) (q : Queue) (l : _) (g : Matched n q l) (t : ℕ) where
+  abbrev G : Tables
+  G = q .tables
+
+  abbrev r : Record
+  r = recordAt q t
+
+  -- The step that answers so has read an empty head.
+  module _ (s : Stepping q t) (e : reply q (g .book) (g .inv) (g .links) t s ≡ NoSlot) where
+    empty-head : (view G .pooled ≡ true) × (view G .head .slot ≡ 0)
+    unfolding stateOf recOf
+    empty-head =
+        let w = subst (λ (x : M.Rec). Task (x .place) (view G) (g .inv .owner) t x (g .book .calls t)) (task-of q t (s .lies .known)) (g .inv .tasks t) in
+        let k = subst (Lacks (view G)) (step-seen G (s .control) (g .links) r (s .fine) (s .busy) (s .room)) (act-lacks (view G) (recOf r) (g .inv .owner) t (g .book .calls t) (placeOf (r .place)) w) in
+        k .lacks (ap (λ (a : Answer). B.isNoSlot (answerSeen a)) e)
+
+    all-used : (x : ℕ) → 1 ≤ x → x ≤ G .control .slots → InUse q x
+    unfolding stateOf view
+    all-used x some low = go (no-slot (record { state = stateOf q; book = g .book }) (g .inv) (empty-head .0) (empty-head .1) x (λ z. omega arith) low)
+      where
+        held : (u : ℕ) (b : Bool) → ltb u (G .control .tasks) ≡ b → (let y = cond b (recOf (recordAt q u)) M.blank in Holds (y .place) y x) → InUse q x
+        held u true z w = holds u (ltb-true _ _ z) (holds-is (recordAt q u) x w)
+        held u false z w = absurd w
+
+        go : In x (slots (g .book .queue)) ⊎ ((u : ℕ) × Holds (stateOf q .task u .place) (stateOf q .task u) x) → InUse q x
+        go (inl i) = waits (subst (Waits x) (sym (waiting.waits G (g .links) (g .inv .owner) (g .book .queue) (g .inv .whole))) (in-waits (g .book .queue) x i))
+        go (inr w) = held (w .0) (ltb (w .0) (G .control .tasks)) refl (w .1)
+
+  pub told-truly : act q t Step .outcome ≡ Moved NoSlot → (x : ℕ) → 1 ≤ x → x ≤ G .control .slots → InUse q x
+  unfolding act actOn step finish
+  told-truly = by-test (λ (a : Acted). a .outcome ≡ Moved NoSlot → (x : ℕ) → 1 ≤ x → x ≤ G .control .slots → InUse q x) (eqb (stepRefusal G (among q t) r) 0)
+      (λ z e. all-used (step-accepted q t (eqb-true _ _ z)) cc)
+      (λ z e. absurd (let w : _≡_ {A = ℕ} 0 1 = cc in omega arith))
+
+pub no-slot-right : NoSlotRight
+no-slot-right = after-opening true NoSlotTrue (λ q tasks slots tag e os t.
+    let o = opened true q tasks slots tag in
+    let g = run-good os 1 o nobody (open-good true q tasks slots tag (some-slots true q tasks slots e)) in
+    told-truly (g .0) (final o os) (ledger (run o os)) (g .1) t)

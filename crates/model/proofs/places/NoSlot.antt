@@ -1,0 +1,128 @@
+-- *No slot* is true: where the head names none, every slot is in the queue, or a push's before its effect, or a pop's after it.
+-- (Line 15. A program that loses slots, or answers *no slot* at will, is linearizable all the same.)
+use mathlib.Core.Bool.{Bool, false, true}
+use mathlib.Core.Logic.{_≢_, _⊎_, inl, inr}
+use mathlib.Core.Path.{_≡_, refl, subst, sym}
+use Prim.Native.Nat.{_≤_, ℕ}
+use lib.Dec.{eqb}
+use Rattle.model.proofs.tests.Truth.{by-test, not-both}
+use Rattle.model.proofs.lists.In.{In}
+use Rattle.model.proofs.lists.Slots.{slots}
+use Rattle.model.proofs.machine.Clerk.{Both, Call, isNoSlot}
+use Rattle.model.proofs.machine.Machine.{Kind, Move, Place, Rec, Shared, Touch, act, at1, at10, at11, at12, at13, at14, at15, at16, at17, at2, at3, at4, at5, at6, at7, at8, at9, draw, four, give, idle, isStable, leave, none, one, pop, push, putAnchor, same, sameLink, settled, three, tip, towards, two}
+use Rattle.model.proofs.machine.Machine.{exhausted}
+use Rattle.model.proofs.machine.Laws.{exhausted-true}
+use Rattle.model.proofs.invariant.Invariant.{Inv}
+use Rattle.model.proofs.invariant.Owners.{Owner, Pool, Spare, free, held, queued}
+use Rattle.model.proofs.invariant.Tasks.{Own, Stage, Task}
+use Rattle.model.proofs.places.Stack.{none-free}
+
+-- A push at 1 to 10 that is not finishing.
+abbrev pub Pushes : Rec → ℕ → Type 0
+Pushes r x = (r .kind ≡ push) × (r .finishing ≡ false) × (r .own ≡ x)
+
+-- The record holds slot x.
+abbrev pub Holds : Place → Rec → ℕ → Type 0
+Holds idle r x = ⊥
+Holds at1 r x = Pushes r x
+Holds at2 r x = Pushes r x
+Holds at3 r x = Pushes r x
+Holds at4 r x = Pushes r x
+Holds at5 r x = Pushes r x
+Holds at6 r x = Pushes r x
+Holds at7 r x = Pushes r x
+Holds at8 r x = Pushes r x
+Holds at9 r x = Pushes r x
+Holds at10 r x = Pushes r x
+Holds at11 r x = tip (r .read) (r .side) ≡ x
+Holds (draw p) r x = ⊥
+Holds (give p) r x = r .own ≡ x
+
+module _ (s : Shared) (h : ℕ → Owner) (t : ℕ) (r : Rec) (c : Call) (x : ℕ) (e : h x ≡ held t) where
+  trying : (k : Kind) → r .kind ≡ k → r .finishing ≡ false → Own k (s .label) h t (r .own) (r .label) → Pushes r x
+  trying push k f o = (k, f, sym (o .3 x e))
+  trying pop k f o = absurd (o x e)
+
+  helping : (f : Bool) → r .finishing ≡ f → Stage f (s .label) h t (r .kind) (r .side) (r .own) (r .label) c → Pushes r x
+  helping false f w = trying (r .kind) refl f (w .own)
+  helping true f w = absurd (w .1 x e)
+
+  -- What a task has, its record holds.
+  holds : (p : Place) → Task p s h t r c → Holds p r x
+  holds idle w = w .1 x e
+  holds at1 w = trying (r .kind) refl (w .0) (w .1 .own)
+  holds at2 w = trying (r .kind) refl (w .0 .early) (w .0 .before .own)
+  holds at3 w = trying (r .kind) refl (w .0 .early) (w .0 .before .own)
+  holds at4 w = trying (r .kind) refl (w .0 .early) (w .0 .before .own)
+  holds at5 w = helping (r .finishing) refl (w .stage)
+  holds at6 w = helping (r .finishing) refl (w .0 .stage)
+  holds at7 w = helping (r .finishing) refl (w .0 .stage)
+  holds at8 w = helping (r .finishing) refl (w .0 .stage)
+  holds at9 w = helping (r .finishing) refl (w .0 .stage)
+  holds at10 w = helping (r .finishing) refl (w .0 .stage)
+  holds at11 w = sym (w .sole x e)
+  holds (draw p) w = w .1 .bare x e
+  holds (give p) w = sym (w .1 .sole x e)
+
+pub no-slot : (p : Both) → Inv p → p .state .shared .pooled ≡ true → p .state .shared .head .slot ≡ 0 → (x : ℕ) → x ≢ 0 → x ≤ p .state .shared .slots
+    → In x (slots (p .book .queue)) ⊎ ((t : ℕ) × Holds (p .state .task t .place) (p .state .task t) x)
+no-slot p i e z x nz le = go (i .owner x) refl
+  where
+    s : Shared
+    s = p .state .shared
+
+    pool : Pool (s .slots) (s .next) (s .head .slot) (i .owner)
+    pool = subst (λ b. Spare b (s .slots) (s .mark) (s .next) (s .head .slot) (i .owner)) e (i .whole .spare)
+
+    go : (o : Owner) → i .owner x ≡ o → In x (slots (p .book .queue)) ⊎ ((t : ℕ) × Holds (p .state .task t .place) (p .state .task t) x)
+    go free g = absurd (none-free pool z x nz le g)
+    go queued g = inl (i .whole .listed x g)
+    go (held t) g = inr (t, holds s (i .owner) t (p .state .task t) (p .book .calls t) x g (p .state .task t .place) (i .tasks t))
+
+-- Who answers *no slot* has just read a head that names none.
+pub record Lacks (s : Shared) (m : Move) : Type 0 where
+  pub lacks : isNoSlot (m .answer) ≡ true → (s .pooled ≡ true) × (s .head .slot ≡ 0)
+
+module _ (s : Shared) (r : Rec) where
+  other : {m : Move} → isNoSlot (m .answer) ≡ false → Lacks s m
+  other e = record { lacks = λ z. absurd (not-both z e) }
+
+  lacks-leave : (g : Touch) → Lacks s (leave g r)
+  lacks-leave g = by-test (Lacks s) (r .finishing) (λ e. other refl) (λ e. other refl)
+
+  lacks1 : (k : Kind) → Lacks s (one k s r)
+  lacks1 push = by-test (Lacks s) (eqb (s .anchor .left) 0) (λ e. other refl) (λ e. by-test (Lacks s) (isStable (s .anchor .status)) (λ e. other refl) (λ e. other refl))
+  lacks1 pop = by-test (Lacks s) (eqb (s .anchor .left) 0) (λ e. other refl)
+      (λ e. by-test (Lacks s) (eqb (s .anchor .left) (s .anchor .right)) (λ e. other refl) (λ e. by-test (Lacks s) (isStable (s .anchor .status)) (λ e. other refl) (λ e. other refl)))
+
+  lacks2 : (k : Kind) → Lacks s (two k s r)
+  lacks2 push = by-test (Lacks s) (same (r .read) (s .anchor)) (λ e. other refl) (λ e. lacks1 push)
+  lacks2 pop = by-test (Lacks s) (same (r .read) (s .anchor)) (λ e. other refl) (λ e. lacks1 pop)
+
+  lacks3 : (k : Kind) → Lacks s (three k s r)
+  lacks3 push = other refl
+  lacks3 pop = other refl
+
+  lacks4 : (k : Kind) → Lacks s (four k s r)
+  lacks4 push = by-test (Lacks s) (same (r .read) (s .anchor)) (λ e. other refl) (λ e. lacks1 push)
+  lacks4 pop = by-test (Lacks s) (same (r .read) (s .anchor)) (λ e. other refl) (λ e. lacks1 pop)
+
+  pub act-lacks : (h : ℕ → Owner) (t : ℕ) (c : Call) (p : Place) → Task p s h t r c → Lacks s (act p s r)
+  act-lacks h t c idle w = other refl
+  act-lacks h t c at1 w = lacks1 (r .kind)
+  act-lacks h t c at2 w = lacks2 (r .kind)
+  act-lacks h t c at3 w = lacks3 (r .kind)
+  act-lacks h t c at4 w = lacks4 (r .kind)
+  act-lacks h t c at5 w = other refl
+  act-lacks h t c at6 w = by-test (Lacks s) (same (r .read) (s .anchor)) (λ e. other refl) (λ e. lacks-leave none)
+  act-lacks h t c at7 w = by-test (Lacks s) (eqb (s .link (towards (r .read .status)) (r .near) .slot) (tip (r .read) (towards (r .read .status)))) (λ e. other refl) (λ e. other refl)
+  act-lacks h t c at8 w = by-test (Lacks s) (same (r .read) (s .anchor)) (λ e. other refl) (λ e. lacks-leave none)
+  act-lacks h t c at9 w = by-test (Lacks s) (sameLink (r .link) (s .link (towards (r .read .status)) (r .near))) (λ e. other refl) (λ e. lacks-leave none)
+  act-lacks h t c at10 w = by-test (Lacks s) (same (r .read) (s .anchor)) (λ e. lacks-leave (putAnchor (settled (r .read)))) (λ e. lacks-leave none)
+  act-lacks h t c at11 w = by-test (Lacks s) (s .pooled) (λ e. other refl) (λ e. other refl)
+  act-lacks h t c (draw at12) w = by-test (Lacks s) (exhausted (s .head)) (λ e. record { lacks = λ _. (w .0, exhausted-true (s .head) e) }) (λ e. other refl)
+  act-lacks h t c (draw at13) w = other refl
+  act-lacks h t c (draw at14) w = by-test (Lacks s) (sameLink (r .link) (s .head)) (λ e. other refl) (λ e. other refl)
+  act-lacks h t c (give at15) w = other refl
+  act-lacks h t c (give at16) w = other refl
+  act-lacks h t c (give at17) w = by-test (Lacks s) (sameLink (r .link) (s .head)) (λ e. other refl) (λ e. other refl)

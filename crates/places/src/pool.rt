@@ -1,0 +1,100 @@
+//! Places 12 to 17: a push draws its slot from the stack before place 1, and a pop gives its slot
+//! back after place 11. The head as read is kept as the link word, the next as the neighbour.
+//! (Document 02, #104: the tagged compare-and-swap stack of 003's references.)
+use crate::next;
+use crate::step;
+use model::Control;
+use model::Entry;
+use model::Record;
+use table::Acted;
+use word::Link;
+ghost use Rattle.places.specs.Arm.{Steps, StepsOnMarks, StepsOnNext};
+
+/// Place 12: read the head; an empty one is *no slot*.
+pub fn at12(c: Control, r: Record) -> Acted
+    ensures { λ m. ⌜ Steps 12 c r m ⌝ }
+{
+    let none = next::next(12, r.kind, 0);
+    let other = next::next(12, r.kind, 1);
+    step::reads_head(c, r, none, other)
+}
+
+/// Place 13: read the next of the head's slot.
+pub fn at13(c: Control, r: Record, nexts: &[u64]) -> Acted
+    ensures { λ m. ⌜ StepsOnNext 13 c r (now (nexts .entry)) m (now (nexts .entry)) ⌝ }
+{
+    let head = Link::unpack(r.link);
+    let n = table::word_at(nexts, head.slot);
+    if n <= c.slots {
+        let mut t = r;
+        t.neighbour = n;
+        return step::settles(c, t, next::next(13, r.kind, 0), step::NO_ENTRY);
+    }
+    step::refused(c, r)
+}
+
+/// Place 14: change the head to that next. The slot is then the push's own, marked and with its label.
+pub fn at14(c: Control, r: Record, labels: &mut [u32], marks: &mut [u64]) -> Acted
+    ensures { λ m.
+        ⌜ StepsOnMarks 14 c r (now (labels .entry)) (now (marks .entry)) m (now (labels .exit)) (now (marks .exit)) ⌝ }
+{
+    let head = Link::unpack(r.link);
+    if c.head != r.link {
+        return step::settles(
+            step::bumped(c),
+            r,
+            next::next(14, r.kind, 1),
+            step::NO_ENTRY,
+        );
+    }
+    if head.tag < Link::TAG_MASK {
+        let d = step::with_head(c, step::link_word(step::raised(r.link), r.neighbour));
+        table::put_label(labels, head.slot, r.label);
+        table::set_mark(marks, head.slot);
+        let mut t = r;
+        t.own = head.slot;
+        return step::settles(d, t, next::next(14, r.kind, 0), step::NO_ENTRY);
+    }
+    step::refused(c, r)
+}
+
+/// Place 15: read the head.
+pub fn at15(c: Control, r: Record) -> Acted
+    ensures { λ m. ⌜ Steps 15 c r m ⌝ }
+{
+    let n = next::next(15, r.kind, 0);
+    step::reads_head(c, r, n, n)
+}
+
+/// Place 16: put the head's slot into the own slot's next.
+pub fn at16(c: Control, r: Record, nexts: &mut [u64]) -> Acted
+    ensures { λ m. ⌜ StepsOnNext 16 c r (now (nexts .entry)) m (now (nexts .exit)) ⌝ }
+{
+    let head = Link::unpack(r.link);
+    table::put_word(nexts, r.own, head.slot);
+    step::settles(c, r, next::next(16, r.kind, 0), step::NO_ENTRY)
+}
+
+/// Place 17: change the head to the own slot, and answer with it and its label.
+pub fn at17(c: Control, r: Record) -> Acted
+    ensures { λ m. ⌜ Steps 17 c r m ⌝ }
+{
+    let head = Link::unpack(r.link);
+    if c.head != r.link {
+        return step::settles(
+            step::bumped(c),
+            r,
+            next::next(17, r.kind, 1),
+            step::NO_ENTRY,
+        );
+    }
+    if head.tag < Link::TAG_MASK {
+        let d = step::with_head(c, step::link_word(step::raised(r.link), r.own));
+        let e = Entry {
+            slot: r.own,
+            label: r.label,
+        };
+        return step::settles(d, r, next::next(17, r.kind, 0), e);
+    }
+    step::refused(c, r)
+}

@@ -1,0 +1,10 @@
+-- All slots stacked in the next table of a pooled queue; a shorter table, and a named queue's, keeps its contents.
+use mathlib.Core.Bool.{Bool, _&&_, cond}
+use mathlib.Core.List.{List}
+use Prim.Native.Nat.{ℕ}
+use lib.Dec.{ltb}
+use lib.ListN.{length}
+use Rattle.model.specs.Calls.{stacked}
+
+unfoldable pub stacking : Bool → ℕ → List ℕ → List ℕ
+stacking pooled slots l = cond (pooled && ltb slots (length l)) (stacked slots l) l
