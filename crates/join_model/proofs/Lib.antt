@@ -1,0 +1,2 @@
+-- One step of a push alone, place by place.
+pub mod Alone
