@@ -66,20 +66,18 @@ module _ (t : Tables) (own label word : ℕ) (a : Able t own word) where
     unfolding stepLent step stepRefusal stepSound finish move at1 reading recordSound anchorSound linkSound route pushRoute onward answer goes counted row
     step1-empty l r = rw (a .control, a .named, a .rows, a .low, a .high, null slots, ← w, l, r)
 
-    pub step2 : let new = packAnchor (record { tag = seen .tag + 1; status = seen .status; left = own; right = own }) in
-        anchorSound slots (anchorOf new) ≡ true → ltb (seen .tag) 4294967295 ≡ true
+    pub step2 : (new : ℕ) → packAnchor (record { tag = seen .tag + 1; status = seen .status; left = own; right = own }) ≡ new
+        → anchorSound slots (anchorOf new) ≡ true → ltb (seen .tag) 4294967295 ≡ true
         → stepLent t (at 2 own label word 0 0) ≡ ends (withAnchor t new)
     unfolding stepLent step stepRefusal stepSound finish move at2 recordSound linkSound route pushRoute onward answer goes counted row sideOf
-    step2 s r = rw (a .control, a .named, a .rows, a .low, a .high, null slots, a .seen, ← w, same word, s, r)
+    step2 new p s r = rw (a .control, a .named, a .rows, a .low, a .high, null slots, a .seen, ← w, same word, p, s, r)
 
     -- Place 4.
-    abbrev pub new : ℕ
-    new = packAnchor (record { tag = seen .tag + 1; status = 1; left = seen .left; right = own })
-
-    pub step4 : anchorSound slots (anchorOf new) ≡ true → ltb (seen .tag) 4294967295 ≡ true
+    pub step4 : (new : ℕ) → packAnchor (record { tag = seen .tag + 1; status = 1; left = seen .left; right = own }) ≡ new
+        → anchorSound slots (anchorOf new) ≡ true → ltb (seen .tag) 4294967295 ≡ true
         → stepLent t (at 4 own label word 0 0) ≡ runs (withAnchor t new) (at 5 own label new 0 1) 5
     unfolding stepLent step stepRefusal stepSound finish move at4 new4 recordSound linkSound route pushRoute onward answer goes counted row sideOf
-    step4 s r = rw (a .control, a .named, a .rows, a .low, a .high, null slots, a .seen, ← w, same word, s, r)
+    step4 new p s r = rw (a .control, a .named, a .rows, a .low, a .high, null slots, a .seen, ← w, same word, p, s, r)
 
     module _ (neighbour : ℕ) (n : leb neighbour slots ≡ true) (helps : seen .status ≡ 1) where
       -- Places 6 and 8.
@@ -91,17 +89,17 @@ module _ (t : Tables) (own label word : ℕ) (a : Able t own word) where
       unfolding stepLent step stepRefusal stepSound finish move at6 recordSound linkSound route pushRoute onward answer goes counted row sideOf
       step8 = rw (a .control, a .named, a .rows, a .low, a .high, null slots, a .seen, helps, n, ← w, same word)
 
-      pub step10 : let last = packAnchor (record { tag = seen .tag + 1; status = 0; left = seen .left; right = seen .right }) in
-          anchorSound slots (anchorOf last) ≡ true → ltb (seen .tag) 4294967295 ≡ true
-          → stepLent t (at 10 own label word neighbour 1) ≡ ends (withAnchor t last)
+      pub step10 : (new : ℕ) → packAnchor (record { tag = seen .tag + 1; status = 0; left = seen .left; right = seen .right }) ≡ new
+          → anchorSound slots (anchorOf new) ≡ true → ltb (seen .tag) 4294967295 ≡ true
+          → stepLent t (at 10 own label word neighbour 1) ≡ ends (withAnchor t new)
       unfolding stepLent step stepRefusal stepSound finish move at10 recordSound linkSound route pushRoute onward answer goes counted row sideOf
-      step10 s r = rw (a .control, a .named, a .rows, a .low, a .high, null slots, a .seen, helps, n, ← w, same word, s, r)
+      step10 new p s r = rw (a .control, a .named, a .rows, a .low, a .high, null slots, a .seen, p, helps, n, ← w, same word, s, r)
 
   -- Place 3: the own slot's Left was 0, and names the right end now.
-  pub step3 : getD (t .lefts) own 0 ≡ 0 → packLink (record { tag = 0; slot = seen .right }) ≡ seen .right
-      → stepLent t (at 3 own label word 0 0) ≡ runs (apply (setLink 0 own (seen .right)) t) (at 4 own label word 0 0) 4
+  pub step3 : (end : ℕ) → packLink (record { tag = 0; slot = seen .right }) ≡ end → getD (t .lefts) own 0 ≡ 0
+      → stepLent t (at 3 own label word 0 0) ≡ runs (apply (setLink 0 own end) t) (at 4 own label word 0 0) 4
   unfolding stepLent step stepRefusal stepSound finish move at3 recordSound linkSound route pushRoute onward answer goes counted row linkSide sideOf
-  step3 l p = rw (a .control, a .named, a .rows, a .low, a .high, null slots, a .seen, l, p, null slots)
+  step3 end p l = rw (a .control, a .named, a .rows, a .low, a .high, null slots, a .seen, l, p, null slots)
 
   module _ (neighbour : ℕ) (helps : seen .status ≡ 1) (mine : seen .right ≡ own) where
     -- Place 5: it names the neighbour.

@@ -1,2 +1,6 @@
--- One step of a push alone, place by place.
+-- One push alone, place by place; then as requests of task 0.
 pub mod Alone
+pub mod Ran
+pub mod Pushed
+pub mod NextPush
+pub mod Fresh

@@ -15,12 +15,15 @@ abbrev pub filled : (ℕ → ℕ) → ℕ → List ℕ → List ℕ
 filled f zero l = l
 filled f (suc n) l = set (filled f n l) (suc n) (f (suc n))
 
--- Left of k names k - 1, with tag 0; Right of k names k + 1, with tag 1.
+-- Left of k names k - 1, with tag 0; Right of k names k + 1, with tag 1; row k has the k-th label.
 abbrev pub leftOf : ℕ → ℕ
 leftOf k = k - 1
 
 abbrev pub rightOf : ℕ → ℕ
-rightOf k = packLink (record { tag = 1; slot = k + 1 })
+rightOf k = packLink (record { tag = 1; slot = suc k })
+
+abbrev pub labelOf : List ℕ → ℕ → ℕ
+labelOf l k = getD (0 ∷ l) k 0
 
 -- Slots 1 to n are marked.
 abbrev pub markedTo : ℕ → List ℕ → List ℕ
@@ -31,24 +34,27 @@ markedTo (suc n) ws = withMark (markedTo n ws) (suc n) 1
 abbrev pub tagAfter : ℕ → ℕ → ℕ
 tagAfter tag n = tag + 2 * n - 1
 
--- n labels in slots 1 to n. The Right of n stays 0, and so does the Left of 1; record 0 is idle; the rest is as it was.
-unfoldable pub holding : Queue → List ℕ → Queue
-holding q [] = q
-holding q (x ∷ l) =
+-- n labels, one and as many as before, in slots 1 to n. The last one's Right stays as it was; record 0 is idle; the rest is as it was.
+unfoldable pub held : Queue → ℕ → (ℕ → ℕ) → Queue
+held q before label =
     let t = q .tables in
-    let n = length (x ∷ l) in
-    let word = packAnchor (record { tag = tagAfter (anchorIn q .tag) n; status = 0; left = 1; right = n }) in
+    let n = suc before in
     record {
       tables = withAnchor (record {
         control = t .control;
         lefts = filled leftOf n (t .lefts);
-        rights = filled rightOf (n - 1) (t .rights);
-        labels = filled (λ k. getD (x ∷ l) (k - 1) 0) n (t .labels);
+        rights = filled rightOf before (t .rights);
+        labels = filled label n (t .labels);
         marks = markedTo n (t .marks);
         next = t .next;
-      }) word;
+      }) (packAnchor (record { tag = tagAfter (anchorIn q .tag) n; status = 0; left = 1; right = n }));
       records = set (q .records) 0 idle;
     }
+
+-- With no labels nothing changes.
+unfoldable pub holding : Queue → List ℕ → Queue
+holding q [] = q
+holding q (x ∷ l) = held q (length l) (labelOf (x ∷ l))
 
 -- 33: the tag at the last start is above 4,294,967,262. That start finds the first tag where there is one label, else the tag after one push less.
 unfoldable pub lateFor : ℕ → ℕ → Bool

@@ -63,14 +63,17 @@ abbrev pub pushes : ℕ → List ℕ → List Request
 pushes k [] = []
 pushes k (x ∷ l) = pushAlone k x ++ pushes (suc k) l
 
+abbrev pub outcomes : List Event → List Outcome
+outcomes l = map (λ (e : Event). e .outcome) l
+
 -- 33 if such a push would meet it.
 abbrev pub isLate : Outcome → Bool
 isLate (Refused n) = eqb n 33
 isLate (Moved a) = false
 
-abbrev pub anyLate : List Event → Bool
+abbrev pub anyLate : List Outcome → Bool
 anyLate [] = false
-anyLate (e ∷ l) = isLate (e .outcome) || anyLate l
+anyLate (o ∷ l) = isLate o || anyLate l
 
 -- Of a source control, rows and records are lent, and nothing more counts.
 abbrev pub sourceTests : Queue → List Bool
@@ -99,7 +102,7 @@ joinRules a b q =
     ∷ rule 34 (isBroken (contents (b .tables)))
     ∷ rule 47 (not (every (atRest a ∷ atRest b ∷ fresh q ∷ [])))
     ∷ rule 48 (ltb (q .tables .control .slots) (length (lanes a b)))
-    ∷ rule 33 (anyLate (run q (pushes 1 (lanes a b))))
+    ∷ rule 33 (anyLate (outcomes (run q (pushes 1 (lanes a b)))))
     ∷ []
 
 unfoldable pub joinRefusal : Queue → Queue → Queue → ℕ
