@@ -4,3 +4,5 @@ pub mod Ran
 pub mod Pushed
 pub mod NextPush
 pub mod Fresh
+pub mod Filling
+pub mod Pushes

@@ -55,7 +55,7 @@ pub record Ready (q : Queue) (k : ℕ) : Type 0 where
   pub unmarked : marked (q .tables .marks) (suc k) ≡ false
 
 -- Only the lengths count of what 12 asks.
-abbrev fitting : ℕ → Lengths → Bool
+abbrev pub fitting : ℕ → Lengths → Bool
 fitting n l = every (ltb n (l .lefts) ∷ ltb n (l .rights) ∷ ltb n (l .labels) ∷ ltb (n / 64) (l .marks) ∷ (not false || ltb n (l .next)) ∷ [])
 
 -- A label in its slot.
