@@ -6,3 +6,4 @@ pub mod NextPush
 pub mod Fresh
 pub mod Filling
 pub mod Pushes
+pub mod Lanes

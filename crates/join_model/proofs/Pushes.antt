@@ -1,4 +1,4 @@
--- Label after label pushed by task 0 alone: the closed form, the outcomes, and 33 by the tag.
+-- The first label pushed by task 0 alone, and one label more: the closed form is kept.
 use mathlib.Core.Path.{_≡_, refl, sym, ap, subst, _∙_}
 use mathlib.Core.Bool.{Bool, true, false, _||_, cond}
 use mathlib.Core.List.{List, [], _∷_, _++_, append-assoc}
@@ -49,7 +49,7 @@ module _ (q : Queue) (fresh : Fresh q) (f : ℕ → ℕ) where
   tag = anchorIn q .tag
 
   -- The first label.
-  ready : 0 < slots → Ready q 0
+  pub ready : 0 < slots → Ready q 0
   ready h = record {
     control = fresh .control;
     named = fresh .named;
@@ -97,7 +97,7 @@ module _ (q : Queue) (fresh : Fresh q) (f : ℕ → ℕ) where
     abbrev count : ℕ
     count = suc m
 
-    reads : anchorIn before ≡ record { tag = tagAfter tag count; status = 0; left = 1; right = count }
+    pub reads : anchorIn before ≡ record { tag = tagAfter tag count; status = 0; left = 1; right = count }
     unfolding held
     reads = unpack-pack _ (record { tag = omega arith; status = omega arith; left = omega arith; right = omega (arith, fresh .slots) })
 
@@ -128,7 +128,7 @@ module _ (q : Queue) (fresh : Fresh q) (f : ℕ → ℕ) where
     nonempty : 0 < length (q .records)
     nonempty = omega (arith, fresh .tasks, leb-true (q .tables .control .tasks) (length (q .records)) (fresh .records))
 
-    prepared : Ready before count
+    pub prepared : Ready before count
     unfolding held rowsFit
     prepared = record {
       control = control-kept (q .tables) _ (fresh .control) sound;
