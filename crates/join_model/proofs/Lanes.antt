@@ -13,11 +13,12 @@ use Rattle.model.specs.Tables.{Queue}
 use Rattle.model.specs.History.{Request, run, final}
 use Rattle.model.proofs.tests.Truth.{split, not-both}
 use Rattle.join_model.specs.Join.{anchorIn, pushAlone, pushes, outcomes, anyLate}
+use Rattle.join_model.specs.Laws.{answersOne, answersNext, answersMore, answers}
 use Rattle.join_model.specs.Closed.{labelOf, tagAfter, held, holding, lateFor}
 use Rattle.join_model.proofs.Ran.{Ran, ran-none, ran-on}
 use Rattle.join_model.proofs.Pushed.{turned-away}
 use Rattle.join_model.proofs.Fresh.{Fresh}
-use Rattle.join_model.proofs.Pushes.{answersFirst, answersNext, ready, begins, prepared, reads, one-more}
+use Rattle.join_model.proofs.Pushes.{ready, begins, prepared, reads, one-more}
 
 -- The labels l are those of f from k on.
 abbrev Follows : (ℕ → ℕ) → ℕ → List ℕ → Type 0
@@ -32,10 +33,6 @@ follows f k (x ∷ l) h =
 
 pub own-labels : (l : List ℕ) → Follows (labelOf l) 1 l
 own-labels l = follows (labelOf l) 1 l (λ i. let e : 1 + i ≡ suc i = omega arith in ap (labelOf l) e)
-
-abbrev pub answers : List ℕ → List Outcome
-answers [] = []
-answers (x ∷ l) = answersNext ++ answers l
 
 -- What is said of a list of requests and of those after it.
 said-on : {q mid : Queue} (os ps : List Request) {l : List Outcome} → Ran q os mid l → outcomes (run q (os ++ ps)) ≡ l ++ outcomes (run mid ps)
@@ -72,7 +69,7 @@ module _ (q : Queue) (fresh : Fresh q) (f : ℕ → ℕ) where
   one x m e h k early = subst (λ (x : ℕ). Ran (held q m f) (pushAlone (suc (suc m)) x) (held q (suc m) f) answersNext) e (one-more q fresh f m h k early)
 
   rest : (l : List ℕ) (m : ℕ) → Follows f (suc (suc m)) l → suc m + length l ≤ slots → Known m → lateFrom m l ≡ false
-      → Ran (held q m f) (pushes (suc (suc m)) l) (held q (m + length l) f) (answers l)
+      → Ran (held q m f) (pushes (suc (suc m)) l) (held q (m + length l) f) (answersMore l)
   rest [] m e h k late =
       let z : m ≡ m + 0 = omega arith in
       subst (λ (n : ℕ). Ran (held q m f) [] (held q n f) []) z (ran-none (held q m f))
@@ -81,7 +78,7 @@ module _ (q : Queue) (fresh : Fresh q) (f : ℕ → ℕ) where
       let no = or-false _ _ late in
       let first = one x m (e .0) (omega arith) k (no .0) in
       let others = rest l (suc m) (e .1) (omega arith) (known-more m (no .0)) (no .1) in
-      subst (λ (n : ℕ). Ran (held q m f) (pushes (suc (suc m)) (x ∷ l)) (held q n f) (answersNext ++ answers l)) z
+      subst (λ (n : ℕ). Ran (held q m f) (pushes (suc (suc m)) (x ∷ l)) (held q n f) (answersNext ++ answersMore l)) z
       (ran-on (pushAlone (suc (suc m)) x) (pushes (suc (suc (suc m))) l) first others)
 
   late-rest : (l : List ℕ) (m : ℕ) → Follows f (suc (suc m)) l → suc m + length l ≤ slots → Known m
@@ -99,8 +96,8 @@ module _ (q : Queue) (fresh : Fresh q) (f : ℕ → ℕ) where
 
   -- From the fresh queue on.
   module _ (x : ℕ) (l : List ℕ) (labels : Follows f 1 (x ∷ l)) (room : suc (length l) ≤ slots) where
-    start : ltb 4294967262 tag ≡ false → Ran q (pushAlone 1 x) (held q 0 f) answersFirst
-    start e = subst (λ (x : ℕ). Ran q (pushAlone 1 x) (held q 0 f) answersFirst) (labels .0) (begins q fresh f (omega arith) e)
+    start : ltb 4294967262 tag ≡ false → Ran q (pushAlone 1 x) (held q 0 f) answersOne
+    start e = subst (λ (x : ℕ). Ran q (pushAlone 1 x) (held q 0 f) answersOne) (labels .0) (begins q fresh f (omega arith) e)
 
     known : ltb 4294967262 tag ≡ false → Known 0
     known e = let z = ltb-false 4294967262 tag e in omega arith
@@ -112,11 +109,11 @@ module _ (q : Queue) (fresh : Fresh q) (f : ℕ → ℕ) where
         (λ early. rw early
         (ap anyLate (said-on (pushAlone 1 x) (pushes 2 l) (start early)) ∙ late-rest l 0 (labels .1) (omega arith) (known early)))
 
-    pub all-pushed : ltb 4294967262 tag || lateFrom 0 l ≡ false → Ran q (pushes 1 (x ∷ l)) (held q (length l) f) (answersFirst ++ answers l)
+    pub all-pushed : ltb 4294967262 tag || lateFrom 0 l ≡ false → Ran q (pushes 1 (x ∷ l)) (held q (length l) f) (answersOne ++ answersMore l)
     all-pushed e =
         let no = or-false _ _ e in
         let z : 0 + length l ≡ length l = omega arith in
-        subst (λ (n : ℕ). Ran q (pushes 1 (x ∷ l)) (held q n f) (answersFirst ++ answers l)) z
+        subst (λ (n : ℕ). Ran q (pushes 1 (x ∷ l)) (held q n f) (answersOne ++ answersMore l)) z
         (ran-on (pushAlone 1 x) (pushes 2 l) (start (no .0)) (rest l 0 (labels .1) (omega arith) (known (no .0)) (no .1)))
 
   -- The last start's tag is the highest.
@@ -146,11 +143,6 @@ module _ (q : Queue) (fresh : Fresh q) (f : ℕ → ℕ) where
       ∙ higher tag (tagAfter tag (1 + n)) (omega arith)
       ∙ ap (λ (n : ℕ). ltb 4294967262 (tagAfter tag n)) z)
 
--- The outcomes of all the pushes.
-abbrev pub allAnswers : List ℕ → List Outcome
-allAnswers [] = []
-allAnswers (x ∷ l) = answersFirst ++ answers l
-
 module _ (q : Queue) (fresh : Fresh q) where
   pub late-is : (l : List ℕ) → length l ≤ q .tables .control .slots → anyLate (outcomes (run q (pushes 1 l))) ≡ lateFor (anchorIn q .tag) (length l)
   unfolding run lateFor
@@ -158,7 +150,7 @@ module _ (q : Queue) (fresh : Fresh q) where
   late-is (x ∷ l) h = all-late q fresh (labelOf (x ∷ l)) x l (own-labels (x ∷ l)) h ∙ some-late q fresh (labelOf (x ∷ l)) l
 
   pub pushed-is : (l : List ℕ) → length l ≤ q .tables .control .slots → lateFor (anchorIn q .tag) (length l) ≡ false
-      → Ran q (pushes 1 l) (holding q l) (allAnswers l)
+      → Ran q (pushes 1 l) (holding q l) (answers l)
   unfolding holding
   pushed-is [] h e = ran-none q
   pushed-is (x ∷ l) h e = all-pushed q fresh (labelOf (x ∷ l)) x l (own-labels (x ∷ l)) h (some-late q fresh (labelOf (x ∷ l)) l ∙ e)

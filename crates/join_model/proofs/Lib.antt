@@ -7,3 +7,5 @@ pub mod Fresh
 pub mod Filling
 pub mod Pushes
 pub mod Lanes
+pub mod Merged
+pub mod Closed

@@ -25,21 +25,13 @@ use Rattle.model.proofs.laws.Lengths.{Lengths, lengths}
 use Rattle.model.proofs.tests.Rules.{tests}
 use Rattle.model.proofs.unsound.Tests.{anchor-sound}
 use Rattle.join_model.specs.Join.{anchorIn, pushAlone, pushes, outcomes}
+use Rattle.join_model.specs.Laws.{answersOne, answersNext}
 use Rattle.join_model.specs.Closed.{filled, leftOf, rightOf, markedTo, tagAfter, held}
 use Rattle.join_model.proofs.Ran.{Ran, ran-none, ran-more, ran-on, stands}
 use Rattle.join_model.proofs.Pushed.{Ready, control-kept, fitting, first-push, turned-away}
 use Rattle.join_model.proofs.NextPush.{next-push, t10, last}
 use Rattle.join_model.proofs.Fresh.{Fresh}
 use Rattle.join_model.proofs.Filling.{filled-length, filled-beyond, marked-length, marked-beyond}
-
--- The steps of a push are running but the last.
-abbrev pub answersFirst : List Outcome
-answersFirst = Moved (Running 1) ∷ Moved (Running 2) ∷ Moved Pushed ∷ []
-
-abbrev pub answersNext : List Outcome
-answersNext =
-    Moved (Running 1) ∷ Moved (Running 3) ∷ Moved (Running 4) ∷ Moved (Running 5) ∷ Moved (Running 6) ∷ Moved (Running 7)
-    ∷ Moved (Running 8) ∷ Moved (Running 9) ∷ Moved (Running 10) ∷ Moved Pushed ∷ []
 
 module _ (q : Queue) (fresh : Fresh q) (f : ℕ → ℕ) where
   abbrev slots : ℕ
@@ -64,9 +56,9 @@ module _ (q : Queue) (fresh : Fresh q) (f : ℕ → ℕ) where
     unmarked = fresh .marks 1 h;
   }
 
-  pub begins : 0 < slots → ltb 4294967262 tag ≡ false → Ran q (pushAlone 1 (f 1)) (held q 0 f) answersFirst
+  pub begins : 0 < slots → ltb 4294967262 tag ≡ false → Ran q (pushAlone 1 (f 1)) (held q 0 f) answersOne
   unfolding held
-  begins h e = subst (λ (z : Queue). Ran q (pushAlone 1 (f 1)) z answersFirst) is-held (first-push q 0 (f 1) (ready h) refl (fresh .left) e)
+  begins h e = subst (λ (z : Queue). Ran q (pushAlone 1 (f 1)) z answersOne) is-held (first-push q 0 (f 1) (ready h) refl (fresh .left) e)
     where
       -- The Left of slot 1 was 0 before.
       same-lefts : q .tables .lefts ≡ set (q .tables .lefts) 1 (leftOf 1)

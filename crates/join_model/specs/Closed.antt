@@ -8,7 +8,8 @@ use Rattle.word.specs.Anchor.{packAnchor}
 use Rattle.word.specs.Link.{packLink}
 use Rattle.model.specs.Tables.{Tables, Queue, withMark, idle}
 use Rattle.model.specs.Places.{withAnchor}
-use Rattle.join_model.specs.Join.{anchorIn}
+use Rattle.model.specs.Refusals.{first}
+use Rattle.join_model.specs.Join.{anchorIn, lanes, joinRules, Joined, joined}
 
 -- Row k holds f k, for each k of 1 to n.
 abbrev pub filled : (ℕ → ℕ) → ℕ → List ℕ → List ℕ
@@ -59,3 +60,10 @@ holding q (x ∷ l) = held q (length l) (labelOf (x ∷ l))
 -- 33: the tag at the last start is above 4,294,967,262. That start finds the first tag where there is one label, else the tag after one push less.
 unfoldable pub lateFor : ℕ → ℕ → Bool
 lateFor tag n = not (eqb n 0) && ltb 4294967262 (cond (eqb n 1) tag (tagAfter tag (n - 1)))
+
+-- The joining by these words.
+unfoldable pub closedRefusal : Queue → Queue → Queue → ℕ
+closedRefusal a b q = first (joinRules a b q (lateFor (anchorIn q .tag) (length (lanes a b))))
+
+unfoldable pub joinClosed : Queue → Queue → Queue → Joined
+joinClosed a b q = joined (closedRefusal a b q) q (holding q (lanes a b))

@@ -88,12 +88,13 @@ sourceTests q =
 unfoldable pub sourceFits : Queue → Bool
 sourceFits q = every (sourceTests q)
 
--- 34 for all controls and Anchors, 12, 34 for the two walks, 47, 48, 33. The third has marks besides; a next table has only a pooled queue, which 47 refuses.
+-- The third has marks besides; a next table counts in a pooled queue alone, which 47 refuses.
 unfoldable pub thirdFits : Queue → Bool
 thirdFits q = sourceFits q && ltb (q .tables .control .slots / 64) (length (q .tables .marks))
 
-abbrev pub joinRules : Queue → Queue → Queue → List Rule
-joinRules a b q =
+-- 34 for all controls and Anchors, 12, 34 for the two walks, 47, 48; then 33.
+abbrev pub earlyRules : Queue → Queue → Queue → List Rule
+earlyRules a b q =
     rule 34 (not (controlSound (a .tables .control)))
     ∷ rule 34 (not (controlSound (b .tables .control)))
     ∷ rule 34 (not (controlSound (q .tables .control)))
@@ -102,18 +103,22 @@ joinRules a b q =
     ∷ rule 34 (isBroken (contents (b .tables)))
     ∷ rule 47 (not (every (atRest a ∷ atRest b ∷ fresh q ∷ [])))
     ∷ rule 48 (ltb (q .tables .control .slots) (length (lanes a b)))
-    ∷ rule 33 (anyLate (outcomes (run q (pushes 1 (lanes a b)))))
     ∷ []
 
+abbrev pub joinRules : Queue → Queue → Queue → Bool → List Rule
+joinRules a b q late = earlyRules a b q ++ (rule 33 late ∷ [])
+
 unfoldable pub joinRefusal : Queue → Queue → Queue → ℕ
-joinRefusal a b q = first (joinRules a b q)
+joinRefusal a b q = first (joinRules a b q (anyLate (outcomes (run q (pushes 1 (lanes a b))))))
 
 -- What the joining answers, 0 or a refusal, and the third queue then: as if its task 0 had pushed each label in turn at the right, alone.
+-- A refusal changes nothing. The two sources are only read.
 pub record Joined : Type 0 where
   pub code : ℕ
   pub third : Queue
 
+abbrev pub joined : ℕ → Queue → Queue → Joined
+joined why q after = record { code = why; third = cond (eqb why 0) after q }
+
 unfoldable pub join : Queue → Queue → Queue → Joined
-join a b q =
-    let why = joinRefusal a b q in
-    record { code = why; third = cond (eqb why 0) (final q (pushes 1 (lanes a b))) q }
+join a b q = joined (joinRefusal a b q) q (final q (pushes 1 (lanes a b)))
