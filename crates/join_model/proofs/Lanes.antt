@@ -18,7 +18,7 @@ use Rattle.join_model.specs.Closed.{labelOf, tagAfter, held, holding, la
 use Rattle.join_model.proofs.Ran.{Ran, ran-none, ran-on}
 use Rattle.join_model.proofs.Pushed.{turned-away}
 use Rattle.join_model.proofs.Fresh.{Fresh}
-use Rattle.join_model.proofs.Pushes.{ready, begins, prepared, reads, one-more}
+use Rattle.join_model.proofs.Pushes.{ready, begins, prepared, held-reads, one-more}
 
 -- The labels l are those of f from k on.
 abbrev Follows : (ℕ → ℕ) → ℕ → List ℕ → Type 0
@@ -92,12 +92,15 @@ module _ (q : Queue) (fresh : Fresh q) (f : ℕ → ℕ) where
       ∙ late-rest l (suc m) (e .1) (omega arith) (known-more m early)))
     where
       now-late : ltb 4294967262 (tagAfter tag (suc m)) ≡ true → ltb 4294967262 (anchorIn (held q m f) .tag) ≡ true
-      now-late late = ap (λ (a : Anchor). ltb 4294967262 (a .tag)) (reads q fresh f m (omega arith) k) ∙ late
+      now-late late = ap (λ (a : Anchor). ltb 4294967262 (a .tag)) (held-reads q fresh f m (omega arith) k) ∙ late
 
   -- From the fresh queue on.
   module _ (x : ℕ) (l : List ℕ) (labels : Follows f 1 (x ∷ l)) (room : suc (length l) ≤ slots) where
     start : ltb 4294967262 tag ≡ false → Ran q (pushAlone 1 x) (held q 0 f) answersOne
     start e = subst (λ (x : ℕ). Ran q (pushAlone 1 x) (held q 0 f) answersOne) (labels .0) (begins q fresh f (omega arith) e)
+
+    fits : 1 + length l ≤ slots
+    fits = omega arith
 
     known : ltb 4294967262 tag ≡ false → Known 0
     known e = let z = ltb-false 4294967262 tag e in omega arith
@@ -111,10 +114,10 @@ module _ (q : Queue) (fresh : Fresh q) (f : ℕ → ℕ) where
 
     pub all-pushed : ltb 4294967262 tag || lateFrom 0 l ≡ false → Ran q (pushes 1 (x ∷ l)) (held q (length l) f) (answersOne ++ answersMore l)
     all-pushed e =
-        let no = or-false _ _ e in
         let z : 0 + length l ≡ length l = omega arith in
+        let no = or-false _ _ e in
         subst (λ (n : ℕ). Ran q (pushes 1 (x ∷ l)) (held q n f) (answersOne ++ answersMore l)) z
-        (ran-on (pushAlone 1 x) (pushes 2 l) (start (no .0)) (rest l 0 (labels .1) (omega arith) (known (no .0)) (no .1)))
+        (ran-on (pushAlone 1 x) (pushes 2 l) (start (no .0)) (rest l 0 (labels .1) fits (known (no .0)) (no .1)))
 
   -- The last start's tag is the highest.
   higher : (a b : ℕ) → a ≤ b → ltb 4294967262 a || ltb 4294967262 b ≡ ltb 4294967262 b

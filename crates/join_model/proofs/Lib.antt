@@ -9,3 +9,4 @@ pub mod Pushes
 pub mod Lanes
 pub mod Merged
 pub mod Closed
+pub mod Waits

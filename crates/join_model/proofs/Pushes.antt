@@ -81,6 +81,12 @@ module _ (q : Queue) (fresh : Fresh q) (f : ℕ → ℕ) where
         records = set (q .records) 0 idle;
       }
 
+  -- The Anchor of the closed form.
+  pub held-reads : (m : ℕ) → suc m ≤ slots → tagAfter tag (suc m) ≤ 4294967264
+      → anchorIn (held q m f) ≡ record { tag = tagAfter tag (suc m); status = 0; left = 1; right = suc m }
+  unfolding held
+  held-reads m h known = unpack-pack _ (record { tag = omega arith; status = omega arith; left = omega arith; right = omega (arith, fresh .slots) })
+
   -- Each label after it: m labels before the last one pushed.
   module _ (m : ℕ) (h : suc m < slots) (known : tagAfter tag (suc m) ≤ 4294967264) where
     abbrev before : Queue
@@ -89,9 +95,8 @@ module _ (q : Queue) (fresh : Fresh q) (f : ℕ → ℕ) where
     abbrev count : ℕ
     count = suc m
 
-    pub reads : anchorIn before ≡ record { tag = tagAfter tag count; status = 0; left = 1; right = count }
-    unfolding held
-    reads = unpack-pack _ (record { tag = omega arith; status = omega arith; left = omega arith; right = omega (arith, fresh .slots) })
+    reads : anchorIn before ≡ record { tag = tagAfter tag count; status = 0; left = 1; right = count }
+    reads = held-reads m (omega arith) known
 
     sound : anchorSound slots (anchorIn before) ≡ true
     sound = rw reads (anchor-sound _ _ (record {
