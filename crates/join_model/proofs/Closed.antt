@@ -46,7 +46,7 @@ admit a b q control long rest room = record {
 
 module _ (a b q : Queue) where
   -- 33 by the pushes and by the tag.
-  same-refusal : joinRefusal a b q ≡ closedRefusal a b q
+  pub same-refusal : joinRefusal a b q ≡ closedRefusal a b q
   unfolding joinRefusal closedRefusal
   same-refusal =
       same-last (earlyRules a b q) 33 (anyLate (outcomes (run q (pushes 1 (lanes a b))))) (lateFor (anchorIn q .tag) (length (lanes a b)))

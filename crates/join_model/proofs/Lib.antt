@@ -10,3 +10,4 @@ pub mod Lanes
 pub mod Merged
 pub mod Closed
 pub mod Waits
+pub mod Laws

@@ -28,7 +28,7 @@ ran-more {said = said} {os = os} e r = record {
   says = ap (λ (d : Done). d .outcome ∷ outcomes (run (d .queue) os)) e ∙ ap (λ (l : List Outcome). said ∷ l) (r .says);
 }
 
-final-on : (os ps : List Request) (q : Queue) → final q (os ++ ps) ≡ final (final q os) ps
+pub final-on : (os ps : List Request) (q : Queue) → final q (os ++ ps) ≡ final (final q os) ps
 unfolding final
 final-on [] ps q = refl
 final-on (o ∷ os) ps q = final-on os ps (act q (o .task) (o .op) .queue)
