@@ -16,6 +16,7 @@ use Rattle.model.proofs.tests.Rules.{_and_, tests, passes}
 use Rattle.model.proofs.tests.Truth.{and-true, split, decide-eq}
 use Rattle.model.proofs.bridge.Facts.{from1-true}
 use Rattle.join_model.specs.Join.{anchorIn, atRest, blank, freshTests, fresh, sourceTests, sourceFits, thirdFits}
+use Rattle.join_model.specs.Laws.{Zeros}
 
 pub blank-at : (n : ℕ) (l : List ℕ) → blank n l ≡ true → (i : ℕ) → i < n → getD l i 0 ≡ 0
 blank-at zero l e i h = absurd (omega arith)
@@ -53,8 +54,7 @@ pub record Fresh (q : Queue) : Type 0 where
   pub right : anchorIn q .right ≡ 0
   pub slots : q .tables .control .slots ≤ 1023
   pub tasks : 0 < q .tables .control .tasks
-  pub lefts : (i : ℕ) → i ≤ q .tables .control .slots → getD (q .tables .lefts) i 0 ≡ 0
-  pub rights : (i : ℕ) → i ≤ q .tables .control .slots → getD (q .tables .rights) i 0 ≡ 0
+  pub zeros : Zeros (q .tables)
   pub marks : (i : ℕ) → i ≤ q .tables .control .slots → marked (q .tables .marks) i ≡ false
 
 pub is-fresh : (q : Queue) → controlSound (q .tables .control) ≡ true → thirdFits q ≡ true → fresh q ≡ true → Fresh q
@@ -81,8 +81,12 @@ is-fresh q c f e =
       right = eqb-true _ _ (empty .1);
       slots = from1-true 1023 s (sizes .1 .0) .1;
       tasks = t .0;
-      lefts = λ i h. blank-at (s + 1) (q .tables .lefts) (rows .0) i (omega arith);
-      rights = λ i h. blank-at (s + 1) (q .tables .rights) (rows .1 .0) i (omega arith);
+      zeros = record {
+        lefts = λ i h. blank-at (s + 1) (q .tables .lefts) (rows .0) i (omega arith);
+        rights = λ i h. blank-at (s + 1) (q .tables .rights) (rows .1 .0) i (omega arith);
+        labels = λ i h. blank-at (s + 1) (q .tables .labels) (rows .1 .1 .0) i (omega arith);
+        marks = λ i h. blank-at (s / 64 + 1) (q .tables .marks) (rows .1 .1 .1 .0) i (omega arith);
+      };
       marks = λ i h. no-mark i (blank-at (s / 64 + 1) (q .tables .marks) (rows .1 .1 .1 .0) (i / 64) (omega arith));
     }
   where

@@ -17,18 +17,21 @@ use Rattle.model.proofs.Linearizable.{linearizable}
 use Rattle.model.proofs.NeverUnsound.{never-unsound}
 use Rattle.join_model.specs.Join.{anchorIn, lane, lanes, pushes, joinRefusal, join}
 use Rattle.join_model.specs.Closed.{tagAfter, lateFor, holding, closedRefusal, joinClosed}
-use Rattle.join_model.specs.Laws.{OwnOrder, StaysAscending, SameCopies, JoinedWait, numbered, Continued, Continues}
+use Rattle.join_model.specs.Laws.{OwnOrder, StaysAscending, TieToFirst, SameCopies, RefusalKeeps, Zeros, OnlyFresh, JoinedWait, numbered, Continued, Continues}
 use Rattle.join_model.proofs.Ran.{final-on}
 use Rattle.join_model.proofs.Fresh.{Fresh}
 use Rattle.join_model.proofs.Closed.{same-refusal, accepted, joins}
 use Rattle.join_model.proofs.Waits.{held-waits}
-use Rattle.join_model.proofs.Merged.{interleaved, ascending, copies-merged}
+use Rattle.join_model.proofs.Merged.{interleaved, ascending, tie, copies-merged}
 
 pub own-order : OwnOrder
 own-order a b = interleaved (lane a) (lane b)
 
 pub stays-ascending : StaysAscending
 stays-ascending a b = ascending (lane a) (lane b)
+
+pub tie-to-first : TieToFirst
+tie-to-first = tie
 
 pub same-copies : SameCopies
 same-copies a b x = copies-merged x (interleaved (lane a) (lane b))
@@ -61,6 +64,16 @@ module _ (a b q : Queue) (e : joinRefusal a b q ≡ 0) where
       let g = accepted a b q closed in
       ap (λ (z : Queue). contents (z .tables)) (third-is ∙ joins a b q closed .leaves)
       ∙ holding-waits q (g .0 .third) (lanes a b) (g .0 .room) (g .1)
+
+  pub zeros : Zeros (q .tables)
+  zeros = accepted a b q closed .0 .third .zeros
+
+pub refusal-keeps : RefusalKeeps
+unfolding join
+refusal-keeps a b q h = rw (ne-eqb (joinRefusal a b q) 0 h)
+
+pub only-fresh : OnlyFresh
+only-fresh a b q e = zeros a b q e
 
 pub joined-wait : JoinedWait
 joined-wait a b q e = waits a b q e

@@ -11,3 +11,4 @@ pub mod Merged
 pub mod Closed
 pub mod Waits
 pub mod Laws
+pub mod Opened

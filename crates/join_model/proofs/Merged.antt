@@ -8,7 +8,7 @@ use lib.Dec.{eqb, leb}
 use lib.ListN.{length}
 use borrow.Author.Tests.{leb-true, leb-false}
 use Rattle.model.proofs.tests.Truth.{by-test}
-use Rattle.join_model.specs.Merge.{merge, Interleaved, neither, ofFirst, ofSecond, AtLeast, Ascending, copies}
+use Rattle.join_model.specs.Merge.{firstGoes, merge, Interleaved, neither, ofFirst, ofSecond, AtLeast, Ascending, copies}
 
 all-first : (xs : List ℕ) → Interleaved xs [] xs
 all-first [] = neither
@@ -22,7 +22,7 @@ pub interleaved : (xs ys : List ℕ) → Interleaved xs ys (merge xs ys)
 interleaved [] ys = all-second ys
 interleaved (x ∷ xs) [] = all-first (x ∷ xs)
 interleaved (x ∷ xs) (y ∷ ys) =
-    by-test (Interleaved (x ∷ xs) (y ∷ ys)) (leb x y) (λ e. ofFirst x (interleaved xs (y ∷ ys))) (λ e. ofSecond y (interleaved (x ∷ xs) ys))
+    by-test (Interleaved (x ∷ xs) (y ∷ ys)) (firstGoes x y) (λ e. ofFirst x (interleaved xs (y ∷ ys))) (λ e. ofSecond y (interleaved (x ∷ xs) ys))
 
 -- The length and the copies of each label add up.
 pub length-merged : {xs ys zs : List ℕ} → Interleaved xs ys zs → length zs ≡ length xs + length ys
@@ -40,7 +40,7 @@ at-most : (v : ℕ) (xs ys : List ℕ) → AtLeast v xs → AtLeast v ys → AtL
 at-most v [] ys h g = g
 at-most v (x ∷ xs) [] h g = h
 at-most v (x ∷ xs) (y ∷ ys) h g =
-    by-test (AtLeast v) (leb x y)
+    by-test (AtLeast v) (firstGoes x y)
     (λ e. (h .0, at-most x xs (y ∷ ys) (h .1) (leb-true x y e, g .1)))
     (λ e. (g .0, at-most y (x ∷ xs) ys (let z = leb-false x y e in omega arith, h .1) (g .1)))
 
@@ -48,6 +48,9 @@ pub ascending : (xs ys : List ℕ) → Ascending xs → Ascending ys → Ascendi
 ascending [] ys a b = b
 ascending (x ∷ xs) [] a b = a
 ascending (x ∷ xs) (y ∷ ys) a b =
-    by-test Ascending (leb x y)
+    by-test Ascending (firstGoes x y)
     (λ e. at-most x xs (y ∷ ys) a (leb-true x y e, b))
     (λ e. at-most y (x ∷ xs) ys (let z = leb-false x y e in omega arith, a) b)
+
+pub tie : (x : ℕ) (xs ys : List ℕ) → merge (x ∷ xs) (x ∷ ys) ≡ x ∷ merge xs (x ∷ ys)
+tie x xs ys = by-test (λ (l : List ℕ). l ≡ x ∷ merge xs (x ∷ ys)) (firstGoes x x) (λ e. refl) (λ e. absurd (let z = leb-false x x e in omega arith))

@@ -62,7 +62,7 @@ module _ (q : Queue) (fresh : Fresh q) (f : ℕ → ℕ) where
     where
       -- The Left of slot 1 was 0 before.
       same-lefts : q .tables .lefts ≡ set (q .tables .lefts) 1 (leftOf 1)
-      same-lefts = sym (ap (set (q .tables .lefts) 1) (sym (fresh .lefts 1 h)) ∙ set-getD (q .tables .lefts) 1 0)
+      same-lefts = sym (ap (set (q .tables .lefts) 1) (sym (fresh .zeros .lefts 1 h)) ∙ set-getD (q .tables .lefts) 1 0)
 
       tags : tag + 1 ≡ tagAfter tag 1
       tags = omega arith
@@ -151,11 +151,11 @@ module _ (q : Queue) (fresh : Fresh q) (f : ℕ → ℕ) where
 
       blank-left : getD (before .tables .lefts) (suc count) 0 ≡ 0
       unfolding held
-      blank-left = filled-beyond leftOf count (q .tables .lefts) (suc count) (omega arith) ∙ fresh .lefts (suc count) h
+      blank-left = filled-beyond leftOf count (q .tables .lefts) (suc count) (omega arith) ∙ fresh .zeros .lefts (suc count) h
 
       blank-right : getD (before .tables .rights) count 0 ≡ 0
       unfolding held
-      blank-right = filled-beyond rightOf m (q .tables .rights) count (omega arith) ∙ fresh .rights count (omega arith)
+      blank-right = filled-beyond rightOf m (q .tables .rights) count (omega arith) ∙ fresh .zeros .rights count (omega arith)
 
       starts-at-1 : anchorIn before .left ≡ 1
       starts-at-1 = ap (λ (a : Anchor). a .left) reads

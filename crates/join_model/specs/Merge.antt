@@ -1,14 +1,17 @@
 -- The labels of two queues in one list. (Document 02, #113.)
-use mathlib.Core.Bool.{cond}
+use mathlib.Core.Bool.{Bool, cond}
 use mathlib.Core.List.{List, [], _∷_}
 use Prim.Native.Nat.{ℕ, zero, suc, _+_, _≤_}
 use lib.Dec.{eqb, leb}
 
 -- Of the two leftmost remaining the smaller label goes next, the first queue's on a tie.
+abbrev pub firstGoes : ℕ → ℕ → Bool
+firstGoes x y = leb x y
+
 abbrev pub merge : List ℕ → List ℕ → List ℕ
 merge [] ys = ys
 merge (x ∷ xs) [] = x ∷ xs
-merge (x ∷ xs) (y ∷ ys) = cond (leb x y) (x ∷ merge xs (y ∷ ys)) (y ∷ merge (x ∷ xs) ys)
+merge (x ∷ xs) (y ∷ ys) = cond (firstGoes x y) (x ∷ merge xs (y ∷ ys)) (y ∷ merge (x ∷ xs) ys)
 
 -- zs is made of xs and ys, each in its own order.
 pub data Interleaved : List ℕ → List ℕ → List ℕ → Type 0 where
