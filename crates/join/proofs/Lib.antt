@@ -1,0 +1,3 @@
+-- What each loop and each stage of the rules needs.
+pub mod Tested
+pub mod Admitting

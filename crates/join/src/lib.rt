@@ -1,0 +1,2 @@
+//! Two queues at rest joined in a third that is fresh.
+pub mod admit;
