@@ -78,21 +78,21 @@ module _ (a b q : Queue) where
 
     pub first-lost : Broken ≡ counted (contents (a .tables)) → Admits a b q (refusedBy 34)
     unfolding closedRefusal
-    first-lost g = refusing 34 (rw (passed .0, passed .1, passed .2, passed .3, none-counted _ g)) (λ z. omega arith)
+    first-lost g = refusing 34 (rw (passed .0, passed .1, passed .2, passed .3, none-counted (contents (a .tables)) g)) (λ z. omega arith)
 
     module _ (k : ℕ) (g : Labels k ≡ counted (contents (a .tables))) where
       pub second-lost : Broken ≡ counted (contents (b .tables)) → Admits a b q (refusedBy 34)
       unfolding closedRefusal
-      second-lost h = refusing 34 (rw (passed .0, passed .1, passed .2, passed .3, all-counted _ k g .0, none-counted _ h)) (λ z. omega arith)
+      second-lost h = refusing 34 (rw (passed .0, passed .1, passed .2, passed .3, all-counted (contents (a .tables)) k g .0, none-counted (contents (b .tables)) h)) (λ z. omega arith)
 
       module _ (m : ℕ) (h : Labels m ≡ counted (contents (b .tables))) where
         in-first : k ≡ length (lane a)
         unfolding lane
-        in-first = all-counted _ k g .1 ∙ sym (length-map (met (contents (a .tables))) (λ (e : Entry). e .label))
+        in-first = all-counted (contents (a .tables)) k g .1 ∙ sym (length-map (met (contents (a .tables))) (λ (e : Entry). e .label))
 
         in-second : m ≡ length (lane b)
         unfolding lane
-        in-second = all-counted _ m h .1 ∙ sym (length-map (met (contents (b .tables))) (λ (e : Entry). e .label))
+        in-second = all-counted (contents (b .tables)) m h .1 ∙ sym (length-map (met (contents (b .tables))) (λ (e : Entry). e .label))
 
         in-both : k + m ≡ length (lanes a b)
         in-both = ap₂ (λ (x y : ℕ). x + y) in-first in-second ∙ sym (length-merged (interleaved (lane a) (lane b)))
@@ -104,7 +104,7 @@ module _ (a b q : Queue) where
         decided code d = record {
           refusal =
               d ∙ ap (λ (n : ℕ). laterRefusal (every (atRest a ∷ atRest b ∷ fresh q ∷ [])) (ltb (q .tables .control .slots) n) (lateFor (anchorIn q .tag) n)) in-both
-              ∙ rw (passed .0, passed .1, passed .2, passed .3, all-counted _ k g .0, all-counted _ m h .0);
+              ∙ rw (passed .0, passed .1, passed .2, passed .3, all-counted (contents (a .tables)) k g .0, all-counted (contents (b .tables)) m h .0);
           first = λ z. in-first;
           second = λ z. in-second;
         }

@@ -5,7 +5,7 @@ use word::Anchor;
 ghost use mathlib.Core.Path.{_≡_};
 ghost use mathlib.Core.Bool.{true, not};
 ghost use mathlib.Core.List.{List, [], _∷_};
-ghost use Prim.Native.Nat.{ℕ, _+_, _<_, _≤_, _^_};
+ghost use Prim.Native.Nat.{ℕ, _+_, _≤_};
 ghost use lib.Dec.{ltb, eqb};
 ghost use lib.ListN.{getD};
 ghost use Rattle.word.specs.Anchor.{anchorOf};
@@ -128,21 +128,24 @@ fn tests_refusal(first: bool, second: bool, third: bool, fits: bool) -> u32
 
 /// Whether one of n pushes would find the Anchor tag too high, the first of them finding this one.
 fn late(tag: u64, n: u64) -> bool
-    requires { ⌜ (tag < 2 ^ 32) × (n ≤ 1023) ⌝ }
+    requires { ⌜ n ≤ 1023 ⌝ }
     ensures { λ r. ⌜ r ≡ lateFor tag n ⌝ }
 {
     if n == 0 {
         return false;
     }
-    if n == 1 {
-        return LAST_TAG < tag;
+    if LAST_TAG < tag {
+        return true;
     }
-    LAST_TAG < tag + 2 * (n - 1) - 1
+    if n == 1 {
+        return false;
+    }
+    LAST_TAG - tag < 2 * (n - 1) - 1
 }
 
 /// 47, 48 and 33.
 fn later_refusal(rest: bool, slots: u64, tag: u64, first: u64, second: u64) -> u32
-    requires { ⌜ (slots ≤ 1023) × (tag < 2 ^ 32) ⌝ }
+    requires { ⌜ slots ≤ 1023 ⌝ }
     ensures { λ n. ⌜ n ≡ laterRefusal rest (ltb slots (first + second)) (lateFor tag (first + second)) ⌝ }
 {
     if !rest {
@@ -161,7 +164,7 @@ fn later_refusal(rest: bool, slots: u64, tag: u64, first: u64, second: u64) -> u
 }
 
 /// The rules before the walks. The tables are given by their lengths.
-fn before(
+fn early_rules(
     first: Control,
     second: Control,
     third: Control,
@@ -180,7 +183,7 @@ fn before(
 }
 
 /// The rules after the walks, which counted so many labels.
-fn after(
+fn final_rules(
     first: Control,
     second: Control,
     third: Control,
@@ -277,7 +280,7 @@ pub fn admit(
         labels.len(),
     );
     let enough = c & (third.slots / 64 < marks.len() as u64);
-    let why = before(first, second, third, a, b, enough);
+    let why = early_rules(first, second, third, a, b, enough);
     if why != 0 {
         return refused(why);
     }
@@ -289,7 +292,7 @@ pub fn admit(
     let Tally::Labels(m) = two else {
         return refused(34);
     };
-    let code = after(
+    let code = final_rules(
         first,
         second,
         third,

@@ -37,7 +37,7 @@ pub same-copies : SameCopies
 same-copies a b x = copies-merged x (interleaved (lane a) (lane b))
 
 -- Where no start is late, the tag after the last push has room.
-tag-room : (tag m : ℕ) → lateFor tag (suc m) ≡ false → tagAfter tag (suc m) ≤ 4294967264
+pub tag-room : (tag m : ℕ) → lateFor tag (suc m) ≡ false → tagAfter tag (suc m) ≤ 4294967264
 unfolding lateFor
 tag-room tag zero e = let z = ltb-false 4294967262 tag e in omega arith
 tag-room tag (suc m) e =

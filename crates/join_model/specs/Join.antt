@@ -122,3 +122,7 @@ joined why q after = record { code = why; third = cond (eqb why 0) after q }
 
 unfoldable pub join : Queue → Queue → Queue → Joined
 join a b q = joined (joinRefusal a b q) q (final q (pushes 1 (lanes a b)))
+
+-- Labels were laid into the third: the joining is not refused, and there are some.
+unfoldable pub laid : Queue → Queue → Queue → Bool
+laid a b q = eqb (joinRefusal a b q) 0 && not (eqb (length (lanes a b)) 0)

@@ -3,8 +3,8 @@ use mathlib.Core.Path.{_≡_, sym, ap, _∙_}
 use mathlib.Core.List.{[], _∷_}
 use Rattle.model.specs.Sound.{every}
 use Rattle.join.specs.Rules.{testsRefusal}
-use Rattle.join.proofs.admit.before.Statement.{statement}
-use Rattle.join.proofs.admit.before.Tie as tie
+use Rattle.join.proofs.admit.early_rules.Statement.{statement}
+use Rattle.join.proofs.admit.early_rules.Tie as tie
 
 returns : tie.Need-returns
 returns c =
@@ -15,5 +15,5 @@ returns c =
     c .tests-refusal .ensures
     ∙ (λ i. testsRefusal (first .control-sound .ensures i) (second .control-sound2 .ensures i) (third .control-sound3 .ensures i) (every (a .fits1 ∷ a .fits2 ∷ a .fits3 ∷ [])))
 
-pub before-spec : {M : Type 1} → statement M
-before-spec = tie.close (tie.spec (λ _ _. tt) (λ _ _. tt) (λ _ _. tt) (λ _ _. tt) returns)
+pub early-rules-spec : {M : Type 1} → statement M
+early-rules-spec = tie.close (tie.spec (λ _ _. tt) (λ _ _. tt) (λ _ _. tt) (λ _ _. tt) returns)
