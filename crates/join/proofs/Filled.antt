@@ -73,7 +73,7 @@ linked n l s z = ext-getD 0 (filled (rightTo (suc n)) (suc n) l) (filled rightOf
     go i (beyond b) = last i b (row (suc n) i) ∙ sym (filled-beyond rightOf n l i b)
 
 -- A walk as the slots that it treads.
-data Trod (links labels : List ℕ) : ℕ → List Entry → Type 0 where
+pub data Trod (links labels : List ℕ) : ℕ → List Entry → Type 0 where
   stops : (x : ℕ) → Trod links labels x (record { slot = x; label = getD labels x 0 } ∷ [])
   treads : (x : ℕ) {l : List Entry} → Trod links labels (linkOf (getD links x 0) .slot) l → Trod links labels x (record { slot = x; label = getD labels x 0 } ∷ l)
 
@@ -81,7 +81,7 @@ astray : (l : List Entry) {A : Type 0} → broken ≡ entries l → A
 astray l e = absurd (not-both (sym (ap isBroken e)) refl)
 
 module _ (slots : ℕ) (links labels : List ℕ) (last : ℕ) where
-  trod : (n x : ℕ) (l : List Entry) → along slots links labels last n x ≡ entries l → Trod links labels x l
+  pub trod : (n x : ℕ) (l : List Entry) → along slots links labels last n x ≡ entries l → Trod links labels x l
   unfolding along
   trod zero x l e = astray l e
   trod (suc n) x l e = go (from1 slots x) (eqb x last) (linkSound slots (getD links x 0)) (along slots links labels last n y) (λ m. trod n y m) e
@@ -98,12 +98,12 @@ module _ (slots : ℕ) (links labels : List ℕ) (last : ℕ) where
       go true false false w h e = astray l e
       go false b c w h e = astray l e
 
-abbrev names : List Entry → List ℕ
+abbrev pub names : List Entry → List ℕ
 names l = map (λ (e : Entry). e .label) l
 
 -- Turned, its labels are what the rows hold from the last one down, where row k + 1 has the label of the k-th slot.
 module _ (links labels : List ℕ) (f : ℕ → ℕ) where
-  turned : (x : ℕ) (l : List Entry) → Trod links labels x l → (k : ℕ) (before : List Entry)
+  pub turned : (x : ℕ) (l : List Entry) → Trod links labels x l → (k : ℕ) (before : List Entry)
       → ((j : ℕ) → j < length l → f (suc (k + j)) ≡ getD labels (trail links x j) 0) → names before ≡ rowsDown f k
       → names (reverseAux l before) ≡ rowsDown f (k + length l)
   unfolding trail

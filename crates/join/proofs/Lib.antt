@@ -3,3 +3,4 @@ pub mod Tested
 pub mod Admitting
 pub mod Filled
 pub mod Going
+pub mod Joining

@@ -1,6 +1,6 @@
 -- Control after the pushes, and what the joining by value leaves.
 use mathlib.Core.Path.{_≡_}
-use mathlib.Core.Bool.{cond}
+use mathlib.Core.Bool.{false, cond}
 use mathlib.Core.List.{List, []}
 use Prim.Native.Nat.{ℕ}
 use lib.ListN.{set}
@@ -20,6 +20,7 @@ anchored c n =
 -- Its answer and the third then, once record 0 is idle where labels were laid.
 pub record Joins (a b q : Queue) (d : Done) (lefts rights labels marks : List ℕ) : Type 0 where
   pub lays : d .laid ≡ laid a b q
+  pub kept : d .laid ≡ false → d .control ≡ q .tables .control
   pub leaves :
       _≡_ {A = Joined}
       (record { code = d .code; third = queueOf (d .control) (cond (d .laid) (set (q .records) 0 idle) (q .records)) lefts rights labels marks (q .tables .next) })

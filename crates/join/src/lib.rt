@@ -68,8 +68,22 @@ pub fn join(
         d (now (lefts .exit)) (now (rights .exit)) (now (labels .exit)) (now (marks .exit)) ⌝ }
 {
     let r = admit::admit(
-        first, second, third, records1, records2, records, lefts1, rights1, labels1, lefts2,
-        rights2, labels2, lefts, rights, labels, marks,
+        first,
+        second,
+        third,
+        records1,
+        records2,
+        records,
+        lefts1,
+        rights1,
+        labels1,
+        lefts2,
+        rights2,
+        labels2,
+        lefts,
+        rights,
+        labels,
+        marks,
     );
     if r.code != 0 {
         return Done {
@@ -86,7 +100,17 @@ pub fn join(
         };
     }
     fill::fill(
-        first, second, r.first, r.second, lefts1, labels1, lefts2, labels2, lefts, rights, labels,
+        first,
+        second,
+        r.first,
+        r.second,
+        lefts1,
+        labels1,
+        lefts2,
+        labels2,
+        lefts,
+        rights,
+        labels,
         marks,
     );
     let control = anchored(third, r.first + r.second);
@@ -141,8 +165,22 @@ pub extern "C" fn zc_join(
     let b = rows::control_of(row2);
     let c = rows::control_of(row);
     let d = join(
-        a, b, c, records1, records2, records, lefts1, rights1, labels1, lefts2, rights2, labels2,
-        lefts, rights, labels, marks,
+        a,
+        b,
+        c,
+        records1,
+        records2,
+        records,
+        lefts1,
+        rights1,
+        labels1,
+        lefts2,
+        rights2,
+        labels2,
+        lefts,
+        rights,
+        labels,
+        marks,
     );
     if d.laid {
         let control = d.control;

@@ -38,11 +38,15 @@ returns c =
     let e1 = g1 .gather .ensures ∙ ap (λ (r : Anchor). filled (walkedTo (a .lefts1 .now) (r .right)) (a .n) (a .lefts .now)) (g1 .before .before .before .unpack .ensures) in
     let e2 = g2 .gather2 .ensures ∙ ap (λ (r : Anchor). filled (walkedTo (a .lefts2 .now) (r .right)) (a .m) (a .rights .now)) (g1 .before .before .unpack2 .ensures) in (
       u .link-up .ensures .0 ∙ ap (filled leftOf (a .n + a .m)) e1,
-      (u .link-up .ensures .1 .0 ∙ ap (filled (rightTo (a .n + a .m)) (a .n + a .m)) e2,
-      (w .merge .ensures
-      ∙ (λ i. filled (labelOf (merge (rowsDown (labelVia (a .labels1 .now) (e1 i)) (a .n)) (rowsDown (labelVia (a .labels2 .now) (e2 i)) (a .m)))) (a .n + a .m) (a .labels .now)),
-      u .link-up .ensures .1 .1)),
+      (
+        u .link-up .ensures .1 .0 ∙ ap (filled (rightTo (a .n + a .m)) (a .n + a .m)) e2,
+        (
+          w .merge .ensures
+              ∙ (λ i. filled (labelOf (merge (rowsDown (labelVia (a .labels1 .now) (e1 i)) (a .n)) (rowsDown (labelVia (a .labels2 .now) (e2 i)) (a .m)))) (a .n + a .m) (a .labels .now)),
+          u .link-up .ensures .1 .1,
+        ),
+      ),
     )
 
 pub fill-spec : {M : Type 1} → statement M
-fill-spec = tie.close (tie.spec (λ _ _. tt) (λ _ _. tt) (λ _ _. tt) (λ _ _. tt) (λ c κs. search needs) (λ c. search needs) link-up-requires returns)
+fill-spec = tie.close (tie.spec (λ _ _. tt) (λ _ _. tt) (λ _ _. tt) (λ _ _. tt) (λ c κs. search needs) (λ c. search needs) link-up-requires (λ c. search needs) (λ c. search needs) (λ c. search needs) (λ c. search needs) returns)

@@ -65,8 +65,10 @@ returns c =
     let a = start l .args in
     let e : l .loop .k ≡ a .n = omega (arith, l .loop .inv .few, c .loop-test .left) in (
       l .loop .inv .left ∙ ap (λ (k : ℕ). filled leftOf k (a .lefts .now)) e,
-      (l .loop .inv .right ∙ ap (λ (k : ℕ). filled (rightTo (a .n)) k (a .rights .now)) e,
-      l .loop .inv .mark ∙ ap (λ (k : ℕ). markedTo k (a .marks .now)) e),
+      (
+        l .loop .inv .right ∙ ap (λ (k : ℕ). filled (rightTo (a .n)) k (a .rights .now)) e,
+        l .loop .inv .mark ∙ ap (λ (k : ℕ). markedTo k (a .marks .now)) e,
+      ),
     )
 
 pub link-up-spec : {M : Type 1} → statement M

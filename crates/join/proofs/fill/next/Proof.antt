@@ -37,9 +37,10 @@ returns-3 c =
 returns-4 : tie.Need-returns-4
 returns-4 c =
     let e = c .before in
-    let a = e .before .before .args in
-    (right-of (a .first) (a .second) (e .if2 .left),
-    λ f g ex ey. second-goes f g (a .first) (a .second) (a .x) (a .y) ex ey (e .before .if1 .left) (e .if2 .left) (c .if3 .left))
+    let a = e .before .before .args in (
+      right-of (a .first) (a .second) (e .if2 .left),
+      λ f g ex ey. second-goes f g (a .first) (a .second) (a .x) (a .y) ex ey (e .before .if1 .left) (e .if2 .left) (c .if3 .left),
+    )
 
 pub next-spec : {M : Type 1} → statement M
 next-spec = tie.close (tie.spec (λ c. search needs) returns (λ c. search needs) returns-2 (λ c. search needs) returns-3 (λ c. search needs) returns-4)
