@@ -96,7 +96,7 @@ static void damage_source(lane *l)
     case 6: l->record_count = l->control.tasks - 1; break;
     case 7: l->control.slots = draw(2) ? 0 : ZC_MOST_SLOTS + 1 + draw(UINT64_MAX / 2); break;
     case 8: l->control.pooled = 2 + draw(3); break;
-    case 9: l->control.anchor |= UINT64_C(1 + draw(2)) << 30; break;
+    case 9: l->control.anchor |= (1 + draw(2)) << 30; break;
     case 10: l->marks[draw(slots / 64 + 1)] ^= UINT64_C(1) << draw(64); break;
     default: l->right_count = slots; break;
     }
@@ -113,7 +113,7 @@ static void damage_third(lane *l)
     case 4: l->marks[slots / 64] = UINT64_C(1) << draw(64); break;
     case 5: l->control.pooled = 1; break;
     case 6: l->control.anchor |= 1 + draw(slots); break;
-    case 7: l->control.anchor |= UINT64_C(1 + draw(3)) << 30; break;
+    case 7: l->control.anchor |= (1 + draw(3)) << 30; break;
     case 8: l->records[draw(l->control.tasks)].place = 1 + draw(20); break;
     case 9: l->mark_count = slots / 64; break;
     case 10: l->right_count = slots; break;
