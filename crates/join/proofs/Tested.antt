@@ -3,24 +3,45 @@ use mathlib.Core.Path.{_≡_, refl, sym, ap, _∙_}
 use mathlib.Core.Bool.{Bool, true, false, _&&_, not, cond}
 use mathlib.Core.List.{List}
 use mathlib.Core.Logic.{_≢_}
-use Prim.Native.Nat.{ℕ, zero, suc, _+_, _<_, _≤_}
+use Prim.Native.Nat.{ℕ, zero, suc, _+_, _-_, _<_, _≤_}
 use native.Mathlib.Numerals.{add-one}
 use native.Mathlib.Omega.{arith}
-use lib.Dec.{eqb}
-use lib.ListN.{getD}
-use borrow.Author.Tests.{eq-eqb, ne-eqb, eqb-true, eqb-false}
+use lib.Dec.{eqb, ltb}
+use lib.ListN.{length, getD, List·getD-eq-default}
+use borrow.Author.Tests.{eq-eqb, ne-eqb, eqb-true, eqb-false, ltb-true, ltb-false}
 use Rattle.model.specs.declared.Record.{Record}
 use Rattle.model.specs.Tables.{idle}
 use Rattle.model.specs.Report.{count}
 use Rattle.model.proofs.tests.Truth.{and-of, and-true, split, not-both}
 use Rattle.join_model.specs.Join.{blank}
-use Rattle.join_model.proofs.Fresh.{blank-at, none-pass}
+use Rattle.join_model.proofs.Fresh.{none-pass}
+use Rattle.join.specs.Rules.{least}
 
-pub blank-more : (l : List ℕ) (i : ℕ) → blank i l ≡ true → getD l i 0 ≡ 0 → blank (i + 1) l ≡ true
-blank-more l i h e = ap (λ (n : ℕ). blank n l) (add-one i) ∙ and-of h (eq-eqb _ _ e)
+pub least-le : (n m : ℕ) → least n m ≤ m
+least-le n m = split (ltb n m) (λ e. rw e (let h = ltb-true n m e in omega arith)) (λ e. rw e (omega arith))
 
-pub blank-less : (l : List ℕ) (n i : ℕ) → i < n → getD l i 0 ≢ 0 → blank n l ≡ false
-blank-less l n i h e = split (blank n l) (λ z. absurd (e (blank-at n l z i h))) (λ z. z)
+pub blank-more : (l : List ℕ) (i : ℕ) → blank i l && eqb (getD l i 0) 0 ≡ blank (i + 1) l
+blank-more l i = ap (λ (n : ℕ). blank n l) (sym (add-one i))
+
+-- Beyond the end of a table all is zero.
+blank-past : (l : List ℕ) (k : ℕ) → blank (length l + k) l ≡ blank (length l) l
+blank-past l zero = let e : length l + 0 ≡ length l = omega arith in ap (λ (n : ℕ). blank n l) e
+blank-past l (suc k) =
+    let e : length l + suc k ≡ suc (length l + k) = omega arith in
+    ap (λ (n : ℕ). blank n l) e
+    ∙ ap (λ (x : ℕ). blank (length l + k) l && eqb x 0) (List·getD-eq-default l 0 (omega arith))
+    ∙ and-yes (blank (length l + k) l)
+    ∙ blank-past l k
+  where
+    and-yes : (b : Bool) → b && true ≡ b
+    and-yes true = refl
+    and-yes false = refl
+
+pub blank-least : (l : List ℕ) (n : ℕ) → blank (least n (length l)) l ≡ blank n l
+blank-least l n = split (ltb n (length l)) (λ e. rw e) (λ e. rw e (past (ltb-false n (length l) e)))
+  where
+    past : length l ≤ n → blank (length l) l ≡ blank n l
+    past h = let e : length l + (n - length l) ≡ n = omega arith in sym (blank-past l (n - length l)) ∙ ap (λ (k : ℕ). blank k l) e
 
 abbrev pub busyIn : List Record → ℕ → ℕ
 busyIn rs n = count (λ t. not (eqb (getD rs t idle .place) 0)) n

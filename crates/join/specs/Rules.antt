@@ -1,11 +1,15 @@
 -- The rules of the joining by stages, over tests already made.
-use mathlib.Core.Bool.{Bool, not}
+use mathlib.Core.Bool.{Bool, not, cond}
 use mathlib.Core.List.{[], _∷_}
 use Prim.Native.Nat.{ℕ}
 use lib.Dec.{ltb, leb}
 use Rattle.model.specs.declared.Control.{Control}
 use Rattle.model.specs.Sound.{every}
 use Rattle.model.specs.Refusals.{rule, first}
+
+-- The smaller of two numbers.
+abbrev pub least : ℕ → ℕ → ℕ
+least n m = cond (ltb n m) n m
 
 -- Which tables of a source are long enough, by their lengths.
 unfoldable pub lengthsFit : Control → ℕ → ℕ → ℕ → ℕ → Bool

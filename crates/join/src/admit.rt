@@ -15,38 +15,46 @@ ghost use Rattle.model.specs.Report.{count};
 ghost use Rattle.rows.specs.Rows.{recordsOf};
 ghost use Rattle.join_model.specs.Join.{atRest, blank, fresh};
 ghost use Rattle.join_model.specs.Closed.{lateFor};
-ghost use Rattle.join.specs.Rules.{lengthsFit, testsRefusal, laterRefusal};
+ghost use Rattle.join.specs.Rules.{least, lengthsFit, testsRefusal, laterRefusal};
 ghost use Rattle.join.specs.Admits.{Admits};
 
 // The highest Anchor tag that a start is accepted at.
 const LAST_TAG: u64 = 4294967262;
 
-/// The first n entries are zero.
+/// How many entries of a table are looked at, of n: beyond its end all is zero.
+fn least(n: u64, most: usize) -> usize
+    ensures { λ r. ⌜ r ≡ least n most ⌝ }
+{
+    let k = n as usize;
+    if k < most { k } else { most }
+}
+
+/// The first n entries are zero. All are looked at, several at a time.
 fn blank(t: &[u64], n: u64) -> bool
     ensures { λ r. ⌜ r ≡ blank n (now (t .entry)) ⌝ }
 {
-    let mut i: u64 = 0;
-    while i < n {
-        if table::word_at(t, i) != 0 {
-            return false;
-        }
+    let end = least(n, t.len());
+    let mut all = true;
+    let mut i: usize = 0;
+    while i < end {
+        all = all & (t[i] == 0);
         i += 1;
     }
-    true
+    all
 }
 
 /// The same of labels.
 fn blank_labels(t: &[u32], n: u64) -> bool
     ensures { λ r. ⌜ r ≡ blank n (now (t .entry)) ⌝ }
 {
-    let mut i: u64 = 0;
-    while i < n {
-        if table::label_at(t, i) != 0 {
-            return false;
-        }
+    let end = least(n, t.len());
+    let mut all = true;
+    let mut i: usize = 0;
+    while i < end {
+        all = all & (t[i] == 0);
         i += 1;
     }
-    true
+    all
 }
 
 /// None of the first n tasks is busy.
