@@ -164,6 +164,37 @@ unsafe extern "C" {
 
     /// Finds up to 32 labels in the queue; of equal ones the leftmost counts.
     /// Refuses: 34 for control, 45, 12 (rows and marks only), 34 for the walk.
+    pub fn zc_join(
+        first: *const Control,
+        first_records: *const Record,
+        first_record_count: usize,
+        second: *const Control,
+        second_records: *const Record,
+        second_record_count: usize,
+        third: *mut Control,
+        third_records: *mut Record,
+        third_record_count: usize,
+        first_lefts: *const u64,
+        first_left_count: usize,
+        first_rights: *const u64,
+        first_right_count: usize,
+        first_labels: *const u32,
+        first_label_count: usize,
+        second_lefts: *const u64,
+        second_left_count: usize,
+        second_rights: *const u64,
+        second_right_count: usize,
+        second_labels: *const u32,
+        second_label_count: usize,
+        lefts: *mut u64,
+        left_count: usize,
+        rights: *mut u64,
+        right_count: usize,
+        labels: *mut u32,
+        label_count: usize,
+        marks: *mut u64,
+        mark_count: usize,
+    ) -> u32;
     pub fn zc_find(
         control: *const Control,
         asked: *const u32,
