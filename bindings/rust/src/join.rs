@@ -3,11 +3,7 @@
 use crate::tables::Shared;
 use crate::{raw, Queue, Refusal, Tables};
 
-fn join(
-    first: Shared<'_>,
-    second: Shared<'_>,
-    third: &mut Tables<'_>,
-) -> Result<(), Refusal> {
+fn join(first: Shared<'_>, second: Shared<'_>, third: &mut Tables<'_>) -> Result<(), Refusal> {
     // SAFETY: slices are non-null, aligned and as long as the counts that go with them; what is
     // written is lent by `&mut`, so it is no source's. The rest is checked by the library.
     let code = unsafe {
