@@ -164,6 +164,20 @@ unsafe extern "C" {
 
     /// Finds up to 32 labels in the queue; of equal ones the leftmost counts.
     /// Refuses: 34 for control, 45, 12 (rows and marks only), 34 for the walk.
+    pub fn zc_find(
+        control: *const Control,
+        asked: *const u32,
+        asked_count: usize,
+        lefts: *const u64,
+        left_count: usize,
+        rights: *const u64,
+        right_count: usize,
+        labels: *const u32,
+        label_count: usize,
+        marks: *const u64,
+        mark_count: usize,
+    ) -> FindReply;
+    /// Joins two queues at rest in a third that is fresh.
     pub fn zc_join(
         first: *const Control,
         first_records: *const Record,
@@ -195,19 +209,6 @@ unsafe extern "C" {
         marks: *mut u64,
         mark_count: usize,
     ) -> u32;
-    pub fn zc_find(
-        control: *const Control,
-        asked: *const u32,
-        asked_count: usize,
-        lefts: *const u64,
-        left_count: usize,
-        rights: *const u64,
-        right_count: usize,
-        labels: *const u32,
-        label_count: usize,
-        marks: *const u64,
-        mark_count: usize,
-    ) -> FindReply;
 
     /// The same step on one lent record, which need not lie among the others.
     /// Refuses: 34 for control, 12 (rows and marks only), 34 for the record, 31, 34 for what the step
