@@ -1,19 +1,18 @@
 -- The rules stage by stage: refused before the walks, by one of them, or as the rules after them say.
 use mathlib.Core.Path.{_≡_, refl, sym, ap, ap₂, _∙_}
-use mathlib.Core.Bool.{Bool, true, false, _&&_, not, cond}
+use mathlib.Core.Bool.{Bool, true, false, not, cond}
 use mathlib.Core.List.{List, [], _∷_}
 use mathlib.Core.Logic.{_≢_}
-use Prim.Native.Nat.{ℕ, _+_, _/_, _≤_}
+use Prim.Native.Nat.{ℕ, _+_, _≤_}
 use native.Mathlib.Omega.{arith}
-use lib.Dec.{eqb, ltb, leb}
+use lib.Dec.{ltb}
 use lib.ListN.{length, length-map}
-use borrow.Author.Tests.{not-false}
 use Rattle.model.specs.declared.Control.{Control}
 use Rattle.model.specs.declared.Entry.{Entry}
 use Rattle.model.specs.Tables.{Queue, queueOf}
 use Rattle.model.specs.Sound.{every, controlTests, controlSound}
-use Rattle.model.specs.Walk.{contents, isBroken, met}
-use Rattle.model.specs.Refusals.{rule, first}
+use Rattle.model.specs.Walk.{contents, met}
+use Rattle.model.specs.Refusals.{first}
 use Rattle.model.proofs.tests.Rules.{tests}
 use Rattle.model.proofs.bridge.Facts.{from1-true}
 use Rattle.walk.specs.declared.Tally.the-variants.{Broken, Labels}
@@ -83,7 +82,16 @@ module _ (a b q : Queue) where
     module _ (k : ℕ) (g : Labels k ≡ counted (contents (a .tables))) where
       pub second-lost : Broken ≡ counted (contents (b .tables)) → Admits a b q (refusedBy 34)
       unfolding closedRefusal
-      second-lost h = refusing 34 (rw (passed .0, passed .1, passed .2, passed .3, all-counted (contents (a .tables)) k g .0, none-counted (contents (b .tables)) h)) (λ z. omega arith)
+      second-lost h =
+          refusing 34 (rw (
+            passed .0,
+            passed .1,
+            passed .2,
+            passed .3,
+            all-counted (contents (a .tables)) k g .0,
+            none-counted
+                (contents (b .tables)) h,
+          )) (λ z. omega arith)
 
       module _ (m : ℕ) (h : Labels m ≡ counted (contents (b .tables))) where
         in-first : k ≡ length (lane a)
@@ -103,7 +111,8 @@ module _ (a b q : Queue) where
         unfolding closedRefusal laterRefusal
         decided code d = record {
           refusal =
-              d ∙ ap (λ (n : ℕ). laterRefusal (every (atRest a ∷ atRest b ∷ fresh q ∷ [])) (ltb (q .tables .control .slots) n) (lateFor (anchorIn q .tag) n)) in-both
+              d ∙ ap (λ (n : ℕ). laterRefusal (every (atRest a ∷ atRest b ∷ fresh q ∷ [])) (ltb (q .tables .control .slots) n)
+              (lateFor (anchorIn q .tag) n)) in-both
               ∙ rw (passed .0, passed .1, passed .2, passed .3, all-counted (contents (a .tables)) k g .0, all-counted (contents (b .tables)) m h .0);
           first = λ z. in-first;
           second = λ z. in-second;

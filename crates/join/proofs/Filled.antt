@@ -1,12 +1,11 @@
 -- Rows filled over scratch, and the labels that scratch leads to.
 use mathlib.Core.Path.{_≡_, refl, sym, ap, subst, _∙_}
 use mathlib.Core.Bool.{Bool, true, false, cond}
-use mathlib.Core.List.{List, [], _∷_, map, reverse, reverseAux}
-use mathlib.Core.Logic.{_≢_, _⊎_, inl, inr}
+use mathlib.Core.List.{List, [], _∷_, map, reverseAux}
 use Prim.Native.Nat.{ℕ, zero, suc, _+_, _-_, _<_, _≤_}
 use native.Mathlib.Decide.{decLe}
 use native.Mathlib.Omega.{arith}
-use lib.Dec.{eqb, ltb, leb}
+use lib.Dec.{eqb}
 use lib.ListN.{length, getD, set, drop}
 use lib.Seq.{ext-getD, getD-set-other}
 use borrow.Author.Tests.{lt-ltb, le-ltb}
@@ -18,7 +17,7 @@ use Rattle.model.specs.Walk.{Walk, entries, broken, andThen, along, isBroken, m
 use Rattle.model.proofs.tests.Truth.{not-both}
 use Rattle.join_model.specs.Closed.{filled, rightOf, labelOf, markedTo}
 use Rattle.join_model.proofs.Filling.{filled-length, filled-beyond, filled-at}
-use Rattle.join.specs.Scratch.{trail, walkedTo, labelVia, rowsDown, rightTo}
+use Rattle.join.specs.Scratch.{trail, rowsDown, rightTo}
 
 -- Row 0 is not filled.
 filled-none : (f : ℕ → ℕ) (n : ℕ) (l : List ℕ) → getD (filled f n l) 0 0 ≡ getD l 0 0
@@ -56,7 +55,9 @@ overwritten f g n k l h s = ext-getD 0 (filled f n (filled g k l)) (filled f n l
 
 -- The last one's Right was 0 before.
 pub linked : (n : ℕ) (l : List ℕ) → suc n < length l → getD l (suc n) 0 ≡ 0 → filled (rightTo (suc n)) (suc n) l ≡ filled rightOf n l
-linked n l s z = ext-getD 0 (filled (rightTo (suc n)) (suc n) l) (filled rightOf n l) (filled-length _ (suc n) l ∙ sym (filled-length rightOf n l)) (λ i _. go i (row n i))
+linked n l s z =
+    ext-getD 0 (filled (rightTo (suc n)) (suc n) l) (filled rightOf n l) (filled-length _ (suc n) l ∙ sym (filled-length rightOf n l))
+    (λ i _. go i (row n i))
   where
     last : (i : ℕ) → n < i → Row (suc n) i → getD (filled (rightTo (suc n)) (suc n) l) i 0 ≡ getD l i 0
     last i b (zeroth e) = absurd (omega arith)
@@ -75,7 +76,8 @@ linked n l s z = ext-getD 0 (filled (rightTo (suc n)) (suc n) l) (filled rightOf
 -- A walk as the slots that it treads.
 pub data Trod (links labels : List ℕ) : ℕ → List Entry → Type 0 where
   stops : (x : ℕ) → Trod links labels x (record { slot = x; label = getD labels x 0 } ∷ [])
-  treads : (x : ℕ) {l : List Entry} → Trod links labels (linkOf (getD links x 0) .slot) l → Trod links labels x (record { slot = x; label = getD labels x 0 } ∷ l)
+  treads : (x : ℕ) {l : List Entry} → Trod links labels (linkOf (getD links x 0) .slot) l → Trod links labels x
+      (record { slot = x; label = getD labels x 0 } ∷ l)
 
 astray : (l : List Entry) {A : Type 0} → broken ≡ entries l → A
 astray l e = absurd (not-both (sym (ap isBroken e)) refl)
@@ -90,7 +92,8 @@ module _ (slots : ℕ) (links labels : List ℕ) (last : ℕ) where
       y = linkOf (getD links x 0) .slot
 
       go : (a b c : Bool) (w : Walk) → ((m : List Entry) → w ≡ entries m → Trod links labels (linkOf (getD links x 0) .slot) m)
-          → cond a (cond b (entries (record { slot = x; label = getD labels x 0 } ∷ [])) (andThen (record { slot = x; label = getD labels x 0 }) (cond c w broken))) broken ≡ entries l
+          → cond a (cond b (entries (record { slot = x; label = getD labels x 0 } ∷ []))
+          (andThen (record { slot = x; label = getD labels x 0 }) (cond c w broken))) broken ≡ entries l
           → Trod links labels x l
       go true true c w h e = subst (Trod links labels x) (ap met e) (stops x)
       go true false true (entries m) h e = subst (Trod links labels x) (ap met e) (treads x (h m refl))

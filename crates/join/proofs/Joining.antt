@@ -1,32 +1,28 @@
 -- Refused, nothing to lay, or laid: what the joining leaves is what the definition says.
-use mathlib.Core.Path.{_≡_, refl, sym, ap, ap₂, subst, _∙_}
-use mathlib.Core.Bool.{Bool, true, false, _&&_, not, cond}
-use mathlib.Core.List.{List, [], _∷_, map, reverse}
+use mathlib.Core.Path.{_≡_, refl, sym, ap, ap₂, _∙_}
+use mathlib.Core.Bool.{Bool, true, false, _&&_, cond}
+use mathlib.Core.List.{List, [], _∷_, reverse}
 use mathlib.Core.Logic.{_≢_}
 use Prim.Native.Nat.{ℕ, zero, suc, _+_, _-_, _<_, _≤_}
 use native.Mathlib.Omega.{arith}
-use lib.Dec.{eqb, ltb}
+use lib.Dec.{eqb}
 use lib.ListN.{length, getD, set, length-map, length-reverse}
 use borrow.Author.Tests.{eqb-false, ne-eqb, ltb-true}
-use Rattle.word.specs.declared.Anchor.{Anchor}
-use Rattle.word.specs.Anchor.{anchorOf, packAnchor}
 use Rattle.model.specs.declared.Control.{Control}
 use Rattle.model.specs.declared.Entry.{Entry}
 use Rattle.model.specs.declared.Record.{Record}
 use Rattle.model.specs.Tables.{Tables, Queue, queueOf, isEmpty, idle}
 use Rattle.model.specs.Sound.{rowTests, rowsFit}
-use Rattle.model.specs.Places.{withAnchor}
 use Rattle.model.specs.Walk.{Walk, entries, broken, along, contents, isBroken, met, walkFrom}
 use Rattle.model.proofs.tests.Rules.{tests}
 use Rattle.model.proofs.tests.Truth.{split, not-both}
 use Rattle.walk.proofs.Turns.{empty, from-right}
 use Rattle.join_model.specs.Merge.{merge}
 use Rattle.join_model.specs.Join.{anchorIn, lane, lanes, joinRefusal, Joined, join, laid}
-use Rattle.join_model.specs.Closed.{filled, leftOf, rightOf, labelOf, markedTo, tagAfter, held, holding, lateFor, closedRefusal, joinClosed}
+use Rattle.join_model.specs.Closed.{filled, leftOf, labelOf, markedTo, held, holding, lateFor, closedRefusal, joinClosed}
 use Rattle.join_model.proofs.Merged.{interleaved, length-merged}
-use Rattle.join_model.proofs.Fresh.{Fresh}
 use Rattle.join_model.proofs.Filling.{filled-at}
-use Rattle.join_model.proofs.Closed.{Rests, Admitted, same-refusal, accepted, closed-join}
+use Rattle.join_model.proofs.Closed.{Rests, same-refusal, accepted, closed-join}
 use Rattle.join_model.proofs.Laws.{tag-room}
 use Rattle.join.specs.declared.Done.{Done}
 use Rattle.join.specs.Scratch.{trail, walkedTo, labelVia, rowsDown, rightTo}
@@ -64,7 +60,8 @@ module _ (q : Queue) (rests : Rests q) (n : ℕ) (all : n ≡ length (lane q)) (
           ap (rowsDown f) (sym rows)
           ∙ sym (turned (t .lefts) (t .labels) f end l path 0 []
           (λ j h. let s : suc (0 + j) ≡ suc j = omega arith in let p : suc j - 1 ≡ j = omega arith in
-          ap f s ∙ ap (λ (x : ℕ). getD (t .labels) x 0) (at (suc j) (omega arith) (omega (arith, size)) ∙ ap (λ (k : ℕ). walkedTo (t .lefts) end (suc k)) refl ∙ walked-at j p)) refl)
+          ap f s ∙ ap (λ (x : ℕ). getD (t .labels) x 0)
+          (at (suc j) (omega arith) (omega (arith, size)) ∙ walked-at j p)) refl)
           ∙ sym w
         where
           walked-at : (j : ℕ) → suc j - 1 ≡ j → walkedTo (t .lefts) end (suc j) ≡ trail (t .lefts) end j
@@ -76,7 +73,8 @@ module _ (q : Queue) (rests : Rests q) (n : ℕ) (all : n ≡ length (lane q)) (
 module _ (a b q : Queue) where
   -- Refused: nothing changes.
   pub refuses : (code : ℕ) → code ≡ closedRefusal a b q → code ≢ 0
-      → Joins a b q (record { code = code; laid = false; control = q .tables .control }) (q .tables .lefts) (q .tables .rights) (q .tables .labels) (q .tables .marks)
+      → Joins a b q (record { code = code; laid = false; control = q .tables .control }) (q .tables .lefts) (q .tables .rights) (q .tables .labels)
+      (q .tables .marks)
   unfolding laid join
   refuses code e h =
       let why = e ∙ sym (same-refusal a b q) in
@@ -111,7 +109,8 @@ module _ (a b q : Queue) where
 
       -- Nothing to lay: nothing changes.
       pub nothing : n ≡ 0 → m ≡ 0
-          → Joins a b q (record { code = 0; laid = false; control = q .tables .control }) (q .tables .lefts) (q .tables .rights) (q .tables .labels) (q .tables .marks)
+          → Joins a b q (record { code = 0; laid = false; control = q .tables .control }) (q .tables .lefts) (q .tables .rights) (q .tables .labels)
+          (q .tables .marks)
       unfolding laid holding
       nothing zn zm = record {
         lays = rw (none-refuses, none);
@@ -140,16 +139,22 @@ module _ (a b q : Queue) where
           (rw z (ltb-true _ _ (rows .0)), rw z (ltb-true _ _ (rows .1 .0)))
 
       lane1 : rowsDown (labelVia (a .tables .labels) scratch1) n ≡ lane a
-      lane1 = lane-rows a (accepted a b q e .0 .first) n in-first scratch1 (λ i l h. filled-at _ n (q .tables .lefts) i l h (omega (arith, room, long (q .tables .control .slots) refl .0)))
+      lane1 =
+          lane-rows a (accepted a b q e .0 .first) n in-first scratch1
+          (λ i l h. filled-at _ n (q .tables .lefts) i l h (omega (arith, room, long (q .tables .control .slots) refl .0)))
 
       lane2 : rowsDown (labelVia (b .tables .labels) scratch2) m ≡ lane b
-      lane2 = lane-rows b (accepted a b q e .0 .second) m in-second scratch2 (λ i l h. filled-at _ m (q .tables .rights) i l h (omega (arith, room, long (q .tables .control .slots) refl .1)))
+      lane2 =
+          lane-rows b (accepted a b q e .0 .second) m in-second scratch2
+          (λ i l h. filled-at _ m (q .tables .rights) i l h (omega (arith, room, long (q .tables .control .slots) refl .1)))
 
       -- Laid.
       module _ (some : 1 ≤ n + m) (lefts rights labels marks : List ℕ) (c : Control)
           (left : lefts ≡ filled leftOf (n + m) scratch1)
           (right : rights ≡ filled (rightTo (n + m)) (n + m) scratch2)
-          (label : labels ≡ filled (labelOf (merge (rowsDown (labelVia (a .tables .labels) scratch1) n) (rowsDown (labelVia (b .tables .labels) scratch2) m))) (n + m) (q .tables .labels))
+          (label : labels ≡ filled
+          (labelOf (merge (rowsDown (labelVia (a .tables .labels) scratch1) n) (rowsDown (labelVia (b .tables .labels) scratch2) m))) (n + m)
+          (q .tables .labels))
           (mark : marks ≡ markedTo (n + m) (q .tables .marks))
           (control : c ≡ anchored (q .tables .control) (n + m)) where
         laid-as : (l : List ℕ) → lanes a b ≡ l → queueOf c (set (q .records) 0 idle) lefts rights labels marks (q .tables .next) ≡ holding q l
@@ -161,12 +166,14 @@ module _ (a b q : Queue) where
             let same = long (q .tables .control .slots) refl in
             let zero-last : getD (q .tables .rights) (suc k) 0 ≡ 0 = accepted a b q e .0 .third .zeros .rights (suc k) (omega (arith, room, count)) in
             let left-rows =
-            left ∙ overwritten leftOf _ (n + m) n (q .tables .lefts) (omega arith) (omega (arith, room, same .0)) ∙ ap (λ (j : ℕ). filled leftOf j (q .tables .lefts)) count in
+            left ∙ overwritten leftOf _ (n + m) n (q .tables .lefts) (omega arith) (omega (arith, room, same .0)) ∙ ap
+            (λ (j : ℕ). filled leftOf j (q .tables .lefts)) count in
             let right-rows =
             right ∙ overwritten (rightTo (n + m)) _ (n + m) m (q .tables .rights) (omega arith) (omega (arith, room, same .1))
             ∙ ap (λ (j : ℕ). filled (rightTo j) j (q .tables .rights)) count ∙ linked k (q .tables .rights) (omega (arith, room, same .1, count)) zero-last in
             let label-rows =
-            label ∙ (λ i. filled (labelOf (merge (lane1 i) (lane2 i))) (count i) (q .tables .labels)) ∙ ap (λ (r : List ℕ). filled (labelOf r) (suc k) (q .tables .labels)) z in
+            label ∙ (λ i. filled (labelOf (merge (lane1 i) (lane2 i))) (count i) (q .tables .labels)) ∙ ap
+            (λ (r : List ℕ). filled (labelOf r) (suc k) (q .tables .labels)) z in
             let word = control ∙ ap (anchored (q .tables .control)) count in
             λ i. record {
               tables = record {
@@ -193,14 +200,23 @@ module _ (a b q : Queue) (d : Done) (lefts rights labels marks : List ℕ) (j : 
   pub stored : d .laid ≡ true → (c : Control) (rs : List Record) → c ≡ d .control → rs ≡ set (q .records) 0 idle
       → _≡_ {A = Joined} (record { code = d .code; third = queueOf c rs lefts rights labels marks (q .tables .next) }) (join a b q)
   stored e c rs ec er =
-      (λ i. record { code = d .code; third = queueOf (ec i) ((er ∙ sym (ap (λ (b : Bool). cond b (set (q .records) 0 idle) (q .records)) e)) i) lefts rights labels marks (q .tables .next) })
+      (λ i. record {
+        code = d .code;
+        third = queueOf (ec i)
+            ((er ∙ sym (ap (λ (b : Bool). cond b (set (q .records) 0 idle) (q .records)) e)) i) lefts rights labels marks (q .tables .next);
+      })
       ∙ j .leaves
 
-  pub untouched : d .laid ≡ false → _≡_ {A = Joined} (record { code = d .code; third = queueOf (q .tables .control) (q .records) lefts rights labels marks (q .tables .next) }) (join a b q)
+  pub untouched : d .laid ≡ false → _≡_ {A = Joined}
+      (record { code = d .code; third = queueOf (q .tables .control) (q .records) lefts rights labels marks (q .tables .next) }) (join a b q)
   untouched e =
       let same = sym (j .kept e) in
       let no = sym e in
-      (λ i. record { code = d .code; third = queueOf (same i) (cond (no i) (set (q .records) 0 idle) (q .records)) lefts rights labels marks (q .tables .next) })
+      (λ i. record {
+        code = d .code;
+        third = queueOf (same i) (cond (no i) (set (q .records) 0 idle) (q .records)) lefts rights labels marks
+            (q .tables .next);
+      })
       ∙ j .leaves
 
   pub upper : (was now : List ℕ) → now ≡ cond (d .laid) (set was 0 0) was → now ≡ cond (laid a b q) (set was 0 0) was
@@ -208,4 +224,6 @@ module _ (a b q : Queue) (d : Done) (lefts rights labels marks : List ℕ) (j : 
 
 -- Not both are none.
 pub one-left : (n m : ℕ) → eqb n 0 && eqb m 0 ≡ false → 1 ≤ n + m
-one-left n m e = split (eqb n 0) (λ z. split (eqb m 0) (λ w. absurd (not-both (rw (z, w)) e)) (λ w. let g = eqb-false m 0 w in omega arith)) (λ z. let g = eqb-false n 0 z in omega arith)
+one-left n m e =
+    split (eqb n 0) (λ z. split (eqb m 0) (λ w. absurd (not-both (rw (z, w)) e)) (λ w. let g = eqb-false m 0 w in omega arith))
+    (λ z. let g = eqb-false n 0 z in omega arith)

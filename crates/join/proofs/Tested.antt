@@ -1,6 +1,6 @@
 -- The tests of 47 that are loops: one entry more, or one that fails.
 use mathlib.Core.Path.{_≡_, refl, sym, ap, _∙_}
-use mathlib.Core.Bool.{Bool, true, false, _&&_, not, cond}
+use mathlib.Core.Bool.{Bool, true, false, _&&_, not}
 use mathlib.Core.List.{List}
 use mathlib.Core.Logic.{_≢_}
 use Prim.Native.Nat.{ℕ, zero, suc, _+_, _-_, _<_, _≤_}
@@ -8,11 +8,11 @@ use native.Mathlib.Numerals.{add-one}
 use native.Mathlib.Omega.{arith}
 use lib.Dec.{eqb, ltb}
 use lib.ListN.{length, getD, List·getD-eq-default}
-use borrow.Author.Tests.{eq-eqb, ne-eqb, eqb-true, eqb-false, ltb-true, ltb-false}
+use borrow.Author.Tests.{ne-eqb, eqb-true, ltb-true, ltb-false}
 use Rattle.model.specs.declared.Record.{Record}
 use Rattle.model.specs.Tables.{idle}
 use Rattle.model.specs.Report.{count}
-use Rattle.model.proofs.tests.Truth.{and-of, and-true, split, not-both}
+use Rattle.model.proofs.tests.Truth.{split, not-both}
 use Rattle.join_model.specs.Join.{blank}
 use Rattle.join_model.proofs.Fresh.{none-pass}
 use Rattle.join.specs.Rules.{least}

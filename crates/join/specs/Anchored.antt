@@ -23,5 +23,9 @@ pub record Joins (a b q : Queue) (d : Done) (lefts rights labels marks : List �
   pub kept : d .laid ≡ false → d .control ≡ q .tables .control
   pub leaves :
       _≡_ {A = Joined}
-      (record { code = d .code; third = queueOf (d .control) (cond (d .laid) (set (q .records) 0 idle) (q .records)) lefts rights labels marks (q .tables .next) })
+      (record {
+        code = d .code;
+        third = queueOf (d .control) (cond (d .laid) (set (q .records) 0 idle) (q .records)) lefts rights labels marks
+            (q .tables .next);
+      })
       (join a b q)

@@ -95,7 +95,8 @@ fn is_fresh(
     requires { ⌜ c .slots ≤ 1023 ⌝ }
     ensures { λ r.
         ⌜ ((next : List ℕ)
-        → r ≡ fresh (queueOf c (recordsOf (now (records .entry))) (now (lefts .entry)) (now (rights .entry)) (now (labels .entry)) (now (marks .entry)) next)) ⌝ }
+        → r ≡ fresh
+        (queueOf c (recordsOf (now (records .entry))) (now (lefts .entry)) (now (rights .entry)) (now (labels .entry)) (now (marks .entry)) next)) ⌝ }
 {
     let a = Anchor::unpack(c.anchor);
     let rest = at_rest(c, records);

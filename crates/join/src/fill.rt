@@ -84,7 +84,9 @@ fn merge(
     requires { ⌜ n + m ≤ 1023 ⌝ }
     ensures { λ _.
         ⌜ now (labels .exit) ≡ filled
-        (labelOf (merge (rowsDown (labelVia (now (labels1 .entry)) (now (slots1 .entry))) n) (rowsDown (labelVia (now (labels2 .entry)) (now (slots2 .entry))) m)))
+        (labelOf (merge
+        (rowsDown (labelVia (now (labels1 .entry)) (now (slots1 .entry))) n)
+        (rowsDown (labelVia (now (labels2 .entry)) (now (slots2 .entry))) m)))
         (n + m) (now (labels .entry)) ⌝ }
 {
     let all = n + m;

@@ -1,12 +1,11 @@
 -- A push at the right by a task alone, place by place: what a step leaves of tables and record.
-use mathlib.Core.Path.{_≡_, refl, sym, ap, _∙_}
-use mathlib.Core.Bool.{Bool, true, false, _&&_, _||_, not, cond}
-use mathlib.Core.List.{List, [], _∷_}
-use Prim.Native.Nat.{ℕ, zero, suc, _+_, _-_, _*_, _/_, _%_, _^_, _<_, _≤_}
+use mathlib.Core.Path.{_≡_, refl}
+use mathlib.Core.Bool.{true, false}
+use Prim.Native.Nat.{ℕ, _+_, _-_}
 use native.Mathlib.Omega.{arith}
 use lib.Dec.{eqb, leb, ltb}
-use lib.ListN.{length, getD, set}
-use borrow.Author.Tests.{eq-eqb, ne-eqb, le-leb, lt-ltb, leb-true}
+use lib.ListN.{getD}
+use borrow.Author.Tests.{eq-eqb, le-leb}
 use Rattle.word.specs.declared.Anchor.{Anchor}
 use Rattle.word.specs.Anchor.{anchorOf, packAnchor}
 use Rattle.word.specs.Link.{linkOf, packLink}
@@ -15,9 +14,9 @@ use Rattle.model.specs.declared.Answer.the-variants.{Running, Pushed}
 use Rattle.model.specs.declared.Outcome.the-variants.{Moved}
 use Rattle.model.specs.Tables.{Tables, isPooled, idle}
 use Rattle.model.specs.Sound.{from1, anchorSound, linkSound, controlSound, recordSound, rowsFit}
-use Rattle.model.specs.Places.{sideOf, row, linkSide, linkMet, move, reading, at1, at2, at3, new4, at4, at5, at6, at7, at9, at10, setLink, apply, withAnchor}
-use Rattle.model.specs.Route.{pushRoute, popRoute, route, onward, answer, goes, counted}
-use Rattle.model.specs.Refusals.{alone, stepRefusal, stepSound}
+use Rattle.model.specs.Places.{sideOf, row, linkSide, move, reading, at1, at2, at3, new4, at4, at5, at6, at7, at9, at10, setLink, apply, withAnchor}
+use Rattle.model.specs.Route.{pushRoute, route, onward, answer, goes, counted}
+use Rattle.model.specs.Refusals.{stepRefusal, stepSound}
 use Rattle.model.specs.Calls.{Acted, step, finish, stepLent}
 
 -- The record of a push at the right.

@@ -1,21 +1,20 @@
 -- The joining by pushes is the joining word by word.
 use mathlib.Core.Path.{_≡_, refl, sym, ap, _∙_}
-use mathlib.Core.Bool.{Bool, true, false, _&&_, not, cond}
+use mathlib.Core.Bool.{Bool, true, false}
 use mathlib.Core.List.{List, [], _∷_, _++_}
 use Prim.Native.Nat.{ℕ, _≤_}
-use native.Mathlib.Omega.{arith}
-use lib.Dec.{eqb, ltb}
+use lib.Dec.{eqb}
 use lib.ListN.{length}
-use borrow.Author.Tests.{eqb-true, eqb-false, ltb-false, not-true, not-false}
+use borrow.Author.Tests.{eqb-true, ltb-false, not-false}
 use Rattle.model.specs.Tables.{Queue}
 use Rattle.model.specs.Report.{busy}
 use Rattle.model.specs.Walk.{contents, isBroken}
-use Rattle.model.specs.History.{All, run, final}
+use Rattle.model.specs.History.{All, run}
 use Rattle.model.specs.Refusals.{Rule, rule, first}
 use Rattle.model.proofs.tests.Rules.{tests, cleared}
-use Rattle.model.proofs.tests.Truth.{and-true, by-test, split}
-use Rattle.join_model.specs.Merge.{merge}
-use Rattle.join_model.specs.Join.{anchorIn, lane, lanes, pushes, outcomes, anyLate, sourceFits, thirdFits, atRest, fresh, earlyRules, joinRules, joinRefusal, Joined, joined, join}
+use Rattle.model.proofs.tests.Truth.{and-true, split}
+use Rattle.join_model.specs.Join.{anchorIn, lanes, pushes, outcomes, anyLate, sourceFits, thirdFits, atRest, fresh}
+use Rattle.join_model.specs.Join.{earlyRules, joinRules, joinRefusal, join}
 use Rattle.join_model.specs.Closed.{lateFor, holding, closedRefusal, joinClosed}
 use Rattle.join_model.specs.Laws.{ClosedForm, AllAnswered, answers}
 use Rattle.join_model.proofs.Fresh.{Fresh, is-fresh}

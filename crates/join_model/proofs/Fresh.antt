@@ -1,19 +1,19 @@
 -- A fresh queue, word by word.
-use mathlib.Core.Path.{_≡_, refl, ap, sym, _∙_}
-use mathlib.Core.Bool.{Bool, true, false, _&&_, not, cond}
-use mathlib.Core.List.{List, []}
+use mathlib.Core.Path.{_≡_, refl}
+use mathlib.Core.Bool.{Bool, true, false}
+use mathlib.Core.List.{List}
 use Prim.Native.Nat.{ℕ, zero, suc, _+_, _/_, _%_, _^_, _<_, _≤_}
 use native.Mathlib.Nat.{zero-div}
 use native.Mathlib.Omega.{arith}
-use lib.Dec.{eqb, leb, ltb}
-use lib.ListN.{length, getD}
-use borrow.Author.Tests.{eq-eqb, eqb-true, eqb-false, ltb-true, lt-ltb, leb-true, not-true, not-false}
+use lib.Dec.{eqb}
+use lib.ListN.{getD}
+use borrow.Author.Tests.{eqb-true, eqb-false, not-true, not-false}
 use Rattle.model.specs.Tables.{Queue, isPooled, marked, recordAt}
 use Rattle.model.specs.Sound.{controlTests, controlSound, rowTests, rowsFit}
 use Rattle.model.specs.Refusals.{recordsFit}
 use Rattle.model.specs.Report.{count, busy}
 use Rattle.model.proofs.tests.Rules.{_and_, tests, passes}
-use Rattle.model.proofs.tests.Truth.{and-true, split, decide-eq}
+use Rattle.model.proofs.tests.Truth.{and-true, split}
 use Rattle.model.proofs.bridge.Facts.{from1-true}
 use Rattle.join_model.specs.Join.{anchorIn, atRest, blank, freshTests, fresh, sourceTests, sourceFits, thirdFits}
 use Rattle.join_model.specs.Laws.{Zeros}
@@ -31,7 +31,10 @@ blank-at (suc n) l e i h =
 pub none-pass : (p : ℕ → Bool) (n : ℕ) → count p n ≡ 0 → (i : ℕ) → i < n → p i ≡ false
 unfolding count
 none-pass p zero e i h = absurd (omega arith)
-none-pass p (suc n) e i h = split (p n) (λ g. absurd (some g)) (λ g. split (eqb i n) (λ z. rw (eqb-true i n z) g) (λ z. none-pass p n (fewer g) i (below (eqb-false i n z))))
+none-pass p (suc n) e i h =
+    split (p n)
+    (λ g. absurd (some g))
+    (λ g. split (eqb i n) (λ z. rw (eqb-true i n z) g) (λ z. none-pass p n (fewer g) i (below (eqb-false i n z))))
   where
     below : (i ≡ n → ⊥) → i < n
     below g = omega arith

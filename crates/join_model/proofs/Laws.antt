@@ -1,23 +1,21 @@
 -- The laws of the joining.
-use mathlib.Core.Path.{_≡_, refl, sym, ap, _∙_}
-use mathlib.Core.Bool.{Bool, true, false, _&&_, not, cond}
-use mathlib.Core.List.{List, [], _∷_, _++_, append-assoc}
-use Prim.Native.Nat.{ℕ, zero, suc, _+_, _-_, _*_, _≤_}
+use mathlib.Core.Path.{_≡_, sym, ap, _∙_}
+use mathlib.Core.Bool.{false}
+use mathlib.Core.List.{List, [], _∷_, _++_}
+use Prim.Native.Nat.{ℕ, zero, suc, _+_, _-_, _≤_}
 use native.Mathlib.Omega.{arith}
-use lib.Dec.{eqb, ltb}
+use lib.Dec.{ltb}
 use lib.ListN.{length}
-use borrow.Author.Tests.{eq-eqb, ne-eqb, eqb-true, ltb-false}
-use Rattle.model.specs.declared.Entry.{Entry}
-use Rattle.model.specs.declared.Opening.the-variants.{Opened}
+use borrow.Author.Tests.{ne-eqb, ltb-false}
 use Rattle.model.specs.Tables.{Queue}
 use Rattle.model.specs.Calls.{openAs}
-use Rattle.model.specs.Walk.{Walk, contents, entries, met}
-use Rattle.model.specs.History.{Request, run, final, ledger, Linearized, NeverUnsound}
+use Rattle.model.specs.Walk.{contents, entries, met}
+use Rattle.model.specs.History.{Request, final}
 use Rattle.model.proofs.Linearizable.{linearizable}
 use Rattle.model.proofs.NeverUnsound.{never-unsound}
 use Rattle.join_model.specs.Join.{anchorIn, lane, lanes, pushes, joinRefusal, join}
-use Rattle.join_model.specs.Closed.{tagAfter, lateFor, holding, closedRefusal, joinClosed}
-use Rattle.join_model.specs.Laws.{OwnOrder, StaysAscending, TieToFirst, SameCopies, RefusalKeeps, Zeros, OnlyFresh, JoinedWait, numbered, Continued, Continues}
+use Rattle.join_model.specs.Closed.{tagAfter, lateFor, holding, closedRefusal}
+use Rattle.join_model.specs.Laws.{OwnOrder, StaysAscending, TieToFirst, SameCopies, RefusalKeeps, Zeros, OnlyFresh, JoinedWait, numbered, Continues}
 use Rattle.join_model.proofs.Ran.{final-on}
 use Rattle.join_model.proofs.Fresh.{Fresh}
 use Rattle.join_model.proofs.Closed.{same-refusal, accepted, joins}
@@ -41,7 +39,8 @@ pub tag-room : (tag m : ℕ) → lateFor tag (suc m) ≡ false → tagAfter tag 
 unfolding lateFor
 tag-room tag zero e = let z = ltb-false 4294967262 tag e in omega arith
 tag-room tag (suc m) e =
-    let g : ltb 4294967262 (tagAfter tag (suc (suc m) - 1)) ≡ false = rw (ne-eqb (suc (suc m)) 0 (λ z. omega arith), ne-eqb (suc (suc m)) 1 (λ z. omega arith)) at e in
+    let g : ltb 4294967262 (tagAfter tag (suc (suc m) - 1)) ≡ false = rw
+    (ne-eqb (suc (suc m)) 0 (λ z. omega arith), ne-eqb (suc (suc m)) 1 (λ z. omega arith)) at e in
     let z = ltb-false 4294967262 (tagAfter tag (suc (suc m) - 1)) g in
     omega arith
 
@@ -81,7 +80,9 @@ joined-wait a b q e = waits a b q e
 pub continues : Continues
 continues pooled q tasks slots tag o os a b e later = record {
   leaves = ap (λ (z : Queue). final z later) (third-is a b (final begun os) e ∙ sym (final-on os joining begun)) ∙ sym (final-on (os ++ joining) later begun);
-  joins = ap met (sym (linearizable pooled q tasks slots tag o (os ++ joining) .waits) ∙ ap (λ (z : Queue). contents (z .tables)) (final-on os joining begun ∙ sym (third-is a b (final begun os) e)) ∙ waits a b (final begun os) e);
+  joins =
+      ap met (sym (linearizable pooled q tasks slots tag o (os ++ joining) .waits) ∙ ap (λ (z : Queue). contents (z .tables))
+      (final-on os joining begun ∙ sym (third-is a b (final begun os) e)) ∙ waits a b (final begun os) e);
   linearized = linearizable pooled q tasks slots tag o (os ++ joining ++ later);
   sound = never-unsound pooled q tasks slots tag o (os ++ joining ++ later);
 }

@@ -1,21 +1,21 @@
 -- An opening with named slots leaves a fresh queue.
-use mathlib.Core.Path.{_≡_, refl, sym, ap, _∙_}
-use mathlib.Core.Bool.{Bool, true, false, _&&_, not, cond}
-use mathlib.Core.List.{List, [], _∷_, _++_}
-use Prim.Native.Nat.{ℕ, zero, suc, _+_, _*_, _/_, _%_, _^_, _<_, _≤_}
+use mathlib.Core.Path.{_≡_, refl, ap, _∙_}
+use mathlib.Core.Bool.{true, false, not, cond}
+use mathlib.Core.List.{List, []}
+use Prim.Native.Nat.{ℕ, zero, suc, _+_, _/_, _<_, _≤_}
 use native.Mathlib.Omega.{arith}
 use lib.Dec.{eqb}
-use lib.ListN.{length, getD, replicate, drop, getD-replicate, length-replicate, List·getD-append}
+use lib.ListN.{getD, replicate, drop, getD-replicate, length-replicate, List·getD-append}
 use borrow.Author.Tests.{eq-eqb}
 use Rattle.word.specs.Anchor.{anchorOf, packAnchor, emptyAnchor}
 use Rattle.model.specs.declared.Record.{Record}
-use Rattle.model.specs.Tables.{Queue, zeroed, idle, recordAt}
+use Rattle.model.specs.Tables.{Queue, zeroed, idle}
 use Rattle.model.specs.Calls.{opened}
 use Rattle.model.specs.Report.{count, busy}
 use Rattle.model.proofs.Openings.{after-opening}
 use Rattle.model.proofs.tests.Rules.{_and_, passes}
 use Rattle.model.proofs.tests.Truth.{and-of}
-use Rattle.join_model.specs.Join.{anchorIn, atRest, blank, freshTests, fresh}
+use Rattle.join_model.specs.Join.{atRest, blank, freshTests, fresh}
 use Rattle.join_model.specs.Laws.{OpenedFresh}
 
 zeroed-at : {A : Type 0} (n : ℕ) (z d : A) (l : List A) (i : ℕ) → i < n → getD (zeroed n z l) i d ≡ z

@@ -1,35 +1,27 @@
 -- One push by task 0 alone: what it leaves of the queue, and its outcomes.
-use mathlib.Core.Path.{_≡_, refl, sym, ap, ap₂, _∙_}
-use mathlib.Core.Bool.{Bool, true, false, _&&_, _||_, not, cond}
-use mathlib.Core.List.{List, [], _∷_, _++_, map}
-use Prim.Native.Nat.{ℕ, zero, suc, _+_, _-_, _*_, _/_, _%_, _^_, _<_, _≤_}
+use mathlib.Core.Path.{_≡_, refl, _∙_}
+use mathlib.Core.Bool.{Bool, true, false, _||_, not}
+use mathlib.Core.List.{[], _∷_}
+use Prim.Native.Nat.{ℕ, suc, _+_, _-_, _/_, _<_, _≤_}
 use native.Mathlib.Omega.{arith}
-use lib.Dec.{eqb, leb, ltb}
-use lib.ListN.{length, getD, set, replicate, length-set}
-use lib.Seq.{getD-set-same, getD-set-other}
-use borrow.Author.Tests.{eq-eqb, eqb-true, ne-eqb, le-leb, lt-ltb, leb-true, ltb-true, ltb-false}
-use Rattle.word.specs.declared.Anchor.{Anchor}
-use Rattle.word.specs.Anchor.{AnchorFits, anchorOf, packAnchor}
-use Rattle.word.specs.Link.{linkOf, packLink}
+use lib.Dec.{leb, ltb}
+use lib.ListN.{length, replicate, length-set}
+use borrow.Author.Tests.{eq-eqb, le-leb, lt-ltb, leb-true, ltb-false}
+use Rattle.word.specs.Anchor.{anchorOf, packAnchor}
 use Rattle.word.proofs.Laws.{unpack-pack}
-use Rattle.model.specs.declared.Control.{Control}
-use Rattle.model.specs.declared.Record.{Record}
 use Rattle.model.specs.declared.Answer.the-variants.{Running, Pushed}
-use Rattle.model.specs.declared.Outcome.{Outcome}
 use Rattle.model.specs.declared.Outcome.the-variants.{Moved, Refused}
 use Rattle.model.specs.declared.Op.the-variants.{Push, Step}
-use Rattle.model.specs.Tables.{Tables, Queue, isPooled, idle, marked, withMark, recordAt}
-use Rattle.model.specs.Sound.{every, from1, anchorSound, linkSound, controlTests, controlSound, recordSound, rowsFit, rowTests}
-use Rattle.model.specs.Places.{setLink, apply, withAnchor}
+use Rattle.model.specs.Tables.{Tables, Queue, isPooled, idle, marked, recordAt}
+use Rattle.model.specs.Sound.{every, anchorSound, controlTests, controlSound, recordSound, rowsFit}
+use Rattle.model.specs.Places.{withAnchor}
 use Rattle.model.specs.Refusals.{recordsFit, pushRefusal}
 use Rattle.model.specs.Calls.{taken, pushStart, actOn, act}
-use Rattle.model.specs.History.{Request}
 use Rattle.model.proofs.laws.Lengths.{Lengths, lengths}
 use Rattle.model.proofs.tests.Rules.{_and_, tests, passes}
-use Rattle.model.proofs.bridge.Facts.{AnchorFine}
-use Rattle.model.proofs.unsound.Tests.{anchor-sound, link-sound}
-use Rattle.join_model.specs.Join.{anchorIn, pushAlone}
-use Rattle.join_model.proofs.Alone.{Able, at, step1, step1-empty, step2, step3, step4, step5, step6, step7, step8, step9, step10}
+use Rattle.model.proofs.unsound.Tests.{anchor-sound}
+use Rattle.join_model.specs.Join.{anchorIn}
+use Rattle.join_model.proofs.Alone.{Able, at, step1-empty, step2}
 use Rattle.join_model.proofs.Ran.{Ran, ran-none, ran-more, stands, steps}
 
 -- Control with another sound Anchor.
@@ -109,7 +101,12 @@ module _ (q : Queue) (k label : ℕ) (r : Ready q k) where
     able = record { control = r .control; named = r .named; rows = still first (simp length-set); low = low; high = high; seen = sound }
 
     alone-reads : anchorOf alone ≡ record { tag = anchorIn q .tag + 1; status = anchorIn q .status; left = own; right = own }
-    alone-reads = unpack-pack _ (record { tag = omega (arith, ltb-false 4294967262 (anchorIn q .tag) early); status = omega (arith, r .status); left = omega (arith, r .more, r .slots); right = omega (arith, r .more, r .slots) })
+    alone-reads = unpack-pack _ (record {
+      tag = omega (arith, ltb-false 4294967262 (anchorIn q .tag) early);
+      status = omega (arith, r .status);
+      left = omega (arith, r .more, r .slots);
+      right = omega (arith, r .more, r .slots);
+    })
 
     alone-sound : anchorSound (q .tables .control .slots) (anchorOf alone) ≡ true
     alone-sound = rw alone-reads (anchor-sound _ _ (record {

@@ -1,35 +1,32 @@
 -- The first label pushed by task 0 alone, and one label more: the closed form is kept.
 use mathlib.Core.Path.{_≡_, refl, sym, ap, subst, _∙_}
-use mathlib.Core.Bool.{Bool, true, false, _||_, cond}
-use mathlib.Core.List.{List, [], _∷_, _++_, append-assoc}
-use Prim.Native.Nat.{ℕ, zero, suc, _+_, _-_, _*_, _/_, _<_, _≤_, _^_}
+use mathlib.Core.Bool.{true, false}
+use mathlib.Core.List.{List, _∷_}
+use Prim.Native.Nat.{ℕ, suc, _+_, _-_, _/_, _<_, _≤_}
 use native.Mathlib.Omega.{arith}
-use lib.Dec.{eqb, leb, ltb}
+use lib.Dec.{leb, ltb}
 use lib.ListN.{length, getD, set, replicate, length-set}
 use lib.Seq.{getD-set-same, set-set, set-getD}
-use borrow.Author.Tests.{eq-eqb, ne-eqb, ltb-true, ltb-false, leb-true}
+use borrow.Author.Tests.{ne-eqb, ltb-true, leb-true}
 use Rattle.word.specs.declared.Anchor.{Anchor}
-use Rattle.word.specs.Anchor.{anchorOf, packAnchor}
+use Rattle.word.specs.Anchor.{packAnchor}
 use Rattle.word.proofs.Laws.{unpack-pack}
 use Rattle.model.specs.declared.Record.{Record}
-use Rattle.model.specs.declared.Answer.the-variants.{Running, Pushed}
-use Rattle.model.specs.declared.Outcome.{Outcome}
-use Rattle.model.specs.declared.Outcome.the-variants.{Moved, Refused}
 use Rattle.model.specs.declared.Op.the-variants.{Push, Step}
-use Rattle.model.specs.Tables.{Tables, Queue, idle, recordAt, marked}
+use Rattle.model.specs.Tables.{Queue, idle}
 use Rattle.model.specs.Sound.{anchorSound, rowTests, rowsFit}
 use Rattle.model.specs.Places.{withAnchor}
 use Rattle.model.specs.Calls.{taken}
 use Rattle.model.specs.History.{Request}
-use Rattle.model.proofs.laws.Lengths.{Lengths, lengths}
+use Rattle.model.proofs.laws.Lengths.{lengths}
 use Rattle.model.proofs.tests.Rules.{tests}
 use Rattle.model.proofs.unsound.Tests.{anchor-sound}
-use Rattle.join_model.specs.Join.{anchorIn, pushAlone, pushes, outcomes}
+use Rattle.join_model.specs.Join.{anchorIn, pushAlone}
 use Rattle.join_model.specs.Laws.{answersOne, answersNext}
 use Rattle.join_model.specs.Closed.{filled, leftOf, rightOf, markedTo, tagAfter, held}
-use Rattle.join_model.proofs.Ran.{Ran, ran-none, ran-more, ran-on, stands}
-use Rattle.join_model.proofs.Pushed.{Ready, control-kept, fitting, first-push, turned-away}
-use Rattle.join_model.proofs.NextPush.{next-push, t10, last}
+use Rattle.join_model.proofs.Ran.{Ran, stands}
+use Rattle.join_model.proofs.Pushed.{Ready, control-kept, fitting, first-push}
+use Rattle.join_model.proofs.NextPush.{next-push, t10}
 use Rattle.join_model.proofs.Fresh.{Fresh}
 use Rattle.join_model.proofs.Filling.{filled-length, filled-beyond, marked-length, marked-beyond}
 
@@ -67,7 +64,8 @@ module _ (q : Queue) (fresh : Fresh q) (f : ℕ → ℕ) where
       tags : tag + 1 ≡ tagAfter tag 1
       tags = omega arith
 
-      is-held : stands (withAnchor (taken (q .tables) 1 (f 1)) (packAnchor (record { tag = tag + 1; status = anchorIn q .status; left = 1; right = 1 }))) (q .records) idle
+      is-held : stands (withAnchor (taken (q .tables) 1 (f 1))
+          (packAnchor (record { tag = tag + 1; status = anchorIn q .status; left = 1; right = 1 }))) (q .records) idle
           ≡ held q 0 f
       is-held = λ i. record {
         tables = withAnchor (record {

@@ -1,14 +1,14 @@
 -- A list of requests carried out: the queue after it, and the outcomes.
-use mathlib.Core.Path.{_≡_, refl, sym, ap, ap₂, _∙_}
-use mathlib.Core.List.{List, [], _∷_, _++_, map}
-use Prim.Native.Nat.{ℕ, _<_, _≤_}
+use mathlib.Core.Path.{_≡_, refl, ap, ap₂, _∙_}
+use mathlib.Core.List.{List, [], _∷_, _++_}
+use Prim.Native.Nat.{_<_, _≤_}
 use lib.ListN.{length}
 use Rattle.model.specs.declared.Record.{Record}
 use Rattle.model.specs.declared.Outcome.{Outcome}
 use Rattle.model.specs.declared.Op.the-variants.{Step}
 use Rattle.model.specs.Tables.{Tables, Queue}
-use Rattle.model.specs.Calls.{Acted, Done, back, act, stepLent}
-use Rattle.model.specs.History.{Request, Event, run, final}
+use Rattle.model.specs.Calls.{Done, back, act, stepLent}
+use Rattle.model.specs.History.{Request, run, final}
 use Rattle.join_model.specs.Join.{outcomes}
 use Rattle.model.proofs.laws.LentRecord.{withRow, lent-record}
 

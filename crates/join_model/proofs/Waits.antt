@@ -1,24 +1,21 @@
 -- The labels wait in slots 1, 2 and so on.
 use mathlib.Core.Path.{_≡_, refl, sym, ap, _∙_}
-use mathlib.Core.Bool.{Bool, true, false, cond}
+use mathlib.Core.Bool.{false, cond}
 use mathlib.Core.List.{List, [], _∷_, reverse, reverseAux}
-use Prim.Native.Nat.{ℕ, zero, suc, _+_, _-_, _<_, _≤_, _%_, _/_, _^_}
+use Prim.Native.Nat.{ℕ, zero, suc, _-_, _<_, _≤_, _%_, _^_}
 use native.Mathlib.Omega.{arith}
-use lib.Dec.{eqb, leb}
 use lib.ListN.{length, getD, drop}
 use lib.Seq.{drop-cons, drop-length}
-use borrow.Author.Tests.{eq-eqb, ne-eqb, le-leb, ltb-true}
-use Rattle.word.specs.Link.{linkOf}
+use borrow.Author.Tests.{ne-eqb, le-leb, ltb-true}
 use Rattle.word.specs.declared.Anchor.{Anchor}
 use Rattle.model.specs.declared.Entry.{Entry}
 use Rattle.model.specs.Tables.{Tables, Queue, isEmpty, links, opposite, near, far}
-use Rattle.model.specs.Sound.{from1, linkSound, rowTests, rowsFit}
-use Rattle.model.specs.Walk.{Walk, entries, broken, andThen, along, contents, walkFrom, whence}
+use Rattle.model.specs.Sound.{rowTests, rowsFit}
+use Rattle.model.specs.Walk.{Walk, entries, along, contents, walkFrom, whence}
 use Rattle.model.proofs.tests.Rules.{tests}
-use Rattle.model.proofs.tests.Truth.{and-of, split}
 use Rattle.model.proofs.unsound.Tests.{link-sound}
 use Rattle.join_model.specs.Join.{anchorIn}
-use Rattle.join_model.specs.Closed.{filled, leftOf, labelOf, held, holding, tagAfter}
+use Rattle.join_model.specs.Closed.{leftOf, labelOf, held, tagAfter}
 use Rattle.join_model.specs.Laws.{numbered}
 use Rattle.join_model.proofs.Fresh.{Fresh}
 use Rattle.join_model.proofs.Filling.{filled-at}
@@ -36,7 +33,8 @@ turned l (suc k) h =
     ∙ turned l k (omega arith)
 
 all-turned : (l : List ℕ) → reverse (down (labelOf l) (length l)) ≡ numbered 1 l
-all-turned l = ap (λ (r : List ℕ). reverseAux (down (labelOf l) (length l)) (numbered (suc (length l)) r)) (sym (drop-length l)) ∙ turned l (length l) (omega arith)
+all-turned l =
+    ap (λ (r : List ℕ). reverseAux (down (labelOf l) (length l)) (numbered (suc (length l)) r)) (sym (drop-length l)) ∙ turned l (length l) (omega arith)
 
 -- From slot k along Left links down to slot 1.
 module _ (slots : ℕ) (lefts labels : List ℕ) (f : ℕ → ℕ) (n : ℕ) (small : slots ≤ 1023) (fits : n ≤ slots) where
@@ -49,7 +47,18 @@ module _ (slots : ℕ) (lefts labels : List ℕ) (f : ℕ → ℕ) (n : ℕ) (sm
       let x = suc (suc k) in
       let back : leftOf x ≡ suc k = omega arith in
       let same : suc k % 2 ^ 15 ≡ suc k = omega arith in
-      rw (le-leb 1 x (omega arith), le-leb x slots (omega arith), ne-eqb x 1 (λ z. omega arith), l x (omega arith) h, back, link-sound slots (suc k) (omega arith) (omega arith), same, falls l b k fuel (omega arith) (omega arith), b x (omega arith) h)
+      rw (
+        le-leb 1 x (omega arith),
+        le-leb x slots (omega arith),
+        ne-eqb x 1 (λ z. omega arith),
+        l x (omega arith) h,
+        back,
+        link-sound slots (suc k)
+            (omega arith) (omega arith),
+        same,
+        falls l b k fuel (omega arith) (omega arith),
+        b x (omega arith) h,
+      )
 
 module _ (q : Queue) (fresh : Fresh q) (x : ℕ) (l : List ℕ) where
   abbrev n : ℕ

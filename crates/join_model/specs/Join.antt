@@ -10,8 +10,8 @@ use Rattle.model.specs.declared.Entry.{Entry}
 use Rattle.model.specs.declared.Outcome.{Outcome}
 use Rattle.model.specs.declared.Outcome.the-variants.{Refused, Moved}
 use Rattle.model.specs.declared.Op.the-variants.{Push, Step}
-use Rattle.model.specs.Tables.{Tables, Queue, isPooled, isEmpty}
-use Rattle.model.specs.Sound.{every, controlSound, rowsFit}
+use Rattle.model.specs.Tables.{Queue, isPooled, isEmpty}
+use Rattle.model.specs.Sound.{every, controlSound}
 use Rattle.model.specs.Walk.{contents, isBroken, met}
 use Rattle.model.specs.Report.{busy}
 use Rattle.model.specs.Refusals.{Rule, rule, first, recordsFit}

@@ -1,7 +1,7 @@
 -- The labels of two queues in one list. (Document 02, #113.)
 use mathlib.Core.Bool.{Bool, cond}
 use mathlib.Core.List.{List, [], _∷_}
-use Prim.Native.Nat.{ℕ, zero, suc, _+_, _≤_}
+use Prim.Native.Nat.{ℕ, _+_, _≤_}
 use lib.Dec.{eqb, leb}
 
 -- Of the two leftmost remaining the smaller label goes next, the first queue's on a tie.

@@ -1,14 +1,13 @@
 -- Refused, nothing to lay, or laid: on the queues that the call was given.
-use mathlib.Core.Path.{_≡_, refl, sym, ap, _∙_}
-use mathlib.Core.Bool.{Bool, true, false, _&&_}
+use mathlib.Core.Path.{_≡_, sym, _∙_}
 use mathlib.Core.List.{[]}
 use Prim.Native.Nat.{ℕ, _+_, _≤_}
 use native.Mathlib.Omega.{arith}
 use lib.Dec.{eqb}
 use borrow.Author.Needs.{needs}
-use borrow.Author.Tests.{eqb-true, eqb-false}
+use borrow.Author.Tests.{eqb-true}
 use Rattle.model.specs.Tables.{Queue, queueOf}
-use Rattle.model.proofs.tests.Truth.{and-true, split, not-both}
+use Rattle.model.proofs.tests.Truth.{and-true}
 use Rattle.rows.specs.Rows.{recordsOf}
 use Rattle.join_model.specs.Closed.{closedRefusal}
 use Rattle.join.proofs.Joining.{refuses, nothing, few, low-tag, lays, one-left}
@@ -57,7 +56,8 @@ returns-2 c =
     let i = c .before .before .before in
     let r = asked i in
     let z = and-true (eqb (n i) 0) (eqb (m i) 0) (c .if2 .taken) in
-    nothing (one r) (two r) (third r) (none i) (n i) (m i) (r .admit .ensures .first (i .if1 .left)) (r .admit .ensures .second (i .if1 .left)) (eqb-true _ _ (z .0)) (eqb-true _ _ (z .1))
+    nothing (one r) (two r) (third r) (none i) (n i) (m i) (r .admit .ensures .first (i .if1 .left)) (r .admit .ensures .second (i .if1 .left))
+    (eqb-true _ _ (z .0)) (eqb-true _ _ (z .1))
 
 -- Some label is laid.
 abbrev first-test : tie.Else2 → tie.Else1
@@ -82,8 +82,14 @@ anchored-requires : tie.Need-anchored-requires
 anchored-requires c κs =
     let k = laying (filled c) in
     let i = first-test k in
-    let r = asked i in
-    (some k, (small i, low-tag (one r) (two r) (third r) (none i) (n i) (m i) (r .admit .ensures .first (i .if1 .left)) (r .admit .ensures .second (i .if1 .left)) (some k)))
+    let r = asked i in (
+      some k,
+      (
+        small i,
+        low-tag (one r) (two r) (third r) (none i) (n i) (m i) (r .admit .ensures .first (i .if1 .left))
+            (r .admit .ensures .second (i .if1 .left)) (some k),
+      ),
+    )
 
 returns-3 : tie.Need-returns-3
 returns-3 c =

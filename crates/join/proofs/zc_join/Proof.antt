@@ -1,13 +1,12 @@
 -- The controls that the rows are; what was left, stored.
 use mathlib.Core.Path.{_≡_, refl, sym, ap, subst, _∙_}
-use mathlib.Core.Bool.{Bool, true, false, cond}
+use mathlib.Core.Bool.{Bool, cond}
 use mathlib.Core.List.{List, []}
 use Prim.Native.Nat.{ℕ}
 use lib.ListN.{set, replicate}
 use borrow.Author.Needs.{needs}
-use Rattle.model.specs.declared.Record.{Record}
 use Rattle.model.specs.Tables.{Queue, queueOf, idle}
-use Rattle.rows.specs.Rows.{controlOf, recordOf, recordsOf, uppersOf, queueIn}
+use Rattle.rows.specs.Rows.{recordOf, recordsOf, uppersOf, queueIn}
 use Rattle.join.specs.Anchored.{Joins}
 use Rattle.join.proofs.Joining.{stored, untouched, upper}
 use Rattle.join.proofs.zc_join.Statement.{statement}

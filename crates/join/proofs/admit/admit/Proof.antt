@@ -1,7 +1,7 @@
 -- Each stage of the rules, on the queues that the call was given.
-use mathlib.Core.Path.{_≡_, sym, ap, subst, _∙_}
-use mathlib.Core.Bool.{Bool, _&&_}
-use mathlib.Core.List.{List, [], _∷_}
+use mathlib.Core.Path.{_≡_, sym, subst, _∙_}
+use mathlib.Core.Bool.{_&&_}
+use mathlib.Core.List.{[], _∷_}
 use Prim.Native.Nat.{ℕ, _/_}
 use lib.Dec.{ltb}
 use lib.ListN.{length}
@@ -9,11 +9,10 @@ use borrow.Author.Needs.{needs}
 use Rattle.model.specs.Tables.{Queue, queueOf}
 use Rattle.model.specs.Sound.{every, controlSound}
 use Rattle.model.specs.Walk.{contents}
-use Rattle.walk.specs.declared.Tally.the-variants.{Broken, Labels}
+use Rattle.walk.specs.declared.Tally.the-variants.{Labels}
 use Rattle.walk.specs.Counted.{counted}
 use Rattle.rows.specs.Rows.{recordsOf}
-use Rattle.join_model.specs.Join.{sourceFits, thirdFits}
-use Rattle.join.specs.declared.admit.Admission.{Admission}
+use Rattle.join_model.specs.Join.{thirdFits}
 use Rattle.join.specs.Rules.{testsRefusal}
 use Rattle.join.specs.Admits.{Admits}
 use Rattle.join.proofs.Admitting.{fits-is, why, turned-away, small, first-lost, second-lost, decided}
@@ -41,8 +40,10 @@ unfolding thirdFits
 tried w =
     let a = start w .args in
     let e1 = fit w .lengths-fit .ensures ∙ fits-is (a .first) (a .records1 .now) (a .lefts1 .now) (a .rights1 .now) (a .labels1 .now) [] [] in
-    let e2 = w .before .before .before .lengths-fit2 .ensures ∙ fits-is (a .second) (a .records2 .now) (a .lefts2 .now) (a .rights2 .now) (a .labels2 .now) [] [] in
-    let e3 = w .before .before .lengths-fit3 .ensures ∙ fits-is (a .third) (a .records .now) (a .lefts .now) (a .rights .now) (a .labels .now) (a .marks .now) [] in
+    let e2 = w .before .before .before .lengths-fit2 .ensures ∙ fits-is (a .second) (a .records2 .now) (a .lefts2 .now) (a .rights2 .now)
+    (a .labels2 .now) [] [] in
+    let e3 = w .before .before .lengths-fit3 .ensures ∙ fits-is (a .third) (a .records .now) (a .lefts .now) (a .rights .now) (a .labels .now)
+    (a .marks .now) [] in
     w .early-rules .ensures
     ∙ (λ i. testsRefusal (controlSound (a .first)) (controlSound (a .second)) (controlSound (a .third))
     (every (e1 i ∷ e2 i ∷ (e3 i && ltb (a .third .slots / 64) (length (a .marks .now))) ∷ [])))

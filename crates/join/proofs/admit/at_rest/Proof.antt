@@ -1,11 +1,10 @@
 -- The tasks and the status.
-use mathlib.Core.Path.{_≡_, sym, ap, ap₂, _∙_}
+use mathlib.Core.Path.{ap, ap₂}
 use mathlib.Core.Bool.{Bool, _&&_}
 use lib.Dec.{eqb}
 use Rattle.word.specs.declared.Anchor.{Anchor}
 use Rattle.model.specs.Report.{busy}
 use Rattle.join_model.specs.Join.{atRest}
-use borrow.Author.Needs.{needs}
 use Rattle.join.proofs.admit.at_rest.Statement.{statement}
 use Rattle.join.proofs.admit.at_rest.Tie as tie
 

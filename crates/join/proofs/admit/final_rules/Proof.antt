@@ -1,10 +1,9 @@
 -- The tests of the queues, then the tag.
-use mathlib.Core.Path.{_≡_, sym, ap, _∙_}
+use mathlib.Core.Path.{_∙_}
 use mathlib.Core.List.{[], _∷_}
 use Prim.Native.Nat.{_+_}
 use lib.Dec.{ltb}
 use borrow.Author.Needs.{needs}
-use Rattle.word.specs.declared.Anchor.{Anchor}
 use Rattle.model.specs.Sound.{every}
 use Rattle.join_model.specs.Closed.{lateFor}
 use Rattle.join.specs.Rules.{laterRefusal}

@@ -1,8 +1,7 @@
 -- After i turns none of the first i tasks is busy.
-use mathlib.Core.Path.{_≡_, refl, sym, ap, _∙_}
-use Prim.Native.Nat.{ℕ, _≤_, _-_}
+use mathlib.Core.Path.{_≡_, sym, ap, _∙_}
+use Prim.Native.Nat.{_≤_, _-_}
 use native.Mathlib.Omega.{arith}
-use borrow.Author.Needs.{needs}
 use borrow.Author.Tests.{eq-eqb}
 use Rattle.model.specs.declared.Record.{Record}
 use Rattle.rows.specs.Rows.{recordsOf}
@@ -20,13 +19,17 @@ returns : tie.Need-returns Inv-loop μ-loop
 returns c =
     let l = c .before .before .before .before in
     let a = l .before .args in
-    sym (idle-less (recordsOf (a .records .now)) (a .n) (l .loop .i) (omega arith) (λ e. c .if1 .taken (ap (λ (r : Record). r .place) (c .before .before .record-at .ensures) ∙ e)))
+    sym (idle-less (recordsOf (a .records .now)) (a .n) (l .loop .i) (omega arith)
+    (λ e. c .if1 .taken (ap (λ (r : Record). r .place) (c .before .before .record-at .ensures) ∙ e)))
 
 loop-again : tie.Need-loop-again Inv-loop μ-loop
 loop-again c =
     let l = c .before .before .before .before in
-    let a = l .before .args in
-    (omega arith, idle-more (recordsOf (a .records .now)) (l .loop .i) (l .loop .inv .1) (sym (ap (λ (r : Record). r .place) (c .before .before .record-at .ensures)) ∙ c .if1 .left))
+    let a = l .before .args in (
+      omega arith,
+      idle-more (recordsOf (a .records .now)) (l .loop .i) (l .loop .inv .1)
+          (sym (ap (λ (r : Record). r .place) (c .before .before .record-at .ensures)) ∙ c .if1 .left),
+    )
 
 returns-2 : tie.Need-returns-2 Inv-loop μ-loop
 returns-2 c =

@@ -1,8 +1,5 @@
 -- The tests as they stand.
-use mathlib.Core.Path.{_≡_, sym, ap, ap₂, _∙_}
-use mathlib.Core.Bool.{Bool, _&&_, and-assoc}
-use lib.Dec.{eqb}
-use Rattle.word.specs.declared.Anchor.{Anchor}
+use mathlib.Core.Bool.{and-assoc}
 use Rattle.join_model.specs.Join.{fresh}
 use borrow.Author.Needs.{needs}
 use Rattle.join.proofs.admit.is_fresh.Statement.{statement}

@@ -1,7 +1,7 @@
 -- No push, one, or more: with the tag's room left for the last start.
-use mathlib.Core.Path.{_≡_, sym, _∙_}
-use mathlib.Core.Bool.{Bool, true, false, cond}
-use Prim.Native.Nat.{ℕ, _+_, _-_, _*_, _<_, _≤_}
+use mathlib.Core.Path.{_≡_}
+use mathlib.Core.Bool.{true}
+use Prim.Native.Nat.{ℕ, _-_, _*_, _<_, _≤_}
 use native.Mathlib.Omega.{arith}
 use lib.Dec.{eqb, ltb}
 use borrow.Author.Needs.{needs}
@@ -14,7 +14,9 @@ use Rattle.join.proofs.admit.late.Tie as tie
 -- A tag that is too high for one start is so for more.
 high : (tag n : ℕ) → (n ≡ 0 → ⊥) → 4294967262 < tag → true ≡ lateFor tag n
 unfolding lateFor
-high tag n z h = rw (ne-eqb n 0 z) (split (eqb n 1) (λ e. rw (e, lt-ltb 4294967262 tag h)) (λ e. rw (e, lt-ltb 4294967262 (tagAfter tag (n - 1)) (more (eqb-false n 1 e)))))
+high tag n z h =
+    rw (ne-eqb n 0 z) (split (eqb n 1) (λ e. rw (e, lt-ltb 4294967262 tag h))
+    (λ e. rw (e, lt-ltb 4294967262 (tagAfter tag (n - 1)) (more (eqb-false n 1 e)))))
   where
     more : (n ≡ 1 → ⊥) → 4294967262 < tagAfter tag (n - 1)
     more g = omega arith

@@ -1,5 +1,4 @@
 -- The first test that fails.
-use borrow.Author.Tests.{not-true, not-false}
 use Rattle.join.specs.Rules.{testsRefusal}
 use Rattle.join.proofs.admit.tests_refusal.Statement.{statement}
 use Rattle.join.proofs.admit.tests_refusal.Tie as tie

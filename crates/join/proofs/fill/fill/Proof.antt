@@ -1,12 +1,10 @@
 -- Gathered twice, merged, linked up.
-use mathlib.Core.Path.{_≡_, refl, sym, ap, ap₂, _∙_}
-use mathlib.Core.List.{List}
-use Prim.Native.Nat.{ℕ, _+_}
-use native.Mathlib.Omega.{arith}
+use mathlib.Core.Path.{ap, _∙_}
+use Prim.Native.Nat.{_+_}
 use borrow.Author.Needs.{needs}
 use Rattle.word.specs.declared.Anchor.{Anchor}
 use Rattle.join_model.specs.Merge.{merge}
-use Rattle.join_model.specs.Closed.{filled, leftOf, labelOf, markedTo}
+use Rattle.join_model.specs.Closed.{filled, leftOf, labelOf}
 use Rattle.join.specs.Scratch.{walkedTo, labelVia, rowsDown, rightTo}
 use Rattle.join.proofs.fill.fill.Statement.{statement}
 use Rattle.join.proofs.fill.fill.Tie as tie
@@ -35,18 +33,24 @@ returns c =
     let g2 = second w in
     let g1 = first g2 in
     let a = start g1 .args in
-    let e1 = g1 .gather .ensures ∙ ap (λ (r : Anchor). filled (walkedTo (a .lefts1 .now) (r .right)) (a .n) (a .lefts .now)) (g1 .before .before .before .unpack .ensures) in
-    let e2 = g2 .gather2 .ensures ∙ ap (λ (r : Anchor). filled (walkedTo (a .lefts2 .now) (r .right)) (a .m) (a .rights .now)) (g1 .before .before .unpack2 .ensures) in (
+    let e1 = g1 .gather .ensures ∙ ap (λ (r : Anchor). filled (walkedTo (a .lefts1 .now) (r .right)) (a .n) (a .lefts .now))
+    (g1 .before .before .before .unpack .ensures) in
+    let e2 = g2 .gather2 .ensures ∙ ap (λ (r : Anchor). filled (walkedTo (a .lefts2 .now) (r .right)) (a .m) (a .rights .now))
+    (g1 .before .before .unpack2 .ensures) in (
       u .link-up .ensures .0 ∙ ap (filled leftOf (a .n + a .m)) e1,
       (
         u .link-up .ensures .1 .0 ∙ ap (filled (rightTo (a .n + a .m)) (a .n + a .m)) e2,
         (
           w .merge .ensures
-              ∙ (λ i. filled (labelOf (merge (rowsDown (labelVia (a .labels1 .now) (e1 i)) (a .n)) (rowsDown (labelVia (a .labels2 .now) (e2 i)) (a .m)))) (a .n + a .m) (a .labels .now)),
+              ∙ (λ i. filled (labelOf
+              (merge (rowsDown (labelVia (a .labels1 .now) (e1 i)) (a .n)) (rowsDown (labelVia (a .labels2 .now) (e2 i)) (a .m)))) (a .n + a .m)
+              (a .labels .now)),
           u .link-up .ensures .1 .1,
         ),
       ),
     )
 
 pub fill-spec : {M : Type 1} → statement M
-fill-spec = tie.close (tie.spec (λ _ _. tt) (λ _ _. tt) (λ _ _. tt) (λ _ _. tt) (λ c κs. search needs) (λ c. search needs) link-up-requires (λ c. search needs) (λ c. search needs) (λ c. search needs) (λ c. search needs) returns)
+fill-spec =
+    tie.close (tie.spec (λ _ _. tt) (λ _ _. tt) (λ _ _. tt) (λ _ _. tt) (λ c κs. search needs) (λ c. search needs) link-up-requires
+    (λ c. search needs) (λ c. search needs) (λ c. search needs) (λ c. search needs) returns)

@@ -1,10 +1,9 @@
 -- After k turns k rows are filled, and x is the slot after them.
-use mathlib.Core.Path.{_≡_, refl, sym, ap, _∙_}
+use mathlib.Core.Path.{_≡_, refl, ap, _∙_}
 use mathlib.Core.List.{List}
 use Prim.Native.Nat.{ℕ, _≤_, _+_, _-_}
 use native.Mathlib.Omega.{arith}
 use lib.ListN.{length}
-use borrow.Author.Needs.{needs}
 use Rattle.word.specs.declared.Link.{Link}
 use Rattle.word.specs.Link.{linkOf}
 use Rattle.join_model.specs.Closed.{filled}
@@ -41,7 +40,9 @@ loop-again c =
           ap (λ (r : Link). r .slot) (c .unpack .ensures)
           ∙ ap (λ (w : ℕ). linkOf w .slot) (read .word-at .ensures)
           ∙ trail-more (a .links .now) (a .end) (l .loop .k) (l .loop .x) (l .loop .inv .at);
-      done = put .put-word .ensures ∙ filled-more (walkedTo (a .links .now) (a .end)) (l .loop .k) (a .out .now) (l .loop .out) (l .loop .x) (l .loop .inv .done) (at-row (a .links .now) (a .end) (l .loop .x) (l .loop .k) (l .loop .inv .at));
+      done =
+          put .put-word .ensures ∙ filled-more (walkedTo (a .links .now) (a .end)) (l .loop .k) (a .out .now) (l .loop .out) (l .loop .x)
+          (l .loop .inv .done) (at-row (a .links .now) (a .end) (l .loop .x) (l .loop .k) (l .loop .inv .at));
     }
   where
     at-row : (links : List ℕ) (end x k : ℕ) → x ≡ trail links end k → x ≡ walkedTo links end (k + 1)

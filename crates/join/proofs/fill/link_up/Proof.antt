@@ -1,10 +1,9 @@
 -- After k turns k slots are linked and marked.
-use mathlib.Core.Path.{_≡_, refl, sym, ap, _∙_}
+use mathlib.Core.Path.{_≡_, refl, ap, _∙_}
 use mathlib.Core.List.{List}
-use Prim.Native.Nat.{ℕ, _≤_, _+_, _-_}
+use Prim.Native.Nat.{ℕ, _≤_, _-_}
 use native.Mathlib.Omega.{arith}
 use lib.ListN.{length}
-use borrow.Author.Needs.{needs}
 use Rattle.join_model.specs.Closed.{filled, leftOf, markedTo}
 use Rattle.join_model.proofs.Filling.{filled-length, marked-length}
 use Rattle.join.specs.Scratch.{rightTo}

@@ -1,7 +1,7 @@
 -- After k turns k labels are merged, and the rest is the merge of what remains of both.
 use mathlib.Core.Path.{_≡_, refl, sym, ap, _∙_}
 use mathlib.Core.List.{List, _∷_}
-use Prim.Native.Nat.{ℕ, _≤_, _+_, _-_}
+use Prim.Native.Nat.{ℕ, _+_, _-_}
 use native.Mathlib.Omega.{arith}
 use lib.ListN.{length, getD, drop}
 use borrow.Author.Needs.{needs}
@@ -69,7 +69,9 @@ loop-again c =
       whole = l .loop .inv .whole;
       left = omega (arith, l .loop .inv .left, t .next .ensures .0);
       rest = more .1;
-      done = p .put-label .ensures ∙ filled-more (labelOf (merge (rowsDown (f t) (a .n)) (rowsDown (g t) (a .m)))) (l .loop .k) (a .labels .now) (l .loop .labels) _ (l .loop .inv .done) (more .0);
+      done =
+          p .put-label .ensures ∙ filled-more (labelOf (merge (rowsDown (f t) (a .n)) (rowsDown (g t) (a .m)))) (l .loop .k) (a .labels .now)
+          (l .loop .labels) _ (l .loop .inv .done) (more .0);
     }
 
 same-length : tie.Need-same-length Inv-loop μ-loop

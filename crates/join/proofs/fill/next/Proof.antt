@@ -1,8 +1,7 @@
 -- The first list is empty, or the second, or neither.
-use mathlib.Core.Path.{_≡_, refl, sym, ap, _∙_}
-use mathlib.Core.List.{List, [], _∷_}
+use mathlib.Core.Path.{_≡_}
 use mathlib.Core.Logic.{_≢_}
-use Prim.Native.Nat.{ℕ, zero, suc, _+_, _-_, _<_, _≤_}
+use Prim.Native.Nat.{ℕ, _+_, _-_}
 use native.Mathlib.Omega.{arith}
 use borrow.Author.Needs.{needs}
 use Rattle.join.proofs.Going.{only-second, only-first, first-goes, second-goes}
@@ -18,8 +17,11 @@ right-of n m h = omega arith
 returns : tie.Need-returns
 returns c =
     let s = c .before in
-    let a = s .args in
-    (omega (arith, s .pre, c .if1 .taken), λ f g ex ey. only-second f g (a .first) (a .second) (a .x) (a .y) ex ey (c .if1 .taken) (λ z. omega (arith, s .pre, c .if1 .taken)))
+    let a = s .args in (
+      omega (arith, s .pre, c .if1 .taken),
+      λ f g ex ey. only-second f g (a .first) (a .second) (a .x) (a .y) ex ey (c .if1 .taken)
+          (λ z. omega (arith, s .pre, c .if1 .taken)),
+    )
 
 returns-2 : tie.Need-returns-2
 returns-2 c =
