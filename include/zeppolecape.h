@@ -207,6 +207,10 @@ extern "C" {
  * rule that points outside the list. */
 #define ZC_BAD_SHEET 46
 
+/* Refusals of zc_join, because of the state: see there. */
+#define ZC_NOT_AT_REST 47 /* a source is not at rest, or the third is not fresh */
+#define ZC_CROWDED 48     /* more labels than slots in the third */
+
 /* ---- Types ------------------------------------------------------------------------------ */
 
 /* What all tasks share besides rows and marks. Written by the openings and the steps. */
@@ -469,6 +473,8 @@ static inline const char *zc_refusal_text(uint64_t number)
     case ZC_BAD_HISTORY: return "not a history that can be judged";
     case ZC_WRONG_PUSH: return "a slot named in a pooled queue, or none in the other";
     case ZC_BAD_SHEET: return "the sheet is malformed";
+    case ZC_NOT_AT_REST: return "a queue is not at rest, or the third is not fresh";
+    case ZC_CROWDED: return "more labels than slots in the third queue";
     default: return "not a refusal";
     }
 }
@@ -858,6 +864,49 @@ static inline zc_sheet_reply zc_queue_sheet_words(const zc_queue *queue, const u
 {
     return zc_sheet_words(queue->control, listed, listed_count, rules, rule_count, words,
                           word_count, ZC_ROW_TABLES(queue));
+}
+#endif
+
+/* ---- Two lanes into one ------------------------------------------------------------------
+ * When a lane closes, its queue joins its neighbour's in a third queue.
+ */
+
+/*
+ * Joins the first queue and the second in the third: of the two leftmost labels remaining the
+ * smaller goes next, the first queue's on a tie, into slots 1, 2 and so on. The third's tables end
+ * as if its task 0 had pushed each at the right, alone; with no labels nothing changes. Each queue
+ * keeps its own order, and two ascending queues give an ascending one.
+ *
+ * Both sources must be at rest: no busy task, STABLE. They are only read, may be pooled, and may be
+ * the same tables. The third must be fresh, as zc_open leaves it: with named slots, empty, at rest,
+ * and zero in rows 0 to slots and in the whole mark words of these; its tag and retries are free.
+ * It shares no table with a source. While the labels are merged its link tables hold other words.
+ *
+ * Answers 0, or refuses: 34 for the three controls, 12, 34 for the two walks, 47, 48, 33 (if one of
+ * the pushes would meet it). A refusal changes nothing.
+ */
+uint32_t zc_join(const zc_control *first, const zc_record *first_records, size_t first_record_count,
+                 const zc_control *second, const zc_record *second_records,
+                 size_t second_record_count, zc_control *third, zc_record *third_records,
+                 size_t third_record_count, const uint64_t *first_lefts, size_t first_left_count,
+                 const uint64_t *first_rights, size_t first_right_count,
+                 const uint32_t *first_labels, size_t first_label_count,
+                 const uint64_t *second_lefts, size_t second_left_count,
+                 const uint64_t *second_rights, size_t second_right_count,
+                 const uint32_t *second_labels, size_t second_label_count, uint64_t *lefts,
+                 size_t left_count, uint64_t *rights, size_t right_count, uint32_t *labels,
+                 size_t label_count, uint64_t *marks, size_t mark_count);
+
+#ifndef ZC_CORE_ONLY
+static inline uint32_t zc_queue_join(const zc_queue *first, const zc_queue *second,
+                                     const zc_queue *third)
+{
+    return zc_join(first->control, first->records, first->record_count, second->control,
+                   second->records, second->record_count, third->control, third->records,
+                   third->record_count, first->lefts, first->left_count, first->rights,
+                   first->right_count, first->labels, first->label_count, second->lefts,
+                   second->left_count, second->rights, second->right_count, second->labels,
+                   second->label_count, ZC_ROW_TABLES(third));
 }
 #endif
 

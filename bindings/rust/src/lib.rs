@@ -30,6 +30,7 @@ extern crate alloc;
 
 mod audit;
 mod find;
+mod join;
 mod numbers;
 mod queue;
 pub mod raw;
