@@ -1,9 +1,11 @@
 //! The search: a step, what comes after it, and back.
+use crate::Found;
+use crate::undo;
 use model::Control;
 use model::Record;
 use table::Acted;
 ghost use mathlib.Core.Path.{_≡_};
-ghost use mathlib.Core.Bool.{cond};
+ghost use mathlib.Core.Bool.{cond, false};
 ghost use Prim.Native.Nat.{_≤_, _<_, _-_};
 ghost use lib.Dec.{eqb};
 ghost use lib.ListN.{set};
@@ -14,13 +16,6 @@ ghost use Rattle.schedule_model.specs.Schedules.{ends};
 ghost use Rattle.schedule_model.specs.Next.{noMore};
 ghost use Rattle.schedule_model.specs.Search.{ended, frees, stepped, tried, seekOf};
 ghost use Rattle.schedule.specs.Sought.{pairOf, foundOf, Sought, sought, under};
-
-/// Whether a schedule was found, its length, and how it ends.
-pub struct Found {
-    pub found: bool,
-    pub length: u64,
-    pub ending: u64,
-}
 
 /// A schedule that ends here, after so many steps, if any schedule will do.
 fn ended(free: bool, made: u64, ending: u64) -> Found
