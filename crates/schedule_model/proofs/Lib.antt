@@ -6,3 +6,4 @@ pub mod Pairs
 pub mod Enumerated
 pub mod OnlyUnsound
 pub mod Worked
+pub mod TwoRecords
