@@ -32,7 +32,7 @@ stepped-is t (Refused why) false m = refl
 stepped-is t (Moved a) free m = refl
 
 -- A word stored before the run of words above it, or after.
-sets-above : (l s : List ℕ) (i j t : ℕ) → j < i → set (sets l i s) j t ≡ sets (set l j t) i s
+pub sets-above : (l s : List ℕ) (i j t : ℕ) → j < i → set (sets l i s) j t ≡ sets (set l j t) i s
 sets-above l [] i j t h = refl
 sets-above l (x ∷ s) i j t h =
     sets-above (set l i x) s (suc i) j t (omega (arith, h))
