@@ -205,6 +205,10 @@ extern "C" {
  * rule that points outside the list. */
 #define ZC_BAD_SHEET 46
 
+/* Refusal of zc_next_schedule, because of the state: tasks not 2, one of them idle, or over four
+ * labels waiting. */
+#define ZC_NOT_TWO 42
+
 /* ---- Types ------------------------------------------------------------------------------ */
 
 /* What all tasks share besides rows and marks. Written by the openings and the steps. */
@@ -467,6 +471,7 @@ static inline const char *zc_refusal_text(uint64_t number)
     case ZC_BAD_HISTORY: return "not a history that can be judged";
     case ZC_WRONG_PUSH: return "a slot named in a pooled queue, or none in the other";
     case ZC_BAD_SHEET: return "the sheet is malformed";
+    case ZC_NOT_TWO: return "not two busy tasks, or over four labels waiting";
     default: return "not a refusal";
     }
 }
@@ -856,6 +861,57 @@ static inline zc_sheet_reply zc_queue_sheet_words(const zc_queue *queue, const u
 {
     return zc_sheet_words(queue->control, listed, listed_count, rules, rule_count, words,
                           word_count, ZC_ROW_TABLES(queue));
+}
+#endif
+
+/* ---- Every order for two tasks -----------------------------------------------------------
+ * A schedule is a list of task numbers, 0 or 1: the order in which two half-done calls are stepped.
+ * It ends when both calls are answered, after 48 steps, or with a step that is refused 34.
+ */
+#define ZC_MOST_SCHEDULE 48
+#define ZC_SCHEDULE_WORDS 49 /* that zc_next_schedule is lent */
+
+#define ZC_BOTH_ANSWERED 0 /* endings of a schedule */
+#define ZC_CUT 1           /* a call is unanswered after 48 steps */
+#define ZC_STOPPED 2       /* its last step is refused 34 */
+#define ZC_NO_MORE 3       /* the last schedule was handed out before */
+
+typedef struct zc_schedule_reply {
+    uint64_t code;   /* 0, or the number of a refusal; the rest is then 0 */
+    uint64_t ending; /* ZC_BOTH_ANSWERED to ZC_NO_MORE */
+    uint64_t length; /* the steps of the schedule; 0 with ZC_NO_MORE */
+} zc_schedule_reply;
+ZC_LAYOUT(sizeof(zc_schedule_reply) == 24);
+ZC_LAYOUT(offsetof(zc_schedule_reply, ending) == 8 && offsetof(zc_schedule_reply, length) == 16);
+
+/*
+ * Hands out the first schedule after the one in `schedule`, in dictionary order: word 0 is the
+ * length, taken as at most 48, then come the task numbers. Lend 49 words, all zero to begin with,
+ * and call again until ZC_NO_MORE: every schedule that the tables allow is then handed out once and
+ * none besides. ZC_NO_MORE writes nothing, and is answered again.
+ *
+ * The steps are tried in the tables and put back: after the call they are as before. Nobody else may
+ * use them during the call, nor write them or `schedule` between two calls of one search. What a
+ * schedule answers is found by carrying out its steps on a copy.
+ *
+ * It holds no memory between calls and goes from the first step each time: a call tries a hundred
+ * steps at the most where one call of a search follows another. The stack takes some 50 levels of a
+ * few hundred bytes: about @STACK@ bytes.
+ * Refuses: 34 for control, 12 (`schedule` too: 49), 34 for the walk, 42.
+ */
+zc_schedule_reply zc_next_schedule(const zc_control *control, const zc_record *records,
+                                   size_t record_count, uint64_t *schedule, size_t schedule_count,
+                                   uint64_t *lefts, size_t left_count, uint64_t *rights,
+                                   size_t right_count, uint32_t *labels, size_t label_count,
+                                   uint64_t *marks, size_t mark_count, uint64_t *next,
+                                   size_t next_count);
+
+#ifndef ZC_CORE_ONLY
+static inline zc_schedule_reply zc_queue_next_schedule(const zc_queue *queue, uint64_t *schedule,
+                                                       size_t schedule_count)
+{
+    return zc_next_schedule(queue->control, queue->records, queue->record_count, schedule,
+                            schedule_count, ZC_TABLES(queue));
 }
 #endif
 

@@ -47,26 +47,34 @@ pub fn admit(storage: &mut Storage, memory_words: usize) -> Result<(), Refusal> 
 /// says to stop; whether it went through all.
 pub fn every(storage: &Storage, each: &mut dyn FnMut(&Schedule) -> bool) -> bool {
     let mut schedule = Schedule { tasks: Vec::new(), ending: Ending::Answered, answers: [None; 2] };
-    go_on(storage, &mut schedule, each)
+    go_on(storage, &mut schedule, &mut Search { after: &[], each })
 }
 
-fn go_on(
-    storage: &Storage,
-    so_far: &mut Schedule,
-    each: &mut dyn FnMut(&Schedule) -> bool,
-) -> bool {
+/// What is searched for: schedules whose beginnings all lie before `after` are left out.
+struct Search<'a> {
+    after: &'a [u64],
+    each: &'a mut dyn FnMut(&Schedule) -> bool,
+}
+
+impl Search<'_> {
+    fn too_early(&self, beginning: &[u64]) -> bool {
+        beginning < self.after && !self.after.starts_with(beginning)
+    }
+}
+
+fn go_on(storage: &Storage, so_far: &mut Schedule, search: &mut Search) -> bool {
     let busy = [0, 1].map(|task: usize| storage.records[task].place != 0);
     if busy == [false, false] {
         so_far.ending = Ending::Answered;
-        return each(so_far);
+        return (search.each)(so_far);
     }
     if so_far.tasks.len() == MOST_STEPS {
         so_far.ending = Ending::Cut;
-        return each(so_far);
+        return (search.each)(so_far);
     }
     [0, 1].into_iter().filter(|&task| busy[task]).all(|task| {
         so_far.tasks.push(task as u64);
-        let more = after_step(storage, so_far, task, each);
+        let more = search.too_early(&so_far.tasks) || after_step(storage, so_far, task, search);
         so_far.tasks.pop();
         more
     })
@@ -76,7 +84,7 @@ fn after_step(
     storage: &Storage,
     so_far: &mut Schedule,
     task: usize,
-    each: &mut dyn FnMut(&Schedule) -> bool,
+    search: &mut Search,
 ) -> bool {
     let mut copy = storage.clone();
     let answer: Answer = copy.lend().step(task as u64);
@@ -84,12 +92,12 @@ fn after_step(
         Err(refusal) => {
             assert_eq!(refusal, Refusal::Unsound, "a busy task's step is refused by 34 only");
             so_far.ending = Ending::Refused;
-            each(so_far)
+            (search.each)(so_far)
         }
-        Ok(Moved::Running(_)) => go_on(&copy, so_far, each),
+        Ok(Moved::Running(_)) => go_on(&copy, so_far, search),
         Ok(answered) => {
             so_far.answers[task] = Some(answered);
-            let more = go_on(&copy, so_far, each);
+            let more = go_on(&copy, so_far, search);
             so_far.answers[task] = None;
             more
         }
@@ -98,12 +106,14 @@ fn after_step(
 
 /// The first schedule after a list in dictionary order.
 pub fn next(storage: &Storage, after: &[u64]) -> Option<Schedule> {
+    let mut schedule = Schedule { tasks: Vec::new(), ending: Ending::Answered, answers: [None; 2] };
     let mut found = None;
-    every(storage, &mut |schedule| {
+    let mut each = |schedule: &Schedule| {
         if schedule.tasks.as_slice() > after {
             found = Some(schedule.clone());
         }
         found.is_none()
-    });
+    };
+    go_on(storage, &mut schedule, &mut Search { after, each: &mut each });
     found
 }
