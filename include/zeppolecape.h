@@ -894,9 +894,8 @@ ZC_LAYOUT(offsetof(zc_schedule_reply, ending) == 8 && offsetof(zc_schedule_reply
  * use them during the call, nor write them or `schedule` between two calls of one search. What a
  * schedule answers is found by carrying out its steps on a copy.
  *
- * It holds no memory between calls and goes from the first step each time: a call tries a hundred
- * steps at the most where one call of a search follows another. The stack takes some 50 levels of a
- * few hundred bytes: about @STACK@ bytes.
+ * It holds no memory between calls: each goes the way of the last schedule again, then on to the
+ * next. It is recursive, a level for each step; with 48 steps a call takes 92,000 bytes of stack.
  * Refuses: 34 for control, 12 (`schedule` too: 49), 34 for the walk, 42.
  */
 zc_schedule_reply zc_next_schedule(const zc_control *control, const zc_record *records,

@@ -35,8 +35,7 @@ impl Tables<'_> {
     pub fn next_schedule(&mut self, memory: &mut [u64]) -> Result<Option<Schedule>, Refusal> {
         let (records, count) = (self.records.as_ptr(), self.records.len());
         let (words, lent) = (memory.as_mut_ptr(), memory.len());
-        let reply =
-            call!(self.zc_next_schedule(&*self.control, records, count, words, lent) next);
+        let reply = call!(self.zc_next_schedule(&*self.control, records, count, words, lent) next);
         if reply.code != 0 {
             return Err(Refusal::answered(reply.code));
         }

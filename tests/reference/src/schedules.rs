@@ -80,12 +80,7 @@ fn go_on(storage: &Storage, so_far: &mut Schedule, search: &mut Search) -> bool 
     })
 }
 
-fn after_step(
-    storage: &Storage,
-    so_far: &mut Schedule,
-    task: usize,
-    search: &mut Search,
-) -> bool {
+fn after_step(storage: &Storage, so_far: &mut Schedule, task: usize, search: &mut Search) -> bool {
     let mut copy = storage.clone();
     let answer: Answer = copy.lend().step(task as u64);
     match answer {

@@ -84,7 +84,9 @@ fn each_once_and_then_no_more() {
         true
     });
     assert!(listed.windows(2).all(|pair| pair[0] < pair[1]));
-    assert!(!listed.iter().any(|one| listed.iter().any(|other| other != one && other.starts_with(one))));
+    assert!(!listed
+        .iter()
+        .any(|one| listed.iter().any(|other| other != one && other.starts_with(one))));
     let mut handed = Vec::new();
     let mut last: Vec<u64> = Vec::new();
     while let Some(schedule) = next(&storage, &last) {

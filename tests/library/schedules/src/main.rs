@@ -95,8 +95,7 @@ fn main() -> ExitCode {
     let (seed, times) = (number(1), number(1));
     let (mut tally, mut dice) = (Tally::default(), Dice::new(seed));
     for turn in 0..4_000 * times {
-        let mut storage = scene::scene(&mut dice);
-        let mut memory = scene::memory(&mut dice, &storage);
+        let (mut storage, mut memory) = scene::scene(&mut dice);
         let told = compare(&mut tally, &mut storage, &mut memory);
         if told.code == 0 && turn % 8 == 0 && tally.failed == 0 {
             search(&mut tally, &mut storage);

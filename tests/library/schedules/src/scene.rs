@@ -4,6 +4,7 @@ use reference::damage::DAMAGES;
 use reference::dice::Dice;
 use reference::schedules::{admit, every, MEMORY_WORDS};
 use reference::tables::Storage;
+use reference::word::{LPUSH, RPUSH};
 
 const SLOTS: u64 = 8;
 
@@ -18,8 +19,33 @@ fn start(storage: &mut Storage, dice: &mut Dice, task: u64, pooled: bool) {
     };
 }
 
+/// Two fresh pushes that must first help a push which nobody finishes: the longest schedules.
+fn crowded(dice: &mut Dice) -> Storage {
+    let mut storage = Storage::fitting(2, SLOTS);
+    storage.lend().open_pooled(2, SLOTS, 0).expect("opens");
+    for label in 0..3 {
+        storage.lend().push_pooled(0, 1, label).expect("starts");
+        storage.lend().run(0, 40).0.expect("is pushed");
+    }
+    storage.control.anchor |= dice.pick(&[RPUSH, LPUSH]) << 30;
+    for task in 0..2 {
+        storage.lend().push_pooled(task, dice.between(0, 1), 9).expect("starts");
+    }
+    storage
+}
+
+/// Tables and memory.
+pub fn scene(dice: &mut Dice) -> (Storage, Vec<u64>) {
+    if dice.percent(10) {
+        return (crowded(dice), turns(dice, 48));
+    }
+    let storage = half_done(dice);
+    let memory = memory(dice, &storage);
+    (storage, memory)
+}
+
 /// Labels pushed alone, then two calls begun and stepped a little.
-pub fn scene(dice: &mut Dice) -> Storage {
+fn half_done(dice: &mut Dice) -> Storage {
     let mut storage = Storage::fitting(3, SLOTS);
     let (pooled, slots) = (dice.percent(50), dice.pick(&[2, 4, SLOTS]));
     let tasks = if dice.percent(95) { 2 } else { 3 };
@@ -55,8 +81,19 @@ pub fn scene(dice: &mut Dice) -> Storage {
     storage
 }
 
+/// The tasks in turn, one for the other now and then.
+fn turns(dice: &mut Dice, length: u64) -> Vec<u64> {
+    let (chance, mut task) = (dice.between(40, 100), 0);
+    let mut memory = vec![length; MEMORY_WORDS];
+    for word in &mut memory[1..] {
+        task = if dice.percent(chance) { 1 - task } else { task };
+        *word = task;
+    }
+    memory
+}
+
 /// Zeros, one of the schedules, a beginning of one, or any words; now and then too short.
-pub fn memory(dice: &mut Dice, storage: &Storage) -> Vec<u64> {
+fn memory(dice: &mut Dice, storage: &Storage) -> Vec<u64> {
     let mut memory = vec![0; MEMORY_WORDS + dice.between(0, 2) as usize];
     match dice.between(0, 3) {
         0 => {}
@@ -72,10 +109,8 @@ pub fn memory(dice: &mut Dice, storage: &Storage) -> Vec<u64> {
             memory[1..=some.len()].copy_from_slice(&some);
         }
         2 => {
-            for word in &mut memory[1..] {
-                *word = dice.between(0, 1);
-            }
-            memory[0] = dice.between(0, 60);
+            let length = dice.between(0, 60);
+            memory = turns(dice, length);
         }
         _ => {
             for word in &mut memory {
