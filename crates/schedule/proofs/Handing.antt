@@ -20,7 +20,8 @@ use Rattle.walk.specs.declared.Tally.{Tally}
 use Rattle.walk.specs.Counted.{counted}
 use Rattle.schedule_model.specs.declared.ScheduleReply.{ScheduleReply}
 use Rattle.schedule_model.specs.Schedules.{Schedule, allSchedules}
-use Rattle.schedule_model.specs.Next.{Next, given, noMore, memoryLength, remembered, firstAfter, storing, twoAtWork, scheduleRefusal, Handed, handing, nextSchedule}
+use Rattle.schedule_model.specs.Next.{Next, given, noMore, memoryLength, remembered, firstAfter, storing, twoAtWork, scheduleRefusal, Handed, handing}
+use Rattle.schedule_model.specs.Next.{nextSchedule}
 use Rattle.schedule_model.specs.Search.{seekOf}
 use Rattle.schedule_model.proofs.Admitted.{enough, memory, tasks}
 use Rattle.schedule_model.proofs.Searched.{finds}
@@ -150,7 +151,8 @@ module _ (q : Tables) (rs : List Record) (n : ℕ) (a b : Record) (ws : List ℕ
       let m = memory Q ws ok in
       let few : q .control .tasks ≤ length rs = leb-true _ _ (and-true (rowsFit (isPooled (q .control)) (q .control .slots) q) _ (enough Q ws ok) .1) in
       rw (ok, finds ws (pairOf q a b) m)
-      (ap (λ (l : List Schedule). record { handed = handing ws (firstAfter (remembered ws) l); tables = q }) (sym (same-list q rs n a b these (tasks Q ws ok) few)))
+      (ap (λ (l : List Schedule). record { handed = handing ws (firstAfter (remembered ws) l); tables = q })
+      (sym (same-list q rs n a b these (tasks Q ws ok) few)))
 
 -- The control that its row is.
 pub by-rows : (c d : Control) (ls rs bs ms ns ls′ rs′ bs′ ms′ ns′ : List ℕ) (records : List Record) (ws ws′ : List ℕ) (r : ScheduleReply) → c ≡ d

@@ -192,7 +192,8 @@ pub extern "C" fn zc_next_schedule(
         ⌜ _≡_ {A = Answered}
         (record {
           handed = record { reply = r; memory = now (schedule .exit) };
-          tables = tablesOf (controlOf (now (control .entry))) (now (lefts .exit)) (now (rights .exit)) (now (labels .exit)) (now (marks .exit)) (now (next .exit));
+          tables = tablesOf (controlOf (now (control .entry)))
+              (now (lefts .exit)) (now (rights .exit)) (now (labels .exit)) (now (marks .exit)) (now (next .exit));
         })
         (answered
         (tablesOf (controlOf (now (control .entry))) (now (lefts .entry)) (now (rights .entry)) (now (labels .entry)) (now (marks .entry)) (now (next .entry)))

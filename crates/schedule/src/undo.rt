@@ -48,7 +48,8 @@ pub fn keep(
     next: &[u64],
 ) -> Saved
     ensures { λ s.
-        ⌜ ((c : Control) → s ≡ saved x (tablesOf c (now (lefts .entry)) (now (rights .entry)) (now (labels .entry)) (now (marks .entry)) (now (next .entry)))) ⌝ }
+        ⌜ ((c : Control) → s ≡ saved x
+        (tablesOf c (now (lefts .entry)) (now (rights .entry)) (now (labels .entry)) (now (marks .entry)) (now (next .entry)))) ⌝ }
 {
     let left = table::word_at(lefts, x);
     let right = table::word_at(rights, x);

@@ -64,7 +64,10 @@ module _ (R : List ℕ → List ℕ → Type 0) (common : (t : ℕ) (g s : List 
   pub pairs : (q : Queue) (n : ℕ) → Pairwise S (schedules q n)
   unfolding schedules
   pairs q zero = (tt, tt)
-  pairs q (suc n) = go (bothAnswered q) (schedules (act q 0 Step .queue) n) (schedules (act q 1 Step .queue) n) (pairs (act q 0 Step .queue) n) (pairs (act q 1 Step .queue) n)
+  pairs q (suc n) =
+      let a = act q 0 Step .queue in
+      let b = act q 1 Step .queue in
+      go (bothAnswered q) (schedules a n) (schedules b n) (pairs a n) (pairs b n)
     where
       go : (b : Bool) (l m : List Schedule) → Pairwise S l → Pairwise S m → Pairwise S (cond b (ends 0 ∷ []) (through q 0 l ++ through q 1 m))
       go true l m o p = (tt, tt)

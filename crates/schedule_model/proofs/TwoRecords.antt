@@ -24,7 +24,9 @@ module _ (q : Tables) (a b : Record) (two : q .control .tasks ≡ 2) where
   by t r = step q (record { enough = true; known = ltb t (q .control .tasks) }) r
 
   lent : (rest : List Record) (t : ℕ) → among (wide q a b rest) t ≡ record { enough = true; known = ltb t (q .control .tasks) }
-  lent rest t = ap (λ (e : Bool). record { enough = e; known = ltb t (q .control .tasks) }) (le-leb (q .control .tasks) (suc (suc (length rest))) (omega (arith, two)))
+  lent rest t =
+      ap (λ (e : Bool). record { enough = e; known = ltb t (q .control .tasks) })
+      (le-leb (q .control .tasks) (suc (suc (length rest))) (omega (arith, two)))
 
   act0 : (rest : List Record) → act (wide q a b rest) 0 Step ≡ back (wide q a b rest) 0 (by 0 a)
   unfolding act actOn

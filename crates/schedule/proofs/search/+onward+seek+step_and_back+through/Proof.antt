@@ -15,11 +15,19 @@ use Rattle.schedule.proofs.undo.keep.Reads as keep-reads
 use Rattle.schedule.proofs.undo.put_back.Reads as put-back-reads
 use Rattle.schedule.proofs.undo.row_of.Reads as row-of-reads
 use Rattle.table.proofs.word_at.Reads as word-at-reads
-use Rattle.schedule.proofs.search.+onward+seek+step_and_back+through.Proof.Falling.{μ-onward, μ-seek, μ-step-and-back, μ-through, onward-at, onward-below, seek-at, seek-below, step-and-back-at, step-and-back-below, through-at, through-below}
+use Rattle.schedule.proofs.search.+onward+seek+step_and_back+through.Proof.Falling.{μ-onward, μ-seek, μ-step-and-back, μ-through, onward-at}
+use Rattle.schedule.proofs.search.+onward+seek+step_and_back+through.Proof.Falling.{onward-below, seek-at, seek-below, step-and-back-at}
+use Rattle.schedule.proofs.search.+onward+seek+step_and_back+through.Proof.Falling.{step-and-back-below, through-at, through-below}
 use Rattle.schedule.proofs.search.+onward+seek+step_and_back+through.Proof.OnwardNeeds.{onward-returns, onward-returns-2}
-use Rattle.schedule.proofs.search.+onward+seek+step_and_back+through.Proof.SeekNeeds.{seek-returns, seek-returns-2, seek-returns-3, seek-through-requires-2, seek-returns-4}
-use Rattle.schedule.proofs.search.+onward+seek+step_and_back+through.Proof.StepNeeds.{step-and-back-sub-onward, step-and-back-sub-note, step-and-back-onward-requires, step-and-back-returns, step-and-back-same-length, step-and-back-same-length-2, step-and-back-same-length-3, step-and-back-same-length-4, step-and-back-same-length-5, step-and-back-same-length-6}
-use Rattle.schedule.proofs.search.+onward+seek+step_and_back+through.Proof.ThroughNeeds.{through-returns, through-step-and-back-requires, through-returns-2}
+use Rattle.schedule.proofs.search.+onward+seek+step_and_back+through.Proof.SeekNeeds.{seek-returns, seek-returns-2, seek-returns-3}
+use Rattle.schedule.proofs.search.+onward+seek+step_and_back+through.Proof.SeekNeeds.{seek-through-requires-2, seek-returns-4}
+use Rattle.schedule.proofs.search.+onward+seek+step_and_back+through.Proof.StepNeeds.{step-and-back-sub-onward, step-and-back-sub-note}
+use Rattle.schedule.proofs.search.+onward+seek+step_and_back+through.Proof.StepNeeds.{step-and-back-onward-requires, step-and-back-returns}
+use Rattle.schedule.proofs.search.+onward+seek+step_and_back+through.Proof.StepNeeds.{step-and-back-same-length, step-and-back-same-length-2}
+use Rattle.schedule.proofs.search.+onward+seek+step_and_back+through.Proof.StepNeeds.{step-and-back-same-length-3, step-and-back-same-length-4}
+use Rattle.schedule.proofs.search.+onward+seek+step_and_back+through.Proof.StepNeeds.{step-and-back-same-length-5, step-and-back-same-length-6}
+use Rattle.schedule.proofs.search.+onward+seek+step_and_back+through.Proof.ThroughNeeds.{through-returns, through-step-and-back-requires}
+use Rattle.schedule.proofs.search.+onward+seek+step_and_back+through.Proof.ThroughNeeds.{through-returns-2}
 use Rattle.schedule.proofs.search.onward.Reads as onward
 use Rattle.schedule.proofs.search.+onward+seek+step_and_back+through.Lts-onward as onward-lts
 use Rattle.schedule.proofs.search.seek.Reads as seek

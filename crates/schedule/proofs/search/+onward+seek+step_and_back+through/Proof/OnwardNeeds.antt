@@ -11,14 +11,32 @@ use Rattle.schedule.proofs.search.onward.Reads as onward
 use Rattle.schedule.proofs.search.seek.Reads as seek
 use Rattle.schedule.proofs.search.+onward+seek+step_and_back+through.Lts-onward as onward-lts
 
-pub onward-returns : (t : ℕ) → onward-lts.Need-returns (moves-reads.Asked, moves-reads.Learnt, ended-reads.Asked, ended-reads.Learnt, pick-reads.Asked, pick-reads.Learnt, seek-below t, seek.Post) (onward-at t) onward.Post
+pub onward-returns : (t : ℕ) → onward-lts.Need-returns (
+  moves-reads.Asked,
+  moves-reads.Learnt,
+  ended-reads.Asked,
+  ended-reads.Learnt,
+  pick-reads.Asked,
+  pick-reads.Learnt,
+  seek-below t,
+  seek.Post,
+) (onward-at t) onward.Post
 onward-returns t c =
     let told = c .before .before in
     let start1 = told .before .before .before .before in
     let start = start1 .before .before .before in
     refused-here (start .args .m .outcome) (start .args .free) _ _ _ _ _ (sym (told .moves .ensures) ∙ not-true _ (c .before .if1 .taken)) (c .ended .ensures)
 
-pub onward-returns-2 : (t : ℕ) → onward-lts.Need-returns-2 (moves-reads.Asked, moves-reads.Learnt, ended-reads.Asked, ended-reads.Learnt, pick-reads.Asked, pick-reads.Learnt, seek-below t, seek.Post) (onward-at t) onward.Post
+pub onward-returns-2 : (t : ℕ) → onward-lts.Need-returns-2 (
+  moves-reads.Asked,
+  moves-reads.Learnt,
+  ended-reads.Asked,
+  ended-reads.Learnt,
+  pick-reads.Asked,
+  pick-reads.Learnt,
+  seek-below t,
+  seek.Post,
+) (onward-at t) onward.Post
 onward-returns-2 t c =
     let sought1 = c .before .before .before .before in
     let sought2 = sought1 .before .before .before .before in

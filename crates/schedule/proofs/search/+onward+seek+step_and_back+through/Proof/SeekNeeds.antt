@@ -37,7 +37,12 @@ seek-returns-3 t c =
     by-first _ (a .len) (a .free) _ (a .a) (a .b) _ (busy .if1 .left) (some .if2 .left) _ _ _ (tried .through .ensures) (c .if3 .taken)
 
 -- The second time the facts lie too deep for a search.
-pub seek-through-requires-2 : (t : ℕ) → seek-lts.Need-through-requires-2 (ended-reads.Asked, ended-reads.Learnt, through-below t, through.Post) (seek-at t) seek.Post
+pub seek-through-requires-2 : (t : ℕ) → seek-lts.Need-through-requires-2 (
+  ended-reads.Asked,
+  ended-reads.Learnt,
+  through-below t,
+  through.Post,
+) (seek-at t) seek.Post
 seek-through-requires-2 t c κs =
     let some1 = c .before .before .before .before in
     let some2 = some1 .before .before .before .before in

@@ -13,7 +13,20 @@ use Rattle.schedule.proofs.search.step_and_back.Reads as step-and-back
 use Rattle.schedule.proofs.search.onward.Reads as onward
 use Rattle.schedule.proofs.search.+onward+seek+step_and_back+through.Lts-step_and_back as step-and-back-lts
 
-pub step-and-back-sub-onward : (t : ℕ) → step-and-back-lts.Need-sub-onward (row-of-reads.Asked, row-of-reads.Learnt, keep-reads.Asked, keep-reads.Learnt, step-reads.Asked, step-reads.Learnt, onward-below t, onward.Post, put-back-reads.Asked, put-back-reads.Learnt, note-reads.Asked, note-reads.Learnt) (step-and-back-at t) step-and-back.Post
+pub step-and-back-sub-onward : (t : ℕ) → step-and-back-lts.Need-sub-onward (
+  row-of-reads.Asked,
+  row-of-reads.Learnt,
+  keep-reads.Asked,
+  keep-reads.Learnt,
+  step-reads.Asked,
+  step-reads.Learnt,
+  onward-below t,
+  onward.Post,
+  put-back-reads.Asked,
+  put-back-reads.Learnt,
+  note-reads.Asked,
+  note-reads.Learnt,
+) (step-and-back-at t) step-and-back.Post
 step-and-back-sub-onward t c =
     let start1 = c .before .before .before .before in
     let start2 = start1 .before .before .before .before in
@@ -26,7 +39,20 @@ step-and-back-sub-onward t c =
     let z = start .pre .1 .1 in
     omega (arith, z .0, z .1 .0)
 
-pub step-and-back-sub-note : (t : ℕ) → step-and-back-lts.Need-sub-note (row-of-reads.Asked, row-of-reads.Learnt, keep-reads.Asked, keep-reads.Learnt, step-reads.Asked, step-reads.Learnt, onward-below t, onward.Post, put-back-reads.Asked, put-back-reads.Learnt, note-reads.Asked, note-reads.Learnt) (step-and-back-at t) step-and-back.Post
+pub step-and-back-sub-note : (t : ℕ) → step-and-back-lts.Need-sub-note (
+  row-of-reads.Asked,
+  row-of-reads.Learnt,
+  keep-reads.Asked,
+  keep-reads.Learnt,
+  step-reads.Asked,
+  step-reads.Learnt,
+  onward-below t,
+  onward.Post,
+  put-back-reads.Asked,
+  put-back-reads.Learnt,
+  note-reads.Asked,
+  note-reads.Learnt,
+) (step-and-back-at t) step-and-back.Post
 step-and-back-sub-note t c =
     let start1 = c .before .before .before .before in
     let start2 = start1 .before .before .before .before in
@@ -48,7 +74,20 @@ step-and-back-sub-note t c =
     let z = start .pre .1 .1 in
     omega (arith, z .0, z .1 .0)
 
-pub step-and-back-onward-requires : (t : ℕ) → step-and-back-lts.Need-onward-requires (row-of-reads.Asked, row-of-reads.Learnt, keep-reads.Asked, keep-reads.Learnt, step-reads.Asked, step-reads.Learnt, onward-below t, onward.Post, put-back-reads.Asked, put-back-reads.Learnt, note-reads.Asked, note-reads.Learnt) (step-and-back-at t) step-and-back.Post
+pub step-and-back-onward-requires : (t : ℕ) → step-and-back-lts.Need-onward-requires (
+  row-of-reads.Asked,
+  row-of-reads.Learnt,
+  keep-reads.Asked,
+  keep-reads.Learnt,
+  step-reads.Asked,
+  step-reads.Learnt,
+  onward-below t,
+  onward.Post,
+  put-back-reads.Asked,
+  put-back-reads.Learnt,
+  note-reads.Asked,
+  note-reads.Learnt,
+) (step-and-back-at t) step-and-back.Post
 step-and-back-onward-requires t c κs =
     let start1 = c .before .before .before .before in
     let start2 = start1 .before .before .before .before in
@@ -62,7 +101,20 @@ step-and-back-onward-requires t c κs =
     let z = start .pre in
     (omega (arith, z .0, z .1 .1 .0, z .1 .1 .1 .0), omega (arith, z .1 .1 .1 .0))
 
-pub step-and-back-returns : (t : ℕ) → step-and-back-lts.Need-returns (row-of-reads.Asked, row-of-reads.Learnt, keep-reads.Asked, keep-reads.Learnt, step-reads.Asked, step-reads.Learnt, onward-below t, onward.Post, put-back-reads.Asked, put-back-reads.Learnt, note-reads.Asked, note-reads.Learnt) (step-and-back-at t) step-and-back.Post
+pub step-and-back-returns : (t : ℕ) → step-and-back-lts.Need-returns (
+  row-of-reads.Asked,
+  row-of-reads.Learnt,
+  keep-reads.Asked,
+  keep-reads.Learnt,
+  step-reads.Asked,
+  step-reads.Learnt,
+  onward-below t,
+  onward.Post,
+  put-back-reads.Asked,
+  put-back-reads.Learnt,
+  note-reads.Asked,
+  note-reads.Learnt,
+) (step-and-back-at t) step-and-back.Post
 step-and-back-returns t c =
     let noted = c .before .before in
     let put1 = noted .before .before .before .before in
@@ -88,20 +140,98 @@ step-and-back-returns t c =
     there-and-back _ _ _ _ _ _ _ _ _ (z .0) (z .1 .0) (z .1 .1 .0) (z .1 .1 .1) _ _ _ _ _ _ _ _ (row .row-of .ensures)
     (kept .keep .ensures (start .args .c)) (stepped .step .ensures) (gone .onward .ensures) (put .put-back .ensures (start .args .c)) (noted .note .ensures)
 
-pub step-and-back-same-length : (t : ℕ) → step-and-back-lts.Need-same-length (row-of-reads.Asked, row-of-reads.Learnt, keep-reads.Asked, keep-reads.Learnt, step-reads.Asked, step-reads.Learnt, onward-below t, onward.Post, put-back-reads.Asked, put-back-reads.Learnt, note-reads.Asked, note-reads.Learnt) (step-and-back-at t) step-and-back.Post
+pub step-and-back-same-length : (t : ℕ) → step-and-back-lts.Need-same-length (
+  row-of-reads.Asked,
+  row-of-reads.Learnt,
+  keep-reads.Asked,
+  keep-reads.Learnt,
+  step-reads.Asked,
+  step-reads.Learnt,
+  onward-below t,
+  onward.Post,
+  put-back-reads.Asked,
+  put-back-reads.Learnt,
+  note-reads.Asked,
+  note-reads.Learnt,
+) (step-and-back-at t) step-and-back.Post
 step-and-back-same-length t c = as-long _ _ _ _ _ _ _ (step-and-back-returns t c) .memory
 
-pub step-and-back-same-length-2 : (t : ℕ) → step-and-back-lts.Need-same-length-2 (row-of-reads.Asked, row-of-reads.Learnt, keep-reads.Asked, keep-reads.Learnt, step-reads.Asked, step-reads.Learnt, onward-below t, onward.Post, put-back-reads.Asked, put-back-reads.Learnt, note-reads.Asked, note-reads.Learnt) (step-and-back-at t) step-and-back.Post
+pub step-and-back-same-length-2 : (t : ℕ) → step-and-back-lts.Need-same-length-2 (
+  row-of-reads.Asked,
+  row-of-reads.Learnt,
+  keep-reads.Asked,
+  keep-reads.Learnt,
+  step-reads.Asked,
+  step-reads.Learnt,
+  onward-below t,
+  onward.Post,
+  put-back-reads.Asked,
+  put-back-reads.Learnt,
+  note-reads.Asked,
+  note-reads.Learnt,
+) (step-and-back-at t) step-and-back.Post
 step-and-back-same-length-2 t c = as-long _ _ _ _ _ _ _ (step-and-back-returns t c) .lefts
 
-pub step-and-back-same-length-3 : (t : ℕ) → step-and-back-lts.Need-same-length-3 (row-of-reads.Asked, row-of-reads.Learnt, keep-reads.Asked, keep-reads.Learnt, step-reads.Asked, step-reads.Learnt, onward-below t, onward.Post, put-back-reads.Asked, put-back-reads.Learnt, note-reads.Asked, note-reads.Learnt) (step-and-back-at t) step-and-back.Post
+pub step-and-back-same-length-3 : (t : ℕ) → step-and-back-lts.Need-same-length-3 (
+  row-of-reads.Asked,
+  row-of-reads.Learnt,
+  keep-reads.Asked,
+  keep-reads.Learnt,
+  step-reads.Asked,
+  step-reads.Learnt,
+  onward-below t,
+  onward.Post,
+  put-back-reads.Asked,
+  put-back-reads.Learnt,
+  note-reads.Asked,
+  note-reads.Learnt,
+) (step-and-back-at t) step-and-back.Post
 step-and-back-same-length-3 t c = as-long _ _ _ _ _ _ _ (step-and-back-returns t c) .rights
 
-pub step-and-back-same-length-4 : (t : ℕ) → step-and-back-lts.Need-same-length-4 (row-of-reads.Asked, row-of-reads.Learnt, keep-reads.Asked, keep-reads.Learnt, step-reads.Asked, step-reads.Learnt, onward-below t, onward.Post, put-back-reads.Asked, put-back-reads.Learnt, note-reads.Asked, note-reads.Learnt) (step-and-back-at t) step-and-back.Post
+pub step-and-back-same-length-4 : (t : ℕ) → step-and-back-lts.Need-same-length-4 (
+  row-of-reads.Asked,
+  row-of-reads.Learnt,
+  keep-reads.Asked,
+  keep-reads.Learnt,
+  step-reads.Asked,
+  step-reads.Learnt,
+  onward-below t,
+  onward.Post,
+  put-back-reads.Asked,
+  put-back-reads.Learnt,
+  note-reads.Asked,
+  note-reads.Learnt,
+) (step-and-back-at t) step-and-back.Post
 step-and-back-same-length-4 t c = as-long _ _ _ _ _ _ _ (step-and-back-returns t c) .labels
 
-pub step-and-back-same-length-5 : (t : ℕ) → step-and-back-lts.Need-same-length-5 (row-of-reads.Asked, row-of-reads.Learnt, keep-reads.Asked, keep-reads.Learnt, step-reads.Asked, step-reads.Learnt, onward-below t, onward.Post, put-back-reads.Asked, put-back-reads.Learnt, note-reads.Asked, note-reads.Learnt) (step-and-back-at t) step-and-back.Post
+pub step-and-back-same-length-5 : (t : ℕ) → step-and-back-lts.Need-same-length-5 (
+  row-of-reads.Asked,
+  row-of-reads.Learnt,
+  keep-reads.Asked,
+  keep-reads.Learnt,
+  step-reads.Asked,
+  step-reads.Learnt,
+  onward-below t,
+  onward.Post,
+  put-back-reads.Asked,
+  put-back-reads.Learnt,
+  note-reads.Asked,
+  note-reads.Learnt,
+) (step-and-back-at t) step-and-back.Post
 step-and-back-same-length-5 t c = as-long _ _ _ _ _ _ _ (step-and-back-returns t c) .marks
 
-pub step-and-back-same-length-6 : (t : ℕ) → step-and-back-lts.Need-same-length-6 (row-of-reads.Asked, row-of-reads.Learnt, keep-reads.Asked, keep-reads.Learnt, step-reads.Asked, step-reads.Learnt, onward-below t, onward.Post, put-back-reads.Asked, put-back-reads.Learnt, note-reads.Asked, note-reads.Learnt) (step-and-back-at t) step-and-back.Post
+pub step-and-back-same-length-6 : (t : ℕ) → step-and-back-lts.Need-same-length-6 (
+  row-of-reads.Asked,
+  row-of-reads.Learnt,
+  keep-reads.Asked,
+  keep-reads.Learnt,
+  step-reads.Asked,
+  step-reads.Learnt,
+  onward-below t,
+  onward.Post,
+  put-back-reads.Asked,
+  put-back-reads.Learnt,
+  note-reads.Asked,
+  note-reads.Learnt,
+) (step-and-back-at t) step-and-back.Post
 step-and-back-same-length-6 t c = as-long _ _ _ _ _ _ _ (step-and-back-returns t c) .next
