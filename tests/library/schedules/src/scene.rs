@@ -19,6 +19,19 @@ fn start(storage: &mut Storage, dice: &mut Dice, task: u64, pooled: bool) {
     };
 }
 
+/// Four or five labels pushed, where there are slots: at the limit.
+fn fill(storage: &mut Storage, dice: &mut Dice, pooled: bool) {
+    for slot in 1..=dice.between(4, 5) {
+        let side = dice.between(0, 1);
+        let mut tables = storage.lend();
+        let _ = match pooled {
+            true => tables.push_pooled(0, side, slot as u32),
+            false => tables.push(0, side, slot, slot as u32),
+        };
+        tables.run(0, 40).0.ok();
+    }
+}
+
 /// Two fresh pushes that must first help a push which nobody finishes: the longest schedules.
 fn crowded(dice: &mut Dice) -> Storage {
     let mut storage = Storage::fitting(2, SLOTS);
@@ -55,7 +68,10 @@ fn half_done(dice: &mut Dice) -> Storage {
         false => storage.lend().open(tasks, slots, tag),
     };
     opened.expect("opens");
-    for _ in 0..dice.between(0, 5) {
+    if dice.percent(20) {
+        fill(&mut storage, dice, pooled);
+    }
+    for _ in 0..dice.between(0, 3) {
         start(&mut storage, dice, 0, pooled);
         storage.lend().run(0, 40).0.ok();
     }
@@ -119,7 +135,7 @@ fn memory(dice: &mut Dice, storage: &Storage) -> Vec<u64> {
             memory[0] = dice.pick(&[0, 3, 12, 47, 48, 49, u64::MAX]);
         }
     }
-    if dice.percent(3) {
+    if dice.percent(15) {
         memory.truncate(MEMORY_WORDS - dice.between(1, 3) as usize);
     }
     memory
