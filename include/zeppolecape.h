@@ -207,6 +207,10 @@ extern "C" {
  * rule that points outside the list. */
 #define ZC_BAD_SHEET 46
 
+/* Refusal of zc_next_schedule, because of the state: tasks not 2, one of them idle, or over four
+ * labels waiting. */
+#define ZC_NOT_TWO 42
+
 /* Refusals of zc_join, because of the state: see there. */
 #define ZC_NOT_AT_REST 47 /* a source is not at rest, or the third is not fresh */
 #define ZC_CROWDED 48     /* more labels than slots in the third */
@@ -473,6 +477,7 @@ static inline const char *zc_refusal_text(uint64_t number)
     case ZC_BAD_HISTORY: return "not a history that can be judged";
     case ZC_WRONG_PUSH: return "a slot named in a pooled queue, or none in the other";
     case ZC_BAD_SHEET: return "the sheet is malformed";
+    case ZC_NOT_TWO: return "not two busy tasks, or over four labels waiting";
     case ZC_NOT_AT_REST: return "a queue is not at rest, or the third is not fresh";
     case ZC_CROWDED: return "more labels than slots in the third queue";
     default: return "not a refusal";
@@ -907,6 +912,56 @@ static inline uint32_t zc_queue_join(const zc_queue *first, const zc_queue *seco
                    first->right_count, first->labels, first->label_count, second->lefts,
                    second->left_count, second->rights, second->right_count, second->labels,
                    second->label_count, ZC_ROW_TABLES(third));
+}
+#endif
+
+/* ---- Every order for two tasks -----------------------------------------------------------
+ * A schedule is a list of task numbers, 0 or 1: the order in which two half-done calls are stepped.
+ * It ends when both calls are answered, after 48 steps, or with a step that is refused 34.
+ */
+#define ZC_MOST_SCHEDULE 48
+#define ZC_SCHEDULE_WORDS 49 /* that zc_next_schedule is lent */
+
+#define ZC_BOTH_ANSWERED 0 /* endings of a schedule */
+#define ZC_CUT 1           /* a call is unanswered after 48 steps */
+#define ZC_STOPPED 2       /* its last step is refused 34 */
+#define ZC_NO_MORE 3       /* the last schedule was handed out before */
+
+typedef struct zc_schedule_reply {
+    uint64_t code;   /* 0, or the number of a refusal; the rest is then 0 */
+    uint64_t ending; /* ZC_BOTH_ANSWERED to ZC_NO_MORE */
+    uint64_t length; /* the steps of the schedule; 0 with ZC_NO_MORE */
+} zc_schedule_reply;
+ZC_LAYOUT(sizeof(zc_schedule_reply) == 24);
+ZC_LAYOUT(offsetof(zc_schedule_reply, ending) == 8 && offsetof(zc_schedule_reply, length) == 16);
+
+/*
+ * Hands out the first schedule after the one in `schedule`, in dictionary order: word 0 is the
+ * length, taken as at most 48, then come the task numbers. Lend 49 words, all zero to begin with,
+ * and call again until ZC_NO_MORE: every schedule that the tables allow is then handed out once and
+ * none besides. ZC_NO_MORE writes nothing, and is answered again.
+ *
+ * The steps are tried in the tables and put back: after the call they are as before. Nobody else may
+ * use them during the call, nor write them or `schedule` between two calls of one search. What a
+ * schedule answers is found by carrying out its steps on a copy.
+ *
+ * It holds no memory between calls: each goes the way of the last schedule again, then on to the
+ * next. It is recursive, a level for each step; with 48 steps a call takes 92,000 bytes of stack.
+ * Refuses: 34 for control, 12 (`schedule` too: 49), 34 for the walk, 42.
+ */
+zc_schedule_reply zc_next_schedule(const zc_control *control, const zc_record *records,
+                                   size_t record_count, uint64_t *schedule, size_t schedule_count,
+                                   uint64_t *lefts, size_t left_count, uint64_t *rights,
+                                   size_t right_count, uint32_t *labels, size_t label_count,
+                                   uint64_t *marks, size_t mark_count, uint64_t *next,
+                                   size_t next_count);
+
+#ifndef ZC_CORE_ONLY
+static inline zc_schedule_reply zc_queue_next_schedule(const zc_queue *queue, uint64_t *schedule,
+                                                       size_t schedule_count)
+{
+    return zc_next_schedule(queue->control, queue->records, queue->record_count, schedule,
+                            schedule_count, ZC_TABLES(queue));
 }
 #endif
 

@@ -3,7 +3,7 @@
 //! The machine: `word` (packed words), `tables` (what is lent), `refusal` (the
 //! ordered tests), `places` (what a step does), `machine` and `find` (the outside calls).
 //! The program: `runfile` (fields in), `run` (events), `trace` (lines out).
-//! Over the tables: `sheet` (document 02, #111 and #112), `join` (#113).
+//! Over the tables: `sheet` (document 02, #111 and #112), `schedules` (#107), `join` (#113).
 //! The judge: `clerk` (a sequential deque), `contents` (labels waiting), `pool` (free
 //! slots), `invariant` (what holds between any two steps), `check` (all of them at once).
 //! The differential test: `dice`, `script`, `shift`, `scenario`, `malformed`, `coverage`, `ways`.
@@ -27,6 +27,7 @@ pub mod refusal;
 pub mod run;
 pub mod runfile;
 pub mod scenario;
+pub mod schedules;
 pub mod script;
 pub mod sheet;
 pub mod shift;

@@ -21,6 +21,7 @@ pub enum Refusal {
     WornTag = 33,
     Unsound = 34,
     WrongPush = 41,
+    NotTwo = 42,
     ManyAsked = 45,
     NotAtRest = 47,
     Crowded = 48,

@@ -1,6 +1,8 @@
 //! The calls.
 
-use super::{Control, FindReply, Record, Reply, ReportReply, RunReply, SheetReply, Verdict};
+use super::{
+    Control, FindReply, Record, Reply, ReportReply, RunReply, ScheduleReply, SheetReply, Verdict,
+};
 
 #[link(name = "zeppolecape", kind = "static")]
 unsafe extern "C" {
@@ -274,4 +276,24 @@ unsafe extern "C" {
         marks: *const u64,
         mark_count: usize,
     ) -> SheetReply;
+
+    /// The first schedule after the one that `schedule` holds, stored over it.
+    /// Refuses: 34 for control, 12 (schedule too: 49 words), 34 for the walk, 42.
+    pub fn zc_next_schedule(
+        control: *const Control,
+        records: *const Record,
+        record_count: usize,
+        schedule: *mut u64,
+        schedule_count: usize,
+        lefts: *mut u64,
+        left_count: usize,
+        rights: *mut u64,
+        right_count: usize,
+        labels: *mut u32,
+        label_count: usize,
+        marks: *mut u64,
+        mark_count: usize,
+        next: *mut u64,
+        next_count: usize,
+    ) -> ScheduleReply;
 }
