@@ -14,6 +14,7 @@ ghost use Rattle.join.specs.Anchored.{anchored, Joins};
 
 pub mod admit;
 pub mod fill;
+pub mod rest;
 
 /// What the joining answers, and what it leaves of control.
 pub struct Done {

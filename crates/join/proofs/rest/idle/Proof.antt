@@ -6,8 +6,8 @@ use borrow.Author.Tests.{eq-eqb}
 use Rattle.model.specs.declared.Record.{Record}
 use Rattle.rows.specs.Rows.{recordsOf}
 use Rattle.join.proofs.Tested.{busyIn, idle-none, idle-more, idle-less}
-use Rattle.join.proofs.admit.idle.Statement.{statement}
-use Rattle.join.proofs.admit.idle.Tie as tie
+use Rattle.join.proofs.rest.idle.Statement.{statement}
+use Rattle.join.proofs.rest.idle.Tie as tie
 
 abbrev Inv-loop : tie.InvT-loop
 Inv-loop records n i₀ i = (i ≤ n) × (busyIn (recordsOf records) i ≡ 0)

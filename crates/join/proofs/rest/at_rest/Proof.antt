@@ -5,8 +5,8 @@ use lib.Dec.{eqb}
 use Rattle.word.specs.declared.Anchor.{Anchor}
 use Rattle.model.specs.Report.{busy}
 use Rattle.join_model.specs.Join.{atRest}
-use Rattle.join.proofs.admit.at_rest.Statement.{statement}
-use Rattle.join.proofs.admit.at_rest.Tie as tie
+use Rattle.join.proofs.rest.at_rest.Statement.{statement}
+use Rattle.join.proofs.rest.at_rest.Tie as tie
 
 returns : tie.Need-returns
 unfolding atRest busy

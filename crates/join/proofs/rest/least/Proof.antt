@@ -1,7 +1,7 @@
 -- The one or the other.
 use borrow.Author.Tests.{lt-ltb, le-ltb}
-use Rattle.join.proofs.admit.least.Statement.{statement}
-use Rattle.join.proofs.admit.least.Tie as tie
+use Rattle.join.proofs.rest.least.Statement.{statement}
+use Rattle.join.proofs.rest.least.Tie as tie
 
 returns : tie.Need-returns
 returns c = let a = c .before .args in rw (lt-ltb (a .n) (a .most) (c .if1 .taken))

@@ -2,8 +2,8 @@
 use mathlib.Core.Bool.{and-assoc}
 use Rattle.join_model.specs.Join.{fresh}
 use borrow.Author.Needs.{needs}
-use Rattle.join.proofs.admit.is_fresh.Statement.{statement}
-use Rattle.join.proofs.admit.is_fresh.Tie as tie
+use Rattle.join.proofs.rest.is_fresh.Statement.{statement}
+use Rattle.join.proofs.rest.is_fresh.Tie as tie
 
 returns : tie.Need-returns
 unfolding fresh
