@@ -36,7 +36,7 @@ told q busy = record {
   busy = busy;
   waiting = waiting q;
   taken = takenSlots (q .control .slots) (q .marks);
-  retries = q .control .retries;
+
 }
 
 unfoldable pub tell : Tables → Bool → ℕ → Reported
