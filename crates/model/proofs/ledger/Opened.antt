@@ -30,7 +30,7 @@ use Rattle.model.proofs.ledger.Matched.{Matched, busyNo}
 abbrev pub nobody : Ledger
 nobody = record { deque = []; calls = [] }
 
-zeroed-at : {A : Type 0} (n : ℕ) (z : A) (l : List A) (x : ℕ) → x < n → getD (zeroed n z l) x z ≡ z
+pub zeroed-at : {A : Type 0} (n : ℕ) (z : A) (l : List A) (x : ℕ) → x < n → getD (zeroed n z l) x z ≡ z
 zeroed-at n z l x h = List·getD-append (replicate n z) (drop n l) z x (rw length-replicate h) ∙ getD-replicate n x z z h
 
 -- An accepted opening has a slot.
