@@ -1,5 +1,5 @@
 -- The counts of the tasks add up to the single count that control had.
-use mathlib.Core.Bool.{Bool, true, false, cond, _&&_}
+use mathlib.Core.Bool.{Bool, true, false}
 use mathlib.Core.List.{List, [], _∷_}
 use mathlib.Core.Logic.{_≢_, _⊎_, inl, inr}
 use mathlib.Core.Path.{_≡_, _∙_, ap, fun-ext, refl, subst, sym}
@@ -13,7 +13,6 @@ use Rattle.model.specs.declared.Op.{Op}
 use Rattle.model.specs.declared.Op.the-variants.{Push, Pop, Put, Step}
 use Rattle.model.specs.declared.TaskRecord.{TaskRecord}
 use Rattle.model.specs.Tables.{Queue, recordAt, taskAt, unused}
-use Rattle.model.specs.Places.{linkMet, move}
 use Rattle.model.specs.Refusals.{among, popRefusal, pushRefusal, putRefusal, stepRefusal}
 use Rattle.model.specs.Route.{counted}
 use Rattle.model.specs.Calls.{Acted, act, actOn, finish, opened, popStart, pushStart, putStart, step}

@@ -1,16 +1,15 @@
 -- The failed changes of each task, and of all together. (Request #101.)
 use mathlib.Core.Path.{_≡_}
-use mathlib.Core.Bool.{Bool, false, _&&_, cond}
+use mathlib.Core.Bool.{Bool, false, _&&_}
 use mathlib.Core.List.{List, [], _∷_}
 use Prim.Native.Nat.{ℕ, zero, suc, _+_, _<_}
-use lib.Dec.{eqb, ltb}
-use lib.ListN.{replicate}
+use lib.Dec.{eqb}
 use Rattle.model.specs.declared.Op.{Op}
 use Rattle.model.specs.declared.Op.the-variants.{Push, Pop, Put, Step}
 use Rattle.model.specs.Tables.{Queue, taskAt, recordAt}
 use Rattle.model.specs.Places.{linkMet, move}
 use Rattle.model.specs.Route.{counted}
-use Rattle.model.specs.Refusals.{among, stepRefusal, reportRefusal}
+use Rattle.model.specs.Refusals.{among, stepRefusal}
 use Rattle.model.specs.Calls.{act}
 use Rattle.model.specs.History.{Request, final, AfterOpening}
 

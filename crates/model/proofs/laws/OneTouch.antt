@@ -1,6 +1,6 @@
 -- A step changes one shared word at the most, the retry count among them: a failed change is counted and changes nothing else.
 -- The one exception is 14 done, which sets the head, the slot's label and its mark.
-use mathlib.Core.Logic.{_≢_, _⊎_, inl, inr}
+use mathlib.Core.Logic.{_⊎_, inl, inr}
 use mathlib.Core.Path.{_≡_, refl}
 use mathlib.Core.Bool.{Bool, true, false, cond}
 use Prim.Native.Nat.{ℕ}

@@ -13,7 +13,7 @@ use Rattle.model.specs.Calls.{Acted, Done, act, actOn, back, finish, pop
 use Rattle.model.specs.History.{All, Call, Event, Ledger, Request, accept, attend, begins, final, ledgerFrom, note, over, run}
 use Rattle.model.specs.Places.{linkMet, move, taken}
 use Rattle.model.specs.Refusals.{among, popRefusal, pushRefusal, putRefusal, stepRefusal}
-use Rattle.model.specs.Tables.{Queue, asking, idle, isPooled, recordAt, started, taskAt, unused, withCall}
+use Rattle.model.specs.Tables.{Queue, asking, isPooled, recordAt, started, taskAt, unused, withCall}
 use Rattle.model.specs.declared.Answer.the-variants.{Empty, NoSlot, Popped, Pushed, Running}
 use Rattle.model.specs.declared.Answer.{Answer}
 use Rattle.model.specs.declared.Entry.{Entry}

@@ -13,7 +13,7 @@ use Rattle.model.specs.Progress.{AnsweredWithin, Busy, limit}
 use Rattle.model.specs.Solo.{soloRun}
 use Rattle.model.specs.Refusals.{among, stepRefusal}
 use Rattle.model.specs.Route.{goes, counted}
-use Rattle.model.specs.Tables.{Queue, Tables, idle, recordAt, taskAt, unused}
+use Rattle.model.specs.Tables.{Queue, Tables, recordAt, taskAt, unused}
 use Rattle.model.specs.declared.Answer.the-variants.{Empty, NoSlot, Popped, Pushed, Running}
 use Rattle.model.specs.declared.Answer.{Answer}
 use Rattle.model.specs.declared.Op.the-variants.{Step}

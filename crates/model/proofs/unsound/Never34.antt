@@ -12,7 +12,7 @@ use Rattle.model.specs.History.{Ledger, NeverUnsound, Request, final, ru
 use Rattle.model.specs.Places.{linkMet}
 use Rattle.model.specs.Refusals.{among, late, popRefusal, pushRefusal, putRefusal, stepRefusal, stepSound}
 use Rattle.model.specs.Sound.{controlSound, from1, recordSound, rowsFit}
-use Rattle.model.specs.Tables.{Queue, Tables, asking, idle, isPooled, marked, recordAt, started, taskAt, unused}
+use Rattle.model.specs.Tables.{Queue, Tables, asking, isPooled, marked, recordAt, started, taskAt, unused}
 use Rattle.model.specs.declared.Answer.{Answer}
 use Rattle.model.specs.declared.Op.the-variants.{Pop, Push, Put, Step}
 use Rattle.model.specs.declared.Op.{Op}

@@ -10,7 +10,7 @@ use lib.Seq.{getD-set-other, getD-set-same}
 use borrow.Author.Tests.{ltb-false}
 use Rattle.word.specs.Anchor.{anchorOf}
 use Rattle.model.specs.Refusals.{late}
-use Rattle.model.specs.Tables.{Queue, Tables, asking, idle, isPooled, recordAt, started, taskAt, unused, withCall}
+use Rattle.model.specs.Tables.{Queue, Tables, asking, isPooled, recordAt, started, taskAt, unused, withCall}
 use Rattle.model.specs.declared.Record.{Record}
 use Rattle.model.specs.declared.TaskRecord.{TaskRecord}
 use Rattle.model.proofs.tests.Truth.{decide-eq, not-both}
