@@ -24,7 +24,7 @@ use Rattle.model.proofs.machine.Machine.{upd}
 use Rattle.model.proofs.tags.Sum.{total, total-one, total-upd}
 use Rattle.model.proofs.bridge.Accepted.{Lies, step-accepted}
 use Rattle.model.proofs.ledger.Opened.{zeroed-at}
-use Rattle.model.proofs.progress.Taken.{same-size}
+use Rattle.model.proofs.laws.Sizes.{act-tasks}
 use Rattle.model.proofs.Openings.{after-opening}
 
 -- The count of a task.
@@ -82,7 +82,7 @@ module _ (q : Queue) (t : ℕ) (o : Op) where
 
   same-tasks : q′ .tables .control .tasks ≡ q .tables .control .tasks
   unfolding act
-  same-tasks = same-size q t o .0
+  same-tasks = act-tasks q t o
 
   abbrev new : TaskRecord
   new = actOn (q .tables) (among q t) (taskAt q t) o .task

@@ -32,7 +32,7 @@ abbrev pub tablesOf : Control → List ℕ → List ℕ → List ℕ → List �
 tablesOf control lefts rights labels marks next =
     record { control = control; lefts = lefts; rights = rights; labels = labels; marks = marks; next = next }
 
-abbrev pub queueOf : Control → List Record → List ℕ → List ℕ → List ℕ → List ℕ → List ℕ → Queue
+abbrev pub queueOf : Control → List TaskRecord → List ℕ → List ℕ → List ℕ → List ℕ → List ℕ → Queue
 queueOf control records lefts rights labels marks next =
     record { tables = tablesOf control lefts rights labels marks next; records = records }
 

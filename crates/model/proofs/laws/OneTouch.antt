@@ -1,7 +1,7 @@
--- A step changes one shared word at the most, the retry count among them: a failed change is counted and changes nothing else.
+-- A step changes one shared word at the most; where a failed change is counted, in the task's own record, none.
 -- The one exception is 14 done, which sets the head, the slot's label and its mark.
 use mathlib.Core.Logic.{_⊎_, inl, inr}
-use mathlib.Core.Path.{_≡_, refl}
+use mathlib.Core.Path.{_≡_, refl, subst, sym}
 use mathlib.Core.Bool.{Bool, true, false, cond}
 use Prim.Native.Nat.{ℕ}
 use lib.Dec.{eqb}
