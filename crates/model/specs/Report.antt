@@ -36,7 +36,6 @@ told q busy = record {
   busy = busy;
   waiting = waiting q;
   taken = takenSlots (q .control .slots) (q .marks);
-
 }
 
 unfoldable pub tell : Tables → Bool → ℕ → Reported

@@ -12,11 +12,13 @@ ghost use Rattle.model.specs.Calls.{stacked};
 ghost use Rattle.table.specs.Zeroing.{zeroing};
 ghost use Rattle.table.specs.Stacking.{stacking};
 
-/// What a start or step leaves of control and record, and its outcome.
+/// What a start or step leaves of control and its task's call, its outcome, and whether a change failed,
+/// which the task's record counts.
 pub struct Acted {
     pub control: Control,
     pub task: Record,
     pub outcome: Outcome,
+    pub failed: bool,
 }
 
 pub fn word_at(t: &[u64], i: u64) -> u64
