@@ -1,14 +1,14 @@
--- The report. (Document 01: Places, below the table; document 02, #102.)
+-- The report. (Document 01: Places, below the table; document 02, #101 and #102.)
 use mathlib.Core.Bool.{Bool, not, cond}
-use mathlib.Core.List.{List}
+use mathlib.Core.List.{List, [], _∷_, _++_}
 use Prim.Native.Nat.{ℕ, zero, suc, _+_}
-use lib.Dec.{eqb}
-use lib.ListN.{length}
+use lib.Dec.{eqb, ltb}
+use lib.ListN.{length, replicate}
 use Rattle.word.specs.Anchor.{anchorOf}
 use Rattle.model.specs.declared.Report.{Report}
 use Rattle.model.specs.declared.Reported.{Reported}
 use Rattle.model.specs.declared.Reported.the-variants as reported
-use Rattle.model.specs.Tables.{Tables, Queue, marked, recordAt}
+use Rattle.model.specs.Tables.{Tables, Queue, marked, recordAt, taskAt}
 use Rattle.model.specs.Walk.{contents, met}
 use Rattle.model.specs.Refusals.{recordsFit, reportRefusal}
 
@@ -45,3 +45,18 @@ tell q enough busy =
 
 unfoldable pub report : Queue → Reported
 report q = tell (q .tables) (recordsFit (q .tables .control .tasks) q) (busy q)
+
+-- Retries: one count a task, in task order. They are listed for sixteen tasks, 0 beyond those opened.
+unfoldable pub listed : (ℕ → ℕ) → ℕ → List ℕ
+listed f zero = []
+listed f (suc n) = listed f n ++ (f n ∷ [])
+
+abbrev pub countOf : Queue → ℕ → ℕ
+countOf q t = cond (ltb t (q .tables .control .tasks)) (taskAt q t .retries) 0
+
+-- They stand beside the report; in a refusal all are 0.
+unfoldable pub reportCounts : Queue → List ℕ
+reportCounts q =
+    cond (eqb (reportRefusal (q .tables) (recordsFit (q .tables .control .tasks) q)) 0)
+    (listed (countOf q) 16)
+    (replicate 16 0)
