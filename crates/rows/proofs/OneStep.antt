@@ -13,7 +13,7 @@ use Rattle.model.specs.declared.Record.{Record}
 use Rattle.model.specs.declared.Outcome.{Outcome}
 use Rattle.model.specs.declared.Outcome.the-variants.{Refused}
 use Rattle.model.specs.declared.Op.the-variants.{Step}
-use Rattle.model.specs.Tables.{Tables, Queue, tablesOf, recordAt, idle}
+use Rattle.model.specs.Tables.{Tables, Queue, isPooled, tablesOf, recordAt, idle}
 use Rattle.model.specs.Ends.{endsCall}
 use Rattle.model.specs.Sound.{rowsFit}
 use Rattle.model.specs.Refusals.{Lent, among}
@@ -28,12 +28,12 @@ use Rattle.engine.proofs.Whole.{turned-away, admitted, task-there}
 use Rattle.rows.specs.Rows.{controlOf, recordOf, recordsOf, upperOf, uppersOf, queueIn}
 use Rattle.rows.proofs.Rows.{length-records, record-read, upper-read, record-put, upper-put}
 
-module _ (ws : List ℕ) (rows : List (List ℕ)) (lefts rights labels marks : List ℕ) (task : ℕ) where
+module _ (ws : List ℕ) (rows : List (List ℕ)) (lefts rights labels marks next : List ℕ) (task : ℕ) where
   abbrev entry : Tables
-  entry = tablesOf (controlOf ws) lefts rights labels marks
+  entry = tablesOf (controlOf ws) lefts rights labels marks next
 
   abbrev queue : Queue
-  queue = queueIn ws rows lefts rights labels marks
+  queue = queueIn ws rows lefts rights labels marks next
 
   abbrev r₀ : Record
   r₀ = recordAt queue task
@@ -43,7 +43,7 @@ module _ (ws : List ℕ) (rows : List (List ℕ)) (lefts rights labels marks : L
 
   -- Whether tables of these lengths are long enough for a control; how the task's record is lent, seen from the rows.
   abbrev fit : Control → Bool
-  fit c = lengthsFit (c .slots) (length lefts) (length rights) (length labels) (length marks)
+  fit c = lengthsFit (isPooled c) (c .slots) (length lefts) (length rights) (length labels) (length marks) (length next)
 
   abbrev pub lent : Control → ℕ → Lent
   lent c n = record { enough = leb (c .tasks) n; known = ltb task (c .tasks) }
@@ -62,12 +62,12 @@ module _ (ws : List ℕ) (rows : List (List ℕ)) (lefts rights labels marks : L
       ∙ ap (λ (d : Control). admission d (fit d) (among queue task)) ec
 
   -- Not admitted: the number alone.
-  abbrev Steps : List ℕ → List (List ℕ) → List ℕ → List ℕ → List ℕ → Outcome → Type 0
-  Steps ws′ rows′ lefts′ rights′ marks′ o =
-      (_≡_ {A = Done} (record { queue = queueIn ws′ rows′ lefts′ rights′ labels marks′; outcome = o }) (act queue task Step))
+  abbrev Steps : List ℕ → List (List ℕ) → List ℕ → List ℕ → List ℕ → List ℕ → List ℕ → Outcome → Type 0
+  Steps ws′ rows′ lefts′ rights′ labels′ marks′ next′ o =
+      (_≡_ {A = Done} (record { queue = queueIn ws′ rows′ lefts′ rights′ labels′ marks′ next′; outcome = o }) (act queue task Step))
       × (uppersOf rows′ ≡ cond (endsCall o) (set (uppersOf rows) task 0) (uppersOf rows))
 
-  pub refused : (why : ℕ) (o : Outcome) → why ≡ fault → (why ≡ 0 → ⊥) → o ≡ Refused why → Steps ws rows lefts rights marks o
+  pub refused : (why : ℕ) (o : Outcome) → why ≡ fault → (why ≡ 0 → ⊥) → o ≡ Refused why → Steps ws rows lefts rights labels marks next o
   unfolding act actOn rowsFit lengthsFit
   refused why o e h eo =
       let same : _≡_ {A = Done} (record { queue = queue; outcome = o }) (act queue task Step) =
@@ -91,19 +91,19 @@ module _ (ws : List ℕ) (rows : List (List ℕ)) (lefts rights labels marks : L
   kept-upper false = ap (set (uppersOf rows) task) (upper-read rows task) ∙ set-getD (uppersOf rows) task 0
 
   -- Admitted: what it may change is stored.
-  pub stepped : (ws′ row′ lefts′ rights′ marks′ : List ℕ) (c : Control) (r : Record) (m : Moved)
+  pub stepped : (ws′ row′ lefts′ rights′ labels′ marks′ next′ : List ℕ) (c : Control) (r : Record) (m : Moved)
       → c ≡ controlOf ws → r ≡ recordOf row₀ → fault ≡ 0
-      → withTables m lefts′ rights′ labels marks′ ≡ moveOn (tablesOf c lefts rights labels marks) r
+      → withTables m lefts′ rights′ labels′ marks′ next′ ≡ moveOn (tablesOf c lefts rights labels marks next) r
       → controlOf ws′ ≡ controlAfter (controlOf ws) m → recordOf row′ ≡ recordAfter (recordOf row₀) m
       → upperOf row′ ≡ cond (endsCall (m .outcome)) 0 (upperOf row₀)
-      → Steps ws′ (set rows task row′) lefts′ rights′ marks′ (m .outcome)
+      → Steps ws′ (set rows task row′) lefts′ rights′ labels′ marks′ next′ (m .outcome)
   unfolding act actOn rowsFit lengthsFit
-  stepped ws′ row′ lefts′ rights′ marks′ c r m ec er f e e1 e2 e3 =
-      let e′ : withTables m lefts′ rights′ labels marks′ ≡ moveOn entry r₀ =
+  stepped ws′ row′ lefts′ rights′ labels′ marks′ next′ c r m ec er f e e1 e2 e3 =
+      let e′ : withTables m lefts′ rights′ labels′ marks′ next′ ≡ moveOn entry r₀ =
       e
-      ∙ ap (λ (d : Control). moveOn (tablesOf d lefts rights labels marks) r) ec
+      ∙ ap (λ (d : Control). moveOn (tablesOf d lefts rights labels marks next) r) ec
       ∙ ap (moveOn entry) (er ∙ record-read rows task) in
-      let left = stored entry (among queue task) r₀ m lefts′ rights′ labels marks′ (e′ ∙ admitted entry (among queue task) r₀ f) in
+      let left = stored entry (among queue task) r₀ m lefts′ rights′ labels′ marks′ next′ (e′ ∙ admitted entry (among queue task) r₀ f) in
       let put : recordsOf (set rows task row′) ≡ set (recordsOf rows) task (recordAfter r₀ m) =
       record-put rows task row′
       ∙ ap (set (recordsOf rows) task) (e2 ∙ ap (λ (t : Record). recordAfter t m) (record-read rows task)) in

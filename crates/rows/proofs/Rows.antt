@@ -43,6 +43,20 @@ upper-put [] i ws = refl
 upper-put (us ∷ rows) zero ws = refl
 upper-put (us ∷ rows) (suc i) ws = ap (λ (l : List ℕ). upperOf us ∷ l) (upper-put rows i ws)
 
+-- A record with another label.
+abbrev pub labelled : Record → ℕ → Record
+labelled r n = record {
+  place = r .place;
+  kind = r .kind;
+  side = r .side;
+  own = r .own;
+  label = n;
+  seen = r .seen;
+  neighbour = r .neighbour;
+  link = r .link;
+  finishing = r .finishing;
+}
+
 -- One more entry zeroed.
 zero-suc : {A : Type 0} (n : ℕ) (z : A) (l : List A) → n < length l → set (zeroed n z l) n z ≡ zeroed (suc n) z l
 zero-suc n z [] h = absurd (omega (arith, h))

@@ -7,7 +7,14 @@ use Rattle.model.specs.declared.Record.{Record}
 use Rattle.model.specs.Tables.{Queue, queueOf}
 
 unfoldable pub controlOf : List ℕ → Control
-controlOf ws = record { tasks = getD ws 0 0; slots = getD ws 1 0; anchor = getD ws 2 0; retries = getD ws 3 0 }
+controlOf ws = record {
+  tasks = getD ws 0 0;
+  slots = getD ws 1 0;
+  anchor = getD ws 2 0;
+  retries = getD ws 3 0;
+  pooled = getD ws 4 0;
+  head = getD ws 5 0;
+}
 
 -- A label has 32 bits.
 unfoldable pub recordOf : List ℕ → Record
@@ -37,5 +44,5 @@ uppersOf [] = []
 uppersOf (ws ∷ rows) = upperOf ws ∷ uppersOf rows
 
 -- A queue whose control and records are lent as rows.
-abbrev pub queueIn : List ℕ → List (List ℕ) → List ℕ → List ℕ → List ℕ → List ℕ → Queue
+abbrev pub queueIn : List ℕ → List (List ℕ) → List ℕ → List ℕ → List ℕ → List ℕ → List ℕ → Queue
 queueIn control rows = queueOf (controlOf control) (recordsOf rows)

@@ -6,7 +6,7 @@ use model::Record;
 use table::Acted;
 ghost use mathlib.Core.Path.{_≡_};
 ghost use mathlib.Core.Bool.{cond};
-ghost use Prim.Native.Nat.{_≤_};
+ghost use Prim.Native.Nat.{_/_, _%_, _^_, _≤_};
 ghost use lib.ListN.{length, getD, set};
 ghost use Rattle.model.specs.declared.Op.the-variants.{Step};
 ghost use Rattle.model.specs.Tables.{idle, zeroed};
@@ -16,7 +16,7 @@ ghost use Rattle.engine.specs.Stored.{controlMoved, recordMoved, controlAfter, 
 ghost use Rattle.rows.specs.Rows.{controlOf, recordOf, recordsOf, upperOf, uppersOf, queueIn};
 
 /// The words of a control.
-pub const CONTROL_WORDS: usize = 4;
+pub const CONTROL_WORDS: usize = 6;
 
 /// The words of a record.
 pub const RECORD_WORDS: usize = 9;
@@ -33,6 +33,8 @@ pub fn control_of(row: [u64; CONTROL_WORDS]) -> Control
         slots: row[1],
         anchor: row[2],
         retries: row[3],
+        pooled: row[4],
+        head: row[5],
     }
 }
 
@@ -40,14 +42,14 @@ pub fn control_of(row: [u64; CONTROL_WORDS]) -> Control
 pub fn control_row(c: Control) -> [u64; CONTROL_WORDS]
     ensures { λ row. ⌜ controlOf row ≡ c ⌝ }
 {
-    [c.tasks, c.slots, c.anchor, c.retries]
+    [c.tasks, c.slots, c.anchor, c.retries, c.pooled, c.head]
 }
 
 /// The row of a control after a step.
 pub fn control_moved(row: [u64; CONTROL_WORDS], c: Control) -> [u64; CONTROL_WORDS]
     ensures { λ after. ⌜ controlOf after ≡ controlMoved (controlOf row) c ⌝ }
 {
-    [row[0], row[1], c.anchor, c.retries]
+    [row[0], row[1], c.anchor, c.retries, row[4], c.head]
 }
 
 /// The record that a row is.
@@ -84,16 +86,24 @@ pub fn record_row(r: Record) -> [u64; RECORD_WORDS]
     ]
 }
 
+/// A label's word with another label, its upper half kept.
+fn relabelled(word: u64, label: u32) -> u64
+    ensures { λ w. ⌜ (w % 2 ^ 32 ≡ label) × (w / 2 ^ 32 ≡ word / 2 ^ 32) ⌝ }
+{
+    word / LABELS * LABELS + label as u64
+}
+
 /// The row of a record after a step whose call goes on.
 pub fn record_moved(row: [u64; RECORD_WORDS], r: Record) -> [u64; RECORD_WORDS]
     ensures { λ after. ⌜ (recordOf after ≡ recordMoved (recordOf row) r) × (upperOf after ≡ upperOf row) ⌝ }
 {
+    let word = relabelled(row[4], r.label);
     [
         r.place,
         row[1],
         row[2],
-        row[3],
-        row[4],
+        r.own,
+        word,
         r.seen,
         r.neighbour,
         r.link,
@@ -170,8 +180,8 @@ pub fn store(control: &mut [u64; CONTROL_WORDS], row: &mut [u64; RECORD_WORDS], 
         } else {
             let was = *row;
             let r = m.task;
-            let next = record_moved(was, r);
-            *row = next;
+            let moved = record_moved(was, r);
+            *row = moved;
         }
     }
 }
@@ -183,16 +193,17 @@ pub fn step(
     task: usize,
     lefts: &mut [u64],
     rights: &mut [u64],
-    labels: &[u32],
+    labels: &mut [u32],
     marks: &mut [u64],
+    next: &mut [u64],
 ) -> Outcome
     ensures { λ o.
         ⌜ _≡_ {A = Done}
         (record {
-          queue = queueIn (now (control .exit)) (now (records .exit)) (now (lefts .exit)) (now (rights .exit)) (now (labels .entry)) (now (marks .exit));
+          queue = queueIn (now (control .exit)) (now (records .exit)) (now (lefts .exit)) (now (rights .exit)) (now (labels .exit)) (now (marks .exit)) (now (next .exit));
           outcome = o;
         })
-        (act (queueIn (now (control .entry)) (now (records .entry)) (now (lefts .entry)) (now (rights .entry)) (now (labels .entry)) (now (marks .entry)))
+        (act (queueIn (now (control .entry)) (now (records .entry)) (now (lefts .entry)) (now (rights .entry)) (now (labels .entry)) (now (marks .entry)) (now (next .entry)))
         task Step) ⌝ }
     ensures { λ o.
         ⌜ uppersOf (now (records .exit)) ≡ cond (endsCall o) (set (uppersOf (now (records .entry))) task 0) (uppersOf (now (records .entry))) ⌝ }
@@ -208,13 +219,14 @@ pub fn step(
         rights.len(),
         labels.len(),
         marks.len(),
+        next.len(),
     );
     if why != 0 {
         return engine::refuse(why);
     }
     let row = records[task];
     let r = record_of(row);
-    let m = engine::move_on(c, r, lefts, rights, labels, marks);
+    let m = engine::move_on(c, r, lefts, rights, labels, marks, next);
     store(control, &mut records[task], m);
     m.outcome
 }

@@ -9,4 +9,4 @@ unfolding controlOf
 returns c = search needs
 
 pub control-moved-spec : {M : Type 1} → statement M
-control-moved-spec = tie.close (tie.spec (λ c. search needs) (λ c. search needs) returns)
+control-moved-spec = tie.close (tie.spec (λ c. search needs) (λ c. search needs) (λ c. search needs) returns)

@@ -1,13 +1,20 @@
--- What the call began with is kept, and the label's whole word.
-use mathlib.Core.Path.{refl}
+-- What the call began with is kept, and the upper half of the label's word.
+use mathlib.Core.Path.{ap}
+use Prim.Native.Nat.{ℕ}
+use Rattle.engine.specs.Stored.{recordMoved}
 use Rattle.rows.specs.Rows.{recordOf, upperOf}
+use Rattle.rows.proofs.Rows.{labelled}
 use borrow.Author.Needs.{needs}
 use Rattle.rows.proofs.record_moved.Statement.{statement}
 use Rattle.rows.proofs.record_moved.Tie as tie
 
 returns : tie.Need-returns
 unfolding recordOf upperOf
-returns c = (refl, refl)
+returns c =
+    let a = c .before .args in
+    let word = c .relabelled .ensures in
+    (ap (λ (n : ℕ). recordMoved (recordOf (a .t1)) (labelled (a .r) n)) (word .0), word .1)
 
 pub record-moved-spec : {M : Type 1} → statement M
-record-moved-spec = tie.close (tie.spec (λ c. search needs) (λ c. search needs) (λ c. search needs) (λ c. search needs) returns)
+record-moved-spec =
+    tie.close (tie.spec (λ c. search needs) (λ c κs. search needs) (λ c. search needs) (λ c. search needs) returns)

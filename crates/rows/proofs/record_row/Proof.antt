@@ -1,25 +1,12 @@
 -- A label has 32 bits: nothing stands above them.
 use mathlib.Core.Path.{_≡_, ap}
-use Prim.Native.Nat.{ℕ, _/_, _%_, _^_}
+use Prim.Native.Nat.{_/_, _%_, _^_}
 use native.Mathlib.Omega.{arith}
-use Rattle.model.specs.declared.Record.{Record}
 use Rattle.rows.specs.Rows.{recordOf, upperOf}
+use Rattle.rows.proofs.Rows.{labelled}
 use borrow.Author.Needs.{needs}
 use Rattle.rows.proofs.record_row.Statement.{statement}
 use Rattle.rows.proofs.record_row.Tie as tie
-
-abbrev labelled : Record → ℕ → Record
-labelled r n = record {
-  place = r .place;
-  kind = r .kind;
-  side = r .side;
-  own = r .own;
-  label = n;
-  seen = r .seen;
-  neighbour = r .neighbour;
-  link = r .link;
-  finishing = r .finishing;
-}
 
 returns : tie.Need-returns
 unfolding recordOf upperOf

@@ -10,23 +10,23 @@ use Rattle.rows.proofs.step.Tie as tie
 -- The answer of `admit`, in the model's terms.
 module _ (told : tie.After-admit) where
   abbrev a : tie.Start
-  a = let lent = told .before .before .before in lent .before .before .before .before
+  a = let lent = told .before .before .before .before in lent .before .before .before .before
 
   abbrev why : told .admit .result
       ≡ fault (a .args .control .now) (a .args .records .now) (a .args .lefts .now) (a .args .rights .now) (a .args .labels .now)
-      (a .args .marks .now) (a .args .task)
+      (a .args .marks .now) (a .args .next .now) (a .args .task)
   why =
       asked (a .args .control .now) (a .args .records .now) (a .args .lefts .now) (a .args .rights .now) (a .args .labels .now)
-      (a .args .marks .now) (a .args .task) _ _ _
+      (a .args .marks .now) (a .args .next .now) (a .args .task) _ _ _
       (told .before .control-of .ensures) refl (told .admit .ensures)
 
   known : told .admit .result ≡ 0 → a .args .task < length (a .args .records .now)
   known none =
       there (a .args .control .now) (a .args .records .now) (a .args .lefts .now) (a .args .rights .now) (a .args .labels .now)
-      (a .args .marks .now) (a .args .task) (sym why ∙ none)
+      (a .args .marks .now) (a .args .next .now) (a .args .task) (sym why ∙ none)
 
 returns : tie.Need-returns
-returns c = let told = c .before .before in refused _ _ _ _ _ _ _ _ _ (why told) (c .before .if1 .taken) (c .refuse .ensures)
+returns c = let told = c .before .before in refused _ _ _ _ _ _ _ _ _ _ (why told) (c .before .if1 .taken) (c .refuse .ensures)
 
 -- An admitted task's row is there, when it is read and when it is stored.
 module _ (left : tie.Else1) where
@@ -34,10 +34,13 @@ module _ (left : tie.Else1) where
   here = known (left .before) (left .if1 .left)
 
 abbrev admitted : tie.After-move-on → tie.Else1
-admitted moved = let read = moved .before .before .before .before in read .before .before
+admitted moved = let lent = moved .before .before .before .before in lent .before .before .before .before
 
 abbrev moved-of : tie.After-store-arg → tie.After-move-on
-moved-of c = let lent = c .before .before .before .before in lent .before .before .before
+moved-of c =
+    let marks = c .before .before .before .before in
+    let lent = marks .before .before .before .before in
+    lent .before .before .before
 
 mul-row : tie.Need-mul-row
 mul-row left = let there = here left in search needs
@@ -55,11 +58,12 @@ returns-2 : tie.Need-returns-2
 returns-2 c =
     let put = c .store .ensures in
     let moved = moved-of (c .before .before) in
+    let read = moved .before .before .before in
     let left = admitted moved in
     let told = left .before in
-    stepped _ _ _ _ _ _ _ _ _ _ _ _ _ _ _
+    stepped _ _ _ _ _ _ _ _ _ _ _ _ _ _ _ _ _ _
     (told .before .control-of .ensures)
-    (moved .before .before .before .before .record-of .ensures)
+    (read .before .before .before .record-of .ensures)
     (sym (why told) ∙ left .if1 .left)
     (moved .move-on .ensures)
     (put .0)
@@ -81,6 +85,8 @@ step-spec =
     mul-store
     index-store
     (λ c κs. search needs)
+    (λ c. search needs)
+    (λ c. search needs)
     (λ c. search needs)
     (λ c. search needs)
     (λ c. search needs)
