@@ -62,7 +62,6 @@ module _ (q : Tables) (enough : Bool) (busy : ℕ) where
           busy = busy;
           waiting = m;
           taken = told q busy .taken;
-          retries = q .control .retries;
         }) ≡ tell q enough busy
     unfolding tell reportRefusal waiting
     tells m f = let g = all-counted (contents q) m f in rw (passed .0, passed .1, g .0, g .1)
