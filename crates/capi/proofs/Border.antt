@@ -13,12 +13,13 @@ use Rattle.model.specs.declared.Outcome.{Outcome}
 use Rattle.model.specs.declared.Reply.{Reply}
 use Rattle.model.specs.declared.Reported.{Reported}
 use Rattle.model.specs.declared.Op.{Op}
-use Rattle.model.specs.declared.Op.the-variants.{Push, Pop, Step}
-use Rattle.model.specs.Tables.{Tables, Queue, tablesOf, queueOf, recordAt, idle, zeroed}
+use Rattle.model.specs.declared.Opening.the-variants as opening
+use Rattle.model.specs.declared.Op.the-variants.{Push, Pop, Put, Step}
+use Rattle.model.specs.Tables.{Tables, Queue, isPooled, tablesOf, queueOf, recordAt, idle, zeroed}
 use Rattle.model.specs.Sound.{rowsFit}
-use Rattle.model.specs.Refusals.{Lent, among, openRefusal, pushRefusal, popRefusal}
+use Rattle.model.specs.Refusals.{Lent, among, openRefusal, pushRefusal, putRefusal, popRefusal}
 use Rattle.model.specs.Report.{report, tell}
-use Rattle.model.specs.Calls.{Acted, Done, openQueue, pushStart, popStart, back, act, actOn, replyOf}
+use Rattle.model.specs.Calls.{Acted, Done, OpenDone, opened as openedQueue, openAs, pushStart, putStart, popStart, back, act, actOn, replyOf}
 use Rattle.model.proofs.tests.Truth.{split, not-both}
 use Rattle.table.specs.declared.Acted.{Acted as Moved}
 use Rattle.table.specs.Lent.{withTables}
@@ -43,27 +44,60 @@ pub stepped : (q q′ : Queue) (task : ℕ) (us us′ : List ℕ) (o : Outcome) 
     → _≡_ {A = Replied} (record { queue = q′; uppers = us′; reply = r }) (replied endsCall task us (act q task Step))
 stepped q q′ task us us′ o r e eu er = rw (er, eu) (ap (replied endsCall task us) e)
 
+-- A named opening neither looks at the next rows nor writes them.
+abbrev nexts : List ℕ → OpenedParts → OpenedParts
+nexts l o = record {
+  tables = tablesOf (o .tables .control) (o .tables .lefts) (o .tables .rights) (o .tables .labels) (o .tables .marks) l;
+  clear = o .clear;
+  outcome = o .outcome;
+}
+
+module _ (c : Control) (lefts rights labels marks none next : List ℕ) (n tasks slots tag : ℕ) where
+  abbrev lending : List ℕ → Queue
+  lending l = counting (tablesOf c lefts rights labels marks l) n
+
+  abbrev done : Bool → ℕ → List ℕ → OpenDone
+  done b why l =
+      cond b
+      (record { queue = openedQueue false (lending l) tasks slots tag; outcome = opening.Opened })
+      (record { queue = lending l; outcome = opening.Refused why })
+
+  abbrev opening-parts : Bool → ℕ → List ℕ → OpenedParts
+  opening-parts b why l = record { tables = done b why l .queue .tables; clear = cond b tasks 0; outcome = done b why l .outcome }
+
+  either-next : (b : Bool) (why : ℕ) → nexts next (opening-parts b why none) ≡ opening-parts b why next
+  unfolding openedQueue
+  either-next true why = refl
+  either-next false why = refl
+
+  pub any-next : {o : OpenedParts} → o ≡ openTables false (lending none .tables) n tasks slots tag
+      → nexts next o ≡ openTables false (lending next .tables) n tasks slots tag
+  unfolding openTables openAs openRefusal rowsFit
+  any-next e =
+      let why = openRefusal false (lending next) tasks slots in
+      ap (nexts next) e ∙ either-next (eqb why 0) why
+
 -- An opening that is refused clears no records.
-clear-uppers : (q : Tables) (n tasks slots tag : ℕ) (us : List ℕ)
-    → zeroed (openTables q n tasks slots tag .clear) 0 us ≡ uppersAt tasks us (openTables q n tasks slots tag .outcome)
-unfolding openTables openQueue
-clear-uppers q n tasks slots tag us =
-    split (eqb (openRefusal (counting q n) tasks slots) 0) (λ a. rw a) (λ a. rw a)
+clear-uppers : (pooled : Bool) (q : Tables) (n tasks slots tag : ℕ) (us : List ℕ)
+    → zeroed (openTables pooled q n tasks slots tag .clear) 0 us ≡ uppersAt tasks us (openTables pooled q n tasks slots tag .outcome)
+unfolding openTables openAs
+clear-uppers pooled q n tasks slots tag us =
+    split (eqb (openRefusal pooled (counting q n) tasks slots) 0) (λ a. rw a) (λ a. rw a)
 
 -- No more records are looked at than are lent, and 16 at the most.
 pub counted : (rows : List (List ℕ)) (c : Control) (n k : ℕ) → n ≡ length rows → k ≡ countable c n → (k ≤ length rows) × (k ≤ 16)
 counted rows c n k en ek = let h = countable-fits c n in (omega (arith, h .0), omega (arith, h .1))
 
-module _ (ws : List ℕ) (rows : List (List ℕ)) (lefts rights labels marks : List ℕ) where
+module _ (ws : List ℕ) (rows : List (List ℕ)) (lefts rights labels marks next : List ℕ) where
   abbrev entry : Tables
-  entry = tablesOf (controlOf ws) lefts rights labels marks
+  entry = tablesOf (controlOf ws) lefts rights labels marks next
 
   abbrev pub queue : Queue
-  queue = queueIn ws rows lefts rights labels marks
+  queue = queueIn ws rows lefts rights labels marks next
 
   -- Whether tables of these lengths are long enough for a control.
   abbrev fit : Control → Bool
-  fit c = lengthsFit (c .slots) (length lefts) (length rights) (length labels) (length marks)
+  fit c = lengthsFit (isPooled c) (c .slots) (length lefts) (length rights) (length labels) (length marks) (length next)
 
   module _ (task : ℕ) where
     abbrev r₀ : Record
@@ -80,23 +114,23 @@ module _ (ws : List ℕ) (rows : List (List ℕ)) (lefts rights labels marks : L
     module _ (o : Op) (starts : (p : Lent) (r : Record) → Starts r (actOn entry p r o)) (rows′ : List (List ℕ)) (labels′ marks′ : List ℕ) where
       abbrev leaving : Moved → Control → Replied
       leaving m c = record {
-        queue = queueOf c (set (recordsOf rows) task (m .task)) lefts rights labels′ marks′;
+        queue = queueOf c (set (recordsOf rows) task (m .task)) lefts rights labels′ marks′ next;
         uppers = cond (isMoved (m .outcome)) (set (uppersOf rows) task 0) (uppersOf rows);
         reply = replyOf (m .outcome);
       }
 
       pub started : (c : Control) (n : ℕ) (r : Record) (m : Moved) (u : Reply) → c ≡ controlOf ws → n ≡ length rows → r ≡ r₀
-          → withTables m lefts rights labels′ marks′ ≡ actOn (tablesOf c lefts rights labels marks) (lent ws rows lefts rights labels marks task c n) r o
+          → withTables m lefts rights labels′ marks′ next ≡ actOn (tablesOf c lefts rights labels marks next) (lent ws rows lefts rights labels marks next task c n) r o
           → recordsOf rows′ ≡ cond (isMoved (m .outcome)) (set (recordsOf rows) task (m .task)) (recordsOf rows)
           → uppersOf rows′ ≡ cond (isMoved (m .outcome)) (set (uppersOf rows) task 0) (uppersOf rows) → u ≡ replyOf (m .outcome)
-          → _≡_ {A = Replied} (record { queue = queueIn ws rows′ lefts rights labels′ marks′; uppers = uppersOf rows′; reply = u })
+          → _≡_ {A = Replied} (record { queue = queueIn ws rows′ lefts rights labels′ marks′ next; uppers = uppersOf rows′; reply = u })
           (replied isMoved task (uppersOf rows) (act queue task o))
       unfolding act
       started c n r m u ec en er e e2 e3 eu =
-          let left : withTables m lefts rights labels′ marks′ ≡ actOn entry (among queue task) r₀ o =
+          let left : withTables m lefts rights labels′ marks′ next ≡ actOn entry (among queue task) r₀ o =
           e
-          ∙ ap (λ (p : Lent). actOn (tablesOf c lefts rights labels marks) p r o) (lent-among ws rows lefts rights labels marks task c n ec en)
-          ∙ ap (λ (d : Control). actOn (tablesOf d lefts rights labels marks) (among queue task) r o) ec
+          ∙ ap (λ (p : Lent). actOn (tablesOf c lefts rights labels marks next) p r o) (lent-among ws rows lefts rights labels marks next task c n ec en)
+          ∙ ap (λ (d : Control). actOn (tablesOf d lefts rights labels marks next) (among queue task) r o) ec
           ∙ ap (λ (t : Record). actOn entry (among queue task) t o) er in
           let s = subst (Starts r₀) (sym left) (starts (among queue task) r₀) in
           let put : recordsOf rows′ ≡ set (recordsOf rows) task (m .task) =
@@ -110,40 +144,44 @@ module _ (ws : List ℕ) (rows : List (List ℕ)) (lefts rights labels marks : L
     unfolding actOn pushStart
     push-starts side slot label p r = kept (eqb (pushRefusal entry p r side slot) 0) r _ _ (refl, λ h. absurd (not-both refl h)) (refl, λ _. refl)
 
+    pub put-starts : (side label : ℕ) (p : Lent) (r : Record) → Starts r (actOn entry p r (Put side label))
+    unfolding actOn putStart
+    put-starts side label p r = kept (eqb (putRefusal entry p r side) 0) r _ _ (refl, λ h. absurd (not-both refl h)) (refl, λ _. refl)
+
     pub pop-starts : (side : ℕ) (p : Lent) (r : Record) → Starts r (actOn entry p r (Pop side))
     unfolding actOn popStart
     pop-starts side p r = kept (eqb (popRefusal entry p r side) 0) r _ _ (refl, λ h. absurd (not-both refl h)) (refl, λ _. refl)
 
   -- ---- the opening
-  module _ (tasks slots tag : ℕ) (ws′ : List ℕ) (rows′ : List (List ℕ)) (lefts′ rights′ labels′ marks′ : List ℕ)
+  module _ (pooled : Bool) (tasks slots tag : ℕ) (ws′ : List ℕ) (rows′ : List (List ℕ)) (lefts′ rights′ labels′ marks′ next′ : List ℕ)
       (c : Control) (n : ℕ) (m : OpenedTables) where
     abbrev parts : OpenedParts
-    parts = record { tables = tablesOf (m .control) lefts′ rights′ labels′ marks′; clear = m .clear; outcome = m .outcome }
+    parts = record { tables = tablesOf (m .control) lefts′ rights′ labels′ marks′ next′; clear = m .clear; outcome = m .outcome }
 
-    pub clears : n ≡ length rows → parts ≡ openTables (tablesOf c lefts rights labels marks) n tasks slots tag → m .clear ≤ length rows
+    pub clears : n ≡ length rows → parts ≡ openTables pooled (tablesOf c lefts rights labels marks next) n tasks slots tag → m .clear ≤ length rows
     clears en e =
         subst (λ (k : ℕ). m .clear ≤ k) en
-        (subst (λ (o : OpenedParts). o .clear ≤ n) (sym e) (clear-fits (tablesOf c lefts rights labels marks) n tasks slots tag))
+        (subst (λ (o : OpenedParts). o .clear ≤ n) (sym e) (clear-fits pooled (tablesOf c lefts rights labels marks next) n tasks slots tag))
 
-    pub opened : (code : ℕ) → c ≡ controlOf ws → n ≡ length rows → parts ≡ openTables (tablesOf c lefts rights labels marks) n tasks slots tag
+    pub opened : (code : ℕ) → c ≡ controlOf ws → n ≡ length rows → parts ≡ openTables pooled (tablesOf c lefts rights labels marks next) n tasks slots tag
         → controlOf ws′ ≡ m .control → recordsOf rows′ ≡ zeroed (m .clear) idle (recordsOf rows)
         → uppersOf rows′ ≡ zeroed (m .clear) 0 (uppersOf rows) → code ≡ openingCode (m .outcome)
-        → _≡_ {A = Coded} (record { queue = queueIn ws′ rows′ lefts′ rights′ labels′ marks′; uppers = uppersOf rows′; code = code })
-        (coded tasks (uppersOf rows) (openQueue queue tasks slots tag))
+        → _≡_ {A = Coded} (record { queue = queueIn ws′ rows′ lefts′ rights′ labels′ marks′ next′; uppers = uppersOf rows′; code = code })
+        (coded tasks (uppersOf rows) (openAs pooled queue tasks slots tag))
     opened code ec en e e1 e2 e3 eo =
-        let e′ : parts ≡ openTables entry (length (recordsOf rows)) tasks slots tag =
+        let e′ : parts ≡ openTables pooled entry (length (recordsOf rows)) tasks slots tag =
         e
-        ∙ ap (λ (d : Control). openTables (tablesOf d lefts rights labels marks) n tasks slots tag) ec
-        ∙ ap (λ (k : ℕ). openTables entry k tasks slots tag) (en ∙ sym (length-records rows)) in
+        ∙ ap (λ (d : Control). openTables pooled (tablesOf d lefts rights labels marks next) n tasks slots tag) ec
+        ∙ ap (λ (k : ℕ). openTables pooled entry k tasks slots tag) (en ∙ sym (length-records rows)) in
         let zeroes : zeroed (m .clear) 0 (uppersOf rows) ≡ uppersAt tasks (uppersOf rows) (m .outcome) =
         subst (λ (o : OpenedParts). zeroed (o .clear) 0 (uppersOf rows) ≡ uppersAt tasks (uppersOf rows) (o .outcome)) (sym e)
-        (clear-uppers (tablesOf c lefts rights labels marks) n tasks slots tag (uppersOf rows)) in
+        (clear-uppers pooled (tablesOf c lefts rights labels marks next) n tasks slots tag (uppersOf rows)) in
         rw (eo, e1, e2, e3, zeroes)
         (ap (λ (o : OpenedParts). coded tasks (uppersOf rows) (whole (recordsOf rows) o)) e′
-        ∙ ap (coded tasks (uppersOf rows)) (sym (open-parts queue tasks slots tag)))
+        ∙ ap (coded tasks (uppersOf rows)) (sym (open-parts pooled queue tasks slots tag)))
 
   -- ---- the report
   pub reported : (c : Control) (n k b : ℕ) (r : Reported) → c ≡ controlOf ws → n ≡ length rows
       → k ≡ countable c n → b ≡ busyIn k (recordsOf rows)
-      → r ≡ tell (tablesOf c lefts rights labels marks) (leb (c .tasks) n) b → r ≡ report queue
+      → r ≡ tell (tablesOf c lefts rights labels marks next) (leb (c .tasks) n) b → r ≡ report queue
   reported c n k b r ec en ek eb e = e ∙ rw (eb, ek, en, ec, ← length-records rows) (sym (report-parts queue))

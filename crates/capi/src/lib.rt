@@ -1,9 +1,9 @@
 //! The label queue for C and Rust. Control and records are lent as rows of words, which in memory are the
 //! structs of the header. The step of one lent record stands in crate `capi_record`.
-use calls::opening;
+mod openings;
+
 use calls::report;
 use calls::start;
-use model::Opening;
 use model::Reply;
 use model::Report;
 use model::Reported;
@@ -12,13 +12,13 @@ ghost use mathlib.Core.Bool.{not};
 ghost use Prim.Native.Nat.{_≤_};
 ghost use lib.Dec.{eqb};
 ghost use lib.ListN.{length, getD};
-ghost use Rattle.model.specs.declared.Op.the-variants.{Push, Pop, Step};
+ghost use Rattle.model.specs.declared.Op.the-variants.{Push, Pop, Put, Step};
 ghost use Rattle.model.specs.Tables.{idle};
-ghost use Rattle.model.specs.Calls.{openQueue, act};
+ghost use Rattle.model.specs.Calls.{act};
 ghost use Rattle.model.specs.Report.{count, report};
 ghost use Rattle.model.specs.Ends.{endsCall, isMoved};
 ghost use Rattle.rows.specs.Rows.{queueIn, recordsOf, uppersOf};
-ghost use Rattle.capi.specs.Replies.{openingCode, reportReplyOf, Coded, coded, Replied, replied};
+ghost use Rattle.capi.specs.Replies.{reportReplyOf, Replied, replied};
 
 /// A report in numbers.
 #[repr(C)]
@@ -33,15 +33,6 @@ pub struct ReportReply {
     pub waiting: u64,
     pub taken: u64,
     pub retries: u64,
-}
-
-fn opening_code(o: Opening) -> u32
-    ensures { λ r. ⌜ r ≡ openingCode o ⌝ }
-{
-    match o {
-        Opening::Refused(number) => number,
-        Opening::Opened => 0,
-    }
 }
 
 fn report_reply(r: Reported) -> ReportReply
@@ -73,42 +64,6 @@ fn report_reply(r: Reported) -> ReportReply
     }
 }
 
-/// Opens a queue: 0, or the number of a refusal.
-#[no_mangle]
-pub extern "C" fn zc_open(
-    control: &mut [u64; rows::CONTROL_WORDS],
-    records: &mut [[u64; rows::RECORD_WORDS]],
-    tasks: u64,
-    slots: u64,
-    tag: u32,
-    lefts: &mut [u64],
-    rights: &mut [u64],
-    labels: &mut [u32],
-    marks: &mut [u64],
-) -> u32
-    ensures { λ r.
-        ⌜ _≡_ {A = Coded}
-        (record {
-          queue = queueIn (now (control .exit)) (now (records .exit)) (now (lefts .exit)) (now (rights .exit)) (now (labels .exit)) (now (marks .exit));
-          uppers = uppersOf (now (records .exit));
-          code = r;
-        })
-        (coded tasks (uppersOf (now (records .entry)))
-        (openQueue (queueIn (now (control .entry)) (now (records .entry)) (now (lefts .entry)) (now (rights .entry)) (now (labels .entry)) (now (marks .entry)))
-        tasks slots tag)) ⌝ }
-{
-    let n = records.len();
-    let row = *control;
-    let c = rows::control_of(row);
-    let m = opening::open_tables(c, n, tasks, slots, tag, lefts, rights, labels, marks);
-    let d = m.control;
-    let after = rows::control_row(d);
-    *control = after;
-    rows::clear(records, m.clear);
-    let o = m.outcome;
-    opening_code(o)
-}
-
 /// Starts a push of a label in a slot, for a task.
 #[no_mangle]
 pub extern "C" fn zc_push(
@@ -122,16 +77,17 @@ pub extern "C" fn zc_push(
     rights: &[u64],
     labels: &mut [u32],
     marks: &mut [u64],
+    next: &[u64],
 ) -> Reply
     ensures { λ r.
         ⌜ _≡_ {A = Replied}
         (record {
-          queue = queueIn (now (control .entry)) (now (records .exit)) (now (lefts .entry)) (now (rights .entry)) (now (labels .exit)) (now (marks .exit));
+          queue = queueIn (now (control .entry)) (now (records .exit)) (now (lefts .entry)) (now (rights .entry)) (now (labels .exit)) (now (marks .exit)) (now (next .entry));
           uppers = uppersOf (now (records .exit));
           reply = r;
         })
         (replied isMoved task (uppersOf (now (records .entry)))
-        (act (queueIn (now (control .entry)) (now (records .entry)) (now (lefts .entry)) (now (rights .entry)) (now (labels .entry)) (now (marks .entry)))
+        (act (queueIn (now (control .entry)) (now (records .entry)) (now (lefts .entry)) (now (rights .entry)) (now (labels .entry)) (now (marks .entry)) (now (next .entry)))
         task (Push side slot label))) ⌝ }
 {
     let row = *control;
@@ -150,6 +106,54 @@ pub extern "C" fn zc_push(
         rights,
         labels,
         marks,
+        next,
+    );
+    rows::store_start(records, task, m);
+    let o = m.outcome;
+    operation::reply(o)
+}
+
+/// Starts a push that names no slot: it draws one from the stack.
+#[no_mangle]
+pub extern "C" fn zc_push_pooled(
+    control: &[u64; rows::CONTROL_WORDS],
+    records: &mut [[u64; rows::RECORD_WORDS]],
+    task: usize,
+    side: u64,
+    label: u32,
+    lefts: &[u64],
+    rights: &[u64],
+    labels: &[u32],
+    marks: &[u64],
+    next: &[u64],
+) -> Reply
+    ensures { λ r.
+        ⌜ _≡_ {A = Replied}
+        (record {
+          queue = queueIn (now (control .entry)) (now (records .exit)) (now (lefts .entry)) (now (rights .entry)) (now (labels .entry)) (now (marks .entry)) (now (next .entry));
+          uppers = uppersOf (now (records .exit));
+          reply = r;
+        })
+        (replied isMoved task (uppersOf (now (records .entry)))
+        (act (queueIn (now (control .entry)) (now (records .entry)) (now (lefts .entry)) (now (rights .entry)) (now (labels .entry)) (now (marks .entry)) (now (next .entry)))
+        task (Put side label))) ⌝ }
+{
+    let row = *control;
+    let c = rows::control_of(row);
+    let n = records.len();
+    let r = rows::record_at(records, task);
+    let m = start::put_start(
+        c,
+        r,
+        n,
+        task,
+        side,
+        label,
+        lefts,
+        rights,
+        labels,
+        marks,
+        next,
     );
     rows::store_start(records, task, m);
     let o = m.outcome;
@@ -167,23 +171,24 @@ pub extern "C" fn zc_pop(
     rights: &[u64],
     labels: &[u32],
     marks: &[u64],
+    next: &[u64],
 ) -> Reply
     ensures { λ r.
         ⌜ _≡_ {A = Replied}
         (record {
-          queue = queueIn (now (control .entry)) (now (records .exit)) (now (lefts .entry)) (now (rights .entry)) (now (labels .entry)) (now (marks .entry));
+          queue = queueIn (now (control .entry)) (now (records .exit)) (now (lefts .entry)) (now (rights .entry)) (now (labels .entry)) (now (marks .entry)) (now (next .entry));
           uppers = uppersOf (now (records .exit));
           reply = r;
         })
         (replied isMoved task (uppersOf (now (records .entry)))
-        (act (queueIn (now (control .entry)) (now (records .entry)) (now (lefts .entry)) (now (rights .entry)) (now (labels .entry)) (now (marks .entry)))
+        (act (queueIn (now (control .entry)) (now (records .entry)) (now (lefts .entry)) (now (rights .entry)) (now (labels .entry)) (now (marks .entry)) (now (next .entry)))
         task (Pop side))) ⌝ }
 {
     let row = *control;
     let c = rows::control_of(row);
     let n = records.len();
     let r = rows::record_at(records, task);
-    let m = start::pop_start(c, r, n, task, side, lefts, rights, labels, marks);
+    let m = start::pop_start(c, r, n, task, side, lefts, rights, labels, marks, next);
     rows::store_start(records, task, m);
     let o = m.outcome;
     operation::reply(o)
@@ -197,21 +202,22 @@ pub extern "C" fn zc_step(
     task: usize,
     lefts: &mut [u64],
     rights: &mut [u64],
-    labels: &[u32],
+    labels: &mut [u32],
     marks: &mut [u64],
+    next: &mut [u64],
 ) -> Reply
     ensures { λ r.
         ⌜ _≡_ {A = Replied}
         (record {
-          queue = queueIn (now (control .exit)) (now (records .exit)) (now (lefts .exit)) (now (rights .exit)) (now (labels .entry)) (now (marks .exit));
+          queue = queueIn (now (control .exit)) (now (records .exit)) (now (lefts .exit)) (now (rights .exit)) (now (labels .exit)) (now (marks .exit)) (now (next .exit));
           uppers = uppersOf (now (records .exit));
           reply = r;
         })
         (replied endsCall task (uppersOf (now (records .entry)))
-        (act (queueIn (now (control .entry)) (now (records .entry)) (now (lefts .entry)) (now (rights .entry)) (now (labels .entry)) (now (marks .entry)))
+        (act (queueIn (now (control .entry)) (now (records .entry)) (now (lefts .entry)) (now (rights .entry)) (now (labels .entry)) (now (marks .entry)) (now (next .entry)))
         task Step)) ⌝ }
 {
-    let o = rows::step(control, records, task, lefts, rights, labels, marks);
+    let o = rows::step(control, records, task, lefts, rights, labels, marks, next);
     operation::reply(o)
 }
 
@@ -240,16 +246,17 @@ pub extern "C" fn zc_report(
     rights: &[u64],
     labels: &[u32],
     marks: &[u64],
+    next: &[u64],
 ) -> ReportReply
     ensures { λ r.
         ⌜ r ≡ reportReplyOf (report
-        (queueIn (now (control .entry)) (now (records .entry)) (now (lefts .entry)) (now (rights .entry)) (now (labels .entry)) (now (marks .entry)))) ⌝ }
+        (queueIn (now (control .entry)) (now (records .entry)) (now (lefts .entry)) (now (rights .entry)) (now (labels .entry)) (now (marks .entry)) (now (next .entry)))) ⌝ }
 {
     let row = *control;
     let c = rows::control_of(row);
     let n = records.len();
     let k = report::to_count(c, n);
     let b = busy(records, k);
-    let t = report::told(c, n, b, lefts, rights, labels, marks);
+    let t = report::told(c, n, b, lefts, rights, labels, marks, next);
     report_reply(t)
 }

@@ -17,19 +17,19 @@ use Rattle.engine.proofs.Stored.{stored}
 use Rattle.rows.specs.Rows.{controlOf, recordOf, upperOf}
 use Rattle.capi_record.specs.Replies.{RepliedAlone, repliedAlone}
 
-module _ (ws row ws′ row′ lefts rights labels marks lefts′ rights′ marks′ : List ℕ) where
+module _ (ws row ws′ row′ lefts rights labels marks next lefts′ rights′ labels′ marks′ next′ : List ℕ) where
   abbrev before : Control → Tables
-  before c = tablesOf c lefts rights labels marks
+  before c = tablesOf c lefts rights labels marks next
 
   pub stepped : (c : Control) (r : Record) (m : Moved) (n : Reply) → c ≡ controlOf ws → r ≡ recordOf row
-      → withTables m lefts′ rights′ labels marks′ ≡ stepLent (before c) r
+      → withTables m lefts′ rights′ labels′ marks′ next′ ≡ stepLent (before c) r
       → controlOf ws′ ≡ controlAfter (controlOf ws) m → recordOf row′ ≡ recordAfter (recordOf row) m
       → upperOf row′ ≡ cond (endsCall (m .outcome)) 0 (upperOf row) → n ≡ replyOf (m .outcome)
       → _≡_ {A = RepliedAlone}
-      (record { tables = tablesOf (controlOf ws′) lefts′ rights′ labels marks′; task = recordOf row′; upper = upperOf row′; reply = n })
+      (record { tables = tablesOf (controlOf ws′) lefts′ rights′ labels′ marks′ next′; task = recordOf row′; upper = upperOf row′; reply = n })
       (repliedAlone (upperOf row) (stepLent (before (controlOf ws)) (recordOf row)))
   unfolding stepLent
   stepped c r m n ec er e e1 e2 e3 en =
       let e′ = e ∙ ap (λ (d : Control). step (before d) alone r) ec ∙ ap (step (before (controlOf ws)) alone) er in
       rw (en, e1, e2, e3)
-      (ap (repliedAlone (upperOf row)) (stored (before (controlOf ws)) alone (recordOf row) m lefts′ rights′ labels marks′ e′))
+      (ap (repliedAlone (upperOf row)) (stored (before (controlOf ws)) alone (recordOf row) m lefts′ rights′ labels′ marks′ next′ e′))

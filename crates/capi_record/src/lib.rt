@@ -14,27 +14,28 @@ pub extern "C" fn zc_step_record(
     task: &mut [u64; rows::RECORD_WORDS],
     lefts: &mut [u64],
     rights: &mut [u64],
-    labels: &[u32],
+    labels: &mut [u32],
     marks: &mut [u64],
+    next: &mut [u64],
 ) -> Reply
     ensures { λ r.
         ⌜ _≡_ {A = RepliedAlone}
         (record {
-          tables = tablesOf (controlOf (now (control .exit))) (now (lefts .exit)) (now (rights .exit)) (now (labels .entry)) (now (marks .exit));
+          tables = tablesOf (controlOf (now (control .exit))) (now (lefts .exit)) (now (rights .exit)) (now (labels .exit)) (now (marks .exit)) (now (next .exit));
           task = recordOf (now (task .exit));
           upper = upperOf (now (task .exit));
           reply = r;
         })
         (repliedAlone (upperOf (now (task .entry)))
         (stepLent
-        (tablesOf (controlOf (now (control .entry))) (now (lefts .entry)) (now (rights .entry)) (now (labels .entry)) (now (marks .entry)))
+        (tablesOf (controlOf (now (control .entry))) (now (lefts .entry)) (now (rights .entry)) (now (labels .entry)) (now (marks .entry)) (now (next .entry)))
         (recordOf (now (task .entry))))) ⌝ }
 {
     let row = *task;
     let r = rows::record_of(row);
     let words = *control;
     let c = rows::control_of(words);
-    let m = engine::step_alone(c, r, lefts, rights, labels, marks);
+    let m = engine::step_alone(c, r, lefts, rights, labels, marks, next);
     rows::store(control, task, m);
     let o = m.outcome;
     operation::reply(o)

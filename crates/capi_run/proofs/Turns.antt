@@ -5,7 +5,7 @@ use mathlib.Core.List.{List}
 use Prim.Native.Nat.{ℕ, zero, suc, _+_, _-_, _<_, _≤_}
 use native.Mathlib.Omega.{arith}
 use lib.ListN.{set}
-use Rattle.model.specs.declared.Answer.the-variants.{Running, Pushed, Empty, Popped}
+use Rattle.model.specs.declared.Answer.the-variants.{Running, Pushed, Empty, Popped, NoSlot}
 use Rattle.model.specs.declared.Record.{Record}
 use Rattle.model.specs.declared.Outcome.{Outcome}
 use Rattle.model.specs.declared.Outcome.the-variants.{Refused, Moved}
@@ -87,3 +87,4 @@ goes-on (Moved (Running p)) h = refl
 goes-on (Moved Pushed) h = absurd (not-both h refl)
 goes-on (Moved Empty) h = absurd (not-both h refl)
 goes-on (Moved (Popped e)) h = absurd (not-both h refl)
+goes-on (Moved NoSlot) h = absurd (not-both h refl)

@@ -15,7 +15,7 @@ ghost use Rattle.capi_run.specs.Replies.{runReplyOf, Ran, ran};
 /// An outcome in numbers, and the steps made.
 #[repr(C)]
 pub struct RunReply {
-    /// 1 running, 2 pushed, 3 empty, 4 popped, or the number of a refusal.
+    /// 1 running, 2 pushed, 3 empty, 4 popped, 5 no slot, or the number of a refusal.
     pub code: u32,
     /// The label popped.
     pub label: u32,
@@ -60,24 +60,25 @@ pub extern "C" fn zc_run(
     most: u64,
     lefts: &mut [u64],
     rights: &mut [u64],
-    labels: &[u32],
+    labels: &mut [u32],
     marks: &mut [u64],
+    next: &mut [u64],
 ) -> RunReply
     ensures { λ r.
         ⌜ _≡_ {A = Ran}
         (record {
-          queue = queueIn (now (control .exit)) (now (records .exit)) (now (lefts .exit)) (now (rights .exit)) (now (labels .entry)) (now (marks .exit));
+          queue = queueIn (now (control .exit)) (now (records .exit)) (now (lefts .exit)) (now (rights .exit)) (now (labels .exit)) (now (marks .exit)) (now (next .exit));
           uppers = uppersOf (now (records .exit));
           reply = r;
         })
         (ran task (uppersOf (now (records .entry)))
         (soloRun most
-        (queueIn (now (control .entry)) (now (records .entry)) (now (lefts .entry)) (now (rights .entry)) (now (labels .entry)) (now (marks .entry)))
+        (queueIn (now (control .entry)) (now (records .entry)) (now (lefts .entry)) (now (rights .entry)) (now (labels .entry)) (now (marks .entry)) (now (next .entry)))
         task)) ⌝ }
 {
     let mut steps: u64 = 0;
     while steps < most {
-        let o = rows::step(control, records, task, lefts, rights, labels, marks);
+        let o = rows::step(control, records, task, lefts, rights, labels, marks, next);
         if !engine::runs(o) {
             return run_reply(o, made(steps, o));
         }

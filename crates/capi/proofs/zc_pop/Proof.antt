@@ -15,8 +15,8 @@ returns c =
     let read = begun .before in
     let told = read .before .before in
     let lists = told .before .before .before in
-    let a = lists .before .before .before .args in
-    started _ (a .records .now) _ _ _ _ _ _ (pop-starts _ (a .records .now) _ _ _ _ (a .task) _) _ _ _ _ (length (a .records .now)) _ _ _
+    let a = lists .before .before .before .before .args in
+    started _ (a .records .now) _ _ _ _ _ _ _ (pop-starts _ (a .records .now) _ _ _ _ _ (a .task) _) _ _ _ _ (length (a .records .now)) _ _ _
     (told .control-of .ensures) refl (read .record-at .ensures) (begun .pop-start .ensures)
     (put .store-start .ensures .0) (put .store-start .ensures .1) (c .reply .ensures)
 

@@ -9,7 +9,7 @@ use Rattle.capi.proofs.zc_report.Tie as tie
 -- The control's words, and those that the call was given.
 module _ (told : tie.After-control-of) where
   abbrev a : tie.Start
-  a = let lists = told .before .before .before in lists .before .before .before
+  a = let lists = told .before .before .before in lists .before .before .before .before
 
 returns : tie.Need-returns
 returns c =
@@ -17,7 +17,7 @@ returns c =
     let s = a told .args in
     c .report-reply .ensures
     ∙ ap reportReplyOf
-    (reported (s .control .now) (s .records .now) (s .lefts .now) (s .rights .now) (s .labels .now) (s .marks .now) _ _ _ _ _
+    (reported (s .control .now) (s .records .now) (s .lefts .now) (s .rights .now) (s .labels .now) (s .marks .now) (s .next .now) _ _ _ _ _
     (told .control-of .ensures) refl (c .before .before .before .to-count .ensures)
     (c .before .before .busy .ensures) (c .before .told .ensures))
 

@@ -7,11 +7,12 @@ use Rattle.capi.proofs.zc_step.Tie as tie
 
 returns : tie.Need-returns
 returns c =
-    let lists = c .before .before .before .before in
+    let marks = c .before .before .before .before in
+    let lists = marks .before .before .before .before in
     let did = lists .before .before .before .before in
     let lent = did .before .before .before .before in
-    let known = lent .before .before .before in
-    let first = known .before .before .before in
+    let known = lent .before .before .before .before in
+    let first = known .before .before .before .before .before in
     stepped _ _ _ (uppersOf (first .args .records .now)) _ _ _ (did .step .ensures .0) (did .step .ensures .1) (c .reply .ensures)
 
 pub zc-step-spec : {M : Type 1} → statement M
@@ -20,6 +21,8 @@ zc-step-spec =
     (tie.spec
     (λ c κs. search needs)
     (λ c κs. search needs)
+    (λ c. search needs)
+    (λ c. search needs)
     (λ c. search needs)
     (λ c. search needs)
     (λ c. search needs)

@@ -6,12 +6,14 @@ use Rattle.capi_record.proofs.zc_step_record.Tie as tie
 
 returns : tie.Need-returns
 returns c =
-    let lists = c .before .before .before .before in
-    let lent = lists .before .before .before in
-    let moved = lent .before .before .before in
-    let read = moved .before .before .before .before in
+    let marks = c .before .before .before .before in
+    let labels = marks .before .before .before .before in
+    let lists = labels .before .before .before .before in
+    let moved = lists .before .before in
+    let lent = moved .before .before .before in
+    let read = lent .before .before .before in
     let put = c .before .store .ensures in
-    stepped _ _ _ _ _ _ _ _ _ _ _ _ _ _ _
+    stepped _ _ _ _ _ _ _ _ _ _ _ _ _ _ _ _ _ _
     (read .control-of .ensures) (read .before .before .record-of .ensures) (moved .step-alone .ensures)
     (put .0) (put .1 .0) (put .1 .1) (c .reply .ensures)
 
@@ -24,6 +26,8 @@ zc-step-record-spec =
     (λ c κs. search needs)
     (λ c κs. search needs)
     (λ c κs. search needs)
+    (λ c. search needs)
+    (λ c. search needs)
     (λ c. search needs)
     (λ c. search needs)
     (λ c. search needs)

@@ -13,23 +13,26 @@ use Rattle.capi_run.proofs.zc_run.Statement.{statement}
 use Rattle.capi_run.proofs.zc_run.Tie as tie
 
 abbrev Inv-loop : tie.InvT-loop
-Inv-loop control₀ records₀ task most lefts₀ rights₀ labels marks₀ steps₀ control records lefts rights marks steps =
+Inv-loop control₀ records₀ task most lefts₀ rights₀ labels₀ marks₀ next₀ steps₀ control records lefts rights labels marks next steps =
     (steps ≤ most) × (uppersOf records ≡ uppersOf records₀)
-    × (left task most steps (queueIn control records lefts rights labels marks)
-    ≡ soloRun most (queueIn control₀ records₀ lefts₀ rights₀ labels marks₀) task)
+    × (left task most steps (queueIn control records lefts rights labels marks next)
+    ≡ soloRun most (queueIn control₀ records₀ lefts₀ rights₀ labels₀ marks₀ next₀) task)
     × (length records ≡ length records₀) × (length lefts ≡ length lefts₀) × (length rights ≡ length rights₀)
-    × (length marks ≡ length marks₀)
+    × (length labels ≡ length labels₀) × (length marks ≡ length marks₀) × (length next ≡ length next₀)
 
 abbrev μ-loop : tie.MeasureT-loop
-μ-loop control₀ records₀ task most lefts₀ rights₀ labels marks₀ steps₀ control records lefts rights marks steps = most - steps
+μ-loop control₀ records₀ task most lefts₀ rights₀ labels₀ marks₀ next₀ steps₀ control records lefts rights labels marks next steps = most - steps
 
 -- The step that was tested, and the turn that made it.
 module _ (told : tie.After-runs Inv-loop μ-loop) where
   abbrev did : tie.After-step Inv-loop μ-loop
-  did = let lists = told .before .before .before .before in lists .before .before .before .before
+  did =
+      let marks = told .before .before .before .before in
+      let lists = marks .before .before .before .before in
+      lists .before .before .before .before
 
   abbrev test : tie.In-loop Inv-loop μ-loop
-  test = let lent = did .before .before .before in lent .before .before .before
+  test = let lent = did .before .before .before .before in lent .before .before .before .before
 
 returns : tie.Need-returns Inv-loop μ-loop
 returns c =
@@ -53,7 +56,9 @@ loop-again c =
       step .kept .1 .0 ∙ inv .3,
       lists .0 ∙ inv .4,
       lists .1 .0 ∙ inv .5,
-      lists .1 .1 .1 .0 ∙ inv .6,
+      lists .1 .1 .0 ∙ inv .6,
+      lists .1 .1 .1 .0 ∙ inv .7,
+      lists .1 .1 .1 .1 .0 ∙ inv .8,
     )
 
 returns-2 : tie.Need-returns-2 Inv-loop μ-loop
@@ -70,7 +75,7 @@ zc-run-spec =
     (tie.spec
     Inv-loop
     μ-loop
-    (λ c. (omega arith, refl, sym (left-all _ _ _), refl, refl, refl, refl))
+    (λ c. (omega arith, refl, sym (left-all _ _ _), refl, refl, refl, refl, refl, refl))
     (λ c κs. search needs)
     (λ c κs. search needs)
     (λ c κs. let less = test (c .before) .loop-test .taken in search needs)
@@ -78,7 +83,9 @@ zc-run-spec =
     (λ c. let told = c .before .before .before in did told .step .kept .1 .0 ∙ test told .before .loop .inv .3)
     (λ c. let told = c .before .before .before in did told .step .kept .1 .1 .1 .0 ∙ test told .before .loop .inv .4)
     (λ c. let told = c .before .before .before in did told .step .kept .1 .1 .1 .1 .0 ∙ test told .before .loop .inv .5)
-    (λ c. let told = c .before .before .before in did told .step .kept .1 .1 .1 .1 .1 .1 .0 ∙ test told .before .loop .inv .6)
+    (λ c. let told = c .before .before .before in did told .step .kept .1 .1 .1 .1 .1 .0 ∙ test told .before .loop .inv .6)
+    (λ c. let told = c .before .before .before in did told .step .kept .1 .1 .1 .1 .1 .1 .0 ∙ test told .before .loop .inv .7)
+    (λ c. let told = c .before .before .before in did told .step .kept .1 .1 .1 .1 .1 .1 .1 .0 ∙ test told .before .loop .inv .8)
     returns
     (λ c. let less = test (c .before) .loop-test .taken in search needs)
     (λ c. let less = test (c .before) .loop-test .taken in omega arith)
@@ -86,6 +93,8 @@ zc-run-spec =
     (λ c κs. search needs)
     (λ c κs. search needs)
     (λ c κs. search needs)
+    (λ c. search needs)
+    (λ c. search needs)
     (λ c. search needs)
     (λ c. search needs)
     (λ c. search needs)
