@@ -8,20 +8,20 @@ use native.Mathlib.Omega.{arith}
 use lib.Dec.{eqb}
 use borrow.Author.Tests.{eqb-true}
 use Rattle.model.specs.declared.Answer.{Answer}
-use Rattle.model.specs.declared.Answer.the-variants.{Running, Pushed, Empty, Popped}
+use Rattle.model.specs.declared.Answer.the-variants.{Running, Pushed, Empty, Popped, NoSlot}
 use Rattle.model.specs.declared.Entry.{Entry}
 use Rattle.model.specs.declared.Op.{Op}
-use Rattle.model.specs.declared.Op.the-variants.{Push, Pop, Step}
+use Rattle.model.specs.declared.Op.the-variants.{Push, Pop, Put, Step}
 use Rattle.model.specs.declared.Outcome.{Outcome}
 use Rattle.model.specs.declared.Outcome.the-variants.{Refused, Moved}
-use Rattle.model.specs.Calls.{Acted, Done, act, actOn, back, finish, popStart, pushStart, step}
+use Rattle.model.specs.Calls.{Acted, Done, act, actOn, back, finish, popStart, pushStart, putStart, step}
 use Rattle.model.specs.Places.{linkMet, move}
-use Rattle.model.specs.Refusals.{among, popRefusal, pushRefusal, stepRefusal}
+use Rattle.model.specs.Refusals.{among, popRefusal, pushRefusal, putRefusal, stepRefusal}
 use Rattle.model.specs.Tables.{Queue, recordAt}
 use Rattle.model.specs.History.{All, Call, Effect, Ending, Event, Ledger, Request, answered, pending}
 use Rattle.model.specs.History.{accept, attend, begins, continued, ended, isEffect, isOpen, ledgerFrom, note, over, run, stepOf}
 use Rattle.model.proofs.tests.Truth.{by-test}
-use Rattle.model.proofs.bridge.Accepted.{pop-accepted, push-accepted}
+use Rattle.model.proofs.bridge.Accepted.{pop-accepted, push-accepted, put-accepted}
 use Rattle.model.proofs.machine.Machine as M
 use Rattle.model.proofs.bridge.View.{stateOf}
 use Rattle.model.proofs.ledger.Kept.{act-good}
@@ -77,18 +77,21 @@ not-ended n m (Running p) h = tt
 not-ended n m Pushed h = λ z. omega arith
 not-ended n m Empty h = λ z. omega arith
 not-ended n m (Popped e) h = λ z. omega arith
+not-ended n m NoSlot h = λ z. omega arith
 
 ended-later : (n : ℕ) (a : Answer) → EndsBefore (suc n) (ended n a)
 ended-later n (Running p) = tt
 ended-later n Pushed = omega arith
 ended-later n Empty = omega arith
 ended-later n (Popped e) = omega arith
+ended-later n NoSlot = omega arith
 
 together-first : (n : ℕ) (a : Answer) (e : Ending) → EndsBefore n e → NotTogether (ended n a) e
 together-first n (Running p) e h = tt
 together-first n Pushed e h = not-now n e h
 together-first n Empty e h = not-now n e h
 together-first n (Popped x) e h = not-now n e h
+together-first n NoSlot e h = not-now n e h
 
 together-second : (n : ℕ) (a : Answer) (e : Ending) → EndsBefore n e → NotTogether e (ended n a)
 together-second n a pending h = tt
@@ -165,8 +168,8 @@ module _ (n : ℕ) (q : Queue) (l : Ledger) (g : Matched n q l) (h : Tidy n (l .
       let then = d .queue .tables .control .anchor in
       Tidy (suc n) (note n (record { task = t; op = o; outcome = d .outcome; before = here; after = then }) (d .outcome) l .calls)
 
-  abbrev Put : Op → Acted → Type 0
-  Put o a = After o (back q t a)
+  abbrev Back : Op → Acted → Type 0
+  Back o a = After o (back q t a)
 
   one-open : opens t (l .calls) ≤ 1
   one-open = go (M.isIdle (stateOf q .task t .place)) (g .busy t)
@@ -179,12 +182,14 @@ module _ (n : ℕ) (q : Queue) (l : Ledger) (g : Matched n q l) (h : Tidy n (l .
   unchanged = record { past = all-map (past-later n) (l .calls) (h .past); apart = h .apart }
 
   pub act-tidy : (o : Op) → After o (act q t o)
-  unfolding act actOn pushStart popStart step finish note accept
-  act-tidy (Push side x y) = by-test (Put (Push side x y)) (eqb (pushRefusal (q .tables) (among q t) (recordAt q t) side x) 0)
+  unfolding act actOn pushStart putStart popStart step finish note accept
+  act-tidy (Push side x y) = by-test (Back (Push side x y)) (eqb (pushRefusal (q .tables) (among q t) (recordAt q t) side x) 0)
       (λ e. begin-tidy n t 0 side _ (l .calls) (omega arith) (push-accepted q t side x (eqb-true _ _ e) .starting .side) h) (λ e. unchanged)
-  act-tidy (Pop side) = by-test (Put (Pop side)) (eqb (popRefusal (q .tables) (among q t) (recordAt q t) side) 0)
+  act-tidy (Pop side) = by-test (Back (Pop side)) (eqb (popRefusal (q .tables) (among q t) (recordAt q t) side) 0)
       (λ e. begin-tidy n t 1 side _ (l .calls) (omega arith) (pop-accepted q t side (eqb-true _ _ e) .side) h) (λ e. unchanged)
-  act-tidy Step = by-test (Put Step) (eqb (stepRefusal (q .tables) (among q t) (recordAt q t)) 0)
+  act-tidy (Put side y) = by-test (Back (Put side y)) (eqb (putRefusal (q .tables) (among q t) (recordAt q t) side) 0)
+      (λ e. begin-tidy n t 0 side _ (l .calls) (omega arith) (put-accepted q t side (eqb-true _ _ e) .0 .side) h) (λ e. unchanged)
+  act-tidy Step = by-test (Back Step) (eqb (stepRefusal (q .tables) (among q t) (recordAt q t)) 0)
       (λ e. attend-tidy n _ _ (l .deque) (l .calls) one-open h) (λ e. unchanged)
 
 pub run-tidy : (os : List Request) (n : ℕ) (q : Queue) (l : Ledger) → Matched n q l → Tidy n (l .calls)

@@ -1,22 +1,20 @@
 -- A list of demand 3 with at most 64 calls, all answered, passes when it is written with its places as events and its effects as the order.
-use mathlib.Core.Bool.{true}
+use mathlib.Core.Bool.{Bool, true}
 use mathlib.Core.List.{List, [], _∷_, map, map-map}
 use mathlib.Core.Path.{_≡_, refl, sym, ap, _∙_, subst}
 use Prim.Native.Nat.{ℕ, suc, _<_, _≤_}
 use native.Mathlib.Omega.{arith}
-use lib.Dec.{eqb}
 use lib.ListN.{length, length-map}
 use borrow.Author.Tests.{eq-eqb, le-leb, ne-eqb}
 use Rattle.model.specs.declared.Entry.{Entry}
-use Rattle.model.specs.declared.Opening.the-variants.{Opened, Refused}
-use Rattle.model.specs.Calls.{openQueue, opened}
-use Rattle.model.specs.Deque.{serve}
-use Rattle.model.specs.History.{All, Call, Lawful, Linearized, Request, ledger, run}
+use Rattle.model.specs.Calls.{opened}
+use Rattle.model.specs.History.{All, Call, Lawful, Request, ledger, run}
 use Rattle.model.specs.Refusals.{openRefusal}
 use Rattle.model.specs.Sound.{from1}
 use Rattle.model.specs.Tables.{Queue}
-use Rattle.model.proofs.Linearizable.{linearizable}
-use Rattle.model.proofs.tests.Truth.{and-of, split}
+use Rattle.model.proofs.Linearizable.{linearized}
+use Rattle.model.proofs.Openings.{after-opening}
+use Rattle.model.proofs.tests.Truth.{and-of}
 use Rattle.model.proofs.ledger.Opened as start
 use Rattle.audit_model.specs.declared.Finished.{Finished}
 use Rattle.audit_model.specs.declared.Verdict.the-variants.{Passed}
@@ -24,7 +22,7 @@ use Rattle.audit_model.specs.Audit.{accepted, allOf, apart, differ, notE
 use Rattle.audit_model.specs.Written.{HistoriesPass, IsAnswered, Passes, Taken, effectOrder, effectsOf, finished, written}
 use Rattle.audit_model.proofs.Lists.{Pairs, all-append, all-both, all-map, all-mapped, all-of, pairs-mapped, pairs-of, pairs-snoc}
 use Rattle.audit_model.proofs.Order.{NotAfter}
-use Rattle.audit_model.proofs.Replayed.{Replays, replayed}
+use Rattle.audit_model.proofs.Replayed.{Replays, replayed, servedIn}
 use Rattle.audit_model.proofs.Events.{Apart, Past, Tidy, run-tidy}
 use Rattle.audit_model.proofs.Settled.{Suits, apart-written, formed, settled}
 use Rattle.audit_model.proofs.SlotsDropped.{label-gives, labelsOf}
@@ -107,30 +105,29 @@ module _ (fs : List Finished) where
   unfolding replay
   passes p [] d d′ s o r = refl
   passes p (t ∷ l) d d′ s o r =
-      let g = label-gives (at t) t d (s .0) (r .0) in
+      let g = label-gives (at t) (r .0) t d (s .0) (r .1 .0) in
       rw (and-of (g .agrees) (none-earlier t l (s .0) (s .1) (o .0)))
-      (ap (replay (suc p) (map at l)) (g .queue) ∙ passes (suc p) l (serve (t .kind) (t .side) (t .entry) d .deque) d′ (s .1) (o .1) (r .1))
+      (ap (replay (suc p) (map at l)) (g .queue) ∙ passes (suc p) l (servedIn (r .0) t d .deque) d′ (s .1) (o .1) (r .1 .1))
 
-module _ (q : Queue) (tasks slots tag : ℕ) where
-  all-settled : (cs : List Call) → All Done cs → All Law cs → All IsSettled cs
-  all-settled [] d l = tt
-  all-settled (c ∷ cs) d l = (settled c (c .ending) (d .0) (l .0), all-settled cs (d .1) (l .1))
+all-settled : (cs : List Call) → All Done cs → All Law cs → All IsSettled cs
+all-settled [] d l = tt
+all-settled (c ∷ cs) d l = (settled c (c .ending) (d .0) (l .0), all-settled cs (d .1) (l .1))
 
-  opened-passes : (os : List Request) → Linearized (opened q tasks slots tag) os → Passes (opened q tasks slots tag) os
-  unfolding verdict
-  opened-passes os lin done small =
-      let o = opened q tasks slots tag in
-      let l = ledger (run o os) in
-      let cs = l .calls in
-      let tidy = run-tidy os 1 o start.nobody (start.open-good q tasks slots tag) (record { past = tt; apart = tt }) in
-      let rep = replayed (run o os) 1 start.nobody (record { before = tt; replays = refl }) in
-      let ord = ordered cs (all-settled cs done (lin .calls)) in
-      rw (is-accepted (tidy .0) cs small done (tidy .1) (lin .calls), finished-length cs, is-rearranged (finished cs) (length cs) (effectsOf cs) ord)
-      (ap (λ (x : List Finished). replay 1 x []) (map-map (numbered (finished cs)) (λ (t : Taken). t .number) (effectsOf cs))
-      ∙ passes (finished cs) 1 (effectsOf cs) [] (l .deque) (ord .suits) (ord .sorted) (rep .1 .replays))
+opened-passes : (pooled : Bool) (q : Queue) (tasks slots tag : ℕ) → openRefusal pooled q tasks slots ≡ 0
+    → (os : List Request) → Passes (opened pooled q tasks slots tag) os
+unfolding verdict
+opened-passes pooled q tasks slots tag e os done small =
+    let o = opened pooled q tasks slots tag in
+    let l = ledger (run o os) in
+    let cs = l .calls in
+    let lin = linearized pooled q tasks slots tag e os in
+    let begun = start.open-good pooled q tasks slots tag (start.some-slots pooled q tasks slots e) in
+    let tidy = run-tidy os 1 o start.nobody begun (record { past = tt; apart = tt }) in
+    let rep = replayed (run o os) 1 start.nobody (record { before = tt; replays = refl }) in
+    let ord = ordered cs (all-settled cs done (lin .calls)) in
+    rw (is-accepted (tidy .0) cs small done (tidy .1) (lin .calls), finished-length cs, is-rearranged (finished cs) (length cs) (effectsOf cs) ord)
+    (ap (λ (x : List Finished). replay 1 x []) (map-map (numbered (finished cs)) (λ (t : Taken). t .number) (effectsOf cs))
+    ∙ passes (finished cs) 1 (effectsOf cs) [] (l .deque) (ord .suits) (ord .sorted) (rep .1 .replays))
 
 pub histories-pass : HistoriesPass
-unfolding openQueue
-histories-pass q tasks slots tag e os = split (eqb (openRefusal q tasks slots) 0)
-    (λ z. let lin = linearizable q tasks slots tag e os in rw z (opened-passes q tasks slots tag os (rw z at lin)))
-    (λ z. absurd (let h : Refused (openRefusal q tasks slots) ≡ Opened = rw z at e in let w : _≡_ {A = ℕ} 0 1 = cc in omega arith))
+histories-pass pooled = after-opening pooled Passes (opened-passes pooled)

@@ -1,5 +1,5 @@
 -- For every list of events: its effects, in the order of their places, are what the sequential deque served, with its replies.
-use mathlib.Core.Bool.{_&&_}
+use mathlib.Core.Bool.{false, _&&_}
 use mathlib.Core.List.{List, [], _∷_, _++_, append-assoc}
 use mathlib.Core.Path.{_≡_, refl, sym, ap, _∙_, subst}
 use Prim.Native.Nat.{ℕ, suc, _<_, _≤_}
@@ -9,25 +9,45 @@ use lib.ListN.{length}
 use Rattle.model.specs.declared.Answer.{Answer}
 use Rattle.model.specs.declared.Entry.{Entry}
 use Rattle.model.specs.declared.Op.{Op}
-use Rattle.model.specs.declared.Op.the-variants.{Push, Pop, Step}
+use Rattle.model.specs.declared.Op.the-variants.{Push, Pop, Put, Step}
 use Rattle.model.specs.declared.Outcome.{Outcome}
 use Rattle.model.specs.declared.Outcome.the-variants.{Refused, Moved}
-use Rattle.model.specs.Deque.{serve}
+use Rattle.model.specs.Deque.{Served, saysNoSlot, serve, serveFor, servePop, servePush, takeFirst, seenFrom}
 use Rattle.model.specs.History.{All, Call, Effect, Ending, Event, Ledger}
-use Rattle.model.specs.History.{accept, attend, begins, continued, ended, isEffect, isOpen, ledgerFrom, note, over, stepOf}
+use Rattle.model.specs.History.{accept, attend, begins, continued, ended, isEffect, isOpen, ledgerFrom, note, over, stepOf, toldEntry}
 use Rattle.model.proofs.tests.Truth.{by-test}
 use Rattle.audit_model.specs.Written.{Taken, insert, insertAll, taken, effectsOf}
 use Rattle.audit_model.proofs.Lists.{all-append, all-map}
 use Rattle.audit_model.proofs.Order.{insert-all, insert-before, insert-last}
 
+-- An effect served from deque d: the call gets its reply, a push with its label in some slot.
+abbrev pub servedIn : ℕ → Taken → List Entry → Served
+servedIn slot t d = serveFor (t .reply) (t .kind) (t .side) (record { slot = slot; label = t .entry .label }) d
+
 -- Served one after another from deque d, these effects have these replies and leave deque d′.
 abbrev pub Replays : List Taken → List Entry → List Entry → Type 0
 Replays [] d d′ = d ≡ d′
-Replays (t ∷ l) d d′ = let s = serve (t .kind) (t .side) (t .entry) d in (s .reply ≡ t .reply) × Replays l (s .deque) d′
+Replays (t ∷ l) d d′ = (slot : ℕ) × ((servedIn slot t d .reply ≡ t .reply) × Replays l (servedIn slot t d .deque) d′)
 
 pub replays-append : (l m : List Taken) (a b c : List Entry) → Replays l a b → Replays m b c → Replays (l ++ m) a c
 replays-append [] m a b c h k = subst (λ (x : List Entry). Replays m x c) (sym h) k
-replays-append (t ∷ l) m a b c h k = (h .0, replays-append l m _ b c (h .1) k)
+replays-append (t ∷ l) m a b c h k = (h .0, (h .1 .0, replays-append l m _ b c (h .1 .1) k))
+
+-- The sequential deque's own replies are not *no slot*; so its reply tells whether it served the call.
+never-no-slot : (kind side : ℕ) (e : Entry) (d : List Entry) → saysNoSlot (serve kind side e d .reply) ≡ false
+unfolding serve servePush servePop
+never-no-slot kind side e d = by-test (λ (s : Served). saysNoSlot (s .reply) ≡ false) (eqb kind 0) (λ _. refl) (λ _. go (seenFrom side d))
+  where
+    go : (l : List Entry) → saysNoSlot (takeFirst side l .reply) ≡ false
+    go [] = refl
+    go (x ∷ l) = refl
+
+reply-tells : (a : Answer) (kind side : ℕ) (e : Entry) (d : List Entry)
+    → let s = serveFor a kind side e d in serveFor (s .reply) kind side e d ≡ s
+unfolding serveFor
+reply-tells a kind side e d = by-test (λ (s : Served). serveFor (s .reply) kind side e d ≡ s) (saysNoSlot a)
+    (λ _. refl)
+    (λ _. rw (never-no-slot kind side e d))
 
 -- Effects before position n.
 abbrev pub EffectsBefore : ℕ → Call → Type 0
@@ -80,12 +100,13 @@ module _ (n : ℕ) (ev : Event) (a : Answer) (d : List Entry) where
 
   -- It takes effect behind them.
   takes : (c : Call) (cs : List Call) (l : Ledger) → EffectsBefore n c → All (EffectsBefore n) cs → Adds cs l
-      → let s = serve (c .kind) (c .side) (c .entry) (l .deque) in
+      → let s = serveFor a (c .kind) (c .side) (toldEntry c ev) (l .deque) in
       Adds (c ∷ cs) (record { deque = s .deque; calls = continued c (record { at = n; reply = s .reply } ∷ c .effects) (ended n a) ∷ l .calls })
   takes c cs l h hs g =
-      let s = serve (c .kind) (c .side) (c .entry) (l .deque) in
+      let s = serveFor a (c .kind) (c .side) (toldEntry c ev) (l .deque) in
       let e : Effect = record { at = n; reply = s .reply } in
       let t = taken (length (c ∷ cs)) (c .kind) (c .side) (c .entry) e in
+      let same = reply-tells a (c .kind) (c .side) (toldEntry c ev) (l .deque) in
       record {
         new = g .new ++ (t ∷ []);
         count = ap suc (g .count);
@@ -96,7 +117,8 @@ module _ (n : ℕ) (ev : Event) (a : Answer) (d : List Entry) where
             (effects-before n (c ∷ cs) (h, hs)) (all-map (λ (u : Taken) w. omega arith) (g .new) (g .here)))
             ∙ append-assoc (effectsOf (c ∷ cs)) (g .new) (t ∷ []);
         here = all-append (Now n) (g .new) (t ∷ []) (g .here) (refl, tt);
-        replays = replays-append (g .new) (t ∷ []) d (l .deque) (s .deque) (g .replays) (refl, refl);
+        replays = replays-append (g .new) (t ∷ []) d (l .deque) (s .deque) (g .replays)
+            (toldEntry c ev .slot, (ap (λ (s : Served). s .reply) same, ap (λ (s : Served). s .deque) same));
       }
 
   pub attend-adds : (cs : List Call) → All (EffectsBefore n) cs → Adds cs (attend n ev a d cs)
@@ -139,6 +161,7 @@ accepted : (n : ℕ) (ev : Event) (o : Op) (a : Answer) (l : Ledger) → Replaye
 unfolding accept
 accepted n ev (Push side slot label) a l g = begun n (ev .task) 0 side _ l g
 accepted n ev (Pop side) a l g = begun n (ev .task) 1 side _ l g
+accepted n ev (Put side label) a l g = begun n (ev .task) 0 side _ l g
 accepted n ev Step a l g =
     let z = attend-adds n ev a (l .deque) (l .calls) (g .before) in
     record {

@@ -6,7 +6,7 @@ use native.Mathlib.Omega.{arith}
 use lib.ListN.{length, getD}
 use Rattle.audit_model.specs.declared.Finished.{Finished}
 use Rattle.model.specs.History.{AfterOpening, All, Call, Request, ledger, run}
-use Rattle.model.specs.Calls.{openQueue}
+use Rattle.model.specs.Calls.{openAs}
 use Rattle.model.specs.Tables.{Queue}
 use Rattle.audit_model.specs.declared.Verdict.the-variants.{Passed}
 use Rattle.audit_model.specs.Audit.{verdict}
@@ -51,6 +51,6 @@ read-back cs =
 -- So a list of demand 3 passes as the words that are lent.
 pub words-pass : AfterOpening (λ (q : Queue) (os : List Request). let cs = ledger (run q os) .calls in
     All (λ (c : Call). IsAnswered (c .ending)) cs → length cs ≤ 64 → verdict (callsIn (wordsOf (finished cs))) (effectOrder cs) ≡ Passed)
-words-pass q tasks slots tag e os done small =
-    let cs = ledger (run (openQueue q tasks slots tag .queue) os) .calls in
-    ap (λ (fs : List Finished). verdict fs (effectOrder cs)) (read-back (finished cs)) ∙ histories-pass q tasks slots tag e os done small
+words-pass pooled q tasks slots tag e os done small =
+    let cs = ledger (run (openAs pooled q tasks slots tag .queue) os) .calls in
+    ap (λ (fs : List Finished). verdict fs (effectOrder cs)) (read-back (finished cs)) ∙ histories-pass pooled q tasks slots tag e os done small

@@ -7,8 +7,7 @@ use Prim.Native.Nat.{ℕ, _<_, _≤_}
 use native.Mathlib.Omega.{arith}
 use borrow.Author.Tests.{le-leb, lt-ltb, ne-eqb}
 use Rattle.model.specs.declared.Answer.{Answer}
-use Rattle.model.specs.declared.Answer.the-variants.{Running, Pushed, Empty, Popped}
-use Rattle.model.specs.declared.Entry.{Entry}
+use Rattle.model.specs.declared.Answer.the-variants.{Running, Pushed, Empty, Popped, NoSlot}
 use Rattle.model.specs.declared.Outcome.the-variants.{Moved}
 use Rattle.model.specs.Calls.{replyOf}
 use Rattle.model.specs.History.{Call, Effect, Ending, Lawful, Once, answered, pending}
@@ -17,12 +16,13 @@ use Rattle.audit_model.specs.Audit.{apart, wellFormed}
 use Rattle.audit_model.specs.Written.{IsAnswered, IsTold, Taken, labelTold, taken, written}
 use Rattle.audit_model.proofs.Events.{Apart, NotAt, NotTogether, Past}
 
--- What is written of a reply: its number, and the label pushed or popped.
-abbrev pub SuitsReply : Finished → Entry → Answer → Type 0
-SuitsReply f e (Running p) = ⊥
-SuitsReply f e Pushed = (f .answer ≡ 2) × (f .label ≡ e .label)
-SuitsReply f e Empty = f .answer ≡ 3
-SuitsReply f e (Popped x) = (f .answer ≡ 4) × (f .label ≡ x .label)
+-- What is written of a reply to a push of label x, or to a pop: its number, and the label pushed or popped.
+abbrev pub SuitsReply : Finished → ℕ → Answer → Type 0
+SuitsReply f x (Running p) = ⊥
+SuitsReply f x Pushed = (f .answer ≡ 2) × (f .label ≡ x)
+SuitsReply f x Empty = f .answer ≡ 3
+SuitsReply f x (Popped e) = (f .answer ≡ 4) × (f .label ≡ e .label)
+SuitsReply f x NoSlot = ⊥
 
 -- A written call and its effect.
 pub record Suits (f : Finished) (t : Taken) : Type 0 where
@@ -30,24 +30,26 @@ pub record Suits (f : Finished) (t : Taken) : Type 0 where
   pub side : f .side ≡ t .side
   pub begun : f .start < t .at
   pub within : t .at ≤ f .end
-  pub reply : SuitsReply f (t .entry) (t .reply)
+  pub reply : SuitsReply f (t .entry .label) (t .reply)
 
 pub record Settled (c : Call) (f : Finished) : Type 0 where
   pub effect : Effect
   pub only : c .effects ≡ effect ∷ []
   pub suits : (k : ℕ) → Suits f (taken k (c .kind) (c .side) (c .entry) effect)
 
-suits-reply : (c : Call) (n : ℕ) (a : Answer) → IsTold a → SuitsReply (written c (answered n a)) (c .entry) a
+suits-reply : (c : Call) (n : ℕ) (a : Answer) → IsTold a → SuitsReply (written c (answered n a)) (c .entry .label) a
 suits-reply c n (Running p) i = absurd i
 suits-reply c n Pushed i = (refl, refl)
 suits-reply c n Empty i = refl
 suits-reply c n (Popped x) i = (refl, refl)
+suits-reply c n NoSlot i = absurd i
 
 known : (a : Answer) → IsTold a → (2 ≤ replyOf (Moved a) .code) × (replyOf (Moved a) .code ≤ 4)
 known (Running p) i = absurd i
 known Pushed i = (omega arith, omega arith)
 known Empty i = (omega arith, omega arith)
 known (Popped x) i = (omega arith, omega arith)
+known NoSlot i = absurd i
 
 module _ (c : Call) where
   pub settled : (e : Ending) → IsAnswered e → Lawful c e → Settled c (written c e)
@@ -60,7 +62,7 @@ module _ (c : Call) where
       side = refl;
       begun = o .begun;
       within = o .within;
-      reply = subst (SuitsReply (written c (answered n a)) (c .entry)) (sym (o .agrees)) (suits-reply c n a i);
+      reply = subst (SuitsReply (written c (answered n a)) (c .entry .label)) (sym (o .agrees)) (suits-reply c n a i);
     };
   }
 

@@ -5,13 +5,15 @@ use mathlib.Core.Path.{_≡_, refl, sym, ap, _∙_, subst}
 use Prim.Native.Nat.{ℕ}
 use lib.Dec.{eqb}
 use borrow.Author.Tests.{eq-eqb}
-use Rattle.model.specs.declared.Answer.the-variants.{Pushed}
+use Rattle.model.specs.declared.Answer.{Answer}
+use Rattle.model.specs.declared.Answer.the-variants.{Running, Pushed, Empty, Popped, NoSlot}
 use Rattle.model.specs.declared.Entry.{Entry}
-use Rattle.model.specs.Deque.{Served, seenFrom, serve, servePop, servePush, takeFirst}
+use Rattle.model.specs.Deque.{Served, saysNoSlot, seenFrom, serve, serveFor, servePop, servePush, takeFirst}
 use Rattle.audit_model.specs.declared.Finished.{Finished}
 use Rattle.audit_model.specs.Audit.{Given, agrees, gives, serveLabel, takeLabel}
 use Rattle.audit_model.specs.Written.{Taken}
 use Rattle.audit_model.proofs.Settled.{Suits, SuitsReply}
+use Rattle.audit_model.proofs.Replayed.{servedIn}
 
 abbrev pub labelsOf : List Entry → List ℕ
 labelsOf l = map (λ (e : Entry). e .label) l
@@ -40,7 +42,7 @@ pub record Gives (f : Finished) (s : Served) (g : Given) : Type 0 where
   pub queue : g .queue ≡ labelsOf (s .deque)
   pub agrees : agrees (f .answer) (f .label) (g .answer) (g .label) ≡ true
 
-push-gives : (f : Finished) (side : ℕ) (e : Entry) (d : List Entry) → SuitsReply f e Pushed
+push-gives : (f : Finished) (side : ℕ) (e : Entry) (d : List Entry) → SuitsReply f (e .label) Pushed
     → Gives f (servePush side e d) (record { answer = 2; label = 0; queue = seenFrom side (f .label ∷ seenFrom side (labelsOf d)) })
 unfolding servePush agrees
 push-gives f side e d s = record {
@@ -48,27 +50,44 @@ push-gives f side e d s = record {
   agrees = rw (s .0);
 }
 
-pop-gives : (f : Finished) (side : ℕ) (e : Entry) (m : List Entry) → SuitsReply f e (takeFirst side m .reply)
+pop-gives : (f : Finished) (side x : ℕ) (m : List Entry) → SuitsReply f x (takeFirst side m .reply)
     → Gives f (takeFirst side m) (takeLabel side (labelsOf m))
 unfolding agrees
-pop-gives f side e [] s = record { queue = refl; agrees = rw s }
-pop-gives f side e (x ∷ m) s = record { queue = seen-labels side m; agrees = rw (s .0, eq-eqb (f .label) (x .label) (s .1)) }
+pop-gives f side x [] s = record { queue = refl; agrees = rw s }
+pop-gives f side x (e ∷ m) s = record { queue = seen-labels side m; agrees = rw (s .0, eq-eqb (f .label) (e .label) (s .1)) }
 
-pub label-gives : (f : Finished) (t : Taken) (d : List Entry) → Suits f t → serve (t .kind) (t .side) (t .entry) d .reply ≡ t .reply
-    → Gives f (serve (t .kind) (t .side) (t .entry) d) (gives f (labelsOf d))
-unfolding serve serveLabel servePop servePush
-label-gives f t d s e =
-    subst (λ (g : Given). Gives f (serve (t .kind) (t .side) (t .entry) d) g)
+-- What is written of a reply is not *no slot*: the deque served the call.
+is-served : (f : Finished) (x : ℕ) (a : Answer) → SuitsReply f x a → saysNoSlot a ≡ false
+is-served f x (Running p) s = absurd s
+is-served f x Pushed s = refl
+is-served f x Empty s = refl
+is-served f x (Popped e) s = refl
+is-served f x NoSlot s = absurd s
+
+pub label-gives : (f : Finished) (slot : ℕ) (t : Taken) (d : List Entry) → Suits f t → servedIn slot t d .reply ≡ t .reply
+    → Gives f (servedIn slot t d) (gives f (labelsOf d))
+unfolding serveFor serve serveLabel servePop servePush
+label-gives f slot t d s e =
+    subst (λ (g : Given). Gives f (servedIn slot t d) g)
     (λ i. serveLabel (sym (s .kind) i) (sym (s .side) i) (f .label) (labelsOf d))
-    (go (eqb (t .kind) 0) (subst (SuitsReply f (t .entry)) (sym e) (s .reply)))
+    (rw served (go (eqb (t .kind) 0) (rw served at fits)))
   where
-    go : (b : Bool) → SuitsReply f (t .entry) (cond b (servePush (t .side) (t .entry) d) (servePop (t .side) d) .reply)
-        → Gives f (cond b (servePush (t .side) (t .entry) d) (servePop (t .side) d))
+    entry : Entry
+    entry = record { slot = slot; label = t .entry .label }
+
+    served : saysNoSlot (t .reply) ≡ false
+    served = is-served f (t .entry .label) (t .reply) (s .reply)
+
+    fits : SuitsReply f (t .entry .label) (servedIn slot t d .reply)
+    fits = subst (SuitsReply f (t .entry .label)) (sym e) (s .reply)
+
+    go : (b : Bool) → SuitsReply f (t .entry .label) (cond b (servePush (t .side) entry d) (servePop (t .side) d) .reply)
+        → Gives f (cond b (servePush (t .side) entry d) (servePop (t .side) d))
         (cond b
         (record { answer = 2; label = 0; queue = seenFrom (t .side) (f .label ∷ seenFrom (t .side) (labelsOf d)) })
         (takeLabel (t .side) (seenFrom (t .side) (labelsOf d))))
-    go true h = push-gives f (t .side) (t .entry) d h
+    go true h = push-gives f (t .side) entry d h
     go false h =
         subst (λ (l : List ℕ). Gives f (takeFirst (t .side) (seenFrom (t .side) d)) (takeLabel (t .side) l))
         (sym (seen-labels (t .side) d))
-        (pop-gives f (t .side) (t .entry) (seenFrom (t .side) d) h)
+        (pop-gives f (t .side) (t .entry .label) (seenFrom (t .side) d) h)

@@ -1,16 +1,16 @@
--- A worked history: a label pushed, then two pops of it at once; the later pop gets it.
+-- A worked history: a label pushed, then two pops of it at once; the later pop gets it. And one of a pooled queue with a single slot.
 use mathlib.Core.Path.{_≡_, refl}
 use mathlib.Core.List.{List, [], _∷_, _++_, map}
 use Prim.Native.Nat.{ℕ}
 use lib.ListN.{replicate}
-use Rattle.model.specs.declared.Op.the-variants.{Push, Pop, Step}
+use Rattle.model.specs.declared.Op.the-variants.{Push, Pop, Put, Step}
 use Rattle.model.specs.Tables.{Queue, idle}
 use Rattle.model.specs.Sound.{anchorSound, linkSound, controlSound, recordSound, rowsFit}
-use Rattle.model.specs.Places.{sideOf, row, linkSide, reading, at1, at2, at3, new4, at4, at5, at6, at7, at9, at10, at11, move}
+use Rattle.model.specs.Places.{sideOf, row, linkSide, reading, at1, at2, at3, new4, at4, at5, at6, at7, at9, at10, at11, at12, at13, at14, move}
 use Rattle.model.specs.Route.{pushRoute, popRoute, route, onward, answer, goes, counted}
-use Rattle.model.specs.Refusals.{openRefusal, pushRefusal, popRefusal, stepSound, stepRefusal}
-use Rattle.model.specs.Calls.{opened, openQueue, pushStart, popStart, finish, step, actOn, act}
-use Rattle.model.specs.Deque.{serve, servePop, servePush}
+use Rattle.model.specs.Refusals.{openRefusal, pushRefusal, putRefusal, popRefusal, stepSound, stepRefusal}
+use Rattle.model.specs.Calls.{opened, openAs, openPooled, openQueue, pushStart, putStart, popStart, finish, step, actOn, act}
+use Rattle.model.specs.Deque.{serve, serveFor, servePop, servePush}
 use Rattle.model.specs.History.{Call, Request, accept, attend, isEffect, ledger, ledgerFrom, note, run, stepOf}
 use Rattle.audit_model.specs.declared.Finished.{Finished}
 use Rattle.audit_model.specs.declared.Verdict.the-variants.{Failed, Passed, Refused}
@@ -20,11 +20,12 @@ use Rattle.audit_model.specs.Written.{effectOrder, finished, insert}
 abbrev zeros : Queue
 zeros = record {
   tables = record {
-    control = record { tasks = 0; slots = 0; anchor = 0; retries = 0 };
+    control = record { tasks = 0; slots = 0; anchor = 0; retries = 0; pooled = 0; head = 0 };
     lefts = replicate 4 0;
     rights = replicate 4 0;
     labels = replicate 4 0;
     marks = replicate 1 0;
+    next = replicate 4 0;
   };
   records = replicate 2 idle;
 }
@@ -39,6 +40,19 @@ list =
 
 abbrev calls : List Call
 calls = ledger (run (openQueue zeros 2 3 0 .queue) list) .calls
+
+-- A push, and another while its label waits.
+abbrev two : List Request
+two = (record { task = 0; op = Put 1 700 } ∷ steps (0 ∷ 0 ∷ 0 ∷ 0 ∷ 0 ∷ [])) ++ (record { task = 1; op = Put 0 701 } ∷ steps (1 ∷ []))
+
+abbrev pooledCalls : List Call
+pooledCalls = ledger (run (openPooled zeros 2 1 0 .queue) two) .calls
+
+abbrev drawn : Finished
+drawn = record { task = 0; kind = 0; side = 1; label = 700; answer = 2; start = 1; end = 6 }
+
+abbrev noSlot : Finished
+noSlot = record { task = 1; kind = 0; side = 0; label = 0; answer = 5; start = 7; end = 8 }
 
 abbrev push : Finished
 push = record { task = 0; kind = 0; side = 1; label = 700; answer = 2; start = 1; end = 3 }
@@ -73,11 +87,14 @@ pub record Table : Type 0 where
   -- a start at another call's answer
   pub same-event : verdict (push ∷ empty ∷ popped 700 3 ∷ []) (1 ∷ 3 ∷ 2 ∷ []) ≡ Refused 40
   pub too-many : verdict (replicate 65 push) [] ≡ Refused 40
+  -- a push that named no slot is a push of its label; *no slot* is an answer of its own, which no history knows
+  pub pooled-so : finished pooledCalls ≡ drawn ∷ noSlot ∷ []
+  pub no-slot : verdict (drawn ∷ noSlot ∷ []) (1 ∷ 2 ∷ []) ≡ Refused 40
 
 pub worked : Table
-unfolding openQueue opened openRefusal run act actOn pushStart popStart step finish pushRefusal popRefusal stepRefusal stepSound
-    move at1 at2 at3 new4 at4 at5 at6 at7 at9 at10 at11 reading sideOf row linkSide anchorSound linkSound controlSound recordSound rowsFit
-    pushRoute popRoute route onward answer goes counted ledgerFrom note accept attend stepOf isEffect serve servePush servePop
+unfolding openAs opened openRefusal run act actOn pushStart putStart popStart step finish pushRefusal putRefusal popRefusal stepRefusal stepSound
+    move at1 at2 at3 new4 at4 at5 at6 at7 at9 at10 at11 at12 at13 at14 reading sideOf row linkSide anchorSound linkSound controlSound recordSound rowsFit
+    pushRoute popRoute route onward answer goes counted ledgerFrom note accept attend stepOf isEffect serveFor serve servePush servePop
     insert verdict accepted wellFormed apart rearranges replay serveLabel agrees notEarlier
 worked = record {
   written-so = refl;
@@ -93,4 +110,6 @@ worked = record {
   no-label = refl;
   same-event = refl;
   too-many = refl;
+  pooled-so = refl;
+  no-slot = refl;
 }

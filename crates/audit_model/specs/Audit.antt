@@ -20,7 +20,7 @@ pairwise r [] = true
 pairwise r (x ∷ l) = allOf (r x) l && pairwise r l
 
 -- 40: over 64 calls, an answer event not after its start, two events equal, or a kind, side or answer unknown.
--- Answers: 2 pushed, 3 empty, 4 popped.
+-- Answers: 2 pushed, 3 empty, 4 popped; *no slot*, 5, is unknown to a history.
 unfoldable pub wellFormed : Finished → Bool
 wellFormed c = leb (c .kind) 1 && leb (c .side) 1 && leb 2 (c .answer) && leb (c .answer) 4 && ltb (c .start) (c .end)
 

@@ -6,7 +6,7 @@ use Prim.Native.Nat.{ℕ, _≤_}
 use lib.Dec.{ltb}
 use lib.ListN.{length}
 use Rattle.model.specs.declared.Answer.{Answer}
-use Rattle.model.specs.declared.Answer.the-variants.{Running, Pushed, Empty, Popped}
+use Rattle.model.specs.declared.Answer.the-variants.{Running, Pushed, Empty, Popped, NoSlot}
 use Rattle.model.specs.declared.Entry.{Entry}
 use Rattle.model.specs.declared.Outcome.the-variants.{Moved}
 use Rattle.model.specs.Calls.{replyOf}
@@ -22,6 +22,7 @@ labelTold e (Running p) = 0
 labelTold e Pushed = e .label
 labelTold e Empty = 0
 labelTold e (Popped x) = x .label
+labelTold e NoSlot = 0
 
 abbrev pub written : Call → Ending → Finished
 written c pending = nobody
@@ -68,12 +69,13 @@ effectsOf (c ∷ cs) = insertAll (taken (length (c ∷ cs)) (c .kind) (c .side) 
 abbrev pub effectOrder : List Call → List ℕ
 effectOrder cs = map (λ (t : Taken). t .number) (effectsOf cs)
 
--- Pushed, empty or popped.
+-- Pushed, empty or popped: no history can tell *no slot*.
 abbrev pub IsTold : Answer → Type 0
 IsTold (Running p) = ⊥
 IsTold Pushed = Unit {0}
 IsTold Empty = Unit {0}
 IsTold (Popped e) = Unit {0}
+IsTold NoSlot = ⊥
 
 abbrev pub IsAnswered : Ending → Type 0
 IsAnswered pending = ⊥

@@ -34,17 +34,17 @@ one-applies false b c d h = refl
 
 module _ (q : Tables) (asked : List ℕ) where
   abbrev pub why : ℕ
-  why = refusalBefore (controlSound (q .control)) (ltb 32 (length asked)) (rowsFit (q .control .slots) q)
+  why = refusalBefore (controlSound (q .control)) (ltb 32 (length asked)) (rowsFit false (q .control .slots) q)
 
   pub turned-away : (n : ℕ) → n ≡ why → (n ≡ 0 → ⊥) → refused n ≡ find q asked
   unfolding find findRefusal
   turned-away n e h =
-      let fits = rowsFit (q .control .slots) q in
+      let fits = rowsFit false (q .control .slots) q in
       let r = one-applies (controlSound (q .control)) (ltb 32 (length asked)) fits (isBroken (contents q)) (λ z. h (e ∙ z)) ∙ sym e in
       rw (r, ne-eqb n 0 h)
 
   module _ (n : ℕ) (e : n ≡ why) (z : n ≡ 0) where
-    passed : (controlSound (q .control) ≡ true) × (ltb 32 (length asked) ≡ false) × (rowsFit (q .control .slots) q ≡ true)
+    passed : (controlSound (q .control) ≡ true) × (ltb 32 (length asked) ≡ false) × (rowsFit false (q .control .slots) q ≡ true)
     passed = none-applies _ _ _ (sym e ∙ z)
 
     pub few : length asked ≤ 32

@@ -5,6 +5,7 @@ use walk::Tally;
 use word::Anchor;
 use word::Link;
 ghost use mathlib.Core.Path.{_≡_};
+ghost use mathlib.Core.Bool.{false};
 ghost use mathlib.Core.List.{List, map};
 ghost use Prim.Native.Nat.{ℕ, _≤_};
 ghost use lib.Dec.{ltb};
@@ -152,8 +153,8 @@ fn search(
 ) -> Tally
     requires { ⌜ Sifted (now asked) (now sieve) × ((length (now asked) ≤ 32) × (now positions ≡ replicate 32 0)) ⌝ }
     ensures { λ r.
-        ⌜ ((marks : List ℕ) → Searched (now (asked .entry))
-        (contents (tablesOf c (now (lefts .entry)) (now (rights .entry)) (now (labels .entry)) marks))
+        ⌜ ((marks next : List ℕ) → Searched (now (asked .entry))
+        (contents (tablesOf c (now (lefts .entry)) (now (rights .entry)) (now (labels .entry)) marks next))
         r (now (positions .exit))) ⌝ }
 {
     let a = Anchor::unpack(c.anchor);
@@ -188,7 +189,7 @@ fn search(
     walked
 }
 
-/// 34 for control and Anchor, 45, 12.
+/// 34 for control and Anchor, 45, 12. No next table is lent, so none counts.
 fn refusal(
     c: Control,
     asked: usize,
@@ -197,10 +198,10 @@ fn refusal(
     labels: usize,
     marks: usize,
 ) -> u32
-    ensures { λ n. ⌜ n ≡ refusalBefore (controlSound c) (ltb 32 asked) (lengthsFit (c .slots) lefts rights labels marks) ⌝ }
+    ensures { λ n. ⌜ n ≡ refusalBefore (controlSound c) (ltb 32 asked) (lengthsFit false (c .slots) lefts rights labels marks 0) ⌝ }
 {
     let control = sound::control_sound(c);
-    let fits = sound::rows_fit(c.slots, lefts, rights, labels, marks);
+    let fits = sound::rows_fit(false, c.slots, lefts, rights, labels, marks, 0);
     if !control {
         return 34;
     }
@@ -223,7 +224,7 @@ fn refused(number: u32) -> FindReply
     }
 }
 
-/// Where the labels asked for wait.
+/// Where the labels asked for wait, whatever the next rows.
 pub fn find(
     c: Control,
     asked: &[u32],
@@ -233,9 +234,9 @@ pub fn find(
     marks: &[u64],
 ) -> FindReply
     ensures { λ r.
-        ⌜ r ≡ find
-        (tablesOf c (now (lefts .entry)) (now (rights .entry)) (now (labels .entry)) (now (marks .entry)))
-        (now (asked .entry)) ⌝ }
+        ⌜ ((next : List ℕ) → r ≡ find
+        (tablesOf c (now (lefts .entry)) (now (rights .entry)) (now (labels .entry)) (now (marks .entry)) next)
+        (now (asked .entry))) ⌝ }
 {
     let why = refusal(
         c,
@@ -273,9 +274,9 @@ pub extern "C" fn zc_find(
     marks: &[u64],
 ) -> FindReply
     ensures { λ r.
-        ⌜ r ≡ find
-        (tablesOf (controlOf (now (control .entry))) (now (lefts .entry)) (now (rights .entry)) (now (labels .entry)) (now (marks .entry)))
-        (now (asked .entry)) ⌝ }
+        ⌜ ((next : List ℕ) → r ≡ find
+        (tablesOf (controlOf (now (control .entry))) (now (lefts .entry)) (now (rights .entry)) (now (labels .entry)) (now (marks .entry)) next)
+        (now (asked .entry))) ⌝ }
 {
     let row = *control;
     let c = rows::control_of(row);

@@ -6,29 +6,33 @@ use Prim.Native.Nat.{ℕ}
 use lib.Dec.{ltb, eqb}
 use lib.ListN.{length}
 use Rattle.model.specs.declared.Entry.{Entry}
-use Rattle.model.specs.Tables.{Queue, Tables}
-use Rattle.model.specs.Sound.{rowsFit}
+use Rattle.model.specs.Tables.{Queue, Tables, isPooled}
+use Rattle.model.specs.Sound.{rowTests, rowsFit}
 use Rattle.model.specs.Walk.{contents, met}
 use Rattle.model.specs.Report.{waiting}
 use Rattle.model.specs.Refusals.{recordsFit}
 use Rattle.model.proofs.tests.Truth.{and-true}
+use Rattle.model.proofs.tests.Rules.{tests}
 use Rattle.model.proofs.Standing.{Standing, standing}
 use Rattle.find_model.specs.declared.FindReply.{FindReply}
 use Rattle.find_model.specs.Find.{Finds, find, findRefusal, found, refused}
 
 stands : (q : Queue) (d : List Entry) → Standing q d → (asked : List ℕ)
     → find (q .tables) asked ≡ cond (ltb 32 (length asked)) (refused 45) (found d asked)
-unfolding find findRefusal
+unfolding find findRefusal rowsFit
 stands q d s asked =
-    let rows = and-true (rowsFit (q .tables .control .slots) (q .tables)) (recordsFit (q .tables .control .tasks) q) (s .long) .0 in
-    rw (s .control, rows, s .walk) (go (ltb 32 (length asked)))
+    let c = q .tables .control in
+    let pooled = isPooled c in
+    let long = and-true (rowsFit pooled (c .slots) (q .tables)) (recordsFit (c .tasks) q) (s .long) .0 in
+    let rows = tests (rowTests pooled (c .slots) (q .tables)) long in
+    rw (s .control, rows .0, rows .1 .0, rows .1 .1 .0, rows .1 .1 .1 .0, s .walk) (go (ltb 32 (length asked)))
   where
     go : (b : Bool) → cond (eqb (cond b 45 0) 0) (found d asked) (refused (cond b 45 0)) ≡ cond b (refused 45) (found d asked)
     go true = refl
     go false = refl
 
 pub finds : Finds
-finds q tasks slots tag e os asked = stands _ _ (standing q tasks slots tag e os) asked
+finds pooled q tasks slots tag e os asked = stands _ _ (standing pooled q tasks slots tag e os) asked
 
 -- The rows reported are the number waiting.
 pub rows-waiting : (q : Tables) (asked : List ℕ) → findRefusal q asked ≡ 0 → find q asked .rows ≡ waiting q

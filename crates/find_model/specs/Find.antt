@@ -1,6 +1,6 @@
 -- The positions of some labels among those waiting. (Document 02, #110.)
 use mathlib.Core.Path.{_≡_}
-use mathlib.Core.Bool.{not, cond}
+use mathlib.Core.Bool.{false, not, cond}
 use mathlib.Core.List.{List, [], _∷_, _++_, map}
 use Prim.Native.Nat.{ℕ, _+_, _-_}
 use lib.Dec.{ltb, eqb}
@@ -22,12 +22,12 @@ positionFrom n x (e ∷ l) = cond (eqb (e .label) x) n (positionFrom (n + 1) x l
 abbrev pub position : List Entry → ℕ → ℕ
 position l x = positionFrom 1 x l
 
--- 34 for control and Anchor, 45, 12, and 34 for the walk. 12 looks at no records.
+-- 34 for control and Anchor, 45, 12, and 34 for the walk. 12 looks at no records, and at no next table: neither is lent.
 abbrev pub findRules : Tables → List ℕ → List Rule
 findRules q asked =
     rule 34 (not (controlSound (q .control)))
     ∷ rule 45 (ltb 32 (length asked))
-    ∷ rule 12 (not (rowsFit (q .control .slots) q))
+    ∷ rule 12 (not (rowsFit false (q .control .slots) q))
     ∷ rule 34 (isBroken (contents q))
     ∷ []
 

@@ -11,10 +11,11 @@ use Rattle.model.specs.declared.Opening.{Opening}
 use Rattle.model.specs.declared.Opening.the-variants.{Refused, Opened}
 use Rattle.model.specs.Tables.{Tables, Queue, idle, zeroed}
 use Rattle.model.specs.Refusals.{openRefusal}
-use Rattle.model.specs.Calls.{OpenDone, openQueue}
-use Rattle.model.specs.History.{run, final}
+use Rattle.model.specs.Calls.{OpenDone, openAs}
+use Rattle.model.specs.History.{Request, run, final, NoSlotTrue}
 use Rattle.model.proofs.Linearizable.{linearizable}
 use Rattle.model.proofs.NeverUnsound.{never-unsound}
+use Rattle.model.proofs.NoSlot.{no-slot-right}
 use Rattle.calls.specs.Opening.{OpenedParts, openTables, whole}
 use Rattle.calls.proofs.Parts.{open-parts, clear-fits}
 use Rattle.history.specs.Words.{requestsOf, requestsFrom, repliesOf}
@@ -26,56 +27,69 @@ still-idle zero m h = refl
 still-idle (suc n) zero h = absurd (omega arith)
 still-idle (suc n) (suc m) h = ap (λ (l : List Record). idle ∷ l) (still-idle n m (omega arith))
 
-refused-keeps : (q : Queue) (tasks slots tag why : ℕ) → openQueue q tasks slots tag .outcome ≡ Refused why → openQueue q tasks slots tag .queue ≡ q
-unfolding openQueue
-refused-keeps q tasks slots tag why e = go (eqb (openRefusal q tasks slots) 0) refl
+refused-keeps : (pooled : Bool) (q : Queue) (tasks slots tag why : ℕ) → openAs pooled q tasks slots tag .outcome ≡ Refused why
+    → openAs pooled q tasks slots tag .queue ≡ q
+unfolding openAs
+refused-keeps pooled q tasks slots tag why e = go (eqb (openRefusal pooled q tasks slots) 0) refl
   where
-    go : (b : Bool) → eqb (openRefusal q tasks slots) 0 ≡ b → openQueue q tasks slots tag .queue ≡ q
+    go : (b : Bool) → eqb (openRefusal pooled q tasks slots) 0 ≡ b → openAs pooled q tasks slots tag .queue ≡ q
     go true h = absurd (let c : Opened ≡ Refused why = rw h at e in let z : _≡_ {A = ℕ} 0 1 = cc in omega arith)
     go false h = rw h
 
 -- The operations that follow an opening.
-module _ (tasks slots tag : ℕ) (words : List ℕ) (before after : State) (count : ℕ) where
+module _ (pooled : Bool) (tasks slots tag : ℕ) (words : List ℕ) (before after : State) (count : ℕ) where
   abbrev done : OpenDone
-  done = openQueue (before .queue) tasks slots tag
+  done = openAs pooled (before .queue) tasks slots tag
+
+  truthful : (os : List Request) → done .outcome ≡ Opened → pooled ≡ true → NoSlotTrue (done .queue) os
+  truthful os e p = go pooled p e
+    where
+      go : (b : Bool) → b ≡ true → openAs b (before .queue) tasks slots tag .outcome ≡ Opened
+          → NoSlotTrue (openAs b (before .queue) tasks slots tag .queue) os
+      go true h f = no-slot-right (before .queue) tasks slots tag f os
+      go false h f = absurd (let z : _≡_ {A = ℕ} 0 1 = cc in omega arith)
 
   follows : (outcome : Opening) → outcome ≡ done .outcome → count ≡ countAfter outcome (length words) (length (before .replies))
       → after ≡ served 0 (record { queue = done .queue; replies = before .replies }) (requestsOf count words)
-      → Follows outcome (done .queue) words before after count
+      → Follows pooled outcome (done .queue) words before after count
   unfolding served run final repliesOf requestsFrom
-  follows (Refused why) e n s = (n, s ∙ rw (n, refused-keeps (before .queue) tasks slots tag why (sym e)))
+  follows (Refused why) e n s = (n, s ∙ rw (n, refused-keeps pooled (before .queue) tasks slots tag why (sym e)))
   follows Opened e n s = (
     n,
     record {
       queue = ap (λ (x : State). x .queue) s;
       answers = ap (λ (x : State). x .replies) s;
-      linearized = linearizable (before .queue) tasks slots tag (sym e) (requestsOf count words);
-      sound = never-unsound (before .queue) tasks slots tag (sym e) (requestsOf count words);
+      linearized = linearizable pooled (before .queue) tasks slots tag (sym e) (requestsOf count words);
+      sound = never-unsound pooled (before .queue) tasks slots tag (sym e) (requestsOf count words);
+      truthful = λ p os left h. truthful os (sym e) p;
     },
   )
 
 -- The same for the code's values: an opening's parts, and records that are idle.
-module _ (tasks slots tag : ℕ) (words : List ℕ) (q : Tables) (replies : List ℕ) (o : OpenedParts) (none : Record) where
+module _ (pooled : Bool) (tasks slots tag : ℕ) (words : List ℕ) (q : Tables) (replies : List ℕ) (o : OpenedParts) (none : Record) where
   abbrev first : Queue
   first = record { tables = q; records = replicate 16 idle }
 
-  opened-idle : none ≡ idle → o ≡ openTables q 16 tasks slots tag
-      → _≡_ {A = OpenDone} (record { queue = record { tables = o .tables; records = replicate 16 none }; outcome = o .outcome }) (openQueue first tasks slots tag)
-  opened-idle i e =
-      let h : o .clear ≤ 16 = subst (λ (x : OpenedParts). x .clear ≤ 16) (sym e) (clear-fits q 16 tasks slots tag) in
-      ap (λ (l : List Record). record { queue = record { tables = o .tables; records = l }; outcome = o .outcome }) (ap (replicate 16) i ∙ sym (still-idle (o .clear) 16 h))
-      ∙ ap (whole (replicate 16 idle)) e ∙ sym (open-parts first tasks slots tag)
+  abbrev with-records : List Record → OpenDone
+  with-records l = record { queue = record { tables = o .tables; records = l }; outcome = o .outcome }
 
-  pub serves : (after : State) (count : ℕ) → none ≡ idle → o ≡ openTables q 16 tasks slots tag → count ≡ countAfter (o .outcome) (length words) (length replies)
+  opened-idle : none ≡ idle → o ≡ openTables pooled q 16 tasks slots tag → with-records (replicate 16 none) ≡ openAs pooled first tasks slots tag
+  opened-idle i e =
+      let h : o .clear ≤ 16 = subst (λ (x : OpenedParts). x .clear ≤ 16) (sym e) (clear-fits pooled q 16 tasks slots tag) in
+      ap with-records (ap (replicate 16) i ∙ sym (still-idle (o .clear) 16 h))
+      ∙ ap (whole (replicate 16 idle)) e ∙ sym (open-parts pooled first tasks slots tag)
+
+  pub serves : (after : State) (count : ℕ) → none ≡ idle → o ≡ openTables pooled q 16 tasks slots tag
+      → count ≡ countAfter (o .outcome) (length words) (length replies)
       → after ≡ served 0 (record { queue = record { tables = o .tables; records = replicate 16 none }; replies = replies }) (requestsOf count words)
-      → Serves tasks slots tag words (record { queue = first; replies = replies }) after (o .outcome) count
+      → Serves pooled tasks slots tag words (record { queue = first; replies = replies }) after (o .outcome) count
   serves after count i e n s =
       let d = opened-idle i e in
       let here = ap (λ (x : OpenDone). x .outcome) d in
       record {
         opening = here;
         follows =
-            follows tasks slots tag words (record { queue = first; replies = replies }) after count (o .outcome) here n
+            follows pooled tasks slots tag words (record { queue = first; replies = replies }) after count (o .outcome) here n
             (s ∙ ap (λ (x : OpenDone). served 0 (record { queue = x .queue; replies = replies }) (requestsOf count words)) d);
       }
 

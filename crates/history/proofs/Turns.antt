@@ -26,7 +26,8 @@ module _ (q : Tables) (rs rs′ : List Record) (task : ℕ) (op : Op) (r : Recor
   pub turn-done : length rs ≡ 16 → r ≡ getD rs task idle
       → a ≡ actOn q (record { enough = leb (q .control .tasks) 16; known = ltb task (q .control .tasks) }) r op
       → rs′ ≡ set rs task (a .task)
-      → _≡_ {A = Done} (record { queue = record { tables = a .tables; records = rs′ }; outcome = a .outcome }) (act (record { tables = q; records = rs }) task op)
+      → _≡_ {A = Done} (record { queue = record { tables = a .tables; records = rs′ }; outcome = a .outcome })
+      (act (record { tables = q; records = rs }) task op)
   unfolding act
   turn-done h i e k = rw (k, e, i, ← h)
 

@@ -5,14 +5,18 @@ use Prim.Native.Nat.{ℕ, zero, suc, _+_, _*_, _/_, _%_, _^_, min}
 use lib.Dec.{eqb}
 use lib.ListN.{getD}
 use Rattle.model.specs.declared.Op.{Op}
-use Rattle.model.specs.declared.Op.the-variants.{Push, Pop, Step}
+use Rattle.model.specs.declared.Op.the-variants.{Push, Pop, Put, Step}
 use Rattle.model.specs.declared.Outcome.{Outcome}
 use Rattle.model.specs.Calls.{replyOf}
 use Rattle.model.specs.History.{Request, Event}
 
--- 0 is a push, 1 a pop, any other number a step. A label has 32 bits.
+-- 0 is a push, 1 a pop, 2 a push that names no slot, any other number a step. A label has 32 bits.
 unfoldable pub opOf : ℕ → ℕ → ℕ → ℕ → Op
-opOf code side slot label = cond (eqb code 0) (Push side slot (label % 2 ^ 32)) (cond (eqb code 1) (Pop side) Step)
+opOf code side slot label =
+    cond (eqb code 0) (Push side slot (label % 2 ^ 32))
+    (cond (eqb code 1) (Pop side)
+    (cond (eqb code 2) (Put side (label % 2 ^ 32))
+    Step))
 
 abbrev pub requestAt : List ℕ → ℕ → Request
 requestAt ws i = record {

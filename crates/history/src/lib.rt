@@ -1,7 +1,8 @@
 //! A queue opened in lent tables, and a list of operations carried out on it from lent memory.
 //!
 //! What `serve` answers and leaves is `run` and `final` of just that list (`specs/History.antt` of `model`),
-//! so its contract states the theorems on histories of running code: demand 3, and that 34 never occurs.
+//! so its contract states the theorems on histories of running code: demand 3, that 34 never occurs, and that
+//! *no slot* is answered only where every slot is in use.
 mod reply;
 mod request;
 mod turn;
@@ -57,13 +58,20 @@ fn carry_out(
     rights: &mut [u64],
     labels: &mut [u32],
     marks: &mut [u64],
+    next: &mut [u64],
 ) -> Held
     requires { ⌜ (5 * count ≤ length (now requests)) × (3 * count ≤ length (now replies)) ⌝ }
     ensures { λ r.
         ⌜ _≡_ {A = State}
-        (record { queue = queueOf (r .control) (r .records) (now (lefts .exit)) (now (rights .exit)) (now (labels .exit)) (now (marks .exit)); replies = now (replies .exit) })
+        (record {
+          queue = queueOf (r .control) (r .records) (now (lefts .exit)) (now (rights .exit)) (now (labels .exit)) (now (marks .exit)) (now (next .exit));
+          replies = now (replies .exit);
+        })
         (served 0
-        (record { queue = queueOf control records (now (lefts .entry)) (now (rights .entry)) (now (labels .entry)) (now (marks .entry)); replies = now (replies .entry) })
+        (record {
+          queue = queueOf control records (now (lefts .entry)) (now (rights .entry)) (now (labels .entry)) (now (marks .entry)) (now (next .entry));
+          replies = now (replies .entry);
+        })
         (requestsOf count (now (requests .entry)))) ⌝ }
 {
     let mut c = control;
@@ -71,7 +79,17 @@ fn carry_out(
     for i in 0..count {
         let request = request::request_at(requests, i);
         let op = request.op;
-        let t = turn::take_turn(c, rows, request.task, op, lefts, rights, labels, marks);
+        let t = turn::take_turn(
+            c,
+            rows,
+            request.task,
+            op,
+            lefts,
+            rights,
+            labels,
+            marks,
+            next,
+        );
         c = t.control;
         rows = t.records;
         let outcome = t.outcome;
@@ -83,9 +101,11 @@ fn carry_out(
     }
 }
 
-/// Opens a queue and carries out as many requests as there are and have room for a reply. A request is five
-/// words: task, operation (0 push, 1 pop, any other a step), side, slot, label. A reply is three: code, label, value.
+/// Opens a queue, a pooled or a named one, and carries out as many requests as there are and have room for a
+/// reply. A request is five words: task, operation (0 push, 1 pop, 2 a push that names no slot, any other a
+/// step), side, slot, label. A reply is three: code, label, value.
 pub fn serve(
+    pooled: bool,
     tasks: u64,
     slots: u64,
     tag: u32,
@@ -95,11 +115,18 @@ pub fn serve(
     rights: &mut [u64],
     labels: &mut [u32],
     marks: &mut [u64],
+    next: &mut [u64],
 ) -> Served
     ensures { λ r.
-        ⌜ Serves tasks slots tag (now (requests .entry))
-        (record { queue = unopened (now (lefts .entry)) (now (rights .entry)) (now (labels .entry)) (now (marks .entry)); replies = now (replies .entry) })
-        (record { queue = queueOf (r .control) (r .records) (now (lefts .exit)) (now (rights .exit)) (now (labels .exit)) (now (marks .exit)); replies = now (replies .exit) })
+        ⌜ Serves pooled tasks slots tag (now (requests .entry))
+        (record {
+          queue = unopened (now (lefts .entry)) (now (rights .entry)) (now (labels .entry)) (now (marks .entry)) (now (next .entry));
+          replies = now (replies .entry);
+        })
+        (record {
+          queue = queueOf (r .control) (r .records) (now (lefts .exit)) (now (rights .exit)) (now (labels .exit)) (now (marks .exit)) (now (next .exit));
+          replies = now (replies .exit);
+        })
         (r .outcome) (r .count) ⌝ }
 {
     let none = operation::idle();
@@ -109,7 +136,10 @@ pub fn serve(
             slots: 0,
             anchor: 0,
             retries: 0,
+            pooled: 0,
+            head: 0,
         },
+        pooled,
         turn::TASKS,
         tasks,
         slots,
@@ -118,6 +148,7 @@ pub fn serve(
         rights,
         labels,
         marks,
+        next,
     );
     let control = o.control;
     let outcome = o.outcome;
@@ -132,6 +163,7 @@ pub fn serve(
         rights,
         labels,
         marks,
+        next,
     );
     let control = left.control;
     let records = left.records;

@@ -15,12 +15,15 @@ pub struct Request {
 fn op_of(code: u64, side: u64, slot: u64, label: u64) -> Op
     ensures { λ r. ⌜ r ≡ opOf code side slot label ⌝ }
 {
+    let label = (label % 4294967296) as u32;
     if code == 0 {
-        let label = (label % 4294967296) as u32;
         return Op::Push { side, slot, label };
     }
     if code == 1 {
         return Op::Pop { side };
+    }
+    if code == 2 {
+        return Op::Put { side, label };
     }
     Op::Step
 }

@@ -27,18 +27,24 @@ pub fn take_turn(
     rights: &mut [u64],
     labels: &mut [u32],
     marks: &mut [u64],
+    next: &mut [u64],
 ) -> Turn
     ensures { λ m.
         ⌜ _≡_ {A = calls.Done}
-        (record { queue = queueOf (m .control) (m .records) (now (lefts .exit)) (now (rights .exit)) (now (labels .exit)) (now (marks .exit)); outcome = m .outcome })
-        (calls.act (queueOf c records (now (lefts .entry)) (now (rights .entry)) (now (labels .entry)) (now (marks .entry))) task op) ⌝ }
+        (record {
+          queue = queueOf (m .control) (m .records) (now (lefts .exit)) (now (rights .exit)) (now (labels .exit)) (now (marks .exit)) (now (next .exit));
+          outcome = m .outcome;
+        })
+        (calls.act
+        (queueOf c records (now (lefts .entry)) (now (rights .entry)) (now (labels .entry)) (now (marks .entry)) (now (next .entry)))
+        task op) ⌝ }
 {
     let mut rows = records;
     let mut r = operation::idle();
     if task < TASKS {
         r = rows[task];
     }
-    let m = operation::act(c, r, TASKS, task, op, lefts, rights, labels, marks);
+    let m = operation::act(c, r, TASKS, task, op, lefts, rights, labels, marks, next);
     let moved = m.task;
     if task < TASKS {
         rows[task] = moved;

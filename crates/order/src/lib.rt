@@ -2,7 +2,9 @@
 use model::Control;
 use sheet_model::SheetReply;
 ghost use mathlib.Core.Path.{_≡_};
-ghost use mathlib.Core.Bool.{true, _&&_};
+ghost use mathlib.Core.Bool.{true, false, _&&_};
+ghost use mathlib.Core.List.{List};
+ghost use Prim.Native.Nat.{ℕ};
 ghost use lib.ListN.{length};
 ghost use Rattle.model.specs.Tables.{tablesOf};
 ghost use Rattle.model.specs.Sound.{controlSound};
@@ -27,7 +29,7 @@ fn refused(number: u64) -> SheetReply
     }
 }
 
-/// What stands before the walk: 34 for control and Anchor, 46, 12.
+/// What stands before the walk: 34 for control and Anchor, 46, 12. No next table is lent, so none counts.
 fn early(
     c: Control,
     listed: &[u32],
@@ -42,7 +44,7 @@ fn early(
         ⌜ r ≡ early
         (controlSound c)
         (malformed (record { listed = now (listed .entry); rules = now (rules .entry) }))
-        (lengthsFit (c .slots) lefts rights labels marks && enough) ⌝ }
+        (lengthsFit false (c .slots) lefts rights labels marks 0 && enough) ⌝ }
 {
     if !sound::control_sound(c) {
         return 34;
@@ -50,14 +52,14 @@ fn early(
     if form::malformed(listed, rules) {
         return 46;
     }
-    let fits = sound::rows_fit(c.slots, lefts, rights, labels, marks);
+    let fits = sound::rows_fit(false, c.slots, lefts, rights, labels, marks, 0);
     if !(fits & enough) {
         return 12;
     }
     0
 }
 
-/// Kept, or the first broken pair, by first then second place in the sheet.
+/// Kept, or the first broken pair, by first then second place in the sheet; whatever the next rows.
 pub fn sheet(
     c: Control,
     listed: &[u32],
@@ -68,9 +70,9 @@ pub fn sheet(
     marks: &[u64],
 ) -> SheetReply
     ensures { λ r.
-        ⌜ r ≡ sheet
-        (tablesOf c (now (lefts .entry)) (now (rights .entry)) (now (labels .entry)) (now (marks .entry)))
-        (record { listed = now (listed .entry); rules = now (rules .entry) }) ⌝ }
+        ⌜ ((next : List ℕ) → r ≡ sheet
+        (tablesOf c (now (lefts .entry)) (now (rights .entry)) (now (labels .entry)) (now (marks .entry)) next)
+        (record { listed = now (listed .entry); rules = now (rules .entry) })) ⌝ }
 {
     let why = early(
         c,
@@ -109,11 +111,11 @@ pub fn sheet_words(
     marks: &[u64],
 ) -> SheetReply
     ensures { λ r.
-        ⌜ _≡_ {A = Printed} (record { reply = r; words = now (lent .exit) })
+        ⌜ ((next : List ℕ) → _≡_ {A = Printed} (record { reply = r; words = now (lent .exit) })
         (sheetWords
-        (tablesOf c (now (lefts .entry)) (now (rights .entry)) (now (labels .entry)) (now (marks .entry)))
+        (tablesOf c (now (lefts .entry)) (now (rights .entry)) (now (labels .entry)) (now (marks .entry)) next)
         (record { listed = now (listed .entry); rules = now (rules .entry) })
-        (now (lent .entry))) ⌝ }
+        (now (lent .entry)))) ⌝ }
 {
     let why = early(
         c,

@@ -1,11 +1,13 @@
 //! The order sheet for C and Rust: the calls of crate `order`, with control lent as C lends it.
 use sheet_model::SheetReply;
 ghost use mathlib.Core.Path.{_≡_};
+ghost use mathlib.Core.List.{List};
+ghost use Prim.Native.Nat.{ℕ};
 ghost use Rattle.model.specs.Tables.{tablesOf};
 ghost use Rattle.rows.specs.Rows.{controlOf};
 ghost use Rattle.sheet_model.specs.Verdict.{sheet, Printed, sheetWords};
 
-/// The order sheet.
+/// The order sheet, whatever the next rows.
 #[no_mangle]
 pub extern "C" fn zc_sheet(
     control: &[u64; rows::CONTROL_WORDS],
@@ -17,9 +19,9 @@ pub extern "C" fn zc_sheet(
     marks: &[u64],
 ) -> SheetReply
     ensures { λ r.
-        ⌜ r ≡ sheet
-        (tablesOf (controlOf (now (control .entry))) (now (lefts .entry)) (now (rights .entry)) (now (labels .entry)) (now (marks .entry)))
-        (record { listed = now (listed .entry); rules = now (rules .entry) }) ⌝ }
+        ⌜ ((next : List ℕ) → r ≡ sheet
+        (tablesOf (controlOf (now (control .entry))) (now (lefts .entry)) (now (rights .entry)) (now (labels .entry)) (now (marks .entry)) next)
+        (record { listed = now (listed .entry); rules = now (rules .entry) })) ⌝ }
 {
     let row = *control;
     let c = rows::control_of(row);
@@ -39,11 +41,11 @@ pub extern "C" fn zc_sheet_words(
     marks: &[u64],
 ) -> SheetReply
     ensures { λ r.
-        ⌜ _≡_ {A = Printed} (record { reply = r; words = now (words .exit) })
+        ⌜ ((next : List ℕ) → _≡_ {A = Printed} (record { reply = r; words = now (words .exit) })
         (sheetWords
-        (tablesOf (controlOf (now (control .entry))) (now (lefts .entry)) (now (rights .entry)) (now (labels .entry)) (now (marks .entry)))
+        (tablesOf (controlOf (now (control .entry))) (now (lefts .entry)) (now (rights .entry)) (now (labels .entry)) (now (marks .entry)) next)
         (record { listed = now (listed .entry); rules = now (rules .entry) })
-        (now (words .entry))) ⌝ }
+        (now (words .entry)))) ⌝ }
 {
     let row = *control;
     let c = rows::control_of(row);

@@ -12,9 +12,10 @@ use Rattle.word.specs.Anchor.{anchorOf}
 use Rattle.model.specs.declared.Control.{Control}
 use Rattle.model.specs.declared.Entry.{Entry}
 use Rattle.model.specs.Tables.{Tables, isEmpty}
-use Rattle.model.specs.Sound.{controlSound, rowsFit, from1, anchorSound}
+use Rattle.model.specs.Sound.{controlTests, controlSound, rowsFit}
 use Rattle.model.specs.Walk.{Walk, entries, broken, along, walkFrom, contents, isBroken, met}
 use Rattle.model.proofs.tests.Truth.{split, and-true, not-both}
+use Rattle.model.proofs.tests.Rules.{tests}
 use Rattle.sheet_model.specs.declared.Extents.{Extents}
 use Rattle.sheet_model.specs.declared.SheetReply.{SheetReply}
 use Rattle.sheet_model.specs.Sheet.{Sheet, malformed}
@@ -29,9 +30,8 @@ use Rattle.sheet_model.proofs.Gather.{Short, gather-walk, along-short}
 pub slots-few : (c : Control) → controlSound c ≡ true → c .slots ≤ 1023
 unfolding controlSound
 slots-few c e =
-    let a = and-true (from1 16 (c .tasks)) (from1 1023 (c .slots) && anchorSound (c .slots) (anchorOf (c .anchor))) e in
-    let b = and-true (from1 1023 (c .slots)) (anchorSound (c .slots) (anchorOf (c .anchor))) (a .1) in
-    leb-true (c .slots) 1023 (and-true (leb 1 (c .slots)) (leb (c .slots) 1023) (b .0) .1)
+    let slots = tests (controlTests c) e .1 .0 in
+    leb-true (c .slots) 1023 (and-true (leb 1 (c .slots)) (leb (c .slots) 1023) slots .1)
 
 stays-sound : (listed : List ℕ) (up : Bool) (at : ℕ) (l : List Entry) (e : Extents) → e .sound ≡ true → notedAll listed up at l e .sound ≡ true
 unfolding notedAll
@@ -101,21 +101,21 @@ early-none false b c e = absurd (omega arith)
 
 module _ (q : Tables) (s : Sheet) (enough : Bool) where
   abbrev why : ℕ
-  why = early (controlSound (q .control)) (malformed s) (rowsFit (q .control .slots) q && enough)
+  why = early (controlSound (q .control)) (malformed s) (rowsFit false (q .control .slots) q && enough)
 
   pub record Accepted : Type 0 where
     pub control : controlSound (q .control) ≡ true
     pub form : malformed s ≡ false
-    pub long : rowsFit (q .control .slots) q && enough ≡ true
+    pub long : rowsFit false (q .control .slots) q && enough ≡ true
 
   pub accepted : why ≡ 0 → Accepted
   accepted e =
-      let f = early-none (controlSound (q .control)) (malformed s) (rowsFit (q .control .slots) q && enough) e in
+      let f = early-none (controlSound (q .control)) (malformed s) (rowsFit false (q .control .slots) q && enough) e in
       record { control = f .0; form = f .1; long = f .2 }
 
   pub judge-early : (why ≡ 0 → ⊥) → refused why ≡ judge q s enough
   unfolding judge early
-  judge-early h = go (controlSound (q .control)) (malformed s) (rowsFit (q .control .slots) q && enough) h
+  judge-early h = go (controlSound (q .control)) (malformed s) (rowsFit false (q .control .slots) q && enough) h
     where
       walk : Bool
       walk = isBroken (contents q)

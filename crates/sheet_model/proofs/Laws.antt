@@ -8,12 +8,13 @@ use lib.Dec.{eqb, leb}
 use lib.ListN.{length, getD, drop, List·getD-append}
 use borrow.Author.Tests.{le-leb, eq-eqb}
 use Rattle.model.specs.declared.Entry.{Entry}
-use Rattle.model.specs.Tables.{Queue}
-use Rattle.model.specs.Sound.{rowsFit}
+use Rattle.model.specs.Tables.{Queue, isPooled}
+use Rattle.model.specs.Sound.{rowTests, rowsFit}
 use Rattle.model.specs.Refusals.{recordsFit}
-use Rattle.model.specs.Calls.{openQueue}
+use Rattle.model.specs.Calls.{openAs}
 use Rattle.model.specs.History.{final, ledger, run}
 use Rattle.model.proofs.tests.Truth.{split, and-true}
+use Rattle.model.proofs.tests.Rules.{tests}
 use Rattle.model.proofs.Standing.{Standing, standing}
 use Rattle.sheet_model.specs.Sheet.{Sheet, malformed, chained}
 use Rattle.sheet_model.specs.Squares.{listOf, bitsOf, linked, wordsOf}
@@ -32,15 +33,18 @@ square-is-chained s e a b = record {
 }
 
 judged : (q : Queue) (d : List Entry) (s : Sheet) → Standing q d → sheet (q .tables) s ≡ cond (malformed s) (refused 46) (verdict s d)
-unfolding sheet judge
+unfolding sheet judge rowsFit
 judged q d s h =
-    let fit = and-true (rowsFit (q .tables .control .slots) (q .tables)) (recordsFit (q .tables .control .tasks) q) (h .long) .0 in
-    split (malformed s) (λ e. rw (h .control, e)) (λ e. rw (h .control, e, fit, h .walk))
+    let c = q .tables .control in
+    let pooled = isPooled c in
+    let long = and-true (rowsFit pooled (c .slots) (q .tables)) (recordsFit (c .tasks) q) (h .long) .0 in
+    let rows = tests (rowTests pooled (c .slots) (q .tables)) long in
+    split (malformed s) (λ e. rw (h .control, e)) (λ e. rw (h .control, e, rows .0, rows .1 .0, rows .1 .1 .0, rows .1 .1 .1 .0, h .walk))
 
 pub sheets-of-queues : SheetsOfQueues
-sheets-of-queues q tasks slots tag e os s =
-    let after = final (openQueue q tasks slots tag .queue) os in
-    judged after (ledger (run (openQueue q tasks slots tag .queue) os) .deque) s (standing q tasks slots tag e os)
+sheets-of-queues pooled q tasks slots tag e os s =
+    let o = openAs pooled q tasks slots tag .queue in
+    judged (final o os) (ledger (run o os) .deque) s (standing pooled q tasks slots tag e os)
 
 pub same-answer : SameAnswer
 unfolding sheetWords sheet

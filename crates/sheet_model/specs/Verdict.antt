@@ -1,5 +1,5 @@
 -- What a sheet is answered. (Document 02, #111 and #112.)
-use mathlib.Core.Bool.{Bool, true, _&&_, not, cond}
+use mathlib.Core.Bool.{Bool, true, false, _&&_, not, cond}
 use mathlib.Core.List.{List, [], _∷_, _++_}
 use Prim.Native.Nat.{ℕ, zero, suc, _+_}
 use lib.Dec.{eqb, leb}
@@ -36,12 +36,12 @@ inRows p m a (suc n) = inRow p a 1 m (inRows p m (a + 1) n)
 unfoldable pub verdict : Sheet → List Entry → SheetReply
 verdict s l = inRows (breaks s l) (length (s .listed)) 1 (length (s .listed))
 
--- 34 for control and Anchor, 46, 12, and 34 for the walk. Enough: the words that #112 lends.
+-- 34 for control and Anchor, 46, 12, and 34 for the walk. Enough: the words that #112 lends. No next table is lent, so 12 looks at none.
 abbrev pub sheetRules : Tables → Sheet → Bool → List Rule
 sheetRules q s enough =
     rule 34 (not (controlSound (q .control)))
     ∷ rule 46 (malformed s)
-    ∷ rule 12 (not (rowsFit (q .control .slots) q && enough))
+    ∷ rule 12 (not (rowsFit false (q .control .slots) q && enough))
     ∷ rule 34 (isBroken (contents q))
     ∷ []
 

@@ -22,15 +22,15 @@ use Rattle.find.proofs.Searching.{blank, full, nothing-waits, left-foun
 use Rattle.find.proofs.search.Statement.{statement}
 use Rattle.find.proofs.search.Tie as tie
 
--- What the call was given: the Anchor as it is, and the tables, whatever the marks.
+-- What the call was given: the Anchor as it is, and the tables, whatever the marks and next rows.
 abbrev start : tie.After-unpack → tie.Start
 start u = let s = u .before .before .before .before in s .before .before .before
 
 abbrev anchor : tie.After-unpack → Anchor
 anchor u = anchorOf (start u .args .c .anchor)
 
-abbrev tables : tie.After-unpack → List ℕ → Tables
-tables u marks = let a = start u .args in tablesOf (a .c) (a .lefts .now) (a .rights .now) (a .labels .now) marks
+abbrev tables : tie.After-unpack → List ℕ → List ℕ → Tables
+tables u marks next = let a = start u .args in tablesOf (a .c) (a .lefts .now) (a .rights .now) (a .labels .now) marks next
 
 abbrev walk : tie.After-unpack → List ℕ → (Anchor → ℕ) → (Anchor → ℕ) → Anchor → Walk
 walk u links last first r = let a = start u .args in along (a .c .slots) links (a .labels .now) (last r) (a .c .slots) (first r)
@@ -54,28 +54,28 @@ status : (u : tie.After-unpack) → eqb (u .unpack .result .status) 2 ≡ eqb (a
 status u = ap (λ (a : Anchor). eqb (a .status) 2) (u .unpack .ensures)
 
 returns : tie.Need-returns
-returns c marks =
+returns c marks next =
     let u = c .before .before .before in
     let a = start u .args in
-    let e = empty (tables u marks) (sym (ap isEmpty (u .unpack .ensures)) ∙ c .if1 .taken) in
+    let e = empty (tables u marks next) (sym (ap isEmpty (u .unpack .ensures)) ∙ c .if1 .taken) in
     subst (λ (w : Walk). Searched (a .asked .now) w (Labels 0) (a .positions .now)) (sym e)
     (nothing-waits (a .asked .now) (start u .pre .1 .0) (a .positions .now) (start u .pre .1 .1))
 
 returns-2 : tie.Need-returns-2
-returns-2 c marks =
+returns-2 c marks next =
     let k = c .before .before in
     let t = k .before .before in
     let e = t .before .before in
     let u = unpacked e in
     let a = start u .args in
     let links = a .rights .now in
-    let way = from-left (tables u marks) (filled e) (sym (status u) ∙ eq-eqb _ _ (t .if2 .taken)) in
+    let way = from-left (tables u marks next) (filled e) (sym (status u) ∙ eq-eqb _ _ (t .if2 .taken)) in
     let l = looked u true links (λ r. r .right) (λ r. r .left) (k .look .result) _ (k .look .ensures) in
     subst (λ (w : Walk). Searched (a .asked .now) w (k .look .result) (k .look .last .1 .1 .1 .1 .1 .1 .1 .1 .0)) (sym way)
     (left-found (a .asked .now) (start u .pre .1 .0) (walk u links (λ r. r .right) (λ r. r .left) (anchor u)) _ _ l)
 
 returns-3 : tie.Need-returns-3
-returns-3 c marks =
+returns-3 c marks next =
     let n = c .before .before in
     let o = n .before .before in
     let k = o .before .before .before in
@@ -85,7 +85,7 @@ returns-3 c marks =
     let a = start u .args in
     let links = a .lefts .now in
     let mid = k .look2 .last .1 .1 .1 .1 .1 .1 .1 .1 .0 in
-    let way = from-right (tables u marks) (filled e) (sym (status u) ∙ ne-eqb _ _ (t .if2 .left)) in
+    let way = from-right (tables u marks next) (filled e) (sym (status u) ∙ ne-eqb _ _ (t .if2 .left)) in
     let l = looked u false links (λ r. r .left) (λ r. r .right) (k .look2 .result) _ (k .look2 .ensures) in
     let z = n .turn .ensures ∙ ap (λ (m : ℕ). map (turned m) mid) (o .rows-of .ensures) in
     subst (λ (w : Walk). Searched (a .asked .now) w (k .look2 .result) (n .turn .last .1 .0)) (sym way)

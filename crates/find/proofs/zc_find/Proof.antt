@@ -7,12 +7,13 @@ use Rattle.find.proofs.zc_find.Statement.{statement}
 use Rattle.find.proofs.zc_find.Tie as tie
 
 returns : tie.Need-returns
-returns c =
+returns c next =
     let r = c .before in
     let s = r .before .before .before .before in
     let a = s .before .before .before .args in
-    c .find .ensures
-    ∙ ap (λ (d : Control). find (tablesOf d (a .lefts .now) (a .rights .now) (a .labels .now) (a .marks .now)) (a .asked .now)) (r .control-of .ensures)
+    c .find .ensures next
+    ∙ ap (λ (d : Control). find (tablesOf d (a .lefts .now) (a .rights .now) (a .labels .now) (a .marks .now) next) (a .asked .now))
+    (r .control-of .ensures)
 
 pub zc-find-spec : {M : Type 1} → statement M
 zc-find-spec = tie.close (tie.spec (λ _ _. tt) (λ _ _. tt) returns)

@@ -14,26 +14,39 @@ use Rattle.history.proofs.Turns.{served-all, served-none, served-next}
 use Rattle.history.proofs.carry_out.Statement.{statement}
 use Rattle.history.proofs.carry_out.Tie as tie
 
-abbrev state : Control → List Record → List ℕ → List ℕ → List ℕ → List ℕ → List ℕ → State
-state c rows replies lefts rights labels marks = record { queue = queueOf c rows lefts rights labels marks; replies = replies }
+abbrev state : Control → List Record → List ℕ → List ℕ → List ℕ → List ℕ → List ℕ → List ℕ → State
+state c rows replies lefts rights labels marks next = record { queue = queueOf c rows lefts rights labels marks next; replies = replies }
 
 abbrev Inv-loop : tie.InvT-loop
-Inv-loop count requests replies₀ lefts₀ rights₀ labels₀ marks₀ c₀ rows₀ i₀ replies lefts rights labels marks c rows i =
+Inv-loop count requests replies₀ lefts₀ rights₀ labels₀ marks₀ next₀ c₀ rows₀ i₀ replies lefts rights labels marks next c rows i =
     (i ≤ count) × (count < 9223372036854775808) × (5 * count ≤ length requests) × (3 * count ≤ length replies₀)
-    × (served (3 * i) (state c rows replies lefts rights labels marks) (requestsFrom i (count - i) requests)
-    ≡ served 0 (state c₀ rows₀ replies₀ lefts₀ rights₀ labels₀ marks₀) (requestsFrom 0 count requests))
+    × (served (3 * i) (state c rows replies lefts rights labels marks next) (requestsFrom i (count - i) requests)
+    ≡ served 0 (state c₀ rows₀ replies₀ lefts₀ rights₀ labels₀ marks₀ next₀) (requestsFrom 0 count requests))
     × (length replies ≡ length replies₀) × (length lefts ≡ length lefts₀) × (length rights ≡ length rights₀)
-    × (length labels ≡ length labels₀) × (length marks ≡ length marks₀)
+    × (length labels ≡ length labels₀) × (length marks ≡ length marks₀) × (length next ≡ length next₀)
 
 abbrev μ-loop : tie.MeasureT-loop
-μ-loop count requests replies₀ lefts₀ rights₀ labels₀ marks₀ c₀ rows₀ i₀ replies lefts rights labels marks c rows i = count - i
+μ-loop count requests replies₀ lefts₀ rights₀ labels₀ marks₀ next₀ c₀ rows₀ i₀ replies lefts rights labels marks next c rows i = count - i
 
 loop-holds : tie.Need-loop-holds Inv-loop μ-loop
-loop-holds c = (search needs, search needs, search needs, search needs, served-all _ _ _, refl, refl, refl, refl, refl)
+loop-holds c = (search needs, search needs, search needs, search needs, served-all _ _ _, refl, refl, refl, refl, refl, refl)
+
+-- Back to the operation, past what it leaves of each table; and to the request.
+abbrev turn : tie.After-write-reply Inv-loop μ-loop → tie.After-take-turn Inv-loop μ-loop
+turn c =
+    let next = c .before .before .before .before in
+    let labels = next .before .before .before .before in
+    let lefts = labels .before .before .before .before in
+    lefts .before .before
+
+abbrev asked : tie.After-take-turn Inv-loop μ-loop → tie.After-request-at Inv-loop μ-loop
+asked c =
+    let args = c .before .before .before .before in
+    args .before .before
 
 add-i : tie.Need-add-i Inv-loop μ-loop
 add-i c =
-    let test = c .before .before .before .before .before .before .before .before .before .before .before .before .before .before .before .before .before .before .before .before in
+    let test = asked (turn (c .before .before)) .before in
     let less = test .loop-test .taken in
     let small = test .before .loop .inv .1 in
     omega arith
@@ -41,26 +54,29 @@ add-i c =
 loop-again : tie.Need-loop-again Inv-loop μ-loop
 loop-again c =
     let wrote = c .before .before in
-    let turn = wrote .before .before .before .before .before .before .before .before .before .before .before .before in
-    let asked = turn .before .before .before .before .before in
-    let less = asked .before .loop-test .taken in
-    let inv = asked .before .before .loop .inv in
-    let kept = turn .take-turn .kept .1 .1 .1 .1 in (
+    let done = turn wrote in
+    let read = asked done in
+    let less = read .before .loop-test .taken in
+    let inv = read .before .before .loop .inv in
+    let kept = done .take-turn .kept .1 .1 .1 .1 in (
       omega arith,
       inv .1,
       inv .2,
       inv .3,
-      served-next _ _ _ _ _ _ _ less (asked .request-at .ensures) (turn .take-turn .ensures) (wrote .write-reply .ensures) ∙ inv .4,
+      served-next _ _ _ _ _ _ _ less (read .request-at .ensures) (done .take-turn .ensures) (wrote .write-reply .ensures) ∙ inv .4,
       wrote .write-reply .kept .0 ∙ inv .5,
       kept .0 ∙ inv .6,
       kept .1 .0 ∙ inv .7,
       kept .1 .1 .0 ∙ inv .8,
       kept .1 .1 .1 .0 ∙ inv .9,
+      kept .1 .1 .1 .1 .0 ∙ inv .10,
     )
 
 returns : tie.Need-returns Inv-loop μ-loop
 returns c =
-    let e : c .before .loop .i ≡ c .before .before .before .before .before .before .before .before .args .count = omega arith in
+    let known = c .before .before .before .before in
+    let first = known .before .before .before .before .before in
+    let e : c .before .loop .i ≡ first .args .count = omega arith in
     sym (served-none _ _ _ _ e) ∙ c .before .loop .inv .4
 
 pub carry-out-spec : {M : Type 1} → statement M
@@ -76,6 +92,7 @@ carry-out-spec =
     add-i
     (λ c. search needs)
     loop-again
+    (λ c. search needs)
     (λ c. search needs)
     (λ c. search needs)
     (λ c. search needs)

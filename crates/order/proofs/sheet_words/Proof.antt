@@ -1,5 +1,5 @@
-use mathlib.Core.Bool.{_&&_}
-use mathlib.Core.List.{List}
+use mathlib.Core.Bool.{false}
+use mathlib.Core.List.{List, []}
 use mathlib.Core.Path.{_≡_, sym, ap, subst, _∙_}
 use Prim.Native.Nat.{ℕ, _≤_}
 use native.Mathlib.Omega.{arith}
@@ -7,14 +7,14 @@ use lib.Dec.{leb}
 use lib.ListN.{length, drop}
 use borrow.Author.Tests.{leb-true, not-true, not-false}
 use Rattle.model.specs.Tables.{tablesOf}
-use Rattle.model.specs.Sound.{controlSound, rowsFit}
+use Rattle.model.specs.Sound.{rowsFit}
 use Rattle.model.proofs.tests.Truth.{and-true}
-use Rattle.sound.specs.Lengths.{fits}
+use Rattle.sound.specs.Lengths.{lengthsFit}
 use Rattle.sheet_model.specs.declared.Extents.{Extents}
 use Rattle.sheet_model.specs.declared.SheetReply.{SheetReply}
-use Rattle.sheet_model.specs.Sheet.{Sheet, malformed}
+use Rattle.sheet_model.specs.Sheet.{Sheet}
 use Rattle.sheet_model.specs.Squares.{bitRow, crossed, wordsOf}
-use Rattle.sheet_model.specs.Verdict.{refused, inRows, early}
+use Rattle.sheet_model.specs.Verdict.{refused, inRows}
 use Rattle.sheet_model.proofs.BitRows.{bits, bits-show, words-long}
 use Rattle.sheet_model.proofs.Broken.{formed}
 use Rattle.sheet_model.proofs.Judged.{slots-few, accepted, judge-early, judge-lost, judge-told}
@@ -24,43 +24,45 @@ use Rattle.order.proofs.sheet_words.Statement.{statement}
 use Rattle.order.proofs.sheet_words.Tie as tie
 
 returns : tie.Need-returns
-returns c =
+unfolding lengthsFit rowsFit
+returns c next =
     let p4 = c .before .before .before .before in
     let p8 = p4 .before .before .before .before in
     let q = tablesOf (p8 .before .before .args .c) (p8 .before .before .args .lefts .now) (p8 .before .before .args .rights .now)
-    (p8 .before .before .args .labels .now) (p8 .before .before .args .marks .now) in
+    (p8 .before .before .args .labels .now) (p8 .before .before .args .marks .now) next in
     let s : Sheet = record { listed = p8 .before .before .args .listed .now; rules = p8 .before .before .args .rules .now } in
     let w = p8 .before .before .args .lent .now in
     let enough = leb 32 (length w) in
-    let e = c .before .before .early .ensures
-    ∙ ap (λ b. early (controlSound (q .control)) (malformed s) (b && enough)) (fits (q .control .slots) q) in
+    let e = c .before .before .early .ensures in
     printed-refused q s w (c .refused .result) (c .refused .ensures ∙ ap refused e ∙ judge-early q s enough (λ z. c .before .if1 .taken (e ∙ z)))
     (λ z. c .before .if1 .taken (sym (ap (λ (r : SheetReply). r .code) (c .refused .ensures)) ∙ z))
 
 extents-requires : tie.Need-extents-requires
+unfolding lengthsFit rowsFit
 extents-requires c κs =
     let p4 = c .before .before .before .before in
     let p8 = p4 .before .before .before .before in
     let q = tablesOf (p8 .before .args .c) (p8 .before .args .lefts .now) (p8 .before .args .rights .now) (p8 .before .args .labels .now)
-    (p8 .before .args .marks .now) in
+    (p8 .before .args .marks .now) [] in
     let s : Sheet = record { listed = p8 .before .args .listed .now; rules = p8 .before .args .rules .now } in
     let w = p8 .before .args .lent .now in
     let enough = leb 32 (length w) in
-    let e = c .before .early .ensures ∙ ap (λ b. early (controlSound (q .control)) (malformed s) (b && enough)) (fits (q .control .slots) q) in
+    let e = c .before .early .ensures in
     let ok = accepted q s enough (sym e ∙ c .if1 .left) in
     slots-few (q .control) (ok .control)
 
 returns-2 : tie.Need-returns-2
-returns-2 c =
+unfolding lengthsFit rowsFit
+returns-2 c next =
     let p4 = c .before .before .before .before in
     let p8 = p4 .before .before .before .before in
     let p12 = p8 .before .before .before .before in
     let q = tablesOf (p12 .before .args .c) (p12 .before .args .lefts .now) (p12 .before .args .rights .now) (p12 .before .args .labels .now)
-    (p12 .before .args .marks .now) in
+    (p12 .before .args .marks .now) next in
     let s : Sheet = record { listed = p12 .before .args .listed .now; rules = p12 .before .args .rules .now } in
     let w = p12 .before .args .lent .now in
     let enough = leb 32 (length w) in
-    let e = p4 .before .early .ensures ∙ ap (λ b. early (controlSound (q .control)) (malformed s) (b && enough)) (fits (q .control .slots) q) in
+    let e = p4 .before .early .ensures in
     let ok = accepted q s enough (sym e ∙ p4 .if1 .left) in
     let x = c .before .before .before .extents .ensures in
     printed-refused q s w (c .refused2 .result)
@@ -68,21 +70,23 @@ returns-2 c =
     (λ z. let y : _≡_ {A = ℕ} 34 0 = sym (ap (λ (r : SheetReply). r .code) (c .refused2 .ensures)) ∙ z in omega arith)
 
 closure-requires : tie.Need-closure-requires
+unfolding lengthsFit rowsFit
 closure-requires c κs =
     let p4 = c .before .before .before .before in
     let p8 = p4 .before .before .before .before in
     let p12 = p8 .before .before .before .before in
     let q = tablesOf (p12 .before .args .c) (p12 .before .args .lefts .now) (p12 .before .args .rights .now) (p12 .before .args .labels .now)
-    (p12 .before .args .marks .now) in
+    (p12 .before .args .marks .now) [] in
     let s : Sheet = record { listed = p12 .before .args .listed .now; rules = p12 .before .args .rules .now } in
     let w = p12 .before .args .lent .now in
     let enough = leb 32 (length w) in
-    let e = p4 .before .early .ensures ∙ ap (λ b. early (controlSound (q .control)) (malformed s) (b && enough)) (fits (q .control .slots) q) in
+    let e = p4 .before .early .ensures in
     let ok = accepted q s enough (sym e ∙ p4 .if1 .left) in
     let f = formed s (ok .form) in
-    (leb-true 32 (length w) (and-true (rowsFit (q .control .slots) q) enough (ok .long) .1), f .few, f .inside)
+    (leb-true 32 (length w) (and-true (rowsFit false (q .control .slots) q) enough (ok .long) .1), f .few, f .inside)
 
 first-broken-requires : tie.Need-first-broken-requires
+unfolding lengthsFit rowsFit
 first-broken-requires c κs =
     let p4 = c .before .before .before .before in
     let p8 = p4 .before .before .before .before in
@@ -90,12 +94,11 @@ first-broken-requires c κs =
     let p16 = p12 .before .before .before .before in
     let q = tablesOf (p16 .before .before .before .args .c) (p16 .before .before .before .args .lefts .now)
     (p16 .before .before .before .args .rights .now) (p16 .before .before .before .args .labels .now)
-    (p16 .before .before .before .args .marks .now) in
+    (p16 .before .before .before .args .marks .now) [] in
     let s : Sheet = record { listed = p16 .before .before .before .args .listed .now; rules = p16 .before .before .before .args .rules .now } in
     let w = p16 .before .before .before .args .lent .now in
     let enough = leb 32 (length w) in
-    let e = p8 .before .before .before .early .ensures
-    ∙ ap (λ b. early (controlSound (q .control)) (malformed s) (b && enough)) (fits (q .control .slots) q) in
+    let e = p8 .before .before .before .early .ensures in
     let ok = accepted q s enough (sym e ∙ p8 .before .before .if1 .left) in
     (subst (λ (l : List ℕ). 32 ≤ length l) (sym (p4 .before .closure .ensures)) (words-long _ _), formed s (ok .form) .few)
 
@@ -103,18 +106,18 @@ same-length : tie.Need-same-length
 same-length c = search needs
 
 returns-3 : tie.Need-returns-3
-unfolding wordsOf
-returns-3 c =
+unfolding wordsOf lengthsFit rowsFit
+returns-3 c next =
     let p4 = c .before .before .before .before in
     let p8 = p4 .before .before .before .before in
     let p12 = p8 .before .before .before .before in
     let p16 = p12 .before .before .before .before in
     let p20 = p16 .before .before .before .before in
-    let q = tablesOf (p20 .args .c) (p20 .args .lefts .now) (p20 .args .rights .now) (p20 .args .labels .now) (p20 .args .marks .now) in
+    let q = tablesOf (p20 .args .c) (p20 .args .lefts .now) (p20 .args .rights .now) (p20 .args .labels .now) (p20 .args .marks .now) next in
     let s : Sheet = record { listed = p20 .args .listed .now; rules = p20 .args .rules .now } in
     let w = p20 .args .lent .now in
     let enough = leb 32 (length w) in
-    let e = p12 .early .ensures ∙ ap (λ b. early (controlSound (q .control)) (malformed s) (b && enough)) (fits (q .control .slots) q) in
+    let e = p12 .early .ensures in
     let ok = accepted q s enough (sym e ∙ p8 .before .before .before .if1 .left) in
     let n = length (s .listed) in
     let x = p8 .before .before .extents .ensures in

@@ -8,12 +8,12 @@ use Rattle.sheet.proofs.zc_sheet.Statement.{statement}
 use Rattle.sheet.proofs.zc_sheet.Tie as tie
 
 returns : tie.Need-returns
-returns c =
+returns c next =
     let p4 = c .before .before .before .before in
     let p8 = p4 .before .before .before .before in
     let s : Sheet = record { listed = p8 .before .args .listed .now; rules = p8 .before .args .rules .now } in
-    c .sheet .ensures ∙ ap (λ (k : Control). sheet
-    (tablesOf k (p8 .before .args .lefts .now) (p8 .before .args .rights .now) (p8 .before .args .labels .now) (p8 .before .args .marks .now)) s)
+    c .sheet .ensures next ∙ ap (λ (k : Control). sheet
+    (tablesOf k (p8 .before .args .lefts .now) (p8 .before .args .rights .now) (p8 .before .args .labels .now) (p8 .before .args .marks .now) next) s)
     (c .before .control-of .ensures)
 
 pub zc-sheet-spec : {M : Type 1} → statement M

@@ -9,11 +9,29 @@ use Rattle.history.proofs.Turns.{record-there, turn-done}
 use Rattle.history.proofs.turn.take_turn.Statement.{statement}
 use Rattle.history.proofs.turn.take_turn.Tie as tie
 
+-- Back to the operation, past what it leaves of each table; to the record read; to the start.
+abbrev act : tie.After-moved → tie.After-act
+act c =
+    let marks = c .before .before .before .before in
+    let rights = marks .before .before .before .before in
+    rights .before .before .before
+
+abbrev record-read : tie.After-act → tie.Joined1
+record-read c =
+    let args = c .before .before .before .before in
+    args .before .before
+
+abbrev start : tie.Joined1 → tie.Start
+start c =
+    let known = c .before .before .before .before in
+    known .before .before .before
+
 returns : tie.Need-returns
 returns c =
-    let acted = c .before .before .before .before .before .before .before .before .before .before .before in
-    let read = acted .before .before .before .before .before in
-    let first = read .before .before .before .before .before .before in
+    let moved = c .before .before in
+    let acted = act moved in
+    let read = record-read acted in
+    let first = start read in
     let rs = first .args .records in
     let len : length rs ≡ 16 = search (needs, first .good .1 .0 .1) in
     turn-done _ rs _ _ _ _ _ len
@@ -31,6 +49,7 @@ take-turn-spec =
     (λ c. search needs)
     (λ c. search needs)
     (λ c κs. search needs)
+    (λ c. search needs)
     (λ c. search needs)
     (λ c. search needs)
     (λ c. search needs)
