@@ -1,9 +1,9 @@
 -- The report. (Document 01: Places, below the table; document 02, #101 and #102.)
 use mathlib.Core.Bool.{Bool, not, cond}
-use mathlib.Core.List.{List, [], _∷_, _++_}
+use mathlib.Core.List.{List, [], _∷_}
 use Prim.Native.Nat.{ℕ, zero, suc, _+_}
 use lib.Dec.{eqb, ltb}
-use lib.ListN.{length, replicate}
+use lib.ListN.{length}
 use Rattle.word.specs.Anchor.{anchorOf}
 use Rattle.model.specs.declared.Report.{Report}
 use Rattle.model.specs.declared.Reported.{Reported}
@@ -46,17 +46,11 @@ tell q enough busy =
 unfoldable pub report : Queue → Reported
 report q = tell (q .tables) (recordsFit (q .tables .control .tasks) q) (busy q)
 
--- Retries: one count a task, in task order. They are listed for sixteen tasks, 0 beyond those opened.
+-- The values of f at the numbers below n, in their order.
 unfoldable pub listed : (ℕ → ℕ) → ℕ → List ℕ
 listed f zero = []
-listed f (suc n) = listed f n ++ (f n ∷ [])
+listed f (suc n) = f 0 ∷ listed (λ t. f (suc t)) n
 
-abbrev pub countOf : Queue → ℕ → ℕ
-countOf q t = cond (ltb t (q .tables .control .tasks)) (taskAt q t .retries) 0
-
--- They stand beside the report; in a refusal all are 0.
-unfoldable pub reportCounts : Queue → List ℕ
-reportCounts q =
-    cond (eqb (reportRefusal (q .tables) (recordsFit (q .tables .control .tasks) q)) 0)
-    (listed (countOf q) 16)
-    (replicate 16 0)
+-- Retries: one count a task, in task order, with places for sixteen tasks: 0 beyond those opened. They stand beside the report.
+unfoldable pub retryCounts : Queue → List ℕ
+retryCounts q = listed (λ t. cond (ltb t (q .tables .control .tasks)) (taskAt q t .retries) 0) 16

@@ -68,6 +68,13 @@ pub fn call_of(row: [u64; RECORD_WORDS]) -> Record
     }
 }
 
+/// The count that a row holds.
+pub fn retries_of(row: [u64; RECORD_WORDS]) -> u64
+    ensures { λ n. ⌜ n ≡ recordOf row .retries ⌝ }
+{
+    row[9]
+}
+
 /// The row of a call and a count.
 pub fn record_row(r: Record, retries: u64) -> [u64; RECORD_WORDS]
     ensures { λ row. ⌜ (recordOf row ≡ record { call = r; retries = retries }) × (upperOf row ≡ 0) ⌝ }
