@@ -55,7 +55,7 @@ static inline zc_reply take_reading(zc_record *record, uint64_t found)
 }
 
 zc_reply bare_step(zc_control *control, zc_record *record, uint64_t *lefts, uint64_t *rights,
-                   const uint32_t *labels, uint64_t *marks)
+                   uint32_t *labels, uint64_t *marks, uint64_t *next)
 {
     uint64_t seen = record->seen;
     uint64_t status = zc_anchor_status(seen);
@@ -106,10 +106,37 @@ zc_reply bare_step(zc_control *control, zc_record *record, uint64_t *lefts, uint
     case 10:
         change(control, &control->anchor, seen, successor(seen, ZC_STABLE, right, end, far));
         return leave(record);
-    default: {
+    case 11: {
         uint32_t label = labels[end];
         marks[end / 64] &= ~(UINT64_C(1) << (end % 64));
-        return answer(record, ZC_POPPED, end, label);
+        if (!control->pooled)
+            return answer(record, ZC_POPPED, end, label);
+        record->own = end;
+        record->label = label;
+        return go(record, 15);
     }
+    case 12:
+        if (zc_link_slot(control->head) == 0)
+            return answer(record, ZC_NO_FREE_SLOT, 0, 0);
+        record->link = control->head;
+        return go(record, 13);
+    case 13: record->neighbour = next[zc_link_slot(record->link)]; return go(record, 14);
+    case 14: {
+        uint64_t slot = zc_link_slot(record->link);
+        if (!change(control, &control->head, record->link,
+                    ((record->link & tag_bits) + one_tag) | record->neighbour))
+            return go(record, 12);
+        marks[slot / 64] |= UINT64_C(1) << (slot % 64);
+        labels[slot] = record->label;
+        record->own = slot;
+        return go(record, 1);
+    }
+    case 15: record->link = control->head; return go(record, 16);
+    case 16: next[record->own] = zc_link_slot(record->link); return go(record, 17);
+    default:
+        if (!change(control, &control->head, record->link,
+                    ((record->link & tag_bits) + one_tag) | record->own))
+            return go(record, 15);
+        return answer(record, ZC_POPPED, record->own, record->label);
     }
 }

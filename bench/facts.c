@@ -1,7 +1,8 @@
 /*
- * Measures what a call of the library takes, most over a random schedule of all kinds of calls:
- * bytes of stack, from the stack pointer at the call down to the lowest byte written, and
- * instructions, counted one by one with the processor's trap flag. The bytes of the tables too.
+ * Measures what a call of the library takes, most over a random schedule of all kinds of calls, on a
+ * queue with named slots and then on a pooled one: bytes of stack, from the stack pointer at the
+ * call down to the lowest byte written, and instructions, counted one by one with the processor's
+ * trap flag. The bytes of the tables too, a next table among them.
  *
  * Prints lines of a name and a number; bench/facts.sh makes the table. It is compiled for TASKS and
  * SLOTS with -O1 -mno-red-zone -maccumulate-outgoing-args (so that the stack pointer stays put
@@ -17,8 +18,9 @@
 #include <ucontext.h>
 
 enum { CALLS = 1500, DEPTH = 4096, PAINT = 0xa5 };
-enum { OPEN, PUSH, POP, STEP, STEP_RECORD, RUN, REPORT, KINDS };
-static const char *const names[KINDS] = {"open", "push", "pop", "step", "step_record", "run", "report"};
+enum { OPEN, OPEN_POOLED, PUSH, PUSH_POOLED, POP, STEP, STEP_RECORD, RUN, REPORT, KINDS };
+static const char *const names[KINDS] = {"open", "open_pooled", "push",   "push_pooled", "pop",
+                                         "step", "step_record", "run",    "report"};
 
 ZC_QUEUE_STORAGE(queue, TASKS, SLOTS);
 static uint64_t most_stack[KINDS], most_instructions[KINDS];
@@ -52,11 +54,13 @@ static inline __attribute__((always_inline)) void make_call(int kind)
 {
     switch (kind) {
     case OPEN: answer = zc_queue_open(&queue, TASKS, SLOTS, 0); break;
+    case OPEN_POOLED: answer = zc_queue_open_pooled(&queue, TASKS, SLOTS, 0); break;
     case PUSH: answer = zc_queue_push(&queue, task, side, slot, 7).code; break;
+    case PUSH_POOLED: answer = zc_queue_push_pooled(&queue, task, side, 7).code; break;
     case POP: answer = zc_queue_pop(&queue, task, side).code; break;
     case STEP: answer = zc_queue_step(&queue, task).code; break;
     case STEP_RECORD: answer = zc_queue_step_record(&queue, &queue.records[task]).code; break;
-    case RUN: answer = zc_queue_run(&queue, task, ZC_PUSH_STEPS).code; break;
+    case RUN: answer = zc_queue_run(&queue, task, ZC_POOLED_PUSH_STEPS).code; break;
     default: answer = (uint32_t)zc_queue_report(&queue).code; break;
     }
 }
@@ -113,12 +117,15 @@ static void one_call(void)
     task = random_below(TASKS);
     side = random_below(2);
     slot = zc_queue_free_slot(&queue);
-    int busy = queue.records[task].place != 0;
-    int kind = busy ? (random_below(2) ? STEP : STEP_RECORD) : (slot != 0 && random_below(2) ? PUSH : POP);
+    int busy = queue.records[task].place != 0, pooled = queue.control->pooled != 0;
+    int push = pooled ? PUSH_POOLED : PUSH;
+    int kind = busy ? (random_below(2) ? STEP : STEP_RECORD)
+                    : ((pooled || slot != 0) && random_below(2) ? push : POP);
     switch (random_below(32)) {
-    case 0: kind = busy ? PUSH : STEP; break; /* 30, 31 */
+    case 0: kind = busy ? push : STEP; break; /* 30, 31 */
     case 1: slot = 1; break;                  /* 32, mostly */
     case 2: kind = busy ? RUN : kind; break;
+    case 3: kind = busy ? kind : PUSH + PUSH_POOLED - push; break; /* 41 */
     default: break;
     }
     measure(kind);
@@ -141,16 +148,18 @@ int main(void)
     stack_t other = {.ss_sp = handler_stack, .ss_size = sizeof handler_stack};
     if (sigaltstack(&other, NULL) != 0 || sigaction(SIGTRAP, &action, NULL) != 0)
         return 2;
-    measure(OPEN);
-    if (answer != 0)
-        return 2;
-    for (int call = 0; call < CALLS; call++) {
-        if (call % (CALLS / 4) == 0)
-            measure(REPORT);
-        one_call();
+    for (int opening = OPEN; opening <= OPEN_POOLED; opening++) {
+        measure(opening);
+        if (answer != 0)
+            return 2;
+        for (int call = 0; call < CALLS; call++) {
+            if (call % (CALLS / 4) == 0)
+                measure(REPORT);
+            one_call();
+        }
+        fill();
+        measure(REPORT);
     }
-    fill();
-    measure(REPORT);
     printf("tables %zu\n", sizeof queue_tables);
     for (int kind = 0; kind < KINDS; kind++)
         printf("stack.%s %" PRIu64 "\ninstructions.%s %" PRIu64 "\n", names[kind], most_stack[kind],

@@ -16,7 +16,7 @@ archive=${1:-$root/target/lib}/libzeppolecape.a
 work=$(mktemp -d)
 trap 'rm -rf "$work"' EXIT
 SIZES="1.3 5.12 16.1023" # TASKS.SLOTS
-CALLS="open push pop step step_record run report"
+CALLS="open open_pooled push push_pooled pop step step_record run report"
 
 uses() { # NAME PATTERN: whether the machine code has it
     local lines

@@ -1,10 +1,11 @@
 /*
  * Drives the library, the hand-written calls and the bare algorithm through one schedule.
  *
- *     bench check TASKS SLOTS STEPS          all three answer and leave the same, in both calls
- *     bench time  TASKS SLOTS STEPS TIMES    nanoseconds a step, best of TIMES, interleaved
- *     bench count ENGINE TASKS SLOTS STEPS   one replay, for a program that counts instructions
+ *     bench check WAY TASKS SLOTS STEPS          all three answer and leave the same, in both calls
+ *     bench time  WAY TASKS SLOTS STEPS TIMES    nanoseconds a step, best of TIMES, interleaved
+ *     bench count ENGINE WAY TASKS SLOTS STEPS   one replay, for a program that counts instructions
  *
+ * WAY is how the queue is opened: named or pooled.
  * The schedule is drawn once: which task moves, and what an idle one starts. A timed replay starts
  * calls by plain stores of its own, the same for all, so that only steps are compared; what its
  * loop and these stores cost is measured without any step and taken off.
@@ -13,6 +14,7 @@
 #include "reference.h"
 
 #include <inttypes.h>
+#include <stdbool.h>
 #include <stdio.h>
 #include <stdlib.h>
 #include <string.h>
@@ -31,9 +33,20 @@ static zc_record records[ZC_MOST_TASKS];
 static uint64_t lefts[ZC_ROWS(ZC_MOST_SLOTS)], rights[ZC_ROWS(ZC_MOST_SLOTS)];
 static uint64_t marks[ZC_MARK_WORDS(ZC_MOST_SLOTS)];
 static uint32_t labels[ZC_ROWS(ZC_MOST_SLOTS)];
+static uint64_t next[ZC_ROWS(ZC_MOST_SLOTS)];
 static size_t tasks, slots;
+static bool pooled;
 
-#define LENT lefts, slots + 1, rights, slots + 1, labels, slots + 1, marks, slots / 64 + 1
+#define ROWS lefts, slots + 1, rights, slots + 1, labels, slots + 1, marks, slots / 64 + 1
+#define LENT ROWS, next, slots + 1
+
+static void open_queue(void)
+{
+    if (pooled)
+        reference_open_pooled(&control, records, tasks, tasks, slots, 0, LENT);
+    else
+        reference_open(&control, records, tasks, tasks, slots, 0, ROWS);
+}
 
 /* ---- The schedule ------------------------------------------------------------------------ */
 
@@ -56,29 +69,46 @@ static uint64_t free_slot(uint64_t last)
     return 0;
 }
 
+static zc_reply reference_start(const struct operation *start)
+{
+    if (start->what == POP)
+        return reference_pop(&control, records, tasks, start->task, start->side, LENT);
+    if (pooled)
+        return reference_push_pooled(&control, records, tasks, start->task, start->side,
+                                     start->label, LENT);
+    return reference_push(&control, records, tasks, start->task, start->side, start->slot,
+                          start->label, LENT);
+}
+
+/* What an idle task starts: half of them push, if there is a free slot or a pool to ask. */
+static struct operation draw_start(uint8_t task, uint64_t number, uint64_t *state, uint64_t *last)
+{
+    struct operation start = {POP, task, number >> 30 & 1, 0, 0};
+    if ((number >> 31 & 1) == 0)
+        return start;
+    uint64_t slot = pooled ? 0 : free_slot(*last);
+    if (slot == 0 && !pooled)
+        return start;
+    *last = slot;
+    start.what = PUSH;
+    start.slot = (uint16_t)slot;
+    start.label = (uint32_t)draw(state);
+    return start;
+}
+
 /* Exactly `steps` steps, each start just before its call's first step; the number of operations. */
 static size_t draw_schedule(struct operation *schedule, size_t steps)
 {
     uint64_t state = UINT64_C(88172645463325252);
     uint64_t last = 0;
     size_t count = 0;
-    reference_open(&control, records, tasks, tasks, slots, 0, LENT);
+    open_queue();
     for (size_t step = 0; step < steps; step++) {
         uint64_t number = draw(&state);
         struct operation move = {STEP, (uint8_t)((number & 0xffffff) % tasks), 0, 0, 0};
         if (records[move.task].place == 0) {
-            struct operation start = {POP, move.task, number >> 30 & 1, 0, 0};
-            uint64_t slot = number >> 31 & 1 ? free_slot(last) : 0;
-            if (slot != 0) {
-                last = slot;
-                start.what = PUSH;
-                start.slot = (uint16_t)slot;
-                start.label = (uint32_t)draw(&state);
-                reference_push(&control, records, tasks, start.task, start.side, slot, start.label,
-                               LENT);
-            } else {
-                reference_pop(&control, records, tasks, start.task, start.side, LENT);
-            }
+            struct operation start = draw_start(move.task, number, &state, &last);
+            reference_start(&start);
             schedule[count++] = start;
         }
         reference_step(&control, records, tasks, move.task, LENT);
@@ -91,8 +121,11 @@ static size_t draw_schedule(struct operation *schedule, size_t steps)
 
 static void start_push(const struct operation *start)
 {
-    zc_record record = {1, ZC_PUSH, start->side, start->slot, start->label, 0, 0, 0, 0};
+    uint64_t place = pooled ? 12 : 1;
+    zc_record record = {place, ZC_PUSH, start->side, start->slot, start->label, 0, 0, 0, 0};
     records[start->task] = record;
+    if (pooled)
+        return;
     labels[start->slot] = start->label;
     marks[start->slot / 64] |= UINT64_C(1) << (start->slot % 64);
 }
@@ -133,7 +166,7 @@ static inline zc_reply no_step(size_t task)
 REPLAY(loop, no_step(task))
 REPLAY(library, zc_step(&control, records, tasks, task, LENT))
 REPLAY(reference, reference_step(&control, records, tasks, task, LENT))
-REPLAY(bare, bare_step(&control, &records[task], lefts, rights, labels, marks))
+REPLAY(bare, bare_step(&control, &records[task], lefts, rights, labels, marks, next))
 REPLAY(library_record, zc_step_record(&control, &records[task], LENT))
 REPLAY(reference_record, reference_step_record(&control, &records[task], LENT))
 
@@ -173,7 +206,7 @@ static uint64_t hash_tables(uint64_t hash)
     for (size_t task = 0; task < tasks; task++)
         hash = hash_record(hash, &records[task]);
     for (size_t row = 0; row <= slots; row++)
-        hash = mix(mix(mix(hash, lefts[row]), rights[row]), labels[row]);
+        hash = mix(mix(mix(mix(hash, lefts[row]), rights[row]), labels[row]), next[row]);
     for (size_t word = 0; word <= slots / 64; word++)
         hash = mix(hash, marks[word]);
     return hash;
@@ -184,6 +217,7 @@ static uint64_t hash_move(uint64_t hash, zc_reply reply, const zc_record *record
     hash = mix(mix(mix(hash, reply.code), reply.label), reply.value);
     hash = mix(mix(hash, control.tasks), control.slots);
     hash = mix(mix(hash, control.anchor), control.retries);
+    hash = mix(mix(hash, control.pooled), control.head);
     return hash_record(hash, record);
 }
 
@@ -191,27 +225,29 @@ static zc_reply bare_move(const struct operation *move)
 {
     zc_reply reply = {ZC_RUNNING, 0, 1};
     switch (move->what) {
-    case PUSH: start_push(move); return reply;
+    case PUSH:
+        start_push(move);
+        reply.value = records[move->task].place;
+        return reply;
     case POP: start_pop(move); return reply;
-    default: return bare_step(&control, &records[move->task], lefts, rights, labels, marks);
+    default: return bare_step(&control, &records[move->task], lefts, rights, labels, marks, next);
     }
 }
 
 static zc_reply reference_move(const struct operation *move)
 {
-    switch (move->what) {
-    case PUSH:
-        return reference_push(&control, records, tasks, move->task, move->side, move->slot,
-                              move->label, LENT);
-    case POP: return reference_pop(&control, records, tasks, move->task, move->side, LENT);
-    default: return reference_step(&control, records, tasks, move->task, LENT);
-    }
+    if (move->what != STEP)
+        return reference_start(move);
+    return reference_step(&control, records, tasks, move->task, LENT);
 }
 
 static zc_reply library_move(const struct operation *move)
 {
     switch (move->what) {
     case PUSH:
+        if (pooled)
+            return zc_push_pooled(&control, records, tasks, move->task, move->side, move->label,
+                                  LENT);
         return zc_push(&control, records, tasks, move->task, move->side, move->slot, move->label,
                        LENT);
     case POP: return zc_pop(&control, records, tasks, move->task, move->side, LENT);
@@ -238,7 +274,7 @@ static uint64_t hash_run(const struct operation *schedule, size_t count,
                          zc_reply (*move)(const struct operation *))
 {
     uint64_t hash = UINT64_C(1469598103934665603);
-    reference_open(&control, records, tasks, tasks, slots, 0, LENT);
+    open_queue();
     for (size_t at = 0; at < count; at++) {
         zc_reply reply = move(&schedule[at]);
         hash = hash_move(hash, reply, &records[schedule[at].task]);
@@ -264,8 +300,8 @@ static int check(const struct operation *schedule, size_t count)
     int differ = 0;
     for (size_t at = 0; at < sizeof movers / sizeof *movers; at++)
         if (hash_run(schedule, count, movers[at].move) != bare) {
-            fprintf(stderr, "%zu tasks, %zu slots: answers or tables of %s and bare differ\n",
-                    tasks, slots, movers[at].name);
+            fprintf(stderr, "%s, %zu tasks, %zu slots: answers or tables of %s and bare differ\n",
+                    pooled ? "pooled" : "named", tasks, slots, movers[at].name);
             differ = 1;
         }
     return differ;
@@ -289,7 +325,7 @@ static int time_all(const struct operation *schedule, size_t count, size_t steps
     for (int turn = 0; turn < times; turn++)
         for (size_t at = 0; at < ENGINES; at++) {
             size_t engine = (at + (size_t)turn) % ENGINES;
-            reference_open(&control, records, tasks, tasks, slots, 0, LENT);
+            open_queue();
             double before = now();
             sums[engine] = engines[engine].replay(schedule, count);
             double taken = now() - before;
@@ -313,7 +349,7 @@ static int count_one(const char *name, const struct operation *schedule, size_t 
 {
     for (size_t engine = 0; engine < ENGINES; engine++)
         if (strcmp(engines[engine].name, name) == 0) {
-            reference_open(&control, records, tasks, tasks, slots, 0, LENT);
+            open_queue();
             printf("%" PRIu64 "\n", engines[engine].replay(schedule, count));
             return 0;
         }
@@ -325,11 +361,12 @@ int main(int argc, char **argv)
     const char *mode = argc > 1 ? argv[1] : "";
     int shift = strcmp(mode, "count") == 0;
     int timed = strcmp(mode, "time") == 0;
-    if (argc != 5 + shift + timed)
+    if (argc != 6 + shift + timed)
         return 2;
-    tasks = strtoul(argv[2 + shift], NULL, 10);
-    slots = strtoul(argv[3 + shift], NULL, 10);
-    size_t steps = strtoul(argv[4 + shift], NULL, 10);
+    pooled = strcmp(argv[2 + shift], "pooled") == 0;
+    tasks = strtoul(argv[3 + shift], NULL, 10);
+    slots = strtoul(argv[4 + shift], NULL, 10);
+    size_t steps = strtoul(argv[5 + shift], NULL, 10);
     struct operation *schedule = malloc(2 * steps * sizeof *schedule);
     if (schedule == NULL || tasks < 1 || tasks > ZC_MOST_TASKS || slots < 1 ||
         slots > ZC_MOST_SLOTS)
@@ -337,5 +374,5 @@ int main(int argc, char **argv)
     size_t count = draw_schedule(schedule, steps);
     if (shift)
         return count_one(argv[2], schedule, count);
-    return timed ? time_all(schedule, count, steps, atoi(argv[5])) : check(schedule, count);
+    return timed ? time_all(schedule, count, steps, atoi(argv[6])) : check(schedule, count);
 }

@@ -38,7 +38,7 @@ static inline bool link_sound(uint64_t link, uint64_t slots)
 static inline bool control_sound(const zc_control *control)
 {
     return within(control->tasks, ZC_MOST_TASKS) && within(control->slots, ZC_MOST_SLOTS) &&
-           anchor_sound(control->anchor, control->slots);
+           control->pooled <= 1 && anchor_sound(control->anchor, control->slots);
 }
 
 static inline bool helping(const zc_record *record)
@@ -46,21 +46,37 @@ static inline bool helping(const zc_record *record)
     return record->place >= 5 && record->place <= 10;
 }
 
-static inline bool record_sound(const zc_record *record, uint64_t slots)
+/* Places 12 to 17 of a pooled queue. */
+static inline bool pool_place_sound(const zc_record *record, uint64_t slots)
 {
+    if (record->place > 17 || record->finishing != 0)
+        return false;
+    if (record->place >= 15)
+        return record->kind == ZC_POP && within(record->own, slots);
+    if (record->kind != ZC_PUSH || record->own != 0)
+        return false;
+    return record->place == 12 || zc_link_slot(record->link) != 0;
+}
+
+static inline bool record_sound(const zc_record *record, const zc_control *control)
+{
+    uint64_t slots = control->slots;
     if (record->place == 0)
         return true;
-    if (record->place > 11 || record->kind > ZC_POP || record->side > ZC_RIGHT ||
-        record->finishing > 1)
+    if (record->kind > ZC_POP || record->side > ZC_RIGHT || record->finishing > 1)
         return false;
-    if (record->kind == ZC_POP) {
-        if (record->own != 0 || record->finishing != 0)
-            return false;
-    } else {
-        if (!within(record->own, slots) || record->place == 11)
-            return false;
-        if (record->finishing != 0 && !helping(record))
-            return false;
+    if (record->place <= 11) {
+        if (record->kind == ZC_POP) {
+            if (record->own != 0 || record->finishing != 0)
+                return false;
+        } else {
+            if (!within(record->own, slots) || record->place == 11)
+                return false;
+            if (record->finishing != 0 && !helping(record))
+                return false;
+        }
+    } else if (!control->pooled || !pool_place_sound(record, slots)) {
+        return false;
     }
     if (record->neighbour > slots || !link_sound(record->link, slots) ||
         !anchor_sound(record->seen, slots))
@@ -73,6 +89,11 @@ static inline bool rows_fit(uint64_t slots, size_t left_count, size_t right_coun
 {
     return left_count > slots && right_count > slots && label_count > slots &&
            mark_count > slots / 64;
+}
+
+static inline bool next_fits(const zc_control *control, size_t next_count)
+{
+    return !control->pooled || next_count > control->slots;
 }
 
 /* ---- Answers ----------------------------------------------------------------------------- */
@@ -133,6 +154,18 @@ static inline enum change change_anchor(zc_control *control, uint64_t seen, uint
     return DONE;
 }
 
+static inline enum change change_head(zc_control *control, uint64_t read, uint64_t slot)
+{
+    if (control->head != read) {
+        count_retry(control);
+        return FAILED;
+    }
+    if (zc_link_tag(read) == last_tag)
+        return FORBIDDEN;
+    control->head = ((read & tag_bits) + one_tag) | slot;
+    return DONE;
+}
+
 /* ---- The step of a sound record in sound tables ------------------------------------------ */
 
 /* Two calls share it; a call of its own costs a tenth of the step. */
@@ -163,8 +196,46 @@ INLINED zc_reply take_reading(zc_record *record, uint64_t found)
     return go(record, zc_anchor_status(found) == ZC_STABLE ? 3 : 5);
 }
 
+/* Places 12 and 15. */
+static inline zc_reply read_head(const zc_control *control, zc_record *record)
+{
+    uint64_t head = control->head;
+    if (!link_sound(head, control->slots))
+        return refuse(ZC_UNSOUND);
+    if (record->kind == ZC_PUSH && zc_link_slot(head) == 0)
+        return answer(record, ZC_NO_FREE_SLOT, 0, 0);
+    record->link = head;
+    return go(record, record->place + 1);
+}
+
+/* Place 14: head, mark and label in one step. */
+static inline zc_reply take_slot(zc_control *control, zc_record *record, uint32_t *labels,
+                                 uint64_t *marks)
+{
+    uint64_t slot = zc_link_slot(record->link);
+    switch (change_head(control, record->link, record->neighbour)) {
+    case FORBIDDEN: return refuse(ZC_UNSOUND);
+    case FAILED: return go(record, 12);
+    default: break;
+    }
+    marks[slot / 64] |= UINT64_C(1) << (slot % 64);
+    labels[slot] = record->label;
+    record->own = slot;
+    return go(record, 1);
+}
+
+/* Place 17. */
+static inline zc_reply give_back(zc_control *control, zc_record *record)
+{
+    switch (change_head(control, record->link, record->own)) {
+    case FORBIDDEN: return refuse(ZC_UNSOUND);
+    case FAILED: return go(record, 15);
+    default: return answer(record, ZC_POPPED, record->own, record->label);
+    }
+}
+
 INLINED zc_reply advance(zc_control *control, zc_record *record, uint64_t *lefts, uint64_t *rights,
-                         const uint32_t *labels, uint64_t *marks)
+                         uint32_t *labels, uint64_t *marks, uint64_t *next)
 {
     uint64_t slots = control->slots;
     uint64_t seen = record->seen;
@@ -232,13 +303,29 @@ INLINED zc_reply advance(zc_control *control, zc_record *record, uint64_t *lefts
         if (change_anchor(control, seen, successor(seen, ZC_STABLE, side, end, far)) == FORBIDDEN)
             return refuse(ZC_UNSOUND);
         return leave(record);
-    default: {
+    case 11: {
         if (end == 0)
             return refuse(ZC_UNSOUND);
         uint32_t label = labels[end];
         marks[end / 64] &= ~(UINT64_C(1) << (end % 64));
-        return answer(record, ZC_POPPED, end, label);
+        if (!control->pooled)
+            return answer(record, ZC_POPPED, end, label);
+        record->own = end;
+        record->label = label;
+        return go(record, 15);
     }
+    case 12:
+    case 15: return read_head(control, record);
+    case 13: {
+        uint64_t below = next[zc_link_slot(record->link)];
+        if (below > slots)
+            return refuse(ZC_UNSOUND);
+        record->neighbour = below;
+        return go(record, 14);
+    }
+    case 14: return take_slot(control, record, labels, marks);
+    case 16: next[record->own] = zc_link_slot(record->link); return go(record, 17);
+    default: return give_back(control, record);
     }
 }
 
@@ -262,27 +349,50 @@ uint32_t CALL(open)(zc_control *control, zc_record *records, size_t record_count
     control->slots = slots;
     control->anchor = (uint64_t)tag << 32;
     control->retries = 0;
+    control->pooled = 0;
+    control->head = 0;
+    return 0;
+}
+
+uint32_t CALL(open_pooled)(zc_control *control, zc_record *records, size_t record_count,
+                           uint64_t tasks, uint64_t slots, uint32_t tag,
+                           TABLES(uint64_t, uint32_t, uint64_t), NEXT(uint64_t))
+{
+    if (within(tasks, ZC_MOST_TASKS) && within(slots, ZC_MOST_SLOTS) && next_count <= slots)
+        return ZC_SHORT;
+    uint32_t code = CALL(open)(control, records, record_count, tasks, slots, tag, lefts, left_count,
+                               rights, right_count, labels, label_count, marks, mark_count);
+    if (code != 0)
+        return code;
+    for (uint64_t slot = 1; slot < slots; slot++)
+        next[slot] = slot + 1;
+    next[0] = 0;
+    next[slots] = 0;
+    control->pooled = 1;
+    control->head = 1;
     return 0;
 }
 
 zc_reply CALL(push)(zc_control *control, zc_record *records, size_t record_count, size_t task,
                     uint64_t side, uint64_t slot, uint32_t label,
-                    TABLES(const uint64_t, uint32_t, uint64_t))
+                    TABLES(const uint64_t, uint32_t, uint64_t), NEXT(const uint64_t))
 {
-    (void)lefts, (void)rights;
+    (void)lefts, (void)rights, (void)next;
     if (!control_sound(control))
         return refuse(ZC_UNSOUND);
     if (!rows_fit(control->slots, left_count, right_count, label_count, mark_count) ||
-        record_count < control->tasks)
+        !next_fits(control, next_count) || record_count < control->tasks)
         return refuse(ZC_SHORT);
     if (task >= control->tasks)
         return refuse(ZC_NO_TASK);
     if (side > ZC_RIGHT)
         return refuse(ZC_NO_SIDE);
+    if (control->pooled)
+        return refuse(ZC_WRONG_PUSH);
     if (!within(slot, control->slots))
         return refuse(ZC_NO_SLOT);
     zc_record *record = &records[task];
-    if (!record_sound(record, control->slots))
+    if (!record_sound(record, control))
         return refuse(ZC_UNSOUND);
     if (record->place != 0)
         return refuse(ZC_BUSY);
@@ -299,21 +409,52 @@ zc_reply CALL(push)(zc_control *control, zc_record *records, size_t record_count
     return go(record, 1);
 }
 
-zc_reply CALL(pop)(zc_control *control, zc_record *records, size_t record_count, size_t task,
-                   uint64_t side, TABLES(const uint64_t, const uint32_t, const uint64_t))
+zc_reply CALL(push_pooled)(zc_control *control, zc_record *records, size_t record_count,
+                           size_t task, uint64_t side, uint32_t label,
+                           TABLES(const uint64_t, const uint32_t, const uint64_t),
+                           NEXT(const uint64_t))
 {
-    (void)lefts, (void)rights, (void)labels, (void)marks;
+    (void)lefts, (void)rights, (void)labels, (void)marks, (void)next;
     if (!control_sound(control))
         return refuse(ZC_UNSOUND);
     if (!rows_fit(control->slots, left_count, right_count, label_count, mark_count) ||
-        record_count < control->tasks)
+        !next_fits(control, next_count) || record_count < control->tasks)
+        return refuse(ZC_SHORT);
+    if (task >= control->tasks)
+        return refuse(ZC_NO_TASK);
+    if (side > ZC_RIGHT)
+        return refuse(ZC_NO_SIDE);
+    if (!control->pooled)
+        return refuse(ZC_WRONG_PUSH);
+    zc_record *record = &records[task];
+    if (!record_sound(record, control))
+        return refuse(ZC_UNSOUND);
+    if (record->place != 0)
+        return refuse(ZC_BUSY);
+    if (zc_anchor_tag(control->anchor) > ZC_LAST_START_TAG)
+        return refuse(ZC_WORN);
+    memset(record, 0, sizeof *record);
+    record->side = side;
+    record->label = label;
+    return go(record, 12);
+}
+
+zc_reply CALL(pop)(zc_control *control, zc_record *records, size_t record_count, size_t task,
+                   uint64_t side, TABLES(const uint64_t, const uint32_t, const uint64_t),
+                   NEXT(const uint64_t))
+{
+    (void)lefts, (void)rights, (void)labels, (void)marks, (void)next;
+    if (!control_sound(control))
+        return refuse(ZC_UNSOUND);
+    if (!rows_fit(control->slots, left_count, right_count, label_count, mark_count) ||
+        !next_fits(control, next_count) || record_count < control->tasks)
         return refuse(ZC_SHORT);
     if (task >= control->tasks)
         return refuse(ZC_NO_TASK);
     if (side > ZC_RIGHT)
         return refuse(ZC_NO_SIDE);
     zc_record *record = &records[task];
-    if (!record_sound(record, control->slots))
+    if (!record_sound(record, control))
         return refuse(ZC_UNSOUND);
     if (record->place != 0)
         return refuse(ZC_BUSY);
@@ -326,44 +467,46 @@ zc_reply CALL(pop)(zc_control *control, zc_record *records, size_t record_count,
 }
 
 zc_reply CALL(step)(zc_control *control, zc_record *records, size_t record_count, size_t task,
-                    TABLES(uint64_t, const uint32_t, uint64_t))
+                    TABLES(uint64_t, uint32_t, uint64_t), NEXT(uint64_t))
 {
     if (!control_sound(control))
         return refuse(ZC_UNSOUND);
     if (!rows_fit(control->slots, left_count, right_count, label_count, mark_count) ||
-        record_count < control->tasks)
+        !next_fits(control, next_count) || record_count < control->tasks)
         return refuse(ZC_SHORT);
     if (task >= control->tasks)
         return refuse(ZC_NO_TASK);
     zc_record *record = &records[task];
-    if (!record_sound(record, control->slots))
+    if (!record_sound(record, control))
         return refuse(ZC_UNSOUND);
     if (record->place == 0)
         return refuse(ZC_IDLE);
-    return advance(control, record, lefts, rights, labels, marks);
+    return advance(control, record, lefts, rights, labels, marks, next);
 }
 
 zc_reply CALL(step_record)(zc_control *control, zc_record *one,
-                           TABLES(uint64_t, const uint32_t, uint64_t))
+                           TABLES(uint64_t, uint32_t, uint64_t), NEXT(uint64_t))
 {
     if (!control_sound(control))
         return refuse(ZC_UNSOUND);
-    if (!rows_fit(control->slots, left_count, right_count, label_count, mark_count))
+    if (!rows_fit(control->slots, left_count, right_count, label_count, mark_count) ||
+        !next_fits(control, next_count))
         return refuse(ZC_SHORT);
-    if (!record_sound(one, control->slots))
+    if (!record_sound(one, control))
         return refuse(ZC_UNSOUND);
     if (one->place == 0)
         return refuse(ZC_IDLE);
-    return advance(control, one, lefts, rights, labels, marks);
+    return advance(control, one, lefts, rights, labels, marks, next);
 }
 
 #ifdef AS_LIBRARY
 zc_run_reply zc_run(zc_control *control, zc_record *records, size_t record_count, size_t task,
-                    uint64_t most, TABLES(uint64_t, const uint32_t, uint64_t))
+                    uint64_t most, TABLES(uint64_t, uint32_t, uint64_t), NEXT(uint64_t))
 {
     for (uint64_t made = 0; made < most; made++) {
-        zc_reply reply = zc_step(control, records, record_count, task, lefts, left_count, rights,
-                                 right_count, labels, label_count, marks, mark_count);
+        zc_reply reply =
+            zc_step(control, records, record_count, task, lefts, left_count, rights, right_count,
+                    labels, label_count, marks, mark_count, next, next_count);
         if (reply.code != ZC_RUNNING)
             return (zc_run_reply){reply.code, reply.label, reply.value,
                                   zc_refused(reply) ? made : made + 1};
@@ -407,16 +550,17 @@ static uint64_t marked_slots(const uint64_t *marks, uint64_t slots)
 
 zc_report_reply CALL(report)(const zc_control *control, const zc_record *records,
                              size_t record_count,
-                             TABLES(const uint64_t, const uint32_t, const uint64_t))
+                             TABLES(const uint64_t, const uint32_t, const uint64_t),
+                             NEXT(const uint64_t))
 {
-    (void)labels;
+    (void)labels, (void)next;
     zc_report_reply reply = {0};
     if (!control_sound(control)) {
         reply.code = ZC_UNSOUND;
         return reply;
     }
     if (!rows_fit(control->slots, left_count, right_count, label_count, mark_count) ||
-        record_count < control->tasks) {
+        !next_fits(control, next_count) || record_count < control->tasks) {
         reply.code = ZC_SHORT;
         return reply;
     }

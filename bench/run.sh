@@ -45,10 +45,10 @@ collected() { # ENGINE COMMAND..
     valgrind --tool=callgrind --callgrind-out-file=/dev/null --toggle-collect="replay_$engine" "$@" 2>&1 >/dev/null |
         sed -n 's/.*Collected : \([0-9]*\).*/\1/p' || true
 }
-instructions() { collected "$1" "$work/bench" count "$1" "$2" "$3" $COUNTED; } # ENGINE TASKS SLOTS
+instructions() { collected "$1" "$work/bench" count "$1" "$2" "$3" "$4" $COUNTED; } # ENGINE WAY TASKS SLOTS
 
 have_callgrind=yes
-if ! command -v valgrind >/dev/null || [ -z "$(instructions loop 1 3)" ]; then
+if ! command -v valgrind >/dev/null || [ -z "$(instructions loop named 1 3)" ]; then
     have_callgrind=no
 fi
 
@@ -58,34 +58,36 @@ echo "$(sed -n 's/^model name[^:]*: //p' /proc/cpuinfo | head -1); $($CC --versi
 echo "$STEPS random steps, best of $TIMES interleaved replays. Nanoseconds and instructions a step."
 [ $have_callgrind = yes ] || echo "No callgrind (valgrind) that runs here: instructions are left out (-)."
 echo
-echo "| call | tasks | slots | ns: library | C | bare | library/C | library/bare | instructions: library | C | bare | library/C | library/bare |"
-echo "|---|---|---|---|---|---|---|---|---|---|---|---|---|"
+echo "| call | queue | tasks | slots | ns: library | C | bare | library/C | library/bare | instructions: library | C | bare | library/C | library/bare |"
+echo "|---|---|---|---|---|---|---|---|---|---|---|---|---|---|"
 
-line() { # CALL TASKS SLOTS LIBRARY REFERENCE
-    local a b c ia=- ib=- ic=- rb=- rc=- loop engine
-    a=$(awk -v n="$4" '$1 == n { print $2 }' "$work/times")
-    b=$(awk -v n="$5" '$1 == n { print $2 }' "$work/times")
+line() { # CALL WAY TASKS SLOTS LIBRARY REFERENCE
+    local a b c ia=- ib=- ic=- rb=- rc=- loop
+    a=$(awk -v n="$5" '$1 == n { print $2 }' "$work/times")
+    b=$(awk -v n="$6" '$1 == n { print $2 }' "$work/times")
     c=$(awk '$1 == "bare" { print $2 }' "$work/times")
     if [ $have_callgrind = yes ]; then
-        loop=$(instructions loop "$2" "$3")
-        each() { awk -v n="$(instructions "$1" "$2" "$3")" -v l="$loop" -v s=$COUNTED 'BEGIN { printf "%.1f", (n - l) / s }'; }
-        ia=$(each "$4" "$2" "$3")
-        ib=$(each "$5" "$2" "$3")
-        ic=$(each bare "$2" "$3")
+        loop=$(instructions loop "$2" "$3" "$4")
+        each() { awk -v n="$(instructions "$@")" -v l="$loop" -v s=$COUNTED 'BEGIN { printf "%.1f", (n - l) / s }'; }
+        ia=$(each "$5" "$2" "$3" "$4")
+        ib=$(each "$6" "$2" "$3" "$4")
+        ic=$(each bare "$2" "$3" "$4")
         rb=$(ratio "$ia" "$ib")
         rc=$(ratio "$ia" "$ic")
     fi
-    printf '| %s | %s | %s | %.1f | %.1f | %.1f | %s | %s | %s | %s | %s | %s | %s |\n' \
-        "$1" "$2" "$3" "$a" "$b" "$c" "$(ratio "$a" "$b")" "$(ratio "$a" "$c")" \
+    printf '| %s | %s | %s | %s | %.1f | %.1f | %.1f | %s | %s | %s | %s | %s | %s | %s |\n' \
+        "$1" "$2" "$3" "$4" "$a" "$b" "$c" "$(ratio "$a" "$b")" "$(ratio "$a" "$c")" \
         "$ia" "$ib" "$ic" "$rb" "$rc"
 }
 
-for call in step step_record; do
-    for tasks in 1 5 16; do
-        for slots in 3 1023; do
-            "$work/bench" check $tasks $slots "$STEPS"
-            "$work/bench" time $tasks $slots "$STEPS" "$TIMES" >"$work/times"
-            line zc_$call $tasks $slots library${call#step} reference${call#step}
+for way in named pooled; do
+    for call in step step_record; do
+        for tasks in 1 5 16; do
+            for slots in 3 1023; do
+                "$work/bench" check $way $tasks $slots "$STEPS"
+                "$work/bench" time $way $tasks $slots "$STEPS" "$TIMES" >"$work/times"
+                line zc_$call $way $tasks $slots library${call#step} reference${call#step}
+            done
         done
     done
 done

@@ -77,7 +77,8 @@ static uint64_t refusal(const zc_control *control, bool formed, bool enough, siz
                         size_t right_count, size_t label_count, size_t mark_count)
 {
     uint64_t tasks = control->tasks, slots = control->slots;
-    if (tasks < 1 || tasks > 16 || slots < 1 || slots > 1023 || !anchor_sound(slots, control->anchor))
+    if (tasks < 1 || tasks > 16 || slots < 1 || slots > 1023 || control->pooled > 1 ||
+        !anchor_sound(slots, control->anchor))
         return ZC_UNSOUND;
     if (!formed)
         return ZC_BAD_SHEET;

@@ -1,8 +1,10 @@
 /*
- * The library's order sheets against the same by hand in C: nanoseconds a call, best of TIMES
- * interleaved rounds, and the stack that a call takes.
+ * The library's order sheets against the same by hand in C.
  *
- *     sheet TIMES
+ *     sheet TIMES              nanoseconds a call, best of TIMES interleaved rounds, and the stack
+ *                              that a call takes
+ *     sheet count CALL SHEET   COUNTED calls on a sheet, from 0, for a program that counts
+ *                              instructions
  *
  * Each line first checks that both answer alike, words included.
  */
@@ -15,7 +17,19 @@
 #include <time.h>
 #include <ucontext.h>
 
-enum { CALLS = 200 };
+enum { COUNTED = 100 };
+
+/* A round of calls takes some 15 microseconds, so that on a busy machine many are left alone. */
+static const struct sheet {
+    const char *what;
+    size_t waiting, listed, rules, each;
+    int calls;
+} sheets[] = {
+    { "8 waiting, 4 listed, 4 rules", 8, 4, 4, 2, 200 },
+    { "64 waiting, 32 listed, 31 rules", 64, 32, 31, 2, 8 },
+    { "1,023 waiting, 32 listed, 128 rules", 1023, 32, 128, 30, 1 },
+};
+enum { SHEETS = sizeof sheets / sizeof *sheets };
 
 static zc_control control;
 static uint64_t lefts[ZC_ROWS(ZC_MOST_SLOTS)], rights[ZC_ROWS(ZC_MOST_SLOTS)];
@@ -27,10 +41,11 @@ static size_t slots, listed_count, rule_count;
 #define SHEET &control, listed, listed_count, rules, rule_count
 #define TABLES lefts, slots + 1, rights, slots + 1, labels, slots + 1, marks, slots / 64 + 1
 
-/* `waiting` labels in slots 1, 2 and so on, one in `each` of them listed, in the sheet's order. */
-static void lay(size_t waiting, size_t count, size_t many, size_t each)
+/* Labels waiting in slots 1, 2 and so on, one in `each` of them listed, in the sheet's order. */
+static void lay(const struct sheet *sheet)
 {
-    slots = waiting;
+    size_t count = sheet->listed, many = sheet->rules;
+    slots = sheet->waiting;
     listed_count = count;
     rule_count = many;
     control = (zc_control){ .tasks = 1, .slots = slots };
@@ -39,7 +54,7 @@ static void lay(size_t waiting, size_t count, size_t many, size_t each)
     for (size_t slot = 1; slot <= slots; slot++) {
         lefts[slot] = slot - 1;
         rights[slot] = slot == slots ? 0 : slot + 1;
-        int take = slot % each == 0 && next < count;
+        int take = slot % sheet->each == 0 && next < count;
         labels[slot] = take ? (uint32_t)(1000 + 7 * next++) : (uint32_t)(500000 + slot);
     }
     for (size_t k = 0; k < count; k++)
@@ -61,13 +76,14 @@ static uint64_t by_hand(void) { return reference_sheet(SHEET, TABLES).first; }
 static uint64_t library_words(void) { return zc_sheet_words(SHEET, words[0], 32, TABLES).first; }
 static uint64_t by_hand_words(void) { return reference_sheet_words(SHEET, words[1], 32, TABLES).first; }
 
-static double took(one_call call)
+static volatile uint64_t kept;
+
+static double took(one_call call, int calls)
 {
-    static volatile uint64_t kept;
     double from = now();
-    for (int k = 0; k < CALLS; k++)
+    for (int k = 0; k < calls; k++)
         kept += call();
-    return (now() - from) / CALLS;
+    return (now() - from) / calls;
 }
 
 /* The bytes of stack that a call writes: it runs on a painted stack of its own. */
@@ -98,42 +114,57 @@ static size_t stack_of(one_call call)
     return written(go_away) - written(stay);
 }
 
-static void line(const char *name, const char *what, one_call ours, one_call theirs, int times)
+static void line(const char *name, const struct sheet *sheet, one_call ours, one_call theirs, int times)
 {
     double a = 1e18, b = 1e18;
     for (int k = 0; k < times; k++) {
-        double x = took(ours), y = took(theirs);
+        double x = took(ours, sheet->calls), y = took(theirs, sheet->calls);
         a = x < a ? x : a;
         b = y < b ? y : b;
     }
-    printf("| %s | %s | %.0f | %.0f | %.2f | %zu | %zu |\n", name, what, a, b, a / b,
+    printf("| %s | %s | %.0f | %.0f | %.2f | %zu | %zu |\n", name, sheet->what, a, b, a / b,
            stack_of(ours), stack_of(theirs));
 }
 
-static void compare(const char *what, int times)
+static void compare(const struct sheet *sheet, int times)
 {
+    lay(sheet);
     zc_sheet_reply a = zc_sheet(SHEET, TABLES), b = reference_sheet(SHEET, TABLES);
     zc_sheet_reply c = zc_sheet_words(SHEET, words[0], 32, TABLES);
     zc_sheet_reply d = reference_sheet_words(SHEET, words[1], 32, TABLES);
     if (memcmp(&a, &b, sizeof a) || memcmp(&c, &d, sizeof c) || memcmp(&a, &c, sizeof a) ||
         memcmp(words[0], words[1], sizeof words[0])) {
-        fprintf(stderr, "sheet: the two differ: %s\n", what);
+        fprintf(stderr, "sheet: the two differ: %s\n", sheet->what);
         exit(1);
     }
-    line("zc_sheet", what, library, by_hand, times);
-    line("zc_sheet_words", what, library_words, by_hand_words, times);
+    line("zc_sheet", sheet, library, by_hand, times);
+    line("zc_sheet_words", sheet, library_words, by_hand_words, times);
+}
+
+static int count_one(const char *name, size_t sheet)
+{
+    static const struct { const char *name; one_call call; } all[] = {
+        { "library", library }, { "by_hand", by_hand },
+        { "library_words", library_words }, { "by_hand_words", by_hand_words },
+    };
+    for (size_t at = 0; at < sizeof all / sizeof *all; at++)
+        if (sheet < SHEETS && strcmp(all[at].name, name) == 0) {
+            lay(&sheets[sheet]);
+            for (int k = 0; k < COUNTED; k++)
+                kept += all[at].call();
+            return 0;
+        }
+    return 2;
 }
 
 int main(int count, char **arguments)
 {
-    int times = count > 1 ? atoi(arguments[1]) : 200;
+    if (count == 4 && strcmp(arguments[1], "count") == 0)
+        return count_one(arguments[2], strtoul(arguments[3], NULL, 10));
+    int times = count > 1 ? atoi(arguments[1]) : 2000;
     printf("| call | sheet | ns: library | C | library/C | stack: library | C |\n");
     printf("|---|---|---|---|---|---|---|\n");
-    lay(8, 4, 4, 2);
-    compare("8 waiting, 4 listed, 4 rules", times);
-    lay(64, 32, 31, 2);
-    compare("64 waiting, 32 listed, 31 rules", times);
-    lay(1023, 32, 128, 30);
-    compare("1,023 waiting, 32 listed, 128 rules", times);
+    for (size_t at = 0; at < SHEETS; at++)
+        compare(&sheets[at], times);
     return 0;
 }

@@ -26,6 +26,7 @@ static uint32_t labels[ZC_ROWS(SLOTS)], asked[ZC_MOST_ASKED];
 #define LENT                                                                                       \
     lefts, ZC_ROWS(SLOTS), rights, ZC_ROWS(SLOTS), labels, ZC_ROWS(SLOTS), marks,                  \
         ZC_MARK_WORDS(SLOTS)
+#define NO_NEXT NULL, 0 /* the slots are named */
 
 static uint64_t draw(uint64_t below)
 {
@@ -68,7 +69,7 @@ __attribute__((noinline)) static void replay_library(void)
         if (finding)
             sum += zc_find(&control, asked, ZC_MOST_ASKED, LENT).rows;
         else
-            sum += zc_report(&control, records, TASKS, LENT).waiting;
+            sum += zc_report(&control, records, TASKS, LENT, NO_NEXT).waiting;
 }
 
 __attribute__((noinline)) static void replay_reference(void)
@@ -77,7 +78,7 @@ __attribute__((noinline)) static void replay_reference(void)
         if (finding)
             sum += reference_find(&control, asked, ZC_MOST_ASKED, LENT).rows;
         else
-            sum += reference_report(&control, records, TASKS, LENT).waiting;
+            sum += reference_report(&control, records, TASKS, LENT, NO_NEXT).waiting;
 }
 
 static double best(void (*replay)(void), double so_far)
@@ -92,8 +93,8 @@ static double best(void (*replay)(void), double so_far)
 
 static int check(void)
 {
-    zc_report_reply ours = zc_report(&control, records, TASKS, LENT);
-    zc_report_reply theirs = reference_report(&control, records, TASKS, LENT);
+    zc_report_reply ours = zc_report(&control, records, TASKS, LENT, NO_NEXT);
+    zc_report_reply theirs = reference_report(&control, records, TASKS, LENT, NO_NEXT);
     zc_find_reply found = zc_find(&control, asked, ZC_MOST_ASKED, LENT);
     zc_find_reply expected = reference_find(&control, asked, ZC_MOST_ASKED, LENT);
     if (memcmp(&ours, &theirs, sizeof ours) == 0 && memcmp(&found, &expected, sizeof found) == 0)

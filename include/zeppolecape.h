@@ -8,27 +8,32 @@
  * is lock-free is the tasks, between calls: wherever a task is stopped, the others go on.
  *
  * WHAT IT IS. The library holds no memory of its own. You lend it tables; it opens a queue in them,
- * starts a push or a pop for a task, moves one task by one step, and reports. A step writes one
- * shared word at the most, and an executive may interleave the steps of its tasks in any order and
- * stop any of them anywhere: the others never wait for it. The method is Michael's CAS-based deque.
+ * starts a push or a pop for a task, moves one task by one step, and reports. A step is one touch of
+ * shared memory, and an executive may interleave the steps of its tasks in any order and stop any of
+ * them anywhere: the others never wait for it. The method is Michael's CAS-based deque.
  *
  *     make                                          (proves, and writes target/lib/libzeppolecape.a)
  *     cc -Iinclude main.c target/lib/libzeppolecape.a
  *
- * The library is for x86-64. It calls nothing but memset, from zc_open, zc_audit_words and the order
- * sheets, and memcpy, from zc_find and the order sheets.
+ * The library is for x86-64. It calls nothing but memset, from the openings, zc_audit_words and the
+ * order sheets, and memcpy, from zc_find and the order sheets.
  *
  * In short:
  *
  *     enum { TASKS = 2, SLOTS = 3 };
  *     ZC_QUEUE_STORAGE(queue, TASKS, SLOTS);                     the tables, and `queue` to lend them
  *
- *     zc_queue_open(&queue, TASKS, SLOTS, 0);                    answers 0
- *     zc_queue_push(&queue, 0, ZC_RIGHT, 1, 700);                task 0 starts: slot 1, label 700
- *     zc_queue_step(&queue, 0);                                  running, next place 2
- *     zc_queue_step(&queue, 0);                                  pushed
+ *     zc_queue_open_pooled(&queue, TASKS, SLOTS, 0);             answers 0
+ *     zc_queue_push_pooled(&queue, 0, ZC_RIGHT, 700);            task 0 starts: label 700
+ *     zc_queue_step(&queue, 0);   ... until zc_answered          running four times, pushed
  *     zc_queue_pop(&queue, 1, ZC_LEFT);                          task 1 starts
- *     zc_queue_step(&queue, 1);   ... until zc_answered          running, running, popped 1 and 700
+ *     zc_queue_step(&queue, 1);   ... until zc_answered          running five times, popped: 700
+ *
+ * TWO WAYS TO OPEN. A pooled queue (zc_open_pooled) keeps its free slots on a stack that the tasks
+ * share: a push takes one in three steps of its own (places 12 to 14), a pop gives its back in
+ * three (15 to 17). In a queue opened by zc_open the caller names a free slot with every push
+ * (zc_push), calls are three steps shorter, and no next table is needed: it may be null with count
+ * 0. Pops, steps and the report are the same calls for both.
  *
  * YOUR DUTY, in every call
  *  - `control`, and `one` of zc_step_record, are not null. Every pointer is aligned
@@ -63,12 +68,13 @@
  *   zc_run            192      1298      3024      3024
  *   zc_report         112       227       503     27343
  *   table bytes         -       192       664     21792
- *   code bytes: audit 1804, capi 5987, capi_record 2702, capi_run 3057, find 3506, sheet 3579
+ *   code bytes: audit 1804, capi 5987, capi_record 2702, capi_run 3057, find 3506, sheet 3496
  * As to the machine: x86-64, System V calling convention. The code uses the red zone (128 bytes
  * below the stack pointer) and SSE registers, no AVX: an interrupt handler that makes a call saves
  * the SSE state first, and an interrupt that is not masked during a call leaves the red zone alone.
- * A task stepped alone answers within 18 steps in a push and 13 in a pop, wherever the others
- * stopped (ZC_PUSH_STEPS); between other tasks' steps it may have to try again and again.
+ * A task stepped alone answers within 18 steps in a push and 13 in a pop, in a pooled queue 21 and
+ * 16, wherever the others stopped (ZC_PUSH_STEPS); between other tasks' steps it may have to try
+ * again and again.
  *
  * A REFUSAL is its number alone: every table keeps its contents. If several
  * numbers apply, the first in the order that stands with the call is answered.
@@ -79,7 +85,8 @@
  *   12  a lent table is too short            32  push: the slot's mark is set
  *   13  no such task                         33  start: the Anchor tag is above 4,294,967,262
  *   14  side not 0 or 1                      34  unsound, see ZC_UNSOUND
- *   15  slot not 1 to slots
+ *   15  slot not 1 to slots                  41  push: a slot named in a pooled queue, or none
+ *                                                in the other
  */
 #ifndef ZEPPOLECAPE_H
 #define ZEPPOLECAPE_H
@@ -95,7 +102,7 @@ extern "C" {
  * Major: a layout, a code, or what a call takes or does has changed: read CHANGELOG.md and compile
  * again. Minor: something was added. Patch: neither.
  */
-#define ZC_VERSION_MAJOR 1
+#define ZC_VERSION_MAJOR 2
 #define ZC_VERSION_MINOR 0
 #define ZC_VERSION_PATCH 0
 #define ZC_VERSION (ZC_VERSION_MAJOR * 10000 + ZC_VERSION_MINOR * 100 + ZC_VERSION_PATCH)
@@ -110,17 +117,22 @@ extern "C" {
 
 /*
  * How long a call may hold up, in a queue that was opened and moved by these calls alone. Figures
- * for a watchdog; a refused step does not count:
+ * for a watchdog; a refused step does not count. Proved, where the caller names the slots:
  *  - a busy task stepped alone answers within ZC_PUSH_STEPS steps for a push and ZC_POP_STEPS for a
  *    pop, wherever all the others stopped. Both are reached;
  *  - any ZC_STRETCH(tasks) steps, of whatever tasks, hold one with which a call takes effect or
  *    answers.
+ * Counted and tested, in a pooled queue: at 13 a push may hold a head of long ago, and alone makes
+ * 13, 14, 12, 13, 14 and then the 16 steps that it needs at most from place 1; a pop makes the three
+ * steps 15 to 17 more. Both are reached.
  */
 #define ZC_PUSH_STEPS 18
 #define ZC_POP_STEPS 13
+#define ZC_POOLED_PUSH_STEPS 21
+#define ZC_POOLED_POP_STEPS 16
 #define ZC_STRETCH(tasks) (26 * (uint64_t)(tasks))
 
-/* Entries of lefts, rights and labels: rows 0 to slots (row 0 is null's and stays unused). */
+/* Entries of lefts, rights, labels and next: rows 0 to slots (row 0 is null's, and unused). */
 #define ZC_ROWS(slots) ((size_t)(slots) + 1)
 /* Entries of marks: bit n mod 64 of word n div 64 is set while slot n is taken. */
 #define ZC_MARK_WORDS(slots) ((size_t)(slots) / 64 + 1)
@@ -141,15 +153,16 @@ extern "C" {
 #define ZC_LPUSH 2
 
 /* Codes of a zc_reply. Any other code is the number of a refusal. */
-#define ZC_RUNNING 1 /* the call goes on; value: the place of its next step */
-#define ZC_PUSHED 2  /* the push is answered */
-#define ZC_EMPTY 3   /* the pop is answered: nothing was waiting */
-#define ZC_POPPED 4  /* the pop is answered; value: the slot, label: its label */
+#define ZC_RUNNING 1      /* the call goes on; value: the place of its next step */
+#define ZC_PUSHED 2       /* the push is answered */
+#define ZC_EMPTY 3        /* the pop is answered: nothing was waiting */
+#define ZC_POPPED 4       /* the pop is answered; value: the slot, label: its label */
+#define ZC_NO_FREE_SLOT 5 /* a pooled push is answered, nothing pushed: every slot was in use */
 
 /* Refusals because of the input. */
 #define ZC_BAD_TASKS 10
 #define ZC_BAD_SLOTS 11
-#define ZC_SHORT 12   /* see ZC_ROWS and ZC_MARK_WORDS; one record for each task */
+#define ZC_SHORT 12   /* see ZC_ROWS and ZC_MARK_WORDS; one record a task; next only if pooled */
 #define ZC_NO_TASK 13 /* tasks are 0 to tasks - 1 */
 #define ZC_NO_SIDE 14
 #define ZC_NO_SLOT 15 /* slots are 1 to slots; 0 is null */
@@ -168,19 +181,22 @@ extern "C" {
 /*
  * The contents of a table contradict each other; never after an opening and calls of this
  * library alone, so somebody else wrote there. Four groups, each tested at its time:
- *  - control: tasks or slots outside their limits; an Anchor with status 3, an end above slots,
- *    just one end null, or unstable with equal ends;
- *  - the record, if busy: place above 11; kind, side or finishing above 1; place 11 in a push;
- *    finishing in a pop or outside places 5 to 10; own not 0 in a pop, not 1 to slots in a push;
- *    neighbour above slots; link with a set bit in 31-15 or a slot above slots; seen not a sound
- *    Anchor, or STABLE at places 5 to 10;
+ *  - control: tasks or slots outside their limits; pooled above 1; an Anchor with status 3, an end
+ *    above slots, just one end null, or unstable with equal ends;
+ *  - the record, if busy: place above 11, in a pooled queue above 17; kind, side or finishing above
+ *    1; place 11 or 15 to 17 in a push, 12 to 14 in a pop; finishing in a pop or outside places 5
+ *    to 10; own not 0 in a push at 12 to 14 or a pop at 1 to 11, not 1 to slots elsewhere;
+ *    neighbour above slots; link with a set bit in 31-15 or a slot above slots, or with slot 0 at
+ *    13 and 14; seen not a sound Anchor, or STABLE at places 5 to 10;
  *  - what the step touches: it needs a slot row outside 1 to slots; it meets, at 3, 5 or 7, a link
- *    word with a set bit in 31-15 or a slot above slots (a push at 3: in its own slot); it would
- *    make a change that leaves Anchor unsound or raises a tag past 32 bits;
+ *    word, or at 12 and 15 a head, with a set bit in 31-15 or a slot above slots (a push at 3: in
+ *    its own slot), or at 13 a next above slots; it would make a change that leaves Anchor unsound
+ *    or raises a tag past 32 bits;
  *  - the walk of the labels waiting, from one end: before the other end it meets slot 0, a link
  *    word with a set bit in 31-15 or a slot above slots, or more slots than exist.
  */
 #define ZC_UNSOUND 34
+#define ZC_WRONG_PUSH 41 /* zc_push is for queues opened by zc_open, zc_push_pooled for the other */
 
 /* Refusal of zc_audit, because of the input: no history that can be judged. */
 #define ZC_BAD_HISTORY 40
@@ -191,30 +207,32 @@ extern "C" {
 
 /* ---- Types ------------------------------------------------------------------------------ */
 
-/* What all tasks share besides rows and marks. Written by zc_open and the steps. */
+/* What all tasks share besides rows and marks. Written by the openings and the steps. */
 typedef struct zc_control {
     uint64_t tasks;
     uint64_t slots;
     uint64_t anchor;  /* tag 63-32, status 31-30, left end 29-15, right end 14-0; end 0 is null */
     uint64_t retries; /* changes that failed because another task was faster */
+    uint64_t pooled;  /* 1 if opened by zc_open_pooled, else 0 */
+    uint64_t head;    /* the free slot on top: tag 63-32, zero 31-15, slot 14-0; slot 0: none */
 } zc_control;
 
-/* Where a task stands in its call. Each field is zero after zc_open and after an answer. */
+/* Where a task stands in its call. Each field is zero after an opening and after an answer. */
 typedef struct zc_record {
-    uint64_t place;     /* 0 idle, or the place of the next step, 1 to 11 */
+    uint64_t place;     /* 0 idle, or the place of the next step, 1 to 11, pooled to 17 */
     uint64_t kind;      /* ZC_PUSH or ZC_POP */
     uint64_t side;      /* ZC_LEFT or ZC_RIGHT */
-    uint64_t own;       /* the slot of a push; 0 in a pop */
-    uint32_t label;     /* the label of a push; 4 bytes of padding follow, which nobody reads */
+    uint64_t own;       /* the slot of a push, or that a pop gives back (15 to 17); else 0 */
+    uint32_t label;     /* its label; 4 bytes of padding follow, which nobody reads */
     uint64_t seen;      /* Anchor as read */
-    uint64_t neighbour; /* the neighbour slot as read */
-    uint64_t link;      /* the link word as read */
+    uint64_t neighbour; /* the neighbour slot as read; at 14 the next of the slot on top */
+    uint64_t link;      /* the link word as read; at 13 to 17 the head */
     uint64_t finishing; /* 1 once a push has taken effect and still has a link to mend */
 } zc_record;
 
 /* What a start or a step answers. Label and value are 0 where the code gives them no meaning. */
 typedef struct zc_reply {
-    uint32_t code;  /* ZC_RUNNING, ZC_PUSHED, ZC_EMPTY, ZC_POPPED, or the number of a refusal */
+    uint32_t code;  /* ZC_RUNNING to ZC_NO_FREE_SLOT, or the number of a refusal */
     uint32_t label; /* popped: the label */
     uint64_t value; /* running: the next place; popped: the slot */
 } zc_reply;
@@ -249,9 +267,10 @@ typedef struct zc_find_reply {
 #else
 #define ZC_LAYOUT(fact) _Static_assert(fact, #fact)
 #endif
-ZC_LAYOUT(sizeof(zc_control) == 32);
+ZC_LAYOUT(sizeof(zc_control) == 48);
 ZC_LAYOUT(offsetof(zc_control, tasks) == 0 && offsetof(zc_control, slots) == 8);
 ZC_LAYOUT(offsetof(zc_control, anchor) == 16 && offsetof(zc_control, retries) == 24);
+ZC_LAYOUT(offsetof(zc_control, pooled) == 32 && offsetof(zc_control, head) == 40);
 ZC_LAYOUT(sizeof(zc_record) == 72);
 ZC_LAYOUT(offsetof(zc_record, place) == 0 && offsetof(zc_record, kind) == 8);
 ZC_LAYOUT(offsetof(zc_record, side) == 16 && offsetof(zc_record, own) == 24);
@@ -276,16 +295,17 @@ ZC_LAYOUT(offsetof(zc_find_reply, positions) == 16);
 
 /* ---- The calls ---------------------------------------------------------------------------
  * The tables always come last and in this order, each a pointer and its count of elements:
- * lefts and rights (link words: tag 63-32, zero 31-15, slot 14-0), labels, marks. A table that a
- * call only reads is lent as const; control and records are written by all but the report, a start
- * leaving control as it was.
+ * lefts and rights (link words: tag 63-32, zero 31-15, slot 14-0), labels, marks, and, but for
+ * zc_open, zc_find and the order sheets, next. A table that a call only reads is lent as const; a
+ * start leaves control as it was. The next table of a queue that was opened by zc_open is not looked
+ * at, nor is its count.
  */
 
 /*
  * Opens an empty, STABLE queue for `tasks` tasks, numbered from 0, and `slots` slots, numbered
  * from 1. `tag` is the first Anchor tag: any number, 0 if you have no reason for another.
  * Zeroes rows 0 to slots, `tasks` records, the mark words and retries; entries beyond keep their
- * values. What lay in control and tables before does not matter.
+ * values. What lay in control and tables before does not matter. Pushes name their slots.
  * Answers 0, or refuses: 10, 11, 12 (rows slots + 1, records tasks, mark words slots div 64 + 1).
  */
 uint32_t zc_open(zc_control *control, zc_record *records, size_t record_count, uint64_t tasks,
@@ -294,16 +314,43 @@ uint32_t zc_open(zc_control *control, zc_record *records, size_t record_count, u
                  size_t mark_count);
 
 /*
- * Starts a push for an idle task: `label`, any number, in `slot`, at the end `side`. The slot must
- * be free (its mark clear); it is taken from now until the pop of its label answers.
+ * The same, with all slots in a pool: the head is slot 1 with tag 0, and next leads from each slot
+ * to the following one; rows 0 and slots of next are 0. Pushes take their slots from the pool.
+ * Answers 0, or refuses: 10, 11, 12 (next too: slots + 1).
+ */
+uint32_t zc_open_pooled(zc_control *control, zc_record *records, size_t record_count,
+                        uint64_t tasks, uint64_t slots, uint32_t tag, uint64_t *lefts,
+                        size_t left_count, uint64_t *rights, size_t right_count, uint32_t *labels,
+                        size_t label_count, uint64_t *marks, size_t mark_count, uint64_t *next,
+                        size_t next_count);
+
+/*
+ * Starts a push for an idle task in a queue opened by zc_open: `label`, any number, in `slot`, at
+ * the end `side`. The slot must be free (its mark clear); it is taken from now until the pop of its
+ * label answers.
  * Writes the record, the slot's label and its mark; the queue itself moves by steps only.
- * Answers running at place 1, or refuses: 34 for control, 12, 13, 14, 15, 34 for the record, 30,
- * 32, 33.
+ * Answers running at place 1, or refuses: 34 for control, 12, 13, 14, 41, 15, 34 for the record,
+ * 30, 32, 33.
  */
 zc_reply zc_push(zc_control *control, zc_record *records, size_t record_count, size_t task,
                  uint64_t side, uint64_t slot, uint32_t label, const uint64_t *lefts,
                  size_t left_count, const uint64_t *rights, size_t right_count, uint32_t *labels,
-                 size_t label_count, uint64_t *marks, size_t mark_count);
+                 size_t label_count, uint64_t *marks, size_t mark_count, const uint64_t *next,
+                 size_t next_count);
+
+/*
+ * Starts a push for an idle task in a pooled queue. Its first steps take a slot from the pool; if
+ * there is none the first step answers ZC_NO_FREE_SLOT, and nothing is pushed: every slot then
+ * waited, or was held by a push or a pop half done. Start again once a pop has answered.
+ * Writes the record alone.
+ * Answers running at place 12, or refuses: 34 for control, 12, 13, 14, 41, 34 for the record, 30,
+ * 33.
+ */
+zc_reply zc_push_pooled(zc_control *control, zc_record *records, size_t record_count, size_t task,
+                        uint64_t side, uint32_t label, const uint64_t *lefts, size_t left_count,
+                        const uint64_t *rights, size_t right_count, const uint32_t *labels,
+                        size_t label_count, const uint64_t *marks, size_t mark_count,
+                        const uint64_t *next, size_t next_count);
 
 /*
  * Starts a pop for an idle task at the end `side`. Writes the record alone.
@@ -312,40 +359,43 @@ zc_reply zc_push(zc_control *control, zc_record *records, size_t record_count, s
 zc_reply zc_pop(zc_control *control, zc_record *records, size_t record_count, size_t task,
                 uint64_t side, const uint64_t *lefts, size_t left_count, const uint64_t *rights,
                 size_t right_count, const uint32_t *labels, size_t label_count,
-                const uint64_t *marks, size_t mark_count);
+                const uint64_t *marks, size_t mark_count, const uint64_t *next, size_t next_count);
 
 /*
- * Moves a busy task by one step. Step it again as long as the answer is running; with pushed,
- * empty or popped the call is over and the task idle.
- * Writes its record and at most one of: Anchor, a link word, a mark; a change that failed is
- * counted in retries instead.
+ * Moves a busy task by one step. Step it again as long as the answer is running; with any other
+ * code below 10 the call is over and the task idle.
+ * Writes its record and at most one of: Anchor, the head, a link word, a next, a mark; a change
+ * that failed is counted in retries instead. One step writes more: at 14 a push takes the slot on
+ * top and sets its mark and label together with the head.
  * Refuses: 34 for control, 12, 13, 34 for the record, 31, 34 for what the step touches.
  */
 zc_reply zc_step(zc_control *control, zc_record *records, size_t record_count, size_t task,
                  uint64_t *lefts, size_t left_count, uint64_t *rights, size_t right_count,
-                 const uint32_t *labels, size_t label_count, uint64_t *marks, size_t mark_count);
+                 uint32_t *labels, size_t label_count, uint64_t *marks, size_t mark_count,
+                 uint64_t *next, size_t next_count);
 
 /*
  * The same step on one lent record, which need not lie among the others: it answers, and leaves
  * record and tables, as zc_step does with this record in its task's row.
- * Refuses: 34 for control, 12 (rows and marks only), 34 for the record, 31, 34 for what the step
+ * Refuses: 34 for control, 12 (not for records), 34 for the record, 31, 34 for what the step
  * touches.
  */
 zc_reply zc_step_record(zc_control *control, zc_record *one, uint64_t *lefts, size_t left_count,
-                        uint64_t *rights, size_t right_count, const uint32_t *labels,
-                        size_t label_count, uint64_t *marks, size_t mark_count);
+                        uint64_t *rights, size_t right_count, uint32_t *labels, size_t label_count,
+                        uint64_t *marks, size_t mark_count, uint64_t *next, size_t next_count);
 
 /*
  * Steps a task until a step does not answer running, `most` times at the most, and answers as the
  * last step did. With `most` steps made, or none to make, the answer is running at the task's place
- * (0: it is idle). ZC_PUSH_STEPS or ZC_POP_STEPS are always enough.
+ * (0: it is idle). ZC_PUSH_STEPS or ZC_POP_STEPS, pooled ZC_POOLED_PUSH_STEPS or
+ * ZC_POOLED_POP_STEPS, are always enough.
  * Refuses as the step does. In a queue that somebody else wrote to, a later step may be refused too:
  * the `steps` before it are made and stay.
  */
 zc_run_reply zc_run(zc_control *control, zc_record *records, size_t record_count, size_t task,
                     uint64_t most, uint64_t *lefts, size_t left_count, uint64_t *rights,
-                    size_t right_count, const uint32_t *labels, size_t label_count,
-                    uint64_t *marks, size_t mark_count);
+                    size_t right_count, uint32_t *labels, size_t label_count, uint64_t *marks,
+                    size_t mark_count, uint64_t *next, size_t next_count);
 
 /*
  * Tells Anchor's fields, the number of busy tasks, the labels waiting, the slots taken, and retries.
@@ -356,7 +406,8 @@ zc_run_reply zc_run(zc_control *control, zc_record *records, size_t record_count
 zc_report_reply zc_report(const zc_control *control, const zc_record *records, size_t record_count,
                           const uint64_t *lefts, size_t left_count, const uint64_t *rights,
                           size_t right_count, const uint32_t *labels, size_t label_count,
-                          const uint64_t *marks, size_t mark_count);
+                          const uint64_t *marks, size_t mark_count, const uint64_t *next,
+                          size_t next_count);
 
 /*
  * Finds up to 32 labels in the queue, equal ones among them, in one walk that reads each waiting
@@ -379,10 +430,10 @@ static inline int zc_refused(zc_reply reply) { return zc_is_refusal(reply.code);
 /* The number of the refusal; 0 if the call was carried out. */
 static inline uint32_t zc_refusal(zc_reply reply) { return zc_refused(reply) ? reply.code : 0; }
 
-/* Pushed, empty or popped: the task is idle again. */
+/* Pushed, empty, popped or no free slot: the task is idle again. */
 static inline int zc_answered(zc_reply reply)
 {
-    return reply.code == ZC_PUSHED || reply.code == ZC_EMPTY || reply.code == ZC_POPPED;
+    return reply.code >= ZC_PUSHED && reply.code <= ZC_NO_FREE_SLOT;
 }
 
 /* The place of the next step; 0 unless running. */
@@ -414,6 +465,7 @@ static inline const char *zc_refusal_text(uint64_t number)
     case ZC_WORN: return "the Anchor tag is too high for another start";
     case ZC_UNSOUND: return "the tables are unsound";
     case ZC_BAD_HISTORY: return "not a history that can be judged";
+    case ZC_WRONG_PUSH: return "a slot named in a pooled queue, or none in the other";
     case ZC_BAD_SHEET: return "the sheet is malformed";
     default: return "not a refusal";
     }
@@ -451,37 +503,55 @@ typedef struct zc_queue {
     size_t label_count;
     uint64_t *marks;
     size_t mark_count;
+    uint64_t *next; /* of a pooled queue; else null and 0 will do */
+    size_t next_count;
 } zc_queue;
 
 /*
  * Declares the tables of a queue and the zc_queue `name` that lends them, all static and as long as
  * `tasks` and `slots`, two constants, ask for. The tables are name_tables.labels and so on; what
- * they take is sizeof name_tables. Open the queue before use.
+ * they take is sizeof name_tables. Open the queue before use, pooled or not; one that will never be
+ * pooled needs no next table, and ZC_NAMED_STORAGE leaves it out.
  */
 #define ZC_QUEUE_STORAGE(name, tasks, slots)                                                       \
+    ZC_STORAGE(name, tasks, slots, uint64_t next[ZC_ROWS(slots)];                                  \
+               , name##_tables.next, ZC_ROWS(slots))
+#define ZC_NAMED_STORAGE(name, tasks, slots) ZC_STORAGE(name, tasks, slots, , NULL, 0)
+
+/* Both of these; the next table is declared, lent and counted by the last three. */
+#define ZC_STORAGE(name, tasks, slots, declared, lent, count)                                      \
     ZC_LAYOUT((tasks) >= 1 && (tasks) <= ZC_MOST_TASKS);                                           \
     ZC_LAYOUT((slots) >= 1 && (slots) <= ZC_MOST_SLOTS);                                           \
     static struct {                                                                                \
         zc_control control;                                                                        \
         zc_record records[tasks];                                                                  \
         uint64_t lefts[ZC_ROWS(slots)], rights[ZC_ROWS(slots)], marks[ZC_MARK_WORDS(slots)];       \
-        uint32_t labels[ZC_ROWS(slots)];                                                           \
+        declared uint32_t labels[ZC_ROWS(slots)];                                                  \
     } name##_tables;                                                                               \
     static const zc_queue name = {                                                                 \
         &name##_tables.control, name##_tables.records, (tasks),                                    \
         name##_tables.lefts,    ZC_ROWS(slots),        name##_tables.rights, ZC_ROWS(slots),       \
         name##_tables.labels,   ZC_ROWS(slots),        name##_tables.marks,  ZC_MARK_WORDS(slots), \
+        lent,                   count,                                                             \
     }
 
-#define ZC_TABLES(queue)                                                                           \
+#define ZC_ROW_TABLES(queue)                                                                       \
     (queue)->lefts, (queue)->left_count, (queue)->rights, (queue)->right_count, (queue)->labels,   \
         (queue)->label_count, (queue)->marks, (queue)->mark_count
+#define ZC_TABLES(queue) ZC_ROW_TABLES(queue), (queue)->next, (queue)->next_count
 
 static inline uint32_t zc_queue_open(const zc_queue *queue, uint64_t tasks, uint64_t slots,
                                      uint32_t tag)
 {
     return zc_open(queue->control, queue->records, queue->record_count, tasks, slots, tag,
-                   ZC_TABLES(queue));
+                   ZC_ROW_TABLES(queue));
+}
+
+static inline uint32_t zc_queue_open_pooled(const zc_queue *queue, uint64_t tasks, uint64_t slots,
+                                            uint32_t tag)
+{
+    return zc_open_pooled(queue->control, queue->records, queue->record_count, tasks, slots, tag,
+                          ZC_TABLES(queue));
 }
 
 static inline zc_reply zc_queue_push(const zc_queue *queue, size_t task, uint64_t side,
@@ -489,6 +559,13 @@ static inline zc_reply zc_queue_push(const zc_queue *queue, size_t task, uint64_
 {
     return zc_push(queue->control, queue->records, queue->record_count, task, side, slot, label,
                    ZC_TABLES(queue));
+}
+
+static inline zc_reply zc_queue_push_pooled(const zc_queue *queue, size_t task, uint64_t side,
+                                            uint32_t label)
+{
+    return zc_push_pooled(queue->control, queue->records, queue->record_count, task, side, label,
+                          ZC_TABLES(queue));
 }
 
 static inline zc_reply zc_queue_pop(const zc_queue *queue, size_t task, uint64_t side)
@@ -521,7 +598,7 @@ static inline zc_run_reply zc_queue_run(const zc_queue *queue, size_t task, uint
 static inline zc_find_reply zc_queue_find(const zc_queue *queue, const uint32_t *asked,
                                           size_t asked_count)
 {
-    return zc_find(queue->control, asked, asked_count, ZC_TABLES(queue));
+    return zc_find(queue->control, asked, asked_count, ZC_ROW_TABLES(queue));
 }
 #endif
 
@@ -530,7 +607,7 @@ static inline zc_report_reply zc_queue_report(const zc_queue *queue)
     return zc_report(queue->control, queue->records, queue->record_count, ZC_TABLES(queue));
 }
 
-/* A slot that no label and no call holds; 0 if all are taken. */
+/* A slot to name in a push: no label and no call holds it; 0 if all are taken. */
 static inline uint64_t zc_queue_free_slot(const zc_queue *queue)
 {
     for (size_t word = 0; word < queue->mark_count; word++) {
@@ -604,12 +681,12 @@ static inline size_t zc_queue_waiting(const zc_queue *queue, uint64_t *slots, si
 /*
  * Steps one task, alone, until it answers, and gives that answer; a refusal if the task was idle
  * (31) or the tables are not those of an open queue; running if it has not answered after
- * ZC_PUSH_STEPS steps, which does not happen in a queue that was written by the calls alone.
+ * ZC_POOLED_PUSH_STEPS steps, which does not happen in a queue that was written by the calls alone.
  */
 static inline zc_reply zc_queue_finish(const zc_queue *queue, size_t task)
 {
     zc_reply reply = zc_queue_step(queue, task);
-    for (int step = 1; step < ZC_PUSH_STEPS && reply.code == ZC_RUNNING; step++)
+    for (int step = 1; step < ZC_POOLED_PUSH_STEPS && reply.code == ZC_RUNNING; step++)
         reply = zc_queue_step(queue, task);
     return reply;
 }
@@ -630,19 +707,22 @@ static inline size_t zc_queue_drain(const zc_queue *queue, zc_reply *answers, ui
 
 /*
  * Pushes `count` labels at the right, in this order, into free slots, by a task that is idle and
- * stepped alone. Answers 0, or the first refusal (32 where no slot is free), after which the labels
- * before it are in the queue.
+ * stepped alone, in either kind of queue. Answers 0, or the first refusal (32 where no slot is
+ * free), after which the labels before it are in the queue.
  */
 static inline uint32_t zc_queue_refill(const zc_queue *queue, size_t task, const uint32_t *labels,
                                        size_t count)
 {
     for (size_t at = 0; at < count; at++) {
-        uint64_t slot = zc_queue_free_slot(queue);
-        if (slot == 0)
+        uint64_t slot = queue->control->pooled ? 0 : zc_queue_free_slot(queue);
+        if (slot == 0 && !queue->control->pooled)
             return ZC_TAKEN;
-        zc_reply reply = zc_queue_push(queue, task, ZC_RIGHT, slot, labels[at]);
+        zc_reply reply = slot == 0 ? zc_queue_push_pooled(queue, task, ZC_RIGHT, labels[at])
+                                   : zc_queue_push(queue, task, ZC_RIGHT, slot, labels[at]);
         if (!zc_refused(reply))
             reply = zc_queue_finish(queue, task);
+        if (reply.code == ZC_NO_FREE_SLOT)
+            return ZC_TAKEN;
         if (reply.code != ZC_PUSHED)
             return zc_refused(reply) ? reply.code : ZC_UNSOUND;
     }
@@ -692,7 +772,8 @@ ZC_LAYOUT(offsetof(zc_verdict, code) == 0 && offsetof(zc_verdict, position) == 4
  * told whose call has another answer or stands before a call answered before its start; 0 if the
  * order is not a rearrangement of the calls.
  * Every history of a queue of this library passes, its effects being the steps that move an end of
- * Anchor and those that answer empty.
+ * Anchor and those that answer empty. A push that was answered ZC_NO_FREE_SLOT is left out: here
+ * that answer is unknown (40).
  * Refuses: 40 (over 64 calls; an answer event not after its start; two events equal; a kind, side
  * or answer unknown). Nothing in the order is refused.
  *
@@ -765,7 +846,7 @@ static inline zc_sheet_reply zc_queue_sheet(const zc_queue *queue, const uint32_
                                             size_t listed_count, const uint32_t *rules,
                                             size_t rule_count)
 {
-    return zc_sheet(queue->control, listed, listed_count, rules, rule_count, ZC_TABLES(queue));
+    return zc_sheet(queue->control, listed, listed_count, rules, rule_count, ZC_ROW_TABLES(queue));
 }
 
 static inline zc_sheet_reply zc_queue_sheet_words(const zc_queue *queue, const uint32_t *listed,
@@ -774,7 +855,7 @@ static inline zc_sheet_reply zc_queue_sheet_words(const zc_queue *queue, const u
                                                   size_t word_count)
 {
     return zc_sheet_words(queue->control, listed, listed_count, rules, rule_count, words,
-                          word_count, ZC_TABLES(queue));
+                          word_count, ZC_ROW_TABLES(queue));
 }
 #endif
 

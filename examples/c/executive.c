@@ -1,8 +1,9 @@
 /*
  * A small executive: five tasks share one label queue and take turns at random, one touch at a
  * time. Three scales push labels at the right, the reprint desk pushes at the left, and the print
- * head pops at the left. At the end every label that was pushed must have reached the head once,
- * or still be waiting.
+ * head pops at the left. Slots come from the queue's pool; while there is none a push is started
+ * again. At the end every label that was pushed must have reached the head once, or still be
+ * waiting.
  *
  *     make
  *     cc -Iinclude examples/c/executive.c target/lib/libzeppolecape.a -o executive
@@ -21,6 +22,7 @@ ZC_QUEUE_STORAGE(queue, TASKS, SLOTS);
 /* What became of label n, the n-th that was started. */
 static int pushed[MOST_LABELS], printed[MOST_LABELS];
 static uint32_t under_way[TASKS], next_label, printed_count;
+static int put_off[TASKS]; /* the task's label found no slot */
 
 static uint64_t random_below(uint64_t *state, uint64_t limit)
 {
@@ -40,19 +42,18 @@ static zc_reply expect(zc_reply reply)
     return reply;
 }
 
-/* An idle task starts its next call; a push waits while all slots are taken. */
+/* An idle task starts its next call, or a push that was put off. */
 static void start(size_t task)
 {
     if (task == HEAD) {
         expect(zc_queue_pop(&queue, HEAD, ZC_LEFT));
         return;
     }
-    uint64_t slot = zc_queue_free_slot(&queue);
-    if (slot == 0)
-        return;
     uint64_t side = task == DESK ? ZC_LEFT : ZC_RIGHT;
-    under_way[task] = next_label++;
-    expect(zc_queue_push(&queue, task, side, slot, under_way[task]));
+    if (!put_off[task])
+        under_way[task] = next_label++;
+    put_off[task] = 0;
+    expect(zc_queue_push_pooled(&queue, task, side, under_way[task]));
 }
 
 /* A busy task makes one step. */
@@ -61,6 +62,7 @@ static void step(size_t task)
     zc_reply reply = expect(zc_queue_step(&queue, task));
     switch (reply.code) {
     case ZC_PUSHED: pushed[under_way[task]]++; break;
+    case ZC_NO_FREE_SLOT: put_off[task] = 1; break;
     case ZC_POPPED:
         printf("%3" PRIu32 "%s", zc_label(reply), ++printed_count % 20 ? " " : "\n");
         printed[zc_label(reply)]++;
@@ -85,7 +87,7 @@ int main(int argc, char **argv)
     uint64_t state = argc > 1 ? strtoull(argv[1], NULL, 10) : 1;
     state = state * UINT64_C(0x9e3779b97f4a7c15) | 1;
 
-    if (zc_queue_open(&queue, TASKS, SLOTS, 0) != 0)
+    if (zc_queue_open_pooled(&queue, TASKS, SLOTS, 0) != 0)
         return 2;
     puts("the head got:");
     for (int touch = 0; touch < TOUCHES; touch++) {
@@ -97,17 +99,22 @@ int main(int argc, char **argv)
     }
     /* Alone, a task answers within a few steps; one that does not stays busy in the report. */
     for (size_t task = 0; task < TASKS; task++)
-        for (int touch = 0; touch < ZC_PUSH_STEPS && queue_tables.records[task].place != 0; touch++)
-            step(task);
+        for (int touch = 0; touch < ZC_POOLED_PUSH_STEPS; touch++)
+            if (queue_tables.records[task].place != 0)
+                step(task);
 
     zc_report_reply report = zc_queue_report(&queue);
     uint64_t count = walk(waiting);
+    uint32_t left_over = 0;
+    for (size_t task = 0; task < TASKS; task++)
+        left_over += (uint32_t)put_off[task];
     printf("\n%" PRIu32 " pushed, %" PRIu32 " printed, %" PRIu64 " waiting, %" PRIu64 " retries\n",
-           next_label, printed_count, count, report.retries);
+           next_label - left_over, printed_count, count, report.retries);
 
-    int lost = report.code != 0 || report.busy != 0 || report.waiting != count;
+    int lost = report.code != 0 || report.busy != 0 || report.waiting != count ||
+               printed_count + count != next_label - left_over;
     for (uint32_t label = 0; label < next_label; label++)
-        if (pushed[label] != 1 || printed[label] + waiting[label] != 1) {
+        if (pushed[label] > 1 || printed[label] + waiting[label] != pushed[label]) {
             printf("label %" PRIu32 ": pushed %d, printed %d, waiting %d\n", label, pushed[label],
                    printed[label], waiting[label]);
             lost = 1;

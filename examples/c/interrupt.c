@@ -4,7 +4,8 @@
  * re-entrant and its stores are plain, so the main program masks the signal around each touch, which
  * is one call and the reads of the tables that belong to it; the handler runs with its own signal
  * masked. The signal comes between any two touches, whatever pushes and pops are under way there:
- * the desk goes on all the same, and no label is lost.
+ * the desk goes on all the same, and no label is lost. Slots come from the queue's pool; a label that
+ * finds none is pushed again at the task's next turn.
  *
  *     make
  *     cc -Iinclude examples/c/interrupt.c target/lib/libzeppolecape.a -o interrupt && ./interrupt
@@ -66,6 +67,8 @@ static void touch(size_t task)
         zc_reply reply = expect(zc_queue_step(&queue, task));
         if (reply.code == ZC_PUSHED)
             pushed[TASKS * (started[task] - 1) + task]++;
+        else if (reply.code == ZC_NO_FREE_SLOT)
+            started[task]--;
         else if (reply.code == ZC_POPPED)
             printed[zc_label(reply)]++;
         return;
@@ -74,11 +77,10 @@ static void touch(size_t task)
         expect(zc_queue_pop(&queue, HEAD, ZC_LEFT));
         return;
     }
-    uint64_t slot = zc_queue_free_slot(&queue);
-    if (slot == 0 || started[task] == MOST_LABELS)
-        return; /* all slots are taken: try again later */
+    if (started[task] == MOST_LABELS)
+        return;
     uint32_t label = (uint32_t)(TASKS * started[task]++ + task);
-    expect(zc_queue_push(&queue, task, task == DESK ? ZC_LEFT : ZC_RIGHT, slot, label));
+    expect(zc_queue_push_pooled(&queue, task, task == DESK ? ZC_LEFT : ZC_RIGHT, label));
 }
 
 /* From one touch of the desk to sixteen: its call is stopped half-done, or is gone through whole. */
@@ -125,7 +127,7 @@ int main(void)
     sigemptyset(&action.sa_mask);
     sigemptyset(&alarm_signal);
     sigaddset(&alarm_signal, SIGALRM);
-    if (zc_queue_open(&queue, TASKS, SLOTS, 0) != 0 || sigaction(SIGALRM, &action, NULL) != 0)
+    if (zc_queue_open_pooled(&queue, TASKS, SLOTS, 0) != 0 || sigaction(SIGALRM, &action, NULL) != 0)
         return 2;
 
     static const unsigned char turns[] = {HEAD, 1, 2, HEAD, 3};
@@ -140,7 +142,8 @@ int main(void)
 
     sigprocmask(SIG_BLOCK, &alarm_signal, NULL); /* from here on nobody else runs */
     for (size_t task = 0; task < TASKS; task++)
-        for (int step = 0; step < ZC_PUSH_STEPS && queue_tables.records[task].place != 0; step++)
-            touch(task);
+        for (int step = 0; step < ZC_POOLED_PUSH_STEPS; step++)
+            if (queue_tables.records[task].place != 0)
+                touch(task);
     return check();
 }

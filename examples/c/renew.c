@@ -5,6 +5,7 @@
  *
  * Here the first tag lies so high that this happens every few labels. Two scales push at the right,
  * the print head pops at the left; each label must reach the head once, those of a scale in order.
+ * A label that finds no slot in the pool is pushed again at its scale's next turn.
  *
  *     make
  *     cc -Iinclude examples/c/renew.c target/lib/libzeppolecape.a -o renew && ./renew
@@ -31,10 +32,12 @@ static void stop(const char *what, uint64_t number)
 }
 
 /* An answer reaches its task: the head prints a popped label, which must be its scale's next. */
-static void take(zc_reply reply)
+static void take(size_t task, zc_reply reply)
 {
     if (zc_refused(reply))
         stop(zc_refusal_text(reply.code), reply.code);
+    if (reply.code == ZC_NO_FREE_SLOT)
+        started[task]--;
     if (reply.code != ZC_POPPED)
         return;
     uint32_t scale = zc_label(reply) % TASKS;
@@ -49,8 +52,8 @@ static void renew(void)
     uint32_t labels[SLOTS];
     size_t count = zc_queue_drain(&queue, answers, labels);
     for (size_t task = 0; task < TASKS; task++)
-        take(answers[task]);
-    uint64_t code = zc_queue_open(&queue, TASKS, SLOTS, FIRST_TAG);
+        take(task, answers[task]);
+    uint64_t code = zc_queue_open_pooled(&queue, TASKS, SLOTS, FIRST_TAG);
     if (code == 0)
         code = zc_queue_refill(&queue, HEAD, labels, count);
     if (code != 0)
@@ -60,31 +63,30 @@ static void renew(void)
 
 static void start(size_t task)
 {
-    uint64_t slot = zc_queue_free_slot(&queue);
-    if (task != HEAD && (slot == 0 || started[task] == LABELS))
+    if (task != HEAD && started[task] == LABELS)
         return;
     uint32_t label = (uint32_t)(TASKS * started[task] + task);
     zc_reply reply = task == HEAD ? zc_queue_pop(&queue, HEAD, ZC_LEFT)
-                                  : zc_queue_push(&queue, task, ZC_RIGHT, slot, label);
+                                  : zc_queue_push_pooled(&queue, task, ZC_RIGHT, label);
     if (reply.code == ZC_WORN) {
         renew();
         return; /* the task tries again at its next turn */
     }
-    take(reply);
+    take(task, reply);
     started[task]++;
 }
 
 int main(void)
 {
     static const unsigned char turns[] = {HEAD, 1, 2, HEAD, 1, 2, 2}; /* labels gather, and go */
-    if (zc_queue_open(&queue, TASKS, SLOTS, FIRST_TAG) != 0)
+    if (zc_queue_open_pooled(&queue, TASKS, SLOTS, FIRST_TAG) != 0)
         return 2;
     for (uint32_t turn = 0; turn < 100 * LABELS; turn++) {
         size_t task = turns[turn % sizeof turns];
         if (queue_tables.records[task].place == 0)
             start(task);
         else
-            take(zc_queue_step(&queue, task));
+            take(task, zc_queue_step(&queue, task));
     }
     printf("%" PRIu32 " labels pushed, %" PRIu32 " printed, %" PRIu32 " renewals\n",
            started[1] + started[2], printed[1] + printed[2], renewals);

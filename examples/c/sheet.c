@@ -11,7 +11,7 @@
 
 enum { SLOTS = 12, CARTON = 7000, WEDGE = 7100, SEAL = 7900, PALLET = 9000, WEDGES = 6 };
 
-ZC_QUEUE_STORAGE(queue, 1, SLOTS);
+ZC_NAMED_STORAGE(queue, 1, SLOTS); /* the station names each label's slot itself */
 
 /* The list: 1 the carton, 2 to 7 its wedges, 8 the seal, 9 the pallet's label. */
 static uint32_t listed[WEDGES + 3], rules[2 * WEDGES + 1];

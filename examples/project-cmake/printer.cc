@@ -8,10 +8,10 @@ ZC_QUEUE_STORAGE(queue, TASKS, SLOTS);
 
 int main()
 {
-    if (zc_queue_open(&queue, TASKS, SLOTS, 0) != 0)
+    if (zc_queue_open_pooled(&queue, TASKS, SLOTS, 0) != 0)
         return 1;
-    zc_queue_push(&queue, SCALE, ZC_RIGHT, 1, 700);
-    zc_queue_push(&queue, OTHER_SCALE, ZC_RIGHT, 2, 800);
+    zc_queue_push_pooled(&queue, SCALE, ZC_RIGHT, 700);
+    zc_queue_push_pooled(&queue, OTHER_SCALE, ZC_RIGHT, 800);
     zc_queue_finish(&queue, OTHER_SCALE); // the first scale may sleep meanwhile
     zc_queue_finish(&queue, SCALE);
     zc_queue_pop(&queue, HEAD, ZC_LEFT);

@@ -8,9 +8,9 @@ ZC_QUEUE_STORAGE(queue, TASKS, SLOTS);
 
 int main(void)
 {
-    if (zc_queue_open(&queue, TASKS, SLOTS, 0) != 0)
+    if (zc_queue_open_pooled(&queue, TASKS, SLOTS, 0) != 0)
         return 1;
-    zc_queue_push(&queue, SCALE, ZC_RIGHT, zc_queue_free_slot(&queue), 700);
+    zc_queue_push_pooled(&queue, SCALE, ZC_RIGHT, 700);
     zc_queue_finish(&queue, SCALE);
     zc_queue_pop(&queue, HEAD, ZC_LEFT);
     zc_reply reply = zc_queue_finish(&queue, HEAD);

@@ -1,7 +1,8 @@
 //! A small executive: five tasks share one label queue and take turns at random, one touch at a
 //! time. Three scales push labels at the right, the reprint desk pushes at the left, and the print
-//! head pops at the left. At the end every label that was pushed must have reached the head once,
-//! or still be waiting.
+//! head pops at the left. Slots come from the queue's pool; while there is none a push is started
+//! again. At the end every label that was pushed must have reached the head once, or still be
+//! waiting.
 //!
 //! ```text
 //! make
@@ -9,7 +10,7 @@
 //! ```
 
 use std::process::ExitCode;
-use zeppolecape::{Answer, Queue, Refusal, Side, PUSH_STEPS};
+use zeppolecape::{Answer, Queue, Refusal, Side, POOLED_PUSH_STEPS};
 
 const TASKS: usize = 5;
 const HEAD: usize = 0;
@@ -30,6 +31,8 @@ struct Executive {
     /// The n-th label that was started is n.
     fates: Vec<Fate>,
     under_way: [usize; TASKS],
+    /// The task's label found no slot.
+    put_off: [bool; TASKS],
     printed: usize,
 }
 
@@ -42,16 +45,19 @@ impl Executive {
         }
     }
 
-    /// A push waits while all slots are taken.
+    /// The next call, or a push that was put off.
     fn start(&mut self, task: usize) -> Result<(), Refusal> {
         if task == HEAD {
             self.queue.pop(HEAD, Side::Left)?;
-        } else if let Some(slot) = self.queue.free_slot() {
-            let side = if task == DESK { Side::Left } else { Side::Right };
+            return Ok(());
+        }
+        let side = if task == DESK { Side::Left } else { Side::Right };
+        if !self.put_off[task] {
             self.under_way[task] = self.fates.len();
             self.fates.push(Fate::default());
-            self.queue.push(task, side, slot, self.under_way[task] as u32)?;
         }
+        self.put_off[task] = false;
+        self.queue.push_pooled(task, side, self.under_way[task] as u32)?;
         Ok(())
     }
 
@@ -63,6 +69,7 @@ impl Executive {
                 print!("{label:3}{}", if self.printed % 20 == 0 { "\n" } else { " " });
                 self.fates[label as usize].printed += 1;
             }
+            Answer::NoFreeSlot => self.put_off[task] = true,
             Answer::Running(_) | Answer::Empty => {}
         }
         Ok(())
@@ -77,8 +84,9 @@ fn random_below(state: &mut u64, limit: u64) -> u64 {
 }
 
 fn run(seed: u64) -> Result<bool, Refusal> {
-    let queue = Queue::open(TASKS as u64, SLOTS, 0)?;
-    let mut executive = Executive { queue, fates: Vec::new(), under_way: [0; TASKS], printed: 0 };
+    let queue = Queue::open_pooled(TASKS as u64, SLOTS, 0)?;
+    let (under_way, put_off) = ([0; TASKS], [false; TASKS]);
+    let mut executive = Executive { queue, fates: Vec::new(), under_way, put_off, printed: 0 };
     let mut state = seed.wrapping_mul(0x9e37_79b9_7f4a_7c15) | 1;
     println!("the head got:");
     for _ in 0..TOUCHES {
@@ -86,24 +94,25 @@ fn run(seed: u64) -> Result<bool, Refusal> {
     }
     // Alone, a task answers within a few steps; one that does not stays busy in the report.
     for task in 0..TASKS {
-        for _ in 0..PUSH_STEPS {
+        for _ in 0..POOLED_PUSH_STEPS {
             if executive.queue.records()[task].place != 0 {
                 executive.step(task)?;
             }
         }
     }
-    let Executive { queue, mut fates, printed, .. } = executive;
+    let Executive { queue, mut fates, printed, put_off, .. } = executive;
     let report = queue.report();
     let waiting = queue.waiting();
     for &(_, label) in &waiting {
         fates[label as usize].waiting += 1;
     }
-    let (pushed, count) = (fates.len(), waiting.len());
+    let left_over = put_off.iter().filter(|&&put_off| put_off).count();
+    let (pushed, count) = (fates.len() - left_over, waiting.len());
     println!("\n{pushed} pushed, {printed} printed, {count} waiting, {} retries", report.retries);
-    let mut lost = report.busy != 0 || report.waiting != count as u64;
+    let mut lost = report.busy != 0 || report.waiting != count as u64 || printed + count != pushed;
     for (label, fate) in fates.iter().enumerate() {
         let Fate { pushed, printed, waiting } = *fate;
-        if pushed != 1 || printed + waiting != 1 {
+        if pushed > 1 || printed + waiting != pushed {
             println!("label {label}: pushed {pushed}, printed {printed}, waiting {waiting}");
             lost = true;
         }

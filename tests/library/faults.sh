@@ -1,221 +1,22 @@
 #!/bin/bash
-# Do the tests fail when they should? Each line below plants one fault in a copy of
+# Do the tests fail when they should? Each entry of faults/*.txt plants one fault in a copy of
 # bench/reference.c, and the differential test must notice it; what else does is told beside.
 # (part_faults.sh has those of the audit and of the order sheets.)
 #
-#     tests/library/faults.sh [FIRST [LAST]]    lines to try, all of them by default
+#     tests/library/faults.sh [FIRST [LAST]]    entries to try, all of them by default
+#     LISTS=pool tests/library/faults.sh        those of one list: places, refusals, pool, calls
+#     ALONE=yes tests/library/faults.sh         the differential test alone, which is quicker
 set -u -o pipefail
 cd "$(dirname "$0")/../.."
 
 work=$(mktemp -d)
 trap 'rm -rf "$work"' EXIT
 
-# What | the text replaced (once, in plain letters) | the text in its place | which of its occurrences
-faults() {
-    cat <<'END'
-place 8 dropped|== end ? 10 : 8|== end ? 10 : 9|1
-place 3 resets a link's tag|(inward[record->own] & tag_bits) \| end|end|1
-the mark cleared at the pop's Anchor change|return push ? answer(record, ZC_PUSHED, 0, 0) : go(record, 11);|if (!push) marks[end / 64] &= ~(UINT64_C(1) << (end % 64)); return push ? answer(record, ZC_PUSHED, 0, 0) : go(record, 11);|1
-the status tested before l = r|if (!push && zc_anchor_left(found)|if (!push && zc_anchor_status(found) != ZC_STABLE && zc_anchor_left(found)|1
-a failed place 9 taken as a failed push|count_retry(control);
-            return leave(record);|count_retry(control);
-            record->finishing = 0; return go(record, 1);|1
-an answer before Anchor is read|case 1: return take_reading(record, control->anchor);|case 1: return take_reading(record, record->seen);|1
-a failed 2 goes to 1|case FAILED: return take_reading(record, control->anchor);|case FAILED: return go(record, 1);|1
-a failed 4 goes to 1|case FAILED: return take_reading(record, control->anchor);|case FAILED: return go(record, 1);|2
-a failed 9 takes a reading|count_retry(control);
-            return leave(record);|count_retry(control);
-            return record->finishing ? leave(record) : take_reading(record, control->anchor);|1
-a failed 10 takes a reading|if (change_anchor(control, seen, successor(seen, ZC_STABLE, side, end, far)) == FORBIDDEN)
-            return refuse(ZC_UNSOUND);|switch (change_anchor(control, seen, successor(seen, ZC_STABLE, side, end, far))) {
-        case FORBIDDEN: return refuse(ZC_UNSOUND);
-        case FAILED: if (!record->finishing) return take_reading(record, control->anchor);
-        default: break;
-        }|1
-an empty that a failed 2 finds goes to 1|case FAILED: return take_reading|case FAILED: if (zc_anchor_left(control->anchor) == 0) return go(record, 1); return take_reading|1
-an empty that a failed 4 finds goes to 1|case FAILED: return take_reading|case FAILED: if (zc_anchor_left(control->anchor) == 0) return go(record, 1); return take_reading|2
-a reading at 2 not kept|case FAILED: return take_reading(record, control->anchor);|case FAILED: { zc_reply reply = take_reading(record, control->anchor); record->seen = record->place ? seen : 0; return reply; }|1
-a reading at 4 not kept|case FAILED: return take_reading(record, control->anchor);|case FAILED: { zc_reply reply = take_reading(record, control->anchor); record->seen = record->place ? seen : 0; return reply; }|2
-the reading of its own word at 2|case FAILED: return take_reading(record, control->anchor);|case FAILED: return take_reading(record, seen);|1
-the reading of its own word at 4|case FAILED: return take_reading(record, control->anchor);|case FAILED: return take_reading(record, seen);|2
-STABLE before l = r after a failed 2|case FAILED: return take_reading|case FAILED: if (zc_anchor_left(control->anchor) \&\& zc_anchor_status(control->anchor) == ZC_STABLE) { record->seen = control->anchor; return go(record, 3); } return take_reading|1
-STABLE before l = r after a failed 4|case FAILED: return take_reading|case FAILED: if (zc_anchor_left(control->anchor) \&\& zc_anchor_status(control->anchor) == ZC_STABLE) { record->seen = control->anchor; return go(record, 3); } return take_reading|2
-a retry at 2 not counted|case FAILED: return take_reading|case FAILED: control->retries--; return take_reading|1
-a retry at 4 not counted|case FAILED: return take_reading|case FAILED: control->retries--; return take_reading|2
-an empty that a failed change finds is no retry|case FAILED: return take_reading|case FAILED: control->retries -= !push \&\& zc_anchor_left(control->anchor) == 0; return take_reading|1
-a failed 4 forgets the neighbour|case FAILED: return take_reading|case FAILED: record->neighbour = 0; return take_reading|2
-place 6 does not compare|return control->anchor == seen ? go(record, record->place + 1) : leave(record);|return control->anchor == seen \|\| record->place == 6 ? go(record, record->place + 1) : leave(record);|1
-place 4 forgets the new Anchor|record->seen = wanted;|;|1
-place 4 keeps the status in a push|right ? ZC_RPUSH : ZC_LPUSH, side|status, side|1
-the pushed side taken for the task's|helping(record) ? status == ZC_RPUSH : record->side|record->side|1
-LPUSH and RPUSH exchanged|right ? ZC_RPUSH : ZC_LPUSH|right ? ZC_LPUSH : ZC_RPUSH|1
-the ends exchanged|uint64_t left = side == ZC_RIGHT ? far : near;|uint64_t left = side == ZC_RIGHT ? near : far;|1
-Left and Right links exchanged|uint64_t *inward = right ? lefts : rights;|uint64_t *inward = right ? rights : lefts;|1
-place 9 keeps the tag|((record->link & tag_bits) + one_tag) \| end|(record->link & tag_bits) \| end|1
-place 9 compares the slot alone|outward[record->neighbour] != record->link|zc_link_slot(outward[record->neighbour]) != zc_link_slot(record->link)|1
-a change keeps the Anchor tag|((seen & tag_bits) + one_tag)|(seen & tag_bits)|1
-retries not counted at Anchor|count_retry(control);
-        return FAILED;|return FAILED;|1
-retries not counted at 9|count_retry(control);
-            return leave(record);|return leave(record);|1
-retries run on|control->retries < ZC_MOST_RETRIES|control->retries < UINT64_MAX|1
-retries stop one early|control->retries < ZC_MOST_RETRIES|control->retries < ZC_MOST_RETRIES - 1|1
-the record not zeroed after an answer|memset(record, 0, sizeof *record);|record->place = 0;|1
-the slot missing in popped|{code, label, slot}|{code, label, 0}|1
-the label of the record popped|uint32_t label = labels[end];|uint32_t label = record->label;|1
-the mark not cleared|marks[end / 64] &= ~(UINT64_C(1) << (end % 64));|;|1
-the mark's word wrong|marks[end / 64] &=|marks[end / 128] &=|1
-a finishing push goes to 1|record->finishing ? answer|0 ? answer|1
-status 3 let through|status > ZC_LPUSH|status > 3|1
-an end above slots let through, left|left > slots \|\||0 \|\||1
-an end above slots let through, right|right > slots)|0)|1
-one null end let through|if ((left == 0) != (right == 0))|if (left == 0 && right != 0)|1
-unstable with equal ends let through|status == ZC_STABLE \|\| left != right|status == ZC_STABLE \|\| left != right \|\| left != 0|1
-unstable with equal ends let through with one slot|status == ZC_STABLE \|\| left != right|status == ZC_STABLE \|\| left != right \|\| slots == 1|1
-a link's bits 31-15 not seen|UINT64_C(0xffff8000)|UINT64_C(0x7fff8000)|1
-a link's slot not seen|&& zc_link_slot(link) <= slots|&& (slots \|\| link)|1
-tasks of control not seen|within(control->tasks, ZC_MOST_TASKS) &&||1
-slots of control one too many|within(control->slots, ZC_MOST_SLOTS)|within(control->slots, ZC_MOST_SLOTS + 1)|1
-tasks of control in 32 bits|within(control->tasks, ZC_MOST_TASKS)|within((uint32_t)control->tasks, ZC_MOST_TASKS)|1
-place 12 let through|record->place > 11|record->place > 12|1
-kind 2 let through|record->kind > ZC_POP|record->kind > 2|1
-side 2 let through in a record|record->side > ZC_RIGHT|record->side > 2|1
-finishing 2 let through|record->finishing > 1|record->finishing > 2|1
-finishing in a pop let through|record->own != 0 \|\| record->finishing != 0|record->own != 0|1
-finishing in a pop let through before 5|record->own != 0 \|\| record->finishing != 0|record->own != 0 \|\| (record->finishing != 0 \&\& record->place > 4)|1
-finishing in a pop let through at 11|record->own != 0 \|\| record->finishing != 0|record->own != 0 \|\| (record->finishing != 0 \&\& record->place != 11)|1
-own slot in a pop let through|record->own != 0 \|\| record->finishing != 0|record->finishing != 0|1
-own slot 0 in a push let through|!within(record->own, slots) \|\||record->own > slots \|\||1
-place 11 in a push let through|\|\| record->place == 11)|)|1
-finishing before 5 let through|if (record->finishing != 0 && !helping(record))|if (0)|1
-neighbour not seen|record->neighbour > slots \|\||0 \|\||1
-neighbour not seen with one slot|record->neighbour > slots \|\||(slots != 1 \&\& record->neighbour > slots) \|\||1
-the link as read not seen|!link_sound(record->link, slots) \|\||0 \|\||1
-the Anchor as read not seen|!anchor_sound(record->seen, slots))|0)|1
-STABLE at 5 to 10 let through|return !helping(record) \|\| zc_anchor_status(record->seen) != ZC_STABLE;|return true;|1
-STABLE at 5 to 10 let through with two slots|return !helping(record) \|\||return slots == 2 \|\| !helping(record) \|\||1
-places 5 to 10 end at 9|record->place <= 10|record->place <= 9|1
-an idle record looked at|if (record->place == 0)
-        return true;|if (record->place == 0 && record->kind <= 1)
-        return true;|1
-short lefts not seen|left_count > slots &&|left_count + 1 > slots &&|1
-short rights not seen|right_count > slots &&|right_count + 1 > slots &&|1
-short labels not seen|label_count > slots &&|label_count + 1 > slots &&|1
-short marks not seen|mark_count > slots / 64|mark_count >= slots / 64|1
-mark words counted too many|mark_count > slots / 64|mark_count > (slots + 63) / 64|1
-short records not seen by the push|record_count < control->tasks|0 \&\& record_count|1
-short records not seen by the pop|record_count < control->tasks|0 \&\& record_count|2
-short records not seen by the step|record_count < control->tasks|0 \&\& record_count|3
-short records not seen by the report|record_count < control->tasks|0 \&\& record_count|4
-records read before 12 by the push|if (!control_sound(control))|(void)((volatile zc_record *)records)->place; if (!control_sound(control))|1
-records read before 12 by the pop|if (!control_sound(control))|(void)((volatile zc_record *)records)->place; if (!control_sound(control))|2
-records read before 12 by the step|if (!control_sound(control))|(void)((volatile zc_record *)records)->place; if (!control_sound(control))|3
-records read before 12 by the report|if (!control_sound(control))|(void)((volatile const zc_record *)records)->place; if (!control_sound(control))|5
-task one too high in the push|task >= control->tasks|task > control->tasks|1
-task one too high in the step|task >= control->tasks|task > control->tasks|3
-task in 32 bits|task >= control->tasks|(uint32_t)task >= control->tasks|2
-side 2 in a pop|if (side > ZC_RIGHT)|if (side > 2)|2
-side in 32 bits|if (side > ZC_RIGHT)|if ((uint32_t)side > ZC_RIGHT)|1
-slot 0 in a push|if (!within(slot, control->slots))|if (slot > control->slots)|1
-32 before 30|if (record->place != 0)
-        return refuse(ZC_BUSY);
-    if (zc_marked(marks, slot))
-        return refuse(ZC_TAKEN);|if (zc_marked(marks, slot))
-        return refuse(ZC_TAKEN);
-    if (record->place != 0)
-        return refuse(ZC_BUSY);|1
-33 before 32|if (zc_marked(marks, slot))
-        return refuse(ZC_TAKEN);|if (zc_anchor_tag(control->anchor) > ZC_LAST_START_TAG)
-        return refuse(ZC_WORN);
-    if (zc_marked(marks, slot))
-        return refuse(ZC_TAKEN);|1
-15 before 14|if (side > ZC_RIGHT)|if (!within(slot, control->slots))
-        return refuse(ZC_NO_SLOT);
-    if (side > ZC_RIGHT)|1
-30 before 34 for the record|if (!record_sound(record, control->slots))
-        return refuse(ZC_UNSOUND);
-    if (record->place != 0)|if (record->place != 0)|1
-13 before 12 in the step|if (!rows_fit(control->slots, left_count, right_count, label_count, mark_count) \|\|
-        record_count < control->tasks)
-        return refuse(ZC_SHORT);
-    if (task >= control->tasks)|if (task >= control->tasks)
-        return refuse(ZC_NO_TASK);
-    if (!rows_fit(control->slots, left_count, right_count, label_count, mark_count) \|\|
-        record_count < control->tasks)
-        return refuse(ZC_SHORT);
-    if (task >= control->tasks)|3
-31 before 12 for a lent record|if (!rows_fit(control->slots, left_count, right_count, label_count, mark_count))
-        return|if (one->place == 0) return refuse(ZC_IDLE);
-    if (!rows_fit(control->slots, left_count, right_count, label_count, mark_count))
-        return|1
-33 one too early|> ZC_LAST_START_TAG|>= ZC_LAST_START_TAG|1
-33 one too late|> ZC_LAST_START_TAG|> ZC_LAST_START_TAG + 1|2
-the last tag raised, Anchor|zc_anchor_tag(seen) == last_tag \|\| ||1
-the last tag raised, link|if (zc_link_tag(record->link) == last_tag)|if (0)|1
-the last tag refused before the compare at 2|case 2:|case 2: if (zc_anchor_tag(seen) == last_tag) return refuse(ZC_UNSOUND);|1
-the last tag refused before the compare at 4|case 4: {|case 4: { if (zc_anchor_tag(seen) == last_tag) return refuse(ZC_UNSOUND);|1
-the last tag refused before the compare at 9|if (outward[record->neighbour] != record->link)|if (zc_link_tag(record->link) == last_tag) return refuse(ZC_UNSOUND);
-        if (outward[record->neighbour] != record->link)|1
-the last tag refused before the compare at 10|case 10:|case 10: if (zc_anchor_tag(seen) == last_tag) return refuse(ZC_UNSOUND);|1
-an unsound Anchor left|\|\| !anchor_sound(wanted, control->slots)||1
-an unsound Anchor refused before the compare|if (control->anchor != seen) {|if (!anchor_sound(wanted, control->slots)) return FORBIDDEN;
-    if (control->anchor != seen) {|1
-row 0 read as a neighbour's|if (end == 0 \|\| !link_sound|if (!link_sound|1
-row 0 read at 7|record->neighbour == 0 \|\| ||1
-row 0 changed at 9|if (record->neighbour == 0)
-            return refuse(ZC_UNSOUND);||1
-slot 0 popped|if (end == 0)
-            return refuse(ZC_UNSOUND);||1
-a spoilt own link not seen at 3|if (!link_sound(inward[record->own], slots))|if (0)|1
-10 for 17 tasks missing|if (!within(tasks, ZC_MOST_TASKS))|if (tasks == 0 \|\| tasks > ZC_MOST_TASKS + 1)|1
-11 before 10|if (!within(tasks, ZC_MOST_TASKS))|if (!within(slots, ZC_MOST_SLOTS))
-        return ZC_BAD_SLOTS;
-    if (!within(tasks, ZC_MOST_TASKS))|1
-the opening leaves the last row|memset(rights, 0, ZC_ROWS(slots) * sizeof *rights);|memset(rights, 0, slots * sizeof *rights);|1
-the opening zeroes too much|memset(labels, 0, ZC_ROWS(slots) * sizeof *labels);|memset(labels, 0, label_count * sizeof *labels);|1
-the opening leaves a mark word|memset(marks, 0, ZC_MARK_WORDS(slots)|memset(marks, 0, (ZC_MARK_WORDS(slots) - 1)|1
-the opening zeroes all records lent|memset(records, 0, tasks * sizeof *records);|memset(records, 0, record_count * sizeof *records);|1
-the opening keeps retries|control->retries = 0;|;|1
-the first tag left out|(uint64_t)tag << 32|0 * tag|1
-a start keeps old fields|memset(record, 0, sizeof *record);
-    record->side|record->side|1
-a push start without its label|labels[slot] = label;|;|1
-a push start without its mark|marks[slot / 64] \|= UINT64_C(1) << (slot % 64);|;|1
-a refused push marks its slot|if (zc_anchor_tag(control->anchor) > ZC_LAST_START_TAG)
-        return refuse(ZC_WORN);|marks[slot / 64] \|= UINT64_C(1) << (slot % 64);
-    if (zc_anchor_tag(control->anchor) > ZC_LAST_START_TAG)
-        return refuse(ZC_WORN);|1
-taken counts bit 0|kept \&= ~UINT64_C(1);|;|1
-taken leaves out bit 0 of a later word|if (word == 0)|if (word <= 1)|1
-taken leaves out the last slot|UINT64_MAX >> (63|UINT64_MAX >> 1 >> (63|1
-waiting by the marks|reply.waiting = walked(control, lefts, rights);|reply.waiting = marked_slots(marks, control->slots);|1
-the walk under LPUSH as under RPUSH|int from_left = zc_anchor_status(control->anchor) == ZC_LPUSH;|int from_left = 0;|1
-the walk tests no spare bits|!link_sound(link, control->slots)|zc_link_slot(link) > control->slots|1
-the walk goes on from slot 0|\|\| zc_link_slot(link) == 0)|)|1
-the walk one slot short|count < control->slots|count + 1 < control->slots|1
-the walk looks at the other end's link|return slot == last ? count : 0;|return slot == last \&\& link_sound(links[slot], control->slots) ? count : 0;|1
-the rightmost of equal labels found|(!from_left \|\| reply.positions[at] == 0)|(from_left \|\| reply.positions[at] == 0)|1
-labels found counted from the right|!from_left \&\& at < asked_count|from_left \&\& at < asked_count|1
-the finding walk under LPUSH as under RPUSH|int from_left = zc_anchor_status(control->anchor) == ZC_LPUSH;|int from_left = 0;|2
-33 labels found|asked_count > ZC_MOST_ASKED|asked_count > ZC_MOST_ASKED + 1|1
-the finding walk one slot short|reply.rows == control->slots|reply.rows + 1 == control->slots|1
-what was noted on a broken walk told|reply = nothing;
-            reply.code = ZC_UNSOUND;|reply.code = ZC_UNSOUND;|1
-busy counts records beyond the tasks|task < control->tasks; task++|task < record_count; task++|1
-busy looks at more of a record|records[task].place != 0;|records[task].place != 0 \&\& records[task].kind <= 1;|1
-another task's record looked at by a start|if (!record_sound(record, control->slots))|if (!record_sound(record, control->slots) \|\| !record_sound(records, control->slots))|2
-another task's record looked at by a step|if (!record_sound(record, control->slots))|if (!record_sound(record, control->slots) \|\| !record_sound(records, control->slots))|3
-a lent record's step counts as nothing|return advance(control, one, lefts, rights, labels, marks);|zc_record copy = *one; return advance(control, \&copy, lefts, rights, labels, marks);|1
-a lent record's step writes row 0|return advance(control, one, lefts, rights, labels, marks);|lefts[0]++; return advance(control, one, lefts, rights, labels, marks);|1
-a run that makes one step too many|made < most|made <= most|1
-a run that counts a refused step|zc_refused(reply) ? made : made + 1|made + 1|1
-a run that stops at its first step|if (reply.code != ZC_RUNNING)|if (reply.code != 0)|1
-END
-}
-
-# Splits the list into entries (an entry may span lines; it ends with |NUMBER at a line's end) and
-# makes the edited copies.
-faults >"$work/list"
+# An entry: what | the text replaced (in plain letters) | the text in its place | which of its occurrences.
+# It may span lines, and ends with |NUMBER at a line's end. Makes the edited copies.
+for list in ${LISTS:-places refusals pool calls}; do
+    cat "tests/library/faults/$list.txt" || exit 2
+done >"$work/list"
 count=$(python3 - "$work" bench/reference.c <<'END'
 import re, sys
 work, source = sys.argv[1], open(sys.argv[2]).read()
@@ -242,6 +43,7 @@ mkdir "$work/forward" &&
     ar rcs "$work/forward/libzeppolecape.a" "$work/forward.o" "$work/audit.o" "$work/sheet.o" &&
     gcc -shared -fPIC -O2 -DAS_LIBRARY -Iinclude bench/reference.c -o "$work/faultless.so" || exit 2
 parts="layout fence waiting taken bindings examples bench differential" # the facts are the library's
+[ -z "${ALONE:-}" ] || parts=differential
 if ! ZC_OBJECT=$work/faultless.so BUILD=$work/build PARTS=$parts tests/library/run.sh "$work/forward" >"$work/said"; then
     cat "$work/said"
     echo "the tests fail without any fault"
@@ -249,23 +51,41 @@ if ! ZC_OBJECT=$work/faultless.so BUILD=$work/build PARTS=$parts tests/library/r
     exit 1
 fi
 
-bindings=$(find "$work/build/cargo/debug/deps" -name 'zeppolecape-*' -type f -executable | head -n 1)
+# The tests of the Rust crate.
+bindings() {
+    local program
+    for program in $(find "$work/build/cargo/debug/deps" -type f -executable \( -name 'zeppolecape-*' -o -name 'pool-*' \)); do
+        limited 10 "$program" || return 1
+    done
+}
+
+# Runs a program with so many seconds of processor time, so that one that hangs is stopped and a
+# busy machine is not taken for it.
+limited() { # SECONDS COMMAND..
+    { (ulimit -t "$1" && shift && exec "$@") >/dev/null 2>&1; } 2>/dev/null
+}
 
 # The parts that notice the fault in $work/fault.so.
 noticed() {
     export ZC_OBJECT=$work/fault.so
-    timeout 10 "$work/build/layout" >/dev/null 2>&1 || echo -n " layout"
-    timeout 10 "$work/build/fence" >/dev/null 2>&1 || echo -n " fence"
-    timeout 10 "$work/build/waiting" >/dev/null 2>&1 || echo -n " waiting"
-    timeout 10 "$work/build/taken" >/dev/null 2>&1 || echo -n " taken"
-    timeout 10 "$bindings" >/dev/null 2>&1 || echo -n " bindings"
-    local seed lost=
+    [ -n "${ALONE:-}" ] || others
+    limited 100 "$work/build/cargo/checked/library-differential" 1 1 calls || echo -n " differential"
+}
+
+others() {
+    local part way seed odd= lost=
+    for part in layout fence waiting taken; do
+        limited 10 "$work/build/$part" || echo -n " $part"
+    done
+    bindings || echo -n " bindings"
     for seed in 1 2 3; do
-        timeout 2 "$work/build/executive_c" $seed >/dev/null 2>&1 || lost=yes
+        limited 2 "$work/build/executive_c" $seed || lost=yes
     done
     [ -z "$lost" ] || echo -n " example"
-    timeout 10 "$work/build/bench" check 5 1023 20000 >/dev/null 2>&1 || echo -n " bench"
-    timeout 100 "$work/build/cargo/checked/library-differential" >/dev/null 2>&1 || echo -n " differential"
+    for way in named pooled; do
+        limited 10 "$work/build/bench" check $way 5 1023 20000 || odd=yes
+    done
+    [ -z "$odd" ] || echo -n " bench"
 }
 
 caught=0

@@ -51,7 +51,7 @@ static uint64_t draw(uint64_t limit)
 /* A count: as needed, or less. */
 static size_t cut(size_t needed) { return draw(8) ? needed : (size_t)draw(needed); }
 
-static struct ground grounds[7];
+static struct ground grounds[8];
 
 /* All tables of a queue, each up to its fence. */
 static zc_queue lend(uint64_t tasks, uint64_t slots)
@@ -69,6 +69,8 @@ static zc_queue lend(uint64_t tasks, uint64_t slots)
         .label_count = rows,
         .marks = last(grounds[5], words * sizeof(uint64_t)),
         .mark_count = words,
+        .next = last(grounds[7], rows * sizeof(uint64_t)),
+        .next_count = rows,
     };
     return queue;
 }
@@ -82,39 +84,58 @@ static zc_queue cut_some(zc_queue whole)
     queue.right_count = cut(whole.right_count);
     queue.label_count = cut(whole.label_count);
     queue.mark_count = cut(whole.mark_count);
+    queue.next_count = cut(whole.next_count);
     queue.records += whole.record_count - queue.record_count;
     queue.lefts += whole.left_count - queue.left_count;
     queue.rights += whole.right_count - queue.right_count;
     queue.labels += whole.label_count - queue.label_count;
     queue.marks += whole.mark_count - queue.mark_count;
+    queue.next += whole.next_count - queue.next_count;
     return queue;
+}
+
+/* Whether a table that all tasks share is too short; a named queue needs no next table. */
+static int shared_short(zc_queue queue, zc_queue whole, int pooled)
+{
+    return queue.left_count < whole.left_count || queue.right_count < whole.right_count ||
+           queue.label_count < whole.label_count || queue.mark_count < whole.mark_count ||
+           (pooled && queue.next_count < whole.next_count);
 }
 
 /* A random call; it must answer 12 just when a table that it needs is too short. */
 static uint64_t call(zc_queue whole, int *wrong)
 {
     zc_queue queue = cut_some(whole);
-    int rows_short = queue.left_count < whole.left_count || queue.right_count < whole.right_count ||
-                     queue.label_count < whole.label_count || queue.mark_count < whole.mark_count;
+    int pooled = whole.control->pooled != 0;
+    int rows_short = shared_short(queue, whole, pooled);
     int too_short = rows_short || queue.record_count < whole.record_count;
     uint64_t tasks = whole.control->tasks, slots = whole.control->slots;
     size_t task = (size_t)draw(tasks);
     uint64_t side = draw(2), slot = 1 + draw(slots), code;
     size_t asked_count = (size_t)draw(ZC_MOST_ASKED + 1);
     uint32_t *asked = last(grounds[6], asked_count * sizeof *asked);
-    switch (draw(9)) {
+    switch (draw(12)) {
     case 0: code = zc_queue_push(&queue, task, side, slot, (uint32_t)slot).code; break;
     case 1: code = zc_queue_pop(&queue, task, side).code; break;
     case 2: code = zc_queue_report(&queue).code; break;
-    case 3: code = too_short ? zc_queue_open(&queue, tasks, slots, 0) : 0; break;
+    case 3:
+        too_short = shared_short(queue, whole, 0) || queue.record_count < whole.record_count;
+        code = too_short ? zc_queue_open(&queue, tasks, slots, 0) : 0;
+        break;
     case 4:
+        too_short = shared_short(queue, whole, 1) || queue.record_count < whole.record_count;
+        code = too_short ? zc_queue_open_pooled(&queue, tasks, slots, 0) : 0;
+        break;
+    case 5:
         code = zc_queue_step_record(&queue, &whole.records[task]).code;
         too_short = rows_short;
         break;
-    case 5:
+    case 6:
         code = zc_queue_find(&queue, asked, asked_count).code;
-        too_short = rows_short;
+        too_short = shared_short(queue, whole, 0);
         break;
+    case 7: code = zc_queue_push_pooled(&queue, task, side, (uint32_t)slot).code; break;
+    case 8: code = zc_queue_run(&queue, task, 1).code; break;
     default: code = zc_queue_step(&queue, task).code; break;
     }
     *wrong |= too_short != (code == ZC_SHORT);
@@ -156,13 +177,15 @@ int main(void)
     unsigned long refused = 0, carried_out = 0;
     int wrong = 0;
     page = (size_t)sysconf(_SC_PAGESIZE);
-    for (int at = 0; at < 7; at++)
+    for (int at = 0; at < 8; at++)
         grounds[at] = fenced((ZC_MOST_SLOTS + 3) * sizeof(uint64_t));
     for (int round = 0; round < 3000; round++) {
         uint64_t tasks = 1 + draw(ZC_MOST_TASKS);
         uint64_t slots = sizes[draw(sizeof sizes / sizeof *sizes)];
         zc_queue whole = lend(tasks, slots);
-        wrong |= zc_queue_open(&whole, tasks, slots, 0) != 0;
+        uint32_t opened = round % 2 ? zc_queue_open(&whole, tasks, slots, 0)
+                                    : zc_queue_open_pooled(&whole, tasks, slots, 0);
+        wrong |= opened != 0;
         for (int calls = 0; calls < 300 && !wrong; calls++)
             if (call(whole, &wrong) >= ZC_BAD_TASKS)
                 refused++;

@@ -8,6 +8,7 @@
 
 enum { TASKS = 3, SLOTS = 130 };
 ZC_QUEUE_STORAGE(queue, TASKS, SLOTS);
+ZC_NAMED_STORAGE(named, TASKS, SLOTS);
 
 static unsigned passed, failed;
 
@@ -30,6 +31,12 @@ static void storage(void)
     is("more tasks than there is storage for", zc_queue_open(&queue, TASKS + 1, SLOTS, 0), ZC_SHORT);
     is("more slots than there is storage for", zc_queue_open(&queue, TASKS, SLOTS + 1, 0), ZC_SHORT);
     is("opening", zc_queue_open(&queue, TASKS, SLOTS, 0), 0);
+    is("next rows lent", queue.next_count, 131);
+    is("opening with a pool", zc_queue_open_pooled(&queue, TASKS, SLOTS, 0), 0);
+    is("no next rows lent", named.next_count, 0);
+    is("opening without a next table", zc_queue_open(&named, TASKS, SLOTS, 0), 0);
+    is("a pool without a next table", zc_queue_open_pooled(&named, TASKS, SLOTS, 0), ZC_SHORT);
+    is("bytes saved", sizeof queue_tables - sizeof named_tables, 8 * 131);
 }
 
 static void free_slot(void)
@@ -114,6 +121,65 @@ static void refill(void)
     is("a busy task", zc_queue_refill(&queue, 0, labels, 1), ZC_BUSY);
 }
 
+static void steps(size_t task, int count)
+{
+    while (count-- > 0)
+        zc_queue_step(&queue, task);
+}
+
+/* The same in a pooled queue, where a push without a slot is answered, not refused. */
+static void pooled(void)
+{
+    static uint32_t labels[SLOTS + 1], found[SLOTS];
+    zc_reply answers[TASKS];
+    zc_queue_open_pooled(&queue, TASKS, SLOTS, 0);
+    is("more labels than the pool has slots", zc_queue_refill(&queue, 0, labels, SLOTS + 1), ZC_TAKEN);
+    zc_queue_push_pooled(&queue, 1, ZC_LEFT, 7);
+    zc_queue_pop(&queue, 2, ZC_LEFT);
+    is("labels of a full pool", zc_queue_drain(&queue, answers, found), SLOTS - 1);
+    is("no slot", answers[1].code, ZC_NO_FREE_SLOT);
+    is("a pop", answers[2].code, ZC_POPPED);
+    zc_queue_pop(&queue, 2, ZC_LEFT);
+    steps(2, 4);
+    is("a pop that still holds its slot", queue_tables.records[2].place, 15);
+    is("two slots unmarked, one in the pool", zc_queue_refill(&queue, 0, labels, 2), ZC_TAKEN);
+}
+
+/* A label pushed at the right; `count` steps of it. */
+static void push(size_t task, uint32_t label, int count)
+{
+    zc_queue_push_pooled(&queue, task, ZC_RIGHT, label);
+    steps(task, count);
+}
+
+/* Task 1 before the longest way of a push, or of a pop: tests/cases/solo_pooled_*. */
+static void before_longest(uint64_t kind)
+{
+    zc_queue_open_pooled(&queue, TASKS, SLOTS, 0);
+    push(0, 11, 5);
+    if (kind == ZC_PUSH)
+        push(1, 21, 1);
+    push(0, 12, 6);
+    if (kind == ZC_PUSH)
+        return;
+    zc_queue_pop(&queue, 1, ZC_RIGHT);
+    steps(1, 1);
+    steps(0, 6);
+    push(0, 13, 6);
+}
+
+static void longest(void)
+{
+    before_longest(ZC_PUSH);
+    is("20 steps of a push", zc_queue_run(&queue, 1, ZC_POOLED_PUSH_STEPS - 1).code, ZC_RUNNING);
+    is("its 21st", zc_queue_step(&queue, 1).code, ZC_PUSHED);
+    before_longest(ZC_PUSH);
+    is("the longest push", zc_queue_finish(&queue, 1).code, ZC_PUSHED);
+    before_longest(ZC_POP);
+    is("15 steps of a pop", zc_queue_run(&queue, 1, ZC_POOLED_POP_STEPS - 1).code, ZC_RUNNING);
+    is("its 16th", zc_queue_step(&queue, 1).code, ZC_POPPED);
+}
+
 int main(void)
 {
     storage();
@@ -121,6 +187,8 @@ int main(void)
     finish();
     drain();
     refill();
+    pooled();
+    longest();
     printf("%u passed, %u failed\n", passed, failed);
     return failed != 0;
 }

@@ -14,14 +14,17 @@ enum { TASKS = 2, SLOTS = 70, FILL = 0xa5 };
 enum { PLACE = 0, KIND = 8, SIDE = 16, OWN = 24, LABEL = 32, SEEN = 40, NEIGHBOUR = 48, LINK = 56 };
 enum { FINISHING = 64, RECORD = 72 };
 /* Offsets of control's fields. */
-enum { CONTROL_TASKS = 0, CONTROL_SLOTS = 8, ANCHOR = 16, RETRIES = 24, CONTROL = 32 };
+enum { CONTROL_TASKS = 0, CONTROL_SLOTS = 8, ANCHOR = 16, RETRIES = 24, POOLED = 32, TOP = 40 };
+enum { CONTROL = 48 };
 
 static _Alignas(8) unsigned char control[CONTROL + 16];
 static _Alignas(8) unsigned char records[RECORD * (TASKS + 1)];
 static uint64_t lefts[SLOTS + 1], rights[SLOTS + 1], marks[2];
 static uint32_t labels[SLOTS + 1];
+static uint64_t next[SLOTS + 1];
 
-#define TABLES lefts, SLOTS + 1, rights, SLOTS + 1, labels, SLOTS + 1, marks, 2
+#define ROWS lefts, SLOTS + 1, rights, SLOTS + 1, labels, SLOTS + 1, marks, 2
+#define TABLES ROWS, next, SLOTS + 1
 #define RECORDS (zc_control *)control, (zc_record *)records, TASKS
 
 static unsigned passed, failed;
@@ -81,11 +84,13 @@ static void opening(void)
 {
     memset(control, FILL, sizeof control);
     memset(records, FILL, sizeof records);
-    equal("opening", zc_open(RECORDS, TASKS, SLOTS, 0x5a5b5c5d, TABLES), 0);
+    equal("opening", zc_open(RECORDS, TASKS, SLOTS, 0x5a5b5c5d, ROWS), 0);
     equal("tasks", word(control, CONTROL_TASKS), TASKS);
     equal("slots", word(control, CONTROL_SLOTS), SLOTS);
     equal("first Anchor", word(control, ANCHOR), UINT64_C(0x5a5b5c5d00000000));
     equal("retries", word(control, RETRIES), 0);
+    equal("pooled", word(control, POOLED), 0);
+    equal("head", word(control, TOP), 0);
     untouched("what follows control", control + CONTROL, sizeof control - CONTROL);
     untouched("what follows the records", records + TASKS * RECORD, RECORD);
     for (size_t record = 0; record < TASKS * RECORD; record += RECORD) {
@@ -94,7 +99,7 @@ static void opening(void)
                 equal("a field of an idle record", word(records + record, offset), 0);
         equal("the label of an idle record", half(records + record, LABEL), 0);
     }
-    equal("a short opening", zc_open(RECORDS, TASKS + 1, SLOTS, 0, TABLES), ZC_SHORT);
+    equal("a short opening", zc_open(RECORDS, TASKS + 1, SLOTS, 0, ROWS), ZC_SHORT);
 }
 
 static zc_reply step(size_t task) { return zc_step(RECORDS, task, TABLES); }
@@ -145,6 +150,7 @@ static void push(void)
     is_read("tasks is read", control, CONTROL_TASKS, 17);
     is_read("slots is read", control, CONTROL_SLOTS, 1024);
     is_read("Anchor is read", control, ANCHOR, 1);
+    is_read("pooled is read", control, POOLED, 2);
     equal("a step again", zc_place(step(1)), 9);
     step(1);
     equal("rights", rights[66], UINT64_C(0x0000000a00000043));
@@ -178,7 +184,7 @@ static void find(void)
 {
     unsigned char bytes[272];
     uint32_t asked[ZC_MOST_ASKED + 1] = {labels[67], 700, 1};
-    zc_find_reply reply = zc_find((zc_control *)control, asked, 3, TABLES);
+    zc_find_reply reply = zc_find((zc_control *)control, asked, 3, ROWS);
     memcpy(bytes, &reply, sizeof reply);
     equal("find: code", word(bytes, 0), 0);
     equal("find: rows", word(bytes, 8), 2);
@@ -186,7 +192,7 @@ static void find(void)
     equal("find: the second", word(bytes, 24), 1);
     for (size_t offset = 32; offset < sizeof bytes; offset += 8)
         equal("find: not waiting, or not asked for", word(bytes, offset), 0);
-    equal("find: refused", zc_find((zc_control *)control, asked, ZC_MOST_ASKED + 1, TABLES).code,
+    equal("find: refused", zc_find((zc_control *)control, asked, ZC_MOST_ASKED + 1, ROWS).code,
           ZC_MANY_ASKED);
 }
 
@@ -207,6 +213,64 @@ static void pop(void)
     untouched("what follows the records", records + TASKS * RECORD, RECORD);
 }
 
+/* A push and a pop of a pooled queue: the head and what is kept of it in a record. */
+static void pool(void)
+{
+    unsigned char bytes[16];
+    memset(control, FILL, sizeof control);
+    memset(next, FILL, sizeof next);
+    equal("pooled opening", zc_open_pooled(RECORDS, TASKS, SLOTS, 5, TABLES), 0);
+    equal("pooled Anchor", word(control, ANCHOR), UINT64_C(0x0000000500000000));
+    equal("pooled", word(control, POOLED), 1);
+    equal("the first head", word(control, TOP), 1);
+    equal("next of 0", next[0], 0);
+    equal("next of 1", next[1], 2);
+    equal("next of the last", next[SLOTS], 0);
+    untouched("what follows control", control + CONTROL, sizeof control - CONTROL);
+    equal("a short pooled opening", zc_open_pooled(RECORDS, TASKS, SLOTS, 5, ROWS, next, SLOTS),
+          ZC_SHORT);
+
+    zc_reply reply = zc_push_pooled(RECORDS, 1, ZC_LEFT, 0x01020304, TABLES);
+    memcpy(bytes, &reply, sizeof reply);
+    equal("place of a pooled push", word(bytes, 8), 12);
+    unsigned char *second = records + RECORD;
+    is_read("the head is read", control, TOP, 71);
+    step(1);
+    step(1);
+    equal("the head as read", word(second, LINK), 1);
+    equal("its next as read", word(second, NEIGHBOUR), 2);
+    equal("no slot yet", word(second, OWN), 0);
+    step(1);
+    equal("the head after 14", word(control, TOP), UINT64_C(0x0000000100000002));
+    equal("the slot got", word(second, OWN), 1);
+    equal("its label", labels[1], 0x01020304);
+    equal("its mark", marks[0], 2);
+    step(1);
+    step(1);
+    zc_pop(RECORDS, 0, ZC_RIGHT, TABLES);
+    step(0);
+    step(0);
+    step(0);
+    equal("the slot to give back", word(records, OWN), 1);
+    equal("the label to answer", half(records, LABEL), 0x01020304);
+    step(0);
+    step(0);
+    reply = step(0);
+    memcpy(bytes, &reply, sizeof reply);
+    equal("code of popped", half(bytes, 0), ZC_POPPED);
+    equal("label of popped", half(bytes, 4), 0x01020304);
+    equal("slot of popped", word(bytes, 8), 1);
+    equal("the head after 17", word(control, TOP), UINT64_C(0x0000000200000001));
+    put(control, TOP, UINT64_C(0x0000000200000000));
+    zc_push_pooled(RECORDS, 0, ZC_LEFT, 9, TABLES);
+    reply = step(0);
+    equal("code of no free slot", reply.code, ZC_NO_FREE_SLOT);
+    equal("no free slot is an answer", (uint64_t)zc_answered(reply), 1);
+    equal("no free slot is no refusal", (uint64_t)zc_refused(reply), 0);
+    equal("the label of an idle record", half(records, LABEL), 0);
+    equal("a named push", zc_push(RECORDS, 0, ZC_LEFT, 1, 9, TABLES).code, ZC_WRONG_PUSH);
+}
+
 int main(void)
 {
     opening();
@@ -214,6 +278,7 @@ int main(void)
     report();
     find();
     pop();
+    pool();
     printf("%u passed, %u failed\n", passed, failed);
     return failed != 0;
 }

@@ -83,7 +83,8 @@ counts() { # WHAT COMMAND..
 }
 
 part_header() {
-    echo '#include "zeppolecape.h"' >"$work/alone.c"
+    printf '#include "zeppolecape.h"\nZC_QUEUE_STORAGE(queue, 2, 3);\nZC_NAMED_STORAGE(named, 2, 3);\n' >"$work/alone.c"
+    printf 'uint64_t used(void);\nuint64_t used(void) { return zc_queue_free_slot(&queue) + zc_queue_free_slot(&named); }\n' >>"$work/alone.c"
     for standard in c11 c17; do
         holds "header as $standard" $CC -std=$standard $WARNINGS -Wconversion -Iinclude -fsyntax-only "$work/alone.c"
     done
@@ -98,11 +99,13 @@ part_header() {
     # Unused wrappers may be kept by a compiler: with ZC_CORE_ONLY they ask for no call but the core's.
     printf '#define ZC_CORE_ONLY\n#include "zeppolecape.h"\n' >"$work/core.c"
     holds "header for the core alone" $CC -fkeep-inline-functions -Iinclude -c "$work/core.c" -o "$work/core.o"
-    holds "the core's calls" test "$(nm -u "$work/core.o" | tr -d ' U' | sort | tr '\n' ' ')" = 'zc_open zc_pop zc_push zc_report zc_step '
-    # The macro refuses what the opening would.
-    for sizes in 0,3 17,3 2,0 2,1024; do
-        printf '#include "zeppolecape.h"\nZC_QUEUE_STORAGE(queue, %s);\n' $sizes >"$work/storage.c"
-        holds "no storage for $sizes" sh -c "! $CC -Iinclude -fsyntax-only $work/storage.c"
+    holds "the core's calls" test "$(nm -u "$work/core.o" | tr -d ' U' | sort | tr '\n' ' ')" = 'zc_open zc_open_pooled zc_pop zc_push zc_push_pooled zc_report zc_step '
+    # The macros refuse what the opening would.
+    for macro in ZC_QUEUE_STORAGE ZC_NAMED_STORAGE; do
+        for sizes in 0,3 17,3 2,0 2,1024; do
+            printf '#include "zeppolecape.h"\n%s(queue, %s);\n' $macro $sizes >"$work/storage.c"
+            holds "no $macro for $sizes" sh -c "! $CC -Iinclude -fsyntax-only $work/storage.c"
+        done
     done
 }
 
@@ -183,9 +186,12 @@ part_bench() {
     for labels in 0 1 2 64 1023; do
         holds "library and C alike: $labels labels" "$work/walks" check $labels
     done
-    for tasks in 1 5 16; do
-        for slots in 3 1023; do
-            holds "library, C and bare alike: $tasks tasks, $slots slots" "$work/bench" check $tasks $slots 100000
+    for way in named pooled; do
+        for tasks in 1 5 16; do
+            for slots in 3 1023; do
+                holds "library, C and bare alike: $way, $tasks tasks, $slots slots" \
+                    "$work/bench" check $way $tasks $slots 100000
+            done
         done
     done
 }

@@ -24,7 +24,7 @@ static void taken(const char *what, uint64_t slots, uint64_t expected)
     uint64_t before[WORDS];
     memcpy(before, marks, sizeof marks);
     zc_report_reply reply = zc_report(&control, records, 1, lefts, slots + 1, rights, slots + 1,
-                                      labels, slots + 1, marks, slots / 64 + 1);
+                                      labels, slots + 1, marks, slots / 64 + 1, NULL, 0);
     if (reply.code == 0 && reply.taken == expected && memcmp(before, marks, sizeof marks) == 0) {
         passed++;
         return;

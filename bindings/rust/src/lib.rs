@@ -11,14 +11,16 @@
 //! ```
 //! use zeppolecape::{Answer, Queue, Side};
 //!
-//! let mut queue = Queue::open(2, 3, 0)?; // tasks 0 and 1, slots 1 to 3, first tag 0
-//! queue.push(0, Side::Right, 1, 700)?; // task 0 starts: slot 1, label 700
-//! assert_eq!(queue.step(0)?, Answer::Running(2)); // one touch; place 2 comes next
-//! assert_eq!(queue.step(0)?, Answer::Pushed);
+//! let mut queue = Queue::open_pooled(2, 3, 0)?; // tasks 0 and 1, slots 1 to 3, first tag 0
+//! queue.push_pooled(0, Side::Right, 700)?; // task 0 starts: label 700, in a slot from the pool
+//! assert_eq!(queue.step(0)?, Answer::Running(13)); // one touch; place 13 comes next
+//! assert_eq!(queue.finish(0)?, Answer::Pushed);
 //! queue.pop(1, Side::Left)?;
 //! assert_eq!(queue.finish(1)?, Answer::Popped { slot: 1, label: 700 });
 //! # Ok::<(), zeppolecape::Refusal>(())
 //! ```
+//!
+//! [`Queue::open`] is for a caller who names the slot of each label: [`Queue::push`].
 //!
 //! Every call is proved, for all arguments and any contents of the tables, to do what its definition
 //! says. This crate is a thin layer above the proved calls and is not itself proved.

@@ -14,18 +14,24 @@ pub const LAST_START_TAG: u64 = 4_294_967_262;
 /// Where the count of retries stays.
 pub const MOST_RETRIES: u64 = 4_294_967_295;
 
-/// A push stepped alone answers within so many steps, wherever the other tasks stopped, in a queue
-/// moved by these calls alone; a refused step does not count.
+/// A push with a named slot, stepped alone, answers within so many steps, wherever the other tasks
+/// stopped, in a queue moved by these calls alone; a refused step does not count. This is proved.
 pub const PUSH_STEPS: u64 = 18;
 /// The same of a pop.
 pub const POP_STEPS: u64 = 13;
+/// The same of a push in a pooled queue, counted and tested: 13, 14, 12, 13, 14 where its head is of
+/// long ago, and the 16 steps that a push needs at most from place 1.
+pub const POOLED_PUSH_STEPS: u64 = 21;
+/// The same of a pop in a pooled queue: 15 to 17 are three steps more.
+pub const POOLED_POP_STEPS: u64 = 16;
 
-/// So many steps, of whatever tasks, hold one with which a call takes effect or answers.
+/// So many steps, of whatever tasks, hold one with which a call takes effect or answers, in a queue
+/// with named slots.
 pub const fn stretch(tasks: u64) -> u64 {
     26 * tasks
 }
 
-/// Entries of `lefts`, `rights` and `labels`.
+/// Entries of `lefts`, `rights`, `labels` and `next`.
 pub const fn rows(slots: u64) -> usize {
     slots as usize + 1
 }
@@ -44,7 +50,8 @@ pub enum Side {
     Right = raw::RIGHT as isize,
 }
 
-/// What a start or step answers when it is carried out; a start is running at place 1.
+/// What a start or step answers when it is carried out; a start is running at place 1, a pooled
+/// push at 12.
 #[derive(Clone, Copy, Debug, PartialEq, Eq)]
 pub enum Answer {
     /// With the place of the next step.
@@ -60,6 +67,8 @@ pub enum Answer {
         /// Its label.
         label: u32,
     },
+    /// A pooled push found every slot in use, and nothing was pushed.
+    NoFreeSlot,
 }
 
 /// The refusals, each with its number and its words.
@@ -108,6 +117,7 @@ refusals! {
     Worn = 33, "the Anchor tag is too high for another start", "(see [`Queue::renew`](crate::Queue::renew))";
     Unsound = 34, "the tables are unsound", "(somebody else wrote there)";
     BadHistory = 40, "not a history that can be judged", "(of [`audit`](crate::audit()) alone)";
+    WrongPush = 41, "a slot named in a pooled queue, or none in the other";
     ManyAsked = 45, "more than 32 labels asked for", "(of [`Queue::find`](crate::Queue::find) alone)";
     BadSheet = 46, "the sheet is malformed", "(of [`Queue::sheet`](crate::Queue::sheet) alone)";
 }
@@ -134,6 +144,7 @@ pub(crate) fn outcome(reply: raw::Reply) -> Result<Answer, Refusal> {
         raw::PUSHED => Ok(Answer::Pushed),
         raw::EMPTY => Ok(Answer::Empty),
         raw::POPPED => Ok(Answer::Popped { slot: reply.value, label: reply.label }),
+        raw::NO_FREE_SLOT => Ok(Answer::NoFreeSlot),
         number => Err(Refusal::answered(u64::from(number))),
     }
 }

@@ -4,7 +4,7 @@ use crate::tables::{report, Shared, Tables};
 use crate::{
     link_slot, mark_words, raw, rows, Anchor, Answer, Control, Record, Refusal, Report, Run, Side,
 };
-use crate::{LAST_START_TAG, MOST_SLOTS, MOST_TASKS, PUSH_STEPS};
+use crate::{LAST_START_TAG, MOST_SLOTS, MOST_TASKS, POOLED_PUSH_STEPS};
 use alloc::vec;
 use alloc::vec::Vec;
 
@@ -18,23 +18,39 @@ pub struct Queue {
     pub(crate) rights: Vec<u64>,
     labels: Vec<u32>,
     marks: Vec<u64>,
+    next: Vec<u64>,
 }
 
 impl Queue {
-    /// An empty queue for tasks 0 to `tasks` - 1 and slots 1 to `slots`; `first_tag` is any number.
+    /// An empty queue for tasks 0 to `tasks` - 1 and slots 1 to `slots`, which its pushes name;
+    /// `first_tag` is any number.
     pub fn open(tasks: u64, slots: u64, first_tag: u32) -> Result<Queue, Refusal> {
+        let mut queue = Queue::held(tasks, slots);
+        queue.lend().open(tasks, slots, first_tag)?;
+        Ok(queue)
+    }
+
+    /// The same with all slots in a pool, from which its pushes take them.
+    pub fn open_pooled(tasks: u64, slots: u64, first_tag: u32) -> Result<Queue, Refusal> {
+        let mut queue = Queue::held(tasks, slots);
+        queue.next = vec![0; queue.lefts.len()];
+        queue.lend().open_pooled(tasks, slots, first_tag)?;
+        Ok(queue)
+    }
+
+    /// Tables long enough for an opening, without a next table.
+    fn held(tasks: u64, slots: u64) -> Queue {
         // Outside the limits the library refuses; no table is then needed.
         let (held_tasks, held_slots) = (tasks.min(MOST_TASKS), slots.min(MOST_SLOTS));
-        let mut queue = Queue {
+        Queue {
             control: Control::default(),
             records: vec![Record::default(); held_tasks as usize],
             lefts: vec![0; rows(held_slots)],
             rights: vec![0; rows(held_slots)],
             labels: vec![0; rows(held_slots)],
             marks: vec![0; mark_words(held_slots)],
-        };
-        queue.lend().open(tasks, slots, first_tag)?;
-        Ok(queue)
+            next: Vec::new(),
+        }
     }
 
     fn lend(&mut self) -> Tables<'_> {
@@ -45,12 +61,13 @@ impl Queue {
             rights: &mut self.rights,
             labels: &mut self.labels,
             marks: &mut self.marks,
+            next: &mut self.next,
         }
     }
 
     pub(crate) fn shared(&self) -> Shared<'_> {
-        let Queue { control, lefts, rights, labels, marks, .. } = self;
-        Shared { control, lefts, rights, labels, marks }
+        let Queue { control, records, lefts, rights, labels, marks, next } = self;
+        Shared { control, records, lefts, rights, labels, marks, next }
     }
 
     /// Starts a push of `label` in a free slot.
@@ -62,6 +79,11 @@ impl Queue {
         label: u32,
     ) -> Result<Answer, Refusal> {
         self.lend().push(task, side as u64, slot, label)
+    }
+
+    /// Starts a push of `label` in a slot of the pool.
+    pub fn push_pooled(&mut self, task: usize, side: Side, label: u32) -> Result<Answer, Refusal> {
+        self.lend().push_pooled(task, side as u64, label)
     }
 
     /// Starts a pop.
@@ -80,10 +102,10 @@ impl Queue {
         self.lend().run(task, most)
     }
 
-    /// Steps one task, alone, to its answer: [`PUSH_STEPS`] are always enough. Refuses as
+    /// Steps one task, alone, to its answer: [`POOLED_PUSH_STEPS`] are always enough. Refuses as
     /// [`step`](Queue::step) does.
     pub fn finish(&mut self, task: usize) -> Result<Answer, Refusal> {
-        self.run(task, PUSH_STEPS).outcome
+        self.run(task, POOLED_PUSH_STEPS).outcome
     }
 
     /// What to do about [`Refusal::Worn`]: steps every busy task to its answer, opens again with
@@ -93,8 +115,8 @@ impl Queue {
     /// ```
     /// use zeppolecape::{Answer, Queue, Refusal, Side, LAST_START_TAG};
     ///
-    /// let mut queue = Queue::open(2, 3, LAST_START_TAG as u32)?;
-    /// queue.push(0, Side::Right, 2, 700)?;
+    /// let mut queue = Queue::open_pooled(2, 3, LAST_START_TAG as u32)?;
+    /// queue.push_pooled(0, Side::Right, 700)?;
     /// queue.finish(0)?;
     /// assert_eq!(queue.pop(1, Side::Left), Err(Refusal::Worn));
     /// assert_eq!(queue.renew(0)?, [None, None]);
@@ -115,10 +137,16 @@ impl Queue {
             answers.push(if busy { Some(self.finish(task)?) } else { None });
         }
         let waiting = self.waiting();
-        let Control { tasks, slots, .. } = self.control;
-        self.lend().open(tasks, slots, first_tag)?;
+        let Control { tasks, slots, pooled, .. } = self.control;
+        match pooled {
+            0 => self.lend().open(tasks, slots, first_tag)?,
+            _ => self.lend().open_pooled(tasks, slots, first_tag)?,
+        }
         for (slot, (_, label)) in (1..).zip(waiting) {
-            self.push(0, Side::Right, slot, label)?;
+            match pooled {
+                0 => self.push(0, Side::Right, slot, label)?,
+                _ => self.push_pooled(0, Side::Right, label)?,
+            };
             self.finish(0)?;
         }
         Ok(answers)
@@ -126,8 +154,7 @@ impl Queue {
 
     /// Anchor's fields, busy tasks, labels waiting, slots taken, retries.
     pub fn report(&self) -> Report {
-        report(&self.control, &self.records, &self.lefts, &self.rights, &self.labels, &self.marks)
-            .expect("an open queue is sound")
+        report(self.shared()).expect("an open queue is sound")
     }
 
     /// What all tasks share.
@@ -148,7 +175,7 @@ impl Queue {
         self.marks[slot as usize / 64] >> (slot % 64) & 1 == 1
     }
 
-    /// A slot that no label and no call holds.
+    /// A slot to be named in a push: no label and no call holds it.
     pub fn free_slot(&self) -> Option<u64> {
         (1..=self.control.slots).find(|&slot| !self.is_taken(slot))
     }

@@ -6,6 +6,10 @@
 //! not null, no two tables overlap, and nobody else uses them during the call. Everything else is
 //! checked by the call.
 
+mod calls;
+
+pub use calls::*;
+
 /// Side left.
 pub const LEFT: u64 = 0;
 /// Side right.
@@ -28,6 +32,8 @@ pub const PUSHED: u32 = 2;
 pub const EMPTY: u32 = 3;
 /// Code of a reply: the pop is answered, value is the slot.
 pub const POPPED: u32 = 4;
+/// Code of a reply: a pooled push is answered, every slot was in use.
+pub const NO_FREE_SLOT: u32 = 5;
 
 /// What all tasks share besides rows and marks.
 #[repr(C)]
@@ -41,27 +47,31 @@ pub struct Control {
     pub anchor: u64,
     /// Changes that failed because another task was faster.
     pub retries: u64,
+    /// 1 if opened with the slots in a pool, else 0.
+    pub pooled: u64,
+    /// The free slot on top of the pool, laid out like a link word; slot 0: none.
+    pub head: u64,
 }
 
 /// Where a task stands in its call; all zero while it has none.
 #[repr(C)]
 #[derive(Clone, Copy, Debug, Default, PartialEq, Eq)]
 pub struct Record {
-    /// 0 idle, or the place of the next step, 1 to 11.
+    /// 0 idle, or the place of the next step, 1 to 11, in a pooled queue to 17.
     pub place: u64,
     /// 0 push, 1 pop.
     pub kind: u64,
     /// 0 left, 1 right.
     pub side: u64,
-    /// The slot of a push.
+    /// The slot of a push, or that a pop gives back.
     pub own: u64,
-    /// The label of a push.
+    /// Its label.
     pub label: u32,
     /// The Anchor word as read.
     pub seen: u64,
-    /// The neighbour slot as read.
+    /// The neighbour slot as read; at 14 the next of the slot on top of the pool.
     pub neighbour: u64,
-    /// The link word as read.
+    /// The link word as read; at 13 to 17 the pool's head.
     pub link: u64,
     /// 1 once a push has taken effect and still has a link to mend.
     pub finishing: u64,
@@ -71,7 +81,7 @@ pub struct Record {
 #[repr(C)]
 #[derive(Clone, Copy, Debug, Default, PartialEq, Eq)]
 pub struct Reply {
-    /// [`RUNNING`], [`PUSHED`], [`EMPTY`], [`POPPED`], or the number of a refusal.
+    /// [`RUNNING`], [`PUSHED`], [`EMPTY`], [`POPPED`], [`NO_FREE_SLOT`], or the number of a refusal.
     pub code: u32,
     /// Popped: the label.
     pub label: u32,
@@ -151,200 +161,12 @@ pub struct SheetReply {
     pub second: u64,
 }
 
-#[link(name = "zeppolecape", kind = "static")]
-unsafe extern "C" {
-    /// Opens an empty queue. Answers 0, or refuses: 10, 11, 12.
-    pub fn zc_open(
-        control: *mut Control,
-        records: *mut Record,
-        record_count: usize,
-        tasks: u64,
-        slots: u64,
-        tag: u32,
-        lefts: *mut u64,
-        left_count: usize,
-        rights: *mut u64,
-        right_count: usize,
-        labels: *mut u32,
-        label_count: usize,
-        marks: *mut u64,
-        mark_count: usize,
-    ) -> u32;
-
-    /// Starts a push for an idle task.
-    /// Refuses: 34 for control, 12, 13, 14, 15, 34 for the record, 30, 32, 33.
-    pub fn zc_push(
-        control: *mut Control,
-        records: *mut Record,
-        record_count: usize,
-        task: usize,
-        side: u64,
-        slot: u64,
-        label: u32,
-        lefts: *const u64,
-        left_count: usize,
-        rights: *const u64,
-        right_count: usize,
-        labels: *mut u32,
-        label_count: usize,
-        marks: *mut u64,
-        mark_count: usize,
-    ) -> Reply;
-
-    /// Starts a pop for an idle task.
-    /// Refuses: 34 for control, 12, 13, 14, 34 for the record, 30, 33.
-    pub fn zc_pop(
-        control: *mut Control,
-        records: *mut Record,
-        record_count: usize,
-        task: usize,
-        side: u64,
-        lefts: *const u64,
-        left_count: usize,
-        rights: *const u64,
-        right_count: usize,
-        labels: *const u32,
-        label_count: usize,
-        marks: *const u64,
-        mark_count: usize,
-    ) -> Reply;
-
-    /// Moves a busy task by one step.
-    /// Refuses: 34 for control, 12, 13, 34 for the record, 31, 34 for what the step touches.
-    pub fn zc_step(
-        control: *mut Control,
-        records: *mut Record,
-        record_count: usize,
-        task: usize,
-        lefts: *mut u64,
-        left_count: usize,
-        rights: *mut u64,
-        right_count: usize,
-        labels: *const u32,
-        label_count: usize,
-        marks: *mut u64,
-        mark_count: usize,
-    ) -> Reply;
-
-    /// Steps a task until a step does not answer running, `most` times at the most.
-    /// Refuses as [`zc_step`].
-    pub fn zc_run(
-        control: *mut Control,
-        records: *mut Record,
-        record_count: usize,
-        task: usize,
-        most: u64,
-        lefts: *mut u64,
-        left_count: usize,
-        rights: *mut u64,
-        right_count: usize,
-        labels: *const u32,
-        label_count: usize,
-        marks: *mut u64,
-        mark_count: usize,
-    ) -> RunReply;
-
-    /// Reports; of the records it looks at the places alone.
-    /// Refuses: 34 for control, 12, 34 for the walk.
-    pub fn zc_report(
-        control: *const Control,
-        records: *const Record,
-        record_count: usize,
-        lefts: *const u64,
-        left_count: usize,
-        rights: *const u64,
-        right_count: usize,
-        labels: *const u32,
-        label_count: usize,
-        marks: *const u64,
-        mark_count: usize,
-    ) -> ReportReply;
-
-    /// Finds up to 32 labels in the queue; of equal ones the leftmost counts.
-    /// Refuses: 34 for control, 45, 12 (rows and marks only), 34 for the walk.
-    pub fn zc_find(
-        control: *const Control,
-        asked: *const u32,
-        asked_count: usize,
-        lefts: *const u64,
-        left_count: usize,
-        rights: *const u64,
-        right_count: usize,
-        labels: *const u32,
-        label_count: usize,
-        marks: *const u64,
-        mark_count: usize,
-    ) -> FindReply;
-
-    /// The same step on one lent record, which need not lie among the others.
-    /// Refuses: 34 for control, 12 (rows and marks only), 34 for the record, 31, 34 for what the step
-    /// touches.
-    pub fn zc_step_record(
-        control: *mut Control,
-        one: *mut Record,
-        lefts: *mut u64,
-        left_count: usize,
-        rights: *mut u64,
-        right_count: usize,
-        labels: *const u32,
-        label_count: usize,
-        marks: *mut u64,
-        mark_count: usize,
-    ) -> Reply;
-
-    /// Checks a history of finished calls, seven words each, against its claimed order of effects.
-    /// Refuses: 40.
-    pub fn zc_audit_words(
-        words: *const u64,
-        word_count: usize,
-        order: *const u64,
-        order_count: usize,
-    ) -> Verdict;
-
-    /// Whether the labels waiting keep an order sheet.
-    /// Refuses: 34 for control, 46, 12 (rows and marks only), 34 for the walk.
-    pub fn zc_sheet(
-        control: *const Control,
-        listed: *const u32,
-        listed_count: usize,
-        rules: *const u32,
-        rule_count: usize,
-        lefts: *const u64,
-        left_count: usize,
-        rights: *const u64,
-        right_count: usize,
-        labels: *const u32,
-        label_count: usize,
-        marks: *const u64,
-        mark_count: usize,
-    ) -> SheetReply;
-
-    /// The same, with 32 lent words for the chained rules.
-    /// Refuses: 34 for control, 46, 12 (words, rows and marks), 34 for the walk.
-    pub fn zc_sheet_words(
-        control: *const Control,
-        listed: *const u32,
-        listed_count: usize,
-        rules: *const u32,
-        rule_count: usize,
-        words: *mut u32,
-        word_count: usize,
-        lefts: *const u64,
-        left_count: usize,
-        rights: *const u64,
-        right_count: usize,
-        labels: *const u32,
-        label_count: usize,
-        marks: *const u64,
-        mark_count: usize,
-    ) -> SheetReply;
-}
-
 const _: () = {
     use core::mem::{align_of, offset_of, size_of};
-    assert!(size_of::<Control>() == 32 && align_of::<Control>() == 8);
+    assert!(size_of::<Control>() == 48 && align_of::<Control>() == 8);
     assert!(offset_of!(Control, tasks) == 0 && offset_of!(Control, slots) == 8);
     assert!(offset_of!(Control, anchor) == 16 && offset_of!(Control, retries) == 24);
+    assert!(offset_of!(Control, pooled) == 32 && offset_of!(Control, head) == 40);
     assert!(size_of::<Record>() == 72 && align_of::<Record>() == 8);
     assert!(offset_of!(Record, place) == 0 && offset_of!(Record, kind) == 8);
     assert!(offset_of!(Record, side) == 16 && offset_of!(Record, own) == 24);

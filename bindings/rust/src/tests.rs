@@ -161,6 +161,7 @@ fn report_tells_every_field() {
 fn lent_tables_and_a_lent_record() {
     let (mut control, mut records) = (Control::default(), [Record::default(); 1]);
     let (mut lefts, mut rights, mut labels, mut marks) = ([7; 3], [7; 3], [7; 3], [7; 1]);
+    let mut next = [7; 2];
     let mut tables = Tables {
         control: &mut control,
         records: &mut records,
@@ -168,9 +169,17 @@ fn lent_tables_and_a_lent_record() {
         rights: &mut rights,
         labels: &mut labels,
         marks: &mut marks,
+        next: &mut next,
     };
     assert_eq!(tables.open(1, 3, 0), Err(Refusal::Short));
     assert_eq!(tables.report(), Err(Refusal::Unsound));
+    assert_eq!(tables.open_pooled(1, 2, 0), Err(Refusal::Short));
+    assert_eq!(tables.open_pooled(1, 1, 0), Ok(()));
+    assert_eq!((tables.control.pooled, tables.control.head), (1, 1));
+    assert_eq!(tables.next, [0, 0]);
+    assert_eq!(tables.push_pooled(0, 2, 0), Err(Refusal::NoSide));
+    tables.next = &mut [];
+    assert_eq!(tables.report(), Err(Refusal::Short));
     assert_eq!(tables.open(1, 1, 0), Ok(()));
     assert_eq!(tables.push(0, 2, 1, 0), Err(Refusal::NoSide));
     assert_eq!(tables.pop(0, 0), Ok(Running(1)));
@@ -185,7 +194,7 @@ fn lent_tables_and_a_lent_record() {
 #[test]
 fn refusals_have_their_numbers() {
     let known: Vec<u64> = (0..100).filter(|&n| Refusal::numbered(n).is_some()).collect();
-    assert_eq!(known, [10, 11, 12, 13, 14, 15, 30, 31, 32, 33, 34, 40, 45, 46]);
+    assert_eq!(known, [10, 11, 12, 13, 14, 15, 30, 31, 32, 33, 34, 40, 41, 45, 46]);
     assert_eq!(Refusal::Worn.to_string(), "33: the Anchor tag is too high for another start");
 }
 

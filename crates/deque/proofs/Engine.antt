@@ -20,7 +20,7 @@ use denote.RattleType.{owns}
 use denote.Laws.{Is, shows}
 use denote.Builtin.{u32, u64, bool}
 use denote.Ref.{RefT}
-use denote.Slice.{MutSlice, ShrSlice, finally}
+use denote.Slice.{MutSlice, finally}
 use denote.Steps.{owned, facts, heard, nothing}
 use denote.Struct.Laws as LL
 use denote.Enum.Laws as EL
@@ -46,58 +46,61 @@ use Rattle.engine.proofs.move_on as move-on
 use Rattle.engine.proofs.ends as ends
 
 -- ---- a step by value
--- Something of each list: lefts, rights, labels and marks.
-abbrev pub Four : Type 0 → Type 0
-Four X = X × (X × (X × (X × Unit {0})))
+-- Something of each list: lefts, rights, labels, marks and next rows.
+abbrev pub Five : Type 0 → Type 0
+Five X = X × (X × (X × (X × (X × Unit {0}))))
 
--- The last values of a step's parameters: the written lists have one.
+-- The last values of a step's parameters: the lists have one.
 abbrev pub Lasts : Type 0
-Lasts = Unit {0} × (Unit {0} × (List ℕ × (List ℕ × (Unit {0} × (List ℕ × Unit {0})))))
+Lasts = Unit {0} × (Unit {0} × Five (List ℕ))
 
--- The tables, with control and the written lists as given.
-abbrev pub tabled : Four (RefT (List ℕ)) → Control → Lasts → Tables
-tabled xs c zs = record { control = c; lefts = zs .1 .1 .0; rights = zs .1 .1 .1 .0; labels = xs .1 .1 .0 .now; marks = zs .1 .1 .1 .1 .1 .0 }
+-- The tables, with control and the lists as given.
+abbrev pub tabled : Control → Five (List ℕ) → Tables
+tabled c ls = record { control = c; lefts = ls .0; rights = ls .1 .0; labels = ls .1 .1 .0; marks = ls .1 .1 .1 .0; next = ls .1 .1 .1 .1 .0 }
 
--- The written lists at entry.
-abbrev pub unwritten : Four (RefT (List ℕ)) → Lasts
-unwritten xs = (tt, (tt, (xs .0 .now, (xs .1 .0 .now, (tt, (xs .1 .1 .1 .0 .now, tt))))))
+-- The lists at entry.
+abbrev pub unwritten : Five (RefT (List ℕ)) → Five (List ℕ)
+unwritten xs = (xs .0 .now, (xs .1 .0 .now, (xs .1 .1 .0 .now, (xs .1 .1 .1 .0 .now, (xs .1 .1 .1 .1 .0 .now, tt)))))
 
 -- They keep their lengths.
-abbrev pub Lengths : Four (RefT (List ℕ)) → Lasts → Type 0
-Lengths xs zs = (length (zs .1 .1 .0) ≡ length (xs .0 .now)) × (length (zs .1 .1 .1 .0) ≡ length (xs .1 .0 .now)) × (length (zs .1 .1 .1 .1 .1 .0) ≡ length (xs .1 .1 .1 .0 .now))
+abbrev pub Lengths : Five (RefT (List ℕ)) → Five (List ℕ) → Type 0
+Lengths xs ls =
+    (length (ls .0) ≡ length (xs .0 .now)) × (length (ls .1 .0) ≡ length (xs .1 .0 .now)) × (length (ls .1 .1 .0) ≡ length (xs .1 .1 .0 .now))
+    × (length (ls .1 .1 .1 .0) ≡ length (xs .1 .1 .1 .0 .now)) × (length (ls .1 .1 .1 .1 .0) ≡ length (xs .1 .1 .1 .1 .0 .now))
 
 -- What a step leaves is what f says.
-abbrev pub Leaves : (Tables → Record → Acted) → Control → Record → Four (RefT (List ℕ)) → Moved → Lasts → Type 0
-Leaves f c r xs m zs = _≡_ {A = Acted} (record { tables = tabled xs (m .control) zs; task = m .task; outcome = m .outcome }) (f (tabled xs c (unwritten xs)) r)
+abbrev pub Leaves : (Tables → Record → Acted) → Control → Record → Five (RefT (List ℕ)) → Moved → Five (List ℕ) → Type 0
+Leaves f c r xs m ls = _≡_ {A = Acted} (record { tables = tabled (m .control) ls; task = m .task; outcome = m .outcome }) (f (tabled c (unwritten xs)) r)
 
 -- The contract of a step f: `engine::step_alone` and `engine::move_on` differ in f alone.
 abbrev stepped : {M : Type 1} (𝓤 : URA M) (f : Tables → Record → Acted) → Clauses 𝓤 move-on.ended
 stepped 𝓤 f κs a = record {
   ghost = Unit {0};
   requires = λ _. emp 𝓤;
-  ensures = λ _ m e. fact 𝓤 (Leaves f (a .0) (a .1 .0) (a .1 .1) m (tt, (tt, (e .1 .1 .0 .now, (e .1 .1 .1 .0 .now, (tt, (e .1 .1 .1 .1 .1 .0 .now, tt)))))));
+  ensures = λ _ m e. fact 𝓤 (Leaves f (a .0) (a .1 .0) (a .1 .1) m (unwritten (e .1 .1)));
 }
 
 abbrev pub Move : {M : Type 1} (𝓤 : URA M) (H : Heap 𝓤) (A : Atoms 𝓤) (f : Tables → Record → Acted) → Contract 𝓤
 Move 𝓤 H A f = tripleOf 𝓤 H A move-on.signature (closing 𝓤 H A move-on.ended (stepped 𝓤 f))
 
-abbrev pub slices : Four (RefT (List ℕ)) → Four (List Val)
-slices xs = (slice-value (xs .0) ∷ [], (slice-value (xs .1 .0) ∷ [], (slice-value (xs .1 .1 .0) ∷ [], (slice-value (xs .1 .1 .1 .0) ∷ [], tt))))
+abbrev pub slices : Five (RefT (List ℕ)) → Five (List Val)
+slices xs = (slice-value (xs .0) ∷ [], (slice-value (xs .1 .0) ∷ [], (slice-value (xs .1 .1 .0) ∷ [], (slice-value (xs .1 .1 .1 .0) ∷ [], (slice-value (xs .1 .1 .1 .1 .0) ∷ [], tt)))))
 
-module _ {M : Type 1} (𝓤 : URA M) (κs : Four Lft) (qs : Four Share) (xs : Four (RefT (List ℕ))) where
+module _ {M : Type 1} (𝓤 : URA M) (κs : Five Lft) (qs : Five Share) (xs : Five (RefT (List ℕ))) where
   abbrev tokens : Item 𝓤
-  tokens = ‵ (flft (κs .0) (qs .0)) ⊛ ‵ (flft (κs .1 .0) (qs .1 .0)) ⊛ ‵ (flft (κs .1 .1 .0) (qs .1 .1 .0)) ⊛ ‵ (flft (κs .1 .1 .1 .0) (qs .1 .1 .1 .0)) ⊛ ‵ ftrue
+  tokens = ‵ (flft (κs .0) (qs .0)) ⊛ ‵ (flft (κs .1 .0) (qs .1 .0)) ⊛ ‵ (flft (κs .1 .1 .0) (qs .1 .1 .0)) ⊛ ‵ (flft (κs .1 .1 .1 .0) (qs .1 .1 .1 .0)) ⊛ ‵ (flft (κs .1 .1 .1 .1 .0) (qs .1 .1 .1 .1 .0)) ⊛ ‵ ftrue
 
   -- the tables that go in
   abbrev lists : Item 𝓤
-  lists = ‵ (owns (MutSlice (named 2) (κs .0) u64 ∷ MutSlice (named 3) (κs .1 .0) u64 ∷ ShrSlice (named 4) (κs .1 .1 .0) u32 ∷ MutSlice (named 5) (κs .1 .1 .1 .0) u64 ∷ []) xs (slices xs))
+  lists = ‵ (owns (MutSlice (named 2) (κs .0) u64 ∷ MutSlice (named 3) (κs .1 .0) u64 ∷ MutSlice (named 4) (κs .1 .1 .0) u32 ∷ MutSlice (named 5) (κs .1 .1 .1 .0) u64 ∷ MutSlice (named 6) (κs .1 .1 .1 .1 .0) u64 ∷ []) xs (slices xs))
 
-  -- what comes back: the written lists are given up at what they then hold
-  abbrev pub returned : Lasts → List (Item 𝓤) → List (Item 𝓤)
-  returned zs Γ =
-      tokens ∷ ‵ (finally u64 (xs .1 .1 .1 .0 .name) (zs .1 .1 .1 .1 .1 .0)) ∷ ‵ (finally u64 (xs .1 .0 .name) (zs .1 .1 .1 .0)) ∷ ‵ (finally u64 (xs .0 .name) (zs .1 .1 .0)) ∷ Γ
+  -- what comes back: the lists are given up at what they then hold
+  abbrev pub returned : Five (List ℕ) → List (Item 𝓤) → List (Item 𝓤)
+  returned ls Γ =
+      tokens ∷ ‵ (finally u64 (xs .1 .1 .1 .1 .0 .name) (ls .1 .1 .1 .1 .0)) ∷ ‵ (finally u64 (xs .1 .1 .1 .0 .name) (ls .1 .1 .1 .0)) ∷ ‵ (finally u32 (xs .1 .1 .0 .name) (ls .1 .1 .0))
+      ∷ ‵ (finally u64 (xs .1 .0 .name) (ls .1 .0)) ∷ ‵ (finally u64 (xs .0 .name) (ls .0)) ∷ Γ
 
-module _ {M : Type 1} (𝓤 : URA M) (H : Heap 𝓤) (A : Atoms 𝓤) (f : Tables → Record → Acted) (κs : Four Lft) (qs : Four Share) (c : Control) (r : Record) (xs : Four (RefT (List ℕ))) where
+module _ {M : Type 1} (𝓤 : URA M) (H : Heap 𝓤) (A : Atoms 𝓤) (f : Tables → Record → Acted) (κs : Five Lft) (qs : Five Share) (c : Control) (r : Record) (xs : Five (RefT (List ℕ))) where
   abbrev to-step : Move 𝓤 H A f .Ghost
   to-step = ((κs, qs, tt, (c, (r, xs)), (control-value c ∷ [], (record-value r ∷ [], slices xs))), tt)
 
@@ -112,22 +115,23 @@ module _ {M : Type 1} (𝓤 : URA M) (H : Heap 𝓤) (A : Atoms 𝓤) (f : Table
 
 -- A step is called.
 module _ {M : Type 1} {𝓤 : URA M} {H : Heap 𝓤} {A : Atoms 𝓤} {G : Type 0} {W : Given 𝓤 H A} {Γ : List (Item 𝓤)} {En : Env 𝓤 H} {C : Calls 𝓤 H} {Λ : Loops 𝓤 H} {q : PostOf 𝓤 H} where
-  pub moves : G → (f : Tables → Record → Acted) (κs : Four Lft) (qs : Four Share) (c : Control) (r : Record) (xs : Four (RefT (List ℕ))) {name : Name} {os : List Operand} {d : Place} {rest : Body}
+  pub moves : G → (f : Tables → Record → Acted) (κs : Five Lft) (qs : Five Share) (c : Control) (r : Record) (xs : Five (RefT (List ℕ))) {name : Name} {os : List Operand} {d : Place} {rest : Body}
       → FmC 𝓤 H (W .laws) C → Triple 𝓤 (C name) (Move 𝓤 H A f) → Is K.the-row c (control-value c ∷ []) → Is T.the-row r (record-value r ∷ [])
       → Opds G W (raw (Move 𝓤 H A f .pre (to-step 𝓤 H A f κs qs c r xs)) ∷ Γ) En os (Move 𝓤 H A f .args (to-step 𝓤 H A f κs qs c r xs))
-      → ((w : Val) (m : Moved) (zs : Lasts) → Leaves f c r xs m zs → Lengths xs zs → Is N.the-row m (w ∷ []) → Seq G W (returned 𝓤 κs qs xs zs Γ) (lands C Λ En d w rest q))
+      → ((w : Val) (m : Moved) (ls : Five (List ℕ)) → Leaves f c r xs m ls → Lengths xs ls → Is N.the-row m (w ∷ []) → Seq G W (returned 𝓤 κs qs xs ls Γ) (lands C Λ En d w rest q))
       → Seq G W (tokens 𝓤 κs qs xs ∷ lists 𝓤 κs qs xs ∷ Γ) (runs C Λ En (seq (call name os d) rest) q)
   moves t f κs qs c r xs fm known gc g os k =
       use2 W (raw (Move 𝓤 H A f .pre (to-step 𝓤 H A f κs qs c r xs))) (goes-step 𝓤 H A f κs qs c r xs W gc g) $
       calls-at t fm (Move 𝓤 H A f) known (to-step 𝓤 H A f κs qs c r xs) os (λ w.
       use1 W (later (some (λ (m : Moved). (tokens 𝓤 κs qs xs ⊛ ‵ (N.the-row .own m (w ∷ []))) ⊛ raw (ensured 𝓤 H A move-on.ended (stepped 𝓤 f) κs (c, (r, xs)) tt m)))) (id⊢ 𝓤 _) $
       await t tt $ pick t (λ m.
-      split t $ move t (1 ∷ []) $ use1 W (some (λ (zs : Lasts). ‵ (lasts move-on.ended κs (c, (r, xs)) zs) ⊛ raw (fact 𝓤 (Leaves f c r xs m zs)))) (id⊢ 𝓤 _) $
+      split t $ move t (1 ∷ []) $ use1 W (some (λ (zs : Lasts). ‵ (lasts move-on.ended κs (c, (r, xs)) zs) ⊛ raw (fact 𝓤 (Leaves f c r xs m (zs .1 .1))))) (id⊢ 𝓤 _) $
       pick t (λ zs.
-      split t $ move t (1 ∷ []) $ heard t (Leaves f c r xs m zs) (λ e.
+      split t $ move t (1 ∷ []) $ heard t (Leaves f c r xs m (zs .1 .1)) (λ e.
       fsplit t $ drop t $ fsplit t $ drop t $ fsplit t $ fsplit t $ move t (1 ∷ []) $ feqL t (λ e1. move t (1 ∷ []) $ fsplit t $ fsplit t $ move t (1 ∷ []) $
-      feqL t (λ e2. move t (1 ∷ []) $ fsplit t $ drop t $ fsplit t $ fsplit t $ move t (1 ∷ []) $ feqL t (λ e4. move t (1 ∷ []) $ drop t $
-      move t (3 ∷ []) $ split t $ move t (1 ∷ []) $ facts t N.the-row (Is N.the-row) (shows 𝓤 H A N.the-row) m (w ∷ []) (λ is. k w m zs e (e1, e2, e4) is))))))))
+      feqL t (λ e2. move t (1 ∷ []) $ fsplit t $ fsplit t $ move t (1 ∷ []) $ feqL t (λ e3. move t (1 ∷ []) $ fsplit t $ fsplit t $ move t (1 ∷ []) $
+      feqL t (λ e4. move t (1 ∷ []) $ fsplit t $ fsplit t $ move t (1 ∷ []) $ feqL t (λ e5. move t (1 ∷ []) $ drop t $
+      move t (5 ∷ []) $ split t $ move t (1 ∷ []) $ facts t N.the-row (Is N.the-row) (shows 𝓤 H A N.the-row) m (w ∷ []) (λ is. k w m (zs .1 .1) e (e1, e2, e3, e4, e5) is))))))))))
 
 -- ---- a test
 -- The contract of a test f of an outcome: `engine::moves` and `engine::ends` differ in f alone.

@@ -38,10 +38,10 @@ pub control-is : (c : Control) (m : Moved) → Is K.the-row c (control-value c �
 control-is c m g h =
     let a = LL.owed K.the-type K′.the-laws c _ g in
     let b = LL.owed K.the-type K′.the-laws (m .control) _ h in
-    LL.owes K.the-type K′.the-laws (control-after c m) ((refl, a .0 .1), ((refl, a .1 .0 .1), ((refl, b .1 .1 .0 .1), ((refl, b .1 .1 .1 .0 .1), tt))))
+    LL.owes K.the-type K′.the-laws (control-after c m) ((refl, a .0 .1), ((refl, a .1 .0 .1), ((refl, b .1 .1 .0 .1), ((refl, b .1 .1 .1 .0 .1), ((refl, a .1 .1 .1 .1 .0 .1), ((refl, b .1 .1 .1 .1 .1 .0 .1), tt))))))
 
 pub record-is : (r : Record) (m : Moved) → Is T.the-row r (record-value r ∷ []) → Is T.the-row (m .task) (record-value (m .task) ∷ []) → Is T.the-row (record-after r m) (record-value (record-after r m) ∷ [])
 record-is r m g h =
     let a = LL.owed T.the-type T′.the-laws r _ g in
     let b = LL.owed T.the-type T′.the-laws (m .task) _ h in
-    LL.owes T.the-type T′.the-laws (record-after r m) ((refl, b .0 .1), ((refl, a .1 .0 .1), ((refl, a .1 .1 .0 .1), ((refl, a .1 .1 .1 .0 .1), ((refl, a .1 .1 .1 .1 .0 .1), ((refl, b .1 .1 .1 .1 .1 .0 .1), ((refl, b .1 .1 .1 .1 .1 .1 .0 .1), ((refl, b .1 .1 .1 .1 .1 .1 .1 .0 .1), ((refl, b .1 .1 .1 .1 .1 .1 .1 .1 .0 .1), tt)))))))))
+    LL.owes T.the-type T′.the-laws (record-after r m) ((refl, b .0 .1), ((refl, a .1 .0 .1), ((refl, a .1 .1 .0 .1), ((refl, b .1 .1 .1 .0 .1), ((refl, b .1 .1 .1 .1 .0 .1), ((refl, b .1 .1 .1 .1 .1 .0 .1), ((refl, b .1 .1 .1 .1 .1 .1 .0 .1), ((refl, b .1 .1 .1 .1 .1 .1 .1 .0 .1), ((refl, b .1 .1 .1 .1 .1 .1 .1 .1 .0 .1), tt)))))))))

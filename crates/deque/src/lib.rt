@@ -28,16 +28,17 @@ pub fn step(
     task: usize,
     lefts: &mut [u64],
     rights: &mut [u64],
-    labels: &[u32],
+    labels: &mut [u32],
     marks: &mut [u64],
+    next: &mut [u64],
 ) -> Outcome
     ensures { λ r.
         ⌜ _≡_ {A = Done}
         (record {
-          queue = queueOf (now (control .exit)) (now (records .exit)) (now (lefts .exit)) (now (rights .exit)) (now (labels .entry)) (now (marks .exit));
+          queue = queueOf (now (control .exit)) (now (records .exit)) (now (lefts .exit)) (now (rights .exit)) (now (labels .exit)) (now (marks .exit)) (now (next .exit));
           outcome = r;
         })
-        (act (queueOf (now (control .entry)) (now (records .entry)) (now (lefts .entry)) (now (rights .entry)) (now (labels .entry)) (now (marks .entry)))
+        (act (queueOf (now (control .entry)) (now (records .entry)) (now (lefts .entry)) (now (rights .entry)) (now (labels .entry)) (now (marks .entry)) (now (next .entry)))
         task Step) ⌝ }
 {
     let n = records.len();
@@ -50,20 +51,24 @@ pub fn step(
         rights.len(),
         labels.len(),
         marks.len(),
+        next.len(),
     );
     if why != 0 {
         return engine::refuse(why);
     }
     let record = &mut records[task];
     let r = *record;
-    let m = engine::move_on(c, r, lefts, rights, labels, marks);
+    let m = engine::move_on(c, r, lefts, rights, labels, marks, next);
     if engine::moves(m.outcome) {
         control.anchor = m.control.anchor;
         control.retries = m.control.retries;
+        control.head = m.control.head;
         if engine::ends(m.outcome) {
             *record = IDLE;
         } else {
             record.place = m.task.place;
+            record.own = m.task.own;
+            record.label = m.task.label;
             record.seen = m.task.seen;
             record.neighbour = m.task.neighbour;
             record.link = m.task.link;
@@ -79,29 +84,33 @@ pub fn step_record(
     task: &mut Record,
     lefts: &mut [u64],
     rights: &mut [u64],
-    labels: &[u32],
+    labels: &mut [u32],
     marks: &mut [u64],
+    next: &mut [u64],
 ) -> Outcome
     ensures { λ r.
         ⌜ _≡_ {A = Acted}
         (record {
-          tables = tablesOf (now (control .exit)) (now (lefts .exit)) (now (rights .exit)) (now (labels .entry)) (now (marks .exit));
+          tables = tablesOf (now (control .exit)) (now (lefts .exit)) (now (rights .exit)) (now (labels .exit)) (now (marks .exit)) (now (next .exit));
           task = now (task .exit);
           outcome = r;
         })
-        (stepLent (tablesOf (now (control .entry)) (now (lefts .entry)) (now (rights .entry)) (now (labels .entry)) (now (marks .entry)))
+        (stepLent (tablesOf (now (control .entry)) (now (lefts .entry)) (now (rights .entry)) (now (labels .entry)) (now (marks .entry)) (now (next .entry)))
         (now (task .entry))) ⌝ }
 {
     let c = *control;
     let r = *task;
-    let m = engine::step_alone(c, r, lefts, rights, labels, marks);
+    let m = engine::step_alone(c, r, lefts, rights, labels, marks, next);
     if engine::moves(m.outcome) {
         control.anchor = m.control.anchor;
         control.retries = m.control.retries;
+        control.head = m.control.head;
         if engine::ends(m.outcome) {
             *task = IDLE;
         } else {
             task.place = m.task.place;
+            task.own = m.task.own;
+            task.label = m.task.label;
             task.seen = m.task.seen;
             task.neighbour = m.task.neighbour;
             task.link = m.task.link;

@@ -1,15 +1,14 @@
 // Where the listed labels wait, by one walk of the queue.
 use crate::form::place_from;
 use model::Control;
-use sheet_model::Extents;
 use word::Anchor;
 use word::Link;
 ghost use mathlib.Core.Path.{_≡_};
-ghost use mathlib.Core.Bool.{true, false};
+ghost use mathlib.Core.Bool.{true};
 ghost use Prim.Native.Nat.{_≤_};
 ghost use lib.ListN.{getD, set};
 ghost use Rattle.word.specs.Anchor.{anchorOf};
-ghost use Rattle.sheet_model.specs.Extents.{placeOf, lower, higher, unseen, nextAt, position, gather, extents};
+ghost use Rattle.sheet_model.specs.Extents.{Extents, lower, higher, nextAt, position, gather, extents};
 
 /// Puts a position at k if it is lower than the one there.
 fn lower(t: &mut [u16], k: usize, at: u16)
@@ -46,18 +45,7 @@ fn next_at(up: bool, at: u16) -> u16
     at - 1
 }
 
-/// What is told of a walk that met an unsound link.
-fn lost() -> Extents
-    ensures { λ r. ⌜ r ≡ unseen false ⌝ }
-{
-    Extents {
-        sound: false,
-        low: [1024; 32],
-        high: [0; 32],
-    }
-}
-
-/// From slot `from` to the slot `last` along the links.
+/// From slot `from` to the slot `last` along the links, the positions noted; false where a link is unsound.
 fn gather(
     slots: u64,
     links: &[u64],
@@ -67,58 +55,85 @@ fn gather(
     first: u16,
     from: u64,
     last: u64,
-) -> Extents
+    low: &mut [u16],
+    high: &mut [u16],
+) -> bool
     requires { ⌜ (slots ≤ 1023) × (first ≡ position up 0) ⌝ }
     ensures { λ r.
-        ⌜ r ≡ gather slots (now (links .entry)) (now (labels .entry)) (now (listed .entry)) up last slots from first (unseen true) ⌝ }
+        ⌜ _≡_ {A = Extents} (record { sound = r; low = now (low .exit); high = now (high .exit) })
+        (gather slots (now (links .entry)) (now (labels .entry)) (now (listed .entry)) up last slots from first
+        (record { sound = true; low = now (low .entry); high = now (high .entry) })) ⌝ }
 {
-    let mut low: [u16; 32] = [1024; 32];
-    let mut high: [u16; 32] = [0; 32];
     let mut at = first;
     let mut left = slots;
     let mut x = from;
     while 0 < left {
         if !sound::from1(slots, x) {
-            return lost();
+            return false;
         }
         let k = place_from(listed, 0, table::label_at(labels, x));
-        lower(&mut low, k, at);
-        raise(&mut high, k, at);
+        lower(low, k, at);
+        raise(high, k, at);
         if x == last {
-            return Extents {
-                sound: true,
-                low,
-                high,
-            };
+            return true;
         }
         let w = table::word_at(links, x);
         if !sound::link_sound(slots, w) {
-            return lost();
+            return false;
         }
         let link = Link::unpack(w);
         x = link.slot;
         at = next_at(up, at);
         left -= 1;
     }
-    lost()
+    false
 }
 
 /// The walk from the right end along Left links or, under LPUSH, from the left end along Right links.
-pub fn extents(c: Control, listed: &[u32], lefts: &[u64], rights: &[u64], labels: &[u32]) -> Extents
+/// Positions go into the caller's arrays, which hold 1,024 and 0 for a label that doesn't wait.
+pub fn extents(
+    c: Control,
+    listed: &[u32],
+    lefts: &[u64],
+    rights: &[u64],
+    labels: &[u32],
+    low: &mut [u16],
+    high: &mut [u16],
+) -> bool
     requires { ⌜ c .slots ≤ 1023 ⌝ }
     ensures { λ r.
-        ⌜ r ≡ extents (c .slots) (anchorOf (c .anchor)) (now (listed .entry)) (now (lefts .entry)) (now (rights .entry)) (now (labels .entry)) ⌝ }
+        ⌜ _≡_ {A = Extents} (record { sound = r; low = now (low .exit); high = now (high .exit) })
+        (extents (c .slots) (anchorOf (c .anchor)) (now (listed .entry)) (now (lefts .entry)) (now (rights .entry)) (now (labels .entry))
+        (record { sound = true; low = now (low .entry); high = now (high .entry) })) ⌝ }
 {
     let a = Anchor::unpack(c.anchor);
     if (a.left == 0) & (a.right == 0) {
-        return Extents {
-            sound: true,
-            low: [1024; 32],
-            high: [0; 32],
-        };
+        return true;
     }
     if a.status == 2 {
-        return gather(c.slots, rights, labels, listed, true, 1, a.left, a.right);
+        return gather(
+            c.slots,
+            rights,
+            labels,
+            listed,
+            true,
+            1,
+            a.left,
+            a.right,
+            low,
+            high,
+        );
     }
-    gather(c.slots, lefts, labels, listed, false, 1023, a.right, a.left)
+    gather(
+        c.slots,
+        lefts,
+        labels,
+        listed,
+        false,
+        1023,
+        a.right,
+        a.left,
+        low,
+        high,
+    )
 }

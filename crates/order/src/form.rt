@@ -6,19 +6,30 @@ ghost use Rattle.sheet_model.specs.Extents.{placeOf};
 ghost use Rattle.sheet_model.specs.Sheet.{before, after, any, twice, outside, malformed};
 
 /// The place of x among the labels listed from i on, counted from 0 at the whole list's start;
-/// its length where x isn't there.
+/// its length where x isn't there. Two labels a turn: with 32 turns a search, whether the processor
+/// foresees the last one depends on where the code lies.
 pub fn place_from(listed: &[u32], i: usize, x: u32) -> usize
     requires { ⌜ i ≤ length (now listed) ⌝ }
     ensures { λ r. ⌜ r ≡ i + placeOf x (drop i (now (listed .entry))) ⌝ }
 {
+    let n = listed.len();
     let mut j = i;
-    while j < listed.len() {
+    while j + 1 < n {
         if listed[j] == x {
             return j;
         }
-        j += 1;
+        if listed[j + 1] == x {
+            return j + 1;
+        }
+        j += 2;
     }
-    j
+    if n <= j {
+        return j;
+    }
+    if listed[j] == x {
+        return j;
+    }
+    n
 }
 
 /// Whether a label is listed twice.

@@ -87,15 +87,15 @@ pub fn sheet(
     if why != 0 {
         return refused(why);
     }
-    let e = extents::extents(c, listed, lefts, rights, labels);
-    if !e.sound {
+    let mut low: [u16; 32] = [1024; 32];
+    let mut high: [u16; 32] = [0; 32];
+    if !extents::extents(c, listed, lefts, rights, labels, &mut low, &mut high) {
         return refused(34);
     }
     let n = listed.len();
-    let square = square::closure(rules, n);
-    let low = e.low;
-    let high = e.high;
-    search::first_broken(square, n, low, high)
+    let mut square = [[0u8; 32]; 32];
+    square::closure(&mut square, rules, n);
+    search::first_broken(&square, n, low, high)
 }
 
 /// The sheet on a smaller printer: the same answer, with 32 lent words for the chained rules in the
@@ -130,13 +130,12 @@ pub fn sheet_words(
     if why != 0 {
         return refused(why);
     }
-    let e = extents::extents(c, listed, lefts, rights, labels);
-    if !e.sound {
+    let mut low: [u16; 32] = [1024; 32];
+    let mut high: [u16; 32] = [0; 32];
+    if !extents::extents(c, listed, lefts, rights, labels, &mut low, &mut high) {
         return refused(34);
     }
     let n = listed.len();
     words::closure(lent, rules, n);
-    let low = e.low;
-    let high = e.high;
     words::first_broken(lent, n, low, high)
 }

@@ -4,16 +4,15 @@ use crate::form::before;
 ghost use mathlib.Core.Path.{_≡_};
 ghost use mathlib.Core.Bool.{false};
 ghost use Prim.Native.Nat.{_≤_};
-ghost use lib.ListN.{replicate};
+ghost use lib.ListN.{length, replicate};
 ghost use Rattle.sheet_model.specs.Sheet.{any, outside};
-ghost use Rattle.sheet_model.specs.Squares.{squareOf, linked, byteRow, rulesMarked, joinRow};
+ghost use Rattle.sheet_model.specs.Squares.{squareOf, linked, byteRow, rulesMarked, rounds, joinRow};
 
-/// The marks of the rules themselves.
-fn ruled(rules: &[u32], n: usize) -> [[u8; 32]; 32]
-    requires { ⌜ (n ≤ 32) × (any (outside n) (now rules) ≡ false) ⌝ }
-    ensures { λ r. ⌜ r ≡ rulesMarked byteRow (now (rules .entry)) (replicate 32 (replicate 32 0)) ⌝ }
+/// Sets the marks of the rules themselves.
+fn mark(square: &mut [[u8; 32]], rules: &[u32], n: usize)
+    requires { ⌜ (32 ≤ length (now square)) × (n ≤ 32) × (any (outside n) (now rules) ≡ false) ⌝ }
+    ensures { λ _. ⌜ now (square .exit) ≡ rulesMarked byteRow (now (rules .entry)) (now (square .entry)) ⌝ }
 {
-    let mut square = [[0u8; 32]; 32];
     let mut i = 0;
     while i < rules.len() {
         let a = before(rules[i]);
@@ -21,7 +20,6 @@ fn ruled(rules: &[u32], n: usize) -> [[u8; 32]; 32]
         square[a - 1][b - 1] = 1;
         i += 1;
     }
-    square
 }
 
 /// A row with the marks of another.
@@ -37,25 +35,32 @@ fn join_row(via: [u8; 32], row: [u8; 32]) -> [u8; 32]
     joined
 }
 
-/// The chained rules of a list of n labels: each row that has place k marked gets that place's row.
-pub fn closure(rules: &[u32], n: usize) -> [[u8; 32]; 32]
-    requires { ⌜ (n ≤ 32) × (any (outside n) (now rules) ≡ false) ⌝ }
-    ensures { λ r. ⌜ r ≡ squareOf (linked (now (rules .entry)) n) ⌝ }
+/// Each row that has place k marked gets that place's row.
+fn join(square: &mut [[u8; 32]], n: usize)
+    requires { ⌜ (32 ≤ length (now square)) × (n ≤ 32) ⌝ }
+    ensures { λ _. ⌜ now (square .exit) ≡ rounds byteRow n 0 n (now (square .entry)) ⌝ }
 {
-    let mut square = ruled(rules, n);
     let mut k = 0;
     while k < n {
         let via = square[k];
         let mut i = 0;
         while i < n {
-            let row = square[i];
-            if row[k] != 0 {
-                let joined = join_row(via, row);
+            if square[i][k] != 0 {
+                let joined = join_row(via, square[i]);
                 square[i] = joined;
             }
             i += 1;
         }
         k += 1;
     }
-    square
+}
+
+/// The chained rules of a list of n labels, in a square with no mark. It is lent from where it stands:
+/// handed on by value it would be copied each time, which costs as much as all else on a small sheet.
+pub fn closure(square: &mut [[u8; 32]], rules: &[u32], n: usize)
+    requires { ⌜ (now square ≡ replicate 32 (replicate 32 0)) × (n ≤ 32) × (any (outside n) (now rules) ≡ false) ⌝ }
+    ensures { λ _. ⌜ now (square .exit) ≡ squareOf (linked (now (rules .entry)) n) ⌝ }
+{
+    mark(square, rules, n);
+    join(square, n);
 }

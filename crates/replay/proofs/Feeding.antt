@@ -1,7 +1,7 @@
 -- Feeding a run: one field and then the rest; and a file in pieces is fed as in one.
 use Prim.Native.Nat.{ℕ, zero, suc, _+_, _-_, _≤_}
 use mathlib.Core.Path.{_≡_, refl, sym, ap, _∙_}
-use mathlib.Core.Bool.{Bool, true, false, cond}
+use mathlib.Core.Bool.{Bool, true, false, _||_, cond}
 use mathlib.Core.List.{List, [], _∷_, _++_, append-assoc, append-nil, flatten}
 use native.Mathlib.Omega.{arith}
 use lib.ListN.{length, take, drop, length-drop, length-append}
@@ -9,20 +9,13 @@ use lib.Dec.{leb, eqb}
 use borrow.Author.Tests.{leb-true, leb-false}
 use lib.Seq.{take-append-le, drop-append-le}
 use Rattle.runfile.specs.Field.{contentOf, missing, fieldOf}
-use Rattle.runfile.specs.Line.{header}
-use Rattle.runfile.specs.declared.field.Field.the-variants.{Malformed}
-use Rattle.runfile.specs.declared.field.Found.{Found}
+use Rattle.runfile.specs.declared.Field.the-variants.{Malformed}
+use Rattle.runfile.specs.declared.Found.{Found}
+use Rattle.lines.specs.Line.{header}
 use Rattle.runfile.proofs.Prefix.{Seen, seen, ended, cut, wrong, whole, same-wrong, same-whole}
-use Rattle.replay.specs.Run.{Run, Told, malformed, carried}
+use Rattle.carry.specs.Run.{Run, Told, malformed, carried}
+use Rattle.carry.proofs.Pages.{cond-true, cond-false}
 use Rattle.replay.specs.Trace.{Fed, unmoved, after, feedIn, feed, finished, fresh, printed, printedPieces, traceOf}
-
-pub cond-true : {A : Type 0} (b : Bool) (x y : A) → b ≡ true → cond b x y ≡ x
-cond-true true x y e = refl
-cond-true false x y e = absurd (let z : _≡_ {A = ℕ} 0 1 = cc in omega arith)
-
-pub cond-false : {A : Type 0} (b : Bool) (x y : A) → b ≡ false → cond b x y ≡ y
-cond-false false x y e = refl
-cond-false true x y e = absurd (let z : _≡_ {A = ℕ} 0 1 = cc in omega arith)
 
 -- What a run makes of the field at the head of b.
 unfoldable pub told : Run → List ℕ → Told
@@ -44,17 +37,18 @@ module _ (r : Run) (b : List ℕ) {f : Found} (e : fieldOf (r .opened) b ≡ f) 
 same-carried : (r : Run) (b c : List ℕ) (tag len : ℕ) (d : List ℕ) → 3 + len ≤ length b
     → carried r (contentOf tag len d) (b ++ c) ≡ carried r (contentOf tag len d) b
 unfolding contentOf carried
-same-carried r b c tag len d h = go (eqb tag 1) refl (eqb tag 2) refl (eqb tag 3) refl
+same-carried r b c tag len d h = go (eqb tag 1 || eqb tag 5) refl (eqb tag 2) refl (eqb tag 3) refl (eqb tag 6) refl
   where
     steps : take len (drop 3 (b ++ c)) ≡ take len (drop 3 b)
     steps = rw (drop-append-le 3 b c (omega arith), take-append-le len (drop 3 b) c (omega (arith, length-drop 3 b)))
 
-    go : (x : Bool) → eqb tag 1 ≡ x → (y : Bool) → eqb tag 2 ≡ y → (z : Bool) → eqb tag 3 ≡ z
+    go : (w : Bool) → (eqb tag 1 || eqb tag 5) ≡ w → (x : Bool) → eqb tag 2 ≡ x → (y : Bool) → eqb tag 3 ≡ y → (z : Bool) → eqb tag 6 ≡ z
         → carried r (contentOf tag len d) (b ++ c) ≡ carried r (contentOf tag len d) b
-    go true p y q z s = rw p
-    go false p true q z s = rw (p, q)
-    go false p false q true s = rw (p, q, s)
-    go false p false q false s = rw (p, q, s, steps)
+    go true p x q y s z t = rw p
+    go false p true q y s z t = rw (p, q)
+    go false p false q true s z t = rw (p, q, s)
+    go false p false q false s true t = rw (p, q, s, t)
+    go false p false q false s false t = rw (p, q, s, t, steps)
 
 -- It waits, it ends the run, or it is carried out.
 pub data Next (r : Run) (b : List ℕ) : Type 0 where
@@ -72,7 +66,9 @@ next-of r b = go (fieldOf (r .opened) b) refl (seen (r .opened) b)
     go f e cut = waits (told-of r b e) (size-of r b e)
     go f e (wrong h w) = breaks (λ c. same-wrong (r .opened) b c h w) e
     go f e (whole w h) =
-        moves (let s = size-of r b e in omega arith) (let s = size-of r b e in omega arith) (λ c. same-whole (r .opened) b c w h ∙ sym e) (λ c. rw e (same-carried r b c _ _ _ h))
+        moves (let s = size-of r b e in omega arith) (let s = size-of r b e in omega arith)
+        (λ c. same-whole (r .opened) b c w h ∙ sym e)
+        (λ c. rw e (same-carried r b c _ _ _ h))
 
 -- A run that is over takes no field, and one whose field waits takes none.
 pub feed-over : (n : ℕ) (r : Run) (b : List ℕ) → r .over ≡ true → feedIn n r b ≡ unmoved r b
@@ -147,7 +143,10 @@ module _ (n : ℕ) (r : Run) (b c : List ℕ) where
       ∙ ap (λ (f : Fed). joined f c) (sym (feed-more n r b e))
     where
       again : (f : Fed) → after (told r b) (joined f c) ≡ joined (after (told r b) f) c
-      again f = let g = feed (f .run) (f .rest ++ c) in ap (λ (l : List ℕ). record { run = g .run; rest = g .rest; lines = l }) (sym (append-assoc (told r b .lines) (f .lines) (g .lines)))
+      again f =
+          let g = feed (f .run) (f .rest ++ c) in
+          let same = append-assoc (told r b .lines) (f .lines) (g .lines) in
+          ap (λ (l : List ℕ). record { run = g .run; rest = g .rest; lines = l }) (sym same)
 
 first-fed : (r : Run) (c : List ℕ) → feed r c ≡ joined (feedIn zero r []) c
 unfolding feedIn

@@ -1,5 +1,4 @@
 pub mod Feeding
+pub mod Loop
 pub mod Pages
-pub mod Turns
-pub mod Fields
 pub mod Whole

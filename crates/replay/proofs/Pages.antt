@@ -1,136 +1,142 @@
--- Pages: lines written one after the other, a list of operations one by one, and the fields of some bytes one by one.
-use Prim.Native.Nat.{ℕ, _+_, _≤_, _<_}
-use mathlib.Core.Path.{_≡_, refl, sym, ap, _∙_}
+-- What a page holds after it was fed, and what is left to do then, is what was to do; with room for a field nothing is left.
+use Prim.Native.Nat.{ℕ, zero, suc, _+_, _-_, _<_, _≤_}
+use mathlib.Core.Path.{_≡_, refl, sym, ap, _∙_, subst}
 use mathlib.Core.Bool.{Bool, true, false}
-use mathlib.Core.List.{List, [], _∷_, _++_, append-nil, append-assoc}
+use mathlib.Core.List.{List, [], _++_, append-assoc}
 use native.Mathlib.Nat.{add-zero}
-use native.Mathlib.Numerals.{add-one}
 use native.Mathlib.Omega.{arith}
-use lib.Dec.{leb, ltb}
-use lib.ListN.{length, drop, getD, set, length-append}
-use lib.Seq.{slice, slice-cons, slice-empty}
-use Rattle.model.specs.declared.Record.{Record}
-use Rattle.model.specs.declared.Op.{Op}
-use Rattle.model.specs.Tables.{Tables, idle}
-use Rattle.model.specs.declared.Op.the-variants.{Step}
-use Rattle.model.specs.Refusals.{Lent}
-use Rattle.model.specs.Calls.{act}
-use Rattle.model.specs.History.{Request, run, final}
-use Rattle.runfile.proofs.Puts.{sets-append}
-use Rattle.replay.specs.Run.{Run, Told, next, linesOf, numberOf, operated, stepsOf}
+use lib.Dec.{leb, eqb}
+use lib.ListN.{length, drop, length-append}
+use lib.Seq.{sets, drop-drop}
+use borrow.Author.Tests.{eqb-true, eqb-false, eq-eqb}
+use Rattle.lines.proofs.Puts.{sets-append}
+use Rattle.carry.specs.Run.{Run}
+use Rattle.carry.specs.Page.{Page, written, carries, fieldRoom, takes}
+use Rattle.carry.proofs.Fields.{takes-none}
 use Rattle.replay.specs.Trace.{Fed, unmoved, after, feed}
-use Rattle.replay.specs.Page.{Page, written, operates, Reaches, Turned, turned}
-use Rattle.replay.proofs.Feeding.{told, sizeAt, Next, waits, breaks, moves, next-of, feed-over, feed-waits, broken, feed-step}
+use Rattle.replay.specs.Feed.{feedPageIn, feedPage}
+use Rattle.replay.proofs.Feeding.{told, sizeAt, Next, waits, breaks, moves, next-of, feed-waits, broken, feed-step}
+use Rattle.replay.proofs.Feeding as run
+use Rattle.replay.proofs.Loop.{taken, goes-on, feed-over, feed-still, feed-next}
 
-page-same : (r : Run) (o o′ : List ℕ) (n n′ : ℕ) → o ≡ o′ → n ≡ n′ → _≡_ {A = Page} (record { run = r; out = o; to = n }) (record { run = r; out = o′; to = n′ })
-page-same r o o′ n n′ e f = cc
+abbrev pub fits : Page → Bool
+fits p = leb (p .to + fieldRoom) (length (p .out))
 
-pub written-more : (p : Page) (t u : Told) → written (written p t) u ≡ written p (record { run = u .run; lines = t .lines ++ u .lines })
-unfolding written
-written-more p t u =
-    page-same _ _ _ _ _ (sets-append (p .out) (p .to) (t .lines) (u .lines)) (omega (arith, length-append (t .lines) (u .lines)))
+-- What the bytes from the reading position on do.
+abbrev pub ahead : List ℕ → Page → Fed
+ahead bytes p = feed (p .run) (drop (p .at) bytes)
 
-pub written-none : (p : Page) → written p (record { run = p .run; lines = [] }) ≡ p
-unfolding written
-written-none p = page-same _ _ _ _ _ refl (add-zero (p .to))
+-- From page p to page p′: the lines written, and the rest.
+pub record Reaches (bytes : List ℕ) (p p′ : Page) : Type 0 where
+  pub lines : List ℕ
+  pub out : p′ .out ≡ sets (p .out) (p .to) lines
+  pub to : p′ .to ≡ p .to + length lines
+  pub rest : ahead bytes p ≡ after (record { run = p′ .run; lines = lines }) (ahead bytes p′)
 
--- Operations one by one.
-pub operates-none : (p : Page) → operates p [] ≡ p
-unfolding operated final run linesOf numberOf
-operates-none p = written-none p
+clash : {P : Type 0} → _≡_ {A = Bool} false true → P
+clash z = absurd (let y : _≡_ {A = ℕ} 0 1 = cc in omega arith)
 
-operated-more : (r : Run) (o : Request) (os : List Request)
-    → record {
-      run = operated (operated r (o ∷ []) .run) os .run;
-      lines = operated r (o ∷ []) .lines ++ operated (operated r (o ∷ []) .run) os .lines;
-    } ≡ operated r (o ∷ os)
-unfolding operated final run linesOf numberOf
-operated-more r o os = rw append-nil
+module _ (bytes : List ℕ) where
+  reaches-none : (p : Page) → Reaches bytes p p
+  reaches-none p = record { lines = []; out = refl; to = sym (add-zero (p .to)); rest = refl }
 
-pub operates-more : (p : Page) (o : Request) (os : List Request) → operates (operates p (o ∷ [])) os ≡ operates p (o ∷ os)
-unfolding written
-operates-more p o os =
-    written-more p (operated (p .run) (o ∷ [])) (operated (operated (p .run) (o ∷ []) .run) os) ∙ ap (written p) (operated-more (p .run) o os)
+  reaches-more : (p p′ p″ : Page) → Reaches bytes p p′ → Reaches bytes p′ p″ → Reaches bytes p p″
+  reaches-more p p′ p″ f g = record {
+    lines = f .lines ++ g .lines;
+    out =
+        g .out ∙ ap (λ (n : ℕ). sets (p′ .out) n (g .lines)) (f .to) ∙ ap (λ (l : List ℕ). sets l (p .to + length (f .lines)) (g .lines)) (f .out)
+        ∙ sets-append (p .out) (p .to) (f .lines) (g .lines);
+    to = let e = f .to in let e′ = g .to in omega (arith, e, e′, length-append (f .lines) (g .lines));
+    rest =
+        let last = ahead bytes p″ in
+        f .rest ∙ ap (after (record { run = p′ .run; lines = f .lines })) (g .rest)
+        ∙ ap (λ (l : List ℕ). record { run = last .run; rest = last .rest; lines = l }) (sym (append-assoc (f .lines) (g .lines) (last .lines)));
+  }
 
--- The page after a turn of one record.
-abbrev pub pageAfter : List Record → ℕ → Bool → Bool → ℕ → Turned → Page
-pageAfter rs task opened over event t = record {
-  run = record { queue = record { tables = t .tables; records = set rs task (t .task) }; opened = opened; over = over; event = event };
-  out = t .out;
-  to = t .to;
-}
+  module _ (p : Page) where
+    abbrev b : List ℕ
+    b = drop (p .at) bytes
 
-pub turn-taken : (q : Tables) (rs : List Record) (opened over : Bool) (event : ℕ) (out : List ℕ) (to task : ℕ) (op : Op) → length rs ≡ 16
-    → pageAfter rs task opened over (next event)
-    (turned q (record { enough = leb (q .control .tasks) 16; known = ltb task (q .control .tasks) }) (getD rs task idle) task op (next event) out to)
-    ≡ operates
-    (record { run = record { queue = record { tables = q; records = rs }; opened = opened; over = over; event = event }; out = out; to = to })
-    (record { task = task; op = op } ∷ [])
-unfolding written operated final run linesOf numberOf act turned
-turn-taken q rs opened over event out to task op h = rw (← h, append-nil)
+    -- A field taken.
+    reaches-take : p .run .over ≡ false → fits p ≡ true → Reaches bytes p (takes bytes p)
+    unfolding written told sizeAt
+    reaches-take e f =
+        subst (Reaches bytes p) (sym (taken bytes p f))
+        (record {
+          lines = told (p .run) b .lines;
+          out = refl;
+          to = refl;
+          rest =
+              feed-step (p .run) b e
+              ∙ ap (λ (l : List ℕ). after (told (p .run) b) (feed (told (p .run) b .run) l)) (drop-drop (sizeAt (p .run) b) (p .at) bytes);
+        })
 
--- The same for the code's values: rs′ are the records afterwards.
-module _ (q : Tables) (rs rs′ : List Record) (opened over : Bool) (event ev : ℕ) (out : List ℕ) (to task : ℕ) (op : Op) (r : Record) (t : Turned) where
-  pub turn-page : length rs ≡ 16 → r ≡ getD rs task idle → ev ≡ next event
-      → t ≡ turned q (record { enough = leb (q .control .tasks) 16; known = ltb task (q .control .tasks) }) r task op ev out to
-      → rs′ ≡ set rs task (t .task)
-      → _≡_ {A = Page}
-      (record { run = record { queue = record { tables = t .tables; records = rs′ }; opened = opened; over = over; event = ev }; out = t .out; to = t .to })
-      (operates
-      (record { run = record { queue = record { tables = q; records = rs }; opened = opened; over = over; event = event }; out = out; to = to })
-      (record { task = task; op = op } ∷ []))
-  turn-page h i j e k =
-      ap (λ (x : List Record). record { run = record { queue = record { tables = t .tables; records = x }; opened = opened; over = over; event = ev }; out = t .out; to = t .to }) k
-      ∙ ap (pageAfter rs task opened over ev) e
-      ∙ ap (λ (n : ℕ). pageAfter rs task opened over n (turned q lent r task op n out to)) j
-      ∙ ap (λ (x : Record). pageAfter rs task opened over (next event) (turned q lent x task op (next event) out to)) i
-      ∙ turn-taken q rs opened over event out to task op h
+    -- One that takes no bytes: it waits, or it ended the run.
+    still : sizeAt (p .run) b ≡ 0 → feed (told (p .run) b .run) b ≡ unmoved (told (p .run) b .run) b
+    unfolding feed
+    still s = go (next-of (p .run) b)
+      where
+        go : Next (p .run) b → feed (told (p .run) b .run) b ≡ unmoved (told (p .run) b .run) b
+        go (waits t z) = rw t (feed-waits (length b) (p .run) b t z)
+        go (breaks f g) = run.feed-over (length b) (told (p .run) b .run) b (broken (p .run) b g)
+        go (moves l k f g) = absurd (omega arith)
+
+  abbrev Done : Page → Type 0
+  Done p = ahead bytes p ≡ unmoved (p .run) (drop (p .at) bytes)
+
+  -- A run that is over; a field taken that took no bytes.
+  over-done : (p : Page) → p .run .over ≡ true → Done p
+  unfolding feed
+  over-done p e = run.feed-over (length (drop (p .at) bytes)) (p .run) (drop (p .at) bytes) e
+
+  still-done : (p : Page) → fits p ≡ true → takes bytes p .at ≡ p .at → Done (takes bytes p)
+  unfolding written told sizeAt
+  still-done p f h =
+      let e = taken bytes p f in
+      let z : sizeAt (p .run) (drop (p .at) bytes) ≡ 0 = let m = ap (λ (x : Page). x .at) e in omega (arith, m, h) in
+      subst Done (sym e)
+      (subst (λ (n : ℕ). feed (told (p .run) (b p) .run) (drop n bytes) ≡ unmoved (told (p .run) (b p) .run) (drop n bytes))
+      (sym (ap (λ (k : ℕ). p .at + k) z ∙ add-zero (p .at))) (still p z))
+
+  -- At most n fields: what they wrote, and, with room for a field after as many as there can be, that nothing is left.
+  pub fed-reaches : (n : ℕ) (p : Page) → Reaches bytes p (feedPageIn n bytes p)
+  unfolding feedPageIn
+  fed-reaches zero p = reaches-none p
+  fed-reaches (suc n) p = go (p .run .over) refl (fits p) refl (eqb (takes bytes p .at) (p .at)) refl (fed-reaches n (takes bytes p))
     where
-      lent : Lent
-      lent = record { enough = leb (q .control .tasks) 16; known = ltb task (q .control .tasks) }
+      go : (o : Bool) → p .run .over ≡ o → (r : Bool) → fits p ≡ r → (s : Bool) → eqb (takes bytes p .at) (p .at) ≡ s
+          → Reaches bytes (takes bytes p) (feedPageIn n bytes (takes bytes p)) → Reaches bytes p (feedPageIn (suc n) bytes p)
+      go true e r f s g ih = subst (Reaches bytes p) (sym (feed-over bytes p (suc n) e)) (reaches-none p)
+      go false e false f s g ih =
+          let same = takes-none bytes p f in
+          let at : eqb (takes bytes p .at) (p .at) ≡ true = eq-eqb _ _ (ap (λ (x : Page). x .at) same) in
+          subst (Reaches bytes p) (sym (feed-still bytes p n e at ∙ same)) (reaches-none p)
+      go false e true f true g ih = subst (Reaches bytes p) (sym (feed-still bytes p n e g)) (reaches-take p e f)
+      go false e true f false g ih = subst (Reaches bytes p) (sym (feed-next bytes p n e g)) (reaches-more _ _ _ (reaches-take p e f) ih)
 
--- A list of steps: its end, and one step more.
-pub steps-none : (p : Page) (end : ℕ) (bytes : List ℕ) → operates p (stepsOf (slice end end bytes)) ≡ p
-steps-none p end bytes = ap (λ (l : List ℕ). operates p (stepsOf l)) (slice-empty end bytes) ∙ operates-none p
+  abbrev Ends : Page → Type 0
+  Ends p = fits p ≡ true → Done p
 
-pub steps-end : (p q : Page) (i end : ℕ) (bytes : List ℕ) → i ≡ end → operates p (stepsOf (slice i end bytes)) ≡ q → p ≡ q
-steps-end p q i end bytes e h =
-    sym (steps-none p end bytes) ∙ ap (λ (k : ℕ). operates p (stepsOf (slice k end bytes))) (sym e) ∙ h
+  fed-done : (n : ℕ) (p : Page) → length bytes - p .at < n → Ends (feedPageIn n bytes p)
+  fed-done zero p h = absurd (omega (arith, h))
+  fed-done (suc n) p h = go (p .run .over) refl (fits p) refl (eqb (takes bytes p .at) (p .at)) refl (fed-done n (takes bytes p))
+    where
+      go : (o : Bool) → p .run .over ≡ o → (r : Bool) → fits p ≡ r → (s : Bool) → eqb (takes bytes p .at) (p .at) ≡ s
+          → (length bytes - takes bytes p .at < n → Ends (feedPageIn n bytes (takes bytes p))) → Ends (feedPageIn (suc n) bytes p)
+      go true e r f s g ih = subst Ends (sym (feed-over bytes p (suc n) e)) (λ k. over-done p e)
+      go false e false f s g ih =
+          let same = takes-none bytes p f in
+          let at : eqb (takes bytes p .at) (p .at) ≡ true = eq-eqb _ _ (ap (λ (x : Page). x .at) same) in
+          subst Ends (sym (feed-still bytes p n e at ∙ same)) (λ k. clash (sym f ∙ k))
+      go false e true f true g ih = subst Ends (sym (feed-still bytes p n e g)) (λ k. still-done p f (eqb-true _ _ g))
+      go false e true f false g ih =
+          let m = goes-on bytes p (eqb-false _ _ g) in
+          subst Ends (sym (feed-next bytes p n e g)) (ih (omega (arith, m, h)))
 
-pub steps-more : (p p′ : Page) (i end : ℕ) (bytes : List ℕ) → i < end → end ≤ length bytes
-    → p′ ≡ operates p (record { task = getD bytes i 0; op = Step } ∷ [])
-    → operates p′ (stepsOf (slice (i + 1) end bytes)) ≡ operates p (stepsOf (slice i end bytes))
-steps-more p p′ i end bytes h k e =
-    ap (λ (x : Page). operates x (stepsOf (slice (i + 1) end bytes))) e
-    ∙ operates-more p (record { task = getD bytes i 0; op = Step }) (stepsOf (slice (i + 1) end bytes))
-    ∙ ap (λ (n : ℕ). operates p (stepsOf (getD bytes i 0 ∷ slice n end bytes))) (add-one i)
-    ∙ ap (λ (l : List ℕ). operates p (stepsOf l)) (sym (slice-cons i end bytes 0 h k))
+  pub page-reaches : (p : Page) → Reaches bytes p (feedPage bytes p)
+  unfolding feedPage
+  page-reaches p = fed-reaches (suc (length bytes)) p
 
--- Fields one by one.
-pub reaches-none : (p : Page) (b : List ℕ) → Reaches p b p b
-reaches-none p b = record { wrote = record { run = p .run; lines = [] }; page = sym (written-none p); rest = refl }
-
-pub reaches-more : (p p′ p″ : Page) (b b′ b″ : List ℕ) → Reaches p b p′ b′ → Reaches p′ b′ p″ b″ → Reaches p b p″ b″
-reaches-more p p′ p″ b b′ b″ f g = record {
-  wrote = record { run = g .wrote .run; lines = f .wrote .lines ++ g .wrote .lines };
-  page = g .page ∙ ap (λ (x : Page). written x (g .wrote)) (f .page) ∙ written-more p (f .wrote) (g .wrote);
-  rest = f .rest ∙ ap (after (f .wrote)) (g .rest) ∙ ap (λ (l : List ℕ). record { run = feed (p″ .run) b″ .run; rest = feed (p″ .run) b″ .rest; lines = l }) (sym (append-assoc (f .wrote .lines) (g .wrote .lines) (feed (p″ .run) b″ .lines)));
-}
-
-pub reaches-step : (p : Page) (b : List ℕ) → p .run .over ≡ false → Reaches p b (written p (told (p .run) b)) (drop (sizeAt (p .run) b) b)
-unfolding written
-reaches-step p b e = record { wrote = told (p .run) b; page = refl; rest = feed-step (p .run) b e }
-
--- Where nothing is left to do: the run is over; or a field that takes no bytes waits, or ends the run.
-pub over-done : (r : Run) (b : List ℕ) → r .over ≡ true → feed r b ≡ unmoved r b
-unfolding feed
-over-done r b e = feed-over (length b) r b e
-
-pub still-done : (r : Run) (b : List ℕ) → sizeAt r b ≡ 0 → feed (told r b .run) b ≡ unmoved (told r b .run) b
-unfolding feed
-still-done r b s = go (next-of r b)
-  where
-    go : Next r b → feed (told r b .run) b ≡ unmoved (told r b .run) b
-    go (waits t z) = rw t (feed-waits (length b) r b t z)
-    go (breaks f g) = over-done (told r b .run) b (broken r b g)
-    go (moves l k f g) = absurd (omega arith)
+  pub page-done : (p : Page) → fits (feedPage bytes p) ≡ true → Done (feedPage bytes p)
+  unfolding feedPage
+  page-done p f = fed-done (suc (length bytes)) p (omega arith) f

@@ -1,78 +1,103 @@
--- What the contracts come to. Fed at once: `begin`, `feed` with room to spare, `finish` leave the file's trace in the buffer. Fed page by
+-- What the definitions come to. Fed at once: the first page, fed with room to spare and finished, holds the file's trace. Fed page by
 -- page, the buffer emptied each time: what a page holds, then what is left to print, is what was to print.
-use Prim.Native.Nat.{ℕ, _+_, _≤_}
-use mathlib.Core.Path.{_≡_, sym, ap, _∙_}
-use mathlib.Core.List.{List, _++_, append-nil}
-use native.Mathlib.Nat.{zero-add}
+use Prim.Native.Nat.{ℕ, _+_, _-_, _≤_}
+use mathlib.Core.Path.{_≡_, refl, sym, ap, _∙_}
+use mathlib.Core.Bool.{Bool, true, false, _&&_, _||_, cond}
+use mathlib.Core.List.{List, [], _++_, append-nil, append-assoc}
+use native.Mathlib.Nat.{zero-add, add-zero}
 use native.Mathlib.Omega.{arith}
-use lib.ListN.{length, take, drop}
+use lib.Dec.{leb, eqb}
+use lib.ListN.{length, take, drop, length-drop, length-append}
 use lib.Seq.{sets, sets-eq, take-append-seam}
-use lib.Dec.{leb}
-use borrow.Author.Tests.{le-leb}
-use Rattle.runfile.specs.Line.{header, fitting, room}
-use Rattle.replay.specs.Run.{Run, Told}
+use borrow.Author.Tests.{leb-true, le-leb}
+use Rattle.lines.specs.Line.{header, fitting, room}
+use Rattle.lines.proofs.Puts.{sets-append}
+use Rattle.carry.specs.Run.{Told, malformed}
+use Rattle.carry.specs.Page.{Page, written, breaks, fieldRoom}
+use Rattle.carry.proofs.Pages.{cond-true, breaks-fits}
 use Rattle.replay.specs.Trace.{Fed, unmoved, after, feed, finished, fresh, printed, traceOf}
-use Rattle.replay.specs.Page.{Page, written, finishes, fieldRoom, Reaches, Feeds}
-use Rattle.replay.proofs.Feeding.{cond-true}
-use Rattle.replay.proofs.Pages.{written-more}
+use Rattle.replay.specs.Feed.{feedPage, finishPage, emptyPage, firstPage}
+use Rattle.replay.proofs.Pages.{fits, ahead, Reaches, page-reaches, page-done}
+
+-- Lines behind what stands at the front of a buffer.
+sets-behind : (out xs ys : List ℕ) → sets (sets out 0 xs) (length xs) ys ≡ sets out 0 (xs ++ ys)
+sets-behind out xs ys = ap (λ (n : ℕ). sets (sets out 0 xs) n ys) (sym (zero-add (length xs))) ∙ sets-append out 0 xs ys
+
+-- The end of a file, where a line fits: what `finished` tells is written.
+finish-writes : (left : ℕ) (p : Page) → leb (p .to + room) (length (p .out)) ≡ true
+    → finishPage left p ≡ written p (finished (p .run) left) (p .uppers)
+unfolding finishPage finished written
+finish-writes left p f = go (p .run .over || (p .run .opened && eqb left 0))
+  where
+    none : p ≡ written p (record { run = p .run; lines = [] }) (p .uppers)
+    none = ap (λ (n : ℕ). record { run = p .run; uppers = p .uppers; out = p .out; to = n; at = p .at }) (sym (add-zero (p .to)))
+
+    go : (b : Bool) → cond b p (breaks p) ≡ written p (cond b (record { run = p .run; lines = [] }) (malformed (p .run))) (p .uppers)
+    go true = none
+    go false = breaks-fits p f
 
 module _ (before file : List ℕ) where
-  -- An empty buffer under a fresh run, and the run that the file leads to.
-  abbrev empty : Page
-  empty = record { run = fresh; out = before; to = 0 }
-
-  abbrev fed : Fed
-  fed = feed fresh file
-
-  abbrev last : Told
-  last = finished (fed .run) (length (fed .rest))
-
-  begun : (p : Page) → room ≤ length before → p ≡ written empty (record { run = fresh; lines = fitting (length before) 0 header }) → p ≡ written empty (record { run = fresh; lines = header })
-  unfolding fitting
-  begun p h e = e ∙ ap (λ (l : List ℕ). written empty (record { run = fresh; lines = l })) (cond-true (leb (0 + room) (length before)) header _ (le-leb _ _ h))
-
-  -- The page after the first line, and what the file's fields print.
   abbrev first : Page
-  first = written empty (record { run = fresh; lines = header })
+  first = firstPage before
 
-  abbrev told : Told
-  told = record { run = fed .run; lines = fed .lines }
+  abbrev last : Page
+  last = feedPage file first
 
-  -- With room for a field nothing is left to do.
-  all-done : (p p′ : Page) (rest : List ℕ) (rows : ℕ) → p ≡ first → Feeds p file p′ rest rows → rows ≡ 16 → p′ .to + fieldRoom ≤ length (p′ .out) → (p′ ≡ written first told) × (rest ≡ fed .rest)
+  abbrev reached : Reaches file first last
+  reached = page-reaches file first
+
+  abbrev ending : Told
+  ending = finished (last .run) (length file - last .at)
+
+  -- With room for a field to spare all of the file is told.
+  all-told : fits last ≡ true → traceOf file ≡ header ++ (reached .lines ++ ending .lines)
+  unfolding traceOf printed firstPage written
+  all-told f =
+      let fed : _≡_ {A = Fed} (feed fresh file) (record { run = last .run; rest = drop (last .at) file; lines = reached .lines }) =
+      reached .rest ∙ ap (after (record { run = last .run; lines = reached .lines })) (page-done file first f)
+      ∙ ap (λ (l : List ℕ). record { run = last .run; rest = drop (last .at) file; lines = l }) (append-nil (reached .lines)) in
+      ap (λ (x : Fed). header ++ (x .lines ++ finished (x .run) (length (x .rest)) .lines)) fed
+      ∙ ap (λ (n : ℕ). header ++ (reached .lines ++ finished (last .run) n .lines)) (length-drop (last .at) file)
+
+  begun : room ≤ length before → (first .out ≡ sets before 0 header) × (first .to ≡ length header)
+  unfolding firstPage written fitting
+  begun h = let e : leb (0 + room) (length before) ≡ true = le-leb _ _ h in (rw e, rw e (zero-add (length header)))
+
+  -- Begin, feed, finish: then the whole trace stands at the front of the buffer.
+  pub whole-trace : room ≤ length before → fits last ≡ true
+      → (let e = finishPage (length file - last .at) last in (e .out ≡ sets before 0 (traceOf file)) × (e .to ≡ length (traceOf file)))
   unfolding written
-  all-done p p′ rest rows e f w fits =
-      let same : fed ≡ after (f .reaches .wrote) (unmoved (p′ .run) rest) = ap (λ (x : Page). feed (x .run) file) (sym e) ∙ f .reaches .rest ∙ ap (after (f .reaches .wrote)) (f .done w fits) in
-      let wrote : told ≡ f .reaches .wrote = ap (λ (x : Fed). record { run = x .run; lines = x .lines }) same ∙ rw (append-nil, ap (λ (x : Page). x .run) (f .reaches .page)) in
-      (f .reaches .page ∙ ap (λ (x : Page). written x (f .reaches .wrote)) e ∙ ap (written first) (sym wrote), ap (λ (x : Fed). x .rest) (sym same))
-
-  -- The end of the file is told last.
-  ended : finishes (length (fed .rest)) (written first told) ≡ written (written first told) last → finishes (length (fed .rest)) (written first told) ≡ written empty (record { run = last .run; lines = traceOf file })
-  unfolding traceOf printed
-  ended e = e ∙ written-more first told last ∙ written-more empty (record { run = fresh; lines = header }) (record { run = last .run; lines = fed .lines ++ last .lines })
-
-  fits-line : written first told .to + fieldRoom ≤ length (written first told .out) → finishes (length (fed .rest)) (written first told) ≡ written (written first told) last
-  unfolding finishes written
-  fits-line h = cond-true _ _ _ (le-leb (written first told .to + room) (length (written first told .out)) (omega (arith, h)))
-
-  pub whole-trace : (p p′ : Page) (rest : List ℕ) (rows : ℕ) → room ≤ length before
-      → p ≡ written empty (record { run = fresh; lines = fitting (length before) 0 header })
-      → Feeds p file p′ rest rows
-      → rows ≡ 16
-      → p′ .to + fieldRoom ≤ length (p′ .out)
-      → finishes (length rest) p′ ≡ written empty (record { run = last .run; lines = traceOf file })
-  whole-trace p p′ rest rows h b f w fits =
-      let e = all-done p p′ rest rows (begun p h b) f w fits in
-      ap (λ (x : Page). finishes (length rest) x) (e .0) ∙ ap (λ (l : List ℕ). finishes (length l) (written first told)) (e .1) ∙ ended (fits-line (rw (e .0) at fits))
+  whole-trace h f =
+      let b = begun h in
+      let line : leb (last .to + room) (length (last .out)) ≡ true =
+      le-leb (last .to + room) (length (last .out)) (omega (arith, leb-true (last .to + fieldRoom) (length (last .out)) f)) in
+      let e = finish-writes (length file - last .at) last line in
+      let front : last .out ≡ sets before 0 (header ++ reached .lines) =
+      reached .out ∙ ap (λ (n : ℕ). sets (first .out) n (reached .lines)) (b .1)
+      ∙ ap (λ (l : List ℕ). sets l (length header) (reached .lines)) (b .0) ∙ sets-behind before header (reached .lines) in
+      let to : last .to ≡ length (header ++ reached .lines) =
+      reached .to ∙ ap (λ (n : ℕ). n + length (reached .lines)) (b .1) ∙ sym (length-append header (reached .lines)) in
+      let all : (header ++ reached .lines) ++ ending .lines ≡ traceOf file =
+      append-assoc header (reached .lines) (ending .lines) ∙ sym (all-told f) in (
+        ap (λ (x : Page). x .out) e ∙ ap (λ (n : ℕ). sets (last .out) n (ending .lines)) to
+            ∙ ap (λ (l : List ℕ). sets l (length (header ++ reached .lines)) (ending .lines)) front
+            ∙ sets-behind before (header ++ reached .lines) (ending .lines) ∙ ap (sets before 0) all,
+        ap (λ (x : Page). x .to) e ∙ ap (λ (n : ℕ). n + length (ending .lines)) to
+            ∙ sym (length-append (header ++ reached .lines) (ending .lines)) ∙ ap length all,
+      )
 
 -- What was written from the front of a buffer, where it fits, is what stands there.
 front : (out l : List ℕ) → length l ≤ length out → take (length l) (sets out 0 l) ≡ l
 front out l h = ap (take (length l)) (sets-eq l out 0 (omega (arith, h))) ∙ take-append-seam l (drop (0 + length l) out)
 
-pub page-lines : (run : Run) (out : List ℕ) (p′ : Page) (b b′ : List ℕ) → Reaches (record { run = run; out = out; to = 0 }) b p′ b′ → p′ .to ≤ length out → take (p′ .to) (p′ .out) ++ feed (p′ .run) b′ .lines ≡ feed run b .lines
-unfolding written
-page-lines run out p′ b b′ f h =
-    let l = f .wrote .lines in
-    let to : p′ .to ≡ length l = ap (λ (x : Page). x .to) (f .page) ∙ zero-add (length l) in
-    let there : take (p′ .to) (p′ .out) ≡ l = ap (λ (n : ℕ). take n (p′ .out)) to ∙ ap (λ (x : Page). take (length l) (x .out)) (f .page) ∙ front out l (rw to at h) in
-    ap (λ (x : List ℕ). x ++ feed (p′ .run) b′ .lines) there ∙ sym (ap (λ (x : Fed). x .lines) (f .rest))
+-- A page fed from the front of its buffer holds the lines of the fields that it took.
+pub page-lines : (bytes : List ℕ) (p : Page) → p .to ≡ 0
+    → (let q = feedPage bytes p in q .to ≤ length (p .out) → take (q .to) (q .out) ++ ahead bytes q .lines ≡ ahead bytes p .lines)
+page-lines bytes p z h =
+    let q = feedPage bytes p in
+    let r = page-reaches bytes p in
+    let to : q .to ≡ length (r .lines) = r .to ∙ ap (λ (n : ℕ). n + length (r .lines)) z ∙ zero-add (length (r .lines)) in
+    let there : take (q .to) (q .out) ≡ r .lines =
+    ap (λ (n : ℕ). take n (q .out)) to ∙ ap (take (length (r .lines))) (r .out ∙ ap (λ (n : ℕ). sets (p .out) n (r .lines)) z)
+    ∙ front (p .out) (r .lines) (rw to at h) in
+    ap (λ (l : List ℕ). l ++ ahead bytes q .lines) there ∙ sym (ap (λ (x : Fed). x .lines) (r .rest))

@@ -1,3 +1,2 @@
-pub mod Run
 pub mod Trace
-pub mod Page
+pub mod Feed

@@ -6,8 +6,8 @@ use lib.Dec.{eqb}
 use lib.ListN.{length, drop, replicate}
 use Rattle.model.specs.Tables.{idle}
 use Rattle.runfile.specs.Field.{fieldOf}
-use Rattle.runfile.specs.Line.{header}
-use Rattle.replay.specs.Run.{Run, Told, malformed, carried}
+use Rattle.lines.specs.Line.{header}
+use Rattle.carry.specs.Run.{Run, Told, malformed, carried}
 
 -- What a run makes of some bytes: the run after it, the bytes not used, and the bytes printed.
 pub record Fed : Type 0 where
@@ -45,11 +45,12 @@ unfoldable pub fresh : Run
 fresh = record {
   queue = record {
     tables = record {
-      control = record { tasks = 0; slots = 0; anchor = 0; retries = 0 };
+      control = record { tasks = 0; slots = 0; anchor = 0; retries = 0; pooled = 0; head = 0 };
       lefts = replicate 1024 0;
       rights = replicate 1024 0;
       labels = replicate 1024 0;
       marks = replicate 16 0;
+      next = replicate 1024 0;
     };
     records = replicate 16 idle;
   };

@@ -4,8 +4,9 @@ use mathlib.Core.Bool.{Bool, _&&_, _||_, cond}
 use mathlib.Core.List.{List}
 use lib.ListN.{length, getD, drop}
 use lib.Dec.{ltb, leb, eqb}
+use Rattle.model.specs.declared.Op.the-variants.{Push, Pop, Put}
 use Rattle.runfile.specs.declared.Field.{Field}
-use Rattle.runfile.specs.declared.Field.the-variants.{Open, Push, Pop, Put, Steps, Malformed, Cut, End}
+use Rattle.runfile.specs.declared.Field.the-variants.{Open, Start, Steps, Malformed, Cut, End}
 use Rattle.runfile.specs.declared.Found.{Found}
 
 -- Numbers, high byte first.
@@ -26,9 +27,9 @@ formed opened tag len =
 unfoldable pub contentOf : ℕ → ℕ → List ℕ → Field
 contentOf tag len b =
     cond (eqb tag 1 || eqb tag 5) (Open (eqb tag 5) (getD b 0 0) (twoAt b 1) (fourAt b 3))
-    (cond (eqb tag 2) (Push (getD b 0 0) (getD b 1 0) (twoAt b 2) (fourAt b 4))
-    (cond (eqb tag 3) (Pop (getD b 0 0) (getD b 1 0))
-    (cond (eqb tag 6) (Put (getD b 0 0) (getD b 1 0) (fourAt b 2))
+    (cond (eqb tag 2) (Start (getD b 0 0) (Push (getD b 1 0) (twoAt b 2) (fourAt b 4)))
+    (cond (eqb tag 3) (Start (getD b 0 0) (Pop (getD b 1 0)))
+    (cond (eqb tag 6) (Start (getD b 0 0) (Put (getD b 1 0) (fourAt b 2)))
     (Steps len))))
 
 -- Where there is no whole field.

@@ -1,4 +1,5 @@
 //! Tagged fields: one tag byte, two length bytes, content, numbers high byte first.
+use model::Op;
 ghost use mathlib.Core.Path.{_≡_};
 ghost use Prim.Native.Nat.{_+_, _-_, _≤_, _<_};
 ghost use lib.ListN.{length, getD, drop};
@@ -14,21 +15,10 @@ pub enum Field {
         slots: u64,
         tag: u32,
     },
-    Push {
+    /// The start of a call.
+    Start {
         task: usize,
-        side: u64,
-        slot: u64,
-        label: u32,
-    },
-    Pop {
-        task: usize,
-        side: u64,
-    },
-    /// A push that names no slot.
-    Put {
-        task: usize,
-        side: u64,
-        label: u32,
+        op: Op,
     },
     /// One step for each of so many task bytes, the field's content.
     Steps(usize),
@@ -94,22 +84,28 @@ fn content(s: &[u8], from: usize, tag: u64, len: usize) -> Field
             tag: four_at(s, from + 3),
         }
     } else if tag == 2 {
-        Field::Push {
-            task: byte_at(s, from) as usize,
-            side: byte_at(s, from + 1),
-            slot: two_at(s, from + 2),
-            label: four_at(s, from + 4),
+        let task = byte_at(s, from) as usize;
+        let side = byte_at(s, from + 1);
+        let slot = two_at(s, from + 2);
+        let label = four_at(s, from + 4);
+        Field::Start {
+            task,
+            op: Op::Push { side, slot, label },
         }
     } else if tag == 3 {
-        Field::Pop {
-            task: byte_at(s, from) as usize,
-            side: byte_at(s, from + 1),
+        let task = byte_at(s, from) as usize;
+        let side = byte_at(s, from + 1);
+        Field::Start {
+            task,
+            op: Op::Pop { side },
         }
     } else if tag == 6 {
-        Field::Put {
-            task: byte_at(s, from) as usize,
-            side: byte_at(s, from + 1),
-            label: four_at(s, from + 2),
+        let task = byte_at(s, from) as usize;
+        let side = byte_at(s, from + 1);
+        let label = four_at(s, from + 2);
+        Field::Start {
+            task,
+            op: Op::Put { side, label },
         }
     } else {
         Field::Steps(len)

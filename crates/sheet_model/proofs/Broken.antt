@@ -10,11 +10,10 @@ use lib.ListN.{length, getD}
 use borrow.Author.Tests.{eq-eqb, ne-eqb, ltb-false}
 use Rattle.model.specs.declared.Entry.{Entry}
 use Rattle.model.proofs.tests.Truth.{decide-eq}
-use Rattle.sheet_model.specs.declared.Extents.{Extents}
 use Rattle.sheet_model.specs.declared.SheetReply.{SheetReply}
 use Rattle.sheet_model.specs.Sheet.{Sheet, any, outside, twice, malformed, chained, waits, leftOf, labelAt, breaks}
 use Rattle.sheet_model.specs.Squares.{Row, linked, crossed}
-use Rattle.sheet_model.specs.Extents.{placeOf, unseen, notedAll}
+use Rattle.sheet_model.specs.Extents.{Extents, placeOf, unseen, notedAll}
 use Rattle.sheet_model.specs.Verdict.{brokenBy, inRow, inRows, verdict}
 use Rattle.sheet_model.proofs.Square.{Shows, marks, row-at}
 use Rattle.sheet_model.proofs.Crossing.{meets, lowest, highest, crosses-up, crosses-down, meets-reverse, meets-left, meets-self}
@@ -67,7 +66,7 @@ module _ (s : Sheet) (form : Formed s) (up : Bool) (l : List Entry) (short : len
   n = length (s .listed)
 
   abbrev e : Extents
-  e = notedAll (s .listed) up (firstAt up) l (unseen true)
+  e = notedAll (s .listed) up (firstAt up) l unseen
 
   -- Different places have different labels.
   apart : (a b : ℕ) → a < n → b < n → (a ≡ b → ⊥) → getD (s .listed) a 0 ≡ getD (s .listed) b 0 → ⊥

@@ -75,3 +75,7 @@ square-chained rules n k h = marks-chained byteRow bytes bytes-show [] rules n k
 pub square-marks : (f : ℕ → ℕ → Bool) → squareOf f ≡ marks byteRow bytes bytes-show [] f
 unfolding squareOf listOf
 square-marks f = refl
+
+pub square-long : (f : ℕ → ℕ → Bool) → 32 ≤ length (squareOf f)
+unfolding squareOf
+square-long f = omega (arith, length-listOf (λ a. bytes (f a)) 32)

@@ -13,8 +13,7 @@ use Rattle.model.specs.Tables.{isEmpty}
 use Rattle.model.specs.declared.Entry.{Entry}
 use Rattle.model.specs.Sound.{from1, linkSound}
 use Rattle.model.specs.Walk.{Walk, entries, broken, andThen, along}
-use Rattle.sheet_model.specs.declared.Extents.{Extents}
-use Rattle.sheet_model.specs.Extents.{placeOf, lower, higher, unseen, noted, nextAt, notedAll, extentsOf, gather, extents}
+use Rattle.sheet_model.specs.Extents.{Extents, placeOf, lower, higher, lost, noted, nextAt, notedAll, gather, extents}
 
 module _ (slots : ℕ) (links labels listed : List ℕ) (up : Bool) (last : ℕ) where
   abbrev rest : ℕ → ℕ → ℕ → Extents → Extents
@@ -23,12 +22,12 @@ module _ (slots : ℕ) (links labels listed : List ℕ) (up : Bool) (last : ℕ)
   abbrev here : ℕ → ℕ → Extents → Extents
   here x at e = noted listed (getD labels x 0) at e
 
-  pub none-left : (n x at : ℕ) (e : Extents) → n ≤ 0 → unseen false ≡ rest n x at e
+  pub none-left : (n x at : ℕ) (e : Extents) → n ≤ 0 → lost e ≡ rest n x at e
   unfolding gather
   none-left zero x at e h = refl
   none-left (suc n) x at e h = absurd (omega arith)
 
-  pub no-slot : (n x at : ℕ) (e : Extents) → 0 < n → from1 slots x ≡ false → unseen false ≡ rest n x at e
+  pub no-slot : (n x at : ℕ) (e : Extents) → 0 < n → from1 slots x ≡ false → lost e ≡ rest n x at e
   unfolding gather
   no-slot zero x at e h f = absurd (omega arith)
   no-slot (suc n) x at e h f = rw f
@@ -39,7 +38,7 @@ module _ (slots : ℕ) (links labels listed : List ℕ) (up : Bool) (last : ℕ)
   at-last (suc n) x at e h f g = rw (f, eq-eqb x last g)
 
   pub bad-link : (n x at : ℕ) (e : Extents) → 0 < n → from1 slots x ≡ true → (x ≡ last → ⊥) → linkSound slots (getD links x 0) ≡ false
-      → unseen false ≡ rest n x at e
+      → lost (here x at e) ≡ rest n x at e
   unfolding gather
   bad-link zero x at e h f g k = absurd (omega arith)
   bad-link (suc n) x at e h f g k = rw (f, ne-eqb x last g, k)
@@ -68,47 +67,52 @@ noted-is listed k x y at low high low' high' e f g h =
     zero-plus : (n : ℕ) → 0 + n ≡ n
     zero-plus n = omega arith
 
--- The walk over the words is the walk over the tables.
-and-then : (listed : List ℕ) (up : Bool) (at : ℕ) (x : Entry) (w : Walk) (e : Extents)
-    → extentsOf listed up (nextAt up at) w (noted listed (x .label) at e) ≡ extentsOf listed up at (andThen x w) e
-unfolding extentsOf notedAll
-and-then listed up at x (entries l) e = refl
-and-then listed up at x broken e = refl
+-- What a walk over the tables leaves: all its entries noted, or that it is broken.
+abbrev pub Follows : List ℕ → Bool → ℕ → Extents → Walk → Extents → Type 0
+Follows listed up at e (entries l) d = d ≡ notedAll listed up at l e
+Follows listed up at e broken d = d .sound ≡ false
 
-one : (listed : List ℕ) (up : Bool) (at : ℕ) (x : Entry) (e : Extents) → noted listed (x .label) at e ≡ extentsOf listed up at (entries (x ∷ [])) e
-unfolding extentsOf notedAll
-one listed up at x e = refl
+and-then : (listed : List ℕ) (up : Bool) (at : ℕ) (x : Entry) (w : Walk) (e d : Extents)
+    → Follows listed up (nextAt up at) (noted listed (x .label) at e) w d → Follows listed up at e (andThen x w) d
+unfolding notedAll
+and-then listed up at x (entries l) e d h = h
+and-then listed up at x broken e d h = h
 
 abbrev pub Short : ℕ → Walk → Type 0
 Short n (entries l) = length l ≤ n
 Short n broken = Unit {0}
 
+-- The walk over the words is the walk over the tables.
 module _ (slots : ℕ) (links labels listed : List ℕ) (up : Bool) (last : ℕ) where
   pub gather-walk : (n x at : ℕ) (e : Extents)
-      → gather slots links labels listed up last n x at e ≡ extentsOf listed up at (along slots links labels last n x) e
-  unfolding gather along extentsOf
+      → Follows listed up at e (along slots links labels last n x) (gather slots links labels listed up last n x at e)
+  unfolding gather along notedAll
   gather-walk zero x at e = refl
   gather-walk (suc n) x at e =
-      go (from1 slots x) (eqb x last) (linkSound slots (getD links x 0)) (gather-walk n (linkOf (getD links x 0) .slot) (nextAt up at))
+      go (from1 slots x) (eqb x last) (linkSound slots (getD links x 0)) (gather-walk n next (nextAt up at) f)
     where
       f : Extents
       f = noted listed (getD labels x 0) at e
+
+      next : ℕ
+      next = linkOf (getD links x 0) .slot
 
       y : Entry
       y = record { slot = x; label = getD labels x 0 }
 
       on : Walk
-      on = along slots links labels last n (linkOf (getD links x 0) .slot)
+      on = along slots links labels last n next
 
-      go : (p q r : Bool) → ((d : Extents) → gather slots links labels listed up last n (linkOf (getD links x 0) .slot)
-          (nextAt up at) d ≡ extentsOf listed up (nextAt up at) on d)
-          → cond p (cond q f (cond r (gather slots links labels listed up last n (linkOf (getD links x 0) .slot) (nextAt up at) f) (unseen false)))
-          (unseen false)
-          ≡ extentsOf listed up at (cond p (cond q (entries (y ∷ [])) (andThen y (cond r on broken))) broken) e
-      go false q r ih = refl
-      go true true r ih = one listed up at y e
-      go true false false ih = refl
-      go true false true ih = ih f ∙ and-then listed up at y on e
+      found : Extents
+      found = gather slots links labels listed up last n next (nextAt up at) f
+
+      go : (p q r : Bool) → Follows listed up (nextAt up at) f on found
+          → Follows listed up at e (cond p (cond q (entries (y ∷ [])) (andThen y (cond r on broken))) broken)
+          (cond p (cond q f (cond r found (lost f))) (lost e))
+      go false q r h = refl
+      go true true r h = refl
+      go true false false h = refl
+      go true false true h = and-then listed up at y on e found h
 
 -- No more entries than slots.
 pub along-short : (slots : ℕ) (links labels : List ℕ) (last n x : ℕ) → Short n (along slots links labels last n x)
@@ -133,17 +137,17 @@ along-short slots links labels last (suc n) x =
     go true false true h = more (along slots links labels last n (linkOf (getD links x 0) .slot)) h
 
 -- Which way the walk goes.
-module _ (slots : ℕ) (a : Anchor) (listed lefts rights labels : List ℕ) where
-  pub nothing-waits : isEmpty a ≡ true → unseen true ≡ extents slots a listed lefts rights labels
+module _ (slots : ℕ) (a : Anchor) (listed lefts rights labels : List ℕ) (e : Extents) where
+  pub nothing-waits : isEmpty a ≡ true → e ≡ extents slots a listed lefts rights labels e
   unfolding extents
-  nothing-waits e = rw e
+  nothing-waits z = rw z
 
   pub from-left : isEmpty a ≡ false → a .status ≡ 2
-      → gather slots rights labels listed true (a .right) slots (a .left) 1 (unseen true) ≡ extents slots a listed lefts rights labels
+      → gather slots rights labels listed true (a .right) slots (a .left) 1 e ≡ extents slots a listed lefts rights labels e
   unfolding extents
-  from-left e f = rw (e, eq-eqb (a .status) 2 f)
+  from-left z f = rw (z, eq-eqb (a .status) 2 f)
 
   pub from-right : isEmpty a ≡ false → (a .status ≡ 2 → ⊥)
-      → gather slots lefts labels listed false (a .left) slots (a .right) 1023 (unseen true) ≡ extents slots a listed lefts rights labels
+      → gather slots lefts labels listed false (a .left) slots (a .right) 1023 e ≡ extents slots a listed lefts rights labels e
   unfolding extents
-  from-right e f = rw (e, ne-eqb (a .status) 2 f)
+  from-right z f = rw (z, ne-eqb (a .status) 2 f)

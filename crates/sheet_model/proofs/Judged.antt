@@ -16,16 +16,15 @@ use Rattle.model.specs.Sound.{controlTests, controlSound, rowsFit}
 use Rattle.model.specs.Walk.{Walk, entries, broken, along, walkFrom, contents, isBroken, met}
 use Rattle.model.proofs.tests.Truth.{split, and-true, not-both}
 use Rattle.model.proofs.tests.Rules.{tests}
-use Rattle.sheet_model.specs.declared.Extents.{Extents}
 use Rattle.sheet_model.specs.declared.SheetReply.{SheetReply}
 use Rattle.sheet_model.specs.Sheet.{Sheet, malformed}
 use Rattle.sheet_model.specs.Squares.{Row, byteRow, linked, crossed}
-use Rattle.sheet_model.specs.Extents.{unseen, noted, nextAt, notedAll, extentsOf, extents}
+use Rattle.sheet_model.specs.Extents.{Extents, unseen, noted, nextAt, notedAll, gather, extents}
 use Rattle.sheet_model.specs.Verdict.{refused, inRows, verdict, early, judge}
 use Rattle.sheet_model.proofs.Broken.{Formed, formed, firstAt, turned, found-verdict}
 use Rattle.sheet_model.proofs.Square.{Shows, marks}
 use Rattle.sheet_model.proofs.ByteRows.{bytes, bytes-show}
-use Rattle.sheet_model.proofs.Gather.{Short, gather-walk, along-short}
+use Rattle.sheet_model.proofs.Gather.{Follows, Short, gather-walk, along-short}
 
 pub slots-few : (c : Control) → controlSound c ≡ true → c .slots ≤ 1023
 unfolding controlSound
@@ -40,7 +39,7 @@ stays-sound listed up at (x ∷ l) e h = stays-sound listed up (nextAt up at) l 
 
 -- The extents as the call finds them.
 abbrev pub extentsIn : Sheet → Tables → Extents
-extentsIn s q = extents (q .control .slots) (anchorOf (q .control .anchor)) (s .listed) (q .lefts) (q .rights) (q .labels)
+extentsIn s q = extents (q .control .slots) (anchorOf (q .control .anchor)) (s .listed) (q .lefts) (q .rights) (q .labels) unseen
 
 -- A square of the chained rules and the extents of a walk w tell the verdict on its entries.
 module _ (s : Sheet) {A : Type 0} (r : Row A) (R : (ℕ → Bool) → A) (law : Shows r R) (beyond : List A) where
@@ -56,13 +55,16 @@ module _ (s : Sheet) {A : Type 0} (r : Row A) (R : (ℕ → Bool) → A) (law : 
   abbrev side : Bool → ℕ
   side up = cond up 0 1
 
-  of-walk : (up : Bool) (w : Walk) → Short 1023 w → Tells (extentsOf (s .listed) up (firstAt up) w (unseen true)) (walkFrom (side up) w)
-  unfolding extentsOf
-  of-walk true (entries l) h =
-      record { sound = stays-sound (s .listed) true 1 l (unseen true) refl; answer = λ f _. found-verdict s f true l h r R law beyond }
-  of-walk false (entries l) h =
-      record { sound = stays-sound (s .listed) false 1023 l (unseen true) refl; answer = λ f _. found-verdict s f false l h r R law beyond }
-  of-walk up broken h = record { sound = refl; answer = λ f e. absurd (not-both e refl) }
+  of-walk : (up : Bool) (w : Walk) (e : Extents) → Short 1023 w → Follows (s .listed) up (firstAt up) unseen w e → Tells e (walkFrom (side up) w)
+  of-walk true (entries l) e h k = record {
+    sound = ap (λ (x : Extents). x .sound) k ∙ stays-sound (s .listed) true 1 l unseen refl;
+    answer = λ f _. ap found k ∙ found-verdict s f true l h r R law beyond;
+  }
+  of-walk false (entries l) e h k = record {
+    sound = ap (λ (x : Extents). x .sound) k ∙ stays-sound (s .listed) false 1023 l unseen refl;
+    answer = λ f _. ap found k ∙ found-verdict s f false l h r R law beyond;
+  }
+  of-walk up broken e h k = record { sound = k; answer = λ f z. absurd (not-both z k) }
 
   shorter : (n : ℕ) (w : Walk) → n ≤ 1023 → Short n w → Short 1023 w
   shorter n (entries l) h g = omega arith
@@ -72,24 +74,25 @@ module _ (s : Sheet) {A : Type 0} (r : Row A) (R : (ℕ → Bool) → A) (law : 
     abbrev a : Anchor
     a = anchorOf (q .control .anchor)
 
+    abbrev slots : ℕ
+    slots = q .control .slots
+
     walked : (up : Bool) (links : List ℕ) (last x : ℕ)
-        → Tells (extentsOf (s .listed) up (firstAt up) (along (q .control .slots) links (q .labels) last (q .control .slots) x) (unseen true))
-        (walkFrom (side up) (along (q .control .slots) links (q .labels) last (q .control .slots) x))
+        → Tells (gather slots links (q .labels) (s .listed) up last slots x (firstAt up) unseen)
+        (walkFrom (side up) (along slots links (q .labels) last slots x))
     walked up links last x =
-        of-walk up (along (q .control .slots) links (q .labels) last (q .control .slots) x)
-        (shorter (q .control .slots) (along (q .control .slots) links (q .labels) last (q .control .slots) x) few
-        (along-short (q .control .slots) links (q .labels) last (q .control .slots) x))
+        of-walk up (along slots links (q .labels) last slots x) (gather slots links (q .labels) (s .listed) up last slots x (firstAt up) unseen)
+        (shorter slots (along slots links (q .labels) last slots x) few (along-short slots links (q .labels) last slots x))
+        (gather-walk slots links (q .labels) (s .listed) up last slots x (firstAt up) unseen)
 
     pub tells : Tells (extentsIn s q) (contents q)
-    unfolding extents contents extentsOf notedAll
+    unfolding extents contents notedAll
     tells =
         split (isEmpty a)
-        (λ e. rw e (of-walk true (entries []) (omega arith)))
+        (λ e. rw e (of-walk true (entries []) unseen (omega arith) refl))
         (λ e. split (eqb (a .status) 2)
-        (λ f. rw (e, f) (rw (gather-walk (q .control .slots) (q .rights) (q .labels) (s .listed) true (a .right) (q .control .slots) (a .left) 1
-        (unseen true)) (walked true (q .rights) (a .right) (a .left))))
-        (λ f. rw (e, f) (rw (gather-walk (q .control .slots) (q .lefts) (q .labels) (s .listed) false (a .left) (q .control .slots) (a .right) 1023
-        (unseen true)) (walked false (q .lefts) (a .left) (a .right)))))
+        (λ f. rw (e, f) (walked true (q .rights) (a .right) (a .left)))
+        (λ f. rw (e, f) (walked false (q .lefts) (a .left) (a .right))))
 
 -- What stands before the walk applies, or doesn't.
 early-none : (a b c : Bool) → early a b c ≡ 0 → (a ≡ true) × (b ≡ false) × (c ≡ true)

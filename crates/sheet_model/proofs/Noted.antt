@@ -11,9 +11,8 @@ use lib.Seq.{getD-set-same, getD-set-other}
 use borrow.Author.Tests.{eqb-true, eqb-false, eq-eqb, ne-eqb}
 use Rattle.model.specs.declared.Entry.{Entry}
 use Rattle.model.proofs.tests.Truth.{decide-eq, split}
-use Rattle.sheet_model.specs.declared.Extents.{Extents}
 use Rattle.sheet_model.specs.Sheet.{any, twice}
-use Rattle.sheet_model.specs.Extents.{placeOf, lower, higher, unseen, noted, nextAt, notedAll}
+use Rattle.sheet_model.specs.Extents.{Extents, placeOf, lower, higher, unseen, noted, nextAt, notedAll}
 use Rattle.sheet_model.proofs.Crossing.{lowest, highest, low-bound, lower-is, lower-min, higher-max}
 use Rattle.sheet_model.proofs.Turns.{or-false}
 
@@ -116,12 +115,12 @@ module _ (listed : List ℕ) (once : twice listed ≡ false) (k : ℕ) (here : k
       go false v r = refl
 
   module _ (small : length listed ≤ 32) (up : Bool) (at : ℕ) (l : List Entry) where
-    pub low-noted : getD (notedAll listed up at l (unseen true) .low) k 0 ≡ lowest up at own l
+    pub low-noted : getD (notedAll listed up at l unseen .low) k 0 ≡ lowest up at own l
     low-noted =
         let v : _≡_ {A = ℕ} (getD (replicate 32 1024) k 0) 1024 = getD-replicate 32 k 1024 0 (omega arith) in
-        low-from up at l (unseen true) (omega arith) (omega arith) ∙ (let b = low-bound up at own l in omega arith)
+        low-from up at l unseen (omega arith) (omega arith) ∙ (let b = low-bound up at own l in omega arith)
 
-    pub high-noted : getD (notedAll listed up at l (unseen true) .high) k 0 ≡ highest up at own l
+    pub high-noted : getD (notedAll listed up at l unseen .high) k 0 ≡ highest up at own l
     high-noted =
         let v : _≡_ {A = ℕ} (getD (replicate 32 0) k 0) 0 = getD-replicate 32 k 0 0 (omega arith) in
-        high-from up at l (unseen true) (omega arith) ∙ omega arith
+        high-from up at l unseen (omega arith) ∙ omega arith

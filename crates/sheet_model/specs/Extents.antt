@@ -9,8 +9,13 @@ use Rattle.word.specs.declared.Anchor.{Anchor}
 use Rattle.word.specs.Link.{linkOf}
 use Rattle.model.specs.Tables.{isEmpty}
 use Rattle.model.specs.Sound.{from1, linkSound}
-use Rattle.model.specs.Walk.{Walk, entries, broken}
-use Rattle.sheet_model.specs.declared.Extents.{Extents}
+
+-- Whether the walk met no unsound link, and each listed label's lowest and highest position, 1 to 1,023 from the left;
+-- 1,024 and 0 where it doesn't wait.
+pub record Extents : Type 0 where
+  pub sound : Bool
+  pub low : List ℕ
+  pub high : List ℕ
 
 -- The place of x in a list, from 0; its length where x isn't there.
 unfoldable pub placeOf : ℕ → List ℕ → ℕ
@@ -23,9 +28,13 @@ lower at x = cond (ltb at x) at x
 abbrev pub higher : ℕ → ℕ → ℕ
 higher at x = cond (ltb x at) at x
 
--- No label waits; and what is told of a broken walk.
-abbrev pub unseen : Bool → Extents
-unseen sound = record { sound = sound; low = replicate 32 1024; high = replicate 32 0 }
+-- No label waits.
+abbrev pub unseen : Extents
+unseen = record { sound = true; low = replicate 32 1024; high = replicate 32 0 }
+
+-- A broken walk; what it had noted stays.
+abbrev pub lost : Extents → Extents
+lost e = record { sound = false; low = e .low; high = e .high }
 
 -- A waiting label x at a position. A label that isn't listed counts at the place after the last.
 abbrev pub noted : List ℕ → ℕ → ℕ → Extents → Extents
@@ -41,27 +50,23 @@ unfoldable pub notedAll : List ℕ → Bool → ℕ → List Entry → Extents �
 notedAll listed up at [] e = e
 notedAll listed up at (x ∷ l) e = notedAll listed up (nextAt up at) l (noted listed (x .label) at e)
 
-unfoldable pub extentsOf : List ℕ → Bool → ℕ → Walk → Extents → Extents
-extentsOf listed up at (entries l) e = notedAll listed up at l e
-extentsOf listed up at broken e = unseen false
-
 -- The position after k steps.
 abbrev pub position : Bool → ℕ → ℕ
 position up k = cond up (1 + k) (1023 - k)
 
 -- The same as one walk over the words that it reads: from slot x to the slot last, n of them at the most.
 unfoldable pub gather : ℕ → List ℕ → List ℕ → List ℕ → Bool → ℕ → ℕ → ℕ → ℕ → Extents → Extents
-gather slots links labels listed up last zero x at e = unseen false
+gather slots links labels listed up last zero x at e = lost e
 gather slots links labels listed up last (suc n) x at e =
     let f = noted listed (getD labels x 0) at e in
     let w = getD links x 0 in
-    let onwards = cond (linkSound slots w) (gather slots links labels listed up last n (linkOf w .slot) (nextAt up at) f) (unseen false) in
-    cond (from1 slots x) (cond (eqb x last) f onwards) (unseen false)
+    let onwards = cond (linkSound slots w) (gather slots links labels listed up last n (linkOf w .slot) (nextAt up at) f) (lost f) in
+    cond (from1 slots x) (cond (eqb x last) f onwards) (lost e)
 
 -- The walk from the right end along Left links or, under LPUSH, from the left end along Right links.
-unfoldable pub extents : ℕ → Anchor → List ℕ → List ℕ → List ℕ → List ℕ → Extents
-extents slots a listed lefts rights labels =
-    cond (isEmpty a) (unseen true)
+unfoldable pub extents : ℕ → Anchor → List ℕ → List ℕ → List ℕ → List ℕ → Extents → Extents
+extents slots a listed lefts rights labels e =
+    cond (isEmpty a) e
     (cond (eqb (a .status) 2)
-    (gather slots rights labels listed true (a .right) slots (a .left) 1 (unseen true))
-    (gather slots lefts labels listed false (a .left) slots (a .right) 1023 (unseen true)))
+    (gather slots rights labels listed true (a .right) slots (a .left) 1 e)
+    (gather slots lefts labels listed false (a .left) slots (a .right) 1023 e))

@@ -9,12 +9,3 @@ pub struct SheetReply {
     pub first: u64,
     pub second: u64,
 }
-
-/// Where each listed label waits: the lowest and the highest of its positions, 1 to 1,023 from the left.
-/// A label that doesn't wait has 1,024 and 0.
-pub struct Extents {
-    /// Whether the walk met no unsound link.
-    pub sound: bool,
-    pub low: [u16; 32],
-    pub high: [u16; 32],
-}

@@ -1,6 +1,5 @@
 //! Prints the trace of the run file on standard input.
-use replay::run;
-use replay::run::RunState;
+use carry::RunState;
 ghost use Prim.Native.Nat.{_≤_};
 ghost use mathlib.Core.Path.{_≡_};
 ghost use lib.ListN.{length, take};
@@ -27,8 +26,9 @@ fn take_page(
     rights: &mut [u64],
     labels: &mut [u32],
     marks: &mut [u64],
+    next: &mut [u64],
 ) -> RunState {
-    let mut q = run::feed(s, bytes, out, rows, lefts, rights, labels, marks);
+    let mut q = replay::feed(s, bytes, out, rows, lefts, rights, labels, marks, next);
     let to = q.to;
     if !flush(out, to) {
         q.over = true;
@@ -47,6 +47,7 @@ fn take_piece(
     rights: &mut [u64],
     labels: &mut [u32],
     marks: &mut [u64],
+    next: &mut [u64],
 ) -> RunState {
     let mut q = s;
     q.at = 0;
@@ -54,7 +55,7 @@ fn take_piece(
     while left > 0 {
         left -= 1;
         let at = q.at;
-        q = take_page(q, bytes, out, rows, lefts, rights, labels, marks);
+        q = take_page(q, bytes, out, rows, lefts, rights, labels, marks, next);
         if q.over | (q.at == at) {
             return q;
         }
@@ -99,7 +100,7 @@ fn slide(input: &mut [u8], from: usize, have: usize) -> usize
 
 // The end of the input: the rest of the trace.
 fn end(s: RunState, left: usize, out: &mut [u8]) -> RunState {
-    let mut q = run::finish(s, left, out);
+    let mut q = replay::finish(s, left, out);
     let to = q.to;
     flush(out, to);
     q.over = true;
@@ -122,6 +123,7 @@ fn take_round(
     rights: &mut [u64],
     labels: &mut [u32],
     marks: &mut [u64],
+    next: &mut [u64],
 ) -> Round
     requires { ⌜ have ≤ length (now input) ⌝ }
     ensures { λ r. ⌜ r .have ≤ length (now (input .entry)) ⌝ }
@@ -144,7 +146,17 @@ fn take_round(
             have: have,
         };
     }
-    let r = take_piece(s, &input[..full], out, rows, lefts, rights, labels, marks);
+    let r = take_piece(
+        s,
+        &input[..full],
+        out,
+        rows,
+        lefts,
+        rights,
+        labels,
+        marks,
+        next,
+    );
     let left = slide(input, r.at, full);
     Round {
         state: r,
@@ -160,8 +172,9 @@ fn rounds(
     rights: &mut [u64],
     labels: &mut [u32],
     marks: &mut [u64],
+    next: &mut [u64],
 ) {
-    let mut s = run::begin(out);
+    let mut s = replay::begin(out);
     let to = s.to;
     if !flush(out, to) {
         return;
@@ -172,7 +185,18 @@ fn rounds(
     let mut turns = u64::MAX;
     while turns > 0 {
         turns -= 1;
-        let r = take_round(s, input, have, out, rows, lefts, rights, labels, marks);
+        let r = take_round(
+            s,
+            input,
+            have,
+            out,
+            rows,
+            lefts,
+            rights,
+            labels,
+            marks,
+            next,
+        );
         let q = r.state;
         if q.over {
             return;
@@ -195,6 +219,7 @@ fn main() {
     let mut rights = [0u64; 1024];
     let mut labels = [0u32; 1024];
     let mut marks = [0u64; 16];
+    let mut next = [0u64; 1024];
     rounds(
         &mut input,
         &mut output,
@@ -203,5 +228,6 @@ fn main() {
         &mut rights,
         &mut labels,
         &mut marks,
+        &mut next,
     );
 }

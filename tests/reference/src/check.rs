@@ -1,8 +1,11 @@
-//! The judge of a run: no 34, the clerk content, the labels waiting his, the invariant kept.
+//! The judge of a run: no 34, the clerk content, the labels waiting his, *no slot* only when
+//! there is none, the invariant kept.
 
 use crate::clerk::Clerk;
 use crate::contents;
 use crate::invariant;
+use crate::machine::Moved;
+use crate::pool;
 use crate::refusal::Refusal;
 use crate::run::{Call, Event, Reply, Watcher};
 use crate::tables::Tables;
@@ -12,19 +15,29 @@ pub struct Judge {
     clerk: Clerk,
     /// Anchor before the event that comes next.
     anchor: u64,
+    /// A slot that nobody used when a push without a slot was about to step.
+    idle_slot: Option<u64>,
 }
 
 impl Watcher for Judge {
-    fn before(&mut self, tables: &Tables, _: Option<u8>) {
-        self.anchor = tables.shared.control.anchor;
+    fn before(&mut self, tables: &Tables, task: Option<u8>) {
+        let control = &*tables.shared.control;
+        let records = &tables.records[..control.tasks as usize];
+        let record = task.and_then(|task| records.get(usize::from(task)));
+        let asking = record.is_some_and(|record| (12..=14).contains(&record.place));
+        self.anchor = control.anchor;
+        self.idle_slot = if asking { pool::idle_slot(tables) } else { None };
     }
 
     fn after(&mut self, tables: &Tables, event: &Event) -> Result<(), String> {
         match (event.call, event.reply) {
             (_, Reply::Refused(Refusal::Unsound)) => return Err("34 occurs".into()),
-            (Call::File, _) | (Call::Open, Reply::Refused(_)) => return Ok(()),
-            (Call::Open, _) => {}
+            (Call::File, _) | (Call::Open { .. }, Reply::Refused(_)) => return Ok(()),
+            (Call::Open { .. }, _) => {}
             _ => self.clerk.follow(event, self.anchor, tables.shared.control.anchor)?,
+        }
+        if let (Reply::Moved(Moved::NoSlot), Some(slot)) = (event.reply, self.idle_slot) {
+            return Err(format!("no slot is answered, and nobody uses slot {slot}"));
         }
         self.queue_agrees(tables)?;
         invariant::check(tables, self.clerk.queue())

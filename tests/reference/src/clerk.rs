@@ -1,6 +1,7 @@
 //! The clerk of document 01: a sequential deque, served effect by effect.
 //!
-//! It sees the starts, the answers and Anchor's ends, and nothing else of the program.
+//! It sees the starts, the answers and Anchor's ends, and nothing else of the program. Of a
+//! push that names no slot it is told the end that the effect sets on its side (#104).
 
 use crate::machine::Moved;
 use crate::run::{Call, Event, Reply};
@@ -14,11 +15,20 @@ pub struct Entry {
     pub label: u32,
 }
 
-/// A call from its accepted start on; `entry` for a push, nothing for a pop.
+/// What a call wants, as its start named it.
+#[derive(Clone, Copy, PartialEq, Eq, Hash)]
+enum Wish {
+    Push(Entry),
+    /// The label of a push that leaves the slot to the pool.
+    PooledPush(u32),
+    Pop,
+}
+
+/// A call from its accepted start on.
 #[derive(Clone, Copy, PartialEq, Eq, Hash)]
 struct OpenCall {
     side: Side,
-    entry: Option<Entry>,
+    wish: Wish,
     served: Option<Moved>,
 }
 
@@ -41,21 +51,24 @@ impl Clerk {
         };
         let task = usize::from(task);
         match (event.call, event.reply) {
-            (Call::Push { side, slot, label }, Reply::Done) => {
-                self.begin(task, side, Some(Entry { slot: slot.into(), label }))
+            (Call::Push { side, slot: Some(slot), label }, Reply::Done) => {
+                self.begin(task, side, Wish::Push(Entry { slot: slot.into(), label }))
             }
-            (Call::Pop { side }, Reply::Done) => self.begin(task, side, None),
+            (Call::Push { side, slot: None, label }, Reply::Done) => {
+                self.begin(task, side, Wish::PooledPush(label))
+            }
+            (Call::Pop { side }, Reply::Done) => self.begin(task, side, Wish::Pop),
             (Call::Step, Reply::Moved(moved)) => self.step(task, moved, before, after),
             _ => Err(format!("clerk: no such event {event:?}")),
         }
     }
 
-    fn begin(&mut self, task: usize, side: u8, entry: Option<Entry>) -> Result<(), String> {
+    fn begin(&mut self, task: usize, side: u8, wish: Wish) -> Result<(), String> {
         if self.calls[task].is_some() {
             return Err(format!("clerk: task {task} starts a call within a call"));
         }
         let side = Side::numbered(side.into());
-        self.calls[task] = Some(OpenCall { side, entry, served: None });
+        self.calls[task] = Some(OpenCall { side, wish, served: None });
         Ok(())
     }
 
@@ -63,11 +76,12 @@ impl Clerk {
         let Some(mut call) = self.calls[task] else {
             return Err(format!("clerk: task {task} steps outside any call"));
         };
-        if ends(before) != ends(after) || moved == Moved::Empty {
+        let spoken = matches!(moved, Moved::Empty | Moved::NoSlot);
+        if ends(before) != ends(after) || spoken {
             if call.served.is_some() {
                 return Err(format!("clerk: task {task}'s call has a second effect"));
             }
-            call.served = Some(self.serve(&call));
+            call.served = Some(self.serve(&call, moved, after));
         }
         self.calls[task] = Some(call);
         if let Moved::Running(_) = moved {
@@ -83,11 +97,17 @@ impl Clerk {
         }
     }
 
-    fn serve(&mut self, call: &OpenCall) -> Moved {
-        match (call.entry, call.side) {
-            (Some(entry), Side::Left) => self.queue.push_front(entry),
-            (Some(entry), Side::Right) => self.queue.push_back(entry),
-            (None, side) => return self.serve_pop(side),
+    /// Serves a call whose effect is a step that answers `moved` and leaves Anchor `after`.
+    fn serve(&mut self, call: &OpenCall, moved: Moved, after: u64) -> Moved {
+        let entry = match call.wish {
+            Wish::Pop => return self.serve_pop(call.side),
+            Wish::PooledPush(_) if moved == Moved::NoSlot => return Moved::NoSlot,
+            Wish::PooledPush(label) => Entry { slot: Anchor::unpack(after).end(call.side), label },
+            Wish::Push(entry) => entry,
+        };
+        match call.side {
+            Side::Left => self.queue.push_front(entry),
+            Side::Right => self.queue.push_back(entry),
         }
         Moved::Pushed
     }

@@ -1,30 +1,16 @@
-//! What the runs have reached: a count for each place, role, side and outcome, each
-//! refusal, each answer, each size, and each way in which a sleeper can be fooled.
+//! What the runs have reached: a count for each place, role, side and outcome in each way of
+//! opening, each refusal, each answer, each size, each way in which a sleeper can be fooled,
+//! and where the slots were when a push was told that there is none.
 
 use crate::machine::Moved;
+use crate::pool;
 use crate::refusal::LAST_START_TAG;
 use crate::run::{Call, Event, Reply, Watcher};
-use crate::tables::{Control, Record, Tables, MOST_SLOTS, MOST_TASKS, POP};
+use crate::tables::{Control, Record, Tables, MOST_SLOTS, MOST_TASKS, POOLED, POP};
+use crate::ways::{self, Role, Way};
 use crate::word::{Anchor, Link, Side};
 use std::collections::BTreeMap;
 use std::fmt::{self, Display, Formatter};
-
-/// A push before its effect, a push after it, a pop.
-#[derive(Clone, Copy, Debug, PartialEq, Eq, PartialOrd, Ord)]
-enum Role {
-    Push,
-    Finishing,
-    Pop,
-}
-
-/// A way through a place; `next` is 0 for an answer, `failed` a counted retry.
-#[derive(Clone, Copy, Debug, PartialEq, Eq, PartialOrd, Ord)]
-struct Way {
-    place: u64,
-    role: Role,
-    failed: bool,
-    next: u64,
-}
 
 /// Something counted by its name.
 #[derive(Clone, Copy, PartialEq, Eq, PartialOrd, Ord)]
@@ -34,17 +20,25 @@ enum Thing {
     Tasks(u64),
     Opened(&'static str),
     Fooled(&'static str),
+    NoSlot(&'static str),
     File(&'static str),
 }
 
 /// The refusals that calls of a run file can meet.
-const REFUSALS: [(&str, &[u8]); 5] = [
-    ("open", &[10, 11]),
-    ("push", &[13, 14, 15, 30, 32, 33]),
+const REFUSALS: [(&str, &[u8]); 7] = [
+    (OPEN, &[10, 11]),
+    (OPEN_POOLED, &[10, 11]),
+    (PUSH, &[13, 14, 15, 30, 32, 33, 41]),
+    (PUSH_POOLED, &[13, 14, 30, 33, 41]),
     ("pop", &[13, 14, 30, 33]),
     ("step", &[13, 31]),
     ("file", &[16]),
 ];
+
+const OPEN: &str = "open";
+const OPEN_POOLED: &str = "pooled open";
+const PUSH: &str = "push";
+const PUSH_POOLED: &str = "push without a slot";
 
 const SLOTS: [(&str, u64); 5] = [
     ("1 slot", 1),
@@ -66,6 +60,14 @@ const REMEMBERED: &str = "push starts on a slot that a sleeper remembers";
 const ANCHOR_TAG: &str = "change of Anchor fails by its tag alone";
 const LINK_TAG: &str = "change of a link fails by its tag alone";
 const FRESH_LINK: &str = "task leaves at 8 with a fresh link in hand";
+const HEAD_TAG: &str = "change of the head fails by its tag alone";
+const STALE_NEXT: &str = "push at 14 holds another next than the slot on top has now";
+const TAKEN_AGAIN: &str = "push gets a slot that a sleeper remembers";
+
+const ALL_WAITING: &str = "every slot is waiting";
+const PUSH_HOLDS: &str = "a push holds one";
+const POP_READS: &str = "a pop at 11 holds one";
+const POP_GIVES: &str = "a pop at 15 to 17 holds one";
 
 pub struct Coverage {
     /// Left and right. All ways of the papers are here from the start, so any other
@@ -75,12 +77,14 @@ pub struct Coverage {
     before: Before,
 }
 
-/// What the next event finds; `link` is the one that a task at 8 or 9 has read.
+/// What the next event finds; `link` is the one that a task at 8 or 9 has read, `next` that
+/// of the slot which a task at 14 has read.
 #[derive(Default)]
 struct Before {
     record: Record,
     control: Control,
     link: u64,
+    next: u64,
 }
 
 impl Watcher for Coverage {
@@ -91,22 +95,27 @@ impl Watcher for Coverage {
             task.and_then(|task| records.get(usize::from(task))).copied().unwrap_or_default();
         let side = Anchor::unpack(record.seen).pushed_side();
         let link = tables.shared.links(side)[record.neighbour as usize];
-        self.before = Before { record, control, link };
+        let next = tables.shared.next[Link(record.link).slot() as usize];
+        self.before = Before { record, control, link, next };
     }
 
     fn after(&mut self, tables: &Tables, event: &Event) -> Result<(), String> {
         let call = match event.call {
-            Call::Open => "open",
-            Call::Push { .. } => "push",
+            Call::Open { pooled: false } => OPEN,
+            Call::Open { pooled: true } => OPEN_POOLED,
+            Call::Push { slot: Some(_), .. } => PUSH,
+            Call::Push { slot: None, .. } => PUSH_POOLED,
             Call::Pop { .. } => "pop",
             Call::Step => "step",
             Call::File => "file",
         };
         match (event.call, event.reply) {
             (_, Reply::Refused(refusal)) => self.count(Thing::Refused(call, refusal.number())),
-            (_, Reply::Moved(moved)) => return self.step(tables, moved),
-            (Call::Open, Reply::Done) => self.opening(tables.shared.control),
-            (Call::Push { slot, .. }, Reply::Done) => self.remembered(tables, slot, event.task),
+            (_, Reply::Moved(moved)) => return self.step(tables, moved, event.task),
+            (Call::Open { .. }, Reply::Done) => self.opening(tables.shared.control),
+            (Call::Push { slot: Some(slot), .. }, Reply::Done) => {
+                self.remembered(REMEMBERED, tables, slot.into(), event.task)
+            }
             (_, Reply::Done) => {}
         }
         if event.reply == Reply::Done {
@@ -119,7 +128,7 @@ impl Watcher for Coverage {
 impl Coverage {
     /// Nothing reached yet; `kinds` are the kinds of file that shall come.
     pub fn new(kinds: impl IntoIterator<Item = &'static str>) -> Coverage {
-        let ways = all_ways().into_iter().map(|way| (way, [0, 0])).collect();
+        let ways = ways::all().into_iter().map(|way| (way, [0, 0])).collect();
         let things = all_things().into_iter().chain(kinds.into_iter().map(Thing::File));
         let things = things.map(|thing| (thing, 0)).collect();
         Coverage { ways, things, before: Before::default() }
@@ -151,12 +160,13 @@ impl Coverage {
         self.count(Thing::Opened(band(&FIRST_TAGS, control.anchor >> 32)));
     }
 
-    fn step(&mut self, tables: &Tables, moved: Moved) -> Result<(), String> {
+    fn step(&mut self, tables: &Tables, moved: Moved, task: Option<u8>) -> Result<(), String> {
         let (next, answer) = match moved {
             Moved::Running(place) => (place, "running"),
             Moved::Pushed => (0, "pushed"),
             Moved::Empty => (0, "empty"),
             Moved::Popped { .. } => (0, "popped"),
+            Moved::NoSlot => (0, "no slot"),
         };
         self.count(Thing::Answered("step", answer));
         let Before { record, control, .. } = self.before;
@@ -170,8 +180,14 @@ impl Coverage {
             _ => Side::numbered(record.side),
         };
         let failed = tables.shared.control.retries > control.retries;
-        let way = Way { place: record.place, role, failed, next };
+        let pooled = control.pooled == POOLED;
+        let way = Way { pooled, place: record.place, role, failed, next };
         self.fooled(&way);
+        match (way.place, next) {
+            (12, 0) => self.no_slot(tables),
+            (14, 1) => self.remembered(TAKEN_AGAIN, tables, Link(record.link).slot(), task),
+            _ => {}
+        }
         let counts = self.ways.get_mut(&way).ok_or_else(|| format!("no such way: {way}"))?;
         counts[usize::from(side == Side::Right)] += 1;
         Ok(())
@@ -179,50 +195,54 @@ impl Coverage {
 
     /// Failures that only a tag explains, and place 8 earning its keep.
     fn fooled(&mut self, way: &Way) {
-        let Before { record, control, link } = &self.before;
+        let Before { record, control, link, next } = &self.before;
         let same_but_tag = |one: u64, other: u64| one as u32 == other as u32;
         let fooled = match way.place {
             2 | 4 | 10 if way.failed && same_but_tag(record.seen, control.anchor) => ANCHOR_TAG,
             9 if way.failed && same_but_tag(record.link, *link) => LINK_TAG,
             8 if way.next != 9 && record.link == *link => FRESH_LINK,
+            14 | 17 if way.failed && same_but_tag(record.link, control.head) => {
+                if way.place == 14 && record.neighbour != *next {
+                    self.count(Thing::Fooled(STALE_NEXT));
+                }
+                HEAD_TAG
+            }
             _ => return,
         };
         self.count(Thing::Fooled(fooled));
     }
 
-    fn remembered(&mut self, tables: &Tables, slot: u16, starter: Option<u8>) {
+    /// Where the slots are when a push is told that there is none.
+    fn no_slot(&mut self, tables: &Tables) {
+        let records = &tables.records[..tables.shared.control.tasks as usize];
+        let mut holders: Vec<&'static str> = records
+            .iter()
+            .filter(|record| pool::held_slot(record).is_some())
+            .map(|record| match (record.kind, record.place) {
+                (POP, 11) => POP_READS,
+                (POP, _) => POP_GIVES,
+                _ => PUSH_HOLDS,
+            })
+            .collect();
+        if holders.is_empty() {
+            holders.push(ALL_WAITING);
+        }
+        holders.into_iter().for_each(|holder| self.count(Thing::NoSlot(holder)));
+    }
+
+    /// A slot comes into use again while another task still remembers it.
+    fn remembered(&mut self, how: &'static str, tables: &Tables, slot: u64, starter: Option<u8>) {
         let remembers = |record: &Record| {
             let seen = Anchor::unpack(record.seen);
             let named = [seen.left, seen.right, record.neighbour, Link(record.link).slot()];
-            record.place > 1 && named.contains(&slot.into())
+            record.place > 1 && named.contains(&slot)
         };
         let records = tables.records[..tables.shared.control.tasks as usize].iter();
         let mut sleepers = records.enumerate().filter(|(task, _)| Some(*task as u8) != starter);
         if sleepers.any(|(_, record)| remembers(record)) {
-            self.count(Thing::Fooled(REMEMBERED));
+            self.count(Thing::Fooled(how));
         }
     }
-}
-
-/// The ways through the places, read off document 01's table; a failed 2 or 4 goes on as 1.
-fn all_ways() -> Vec<Way> {
-    use Role::{Finishing, Pop, Push};
-    let mut ways = vec![(1, Pop, false, 0), (2, Pop, true, 0), (4, Pop, true, 0)];
-    ways.extend([(2, Push, false, 0), (2, Pop, false, 11), (11, Pop, false, 0)]);
-    ways.extend([(4, Push, false, 5), (4, Pop, false, 11)]);
-    for role in [Push, Pop] {
-        for (place, failed) in [(1, false), (2, true), (4, true)] {
-            ways.extend([2, 3, 5].map(|next| (place, role, failed, next)));
-        }
-        ways.push((3, role, false, 4));
-    }
-    for (role, leave) in [(Push, 1), (Finishing, 0), (Pop, 1)] {
-        ways.extend([(5, role, false, 6), (6, role, false, 7), (6, role, false, leave)]);
-        ways.extend([(7, role, false, 8), (7, role, false, 10), (8, role, false, 9)]);
-        ways.extend([(8, role, false, leave), (9, role, false, 10), (9, role, true, leave)]);
-        ways.extend([(10, role, false, leave), (10, role, true, leave)]);
-    }
-    ways.into_iter().map(|(place, role, failed, next)| Way { place, role, failed, next }).collect()
 }
 
 fn all_things() -> Vec<Thing> {
@@ -230,22 +250,15 @@ fn all_things() -> Vec<Thing> {
     for (call, numbers) in REFUSALS {
         things.extend(numbers.iter().map(|&number| Thing::Refused(call, number)));
     }
-    things.extend(["open", "push", "pop"].map(|call| Thing::Answered(call, "ok")));
-    things.extend(["running", "pushed", "empty", "popped"].map(|got| Thing::Answered("step", got)));
+    let starts = [OPEN, OPEN_POOLED, PUSH, PUSH_POOLED, "pop"];
+    things.extend(starts.map(|call| Thing::Answered(call, "ok")));
+    let answers = ["running", "pushed", "empty", "popped", "no slot"];
+    things.extend(answers.map(|answer| Thing::Answered("step", answer)));
     things.extend(SLOTS.iter().chain(&FIRST_TAGS).map(|(name, _)| Thing::Opened(name)));
     things.extend([REMEMBERED, ANCHOR_TAG, LINK_TAG, FRESH_LINK].map(Thing::Fooled));
+    things.extend([HEAD_TAG, STALE_NEXT, TAKEN_AGAIN].map(Thing::Fooled));
+    things.extend([ALL_WAITING, PUSH_HOLDS, POP_READS, POP_GIVES].map(Thing::NoSlot));
     things
-}
-
-impl Display for Way {
-    fn fmt(&self, out: &mut Formatter) -> fmt::Result {
-        let role = format!("{:?}", self.role).to_lowercase();
-        let outcome = if self.failed { "failed" } else { "" };
-        match self.next {
-            0 => write!(out, "place {:2} {role:10}{outcome:7}answers", self.place),
-            next => write!(out, "place {:2} {role:10}{outcome:7}to {next}", self.place),
-        }
-    }
 }
 
 impl Display for Thing {
@@ -256,6 +269,7 @@ impl Display for Thing {
             Thing::Tasks(tasks) => write!(out, "opened with {tasks} tasks"),
             Thing::Opened(how) => write!(out, "opened with {how}"),
             Thing::Fooled(how) => write!(out, "{how}"),
+            Thing::NoSlot(where_they_are) => write!(out, "no slot, and {where_they_are}"),
             Thing::File(kind) => write!(out, "file: {kind}"),
         }
     }
@@ -268,7 +282,7 @@ impl Display for Coverage {
             writeln!(out, "{:40}{left:>10}{right:>10}", way.to_string())?;
         }
         for (thing, count) in &self.things {
-            writeln!(out, "{:50}{count:>10}", thing.to_string())?;
+            writeln!(out, "{:60}{count:>10}", thing.to_string())?;
         }
         Ok(())
     }

@@ -1,9 +1,12 @@
 //! Damaged tables: every kind that refusals 12 and 34 name, and words that make a change
 //! succeed where it must not. For tests that drive the calls on arbitrary contents.
 
+mod parts;
+
 use crate::dice::Dice;
-use crate::tables::{Record, Storage, POP};
+use crate::tables::{Record, Storage, POP, PUSH};
 use crate::word::{Anchor, Link, LAST_TAG, LPUSH, RPUSH, STABLE};
+use parts::{above, anchor, any_link, any_slot, record, rows, slot};
 
 pub struct Damage {
     pub name: &'static str,
@@ -24,6 +27,43 @@ pub const DAMAGES: &[Damage] = &[
     Damage {
         name: "control: retries",
         inflict: |s, d| s.control.retries = d.pick(&[LAST_TAG - 1, LAST_TAG, u64::MAX]),
+    },
+    Damage {
+        name: "control: pooled",
+        inflict: |s, d| s.control.pooled = d.pick(&[2, 255, 1 << 32, u64::MAX]),
+    },
+    Damage {
+        name: "control: the other way of opening",
+        inflict: |s, _| s.control.pooled = 1 - s.control.pooled.min(1),
+    },
+    Damage { name: "head: any link word", inflict: |s, d| s.control.head = any_link(s, d) },
+    Damage {
+        name: "head: empty",
+        inflict: |s, d| s.control.head = Link::new(d.pick(&[0, 9, LAST_TAG]), 0).0,
+    },
+    Damage {
+        name: "head: last tag, and read so",
+        inflict: |s, d| {
+            let word = Link::new(LAST_TAG, slot(s, d)).0;
+            s.control.head = word;
+            record(s, d, |r, _| r.link = word);
+        },
+    },
+    Damage {
+        name: "head: as read",
+        inflict: |s, d| {
+            let word = s.control.head;
+            record(s, d, |r, _| r.link = word);
+        },
+    },
+    Damage {
+        name: "next: any row",
+        inflict: |s, d| {
+            let (next, row) = (any_slot(s, d), d.between(0, 5) as usize);
+            if let Some(word) = s.next.get_mut(row) {
+                *word = next;
+            }
+        },
     },
     Damage { name: "anchor: status 3", inflict: |s, _| anchor(s, |a| a.status = 3) },
     Damage {
@@ -109,6 +149,13 @@ pub const DAMAGES: &[Damage] = &[
         },
     },
     Damage {
+        name: "short: next",
+        inflict: |s, d| {
+            let n = rows(s, d);
+            s.next.truncate(n)
+        },
+    },
+    Damage {
         name: "short: records",
         inflict: |s, d| {
             let tasks = s.control.tasks.clamp(1, 16) as usize;
@@ -117,11 +164,11 @@ pub const DAMAGES: &[Damage] = &[
     },
     Damage {
         name: "record: place",
-        inflict: |s, d| record(s, d, |r, d| r.place = d.pick(&[12, 13, u64::MAX])),
+        inflict: |s, d| record(s, d, |r, d| r.place = d.pick(&[18, 1 << 32, u64::MAX])),
     },
     Damage {
         name: "record: another place",
-        inflict: |s, d| record(s, d, |r, d| r.place = d.between(0, 11)),
+        inflict: |s, d| record(s, d, |r, d| r.place = d.between(0, 17)),
     },
     Damage {
         name: "record: kind",
@@ -195,9 +242,14 @@ pub const DAMAGES: &[Damage] = &[
             let link = any_link(s, d);
             let (slots, word) = (s.control.slots.clamp(1, 9), s.control.anchor);
             record(s, d, |r, d| {
-                let kind = d.between(0, 1);
-                let own = if kind == POP { 0 } else { d.between(1, slots) };
-                let (place, side) = (d.between(1, 11), d.between(0, 1));
+                let (place, side) = (d.between(1, 17), d.between(0, 1));
+                let kind = match place {
+                    11 | 15..=17 => POP,
+                    12..=14 => PUSH,
+                    _ => d.between(0, 1),
+                };
+                let held = if kind == PUSH { place <= 10 } else { place >= 15 };
+                let own = if held { d.between(1, slots) } else { 0 };
                 let neighbour = d.between(0, slots);
                 *r = Record { place, kind, side, own, neighbour, link, seen: word, ..*r };
             });
@@ -222,52 +274,3 @@ pub const DAMAGES: &[Damage] = &[
         },
     },
 ];
-
-/// Changes fields of Anchor where it lies.
-fn anchor(storage: &mut Storage, change: impl FnOnce(&mut Anchor)) {
-    let mut anchor = Anchor::unpack(storage.control.anchor);
-    change(&mut anchor);
-    storage.control.anchor = anchor.pack();
-}
-
-/// Changes some task's record, if there is one left.
-fn record(storage: &mut Storage, dice: &mut Dice, change: impl FnOnce(&mut Record, &mut Dice)) {
-    let tasks = (storage.control.tasks.clamp(1, 16) as usize).min(storage.records.len());
-    if tasks > 0 {
-        let task = dice.between(0, tasks as u64 - 1) as usize;
-        change(&mut storage.records[task], dice);
-    }
-}
-
-fn slot(storage: &Storage, dice: &mut Dice) -> u64 {
-    dice.between(1, storage.control.slots.clamp(1, 1_023))
-}
-
-/// A 15-bit number above slots.
-fn above(storage: &Storage, dice: &mut Dice) -> u64 {
-    dice.pick(&[storage.control.slots.min(1_023) + 1, 0x7fff])
-}
-
-/// A slot number within and beyond all limits.
-fn any_slot(storage: &Storage, dice: &mut Dice) -> u64 {
-    let above = above(storage, dice);
-    dice.pick(&[0, 1, storage.control.slots, above, u64::MAX])
-}
-
-/// A length just below, at, or far below the rows needed.
-fn rows(storage: &Storage, dice: &mut Dice) -> usize {
-    let slots = storage.control.slots.min(1_023) as usize;
-    dice.pick(&[slots, slots + 1, 0])
-}
-
-/// A link word, sound or not: spare bits, a slot above slots, the last tag.
-fn any_link(storage: &Storage, dice: &mut Dice) -> u64 {
-    let tag = dice.pick(&[0, 1, LAST_TAG - 1, LAST_TAG]);
-    match dice.between(0, 4) {
-        0 => Link::new(tag, slot(storage, dice)).0 | 1 << dice.between(15, 31),
-        1 => Link::new(tag, above(storage, dice)).0,
-        2 => Link::new(tag, 0).0,
-        3 => dice.throw(),
-        _ => Link::new(tag, slot(storage, dice)).0,
-    }
-}

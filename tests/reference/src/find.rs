@@ -19,7 +19,7 @@ impl Shared<'_> {
     pub fn find(&self, asked: &[u32]) -> Result<Found, Refusal> {
         refusal::control_sound(self.control)?;
         demand(asked.len() <= MOST_ASKED, Refusal::ManyAsked)?;
-        refusal::shared_long_enough(self, self.control.slots)?;
+        refusal::shared_long_enough(self, self.control.slots, false)?;
         let entries = contents::waiting(self).ok_or(Refusal::Unsound)?;
         let leftmost = |label: &u32| entries.iter().position(|entry| entry.label == *label);
         let positions = asked.iter().map(|label| leftmost(label).map(|at| at as u64 + 1)).collect();

@@ -1,11 +1,15 @@
-//! What holds between any two steps, in thirteen numbered lines; 0 and 14 frame them.
+//! What holds between any two steps, in numbered lines: 1 to 13 of every queue, 14 to 20 of
+//! a pooled one; 0 and 21 frame them.
 //!
 //! Q is the clerk's queue. For a busy task, `seen` is its Anchor as read; it is *current*
-//! if it equals Anchor. `side` is the task's at places 1 to 4 and 11, and the one that the
-//! status as read names at 5 to 10; `end` is the end of `seen` at that side. A link is
-//! *inward* from an end if it leads to the other end, *outward* if it leads away from it.
+//! if it equals Anchor. `side` is the one that the status as read names at 5 to 10, and the
+//! task's elsewhere; `end` is the end of `seen` at that side. A link is *inward* from an end
+//! if it leads to the other end, *outward* if it leads away from it.
+
+mod stack;
 
 use crate::clerk::Entry;
+use crate::pool;
 use crate::refusal;
 use crate::tables::{Record, Shared, Tables, POP, PUSH};
 use crate::word::{Anchor, Link, Side, LAST_TAG, STABLE};
@@ -16,6 +20,7 @@ enum Holder {
     Nobody,
     Queue,
     Task(usize),
+    Stack,
 }
 
 struct State<'a> {
@@ -55,6 +60,9 @@ pub fn check(tables: &Tables, queue: &VecDeque<Entry>) -> Result<(), String> {
             state.task(number)?;
         }
     }
+    if shared.is_pooled() {
+        state.pool()?;
+    }
     state.no_stray_marks()
 }
 
@@ -71,6 +79,7 @@ impl<'a> State<'a> {
     fn ends_and_marks(&mut self) -> Result<(), String> {
         for entry in self.queue {
             self.hold(1, entry.slot, Holder::Queue)?;
+            self.marked(1, entry.slot, true)?;
         }
         let (left, right) = match (self.queue.front(), self.queue.back()) {
             (Some(first), Some(last)) => (first.slot, last.slot),
@@ -82,10 +91,15 @@ impl<'a> State<'a> {
         line(1, stable || self.queue.len() >= 2, "unstable only with two or more")
     }
 
-    /// A slot has one holder, and is marked while it has one.
+    /// A slot is held until its label is read, or given back to the pool, and marked until then.
+    fn marked(&self, number: u32, slot: u64, marked: bool) -> Result<(), String> {
+        let fact = if marked { "a held slot is marked" } else { "a slot being given back is not" };
+        line(number, self.shared.is_marked(slot) == marked, fact)
+    }
+
+    /// A slot has one holder.
     fn hold(&mut self, number: u32, slot: u64, holder: Holder) -> Result<(), String> {
         line(number, (1..=self.shared.control.slots).contains(&slot), "a held slot is 1 to slots")?;
-        line(number, self.shared.is_marked(slot), "a held slot is marked")?;
         let free = self.holders[slot as usize] == Holder::Nobody;
         line(number, free, "a held slot has one holder")?;
         self.holders[slot as usize] = holder;
@@ -157,7 +171,7 @@ impl<'a> State<'a> {
     /// Line 4: the tags that the calls under way may still use up.
     fn tags_left(&self) -> Result<(), String> {
         let before_effect = self.records.iter().map(|record| match (record.place, record.kind) {
-            (0 | 11, _) => 0,
+            (0 | 11 | 15..=17, _) => 0,
             (_, PUSH) => 2 * (1 - record.finishing.min(1)),
             _ => 1,
         });
@@ -175,31 +189,34 @@ impl<'a> State<'a> {
             .and_then(|()| self.held_by(&task))
             .and_then(|()| self.neighbour(&task))
             .and_then(|()| self.back_link(&task))
+            .and_then(|()| self.head_as_read(&task))
             .map_err(|what| format!("{what}; task {number}: {:?}", task.record))
     }
 
     /// Line 0: all fields in their ranges.
     fn ranges(&self, task: &Task) -> Result<(), String> {
-        let sound = refusal::record_sound(task.record, self.shared.control.slots).is_ok();
+        let sound = refusal::record_sound(task.record, self.shared.control).is_ok();
         line(0, sound, "every field is in its range")
     }
 
     /// Line 5: a changed Anchor never looks current again.
     fn reading_is_old(&self, task: &Task) -> Result<(), String> {
         let old = task.current || task.seen.tag < self.anchor.tag;
-        line(5, task.record.place < 2 || old, "an Anchor as read is current or has a lower tag")
+        let read = (2..=11).contains(&task.record.place);
+        line(5, !read || old, "an Anchor as read is current or has a lower tag")
     }
 
-    /// Line 7: a push before its effect holds its slot. Line 8: a pop at 11 holds the end.
+    /// Line 7: a push before its effect holds its slot, a pooled one once it has got it.
+    /// Line 8: a pop at 11 holds the end, at 15 to 17 its own slot.
     fn held_by(&mut self, task: &Task) -> Result<(), String> {
         let record = task.record;
-        if record.place == 11 {
-            return self.hold(8, task.end, Holder::Task(task.number));
+        let Some(slot) = pool::held_slot(record) else { return Ok(()) };
+        if record.kind == POP {
+            self.hold(8, slot, Holder::Task(task.number))?;
+            return self.marked(8, slot, record.place == 11);
         }
-        if record.kind == POP || record.finishing == 1 {
-            return Ok(());
-        }
-        self.hold(7, record.own, Holder::Task(task.number))?;
+        self.hold(7, slot, Holder::Task(task.number))?;
+        self.marked(7, slot, true)?;
         let labelled = self.shared.labels[record.own as usize] == record.label;
         line(7, labelled, "a push's row has its label")?;
         let inward = self.link(task.side.opposite(), record.own).slot();
@@ -242,12 +259,13 @@ impl<'a> State<'a> {
         Ok(())
     }
 
-    /// Line 14: a mark is set only for a slot that somebody holds.
+    /// Line 21: a mark is set only for a slot that the queue or a call holds.
     fn no_stray_marks(&self) -> Result<(), String> {
         let mut slots = 1..=self.shared.control.slots;
-        let held = |slot: u64| self.holders[slot as usize] != Holder::Nobody;
+        let held =
+            |slot: u64| matches!(self.holders[slot as usize], Holder::Queue | Holder::Task(_));
         let strays = slots.any(|slot| self.shared.is_marked(slot) && !held(slot));
-        line(14, !strays, "every marked slot has a holder")
+        line(21, !strays, "every marked slot has a holder")
     }
 }
 

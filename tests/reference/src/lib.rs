@@ -4,9 +4,9 @@
 //! ordered tests), `places` (what a step does), `machine` and `find` (the outside calls).
 //! The program: `runfile` (fields in), `run` (events), `trace` (lines out).
 //! Over the tables: `sheet` (document 02, #111 and #112).
-//! The judge: `clerk` (a sequential deque), `contents` (labels waiting),
-//! `invariant` (what holds between any two steps), `check` (all of them at once).
-//! The differential test: `dice`, `script`, `shift`, `scenario`, `malformed`, `coverage`.
+//! The judge: `clerk` (a sequential deque), `contents` (labels waiting), `pool` (free
+//! slots), `invariant` (what holds between any two steps), `check` (all of them at once).
+//! The differential test: `dice`, `script`, `shift`, `scenario`, `malformed`, `coverage`, `ways`.
 //! For tests that drive the calls themselves: `damage` (tables that no run leaves).
 
 pub mod audit;
@@ -21,6 +21,7 @@ pub mod invariant;
 pub mod machine;
 pub mod malformed;
 mod places;
+pub mod pool;
 pub mod refusal;
 pub mod run;
 pub mod runfile;
@@ -30,4 +31,5 @@ pub mod sheet;
 pub mod shift;
 pub mod tables;
 pub mod trace;
+mod ways;
 pub mod word;

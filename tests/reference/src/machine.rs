@@ -6,8 +6,10 @@
 use crate::contents;
 use crate::places::advance;
 use crate::refusal::{self, demand, Refusal, LAST_START_TAG};
-use crate::tables::{Control, Record, Shared, Tables, MOST_SLOTS, MOST_TASKS, POP, PUSH};
-use crate::word::Anchor;
+use crate::tables::{
+    Control, Record, Shared, Tables, MOST_SLOTS, MOST_TASKS, NAMED, POOLED, POP, PUSH,
+};
+use crate::word::{Anchor, Link};
 
 /// What an accepted step answers.
 #[derive(Clone, Copy, Debug, PartialEq, Eq, Hash)]
@@ -15,7 +17,12 @@ pub enum Moved {
     Running(u64),
     Pushed,
     Empty,
-    Popped { slot: u64, label: u32 },
+    Popped {
+        slot: u64,
+        label: u32,
+    },
+    /// A pooled push found every slot in use.
+    NoSlot,
 }
 
 pub type Answer = Result<Moved, Refusal>;
@@ -35,9 +42,32 @@ pub struct Report {
 impl Tables<'_> {
     /// Opens an empty, STABLE queue. Entries beyond the wanted lengths keep their values.
     pub fn open(&mut self, tasks: u64, slots: u64, first_tag: u32) -> Result<(), Refusal> {
+        self.admit_opening(tasks, slots, false)?;
+        self.lay_out(tasks, slots, first_tag);
+        Ok(())
+    }
+
+    /// The same with all slots on a stack, slot 1 on top.
+    pub fn open_pooled(&mut self, tasks: u64, slots: u64, first_tag: u32) -> Result<(), Refusal> {
+        self.admit_opening(tasks, slots, true)?;
+        self.lay_out(tasks, slots, first_tag);
+        self.shared.next[0] = 0;
+        for slot in 1..=slots {
+            self.shared.next[slot as usize] = if slot == slots { 0 } else { slot + 1 };
+        }
+        self.shared.control.pooled = POOLED;
+        self.shared.control.head = Link::new(0, 1).0;
+        Ok(())
+    }
+
+    fn admit_opening(&self, tasks: u64, slots: u64, pooled: bool) -> Result<(), Refusal> {
         demand((1..=MOST_TASKS).contains(&tasks), Refusal::Tasks)?;
         demand((1..=MOST_SLOTS).contains(&slots), Refusal::Slots)?;
-        refusal::long_enough(self, tasks, slots)?;
+        refusal::long_enough(self, tasks, slots, pooled)
+    }
+
+    /// What both ways of opening write.
+    fn lay_out(&mut self, tasks: u64, slots: u64, first_tag: u32) {
         let last = slots as usize;
         self.shared.lefts[..=last].fill(0);
         self.shared.rights[..=last].fill(0);
@@ -45,13 +75,13 @@ impl Tables<'_> {
         self.shared.marks[..=last / 64].fill(0);
         self.records[..tasks as usize].fill(Record::default());
         let anchor = u64::from(first_tag) << 32;
-        *self.shared.control = Control { tasks, slots, anchor, retries: 0 };
-        Ok(())
+        *self.shared.control = Control { tasks, slots, anchor, retries: 0, pooled: NAMED, head: 0 };
     }
 
     pub fn push(&mut self, task: u64, side: u64, slot: u64, label: u32) -> Result<(), Refusal> {
         self.admit(task)?;
         demand(side <= 1, Refusal::NoSide)?;
+        demand(!self.shared.is_pooled(), Refusal::WrongPush)?;
         demand((1..=self.shared.control.slots).contains(&slot), Refusal::NoSlot)?;
         self.admit_start(task)?;
         demand(!self.shared.is_marked(slot), Refusal::Taken)?;
@@ -60,6 +90,18 @@ impl Tables<'_> {
             Record { place: 1, kind: PUSH, side, own: slot, label, ..Record::default() };
         self.shared.labels[slot as usize] = label;
         self.shared.set_mark(slot);
+        Ok(())
+    }
+
+    /// A push that names no slot; place 12 comes first.
+    pub fn push_pooled(&mut self, task: u64, side: u64, label: u32) -> Result<(), Refusal> {
+        self.admit(task)?;
+        demand(side <= 1, Refusal::NoSide)?;
+        demand(self.shared.is_pooled(), Refusal::WrongPush)?;
+        self.admit_start(task)?;
+        self.tag_unworn()?;
+        self.records[task as usize] =
+            Record { place: 12, kind: PUSH, side, label, ..Record::default() };
         Ok(())
     }
 
@@ -95,9 +137,8 @@ impl Tables<'_> {
 
     /// 34 for control and Anchor, 12, and 34 for the walk.
     pub fn report(&self) -> Result<Report, Refusal> {
+        self.admit_queue()?;
         let control = &*self.shared.control;
-        refusal::control_sound(control)?;
-        refusal::long_enough(self, control.tasks, control.slots)?;
         let Anchor { tag, status, left, right } = Anchor::unpack(control.anchor);
         let records = &self.records[..control.tasks as usize];
         let busy = records.iter().filter(|record| record.place != 0).count() as u64;
@@ -107,19 +148,25 @@ impl Tables<'_> {
         Ok(Report { tag, status, left, right, busy, waiting, taken, retries })
     }
 
-    /// What every call on a task asks first: 34 for control and Anchor, 12, 13.
+    /// What every call on an open queue asks first: 34 for control and Anchor, 12.
     #[inline]
-    fn admit(&self, task: u64) -> Result<(), Refusal> {
+    fn admit_queue(&self) -> Result<(), Refusal> {
         let control = &*self.shared.control;
         refusal::control_sound(control)?;
-        refusal::long_enough(self, control.tasks, control.slots)?;
-        demand(task < control.tasks, Refusal::NoTask)
+        refusal::long_enough(self, control.tasks, control.slots, self.shared.is_pooled())
+    }
+
+    /// The same for a call on a task, and 13.
+    #[inline]
+    fn admit(&self, task: u64) -> Result<(), Refusal> {
+        self.admit_queue()?;
+        demand(task < self.shared.control.tasks, Refusal::NoTask)
     }
 
     /// 34 for the record, then 30.
     fn admit_start(&self, task: u64) -> Result<(), Refusal> {
         let record = &self.records[task as usize];
-        refusal::record_sound(record, self.shared.control.slots)?;
+        refusal::record_sound(record, self.shared.control)?;
         demand(record.place == 0, Refusal::Busy)
     }
 
@@ -134,7 +181,7 @@ impl Shared<'_> {
     /// Moves one lent record by one step: no 13, and 12 looks at no records.
     pub fn step_lent(&mut self, record: &mut Record) -> Answer {
         refusal::control_sound(self.control)?;
-        refusal::shared_long_enough(self, self.control.slots)?;
+        refusal::shared_long_enough(self, self.control.slots, self.is_pooled())?;
         step_admitted(self, record)
     }
 }
@@ -142,7 +189,7 @@ impl Shared<'_> {
 /// 34 for the record, 31, then the place, which tests what it touches.
 #[inline]
 fn step_admitted(shared: &mut Shared, record: &mut Record) -> Answer {
-    refusal::record_sound(record, shared.control.slots)?;
+    refusal::record_sound(record, shared.control)?;
     demand(record.place != 0, Refusal::Idle)?;
     advance(shared, record)
 }

@@ -1,7 +1,8 @@
-//! What a step does: document 01, "Places", and document 02, #106; figures 3 to 5 of 003.
+//! What a step does: document 01, "Places", and document 02, #104 and #106; figures 3 to 5
+//! of 003.
 //!
 //! Control, tables' lengths and the record have been found sound. What is left of 34
-//! is tested here, before the place's one write.
+//! is tested here, before the place's first write.
 
 use crate::machine::{Answer, Moved};
 use crate::refusal::{demand, Refusal};
@@ -24,7 +25,13 @@ pub(crate) fn advance(shared: &mut Shared, record: &mut Record) -> Answer {
         7 => read_back_link(shared, record),
         9 => mend_back_link(shared, record),
         10 => settle(shared, record),
-        _ => take_label(shared, record),
+        11 => take_label(shared, record),
+        12 => read_head(shared, record),
+        13 => read_next(shared, record),
+        14 => take_slot(shared, record),
+        15 => read_head(shared, record),
+        16 => write_next(shared, record),
+        _ => give_slot_back(shared, record),
     }
 }
 
@@ -134,13 +141,75 @@ fn settle(shared: &mut Shared, record: &mut Record) -> Answer {
     leave(record)
 }
 
-/// Place 11: the label is read before the mark is cleared.
+/// Place 11: the label is read before the mark is cleared. In a pooled queue the pop keeps
+/// slot and label until the slot is back in the pool.
 fn take_label(shared: &mut Shared, record: &mut Record) -> Answer {
     let slot = Anchor::unpack(record.seen).end(Side::numbered(record.side));
     let row = row_of(shared, slot)?;
     let label = shared.labels[row];
     shared.clear_mark(slot);
+    if !shared.is_pooled() {
+        return answer(record, Moved::Popped { slot, label });
+    }
+    (record.own, record.label) = (slot, label);
+    go(record, 15)
+}
+
+/// Places 12 and 15: the head as the link word. A push that finds the stack empty answers.
+fn read_head(shared: &Shared, record: &mut Record) -> Answer {
+    let head = Link(shared.control.head);
+    demand(head.is_sound(shared.control.slots), Refusal::Unsound)?;
+    if record.kind == PUSH && head.slot() == 0 {
+        return answer(record, Moved::NoSlot);
+    }
+    record.link = head.0;
+    go(record, record.place + 1)
+}
+
+/// Place 13: what lies below the slot on top.
+fn read_next(shared: &Shared, record: &mut Record) -> Answer {
+    let next = shared.next[row_of(shared, Link(record.link).slot())?];
+    demand(next <= shared.control.slots, Refusal::Unsound)?;
+    record.neighbour = next;
+    go(record, 14)
+}
+
+/// Place 14: the slot on top becomes the push's own, marked and labelled in the same step.
+fn take_slot(shared: &mut Shared, record: &mut Record) -> Answer {
+    if !change_head(shared, record.link, record.neighbour)? {
+        return go(record, 12);
+    }
+    let slot = Link(record.link).slot();
+    shared.set_mark(slot);
+    shared.labels[slot as usize] = record.label;
+    record.own = slot;
+    go(record, 1)
+}
+
+/// Place 16: the slot to be given back points at the head as read.
+fn write_next(shared: &mut Shared, record: &mut Record) -> Answer {
+    shared.next[record.own as usize] = Link(record.link).slot();
+    go(record, 17)
+}
+
+/// Place 17: the slot is on top again, and only now the pop answers.
+fn give_slot_back(shared: &mut Shared, record: &mut Record) -> Answer {
+    let Record { own: slot, label, .. } = *record;
+    if !change_head(shared, record.link, slot)? {
+        return go(record, 15);
+    }
     answer(record, Moved::Popped { slot, label })
+}
+
+/// A change of the head: whether it was done.
+fn change_head(shared: &mut Shared, read: u64, slot: u64) -> Result<bool, Refusal> {
+    if shared.control.head != read {
+        count_retry(shared);
+        return Ok(false);
+    }
+    let tag = raised(Link(read).tag())?;
+    shared.control.head = Link::new(tag, slot).0;
+    Ok(true)
 }
 
 /// A change of Anchor: done with the new word, or failed with the word found.

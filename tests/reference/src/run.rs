@@ -9,9 +9,18 @@ use std::io::{self, Write};
 
 #[derive(Clone, Copy, Debug, PartialEq, Eq)]
 pub enum Call {
-    Open,
-    Push { side: u8, slot: u16, label: u32 },
-    Pop { side: u8 },
+    Open {
+        pooled: bool,
+    },
+    /// Without a slot where the push leaves it to the pool.
+    Push {
+        side: u8,
+        slot: Option<u16>,
+        label: u32,
+    },
+    Pop {
+        side: u8,
+    },
     Step,
     File,
 }
@@ -80,11 +89,15 @@ impl<W: Write, O: Watcher> Run<'_, W, O> {
         for field in Fields::of(file) {
             match field {
                 Err(Malformed) => self.malformed()?,
-                Ok(Field::Open { tasks, slots, first_tag }) => {
+                Ok(Field::Open { pooled, tasks, slots, first_tag }) => {
                     let open = |tables: &mut Tables| {
-                        start(tables.open(tasks.into(), slots.into(), first_tag))
+                        let (tasks, slots) = (tasks.into(), slots.into());
+                        start(match pooled {
+                            false => tables.open(tasks, slots, first_tag),
+                            true => tables.open_pooled(tasks, slots, first_tag),
+                        })
                     };
-                    if self.event(None, Call::Open, open)? != Reply::Done {
+                    if self.event(None, Call::Open { pooled }, open)? != Reply::Done {
                         break;
                     }
                 }
@@ -102,7 +115,10 @@ impl<W: Write, O: Watcher> Run<'_, W, O> {
         match field {
             Field::Push { task, side, slot, label } => {
                 let push = |tables: &mut Tables| {
-                    start(tables.push(task.into(), side.into(), slot.into(), label))
+                    start(match slot {
+                        Some(slot) => tables.push(task.into(), side.into(), slot.into(), label),
+                        None => tables.push_pooled(task.into(), side.into(), label),
+                    })
                 };
                 self.event(Some(task), Call::Push { side, slot, label }, push)?;
             }

@@ -1,17 +1,33 @@
-//! Fields of a run file: document 01, "The run file and its trace".
+//! Fields of a run file: document 01, "The run file and its trace"; 05 and 06 are #104's.
 
 pub const OPEN: u8 = 1;
 pub const PUSH: u8 = 2;
 pub const POP: u8 = 3;
 pub const STEPS: u8 = 4;
+pub const OPEN_POOLED: u8 = 5;
+pub const PUSH_POOLED: u8 = 6;
 
 pub const MOST_STEPS: usize = 4_096;
 
 #[derive(Clone, Copy, Debug, PartialEq, Eq)]
 pub enum Field<'a> {
-    Open { tasks: u8, slots: u16, first_tag: u32 },
-    Push { task: u8, side: u8, slot: u16, label: u32 },
-    Pop { task: u8, side: u8 },
+    Open {
+        pooled: bool,
+        tasks: u8,
+        slots: u16,
+        first_tag: u32,
+    },
+    /// 06 names no slot.
+    Push {
+        task: u8,
+        side: u8,
+        slot: Option<u16>,
+        label: u32,
+    },
+    Pop {
+        task: u8,
+        side: u8,
+    },
     Steps(&'a [u8]),
 }
 
@@ -61,7 +77,8 @@ impl<'a> Iterator for Fields<'a> {
 
 fn decode(tag: u8, content: &[u8]) -> Option<Field<'_>> {
     match (tag, content) {
-        (OPEN, &[tasks, s1, s0, t3, t2, t1, t0]) => Some(Field::Open {
+        (OPEN | OPEN_POOLED, &[tasks, s1, s0, t3, t2, t1, t0]) => Some(Field::Open {
+            pooled: tag == OPEN_POOLED,
             tasks,
             slots: u16::from_be_bytes([s1, s0]),
             first_tag: u32::from_be_bytes([t3, t2, t1, t0]),
@@ -69,7 +86,13 @@ fn decode(tag: u8, content: &[u8]) -> Option<Field<'_>> {
         (PUSH, &[task, side, s1, s0, l3, l2, l1, l0]) => Some(Field::Push {
             task,
             side,
-            slot: u16::from_be_bytes([s1, s0]),
+            slot: Some(u16::from_be_bytes([s1, s0])),
+            label: u32::from_be_bytes([l3, l2, l1, l0]),
+        }),
+        (PUSH_POOLED, &[task, side, l3, l2, l1, l0]) => Some(Field::Push {
+            task,
+            side,
+            slot: None,
             label: u32::from_be_bytes([l3, l2, l1, l0]),
         }),
         (POP, &[task, side]) => Some(Field::Pop { task, side }),

@@ -3,13 +3,13 @@
 use crate::dice::Dice;
 use crate::machine::Moved;
 use crate::refusal::LAST_START_TAG;
-use crate::shift::Shift;
+use crate::shift::{Crew, Shift};
 use crate::tables::MOST_TASKS;
 use crate::word::LAST_TAG;
 
 struct Scenario {
     name: &'static str,
-    write: fn(&mut Dice, u8) -> Vec<u8>,
+    write: fn(&mut Dice, Crew) -> Vec<u8>,
 }
 
 /// About how many events the run of a seed has.
@@ -30,12 +30,15 @@ const SCENARIOS: [Scenario; 11] = [
     Scenario { name: "spoiled", write: spoiled },
 ];
 
-/// The scenario of a seed and its run file. The number of tasks goes round with the seeds.
+/// The scenario of a seed and its run file. The number of tasks goes round with the seeds;
+/// every second queue is pooled, of each size in turn.
 pub fn of_seed(seed: u64) -> (&'static str, Vec<u8>) {
-    let round = SCENARIOS.len() as u64;
-    let scenario = &SCENARIOS[(seed % round) as usize];
-    let crew = 1 + seed / round % MOST_TASKS;
-    (scenario.name, (scenario.write)(&mut Dice::new(seed), crew as u8))
+    let round = seed / SCENARIOS.len() as u64;
+    let scenario = &SCENARIOS[(seed % SCENARIOS.len() as u64) as usize];
+    let tasks = 1 + round % MOST_TASKS;
+    let pooled = (round + round / MOST_TASKS) % 2 == 1;
+    let crew = Crew { tasks: tasks as u8, pooled };
+    (scenario.name, (scenario.write)(&mut Dice::new(seed), crew))
 }
 
 /// The names of all scenarios.
@@ -53,10 +56,10 @@ fn low_tag(dice: &mut Dice) -> u32 {
 }
 
 /// Any task acts next.
-fn crowd(dice: &mut Dice, tasks: u8) -> Vec<u8> {
+fn crowd(dice: &mut Dice, crew: Crew) -> Vec<u8> {
     let slots = dice.pick(&[1, 2, 3, 5, 8, 17, 40]);
     let tag = low_tag(dice);
-    let mut shift = Shift::open(dice, tasks, slots, tag);
+    let mut shift = Shift::open(dice, crew, slots, tag);
     for _ in 0..EVENTS {
         let task = shift.anyone();
         shift.act(task);
@@ -65,10 +68,10 @@ fn crowd(dice: &mut Dice, tasks: u8) -> Vec<u8> {
 }
 
 /// One task acts for a long while, then another.
-fn bursts(dice: &mut Dice, tasks: u8) -> Vec<u8> {
+fn bursts(dice: &mut Dice, crew: Crew) -> Vec<u8> {
     let slots = dice.between(1, 64) as u16;
     let tag = low_tag(dice);
-    let mut shift = Shift::open(dice, tasks, slots, tag);
+    let mut shift = Shift::open(dice, crew, slots, tag);
     let mut left = EVENTS;
     while left > 0 {
         let task = shift.anyone();
@@ -80,31 +83,30 @@ fn bursts(dice: &mut Dice, tasks: u8) -> Vec<u8> {
 }
 
 /// All tasks in turn, now and then one misses its turn.
-fn turns(dice: &mut Dice, crew: u8) -> Vec<u8> {
-    let tasks = crew.clamp(2, 8);
+fn turns(dice: &mut Dice, crew: Crew) -> Vec<u8> {
+    let crew = crew.clamp(2, 8);
     let slots = dice.between(2, 9) as u16;
     let tag = low_tag(dice);
-    let mut shift = Shift::open(dice, tasks, slots, tag);
+    let mut shift = Shift::open(dice, crew, slots, tag);
     for turn in 0..EVENTS {
         if !shift.dice.percent(5) {
-            shift.act((turn % usize::from(tasks)) as u8);
+            shift.act((turn % usize::from(crew.tasks)) as u8);
         }
     }
     shift.script.finish()
 }
 
-fn starve(dice: &mut Dice, crew: u8) -> Vec<u8> {
-    let tasks = crew.clamp(2, 6);
+fn starve(dice: &mut Dice, crew: Crew) -> Vec<u8> {
     let slots = dice.between(2, 7) as u16;
     let tag = low_tag(dice);
-    starve_in(Shift::open(dice, tasks, slots, tag))
+    starve_in(Shift::open(dice, crew.clamp(2, 6), slots, tag))
 }
 
 /// Three slots or so: whoever sleeps finds his slots used again.
-fn starve_few_slots(dice: &mut Dice, crew: u8) -> Vec<u8> {
-    let tasks = 2 + crew % 2;
+fn starve_few_slots(dice: &mut Dice, crew: Crew) -> Vec<u8> {
+    let crew = Crew { tasks: 2 + crew.tasks % 2, ..crew };
     let slots = dice.between(2, 3) as u16;
-    let mut shift = Shift::open(dice, tasks, slots, 0);
+    let mut shift = Shift::open(dice, crew, slots, 0);
     shift.pops = 50;
     shift.lefts = 50;
     shift.nonsense = 0;
@@ -112,7 +114,7 @@ fn starve_few_slots(dice: &mut Dice, crew: u8) -> Vec<u8> {
 }
 
 /// Nearly everything happens at one end, left or right.
-fn starve_one_end(dice: &mut Dice, crew: u8) -> Vec<u8> {
+fn starve_one_end(dice: &mut Dice, crew: Crew) -> Vec<u8> {
     let slots = dice.between(3, 5) as u16;
     let mut shift = Shift::open(dice, crew.clamp(2, 4), slots, 0);
     shift.lefts = shift.dice.pick(&[5, 95]);
@@ -124,7 +126,10 @@ fn starve_in(mut shift: Shift) -> Vec<u8> {
     let mut asleep = 0;
     while asleep < EVENTS {
         let victim = shift.anyone();
-        let place = shift.dice.pick(&[2, 4, 4, 6, 7, 7, 8, 9, 9, 9, 10, 11]);
+        let place = match shift.pooled && shift.dice.percent(40) {
+            false => shift.dice.pick(&[2, 4, 4, 6, 7, 7, 8, 9, 9, 9, 10, 11]),
+            true => shift.dice.pick(&[1, 11, 12, 13, 14, 14, 15, 16, 17, 17]),
+        };
         shift.bring_to(victim, place);
         let nap = shift.dice.pick(&[2, 8, 20, 40, 60, 90]) as usize;
         for _ in 0..nap {
@@ -139,14 +144,14 @@ fn starve_in(mut shift: Shift) -> Vec<u8> {
 }
 
 /// Many slots: the queue fills, is emptied, and fills again.
-fn wide(dice: &mut Dice, tasks: u8) -> Vec<u8> {
+fn wide(dice: &mut Dice, crew: Crew) -> Vec<u8> {
     let slots = match dice.between(0, 3) {
         0 => 1_023,
         1 => dice.pick(&[63, 64, 65, 127, 128]),
         _ => dice.between(65, 1_022) as u16,
     };
     let tag = low_tag(dice);
-    let mut shift = Shift::open(dice, tasks, slots, tag);
+    let mut shift = Shift::open(dice, crew, slots, tag);
     for event in 0..EVENTS / 4 {
         if event % (EVENTS / 16) == 0 {
             shift.pops = if shift.pops < 50 { 90 } else { 15 };
@@ -158,14 +163,14 @@ fn wide(dice: &mut Dice, tasks: u8) -> Vec<u8> {
 }
 
 /// Tags at the end of their range: starts are refused 33 and the busy run out.
-fn worn_tags(dice: &mut Dice, tasks: u8) -> Vec<u8> {
+fn worn_tags(dice: &mut Dice, crew: Crew) -> Vec<u8> {
     let slots = dice.between(1, 20) as u16;
     let tag = match dice.between(0, 4) {
         0 => LAST_START_TAG,
         1 => dice.between(LAST_START_TAG + 1, LAST_TAG),
         _ => LAST_START_TAG - dice.between(0, 40),
     };
-    let mut shift = Shift::open(dice, tasks, slots, tag as u32);
+    let mut shift = Shift::open(dice, crew, slots, tag as u32);
     for _ in 0..EVENTS / 20 {
         let task = shift.anyone();
         shift.act(task);
@@ -174,10 +179,10 @@ fn worn_tags(dice: &mut Dice, tasks: u8) -> Vec<u8> {
 }
 
 /// Every second call is nonsense.
-fn nonsense(dice: &mut Dice, tasks: u8) -> Vec<u8> {
+fn nonsense(dice: &mut Dice, crew: Crew) -> Vec<u8> {
     let slots = dice.pick(&[1, 2, 4, 64, 1_023]);
     let tag = low_tag(dice);
-    let mut shift = Shift::open(dice, tasks, slots, tag);
+    let mut shift = Shift::open(dice, crew, slots, tag);
     shift.nonsense = 50;
     for _ in 0..EVENTS / 4 {
         let task = shift.anyone();
@@ -187,8 +192,8 @@ fn nonsense(dice: &mut Dice, tasks: u8) -> Vec<u8> {
 }
 
 /// A short run with a few bytes written over, or its end torn off.
-fn spoiled(dice: &mut Dice, tasks: u8) -> Vec<u8> {
-    let mut shift = Shift::open(dice, tasks, 3, 0);
+fn spoiled(dice: &mut Dice, crew: Crew) -> Vec<u8> {
+    let mut shift = Shift::open(dice, crew, 3, 0);
     for _ in 0..100 {
         let task = shift.anyone();
         shift.act(task);
@@ -196,7 +201,7 @@ fn spoiled(dice: &mut Dice, tasks: u8) -> Vec<u8> {
     let mut file = shift.script.finish();
     for _ in 0..dice.between(0, 2) {
         let place = dice.throw() as usize % file.len();
-        file[place] = dice.pick(&[0, 1, 2, 3, 4, 5, 255]);
+        file[place] = dice.pick(&[0, 1, 2, 3, 4, 5, 6, 7, 255]);
     }
     if dice.percent(50) {
         file.truncate(dice.throw() as usize % file.len());
@@ -208,7 +213,7 @@ fn spoiled(dice: &mut Dice, tasks: u8) -> Vec<u8> {
 /// queue stays about half full.
 pub fn load(dice: &mut Dice, steps: usize) -> Vec<u8> {
     const SLOTS: u16 = 256;
-    let mut shift = Shift::open(dice, 8, SLOTS, 0);
+    let mut shift = Shift::open(dice, Crew { tasks: 8, pooled: false }, SLOTS, 0);
     shift.nonsense = 0;
     shift.lefts = 50;
     let mut waiting = 0_i32;

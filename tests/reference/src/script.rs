@@ -2,7 +2,7 @@
 //! every task stands before it decides what comes next.
 
 use crate::machine::Answer;
-use crate::runfile::{append, MOST_STEPS, OPEN, POP, PUSH, STEPS};
+use crate::runfile::{append, MOST_STEPS, OPEN, OPEN_POOLED, POP, PUSH, PUSH_POOLED, STEPS};
 use crate::tables::{Record, Storage};
 
 pub struct Script {
@@ -14,13 +14,26 @@ pub struct Script {
 impl Script {
     /// Begins with an opening, which must be one that is accepted.
     pub fn open(tasks: u8, slots: u16, first_tag: u32) -> Script {
+        let mut script = Script::begin(OPEN, tasks, slots, first_tag);
+        let opened = script.stage.lend().open(tasks.into(), slots.into(), first_tag);
+        opened.expect("a script begins with an accepted opening");
+        script
+    }
+
+    /// Begins with a pooled opening.
+    pub fn open_pooled(tasks: u8, slots: u16, first_tag: u32) -> Script {
+        let mut script = Script::begin(OPEN_POOLED, tasks, slots, first_tag);
+        let opened = script.stage.lend().open_pooled(tasks.into(), slots.into(), first_tag);
+        opened.expect("a script begins with an accepted opening");
+        script
+    }
+
+    fn begin(tag: u8, tasks: u8, slots: u16, first_tag: u32) -> Script {
         let mut script = Script { file: Vec::new(), steps: Vec::new(), stage: Storage::default() };
         let mut content = vec![tasks];
         content.extend_from_slice(&slots.to_be_bytes());
         content.extend_from_slice(&first_tag.to_be_bytes());
-        append(&mut script.file, OPEN, &content);
-        let opened = script.stage.lend().open(tasks.into(), slots.into(), first_tag);
-        opened.expect("a script begins with an accepted opening");
+        append(&mut script.file, tag, &content);
         script
     }
 
@@ -32,6 +45,15 @@ impl Script {
         content.extend_from_slice(&label.to_be_bytes());
         append(&mut self.file, PUSH, &content);
         self.stage.lend().push(task.into(), side.into(), slot.into(), label).is_ok()
+    }
+
+    /// Starts a push that names no slot; whether it was accepted.
+    pub fn push_pooled(&mut self, task: u8, side: u8, label: u32) -> bool {
+        self.end_steps();
+        let mut content = vec![task, side];
+        content.extend_from_slice(&label.to_be_bytes());
+        append(&mut self.file, PUSH_POOLED, &content);
+        self.stage.lend().push_pooled(task.into(), side.into(), label).is_ok()
     }
 
     /// Starts a pop; whether it was accepted.

@@ -87,17 +87,12 @@ fn out_of_order(waiting: &[u32], first: u32, second: u32) -> bool {
     (0..waiting.len()).any(|at| waiting[at] == second && waiting[at..].contains(&first))
 }
 
-fn judge(
-    shared: &Shared,
-    listed: &[u32],
-    rules: &[u32],
-    enough: bool,
-) -> Result<Verdict, Refusal> {
+fn judge(shared: &Shared, listed: &[u32], rules: &[u32], enough: bool) -> Result<Verdict, Refusal> {
     control_sound(shared.control)?;
     if !well_formed(listed, rules) {
         return Err(Refusal::Sheet);
     }
-    shared_long_enough(shared, shared.control.slots)?;
+    shared_long_enough(shared, shared.control.slots, false)?;
     if !enough {
         return Err(Refusal::Short);
     }

@@ -4,6 +4,20 @@
 use crate::dice::Dice;
 use crate::script::Script;
 
+/// How many tasks a queue is opened for, and in which way.
+#[derive(Clone, Copy)]
+pub struct Crew {
+    pub tasks: u8,
+    pub pooled: bool,
+}
+
+impl Crew {
+    /// The same way of opening with a number of tasks within limits.
+    pub fn clamp(self, least: u8, most: u8) -> Crew {
+        Crew { tasks: self.tasks.clamp(least, most), ..self }
+    }
+}
+
 /// Tasks at work on a script, with their habits in percent.
 pub struct Shift<'a> {
     pub dice: &'a mut Dice,
@@ -11,16 +25,21 @@ pub struct Shift<'a> {
     pub pops: u64,
     pub lefts: u64,
     pub nonsense: u64,
+    pub pooled: bool,
     tasks: u8,
     slots: u16,
 }
 
 impl<'a> Shift<'a> {
-    pub fn open(dice: &'a mut Dice, tasks: u8, slots: u16, first_tag: u32) -> Shift<'a> {
-        let script = Script::open(tasks, slots, first_tag);
+    pub fn open(dice: &'a mut Dice, crew: Crew, slots: u16, first_tag: u32) -> Shift<'a> {
+        let Crew { tasks, pooled } = crew;
+        let script = match pooled {
+            false => Script::open(tasks, slots, first_tag),
+            true => Script::open_pooled(tasks, slots, first_tag),
+        };
         let pops = dice.pick(&[40, 50, 60]);
         let lefts = dice.pick(&[10, 50, 50, 90]);
-        Shift { dice, script, tasks, slots, pops, lefts, nonsense: 1 }
+        Shift { dice, script, tasks, slots, pops, lefts, nonsense: 1, pooled }
     }
 
     pub fn anyone(&mut self) -> u8 {
@@ -65,6 +84,9 @@ impl<'a> Shift<'a> {
         } else if self.dice.percent(self.pops) {
             let side = self.side();
             self.script.pop(task, side);
+        } else if self.pooled {
+            let (side, label) = (self.side(), self.label());
+            self.script.push_pooled(task, side, label);
         } else {
             let (side, slot, label) = (self.side(), self.slot(), self.label());
             self.script.push(task, side, slot, label);
@@ -82,10 +104,11 @@ impl<'a> Shift<'a> {
             2 => self.slots + 1,
             _ => self.dice.throw() as u16,
         };
-        match self.dice.between(0, 4) {
+        match self.dice.between(0, 6) {
             0 | 1 => drop(self.script.push(task, side, slot, 77)),
-            2 => drop(self.script.pop(task, side)),
-            3 => self.script.no_steps(),
+            2 | 3 => drop(self.script.push_pooled(task, side, 78)),
+            4 => drop(self.script.pop(task, side)),
+            5 => self.script.no_steps(),
             _ => drop(self.script.step(task)),
         }
     }

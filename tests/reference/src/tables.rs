@@ -8,6 +8,11 @@ pub const POP: u64 = 1;
 pub const MOST_TASKS: u64 = 16;
 pub const MOST_SLOTS: u64 = 1_023;
 
+/// The two ways to open, as control tells them: #104.
+pub const NAMED: u64 = 0;
+pub const POOLED: u64 = 1;
+
+/// `head` is the top of the stack of free slots, laid out like a link word; 0 if named.
 #[repr(C)]
 #[derive(Clone, Copy, Debug, Default, PartialEq, Eq, Hash)]
 pub struct Control {
@@ -15,6 +20,8 @@ pub struct Control {
     pub slots: u64,
     pub anchor: u64,
     pub retries: u64,
+    pub pooled: u64,
+    pub head: u64,
 }
 
 /// A task record; `seen` is the Anchor as read, `link` the link word as read.
@@ -39,6 +46,8 @@ pub struct Shared<'a> {
     pub rights: &'a mut [u64],
     pub labels: &'a mut [u32],
     pub marks: &'a mut [u64],
+    /// Below each stacked slot the next one; only a pooled queue looks at it.
+    pub next: &'a mut [u64],
 }
 
 /// The shared tables with the records side by side.
@@ -48,6 +57,11 @@ pub struct Tables<'a> {
 }
 
 impl Shared<'_> {
+    /// Whether the queue was opened with its slots in a pool.
+    pub fn is_pooled(&self) -> bool {
+        self.control.pooled == POOLED
+    }
+
     /// The Left links of all rows, or the Right links.
     pub fn links(&self, side: Side) -> &[u64] {
         match side {
@@ -85,6 +99,7 @@ pub struct Storage {
     pub rights: Vec<u64>,
     pub labels: Vec<u32>,
     pub marks: Vec<u64>,
+    pub next: Vec<u64>,
     pub records: Vec<Record>,
 }
 
@@ -104,6 +119,7 @@ impl Storage {
             rights: vec![0; rows],
             labels: vec![0; rows],
             marks: vec![0; slots as usize / 64 + 1],
+            next: vec![0; rows],
             records: vec![Record::default(); tasks as usize],
         }
     }
@@ -116,6 +132,7 @@ impl Storage {
                 rights: &mut self.rights,
                 labels: &mut self.labels,
                 marks: &mut self.marks,
+                next: &mut self.next,
             },
             records: &mut self.records,
         }

@@ -44,7 +44,7 @@ impl<W: Write> Page<W> {
             Call::Step => self.text.extend_from_slice(b" step "),
             Call::Push { .. } => self.text.extend_from_slice(b" push "),
             Call::Pop { .. } => self.text.extend_from_slice(b" pop "),
-            Call::Open => self.text.extend_from_slice(b" open "),
+            Call::Open { .. } => self.text.extend_from_slice(b" open "),
             Call::File => self.text.extend_from_slice(b" file "),
         }
         write_reply(&mut self.text, event.reply);
@@ -69,6 +69,7 @@ fn write_reply(text: &mut Vec<u8>, reply: Reply) {
         Reply::Moved(Moved::Running(place)) => numbered(text, b"at", place),
         Reply::Moved(Moved::Pushed) => text.extend_from_slice(b"pushed"),
         Reply::Moved(Moved::Empty) => text.extend_from_slice(b"empty"),
+        Reply::Moved(Moved::NoSlot) => text.extend_from_slice(b"noslot"),
         Reply::Moved(Moved::Popped { slot, label }) => {
             numbered(text, b"got:", slot);
             numbered(text, b":", label.into());

@@ -1,6 +1,6 @@
 //! Document 01's worked example and its bench cases, on the library.
 
-use reference::machine::Moved::{self, Empty, Popped, Pushed, Running};
+use reference::machine::Moved::{self, Empty, NoSlot, Popped, Pushed, Running};
 use reference::refusal::Refusal;
 use reference::run::{run, Nobody};
 use reference::tables::{Control, Record, Storage, POP, PUSH};
@@ -182,6 +182,87 @@ fn sixteen_pushes_at_the_last_tag() {
     assert_eq!(storage.control.anchor >> 32, 4_294_967_262 + 31);
 }
 
+/// A pooled queue with one task and so many slots.
+fn pooled(slots: u64) -> Storage {
+    let mut storage = Storage::default();
+    storage.lend().open_pooled(1, slots, 7).expect("opens");
+    storage
+}
+
+#[test]
+fn a_pooled_opening() {
+    let mut storage = Storage::default();
+    storage.next.fill(9);
+    storage.lend().open_pooled(2, 3, 0xffff_ffff).expect("opens");
+    let anchor = 0xffff_ffff << 32;
+    let control = Control { tasks: 2, slots: 3, anchor, retries: 0, pooled: 1, head: 1 };
+    assert_eq!(storage.control, control);
+    assert_eq!(storage.next[..5], [0, 2, 3, 0, 9]);
+    let before = storage.next.clone();
+    storage.lend().open(2, 3, 0).expect("opens");
+    assert_eq!((storage.control.pooled, storage.control.head), (0, 0));
+    assert_eq!(storage.next, before, "a named opening leaves the next table");
+    storage.next.truncate(3);
+    assert_eq!(storage.lend().open_pooled(2, 3, 0), Err(Refusal::Short));
+    assert_eq!(storage.lend().open_pooled(17, 1_024, 0), Err(Refusal::Tasks));
+    assert_eq!(storage.lend().open_pooled(16, 1_024, 0), Err(Refusal::Slots));
+    assert_eq!(storage.lend().open(2, 3, 0), Ok(()), "nor looks at its length");
+}
+
+/// One push and one pop alone, and head and next table after each.
+#[test]
+fn a_slot_from_the_pool_and_back() {
+    let mut storage = pooled(2);
+    storage.lend().push_pooled(0, 1, 700).expect("starts");
+    let started = Record { place: 12, side: 1, label: 700, ..Record::default() };
+    assert_eq!(storage.records[0], started);
+    assert_eq!((storage.control.head, storage.marks[0], storage.labels[1]), (1, 0, 0));
+    let moved = [12, 13, 14].map(|_| storage.lend().step(0));
+    assert_eq!(moved, [Ok(Running(13)), Ok(Running(14)), Ok(Running(1))]);
+    assert_eq!(storage.control.head, 0x0000_0001_0000_0002);
+    assert_eq!((storage.marks[0], storage.labels[1]), (2, 700));
+    let got = Record { place: 1, own: 1, neighbour: 2, link: 1, ..started };
+    assert_eq!(storage.records[0], got, "link and neighbour stay");
+    assert_eq!(finish(&mut storage, 0), (2, Pushed));
+    storage.lend().pop(0, 0).expect("starts");
+    let moved = [1, 2, 11].map(|_| storage.lend().step(0));
+    assert_eq!(moved, [Ok(Running(2)), Ok(Running(11)), Ok(Running(15))]);
+    assert_eq!((storage.marks[0], storage.records[0].own, storage.records[0].label), (0, 1, 700));
+    assert_eq!(finish(&mut storage, 0), (3, Popped { slot: 1, label: 700 }));
+    assert_eq!(storage.control.head, 0x0000_0002_0000_0001);
+    assert_eq!(storage.next[..3], [0, 2, 0]);
+    assert_eq!(storage.records[0], Record::default());
+}
+
+#[test]
+fn the_pool_runs_out() {
+    let mut storage = pooled(1);
+    for (steps, answer) in [(5, Pushed), (1, NoSlot), (1, NoSlot)] {
+        storage.lend().push_pooled(0, 0, 1).expect("starts");
+        assert_eq!(finish(&mut storage, 0), (steps, answer));
+    }
+    assert_eq!(storage.records[0], Record::default());
+    assert_eq!(storage.control.head, 0x0000_0001_0000_0000);
+}
+
+/// 41 stands between 14 and 15, before all that the record and the marks decide.
+#[test]
+fn the_wrong_push() {
+    let mut storage = pooled(1);
+    assert_eq!(storage.lend().push(1, 2, 5, 0), Err(Refusal::NoTask));
+    assert_eq!(storage.lend().push(0, 2, 5, 0), Err(Refusal::NoSide));
+    assert_eq!(storage.lend().push(0, 0, 5, 0), Err(Refusal::WrongPush));
+    storage.records[0].place = 99;
+    assert_eq!(storage.lend().push(0, 0, 1, 0), Err(Refusal::WrongPush));
+    assert_eq!(storage.lend().push_pooled(0, 0, 0), Err(Refusal::Unsound));
+    let mut storage = opened(1, 1, 4_294_967_263);
+    assert_eq!(storage.lend().push_pooled(0, 0, 0), Err(Refusal::WrongPush));
+    storage.control.pooled = 1;
+    assert_eq!(storage.lend().push_pooled(0, 0, 0), Err(Refusal::WornTag));
+    storage.control.pooled = 2;
+    assert_eq!(storage.lend().push_pooled(0, 0, 0), Err(Refusal::Unsound));
+}
+
 #[test]
 fn the_report_counts() {
     let mut storage = two_waiting();
@@ -198,9 +279,9 @@ fn an_opening_keeps_what_lies_beyond() {
     let mut storage = Storage::default();
     storage.lefts.fill(7);
     storage.marks.fill(7);
-    storage.records.iter_mut().for_each(|record| record.place = 12);
+    storage.records.iter_mut().for_each(|record| record.place = 18);
     storage.lend().open(2, 64, 5).expect("opens");
     assert_eq!((storage.lefts[64], storage.lefts[65]), (0, 7));
     assert_eq!((storage.marks[1], storage.marks[2]), (0, 7));
-    assert_eq!((storage.records[1].place, storage.records[2].place), (0, 12));
+    assert_eq!((storage.records[1].place, storage.records[2].place), (0, 18));
 }

@@ -1,6 +1,7 @@
 //! All interleavings of a few short calls, judged at every event: not a sample, every one.
 
 use reference::check::Judge;
+use reference::machine::Moved;
 use reference::run::{Call, Event, Reply, Watcher};
 use reference::tables::Storage;
 use std::collections::HashSet;
@@ -26,9 +27,20 @@ struct World {
 
 impl World {
     fn new(wishes: Vec<Vec<Wish>>) -> World {
+        World::named(SLOTS, wishes)
+    }
+
+    fn named(slots: u64, wishes: Vec<Vec<Wish>>) -> World {
         let tasks = wishes.len() as u64;
-        let mut storage = Storage::fitting(tasks, SLOTS);
-        storage.lend().open(tasks, SLOTS, 0).expect("opens");
+        let mut storage = Storage::fitting(tasks, slots);
+        storage.lend().open(tasks, slots, 0).expect("opens");
+        World { storage, judge: Judge::default(), wishes }
+    }
+
+    fn pooled(slots: u64, wishes: Vec<Vec<Wish>>) -> World {
+        let tasks = wishes.len() as u64;
+        let mut storage = Storage::fitting(tasks, slots);
+        storage.lend().open_pooled(tasks, slots, 0).expect("opens");
         World { storage, judge: Judge::default(), wishes }
     }
 
@@ -58,17 +70,22 @@ impl World {
                 tables.pop(task.into(), side.into()).expect("an idle task starts");
                 Call::Pop { side }
             }
+            Wish::Push(side) if tables.shared.is_pooled() => {
+                tables.push_pooled(task.into(), side.into(), task.into()).expect("starts");
+                Call::Push { side, slot: None, label: task.into() }
+            }
             Wish::Push(side) => {
-                let slot = (1..=SLOTS).find(|&slot| !tables.shared.is_marked(slot))?;
+                let slots = tables.shared.control.slots;
+                let slot = (1..=slots).find(|&slot| !tables.shared.is_marked(slot))?;
                 tables.push(task.into(), side.into(), slot, task.into()).expect("a free slot");
-                Call::Push { side, slot: slot as u16, label: task.into() }
+                Call::Push { side, slot: Some(slot as u16), label: task.into() }
             }
         })
     }
 }
 
-/// Visits every world that the wishes can lead to; how many there are.
-fn explore(first: World) -> usize {
+/// Every world that the wishes can lead to.
+fn explored(first: World) -> HashSet<World> {
     let tasks = first.wishes.len() as u8;
     let mut seen = HashSet::from([first.clone()]);
     let mut open = vec![first];
@@ -79,7 +96,28 @@ fn explore(first: World) -> usize {
             }
         }
     }
-    seen.len()
+    seen
+}
+
+/// Visits every world that the wishes can lead to; how many there are.
+fn explore(first: World) -> usize {
+    explored(first).len()
+}
+
+/// The most steps that a push and a pop need to their answers, stepped alone from any of the worlds.
+fn longest_alone(worlds: &HashSet<World>) -> [u64; 2] {
+    let mut longest = [0, 0];
+    for world in worlds {
+        for (task, record) in world.storage.records.iter().enumerate() {
+            if record.place != 0 {
+                let (answer, steps) = world.storage.clone().lend().run(task as u64, 100);
+                assert!(!matches!(answer, Ok(Moved::Running(_)) | Err(_)), "{answer:?}");
+                let most = &mut longest[record.kind as usize];
+                *most = steps.max(*most);
+            }
+        }
+    }
+    longest
 }
 
 /// A world with one label waiting, slot 1.
@@ -118,4 +156,48 @@ fn three_tasks_with_a_call_each() {
     let worlds: usize =
         crews.iter().map(|crew| explore(one_waiting(crew.map(|wish| vec![wish]).to_vec()))).sum();
     assert!(worlds > 190_000, "only {worlds} worlds");
+}
+
+#[test]
+fn two_tasks_share_a_pool() {
+    let mut worlds = 0;
+    for slots in [1, 2] {
+        for first in WISHES {
+            for second in WISHES {
+                let wishes = vec![vec![Wish::Pop(0), first], vec![Wish::Push(1), second]];
+                worlds += explore(World::pooled(slots, wishes.clone()));
+                let longer =
+                    wishes.into_iter().map(|wishes| [wishes, vec![Wish::Push(0)]].concat());
+                worlds += explore(World::pooled(slots, longer.collect()));
+            }
+        }
+    }
+    assert!(worlds > 100_000, "only {worlds} worlds");
+}
+
+#[test]
+fn three_tasks_share_a_pool() {
+    let (left, right) = (0, 1);
+    let crews = [
+        [vec![Wish::Push(right)], vec![Wish::Push(left)], vec![Wish::Pop(left), Wish::Push(right)]],
+        [vec![Wish::Push(right)], vec![Wish::Pop(left)], vec![Wish::Pop(right), Wish::Push(left)]],
+    ];
+    let worlds: usize = crews.map(|crew| explore(World::pooled(2, crew.to_vec()))).iter().sum();
+    assert!(worlds > 100_000, "only {worlds} worlds");
+}
+
+/// Document 02, #108, for named slots; in a pool the places 12 to 17 come to it.
+#[test]
+fn the_longest_ways_alone() {
+    let wishes = [
+        vec![vec![Wish::Push(1); 3], vec![Wish::Push(1)]],
+        vec![vec![Wish::Push(1); 3], vec![Wish::Pop(1)]],
+        vec![vec![Wish::Push(0); 2], vec![Wish::Push(1), Wish::Pop(0)]],
+    ];
+    let longest = |open: fn(Vec<Vec<Wish>>) -> World| {
+        let each = wishes.clone().map(|wishes| longest_alone(&explored(open(wishes))));
+        each.into_iter().reduce(|one, other| [one[0].max(other[0]), one[1].max(other[1])])
+    };
+    assert_eq!(longest(|wishes| World::named(4, wishes)), Some([18, 13]));
+    assert_eq!(longest(|wishes| World::pooled(4, wishes)), Some([21, 16]));
 }

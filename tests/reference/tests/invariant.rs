@@ -38,6 +38,28 @@ fn pop_at(place: u64) -> Storage {
     script.stage().clone()
 }
 
+/// A pooled queue: slot 1 waits, 2 and 3 are stacked; task 0 pushes and stands at a place.
+fn pooled_push_at(place: u64) -> Storage {
+    let mut script = Script::open_pooled(2, 3, 0);
+    script.push_pooled(0, 1, 100);
+    bring_to(&mut script, 0);
+    script.push_pooled(0, 1, 300);
+    bring_to(&mut script, place);
+    script.stage().clone()
+}
+
+/// A pooled queue: slot 3 is stacked, 1 waits; task 0 pops slot 2 and stands at a place.
+fn pooled_pop_at(place: u64) -> Storage {
+    let mut script = Script::open_pooled(2, 3, 0);
+    for label in [100, 200] {
+        script.push_pooled(0, 1, label);
+        bring_to(&mut script, 0);
+    }
+    script.pop(0, 1);
+    bring_to(&mut script, place);
+    script.stage().clone()
+}
+
 /// The state is sound, and after the spoiling this line objects.
 fn breaks(line: u32, mut storage: Storage, spoil: impl FnOnce(&mut Storage)) {
     let queue = waiting(&storage.lend().shared).expect("a whole queue").into();
@@ -95,6 +117,33 @@ fn the_back_link() {
     breaks(11, push_at(9), |s| s.records[0].link = Link::new(0, 1).0);
     breaks(12, push_at(9), overtake);
     breaks(13, push_at(9), |s| s.records[0].place = 10);
-    breaks(14, push_at(3), |s| s.records[0].place = 0);
-    breaks(14, pop_at(1), |s| s.marks[0] |= 1 << 3);
+    breaks(21, push_at(3), |s| s.records[0].place = 0);
+    breaks(21, pop_at(1), |s| s.marks[0] |= 1 << 3);
+}
+
+#[test]
+fn the_pool() {
+    breaks(14, pooled_push_at(12), |s| s.next[3] = 2);
+    breaks(14, pooled_push_at(12), |s| s.control.head = Link::new(1, 1).0);
+    breaks(15, pooled_push_at(12), |s| s.next[2] = 0);
+    breaks(15, pooled_push_at(12), |s| s.control.head = Link::new(1, 0).0);
+    breaks(16, pooled_push_at(12), |s| s.control.head |= 1 << 15);
+    breaks(16, pooled_push_at(12), |s| s.next[1] = 4);
+    breaks(17, pooled_push_at(12), |s| s.control.head += 1 << 32);
+    breaks(17, pooled_push_at(14), |s| s.control.head += 1 << 32);
+}
+
+#[test]
+fn the_pool_as_read() {
+    breaks(0, pooled_push_at(13), |s| s.records[0].link = 0);
+    breaks(0, pooled_push_at(14), |s| s.records[0].own = 2);
+    breaks(18, pooled_push_at(13), |s| s.records[0].link = Link::new(1, 3).0);
+    breaks(19, pooled_push_at(14), |s| s.records[0].neighbour = 1);
+    breaks(19, pooled_push_at(14), |s| s.records[0].link = Link::new(1, 3).0);
+    breaks(20, pooled_pop_at(17), |s| s.next[2] = 0);
+    breaks(8, pooled_pop_at(16), |s| s.records[0].own = 1);
+    breaks(8, pooled_pop_at(16), |s| s.marks[0] |= 1 << 2);
+    breaks(8, pooled_pop_at(11), |s| s.marks[0] &= !(1 << 2));
+    breaks(7, pooled_push_at(1), |s| s.marks[0] &= !(1 << 2));
+    breaks(21, pooled_push_at(13), |s| s.marks[0] |= 1 << 2);
 }

@@ -9,11 +9,15 @@ const WORKED_EXAMPLE: &str =
     "01000702000300000000 02000800010001000002bc 0400020000 0300020100 040003010101";
 
 /// Texts and the bytes that they become.
-const BECOMES: [(&str, &str); 9] = [
+const BECOMES: [(&str, &str); 13] = [
     ("# nothing at all", ""),
     ("open 16 1023 4294967295", "0100071003ffffffffff"),
     ("  push 255 left 65535 4294967295 # all at their most", "020008ff00ffffffffffff"),
     ("push 1 right 258 16909060", "0200080101010201020304"),
+    ("open 2 3 258 pooled", "05000702000300000102"),
+    ("open 16 1023 4294967295 pooled", "0500071003ffffffffff"),
+    ("push 1 right 16909060", "060006010101020304"),
+    ("push 255 255 4294967295", "060006ffffffffffff"),
     ("pop 3 right", "0300020301"),
     ("pop 3 200", "03000203c8"),
     ("step", "040000"),
@@ -22,8 +26,11 @@ const BECOMES: [(&str, &str); 9] = [
 ];
 
 /// Texts that are refused, the message, and the bytes of the lines before.
-const REFUSES: [(&str, &str, &str); 23] = [
-    ("open 1 1", "1: open takes 3 words, found 2", ""),
+const REFUSES: [(&str, &str, &str); 31] = [
+    ("open 1 1", "1: open takes 3 or 4 words, found 2", ""),
+    ("open 1 1 0 pooled 0", "1: open takes 3 or 4 words, found 5", ""),
+    ("open 1 1 0 named", "1: not pooled: named", ""),
+    ("open 1 65536 0 pooled", "1: slots is above 65535: 65536", ""),
     ("open 256 1 0", "1: tasks is above 255: 256", ""),
     ("open 1 65536 0", "1: slots is above 65535: 65536", ""),
     ("open 1 1 4294967296", "1: first tag is above 4294967295: 4294967296", ""),
@@ -32,6 +39,11 @@ const REFUSES: [(&str, &str, &str); 23] = [
         "4: side is not left, right or a number: up",
         "01000701000100000000",
     ),
+    ("push 0 left", "1: push takes 3 or 4 words, found 2", ""),
+    ("push 0 left 1 1 1", "1: push takes 3 or 4 words, found 5", ""),
+    ("push 256 left 1", "1: task is above 255: 256", ""),
+    ("push 0 up 1", "1: side is not left, right or a number: up", ""),
+    ("push 0 left 4294967296", "1: label is above 4294967295: 4294967296", ""),
     ("push 0 256 1 1", "1: side is above 255: 256", ""),
     ("push 0 left 65536 1", "1: slot is above 65535: 65536", ""),
     ("push 0 left 1 -1", "1: label is not a number: -1", ""),

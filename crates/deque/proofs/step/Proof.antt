@@ -35,10 +35,10 @@ use denote.Memory.{cellAt, mem, shares}
 use denote.Plain.{uint-makes, uint-vals, uint-tells, uint-lawful, bool-lawful}
 use denote.Builtin.{u32, u64, usize}
 use denote.Ref.{RefT, MutRef, ptr-vals, mut-tells}
-use denote.Slice.{sliceVal, Room, at-slice, slice-vals, MutSlice, mut-slice-tells, ShrSlice, shr-slice-tells, finally, codedHoleys, heres}
+use denote.Slice.{sliceVal, Room, at-slice, slice-vals, MutSlice, mut-slice-tells, finally, codedHoleys, heres}
 use denote.Lend.{Held}
 use denote.Index.{place, place-is, others, elem-out, elem-put, opens-slice, closes-slice}
-use denote.Signature.{plain, shrSliceOf}
+use denote.Signature.{plain}
 use denote.Steps.{only, opens, closes, owned, facts, heard, nothing}
 use denote.Struct.Steps.{spelt}
 use denote.Struct.Laws as LL
@@ -49,7 +49,7 @@ use denote.Triple.Clauses.{ensured, lasts}
 use denote.Triple.Entry.{onEntry}
 use denote.Triple.Spec.{Meets, tripleOf}
 use denote.Triple.Table.{entered, cited}
-use denote.Triple.Walked.{says, Stays, walkOf, Walks, ends-at, walked, walk-meets, stay-ref, goes-ref, stay-slice, goes-slice, stay-none, goes-none, gave-slice, goes-gave-slice, stay-dropped, goes-dropped}
+use denote.Triple.Walked.{says, Stays, walkOf, Walks, ends-at, walked, walk-meets, stay-ref, goes-ref, stay-slice, goes-slice, stay-none, goes-none, gave-slice, goes-gave-slice}
 use denote.Exit.{yes}
 use Rattle.model.specs.declared.Control.{Control}
 use Rattle.model.specs.declared.Record.{Record}
@@ -57,7 +57,7 @@ use Rattle.model.specs.declared.Outcome.{Outcome}
 use Rattle.model.specs.declared.Outcome.the-variants.{Refused}
 use Rattle.model.specs.declared.Op.the-variants.{Step}
 use Rattle.table.specs.declared.Acted.{Acted as Moved}
-use Rattle.model.specs.Tables.{Tables, Queue, recordAt, idle}
+use Rattle.model.specs.Tables.{Tables, Queue, isPooled, recordAt, idle}
 use Rattle.model.specs.Sound.{rowsFit}
 use Rattle.model.specs.Refusals.{among}
 use Rattle.model.specs.Calls.{step, Done, back, act, actOn}
@@ -66,7 +66,7 @@ use Rattle.engine.specs.Parts.{admission, moveOn}
 use Rattle.model.specs.Ends.{endsCall, isMoved}
 use Rattle.engine.proofs.Whole.{turned-away, admitted, task-there}
 use Rattle.deque.proofs.Walk.{control-value, record-value, outcome-value, slice-value, kept, var, part, lets, receive, valued, idle-is, holds, fails, fits-scaled, gives-up}
-use Rattle.deque.proofs.Engine.{Four, Lasts, tabled, unwritten, Lengths, Leaves, Move, slices, returned, moves, Test, asks}
+use Rattle.deque.proofs.Engine.{Five, tabled, unwritten, Lengths, Leaves, Move, slices, returned, moves, Test, asks}
 use Rattle.deque.proofs.Stored.{control-of, task-of, outcome-of, control-after, record-after, control-is, record-is}
 use Rattle.engine.proofs.Stored.{over, going, unmoved}
 use Rattle.deque.proofs.Frame.{Blocks, env-of, Cell, full, bare, cells, allocates, frees-all}
@@ -117,7 +117,10 @@ stayed = (
       stay-none (λ _. usize) yes,
       (
         gave-slice (2 ∷ []) tt (plain (λ _. u64)),
-        (gave-slice (3 ∷ []) tt (plain (λ _. u64)), (stay-dropped (shrSliceOf (4 ∷ []) tt (plain (λ _. u32))) yes, (gave-slice (5 ∷ []) tt (plain (λ _. u64)), tt))),
+        (
+          gave-slice (3 ∷ []) tt (plain (λ _. u64)),
+          (gave-slice (4 ∷ []) tt (plain (λ _. u32)), (gave-slice (5 ∷ []) tt (plain (λ _. u64)), (gave-slice (6 ∷ []) tt (plain (λ _. u64)), tt))),
+        ),
       ),
     ),
   ),
@@ -130,7 +133,7 @@ abbrev Refuse : {M : Type 1} (𝓤 : URA M) (H : Heap 𝓤) (A : Atoms 𝓤) (me
 Refuse 𝓤 H A mem run = tripleOf 𝓤 H A refuse.signature (refuse.spec 𝓤 H A mem run)
 
 module _ {M : Type 1} (𝓤 : URA M) (H : Heap 𝓤) (A : Atoms 𝓤) (W : Given 𝓤 H A) (at-mem : Memory → SProp 𝓤) (run : Routine → Fun 𝓤)
-    (κc κr κ1 κ2 κ3 κ4 : Lft) (qc qr q1 q2 q3 q4 : Share) (xc : RefT Control) (xr : RefT (List Record)) (task : ℕ) (task-fits : task < 2 ^ 64) (x1 x2 x3 x4 : RefT (List ℕ)) where
+    (κc κr κ1 κ2 κ3 κ4 κ5 : Lft) (qc qr q1 q2 q3 q4 q5 : Share) (xc : RefT Control) (xr : RefT (List Record)) (task : ℕ) (task-fits : task < 2 ^ 64) (x1 x2 x3 x4 x5 : RefT (List ℕ)) where
   -- what is lent, at entry
   abbrev c : Control
   c = xc .now
@@ -154,23 +157,23 @@ module _ {M : Type 1} (𝓤 : URA M) (H : Heap 𝓤) (A : Atoms 𝓤) (W : Given
   abbrev pr : Val
   pr = vptr (xr .ptr .0) spot
 
-  abbrev κs : Four Lft
-  κs = (κ1, (κ2, (κ3, (κ4, tt))))
+  abbrev κs : Five Lft
+  κs = (κ1, (κ2, (κ3, (κ4, (κ5, tt)))))
 
-  abbrev qs : Four Share
-  qs = (q1, (q2, (q3, (q4, tt))))
+  abbrev qs : Five Share
+  qs = (q1, (q2, (q3, (q4, (q5, tt)))))
 
-  abbrev xs : Four (RefT (List ℕ))
-  xs = (x1, (x2, (x3, (x4, tt))))
+  abbrev xs : Five (RefT (List ℕ))
+  xs = (x1, (x2, (x3, (x4, (x5, tt)))))
 
-  abbrev a : RefT Control × (RefT (List Record) × (ℕ × Four (RefT (List ℕ))))
+  abbrev a : RefT Control × (RefT (List Record) × (ℕ × Five (RefT (List ℕ))))
   a = (xc, (xr, (task, xs)))
 
-  abbrev vals : List Val × (List Val × (List Val × Four (List Val)))
+  abbrev vals : List Val × (List Val × (List Val × Five (List Val)))
   vals = (pc ∷ [], (s ∷ [], (vint w64 task ∷ [], slices xs)))
 
   abbrev entry : Tables
-  entry = tabled xs c (unwritten xs)
+  entry = tabled c (unwritten xs)
 
   abbrev queue : Queue
   queue = record { tables = entry; records = rs }
@@ -180,10 +183,10 @@ module _ {M : Type 1} (𝓤 : URA M) (H : Heap 𝓤) (A : Atoms 𝓤) (W : Given
 
   -- why the step is not admitted, or 0
   abbrev fault : ℕ
-  fault = admission c (lengthsFit (c .slots) (length (x1 .now)) (length (x2 .now)) (length (x3 .now)) (length (x4 .now))) (among queue task)
+  fault = admission c (lengthsFit (isPooled c) (c .slots) (length (x1 .now)) (length (x2 .now)) (length (x3 .now)) (length (x4 .now)) (length (x5 .now))) (among queue task)
 
-  abbrev Said : Outcome → Control → List Record → Lasts → Type 0
-  Said r′ z zr zs = _≡_ {A = Done} (record { queue = record { tables = tabled xs z zs; records = zr }; outcome = r′ }) (act queue task Step)
+  abbrev Said : Outcome → Control → List Record → Five (List ℕ) → Type 0
+  Said r′ z zr ls = _≡_ {A = Done} (record { queue = record { tables = tabled z ls; records = zr }; outcome = r′ }) (act queue task Step)
 
   refused : (why : ℕ) → why ≡ fault → (why ≡ 0 → ⊥) → Said (Refused why) c rs (unwritten xs)
   unfolding act actOn rowsFit lengthsFit
@@ -200,40 +203,41 @@ module _ {M : Type 1} (𝓤 : URA M) (H : Heap 𝓤) (A : Atoms 𝓤) (W : Given
       let known : task < c .tasks = ltb-true _ _ (both .1) in
       omega arith
 
-  meets : (m : Moved) (zs : Lasts) → fault ≡ 0 → Leaves moveOn c r xs m zs → Leaves (λ q. step q (among queue task)) c r xs m zs
+  meets : (m : Moved) (ls : Five (List ℕ)) → fault ≡ 0 → Leaves moveOn c r xs m ls → Leaves (λ q. step q (among queue task)) c r xs m ls
   unfolding rowsFit lengthsFit
-  meets m zs h e = e ∙ admitted entry (among queue task) r h
+  meets m ls h e = e ∙ admitted entry (among queue task) r h
 
-  ended : (m : Moved) (zs : Lasts) → fault ≡ 0 → Leaves moveOn c r xs m zs → endsCall (m .outcome) ≡ true → Said (m .outcome) (control-after c m) (set rs task idle) zs
+  ended : (m : Moved) (ls : Five (List ℕ)) → fault ≡ 0 → Leaves moveOn c r xs m ls → endsCall (m .outcome) ≡ true → Said (m .outcome) (control-after c m) (set rs task idle) ls
   unfolding act actOn
-  ended m zs f e h = ap (back queue task) (over entry (among queue task) r m (zs .1 .1 .0) (zs .1 .1 .1 .0) (x3 .now) (zs .1 .1 .1 .1 .1 .0) (meets m zs f e) h)
+  ended m ls f e h = ap (back queue task) (over entry (among queue task) r m (ls .0) (ls .1 .0) (ls .1 .1 .0) (ls .1 .1 .1 .0) (ls .1 .1 .1 .1 .0) (meets m ls f e) h)
 
-  moved : (m : Moved) (zs : Lasts) → fault ≡ 0 → Leaves moveOn c r xs m zs → endsCall (m .outcome) ≡ false → Said (m .outcome) (control-after c m) (set rs task (record-after r m)) zs
+  moved : (m : Moved) (ls : Five (List ℕ)) → fault ≡ 0 → Leaves moveOn c r xs m ls → endsCall (m .outcome) ≡ false → Said (m .outcome) (control-after c m) (set rs task (record-after r m)) ls
   unfolding act actOn
-  moved m zs f e h = ap (back queue task) (going entry (among queue task) r m (zs .1 .1 .0) (zs .1 .1 .1 .0) (x3 .now) (zs .1 .1 .1 .1 .1 .0) (meets m zs f e) h)
+  moved m ls f e h = ap (back queue task) (going entry (among queue task) r m (ls .0) (ls .1 .0) (ls .1 .1 .0) (ls .1 .1 .1 .0) (ls .1 .1 .1 .1 .0) (meets m ls f e) h)
 
-  still : (m : Moved) (zs : Lasts) → fault ≡ 0 → Leaves moveOn c r xs m zs → isMoved (m .outcome) ≡ false → Said (m .outcome) c (set rs task r) zs
+  still : (m : Moved) (ls : Five (List ℕ)) → fault ≡ 0 → Leaves moveOn c r xs m ls → isMoved (m .outcome) ≡ false → Said (m .outcome) c (set rs task r) ls
   unfolding act actOn
-  still m zs f e h = ap (back queue task) (unmoved entry (among queue task) r m (zs .1 .1 .0) (zs .1 .1 .1 .0) (x3 .now) (zs .1 .1 .1 .1 .1 .0) (meets m zs f e) h)
+  still m ls f e h = ap (back queue task) (unmoved entry (among queue task) r m (ls .0) (ls .1 .0) (ls .1 .1 .0) (ls .1 .1 .1 .0) (ls .1 .1 .1 .1 .0) (meets m ls f e) h)
 
   -- into the call that admits
-  abbrev asked : Control × (ℕ × (ℕ × (ℕ × (ℕ × (ℕ × (ℕ × Unit {0}))))))
-  asked = (c, (n, (task, (length (x1 .now), (length (x2 .now), (length (x3 .now), (length (x4 .now), tt)))))))
+  abbrev asked : Control × (ℕ × (ℕ × (ℕ × (ℕ × (ℕ × (ℕ × (ℕ × Unit {0})))))))
+  asked = (c, (n, (task, (length (x1 .now), (length (x2 .now), (length (x3 .now), (length (x4 .now), (length (x5 .now), tt))))))))
 
   abbrev to-admit : Admit 𝓤 H A at-mem run .Ghost
-  to-admit = ((tt, tt, tt, asked, (control-value c ∷ [], (vint w64 n ∷ [], (vint w64 task ∷ [], (vint w64 (length (x1 .now)) ∷ [], (vint w64 (length (x2 .now)) ∷ [], (vint w64 (length (x3 .now)) ∷ [], (vint w64 (length (x4 .now)) ∷ [], tt)))))))), tt)
+  to-admit = ((tt, tt, tt, asked, (control-value c ∷ [], (vint w64 n ∷ [], (vint w64 task ∷ [], (vint w64 (length (x1 .now)) ∷ [], (vint w64 (length (x2 .now)) ∷ [], (vint w64 (length (x3 .now)) ∷ [], (vint w64 (length (x4 .now)) ∷ [], (vint w64 (length (x5 .now)) ∷ [], tt))))))))), tt)
 
-  goes-admit : Is K.the-row c (control-value c ∷ []) → n < 2 ^ 64 → length (x1 .now) < 2 ^ 64 → length (x2 .now) < 2 ^ 64 → length (x3 .now) < 2 ^ 64 → length (x4 .now) < 2 ^ 64
+  goes-admit : Is K.the-row c (control-value c ∷ []) → n < 2 ^ 64 → length (x1 .now) < 2 ^ 64 → length (x2 .now) < 2 ^ 64 → length (x3 .now) < 2 ^ 64 → length (x4 .now) < 2 ^ 64 → length (x5 .now) < 2 ^ 64
       → ent 𝓤 (⋆ 𝓤 H A (‵ ftrue ∷ [])) (Admit 𝓤 H A at-mem run .pre to-admit)
-  goes-admit gc fits fits1 fits2 fits3 fits4 =
+  goes-admit gc fits fits1 fits2 fits3 fits4 fits5 =
       qed W (‵ ftrue ∷ []) ∵ nothing ! $
+      owned ! usize (Is usize) (uint-makes 𝓤 H A W w64) (length (x5 .now)) _ (refl, fits5) $ fjoin ! $
       owned ! usize (Is usize) (uint-makes 𝓤 H A W w64) (length (x4 .now)) _ (refl, fits4) $ fjoin ! $ owned ! usize (Is usize) (uint-makes 𝓤 H A W w64) (length (x3 .now)) _ (refl, fits3) $ fjoin ! $
       owned ! usize (Is usize) (uint-makes 𝓤 H A W w64) (length (x2 .now)) _ (refl, fits2) $ fjoin ! $ owned ! usize (Is usize) (uint-makes 𝓤 H A W w64) (length (x1 .now)) _ (refl, fits1) $ fjoin ! $
       owned ! usize (Is usize) (uint-makes 𝓤 H A W w64) task _ (refl, task-fits) $ fjoin ! $ owned ! usize (Is usize) (uint-makes 𝓤 H A W w64) n _ (refl, fits) $ fjoin ! $
       owned ! K.the-row (Is K.the-row) (LL.makes K.the-type K′.the-plain 𝓤 H A) c _ gc $ fjoin ! $ move ! (1 ∷ 0 ∷ []) $ join ! $ frame ! $ done !
 
   abbrev Lasts-admit : Type 0
-  Lasts-admit = Unit {0} × (Unit {0} × (Unit {0} × (Unit {0} × (Unit {0} × (Unit {0} × (Unit {0} × Unit {0}))))))
+  Lasts-admit = Unit {0} × (Unit {0} × (Unit {0} × (Unit {0} × (Unit {0} × (Unit {0} × (Unit {0} × (Unit {0} × Unit {0})))))))
 
   -- into the call that refuses
   abbrev to-refuse : ℕ → Refuse 𝓤 H A at-mem run .Ghost
@@ -251,40 +255,42 @@ module _ {M : Type 1} (𝓤 : URA M) (H : Heap 𝓤) (A : Atoms 𝓤) (W : Given
 
   abbrev lent : List (Item 𝓤)
   lent =
-      (‵ (flft κc qc) ⊛ ‵ (flft κr qr) ⊛ ‵ (flft κ1 q1) ⊛ ‵ (flft κ2 q2) ⊛ ‵ (flft κ3 q3) ⊛ ‵ (flft κ4 q4) ⊛ ‵ ftrue)
-      ∷ ‵ (owns (MutRef (named 0) κc K.the-row ∷ MutSlice (named 1) κr T.the-row ∷ usize ∷ MutSlice (named 2) κ1 u64 ∷ MutSlice (named 3) κ2 u64 ∷ ShrSlice (named 4) κ3 u32 ∷ MutSlice (named 5) κ4 u64 ∷ []) a vals)
+      (‵ (flft κc qc) ⊛ ‵ (flft κr qr) ⊛ ‵ (flft κ1 q1) ⊛ ‵ (flft κ2 q2) ⊛ ‵ (flft κ3 q3) ⊛ ‵ (flft κ4 q4) ⊛ ‵ (flft κ5 q5) ⊛ ‵ ftrue)
+      ∷ ‵ (owns (MutRef (named 0) κc K.the-row ∷ MutSlice (named 1) κr T.the-row ∷ usize ∷ MutSlice (named 2) κ1 u64 ∷ MutSlice (named 3) κ2 u64 ∷ MutSlice (named 4) κ3 u32 ∷ MutSlice (named 5) κ4 u64 ∷ MutSlice (named 6) κ5 u64 ∷ []) a vals)
       ∷ []
 
-  abbrev leaving : Control → List Record → Lasts → List (Item 𝓤)
-  leaving z zr zs =
-      ‵ (MutRef (named 0) κc K.the-row .own (kept xc z) (pc ∷ [])) ∷ ‵ (MutSlice (named 1) κr T.the-row .own (kept xr zr) (s ∷ [])) ∷ ‵ (flft κc qc) ∷ ‵ (flft κr qr) ∷ returned 𝓤 κs qs xs zs []
+  abbrev leaving : Control → List Record → Five (List ℕ) → List (Item 𝓤)
+  leaving z zr ls =
+      ‵ (MutRef (named 0) κc K.the-row .own (kept xc z) (pc ∷ [])) ∷ ‵ (MutSlice (named 1) κr T.the-row .own (kept xr zr) (s ∷ [])) ∷ ‵ (flft κc qc) ∷ ‵ (flft κr qr) ∷ returned 𝓤 κs qs xs ls []
 
   -- out of the function, at what is lent then holds
-  exits : (r′ : Outcome) (w : Val) (z : Control) (zr : List Record) (zs : Lasts) → Said r′ z zr zs → length zr ≡ n → Lengths xs zs → Is E.the-row r′ (w ∷ [])
-      → ent 𝓤 (⋆ 𝓤 H A (leaving z zr zs)) (Post w)
-  exits r′ w z zr zs e e0 ls g =
-      qed W (leaving z zr zs) ∵
-      suffices ! _ (ends-at 𝓤 H A self.ended stayed (self.clauses 𝓤 H A at-mem run) W bound w r′ (z, (zr, (tt, zs .1 .1))) (tt, (e0, (tt, (ls .0, (ls .1, (tt, (ls .2, tt)))))))) $
-      says ! e $ move ! (3 ∷ 4 ∷ []) $ join ! $ move ! (3 ∷ 0 ∷ []) $ join ! $ frame ! $ nothing ! $ move ! (3 ∷ 0 ∷ []) $ fjoin ! $ nothing ! $ fjoin ! $
+  exits : (r′ : Outcome) (w : Val) (z : Control) (zr : List Record) (ls : Five (List ℕ)) → Said r′ z zr ls → length zr ≡ n → Lengths xs ls → Is E.the-row r′ (w ∷ [])
+      → ent 𝓤 (⋆ 𝓤 H A (leaving z zr ls)) (Post w)
+  exits r′ w z zr ls e e0 eqs g =
+      qed W (leaving z zr ls) ∵
+      suffices ! _ (ends-at 𝓤 H A self.ended stayed (self.clauses 𝓤 H A at-mem run) W bound w r′ (z, (zr, (tt, ls))) (tt, (e0, (tt, (eqs .0, (eqs .1, (eqs .2, (eqs .3, (eqs .4, tt))))))))) $
+      says ! e $ move ! (3 ∷ 4 ∷ []) $ join ! $ move ! (3 ∷ 0 ∷ []) $ join ! $ frame ! $ nothing ! $ move ! (3 ∷ 0 ∷ []) $ fjoin ! $ move ! (3 ∷ 0 ∷ []) $ fjoin ! $ move ! (3 ∷ 0 ∷ []) $ fjoin ! $
       move ! (3 ∷ 0 ∷ []) $ fjoin ! $ move ! (3 ∷ 0 ∷ []) $ fjoin ! $ owned ! usize (Is usize) (uint-makes 𝓤 H A W w64) task _ (refl, task-fits) $ fjoin ! $
       move ! (2 ∷ 0 ∷ []) $ fjoin ! $ move ! (1 ∷ 0 ∷ []) $ fjoin ! $
       owned ! E.the-row (Is E.the-row) (EL.makes E.the-type E′.the-plain 𝓤 H A) r′ _ g $ move ! (1 ∷ 0 ∷ []) $ done !
 
   module _ (C : Calls 𝓤 H) (Λ : Loops 𝓤 H) where
-    module _ (bs : Blocks (code.function .locals)) (why : ℕ) (m : Moved) (z : Control) (h : Record) (zs : Lasts) (k26 k27 k28 : Cell) where
+    module _ (bs : Blocks (code.function .locals)) (why : ℕ) (m : Moved) (z : Control) (h : Record) (ls : Five (List ℕ)) (k32 k33 k34 : Cell) where
       -- the locals' cells once all is stored: which of the last three hold a value depends on the branch
       abbrev held : Cell → List Cell
       held answer =
-          answer ∷ full pc ∷ full s ∷ full (vint w64 task) ∷ full (slice-value x1) ∷ full (slice-value x2) ∷ full (slice-value x3) ∷ full (slice-value x4)
+          answer ∷ full pc ∷ full s ∷ full (vint w64 task) ∷ full (slice-value x1) ∷ full (slice-value x2) ∷ full (slice-value x3) ∷ full (slice-value x4) ∷ full (slice-value x5)
           ∷ full (vint w64 n) ∷ full (control-value c) ∷ full (vint w32 why) ∷ full pr ∷ full (record-value r) ∷ full (LL.val N.the-type N′.the-laws m)
-          ∷ full (vint w64 (task * 72)) ∷ full (vint w64 (length (x2 .now))) ∷ full (vint w64 (length (x3 .now))) ∷ full (vint w64 (length (x4 .now))) ∷ full (vbool (not (eqb why 0))) ∷ full pr
-          ∷ full (vptr (x1 .ptr .0) (x1 .ptr .1)) ∷ full (slice-value x1) ∷ full (vptr (x2 .ptr .0) (x2 .ptr .1)) ∷ full (slice-value x2) ∷ full (vptr (x4 .ptr .0) (x4 .ptr .1)) ∷ full (slice-value x4)
-          ∷ k26 ∷ k27 ∷ k28 ∷ []
+          ∷ full (vint w64 (task * 72)) ∷ full (vint w64 (length (x2 .now))) ∷ full (vint w64 (length (x3 .now))) ∷ full (vint w64 (length (x4 .now))) ∷ full (vint w64 (length (x5 .now)))
+          ∷ full (vbool (not (eqb why 0))) ∷ full pr
+          ∷ full (vptr (x1 .ptr .0) (x1 .ptr .1)) ∷ full (slice-value x1) ∷ full (vptr (x2 .ptr .0) (x2 .ptr .1)) ∷ full (slice-value x2) ∷ full (vptr (x3 .ptr .0) (x3 .ptr .1)) ∷ full (slice-value x3)
+          ∷ full (vptr (x4 .ptr .0) (x4 .ptr .1)) ∷ full (slice-value x4) ∷ full (vptr (x5 .ptr .0) (x5 .ptr .1)) ∷ full (slice-value x5)
+          ∷ k32 ∷ k33 ∷ k34 ∷ []
 
-      -- [toks1; fin4; fin2; fin1; cell; others; obor; obs; auth; cellc; oborc; obsc; authc; local i at position 13 + 2 i]
+      -- [toks1; fin5 to fin1; cell; others; obor; obs; auth; cellc; oborc; obsc; authc; local i at position 15 + 2 i]
       abbrev stored : List (Item 𝓤)
       stored =
-          returned 𝓤 κs qs xs zs
+          returned 𝓤 κs qs xs ls
           (‵ (cellAt fullShare (T.the-row .mir) (record-value h ∷ []) (xr .ptr .0) spot)
           ∷ ‵ (others (shares T.the-row) fullShare rs task (xr .ptr .0) (xr .ptr .1)) ∷ ‵ (fobor κr qr (Held T.the-row n (xr .ptr .0) (xr .ptr .1) (xr .name)))
           ∷ ‵ (fobs (xr .name) (codedHoleys T.the-row .code (heres T.the-row rs))) ∷ ‵ (fauth (xr .name) (codedHoleys T.the-row .code (heres T.the-row rs)))
@@ -293,68 +299,69 @@ module _ {M : Type 1} (𝓤 : URA M) (H : Heap 𝓤) (A : Atoms 𝓤) (W : Given
           ∷ cells 𝓤 (env-of (code.function .locals) bs) (held bare))
 
       -- the outcome is returned, the record is put back, the borrows are closed at what is stored, and the locals are freed
-      leave : Room T.the-row n → task < n → Said (m .outcome) z (set rs task h) zs → Lengths xs zs → Is K.the-row z (control-value z ∷ []) → Is T.the-row h (record-value h ∷ [])
+      leave : Room T.the-row n → task < n → Said (m .outcome) z (set rs task h) ls → Lengths xs ls → Is K.the-row z (control-value z ∷ []) → Is T.the-row h (record-value h ∷ [])
           → Is E.the-row (m .outcome) (outcome-value (m .outcome) ∷ [])
-          → ent 𝓤 (⋆ 𝓤 H A stored) (Wp 𝓤 H C Λ (env-of (code.function .locals) bs) body.t-23 (post 𝓤 H (atRet (env-of (code.function .locals) bs) Post)))
-      leave room here e ls gz gh g =
+          → ent 𝓤 (⋆ 𝓤 H A stored) (Wp 𝓤 H C Λ (env-of (code.function .locals) bs) body.t-28 (post 𝓤 H (atRet (env-of (code.function .locals) bs) Post)))
+      leave room here e eqs gz gh g =
           let same = length-set rs task h in
           qed W stored ∵
-          exec ! C Λ (env-of (code.function .locals) bs) body.t-23 (atRet (env-of (code.function .locals) bs) Post) $
-          lets ! (of-opd ! (part ! 39 2 refl refl refl)) (init ! 13 refl (EL.lawful E.the-type E′.the-laws 𝓤 H A W tt .typed (m .outcome) _ g .0)) $
+          exec ! C Λ (env-of (code.function .locals) bs) body.t-28 (atRet (env-of (code.function .locals) bs) Post) $
+          lets ! (of-opd ! (part ! 43 2 refl refl refl)) (init ! 15 refl (EL.lawful E.the-type E′.the-laws 𝓤 H A W tt .typed (m .outcome) _ g .0)) $
           owned ! T.the-row (Is T.the-row) (LL.makes T.the-type T′.the-plain 𝓤 H A) h _ gh $
-          move ! (5 ∷ 0 ∷ 6 ∷ 7 ∷ 8 ∷ 9 ∷ []) $ elem-put ! T.the-row fullShare rs task h (record-value h ∷ []) (xr .ptr .0) (xr .ptr .1) here $
+          move ! (7 ∷ 0 ∷ 8 ∷ 9 ∷ 10 ∷ 11 ∷ []) $ elem-put ! T.the-row fullShare rs task h (record-value h ∷ []) (xr .ptr .0) (xr .ptr .1) here $
           closes-slice ! tt T.the-row rs (set rs task h) same (xr .ptr .0) (xr .ptr .1) $
           owned ! K.the-row (Is K.the-row) (LL.makes K.the-type K′.the-plain 𝓤 H A) z _ gz $
-          move ! (8 ∷ 0 ∷ 9 ∷ 10 ∷ 11 ∷ []) $ closes ! tt K.the-row z (control-value z ∷ []) (xc .ptr .0) (xc .ptr .1) $
-          returns ! (look ! 10 refl) $ frees-all ! 10 (held (full (outcome-value (m .outcome)))) refl $
+          move ! (10 ∷ 0 ∷ 11 ∷ 12 ∷ 13 ∷ []) $ closes ! tt K.the-row z (control-value z ∷ []) (xc .ptr .0) (xc .ptr .1) $
+          returns ! (look ! 12 refl) $ frees-all ! 12 (held (full (outcome-value (m .outcome)))) refl $
           move ! (3 ∷ 4 ∷ []) $ fjoin ! $
           pureI ! (at-slice T.the-row (kept xr (set rs task h)) (s ∷ [])) (tt, (tt, tt)) (ap (λ (k : ℕ). sliceVal (xr .ptr) k ∷ []) (sym same), subst (Room T.the-row) (sym same) room) $ fjoin ! $
           move ! (1 ∷ 2 ∷ []) $ feqI ! (List Val) (pc ∷ []) (pc ∷ []) refl $ fjoin3 ! $
-          by ! (exits (m .outcome) _ z (set rs task h) zs e same ls g)
+          by ! (exits (m .outcome) _ z (set rs task h) ls e same eqs g)
 
     module _ (fm : FmC 𝓤 H (W .laws) C) (known-admit : Triple 𝓤 (C #engine·admit) (Admit 𝓤 H A at-mem run)) (known-refuse : Triple 𝓤 (C #engine·refuse) (Refuse 𝓤 H A at-mem run))
         (known : Triple 𝓤 (C #engine·move-on) (Move 𝓤 H A moveOn)) (known-moves : Triple 𝓤 (C #engine·moves) (Test 𝓤 H A isMoved)) (known-ends : Triple 𝓤 (C #engine·ends) (Test 𝓤 H A endsCall)) where
-      walk : Room T.the-row n → Room u64 (length (x1 .now)) → Room u64 (length (x2 .now)) → Room u32 (length (x3 .now)) → Room u64 (length (x4 .now))
-          → ent 𝓤 (onEntry 𝓤 H A self.signature (κc, (κr, κs)) (qc, (qr, qs)) a vals) (WpFn 𝓤 H C Λ code.function (pc ∷ s ∷ vint w64 task ∷ slice-value x1 ∷ slice-value x2 ∷ slice-value x3 ∷ slice-value x4 ∷ []) Post)
-      walk room room1 room2 room3 room4 =
+      walk : Room T.the-row n → Room u64 (length (x1 .now)) → Room u64 (length (x2 .now)) → Room u32 (length (x3 .now)) → Room u64 (length (x4 .now)) → Room u64 (length (x5 .now))
+          → ent 𝓤 (onEntry 𝓤 H A self.signature (κc, (κr, κs)) (qc, (qr, qs)) a vals) (WpFn 𝓤 H C Λ code.function (pc ∷ s ∷ vint w64 task ∷ slice-value x1 ∷ slice-value x2 ∷ slice-value x3 ∷ slice-value x4 ∷ slice-value x5 ∷ []) Post)
+      walk room room1 room2 room3 room4 room5 =
           qed W lent ∵
-          enter ! C Λ code.function (pc ∷ s ∷ vint w64 task ∷ slice-value x1 ∷ slice-value x2 ∷ slice-value x3 ∷ slice-value x4 ∷ []) _ $
+          enter ! C Λ code.function (pc ∷ s ∷ vint w64 task ∷ slice-value x1 ∷ slice-value x2 ∷ slice-value x3 ∷ slice-value x4 ∷ slice-value x5 ∷ []) _ $
           allocates ! (λ bs. params1 ! $
           pass1 ! (init ! 2 refl (tt, tt)) $ pass1 ! (init ! 4 refl (tt, (tt, (record { fits = room .0 }, tt)))) $ pass1 ! (init ! 6 refl (tt, record { fits = task-fits })) $
           pass1 ! (init ! 8 refl (tt, (tt, (record { fits = room1 .0 }, tt)))) $ pass1 ! (init ! 10 refl (tt, (tt, (record { fits = room2 .0 }, tt)))) $
-          pass1 ! (init ! 12 refl (tt, (tt, (record { fits = room3 .0 }, tt)))) $ pass1 ! (init ! 14 refl (tt, (tt, (record { fits = room4 .0 }, tt)))) $ pass0 ! $
+          pass1 ! (init ! 12 refl (tt, (tt, (record { fits = room3 .0 }, tt)))) $ pass1 ! (init ! 14 refl (tt, (tt, (record { fits = room4 .0 }, tt)))) $ pass1 ! (init ! 16 refl (tt, (tt, (record { fits = room5 .0 }, tt)))) $ pass0 ! $
           -- the control is opened
-          move ! (59 ∷ []) $ fsplit ! $ fsplit3 ! $ drop ! $
-          move ! (61 ∷ []) $ split ! $
+          move ! (71 ∷ []) $ fsplit ! $ fsplit3 ! $ drop ! $
+          move ! (73 ∷ []) $ split ! $
           move ! (2 ∷ 3 ∷ 0 ∷ []) $
           opens ! tt K.the-row {h = c} (xc .ptr .0) (xc .ptr .1) (λ vK. spelt ! K.the-row (Is K.the-row) (shows 𝓤 H A K.the-row) (LL.vals K.the-type K′.the-laws) (LL.tells K.the-type K′.the-laws) fullShare c vK (xc .ptr .0) (xc .ptr .1) $
           move ! (1 ∷ []) $ facts ! K.the-row (Is K.the-row) (shows 𝓤 H A K.the-row) c (control-value c ∷ []) (λ gc.
           -- [cellc; oborc; obsc; authc; toks; rest; local i at position 6 + 2 i]
-          lets ! (of-opd ! (part ! 10 1 refl refl refl)) (init ! 22 refl (tt, record { fits = room .0 })) $
-          lets ! (of-opd ! (load ! (from ! (hop ! (look ! 8 refl) (stop !))) (look-raw ! 0 refl))) (init ! 24 refl (LL.lawful K.the-type K′.the-laws 𝓤 H A W .typed c _ gc .0)) $
-          lets ! (of-opd ! (part ! 14 1 refl refl refl)) (init ! 34 refl (tt, record { fits = room1 .0 })) $
-          lets ! (of-opd ! (part ! 16 1 refl refl refl)) (init ! 36 refl (tt, record { fits = room2 .0 })) $
-          lets ! (of-opd ! (part ! 18 1 refl refl refl)) (init ! 38 refl (tt, record { fits = room3 .0 })) $
-          lets ! (of-opd ! (part ! 20 1 refl refl refl)) (init ! 40 refl (tt, record { fits = room4 .0 })) $
+          lets ! (of-opd ! (part ! 10 1 refl refl refl)) (init ! 24 refl (tt, record { fits = room .0 })) $
+          lets ! (of-opd ! (load ! (from ! (hop ! (look ! 8 refl) (stop !))) (look-raw ! 0 refl))) (init ! 26 refl (LL.lawful K.the-type K′.the-laws 𝓤 H A W .typed c _ gc .0)) $
+          lets ! (of-opd ! (part ! 14 1 refl refl refl)) (init ! 36 refl (tt, record { fits = room1 .0 })) $
+          lets ! (of-opd ! (part ! 16 1 refl refl refl)) (init ! 38 refl (tt, record { fits = room2 .0 })) $
+          lets ! (of-opd ! (part ! 18 1 refl refl refl)) (init ! 40 refl (tt, record { fits = room3 .0 })) $
+          lets ! (of-opd ! (part ! 20 1 refl refl refl)) (init ! 42 refl (tt, record { fits = room4 .0 })) $
+          lets ! (of-opd ! (part ! 22 1 refl refl refl)) (init ! 44 refl (tt, record { fits = room5 .0 })) $
           -- whether the step is admitted
-          nothing ! $ use1 W (raw (Admit 𝓤 H A at-mem run .pre to-admit)) (goes-admit gc (room .0) (room1 .0) (room2 .0) (room3 .0) (room4 .0)) $
+          nothing ! $ use1 W (raw (Admit 𝓤 H A at-mem run .pre to-admit)) (goes-admit gc (room .0) (room1 .0) (room2 .0) (room3 .0) (room4 .0) (room5 .0)) $
           calls-at ! fm (Admit 𝓤 H A at-mem run) known-admit to-admit
-          (and-then ! (var ! 25 refl) (and-then ! (var ! 23 refl) (and-then ! (var ! 13 refl) (and-then ! (var ! 35 refl) (and-then ! (var ! 37 refl) (and-then ! (var ! 39 refl) (and-then ! (var ! 41 refl) (no-more !)))))))) (λ w-why.
+          (and-then ! (var ! 27 refl) (and-then ! (var ! 25 refl) (and-then ! (var ! 13 refl) (and-then ! (var ! 37 refl) (and-then ! (var ! 39 refl) (and-then ! (var ! 41 refl) (and-then ! (var ! 43 refl) (and-then ! (var ! 45 refl) (no-more !))))))))) (λ w-why.
           use1 W (later (some (λ (k : ℕ). (‵ ftrue ⊛ ‵ (u32 .own k (w-why ∷ []))) ⊛ raw (ensured 𝓤 H A admit.ended (admit.clauses 𝓤 H A at-mem run) tt asked tt k)))) (id⊢ 𝓤 _) $
           await ! tt $ pick ! (λ why.
           split ! $ move ! (1 ∷ []) $ use1 W (some (λ (us : Lasts-admit). ‵ (lasts admit.ended tt asked us) ⊛ raw (fact 𝓤 (why ≡ fault)))) (id⊢ 𝓤 _) $
           pick ! (λ us-why.
           split ! $ move ! (1 ∷ []) $ heard ! (why ≡ fault) (λ e-why.
-          fsplit ! $ drop ! $ fsplit ! $ drop ! $ fsplit ! $ drop ! $ fsplit ! $ drop ! $ fsplit ! $ drop ! $ fsplit ! $ drop ! $ fsplit ! $ drop ! $ drop ! $
+          fsplit ! $ drop ! $ fsplit ! $ drop ! $ fsplit ! $ drop ! $ fsplit ! $ drop ! $ fsplit ! $ drop ! $ fsplit ! $ drop ! $ fsplit ! $ drop ! $ fsplit ! $ drop ! $ drop ! $
           split ! $ move ! (1 ∷ []) $ facts ! u32 (Is u32) (shows 𝓤 H A u32) why (w-why ∷ []) (λ is-why. drop ! $
-          receive ! 26 refl (uint-lawful 𝓤 H A W w32 .typed why _ is-why .0) (ap only (is-why .0)) $
-          lets ! (bin ! (var ! 26 refl) (lit ! tt) tt) (init ! 42 refl (tt, tt)) $
-          first ! $ branches ! (var ! 42 refl)
+          receive ! 28 refl (uint-lawful 𝓤 H A W w32 .typed why _ is-why .0) (ap only (is-why .0)) $
+          lets ! (bin ! (var ! 28 refl) (lit ! tt) tt) (init ! 46 refl (tt, tt)) $
+          first ! $ branches ! (var ! 46 refl)
           (λ away.
           -- it is not: the number is answered
           nothing ! $ use1 W (raw (Refuse 𝓤 H A at-mem run .pre (to-refuse why))) (goes-refuse why (is-why .1)) $
           calls-at ! fm (Refuse 𝓤 H A at-mem run) known-refuse (to-refuse why)
-          (and-then ! (var ! 27 refl) (no-more !)) (λ w.
+          (and-then ! (var ! 29 refl) (no-more !)) (λ w.
           use1 W (later (some (λ (o : Outcome). (‵ ftrue ⊛ ‵ (E.the-row .own o (w ∷ []))) ⊛ raw (ensured 𝓤 H A refuse.ended (refuse.clauses 𝓤 H A at-mem run) tt (why, tt) tt o)))) (id⊢ 𝓤 _) $
           await ! tt $ pick ! (λ o.
           split ! $ move ! (1 ∷ []) $ use1 W (some (λ (us : Unit {0} × Unit {0}). ‵ (lasts refuse.ended tt (why, tt) us) ⊛ raw (fact 𝓤 (o ≡ Refused why)))) (id⊢ 𝓤 _) $
@@ -367,19 +374,20 @@ module _ {M : Type 1} (𝓤 : URA M) (H : Heap 𝓤) (A : Atoms 𝓤) (W : Given
           move ! (1 ∷ 0 ∷ 2 ∷ 3 ∷ 4 ∷ []) $ closes ! tt K.the-row c (control-value c ∷ []) (xc .ptr .0) (xc .ptr .1) $
           -- the locals are freed, and the tables given up
           returns-within ! Post refl (look ! 5 refl) $
-          frees-all ! 5 (full _ ∷ full _ ∷ full _ ∷ full _ ∷ full _ ∷ full _ ∷ full _ ∷ full _ ∷ full _ ∷ full _ ∷ full _ ∷ bare ∷ bare ∷ bare ∷ full _ ∷ full _ ∷ full _ ∷ full _ ∷ full _ ∷ bare ∷ bare ∷ bare ∷ bare ∷ bare ∷ bare ∷ bare ∷ bare ∷ bare ∷ bare ∷ []) refl $
+          frees-all ! 5 (full _ ∷ full _ ∷ full _ ∷ full _ ∷ full _ ∷ full _ ∷ full _ ∷ full _ ∷ full _ ∷ full _ ∷ full _ ∷ full _ ∷ bare ∷ bare ∷ bare ∷ full _ ∷ full _ ∷ full _ ∷ full _ ∷ full _ ∷ full _ ∷ bare ∷ bare ∷ bare ∷ bare ∷ bare ∷ bare ∷ bare ∷ bare ∷ bare ∷ bare ∷ bare ∷ bare ∷ bare ∷ bare ∷ []) refl $
           move ! (0 ∷ 1 ∷ []) $ feqI ! (List Val) (pc ∷ []) (pc ∷ []) refl $ fjoin3 ! $
           move ! (2 ∷ []) $ split ! $ move ! (4 ∷ []) $ fsplit ! $ move ! (1 ∷ []) $ fsplit ! $ drop ! $
           fsplit ! $ use1 W (‵ (finally u64 (x1 .name) (x1 .now))) (gives-up 𝓤 H A W (named 2) κ1 u64 x1 (slice-value x1 ∷ [])) $
           move ! (1 ∷ []) $ fsplit ! $ use1 W (‵ (finally u64 (x2 .name) (x2 .now))) (gives-up 𝓤 H A W (named 3) κ2 u64 x2 (slice-value x2 ∷ [])) $
-          move ! (1 ∷ []) $ fsplit ! $ drop ! $
-          fsplit ! $ use1 W (‵ (finally u64 (x4 .name) (x4 .now))) (gives-up 𝓤 H A W (named 5) κ4 u64 x4 (slice-value x4 ∷ [])) $
-          keep ! (7 ∷ 4 ∷ 8 ∷ 5 ∷ 6 ∷ 0 ∷ 2 ∷ 3 ∷ []) $
-          by ! (exits o _ c rs (unwritten xs) (ap (λ (o : Outcome). record { queue = queue; outcome = o }) e-o ∙ refused why e-why (nonzero why away)) refl (refl, refl, refl) is-o)))))))
+          move ! (1 ∷ []) $ fsplit ! $ use1 W (‵ (finally u32 (x3 .name) (x3 .now))) (gives-up 𝓤 H A W (named 4) κ3 u32 x3 (slice-value x3 ∷ [])) $
+          move ! (1 ∷ []) $ fsplit ! $ use1 W (‵ (finally u64 (x4 .name) (x4 .now))) (gives-up 𝓤 H A W (named 5) κ4 u64 x4 (slice-value x4 ∷ [])) $
+          move ! (1 ∷ []) $ fsplit ! $ use1 W (‵ (finally u64 (x5 .name) (x5 .now))) (gives-up 𝓤 H A W (named 6) κ5 u64 x5 (slice-value x5 ∷ [])) $
+          keep ! (9 ∷ 6 ∷ 10 ∷ 7 ∷ 8 ∷ 0 ∷ 2 ∷ 3 ∷ 4 ∷ 5 ∷ []) $
+          by ! (exits o _ c rs (unwritten xs) (ap (λ (o : Outcome). record { queue = queue; outcome = o }) e-o ∙ refused why e-why (nonzero why away)) refl (refl, refl, refl, refl, refl) is-o)))))))
           (λ let-in.
           -- the records are opened, and the task's record is taken out
           skips ! $
-          exec ! C Λ (env-of (code.function .locals) bs) body.t-10 (atRet (env-of (code.function .locals) bs) Post) $
+          exec ! C Λ (env-of (code.function .locals) bs) body.t-11 (atRet (env-of (code.function .locals) bs) Post) $
           (let none : fault ≡ 0 = sym e-why ∙ iszero why let-in in
           let here : task < n = there none in
           move ! (5 ∷ []) $ fsplit ! $ fsplit ! $ drop ! $ fsplit ! $
@@ -390,56 +398,63 @@ module _ {M : Type 1} (𝓤 : URA M) (H : Heap 𝓤) (A : Atoms 𝓤) (W : Given
           elem-out ! T.the-row (Is T.the-row) (shows 𝓤 H A T.the-row) (LL.vals T.the-type T′.the-laws) (LL.tells T.the-type T′.the-laws) fullShare rs task idle (xr .ptr .0) (xr .ptr .1) here (λ g.
           move ! (1 ∷ []) $ drop ! $
           -- [cell; others; obor; obs; auth; toks1; rest; cellc; oborc; obsc; authc; local i at position 11 + 2 i]
-          lets ! (bin ! (var ! 17 refl) (lit ! tt) (record { fits = fits-scaled (room .1) here })) (store ! 39 refl (tt, record { fits = fits-scaled (room .1) here })) $
-          lets ! (valued ! (ap (vptr (xr .ptr .0)) (sym (place-is (mem T.the-row .size) (xr .ptr .1) task))) (bin ! (part ! 15 0 refl refl refl) (var ! 39 refl) tt)) (init ! 49 refl (tt, tt)) $
-          lets ! (addr ! (from ! (hop ! (look ! 49 refl) (stop !)))) (init ! 33 refl (tt, tt)) $
-          lets ! (of-opd ! (load ! (from ! (hop ! (look ! 33 refl) (stop !))) (look-raw ! 0 refl))) (init ! 35 refl (LL.lawful T.the-type T′.the-laws 𝓤 H A W .typed r _ g .0)) $
+          lets ! (bin ! (var ! 17 refl) (lit ! tt) (record { fits = fits-scaled (room .1) here })) (store ! 41 refl (tt, record { fits = fits-scaled (room .1) here })) $
+          lets ! (valued ! (ap (vptr (xr .ptr .0)) (sym (place-is (mem T.the-row .size) (xr .ptr .1) task))) (bin ! (part ! 15 0 refl refl refl) (var ! 41 refl) tt)) (init ! 53 refl (tt, tt)) $
+          lets ! (addr ! (from ! (hop ! (look ! 53 refl) (stop !)))) (init ! 35 refl (tt, tt)) $
+          lets ! (of-opd ! (load ! (from ! (hop ! (look ! 35 refl) (stop !))) (look-raw ! 0 refl))) (init ! 37 refl (LL.lawful T.the-type T′.the-laws 𝓤 H A W .typed r _ g .0)) $
           -- the tables are lent on
-          lets ! (addr ! (from ! (fld ! refl (hop ! (look-in ! 19 (sub ! 0 refl (whole !))) (stop !))))) (init ! 51 refl (tt, tt)) $
-          lets ! (agg ! (and-then ! (var ! 51 refl) (and-then ! (part ! 19 1 refl refl refl) (no-more !)))) (init ! 53 refl (tt, (tt, (record { fits = room1 .0 }, tt)))) $
-          lets ! (addr ! (from ! (fld ! refl (hop ! (look-in ! 21 (sub ! 0 refl (whole !))) (stop !))))) (init ! 55 refl (tt, tt)) $
-          lets ! (agg ! (and-then ! (var ! 55 refl) (and-then ! (part ! 21 1 refl refl refl) (no-more !)))) (init ! 57 refl (tt, (tt, (record { fits = room2 .0 }, tt)))) $
-          lets ! (addr ! (from ! (fld ! refl (hop ! (look-in ! 25 (sub ! 0 refl (whole !))) (stop !))))) (init ! 59 refl (tt, tt)) $
-          lets ! (agg ! (and-then ! (var ! 59 refl) (and-then ! (part ! 25 1 refl refl refl) (no-more !)))) (init ! 61 refl (tt, (tt, (record { fits = room4 .0 }, tt)))) $
+          lets ! (addr ! (from ! (fld ! refl (hop ! (look-in ! 19 (sub ! 0 refl (whole !))) (stop !))))) (init ! 55 refl (tt, tt)) $
+          lets ! (agg ! (and-then ! (var ! 55 refl) (and-then ! (part ! 19 1 refl refl refl) (no-more !)))) (init ! 57 refl (tt, (tt, (record { fits = room1 .0 }, tt)))) $
+          lets ! (addr ! (from ! (fld ! refl (hop ! (look-in ! 21 (sub ! 0 refl (whole !))) (stop !))))) (init ! 59 refl (tt, tt)) $
+          lets ! (agg ! (and-then ! (var ! 59 refl) (and-then ! (part ! 21 1 refl refl refl) (no-more !)))) (init ! 61 refl (tt, (tt, (record { fits = room2 .0 }, tt)))) $
+          lets ! (addr ! (from ! (fld ! refl (hop ! (look-in ! 23 (sub ! 0 refl (whole !))) (stop !))))) (init ! 63 refl (tt, tt)) $
+          lets ! (agg ! (and-then ! (var ! 63 refl) (and-then ! (part ! 23 1 refl refl refl) (no-more !)))) (init ! 65 refl (tt, (tt, (record { fits = room3 .0 }, tt)))) $
+          lets ! (addr ! (from ! (fld ! refl (hop ! (look-in ! 25 (sub ! 0 refl (whole !))) (stop !))))) (init ! 67 refl (tt, tt)) $
+          lets ! (agg ! (and-then ! (var ! 67 refl) (and-then ! (part ! 25 1 refl refl refl) (no-more !)))) (init ! 69 refl (tt, (tt, (record { fits = room4 .0 }, tt)))) $
+          lets ! (addr ! (from ! (fld ! refl (hop ! (look-in ! 27 (sub ! 0 refl (whole !))) (stop !))))) (init ! 71 refl (tt, tt)) $
+          lets ! (agg ! (and-then ! (var ! 71 refl) (and-then ! (part ! 27 1 refl refl refl) (no-more !)))) (init ! 73 refl (tt, (tt, (record { fits = room5 .0 }, tt)))) $
           -- the call
           move ! (5 ∷ 6 ∷ []) $
           moves ! moveOn κs qs c r xs fm known gc g
-          (and-then ! (var ! 28 refl) (and-then ! (var ! 34 refl) (and-then ! (var ! 52 refl) (and-then ! (var ! 56 refl) (and-then ! (var ! 22 refl) (and-then ! (var ! 60 refl) (no-more !))))))) (λ w m zs e ls is.
-          -- [toks1; fin4; fin2; fin1; cell; others; obor; obs; auth; cellc; oborc; obsc; authc; local i at position 13 + 2 i]
-          receive ! 39 refl (LL.lawful N.the-type N′.the-laws 𝓤 H A W .typed m _ is .0) (ap only (LL.tells N.the-type N′.the-laws m (w ∷ []) is)) $
+          (and-then ! (var ! 30 refl) (and-then ! (var ! 36 refl) (and-then ! (var ! 56 refl) (and-then ! (var ! 60 refl) (and-then ! (var ! 64 refl) (and-then ! (var ! 68 refl) (and-then ! (var ! 72 refl) (no-more !)))))))) (λ w m ls e eqs is.
+          -- [toks1; fin5 to fin1; cell; others; obor; obs; auth; cellc; oborc; obsc; authc; local i at position 15 + 2 i]
+          receive ! 43 refl (LL.lawful N.the-type N′.the-laws 𝓤 H A W .typed m _ is .0) (ap only (LL.tells N.the-type N′.the-laws m (w ∷ []) is)) $
           -- whether the step was carried out
-          asks ! isMoved (m .outcome) fm known-moves (outcome-of m is) (part ! 40 2 refl refl refl) (λ v b said is-b.
-          receive ! 65 refl (bool-lawful 𝓤 H A W .typed b _ is-b .0) (ap only is-b) $
-          first ! $ branches ! (var ! 65 refl)
+          asks ! isMoved (m .outcome) fm known-moves (outcome-of m is) (part ! 44 2 refl refl refl) (λ v b said is-b.
+          receive ! 79 refl (bool-lawful 𝓤 H A W .typed b _ is-b .0) (ap only is-b) $
+          first ! $ branches ! (var ! 79 refl)
           (λ yes-moved.
           -- what the step may change is stored
-          assigns ! (of-opd ! (load ! (from ! (fld ! refl (fld ! refl (stop !)))) (look-in ! 39 (sub ! 2 refl (sub ! 0 refl (whole !)))))) (from ! (hop ! (look ! 15 refl) (fld ! refl (stop !)))) (store-in ! 9 (sub ! 2 refl (whole !)) (tt, record { fits = LL.owed K.the-type K′.the-laws (m .control) _ (control-of m is) .1 .1 .0 .1 })) $
-          assigns ! (of-opd ! (load ! (from ! (fld ! refl (fld ! refl (stop !)))) (look-in ! 39 (sub ! 3 refl (sub ! 0 refl (whole !)))))) (from ! (hop ! (look ! 15 refl) (fld ! refl (stop !)))) (store-in ! 9 (sub ! 3 refl (whole !)) (tt, record { fits = LL.owed K.the-type K′.the-laws (m .control) _ (control-of m is) .1 .1 .1 .0 .1 })) $
+          assigns ! (of-opd ! (load ! (from ! (fld ! refl (fld ! refl (stop !)))) (look-in ! 43 (sub ! 2 refl (sub ! 0 refl (whole !)))))) (from ! (hop ! (look ! 17 refl) (fld ! refl (stop !)))) (store-in ! 11 (sub ! 2 refl (whole !)) (tt, record { fits = LL.owed K.the-type K′.the-laws (m .control) _ (control-of m is) .1 .1 .0 .1 })) $
+          assigns ! (of-opd ! (load ! (from ! (fld ! refl (fld ! refl (stop !)))) (look-in ! 43 (sub ! 3 refl (sub ! 0 refl (whole !)))))) (from ! (hop ! (look ! 17 refl) (fld ! refl (stop !)))) (store-in ! 11 (sub ! 3 refl (whole !)) (tt, record { fits = LL.owed K.the-type K′.the-laws (m .control) _ (control-of m is) .1 .1 .1 .0 .1 })) $
+          assigns ! (of-opd ! (load ! (from ! (fld ! refl (fld ! refl (stop !)))) (look-in ! 43 (sub ! 5 refl (sub ! 0 refl (whole !)))))) (from ! (hop ! (look ! 17 refl) (fld ! refl (stop !)))) (store-in ! 11 (sub ! 5 refl (whole !)) (tt, record { fits = LL.owed K.the-type K′.the-laws (m .control) _ (control-of m is) .1 .1 .1 .1 .1 .0 .1 })) $
           -- whether the call is over
-          asks ! endsCall (m .outcome) fm known-ends (outcome-of m is) (part ! 40 2 refl refl refl) (λ v′ b′ told is-b′.
-          receive ! 67 refl (bool-lawful 𝓤 H A W .typed b′ _ is-b′ .0) (ap only is-b′) $
-          branches ! (var ! 67 refl)
+          asks ! endsCall (m .outcome) fm known-ends (outcome-of m is) (part ! 44 2 refl refl refl) (λ v′ b′ told is-b′.
+          receive ! 81 refl (bool-lawful 𝓤 H A W .typed b′ _ is-b′ .0) (ap only is-b′) $
+          branches ! (var ! 81 refl)
           (λ yes-over.
-          lets ! (agg ! (and-then ! (lit ! tt) (and-then ! (lit ! tt) (and-then ! (lit ! tt) (and-then ! (lit ! tt) (and-then ! (lit ! tt) (and-then ! (lit ! tt) (and-then ! (lit ! tt) (and-then ! (lit ! tt) (and-then ! (lit ! tt) (no-more !))))))))))) (init ! 69 refl (LL.lawful T.the-type T′.the-laws 𝓤 H A W .typed idle _ idle-is .0)) $
-          assigns-last ! (of-opd ! (var ! 69 refl)) (from ! (hop ! (look ! 35 refl) (stop !))) (store-raw ! 4 refl (LL.lawful T.the-type T′.the-laws 𝓤 H A W .typed idle _ idle-is .0)) $
-          by ! (leave bs why m (control-after c m) idle zs (full _) (full _) (full _) room here (ended m zs none e (sym told ∙ holds b′ yes-over)) ls (control-is c m gc (control-of m is)) idle-is (outcome-of m is)))
+          lets ! (agg ! (and-then ! (lit ! tt) (and-then ! (lit ! tt) (and-then ! (lit ! tt) (and-then ! (lit ! tt) (and-then ! (lit ! tt) (and-then ! (lit ! tt) (and-then ! (lit ! tt) (and-then ! (lit ! tt) (and-then ! (lit ! tt) (no-more !))))))))))) (init ! 83 refl (LL.lawful T.the-type T′.the-laws 𝓤 H A W .typed idle _ idle-is .0)) $
+          assigns-last ! (of-opd ! (var ! 83 refl)) (from ! (hop ! (look ! 39 refl) (stop !))) (store-raw ! 6 refl (LL.lawful T.the-type T′.the-laws 𝓤 H A W .typed idle _ idle-is .0)) $
+          by ! (leave bs why m (control-after c m) idle ls (full _) (full _) (full _) room here (ended m ls none e (sym told ∙ holds b′ yes-over)) eqs (control-is c m gc (control-of m is)) idle-is (outcome-of m is)))
           (λ not-over.
-          assigns ! (of-opd ! (load ! (from ! (fld ! refl (fld ! refl (stop !)))) (look-in ! 39 (sub ! 0 refl (sub ! 1 refl (whole !)))))) (from ! (hop ! (look ! 35 refl) (fld ! refl (stop !)))) (store-in ! 4 (sub ! 0 refl (whole !)) (tt, record { fits = LL.owed T.the-type T′.the-laws (m .task) _ (task-of m is) .0 .1 })) $
-          assigns ! (of-opd ! (load ! (from ! (fld ! refl (fld ! refl (stop !)))) (look-in ! 39 (sub ! 5 refl (sub ! 1 refl (whole !)))))) (from ! (hop ! (look ! 35 refl) (fld ! refl (stop !)))) (store-in ! 4 (sub ! 5 refl (whole !)) (tt, record { fits = LL.owed T.the-type T′.the-laws (m .task) _ (task-of m is) .1 .1 .1 .1 .1 .0 .1 })) $
-          assigns ! (of-opd ! (load ! (from ! (fld ! refl (fld ! refl (stop !)))) (look-in ! 39 (sub ! 6 refl (sub ! 1 refl (whole !)))))) (from ! (hop ! (look ! 35 refl) (fld ! refl (stop !)))) (store-in ! 4 (sub ! 6 refl (whole !)) (tt, record { fits = LL.owed T.the-type T′.the-laws (m .task) _ (task-of m is) .1 .1 .1 .1 .1 .1 .0 .1 })) $
-          assigns ! (of-opd ! (load ! (from ! (fld ! refl (fld ! refl (stop !)))) (look-in ! 39 (sub ! 7 refl (sub ! 1 refl (whole !)))))) (from ! (hop ! (look ! 35 refl) (fld ! refl (stop !)))) (store-in ! 4 (sub ! 7 refl (whole !)) (tt, record { fits = LL.owed T.the-type T′.the-laws (m .task) _ (task-of m is) .1 .1 .1 .1 .1 .1 .1 .0 .1 })) $
-          assigns-last ! (of-opd ! (load ! (from ! (fld ! refl (fld ! refl (stop !)))) (look-in ! 39 (sub ! 8 refl (sub ! 1 refl (whole !)))))) (from ! (hop ! (look ! 35 refl) (fld ! refl (stop !)))) (store-in ! 4 (sub ! 8 refl (whole !)) (tt, record { fits = LL.owed T.the-type T′.the-laws (m .task) _ (task-of m is) .1 .1 .1 .1 .1 .1 .1 .1 .0 .1 })) $
-          by ! (leave bs why m (control-after c m) (record-after r m) zs (full _) (full _) bare room here (moved m zs none e (sym told ∙ fails b′ (T-not b′ not-over))) ls (control-is c m gc (control-of m is)) (record-is r m g (task-of m is)) (outcome-of m is)))))
+          assigns ! (of-opd ! (load ! (from ! (fld ! refl (fld ! refl (stop !)))) (look-in ! 43 (sub ! 0 refl (sub ! 1 refl (whole !)))))) (from ! (hop ! (look ! 39 refl) (fld ! refl (stop !)))) (store-in ! 6 (sub ! 0 refl (whole !)) (tt, record { fits = LL.owed T.the-type T′.the-laws (m .task) _ (task-of m is) .0 .1 })) $
+          assigns ! (of-opd ! (load ! (from ! (fld ! refl (fld ! refl (stop !)))) (look-in ! 43 (sub ! 3 refl (sub ! 1 refl (whole !)))))) (from ! (hop ! (look ! 39 refl) (fld ! refl (stop !)))) (store-in ! 6 (sub ! 3 refl (whole !)) (tt, record { fits = LL.owed T.the-type T′.the-laws (m .task) _ (task-of m is) .1 .1 .1 .0 .1 })) $
+          assigns ! (of-opd ! (load ! (from ! (fld ! refl (fld ! refl (stop !)))) (look-in ! 43 (sub ! 4 refl (sub ! 1 refl (whole !)))))) (from ! (hop ! (look ! 39 refl) (fld ! refl (stop !)))) (store-in ! 6 (sub ! 4 refl (whole !)) (tt, record { fits = LL.owed T.the-type T′.the-laws (m .task) _ (task-of m is) .1 .1 .1 .1 .0 .1 })) $
+          assigns ! (of-opd ! (load ! (from ! (fld ! refl (fld ! refl (stop !)))) (look-in ! 43 (sub ! 5 refl (sub ! 1 refl (whole !)))))) (from ! (hop ! (look ! 39 refl) (fld ! refl (stop !)))) (store-in ! 6 (sub ! 5 refl (whole !)) (tt, record { fits = LL.owed T.the-type T′.the-laws (m .task) _ (task-of m is) .1 .1 .1 .1 .1 .0 .1 })) $
+          assigns ! (of-opd ! (load ! (from ! (fld ! refl (fld ! refl (stop !)))) (look-in ! 43 (sub ! 6 refl (sub ! 1 refl (whole !)))))) (from ! (hop ! (look ! 39 refl) (fld ! refl (stop !)))) (store-in ! 6 (sub ! 6 refl (whole !)) (tt, record { fits = LL.owed T.the-type T′.the-laws (m .task) _ (task-of m is) .1 .1 .1 .1 .1 .1 .0 .1 })) $
+          assigns ! (of-opd ! (load ! (from ! (fld ! refl (fld ! refl (stop !)))) (look-in ! 43 (sub ! 7 refl (sub ! 1 refl (whole !)))))) (from ! (hop ! (look ! 39 refl) (fld ! refl (stop !)))) (store-in ! 6 (sub ! 7 refl (whole !)) (tt, record { fits = LL.owed T.the-type T′.the-laws (m .task) _ (task-of m is) .1 .1 .1 .1 .1 .1 .1 .0 .1 })) $
+          assigns-last ! (of-opd ! (load ! (from ! (fld ! refl (fld ! refl (stop !)))) (look-in ! 43 (sub ! 8 refl (sub ! 1 refl (whole !)))))) (from ! (hop ! (look ! 39 refl) (fld ! refl (stop !)))) (store-in ! 6 (sub ! 8 refl (whole !)) (tt, record { fits = LL.owed T.the-type T′.the-laws (m .task) _ (task-of m is) .1 .1 .1 .1 .1 .1 .1 .1 .0 .1 })) $
+          by ! (leave bs why m (control-after c m) (record-after r m) ls (full _) (full _) bare room here (moved m ls none e (sym told ∙ fails b′ (T-not b′ not-over))) eqs (control-is c m gc (control-of m is)) (record-is r m g (task-of m is)) (outcome-of m is)))))
           (λ not-moved.
           skips ! $
-          by ! (leave bs why m c r zs (full _) bare bare room here (still m zs none e (sym said ∙ fails b (T-not b not-moved))) ls gc g (outcome-of m is))))))))))))))))
+          by ! (leave bs why m c r ls (full _) bare bare room here (still m ls none e (sym said ∙ fails b (T-not b not-moved))) eqs gc g (outcome-of m is))))))))))))))))
 
 module _ {M : Type 1} (𝓤 : URA M) (H : Heap 𝓤) (A : Atoms 𝓤) (W : Given 𝓤 H A) (mem : Memory → SProp 𝓤) (run : Routine → Fun 𝓤) where
   self-walks : (C : Calls 𝓤 H) (Λ : Loops 𝓤 H) → FmC 𝓤 H (W .laws) C → Triple 𝓤 (C #engine·admit) (Admit 𝓤 H A mem run) → Triple 𝓤 (C #engine·refuse) (Refuse 𝓤 H A mem run)
       → Triple 𝓤 (C #engine·move-on) (Move 𝓤 H A moveOn) → Triple 𝓤 (C #engine·moves) (Test 𝓤 H A isMoved) → Triple 𝓤 (C #engine·ends) (Test 𝓤 H A endsCall)
       → Walks 𝓤 H A self.ended stayed (WpFn 𝓤 H C Λ code.function) (self.clauses 𝓤 H A mem run)
   self-walks C Λ fm known-admit known-refuse known known-moves known-ends = walked 𝓤 H A self.ended stayed (self.clauses 𝓤 H A mem run) (WpFn 𝓤 H C Λ code.function)
-      (λ κs. (ptr-vals, (slice-vals, (uint-vals w64, (slice-vals, (slice-vals, (slice-vals, (slice-vals, tt))))))))
+      (λ κs. (ptr-vals, (slice-vals, (uint-vals w64, (slice-vals, (slice-vals, (slice-vals, (slice-vals, (slice-vals, tt)))))))))
       (λ κs. (
         mut-tells (named 0) (κs .0) K.the-row,
         (
@@ -448,14 +463,20 @@ module _ {M : Type 1} (𝓤 : URA M) (H : Heap 𝓤) (A : Atoms 𝓤) (W : Given
             uint-tells w64,
             (
               mut-slice-tells (named 2) (κs .1 .1 .0) u64,
-              (mut-slice-tells (named 3) (κs .1 .1 .1 .0) u64, (shr-slice-tells (named 4) (κs .1 .1 .1 .1 .0) u32, (mut-slice-tells (named 5) (κs .1 .1 .1 .1 .1 .0) u64, tt))),
+              (
+                mut-slice-tells (named 3) (κs .1 .1 .1 .0) u64,
+                (
+                  mut-slice-tells (named 4) (κs .1 .1 .1 .1 .0) u32,
+                  (mut-slice-tells (named 5) (κs .1 .1 .1 .1 .1 .0) u64, (mut-slice-tells (named 6) (κs .1 .1 .1 .1 .1 .1 .0) u64, tt)),
+                ),
+              ),
             ),
           ),
         ),
       ))
       (λ κs qs bounds a g are. via 𝓤 _ (fst∗ 𝓤 _ (emp 𝓤)) (walk 𝓤 H A W mem run
-      (κs .0) (κs .1 .0) (κs .1 .1 .0) (κs .1 .1 .1 .0) (κs .1 .1 .1 .1 .0) (κs .1 .1 .1 .1 .1 .0) (qs .0) (qs .1 .0) (qs .1 .1 .0) (qs .1 .1 .1 .0) (qs .1 .1 .1 .1 .0) (qs .1 .1 .1 .1 .1 .0) (a .0) (a .1 .0) (a .1 .1 .0) (are .1 .1 .0 .1) (a .1 .1 .1 .0) (a .1 .1 .1 .1 .0) (a .1 .1 .1 .1 .1 .0) (a .1 .1 .1 .1 .1 .1 .0)
-      C Λ fm known-admit known-refuse known known-moves known-ends (are .1 .0 .0 .1) (are .1 .1 .1 .0 .0 .1) (are .1 .1 .1 .1 .0 .0 .1) (are .1 .1 .1 .1 .1 .0 .0 .1) (are .1 .1 .1 .1 .1 .1 .0 .0 .1)))
+      (κs .0) (κs .1 .0) (κs .1 .1 .0) (κs .1 .1 .1 .0) (κs .1 .1 .1 .1 .0) (κs .1 .1 .1 .1 .1 .0) (κs .1 .1 .1 .1 .1 .1 .0) (qs .0) (qs .1 .0) (qs .1 .1 .0) (qs .1 .1 .1 .0) (qs .1 .1 .1 .1 .0) (qs .1 .1 .1 .1 .1 .0) (qs .1 .1 .1 .1 .1 .1 .0) (a .0) (a .1 .0) (a .1 .1 .0) (are .1 .1 .0 .1) (a .1 .1 .1 .0) (a .1 .1 .1 .1 .0) (a .1 .1 .1 .1 .1 .0) (a .1 .1 .1 .1 .1 .1 .0) (a .1 .1 .1 .1 .1 .1 .1 .0)
+      C Λ fm known-admit known-refuse known known-moves known-ends (are .1 .0 .0 .1) (are .1 .1 .1 .0 .0 .1) (are .1 .1 .1 .1 .0 .0 .1) (are .1 .1 .1 .1 .1 .0 .0 .1) (are .1 .1 .1 .1 .1 .1 .0 .0 .1) (are .1 .1 .1 .1 .1 .1 .1 .0 .0 .1)))
 
 self-meets : {M : Type 1} (𝓤 : URA M) (H : Heap 𝓤) (A : Atoms 𝓤) → Given 𝓤 H A → (mem : Memory → SProp 𝓤) (run : Routine → Fun 𝓤) (𝓣 : Program 𝓤 H)
     → Triple 𝓤 (𝓣 .C #engine·admit) (Admit 𝓤 H A mem run) → Triple 𝓤 (𝓣 .C #engine·refuse) (Refuse 𝓤 H A mem run)
@@ -463,16 +484,16 @@ self-meets : {M : Type 1} (𝓤 : URA M) (H : Heap 𝓤) (A : Atoms 𝓤) → Gi
     → Meets 𝓤 H A self.signature (WpFn 𝓤 H (𝓣 .C) (𝓣 .Λ) code.function) (self.spec 𝓤 H A mem run)
 self-meets 𝓤 H A W mem run 𝓣 known-admit known-refuse known known-moves known-ends =
     walk-meets 𝓤 H A self.ended stayed W (
-      goes-ref 𝓤 H A W 6 0 tt (plain (λ _. K.the-row)),
+      goes-ref 𝓤 H A W 7 0 tt (plain (λ _. K.the-row)),
       (
-        goes-slice 𝓤 H A W 6 1 tt (plain (λ _. T.the-row)),
+        goes-slice 𝓤 H A W 7 1 tt (plain (λ _. T.the-row)),
         (
-          goes-none 𝓤 H A W 6 (λ _. usize) yes (λ κs x f. refl),
+          goes-none 𝓤 H A W 7 (λ _. usize) yes (λ κs x f. refl),
           (
-            goes-gave-slice 𝓤 H A W 6 2 tt (plain (λ _. u64)),
+            goes-gave-slice 𝓤 H A W 7 2 tt (plain (λ _. u64)),
             (
-              goes-gave-slice 𝓤 H A W 6 3 tt (plain (λ _. u64)),
-              (goes-dropped 𝓤 H A W 6 (shrSliceOf (4 ∷ []) tt (plain (λ _. u32))) yes (λ κs x f. refl), (goes-gave-slice 𝓤 H A W 6 5 tt (plain (λ _. u64)), tt)),
+              goes-gave-slice 𝓤 H A W 7 3 tt (plain (λ _. u64)),
+              (goes-gave-slice 𝓤 H A W 7 4 tt (plain (λ _. u32)), (goes-gave-slice 𝓤 H A W 7 5 tt (plain (λ _. u64)), (goes-gave-slice 𝓤 H A W 7 6 tt (plain (λ _. u64)), tt))),
             ),
           ),
         ),

@@ -31,8 +31,8 @@ use denote.Laws.{Is, shows}
 use denote.Plain.{bool-lawful}
 use denote.Builtin.{u32, u64}
 use denote.Ref.{RefT, MutRef, ptr-vals, mut-tells}
-use denote.Slice.{Room, slice-vals, MutSlice, mut-slice-tells, ShrSlice, shr-slice-tells}
-use denote.Signature.{plain, shrSliceOf}
+use denote.Slice.{Room, slice-vals, MutSlice, mut-slice-tells}
+use denote.Signature.{plain}
 use denote.Steps.{only, opens, closes, owned, facts, nothing}
 use denote.Struct.Steps.{spelt}
 use denote.Struct.Laws as LL
@@ -41,8 +41,7 @@ use denote.Triple.Statement.{Triple}
 use denote.Triple.Entry.{onEntry}
 use denote.Triple.Spec.{Meets, tripleOf}
 use denote.Triple.Table.{entered, cited}
-use denote.Triple.Walked.{says, Stays, walkOf, Walks, ends-at, walked, walk-meets, stay-ref, goes-ref, gave-slice, goes-gave-slice, stay-dropped, goes-dropped}
-use denote.Exit.{yes}
+use denote.Triple.Walked.{says, Stays, walkOf, Walks, ends-at, walked, walk-meets, stay-ref, goes-ref, gave-slice, goes-gave-slice}
 use Rattle.model.specs.declared.Control.{Control}
 use Rattle.model.specs.declared.Record.{Record}
 use Rattle.model.specs.declared.Outcome.{Outcome}
@@ -52,7 +51,7 @@ use Rattle.model.specs.Refusals.{alone}
 use Rattle.model.specs.Calls.{Acted, stepLent}
 use Rattle.model.specs.Ends.{endsCall, isMoved}
 use Rattle.deque.proofs.Walk.{control-value, record-value, outcome-value, slice-value, kept, var, part, lets, receive, idle-is, holds, fails}
-use Rattle.deque.proofs.Engine.{Four, Lasts, tabled, unwritten, Lengths, Leaves, Move, slices, returned, moves, Test, asks}
+use Rattle.deque.proofs.Engine.{Five, tabled, unwritten, Lengths, Leaves, Move, slices, returned, moves, Test, asks}
 use Rattle.deque.proofs.Stored.{control-of, task-of, outcome-of, control-after, record-after, control-is, record-is}
 use Rattle.engine.proofs.Stored.{over, going, unmoved}
 use Rattle.deque.proofs.Frame.{Blocks, env-of, Cell, full, bare, cells, allocates, frees-all}
@@ -86,13 +85,16 @@ stayed = (
     stay-ref (1 ∷ []) tt (plain (λ _. T.the-row)),
     (
       gave-slice (2 ∷ []) tt (plain (λ _. u64)),
-      (gave-slice (3 ∷ []) tt (plain (λ _. u64)), (stay-dropped (shrSliceOf (4 ∷ []) tt (plain (λ _. u32))) yes, (gave-slice (5 ∷ []) tt (plain (λ _. u64)), tt))),
+      (
+        gave-slice (3 ∷ []) tt (plain (λ _. u64)),
+        (gave-slice (4 ∷ []) tt (plain (λ _. u32)), (gave-slice (5 ∷ []) tt (plain (λ _. u64)), (gave-slice (6 ∷ []) tt (plain (λ _. u64)), tt))),
+      ),
     ),
   ),
 )
 
 module _ {M : Type 1} (𝓤 : URA M) (H : Heap 𝓤) (A : Atoms 𝓤) (W : Given 𝓤 H A) (at-mem : Memory → SProp 𝓤) (run : Routine → Fun 𝓤)
-    (κc κr κ1 κ2 κ3 κ4 : Lft) (qc qr q1 q2 q3 q4 : Share) (xc : RefT Control) (xr : RefT Record) (x1 x2 x3 x4 : RefT (List ℕ)) where
+    (κc κr κ1 κ2 κ3 κ4 κ5 : Lft) (qc qr q1 q2 q3 q4 q5 : Share) (xc : RefT Control) (xr : RefT Record) (x1 x2 x3 x4 x5 : RefT (List ℕ)) where
   -- what is lent, at entry
   abbrev c : Control
   c = xc .now
@@ -106,38 +108,38 @@ module _ {M : Type 1} (𝓤 : URA M) (H : Heap 𝓤) (A : Atoms 𝓤) (W : Given
   abbrev pr : Val
   pr = vptr (xr .ptr .0) (xr .ptr .1)
 
-  abbrev κs : Four Lft
-  κs = (κ1, (κ2, (κ3, (κ4, tt))))
+  abbrev κs : Five Lft
+  κs = (κ1, (κ2, (κ3, (κ4, (κ5, tt)))))
 
-  abbrev qs : Four Share
-  qs = (q1, (q2, (q3, (q4, tt))))
+  abbrev qs : Five Share
+  qs = (q1, (q2, (q3, (q4, (q5, tt)))))
 
-  abbrev xs : Four (RefT (List ℕ))
-  xs = (x1, (x2, (x3, (x4, tt))))
+  abbrev xs : Five (RefT (List ℕ))
+  xs = (x1, (x2, (x3, (x4, (x5, tt)))))
 
-  abbrev a : RefT Control × (RefT Record × Four (RefT (List ℕ)))
+  abbrev a : RefT Control × (RefT Record × Five (RefT (List ℕ)))
   a = (xc, (xr, xs))
 
-  abbrev vals : List Val × (List Val × Four (List Val))
+  abbrev vals : List Val × (List Val × Five (List Val))
   vals = (pc ∷ [], (pr ∷ [], slices xs))
 
   abbrev entry : Tables
-  entry = tabled xs c (unwritten xs)
+  entry = tabled c (unwritten xs)
 
-  abbrev Said : Outcome → Control → Record → Lasts → Type 0
-  Said r′ z h zs = _≡_ {A = Acted} (record { tables = tabled xs z zs; task = h; outcome = r′ }) (stepLent entry r)
+  abbrev Said : Outcome → Control → Record → Five (List ℕ) → Type 0
+  Said r′ z h ls = _≡_ {A = Acted} (record { tables = tabled z ls; task = h; outcome = r′ }) (stepLent entry r)
 
-  ended : (m : Moved) (zs : Lasts) → Leaves stepLent c r xs m zs → endsCall (m .outcome) ≡ true → Said (m .outcome) (control-after c m) idle zs
+  ended : (m : Moved) (ls : Five (List ℕ)) → Leaves stepLent c r xs m ls → endsCall (m .outcome) ≡ true → Said (m .outcome) (control-after c m) idle ls
   unfolding stepLent
-  ended m zs e = over entry alone r m (zs .1 .1 .0) (zs .1 .1 .1 .0) (x3 .now) (zs .1 .1 .1 .1 .1 .0) e
+  ended m ls e = over entry alone r m (ls .0) (ls .1 .0) (ls .1 .1 .0) (ls .1 .1 .1 .0) (ls .1 .1 .1 .1 .0) e
 
-  moved : (m : Moved) (zs : Lasts) → Leaves stepLent c r xs m zs → endsCall (m .outcome) ≡ false → Said (m .outcome) (control-after c m) (record-after r m) zs
+  moved : (m : Moved) (ls : Five (List ℕ)) → Leaves stepLent c r xs m ls → endsCall (m .outcome) ≡ false → Said (m .outcome) (control-after c m) (record-after r m) ls
   unfolding stepLent
-  moved m zs e = going entry alone r m (zs .1 .1 .0) (zs .1 .1 .1 .0) (x3 .now) (zs .1 .1 .1 .1 .1 .0) e
+  moved m ls e = going entry alone r m (ls .0) (ls .1 .0) (ls .1 .1 .0) (ls .1 .1 .1 .0) (ls .1 .1 .1 .1 .0) e
 
-  refused : (m : Moved) (zs : Lasts) → Leaves stepLent c r xs m zs → isMoved (m .outcome) ≡ false → Said (m .outcome) c r zs
+  refused : (m : Moved) (ls : Five (List ℕ)) → Leaves stepLent c r xs m ls → isMoved (m .outcome) ≡ false → Said (m .outcome) c r ls
   unfolding stepLent
-  refused m zs e = unmoved entry alone r m (zs .1 .1 .0) (zs .1 .1 .1 .0) (x3 .now) (zs .1 .1 .1 .1 .1 .0) e
+  refused m ls e = unmoved entry alone r m (ls .0) (ls .1 .0) (ls .1 .1 .0) (ls .1 .1 .1 .0) (ls .1 .1 .1 .1 .0) e
 
   abbrev bound : walkOf 𝓤 H A self.ended stayed (self.clauses 𝓤 H A at-mem run) .Ghost
   bound = (((κc, (κr, κs)), (qc, (qr, qs)), tt, a, vals), tt)
@@ -147,23 +149,24 @@ module _ {M : Type 1} (𝓤 : URA M) (H : Heap 𝓤) (A : Atoms 𝓤) (W : Given
 
   abbrev lent : List (Item 𝓤)
   lent =
-      (‵ (flft κc qc) ⊛ ‵ (flft κr qr) ⊛ ‵ (flft κ1 q1) ⊛ ‵ (flft κ2 q2) ⊛ ‵ (flft κ3 q3) ⊛ ‵ (flft κ4 q4) ⊛ ‵ ftrue)
-      ∷ ‵ (owns (MutRef (named 0) κc K.the-row ∷ MutRef (named 1) κr T.the-row ∷ MutSlice (named 2) κ1 u64 ∷ MutSlice (named 3) κ2 u64 ∷ ShrSlice (named 4) κ3 u32 ∷ MutSlice (named 5) κ4 u64 ∷ []) a vals)
+      (‵ (flft κc qc) ⊛ ‵ (flft κr qr) ⊛ ‵ (flft κ1 q1) ⊛ ‵ (flft κ2 q2) ⊛ ‵ (flft κ3 q3) ⊛ ‵ (flft κ4 q4) ⊛ ‵ (flft κ5 q5) ⊛ ‵ ftrue)
+      ∷ ‵ (owns (MutRef (named 0) κc K.the-row ∷ MutRef (named 1) κr T.the-row ∷ MutSlice (named 2) κ1 u64 ∷ MutSlice (named 3) κ2 u64 ∷ MutSlice (named 4) κ3 u32 ∷ MutSlice (named 5) κ4 u64 ∷ MutSlice (named 6) κ5 u64 ∷ []) a vals)
       ∷ []
 
   module _ (C : Calls 𝓤 H) (Λ : Loops 𝓤 H) where
-    module _ (bs : Blocks (code.function .locals)) (m : Moved) (z : Control) (h : Record) (zs : Lasts) (k16 k17 k18 : Cell) where
+    module _ (bs : Blocks (code.function .locals)) (m : Moved) (z : Control) (h : Record) (ls : Five (List ℕ)) (k21 k22 k23 : Cell) where
       -- the locals' cells once all is stored: which of the last three hold a value depends on the branch
       abbrev held : Cell → List Cell
       held answer =
-          answer ∷ full pc ∷ full pr ∷ full (slice-value x1) ∷ full (slice-value x2) ∷ full (slice-value x3) ∷ full (slice-value x4)
+          answer ∷ full pc ∷ full pr ∷ full (slice-value x1) ∷ full (slice-value x2) ∷ full (slice-value x3) ∷ full (slice-value x4) ∷ full (slice-value x5)
           ∷ full (control-value c) ∷ full (record-value r) ∷ full (LL.val N.the-type N′.the-laws m) ∷ full (vptr (x1 .ptr .0) (x1 .ptr .1)) ∷ full (slice-value x1) ∷ full (vptr (x2 .ptr .0) (x2 .ptr .1)) ∷ full (slice-value x2)
-          ∷ full (vptr (x4 .ptr .0) (x4 .ptr .1)) ∷ full (slice-value x4) ∷ k16 ∷ k17 ∷ k18 ∷ []
+          ∷ full (vptr (x3 .ptr .0) (x3 .ptr .1)) ∷ full (slice-value x3) ∷ full (vptr (x4 .ptr .0) (x4 .ptr .1)) ∷ full (slice-value x4) ∷ full (vptr (x5 .ptr .0) (x5 .ptr .1)) ∷ full (slice-value x5)
+          ∷ k21 ∷ k22 ∷ k23 ∷ []
 
-      -- [toks1; fin4; fin2; fin1; cell; obor; obs; auth; cellc; oborc; obsc; authc; local i at position 12 + 2 i]
+      -- [toks1; fin5 to fin1; cell; obor; obs; auth; cellc; oborc; obsc; authc; local i at position 14 + 2 i]
       abbrev stored : List (Item 𝓤)
       stored =
-          returned 𝓤 κs qs xs zs
+          returned 𝓤 κs qs xs ls
           (‵ (cellAt fullShare (T.the-row .mir) (record-value h ∷ []) (xr .ptr .0) (xr .ptr .1)) ∷ ‵ (fobor κr qr (Behind (mem T.the-row) (xr .ptr .0) (xr .ptr .1) (xr .name)))
           ∷ ‵ (fobs (xr .name) (T.the-row .coded .code r)) ∷ ‵ (fauth (xr .name) (T.the-row .coded .code r))
           ∷ ‵ (cellAt fullShare (K.the-row .mir) (control-value z ∷ []) (xc .ptr .0) (xc .ptr .1)) ∷ ‵ (fobor κc qc (Behind (mem K.the-row) (xc .ptr .0) (xc .ptr .1) (xc .name)))
@@ -171,38 +174,38 @@ module _ {M : Type 1} (𝓤 : URA M) (H : Heap 𝓤) (A : Atoms 𝓤) (W : Given
           ∷ cells 𝓤 (env-of (code.function .locals) bs) (held bare))
 
       -- the outcome is returned, the borrows are closed at what is stored, and the locals are freed
-      leave : Said (m .outcome) z h zs → Lengths xs zs → Is K.the-row z (control-value z ∷ []) → Is T.the-row h (record-value h ∷ []) → Is E.the-row (m .outcome) (outcome-value (m .outcome) ∷ [])
-          → ent 𝓤 (⋆ 𝓤 H A stored) (Wp 𝓤 H C Λ (env-of (code.function .locals) bs) body.t-12 (post 𝓤 H (atRet (env-of (code.function .locals) bs) Post)))
-      leave e ls gz gh g =
+      leave : Said (m .outcome) z h ls → Lengths xs ls → Is K.the-row z (control-value z ∷ []) → Is T.the-row h (record-value h ∷ []) → Is E.the-row (m .outcome) (outcome-value (m .outcome) ∷ [])
+          → ent 𝓤 (⋆ 𝓤 H A stored) (Wp 𝓤 H C Λ (env-of (code.function .locals) bs) body.t-16 (post 𝓤 H (atRet (env-of (code.function .locals) bs) Post)))
+      leave e eqs gz gh g =
           qed W stored ∵
-          exec ! C Λ (env-of (code.function .locals) bs) body.t-12 (atRet (env-of (code.function .locals) bs) Post) $
-          lets ! (of-opd ! (part ! 30 2 refl refl refl)) (init ! 12 refl (EL.lawful E.the-type E′.the-laws 𝓤 H A W tt .typed (m .outcome) _ g .0)) $
+          exec ! C Λ (env-of (code.function .locals) bs) body.t-16 (atRet (env-of (code.function .locals) bs) Post) $
+          lets ! (of-opd ! (part ! 34 2 refl refl refl)) (init ! 14 refl (EL.lawful E.the-type E′.the-laws 𝓤 H A W tt .typed (m .outcome) _ g .0)) $
           owned ! T.the-row (Is T.the-row) (LL.makes T.the-type T′.the-plain 𝓤 H A) h _ gh $
-          move ! (5 ∷ 0 ∷ 6 ∷ 7 ∷ 8 ∷ []) $ closes ! tt T.the-row h (record-value h ∷ []) (xr .ptr .0) (xr .ptr .1) $
+          move ! (7 ∷ 0 ∷ 8 ∷ 9 ∷ 10 ∷ []) $ closes ! tt T.the-row h (record-value h ∷ []) (xr .ptr .0) (xr .ptr .1) $
           owned ! K.the-row (Is K.the-row) (LL.makes K.the-type K′.the-plain 𝓤 H A) z _ gz $
-          move ! (8 ∷ 0 ∷ 9 ∷ 10 ∷ 11 ∷ []) $ closes ! tt K.the-row z (control-value z ∷ []) (xc .ptr .0) (xc .ptr .1) $
-          returns ! (look ! 10 refl) $ frees-all ! 10 (held (full (outcome-value (m .outcome)))) refl $
+          move ! (10 ∷ 0 ∷ 11 ∷ 12 ∷ 13 ∷ []) $ closes ! tt K.the-row z (control-value z ∷ []) (xc .ptr .0) (xc .ptr .1) $
+          returns ! (look ! 12 refl) $ frees-all ! 12 (held (full (outcome-value (m .outcome)))) refl $
           move ! (3 ∷ 4 ∷ []) $ feqI ! (List Val) (pr ∷ []) (pr ∷ []) refl $ fjoin3 ! $
           move ! (1 ∷ 2 ∷ []) $ feqI ! (List Val) (pc ∷ []) (pc ∷ []) refl $ fjoin3 ! $
-          -- [control; record; lftc; lftr; toks1; fin4; fin2; fin1]
-          suffices ! _ (ends-at 𝓤 H A self.ended stayed (self.clauses 𝓤 H A at-mem run) W bound _ (m .outcome) (z, (h, zs .1 .1)) (tt, (tt, (ls .0, (ls .1, (tt, (ls .2, tt))))))) $
-          says ! e $ move ! (3 ∷ 4 ∷ []) $ join ! $ move ! (3 ∷ 0 ∷ []) $ join ! $ frame ! $ nothing ! $ move ! (3 ∷ 0 ∷ []) $ fjoin ! $ nothing ! $ fjoin ! $
+          -- [control; record; lftc; lftr; toks1; fin5 to fin1]
+          suffices ! _ (ends-at 𝓤 H A self.ended stayed (self.clauses 𝓤 H A at-mem run) W bound _ (m .outcome) (z, (h, ls)) (tt, (tt, (eqs .0, (eqs .1, (eqs .2, (eqs .3, (eqs .4, tt)))))))) $
+          says ! e $ move ! (3 ∷ 4 ∷ []) $ join ! $ move ! (3 ∷ 0 ∷ []) $ join ! $ frame ! $ nothing ! $ move ! (3 ∷ 0 ∷ []) $ fjoin ! $ move ! (3 ∷ 0 ∷ []) $ fjoin ! $ move ! (3 ∷ 0 ∷ []) $ fjoin ! $
           move ! (3 ∷ 0 ∷ []) $ fjoin ! $ move ! (3 ∷ 0 ∷ []) $ fjoin ! $ move ! (2 ∷ 0 ∷ []) $ fjoin ! $ move ! (1 ∷ 0 ∷ []) $ fjoin ! $
           owned ! E.the-row (Is E.the-row) (EL.makes E.the-type E′.the-plain 𝓤 H A) (m .outcome) _ g $ move ! (1 ∷ 0 ∷ []) $ done !
 
     module _ (fm : FmC 𝓤 H (W .laws) C) (known : Triple 𝓤 (C #engine·step-alone) (Move 𝓤 H A stepLent)) (known-moves : Triple 𝓤 (C #engine·moves) (Test 𝓤 H A isMoved)) (known-ends : Triple 𝓤 (C #engine·ends) (Test 𝓤 H A endsCall)) where
-      walk : Room u64 (length (x1 .now)) → Room u64 (length (x2 .now)) → Room u32 (length (x3 .now)) → Room u64 (length (x4 .now))
-          → ent 𝓤 (onEntry 𝓤 H A self.signature (κc, (κr, κs)) (qc, (qr, qs)) a vals) (WpFn 𝓤 H C Λ code.function (pc ∷ pr ∷ slice-value x1 ∷ slice-value x2 ∷ slice-value x3 ∷ slice-value x4 ∷ []) Post)
-      walk room1 room2 room3 room4 =
+      walk : Room u64 (length (x1 .now)) → Room u64 (length (x2 .now)) → Room u32 (length (x3 .now)) → Room u64 (length (x4 .now)) → Room u64 (length (x5 .now))
+          → ent 𝓤 (onEntry 𝓤 H A self.signature (κc, (κr, κs)) (qc, (qr, qs)) a vals) (WpFn 𝓤 H C Λ code.function (pc ∷ pr ∷ slice-value x1 ∷ slice-value x2 ∷ slice-value x3 ∷ slice-value x4 ∷ slice-value x5 ∷ []) Post)
+      walk room1 room2 room3 room4 room5 =
           qed W lent ∵
-          enter ! C Λ code.function (pc ∷ pr ∷ slice-value x1 ∷ slice-value x2 ∷ slice-value x3 ∷ slice-value x4 ∷ []) _ $
+          enter ! C Λ code.function (pc ∷ pr ∷ slice-value x1 ∷ slice-value x2 ∷ slice-value x3 ∷ slice-value x4 ∷ slice-value x5 ∷ []) _ $
           allocates ! (λ bs. params1 ! $
           pass1 ! (init ! 2 refl (tt, tt)) $ pass1 ! (init ! 4 refl (tt, tt)) $ pass1 ! (init ! 6 refl (tt, (tt, (record { fits = room1 .0 }, tt)))) $
           pass1 ! (init ! 8 refl (tt, (tt, (record { fits = room2 .0 }, tt)))) $ pass1 ! (init ! 10 refl (tt, (tt, (record { fits = room3 .0 }, tt)))) $
-          pass1 ! (init ! 12 refl (tt, (tt, (record { fits = room4 .0 }, tt)))) $ pass0 ! $
+          pass1 ! (init ! 12 refl (tt, (tt, (record { fits = room4 .0 }, tt)))) $ pass1 ! (init ! 14 refl (tt, (tt, (record { fits = room5 .0 }, tt)))) $ pass0 ! $
           -- the control is opened
-          move ! (39 ∷ []) $ fsplit ! $ fsplit3 ! $ drop ! $
-          move ! (41 ∷ []) $ split ! $
+          move ! (49 ∷ []) $ fsplit ! $ fsplit3 ! $ drop ! $
+          move ! (51 ∷ []) $ split ! $
           move ! (2 ∷ 3 ∷ 0 ∷ []) $
           opens ! tt K.the-row {h = c} (xc .ptr .0) (xc .ptr .1) (λ vK. spelt ! K.the-row (Is K.the-row) (shows 𝓤 H A K.the-row) (LL.vals K.the-type K′.the-laws) (LL.tells K.the-type K′.the-laws) fullShare c vK (xc .ptr .0) (xc .ptr .1) $
           move ! (1 ∷ []) $ facts ! K.the-row (Is K.the-row) (shows 𝓤 H A K.the-row) c (control-value c ∷ []) (λ gc.
@@ -213,81 +216,94 @@ module _ {M : Type 1} (𝓤 : URA M) (H : Heap 𝓤) (A : Atoms 𝓤) (W : Given
           opens ! tt T.the-row {h = r} (xr .ptr .0) (xr .ptr .1) (λ vT. spelt ! T.the-row (Is T.the-row) (shows 𝓤 H A T.the-row) (LL.vals T.the-type T′.the-laws) (LL.tells T.the-type T′.the-laws) fullShare r vT (xr .ptr .0) (xr .ptr .1) $
           move ! (1 ∷ []) $ facts ! T.the-row (Is T.the-row) (shows 𝓤 H A T.the-row) r (record-value r ∷ []) (λ g.
           -- [cell; obor; obs; auth; toks1; rest; cellc; oborc; obsc; authc; local i at position 10 + 2 i]
-          lets ! (of-opd ! (load ! (from ! (hop ! (look ! 12 refl) (stop !))) (look-raw ! 6 refl))) (init ! 24 refl (LL.lawful K.the-type K′.the-laws 𝓤 H A W .typed c _ gc .0)) $
-          lets ! (of-opd ! (load ! (from ! (hop ! (look ! 14 refl) (stop !))) (look-raw ! 0 refl))) (init ! 26 refl (LL.lawful T.the-type T′.the-laws 𝓤 H A W .typed r _ g .0)) $
-          lets ! (addr ! (from ! (fld ! refl (hop ! (look-in ! 16 (sub ! 0 refl (whole !))) (stop !))))) (init ! 30 refl (tt, tt)) $
-          lets ! (agg ! (and-then ! (var ! 30 refl) (and-then ! (part ! 16 1 refl refl refl) (no-more !)))) (init ! 32 refl (tt, (tt, (record { fits = room1 .0 }, tt)))) $
-          lets ! (addr ! (from ! (fld ! refl (hop ! (look-in ! 18 (sub ! 0 refl (whole !))) (stop !))))) (init ! 34 refl (tt, tt)) $
-          lets ! (agg ! (and-then ! (var ! 34 refl) (and-then ! (part ! 18 1 refl refl refl) (no-more !)))) (init ! 36 refl (tt, (tt, (record { fits = room2 .0 }, tt)))) $
-          lets ! (addr ! (from ! (fld ! refl (hop ! (look-in ! 22 (sub ! 0 refl (whole !))) (stop !))))) (init ! 38 refl (tt, tt)) $
-          lets ! (agg ! (and-then ! (var ! 38 refl) (and-then ! (part ! 22 1 refl refl refl) (no-more !)))) (init ! 40 refl (tt, (tt, (record { fits = room4 .0 }, tt)))) $
+          lets ! (of-opd ! (load ! (from ! (hop ! (look ! 12 refl) (stop !))) (look-raw ! 6 refl))) (init ! 26 refl (LL.lawful K.the-type K′.the-laws 𝓤 H A W .typed c _ gc .0)) $
+          lets ! (of-opd ! (load ! (from ! (hop ! (look ! 14 refl) (stop !))) (look-raw ! 0 refl))) (init ! 28 refl (LL.lawful T.the-type T′.the-laws 𝓤 H A W .typed r _ g .0)) $
+          lets ! (addr ! (from ! (fld ! refl (hop ! (look-in ! 16 (sub ! 0 refl (whole !))) (stop !))))) (init ! 32 refl (tt, tt)) $
+          lets ! (agg ! (and-then ! (var ! 32 refl) (and-then ! (part ! 16 1 refl refl refl) (no-more !)))) (init ! 34 refl (tt, (tt, (record { fits = room1 .0 }, tt)))) $
+          lets ! (addr ! (from ! (fld ! refl (hop ! (look-in ! 18 (sub ! 0 refl (whole !))) (stop !))))) (init ! 36 refl (tt, tt)) $
+          lets ! (agg ! (and-then ! (var ! 36 refl) (and-then ! (part ! 18 1 refl refl refl) (no-more !)))) (init ! 38 refl (tt, (tt, (record { fits = room2 .0 }, tt)))) $
+          lets ! (addr ! (from ! (fld ! refl (hop ! (look-in ! 20 (sub ! 0 refl (whole !))) (stop !))))) (init ! 40 refl (tt, tt)) $
+          lets ! (agg ! (and-then ! (var ! 40 refl) (and-then ! (part ! 20 1 refl refl refl) (no-more !)))) (init ! 42 refl (tt, (tt, (record { fits = room3 .0 }, tt)))) $
+          lets ! (addr ! (from ! (fld ! refl (hop ! (look-in ! 22 (sub ! 0 refl (whole !))) (stop !))))) (init ! 44 refl (tt, tt)) $
+          lets ! (agg ! (and-then ! (var ! 44 refl) (and-then ! (part ! 22 1 refl refl refl) (no-more !)))) (init ! 46 refl (tt, (tt, (record { fits = room4 .0 }, tt)))) $
+          lets ! (addr ! (from ! (fld ! refl (hop ! (look-in ! 24 (sub ! 0 refl (whole !))) (stop !))))) (init ! 48 refl (tt, tt)) $
+          lets ! (agg ! (and-then ! (var ! 48 refl) (and-then ! (part ! 24 1 refl refl refl) (no-more !)))) (init ! 50 refl (tt, (tt, (record { fits = room5 .0 }, tt)))) $
           -- the call
           move ! (4 ∷ 5 ∷ []) $
           moves ! stepLent κs qs c r xs fm known gc g
-          (and-then ! (var ! 23 refl) (and-then ! (var ! 25 refl) (and-then ! (var ! 31 refl) (and-then ! (var ! 35 refl) (and-then ! (var ! 19 refl) (and-then ! (var ! 39 refl) (no-more !))))))) (λ w m zs e ls is.
-          -- [toks1; fin4; fin2; fin1; cell; obor; obs; auth; cellc; oborc; obsc; authc; local i at position 12 + 2 i]
-          receive ! 30 refl (LL.lawful N.the-type N′.the-laws 𝓤 H A W .typed m _ is .0) (ap only (LL.tells N.the-type N′.the-laws m (w ∷ []) is)) $
+          (and-then ! (var ! 25 refl) (and-then ! (var ! 27 refl) (and-then ! (var ! 33 refl) (and-then ! (var ! 37 refl) (and-then ! (var ! 41 refl) (and-then ! (var ! 45 refl) (and-then ! (var ! 49 refl) (no-more !)))))))) (λ w m ls e eqs is.
+          -- [toks1; fin5 to fin1; cell; obor; obs; auth; cellc; oborc; obsc; authc; local i at position 14 + 2 i]
+          receive ! 34 refl (LL.lawful N.the-type N′.the-laws 𝓤 H A W .typed m _ is .0) (ap only (LL.tells N.the-type N′.the-laws m (w ∷ []) is)) $
           -- whether the step was carried out
-          asks ! isMoved (m .outcome) fm known-moves (outcome-of m is) (part ! 31 2 refl refl refl) (λ v b said is-b.
-          receive ! 44 refl (bool-lawful 𝓤 H A W .typed b _ is-b .0) (ap only is-b) $
-          first ! $ branches ! (var ! 44 refl)
+          asks ! isMoved (m .outcome) fm known-moves (outcome-of m is) (part ! 35 2 refl refl refl) (λ v b said is-b.
+          receive ! 56 refl (bool-lawful 𝓤 H A W .typed b _ is-b .0) (ap only is-b) $
+          first ! $ branches ! (var ! 56 refl)
           (λ yes-moved.
           -- what the step may change is stored
-          assigns ! (of-opd ! (load ! (from ! (fld ! refl (fld ! refl (stop !)))) (look-in ! 30 (sub ! 2 refl (sub ! 0 refl (whole !)))))) (from ! (hop ! (look ! 14 refl) (fld ! refl (stop !)))) (store-in ! 8 (sub ! 2 refl (whole !)) (tt, record { fits = LL.owed K.the-type K′.the-laws (m .control) _ (control-of m is) .1 .1 .0 .1 })) $
-          assigns ! (of-opd ! (load ! (from ! (fld ! refl (fld ! refl (stop !)))) (look-in ! 30 (sub ! 3 refl (sub ! 0 refl (whole !)))))) (from ! (hop ! (look ! 14 refl) (fld ! refl (stop !)))) (store-in ! 8 (sub ! 3 refl (whole !)) (tt, record { fits = LL.owed K.the-type K′.the-laws (m .control) _ (control-of m is) .1 .1 .1 .0 .1 })) $
+          assigns ! (of-opd ! (load ! (from ! (fld ! refl (fld ! refl (stop !)))) (look-in ! 34 (sub ! 2 refl (sub ! 0 refl (whole !)))))) (from ! (hop ! (look ! 16 refl) (fld ! refl (stop !)))) (store-in ! 10 (sub ! 2 refl (whole !)) (tt, record { fits = LL.owed K.the-type K′.the-laws (m .control) _ (control-of m is) .1 .1 .0 .1 })) $
+          assigns ! (of-opd ! (load ! (from ! (fld ! refl (fld ! refl (stop !)))) (look-in ! 34 (sub ! 3 refl (sub ! 0 refl (whole !)))))) (from ! (hop ! (look ! 16 refl) (fld ! refl (stop !)))) (store-in ! 10 (sub ! 3 refl (whole !)) (tt, record { fits = LL.owed K.the-type K′.the-laws (m .control) _ (control-of m is) .1 .1 .1 .0 .1 })) $
+          assigns ! (of-opd ! (load ! (from ! (fld ! refl (fld ! refl (stop !)))) (look-in ! 34 (sub ! 5 refl (sub ! 0 refl (whole !)))))) (from ! (hop ! (look ! 16 refl) (fld ! refl (stop !)))) (store-in ! 10 (sub ! 5 refl (whole !)) (tt, record { fits = LL.owed K.the-type K′.the-laws (m .control) _ (control-of m is) .1 .1 .1 .1 .1 .0 .1 })) $
           -- whether the call is over
-          asks ! endsCall (m .outcome) fm known-ends (outcome-of m is) (part ! 31 2 refl refl refl) (λ v′ b′ told is-b′.
-          receive ! 46 refl (bool-lawful 𝓤 H A W .typed b′ _ is-b′ .0) (ap only is-b′) $
-          branches ! (var ! 46 refl)
+          asks ! endsCall (m .outcome) fm known-ends (outcome-of m is) (part ! 35 2 refl refl refl) (λ v′ b′ told is-b′.
+          receive ! 58 refl (bool-lawful 𝓤 H A W .typed b′ _ is-b′ .0) (ap only is-b′) $
+          branches ! (var ! 58 refl)
           (λ yes-over.
-          lets ! (agg ! (and-then ! (lit ! tt) (and-then ! (lit ! tt) (and-then ! (lit ! tt) (and-then ! (lit ! tt) (and-then ! (lit ! tt) (and-then ! (lit ! tt) (and-then ! (lit ! tt) (and-then ! (lit ! tt) (and-then ! (lit ! tt) (no-more !))))))))))) (init ! 48 refl (LL.lawful T.the-type T′.the-laws 𝓤 H A W .typed idle _ idle-is .0)) $
-          assigns-last ! (of-opd ! (var ! 48 refl)) (from ! (hop ! (look ! 16 refl) (stop !))) (store-raw ! 4 refl (LL.lawful T.the-type T′.the-laws 𝓤 H A W .typed idle _ idle-is .0)) $
-          by ! (leave bs m (control-after c m) idle zs (full _) (full _) (full _) (ended m zs e (sym told ∙ holds b′ yes-over)) ls (control-is c m gc (control-of m is)) idle-is (outcome-of m is)))
+          lets ! (agg ! (and-then ! (lit ! tt) (and-then ! (lit ! tt) (and-then ! (lit ! tt) (and-then ! (lit ! tt) (and-then ! (lit ! tt) (and-then ! (lit ! tt) (and-then ! (lit ! tt) (and-then ! (lit ! tt) (and-then ! (lit ! tt) (no-more !))))))))))) (init ! 60 refl (LL.lawful T.the-type T′.the-laws 𝓤 H A W .typed idle _ idle-is .0)) $
+          assigns-last ! (of-opd ! (var ! 60 refl)) (from ! (hop ! (look ! 18 refl) (stop !))) (store-raw ! 6 refl (LL.lawful T.the-type T′.the-laws 𝓤 H A W .typed idle _ idle-is .0)) $
+          by ! (leave bs m (control-after c m) idle ls (full _) (full _) (full _) (ended m ls e (sym told ∙ holds b′ yes-over)) eqs (control-is c m gc (control-of m is)) idle-is (outcome-of m is)))
           (λ not-over.
-          assigns ! (of-opd ! (load ! (from ! (fld ! refl (fld ! refl (stop !)))) (look-in ! 30 (sub ! 0 refl (sub ! 1 refl (whole !)))))) (from ! (hop ! (look ! 16 refl) (fld ! refl (stop !)))) (store-in ! 4 (sub ! 0 refl (whole !)) (tt, record { fits = LL.owed T.the-type T′.the-laws (m .task) _ (task-of m is) .0 .1 })) $
-          assigns ! (of-opd ! (load ! (from ! (fld ! refl (fld ! refl (stop !)))) (look-in ! 30 (sub ! 5 refl (sub ! 1 refl (whole !)))))) (from ! (hop ! (look ! 16 refl) (fld ! refl (stop !)))) (store-in ! 4 (sub ! 5 refl (whole !)) (tt, record { fits = LL.owed T.the-type T′.the-laws (m .task) _ (task-of m is) .1 .1 .1 .1 .1 .0 .1 })) $
-          assigns ! (of-opd ! (load ! (from ! (fld ! refl (fld ! refl (stop !)))) (look-in ! 30 (sub ! 6 refl (sub ! 1 refl (whole !)))))) (from ! (hop ! (look ! 16 refl) (fld ! refl (stop !)))) (store-in ! 4 (sub ! 6 refl (whole !)) (tt, record { fits = LL.owed T.the-type T′.the-laws (m .task) _ (task-of m is) .1 .1 .1 .1 .1 .1 .0 .1 })) $
-          assigns ! (of-opd ! (load ! (from ! (fld ! refl (fld ! refl (stop !)))) (look-in ! 30 (sub ! 7 refl (sub ! 1 refl (whole !)))))) (from ! (hop ! (look ! 16 refl) (fld ! refl (stop !)))) (store-in ! 4 (sub ! 7 refl (whole !)) (tt, record { fits = LL.owed T.the-type T′.the-laws (m .task) _ (task-of m is) .1 .1 .1 .1 .1 .1 .1 .0 .1 })) $
-          assigns-last ! (of-opd ! (load ! (from ! (fld ! refl (fld ! refl (stop !)))) (look-in ! 30 (sub ! 8 refl (sub ! 1 refl (whole !)))))) (from ! (hop ! (look ! 16 refl) (fld ! refl (stop !)))) (store-in ! 4 (sub ! 8 refl (whole !)) (tt, record { fits = LL.owed T.the-type T′.the-laws (m .task) _ (task-of m is) .1 .1 .1 .1 .1 .1 .1 .1 .0 .1 })) $
-          by ! (leave bs m (control-after c m) (record-after r m) zs (full _) (full _) bare (moved m zs e (sym told ∙ fails b′ (T-not b′ not-over))) ls (control-is c m gc (control-of m is)) (record-is r m g (task-of m is)) (outcome-of m is)))))
+          assigns ! (of-opd ! (load ! (from ! (fld ! refl (fld ! refl (stop !)))) (look-in ! 34 (sub ! 0 refl (sub ! 1 refl (whole !)))))) (from ! (hop ! (look ! 18 refl) (fld ! refl (stop !)))) (store-in ! 6 (sub ! 0 refl (whole !)) (tt, record { fits = LL.owed T.the-type T′.the-laws (m .task) _ (task-of m is) .0 .1 })) $
+          assigns ! (of-opd ! (load ! (from ! (fld ! refl (fld ! refl (stop !)))) (look-in ! 34 (sub ! 3 refl (sub ! 1 refl (whole !)))))) (from ! (hop ! (look ! 18 refl) (fld ! refl (stop !)))) (store-in ! 6 (sub ! 3 refl (whole !)) (tt, record { fits = LL.owed T.the-type T′.the-laws (m .task) _ (task-of m is) .1 .1 .1 .0 .1 })) $
+          assigns ! (of-opd ! (load ! (from ! (fld ! refl (fld ! refl (stop !)))) (look-in ! 34 (sub ! 4 refl (sub ! 1 refl (whole !)))))) (from ! (hop ! (look ! 18 refl) (fld ! refl (stop !)))) (store-in ! 6 (sub ! 4 refl (whole !)) (tt, record { fits = LL.owed T.the-type T′.the-laws (m .task) _ (task-of m is) .1 .1 .1 .1 .0 .1 })) $
+          assigns ! (of-opd ! (load ! (from ! (fld ! refl (fld ! refl (stop !)))) (look-in ! 34 (sub ! 5 refl (sub ! 1 refl (whole !)))))) (from ! (hop ! (look ! 18 refl) (fld ! refl (stop !)))) (store-in ! 6 (sub ! 5 refl (whole !)) (tt, record { fits = LL.owed T.the-type T′.the-laws (m .task) _ (task-of m is) .1 .1 .1 .1 .1 .0 .1 })) $
+          assigns ! (of-opd ! (load ! (from ! (fld ! refl (fld ! refl (stop !)))) (look-in ! 34 (sub ! 6 refl (sub ! 1 refl (whole !)))))) (from ! (hop ! (look ! 18 refl) (fld ! refl (stop !)))) (store-in ! 6 (sub ! 6 refl (whole !)) (tt, record { fits = LL.owed T.the-type T′.the-laws (m .task) _ (task-of m is) .1 .1 .1 .1 .1 .1 .0 .1 })) $
+          assigns ! (of-opd ! (load ! (from ! (fld ! refl (fld ! refl (stop !)))) (look-in ! 34 (sub ! 7 refl (sub ! 1 refl (whole !)))))) (from ! (hop ! (look ! 18 refl) (fld ! refl (stop !)))) (store-in ! 6 (sub ! 7 refl (whole !)) (tt, record { fits = LL.owed T.the-type T′.the-laws (m .task) _ (task-of m is) .1 .1 .1 .1 .1 .1 .1 .0 .1 })) $
+          assigns-last ! (of-opd ! (load ! (from ! (fld ! refl (fld ! refl (stop !)))) (look-in ! 34 (sub ! 8 refl (sub ! 1 refl (whole !)))))) (from ! (hop ! (look ! 18 refl) (fld ! refl (stop !)))) (store-in ! 6 (sub ! 8 refl (whole !)) (tt, record { fits = LL.owed T.the-type T′.the-laws (m .task) _ (task-of m is) .1 .1 .1 .1 .1 .1 .1 .1 .0 .1 })) $
+          by ! (leave bs m (control-after c m) (record-after r m) ls (full _) (full _) bare (moved m ls e (sym told ∙ fails b′ (T-not b′ not-over))) eqs (control-is c m gc (control-of m is)) (record-is r m g (task-of m is)) (outcome-of m is)))))
           (λ not-moved.
           skips ! $
-          by ! (leave bs m c r zs (full _) bare bare (refused m zs e (sym said ∙ fails b (T-not b not-moved))) ls gc g (outcome-of m is))))))))))
+          by ! (leave bs m c r ls (full _) bare bare (refused m ls e (sym said ∙ fails b (T-not b not-moved))) eqs gc g (outcome-of m is))))))))))
 
 module _ {M : Type 1} (𝓤 : URA M) (H : Heap 𝓤) (A : Atoms 𝓤) (W : Given 𝓤 H A) (mem : Memory → SProp 𝓤) (run : Routine → Fun 𝓤) where
   self-walks : (C : Calls 𝓤 H) (Λ : Loops 𝓤 H) → FmC 𝓤 H (W .laws) C → Triple 𝓤 (C #engine·step-alone) (Move 𝓤 H A stepLent) → Triple 𝓤 (C #engine·moves) (Test 𝓤 H A isMoved) → Triple 𝓤 (C #engine·ends) (Test 𝓤 H A endsCall)
       → Walks 𝓤 H A self.ended stayed (WpFn 𝓤 H C Λ code.function) (self.clauses 𝓤 H A mem run)
   self-walks C Λ fm known known-moves known-ends = walked 𝓤 H A self.ended stayed (self.clauses 𝓤 H A mem run) (WpFn 𝓤 H C Λ code.function)
-      (λ κs. (ptr-vals, (ptr-vals, (slice-vals, (slice-vals, (slice-vals, (slice-vals, tt)))))))
+      (λ κs. (ptr-vals, (ptr-vals, (slice-vals, (slice-vals, (slice-vals, (slice-vals, (slice-vals, tt))))))))
       (λ κs. (
         mut-tells (named 0) (κs .0) K.the-row,
         (
           mut-tells (named 1) (κs .1 .0) T.the-row,
           (
             mut-slice-tells (named 2) (κs .1 .1 .0) u64,
-            (mut-slice-tells (named 3) (κs .1 .1 .1 .0) u64, (shr-slice-tells (named 4) (κs .1 .1 .1 .1 .0) u32, (mut-slice-tells (named 5) (κs .1 .1 .1 .1 .1 .0) u64, tt))),
+            (
+              mut-slice-tells (named 3) (κs .1 .1 .1 .0) u64,
+              (
+                mut-slice-tells (named 4) (κs .1 .1 .1 .1 .0) u32,
+                (mut-slice-tells (named 5) (κs .1 .1 .1 .1 .1 .0) u64, (mut-slice-tells (named 6) (κs .1 .1 .1 .1 .1 .1 .0) u64, tt)),
+              ),
+            ),
           ),
         ),
       ))
       (λ κs qs bounds a g are. via 𝓤 _ (fst∗ 𝓤 _ (emp 𝓤)) (walk 𝓤 H A W mem run
-      (κs .0) (κs .1 .0) (κs .1 .1 .0) (κs .1 .1 .1 .0) (κs .1 .1 .1 .1 .0) (κs .1 .1 .1 .1 .1 .0) (qs .0) (qs .1 .0) (qs .1 .1 .0) (qs .1 .1 .1 .0) (qs .1 .1 .1 .1 .0) (qs .1 .1 .1 .1 .1 .0) (a .0) (a .1 .0) (a .1 .1 .0) (a .1 .1 .1 .0) (a .1 .1 .1 .1 .0) (a .1 .1 .1 .1 .1 .0)
-      C Λ fm known known-moves known-ends (are .1 .1 .0 .0 .1) (are .1 .1 .1 .0 .0 .1) (are .1 .1 .1 .1 .0 .0 .1) (are .1 .1 .1 .1 .1 .0 .0 .1)))
+      (κs .0) (κs .1 .0) (κs .1 .1 .0) (κs .1 .1 .1 .0) (κs .1 .1 .1 .1 .0) (κs .1 .1 .1 .1 .1 .0) (κs .1 .1 .1 .1 .1 .1 .0) (qs .0) (qs .1 .0) (qs .1 .1 .0) (qs .1 .1 .1 .0) (qs .1 .1 .1 .1 .0) (qs .1 .1 .1 .1 .1 .0) (qs .1 .1 .1 .1 .1 .1 .0) (a .0) (a .1 .0) (a .1 .1 .0) (a .1 .1 .1 .0) (a .1 .1 .1 .1 .0) (a .1 .1 .1 .1 .1 .0) (a .1 .1 .1 .1 .1 .1 .0)
+      C Λ fm known known-moves known-ends (are .1 .1 .0 .0 .1) (are .1 .1 .1 .0 .0 .1) (are .1 .1 .1 .1 .0 .0 .1) (are .1 .1 .1 .1 .1 .0 .0 .1) (are .1 .1 .1 .1 .1 .1 .0 .0 .1)))
 
 self-meets : {M : Type 1} (𝓤 : URA M) (H : Heap 𝓤) (A : Atoms 𝓤) → Given 𝓤 H A → (mem : Memory → SProp 𝓤) (run : Routine → Fun 𝓤) (𝓣 : Program 𝓤 H)
     → Triple 𝓤 (𝓣 .C #engine·step-alone) (Move 𝓤 H A stepLent) → Triple 𝓤 (𝓣 .C #engine·moves) (Test 𝓤 H A isMoved) → Triple 𝓤 (𝓣 .C #engine·ends) (Test 𝓤 H A endsCall)
     → Meets 𝓤 H A self.signature (WpFn 𝓤 H (𝓣 .C) (𝓣 .Λ) code.function) (self.spec 𝓤 H A mem run)
 self-meets 𝓤 H A W mem run 𝓣 known known-moves known-ends =
     walk-meets 𝓤 H A self.ended stayed W (
-      goes-ref 𝓤 H A W 6 0 tt (plain (λ _. K.the-row)),
+      goes-ref 𝓤 H A W 7 0 tt (plain (λ _. K.the-row)),
       (
-        goes-ref 𝓤 H A W 6 1 tt (plain (λ _. T.the-row)),
+        goes-ref 𝓤 H A W 7 1 tt (plain (λ _. T.the-row)),
         (
-          goes-gave-slice 𝓤 H A W 6 2 tt (plain (λ _. u64)),
+          goes-gave-slice 𝓤 H A W 7 2 tt (plain (λ _. u64)),
           (
-            goes-gave-slice 𝓤 H A W 6 3 tt (plain (λ _. u64)),
+            goes-gave-slice 𝓤 H A W 7 3 tt (plain (λ _. u64)),
             (
-              goes-dropped 𝓤 H A W 6 (shrSliceOf (4 ∷ []) tt (plain (λ _. u32))) yes (λ κs x f. refl),
-              (goes-gave-slice 𝓤 H A W 6 5 tt (plain (λ _. u64)), tt),
+              goes-gave-slice 𝓤 H A W 7 4 tt (plain (λ _. u32)),
+              (goes-gave-slice 𝓤 H A W 7 5 tt (plain (λ _. u64)), (goes-gave-slice 𝓤 H A W 7 6 tt (plain (λ _. u64)), tt)),
             ),
           ),
         ),

@@ -18,7 +18,8 @@ module _ (before after : List ℕ) (from i : ℕ) (m : Moved before after from i
   read : getD after (from + i) 0 ≡ getD before (from + i) 0
   read =
       let e : from + i ≡ i + from = omega arith in
-      ap (λ (k : ℕ). getD after k 0) e ∙ sym (getD-drop i after from 0) ∙ ap (λ (l : List ℕ). getD l from 0) (m .back) ∙ getD-drop i before from 0 ∙ ap (λ (k : ℕ). getD before k 0) (sym e)
+      ap (λ (k : ℕ). getD after k 0) e ∙ sym (getD-drop i after from 0) ∙ ap (λ (l : List ℕ). getD l from 0) (m .back)
+      ∙ getD-drop i before from 0 ∙ ap (λ (k : ℕ). getD before k 0) (sym e)
 
   one-more : i < length after → from + i < length before → Moved before (set after i (getD after (from + i) 0)) from (suc i)
   one-more h k = record {
@@ -28,11 +29,13 @@ module _ (before after : List ℕ) (from i : ℕ) (m : Moved before after from i
         ∙ sym (take-suc (drop from before) i 0 (omega (arith, length-drop from before)));
     back =
         let e : i + 1 ≡ suc i = add-one i in
-        drop-set-lt (suc i) after i _ (omega arith) ∙ ap (λ (k : ℕ). drop k after) (sym e) ∙ sym (drop-drop 1 i after) ∙ ap (drop 1) (m .back) ∙ drop-drop 1 i before ∙ ap (λ (k : ℕ). drop k before) e;
+        drop-set-lt (suc i) after i _ (omega arith) ∙ ap (λ (k : ℕ). drop k after) (sym e) ∙ sym (drop-drop 1 i after)
+        ∙ ap (drop 1) (m .back) ∙ drop-drop 1 i before ∙ ap (λ (k : ℕ). drop k before) e;
   }
 
 -- All are moved.
-all-moved : (before after : List ℕ) (from have : ℕ) → from ≤ have → have ≤ length before → Moved before after from (have - from) → take (have - from) after ≡ slice from have before
+all-moved : (before after : List ℕ) (from have : ℕ) → from ≤ have → have ≤ length before → Moved before after from (have - from)
+    → take (have - from) after ≡ slice from have before
 all-moved before after from have h k m =
     let e : have ≡ from + (have - from) = omega arith in
     m .front ∙ sym (drop-at (take from before) (take (have - from) (drop from before)) from (length-take-le from before (omega arith)))
@@ -48,7 +51,8 @@ returns : tie.Need-returns Inv-loop μ-loop
 returns c =
     let a = c .before .args in
     let h = c .if1 .taken in
-    (search needs, sym (drop-of-length-le (take (a .have) (a .input .now)) {i = a .from} (omega (arith, length-take-le (a .have) (a .input .now) (c .before .pre)))))
+    let all = take (a .have) (a .input .now) in
+    (search needs, sym (drop-of-length-le all {i = a .from} (omega (arith, length-take-le (a .have) (a .input .now) (c .before .pre)))))
 
 loop-holds : tie.Need-loop-holds Inv-loop μ-loop
 loop-holds c = (search needs, search needs, refl, record { front = refl; back = refl })
@@ -70,7 +74,9 @@ returns-2 c =
     let here = c .before .loop in
     let a = c .before .before .before .args in
     let all : here .i ≡ a .have - a .from = let h = c .loop-test .left in let w = here .inv .0 in omega arith in
-    (search needs, all-moved (a .input .now) (here .input) (a .from) (a .have) (omega (arith, c .before .before .if1 .left)) (c .before .before .before .pre) (rw all at (here .inv .3)))
+    let first = c .before .before .before in
+    let order = c .before .before .if1 .left in
+    (search needs, all-moved (a .input .now) (here .input) (a .from) (a .have) (omega (arith, order)) (first .pre) (rw all at (here .inv .3)))
 
 pub slide-spec : {M : Type 1} → statement M
 slide-spec =

@@ -3,7 +3,7 @@
 use reference::audit::{Finished, EMPTY, POPPED, PUSHED};
 use reference::dice::Dice;
 use reference::machine;
-use reference::tables::{Storage, POP, PUSH};
+use reference::tables::{Storage, POOLED, POP, PUSH};
 use reference::word::Anchor;
 use std::collections::VecDeque;
 
@@ -108,11 +108,17 @@ fn take_effect(queue: &mut VecDeque<u64>, call: &mut Finished) {
     call.label = label.unwrap_or(call.label);
 }
 
-/// A run of the second program's queue, all of its calls answered, written as a history.
+/// A run of the second program's queue, all of its calls answered, written as a history. A pooled
+/// queue has as many slots as there are calls, so that none is answered *no slot*, which no history
+/// holds.
 pub fn of_a_run(dice: &mut Dice, count: usize) -> History {
-    let (tasks, slots) = (dice.pick(&[1, 2, 3, 8, 16]), dice.pick(&[1, 2, 8, 64]));
+    let tasks = dice.pick(&[1, 2, 3, 8, 16]);
     let mut storage = Storage::default();
-    storage.lend().open(tasks, slots, 0).expect("opens");
+    if dice.percent(50) {
+        storage.lend().open_pooled(tasks, count.max(1) as u64, 0).expect("opens");
+    } else {
+        storage.lend().open(tasks, dice.pick(&[1, 2, 8, 64]), 0).expect("opens");
+    }
     let (mut history, mut open) = (History::default(), vec![None; tasks as usize]);
     for event in 1.. {
         let done = history.calls.len() == count;
@@ -122,7 +128,7 @@ pub fn of_a_run(dice: &mut Dice, count: usize) -> History {
         let task = dice.between(0, tasks - 1);
         let Some(number) = open[task as usize] else {
             if !done {
-                open[task as usize] = start(dice, &mut storage, &mut history, task, slots, event);
+                open[task as usize] = start(dice, &mut storage, &mut history, task, event);
             }
             continue;
         };
@@ -137,6 +143,7 @@ pub fn of_a_run(dice: &mut Dice, count: usize) -> History {
             machine::Moved::Pushed => (PUSHED, call.label),
             machine::Moved::Empty => (EMPTY, 0),
             machine::Moved::Popped { label, .. } => (POPPED, label.into()),
+            machine::Moved::NoSlot => unreachable!("a slot for each call"),
         };
         call.end = event;
         open[task as usize] = None;
@@ -149,11 +156,17 @@ fn start(
     storage: &mut Storage,
     history: &mut History,
     task: u64,
-    slots: u64,
     event: u64,
 ) -> Option<usize> {
-    let (side, slot, label) = (dice.between(0, 1), dice.between(1, slots), dice.between(0, 3));
-    let push = dice.percent(55) && storage.lend().push(task, side, slot, label as u32).is_ok();
+    let (side, label) = (dice.between(0, 1), dice.between(0, 3) as u32);
+    let slot = dice.between(1, storage.control.slots);
+    let pooled = storage.control.pooled == POOLED;
+    let push = dice.percent(55)
+        && match pooled {
+            true => storage.lend().push_pooled(task, side, label).is_ok(),
+            false => storage.lend().push(task, side, slot, label).is_ok(),
+        };
+    let label = u64::from(label);
     if !push {
         storage.lend().pop(task, side).expect("an idle task starts a pop");
     }

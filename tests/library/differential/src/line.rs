@@ -1,6 +1,7 @@
 //! A queue in the tables: the slots that the walk of the labels waiting meets, and damage on its way.
 
-use crate::sound::{sound_link, wild_word, Scene};
+use crate::sound::{sound_link, Scene};
+use crate::wild::wild_word;
 use crate::world::Call;
 use reference::dice::Dice;
 use reference::word::{Anchor, LPUSH, STABLE};

@@ -3,7 +3,7 @@
 //! contents, histories from an opening, and order sheets. Then audits of histories.
 //!
 //!     differential [SEED] [TIMES]       all of it
-//!     differential SEED TIMES PART      audit or sheet alone
+//!     differential SEED TIMES PART      one part alone: calls, sheet or audit
 
 mod audit;
 mod audit_histories;
@@ -11,10 +11,14 @@ mod faults;
 mod histories;
 mod line;
 mod noise;
+mod ours;
 mod plant;
+mod records;
 mod sheets;
 mod sound;
 mod tally;
+mod theirs;
+mod wild;
 mod world;
 
 use reference::dice::Dice;
@@ -29,14 +33,15 @@ fn main() -> ExitCode {
     let times = number(1) as u32;
     let part = arguments.next().unwrap_or_default();
     let (mut tally, mut dice) = (Tally::default(), Dice::new(seed));
-    if part.is_empty() {
+    let wanted = |name: &str| part.is_empty() || part == name;
+    if wanted("calls") {
         calls(&mut tally, &mut dice, times);
     }
-    if part != "audit" {
+    if wanted("sheet") {
         sheets::sheets(&mut tally, &mut dice, 100_000 * times);
-        println!("seed {seed}: {} calls compared", tally.calls);
     }
-    if part != "sheet" {
+    println!("seed {seed}: {} calls compared", tally.calls);
+    if wanted("audit") {
         audit::audits(&mut tally, &mut dice, 4_000 * times);
     }
     println!("{} passed, {} failed", tally.passed, tally.failed);

@@ -1,9 +1,10 @@
 //! Tables of any contents: sound scenes with several fields spoiled at random, nothing expected
 //! but that both sides do the same.
 
-use crate::sound::{wild, wild_record, wild_word, Scene, Wanted};
+use crate::sound::{Scene, Wanted};
 use crate::tally::Tally;
-use crate::world::{Call, Lent};
+use crate::wild::{wild, wild_record, wild_word};
+use crate::world::{Call, Export, Lent};
 use reference::dice::Dice;
 
 fn spoil_count<T>(dice: &mut Dice, table: &mut Lent<T>) {
@@ -15,11 +16,13 @@ fn spoil_count<T>(dice: &mut Dice, table: &mut Lent<T>) {
 
 fn spoil_control(dice: &mut Dice, scene: &mut Scene) {
     let control = &mut scene.world.control;
-    match dice.between(0, 40) {
+    match dice.between(0, 44) {
         0 => control.tasks = wild(dice, 16),
         1 => control.slots = wild(dice, scene.slots),
         2..=4 => control.anchor = wild_word(dice, scene.slots),
         5 => control.retries = dice.throw(),
+        6 => control.pooled = wild(dice, 1),
+        7..=9 => control.head = wild_word(dice, scene.slots),
         _ => {}
     }
 }
@@ -27,10 +30,11 @@ fn spoil_control(dice: &mut Dice, scene: &mut Scene) {
 fn spoil_record(dice: &mut Dice, scene: &mut Scene) {
     let slots = scene.slots;
     let (anchor, random) = (scene.world.control.anchor, wild_record(dice));
+    let head = scene.world.control.head;
     let word = wild_word(dice, slots);
     let small = wild(dice, slots);
     let record = scene.record();
-    match dice.between(0, 20) {
+    match dice.between(0, 23) {
         0 => *record = random,
         1 => record.place = random.place,
         2 => record.kind = random.kind,
@@ -41,6 +45,7 @@ fn spoil_record(dice: &mut Dice, scene: &mut Scene) {
         7 => record.link = word,
         8 => record.finishing = random.finishing,
         9..=12 => record.seen = anchor,
+        13..=15 => record.link = head,
         _ => {}
     }
 }
@@ -52,6 +57,7 @@ fn spoil_rows(dice: &mut Dice, scene: &mut Scene) {
             if dice.percent(30) {
                 scene.world.lefts.held[row] = wild_word(dice, scene.slots);
                 scene.world.rights.held[row] = wild_word(dice, scene.slots);
+                scene.world.next.held[row] = wild(dice, scene.slots);
             }
         }
     }
@@ -63,14 +69,14 @@ fn spoil_arguments(dice: &mut Dice, scene: &mut Scene) {
     }
     let (most_tasks, most_slots) = (scene.tasks, scene.slots);
     match &mut scene.call {
-        Call::Open { tasks, slots, .. } => {
+        Call::Open { tasks, slots, .. } | Call::OpenPooled { tasks, slots, .. } => {
             (*tasks, *slots) = (wild(dice, most_tasks), wild(dice, most_slots));
         }
         Call::Push { task, side, slot, .. } => {
             (*side, *slot) = (wild(dice, 1), wild(dice, most_slots));
             *task = wild(dice, most_tasks) as usize;
         }
-        Call::Pop { task, side } => {
+        Call::Pop { task, side } | Call::PushPooled { task, side, .. } => {
             (*task, *side) = (wild(dice, most_tasks) as usize, wild(dice, 1));
         }
         Call::Step { task } | Call::Run { task, .. } => *task = wild(dice, most_tasks) as usize,
@@ -82,19 +88,21 @@ fn spoil_arguments(dice: &mut Dice, scene: &mut Scene) {
 pub fn noise(tally: &mut Tally, dice: &mut Dice, scenes: u32) {
     let before = tally.mismatches;
     for _ in 0..scenes {
-        let wanted = match dice.between(0, 10) {
-            0 => Wanted::Open,
-            1 => Wanted::Push,
-            2 => Wanted::Pop,
-            3..=5 => Wanted::Step(None, None),
-            6 => Wanted::Run(None, None),
-            7..=8 => Wanted::StepRecord(None, None),
-            9 => Wanted::Report,
-            _ => Wanted::Find,
+        let export = match dice.between(0, 15) {
+            0 => Export::Open,
+            1 => Export::OpenPooled,
+            2 => Export::Push,
+            3 => Export::PushPooled,
+            4 => Export::Pop,
+            5..=8 => Export::Step,
+            9 => Export::Run,
+            10..=12 => Export::StepRecord,
+            13 => Export::Report,
+            _ => Export::Find,
         };
-        let mut scene = Scene::draw(dice, wanted, 1);
+        let mut scene = Scene::draw(dice, Wanted::any(export), 1);
         if let Call::Run { most, .. } = &mut scene.call {
-            *most = dice.between(0, 20);
+            *most = dice.between(0, 25);
         }
         spoil_control(dice, &mut scene);
         spoil_record(dice, &mut scene);
@@ -103,6 +111,7 @@ pub fn noise(tally: &mut Tally, dice: &mut Dice, scenes: u32) {
         spoil_count(dice, &mut scene.world.rights);
         spoil_count(dice, &mut scene.world.labels);
         spoil_count(dice, &mut scene.world.marks);
+        spoil_count(dice, &mut scene.world.next);
         spoil_count(dice, &mut scene.world.records);
         spoil_arguments(dice, &mut scene);
         let (mut ours, mut theirs) = (scene.world.clone(), scene.world);

@@ -1,17 +1,20 @@
 //! Faults planted alone and in pairs: of two, the one that is asked for first decides. And changes
 //! that fail at the last tag, which are no faults.
 
-use crate::faults::{outrun, Fault, Group, FAULTS};
+use crate::faults::{self, outrun, Fault, Group};
 use crate::sound::{Scene, Wanted};
 use crate::tally::Tally;
-use crate::world::{by_reference, Export};
+use crate::theirs::by_reference;
+use crate::world::Export;
 use reference::dice::Dice;
 use reference::tables::{POP, PUSH};
 use zeppolecape::MOST_RETRIES;
 
-const EXPORTS: [Export; 8] = [
+const EXPORTS: [Export; 10] = [
     Export::Open,
+    Export::OpenPooled,
     Export::Push,
+    Export::PushPooled,
     Export::Pop,
     Export::Step,
     Export::Run,
@@ -20,17 +23,9 @@ const EXPORTS: [Export; 8] = [
     Export::Find,
 ];
 
-fn wanted(export: Export, place: Option<u64>, kind: Option<u64>) -> Wanted {
-    match export {
-        Export::Open => Wanted::Open,
-        Export::Push => Wanted::Push,
-        Export::Pop => Wanted::Pop,
-        Export::Step => Wanted::Step(place, kind),
-        Export::Run => Wanted::Run(place, kind),
-        Export::StepRecord => Wanted::StepRecord(place, kind),
-        Export::Report => Wanted::Report,
-        Export::Find => Wanted::Find,
-    }
+/// A scene in which a fault may be planted.
+fn wanted(export: Export, fault: &Fault) -> Wanted {
+    Wanted { export, pooled: fault.pooled, place: fault.place, kind: fault.kind }
 }
 
 /// A scene without a fault, which must be accepted.
@@ -59,26 +54,54 @@ fn fails(tally: &mut Tally, scene: &Scene) -> bool {
     told.is_some_and(|told| told.code() < 10)
         && ours.control.retries == retries + u64::from(retries < MOST_RETRIES)
         && ours.control.anchor == before.control.anchor
+        && (ours.control.head == before.control.head && ours.next == before.next)
         && (ours.lefts == before.lefts && ours.rights == before.rights)
         && (ours.labels == before.labels && ours.marks == before.marks)
 }
 
-/// Changes of Anchor and of a link that fail at the last tag.
+/// The changes: place, kind, and the slots that a scene has at least.
+const CHANGES: [(u64, u64, u64); 10] = [
+    (2, PUSH, 1),
+    (2, POP, 1),
+    (4, PUSH, 1),
+    (4, POP, 1),
+    (9, PUSH, 2),
+    (9, POP, 2),
+    (10, PUSH, 2),
+    (10, POP, 2),
+    (14, PUSH, 1),
+    (17, POP, 1),
+];
+
+/// Changes of Anchor, of a link and of the head that fail at the last tag.
 pub fn failures(tally: &mut Tally, dice: &mut Dice, times: u32) {
     for export in [Export::Step, Export::Run, Export::StepRecord] {
-        for (place, least) in [(2, 1), (4, 1), (9, 2), (10, 2)] {
-            for (kind, name) in [(PUSH, "push"), (POP, "pop")] {
-                let mut holds = true;
-                for _ in 0..times {
-                    let wanted = wanted(export, Some(place), Some(kind));
-                    let mut scene = Scene::draw(dice, wanted, least);
-                    outrun(&mut scene, dice);
-                    holds &= fails(tally, &scene);
-                }
-                let what = format!("{export:?}: {place}: a {name} outrun at the last tag fails");
-                tally.check(holds, &what);
+        for (place, kind, least) in CHANGES {
+            let wanted = Wanted { export, pooled: None, place: Some(place), kind: Some(kind) };
+            let mut holds = true;
+            for _ in 0..times {
+                let mut scene = Scene::draw(dice, wanted, least);
+                outrun(&mut scene, dice);
+                holds &= fails(tally, &scene);
             }
+            let name = if kind == PUSH { "push" } else { "pop" };
+            let what = format!("{export:?}: {place}: a {name} outrun at the last tag fails");
+            tally.check(holds, &what);
         }
+    }
+}
+
+/// A named queue is accepted with any next table, or none at all.
+fn accepted_without_next(tally: &mut Tally, dice: &mut Dice, mut scene: Scene) {
+    let export = scene.call.export();
+    if export == Export::OpenPooled || (export != Export::Open && scene.is_pooled()) {
+        return;
+    }
+    scene.world.next.count = dice.between(0, scene.slots) as usize;
+    scene.world.next.null = scene.world.next.count == 0;
+    let (mut ours, mut theirs) = (scene.world.clone(), scene.world);
+    if let Some(told) = tally.compare(&mut ours, &mut theirs, scene.call) {
+        assert!(told.code() < 10, "{:?} was refused for its next table", scene.call);
     }
 }
 
@@ -86,7 +109,8 @@ pub fn accepted(tally: &mut Tally, dice: &mut Dice, times: u32) {
     for export in EXPORTS {
         let before = tally.mismatches;
         for _ in 0..times {
-            accepted_scene(tally, dice, wanted(export, None, None), 1);
+            let scene = accepted_scene(tally, dice, Wanted::any(export), 1);
+            accepted_without_next(tally, dice, scene);
         }
         tally.check(tally.mismatches == before, &format!("{export:?}: accepted scenes"));
     }
@@ -94,10 +118,10 @@ pub fn accepted(tally: &mut Tally, dice: &mut Dice, times: u32) {
 
 pub fn singles(tally: &mut Tally, dice: &mut Dice, times: u32) {
     for export in EXPORTS {
-        for fault in FAULTS.iter().filter(|fault| fault.of(export)) {
+        for fault in faults::all().filter(|fault| fault.of(export)) {
             let mut holds = true;
             for _ in 0..times {
-                let wanted = wanted(export, fault.place, fault.kind);
+                let wanted = wanted(export, fault);
                 let mut scene = accepted_scene(tally, dice, wanted, fault.least);
                 (fault.plant)(&mut scene, dice);
                 holds &= refuses(tally, &scene, fault.group.number());
@@ -108,26 +132,36 @@ pub fn singles(tally: &mut Tally, dice: &mut Dice, times: u32) {
     }
 }
 
-/// A record cannot be busy and idle; a fault at a place needs its record as it is.
+/// A record cannot be busy and idle; a fault at a place needs its record as it is. Both need the
+/// same way of opening; a short next table is no fault where a wrong push has turned it.
 fn together(first: &Fault, second: &Fault) -> bool {
     let records = [Group::Record, Group::Busy, Group::Idle, Group::Touch];
+    let way = second.place.filter(|&place| place > 11).map_or(second.pooled, |_| Some(true));
+    let turned = first.name == "short next" && second.group == Group::WrongPush;
     first.group < second.group
         && first.group.number() != second.group.number()
         && !(records.contains(&first.group) && records.contains(&second.group))
+        && (first.pooled.is_none() || way.is_none() || first.pooled == way)
+        && !turned
+}
+
+/// A scene in which both faults may be planted; the second decides where the step stands.
+fn wanted_pair(export: Export, first: &Fault, second: &Fault) -> Wanted {
+    Wanted { pooled: first.pooled.or(second.pooled), ..wanted(export, second) }
 }
 
 pub fn pairs(tally: &mut Tally, dice: &mut Dice, times: u32) {
     for export in EXPORTS {
-        for first in FAULTS.iter().filter(|fault| fault.of(export)) {
+        for first in faults::all().filter(|fault| fault.of(export)) {
             let mut holds = true;
             let mut planted = false;
-            for second in FAULTS.iter().filter(|second| second.of(export)) {
+            for second in faults::all().filter(|second| second.of(export)) {
                 if !together(first, second) {
                     continue;
                 }
                 planted = true;
                 for _ in 0..times {
-                    let wanted = wanted(export, second.place, second.kind);
+                    let wanted = wanted_pair(export, first, second);
                     let mut scene = Scene::draw(dice, wanted, first.least.max(second.least));
                     (second.plant)(&mut scene, dice);
                     let alone = by_reference(&mut scene.world.clone(), scene.call).code();

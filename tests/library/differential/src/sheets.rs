@@ -60,6 +60,7 @@ fn queue(dice: &mut Dice, kinds: u64) -> Storage {
     let (left, right) = (order.first().unwrap_or(&0), order.last().unwrap_or(&0));
     tables.control.tasks = dice.between(1, 16);
     tables.control.slots = slots;
+    tables.control.pooled = dice.between(0, 1);
     tables.control.anchor = dice.throw() << 32 | status << 30 | left << 15 | right;
     tables
 }
@@ -98,7 +99,7 @@ fn spoil(dice: &mut Dice, case: &mut Case) {
     let tables = &mut case.tables;
     let slots = tables.control.slots as usize;
     let row = dice.between(0, slots as u64) as usize;
-    match dice.between(0, 11) {
+    match dice.between(0, 12) {
         0 => tables.control.tasks = dice.between(0, 18),
         1 => {
             let any = dice.between(0, 1_030);
@@ -118,6 +119,7 @@ fn spoil(dice: &mut Dice, case: &mut Case) {
             tables.rights[0] = dice.between(1, slots as u64);
         }
         10 => tables.rights[row] ^= 1 << dice.between(0, 31),
+        11 => tables.control.pooled = dice.pick(&[2, 1 << 32, u64::MAX]),
         _ => tables.lefts[row] ^= 1 << dice.between(0, 31),
     }
 }

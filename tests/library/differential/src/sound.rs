@@ -1,9 +1,11 @@
 //! Scenes: sound tables with a call that is accepted on them, though no history led there.
 
 use crate::line::{any_question, line_up};
-use crate::world::{Call, Lent, World};
+use crate::records::{any_place, any_record, busy_record, helping, idle_record, kind_at};
+use crate::wild::{any_retries, wild_control, wild_word};
+use crate::world::{Call, Export, Lent, World};
 use reference::dice::Dice;
-use reference::tables::{Control, Record, POP, PUSH};
+use reference::tables::{Control, Record, NAMED, POOLED, PUSH};
 use reference::word::{Anchor, LPUSH, RPUSH, STABLE};
 
 const LAST_TAG: u64 = 0xffff_ffff;
@@ -19,27 +21,43 @@ pub struct Scene {
     pub tasks: u64,
 }
 
-/// Which call a scene is to have; a step at a place and of a kind, if it matters.
+/// Which call a scene is to have, in which way of opening, and a step at which place and of
+/// which kind; none: it does not matter.
 #[derive(Clone, Copy, Debug, PartialEq)]
-pub enum Wanted {
-    Open,
-    Push,
-    Pop,
-    Step(Option<u64>, Option<u64>),
-    Run(Option<u64>, Option<u64>),
-    StepRecord(Option<u64>, Option<u64>),
-    Report,
-    Find,
+pub struct Wanted {
+    pub export: Export,
+    pub pooled: Option<bool>,
+    pub place: Option<u64>,
+    pub kind: Option<u64>,
+}
+
+impl Wanted {
+    pub fn any(export: Export) -> Wanted {
+        Wanted { export, pooled: None, place: None, kind: None }
+    }
+
+    /// A push is accepted in one of the ways only, and places from 12 on are of one.
+    fn way(self, dice: &mut Dice) -> bool {
+        match self.export {
+            Export::Push => false,
+            Export::PushPooled => true,
+            _ if self.place.is_some_and(|place| place > 11) => true,
+            _ => self.pooled.unwrap_or_else(|| dice.percent(50)),
+        }
+    }
 }
 
 impl Scene {
     /// The record that the call is about.
     pub fn record(&mut self) -> &mut Record {
         match self.call {
-            Call::StepRecord | Call::Open { .. } | Call::Report | Call::Find { .. } => {
-                &mut self.world.one
-            }
+            Call::StepRecord
+            | Call::Open { .. }
+            | Call::OpenPooled { .. }
+            | Call::Report
+            | Call::Find { .. } => &mut self.world.one,
             Call::Push { task, .. }
+            | Call::PushPooled { task, .. }
             | Call::Pop { task, .. }
             | Call::Step { task }
             | Call::Run { task, .. }
@@ -51,44 +69,55 @@ impl Scene {
     pub fn draw(dice: &mut Dice, wanted: Wanted, least: u64) -> Scene {
         let slots = few_or_many(dice).max(least);
         let tasks = dice.between(1, 16);
-        let mut world = sound_world(dice, tasks, slots);
+        let pooled = wanted.way(dice);
+        let mut world = sound_world(dice, tasks, slots, pooled);
         let task = dice.between(0, tasks - 1) as usize;
-        let side = dice.between(0, 1);
-        let call = match wanted {
-            Wanted::Open => {
+        let (side, label) = (dice.between(0, 1), dice.throw() as u32);
+        let call = match wanted.export {
+            Export::Open => {
                 world.control = wild_control(dice);
-                Call::Open { tasks, slots, tag: dice.throw() as u32 }
+                Call::Open { tasks, slots, tag: label }
             }
-            Wanted::Push => {
+            Export::OpenPooled => {
+                world.control = wild_control(dice);
+                Call::OpenPooled { tasks, slots, tag: label }
+            }
+            Export::Push => {
                 world.records.held[task] = idle_record(dice);
                 let slot = dice.between(1, slots);
                 world.marks.held[slot as usize / 64] &= !(1 << (slot % 64));
-                Call::Push { task, side, slot, label: dice.throw() as u32 }
+                Call::Push { task, side, slot, label }
             }
-            Wanted::Pop => {
+            Export::PushPooled => {
+                world.records.held[task] = idle_record(dice);
+                Call::PushPooled { task, side, label }
+            }
+            Export::Pop => {
                 world.records.held[task] = idle_record(dice);
                 Call::Pop { task, side }
             }
-            Wanted::Step(..) => Call::Step { task },
-            Wanted::Run(..) => Call::Run { task, most: 1 },
-            Wanted::StepRecord(..) if dice.percent(50) => Call::StepRow { task },
-            Wanted::StepRecord(..) => Call::StepRecord,
-            Wanted::Report => Call::Report,
-            Wanted::Find => any_question(dice),
+            Export::Step => Call::Step { task },
+            Export::Run => Call::Run { task, most: 1 },
+            Export::StepRecord if dice.percent(50) => Call::StepRow { task },
+            Export::StepRecord => Call::StepRecord,
+            Export::Report => Call::Report,
+            Export::Find => any_question(dice),
         };
         let mut scene = Scene { world, call, slots, tasks };
-        if let Wanted::Report | Wanted::Find = wanted {
+        if let Export::Report | Export::Find = wanted.export {
             line_up(&mut scene, dice, 0);
         }
-        if let Wanted::Step(place, kind)
-        | Wanted::Run(place, kind)
-        | Wanted::StepRecord(place, kind) = wanted
-        {
-            let place = place.unwrap_or_else(|| any_place(dice, slots, 11));
-            let kind = if place == 11 { POP } else { kind.unwrap_or_else(|| dice.between(0, 1)) };
+        if let Export::Step | Export::Run | Export::StepRecord = wanted.export {
+            let last = if pooled { 17 } else { 11 };
+            let place = wanted.place.unwrap_or_else(|| any_place(dice, slots, last));
+            let kind = kind_at(place, wanted.kind, dice);
             scene.ready(dice, place, kind);
         }
         scene
+    }
+
+    pub fn is_pooled(&self) -> bool {
+        self.world.control.pooled == POOLED
     }
 
     /// Puts the call's record at a place so that its step is accepted; the words that it compares
@@ -118,6 +147,12 @@ impl Scene {
                 links.held[record.neighbour as usize] = record.link;
             }
         }
+        if matches!(place, 14 | 17) && dice.percent(50) {
+            self.world.control.head = record.link;
+        }
+        if matches!(place, 12 | 15) && dice.percent(20) {
+            self.world.control.head &= !0x7fff;
+        }
         *self.record() = record;
     }
 }
@@ -135,21 +170,6 @@ fn seen_at(dice: &mut Dice, slots: u64, place: u64) -> Anchor {
         return Anchor { right: left, ..seen };
     }
     seen
-}
-
-/// The places of a stabilise.
-fn helping(place: u64) -> bool {
-    (5..=10).contains(&place)
-}
-
-/// A place up to `last`: with one slot no Anchor is unstable, so that nobody stands at 5 to 10.
-pub fn any_place(dice: &mut Dice, slots: u64, last: u64) -> u64 {
-    loop {
-        let place = dice.between(1, last);
-        if slots > 1 || !helping(place) {
-            return place;
-        }
-    }
 }
 
 fn few_or_many(dice: &mut Dice) -> u64 {
@@ -187,52 +207,7 @@ pub fn sound_link(dice: &mut Dice, slots: u64) -> u64 {
     tag << 32 | dice.between(0, slots)
 }
 
-/// Idle; its other fields are anything, for nobody looks at them.
-pub fn idle_record(dice: &mut Dice) -> Record {
-    let mut record = Record::default();
-    if dice.percent(50) {
-        record = wild_record(dice);
-        record.place = 0;
-    }
-    record
-}
-
-/// A sound record; at 5 to 10 there must be two slots.
-pub fn busy_record(dice: &mut Dice, slots: u64, place: u64, kind: u64) -> Record {
-    let helping = helping(place);
-    let mut seen = sound_anchor(dice, slots);
-    while helping && Anchor::unpack(seen).status == STABLE {
-        seen = sound_anchor(dice, slots);
-    }
-    Record {
-        place,
-        kind,
-        side: dice.between(0, 1),
-        own: if kind == PUSH { dice.between(1, slots) } else { 0 },
-        label: dice.throw() as u32,
-        seen,
-        neighbour: dice.between(0, slots),
-        link: sound_link(dice, slots),
-        finishing: if kind == PUSH && helping { dice.between(0, 1) } else { 0 },
-    }
-}
-
-/// The record of a task that the call is not about: nobody looks at more than its place.
-fn any_record(dice: &mut Dice, slots: u64) -> Record {
-    let place = any_place(dice, slots, 11);
-    let kind = if place == 11 { POP } else { dice.between(0, 1) };
-    match dice.between(0, 2) {
-        0 => idle_record(dice),
-        1 => wild_record(dice),
-        _ => busy_record(dice, slots, place, kind),
-    }
-}
-
-fn any_retries(dice: &mut Dice) -> u64 {
-    dice.pick(&[0, 5, LAST_TAG - 1, LAST_TAG, LAST_TAG + 1, u64::MAX])
-}
-
-fn sound_world(dice: &mut Dice, tasks: u64, slots: u64) -> World {
+fn sound_world(dice: &mut Dice, tasks: u64, slots: u64, pooled: bool) -> World {
     let rows = slots as usize + 1;
     let words = slots as usize / 64 + 1;
     // More may be lent than is needed; what is not needed must keep its values too.
@@ -247,66 +222,14 @@ fn sound_world(dice: &mut Dice, tasks: u64, slots: u64) -> World {
     let marks = Lent::new((0..held).map(|_| dice.throw()).collect(), count);
     let (held, count) = table(dice, tasks as usize);
     let records = Lent::new((0..held).map(|_| any_record(dice, slots)).collect(), count);
+    let (held, count) = table(dice, rows);
+    let next = Lent::new((0..held).map(|_| dice.between(0, slots)).collect(), count);
     let anchor = sound_anchor(dice, slots);
     let retries = any_retries(dice);
     let one = any_record(dice, slots);
-    World {
-        control: Control { tasks, slots, anchor, retries },
-        records,
-        one,
-        lefts,
-        rights,
-        labels,
-        marks,
-    }
-}
-
-// ---- Anything at all -------------------------------------------------------------------------
-
-/// A number near what matters, or far from it, or one that 32 bits would make small.
-pub fn wild(dice: &mut Dice, most: u64) -> u64 {
-    match dice.between(0, 9) {
-        0 => 0,
-        1 => most + 1,
-        2 => u64::MAX,
-        3 => 1 << 32 | dice.between(0, most),
-        _ => dice.between(0, most),
-    }
-}
-
-/// An Anchor or link word with fields near what matters.
-pub fn wild_word(dice: &mut Dice, slots: u64) -> u64 {
-    let tag = dice.pick(&[0, 1, LAST_START_TAG, LAST_START_TAG + 1, LAST_TAG - 1, LAST_TAG]);
-    let end = |dice: &mut Dice| match dice.between(0, 9) {
-        0 => 0,
-        1 => slots + 1,
-        2 => 0x7fff,
-        _ => dice.between(1, slots.max(1)),
-    };
-    let status = if dice.percent(60) { 0 } else { dice.between(1, 3) };
-    let left = if dice.percent(40) { 0 } else { end(dice) };
-    tag << 32 | status << 30 | (left & 0x7fff) << 15 | end(dice) & 0x7fff
-}
-
-pub fn wild_record(dice: &mut Dice) -> Record {
-    Record {
-        place: wild(dice, 11),
-        kind: wild(dice, 1),
-        side: wild(dice, 1),
-        own: wild(dice, 3),
-        label: dice.throw() as u32,
-        seen: wild_word(dice, 3),
-        neighbour: wild(dice, 3),
-        link: wild_word(dice, 3),
-        finishing: wild(dice, 1),
-    }
-}
-
-pub fn wild_control(dice: &mut Dice) -> Control {
-    Control {
-        tasks: wild(dice, 16),
-        slots: wild(dice, 1_023),
-        anchor: wild_word(dice, 3),
-        retries: any_retries(dice),
-    }
+    // Nobody looks at the head of a named queue.
+    let head = if pooled { sound_link(dice, slots) } else { wild_word(dice, slots) };
+    let pooled = if pooled { POOLED } else { NAMED };
+    let control = Control { tasks, slots, anchor, retries, pooled, head };
+    World { control, records, one, lefts, rights, labels, marks, next }
 }

@@ -1,6 +1,8 @@
 //! What was compared and what was reached.
 
-use crate::world::{by_library, by_reference, difference, Call, Export, Told, World};
+use crate::ours::by_library;
+use crate::theirs::by_reference;
+use crate::world::{difference, Call, Export, Told, World};
 use std::collections::BTreeMap;
 
 /// How many mismatches are printed, and after how many the test gives up.
@@ -54,13 +56,15 @@ impl Tally {
 
     /// Every answer and refusal of every call must have been reached, and no other.
     pub fn check_reached(&mut self) {
-        const WANTED: [(Export, &[u32]); 8] = [
+        const WANTED: [(Export, &[u32]); 10] = [
             (Export::Open, &[0, 10, 11, 12]),
-            (Export::Push, &[1, 12, 13, 14, 15, 30, 32, 33, 34]),
+            (Export::OpenPooled, &[0, 10, 11, 12]),
+            (Export::Push, &[1, 12, 13, 14, 15, 30, 32, 33, 34, 41]),
+            (Export::PushPooled, &[1, 12, 13, 14, 30, 33, 34, 41]),
             (Export::Pop, &[1, 12, 13, 14, 30, 33, 34]),
-            (Export::Step, &[1, 2, 3, 4, 12, 13, 31, 34]),
-            (Export::Run, &[1, 2, 3, 4, 12, 13, 31, 34]),
-            (Export::StepRecord, &[1, 2, 3, 4, 12, 31, 34]),
+            (Export::Step, &[1, 2, 3, 4, 5, 12, 13, 31, 34]),
+            (Export::Run, &[1, 2, 3, 4, 5, 12, 13, 31, 34]),
+            (Export::StepRecord, &[1, 2, 3, 4, 5, 12, 31, 34]),
             (Export::Report, &[0, 12, 34]),
             (Export::Find, &[0, 12, 34, 45]),
         ];

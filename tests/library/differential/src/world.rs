@@ -1,10 +1,7 @@
-//! Lent tables, the calls on them, and both implementations behind one face.
+//! Lent tables, the calls on them, and what both sides answer.
 
-use reference::find::{Found, MOST_ASKED};
-use reference::machine::{Answer, Moved};
-use reference::refusal::Refusal;
-use reference::tables::{Control, Record, Shared, Tables};
-use zeppolecape::raw;
+use reference::find::MOST_ASKED;
+use reference::tables::{Control, Record};
 
 /// A table: `count` entries are lent; those behind them must never change.
 #[derive(Clone, Debug, PartialEq)]
@@ -20,11 +17,11 @@ impl<T> Lent<T> {
         Lent { held, count, null: false }
     }
 
-    fn slice(&mut self) -> &mut [T] {
+    pub fn slice(&mut self) -> &mut [T] {
         &mut self.held[..self.count]
     }
 
-    fn pointer(&mut self) -> *mut T {
+    pub fn pointer(&mut self) -> *mut T {
         match self.null && self.count == 0 {
             true => std::ptr::null_mut(),
             false => self.held.as_mut_ptr(),
@@ -42,6 +39,7 @@ pub struct World {
     pub rights: Lent<u64>,
     pub labels: Lent<u32>,
     pub marks: Lent<u64>,
+    pub next: Lent<u64>,
 }
 
 #[derive(Clone, Copy, Debug, PartialEq)]
@@ -51,10 +49,20 @@ pub enum Call {
         slots: u64,
         tag: u32,
     },
+    OpenPooled {
+        tasks: u64,
+        slots: u64,
+        tag: u32,
+    },
     Push {
         task: usize,
         side: u64,
         slot: u64,
+        label: u32,
+    },
+    PushPooled {
+        task: usize,
+        side: u64,
         label: u32,
     },
     Pop {
@@ -87,7 +95,9 @@ pub enum Call {
 #[derive(Clone, Copy, Debug, PartialEq, Eq, Hash, PartialOrd, Ord)]
 pub enum Export {
     Open,
+    OpenPooled,
     Push,
+    PushPooled,
     Pop,
     Step,
     Run,
@@ -100,7 +110,9 @@ impl Call {
     pub fn export(&self) -> Export {
         match self {
             Call::Open { .. } => Export::Open,
+            Call::OpenPooled { .. } => Export::OpenPooled,
             Call::Push { .. } => Export::Push,
+            Call::PushPooled { .. } => Export::PushPooled,
             Call::Pop { .. } => Export::Pop,
             Call::Step { .. } => Export::Step,
             Call::Run { .. } => Export::Run,
@@ -131,156 +143,6 @@ impl Told {
     }
 }
 
-/// The library's tables behind the given arguments.
-macro_rules! library {
-    ($world:ident . $name:ident($($argument:expr),*)) => {
-        unsafe {
-            raw::$name(
-                $($argument,)*
-                $world.lefts.pointer(),
-                $world.lefts.count,
-                $world.rights.pointer(),
-                $world.rights.count,
-                $world.labels.pointer(),
-                $world.labels.count,
-                $world.marks.pointer(),
-                $world.marks.count,
-            )
-        }
-    };
-}
-
-pub fn by_library(world: &mut World, call: Call) -> Told {
-    let control: *mut raw::Control = (&raw mut world.control).cast();
-    let records: *mut raw::Record = world.records.pointer().cast();
-    let count = world.records.count;
-    let reply = match call {
-        Call::Open { tasks, slots, tag } => {
-            let code = library!(world.zc_open(control, records, count, tasks, slots, tag));
-            return Told::Reply(code, 0, 0);
-        }
-        Call::Push { task, side, slot, label } => {
-            library!(world.zc_push(control, records, count, task, side, slot, label))
-        }
-        Call::Pop { task, side } => library!(world.zc_pop(control, records, count, task, side)),
-        Call::Step { task } => library!(world.zc_step(control, records, count, task)),
-        Call::Run { task, most } => {
-            let told = library!(world.zc_run(control, records, count, task, most));
-            return Told::Run(told.code, told.label, told.value, told.steps);
-        }
-        Call::StepRecord => {
-            let one: *mut raw::Record = (&raw mut world.one).cast();
-            library!(world.zc_step_record(control, one))
-        }
-        Call::StepRow { task } => {
-            let one: *mut raw::Record = (&raw mut world.records.held[task]).cast();
-            library!(world.zc_step_record(control, one))
-        }
-        Call::Report => {
-            let told = library!(world.zc_report(control, records, count));
-            return Told::Report([
-                told.code,
-                told.tag,
-                told.status,
-                told.left,
-                told.right,
-                told.busy,
-                told.waiting,
-                told.taken,
-                told.retries,
-            ]);
-        }
-        Call::Find { asked, count } => {
-            let found = library!(world.zc_find(control, asked.as_ptr(), count));
-            return Told::Find(found.code, found.rows, found.positions);
-        }
-    };
-    Told::Reply(reply.code, reply.label, reply.value)
-}
-
-fn found(answer: Result<Found, Refusal>) -> Told {
-    let mut positions = [0; MOST_ASKED];
-    match answer {
-        Ok(found) => {
-            for (to, at) in positions.iter_mut().zip(&found.positions) {
-                *to = at.unwrap_or(0);
-            }
-            Told::Find(0, found.rows, positions)
-        }
-        Err(refusal) => Told::Find(u64::from(refusal.number()), 0, positions),
-    }
-}
-
-fn refused(refusal: Refusal) -> Told {
-    Told::Reply(u32::from(refusal.number()), 0, 0)
-}
-
-fn started(answer: Result<(), Refusal>) -> Told {
-    answer.map_or_else(refused, |()| Told::Reply(1, 0, 1))
-}
-
-fn moved(answer: Answer) -> Told {
-    match answer {
-        Ok(Moved::Running(place)) => Told::Reply(1, 0, place),
-        Ok(Moved::Pushed) => Told::Reply(2, 0, 0),
-        Ok(Moved::Empty) => Told::Reply(3, 0, 0),
-        Ok(Moved::Popped { slot, label }) => Told::Reply(4, label, slot),
-        Err(refusal) => refused(refusal),
-    }
-}
-
-pub fn by_reference(world: &mut World, call: Call) -> Told {
-    let shared = Shared {
-        control: &mut world.control,
-        lefts: world.lefts.slice(),
-        rights: world.rights.slice(),
-        labels: world.labels.slice(),
-        marks: world.marks.slice(),
-    };
-    if let Call::StepRecord | Call::StepRow { .. } = call {
-        let mut shared = shared;
-        let one = match call {
-            Call::StepRow { task } => &mut world.records.held[task],
-            _ => &mut world.one,
-        };
-        return moved(shared.step_lent(one));
-    }
-    if let Call::Find { asked, count } = call {
-        return found(shared.find(&asked[..count]));
-    }
-    let mut tables = Tables { shared, records: world.records.slice() };
-    match call {
-        Call::Open { tasks, slots, tag } => {
-            tables.open(tasks, slots, tag).map_or_else(refused, |()| Told::Reply(0, 0, 0))
-        }
-        Call::Push { task, side, slot, label } => {
-            started(tables.push(task as u64, side, slot, label))
-        }
-        Call::Pop { task, side } => started(tables.pop(task as u64, side)),
-        Call::Step { task } => moved(tables.step(task as u64)),
-        Call::Run { task, most } => {
-            let (answer, steps) = tables.run(task as u64, most);
-            let Told::Reply(code, label, value) = moved(answer) else { unreachable!() };
-            Told::Run(code, label, value, steps)
-        }
-        Call::StepRecord | Call::StepRow { .. } | Call::Find { .. } => unreachable!(),
-        Call::Report => Told::Report(match tables.report() {
-            Ok(told) => [
-                0,
-                told.tag,
-                told.status,
-                told.left,
-                told.right,
-                told.busy,
-                told.waiting,
-                told.taken,
-                told.retries,
-            ],
-            Err(refusal) => [u64::from(refusal.number()), 0, 0, 0, 0, 0, 0, 0, 0],
-        }),
-    }
-}
-
 /// Where two worlds differ, the library's first.
 pub fn difference(ours: &World, theirs: &World) -> Option<String> {
     fn rows<T: PartialEq + std::fmt::Debug>(
@@ -302,4 +164,5 @@ pub fn difference(ours: &World, theirs: &World) -> Option<String> {
         .or_else(|| rows("rights", &ours.rights, &theirs.rights))
         .or_else(|| rows("labels", &ours.labels, &theirs.labels))
         .or_else(|| rows("marks", &ours.marks, &theirs.marks))
+        .or_else(|| rows("next", &ours.next, &theirs.next))
 }

@@ -9,30 +9,24 @@ use Rattle.order.proofs.search.first_broken.Statement.{statement}
 use Rattle.order.proofs.search.first_broken.Tie as tie
 
 abbrev Inv-loop : tie.InvT-loop
-Inv-loop n square low high first₀ second₀ a row top b₀ first second b =
+Inv-loop square n low high first₀ second₀ a top b₀ first second b =
     (b ≤ n) × (inRow (crossed byteRow square low high) (a + 1) (b + 1) (n - b)
     (inRows (crossed byteRow square low high) n ((a + 1) + 1) (n - (a + 1))) ≡ inRows (crossed byteRow square low high) n 1 n) × (first ≡ 0) ×
     (second ≡ 0)
 
 abbrev μ-loop : tie.MeasureT-loop
-μ-loop n square low high first₀ second₀ a row top b₀ first second b = n - b
+μ-loop square n low high first₀ second₀ a top b₀ first second b = n - b
 
 abbrev Inv-pairs : tie.InvT-pairs
-Inv-pairs n square low high first₀ second₀ a₀ first second a =
+Inv-pairs square n low high first₀ second₀ a₀ first second a =
     (a ≤ n) × (inRows (crossed byteRow square low high) n (a + 1) (n - a) ≡ inRows (crossed byteRow square low high) n 1 n)
     × (first ≡ 0) × (second ≡ 0)
 
 abbrev μ-pairs : tie.MeasureT-pairs
-μ-pairs n square low high first₀ second₀ a₀ first second a = n - a
+μ-pairs square n low high first₀ second₀ a₀ first second a = n - a
 
 pairs-holds : tie.Need-pairs-holds Inv-loop μ-loop Inv-pairs μ-pairs
 pairs-holds c = (search needs, ap (inRows _ (c .args .n) 1) (all-left (c .args .n)), search needs, search needs)
-
-mul-row : tie.Need-mul-row Inv-loop μ-loop Inv-pairs μ-pairs
-mul-row c = search needs
-
-array-copy-out-row : tie.Need-array-copy-out-row Inv-loop μ-loop Inv-pairs μ-pairs
-array-copy-out-row c = search needs
 
 mul-top : tie.Need-mul-top Inv-loop μ-loop Inv-pairs μ-pairs
 mul-top c = search needs
@@ -43,22 +37,28 @@ array-read-top c = search needs
 loop-holds : tie.Need-loop-holds Inv-loop μ-loop Inv-pairs μ-pairs
 loop-holds c = (
   search needs,
-  (let n = c .before .before .before .args .n in let a = c .before .before .pairs .a in let p = crossed byteRow
-      (c .before .before .before .args .t1) (c .before .before .before .args .t3) (c .before .before .before .args .t4) in ap
+  (let n = c .before .before .args .n in let a = c .before .pairs .a in let p = crossed byteRow
+      (c .before .before .args .square .now) (c .before .before .args .t3) (c .before .before .args .t4) in ap
       (λ (k : ℕ). inRow p (a + 1) 1 k (inRows p n ((a + 1) + 1) (n - (a + 1)))) (all-left n) ∙ sym (rows-on n a p n (search needs))
-      ∙ c .before .before .pairs .inv .1),
+      ∙ c .before .pairs .inv .1),
   search needs,
   search needs,
 )
 
-array-read-if1 : tie.Need-array-read-if1 Inv-loop μ-loop Inv-pairs μ-pairs
-array-read-if1 c = search needs
-
 mul-if1 : tie.Need-mul-if1 Inv-loop μ-loop Inv-pairs μ-pairs
 mul-if1 c = search needs
 
-array-read-if1-2 : tie.Need-array-read-if1-2 Inv-loop μ-loop Inv-pairs μ-pairs
-array-read-if1-2 c = search needs
+index-1-if1 : tie.Need-index-1-if1 Inv-loop μ-loop Inv-pairs μ-pairs
+index-1-if1 c = search needs
+
+index-2-if1 : tie.Need-index-2-if1 Inv-loop μ-loop Inv-pairs μ-pairs
+index-2-if1 c = search needs
+
+mul-if1-2 : tie.Need-mul-if1-2 Inv-loop μ-loop Inv-pairs μ-pairs
+mul-if1-2 c = search needs
+
+array-read-if1 : tie.Need-array-read-if1 Inv-loop μ-loop Inv-pairs μ-pairs
+array-read-if1 c = search needs
 
 add-first : tie.Need-add-first Inv-loop μ-loop Inv-pairs μ-pairs
 add-first c = search needs
@@ -76,11 +76,11 @@ loop-again : tie.Need-loop-again Inv-loop μ-loop Inv-pairs μ-pairs
 loop-again c =
     let p4 = c .before .before .before .before in
     let a = p4 .before .pairs .a in
-    let b = c .before .before .loop .b in (
+    let b = c .before .before .before .loop .b in (
       search needs,
       row-on (p4 .before .before .args .n) b _ (a + 1) _ (search needs)
-          (crossed-at byteRow (p4 .before .before .args .t1) (p4 .before .before .args .t3) (p4 .before .before .args .t4) a b ∙ c .if1 .left)
-          ∙ c .before .before .loop .inv .1,
+          (crossed-at byteRow (p4 .before .before .args .square .now) (p4 .before .before .args .t3) (p4 .before .before .args .t4) a b ∙ c .if1 .left)
+          ∙ c .before .before .before .loop .inv .1,
       search needs,
       search needs,
     )
@@ -95,7 +95,7 @@ pairs-again : tie.Need-pairs-again Inv-loop μ-loop Inv-pairs μ-pairs
 pairs-again c =
     let p4 = c .before .before .before .before in (
       search needs,
-      sym (row-end (p4 .before .args .n) (c .before .loop .b) _ _ _ (search needs))
+      sym (row-end (p4 .args .n) (c .before .loop .b) _ _ _ (search needs))
           ∙ c .before .loop .inv .1,
       search needs,
       search needs,
@@ -110,10 +110,10 @@ returns-2 : tie.Need-returns-2 Inv-loop μ-loop Inv-pairs μ-pairs
 returns-2 c =
     let p4 = c .before .before .before .before in
     let a = p4 .before .pairs .a in
-    let b = c .before .before .loop .b in
+    let b = c .before .before .before .loop .b in
     row-here (p4 .before .before .args .n) b _ (a + 1) _ (search needs)
-    (crossed-at byteRow (p4 .before .before .args .t1) (p4 .before .before .args .t3) (p4 .before .before .args .t4) a b ∙ c .if1 .taken)
-    ∙ c .before .before .loop .inv .1
+    (crossed-at byteRow (p4 .before .before .args .square .now) (p4 .before .before .args .t3) (p4 .before .before .args .t4) a b ∙ c .if1 .taken)
+    ∙ c .before .before .before .loop .inv .1
 
 pub first-broken-spec : {M : Type 1} → statement M
 first-broken-spec =
@@ -124,14 +124,14 @@ first-broken-spec =
     Inv-pairs
     μ-pairs
     pairs-holds
-    mul-row
-    array-copy-out-row
     mul-top
     array-read-top
     loop-holds
-    array-read-if1
     mul-if1
-    array-read-if1-2
+    index-1-if1
+    index-2-if1
+    mul-if1-2
+    array-read-if1
     add-first
     add-second
     add-b

@@ -1,0 +1,84 @@
+-- A field at a position: its bytes are there.
+use Prim.Native.Nat.{ℕ, _+_, _-_, _<_, _≤_}
+use mathlib.Core.Path.{_≡_, refl, sym, ap, _∙_, subst}
+use mathlib.Core.Bool.{Bool, true, false, _&&_, _||_, or-false}
+use mathlib.Core.List.{List}
+use native.Mathlib.Omega.{arith}
+use lib.Dec.{leb, eqb}
+use lib.ListN.{length, take, drop, getD, length-drop}
+use lib.Seq.{slice, take-add, drop-at, drop-drop, length-take-le}
+use borrow.Author.Tests.{leb-true}
+use Rattle.runfile.specs.Field.{twoAt, formed, contentOf, fieldOf}
+use Rattle.runfile.specs.declared.Field.{Field}
+use Rattle.runfile.specs.declared.Field.the-variants.{Steps}
+use Rattle.runfile.specs.declared.Found.{Found}
+use Rattle.runfile.proofs.Prefix.{Seen, seen, ended, cut, wrong, whole}
+use Rattle.carry.specs.Page.{Page, written, carries, moved, fieldRoom, takes, Whole}
+use Rattle.carry.proofs.Pages.{cond-true, cond-false}
+
+clash : {P : Type 0} → _≡_ {A = Bool} false true → P
+clash z = absurd (let y : _≡_ {A = ℕ} 0 1 = cc in omega arith)
+
+both : (a b : Bool) → (a && b) ≡ true → (a ≡ true) × (b ≡ true)
+both true b e = (refl, e)
+both false b e = clash e
+
+steps-most : (o : Bool) (tag len : ℕ) → formed o tag len ≡ true
+    → (eqb tag 1 || eqb tag 5) ≡ false → eqb tag 2 ≡ false → eqb tag 3 ≡ false → eqb tag 6 ≡ false → len ≤ 4096
+unfolding formed
+steps-most true tag len e p q r s =
+    leb-true len 4096 (both (eqb tag 4) (leb len 4096) (simp (q, r, s, or-false) at e) .1)
+steps-most false tag len e p q r s = clash (rw p at e)
+
+content-whole : (o : Bool) (tag len at n : ℕ) (d : List ℕ) → formed o tag len ≡ true → at + 3 + len ≤ n → Whole (contentOf tag len d) at n
+unfolding contentOf
+content-whole o tag len at n d f h = go (eqb tag 1 || eqb tag 5) refl (eqb tag 2) refl (eqb tag 3) refl (eqb tag 6) refl
+  where
+    go : (w : Bool) → (eqb tag 1 || eqb tag 5) ≡ w → (x : Bool) → eqb tag 2 ≡ x → (y : Bool) → eqb tag 3 ≡ y → (z : Bool) → eqb tag 6 ≡ z
+        → Whole (contentOf tag len d) at n
+    go true p x q y s z t = rw p tt
+    go false p true q y s z t = rw (p, q) tt
+    go false p false q true s z t = rw (p, q, s) tt
+    go false p false q false s true t = rw (p, q, s, t) tt
+    go false p false q false s false t = rw (p, q, s, t) (steps-most o tag len f p q s t, h)
+
+pub field-whole : (o : Bool) (bytes : List ℕ) (at : ℕ) → Whole (fieldOf o (drop at bytes) .field) at (length bytes)
+field-whole o bytes at = go (fieldOf o (drop at bytes)) (seen o (drop at bytes))
+  where
+    go : (f : Found) → Seen o (drop at bytes) f → Whole (f .field) at (length bytes)
+    go f (ended h) = tt
+    go f cut = tt
+    go f (wrong h w) = tt
+    go f (whole w h) =
+        content-whole o (getD (drop at bytes) 0 0) (twoAt (drop at bytes) 1) at (length bytes) (drop 3 (drop at bytes)) w
+        (omega (arith, length-drop at bytes))
+
+pub steps-whole : (f : Field) (n at len : ℕ) → f ≡ Steps n → Whole f at len → (n ≤ 4096) × (at + 3 + n ≤ len)
+steps-whole f n at len e w = subst (λ (g : Field). Whole g at len) e w
+
+-- The content of a steps field.
+pub steps-content : (at n : ℕ) (bytes : List ℕ) → at + 3 ≤ length bytes → slice (at + 3) (at + 3 + n) bytes ≡ take n (drop 3 (drop at bytes))
+steps-content at n bytes h =
+    ap (drop (at + 3)) (take-add (at + 3) n bytes)
+    ∙ drop-at (take (at + 3) bytes) (take n (drop (at + 3) bytes)) (at + 3) (length-take-le (at + 3) bytes h)
+    ∙ ap (take n) (sym (drop-drop 3 at bytes))
+
+-- The position behind a field is a machine number.
+pub next-fits : (at size len : ℕ) → at < 18446744073709551616 → len < 18446744073709551616 → size ≤ len - at → at + size < 18446744073709551616
+next-fits at size len h k s = omega arith
+
+-- The field at the reading position taken: x is the page after it was carried out.
+module _ (bytes : List ℕ) (p : Page) where
+  pub takes-page : (x : Page) (f : Found) (at : ℕ) → leb (p .to + fieldRoom) (length (p .out)) ≡ true
+      → f ≡ fieldOf (p .run .opened) (drop (p .at) bytes) → x ≡ carries p (f .field) (drop (p .at) bytes) → at ≡ p .at + f .size
+      → _≡_ {A = Page} (record { run = x .run; uppers = x .uppers; out = x .out; to = x .to; at = at }) (takes bytes p)
+  unfolding takes written
+  takes-page x f at h e ex ea =
+      let made : _≡_ {A = Page} (record { run = x .run; uppers = x .uppers; out = x .out; to = x .to; at = at })
+      (moved (carries p (f .field) (drop (p .at) bytes)) (f .size)) = rw (ea, ex) in
+      made ∙ ap (λ (g : Found). moved (carries p (g .field) (drop (p .at) bytes)) (g .size)) e
+      ∙ sym (cond-true (leb (p .to + fieldRoom) (length (p .out))) _ _ h)
+
+  pub takes-none : leb (p .to + fieldRoom) (length (p .out)) ≡ false → takes bytes p ≡ p
+  unfolding takes
+  takes-none h = cond-false (leb (p .to + fieldRoom) (length (p .out))) _ _ h

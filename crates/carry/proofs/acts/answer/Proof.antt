@@ -1,0 +1,29 @@
+-- The record is put back, and the line written.
+use native.Mathlib.Omega.{arith}
+use borrow.Author.Needs.{needs}
+use Rattle.carry.specs.Page.{written, answered}
+use Rattle.carry.proofs.Turns.{put-fits}
+use Rattle.carry.proofs.acts.answer.Statement.{statement}
+use Rattle.carry.proofs.acts.answer.Tie as tie
+
+returns : tie.Need-returns
+unfolding answered written
+returns c =
+    let told = c .before .before in
+    let event = told .before .before in
+    let put = event .before .before in
+    let w = put-fits _ _ _ _ _ (omega arith) (told .write-line .ensures .0) in (
+      λ ls rs bs ms ns. rw (w .stop, w .stored, event .wrapping-add-u64 .ensures, put .put-record .ensures .0, put .put-record .ensures .1),
+      told .write-line .ensures .1,
+    )
+
+pub answer-spec : {M : Type 1} → statement M
+answer-spec =
+    tie.close
+    (tie.spec
+    (λ c κs. search needs)
+    (λ c κs. search needs)
+    (λ c κs. search needs)
+    (λ c. search needs)
+    (λ c. search needs)
+    returns)

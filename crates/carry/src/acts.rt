@@ -1,0 +1,197 @@
+//! What each field does, with its lines.
+use crate::RunState;
+use calls::opening;
+use lines::Line;
+use model::Op;
+use model::Opening;
+use table::Acted;
+ghost use mathlib.Core.Path.{_≡_};
+ghost use mathlib.Core.List.{List, [], _∷_};
+ghost use Prim.Native.Nat.{ℕ, _+_, _*_, _-_, _≤_};
+ghost use lib.ListN.{length};
+ghost use lib.Seq.{slice};
+ghost use Rattle.table.specs.Lent.{withTables};
+ghost use Rattle.carry.specs.Run.{isOpened, stepsOf};
+ghost use Rattle.carry.specs.Page.{pageOf, answered, operates, opens};
+
+// An operation that was done: its record stored, its line written.
+fn answer(
+    s: RunState,
+    m: Acted,
+    task: usize,
+    op: Op,
+    out: &mut [u8],
+    rows: &mut [[u64; rows::RECORD_WORDS]],
+) -> RunState
+    requires { ⌜ s .to + 128 ≤ length (now out) ⌝ }
+    ensures { λ r.
+        ⌜ ((ls rs bs ms ns : List ℕ) → pageOf r (now (out .exit)) (now (rows .exit)) ls rs bs ms ns
+        ≡ answered (pageOf s (now (out .entry)) (now (rows .entry)) ls rs bs ms ns) task op (withTables m ls rs bs ms ns)) ⌝ }
+    ensures { λ r. ⌜ r .to ≤ s .to + 128 ⌝ }
+{
+    let control = m.control;
+    let outcome = m.outcome;
+    let moved = m.task;
+    rows::put_record(rows, task, moved);
+    let event = std::num::wrapping_add_u64(s.event, 1);
+    let to = lines::write_line(
+        out,
+        s.to,
+        event,
+        Line::Act { task, op, outcome },
+        control.anchor,
+    );
+    RunState {
+        control,
+        opened: s.opened,
+        over: s.over,
+        event,
+        at: s.at,
+        to,
+    }
+}
+
+/// A start or step of a task.
+pub fn operate(
+    s: RunState,
+    task: usize,
+    op: Op,
+    out: &mut [u8],
+    rows: &mut [[u64; rows::RECORD_WORDS]],
+    lefts: &mut [u64],
+    rights: &mut [u64],
+    labels: &mut [u32],
+    marks: &mut [u64],
+    next: &mut [u64],
+) -> RunState
+    requires { ⌜ s .to + 128 ≤ length (now out) ⌝ }
+    ensures { λ r.
+        ⌜ pageOf r (now (out .exit)) (now (rows .exit))
+        (now (lefts .exit)) (now (rights .exit)) (now (labels .exit)) (now (marks .exit)) (now (next .exit))
+        ≡ operates
+        (pageOf s (now (out .entry)) (now (rows .entry))
+        (now (lefts .entry)) (now (rights .entry)) (now (labels .entry)) (now (marks .entry)) (now (next .entry)))
+        (record { task = task; op = op } ∷ []) ⌝ }
+    ensures { λ r. ⌜ r .to ≤ s .to + 128 ⌝ }
+{
+    let c = s.control;
+    let r = rows::record_at(rows, task);
+    let m = operation::act(
+        c,
+        r,
+        rows.len(),
+        task,
+        op,
+        lefts,
+        rights,
+        labels,
+        marks,
+        next,
+    );
+    answer(s, m, task, op, out, rows)
+}
+
+/// One step for each of the task bytes from `from` to `end`.
+pub fn steps(
+    s: RunState,
+    bytes: &[u8],
+    from: usize,
+    end: usize,
+    out: &mut [u8],
+    rows: &mut [[u64; rows::RECORD_WORDS]],
+    lefts: &mut [u64],
+    rights: &mut [u64],
+    labels: &mut [u32],
+    marks: &mut [u64],
+    next: &mut [u64],
+) -> RunState
+    requires { ⌜ (from ≤ end) × (end ≤ length (now bytes)) × (s .to + 128 * (end - from) ≤ length (now out)) ⌝ }
+    ensures { λ r.
+        ⌜ pageOf r (now (out .exit)) (now (rows .exit))
+        (now (lefts .exit)) (now (rights .exit)) (now (labels .exit)) (now (marks .exit)) (now (next .exit))
+        ≡ operates
+        (pageOf s (now (out .entry)) (now (rows .entry))
+        (now (lefts .entry)) (now (rights .entry)) (now (labels .entry)) (now (marks .entry)) (now (next .entry)))
+        (stepsOf (slice from end (now (bytes .entry)))) ⌝ }
+{
+    let mut q = s;
+    for i in from..end {
+        let task = bytes[i] as usize;
+        q = operate(
+            q,
+            task,
+            Op::Step,
+            out,
+            rows,
+            lefts,
+            rights,
+            labels,
+            marks,
+            next,
+        );
+    }
+    q
+}
+
+fn is_opened(o: Opening) -> bool
+    ensures { λ r. ⌜ r ≡ isOpened o ⌝ }
+{
+    match o {
+        Opening::Refused(_) => false,
+        Opening::Opened => true,
+    }
+}
+
+/// The opening. A refused one ends the run.
+pub fn open_queue(
+    s: RunState,
+    pooled: bool,
+    tasks: u64,
+    slots: u64,
+    tag: u32,
+    out: &mut [u8],
+    rows: &mut [[u64; rows::RECORD_WORDS]],
+    lefts: &mut [u64],
+    rights: &mut [u64],
+    labels: &mut [u32],
+    marks: &mut [u64],
+    next: &mut [u64],
+) -> RunState
+    requires { ⌜ s .to + 128 ≤ length (now out) ⌝ }
+    ensures { λ r.
+        ⌜ pageOf r (now (out .exit)) (now (rows .exit))
+        (now (lefts .exit)) (now (rights .exit)) (now (labels .exit)) (now (marks .exit)) (now (next .exit))
+        ≡ opens
+        (pageOf s (now (out .entry)) (now (rows .entry))
+        (now (lefts .entry)) (now (rights .entry)) (now (labels .entry)) (now (marks .entry)) (now (next .entry)))
+        pooled tasks slots tag ⌝ }
+{
+    let c = s.control;
+    let o = opening::open_tables(
+        c,
+        pooled,
+        rows.len(),
+        tasks,
+        slots,
+        tag,
+        lefts,
+        rights,
+        labels,
+        marks,
+        next,
+    );
+    let control = o.control;
+    let outcome = o.outcome;
+    rows::clear(rows, o.clear);
+    let good = is_opened(outcome);
+    let event = std::num::wrapping_add_u64(s.event, 1);
+    let to = lines::write_line(out, s.to, event, Line::Open(outcome), control.anchor);
+    RunState {
+        control,
+        opened: good,
+        over: !good,
+        event,
+        at: s.at,
+        to,
+    }
+}
