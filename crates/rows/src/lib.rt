@@ -13,7 +13,7 @@ ghost use Rattle.model.specs.Tables.{unused, zeroed};
 ghost use Rattle.model.specs.Calls.{Done, act};
 ghost use Rattle.model.specs.Ends.{endsCall, isMoved};
 ghost use Rattle.engine.specs.Stored.{controlMoved, recordMoved, controlAfter, recordAfter};
-ghost use Rattle.rows.specs.Rows.{controlOf, callOf, recordOf, recordsOf, upperOf, uppersOf, queueIn, withCallAt};
+ghost use Rattle.rows.specs.Rows.{controlOf, callOf, recordOf, recordsOf, upperOf, uppersOf, queueIn, withCallAt, withActedAt};
 
 /// The words of a control.
 pub const CONTROL_WORDS: usize = 5;
@@ -140,6 +140,21 @@ pub fn put_call(rows: &mut [[u64; RECORD_WORDS]], task: usize, r: Record)
     if task < rows.len() {
         let was = rows[task];
         let row = record_row(r, was[9]);
+        rows[task] = row;
+    }
+}
+
+/// What a start or step leaves of its task's record, where there is such a task: its call, and its
+/// failed change counted.
+pub fn put_acted(rows: &mut [[u64; RECORD_WORDS]], task: usize, m: Acted)
+    ensures { λ _. ⌜ recordsOf (now (rows .exit)) ≡ withActedAt (recordsOf (now (rows .entry))) task m ⌝ }
+    ensures { λ _. ⌜ uppersOf (now (rows .exit)) ≡ set (uppersOf (now (rows .entry))) task 0 ⌝ }
+{
+    if task < rows.len() {
+        let was = rows[task];
+        let r = m.task;
+        let retries = table::counted(was[9], m.failed);
+        let row = record_row(r, retries);
         rows[task] = row;
     }
 }
