@@ -60,15 +60,17 @@
  * FACTS, the most that bench/facts.sh saw over random calls; memset's instructions are not counted:
  *                  stack,   instructions at most, by tasks and slots
  *                  bytes      1, 3     5, 12  16, 1023
- *   zc_open            72        75        75        75
- *   zc_push           136       229       229       229
- *   zc_pop            120       214       214       214
- *   zc_step           160       247       247       247
- *   zc_step_record    168       242       242       242
- *   zc_run            192      1298      3024      3024
- *   zc_report         112       227       503     27343
- *   table bytes         -       192       664     21792
- *   code bytes: audit 1804, capi 5987, capi_record 2702, capi_run 3057, find 3506, sheet 3496
+ *   zc_open            88        88        88        88
+ *   zc_open_pooled     88       125       181      6255
+ *   zc_push           360       318       318       318
+ *   zc_push_pooled    360       288       288       288
+ *   zc_pop            360       283       283       283
+ *   zc_step           624       359       357       357
+ *   zc_step_record    640       343       338       338
+ *   zc_run            672      2552      4196      4850
+ *   zc_report         112       234       512     27353
+ *   table bytes         -       240       784     30000
+ *   code bytes: audit 1804, capi 10181, capi_record 6077, capi_run 6516, find 3570, sheet 3512
  * As to the machine: x86-64, System V calling convention. The code uses the red zone (128 bytes
  * below the stack pointer) and SSE registers, no AVX: an interrupt handler that makes a call saves
  * the SSE state first, and an interrupt that is not masked during a call leaves the red zone alone.
