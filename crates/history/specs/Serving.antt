@@ -7,14 +7,14 @@ use lib.ListN.{length, replicate}
 use lib.Seq.{sets}
 use Rattle.model.specs.declared.Opening.{Opening}
 use Rattle.model.specs.declared.Opening.the-variants.{Refused, Opened}
-use Rattle.model.specs.Tables.{Queue, queueOf, idle}
+use Rattle.model.specs.Tables.{Queue, queueOf, unused}
 use Rattle.model.specs.Calls.{openAs}
 use Rattle.model.specs.History.{Request, run, final, Linearized, NeverUnsound, NoSlotTrue}
 use Rattle.history.specs.Words.{requestsOf, repliesOf, room}
 
--- Before the opening: the lent tables as they are, control zero, sixteen idle records.
+-- Before the opening: the lent tables as they are, control zero, sixteen unused records.
 abbrev pub unopened : List ℕ → List ℕ → List ℕ → List ℕ → List ℕ → Queue
-unopened = queueOf (record { tasks = 0; slots = 0; anchor = 0; retries = 0; pooled = 0; head = 0 }) (replicate 16 idle)
+unopened = queueOf (record { tasks = 0; slots = 0; anchor = 0; pooled = 0; head = 0 }) (replicate 16 unused)
 
 -- A queue, and the lent memory of the replies.
 pub record State : Type 0 where
