@@ -16,6 +16,7 @@ use Rattle.model.specs.History.{Request, run, final, NoSlotTrue}
 use Rattle.model.proofs.Linearizable.{linearizable}
 use Rattle.model.proofs.NeverUnsound.{never-unsound}
 use Rattle.model.proofs.NoSlot.{no-slot-right}
+use Rattle.model.proofs.Retries.{retries-sum}
 use Rattle.calls.specs.Opening.{OpenedParts, openTables, whole}
 use Rattle.calls.proofs.Parts.{open-parts, clear-fits}
 use Rattle.history.specs.Words.{requestsOf, requestsFrom, repliesOf}
@@ -61,6 +62,7 @@ module _ (pooled : Bool) (tasks slots tag : ℕ) (words : List ℕ) (before afte
       answers = ap (λ (x : State). x .replies) s;
       linearized = linearizable pooled (before .queue) tasks slots tag (sym e) (requestsOf count words);
       sound = never-unsound pooled (before .queue) tasks slots tag (sym e) (requestsOf count words);
+      counts = retries-sum pooled (before .queue) tasks slots tag (sym e) (requestsOf count words);
       truthful = λ p os left h. truthful os (sym e) p;
     },
   )

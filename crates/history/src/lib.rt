@@ -1,8 +1,8 @@
 //! A queue opened in lent tables, and a list of operations carried out on it from lent memory.
 //!
 //! What `serve` answers and leaves is `run` and `final` of just that list (`specs/History.antt` of `model`),
-//! so its contract states the theorems on histories of running code: demand 3, that 34 never occurs, and that
-//! *no slot* is answered only where every slot is in use.
+//! so its contract states the theorems on histories of running code: demand 3, that 34 never occurs, that the
+//! tasks' counts add up to the failed changes, and that *no slot* is answered only where every slot is in use.
 mod reply;
 mod request;
 mod turn;
