@@ -25,7 +25,6 @@ use ghost.Atoms.{Atoms, sem}
 use types.Kit.{Given, Item, ‵, nth, put, ⋆, Post, runs, lands, Step, _$_, _∵_, !, qed, move, keep, use1, fsplit, done}
 use types.Run.{Opd, Rv, Writes, look, init, stop, fld, from, load, assigns, land}
 use types.Part.{Part, whole, sub, look-in}
-use denote.Laws.{Is}
 use denote.Ref.{RefT}
 use denote.RattleType.{RattleType}
 use denote.Slice.{sliceVal, MutSlice, finally, res-finally, codedHoleys, heres}
