@@ -69,7 +69,8 @@ module _ {M : Type 1} (𝓤 : URA M) (H : Heap 𝓤) (A : Atoms 𝓤) (mem : Mem
   abbrev to-admit : Admit 𝓤 H A mem run .Ghost
   to-admit = ((tt, tt, tt, asked, (control-value c ∷ [], (word n, (word task, (word (ls .0), (word (ls .1 .0), (word (ls .1 .1 .0), (word (ls .1 .1 .1 .0), (word (ls .1 .1 .1 .1 .0), tt))))))))), tt)
 
-  goes-admit : (W : Given 𝓤 H A) → Is K.the-row c (control-value c ∷ []) → n < 2 ^ 64 → task < 2 ^ 64 → Small ls → ent 𝓤 (⋆ 𝓤 H A (‵ ftrue ∷ [])) (Admit 𝓤 H A mem run .pre to-admit)
+  goes-admit : (W : Given 𝓤 H A) → Is K.the-row c (control-value c ∷ []) → n < 2 ^ 64 → task < 2 ^ 64 → Small ls
+      → ent 𝓤 (⋆ 𝓤 H A (‵ ftrue ∷ [])) (Admit 𝓤 H A mem run .pre to-admit)
   goes-admit W gc fits task-fits small =
       qed W (‵ ftrue ∷ []) ∵ nothing ! $
       owned ! usize (Is usize) (uint-makes 𝓤 H A W w64) (ls .1 .1 .1 .1 .0) _ (refl, small .4) $ fjoin ! $
@@ -82,20 +83,24 @@ module _ {M : Type 1} (𝓤 : URA M) (H : Heap 𝓤) (A : Atoms 𝓤) (mem : Mem
       owned ! K.the-row (Is K.the-row) (LL.makes K.the-type K′.the-plain 𝓤 H A) c _ gc $ fjoin ! $ move ! (1 ∷ 0 ∷ []) $ join ! $ frame ! $ done !
 
 module _ {M : Type 1} {𝓤 : URA M} {H : Heap 𝓤} {A : Atoms 𝓤} {G : Type 0} {W : Given 𝓤 H A} {Γ : List (Item 𝓤)} {En : Env 𝓤 H} {C : Calls 𝓤 H} {Λ : Loops 𝓤 H} {q : PostOf 𝓤 H} where
-  pub admits : G → (mem : Memory → SProp 𝓤) (run : Routine → Fun 𝓤) (c : Control) (n task : ℕ) (ls : Five ℕ) {name : Name} {os : List Operand} {d : Place} {rest : Body}
+  pub admits : G
+      → (mem : Memory → SProp 𝓤) (run : Routine → Fun 𝓤) (c : Control) (n task : ℕ) (ls : Five ℕ) {name : Name} {os : List Operand} {d : Place} {rest : Body}
       → FmC 𝓤 H (W .laws) C → Triple 𝓤 (C name) (Admit 𝓤 H A mem run) → Is K.the-row c (control-value c ∷ []) → n < 2 ^ 64 → task < 2 ^ 64 → Small ls
       → Opds G W (raw (Admit 𝓤 H A mem run .pre (to-admit 𝓤 H A mem run c n task ls)) ∷ Γ) En os (Admit 𝓤 H A mem run .args (to-admit 𝓤 H A mem run c n task ls))
       → ((w : Val) (why : ℕ) → why ≡ reason c n task ls → Is u32 why (w ∷ []) → Seq G W Γ (lands C Λ En d w rest q))
       → Seq G W Γ (runs C Λ En (seq (call name os d) rest) q)
   admits t mem run c n task ls fm known gc fits task-fits small os k =
-      nothing t $ use1 W (raw (Admit 𝓤 H A mem run .pre (to-admit 𝓤 H A mem run c n task ls))) (goes-admit 𝓤 H A mem run c n task ls W gc fits task-fits small) $
+      nothing t $ use1 W (raw (Admit 𝓤 H A mem run .pre (to-admit 𝓤 H A mem run c n task ls)))
+      (goes-admit 𝓤 H A mem run c n task ls W gc fits task-fits small) $
       calls-at t fm (Admit 𝓤 H A mem run) known (to-admit 𝓤 H A mem run c n task ls) os (λ w.
       use1 W (later (some (λ (why : ℕ). (‵ ftrue ⊛ ‵ (u32 .own why (w ∷ []))) ⊛ raw (ensured 𝓤 H A admit.ended (admit.clauses 𝓤 H A mem run) tt (asked 𝓤 H A mem run c n task ls) tt why)))) (id⊢ 𝓤 _) $
       await t tt $ pick t (λ why.
-      split t $ move t (1 ∷ []) $ use1 W (some (λ (us : Lasts). ‵ (lasts admit.ended tt (asked 𝓤 H A mem run c n task ls) us) ⊛ raw (fact 𝓤 (why ≡ reason c n task ls)))) (id⊢ 𝓤 _) $
+      split t $ move t (1 ∷ []) $
+      use1 W (some (λ (us : Lasts). ‵ (lasts admit.ended tt (asked 𝓤 H A mem run c n task ls) us) ⊛ raw (fact 𝓤 (why ≡ reason c n task ls)))) (id⊢ 𝓤 _) $
       pick t (λ us.
       split t $ move t (1 ∷ []) $ heard t (why ≡ reason c n task ls) (λ e.
-      fsplit t $ drop t $ fsplit t $ drop t $ fsplit t $ drop t $ fsplit t $ drop t $ fsplit t $ drop t $ fsplit t $ drop t $ fsplit t $ drop t $ fsplit t $ drop t $ drop t $
+      fsplit t $ drop t $ fsplit t $ drop t $ fsplit t $ drop t $ fsplit t $ drop t $ fsplit t $ drop t $ fsplit t $ drop t $ fsplit t $ drop t $
+      fsplit t $ drop t $ drop t $
       split t $ move t (1 ∷ []) $ facts t u32 (Is u32) (shows 𝓤 H A u32) why (w ∷ []) (λ is. drop t $ k w why e is)))))
 
 -- ---- the refusal
@@ -108,7 +113,8 @@ module _ {M : Type 1} (𝓤 : URA M) (H : Heap 𝓤) (A : Atoms 𝓤) (mem : Mem
 
   goes-refuse : (W : Given 𝓤 H A) → why < 2 ^ 32 → ent 𝓤 (⋆ 𝓤 H A (‵ ftrue ∷ [])) (Refuse 𝓤 H A mem run .pre to-refuse)
   goes-refuse W fits =
-      qed W (‵ ftrue ∷ []) ∵ nothing ! $ owned ! u32 (Is u32) (uint-makes 𝓤 H A W w32) why _ (refl, fits) $ fjoin ! $ move ! (1 ∷ 0 ∷ []) $ join ! $ frame ! $ done !
+      qed W (‵ ftrue ∷ []) ∵ nothing ! $ owned ! u32 (Is u32) (uint-makes 𝓤 H A W w32) why _ (refl, fits) $ fjoin ! $ move ! (1 ∷ 0 ∷ []) $ join ! $
+      frame ! $ done !
 
 module _ {M : Type 1} {𝓤 : URA M} {H : Heap 𝓤} {A : Atoms 𝓤} {G : Type 0} {W : Given 𝓤 H A} {Γ : List (Item 𝓤)} {En : Env 𝓤 H} {C : Calls 𝓤 H} {Λ : Loops 𝓤 H} {q : PostOf 𝓤 H} where
   pub refuses : G → (mem : Memory → SProp 𝓤) (run : Routine → Fun 𝓤) (why : ℕ) {name : Name} {os : List Operand} {d : Place} {rest : Body}
@@ -121,7 +127,8 @@ module _ {M : Type 1} {𝓤 : URA M} {H : Heap 𝓤} {A : Atoms 𝓤} {G : Type 
       calls-at t fm (Refuse 𝓤 H A mem run) known (to-refuse 𝓤 H A mem run why) os (λ w.
       use1 W (later (some (λ (o : Outcome). (‵ ftrue ⊛ ‵ (E.the-row .own o (w ∷ []))) ⊛ raw (ensured 𝓤 H A refuse.ended (refuse.clauses 𝓤 H A mem run) tt (why, tt) tt o)))) (id⊢ 𝓤 _) $
       await t tt $ pick t (λ o.
-      split t $ move t (1 ∷ []) $ use1 W (some (λ (us : Unit {0} × Unit {0}). ‵ (lasts refuse.ended tt (why, tt) us) ⊛ raw (fact 𝓤 (o ≡ Refused why)))) (id⊢ 𝓤 _) $
+      split t $ move t (1 ∷ []) $
+      use1 W (some (λ (us : Unit {0} × Unit {0}). ‵ (lasts refuse.ended tt (why, tt) us) ⊛ raw (fact 𝓤 (o ≡ Refused why)))) (id⊢ 𝓤 _) $
       pick t (λ us.
       split t $ move t (1 ∷ []) $ heard t (o ≡ Refused why) (λ e.
       fsplit t $ drop t $ drop t $

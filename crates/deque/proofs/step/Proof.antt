@@ -113,7 +113,8 @@ stayed = (
 )
 
 module _ {M : Type 1} (𝓤 : URA M) (H : Heap 𝓤) (A : Atoms 𝓤) (W : Given 𝓤 H A) (at-mem : Memory → SProp 𝓤) (run : Routine → Fun 𝓤)
-    (κc κr κ1 κ2 κ3 κ4 κ5 : Lft) (qc qr q1 q2 q3 q4 q5 : Share) (xc : RefT Control) (xr : RefT (List TaskRecord)) (task : ℕ) (task-fits : task < 2 ^ 64) (x1 x2 x3 x4 x5 : RefT (List ℕ)) where
+    (κc κr κ1 κ2 κ3 κ4 κ5 : Lft) (qc qr q1 q2 q3 q4 q5 : Share) (xc : RefT Control) (xr : RefT (List TaskRecord)) (task : ℕ) (task-fits : task < 2 ^ 64)
+    (x1 x2 x3 x4 x5 : RefT (List ℕ)) where
   -- what is lent, at entry
   abbrev c : Control
   c = xc .now
@@ -201,15 +202,18 @@ module _ {M : Type 1} (𝓤 : URA M) (H : Heap 𝓤) (A : Atoms 𝓤) (W : Given
 
   abbrev leaving : Control → List TaskRecord → Five (List ℕ) → List (Item 𝓤)
   leaving z zr ls =
-      ‵ (MutRef (named 0) κc K.the-row .own (kept xc z) (pc ∷ [])) ∷ ‵ (MutSlice (named 1) κr T.the-row .own (kept xr zr) (s ∷ [])) ∷ ‵ (flft κc qc) ∷ ‵ (flft κr qr) ∷ returned 𝓤 κs qs xs ls []
+      ‵ (MutRef (named 0) κc K.the-row .own (kept xc z) (pc ∷ [])) ∷ ‵ (MutSlice (named 1) κr T.the-row .own (kept xr zr) (s ∷ [])) ∷ ‵ (flft κc qc) ∷ ‵
+      (flft κr qr) ∷ returned 𝓤 κs qs xs ls []
 
   -- out of the function, at what is lent then holds
-  exits : (r′ : Outcome) (w : Val) (z : Control) (zr : List TaskRecord) (ls : Five (List ℕ)) → Said r′ z zr ls → length zr ≡ n → Lengths xs ls → Is E.the-row r′ (w ∷ [])
+  exits : (r′ : Outcome) (w : Val) (z : Control) (zr : List TaskRecord) (ls : Five (List ℕ)) → Said r′ z zr ls → length zr ≡ n → Lengths xs ls
+      → Is E.the-row r′ (w ∷ [])
       → ent 𝓤 (⋆ 𝓤 H A (leaving z zr ls)) (Post w)
   exits r′ w z zr ls e e0 eqs g =
       qed W (leaving z zr ls) ∵
       suffices ! _ (ends-at 𝓤 H A self.ended stayed (self.clauses 𝓤 H A at-mem run) W bound w r′ (z, (zr, (tt, ls))) (tt, (e0, (tt, (eqs .0, (eqs .1, (eqs .2, (eqs .3, (eqs .4, tt))))))))) $
-      says ! e $ move ! (3 ∷ 4 ∷ []) $ join ! $ move ! (3 ∷ 0 ∷ []) $ join ! $ frame ! $ nothing ! $ move ! (3 ∷ 0 ∷ []) $ fjoin ! $ move ! (3 ∷ 0 ∷ []) $ fjoin ! $ move ! (3 ∷ 0 ∷ []) $ fjoin ! $
+      says ! e $ move ! (3 ∷ 4 ∷ []) $ join ! $ move ! (3 ∷ 0 ∷ []) $ join ! $ frame ! $ nothing ! $ move ! (3 ∷ 0 ∷ []) $ fjoin ! $ move ! (3 ∷ 0 ∷ []) $
+      fjoin ! $ move ! (3 ∷ 0 ∷ []) $ fjoin ! $
       move ! (3 ∷ 0 ∷ []) $ fjoin ! $ move ! (3 ∷ 0 ∷ []) $ fjoin ! $ owned ! usize (Is usize) (uint-makes 𝓤 H A W w64) task _ (refl, task-fits) $ fjoin ! $
       move ! (2 ∷ 0 ∷ []) $ fjoin ! $ move ! (1 ∷ 0 ∷ []) $ fjoin ! $
       owned ! E.the-row (Is E.the-row) (EL.makes E.the-type E′.the-plain 𝓤 H A) r′ _ g $ move ! (1 ∷ 0 ∷ []) $ done !
@@ -217,35 +221,44 @@ module _ {M : Type 1} (𝓤 : URA M) (H : Heap 𝓤) (A : Atoms 𝓤) (W : Given
   -- the locals' cells once all is stored
   abbrev held : ℕ → Stepped → List Cell
   held why m =
-      full (outcome-value (m .outcome)) ∷ full pc ∷ full s ∷ full (vint w64 task) ∷ full (slice-value x1) ∷ full (slice-value x2) ∷ full (slice-value x3) ∷ full (slice-value x4) ∷ full (slice-value x5)
+      full (outcome-value (m .outcome)) ∷ full pc ∷ full s ∷ full (vint w64 task) ∷ full (slice-value x1) ∷ full (slice-value x2) ∷ full
+      (slice-value x3) ∷ full (slice-value x4) ∷ full (slice-value x5)
       ∷ full (vint w64 n) ∷ full (control-value c) ∷ full (vint w32 why) ∷ full pr ∷ full (record-value r) ∷ full (LL.val N.the-type N′.the-laws m)
-      ∷ full (vint w64 (task * 80)) ∷ full (vint w64 (length (x2 .now))) ∷ full (vint w64 (length (x3 .now))) ∷ full (vint w64 (length (x4 .now))) ∷ full (vint w64 (length (x5 .now)))
+      ∷ full (vint w64 (task * 80)) ∷ full (vint w64 (length (x2 .now))) ∷ full (vint w64 (length (x3 .now))) ∷ full (vint w64 (length (x4 .now))) ∷ full
+      (vint w64 (length (x5 .now)))
       ∷ full (vbool (not (eqb why 0))) ∷ full pr
-      ∷ full (vptr (x1 .ptr .0) (x1 .ptr .1)) ∷ full (slice-value x1) ∷ full (vptr (x2 .ptr .0) (x2 .ptr .1)) ∷ full (slice-value x2) ∷ full (vptr (x3 .ptr .0) (x3 .ptr .1)) ∷ full (slice-value x3)
+      ∷ full (vptr (x1 .ptr .0) (x1 .ptr .1)) ∷ full (slice-value x1) ∷ full (vptr (x2 .ptr .0) (x2 .ptr .1)) ∷ full (slice-value x2) ∷ full
+      (vptr (x3 .ptr .0) (x3 .ptr .1)) ∷ full (slice-value x3)
       ∷ full (vptr (x4 .ptr .0) (x4 .ptr .1)) ∷ full (slice-value x4) ∷ full (vptr (x5 .ptr .0) (x5 .ptr .1)) ∷ full (slice-value x5)
       ∷ []
 
   module _ (C : Calls 𝓤 H) (Λ : Loops 𝓤 H) where
     module _ (fm : FmC 𝓤 H (W .laws) C) (known-admit : Triple 𝓤 (C #engine·admit) (Admit 𝓤 H A at-mem run)) (known-refuse : Triple 𝓤 (C #engine·refuse) (Refuse 𝓤 H A at-mem run))
         (known : Triple 𝓤 (C #deque·move-on) (Move 𝓤 H A moveOn)) where
-      walk : Room T.the-row n → Room u64 (length (x1 .now)) → Room u64 (length (x2 .now)) → Room u32 (length (x3 .now)) → Room u64 (length (x4 .now)) → Room u64 (length (x5 .now))
+      walk : Room T.the-row n → Room u64 (length (x1 .now)) → Room u64 (length (x2 .now)) → Room u32 (length (x3 .now)) → Room u64 (length (x4 .now))
+          → Room u64 (length (x5 .now))
           → ent 𝓤 (onEntry 𝓤 H A self.signature (κc, (κr, κs)) (qc, (qr, qs)) a vals) (WpFn 𝓤 H C Λ code.function (pc ∷ s ∷ vint w64 task ∷ slice-value x1 ∷ slice-value x2 ∷ slice-value x3 ∷ slice-value x4 ∷ slice-value x5 ∷ []) Post)
       walk room room1 room2 room3 room4 room5 =
           qed W lent ∵
           enter ! C Λ code.function (pc ∷ s ∷ vint w64 task ∷ slice-value x1 ∷ slice-value x2 ∷ slice-value x3 ∷ slice-value x4 ∷ slice-value x5 ∷ []) _ $
           allocates ! (λ bs. params1 ! $
-          pass1 ! (init ! 2 refl (tt, tt)) $ pass1 ! (init ! 4 refl (tt, (tt, (record { fits = room .0 }, tt)))) $ pass1 ! (init ! 6 refl (tt, record { fits = task-fits })) $
+          pass1 ! (init ! 2 refl (tt, tt)) $ pass1 ! (init ! 4 refl (tt, (tt, (record { fits = room .0 }, tt)))) $
+          pass1 ! (init ! 6 refl (tt, record { fits = task-fits })) $
           pass1 ! (init ! 8 refl (tt, (tt, (record { fits = room1 .0 }, tt)))) $ pass1 ! (init ! 10 refl (tt, (tt, (record { fits = room2 .0 }, tt)))) $
-          pass1 ! (init ! 12 refl (tt, (tt, (record { fits = room3 .0 }, tt)))) $ pass1 ! (init ! 14 refl (tt, (tt, (record { fits = room4 .0 }, tt)))) $ pass1 ! (init ! 16 refl (tt, (tt, (record { fits = room5 .0 }, tt)))) $ pass0 ! $
+          pass1 ! (init ! 12 refl (tt, (tt, (record { fits = room3 .0 }, tt)))) $ pass1 ! (init ! 14 refl (tt, (tt, (record { fits = room4 .0 }, tt)))) $
+          pass1 ! (init ! 16 refl (tt, (tt, (record { fits = room5 .0 }, tt)))) $ pass0 ! $
           -- the control is opened
           move ! (65 ∷ []) $ fsplit ! $ fsplit3 ! $ drop ! $
           move ! (67 ∷ []) $ split ! $
           move ! (2 ∷ 3 ∷ 0 ∷ []) $
-          opens ! tt K.the-row {h = c} (xc .ptr .0) (xc .ptr .1) (λ vK. spelt ! K.the-row (Is K.the-row) (shows 𝓤 H A K.the-row) (LL.vals K.the-type K′.the-laws) (LL.tells K.the-type K′.the-laws) fullShare c vK (xc .ptr .0) (xc .ptr .1) $
+          opens ! tt K.the-row {h = c} (xc .ptr .0) (xc .ptr .1)
+          (λ vK. spelt ! K.the-row (Is K.the-row) (shows 𝓤 H A K.the-row) (LL.vals K.the-type K′.the-laws) (LL.tells K.the-type K′.the-laws) fullShare c vK
+          (xc .ptr .0) (xc .ptr .1) $
           move ! (1 ∷ []) $ facts ! K.the-row (Is K.the-row) (shows 𝓤 H A K.the-row) c (control-value c ∷ []) (λ gc.
           -- [cellc; oborc; obsc; authc; toks; rest; local i at position 6 + 2 i]
           lets ! (of-opd ! (part ! 10 1 refl refl refl)) (init ! 24 refl (tt, record { fits = room .0 })) $
-          lets ! (of-opd ! (load ! (from ! (hop ! (look ! 8 refl) (stop !))) (look-raw ! 0 refl))) (init ! 26 refl (LL.lawful K.the-type K′.the-laws 𝓤 H A W .typed c _ gc .0)) $
+          lets ! (of-opd ! (load ! (from ! (hop ! (look ! 8 refl) (stop !))) (look-raw ! 0 refl)))
+          (init ! 26 refl (LL.lawful K.the-type K′.the-laws 𝓤 H A W .typed c _ gc .0)) $
           lets ! (of-opd ! (part ! 14 1 refl refl refl)) (init ! 36 refl (tt, record { fits = room1 .0 })) $
           lets ! (of-opd ! (part ! 16 1 refl refl refl)) (init ! 38 refl (tt, record { fits = room2 .0 })) $
           lets ! (of-opd ! (part ! 18 1 refl refl refl)) (init ! 40 refl (tt, record { fits = room3 .0 })) $
@@ -286,24 +299,32 @@ module _ {M : Type 1} (𝓤 : URA M) (H : Heap 𝓤) (A : Atoms 𝓤) (W : Given
           move ! (7 ∷ []) $ split ! $
           move ! (3 ∷ 4 ∷ 0 ∷ []) $
           opens-slice ! tt T.the-row rs (xr .ptr .0) (xr .ptr .1) $
-          elem-out ! T.the-row (Is T.the-row) (shows 𝓤 H A T.the-row) (LL.vals T.the-type T′.the-laws) (LL.tells T.the-type T′.the-laws) fullShare rs task unused (xr .ptr .0) (xr .ptr .1) here (λ g.
+          elem-out ! T.the-row (Is T.the-row) (shows 𝓤 H A T.the-row) (LL.vals T.the-type T′.the-laws)
+          (LL.tells T.the-type T′.the-laws) fullShare rs task unused (xr .ptr .0) (xr .ptr .1) here (λ g.
           move ! (1 ∷ []) $ drop ! $
           -- [cell; others; obor; obs; auth; toks1; rest; cellc; oborc; obsc; authc; local i at position 11 + 2 i]
-          lets ! (bin ! (var ! 17 refl) (lit ! tt) (record { fits = fits-scaled (room .1) here })) (store ! 41 refl (tt, record { fits = fits-scaled (room .1) here })) $
+          lets ! (bin ! (var ! 17 refl) (lit ! tt) (record { fits = fits-scaled (room .1) here }))
+          (store ! 41 refl (tt, record { fits = fits-scaled (room .1) here })) $
           lets ! (valued ! (ap (vptr (xr .ptr .0)) (sym (place-is (mem T.the-row .size) (xr .ptr .1) task))) (bin ! (part ! 15 0 refl refl refl) (var ! 41 refl) tt)) (init ! 53 refl (tt, tt)) $
           lets ! (addr ! (from ! (hop ! (look ! 53 refl) (stop !)))) (init ! 35 refl (tt, tt)) $
-          lets ! (of-opd ! (load ! (from ! (hop ! (look ! 35 refl) (stop !))) (look-raw ! 0 refl))) (init ! 37 refl (LL.lawful T.the-type T′.the-laws 𝓤 H A W .typed r _ g .0)) $
+          lets ! (of-opd ! (load ! (from ! (hop ! (look ! 35 refl) (stop !))) (look-raw ! 0 refl)))
+          (init ! 37 refl (LL.lawful T.the-type T′.the-laws 𝓤 H A W .typed r _ g .0)) $
           -- the tables are lent on
           lets ! (addr ! (from ! (fld ! refl (hop ! (look-in ! 19 (sub ! 0 refl (whole !))) (stop !))))) (init ! 55 refl (tt, tt)) $
-          lets ! (agg ! (and-then ! (var ! 55 refl) (and-then ! (part ! 19 1 refl refl refl) (no-more !)))) (init ! 57 refl (tt, (tt, (record { fits = room1 .0 }, tt)))) $
+          lets ! (agg ! (and-then ! (var ! 55 refl) (and-then ! (part ! 19 1 refl refl refl) (no-more !))))
+          (init ! 57 refl (tt, (tt, (record { fits = room1 .0 }, tt)))) $
           lets ! (addr ! (from ! (fld ! refl (hop ! (look-in ! 21 (sub ! 0 refl (whole !))) (stop !))))) (init ! 59 refl (tt, tt)) $
-          lets ! (agg ! (and-then ! (var ! 59 refl) (and-then ! (part ! 21 1 refl refl refl) (no-more !)))) (init ! 61 refl (tt, (tt, (record { fits = room2 .0 }, tt)))) $
+          lets ! (agg ! (and-then ! (var ! 59 refl) (and-then ! (part ! 21 1 refl refl refl) (no-more !))))
+          (init ! 61 refl (tt, (tt, (record { fits = room2 .0 }, tt)))) $
           lets ! (addr ! (from ! (fld ! refl (hop ! (look-in ! 23 (sub ! 0 refl (whole !))) (stop !))))) (init ! 63 refl (tt, tt)) $
-          lets ! (agg ! (and-then ! (var ! 63 refl) (and-then ! (part ! 23 1 refl refl refl) (no-more !)))) (init ! 65 refl (tt, (tt, (record { fits = room3 .0 }, tt)))) $
+          lets ! (agg ! (and-then ! (var ! 63 refl) (and-then ! (part ! 23 1 refl refl refl) (no-more !))))
+          (init ! 65 refl (tt, (tt, (record { fits = room3 .0 }, tt)))) $
           lets ! (addr ! (from ! (fld ! refl (hop ! (look-in ! 25 (sub ! 0 refl (whole !))) (stop !))))) (init ! 67 refl (tt, tt)) $
-          lets ! (agg ! (and-then ! (var ! 67 refl) (and-then ! (part ! 25 1 refl refl refl) (no-more !)))) (init ! 69 refl (tt, (tt, (record { fits = room4 .0 }, tt)))) $
+          lets ! (agg ! (and-then ! (var ! 67 refl) (and-then ! (part ! 25 1 refl refl refl) (no-more !))))
+          (init ! 69 refl (tt, (tt, (record { fits = room4 .0 }, tt)))) $
           lets ! (addr ! (from ! (fld ! refl (hop ! (look-in ! 27 (sub ! 0 refl (whole !))) (stop !))))) (init ! 71 refl (tt, tt)) $
-          lets ! (agg ! (and-then ! (var ! 71 refl) (and-then ! (part ! 27 1 refl refl refl) (no-more !)))) (init ! 73 refl (tt, (tt, (record { fits = room5 .0 }, tt)))) $
+          lets ! (agg ! (and-then ! (var ! 71 refl) (and-then ! (part ! 27 1 refl refl refl) (no-more !))))
+          (init ! 73 refl (tt, (tt, (record { fits = room5 .0 }, tt)))) $
           -- the call
           move ! (5 ∷ 6 ∷ []) $
           moves ! moveOn κs qs c r xs fm known gc g
@@ -311,24 +332,30 @@ module _ {M : Type 1} (𝓤 : URA M) (H : Heap 𝓤) (A : Atoms 𝓤) (W : Given
           -- [toks1; fin5 to fin1; cell; others; obor; obs; auth; cellc; oborc; obsc; authc; local i at position 15 + 2 i]
           receive ! 43 refl (LL.lawful N.the-type N′.the-laws 𝓤 H A W .typed m _ is .0) (ap only (LL.tells N.the-type N′.the-laws m (w ∷ []) is)) $
           -- what comes back is stored
-          assigns ! (of-opd ! (part ! 43 0 refl refl refl)) (from ! (hop ! (look ! 17 refl) (stop !))) (store-raw ! 11 refl (LL.lawful K.the-type K′.the-laws 𝓤 H A W .typed (m .control) _ (control-of m is) .0)) $
-          assigns ! (of-opd ! (part ! 43 1 refl refl refl)) (from ! (hop ! (look ! 39 refl) (stop !))) (store-raw ! 6 refl (LL.lawful T.the-type T′.the-laws 𝓤 H A W .typed (m .task) _ (task-of m is) .0)) $
-          lets ! (of-opd ! (part ! 43 2 refl refl refl)) (init ! 15 refl (EL.lawful E.the-type E′.the-laws 𝓤 H A W tt .typed (m .outcome) _ (outcome-of m is) .0)) $
+          assigns ! (of-opd ! (part ! 43 0 refl refl refl)) (from ! (hop ! (look ! 17 refl) (stop !)))
+          (store-raw ! 11 refl (LL.lawful K.the-type K′.the-laws 𝓤 H A W .typed (m .control) _ (control-of m is) .0)) $
+          assigns ! (of-opd ! (part ! 43 1 refl refl refl)) (from ! (hop ! (look ! 39 refl) (stop !)))
+          (store-raw ! 6 refl (LL.lawful T.the-type T′.the-laws 𝓤 H A W .typed (m .task) _ (task-of m is) .0)) $
+          lets ! (of-opd ! (part ! 43 2 refl refl refl))
+          (init ! 15 refl (EL.lawful E.the-type E′.the-laws 𝓤 H A W tt .typed (m .outcome) _ (outcome-of m is) .0)) $
           -- the record is put back, the borrows are closed at what is stored, and the locals are freed
           (let same = length-set rs task (m .task) in
           owned ! T.the-row (Is T.the-row) (LL.makes T.the-type T′.the-plain 𝓤 H A) (m .task) _ (task-of m is) $
-          move ! (7 ∷ 0 ∷ 8 ∷ 9 ∷ 10 ∷ 11 ∷ []) $ elem-put ! T.the-row fullShare rs task (m .task) (record-value (m .task) ∷ []) (xr .ptr .0) (xr .ptr .1) here $
+          move ! (7 ∷ 0 ∷ 8 ∷ 9 ∷ 10 ∷ 11 ∷ []) $
+          elem-put ! T.the-row fullShare rs task (m .task) (record-value (m .task) ∷ []) (xr .ptr .0) (xr .ptr .1) here $
           closes-slice ! tt T.the-row rs (set rs task (m .task)) same (xr .ptr .0) (xr .ptr .1) $
           owned ! K.the-row (Is K.the-row) (LL.makes K.the-type K′.the-plain 𝓤 H A) (m .control) _ (control-of m is) $
           move ! (10 ∷ 0 ∷ 11 ∷ 12 ∷ 13 ∷ []) $ closes ! tt K.the-row (m .control) (control-value (m .control) ∷ []) (xc .ptr .0) (xc .ptr .1) $
           returns ! (look ! 12 refl) $ frees-all ! 12 (held why m) refl $
           move ! (3 ∷ 4 ∷ []) $ fjoin ! $
-          pureI ! (at-slice T.the-row (kept xr (set rs task (m .task))) (s ∷ [])) (tt, (tt, tt)) (ap (λ (k : ℕ). sliceVal (xr .ptr) k ∷ []) (sym same), subst (Room T.the-row) (sym same) room) $ fjoin ! $
+          pureI ! (at-slice T.the-row (kept xr (set rs task (m .task))) (s ∷ [])) (tt, (tt, tt))
+          (ap (λ (k : ℕ). sliceVal (xr .ptr) k ∷ []) (sym same), subst (Room T.the-row) (sym same) room) $ fjoin ! $
           move ! (1 ∷ 2 ∷ []) $ feqI ! (List Val) (pc ∷ []) (pc ∷ []) refl $ fjoin3 ! $
           by ! (exits (m .outcome) _ (m .control) (set rs task (m .task)) ls (moved m ls none e) same eqs (outcome-of m is)))))))))))
 
 module _ {M : Type 1} (𝓤 : URA M) (H : Heap 𝓤) (A : Atoms 𝓤) (W : Given 𝓤 H A) (mem : Memory → SProp 𝓤) (run : Routine → Fun 𝓤) where
-  self-walks : (C : Calls 𝓤 H) (Λ : Loops 𝓤 H) → FmC 𝓤 H (W .laws) C → Triple 𝓤 (C #engine·admit) (Admit 𝓤 H A mem run) → Triple 𝓤 (C #engine·refuse) (Refuse 𝓤 H A mem run)
+  self-walks : (C : Calls 𝓤 H) (Λ : Loops 𝓤 H) → FmC 𝓤 H (W .laws) C → Triple 𝓤 (C #engine·admit) (Admit 𝓤 H A mem run)
+      → Triple 𝓤 (C #engine·refuse) (Refuse 𝓤 H A mem run)
       → Triple 𝓤 (C #deque·move-on) (Move 𝓤 H A moveOn)
       → Walks 𝓤 H A self.ended stayed (WpFn 𝓤 H C Λ code.function) (self.clauses 𝓤 H A mem run)
   self-walks C Λ fm known-admit known-refuse known = walked 𝓤 H A self.ended stayed (self.clauses 𝓤 H A mem run) (WpFn 𝓤 H C Λ code.function)
@@ -353,8 +380,11 @@ module _ {M : Type 1} (𝓤 : URA M) (H : Heap 𝓤) (A : Atoms 𝓤) (W : Given
         ),
       ))
       (λ κs qs bounds a g are. via 𝓤 _ (fst∗ 𝓤 _ (emp 𝓤)) (walk 𝓤 H A W mem run
-      (κs .0) (κs .1 .0) (κs .1 .1 .0) (κs .1 .1 .1 .0) (κs .1 .1 .1 .1 .0) (κs .1 .1 .1 .1 .1 .0) (κs .1 .1 .1 .1 .1 .1 .0) (qs .0) (qs .1 .0) (qs .1 .1 .0) (qs .1 .1 .1 .0) (qs .1 .1 .1 .1 .0) (qs .1 .1 .1 .1 .1 .0) (qs .1 .1 .1 .1 .1 .1 .0) (a .0) (a .1 .0) (a .1 .1 .0) (are .1 .1 .0 .1) (a .1 .1 .1 .0) (a .1 .1 .1 .1 .0) (a .1 .1 .1 .1 .1 .0) (a .1 .1 .1 .1 .1 .1 .0) (a .1 .1 .1 .1 .1 .1 .1 .0)
-      C Λ fm known-admit known-refuse known (are .1 .0 .0 .1) (are .1 .1 .1 .0 .0 .1) (are .1 .1 .1 .1 .0 .0 .1) (are .1 .1 .1 .1 .1 .0 .0 .1) (are .1 .1 .1 .1 .1 .1 .0 .0 .1) (are .1 .1 .1 .1 .1 .1 .1 .0 .0 .1)))
+      (κs .0) (κs .1 .0) (κs .1 .1 .0) (κs .1 .1 .1 .0) (κs .1 .1 .1 .1 .0) (κs .1 .1 .1 .1 .1 .0) (κs .1 .1 .1 .1 .1 .1 .0) (qs .0) (qs .1 .0)
+      (qs .1 .1 .0) (qs .1 .1 .1 .0) (qs .1 .1 .1 .1 .0) (qs .1 .1 .1 .1 .1 .0) (qs .1 .1 .1 .1 .1 .1 .0) (a .0) (a .1 .0) (a .1 .1 .0) (are .1 .1 .0 .1)
+      (a .1 .1 .1 .0) (a .1 .1 .1 .1 .0) (a .1 .1 .1 .1 .1 .0) (a .1 .1 .1 .1 .1 .1 .0) (a .1 .1 .1 .1 .1 .1 .1 .0)
+      C Λ fm known-admit known-refuse known (are .1 .0 .0 .1) (are .1 .1 .1 .0 .0 .1) (are .1 .1 .1 .1 .0 .0 .1) (are .1 .1 .1 .1 .1 .0 .0 .1)
+      (are .1 .1 .1 .1 .1 .1 .0 .0 .1) (are .1 .1 .1 .1 .1 .1 .1 .0 .0 .1)))
 
 self-meets : {M : Type 1} (𝓤 : URA M) (H : Heap 𝓤) (A : Atoms 𝓤) → Given 𝓤 H A → (mem : Memory → SProp 𝓤) (run : Routine → Fun 𝓤) (𝓣 : Program 𝓤 H)
     → Triple 𝓤 (𝓣 .C #engine·admit) (Admit 𝓤 H A mem run) → Triple 𝓤 (𝓣 .C #engine·refuse) (Refuse 𝓤 H A mem run)
@@ -371,14 +401,16 @@ self-meets 𝓤 H A W mem run 𝓣 known-admit known-refuse known =
             goes-gave-slice 𝓤 H A W 7 2 tt (plain (λ _. u64)),
             (
               goes-gave-slice 𝓤 H A W 7 3 tt (plain (λ _. u64)),
-              (goes-gave-slice 𝓤 H A W 7 4 tt (plain (λ _. u32)), (goes-gave-slice 𝓤 H A W 7 5 tt (plain (λ _. u64)), (goes-gave-slice 𝓤 H A W 7 6 tt (plain (λ _. u64)), tt))),
+              (goes-gave-slice 𝓤 H A W 7 4 tt (plain (λ _. u32)),
+              (goes-gave-slice 𝓤 H A W 7 5 tt (plain (λ _. u64)), (goes-gave-slice 𝓤 H A W 7 6 tt (plain (λ _. u64)), tt))),
             ),
           ),
         ),
       ),
     )
     (self.clauses 𝓤 H A mem run)
-    (WpFn 𝓤 H (𝓣 .C) (𝓣 .Λ) code.function) (WpFn-mono 𝓤 H (W .laws) 𝓣 code.function) (self-walks 𝓤 H A W mem run (𝓣 .C) (𝓣 .Λ) (fmOf 𝓤 H (W .laws) 𝓣) known-admit known-refuse known)
+    (WpFn 𝓤 H (𝓣 .C) (𝓣 .Λ) code.function) (WpFn-mono 𝓤 H (W .laws) 𝓣 code.function)
+    (self-walks 𝓤 H A W mem run (𝓣 .C) (𝓣 .Λ) (fmOf 𝓤 H (W .laws) 𝓣) known-admit known-refuse known)
 
 pub step-spec : {M : Type 1} → stated.statement M
 unfolding code.routine tablesOf
