@@ -401,8 +401,10 @@ self-meets 𝓤 H A W mem run 𝓣 known-admit known-refuse known =
             goes-gave-slice 𝓤 H A W 7 2 tt (plain (λ _. u64)),
             (
               goes-gave-slice 𝓤 H A W 7 3 tt (plain (λ _. u64)),
-              (goes-gave-slice 𝓤 H A W 7 4 tt (plain (λ _. u32)),
-              (goes-gave-slice 𝓤 H A W 7 5 tt (plain (λ _. u64)), (goes-gave-slice 𝓤 H A W 7 6 tt (plain (λ _. u64)), tt))),
+              (
+                goes-gave-slice 𝓤 H A W 7 4 tt (plain (λ _. u32)),
+                (goes-gave-slice 𝓤 H A W 7 5 tt (plain (λ _. u64)), (goes-gave-slice 𝓤 H A W 7 6 tt (plain (λ _. u64)), tt)),
+              ),
             ),
           ),
         ),
