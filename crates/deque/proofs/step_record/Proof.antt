@@ -128,14 +128,18 @@ module _ {M : Type 1} (𝓤 : URA M) (H : Heap 𝓤) (A : Atoms 𝓤) (W : Given
   -- the locals' cells once all is stored
   abbrev held : Stepped → List Cell
   held m =
-      full (outcome-value (m .outcome)) ∷ full pc ∷ full pr ∷ full (slice-value x1) ∷ full (slice-value x2) ∷ full (slice-value x3) ∷ full (slice-value x4) ∷ full (slice-value x5)
-      ∷ full (control-value c) ∷ full (record-value r) ∷ full (LL.val N.the-type N′.the-laws m) ∷ full (vptr (x1 .ptr .0) (x1 .ptr .1)) ∷ full (slice-value x1) ∷ full (vptr (x2 .ptr .0) (x2 .ptr .1)) ∷ full (slice-value x2)
-      ∷ full (vptr (x3 .ptr .0) (x3 .ptr .1)) ∷ full (slice-value x3) ∷ full (vptr (x4 .ptr .0) (x4 .ptr .1)) ∷ full (slice-value x4) ∷ full (vptr (x5 .ptr .0) (x5 .ptr .1)) ∷ full (slice-value x5)
+      full (outcome-value (m .outcome)) ∷ full pc ∷ full pr ∷ full (slice-value x1) ∷ full (slice-value x2) ∷ full (slice-value x3) ∷ full
+      (slice-value x4) ∷ full (slice-value x5)
+      ∷ full (control-value c) ∷ full (record-value r) ∷ full (LL.val N.the-type N′.the-laws m) ∷ full (vptr (x1 .ptr .0) (x1 .ptr .1)) ∷ full
+      (slice-value x1) ∷ full (vptr (x2 .ptr .0) (x2 .ptr .1)) ∷ full (slice-value x2)
+      ∷ full (vptr (x3 .ptr .0) (x3 .ptr .1)) ∷ full (slice-value x3) ∷ full (vptr (x4 .ptr .0) (x4 .ptr .1)) ∷ full (slice-value x4) ∷ full
+      (vptr (x5 .ptr .0) (x5 .ptr .1)) ∷ full (slice-value x5)
       ∷ []
 
   module _ (C : Calls 𝓤 H) (Λ : Loops 𝓤 H) where
     module _ (fm : FmC 𝓤 H (W .laws) C) (known : Triple 𝓤 (C #deque·step-alone) (Move 𝓤 H A stepLent)) where
-      walk : Room u64 (length (x1 .now)) → Room u64 (length (x2 .now)) → Room u32 (length (x3 .now)) → Room u64 (length (x4 .now)) → Room u64 (length (x5 .now))
+      walk : Room u64 (length (x1 .now)) → Room u64 (length (x2 .now)) → Room u32 (length (x3 .now)) → Room u64 (length (x4 .now))
+          → Room u64 (length (x5 .now))
           → ent 𝓤 (onEntry 𝓤 H A self.signature (κc, (κr, κs)) (qc, (qr, qs)) a vals) (WpFn 𝓤 H C Λ code.function (pc ∷ pr ∷ slice-value x1 ∷ slice-value x2 ∷ slice-value x3 ∷ slice-value x4 ∷ slice-value x5 ∷ []) Post)
       walk room1 room2 room3 room4 room5 =
           qed W lent ∵
@@ -143,32 +147,44 @@ module _ {M : Type 1} (𝓤 : URA M) (H : Heap 𝓤) (A : Atoms 𝓤) (W : Given
           allocates ! (λ bs. params1 ! $
           pass1 ! (init ! 2 refl (tt, tt)) $ pass1 ! (init ! 4 refl (tt, tt)) $ pass1 ! (init ! 6 refl (tt, (tt, (record { fits = room1 .0 }, tt)))) $
           pass1 ! (init ! 8 refl (tt, (tt, (record { fits = room2 .0 }, tt)))) $ pass1 ! (init ! 10 refl (tt, (tt, (record { fits = room3 .0 }, tt)))) $
-          pass1 ! (init ! 12 refl (tt, (tt, (record { fits = room4 .0 }, tt)))) $ pass1 ! (init ! 14 refl (tt, (tt, (record { fits = room5 .0 }, tt)))) $ pass0 ! $
+          pass1 ! (init ! 12 refl (tt, (tt, (record { fits = room4 .0 }, tt)))) $ pass1 ! (init ! 14 refl (tt, (tt, (record { fits = room5 .0 }, tt)))) $
+          pass0 ! $
           -- the control is opened
           move ! (43 ∷ []) $ fsplit ! $ fsplit3 ! $ drop ! $
           move ! (45 ∷ []) $ split ! $
           move ! (2 ∷ 3 ∷ 0 ∷ []) $
-          opens ! tt K.the-row {h = c} (xc .ptr .0) (xc .ptr .1) (λ vK. spelt ! K.the-row (Is K.the-row) (shows 𝓤 H A K.the-row) (LL.vals K.the-type K′.the-laws) (LL.tells K.the-type K′.the-laws) fullShare c vK (xc .ptr .0) (xc .ptr .1) $
+          opens ! tt K.the-row {h = c} (xc .ptr .0) (xc .ptr .1)
+          (λ vK. spelt ! K.the-row (Is K.the-row) (shows 𝓤 H A K.the-row) (LL.vals K.the-type K′.the-laws) (LL.tells K.the-type K′.the-laws) fullShare c vK
+          (xc .ptr .0) (xc .ptr .1) $
           move ! (1 ∷ []) $ facts ! K.the-row (Is K.the-row) (shows 𝓤 H A K.the-row) c (control-value c ∷ []) (λ gc.
           -- the record is opened
           move ! (5 ∷ []) $ fsplit ! $ fsplit3 ! $ drop ! $
           move ! (7 ∷ []) $ split ! $
           move ! (2 ∷ 3 ∷ 0 ∷ []) $
-          opens ! tt T.the-row {h = r} (xr .ptr .0) (xr .ptr .1) (λ vT. spelt ! T.the-row (Is T.the-row) (shows 𝓤 H A T.the-row) (LL.vals T.the-type T′.the-laws) (LL.tells T.the-type T′.the-laws) fullShare r vT (xr .ptr .0) (xr .ptr .1) $
+          opens ! tt T.the-row {h = r} (xr .ptr .0) (xr .ptr .1)
+          (λ vT. spelt ! T.the-row (Is T.the-row) (shows 𝓤 H A T.the-row) (LL.vals T.the-type T′.the-laws) (LL.tells T.the-type T′.the-laws) fullShare r vT
+          (xr .ptr .0) (xr .ptr .1) $
           move ! (1 ∷ []) $ facts ! T.the-row (Is T.the-row) (shows 𝓤 H A T.the-row) r (record-value r ∷ []) (λ g.
           -- [cell; obor; obs; auth; toks1; rest; cellc; oborc; obsc; authc; local i at position 10 + 2 i]
-          lets ! (of-opd ! (load ! (from ! (hop ! (look ! 12 refl) (stop !))) (look-raw ! 6 refl))) (init ! 26 refl (LL.lawful K.the-type K′.the-laws 𝓤 H A W .typed c _ gc .0)) $
-          lets ! (of-opd ! (load ! (from ! (hop ! (look ! 14 refl) (stop !))) (look-raw ! 0 refl))) (init ! 28 refl (LL.lawful T.the-type T′.the-laws 𝓤 H A W .typed r _ g .0)) $
+          lets ! (of-opd ! (load ! (from ! (hop ! (look ! 12 refl) (stop !))) (look-raw ! 6 refl)))
+          (init ! 26 refl (LL.lawful K.the-type K′.the-laws 𝓤 H A W .typed c _ gc .0)) $
+          lets ! (of-opd ! (load ! (from ! (hop ! (look ! 14 refl) (stop !))) (look-raw ! 0 refl)))
+          (init ! 28 refl (LL.lawful T.the-type T′.the-laws 𝓤 H A W .typed r _ g .0)) $
           lets ! (addr ! (from ! (fld ! refl (hop ! (look-in ! 16 (sub ! 0 refl (whole !))) (stop !))))) (init ! 32 refl (tt, tt)) $
-          lets ! (agg ! (and-then ! (var ! 32 refl) (and-then ! (part ! 16 1 refl refl refl) (no-more !)))) (init ! 34 refl (tt, (tt, (record { fits = room1 .0 }, tt)))) $
+          lets ! (agg ! (and-then ! (var ! 32 refl) (and-then ! (part ! 16 1 refl refl refl) (no-more !))))
+          (init ! 34 refl (tt, (tt, (record { fits = room1 .0 }, tt)))) $
           lets ! (addr ! (from ! (fld ! refl (hop ! (look-in ! 18 (sub ! 0 refl (whole !))) (stop !))))) (init ! 36 refl (tt, tt)) $
-          lets ! (agg ! (and-then ! (var ! 36 refl) (and-then ! (part ! 18 1 refl refl refl) (no-more !)))) (init ! 38 refl (tt, (tt, (record { fits = room2 .0 }, tt)))) $
+          lets ! (agg ! (and-then ! (var ! 36 refl) (and-then ! (part ! 18 1 refl refl refl) (no-more !))))
+          (init ! 38 refl (tt, (tt, (record { fits = room2 .0 }, tt)))) $
           lets ! (addr ! (from ! (fld ! refl (hop ! (look-in ! 20 (sub ! 0 refl (whole !))) (stop !))))) (init ! 40 refl (tt, tt)) $
-          lets ! (agg ! (and-then ! (var ! 40 refl) (and-then ! (part ! 20 1 refl refl refl) (no-more !)))) (init ! 42 refl (tt, (tt, (record { fits = room3 .0 }, tt)))) $
+          lets ! (agg ! (and-then ! (var ! 40 refl) (and-then ! (part ! 20 1 refl refl refl) (no-more !))))
+          (init ! 42 refl (tt, (tt, (record { fits = room3 .0 }, tt)))) $
           lets ! (addr ! (from ! (fld ! refl (hop ! (look-in ! 22 (sub ! 0 refl (whole !))) (stop !))))) (init ! 44 refl (tt, tt)) $
-          lets ! (agg ! (and-then ! (var ! 44 refl) (and-then ! (part ! 22 1 refl refl refl) (no-more !)))) (init ! 46 refl (tt, (tt, (record { fits = room4 .0 }, tt)))) $
+          lets ! (agg ! (and-then ! (var ! 44 refl) (and-then ! (part ! 22 1 refl refl refl) (no-more !))))
+          (init ! 46 refl (tt, (tt, (record { fits = room4 .0 }, tt)))) $
           lets ! (addr ! (from ! (fld ! refl (hop ! (look-in ! 24 (sub ! 0 refl (whole !))) (stop !))))) (init ! 48 refl (tt, tt)) $
-          lets ! (agg ! (and-then ! (var ! 48 refl) (and-then ! (part ! 24 1 refl refl refl) (no-more !)))) (init ! 50 refl (tt, (tt, (record { fits = room5 .0 }, tt)))) $
+          lets ! (agg ! (and-then ! (var ! 48 refl) (and-then ! (part ! 24 1 refl refl refl) (no-more !))))
+          (init ! 50 refl (tt, (tt, (record { fits = room5 .0 }, tt)))) $
           -- the call
           move ! (4 ∷ 5 ∷ []) $
           moves ! stepLent κs qs c r xs fm known gc g
@@ -176,9 +192,12 @@ module _ {M : Type 1} (𝓤 : URA M) (H : Heap 𝓤) (A : Atoms 𝓤) (W : Given
           -- [toks1; fin5 to fin1; cell; obor; obs; auth; cellc; oborc; obsc; authc; local i at position 14 + 2 i]
           receive ! 34 refl (LL.lawful N.the-type N′.the-laws 𝓤 H A W .typed m _ is .0) (ap only (LL.tells N.the-type N′.the-laws m (w ∷ []) is)) $
           -- what comes back is stored
-          assigns ! (of-opd ! (part ! 34 0 refl refl refl)) (from ! (hop ! (look ! 16 refl) (stop !))) (store-raw ! 10 refl (LL.lawful K.the-type K′.the-laws 𝓤 H A W .typed (m .control) _ (control-of m is) .0)) $
-          assigns ! (of-opd ! (part ! 34 1 refl refl refl)) (from ! (hop ! (look ! 18 refl) (stop !))) (store-raw ! 6 refl (LL.lawful T.the-type T′.the-laws 𝓤 H A W .typed (m .task) _ (task-of m is) .0)) $
-          lets ! (of-opd ! (part ! 34 2 refl refl refl)) (init ! 14 refl (EL.lawful E.the-type E′.the-laws 𝓤 H A W tt .typed (m .outcome) _ (outcome-of m is) .0)) $
+          assigns ! (of-opd ! (part ! 34 0 refl refl refl)) (from ! (hop ! (look ! 16 refl) (stop !)))
+          (store-raw ! 10 refl (LL.lawful K.the-type K′.the-laws 𝓤 H A W .typed (m .control) _ (control-of m is) .0)) $
+          assigns ! (of-opd ! (part ! 34 1 refl refl refl)) (from ! (hop ! (look ! 18 refl) (stop !)))
+          (store-raw ! 6 refl (LL.lawful T.the-type T′.the-laws 𝓤 H A W .typed (m .task) _ (task-of m is) .0)) $
+          lets ! (of-opd ! (part ! 34 2 refl refl refl))
+          (init ! 14 refl (EL.lawful E.the-type E′.the-laws 𝓤 H A W tt .typed (m .outcome) _ (outcome-of m is) .0)) $
           -- the borrows are closed at that, and the locals are freed
           owned ! T.the-row (Is T.the-row) (LL.makes T.the-type T′.the-plain 𝓤 H A) (m .task) _ (task-of m is) $
           move ! (7 ∷ 0 ∷ 8 ∷ 9 ∷ 10 ∷ []) $ closes ! tt T.the-row (m .task) (record-value (m .task) ∷ []) (xr .ptr .0) (xr .ptr .1) $
@@ -189,7 +208,8 @@ module _ {M : Type 1} (𝓤 : URA M) (H : Heap 𝓤) (A : Atoms 𝓤) (W : Given
           move ! (1 ∷ 2 ∷ []) $ feqI ! (List Val) (pc ∷ []) (pc ∷ []) refl $ fjoin3 ! $
           -- [control; record; lftc; lftr; toks1; fin5 to fin1]
           suffices ! _ (ends-at 𝓤 H A self.ended stayed (self.clauses 𝓤 H A at-mem run) W bound _ (m .outcome) (m .control, (m .task, ls)) (tt, (tt, (eqs .0, (eqs .1, (eqs .2, (eqs .3, (eqs .4, tt)))))))) $
-          says ! e $ move ! (3 ∷ 4 ∷ []) $ join ! $ move ! (3 ∷ 0 ∷ []) $ join ! $ frame ! $ nothing ! $ move ! (3 ∷ 0 ∷ []) $ fjoin ! $ move ! (3 ∷ 0 ∷ []) $ fjoin ! $ move ! (3 ∷ 0 ∷ []) $ fjoin ! $
+          says ! e $ move ! (3 ∷ 4 ∷ []) $ join ! $ move ! (3 ∷ 0 ∷ []) $ join ! $ frame ! $ nothing ! $ move ! (3 ∷ 0 ∷ []) $ fjoin ! $
+          move ! (3 ∷ 0 ∷ []) $ fjoin ! $ move ! (3 ∷ 0 ∷ []) $ fjoin ! $
           move ! (3 ∷ 0 ∷ []) $ fjoin ! $ move ! (3 ∷ 0 ∷ []) $ fjoin ! $ move ! (2 ∷ 0 ∷ []) $ fjoin ! $ move ! (1 ∷ 0 ∷ []) $ fjoin ! $
           owned ! E.the-row (Is E.the-row) (EL.makes E.the-type E′.the-plain 𝓤 H A) (m .outcome) _ (outcome-of m is) $ move ! (1 ∷ 0 ∷ []) $ done !))))))
 
@@ -215,7 +235,9 @@ module _ {M : Type 1} (𝓤 : URA M) (H : Heap 𝓤) (A : Atoms 𝓤) (W : Given
         ),
       ))
       (λ κs qs bounds a g are. via 𝓤 _ (fst∗ 𝓤 _ (emp 𝓤)) (walk 𝓤 H A W mem run
-      (κs .0) (κs .1 .0) (κs .1 .1 .0) (κs .1 .1 .1 .0) (κs .1 .1 .1 .1 .0) (κs .1 .1 .1 .1 .1 .0) (κs .1 .1 .1 .1 .1 .1 .0) (qs .0) (qs .1 .0) (qs .1 .1 .0) (qs .1 .1 .1 .0) (qs .1 .1 .1 .1 .0) (qs .1 .1 .1 .1 .1 .0) (qs .1 .1 .1 .1 .1 .1 .0) (a .0) (a .1 .0) (a .1 .1 .0) (a .1 .1 .1 .0) (a .1 .1 .1 .1 .0) (a .1 .1 .1 .1 .1 .0) (a .1 .1 .1 .1 .1 .1 .0)
+      (κs .0) (κs .1 .0) (κs .1 .1 .0) (κs .1 .1 .1 .0) (κs .1 .1 .1 .1 .0) (κs .1 .1 .1 .1 .1 .0) (κs .1 .1 .1 .1 .1 .1 .0) (qs .0) (qs .1 .0)
+      (qs .1 .1 .0) (qs .1 .1 .1 .0) (qs .1 .1 .1 .1 .0) (qs .1 .1 .1 .1 .1 .0) (qs .1 .1 .1 .1 .1 .1 .0) (a .0) (a .1 .0) (a .1 .1 .0) (a .1 .1 .1 .0)
+      (a .1 .1 .1 .1 .0) (a .1 .1 .1 .1 .1 .0) (a .1 .1 .1 .1 .1 .1 .0)
       C Λ fm known (are .1 .1 .0 .0 .1) (are .1 .1 .1 .0 .0 .1) (are .1 .1 .1 .1 .0 .0 .1) (are .1 .1 .1 .1 .1 .0 .0 .1) (are .1 .1 .1 .1 .1 .1 .0 .0 .1)))
 
 self-meets : {M : Type 1} (𝓤 : URA M) (H : Heap 𝓤) (A : Atoms 𝓤) → Given 𝓤 H A → (mem : Memory → SProp 𝓤) (run : Routine → Fun 𝓤) (𝓣 : Program 𝓤 H)
