@@ -108,7 +108,8 @@ fn run(seed: u64) -> Result<bool, Refusal> {
     }
     let left_over = put_off.iter().filter(|&&put_off| put_off).count();
     let (pushed, count) = (fates.len() - left_over, waiting.len());
-    println!("\n{pushed} pushed, {printed} printed, {count} waiting, {} retries", report.retries);
+    let retries = &report.retries[..TASKS];
+    println!("\n{pushed} pushed, {printed} printed, {count} waiting; retries by task: {retries:?}");
     let mut lost = report.busy != 0 || report.waiting != count as u64 || printed + count != pushed;
     for (label, fate) in fates.iter().enumerate() {
         let Fate { pushed, printed, waiting } = *fate;
