@@ -71,7 +71,7 @@
  *   zc_run            672      2552      4196      4850
  *   zc_report         112       234       512     27353
  *   table bytes         -       240       816     30120
- *   code bytes: audit 1804, capi 10181, capi_record 6077, capi_run 6516, find 3570, sheet 3512
+ *   code bytes: audit 1804, capi 10181, capi_record 6077, capi_run 6516, find 3570, join 3458, schedule 12034, sheet 3512
  * As to the machine: x86-64, System V calling convention. The code uses the red zone (128 bytes
  * below the stack pointer) and SSE registers, no AVX: an interrupt handler that makes a call saves
  * the SSE state first, and an interrupt that is not masked during a call leaves the red zone alone.
@@ -207,6 +207,14 @@ extern "C" {
 /* Refusal of the order sheets, because of the input: over 32 labels or 128 rules, a label listed twice, or a
  * rule that points outside the list. */
 #define ZC_BAD_SHEET 46
+
+/* Refusal of zc_next_schedule, because of the state: tasks not 2, one of them idle, or over four
+ * labels waiting. */
+#define ZC_NOT_TWO 42
+
+/* Refusals of zc_join, because of the state: see there. */
+#define ZC_NOT_AT_REST 47 /* a source is not at rest, or the third is not fresh */
+#define ZC_CROWDED 48     /* more labels than slots in the third */
 
 /* ---- Types ------------------------------------------------------------------------------ */
 
@@ -477,6 +485,9 @@ static inline const char *zc_refusal_text(uint64_t number)
     case ZC_BAD_HISTORY: return "not a history that can be judged";
     case ZC_WRONG_PUSH: return "a slot named in a pooled queue, or none in the other";
     case ZC_BAD_SHEET: return "the sheet is malformed";
+    case ZC_NOT_TWO: return "not two busy tasks, or over four labels waiting";
+    case ZC_NOT_AT_REST: return "a queue is not at rest, or the third is not fresh";
+    case ZC_CROWDED: return "more labels than slots in the third queue";
     default: return "not a refusal";
     }
 }
@@ -866,6 +877,99 @@ static inline zc_sheet_reply zc_queue_sheet_words(const zc_queue *queue, const u
 {
     return zc_sheet_words(queue->control, listed, listed_count, rules, rule_count, words,
                           word_count, ZC_ROW_TABLES(queue));
+}
+#endif
+
+/* ---- Two lanes into one ------------------------------------------------------------------
+ * When a lane closes, its queue joins its neighbour's in a third queue.
+ */
+
+/*
+ * Joins the first queue and the second in the third: of the two leftmost labels remaining the
+ * smaller goes next, the first queue's on a tie, into slots 1, 2 and so on. The third's tables end
+ * as if its task 0 had pushed each at the right, alone; with no labels nothing changes. Each queue
+ * keeps its own order, and two ascending queues give an ascending one.
+ *
+ * Both sources must be at rest: no busy task, STABLE. They are only read, may be pooled, and may be
+ * the same tables. The third must be fresh, as zc_open leaves it: with named slots, empty, at rest,
+ * and zero in rows 0 to slots and in the whole mark words of these; its tag and retries are free.
+ * It shares no table with a source. While the labels are merged its link tables hold other words.
+ *
+ * Answers 0, or refuses: 34 for the three controls, 12, 34 for the two walks, 47, 48, 33 (if one of
+ * the pushes would meet it). A refusal changes nothing.
+ */
+uint32_t zc_join(const zc_control *first, const zc_record *first_records, size_t first_record_count,
+                 const zc_control *second, const zc_record *second_records,
+                 size_t second_record_count, zc_control *third, zc_record *third_records,
+                 size_t third_record_count, const uint64_t *first_lefts, size_t first_left_count,
+                 const uint64_t *first_rights, size_t first_right_count,
+                 const uint32_t *first_labels, size_t first_label_count,
+                 const uint64_t *second_lefts, size_t second_left_count,
+                 const uint64_t *second_rights, size_t second_right_count,
+                 const uint32_t *second_labels, size_t second_label_count, uint64_t *lefts,
+                 size_t left_count, uint64_t *rights, size_t right_count, uint32_t *labels,
+                 size_t label_count, uint64_t *marks, size_t mark_count);
+
+#ifndef ZC_CORE_ONLY
+static inline uint32_t zc_queue_join(const zc_queue *first, const zc_queue *second,
+                                     const zc_queue *third)
+{
+    return zc_join(first->control, first->records, first->record_count, second->control,
+                   second->records, second->record_count, third->control, third->records,
+                   third->record_count, first->lefts, first->left_count, first->rights,
+                   first->right_count, first->labels, first->label_count, second->lefts,
+                   second->left_count, second->rights, second->right_count, second->labels,
+                   second->label_count, ZC_ROW_TABLES(third));
+}
+#endif
+
+/* ---- Every order for two tasks -----------------------------------------------------------
+ * A schedule is a list of task numbers, 0 or 1: the order in which two half-done calls are stepped.
+ * It ends when both calls are answered, after 48 steps, or with a step that is refused 34.
+ */
+#define ZC_MOST_SCHEDULE 48
+#define ZC_SCHEDULE_WORDS 49 /* that zc_next_schedule is lent */
+
+#define ZC_BOTH_ANSWERED 0 /* endings of a schedule */
+#define ZC_CUT 1           /* a call is unanswered after 48 steps */
+#define ZC_STOPPED 2       /* its last step is refused 34 */
+#define ZC_NO_MORE 3       /* the last schedule was handed out before */
+
+typedef struct zc_schedule_reply {
+    uint64_t code;   /* 0, or the number of a refusal; the rest is then 0 */
+    uint64_t ending; /* ZC_BOTH_ANSWERED to ZC_NO_MORE */
+    uint64_t length; /* the steps of the schedule; 0 with ZC_NO_MORE */
+} zc_schedule_reply;
+ZC_LAYOUT(sizeof(zc_schedule_reply) == 24);
+ZC_LAYOUT(offsetof(zc_schedule_reply, ending) == 8 && offsetof(zc_schedule_reply, length) == 16);
+
+/*
+ * Hands out the first schedule after the one in `schedule`, in dictionary order: word 0 is the
+ * length, taken as at most 48, then come the task numbers. Lend 49 words, all zero to begin with,
+ * and call again until ZC_NO_MORE: every schedule that the tables allow is then handed out once and
+ * none besides. ZC_NO_MORE writes nothing, and is answered again.
+ *
+ * The steps are tried in the tables and put back: after the call they are as before. Nobody else may
+ * use them during the call, nor write them or `schedule` between two calls of one search. What a
+ * schedule answers is found by carrying out its steps on a copy.
+ *
+ * It holds no memory between calls: each goes the way of the last schedule again, then on to the
+ * next. It is recursive, a level for each step; with 48 steps a call takes 92,000 bytes of stack.
+ * Refuses: 34 for control, 12 (`schedule` too: 49), 34 for the walk, 42.
+ */
+zc_schedule_reply zc_next_schedule(const zc_control *control, const zc_record *records,
+                                   size_t record_count, uint64_t *schedule, size_t schedule_count,
+                                   uint64_t *lefts, size_t left_count, uint64_t *rights,
+                                   size_t right_count, uint32_t *labels, size_t label_count,
+                                   uint64_t *marks, size_t mark_count, uint64_t *next,
+                                   size_t next_count);
+
+#ifndef ZC_CORE_ONLY
+static inline zc_schedule_reply zc_queue_next_schedule(const zc_queue *queue, uint64_t *schedule,
+                                                       size_t schedule_count)
+{
+    return zc_next_schedule(queue->control, queue->records, queue->record_count, schedule,
+                            schedule_count, ZC_TABLES(queue));
 }
 #endif
 

@@ -2,17 +2,17 @@
 # Tests of the static library through its C interface.
 #
 #     tests/library/run.sh [FOLDER]     of libzeppolecape.a; default: target/lib, where `make` writes it
-#     tests/library/run.sh --stand-in   bench/reference.c, audit_reference.c and sheet.c, the same calls by hand, in its place
+#     tests/library/run.sh --stand-in   bench/reference.c, audit_reference.c, sheet.c, schedules.c and join_reference.c, the same calls by hand, in its place
 #
 # PARTS names what runs, all of it by default: header, a program NAME for each tests/library/NAME.c that has a main,
-# bindings examples projects bench audit sheet facts differential.
+# bindings examples projects bench audit sheet schedules joining facts differential.
 # SEED and TIMES go to the differential test (1 and 1). BUILD keeps what is built there.
 set -u -o pipefail
 from=$PWD
 cd "$(dirname "$0")/../.."
 
-PROGRAMS=$(grep -l '^int main' tests/library/*.c | xargs -n 1 basename -s .c | tr '\n' ' ')
-PARTS=${PARTS:-header $PROGRAMS bindings examples projects bench audit sheet facts differential}
+PROGRAMS=$(grep -l '^int main' tests/library/*.c | grep -v '/join.c$' | xargs -n 1 basename -s .c | tr '\n' ' ')
+PARTS=${PARTS:-header $PROGRAMS bindings examples projects bench audit sheet schedules joining facts differential}
 CC=${CC:-gcc}
 CXX=${CXX:-g++}
 WARNINGS="-Wall -Wextra -Wpedantic -Werror"
@@ -34,7 +34,9 @@ case ${1:-} in
     $CC -std=c11 -O2 $WARNINGS -DAS_LIBRARY -Iinclude -c bench/reference.c -o "$work/library.o" || exit 2
     $CC -std=c11 -O2 $WARNINGS -DAS_LIBRARY -Iinclude -c bench/audit_reference.c -o "$work/audit.o" || exit 2
     $CC -std=c11 -O2 $WARNINGS -DAS_LIBRARY -Iinclude -c bench/sheet.c -o "$work/sheet.o" || exit 2
-    ar rcs "$archive" "$work/library.o" "$work/audit.o" "$work/sheet.o"
+    $CC -std=c11 -O2 $WARNINGS -DAS_LIBRARY -Iinclude -c bench/schedules.c -o "$work/schedules.o" || exit 2
+    $CC -std=c11 -O2 $WARNINGS -DAS_LIBRARY -Iinclude -c bench/join_reference.c -o "$work/join.o" || exit 2
+    ar rcs "$archive" "$work/library.o" "$work/audit.o" "$work/sheet.o" "$work/schedules.o" "$work/join.o"
     ;;
 *)
     given=${1:-$PWD/target/lib}
@@ -208,6 +210,19 @@ part_sheet() {
 
 part_facts() {
     counts "figures of bench/facts.txt" bench/facts.sh --check "$work/library"
+}
+
+part_schedules() {
+    holds "the benchmark of schedules compiles" $CC -std=gnu11 -O2 -Iinclude bench/schedules_main.c bench/schedules.c bench/reference.c "$archive" -o "$work/schedules_bench"
+    holds "library and C hand out the same schedules" "$work/schedules_bench" 1
+    holds "the test of schedules compiles" in_cargo build --release -p library-schedules -p schedules
+    counts "schedules against the second program" "$work/cargo/release/library-schedules" "${SEED:-1}" "${TIMES:-1}"
+    tools/runfile examples/the_last_label.txt | "$work/cargo/release/schedules" >"$work/orders"
+    holds "every order of the example is printed" test "$(tail -n 1 "$work/orders")" = "18644 schedules: 18644 answered, 0 cut, 0 refused"
+}
+
+part_joining() { # join.c is linked with the call by hand, and planted faults are tried in that
+    holds "joinings against C and against the pushes, and planted faults" sh tests/library/join.sh "$archive"
 }
 
 part_differential() {

@@ -30,9 +30,11 @@ extern crate alloc;
 
 mod audit;
 mod find;
+mod join;
 mod numbers;
 mod queue;
 pub mod raw;
+mod schedules;
 mod sheet;
 mod tables;
 #[cfg(test)]
@@ -43,6 +45,7 @@ pub use find::Found;
 pub use numbers::*;
 pub use queue::Queue;
 pub use raw::{Control, Record};
+pub use schedules::{Ending, Schedule, Schedules, MOST_SCHEDULE, SCHEDULE_WORDS};
 pub use sheet::{rule, SheetVerdict, MOST_LISTED, MOST_RULES, SHEET_WORDS};
 pub use tables::Tables;
 

@@ -118,8 +118,11 @@ refusals! {
     Unsound = 34, "the tables are unsound", "(somebody else wrote there)";
     BadHistory = 40, "not a history that can be judged", "(of [`audit`](crate::audit()) alone)";
     WrongPush = 41, "a slot named in a pooled queue, or none in the other";
+    NotTwo = 42, "not two busy tasks, or over four labels waiting", "(of [`Queue::schedules`](crate::Queue::schedules) alone)";
     ManyAsked = 45, "more than 32 labels asked for", "(of [`Queue::find`](crate::Queue::find) alone)";
     BadSheet = 46, "the sheet is malformed", "(of [`Queue::sheet`](crate::Queue::sheet) alone)";
+    NotAtRest = 47, "a queue is not at rest, or the third is not fresh", "(of [`Queue::join`](crate::Queue::join) alone)";
+    Crowded = 48, "more labels than slots in the third queue", "(of [`Queue::join`](crate::Queue::join) alone)";
 }
 
 impl Refusal {

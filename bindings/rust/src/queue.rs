@@ -53,7 +53,7 @@ impl Queue {
         }
     }
 
-    fn lend(&mut self) -> Tables<'_> {
+    pub(crate) fn lend(&mut self) -> Tables<'_> {
         Tables {
             control: &mut self.control,
             records: &mut self.records,

@@ -35,6 +35,27 @@ pub const POPPED: u32 = 4;
 /// Code of a reply: a pooled push is answered, every slot was in use.
 pub const NO_FREE_SLOT: u32 = 5;
 
+/// Ending of a schedule: both calls are answered.
+pub const BOTH_ANSWERED: u64 = 0;
+/// Ending of a schedule: a call is unanswered after 48 steps.
+pub const CUT: u64 = 1;
+/// Ending of a schedule: its last step is refused 34.
+pub const STOPPED: u64 = 2;
+/// In place of an ending: the last schedule was handed out before.
+pub const NO_MORE: u64 = 3;
+
+/// What [`zc_next_schedule`] answers.
+#[repr(C)]
+#[derive(Clone, Copy, Debug, Default, PartialEq, Eq)]
+pub struct ScheduleReply {
+    /// 0, or the number of a refusal; the rest is then 0.
+    pub code: u64,
+    /// An ending, or [`NO_MORE`].
+    pub ending: u64,
+    /// The steps of the schedule; 0 with [`NO_MORE`].
+    pub length: u64,
+}
+
 /// What all tasks share besides rows and marks.
 #[repr(C)]
 #[derive(Clone, Copy, Debug, Default, PartialEq, Eq)]

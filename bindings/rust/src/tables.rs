@@ -78,7 +78,7 @@ macro_rules! look {
         }
     };
 }
-pub(crate) use look;
+pub(crate) use {call, look};
 
 /// What an opening answers.
 fn opened(code: u32) -> Result<(), Refusal> {

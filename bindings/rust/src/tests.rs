@@ -200,7 +200,7 @@ fn lent_tables_and_a_lent_record() {
 #[test]
 fn refusals_have_their_numbers() {
     let known: Vec<u64> = (0..100).filter(|&n| Refusal::numbered(n).is_some()).collect();
-    assert_eq!(known, [10, 11, 12, 13, 14, 15, 30, 31, 32, 33, 34, 40, 41, 45, 46]);
+    assert_eq!(known, [10, 11, 12, 13, 14, 15, 30, 31, 32, 33, 34, 40, 41, 42, 45, 46, 47, 48]);
     assert_eq!(Refusal::Worn.to_string(), "33: the Anchor tag is too high for another start");
 }
 
@@ -279,4 +279,25 @@ fn a_sheet_is_kept_or_broken() {
     assert_eq!(queue.sheet_words(&listed, &[rule(2, 3), rule(1, 2)], &mut words), broken);
     assert_eq!((words[0], words[1], words[2], words[32]), (6, 4, 0, 9));
     assert_eq!(queue.sheet_words(&listed, &[], &mut words[..31]), Err(Refusal::Short));
+}
+
+#[test]
+fn two_lanes_become_one() {
+    let lane = |labels: &[u32]| {
+        let mut queue = Queue::open(2, 4, 0).unwrap();
+        for (slot, &label) in (1..).zip(labels) {
+            queue.push(0, Side::Right, slot, label).unwrap();
+            finish(&mut queue, 0);
+        }
+        queue
+    };
+    let (first, mut second) = (lane(&[5, 1]), lane(&[5, 9]));
+    let mut third = Queue::open(1, 4, 0).unwrap();
+    second.pop(1, Side::Left).unwrap();
+    assert_eq!(third.join(&first, &second), Err(Refusal::NotAtRest));
+    let second = lane(&[5, 9]);
+    assert_eq!(third.join(&first, &second), Ok(()));
+    assert_eq!(third.find(&[1, 9]).unwrap().positions, [Some(2), Some(4)]);
+    assert_eq!(third.join(&first, &second), Err(Refusal::NotAtRest));
+    assert_eq!(Queue::open(1, 3, 0).unwrap().join(&first, &first), Err(Refusal::Crowded));
 }

@@ -1,5 +1,5 @@
 -- A field at a position: its bytes are there.
-use Prim.Native.Nat.{ℕ, _+_, _-_, _<_, _≤_}
+use Prim.Native.Nat.{ℕ, suc, _+_, _-_, _<_, _≤_}
 use mathlib.Core.Path.{_≡_, refl, sym, ap, _∙_, subst}
 use mathlib.Core.Bool.{Bool, true, false, _&&_, _||_, or-false}
 use mathlib.Core.List.{List}
@@ -7,12 +7,13 @@ use native.Mathlib.Omega.{arith}
 use lib.Dec.{leb, eqb}
 use lib.ListN.{length, take, drop, getD, length-drop}
 use lib.Seq.{slice, take-add, drop-at, drop-drop, length-take-le}
-use borrow.Author.Tests.{leb-true}
+use borrow.Author.Tests.{leb-true, eqb-true}
 use Rattle.runfile.specs.Field.{twoAt, formed, contentOf, fieldOf}
 use Rattle.runfile.specs.declared.Field.{Field}
-use Rattle.runfile.specs.declared.Field.the-variants.{Steps}
+use Rattle.runfile.specs.declared.Field.the-variants.{Each}
+use Rattle.model.specs.declared.Op.{Op}
 use Rattle.runfile.specs.declared.Found.{Found}
-use Rattle.runfile.proofs.Prefix.{Seen, seen, ended, cut, wrong, whole}
+use Rattle.runfile.proofs.Prefix.{Seen, seen, ended, cut, wrong, whole, formed-push, formed-pop, formed-put}
 use Rattle.carry.specs.Page.{Page, written, carries, moved, fieldRoom, takes, Whole}
 use Rattle.carry.proofs.Pages.{cond-true, cond-false}
 
@@ -23,6 +24,7 @@ both : (a b : Bool) → (a && b) ≡ true → (a ≡ true) × (b ≡ true)
 both true b e = (refl, e)
 both false b e = clash e
 
+-- How many task bytes there can be: of steps at most 4,096; of a start there is one.
 steps-most : (o : Bool) (tag len : ℕ) → formed o tag len ≡ true
     → (eqb tag 1 || eqb tag 5) ≡ false → eqb tag 2 ≡ false → eqb tag 3 ≡ false → eqb tag 6 ≡ false → len ≤ 4096
 unfolding formed
@@ -30,16 +32,22 @@ steps-most true tag len e p q r s =
     leb-true len 4096 (both (eqb tag 4) (leb len 4096) (simp (q, r, s, or-false) at e) .1)
 steps-most false tag len e p q r s = clash (rw p at e)
 
-content-whole : (o : Bool) (tag len at n : ℕ) (d : List ℕ) → formed o tag len ≡ true → at + 3 + len ≤ n → Whole (contentOf tag len d) at n
+pub content-whole : (o : Bool) (tag len at n : ℕ) (d : List ℕ) → formed o tag len ≡ true → at + 3 + len ≤ n → Whole (contentOf tag len d) at n
 unfolding contentOf
 content-whole o tag len at n d f h = go (eqb tag 1 || eqb tag 5) refl (eqb tag 2) refl (eqb tag 3) refl (eqb tag 6) refl
   where
+    one : (k : ℕ) → suc k ≤ len → (1 ≤ 4096) × (at + 3 + 1 ≤ n)
+    one k e = (omega arith, omega (arith, h, e))
+
+    tagged : (k : ℕ) → eqb tag k ≡ true → formed o k len ≡ true
+    tagged k e = subst (λ (t : ℕ). formed o t len ≡ true) (eqb-true tag k e) f
+
     go : (w : Bool) → (eqb tag 1 || eqb tag 5) ≡ w → (x : Bool) → eqb tag 2 ≡ x → (y : Bool) → eqb tag 3 ≡ y → (z : Bool) → eqb tag 6 ≡ z
         → Whole (contentOf tag len d) at n
     go true p x q y s z t = rw p tt
-    go false p true q y s z t = rw (p, q) tt
-    go false p false q true s z t = rw (p, q, s) tt
-    go false p false q false s true t = rw (p, q, s, t) tt
+    go false p true q y s z t = rw (p, q) (one 7 (formed-push len o (tagged 2 q)))
+    go false p false q true s z t = rw (p, q, s) (one 1 (formed-pop len o (tagged 3 s)))
+    go false p false q false s true t = rw (p, q, s, t) (one 5 (formed-put len o (tagged 6 t)))
     go false p false q false s false t = rw (p, q, s, t) (steps-most o tag len f p q s t, h)
 
 pub field-whole : (o : Bool) (bytes : List ℕ) (at : ℕ) → Whole (fieldOf o (drop at bytes) .field) at (length bytes)
@@ -53,12 +61,12 @@ field-whole o bytes at = go (fieldOf o (drop at bytes)) (seen o (drop at bytes))
         content-whole o (getD (drop at bytes) 0 0) (twoAt (drop at bytes) 1) at (length bytes) (drop 3 (drop at bytes)) w
         (omega (arith, length-drop at bytes))
 
-pub steps-whole : (f : Field) (n at len : ℕ) → f ≡ Steps n → Whole f at len → (n ≤ 4096) × (at + 3 + n ≤ len)
-steps-whole f n at len e w = subst (λ (g : Field). Whole g at len) e w
+pub each-whole : (f : Field) (op : Op) (n at len : ℕ) → f ≡ Each op n → Whole f at len → (n ≤ 4096) × (at + 3 + n ≤ len)
+each-whole f op n at len e w = subst (λ (g : Field). Whole g at len) e w
 
--- The content of a steps field.
-pub steps-content : (at n : ℕ) (bytes : List ℕ) → at + 3 ≤ length bytes → slice (at + 3) (at + 3 + n) bytes ≡ take n (drop 3 (drop at bytes))
-steps-content at n bytes h =
+-- The task bytes of a field.
+pub task-bytes : (at n : ℕ) (bytes : List ℕ) → at + 3 ≤ length bytes → slice (at + 3) (at + 3 + n) bytes ≡ take n (drop 3 (drop at bytes))
+task-bytes at n bytes h =
     ap (drop (at + 3)) (take-add (at + 3) n bytes)
     ∙ drop-at (take (at + 3) bytes) (take n (drop (at + 3) bytes)) (at + 3) (length-take-le (at + 3) bytes h)
     ∙ ap (take n) (sym (drop-drop 3 at bytes))

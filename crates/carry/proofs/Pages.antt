@@ -10,11 +10,11 @@ use lib.Dec.{leb}
 use lib.ListN.{length, getD, length-append}
 use lib.Seq.{slice, slice-cons, slice-empty}
 use borrow.Author.Tests.{le-leb}
-use Rattle.model.specs.declared.Op.the-variants.{Step}
+use Rattle.model.specs.declared.Op.{Op}
 use Rattle.model.specs.History.{Request, run, final}
 use Rattle.lines.specs.Line.{room}
 use Rattle.lines.proofs.Puts.{sets-append}
-use Rattle.carry.specs.Run.{Run, Told, linesOf, numberOf, operated, stepsOf, malformed}
+use Rattle.carry.specs.Run.{Run, Told, linesOf, numberOf, operated, eachOf, malformed}
 use Rattle.carry.specs.Page.{Page, written, emptied, operates, breaks}
 
 pub cond-true : {A : Type 0} (b : Bool) (x y : A) → b ≡ true → cond b x y ≡ x
@@ -58,22 +58,23 @@ operates-more p o os =
     written-more p (operated (p .run) (o ∷ [])) (operated (operated (p .run) (o ∷ []) .run) os) (emptied (o ∷ []) (p .uppers)) (emptied (o ∷ os) (p .uppers))
     ∙ ap (λ (t : Told). written p t (emptied (o ∷ os) (p .uppers))) (operated-more (p .run) o os)
 
--- A list of steps: its end, and one step more.
-steps-none : (p : Page) (end : ℕ) (bytes : List ℕ) → operates p (stepsOf (slice end end bytes)) ≡ p
-steps-none p end bytes = ap (λ (l : List ℕ). operates p (stepsOf l)) (slice-empty end bytes) ∙ operates-none p
+-- An operation for each of some task bytes: the end of the list, and one more.
+module _ (op : Op) where
+  each-none : (p : Page) (end : ℕ) (bytes : List ℕ) → operates p (eachOf op (slice end end bytes)) ≡ p
+  each-none p end bytes = ap (λ (l : List ℕ). operates p (eachOf op l)) (slice-empty end bytes) ∙ operates-none p
 
-pub steps-end : (p q : Page) (i end : ℕ) (bytes : List ℕ) → i ≡ end → operates p (stepsOf (slice i end bytes)) ≡ q → p ≡ q
-steps-end p q i end bytes e h =
-    sym (steps-none p end bytes) ∙ ap (λ (k : ℕ). operates p (stepsOf (slice k end bytes))) (sym e) ∙ h
+  pub each-end : (p q : Page) (i end : ℕ) (bytes : List ℕ) → i ≡ end → operates p (eachOf op (slice i end bytes)) ≡ q → p ≡ q
+  each-end p q i end bytes e h =
+      sym (each-none p end bytes) ∙ ap (λ (k : ℕ). operates p (eachOf op (slice k end bytes))) (sym e) ∙ h
 
-pub steps-more : (p p′ : Page) (i end : ℕ) (bytes : List ℕ) → i < end → end ≤ length bytes
-    → p′ ≡ operates p (record { task = getD bytes i 0; op = Step } ∷ [])
-    → operates p′ (stepsOf (slice (i + 1) end bytes)) ≡ operates p (stepsOf (slice i end bytes))
-steps-more p p′ i end bytes h k e =
-    ap (λ (x : Page). operates x (stepsOf (slice (i + 1) end bytes))) e
-    ∙ operates-more p (record { task = getD bytes i 0; op = Step }) (stepsOf (slice (i + 1) end bytes))
-    ∙ ap (λ (n : ℕ). operates p (stepsOf (getD bytes i 0 ∷ slice n end bytes))) (add-one i)
-    ∙ ap (λ (l : List ℕ). operates p (stepsOf l)) (sym (slice-cons i end bytes 0 h k))
+  pub each-more : (p p′ : Page) (i end : ℕ) (bytes : List ℕ) → i < end → end ≤ length bytes
+      → p′ ≡ operates p (record { task = getD bytes i 0; op = op } ∷ [])
+      → operates p′ (eachOf op (slice (i + 1) end bytes)) ≡ operates p (eachOf op (slice i end bytes))
+  each-more p p′ i end bytes h k e =
+      ap (λ (x : Page). operates x (eachOf op (slice (i + 1) end bytes))) e
+      ∙ operates-more p (record { task = getD bytes i 0; op = op }) (eachOf op (slice (i + 1) end bytes))
+      ∙ ap (λ (n : ℕ). operates p (eachOf op (getD bytes i 0 ∷ slice n end bytes))) (add-one i)
+      ∙ ap (λ (l : List ℕ). operates p (eachOf op l)) (sym (slice-cons i end bytes 0 h k))
 
 -- A malformed place, with room for its line and without.
 module _ (p : Page) where

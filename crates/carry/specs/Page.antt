@@ -12,10 +12,10 @@ use Rattle.model.specs.History.{Request}
 use Rattle.rows.specs.Rows.{recordsOf, uppersOf}
 use Rattle.runfile.specs.Field.{fieldOf}
 use Rattle.runfile.specs.declared.Field.{Field}
-use Rattle.runfile.specs.declared.Field.the-variants.{Open, Start, Steps, Malformed, Cut, End}
+use Rattle.runfile.specs.declared.Field.the-variants.{Open, Each, Malformed, Cut, End}
 use Rattle.lines.specs.Line.{lineOf, room}
 use Rattle.lines.specs.declared.Line.the-variants.{Act}
-use Rattle.carry.specs.Run.{Run, Told, next, isOpened, operated, opened, malformed, stepsOf, carried}
+use Rattle.carry.specs.Run.{Run, Told, next, isOpened, operated, opened, malformed, eachOf, carried}
 use Rattle.carry.specs.declared.RunState.{RunState}
 
 -- A run; the upper halves of its rows' label words, which are in no record; a buffer, and the position behind what is written there;
@@ -63,8 +63,7 @@ cleared r pooled tasks slots tag u = zeroed (cond (isOpened (openAs pooled (r .q
 
 unfoldable pub uppersAfter : Run → Field → List ℕ → List ℕ → List ℕ
 uppersAfter r (Open pooled tasks slots tag) b u = cleared r pooled tasks slots tag u
-uppersAfter r (Start task op) b u = set u task 0
-uppersAfter r (Steps n) b u = emptied (stepsOf (take n (drop 3 b))) u
+uppersAfter r (Each op n) b u = emptied (eachOf op (take n (drop 3 b))) u
 uppersAfter r Malformed b u = u
 uppersAfter r Cut b u = u
 uppersAfter r End b u = u
@@ -97,11 +96,10 @@ takes bytes p =
     let f = fieldOf (p .run .opened) b in
     cond (leb (p .to + fieldRoom) (length (p .out))) (moved (carries p (f .field) b) (f .size)) p
 
--- The bytes of a steps field are there.
+-- The task bytes of a field are there.
 abbrev pub Whole : Field → ℕ → ℕ → Type 0
 Whole (Open pooled tasks slots tag) at len = Unit {0}
-Whole (Start task op) at len = Unit {0}
-Whole (Steps n) at len = (n ≤ 4096) × (at + 3 + n ≤ len)
+Whole (Each op n) at len = (n ≤ 4096) × (at + 3 + n ≤ len)
 Whole Malformed at len = Unit {0}
 Whole Cut at len = Unit {0}
 Whole End at len = Unit {0}

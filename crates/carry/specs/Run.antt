@@ -5,14 +5,14 @@ use Prim.Native.Nat.{ℕ, _+_, _%_, _^_}
 use lib.ListN.{take, drop}
 use Rattle.model.specs.declared.Opening.{Opening}
 use Rattle.model.specs.declared.Opening.the-variants.{Refused, Opened}
-use Rattle.model.specs.declared.Op.the-variants.{Step}
+use Rattle.model.specs.declared.Op.{Op}
 use Rattle.model.specs.Tables.{Queue}
 use Rattle.model.specs.Calls.{openAs}
 use Rattle.model.specs.History.{Request, Event, run, final}
 use Rattle.lines.specs.Line.{lineOf}
 use Rattle.lines.specs.declared.Line.the-variants as line
 use Rattle.runfile.specs.declared.Field.{Field}
-use Rattle.runfile.specs.declared.Field.the-variants.{Open, Start, Steps, Malformed, Cut, End}
+use Rattle.runfile.specs.declared.Field.the-variants.{Open, Each, Malformed, Cut, End}
 
 -- Between two fields: the queue, whether it was opened, whether the run has ended, and the number of the last event.
 pub record Run : Type 0 where
@@ -70,15 +70,14 @@ malformed r = record {
   lines = lineOf (next (r .event)) line.File (anchorIn (r .queue));
 }
 
--- One step for each task byte.
-abbrev pub stepsOf : List ℕ → List Request
-stepsOf tasks = map (λ t. record { task = t; op = Step }) tasks
+-- An operation of each task.
+abbrev pub eachOf : Op → List ℕ → List Request
+eachOf op tasks = map (λ t. record { task = t; op = op }) tasks
 
 -- A field carried out; b are the bytes from it on. Where no whole field is, nothing is done.
 unfoldable pub carried : Run → Field → List ℕ → Told
 carried r (Open pooled tasks slots tag) b = opened r pooled tasks slots tag
-carried r (Start task op) b = operated r (record { task = task; op = op } ∷ [])
-carried r (Steps n) b = operated r (stepsOf (take n (drop 3 b)))
+carried r (Each op n) b = operated r (eachOf op (take n (drop 3 b)))
 carried r Malformed b = malformed r
 carried r Cut b = record { run = r; lines = [] }
 carried r End b = record { run = r; lines = [] }

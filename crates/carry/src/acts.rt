@@ -13,7 +13,7 @@ ghost use lib.Seq.{slice};
 ghost use Rattle.model.specs.Tables.{unused};
 ghost use Rattle.table.specs.Lent.{withTables};
 ghost use Rattle.rows.specs.Rows.{recordsOf};
-ghost use Rattle.carry.specs.Run.{isOpened, stepsOf};
+ghost use Rattle.carry.specs.Run.{isOpened, eachOf};
 ghost use Rattle.carry.specs.Page.{pageOf, answered, operates, opens};
 
 // An operation that was done: its record stored, its line written.
@@ -53,8 +53,8 @@ fn answer(
     }
 }
 
-/// A start or step of a task.
-pub fn operate(
+// A start or step of a task. Called once, so that the step is compiled into its caller's loop.
+fn operate(
     s: RunState,
     task: usize,
     op: Op,
@@ -93,9 +93,10 @@ pub fn operate(
     answer(s, m, task, op, out, rows)
 }
 
-/// One step for each of the task bytes from `from` to `end`.
-pub fn steps(
+/// The operation for each of the task bytes from `from` to `end`.
+pub fn each(
     s: RunState,
+    op: Op,
     bytes: &[u8],
     from: usize,
     end: usize,
@@ -114,23 +115,12 @@ pub fn steps(
         ≡ operates
         (pageOf s (now (out .entry)) (now (rows .entry))
         (now (lefts .entry)) (now (rights .entry)) (now (labels .entry)) (now (marks .entry)) (now (next .entry)))
-        (stepsOf (slice from end (now (bytes .entry)))) ⌝ }
+        (eachOf op (slice from end (now (bytes .entry)))) ⌝ }
 {
     let mut q = s;
     for i in from..end {
         let task = bytes[i] as usize;
-        q = operate(
-            q,
-            task,
-            Op::Step,
-            out,
-            rows,
-            lefts,
-            rights,
-            labels,
-            marks,
-            next,
-        );
+        q = operate(q, task, op, out, rows, lefts, rights, labels, marks, next);
     }
     q
 }

@@ -1,20 +1,23 @@
 -- Feeding a run: one field and then the rest; and a file in pieces is fed as in one.
 use Prim.Native.Nat.{ℕ, zero, suc, _+_, _-_, _≤_}
 use mathlib.Core.Path.{_≡_, refl, sym, ap, _∙_}
-use mathlib.Core.Bool.{Bool, true, false, _||_, cond}
+use mathlib.Core.Bool.{Bool, true, false, cond}
 use mathlib.Core.List.{List, [], _∷_, _++_, append-assoc, append-nil, flatten}
 use native.Mathlib.Omega.{arith}
-use lib.ListN.{length, take, drop, length-drop, length-append}
-use lib.Dec.{leb, eqb}
+use lib.ListN.{length, getD, take, drop, length-drop, length-append}
+use lib.Dec.{leb}
 use borrow.Author.Tests.{leb-true, leb-false}
 use lib.Seq.{take-append-le, drop-append-le}
-use Rattle.runfile.specs.Field.{contentOf, missing, fieldOf}
-use Rattle.runfile.specs.declared.Field.the-variants.{Malformed}
+use Rattle.runfile.specs.Field.{twoAt, contentOf, missing, fieldOf}
+use Rattle.runfile.specs.declared.Field.{Field}
+use Rattle.runfile.specs.declared.Field.the-variants.{Open, Each, Malformed, Cut, End}
 use Rattle.runfile.specs.declared.Found.{Found}
 use Rattle.lines.specs.Line.{header}
 use Rattle.runfile.proofs.Prefix.{Seen, seen, ended, cut, wrong, whole, same-wrong, same-whole}
 use Rattle.carry.specs.Run.{Run, Told, malformed, carried}
+use Rattle.carry.specs.Page.{Whole}
 use Rattle.carry.proofs.Pages.{cond-true, cond-false}
+use Rattle.carry.proofs.Fields.{content-whole}
 use Rattle.replay.specs.Trace.{Fed, unmoved, after, feedIn, feed, finished, fresh, printed, printedPieces, traceOf}
 
 -- What a run makes of the field at the head of b.
@@ -33,22 +36,15 @@ module _ (r : Run) (b : List ℕ) {f : Found} (e : fieldOf (r .opened) b ≡ f) 
   unfolding told
   told-of = ap (λ (x : Found). carried r (x .field) b) e
 
--- Its content is the same however many bytes follow.
-same-carried : (r : Run) (b c : List ℕ) (tag len : ℕ) (d : List ℕ) → 3 + len ≤ length b
-    → carried r (contentOf tag len d) (b ++ c) ≡ carried r (contentOf tag len d) b
-unfolding contentOf carried
-same-carried r b c tag len d h = go (eqb tag 1 || eqb tag 5) refl (eqb tag 2) refl (eqb tag 3) refl (eqb tag 6) refl
-  where
-    steps : take len (drop 3 (b ++ c)) ≡ take len (drop 3 b)
-    steps = rw (drop-append-le 3 b c (omega arith), take-append-le len (drop 3 b) c (omega (arith, length-drop 3 b)))
-
-    go : (w : Bool) → (eqb tag 1 || eqb tag 5) ≡ w → (x : Bool) → eqb tag 2 ≡ x → (y : Bool) → eqb tag 3 ≡ y → (z : Bool) → eqb tag 6 ≡ z
-        → carried r (contentOf tag len d) (b ++ c) ≡ carried r (contentOf tag len d) b
-    go true p x q y s z t = rw p
-    go false p true q y s z t = rw (p, q)
-    go false p false q true s z t = rw (p, q, s)
-    go false p false q false s true t = rw (p, q, s, t)
-    go false p false q false s false t = rw (p, q, s, t, steps)
+-- A field does the same however many bytes follow.
+same-carried : (r : Run) (b c : List ℕ) (f : Field) → Whole f 0 (length b) → carried r f (b ++ c) ≡ carried r f b
+unfolding carried
+same-carried r b c (Open pooled tasks slots tag) w = refl
+same-carried r b c (Each op n) w =
+    rw (drop-append-le 3 b c (omega (arith, w)), take-append-le n (drop 3 b) c (omega (arith, w, length-drop 3 b)))
+same-carried r b c Malformed w = refl
+same-carried r b c Cut w = refl
+same-carried r b c End w = refl
 
 -- It waits, it ends the run, or it is carried out.
 pub data Next (r : Run) (b : List ℕ) : Type 0 where
@@ -66,9 +62,10 @@ next-of r b = go (fieldOf (r .opened) b) refl (seen (r .opened) b)
     go f e cut = waits (told-of r b e) (size-of r b e)
     go f e (wrong h w) = breaks (λ c. same-wrong (r .opened) b c h w) e
     go f e (whole w h) =
+        let there = content-whole (r .opened) (getD b 0 0) (twoAt b 1) 0 (length b) (drop 3 b) w (omega (arith, h)) in
         moves (let s = size-of r b e in omega arith) (let s = size-of r b e in omega arith)
         (λ c. same-whole (r .opened) b c w h ∙ sym e)
-        (λ c. rw e (same-carried r b c _ _ _ h))
+        (λ c. rw e (same-carried r b c (contentOf (getD b 0 0) (twoAt b 1) (drop 3 b)) there))
 
 -- A run that is over takes no field, and one whose field waits takes none.
 pub feed-over : (n : ℕ) (r : Run) (b : List ℕ) → r .over ≡ true → feedIn n r b ≡ unmoved r b

@@ -46,17 +46,17 @@ formed-open tag len true t e = go (eqb tag 1) refl t
     go true p q = clash (subst (λ (k : ℕ). formed true k len ≡ true) (eqb-true tag 1 p) e)
     go false p q = clash (subst (λ (k : ℕ). formed true k len ≡ true) (eqb-true tag 5 q) e)
 
-formed-push : (len : ℕ) (o : Bool) → formed o 2 len ≡ true → 8 ≤ len
+pub formed-push : (len : ℕ) (o : Bool) → formed o 2 len ≡ true → 8 ≤ len
 unfolding formed
 formed-push len true e = omega (arith, eqb-true len 8 (simp or-false at e))
 formed-push len false e = clash e
 
-formed-pop : (len : ℕ) (o : Bool) → formed o 3 len ≡ true → 2 ≤ len
+pub formed-pop : (len : ℕ) (o : Bool) → formed o 3 len ≡ true → 2 ≤ len
 unfolding formed
 formed-pop len true e = omega (arith, eqb-true len 2 (simp or-false at e))
 formed-pop len false e = clash e
 
-formed-put : (len : ℕ) (o : Bool) → formed o 6 len ≡ true → 6 ≤ len
+pub formed-put : (len : ℕ) (o : Bool) → formed o 6 len ≡ true → 6 ≤ len
 unfolding formed
 formed-put len true e = omega (arith, eqb-true len 6 e)
 formed-put len false e = clash e
@@ -87,13 +87,13 @@ module _ (b c : List ℕ) where
           rw (p, same-byte 0 (omega arith), same-two 1 (omega arith), same-four 3 (omega arith))
       go false p true q y r z t =
           let k : 8 ≤ len = formed-push len o (form 2 q) in
-          rw (p, q, same-byte 0 (omega arith), same-byte 1 (omega arith), same-two 2 (omega arith), same-four 4 (omega arith))
+          rw (p, q, same-byte 1 (omega arith), same-two 2 (omega arith), same-four 4 (omega arith))
       go false p false q true r z t =
           let k : 2 ≤ len = formed-pop len o (form 3 r) in
-          rw (p, q, r, same-byte 0 (omega arith), same-byte 1 (omega arith))
+          rw (p, q, r, same-byte 1 (omega arith))
       go false p false q false r true t =
           let k : 6 ≤ len = formed-put len o (form 6 t) in
-          rw (p, q, r, t, same-byte 0 (omega arith), same-byte 1 (omega arith), same-four 2 (omega arith))
+          rw (p, q, r, t, same-byte 1 (omega arith), same-four 2 (omega arith))
       go false p false q false r false t = rw (p, q, r, t)
 
 module _ (o : Bool) (b c : List ℕ) where

@@ -4,9 +4,9 @@ use mathlib.Core.Bool.{Bool, _&&_, _||_, cond}
 use mathlib.Core.List.{List}
 use lib.ListN.{length, getD, drop}
 use lib.Dec.{ltb, leb, eqb}
-use Rattle.model.specs.declared.Op.the-variants.{Push, Pop, Put}
+use Rattle.model.specs.declared.Op.the-variants.{Push, Pop, Put, Step}
 use Rattle.runfile.specs.declared.Field.{Field}
-use Rattle.runfile.specs.declared.Field.the-variants.{Open, Start, Steps, Malformed, Cut, End}
+use Rattle.runfile.specs.declared.Field.the-variants.{Open, Each, Malformed, Cut, End}
 use Rattle.runfile.specs.declared.Found.{Found}
 
 -- Numbers, high byte first.
@@ -23,14 +23,15 @@ formed opened tag len =
     ((eqb tag 2 && eqb len 8) || (eqb tag 3 && eqb len 2) || (eqb tag 4 && leb len 4096) || (eqb tag 6 && eqb len 6))
     ((eqb tag 1 || eqb tag 5) && eqb len 7)
 
--- 01 open: tasks, slots, first tag; 05 the same, pooled. 02 push: task, side, slot, label; 06 without the slot. 03 pop: task, side. 04 steps.
+-- 01 open: tasks, slots, first tag; 05 the same, pooled. 02 push: task, side, slot, label; 06 without the slot. 03 pop: task, side.
+-- 04 steps: tasks. Of an operation the tasks are the first bytes of the content, one or all.
 unfoldable pub contentOf : ℕ → ℕ → List ℕ → Field
 contentOf tag len b =
     cond (eqb tag 1 || eqb tag 5) (Open (eqb tag 5) (getD b 0 0) (twoAt b 1) (fourAt b 3))
-    (cond (eqb tag 2) (Start (getD b 0 0) (Push (getD b 1 0) (twoAt b 2) (fourAt b 4)))
-    (cond (eqb tag 3) (Start (getD b 0 0) (Pop (getD b 1 0)))
-    (cond (eqb tag 6) (Start (getD b 0 0) (Put (getD b 1 0) (fourAt b 2)))
-    (Steps len))))
+    (cond (eqb tag 2) (Each (Push (getD b 1 0) (twoAt b 2) (fourAt b 4)) 1)
+    (cond (eqb tag 3) (Each (Pop (getD b 1 0)) 1)
+    (cond (eqb tag 6) (Each (Put (getD b 1 0) (fourAt b 2)) 1)
+    (Each Step len))))
 
 -- Where there is no whole field.
 abbrev pub missing : Field → Found

@@ -15,13 +15,11 @@ pub enum Field {
         slots: u64,
         tag: u32,
     },
-    /// The start of a call.
-    Start {
-        task: usize,
+    /// An operation for each of the task bytes with which the content begins: one for a start, all of it for steps.
+    Each {
         op: Op,
+        count: usize,
     },
-    /// One step for each of so many task bytes, the field's content.
-    Steps(usize),
     /// Refusal 16.
     Malformed,
     /// The bytes end before the field does. It is malformed if no more come.
@@ -84,31 +82,31 @@ fn content(s: &[u8], from: usize, tag: u64, len: usize) -> Field
             tag: four_at(s, from + 3),
         }
     } else if tag == 2 {
-        let task = byte_at(s, from) as usize;
         let side = byte_at(s, from + 1);
         let slot = two_at(s, from + 2);
         let label = four_at(s, from + 4);
-        Field::Start {
-            task,
+        Field::Each {
             op: Op::Push { side, slot, label },
+            count: 1,
         }
     } else if tag == 3 {
-        let task = byte_at(s, from) as usize;
         let side = byte_at(s, from + 1);
-        Field::Start {
-            task,
+        Field::Each {
             op: Op::Pop { side },
+            count: 1,
         }
     } else if tag == 6 {
-        let task = byte_at(s, from) as usize;
         let side = byte_at(s, from + 1);
         let label = four_at(s, from + 2);
-        Field::Start {
-            task,
+        Field::Each {
             op: Op::Put { side, label },
+            count: 1,
         }
     } else {
-        Field::Steps(len)
+        Field::Each {
+            op: Op::Step,
+            count: len,
+        }
     }
 }
 

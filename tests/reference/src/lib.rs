@@ -3,7 +3,7 @@
 //! The machine: `word` (packed words), `tables` (what is lent), `refusal` (the
 //! ordered tests), `places` (what a step does), `machine` and `find` (the outside calls).
 //! The program: `runfile` (fields in), `run` (events), `trace` (lines out).
-//! Over the tables: `sheet` (document 02, #111 and #112).
+//! Over the tables: `sheet` (document 02, #111 and #112), `schedules` (#107), `join` (#113).
 //! The judge: `clerk` (a sequential deque), `contents` (labels waiting), `pool` (free
 //! slots), `invariant` (what holds between any two steps), `retries` (the counts' sum), `check`
 //! (all of them at once).
@@ -19,6 +19,7 @@ pub mod damage;
 pub mod dice;
 pub mod find;
 pub mod invariant;
+pub mod join;
 pub mod machine;
 pub mod malformed;
 mod places;
@@ -28,6 +29,7 @@ mod retries;
 pub mod run;
 pub mod runfile;
 pub mod scenario;
+pub mod schedules;
 pub mod script;
 pub mod sheet;
 pub mod shift;

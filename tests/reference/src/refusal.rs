@@ -21,7 +21,10 @@ pub enum Refusal {
     WornTag = 33,
     Unsound = 34,
     WrongPush = 41,
+    NotTwo = 42,
     ManyAsked = 45,
+    NotAtRest = 47,
+    Crowded = 48,
 }
 
 impl Refusal {

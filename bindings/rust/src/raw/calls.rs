@@ -1,6 +1,8 @@
 //! The calls.
 
-use super::{Control, FindReply, Record, Reply, ReportReply, RunReply, SheetReply, Verdict};
+use super::{
+    Control, FindReply, Record, Reply, ReportReply, RunReply, ScheduleReply, SheetReply, Verdict,
+};
 
 #[link(name = "zeppolecape", kind = "static")]
 unsafe extern "C" {
@@ -177,6 +179,38 @@ unsafe extern "C" {
         marks: *const u64,
         mark_count: usize,
     ) -> FindReply;
+    /// Joins two queues at rest in a third that is fresh.
+    pub fn zc_join(
+        first: *const Control,
+        first_records: *const Record,
+        first_record_count: usize,
+        second: *const Control,
+        second_records: *const Record,
+        second_record_count: usize,
+        third: *mut Control,
+        third_records: *mut Record,
+        third_record_count: usize,
+        first_lefts: *const u64,
+        first_left_count: usize,
+        first_rights: *const u64,
+        first_right_count: usize,
+        first_labels: *const u32,
+        first_label_count: usize,
+        second_lefts: *const u64,
+        second_left_count: usize,
+        second_rights: *const u64,
+        second_right_count: usize,
+        second_labels: *const u32,
+        second_label_count: usize,
+        lefts: *mut u64,
+        left_count: usize,
+        rights: *mut u64,
+        right_count: usize,
+        labels: *mut u32,
+        label_count: usize,
+        marks: *mut u64,
+        mark_count: usize,
+    ) -> u32;
 
     /// The same step on one lent record, which need not lie among the others.
     /// Refuses: 34 for control, 12 (rows and marks only), 34 for the record, 31, 34 for what the step
@@ -242,4 +276,24 @@ unsafe extern "C" {
         marks: *const u64,
         mark_count: usize,
     ) -> SheetReply;
+
+    /// The first schedule after the one that `schedule` holds, stored over it.
+    /// Refuses: 34 for control, 12 (schedule too: 49 words), 34 for the walk, 42.
+    pub fn zc_next_schedule(
+        control: *const Control,
+        records: *const Record,
+        record_count: usize,
+        schedule: *mut u64,
+        schedule_count: usize,
+        lefts: *mut u64,
+        left_count: usize,
+        rights: *mut u64,
+        right_count: usize,
+        labels: *mut u32,
+        label_count: usize,
+        marks: *mut u64,
+        mark_count: usize,
+        next: *mut u64,
+        next_count: usize,
+    ) -> ScheduleReply;
 }

@@ -5,34 +5,34 @@ use lib.ListN.{length}
 use native.Mathlib.Omega.{arith}
 use borrow.Author.Needs.{needs}
 use Rattle.carry.specs.Run.{carried}
-use Rattle.carry.specs.Page.{emptied, uppersAfter}
+use Rattle.carry.specs.Page.{uppersAfter}
 use Rattle.carry.proofs.Pages.{written-none, breaks-roomy}
-use Rattle.carry.proofs.Fields.{steps-whole, steps-content}
+use Rattle.carry.proofs.Fields.{each-whole, task-bytes}
 use Rattle.carry.proofs.carry_out.Statement.{statement}
 use Rattle.carry.proofs.carry_out.Tie as tie
 
--- A steps field, and the beginning.
-module _ (told : tie.After-known-told3) where
+-- A field of operations, and the beginning.
+module _ (told : tie.After-known-told2) where
   abbrev first : tie.Start
   first =
       let lists = told .before .before .before .before in
       let more = lists .before .before .before .before in
       more .before .before
 
-add-steps : tie.Need-add-steps
-add-steps c = let h = steps-whole _ _ _ _ (c .before .field3 .given .1) (first c .pre .1) in omega arith
+add-each : tie.Need-add-each
+add-each c = let h = each-whole _ _ _ _ _ (c .before .field2 .given .1) (first c .pre .1) in omega arith
 
-add-steps-2 : tie.Need-add-steps-2
-add-steps-2 c = let h = steps-whole _ _ _ _ (c .before .field3 .given .1) (first c .pre .1) in omega arith
+add-each-2 : tie.Need-add-each-2
+add-each-2 c = let h = each-whole _ _ _ _ _ (c .before .field2 .given .1) (first c .pre .1) in omega arith
 
-add-steps-3 : tie.Need-add-steps-3
-add-steps-3 c = let h = steps-whole _ _ _ _ (c .before .field3 .given .1) (first c .pre .1) in omega arith
+add-each-3 : tie.Need-add-each-3
+add-each-3 c = let h = each-whole _ _ _ _ _ (c .before .field2 .given .1) (first c .pre .1) in omega arith
 
-steps-requires : tie.Need-steps-requires
-steps-requires c κs =
+each-requires : tie.Need-each-requires
+each-requires c κs =
     let lent = c .before .before .before .before in
     let told = lent .before .before .before in
-    let h = steps-whole _ _ _ _ (told .before .field3 .given .1) (first told .pre .1) in
+    let h = each-whole _ _ _ _ _ (told .before .field2 .given .1) (first told .pre .1) in
     let fits = first told .pre .0 in
     (omega arith, omega arith, omega arith)
 
@@ -46,16 +46,8 @@ module _ (c : tie.After-slice-known12) where
       out .before
 
 module _ (c : tie.After-slice-known18) where
-  abbrev operated : tie.After-operate
+  abbrev operated : tie.After-each
   operated =
-      let marks = c .before .before .before .before in
-      let lefts = marks .before .before .before .before in
-      let out = lefts .before .before .before .before in
-      out .before
-
-module _ (c : tie.After-slice-known24) where
-  abbrev stepped : tie.After-steps
-  stepped =
       let marks = c .before .before .before .before in
       let lefts = marks .before .before .before .before in
       let out = lefts .before .before .before .before in
@@ -69,37 +61,30 @@ returns c =
     rw (told .before .field .given .1) (opened c .open-queue .ensures)
 
 returns-2 : tie.Need-returns-2
-unfolding carried uppersAfter emptied
+unfolding carried uppersAfter
 returns-2 c =
     let lent = operated c .before .before .before .before in
     let told = lent .before .before .before .before in
-    rw (told .before .field2 .given .1) (operated c .operate .ensures .0)
+    let args = first told .args in
+    let h = each-whole _ _ _ _ _ (told .before .field2 .given .1) (first told .pre .1) in
+    let from : args .at + 3 ≤ length (args .bytes .now) = omega arith in
+    rw (told .before .field2 .given .1, ← task-bytes (args .at) _ (args .bytes .now) from) (operated c .each .ensures)
 
 returns-3 : tie.Need-returns-3
 unfolding carried uppersAfter
 returns-3 c =
-    let lent = stepped c .before .before .before .before in
-    let told = lent .before .before .before .before in
-    let args = first told .args in
-    let h = steps-whole _ _ _ _ (told .before .field3 .given .1) (first told .pre .1) in
-    let from : args .at + 3 ≤ length (args .bytes .now) = omega arith in
-    rw (told .before .field3 .given .1, ← steps-content (args .at) _ (args .bytes .now) from) (stepped c .steps .ensures)
-
-returns-4 : tie.Need-returns-4
-unfolding carried uppersAfter
-returns-4 c =
     let told = c .before .before .before .before in
     let lists = told .before .before .before .before in
     let more = lists .before .before .before .before in
     rw (told .enum-told .given .1) (c .before .before .malformed .ensures _ _ _ _ _ _ ∙ breaks-roomy _ (more .before .pre .0))
 
+returns-4 : tie.Need-returns-4
+unfolding carried uppersAfter
+returns-4 c = rw (c .enum-told2 .given .1) (sym (written-none _))
+
 returns-5 : tie.Need-returns-5
 unfolding carried uppersAfter
-returns-5 c = rw (c .enum-told2 .given .1) (sym (written-none _))
-
-returns-6 : tie.Need-returns-6
-unfolding carried uppersAfter
-returns-6 c = rw (c .enum-told3 .given .1) (sym (written-none _))
+returns-5 c = rw (c .enum-told3 .given .1) (sym (written-none _))
 
 pub carry-out-spec : {M : Type 1} → statement M
 carry-out-spec =
@@ -108,12 +93,10 @@ carry-out-spec =
     (λ c. search needs)
     (λ c κs. search needs)
     (λ c. search needs)
-    (λ c κs. search needs)
-    (λ c. search needs)
-    add-steps
-    add-steps-2
-    add-steps-3
-    steps-requires
+    add-each
+    add-each-2
+    add-each-3
+    each-requires
     (λ c. search needs)
     (λ c κs. search needs)
     (λ c. search needs)
@@ -126,23 +109,15 @@ carry-out-spec =
     (λ c. opened c .open-queue .kept .1 .1 .1 .1 .1 .1 .1 .1 .1 .1 .0)
     (λ c. opened c .open-queue .kept .1 .1 .1 .1 .1 .1 .1 .1 .1 .1 .1 .0)
     returns
-    (λ c. operated c .operate .kept .1 .1 .1 .0)
-    (λ c. operated c .operate .kept .1 .1 .1 .1 .0)
-    (λ c. operated c .operate .kept .1 .1 .1 .1 .1 .0)
-    (λ c. operated c .operate .kept .1 .1 .1 .1 .1 .1 .0)
-    (λ c. operated c .operate .kept .1 .1 .1 .1 .1 .1 .1 .0)
-    (λ c. operated c .operate .kept .1 .1 .1 .1 .1 .1 .1 .1 .0)
-    (λ c. operated c .operate .kept .1 .1 .1 .1 .1 .1 .1 .1 .1 .0)
+    (λ c. operated c .each .kept .1 .1 .1 .1 .1 .0)
+    (λ c. operated c .each .kept .1 .1 .1 .1 .1 .1 .0)
+    (λ c. operated c .each .kept .1 .1 .1 .1 .1 .1 .1 .0)
+    (λ c. operated c .each .kept .1 .1 .1 .1 .1 .1 .1 .1 .0)
+    (λ c. operated c .each .kept .1 .1 .1 .1 .1 .1 .1 .1 .1 .0)
+    (λ c. operated c .each .kept .1 .1 .1 .1 .1 .1 .1 .1 .1 .1 .0)
+    (λ c. operated c .each .kept .1 .1 .1 .1 .1 .1 .1 .1 .1 .1 .1 .0)
     returns-2
-    (λ c. stepped c .steps .kept .1 .1 .1 .1 .0)
-    (λ c. stepped c .steps .kept .1 .1 .1 .1 .1 .0)
-    (λ c. stepped c .steps .kept .1 .1 .1 .1 .1 .1 .0)
-    (λ c. stepped c .steps .kept .1 .1 .1 .1 .1 .1 .1 .0)
-    (λ c. stepped c .steps .kept .1 .1 .1 .1 .1 .1 .1 .1 .0)
-    (λ c. stepped c .steps .kept .1 .1 .1 .1 .1 .1 .1 .1 .1 .0)
-    (λ c. stepped c .steps .kept .1 .1 .1 .1 .1 .1 .1 .1 .1 .1 .0)
-    returns-3
     (λ c. search needs)
+    returns-3
     returns-4
-    returns-5
-    returns-6)
+    returns-5)

@@ -17,49 +17,43 @@ returns-2 : tie.Need-returns-2
 unfolding contentOf
 returns-2 c =
     let side = c .before .before in
-    let test = side .before .before in
+    let test = side .before in
     simp (
       test .before .if1 .left,
       eq-eqb _ _ (test .if2 .taken),
-      byte-here,
       getD-drop,
       two-drop,
       four-drop,
       c .four-at2 .ensures,
       c .before .two-at2 .ensures .0,
-      side .byte-at3 .ensures .0,
-      side .before .byte-at2 .ensures .0,
+      side .byte-at2 .ensures .0,
     )
 
 returns-3 : tie.Need-returns-3
 unfolding contentOf
 returns-3 c =
-    let test = c .before .before in
+    let test = c .before in
     simp (
       test .before .before .if1 .left,
       ne-eqb _ _ (test .before .if2 .left),
       eq-eqb _ _ (test .if3 .taken),
-      byte-here,
       getD-drop,
-      c .byte-at5 .ensures .0,
-      c .before .byte-at4 .ensures .0,
+      c .byte-at3 .ensures .0,
     )
 
 returns-4 : tie.Need-returns-4
 unfolding contentOf
 returns-4 c =
-    let test = c .before .before .before in
+    let test = c .before .before in
     simp (
       test .before .before .before .if1 .left,
       ne-eqb _ _ (test .before .before .if2 .left),
       ne-eqb _ _ (test .before .if3 .left),
       eq-eqb _ _ (test .if4 .taken),
-      byte-here,
       getD-drop,
       four-drop,
       c .four-at3 .ensures,
-      c .before .byte-at7 .ensures .0,
-      c .before .before .byte-at6 .ensures .0,
+      c .before .byte-at4 .ensures .0,
     )
 
 returns-5 : tie.Need-returns-5
@@ -81,16 +75,13 @@ content-spec =
     (λ c κs. search needs)
     (λ c. search needs)
     (λ c κs. search needs)
-    (λ c κs. search needs)
     (λ c. search needs)
     (λ c κs. search needs)
     (λ c. search needs)
     (λ c κs. search needs)
     (λ c. search needs)
     (λ c κs. search needs)
-    (λ c κs. search needs)
     (λ c. search needs)
-    (λ c κs. search needs)
     (λ c κs. search needs)
     (λ c. search needs)
     (λ c κs. search needs)

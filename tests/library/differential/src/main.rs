@@ -1,14 +1,15 @@
 //! The static library and the second program driven by the same calls, answers and all tables
 //! compared after each: scenes that are accepted, every fault alone and in pairs, tables of any
-//! contents, histories from an opening, and order sheets. Then audits of histories.
+//! contents, histories from an opening, order sheets and joinings. Then audits of histories.
 //!
 //!     differential [SEED] [TIMES]       all of it
-//!     differential SEED TIMES PART      one part alone: calls, sheet or audit
+//!     differential SEED TIMES PART      one part alone: calls, sheet, join or audit
 
 mod audit;
 mod audit_histories;
 mod faults;
 mod histories;
+mod joins;
 mod line;
 mod noise;
 mod ours;
@@ -39,6 +40,9 @@ fn main() -> ExitCode {
     }
     if wanted("sheet") {
         sheets::sheets(&mut tally, &mut dice, 100_000 * times);
+    }
+    if wanted("join") {
+        joins::joins(&mut tally, &mut dice, 20_000 * times);
     }
     println!("seed {seed}: {} calls compared", tally.calls);
     if wanted("audit") {

@@ -5,22 +5,22 @@ use native.Mathlib.Omega.{arith}
 use borrow.Author.Needs.{needs}
 use lib.ListN.{length}
 use lib.Seq.{slice}
-use Rattle.carry.specs.Run.{stepsOf}
+use Rattle.carry.specs.Run.{eachOf}
 use Rattle.carry.specs.Page.{pageOf, operates}
-use Rattle.carry.proofs.Pages.{steps-end, steps-more}
-use Rattle.carry.proofs.acts.steps.Statement.{statement}
-use Rattle.carry.proofs.acts.steps.Tie as tie
+use Rattle.carry.proofs.Pages.{each-end, each-more}
+use Rattle.carry.proofs.acts.each.Statement.{statement}
+use Rattle.carry.proofs.acts.each.Tie as tie
 
 abbrev Inv-loop : tie.InvT-loop
-Inv-loop bytes from end out₀ rows₀ lefts₀ rights₀ labels₀ marks₀ next₀ q₀ i₀ out rows lefts rights labels marks next q i =
+Inv-loop op bytes from end out₀ rows₀ lefts₀ rights₀ labels₀ marks₀ next₀ q₀ i₀ out rows lefts rights labels marks next q i =
     (i ≤ end) × (end ≤ length bytes) × (end < 9223372036854775808) × (q .to + 128 * (end - i) ≤ length out₀)
-    × (operates (pageOf q out rows lefts rights labels marks next) (stepsOf (slice i end bytes))
-    ≡ operates (pageOf q₀ out₀ rows₀ lefts₀ rights₀ labels₀ marks₀ next₀) (stepsOf (slice from end bytes)))
+    × (operates (pageOf q out rows lefts rights labels marks next) (eachOf op (slice i end bytes))
+    ≡ operates (pageOf q₀ out₀ rows₀ lefts₀ rights₀ labels₀ marks₀ next₀) (eachOf op (slice from end bytes)))
     × (length out ≡ length out₀) × (length rows ≡ length rows₀) × (length lefts ≡ length lefts₀) × (length rights ≡ length rights₀)
     × (length labels ≡ length labels₀) × (length marks ≡ length marks₀) × (length next ≡ length next₀)
 
 abbrev μ-loop : tie.MeasureT-loop
-μ-loop bytes from end out₀ rows₀ lefts₀ rights₀ labels₀ marks₀ next₀ q₀ i₀ out rows lefts rights labels marks next q i = end - i
+μ-loop op bytes from end out₀ rows₀ lefts₀ rights₀ labels₀ marks₀ next₀ q₀ i₀ out rows lefts rights labels marks next q i = end - i
 
 -- A turn of the loop, and its beginning.
 module _ (done : tie.After-operate Inv-loop μ-loop) where
@@ -63,7 +63,7 @@ loop-again c =
       inv .1,
       inv .2,
       omega arith,
-      steps-more _ _ _ _ _ less (inv .1) (done .operate .ensures .0) ∙ inv .4,
+      each-more _ _ _ _ _ _ less (inv .1) (done .operate .ensures .0) ∙ inv .4,
       kept .0 ∙ inv .5,
       kept .1 .0 ∙ inv .6,
       kept .1 .1 .0 ∙ inv .7,
@@ -79,10 +79,10 @@ returns c =
     let first = lists .before .before .before .before in
     let args = first .before .args in
     let e : c .before .loop .i ≡ args .end = omega arith in
-    steps-end _ _ _ _ _ e (c .before .loop .inv .4)
+    each-end _ _ _ _ _ _ e (c .before .loop .inv .4)
 
-pub steps-spec : {M : Type 1} → statement M
-steps-spec =
+pub each-spec : {M : Type 1} → statement M
+each-spec =
     tie.close
     (tie.spec
     Inv-loop

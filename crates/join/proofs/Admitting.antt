@@ -1,0 +1,119 @@
+-- The rules stage by stage: refused before the walks, by one of them, or as the rules after them say.
+use mathlib.Core.Path.{_≡_, refl, sym, ap, ap₂, _∙_}
+use mathlib.Core.Bool.{Bool, true, false, not, cond}
+use mathlib.Core.List.{List, [], _∷_}
+use mathlib.Core.Logic.{_≢_}
+use Prim.Native.Nat.{ℕ, _+_, _≤_}
+use native.Mathlib.Omega.{arith}
+use lib.Dec.{ltb}
+use lib.ListN.{length, length-map}
+use Rattle.model.specs.declared.Control.{Control}
+use Rattle.model.specs.declared.Entry.{Entry}
+use Rattle.model.specs.Tables.{Queue, queueOf}
+use Rattle.model.specs.Sound.{every, controlTests, controlSound}
+use Rattle.model.specs.Walk.{contents, met}
+use Rattle.model.specs.Refusals.{first}
+use Rattle.model.proofs.tests.Rules.{tests}
+use Rattle.model.proofs.bridge.Facts.{from1-true}
+use Rattle.walk.specs.declared.Tally.the-variants.{Broken, Labels}
+use Rattle.walk.specs.Counted.{counted}
+use Rattle.walk.proofs.Counting.{all-counted, none-counted}
+use Rattle.rows.specs.Rows.{recordsOf}
+use Rattle.rows.proofs.Rows.{length-records}
+use Rattle.join_model.specs.Join.{anchorIn, lane, lanes, sourceFits, thirdFits, atRest, fresh}
+use Rattle.join_model.specs.Closed.{lateFor, closedRefusal}
+use Rattle.join_model.proofs.Merged.{interleaved, length-merged}
+use Rattle.join.specs.declared.admit.Admission.{Admission}
+use Rattle.join.specs.Rules.{lengthsFit, testsRefusal, laterRefusal}
+use Rattle.join.specs.Admits.{Admits}
+
+-- Long enough by the lengths is long enough.
+pub fits-is : (c : Control) (rows : List (List ℕ)) (lefts rights labels marks next : List ℕ)
+    → lengthsFit c (length rows) (length lefts) (length rights) (length labels) ≡ sourceFits (queueOf c (recordsOf rows) lefts rights labels marks next)
+unfolding lengthsFit sourceFits
+fits-is c rows lefts rights labels marks next = rw length-records
+
+one-applies : (a b q f : Bool) (rest : ℕ) → testsRefusal a b q f ≢ 0
+    → cond (not a) 34 (cond (not b) 34 (cond (not q) 34 (cond (not f) 12 rest))) ≡ testsRefusal a b q f
+unfolding testsRefusal
+one-applies true true true true rest h = absurd (h refl)
+one-applies true true true false rest h = refl
+one-applies true true false f rest h = refl
+one-applies true false q f rest h = refl
+one-applies false b q f rest h = refl
+
+none-applies : (a b q f : Bool) → testsRefusal a b q f ≡ 0 → (a ≡ true) × (b ≡ true) × (q ≡ true) × (f ≡ true)
+unfolding testsRefusal
+none-applies true true true true e = (refl, refl, refl, refl)
+none-applies true true true false e = absurd (omega arith)
+none-applies true true false f e = absurd (omega arith)
+none-applies true false q f e = absurd (omega arith)
+none-applies false b q f e = absurd (omega arith)
+
+abbrev pub refusedBy : ℕ → Admission
+refusedBy n = record { code = n; first = 0; second = 0 }
+
+module _ (a b q : Queue) where
+  abbrev pub why : ℕ
+  why =
+      testsRefusal (controlSound (a .tables .control)) (controlSound (b .tables .control)) (controlSound (q .tables .control))
+      (every (sourceFits a ∷ sourceFits b ∷ thirdFits q ∷ []))
+
+  refusing : (n : ℕ) → n ≡ closedRefusal a b q → n ≢ 0 → Admits a b q (refusedBy n)
+  refusing n e h = record { refusal = e; first = λ z. absurd (h z); second = λ z. absurd (h z) }
+
+  pub turned-away : (n : ℕ) → n ≡ why → n ≢ 0 → Admits a b q (refusedBy n)
+  unfolding closedRefusal
+  turned-away n e h = refusing n (e ∙ sym (one-applies _ _ _ _ _ (λ z. h (e ∙ z)))) h
+
+  module _ (n : ℕ) (e : n ≡ why) (z : n ≡ 0) where
+    passed : (controlSound (a .tables .control) ≡ true) × (controlSound (b .tables .control) ≡ true) × (controlSound (q .tables .control) ≡ true)
+        × (every (sourceFits a ∷ sourceFits b ∷ thirdFits q ∷ []) ≡ true)
+    passed = none-applies _ _ _ _ (sym e ∙ z)
+
+    pub small : q .tables .control .slots ≤ 1023
+    unfolding controlSound
+    small = from1-true 1023 (q .tables .control .slots) (tests (controlTests (q .tables .control)) (passed .2) .1 .0) .1
+
+    pub first-lost : Broken ≡ counted (contents (a .tables)) → Admits a b q (refusedBy 34)
+    unfolding closedRefusal
+    first-lost g = refusing 34 (rw (passed .0, passed .1, passed .2, passed .3, none-counted (contents (a .tables)) g)) (λ z. omega arith)
+
+    module _ (k : ℕ) (g : Labels k ≡ counted (contents (a .tables))) where
+      pub second-lost : Broken ≡ counted (contents (b .tables)) → Admits a b q (refusedBy 34)
+      unfolding closedRefusal
+      second-lost h =
+          refusing 34 (rw (
+            passed .0,
+            passed .1,
+            passed .2,
+            passed .3,
+            all-counted (contents (a .tables)) k g .0,
+            none-counted
+                (contents (b .tables)) h,
+          )) (λ z. omega arith)
+
+      module _ (m : ℕ) (h : Labels m ≡ counted (contents (b .tables))) where
+        in-first : k ≡ length (lane a)
+        unfolding lane
+        in-first = all-counted (contents (a .tables)) k g .1 ∙ sym (length-map (met (contents (a .tables))) (λ (e : Entry). e .label))
+
+        in-second : m ≡ length (lane b)
+        unfolding lane
+        in-second = all-counted (contents (b .tables)) m h .1 ∙ sym (length-map (met (contents (b .tables))) (λ (e : Entry). e .label))
+
+        in-both : k + m ≡ length (lanes a b)
+        in-both = ap₂ (λ (x y : ℕ). x + y) in-first in-second ∙ sym (length-merged (interleaved (lane a) (lane b)))
+
+        pub decided : (code : ℕ)
+            → code ≡ laterRefusal (every (atRest a ∷ atRest b ∷ fresh q ∷ [])) (ltb (q .tables .control .slots) (k + m)) (lateFor (anchorIn q .tag) (k + m))
+            → Admits a b q (record { code = code; first = k; second = m })
+        unfolding closedRefusal laterRefusal
+        decided code d = record {
+          refusal =
+              d ∙ ap (λ (n : ℕ). laterRefusal (every (atRest a ∷ atRest b ∷ fresh q ∷ [])) (ltb (q .tables .control .slots) n)
+              (lateFor (anchorIn q .tag) n)) in-both
+              ∙ rw (passed .0, passed .1, passed .2, passed .3, all-counted (contents (a .tables)) k g .0, all-counted (contents (b .tables)) m h .0);
+          first = λ z. in-first;
+          second = λ z. in-second;
+        }

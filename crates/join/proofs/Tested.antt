@@ -1,0 +1,60 @@
+-- The tests of 47 that are loops: one entry more, or one that fails.
+use mathlib.Core.Path.{_≡_, refl, sym, ap, _∙_}
+use mathlib.Core.Bool.{Bool, true, false, _&&_, not}
+use mathlib.Core.List.{List}
+use mathlib.Core.Logic.{_≢_}
+use Prim.Native.Nat.{ℕ, zero, suc, _+_, _-_, _<_, _≤_}
+use native.Mathlib.Numerals.{add-one}
+use native.Mathlib.Omega.{arith}
+use lib.Dec.{eqb, ltb}
+use lib.ListN.{length, getD, List·getD-eq-default}
+use borrow.Author.Tests.{ne-eqb, eqb-true, ltb-true, ltb-false}
+use Rattle.model.specs.declared.Record.{Record}
+use Rattle.model.specs.Tables.{idle}
+use Rattle.model.specs.Report.{count}
+use Rattle.model.proofs.tests.Truth.{split, not-both}
+use Rattle.join_model.specs.Join.{blank}
+use Rattle.join_model.proofs.Fresh.{none-pass}
+use Rattle.join.specs.Rules.{least}
+
+pub least-le : (n m : ℕ) → least n m ≤ m
+least-le n m = split (ltb n m) (λ e. rw e (let h = ltb-true n m e in omega arith)) (λ e. rw e (omega arith))
+
+pub blank-more : (l : List ℕ) (i : ℕ) → blank i l && eqb (getD l i 0) 0 ≡ blank (i + 1) l
+blank-more l i = ap (λ (n : ℕ). blank n l) (sym (add-one i))
+
+-- Beyond the end of a table all is zero.
+blank-past : (l : List ℕ) (k : ℕ) → blank (length l + k) l ≡ blank (length l) l
+blank-past l zero = let e : length l + 0 ≡ length l = omega arith in ap (λ (n : ℕ). blank n l) e
+blank-past l (suc k) =
+    let e : length l + suc k ≡ suc (length l + k) = omega arith in
+    ap (λ (n : ℕ). blank n l) e
+    ∙ ap (λ (x : ℕ). blank (length l + k) l && eqb x 0) (List·getD-eq-default l 0 (omega arith))
+    ∙ and-yes (blank (length l + k) l)
+    ∙ blank-past l k
+  where
+    and-yes : (b : Bool) → b && true ≡ b
+    and-yes true = refl
+    and-yes false = refl
+
+pub blank-least : (l : List ℕ) (n : ℕ) → blank (least n (length l)) l ≡ blank n l
+blank-least l n = split (ltb n (length l)) (λ e. rw e) (λ e. rw e (past (ltb-false n (length l) e)))
+  where
+    past : length l ≤ n → blank (length l) l ≡ blank n l
+    past h = let e : length l + (n - length l) ≡ n = omega arith in sym (blank-past l (n - length l)) ∙ ap (λ (k : ℕ). blank k l) e
+
+abbrev pub busyIn : List Record → ℕ → ℕ
+busyIn rs n = count (λ t. not (eqb (getD rs t idle .place) 0)) n
+
+pub idle-none : (rs : List Record) → busyIn rs 0 ≡ 0
+unfolding count
+idle-none rs = refl
+
+pub idle-more : (rs : List Record) (i : ℕ) → busyIn rs i ≡ 0 → getD rs i idle .place ≡ 0 → busyIn rs (i + 1) ≡ 0
+unfolding count
+idle-more rs i h e = ap (busyIn rs) (add-one i) ∙ rw (h, e)
+
+pub idle-less : (rs : List Record) (n i : ℕ) → i < n → getD rs i idle .place ≢ 0 → eqb (busyIn rs n) 0 ≡ false
+idle-less rs n i h e = split (eqb (busyIn rs n) 0)
+    (λ z. absurd (not-both (ap not (ne-eqb _ _ e)) (none-pass (λ t. not (eqb (getD rs t idle .place) 0)) n (eqb-true _ _ z) i h)))
+    (λ z. z)

@@ -1,0 +1,125 @@
+-- Refused, nothing to lay, or laid: on the queues that the call was given.
+use mathlib.Core.Path.{_≡_, sym, _∙_}
+use mathlib.Core.List.{[]}
+use Prim.Native.Nat.{ℕ, _+_, _≤_}
+use native.Mathlib.Omega.{arith}
+use lib.Dec.{eqb}
+use borrow.Author.Needs.{needs}
+use borrow.Author.Tests.{eqb-true}
+use Rattle.model.specs.Tables.{Queue, queueOf}
+use Rattle.model.proofs.tests.Truth.{and-true}
+use Rattle.rows.specs.Rows.{recordsOf}
+use Rattle.join_model.specs.Closed.{closedRefusal}
+use Rattle.join.proofs.Joining.{refuses, nothing, few, low-tag, lays, one-left}
+use Rattle.join.proofs.join.Statement.{statement}
+use Rattle.join.proofs.join.Tie as tie
+
+-- What the call was given.
+abbrev start : tie.After-admit → tie.Start
+start r =
+    let k = r .before .before .before .before in
+    let l = k .before .before .before .before in
+    let m = l .before .before .before .before in
+    m .before .before .before
+
+abbrev one : tie.After-admit → Queue
+one w = let a = start w .args in queueOf (a .first) (recordsOf (a .records1 .now)) (a .lefts1 .now) (a .rights1 .now) (a .labels1 .now) [] []
+
+abbrev two : tie.After-admit → Queue
+two w = let a = start w .args in queueOf (a .second) (recordsOf (a .records2 .now)) (a .lefts2 .now) (a .rights2 .now) (a .labels2 .now) [] []
+
+abbrev third : tie.After-admit → Queue
+third w = let a = start w .args in queueOf (a .third) (recordsOf (a .records .now)) (a .lefts .now) (a .rights .now) (a .labels .now) (a .marks .now) []
+
+returns : tie.Need-returns
+returns c = let r = c .before .before in refuses (one r) (two r) (third r) _ (r .admit .ensures .refusal) (c .if1 .taken)
+
+-- Not refused, and so many labels in each.
+module _ (i : tie.Else1) where
+  abbrev asked : tie.After-admit
+  asked = i .before .before
+
+  none : closedRefusal (one asked) (two asked) (third asked) ≡ 0
+  none = sym (asked .admit .ensures .refusal) ∙ i .if1 .left
+
+  abbrev n : ℕ
+  n = asked .admit .result .first
+
+  abbrev m : ℕ
+  m = asked .admit .result .second
+
+  small : n + m ≤ 1023
+  small = few (one asked) (two asked) (third asked) none n m (asked .admit .ensures .first (i .if1 .left)) (asked .admit .ensures .second (i .if1 .left))
+
+returns-2 : tie.Need-returns-2
+returns-2 c =
+    let i = c .before .before .before in
+    let r = asked i in
+    let z = and-true (eqb (n i) 0) (eqb (m i) 0) (c .if2 .taken) in
+    nothing (one r) (two r) (third r) (none i) (n i) (m i) (r .admit .ensures .first (i .if1 .left)) (r .admit .ensures .second (i .if1 .left))
+    (eqb-true _ _ (z .0)) (eqb-true _ _ (z .1))
+
+-- Some label is laid.
+abbrev first-test : tie.Else2 → tie.Else1
+first-test k = k .before .before .before
+
+some : (k : tie.Else2) → 1 ≤ n (first-test k) + m (first-test k)
+some k = one-left (n (first-test k)) (m (first-test k)) (k .if2 .left)
+
+abbrev laying : tie.After-fill → tie.Else2
+laying f = let k = f .before .before .before in k .before .before
+
+fill-requires : tie.Need-fill-requires
+fill-requires c κs = let k = c .before .before .before .before in small (first-test k)
+
+abbrev filled : tie.After-struct-known4 → tie.After-fill
+filled s = let k = s .before .before .before in let l = k .before .before .before in l .before .before .before
+
+add-anchored : tie.Need-add-anchored
+add-anchored c = omega (arith, small (first-test (laying (filled c))))
+
+anchored-requires : tie.Need-anchored-requires
+anchored-requires c κs =
+    let k = laying (filled c) in
+    let i = first-test k in
+    let r = asked i in (
+      some k,
+      (
+        small i,
+        low-tag (one r) (two r) (third r) (none i) (n i) (m i) (r .admit .ensures .first (i .if1 .left))
+            (r .admit .ensures .second (i .if1 .left)) (some k),
+      ),
+    )
+
+returns-3 : tie.Need-returns-3
+returns-3 c =
+    let f = filled (c .before) in
+    let k = laying f in
+    let i = first-test k in
+    let r = asked i in
+    lays (one r) (two r) (third r) (none i) (n i) (m i) (r .admit .ensures .first (i .if1 .left)) (r .admit .ensures .second (i .if1 .left)) (some k) _ _ _ _ _
+    (f .fill .ensures .0) (f .fill .ensures .1 .0) (f .fill .ensures .1 .1 .0) (f .fill .ensures .1 .1 .1) (c .anchored .ensures)
+
+pub join-spec : {M : Type 1} → statement M
+join-spec =
+    tie.close
+    (tie.spec
+    (λ _ _. tt)
+    (λ c. search needs)
+    (λ c. search needs)
+    (λ c. search needs)
+    (λ c. search needs)
+    returns
+    (λ c. search needs)
+    (λ c. search needs)
+    (λ c. search needs)
+    (λ c. search needs)
+    returns-2
+    fill-requires
+    add-anchored
+    anchored-requires
+    (λ c. search needs)
+    (λ c. search needs)
+    (λ c. search needs)
+    (λ c. search needs)
+    returns-3)

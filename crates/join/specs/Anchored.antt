@@ -1,0 +1,31 @@
+-- Control after the pushes, and what the joining by value leaves.
+use mathlib.Core.Path.{_≡_}
+use mathlib.Core.Bool.{false, cond}
+use mathlib.Core.List.{List, []}
+use Prim.Native.Nat.{ℕ}
+use lib.ListN.{set}
+use Rattle.word.specs.Anchor.{anchorOf, packAnchor}
+use Rattle.model.specs.declared.Control.{Control}
+use Rattle.model.specs.Tables.{Queue, tablesOf, queueOf, idle}
+use Rattle.model.specs.Places.{withAnchor}
+use Rattle.join_model.specs.Join.{Joined, join, laid}
+use Rattle.join_model.specs.Closed.{tagAfter}
+use Rattle.join.specs.declared.Done.{Done}
+
+-- The Anchor of n labels in slots 1 to n.
+unfoldable pub anchored : Control → ℕ → Control
+anchored c n =
+    withAnchor (tablesOf c [] [] [] [] []) (packAnchor (record { tag = tagAfter (anchorOf (c .anchor) .tag) n; status = 0; left = 1; right = n })) .control
+
+-- Its answer and the third then, once record 0 is idle where labels were laid.
+pub record Joins (a b q : Queue) (d : Done) (lefts rights labels marks : List ℕ) : Type 0 where
+  pub lays : d .laid ≡ laid a b q
+  pub kept : d .laid ≡ false → d .control ≡ q .tables .control
+  pub leaves :
+      _≡_ {A = Joined}
+      (record {
+        code = d .code;
+        third = queueOf (d .control) (cond (d .laid) (set (q .records) 0 idle) (q .records)) lefts rights labels marks
+            (q .tables .next);
+      })
+      (join a b q)

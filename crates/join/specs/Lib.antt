@@ -1,0 +1,4 @@
+pub mod Rules
+pub mod Admits
+pub mod Scratch
+pub mod Anchored

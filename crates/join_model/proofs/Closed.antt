@@ -1,0 +1,97 @@
+-- The joining by pushes is the joining word by word.
+use mathlib.Core.Path.{_≡_, refl, sym, ap, _∙_}
+use mathlib.Core.Bool.{Bool, true, false}
+use mathlib.Core.List.{List, [], _∷_, _++_}
+use Prim.Native.Nat.{ℕ, _≤_}
+use lib.Dec.{eqb}
+use lib.ListN.{length}
+use borrow.Author.Tests.{eqb-true, ltb-false, not-false}
+use Rattle.model.specs.Tables.{Queue}
+use Rattle.model.specs.Report.{busy}
+use Rattle.model.specs.Walk.{contents, isBroken}
+use Rattle.model.specs.History.{All, run}
+use Rattle.model.specs.Refusals.{Rule, rule, first}
+use Rattle.model.proofs.tests.Rules.{tests, cleared}
+use Rattle.model.proofs.tests.Truth.{and-true, split}
+use Rattle.join_model.specs.Join.{anchorIn, lanes, pushes, outcomes, anyLate, sourceFits, thirdFits, atRest, fresh}
+use Rattle.join_model.specs.Join.{earlyRules, joinRules, joinRefusal, join}
+use Rattle.join_model.specs.Closed.{lateFor, holding, closedRefusal, joinClosed}
+use Rattle.join_model.specs.Laws.{ClosedForm, AllAnswered, answers}
+use Rattle.join_model.proofs.Fresh.{Fresh, is-fresh}
+use Rattle.join_model.proofs.Ran.{Ran}
+use Rattle.join_model.proofs.Lanes.{late-is, pushed-is}
+
+-- A last rule counts only where none before it applies.
+same-last : (l : List Rule) (n : ℕ) (b c : Bool) → (first l ≡ 0 → b ≡ c) → first (l ++ (rule n b ∷ [])) ≡ first (l ++ (rule n c ∷ []))
+same-last [] n b c h = rw (h refl)
+same-last (r ∷ l) n b c h = go (r .applies) refl (λ g. same-last l n b c g)
+  where
+    go : (x : Bool) → r .applies ≡ x → ((first l ≡ 0 → b ≡ c) → first (l ++ (rule n b ∷ [])) ≡ first (l ++ (rule n c ∷ [])))
+        → first ((r ∷ l) ++ (rule n b ∷ [])) ≡ first ((r ∷ l) ++ (rule n c ∷ []))
+    go true e more = rw e
+    go false e more = rw e (more (λ z. h (rw e z)))
+
+-- What the rules before 33 leave: of a source, that it is STABLE and its walk is not broken.
+pub record Rests (q : Queue) : Type 0 where
+  pub stable : anchorIn q .status ≡ 0
+  pub walks : isBroken (contents (q .tables)) ≡ false
+
+pub record Admitted (a b q : Queue) : Type 0 where
+  pub first : Rests a
+  pub second : Rests b
+  pub third : Fresh q
+  pub room : length (lanes a b) ≤ q .tables .control .slots
+
+rests : (q : Queue) → atRest q ≡ true → isBroken (contents (q .tables)) ≡ false → Rests q
+unfolding atRest
+rests q e w = record { stable = eqb-true _ _ (and-true (eqb (busy q) 0) (eqb (anchorIn q .status) 0) e .1); walks = w }
+
+admit : (a b q : Queue) (more : List Rule) → All (λ (r : Rule). r .applies ≡ false) (earlyRules a b q ++ more) → Admitted a b q
+admit a b q more z =
+    let later = z .1 .1 .1 in
+    let rest = tests (atRest a ∷ atRest b ∷ fresh q ∷ []) (not-false _ (later .1 .1 .1 .0)) in
+    record {
+      first = rests a (rest .0) (later .1 .0);
+      second = rests b (rest .1 .0) (later .1 .1 .0);
+      third =
+          is-fresh q (not-false _ (z .1 .1 .0)) (tests (sourceFits a ∷ sourceFits b ∷ thirdFits q ∷ []) (not-false _ (later .0)) .1 .1 .0) (rest .1 .1 .0);
+      room = ltb-false _ _ (later .1 .1 .1 .1 .0);
+    }
+
+module _ (a b q : Queue) where
+  -- 33 by the pushes and by the tag.
+  pub same-refusal : joinRefusal a b q ≡ closedRefusal a b q
+  unfolding joinRefusal closedRefusal
+  same-refusal =
+      same-last (earlyRules a b q) 33 (anyLate (outcomes (run q (pushes 1 (lanes a b))))) (lateFor (anchorIn q .tag) (length (lanes a b)))
+      (λ e. let g = admit a b q [] (cleared (earlyRules a b q) refl e) in late-is q (g .third) (lanes a b) (g .room))
+
+  abbrev late : Bool
+  late = lateFor (anchorIn q .tag) (length (lanes a b))
+
+  pub accepted : closedRefusal a b q ≡ 0 → Admitted a b q × (late ≡ false)
+  unfolding closedRefusal
+  accepted e =
+      let z = cleared (joinRules a b q late) refl e in
+      let later = z .1 .1 .1 .1 in
+      (admit a b q (rule 33 late ∷ []) z, later .1 .1 .1 .1 .0)
+
+  pub joins : closedRefusal a b q ≡ 0 → Ran q (pushes 1 (lanes a b)) (holding q (lanes a b)) (answers (lanes a b))
+  joins e = let g = accepted e in pushed-is q (g .0 .third) (lanes a b) (g .0 .room) (g .1)
+
+  pub closed-join : join a b q ≡ joinClosed a b q
+  unfolding join joinClosed
+  closed-join =
+      rw same-refusal
+      (split (eqb (closedRefusal a b q) 0)
+      (λ e. rw e (ap (λ (z : Queue). record { code = closedRefusal a b q; third = z }) (joins (eqb-true _ _ e) .leaves)))
+      (λ e. rw e))
+
+  pub all-answered : joinRefusal a b q ≡ 0 → outcomes (run q (pushes 1 (lanes a b))) ≡ answers (lanes a b)
+  all-answered e = joins (sym same-refusal ∙ e) .says
+
+pub closed-form : ClosedForm
+closed-form a b q = closed-join a b q
+
+pub answered : AllAnswered
+answered a b q e = all-answered a b q e

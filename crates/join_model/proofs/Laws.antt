@@ -1,0 +1,94 @@
+-- The laws of the joining.
+use mathlib.Core.Path.{_≡_, sym, ap, _∙_}
+use mathlib.Core.Bool.{false}
+use mathlib.Core.List.{List, [], _∷_, _++_}
+use Prim.Native.Nat.{ℕ, zero, suc, _+_, _-_, _≤_}
+use native.Mathlib.Omega.{arith}
+use lib.Dec.{ltb}
+use lib.ListN.{length}
+use borrow.Author.Tests.{ne-eqb, ltb-false}
+use Rattle.model.specs.Tables.{Queue}
+use Rattle.model.specs.Calls.{openAs}
+use Rattle.model.specs.Walk.{contents, entries, met}
+use Rattle.model.specs.History.{Request, final}
+use Rattle.model.proofs.Linearizable.{linearizable}
+use Rattle.model.proofs.NeverUnsound.{never-unsound}
+use Rattle.join_model.specs.Join.{anchorIn, lane, lanes, pushes, joinRefusal, join}
+use Rattle.join_model.specs.Closed.{tagAfter, lateFor, holding, closedRefusal}
+use Rattle.join_model.specs.Laws.{OwnOrder, StaysAscending, TieToFirst, SameCopies, RefusalKeeps, Zeros, OnlyFresh, JoinedWait, numbered, Continues}
+use Rattle.join_model.proofs.Ran.{final-on}
+use Rattle.join_model.proofs.Fresh.{Fresh}
+use Rattle.join_model.proofs.Closed.{same-refusal, accepted, joins}
+use Rattle.join_model.proofs.Waits.{held-waits}
+use Rattle.join_model.proofs.Merged.{interleaved, ascending, tie, copies-merged}
+
+pub own-order : OwnOrder
+own-order a b = interleaved (lane a) (lane b)
+
+pub stays-ascending : StaysAscending
+stays-ascending a b = ascending (lane a) (lane b)
+
+pub tie-to-first : TieToFirst
+tie-to-first = tie
+
+pub same-copies : SameCopies
+same-copies a b x = copies-merged x (interleaved (lane a) (lane b))
+
+-- Where no start is late, the tag after the last push has room.
+pub tag-room : (tag m : ℕ) → lateFor tag (suc m) ≡ false → tagAfter tag (suc m) ≤ 4294967264
+unfolding lateFor
+tag-room tag zero e = let z = ltb-false 4294967262 tag e in omega arith
+tag-room tag (suc m) e =
+    let g : ltb 4294967262 (tagAfter tag (suc (suc m) - 1)) ≡ false = rw
+    (ne-eqb (suc (suc m)) 0 (λ z. omega arith), ne-eqb (suc (suc m)) 1 (λ z. omega arith)) at e in
+    let z = ltb-false 4294967262 (tagAfter tag (suc (suc m) - 1)) g in
+    omega arith
+
+holding-waits : (q : Queue) → Fresh q → (l : List ℕ) → length l ≤ q .tables .control .slots → lateFor (anchorIn q .tag) (length l) ≡ false
+    → contents (holding q l .tables) ≡ entries (numbered 1 l)
+unfolding holding contents
+holding-waits q fresh [] h e = rw (fresh .left, fresh .right)
+holding-waits q fresh (x ∷ l) h e = held-waits q fresh x l h (tag-room (anchorIn q .tag) (length l) e)
+
+module _ (a b q : Queue) (e : joinRefusal a b q ≡ 0) where
+  abbrev closed : closedRefusal a b q ≡ 0
+  closed = sym (same-refusal a b q) ∙ e
+
+  third-is : join a b q .third ≡ final q (pushes 1 (lanes a b))
+  unfolding join
+  third-is = rw e
+
+  pub waits : contents (join a b q .third .tables) ≡ entries (numbered 1 (lanes a b))
+  waits =
+      let g = accepted a b q closed in
+      ap (λ (z : Queue). contents (z .tables)) (third-is ∙ joins a b q closed .leaves)
+      ∙ holding-waits q (g .0 .third) (lanes a b) (g .0 .room) (g .1)
+
+  pub zeros : Zeros (q .tables)
+  zeros = accepted a b q closed .0 .third .zeros
+
+pub refusal-keeps : RefusalKeeps
+unfolding join
+refusal-keeps a b q h = rw (ne-eqb (joinRefusal a b q) 0 h)
+
+pub only-fresh : OnlyFresh
+only-fresh a b q e = zeros a b q e
+
+pub joined-wait : JoinedWait
+joined-wait a b q e = waits a b q e
+
+pub continues : Continues
+continues pooled q tasks slots tag o os a b e later = record {
+  leaves = ap (λ (z : Queue). final z later) (third-is a b (final begun os) e ∙ sym (final-on os joining begun)) ∙ sym (final-on (os ++ joining) later begun);
+  joins =
+      ap met (sym (linearizable pooled q tasks slots tag o (os ++ joining) .waits) ∙ ap (λ (z : Queue). contents (z .tables))
+      (final-on os joining begun ∙ sym (third-is a b (final begun os) e)) ∙ waits a b (final begun os) e);
+  linearized = linearizable pooled q tasks slots tag o (os ++ joining ++ later);
+  sound = never-unsound pooled q tasks slots tag o (os ++ joining ++ later);
+}
+  where
+    joining : List Request
+    joining = pushes 1 (lanes a b)
+
+    begun : Queue
+    begun = openAs pooled q tasks slots tag .queue

@@ -1,0 +1,94 @@
+-- What is promised of the joining, beyond what it answers.
+use mathlib.Core.Path.{_≡_}
+use mathlib.Core.List.{List, [], _∷_, _++_}
+use mathlib.Core.Logic.{_≢_}
+use mathlib.Core.Bool.{true}
+use Prim.Native.Nat.{ℕ, suc, _+_, _/_, _≤_}
+use lib.ListN.{getD}
+use Rattle.model.specs.declared.Opening.the-variants.{Opened}
+use Rattle.model.specs.declared.Answer.the-variants.{Running, Pushed}
+use Rattle.model.specs.declared.Entry.{Entry}
+use Rattle.model.specs.declared.Outcome.{Outcome}
+use Rattle.model.specs.declared.Outcome.the-variants.{Moved}
+use Rattle.model.specs.Tables.{Tables, Queue}
+use Rattle.model.specs.Calls.{openQueue}
+use Rattle.model.specs.Walk.{contents, entries}
+use Rattle.model.specs.History.{Request, run, final, ledger, Linearized, NeverUnsound, AfterOpening}
+use Rattle.join_model.specs.Merge.{merge, Interleaved, Ascending, copies}
+use Rattle.join_model.specs.Join.{fresh, lane, lanes, pushes, outcomes, joinRefusal, join}
+use Rattle.join_model.specs.Closed.{joinClosed}
+
+-- Each queue keeps its own order, and two ascending queues give an ascending one; a tie goes to the first; no label is lost or made.
+abbrev pub OwnOrder : Type 0
+OwnOrder = (a b : Queue) → Interleaved (lane a) (lane b) (lanes a b)
+
+abbrev pub StaysAscending : Type 0
+StaysAscending = (a b : Queue) → Ascending (lane a) → Ascending (lane b) → Ascending (lanes a b)
+
+abbrev pub TieToFirst : Type 0
+TieToFirst = (x : ℕ) (xs ys : List ℕ) → merge (x ∷ xs) (x ∷ ys) ≡ x ∷ merge xs (x ∷ ys)
+
+abbrev pub SameCopies : Type 0
+SameCopies = (a b : Queue) (x : ℕ) → copies x (lanes a b) ≡ copies x (lane a) + copies x (lane b)
+
+-- A refusal changes nothing.
+abbrev pub RefusalKeeps : Type 0
+RefusalKeeps = (a b q : Queue) → join a b q .code ≢ 0 → join a b q .third ≡ q
+
+-- Every bit of rows 0 to slots and of their mark words is zero in a third that is accepted; and an opening with named slots leaves a fresh queue.
+pub record Zeros (t : Tables) : Type 0 where
+  pub lefts : (i : ℕ) → i ≤ t .control .slots → getD (t .lefts) i 0 ≡ 0
+  pub rights : (i : ℕ) → i ≤ t .control .slots → getD (t .rights) i 0 ≡ 0
+  pub labels : (i : ℕ) → i ≤ t .control .slots → getD (t .labels) i 0 ≡ 0
+  pub marks : (i : ℕ) → i ≤ t .control .slots / 64 → getD (t .marks) i 0 ≡ 0
+
+abbrev pub OnlyFresh : Type 0
+OnlyFresh = (a b q : Queue) → joinRefusal a b q ≡ 0 → Zeros (q .tables)
+
+abbrev pub OpenedFresh : Type 0
+OpenedFresh = (q : Queue) (tasks slots tag : ℕ) → openQueue q tasks slots tag .outcome ≡ Opened → fresh (openQueue q tasks slots tag .queue) ≡ true
+
+-- The pushes and 33, word by word.
+abbrev pub ClosedForm : Type 0
+ClosedForm = (a b q : Queue) → join a b q ≡ joinClosed a b q
+
+-- Each push is answered by its last step and not before.
+abbrev pub answersOne : List Outcome
+answersOne = Moved (Running 1) ∷ Moved (Running 2) ∷ Moved Pushed ∷ []
+
+abbrev pub answersNext : List Outcome
+answersNext =
+    Moved (Running 1) ∷ Moved (Running 3) ∷ Moved (Running 4) ∷ Moved (Running 5) ∷ Moved (Running 6) ∷ Moved (Running 7)
+    ∷ Moved (Running 8) ∷ Moved (Running 9) ∷ Moved (Running 10) ∷ Moved Pushed ∷ []
+
+abbrev pub answersMore : List ℕ → List Outcome
+answersMore [] = []
+answersMore (x ∷ l) = answersNext ++ answersMore l
+
+abbrev pub answers : List ℕ → List Outcome
+answers [] = []
+answers (x ∷ l) = answersOne ++ answersMore l
+
+abbrev pub AllAnswered : Type 0
+AllAnswered = (a b q : Queue) → joinRefusal a b q ≡ 0 → outcomes (run q (pushes 1 (lanes a b))) ≡ answers (lanes a b)
+
+-- The labels go into slots 1, 2 and so on, and wait there.
+abbrev pub numbered : ℕ → List ℕ → List Entry
+numbered k [] = []
+numbered k (x ∷ l) = record { slot = k; label = x } ∷ numbered (suc k) l
+
+abbrev pub JoinedWait : Type 0
+JoinedWait = (a b q : Queue) → joinRefusal a b q ≡ 0 → contents (join a b q .third .tables) ≡ entries (numbered 1 (lanes a b))
+
+-- A third that was opened, used and then joined: its history is the list before, the pushes, and what comes later, and is linearized.
+-- The sequential deque has the labels from the joining on, after all calls before it and before every later one.
+pub record Continued (q : Queue) (os joining later : List Request) (third : Queue) (labels : List ℕ) : Type 0 where
+  pub leaves : final third later ≡ final q (os ++ joining ++ later)
+  pub joins : ledger (run q (os ++ joining)) .deque ≡ numbered 1 labels
+  pub linearized : Linearized q (os ++ joining ++ later)
+  pub sound : NeverUnsound q (os ++ joining ++ later)
+
+abbrev pub Continues : Type 0
+Continues =
+    AfterOpening (λ q os. (a b : Queue) → joinRefusal a b (final q os) ≡ 0 → (later : List Request)
+    → Continued q os (pushes 1 (lanes a b)) later (join a b (final q os) .third) (lanes a b))

@@ -1,0 +1,4 @@
+pub mod Merge
+pub mod Join
+pub mod Closed
+pub mod Laws

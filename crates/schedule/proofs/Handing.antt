@@ -1,0 +1,162 @@
+-- What a call answers: a refusal, the schedule that the search found, or no more.
+use mathlib.Core.Path.{_≡_, refl, sym, ap, subst, _∙_}
+use mathlib.Core.Bool.{Bool, true, false, _&&_, not, cond}
+use mathlib.Core.List.{List, [], _∷_}
+use Prim.Native.Nat.{ℕ, zero, suc, _+_, _≤_}
+use native.Mathlib.Omega.{arith}
+use lib.Dec.{eqb, leb}
+use lib.ListN.{length, getD, set}
+use lib.Seq.{sets}
+use borrow.Author.Tests.{ne-eqb, leb-true, not-true}
+use Rattle.model.specs.declared.Control.{Control}
+use Rattle.model.specs.declared.Record.{Record}
+use Rattle.model.specs.Tables.{Tables, Queue, isPooled, idle, tablesOf}
+use Rattle.model.specs.Sound.{controlSound, rowsFit}
+use Rattle.model.specs.Walk.{Walk, entries, broken, contents, isBroken, met}
+use Rattle.model.specs.Report.{waiting}
+use Rattle.model.specs.Refusals.{Rule, rule, first, recordsFit}
+use Rattle.model.proofs.tests.Truth.{not-both, and-true}
+use Rattle.walk.specs.declared.Tally.{Tally}
+use Rattle.walk.specs.Counted.{counted}
+use Rattle.schedule_model.specs.declared.ScheduleReply.{ScheduleReply}
+use Rattle.schedule_model.specs.Schedules.{Schedule, allSchedules}
+use Rattle.schedule_model.specs.Next.{Next, given, noMore, memoryLength, remembered, firstAfter, storing, twoAtWork, scheduleRefusal, Handed, handing}
+use Rattle.schedule_model.specs.Next.{nextSchedule}
+use Rattle.schedule_model.specs.Search.{seekOf}
+use Rattle.schedule_model.proofs.Admitted.{enough, memory, tasks}
+use Rattle.schedule_model.proofs.Searched.{finds}
+use Rattle.schedule_model.proofs.TwoRecords.{two-records}
+use Rattle.schedule.specs.declared.Found.{Found}
+use Rattle.schedule.specs.Sought.{pairOf, foundOf, Sought, sought}
+use Rattle.schedule.specs.Answered.{refusalBefore, refusalAfter, Begins, Answered, answered}
+use Rattle.schedule.proofs.Seeking.{handed}
+use Rattle.schedule.proofs.Stepping.{sets-above}
+
+abbrev pub told : ScheduleReply → List ℕ → Tables → Answered
+told r ws q = record { handed = record { reply = r; memory = ws }; tables = q }
+
+-- Nothing was found, and all is as it was.
+none-told : (f : Found) (ws ws′ : List ℕ) (q q′ : Tables) (m : Next) → handed f ws′ q′ ≡ sought 48 ws m q → f .found ≡ false
+    → told (record { code = 0; ending = 3; length = 0 }) ws′ q′ ≡ record { handed = handing ws m; tables = q }
+unfolding sought
+none-told f ws ws′ q q′ (given s) e h = absurd (not-both (ap (λ (z : Sought). z .found .found) e) h)
+none-told f ws ws′ q q′ noMore e h = ap (λ (z : Sought). told (record { code = 0; ending = 3; length = 0 }) (z .memory) (z .tables)) e
+
+-- A schedule was found and stored; its length goes into word 0.
+some-told : (f : Found) (ws ws′ : List ℕ) (q q′ : Tables) (m : Next) → handed f ws′ q′ ≡ sought 48 ws m q → f .found ≡ true
+    → told (record { code = 0; ending = f .ending; length = f .length }) (set ws′ 0 (f .length)) q′ ≡ record { handed = handing ws m; tables = q }
+unfolding sought storing
+some-told f ws ws′ q q′ noMore e h = absurd (not-both h (ap (λ (z : Sought). z .found .found) e))
+some-told f ws ws′ q q′ (given s) e h =
+    let n : f .length ≡ length (s .steps) = ap (λ (z : Sought). z .found .length) e ∙ omega arith in
+    let stored : set ws′ 0 (f .length) ≡ sets ws 0 (length (s .steps) ∷ s .steps) =
+    ap (λ (z : Sought). set (z .memory) 0 (f .length)) e
+    ∙ ap (λ (k : ℕ). set (sets ws 1 (s .steps)) 0 k) n
+    ∙ sets-above ws (s .steps) 1 0 (length (s .steps)) (omega arith)
+    in
+    λ i.
+    told (record { code = 0; ending = e i .found .ending; length = n i }) (stored i) (e i .tables)
+
+-- The search was bound by the whole list.
+module _ (ws ws′ : List ℕ) (len : ℕ) (q q′ : Tables) (p : Queue) (f : Found) (whole : len ≡ memoryLength ws)
+    (found : handed f ws′ q′ ≡ sought 48 ws (seekOf ws len 48 false p) q) where
+  abbrev all : handed f ws′ q′ ≡ sought 48 ws (seekOf ws (memoryLength ws) 48 false p) q
+  all = found ∙ ap (λ (n : ℕ). sought 48 ws (seekOf ws n 48 false p) q) whole
+
+  pub no-more : not (f .found) ≡ true
+      → told (record { code = 0; ending = 3; length = 0 }) ws′ q′ ≡ record { handed = handing ws (seekOf ws (memoryLength ws) 48 false p); tables = q }
+  no-more h = none-told f ws ws′ q q′ (seekOf ws (memoryLength ws) 48 false p) all (not-true _ h)
+
+  pub next-found : (ws″ : List ℕ) → f .found ≡ true → ws″ ≡ set ws′ 0 (f .length)
+      → told (record { code = 0; ending = f .ending; length = f .length }) ws″ q′
+      ≡ record { handed = handing ws (seekOf ws (memoryLength ws) 48 false p); tables = q }
+  next-found ws″ h e =
+      ap (λ (l : List ℕ). told (record { code = 0; ending = f .ending; length = f .length }) l q′) e
+      ∙ some-told f ws ws′ q q′ (seekOf ws (memoryLength ws) 48 false p) all h
+
+-- The records beyond the first two do not count.
+same-list : (q : Tables) (rs : List Record) (n : ℕ) (a b : Record) → Begins rs n a b → q .control .tasks ≡ 2 → q .control .tasks ≤ length rs
+    → allSchedules (record { tables = q; records = rs }) ≡ allSchedules (pairOf q a b)
+same-list q [] n a b these two few = absurd (omega (arith, two, few))
+same-list q (x ∷ []) n a b these two few = absurd (omega (arith, two, few))
+same-list q (x ∷ y ∷ rest) n a b these two few =
+    two-records 48 q x y rest two ∙ (λ i. allSchedules (pairOf q (these .first i) (these .second i)))
+
+-- The rules in two parts.
+first-part : (c f : Bool) (l : List Rule)
+    → first (rule 34 (not c) ∷ rule 12 (not f) ∷ l) ≡ cond (eqb (refusalBefore c f) 0) (first l) (refusalBefore c f)
+unfolding refusalBefore
+first-part true true l = refl
+first-part true false l = refl
+first-part false f l = refl
+
+last-part : (two : Bool) (w : Walk)
+    → first (rule 34 (isBroken w) ∷ rule 42 (not (two && leb (length (met w)) 4)) ∷ []) ≡ refusalAfter two (counted w)
+unfolding refusalAfter
+last-part two broken = refl
+last-part two (entries l) = go (two && leb (length l) 4)
+  where
+    go : (b : Bool) → _≡_ {A = ℕ} (cond (not b) 42 0) (cond b 0 42)
+    go true = refl
+    go false = refl
+
+module _ (q : Tables) (rs : List Record) (n : ℕ) (a b : Record) (ws : List ℕ) (these : Begins rs n a b) where
+  abbrev Q : Queue
+  Q = record { tables = q; records = rs }
+
+  -- The tests that the code makes.
+  abbrev fit : Bool
+  fit = rowsFit (isPooled (q .control)) (q .control .slots) q && leb (q .control .tasks) n && leb 49 (length ws)
+
+  abbrev two : Bool
+  two = eqb (q .control .tasks) 2 && not (eqb (a .place) 0) && not (eqb (b .place) 0)
+
+  abbrev before : ℕ
+  before = refusalBefore (controlSound (q .control)) fit
+
+  two-is : twoAtWork Q ≡ two
+  two-is = λ i. eqb (q .control .tasks) 2 && not (eqb (these .first i .place) 0) && not (eqb (these .second i .place) 0)
+
+  fit-is : (rowsFit (isPooled (q .control)) (q .control .slots) q && recordsFit (q .control .tasks) Q && leb 49 (length ws)) ≡ fit
+  fit-is = ap (λ (k : ℕ). rowsFit (isPooled (q .control)) (q .control .slots) q && leb (q .control .tasks) k && leb 49 (length ws)) (these .count)
+
+  rules : scheduleRefusal Q ws ≡ cond (eqb before 0) (refusalAfter two (counted (contents q))) before
+  unfolding scheduleRefusal waiting
+  rules =
+      rw (fit-is, two-is)
+      (first-part (controlSound (q .control)) fit (rule 34 (isBroken (contents q)) ∷ rule 42 (not (two && leb (length (met (contents q))) 4)) ∷ [])
+      ∙ ap (λ (k : ℕ). cond (eqb before 0) k before) (last-part two (contents q)))
+
+  -- A refusal says its number and leaves all as it was.
+  turned-away : (why : ℕ) (r : ScheduleReply) → scheduleRefusal Q ws ≡ why → (why ≡ 0 → ⊥) → r ≡ record { code = why; ending = 0; length = 0 }
+      → told r ws q ≡ answered q rs ws
+  unfolding nextSchedule
+  turned-away why r e n h = rw (e, ne-eqb why 0 n) (ap (λ (z : ScheduleReply). told z ws q) h)
+
+  pub refused-before : (why : ℕ) (r : ScheduleReply) → why ≡ before → (why ≡ 0 → ⊥) → r ≡ record { code = why; ending = 0; length = 0 }
+      → told r ws q ≡ answered q rs ws
+  refused-before why r e n h = turned-away why r (rules ∙ rw (sym e, ne-eqb why 0 n) refl) n h
+
+  pub refused-after : (first last : ℕ) (walk : Tally) (r : ScheduleReply) → first ≡ before → first ≡ 0 → walk ≡ counted (contents q)
+      → last ≡ refusalAfter two walk → (last ≡ 0 → ⊥) → r ≡ record { code = last; ending = 0; length = 0 } → told r ws q ≡ answered q rs ws
+  refused-after first last walk r e z w l n h =
+      turned-away last r (rules ∙ rw (sym e, z) (ap (refusalAfter two) (sym w) ∙ sym l)) n h
+
+  -- None applies: the search is the definition.
+  pub accepted : (first last : ℕ) (walk : Tally) → first ≡ before → first ≡ 0 → walk ≡ counted (contents q) → last ≡ refusalAfter two walk → last ≡ 0
+      → record { handed = handing ws (seekOf ws (memoryLength ws) 48 false (pairOf q a b)); tables = q } ≡ answered q rs ws
+  unfolding nextSchedule
+  accepted first last walk e z w l y =
+      let ok : scheduleRefusal Q ws ≡ 0 = rules ∙ rw (sym e, z) (ap (refusalAfter two) (sym w) ∙ sym l ∙ y) in
+      let m = memory Q ws ok in
+      let few : q .control .tasks ≤ length rs = leb-true _ _ (and-true (rowsFit (isPooled (q .control)) (q .control .slots) q) _ (enough Q ws ok) .1) in
+      rw (ok, finds ws (pairOf q a b) m)
+      (ap (λ (l : List Schedule). record { handed = handing ws (firstAfter (remembered ws) l); tables = q })
+      (sym (same-list q rs n a b these (tasks Q ws ok) few)))
+
+-- The control that its row is.
+pub by-rows : (c d : Control) (ls rs bs ms ns ls′ rs′ bs′ ms′ ns′ : List ℕ) (records : List Record) (ws ws′ : List ℕ) (r : ScheduleReply) → c ≡ d
+    → told r ws′ (tablesOf c ls′ rs′ bs′ ms′ ns′) ≡ answered (tablesOf c ls rs bs ms ns) records ws
+    → told r ws′ (tablesOf d ls′ rs′ bs′ ms′ ns′) ≡ answered (tablesOf d ls rs bs ms ns) records ws
+by-rows c d ls rs bs ms ns ls′ rs′ bs′ ms′ ns′ records ws ws′ r e h =
+    subst (λ (k : Control). told r ws′ (tablesOf k ls′ rs′ bs′ ms′ ns′) ≡ answered (tablesOf k ls rs bs ms ns) records ws) e h

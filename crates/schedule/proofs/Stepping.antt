@@ -1,0 +1,107 @@
+-- A step, what is found below it, and back: the tables are as before, and the step stands in the memory.
+use mathlib.Core.Path.{_≡_, refl, sym, ap, subst, _∙_}
+use mathlib.Core.Bool.{Bool, true, false, cond}
+use mathlib.Core.List.{List, [], _∷_}
+use Prim.Native.Nat.{ℕ, zero, suc, _+_, _-_, _<_, _≤_}
+use native.Mathlib.Omega.{arith}
+use lib.Dec.{eqb, leb, ltb}
+use lib.ListN.{length, set}
+use lib.Seq.{sets, set-comm}
+use Rattle.model.specs.declared.Control.{Control}
+use Rattle.model.specs.declared.Record.{Record}
+use Rattle.model.specs.declared.Outcome.{Outcome}
+use Rattle.model.specs.declared.Outcome.the-variants.{Refused, Moved}
+use Rattle.model.specs.declared.Op.the-variants.{Step}
+use Rattle.model.specs.Tables.{Tables, Queue, recordAt}
+use Rattle.model.specs.Places.{row}
+use Rattle.model.specs.Refusals.{Lent, among}
+use Rattle.model.specs.Calls.{Acted, step, actOn, Done, back, act}
+use Rattle.schedule_model.specs.declared.Saved.{Saved}
+use Rattle.schedule_model.specs.Schedules.{Schedule, begun}
+use Rattle.schedule_model.specs.Next.{Next, given, noMore}
+use Rattle.schedule_model.specs.Search.{prefixed, stepped, seekOf}
+use Rattle.schedule_model.specs.Undo.{saved, putBack}
+use Rattle.schedule_model.proofs.Undone.{undoes}
+use Rattle.schedule.specs.declared.Found.{Found}
+use Rattle.schedule.specs.Sought.{pairOf, foundOf, written, Sought, sought, under}
+use Rattle.schedule.proofs.Seeking.{handed, record-at}
+
+stepped-is : (t : ℕ) (o : Outcome) (free : Bool) (m : Next) → stepped t o free m ≡ prefixed t (under o free m)
+stepped-is t (Refused why) true m = refl
+stepped-is t (Refused why) false m = refl
+stepped-is t (Moved a) free m = refl
+
+-- A word stored before the run of words above it, or after.
+pub sets-above : (l s : List ℕ) (i j t : ℕ) → j < i → set (sets l i s) j t ≡ sets (set l j t) i s
+sets-above l [] i j t h = refl
+sets-above l (x ∷ s) i j t h =
+    sets-above (set l i x) s (suc i) j t (omega (arith, h))
+    ∙ ap (λ (r : List ℕ). sets r (suc i) s) (set-comm l i j x t (λ e. omega (arith, h, e)))
+
+-- The step found below is prefixed.
+prefix-found : (left t : ℕ) (m : Next) → 0 < left → left ≤ 48 → foundOf (48 - (left - 1)) m ≡ foundOf (48 - left) (prefixed t m)
+prefix-found left t (given s) h k =
+    let z : 48 - (left - 1) + length (s .steps) ≡ 48 - left + suc (length (s .steps)) = omega (arith, h, k) in
+    ap (λ (n : ℕ). record { found = true; length = n; ending = s .ending }) z
+prefix-found left t noMore h k = refl
+
+prefix-written : (left t : ℕ) (m : Next) (ws : List ℕ) → 0 < left → left ≤ 48
+    → cond (foundOf (48 - (left - 1)) m .found) (set (written (49 - (left - 1)) m ws) (49 - left) t) (written (49 - (left - 1)) m ws)
+    ≡ written (49 - left) (prefixed t m) ws
+prefix-written left t noMore ws h k = refl
+prefix-written left t (given s) ws h k =
+    let z : 49 - (left - 1) ≡ suc (49 - left) = omega (arith, h, k) in
+    ap (λ (n : ℕ). set (sets ws n (s .steps)) (49 - left) t) z ∙ sets-above ws (s .steps) (suc (49 - left)) (49 - left) t (omega arith)
+
+-- The queue of two tasks after a step of one.
+stepped-pair : (q : Tables) (a b r : Record) (t : ℕ) (d : Acted) → t < 2 → r ≡ cond (eqb t 0) a b
+    → d ≡ step q (record { enough = leb (q .control .tasks) 2; known = ltb t (q .control .tasks) }) r
+    → act (pairOf q a b) t Step
+    ≡ record { queue = pairOf (d .tables) (cond (eqb t 0) (d .task) a) (cond (eqb t 0) b (d .task)); outcome = d .outcome }
+unfolding act actOn
+stepped-pair q a b r zero d low whose e =
+    ap (back (pairOf q a b) zero) (sym (e ∙ ap (step q (among (pairOf q a b) zero)) whose))
+stepped-pair q a b r (suc zero) d low whose e =
+    ap (back (pairOf q a b) (suc zero)) (sym (e ∙ ap (step q (among (pairOf q a b) (suc zero))) whose))
+stepped-pair q a b r (suc (suc t)) d low whose e = absurd (omega (arith, low))
+
+-- x, s: the row and the words kept; d: the step; q′, ws′: what is left by the search below it; q″, ws″: after putting back.
+module _ (q : Tables) (a b r : Record) (t left len : ℕ) (free : Bool) (ws : List ℕ) (low : t < 2) (some : 0 < left) (few : left ≤ 48)
+    (whose : r ≡ cond (eqb t 0) a b) where
+  abbrev lent : Lent
+  lent = record { enough = leb (q .control .tasks) 2; known = ltb t (q .control .tasks) }
+
+  abbrev below : Acted → Next
+  below d = seekOf ws len (left - 1) free (pairOf (d .tables) (cond (eqb t 0) (d .task) a) (cond (eqb t 0) b (d .task)))
+
+  pub there-and-back : (d : Acted) (x : ℕ) (s : Saved) (f : Found) (ws′ ws″ : List ℕ) (q′ q″ : Tables)
+      → x ≡ row r → s ≡ saved x q → d ≡ step q lent r
+      → handed f ws′ q′ ≡ sought (left - 1) ws (under (d .outcome) free (below d)) (d .tables)
+      → q″ ≡ putBack (q .control) x s q′
+      → ws″ ≡ cond (f .found) (set ws′ (49 - left) t) ws′
+      → let e = act (pairOf q a b) t Step in
+      handed f ws″ q″ ≡ sought left ws (stepped t (e .outcome) free (seekOf ws len (left - 1) free (e .queue))) q
+  unfolding sought
+  there-and-back d x s f ws′ ws″ q′ q″ row-is kept made found put noted =
+      let u = under (d .outcome) free (below d) in
+      let fs : f ≡ foundOf (48 - (left - 1)) u = ap (λ (z : Sought). z .found) found in
+      let ms : ws′ ≡ written (49 - (left - 1)) u ws = ap (λ (z : Sought). z .memory) found in
+      let ts : q′ ≡ d .tables = ap (λ (z : Sought). z .tables) found in
+      let memory : ws″ ≡ written (49 - left) (prefixed t u) ws =
+      noted
+      ∙ ap (λ (g : Found). cond (g .found) (set ws′ (49 - left) t) ws′) fs
+      ∙ ap (λ (l : List ℕ). cond (foundOf (48 - (left - 1)) u .found) (set l (49 - left) t) l) ms
+      ∙ prefix-written left t u ws some few
+      in
+      let tables : q″ ≡ q =
+      put
+      ∙ ap (λ (v : Tables). putBack (q .control) x s v) (ts ∙ ap (λ (g : Acted). g .tables) made)
+      ∙ ap (λ (k : Saved). putBack (q .control) x k (step q lent r .tables)) kept
+      ∙ ap (λ (y : ℕ). putBack (q .control) y (saved y q) (step q lent r .tables)) row-is
+      ∙ undoes q lent r
+      in
+      let next =
+      ap (λ (z : Done). stepped t (z .outcome) free (seekOf ws len (left - 1) free (z .queue))) (stepped-pair q a b r t d low whose made)
+      ∙ stepped-is t (d .outcome) free (below d)
+      in
+      (λ i. handed ((fs ∙ prefix-found left t u some few) i) (memory i) (tables i)) ∙ ap (λ (m : Next). sought left ws m q) (sym next)

@@ -1,0 +1,36 @@
+-- The call by value: its refusals in two parts, and what it leaves.
+use mathlib.Core.Path.{_≡_}
+use mathlib.Core.Bool.{Bool, _&&_, not, cond}
+use mathlib.Core.List.{List, [], _∷_}
+use Prim.Native.Nat.{ℕ}
+use lib.Dec.{leb}
+use lib.ListN.{length, getD}
+use Rattle.model.specs.declared.Record.{Record}
+use Rattle.model.specs.Tables.{Tables, idle}
+use Rattle.model.specs.Refusals.{rule, first}
+use Rattle.walk.specs.declared.Tally.{Tally}
+use Rattle.walk.specs.declared.Tally.the-variants.{Broken, Labels}
+use Rattle.schedule_model.specs.Next.{Handed, nextSchedule}
+
+-- Before the walk, over tests already made; and by the walk, where two: two tasks, both busy.
+unfoldable pub refusalBefore : Bool → Bool → ℕ
+refusalBefore control fits = first (rule 34 (not control) ∷ rule 12 (not fits) ∷ [])
+
+unfoldable pub refusalAfter : Bool → Tally → ℕ
+refusalAfter two Broken = 34
+refusalAfter two (Labels n) = cond (two && leb n 4) 0 42
+
+-- So many records, of which these are the first two.
+pub record Begins (records : List Record) (n : ℕ) (a b : Record) : Type 0 where
+  pub count : length records ≡ n
+  pub first : getD records 0 idle ≡ a
+  pub second : getD records 1 idle ≡ b
+
+-- What a call hands out, and the tables after it.
+pub record Answered : Type 0 where
+  pub handed : Handed
+  pub tables : Tables
+
+-- The tables are as before.
+abbrev pub answered : Tables → List Record → List ℕ → Answered
+answered q records ws = record { handed = nextSchedule (record { tables = q; records = records }) ws; tables = q }

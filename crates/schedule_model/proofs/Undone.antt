@@ -1,0 +1,104 @@
+-- With the words of the row that its place names put back, the tables are as before a step.
+use mathlib.Core.Path.{_≡_, refl}
+use mathlib.Core.Bool.{Bool, true, false, cond}
+use mathlib.Core.List.{List, [], _∷_}
+use Prim.Native.Nat.{ℕ, _/_}
+use lib.Dec.{eqb}
+use lib.ListN.{getD, set}
+use lib.Seq.{set-getD, set-set}
+use Rattle.model.specs.declared.Control.{Control}
+use Rattle.model.specs.declared.Record.{Record}
+use Rattle.model.specs.Tables.{Tables, isPooled, tablesOf}
+use Rattle.model.specs.Sound.{isPush}
+use Rattle.model.specs.Places.{Touch, nothing, setAnchor, setLink, clearMark, takeSlot, setNext, setHead, Move, row, linkMet, apply}
+use Rattle.model.specs.Places.{at1, at2, at3, at4, at5, at6, at7, at9, at10, at11, at12, at13, at14, at15, at16, at17, move}
+use Rattle.model.specs.Refusals.{Lent, stepRefusal}
+use Rattle.model.specs.Calls.{Acted, finish, step}
+use Rattle.model.proofs.laws.Tests.{either}
+use Rattle.schedule_model.specs.Undo.{saved, putBack, Undoes}
+
+-- A touch of slot x's row, or of none.
+data At (x : ℕ) : Touch → Type 0 where
+  none : At x nothing
+  anchor : (w : ℕ) → At x (setAnchor w)
+  link : (side w : ℕ) → At x (setLink side x w)
+  mark : At x (clearMark x)
+  drawn : (w l : ℕ) → At x (takeSlot w x l)
+  given : (v : ℕ) → At x (setNext x v)
+  head : (w : ℕ) → At x (setHead w)
+
+module _ (c : Control) (r : Record) (w : ℕ) where
+  abbrev P : Move → Type 0
+  P m = At (row r) (m .touch)
+
+  there : P (move c r w)
+  unfolding move at1 at2 at3 at4 at5 at6 at7 at9 at10 at11 at12 at13 at14 at15 at16 at17
+  there =
+      either P (eqb (r .place) 1) none
+      (either P (eqb (r .place) 2) (either P (eqb (c .anchor) (r .seen)) (anchor _) none)
+      (either P (eqb (r .place) 3) (either P (isPush r) (link _ _) none)
+      (either P (eqb (r .place) 4) (either P (eqb (c .anchor) (r .seen)) (anchor _) none)
+      (either P (eqb (r .place) 5) none
+      (either P (eqb (r .place) 6) none
+      (either P (eqb (r .place) 7) none
+      (either P (eqb (r .place) 8) none
+      (either P (eqb (r .place) 9) (either P (eqb w (r .link)) (link _ _) none)
+      (either P (eqb (r .place) 10) (either P (eqb (c .anchor) (r .seen)) (anchor _) none)
+      (either P (eqb (r .place) 11) (either P (isPooled c) mark mark)
+      (either P (eqb (r .place) 12) none
+      (either P (eqb (r .place) 13) none
+      (either P (eqb (r .place) 14) (either P (eqb (c .head) (r .link)) (drawn _ _) none)
+      (either P (eqb (r .place) 15) none
+      (either P (eqb (r .place) 16) (given _)
+      (either P (eqb (c .head) (r .link)) (head _) none))))))))))))))))
+
+set-back : (l : List ℕ) (x w : ℕ) → set (set l x w) x (getD l x 0) ≡ l
+set-back l x w = rw (set-set l x w (getD l x 0)) (set-getD l x 0)
+
+module _ (q : Tables) (x : ℕ) where
+  -- Rows that are those of q again.
+  alike : (ls rs bs ms ns : List ℕ) → ls ≡ q .lefts → rs ≡ q .rights → bs ≡ q .labels → ms ≡ q .marks → ns ≡ q .next
+      → tablesOf (q .control) ls rs bs ms ns ≡ q
+  alike ls rs bs ms ns l r b m n = λ i. tablesOf (q .control) (l i) (r i) (b i) (m i) (n i)
+
+  abbrev back : Tables → Tables
+  back q′ = putBack (q .control) x (saved x q) q′
+
+  -- Each list where the touch left it alone.
+  left : set (q .lefts) x (getD (q .lefts) x 0) ≡ q .lefts
+  left = set-getD (q .lefts) x 0
+
+  right : set (q .rights) x (getD (q .rights) x 0) ≡ q .rights
+  right = set-getD (q .rights) x 0
+
+  label : set (q .labels) x (getD (q .labels) x 0) ≡ q .labels
+  label = set-getD (q .labels) x 0
+
+  marks : set (q .marks) (x / 64) (getD (q .marks) (x / 64) 0) ≡ q .marks
+  marks = set-getD (q .marks) (x / 64) 0
+
+  next : set (q .next) x (getD (q .next) x 0) ≡ q .next
+  next = set-getD (q .next) x 0
+
+  -- The touch of tables that have the rows of q, and any control.
+  applied : (c : Control) (t : Touch) → At x t → back (apply t (tablesOf c (q .lefts) (q .rights) (q .labels) (q .marks) (q .next))) ≡ q
+  applied c t none = alike _ _ _ _ _ left right label marks next
+  applied c t (anchor w) = alike _ _ _ _ _ left right label marks next
+  applied c t (link side w) = go (eqb side 1)
+    where
+      go : (b : Bool)
+          → back (tablesOf c (cond b (q .lefts) (set (q .lefts) x w)) (cond b (set (q .rights) x w) (q .rights)) (q .labels) (q .marks) (q .next)) ≡ q
+      go true = alike _ _ _ _ _ left (set-back (q .rights) x w) label marks next
+      go false = alike _ _ _ _ _ (set-back (q .lefts) x w) right label marks next
+  applied c t mark = alike _ _ _ _ _ left right label (set-back (q .marks) (x / 64) _) next
+  applied c t (drawn w l) = alike _ _ _ _ _ left right (set-back (q .labels) x l) (set-back (q .marks) (x / 64) _) next
+  applied c t (given v) = alike _ _ _ _ _ left right label marks (set-back (q .next) x v)
+  applied c t (head w) = alike _ _ _ _ _ left right label marks next
+
+pub undoes : Undoes
+unfolding step finish
+undoes q p r =
+    let m = move (q .control) r (linkMet q r) in
+    either (λ (a : Acted). back q (row r) (a .tables) ≡ q) (eqb (stepRefusal q p r) 0)
+    (applied q (row r) _ (m .touch) (there (q .control) r (linkMet q r)))
+    (applied q (row r) (q .control) nothing none)

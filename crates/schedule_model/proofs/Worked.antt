@@ -1,0 +1,83 @@
+-- Cases worked by computing: the refusals in their order, and a few schedules.
+use mathlib.Core.Path.{_≡_, refl}
+use mathlib.Core.Bool.{cond}
+use mathlib.Core.List.{List, [], _∷_}
+use Prim.Native.Nat.{ℕ}
+use lib.Dec.{eqb}
+use lib.ListN.{replicate}
+use Rattle.word.specs.Anchor.{packAnchor}
+use Rattle.model.specs.declared.Record.{Record}
+use Rattle.model.specs.Tables.{Queue, queueOf, idle, started}
+use Rattle.model.specs.Sound.{anchorSound, linkSound, controlSound, recordSound, rowsFit}
+use Rattle.model.specs.Places.{sideOf, row, linkSide, reading, at1, at2, move}
+use Rattle.model.specs.Route.{pushRoute, popRoute, route, onward, answer, goes, counted}
+use Rattle.model.specs.Refusals.{stepSound, stepRefusal}
+use Rattle.model.specs.Calls.{finish, step, actOn, act}
+use Rattle.model.specs.Walk.{along, contents}
+use Rattle.model.specs.Report.{waiting, count, takenSlots}
+use Rattle.schedule_model.specs.Schedules.{Schedule, schedules}
+use Rattle.schedule_model.specs.Next.{scheduleRefusal}
+
+-- A queue of 7 slots: so many waiting, in slots 1 to last where the Left links lead that way.
+abbrev lane : ℕ → ℕ → List ℕ → ℕ → List Record → Queue
+lane tasks last lefts marks records =
+    let anchor = packAnchor (record { tag = 1; status = 0; left = cond (eqb last 0) 0 1; right = last }) in
+    queueOf (record { tasks = tasks; slots = 7; anchor = anchor; retries = 0; pooled = 0; head = 0 })
+    records lefts (replicate 8 0) (replicate 8 0) (marks ∷ []) []
+
+abbrev memory : List ℕ
+memory = replicate 49 0
+
+abbrev links : List ℕ
+links = 0 ∷ 0 ∷ 1 ∷ 2 ∷ 3 ∷ 4 ∷ 5 ∷ 6 ∷ []
+
+abbrev astray : List ℕ
+astray = replicate 8 0
+
+abbrev pop : Record
+pop = started 1 0 0 0
+
+-- A record of no kind.
+abbrev damaged : Record
+damaged = started 2 0 0 0
+
+abbrev why : Queue → List ℕ → ℕ
+why q ws = scheduleRefusal q ws
+
+pub record Cases : Type 0 where
+  -- Four labels wait; what is marked besides does not count.
+  pub four : why (lane 2 4 links 0xfe (pop ∷ pop ∷ [])) memory ≡ 0
+  pub five : why (lane 2 5 links 0 (pop ∷ pop ∷ [])) memory ≡ 42
+  pub one-idle : why (lane 2 1 links 0 (pop ∷ idle ∷ [])) memory ≡ 42
+  pub other-idle : why (lane 2 1 links 0 (idle ∷ pop ∷ [])) memory ≡ 42
+  pub three-tasks : why (lane 3 1 links 0 (pop ∷ pop ∷ pop ∷ [])) memory ≡ 42
+  -- A damaged record that is busy is no refusal.
+  pub busy-damaged : why (lane 2 1 links 0 (damaged ∷ pop ∷ [])) memory ≡ 0
+  -- The walk comes before 42, the lengths before the walk, control before the lengths.
+  pub walk-first : why (lane 3 5 astray 0 (pop ∷ pop ∷ pop ∷ [])) memory ≡ 34
+  pub short-memory : why (lane 3 5 astray 0 (pop ∷ pop ∷ pop ∷ [])) (replicate 48 0) ≡ 12
+  pub short-records : why (lane 3 5 astray 0 (pop ∷ pop ∷ [])) memory ≡ 12
+  pub control-first : why (lane 17 5 astray 0 []) [] ≡ 34
+  -- Two pops on an empty queue.
+  pub pops : schedules (lane 2 0 links 0 (pop ∷ pop ∷ [])) 2 ≡ record { steps = 0 ∷ 1 ∷ []; ending = 0 } ∷ record { steps = 1 ∷ 0 ∷ []; ending = 0 } ∷ []
+  -- A step is refused: as the last of those to go too, where a call unanswered is else cut.
+  pub refused : schedules (lane 2 0 links 0 (damaged ∷ pop ∷ [])) 2 ≡ record { steps = 0 ∷ []; ending = 2 } ∷ record { steps = 1 ∷ 0 ∷ []; ending = 2 } ∷ []
+  pub cut : schedules (lane 2 0 links 0 (damaged ∷ pop ∷ [])) 1 ≡ record { steps = 0 ∷ []; ending = 2 } ∷ record { steps = 1 ∷ []; ending = 1 } ∷ []
+
+pub cases : Cases
+unfolding scheduleRefusal contents along waiting anchorSound linkSound controlSound recordSound rowsFit schedules act actOn step stepRefusal stepSound finish move at1 at2 reading sideOf row linkSide route onward answer goes counted pushRoute popRoute
+cases = record {
+  four = refl;
+  five = refl;
+  one-idle = refl;
+  other-idle = refl;
+  three-tasks = refl;
+  busy-damaged = refl;
+  walk-first = refl;
+  short-memory = refl;
+  short-records = refl;
+  control-first = refl;
+  pops = refl;
+  refused = refl;
+  cut = refl;
+}

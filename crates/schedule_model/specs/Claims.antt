@@ -1,0 +1,59 @@
+-- What is promised of the schedules and of repeated calls. (Document 02, #107.)
+use mathlib.Core.Path.{_≡_}
+use mathlib.Core.Bool.{Bool, true, false, _&&_, cond}
+use mathlib.Core.List.{List, [], _∷_, _++_, map}
+use Prim.Native.Nat.{ℕ, zero, suc, _+_, _<_}
+use lib.Dec.{eqb}
+use lib.ListN.{length, getD, take, drop, replicate}
+use Rattle.model.specs.declared.Outcome.the-variants.{Refused}
+use Rattle.model.specs.declared.Op.the-variants.{Step}
+use Rattle.model.specs.Tables.{Queue}
+use Rattle.model.specs.Calls.{act}
+use Rattle.model.specs.History.{All, Request, final}
+use Rattle.schedule_model.specs.Schedules.{Schedule, atWork, schedules, allSchedules}
+use Rattle.schedule_model.specs.Next.{Next, given, noMore, precedes, Handed, scheduleRefusal, nextSchedule}
+
+-- What the caller reads of an answer: the words 1 to length of the memory, and the ending.
+abbrev pub told : Handed → Next
+told h =
+    cond (eqb (h .reply .ending) 3) noMore
+    (given (record { steps = take (h .reply .length) (drop 1 (h .memory)); ending = h .reply .ending }))
+
+-- k calls, each lent the memory that the last one left.
+unfoldable pub calls : Queue → ℕ → List ℕ → List Next
+calls q zero ws = []
+calls q (suc k) ws = told (nextSchedule q ws) ∷ calls q k (nextSchedule q ws .memory)
+
+-- Beginning with zeros, repeated calls hand out exactly the schedules, each once, and then say no more, again and again.
+abbrev pub Enumerates : Type 0
+Enumerates =
+    (q : Queue) (ws : List ℕ) (k : ℕ) → scheduleRefusal q ws ≡ 0 → getD ws 0 0 ≡ 0
+    → calls q (length (allSchedules q) + k) ws ≡ map given (allSchedules q) ++ replicate k noMore
+
+-- What holds of each entry of a list and every later one.
+abbrev pub Pairwise : (Schedule → Schedule → Type 0) → List Schedule → Type 0
+Pairwise R [] = Unit {0}
+Pairwise R (s ∷ l) = All (R s) l × Pairwise R l
+
+-- They are in dictionary order, so that none is there twice.
+abbrev pub InOrder : Type 0
+InOrder = (q : Queue) (n : ℕ) → Pairwise (λ s x. precedes (s .steps) (x .steps) ≡ true) (schedules q n)
+
+-- No schedule is a beginning of another.
+abbrev pub begins : List ℕ → List ℕ → Bool
+begins [] s = true
+begins (u ∷ g) [] = false
+begins (u ∷ g) (t ∷ s) = eqb u t && begins g s
+
+abbrev pub Apart : Type 0
+Apart = (q : Queue) (n : ℕ) → Pairwise (λ s x. (begins (s .steps) (x .steps) ≡ false) × (begins (x .steps) (s .steps) ≡ false)) (schedules q n)
+
+-- Of two busy tasks no step is refused by another number than 34, however many steps were tried before.
+abbrev pub tries : List ℕ → List Request
+tries [] = []
+tries (t ∷ ts) = record { task = t; op = Step } ∷ tries ts
+
+abbrev pub OnlyUnsound : Type 0
+OnlyUnsound =
+    (q : Queue) (ws ts : List ℕ) (t n : ℕ) → scheduleRefusal q ws ≡ 0 → t < 2
+    → let now = final q (tries ts) in atWork now t ≡ true → act now t Step .outcome ≡ Refused n → n ≡ 34

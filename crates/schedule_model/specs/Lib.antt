@@ -1,0 +1,5 @@
+pub mod Schedules
+pub mod Next
+pub mod Claims
+pub mod Search
+pub mod Undo

@@ -1,0 +1,55 @@
+-- The search for the next schedule, as the code makes it: down the tree of steps, task 0 first, where the remembered list lets it.
+use mathlib.Core.Bool.{Bool, true, false, _&&_, _||_, not, cond}
+use mathlib.Core.List.{List}
+use Prim.Native.Nat.{ℕ, zero, suc, _-_}
+use lib.Dec.{ltb, eqb}
+use lib.ListN.{getD}
+use Rattle.model.specs.declared.Outcome.{Outcome}
+use Rattle.model.specs.declared.Outcome.the-variants.{Refused, Moved}
+use Rattle.model.specs.declared.Op.the-variants.{Step}
+use Rattle.model.specs.Tables.{Queue}
+use Rattle.model.specs.Calls.{act}
+use Rattle.schedule_model.specs.Schedules.{Schedule, ends, begun, atWork, bothAnswered}
+use Rattle.schedule_model.specs.Next.{Next, given, noMore}
+
+-- Free: any schedule from here on will do; else the steps so far are those of the list, and the schedule must come after it.
+abbrev pub ended : Bool → Schedule → Next
+ended free s = cond free (given s) noMore
+
+abbrev pub orElse : Next → Next → Next
+orElse (given s) m = given s
+orElse noMore m = m
+
+abbrev pub prefixed : ℕ → Next → Next
+prefixed t (given s) = given (begun t s)
+prefixed t noMore = noMore
+
+-- m: what is found below.
+abbrev pub stepped : ℕ → Outcome → Bool → Next → Next
+stepped t (Refused why) free m = ended free (begun t (ends 2))
+stepped t (Moved a) free m = prefixed t m
+
+-- ws: the memory; len: the length of its list. With so many steps to go the list still binds, and names a task that may be next.
+abbrev pub bound : ℕ → ℕ → Bool → Bool
+bound len left free = not free && ltb (48 - left) len
+
+abbrev pub least : List ℕ → ℕ → ℕ
+least ws left = getD ws (49 - left) 0
+
+-- Task t comes too early; or no schedule that goes on with t can come too early.
+abbrev pub skips : List ℕ → ℕ → ℕ → Bool → ℕ → Bool
+skips ws len left free t = bound len left free && ltb t (least ws left)
+
+abbrev pub frees : List ℕ → ℕ → ℕ → Bool → ℕ → Bool
+frees ws len left free t = not (bound len left free) || not (eqb t (least ws left))
+
+abbrev pub tried : List ℕ → ℕ → ℕ → Bool → Queue → ℕ → Next → Next
+tried ws len left free q t m =
+    cond (not (atWork q t) || skips ws len left free t) noMore (stepped t (act q t Step .outcome) (frees ws len left free t) m)
+
+unfoldable pub seekOf : List ℕ → ℕ → ℕ → Bool → Queue → Next
+seekOf ws len zero free q = cond (bothAnswered q) (ended free (ends 0)) (ended free (ends 1))
+seekOf ws len (suc n) free q =
+    cond (bothAnswered q) (ended free (ends 0))
+    (orElse (tried ws len (suc n) free q 0 (seekOf ws len n (frees ws len (suc n) free 0) (act q 0 Step .queue)))
+    (tried ws len (suc n) free q 1 (seekOf ws len n (frees ws len (suc n) free 1) (act q 1 Step .queue))))
