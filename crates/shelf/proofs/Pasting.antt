@@ -31,9 +31,9 @@ module _ {A : Type 0} where
         omega arith,
         length-set t (at + i) _ ∙ h .1,
         ap (λ (x : List A). set x (at + i) (getD from (start + i) z)) (h .2)
-        ∙ ap (λ (v : A). set (pasted from start to at i) (at + i) v) (sym (getD-drop start from i z))
-        ∙ paste-suc to at (drop start from) i z (omega arith) (omega arith)
-        ∙ ap (λ (j : ℕ). pasted from start to at j) (sym (add-one i)),
+            ∙ ap (λ (v : A). set (pasted from start to at i) (at + i) v) (sym (getD-drop start from i z))
+            ∙ paste-suc to at (drop start from) i z (omega arith) (omega arith)
+            ∙ ap (λ (j : ℕ). pasted from start to at j) (sym (add-one i)),
       )
 
   -- A part taken out and put together again.

@@ -28,8 +28,12 @@ returns-4 c =
     let filled = fine .before in
     let known = filled .before .before in
     let fits = known .before in
-    rw (le-leb _ _ (known .if1 .left), ne-eqb _ _ (filled .if2 .left), sym (fits .before .control-sound .ensures) ∙ not-false _ (fine .if3 .left),
-    sym (fits .both-hold .ensures) ∙ not-true _ (c .if4 .taken))
+    rw (
+      le-leb _ _ (known .if1 .left),
+      ne-eqb _ _ (filled .if2 .left),
+      sym (fits .before .control-sound .ensures) ∙ not-false _ (fine .if3 .left),
+      sym (fits .both-hold .ensures) ∙ not-true _ (c .if4 .taken),
+    )
 
 returns-5 : tie.Need-returns-5
 unfolding returnNumber
@@ -38,8 +42,12 @@ returns-5 c =
     let filled = fine .before in
     let known = filled .before .before in
     let fits = known .before in
-    rw (le-leb _ _ (known .if1 .left), ne-eqb _ _ (filled .if2 .left), sym (fits .before .control-sound .ensures) ∙ not-false _ (fine .if3 .left),
-    sym (fits .both-hold .ensures) ∙ not-false _ (c .if4 .left))
+    rw (
+      le-leb _ _ (known .if1 .left),
+      ne-eqb _ _ (filled .if2 .left),
+      sym (fits .before .control-sound .ensures) ∙ not-false _ (fine .if3 .left),
+      sym (fits .both-hold .ensures) ∙ not-false _ (c .if4 .left),
+    )
 
 pub return-refusal-spec : {M : Type 1} → statement M
 return-refusal-spec = tie.close (tie.spec (λ _ _. tt) (λ _ _. tt) returns returns-2 returns-3 returns-4 returns-5)

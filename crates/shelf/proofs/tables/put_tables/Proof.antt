@@ -18,12 +18,19 @@ returns c =
     let known8 = lefts .before .before .before .before in
     let known5 = known8 .before .before .before .before in
     let known1 = known5 .before .before .before .before in
-    let a = known1 .before .args in
-    (lefts .put-words .ensures,
-    (rights .put-words2 .ensures,
-    (labels .put-labels .ensures,
-    (marks .put-words3 .ensures,
-    last .put-words4 .ensures ∙ ap (λ (k : ℕ). putOn (a .shelf) k (a .next .now) (a .next8 .now)) (stacked .next-rows .ensures)))))
+    let a = known1 .before .args in (
+      lefts .put-words .ensures,
+      (
+        rights .put-words2 .ensures,
+        (
+          labels .put-labels .ensures,
+          (
+            marks .put-words3 .ensures,
+            last .put-words4 .ensures ∙ ap (λ (k : ℕ). putOn (a .shelf) k (a .next .now) (a .next8 .now)) (stacked .next-rows .ensures),
+          ),
+        ),
+      ),
+    )
 
 pub put-tables-spec : {M : Type 1} → statement M
 put-tables-spec =

@@ -18,12 +18,19 @@ returns c =
     let known8 = lefts .before .before .before .before in
     let known5 = known8 .before .before .before .before in
     let known1 = known5 .before .before .before .before in
-    let a = known1 .before .args in
-    (lefts .take-words .ensures,
-    (rights .take-words2 .ensures,
-    (labels .take-labels .ensures,
-    (marks .take-words3 .ensures,
-    last .take-words4 .ensures ∙ ap (λ (k : ℕ). putBack (a .shelf) k (a .next8 .now) (a .next .now)) (stacked .next-rows .ensures)))))
+    let a = known1 .before .args in (
+      lefts .take-words .ensures,
+      (
+        rights .take-words2 .ensures,
+        (
+          labels .take-labels .ensures,
+          (
+            marks .take-words3 .ensures,
+            last .take-words4 .ensures ∙ ap (λ (k : ℕ). putBack (a .shelf) k (a .next8 .now) (a .next .now)) (stacked .next-rows .ensures),
+          ),
+        ),
+      ),
+    )
 
 pub take-tables-spec : {M : Type 1} → statement M
 take-tables-spec =
