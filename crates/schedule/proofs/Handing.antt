@@ -10,7 +10,8 @@ use lib.Seq.{sets}
 use borrow.Author.Tests.{ne-eqb, leb-true, not-true}
 use Rattle.model.specs.declared.Control.{Control}
 use Rattle.model.specs.declared.Record.{Record}
-use Rattle.model.specs.Tables.{Tables, Queue, isPooled, idle, tablesOf}
+use Rattle.model.specs.declared.TaskRecord.{TaskRecord}
+use Rattle.model.specs.Tables.{Tables, Queue, isPooled, unused, withCall, tablesOf}
 use Rattle.model.specs.Sound.{controlSound, rowsFit}
 use Rattle.model.specs.Walk.{Walk, entries, broken, contents, isBroken, met}
 use Rattle.model.specs.Report.{waiting}
@@ -75,7 +76,7 @@ module _ (ws ws′ : List ℕ) (len : ℕ) (q q′ : Tables) (p : Queue) (f : Fo
       ∙ some-told f ws ws′ q q′ (seekOf ws (memoryLength ws) 48 false p) all h
 
 -- The records beyond the first two do not count.
-same-list : (q : Tables) (rs : List Record) (n : ℕ) (a b : Record) → Begins rs n a b → q .control .tasks ≡ 2 → q .control .tasks ≤ length rs
+same-list : (q : Tables) (rs : List TaskRecord) (n : ℕ) (a b : Record) → Begins rs n a b → q .control .tasks ≡ 2 → q .control .tasks ≤ length rs
     → allSchedules (record { tables = q; records = rs }) ≡ allSchedules (pairOf q a b)
 same-list q [] n a b these two few = absurd (omega (arith, two, few))
 same-list q (x ∷ []) n a b these two few = absurd (omega (arith, two, few))
@@ -100,7 +101,7 @@ last-part two (entries l) = go (two && leb (length l) 4)
     go true = refl
     go false = refl
 
-module _ (q : Tables) (rs : List Record) (n : ℕ) (a b : Record) (ws : List ℕ) (these : Begins rs n a b) where
+module _ (q : Tables) (rs : List TaskRecord) (n : ℕ) (a b : Record) (ws : List ℕ) (these : Begins rs n a b) where
   abbrev Q : Queue
   Q = record { tables = q; records = rs }
 
@@ -155,7 +156,7 @@ module _ (q : Tables) (rs : List Record) (n : ℕ) (a b : Record) (ws : List ℕ
       (sym (same-list q rs n a b these (tasks Q ws ok) few)))
 
 -- The control that its row is.
-pub by-rows : (c d : Control) (ls rs bs ms ns ls′ rs′ bs′ ms′ ns′ : List ℕ) (records : List Record) (ws ws′ : List ℕ) (r : ScheduleReply) → c ≡ d
+pub by-rows : (c d : Control) (ls rs bs ms ns ls′ rs′ bs′ ms′ ns′ : List ℕ) (records : List TaskRecord) (ws ws′ : List ℕ) (r : ScheduleReply) → c ≡ d
     → told r ws′ (tablesOf c ls′ rs′ bs′ ms′ ns′) ≡ answered (tablesOf c ls rs bs ms ns) records ws
     → told r ws′ (tablesOf d ls′ rs′ bs′ ms′ ns′) ≡ answered (tablesOf d ls rs bs ms ns) records ws
 by-rows c d ls rs bs ms ns ls′ rs′ bs′ ms′ ns′ records ws ws′ r e h =

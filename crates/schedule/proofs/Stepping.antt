@@ -24,7 +24,7 @@ use Rattle.schedule_model.specs.Undo.{saved, putBack}
 use Rattle.schedule_model.proofs.Undone.{undoes}
 use Rattle.schedule.specs.declared.Found.{Found}
 use Rattle.schedule.specs.Sought.{pairOf, foundOf, written, Sought, sought, under}
-use Rattle.schedule.proofs.Seeking.{handed, record-at}
+use Rattle.schedule.proofs.Seeking.{handed}
 
 stepped-is : (t : ℕ) (o : Outcome) (free : Bool) (m : Next) → stepped t o free m ≡ prefixed t (under o free m)
 stepped-is t (Refused why) true m = refl
