@@ -16,7 +16,7 @@ static inline zc_reply go(zc_record *record, uint64_t place)
 static inline zc_reply answer(zc_record *record, uint32_t code, uint64_t slot, uint32_t label)
 {
     zc_reply reply = {code, label, slot};
-    memset(record, 0, sizeof *record);
+    memset(record, 0, offsetof(zc_record, retries));
     return reply;
 }
 
@@ -32,10 +32,10 @@ static inline uint64_t successor(uint64_t seen, uint64_t status, bool right, uin
     return ((seen & tag_bits) + one_tag) | status << 30 | ends;
 }
 
-static inline bool change(zc_control *control, uint64_t *word, uint64_t seen, uint64_t wanted)
+static inline bool change(zc_record *record, uint64_t *word, uint64_t seen, uint64_t wanted)
 {
     if (*word != seen) {
-        control->retries += control->retries < ZC_MOST_RETRIES;
+        record->retries += record->retries < ZC_MOST_RETRIES;
         return false;
     }
     *word = wanted;
@@ -70,7 +70,7 @@ zc_reply bare_step(zc_control *control, zc_record *record, uint64_t *lefts, uint
     switch (record->place) {
     case 1: return take_reading(record, control->anchor);
     case 2:
-        if (!change(control, &control->anchor, seen,
+        if (!change(record, &control->anchor, seen,
                     successor(seen, status, right, record->own, record->own)))
             return take_reading(record, control->anchor);
         return push ? answer(record, ZC_PUSHED, 0, 0) : go(record, 11);
@@ -84,7 +84,7 @@ zc_reply bare_step(zc_control *control, zc_record *record, uint64_t *lefts, uint
         uint64_t wanted =
             push ? successor(seen, right ? ZC_RPUSH : ZC_LPUSH, right, record->own, far)
                  : successor(seen, status, right, record->neighbour, far);
-        if (!change(control, &control->anchor, seen, wanted))
+        if (!change(record, &control->anchor, seen, wanted))
             return take_reading(record, control->anchor);
         if (!push)
             return go(record, 11);
@@ -99,12 +99,12 @@ zc_reply bare_step(zc_control *control, zc_record *record, uint64_t *lefts, uint
         record->link = outward[record->neighbour];
         return go(record, zc_link_slot(record->link) == end ? 10 : 8);
     case 9:
-        if (!change(control, &outward[record->neighbour], record->link,
+        if (!change(record, &outward[record->neighbour], record->link,
                     ((record->link & tag_bits) + one_tag) | end))
             return leave(record);
         return go(record, 10);
     case 10:
-        change(control, &control->anchor, seen, successor(seen, ZC_STABLE, right, end, far));
+        change(record, &control->anchor, seen, successor(seen, ZC_STABLE, right, end, far));
         return leave(record);
     case 11: {
         uint32_t label = labels[end];
@@ -123,7 +123,7 @@ zc_reply bare_step(zc_control *control, zc_record *record, uint64_t *lefts, uint
     case 13: record->neighbour = next[zc_link_slot(record->link)]; return go(record, 14);
     case 14: {
         uint64_t slot = zc_link_slot(record->link);
-        if (!change(control, &control->head, record->link,
+        if (!change(record, &control->head, record->link,
                     ((record->link & tag_bits) + one_tag) | record->neighbour))
             return go(record, 12);
         marks[slot / 64] |= UINT64_C(1) << (slot % 64);
@@ -134,7 +134,7 @@ zc_reply bare_step(zc_control *control, zc_record *record, uint64_t *lefts, uint
     case 15: record->link = control->head; return go(record, 16);
     case 16: next[record->own] = zc_link_slot(record->link); return go(record, 17);
     default:
-        if (!change(control, &control->head, record->link,
+        if (!change(record, &control->head, record->link,
                     ((record->link & tag_bits) + one_tag) | record->own))
             return go(record, 15);
         return answer(record, ZC_POPPED, record->own, record->label);

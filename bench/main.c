@@ -122,7 +122,8 @@ static size_t draw_schedule(struct operation *schedule, size_t steps)
 static void start_push(const struct operation *start)
 {
     uint64_t place = pooled ? 12 : 1;
-    zc_record record = {place, ZC_PUSH, start->side, start->slot, start->label, 0, 0, 0, 0};
+    uint64_t retries = records[start->task].retries;
+    zc_record record = {place, ZC_PUSH, start->side, start->slot, start->label, 0, 0, 0, 0, retries};
     records[start->task] = record;
     if (pooled)
         return;
@@ -132,7 +133,8 @@ static void start_push(const struct operation *start)
 
 static void start_pop(const struct operation *start)
 {
-    zc_record record = {1, ZC_POP, start->side, 0, 0, 0, 0, 0, 0};
+    uint64_t retries = records[start->task].retries;
+    zc_record record = {1, ZC_POP, start->side, 0, 0, 0, 0, 0, 0, retries};
     records[start->task] = record;
 }
 
@@ -194,7 +196,7 @@ static uint64_t hash_record(uint64_t hash, const zc_record *record)
 {
     const uint64_t numbers[] = {
         record->place, record->kind,      record->side, record->own,       record->label,
-        record->seen,  record->neighbour, record->link, record->finishing,
+        record->seen,  record->neighbour, record->link, record->finishing, record->retries,
     };
     for (size_t at = 0; at < sizeof numbers / sizeof *numbers; at++)
         hash = mix(hash, numbers[at]);
@@ -216,8 +218,7 @@ static uint64_t hash_move(uint64_t hash, zc_reply reply, const zc_record *record
 {
     hash = mix(mix(mix(hash, reply.code), reply.label), reply.value);
     hash = mix(mix(hash, control.tasks), control.slots);
-    hash = mix(mix(hash, control.anchor), control.retries);
-    hash = mix(mix(hash, control.pooled), control.head);
+    hash = mix(mix(mix(hash, control.anchor), control.pooled), control.head);
     return hash_record(hash, record);
 }
 

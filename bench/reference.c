@@ -111,10 +111,13 @@ static inline zc_reply go(zc_record *record, uint64_t place)
     return reply;
 }
 
+/* All of a record but its count. */
+static inline void clear_call(zc_record *record) { memset(record, 0, offsetof(zc_record, retries)); }
+
 static inline zc_reply answer(zc_record *record, uint32_t code, uint64_t slot, uint32_t label)
 {
     zc_reply reply = {code, label, slot};
-    memset(record, 0, sizeof *record);
+    clear_call(record);
     return reply;
 }
 
@@ -127,10 +130,10 @@ static inline zc_reply leave(zc_record *record)
 
 enum change { FAILED, DONE, FORBIDDEN };
 
-static inline void count_retry(zc_control *control)
+static inline void count_retry(zc_record *record)
 {
-    if (control->retries < ZC_MOST_RETRIES)
-        control->retries++;
+    if (record->retries < ZC_MOST_RETRIES)
+        record->retries++;
 }
 
 /* The Anchor word with a raised tag, a status, and its two ends as seen from a side. */
@@ -142,10 +145,11 @@ static inline uint64_t successor(uint64_t seen, uint64_t status, uint64_t side, 
     return ((seen & tag_bits) + one_tag) | status << 30 | left << 15 | right;
 }
 
-static inline enum change change_anchor(zc_control *control, uint64_t seen, uint64_t wanted)
+static inline enum change change_anchor(zc_control *control, zc_record *record, uint64_t wanted)
 {
+    uint64_t seen = record->seen;
     if (control->anchor != seen) {
-        count_retry(control);
+        count_retry(record);
         return FAILED;
     }
     if (zc_anchor_tag(seen) == last_tag || !anchor_sound(wanted, control->slots))
@@ -154,10 +158,11 @@ static inline enum change change_anchor(zc_control *control, uint64_t seen, uint
     return DONE;
 }
 
-static inline enum change change_head(zc_control *control, uint64_t read, uint64_t slot)
+static inline enum change change_head(zc_control *control, zc_record *record, uint64_t slot)
 {
+    uint64_t read = record->link;
     if (control->head != read) {
-        count_retry(control);
+        count_retry(record);
         return FAILED;
     }
     if (zc_link_tag(read) == last_tag)
@@ -213,7 +218,7 @@ static inline zc_reply take_slot(zc_control *control, zc_record *record, uint32_
                                  uint64_t *marks)
 {
     uint64_t slot = zc_link_slot(record->link);
-    switch (change_head(control, record->link, record->neighbour)) {
+    switch (change_head(control, record, record->neighbour)) {
     case FORBIDDEN: return refuse(ZC_UNSOUND);
     case FAILED: return go(record, 12);
     default: break;
@@ -227,7 +232,7 @@ static inline zc_reply take_slot(zc_control *control, zc_record *record, uint32_
 /* Place 17. */
 static inline zc_reply give_back(zc_control *control, zc_record *record)
 {
-    switch (change_head(control, record->link, record->own)) {
+    switch (change_head(control, record, record->own)) {
     case FORBIDDEN: return refuse(ZC_UNSOUND);
     case FAILED: return go(record, 15);
     default: return answer(record, ZC_POPPED, record->own, record->label);
@@ -251,8 +256,8 @@ INLINED zc_reply advance(zc_control *control, zc_record *record, uint64_t *lefts
     switch (record->place) {
     case 1: return take_reading(record, control->anchor);
     case 2:
-        switch (
-            change_anchor(control, seen, successor(seen, status, side, record->own, record->own))) {
+        switch (change_anchor(control, record,
+                              successor(seen, status, side, record->own, record->own))) {
         case FORBIDDEN: return refuse(ZC_UNSOUND);
         case FAILED: return take_reading(record, control->anchor);
         default: return push ? answer(record, ZC_PUSHED, 0, 0) : go(record, 11);
@@ -268,7 +273,7 @@ INLINED zc_reply advance(zc_control *control, zc_record *record, uint64_t *lefts
         uint64_t wanted = push
                               ? successor(seen, right ? ZC_RPUSH : ZC_LPUSH, side, record->own, far)
                               : successor(seen, status, side, record->neighbour, far);
-        switch (change_anchor(control, seen, wanted)) {
+        switch (change_anchor(control, record, wanted)) {
         case FORBIDDEN: return refuse(ZC_UNSOUND);
         case FAILED: return take_reading(record, control->anchor);
         default: break;
@@ -292,7 +297,7 @@ INLINED zc_reply advance(zc_control *control, zc_record *record, uint64_t *lefts
         if (record->neighbour == 0)
             return refuse(ZC_UNSOUND);
         if (outward[record->neighbour] != record->link) {
-            count_retry(control);
+            count_retry(record);
             return leave(record);
         }
         if (zc_link_tag(record->link) == last_tag)
@@ -300,7 +305,7 @@ INLINED zc_reply advance(zc_control *control, zc_record *record, uint64_t *lefts
         outward[record->neighbour] = ((record->link & tag_bits) + one_tag) | end;
         return go(record, 10);
     case 10:
-        if (change_anchor(control, seen, successor(seen, ZC_STABLE, side, end, far)) == FORBIDDEN)
+        if (change_anchor(control, record, successor(seen, ZC_STABLE, side, end, far)) == FORBIDDEN)
             return refuse(ZC_UNSOUND);
         return leave(record);
     case 11: {
@@ -348,7 +353,6 @@ uint32_t CALL(open)(zc_control *control, zc_record *records, size_t record_count
     control->tasks = tasks;
     control->slots = slots;
     control->anchor = (uint64_t)tag << 32;
-    control->retries = 0;
     control->pooled = 0;
     control->head = 0;
     return 0;
@@ -400,7 +404,7 @@ zc_reply CALL(push)(zc_control *control, zc_record *records, size_t record_count
         return refuse(ZC_TAKEN);
     if (zc_anchor_tag(control->anchor) > ZC_LAST_START_TAG)
         return refuse(ZC_WORN);
-    memset(record, 0, sizeof *record);
+    clear_call(record);
     record->side = side;
     record->own = slot;
     record->label = label;
@@ -433,7 +437,7 @@ zc_reply CALL(push_pooled)(zc_control *control, zc_record *records, size_t recor
         return refuse(ZC_BUSY);
     if (zc_anchor_tag(control->anchor) > ZC_LAST_START_TAG)
         return refuse(ZC_WORN);
-    memset(record, 0, sizeof *record);
+    clear_call(record);
     record->side = side;
     record->label = label;
     return go(record, 12);
@@ -460,7 +464,7 @@ zc_reply CALL(pop)(zc_control *control, zc_record *records, size_t record_count,
         return refuse(ZC_BUSY);
     if (zc_anchor_tag(control->anchor) > ZC_LAST_START_TAG)
         return refuse(ZC_WORN);
-    memset(record, 0, sizeof *record);
+    clear_call(record);
     record->kind = ZC_POP;
     record->side = side;
     return go(record, 1);
@@ -575,9 +579,10 @@ zc_report_reply CALL(report)(const zc_control *control, const zc_record *records
     reply.status = zc_anchor_status(control->anchor);
     reply.left = zc_anchor_left(control->anchor);
     reply.right = zc_anchor_right(control->anchor);
-    reply.retries = control->retries;
-    for (uint64_t task = 0; task < control->tasks; task++)
+    for (uint64_t task = 0; task < control->tasks; task++) {
         reply.busy += records[task].place != 0;
+        reply.retries[task] = records[task].retries;
+    }
     reply.taken = marked_slots(marks, control->slots);
     return reply;
 }

@@ -50,8 +50,9 @@
  *
  * WHO STEPS A TASK. A call belongs to its task's record, not to whoever steps it: a watchdog may
  * step a task that hangs, to its answer if it likes. The answer goes to the caller of that step and
- * is told once; the record is then zero. So a watchdog that gets an answer keeps it for the task: a
- * popped label is nowhere else. The task finds its place 0, and its own next step is refused 31.
+ * is told once; all of the record but its count is then zero. So a watchdog that gets an answer
+ * keeps it for the task: a popped label is nowhere else. The task finds its place 0, and its own
+ * next step is refused 31.
  *
  * CODES, one convention for all calls: an unsigned number, 0 for an opening or a report carried out,
  * 1 to 9 for what a call answers, 10 and above for a refusal (zc_is_refusal). A reply holds it in
@@ -60,17 +61,17 @@
  * FACTS, the most that bench/facts.sh saw over random calls; memset's instructions are not counted:
  *                  stack,   instructions at most, by tasks and slots
  *                  bytes      1, 3     5, 12  16, 1023
- *   zc_open            88        88        88        88
- *   zc_open_pooled     88       125       181      6255
- *   zc_push           360       318       318       318
- *   zc_push_pooled    360       288       288       288
- *   zc_pop            360       283       283       283
- *   zc_step           624       359       357       357
- *   zc_step_record    640       343       338       338
- *   zc_run            672      2552      4196      4850
- *   zc_report         112       234       512     27353
- *   table bytes         -       240       784     30000
- *   code bytes: audit 1804, capi 10181, capi_record 6077, capi_run 6516, find 3570, join 3458, schedule 12034, sheet 3512
+ *   zc_open            88        78        78        78
+ *   zc_open_pooled     88       111       167      6241
+ *   zc_push           352       300       300       300
+ *   zc_push_pooled    344       272       272       272
+ *   zc_pop            336       268       268       268
+ *   zc_step           576       350       348       348
+ *   zc_step_record    592       343       338       338
+ *   zc_run            608      2461      4083      4712
+ *   zc_report         368       284       515     20331
+ *   table bytes         -       240       816     30120
+ *   code bytes: audit 1804, capi 10379, capi_record 5813, capi_run 6089, find 3517, join 3567, schedule 10892, sheet 3512
  * As to the machine: x86-64, System V calling convention. The code uses the red zone (128 bytes
  * below the stack pointer) and SSE registers, no AVX: an interrupt handler that makes a call saves
  * the SSE state first, and an interrupt that is not masked during a call leaves the red zone alone.
@@ -104,7 +105,7 @@ extern "C" {
  * Major: a layout, a code, or what a call takes or does has changed: read CHANGELOG.md and compile
  * again. Minor: something was added. Patch: neither.
  */
-#define ZC_VERSION_MAJOR 2
+#define ZC_VERSION_MAJOR 3
 #define ZC_VERSION_MINOR 0
 #define ZC_VERSION_PATCH 0
 #define ZC_VERSION (ZC_VERSION_MAJOR * 10000 + ZC_VERSION_MINOR * 100 + ZC_VERSION_PATCH)
@@ -115,7 +116,7 @@ extern "C" {
 #define ZC_MOST_SLOTS 1023
 #define ZC_LAST_START_TAG UINT64_C(4294967262) /* with a higher tag a start is refused 33 */
 #define ZC_MOST_ASKED 32
-#define ZC_MOST_RETRIES UINT64_C(4294967295)   /* where the count of retries stays */
+#define ZC_MOST_RETRIES UINT64_C(4294967295)   /* where a task's count of retries stays */
 
 /*
  * How long a call may hold up, in a queue that was opened and moved by these calls alone. Figures
@@ -221,13 +222,15 @@ extern "C" {
 typedef struct zc_control {
     uint64_t tasks;
     uint64_t slots;
-    uint64_t anchor;  /* tag 63-32, status 31-30, left end 29-15, right end 14-0; end 0 is null */
-    uint64_t retries; /* changes that failed because another task was faster */
-    uint64_t pooled;  /* 1 if opened by zc_open_pooled, else 0 */
-    uint64_t head;    /* the free slot on top: tag 63-32, zero 31-15, slot 14-0; slot 0: none */
+    uint64_t anchor; /* tag 63-32, status 31-30, left end 29-15, right end 14-0; end 0 is null */
+    uint64_t pooled; /* 1 if opened by zc_open_pooled, else 0 */
+    uint64_t head;   /* the free slot on top: tag 63-32, zero 31-15, slot 14-0; slot 0: none */
 } zc_control;
 
-/* Where a task stands in its call. Each field is zero after an opening and after an answer. */
+/*
+ * Where a task stands in its call, and its count of retries. An opening zeroes every field. A start
+ * writes every field but the count, and an answer zeroes every field but the count.
+ */
 typedef struct zc_record {
     uint64_t place;     /* 0 idle, or the place of the next step, 1 to 11, pooled to 17 */
     uint64_t kind;      /* ZC_PUSH or ZC_POP */
@@ -238,6 +241,8 @@ typedef struct zc_record {
     uint64_t neighbour; /* the neighbour slot as read; at 14 the next of the slot on top */
     uint64_t link;      /* the link word as read; at 13 to 17 the head */
     uint64_t finishing; /* 1 once a push has taken effect and still has a link to mend */
+    uint64_t retries;   /* this task's changes that failed because another was faster: each adds
+                           one below ZC_MOST_RETRIES; only an opening zeroes it */
 } zc_record;
 
 /* What a start or a step answers. Label and value are 0 where the code gives them no meaning. */
@@ -261,7 +266,7 @@ typedef struct zc_report_reply {
     uint64_t busy;                     /* tasks with a call under way */
     uint64_t waiting;                  /* labels in the queue */
     uint64_t taken; /* marks set for slots 1 to slots, half-done calls included */
-    uint64_t retries;
+    uint64_t retries[ZC_MOST_TASKS]; /* of each record, in task order; 0 beyond the tasks */
 } zc_report_reply;
 
 /* Where labels wait. With a refusal every field but code is 0. */
@@ -277,23 +282,23 @@ typedef struct zc_find_reply {
 #else
 #define ZC_LAYOUT(fact) _Static_assert(fact, #fact)
 #endif
-ZC_LAYOUT(sizeof(zc_control) == 48);
+ZC_LAYOUT(sizeof(zc_control) == 40);
 ZC_LAYOUT(offsetof(zc_control, tasks) == 0 && offsetof(zc_control, slots) == 8);
-ZC_LAYOUT(offsetof(zc_control, anchor) == 16 && offsetof(zc_control, retries) == 24);
-ZC_LAYOUT(offsetof(zc_control, pooled) == 32 && offsetof(zc_control, head) == 40);
-ZC_LAYOUT(sizeof(zc_record) == 72);
+ZC_LAYOUT(offsetof(zc_control, anchor) == 16 && offsetof(zc_control, pooled) == 24);
+ZC_LAYOUT(offsetof(zc_control, head) == 32);
+ZC_LAYOUT(sizeof(zc_record) == 80);
 ZC_LAYOUT(offsetof(zc_record, place) == 0 && offsetof(zc_record, kind) == 8);
 ZC_LAYOUT(offsetof(zc_record, side) == 16 && offsetof(zc_record, own) == 24);
 ZC_LAYOUT(offsetof(zc_record, label) == 32 && offsetof(zc_record, seen) == 40);
 ZC_LAYOUT(offsetof(zc_record, neighbour) == 48 && offsetof(zc_record, link) == 56);
-ZC_LAYOUT(offsetof(zc_record, finishing) == 64);
+ZC_LAYOUT(offsetof(zc_record, finishing) == 64 && offsetof(zc_record, retries) == 72);
 ZC_LAYOUT(sizeof(zc_reply) == 16);
 ZC_LAYOUT(offsetof(zc_reply, code) == 0 && offsetof(zc_reply, label) == 4);
 ZC_LAYOUT(offsetof(zc_reply, value) == 8);
 ZC_LAYOUT(sizeof(zc_run_reply) == 24);
 ZC_LAYOUT(offsetof(zc_run_reply, code) == 0 && offsetof(zc_run_reply, label) == 4);
 ZC_LAYOUT(offsetof(zc_run_reply, value) == 8 && offsetof(zc_run_reply, steps) == 16);
-ZC_LAYOUT(sizeof(zc_report_reply) == 72);
+ZC_LAYOUT(sizeof(zc_report_reply) == 192);
 ZC_LAYOUT(offsetof(zc_report_reply, code) == 0 && offsetof(zc_report_reply, tag) == 8);
 ZC_LAYOUT(offsetof(zc_report_reply, status) == 16 && offsetof(zc_report_reply, left) == 24);
 ZC_LAYOUT(offsetof(zc_report_reply, right) == 32 && offsetof(zc_report_reply, busy) == 40);
@@ -314,8 +319,8 @@ ZC_LAYOUT(offsetof(zc_find_reply, positions) == 16);
 /*
  * Opens an empty, STABLE queue for `tasks` tasks, numbered from 0, and `slots` slots, numbered
  * from 1. `tag` is the first Anchor tag: any number, 0 if you have no reason for another.
- * Zeroes rows 0 to slots, `tasks` records, the mark words and retries; entries beyond keep their
- * values. What lay in control and tables before does not matter. Pushes name their slots.
+ * Zeroes rows 0 to slots, `tasks` records with their counts, and the mark words; entries beyond
+ * keep their values. What lay in control and tables before does not matter. Pushes name their slots.
  * Answers 0, or refuses: 10, 11, 12 (rows slots + 1, records tasks, mark words slots div 64 + 1).
  */
 uint32_t zc_open(zc_control *control, zc_record *records, size_t record_count, uint64_t tasks,
@@ -338,7 +343,7 @@ uint32_t zc_open_pooled(zc_control *control, zc_record *records, size_t record_c
  * Starts a push for an idle task in a queue opened by zc_open: `label`, any number, in `slot`, at
  * the end `side`. The slot must be free (its mark clear); it is taken from now until the pop of its
  * label answers.
- * Writes the record, the slot's label and its mark; the queue itself moves by steps only.
+ * Writes the record but its count, the slot's label and its mark; the queue itself moves by steps only.
  * Answers running at place 1, or refuses: 34 for control, 12, 13, 14, 41, 15, 34 for the record,
  * 30, 32, 33.
  */
@@ -352,7 +357,7 @@ zc_reply zc_push(zc_control *control, zc_record *records, size_t record_count, s
  * Starts a push for an idle task in a pooled queue. Its first steps take a slot from the pool; if
  * there is none the first step answers ZC_NO_FREE_SLOT, and nothing is pushed: every slot then
  * waited, or was held by a push or a pop half done. Start again once a pop has answered.
- * Writes the record alone.
+ * Writes the record alone, but its count.
  * Answers running at place 12, or refuses: 34 for control, 12, 13, 14, 41, 34 for the record, 30,
  * 33.
  */
@@ -363,7 +368,8 @@ zc_reply zc_push_pooled(zc_control *control, zc_record *records, size_t record_c
                         const uint64_t *next, size_t next_count);
 
 /*
- * Starts a pop for an idle task at the end `side`. Writes the record alone.
+ * Starts a pop for an idle task at the end `side`. Writes the record alone, but its
+ * count.
  * Answers running at place 1, or refuses: 34 for control, 12, 13, 14, 34 for the record, 30, 33.
  */
 zc_reply zc_pop(zc_control *control, zc_record *records, size_t record_count, size_t task,
@@ -374,9 +380,9 @@ zc_reply zc_pop(zc_control *control, zc_record *records, size_t record_count, si
 /*
  * Moves a busy task by one step. Step it again as long as the answer is running; with any other
  * code below 10 the call is over and the task idle.
- * Writes its record and at most one of: Anchor, the head, a link word, a next, a mark; a change
- * that failed is counted in retries instead. One step writes more: at 14 a push takes the slot on
- * top and sets its mark and label together with the head.
+ * Writes its record and at most one of: Anchor, the head, a link word, a next, a mark. A change that
+ * failed writes the record alone, and is counted there. One step writes more: at 14 a push takes the
+ * slot on top and sets its mark and label together with the head.
  * Refuses: 34 for control, 12, 13, 34 for the record, 31, 34 for what the step touches.
  */
 zc_reply zc_step(zc_control *control, zc_record *records, size_t record_count, size_t task,
@@ -386,7 +392,8 @@ zc_reply zc_step(zc_control *control, zc_record *records, size_t record_count, s
 
 /*
  * The same step on one lent record, which need not lie among the others: it answers, and leaves
- * record and tables, as zc_step does with this record in its task's row.
+ * record and tables, as zc_step does with this record in its task's row. A failed change is counted
+ * in this record.
  * Refuses: 34 for control, 12 (not for records), 34 for the record, 31, 34 for what the step
  * touches.
  */
@@ -408,8 +415,9 @@ zc_run_reply zc_run(zc_control *control, zc_record *records, size_t record_count
                     size_t mark_count, uint64_t *next, size_t next_count);
 
 /*
- * Tells Anchor's fields, the number of busy tasks, the labels waiting, the slots taken, and retries.
- * Writes nothing; of the records it looks at the places alone. It walks the queue from end to end:
+ * Tells Anchor's fields, the number of busy tasks, the labels waiting, the slots taken, and the
+ * retries of each task; entries beyond the tasks are 0, however many records are lent.
+ * Writes nothing; of the records it looks at places and counts. It walks the queue from end to end:
  * its work grows with the labels waiting.
  * Answers code 0, or refuses: 34 for control, 12, 34 for the walk.
  */

@@ -108,8 +108,11 @@ int main(int argc, char **argv)
     uint32_t left_over = 0;
     for (size_t task = 0; task < TASKS; task++)
         left_over += (uint32_t)put_off[task];
-    printf("\n%" PRIu32 " pushed, %" PRIu32 " printed, %" PRIu64 " waiting, %" PRIu64 " retries\n",
-           next_label - left_over, printed_count, count, report.retries);
+    printf("\n%" PRIu32 " pushed, %" PRIu32 " printed, %" PRIu64 " waiting; retries by task:",
+           next_label - left_over, printed_count, count);
+    for (size_t task = 0; task < TASKS; task++)
+        printf(" %" PRIu64, report.retries[task]);
+    printf("\n");
 
     int lost = report.code != 0 || report.busy != 0 || report.waiting != count ||
                printed_count + count != next_label - left_over;

@@ -108,7 +108,9 @@ fn run(seed: u64) -> Result<bool, Refusal> {
     }
     let left_over = put_off.iter().filter(|&&put_off| put_off).count();
     let (pushed, count) = (fates.len() - left_over, waiting.len());
-    println!("\n{pushed} pushed, {printed} printed, {count} waiting, {} retries", report.retries);
+    print!("\n{pushed} pushed, {printed} printed, {count} waiting; retries by task:");
+    report.retries[..TASKS].iter().for_each(|count| print!(" {count}"));
+    println!();
     let mut lost = report.busy != 0 || report.waiting != count as u64 || printed + count != pushed;
     for (label, fate) in fates.iter().enumerate() {
         let Fate { pushed, printed, waiting } = *fate;

@@ -10,12 +10,12 @@
 
 enum { TASKS = 2, SLOTS = 70, FILL = 0xa5 };
 
-/* Offsets of a record's fields; a second record follows the first after 72 bytes. */
+/* Offsets of a record's fields; a second record follows the first after 80 bytes. */
 enum { PLACE = 0, KIND = 8, SIDE = 16, OWN = 24, LABEL = 32, SEEN = 40, NEIGHBOUR = 48, LINK = 56 };
-enum { FINISHING = 64, RECORD = 72 };
+enum { FINISHING = 64, RETRIES = 72, RECORD = 80 };
 /* Offsets of control's fields. */
-enum { CONTROL_TASKS = 0, CONTROL_SLOTS = 8, ANCHOR = 16, RETRIES = 24, POOLED = 32, TOP = 40 };
-enum { CONTROL = 48 };
+enum { CONTROL_TASKS = 0, CONTROL_SLOTS = 8, ANCHOR = 16, POOLED = 24, TOP = 32 };
+enum { CONTROL = 40 };
 
 static _Alignas(8) unsigned char control[CONTROL + 16];
 static _Alignas(8) unsigned char records[RECORD * (TASKS + 1)];
@@ -88,13 +88,12 @@ static void opening(void)
     equal("tasks", word(control, CONTROL_TASKS), TASKS);
     equal("slots", word(control, CONTROL_SLOTS), SLOTS);
     equal("first Anchor", word(control, ANCHOR), UINT64_C(0x5a5b5c5d00000000));
-    equal("retries", word(control, RETRIES), 0);
     equal("pooled", word(control, POOLED), 0);
     equal("head", word(control, TOP), 0);
     untouched("what follows control", control + CONTROL, sizeof control - CONTROL);
     untouched("what follows the records", records + TASKS * RECORD, RECORD);
     for (size_t record = 0; record < TASKS * RECORD; record += RECORD) {
-        for (size_t offset = PLACE; offset <= FINISHING; offset += 8)
+        for (size_t offset = PLACE; offset <= RETRIES; offset += 8)
             if (offset != LABEL)
                 equal("a field of an idle record", word(records + record, offset), 0);
         equal("the label of an idle record", half(records + record, LABEL), 0);
@@ -159,11 +158,15 @@ static void push(void)
 /* Anchor is still RPUSH 66, 67 and task 1 busy; task 0 starts as well. */
 static void report(void)
 {
-    unsigned char bytes[72];
-    put(control, RETRIES, 12345);
+    unsigned char bytes[192];
+    put(records, RETRIES, 12345);
+    put(records + RECORD, RETRIES, UINT64_C(0x1020304050607080));
     zc_pop(RECORDS, 0, ZC_LEFT, TABLES);
+    equal("a start keeps the count", word(records, RETRIES), 12345);
     marks[0] |= 1 << 5; /* a slot taken that does not wait */
-    zc_report_reply reply = zc_report(RECORDS, TABLES);
+    /* A record more is lent than there are tasks. */
+    zc_report_reply reply =
+        zc_report((zc_control *)control, (zc_record *)records, TASKS + 1, TABLES);
     marks[0] &= ~(UINT64_C(1) << 5);
     memcpy(bytes, &reply, sizeof reply);
     equal("report: code", word(bytes, 0), 0);
@@ -174,7 +177,10 @@ static void report(void)
     equal("report: busy", word(bytes, 40), 2);
     equal("report: waiting", word(bytes, 48), 2);
     equal("report: taken", word(bytes, 56), 3);
-    equal("report: retries", word(bytes, 64), 12345);
+    equal("report: retries of task 0", word(bytes, 64), 12345);
+    equal("report: retries of task 1", word(bytes, 72), UINT64_C(0x1020304050607080));
+    for (size_t offset = 80; offset < sizeof bytes; offset += 8)
+        equal("report: retries of no task", word(bytes, offset), 0);
     equal("report: refused", zc_report((zc_control *)control, (zc_record *)records, 1, TABLES).code,
           ZC_SHORT);
 }
@@ -208,6 +214,7 @@ static void pop(void)
     equal("label of popped", half(bytes, 4), 700);
     equal("slot of popped", word(bytes, 8), 66);
     equal("marks after the pop", marks[1], 2 << 2);
+    equal("an answer keeps the count", word(records, RETRIES), 12345);
     equal("refusal", zc_refusal(step(0)), ZC_IDLE);
     untouched("what follows control", control + CONTROL, sizeof control - CONTROL);
     untouched("what follows the records", records + TASKS * RECORD, RECORD);

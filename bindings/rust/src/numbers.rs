@@ -11,7 +11,7 @@ pub const MOST_SLOTS: u64 = 1_023;
 pub const MOST_ASKED: usize = 32;
 /// With a higher Anchor tag a start is refused [`Refusal::Worn`].
 pub const LAST_START_TAG: u64 = 4_294_967_262;
-/// Where the count of retries stays.
+/// Where a task's count of retries stays.
 pub const MOST_RETRIES: u64 = 4_294_967_295;
 
 /// A push with a named slot, stepped alone, answers within so many steps, wherever the other tasks
@@ -198,8 +198,9 @@ pub struct Report {
     pub waiting: u64,
     /// Marks set for slots 1 to slots, half-done calls included.
     pub taken: u64,
-    /// Changes that failed because another task was faster.
-    pub retries: u64,
+    /// Of each task, the changes that failed because another was faster, since the opening; 0
+    /// beyond the tasks.
+    pub retries: [u64; MOST_TASKS as usize],
 }
 
 /// What a run of steps answered, and the steps made.

@@ -152,7 +152,7 @@ impl Queue {
         Ok(answers)
     }
 
-    /// Anchor's fields, busy tasks, labels waiting, slots taken, retries.
+    /// Anchor's fields, busy tasks, labels waiting, slots taken, each task's retries.
     pub fn report(&self) -> Report {
         report(self.shared()).expect("an open queue is sound")
     }

@@ -66,15 +66,13 @@ pub struct Control {
     pub slots: u64,
     /// Taken apart by [`Anchor::of`](crate::Anchor::of).
     pub anchor: u64,
-    /// Changes that failed because another task was faster.
-    pub retries: u64,
     /// 1 if opened with the slots in a pool, else 0.
     pub pooled: u64,
     /// The free slot on top of the pool, laid out like a link word; slot 0: none.
     pub head: u64,
 }
 
-/// Where a task stands in its call; all zero while it has none.
+/// Where a task stands in its call, all zero while it has none, and its count of retries.
 #[repr(C)]
 #[derive(Clone, Copy, Debug, Default, PartialEq, Eq)]
 pub struct Record {
@@ -96,6 +94,9 @@ pub struct Record {
     pub link: u64,
     /// 1 once a push has taken effect and still has a link to mend.
     pub finishing: u64,
+    /// This task's changes that failed because another was faster: each adds one below
+    /// [`MOST_RETRIES`](crate::MOST_RETRIES); only an opening zeroes it.
+    pub retries: u64,
 }
 
 /// What a start or a step answers.
@@ -144,8 +145,8 @@ pub struct ReportReply {
     pub waiting: u64,
     /// Marks set for slots 1 to slots, half-done calls included.
     pub taken: u64,
-    /// Changes that failed because another task was faster.
-    pub retries: u64,
+    /// The retries of each record, in task order; 0 beyond the tasks.
+    pub retries: [u64; crate::MOST_TASKS as usize],
 }
 
 /// Where labels wait. With a refusal every field but code is 0.
@@ -184,23 +185,23 @@ pub struct SheetReply {
 
 const _: () = {
     use core::mem::{align_of, offset_of, size_of};
-    assert!(size_of::<Control>() == 48 && align_of::<Control>() == 8);
+    assert!(size_of::<Control>() == 40 && align_of::<Control>() == 8);
     assert!(offset_of!(Control, tasks) == 0 && offset_of!(Control, slots) == 8);
-    assert!(offset_of!(Control, anchor) == 16 && offset_of!(Control, retries) == 24);
-    assert!(offset_of!(Control, pooled) == 32 && offset_of!(Control, head) == 40);
-    assert!(size_of::<Record>() == 72 && align_of::<Record>() == 8);
+    assert!(offset_of!(Control, anchor) == 16 && offset_of!(Control, pooled) == 24);
+    assert!(offset_of!(Control, head) == 32);
+    assert!(size_of::<Record>() == 80 && align_of::<Record>() == 8);
     assert!(offset_of!(Record, place) == 0 && offset_of!(Record, kind) == 8);
     assert!(offset_of!(Record, side) == 16 && offset_of!(Record, own) == 24);
     assert!(offset_of!(Record, label) == 32 && offset_of!(Record, seen) == 40);
     assert!(offset_of!(Record, neighbour) == 48 && offset_of!(Record, link) == 56);
-    assert!(offset_of!(Record, finishing) == 64);
+    assert!(offset_of!(Record, finishing) == 64 && offset_of!(Record, retries) == 72);
     assert!(size_of::<Reply>() == 16 && align_of::<Reply>() == 8);
     assert!(offset_of!(Reply, code) == 0 && offset_of!(Reply, label) == 4);
     assert!(offset_of!(Reply, value) == 8);
     assert!(size_of::<RunReply>() == 24 && align_of::<RunReply>() == 8);
     assert!(offset_of!(RunReply, code) == 0 && offset_of!(RunReply, label) == 4);
     assert!(offset_of!(RunReply, value) == 8 && offset_of!(RunReply, steps) == 16);
-    assert!(size_of::<ReportReply>() == 72 && align_of::<ReportReply>() == 8);
+    assert!(size_of::<ReportReply>() == 192 && align_of::<ReportReply>() == 8);
     assert!(offset_of!(ReportReply, code) == 0 && offset_of!(ReportReply, tag) == 8);
     assert!(offset_of!(ReportReply, status) == 16 && offset_of!(ReportReply, left) == 24);
     assert!(offset_of!(ReportReply, right) == 32 && offset_of!(ReportReply, busy) == 40);

@@ -154,7 +154,13 @@ fn report_tells_every_field() {
     queue.push(2, Side::Left, 3, 3).unwrap();
     reach(&mut queue, 2, 5);
     let anchor = Anchor { tag: 8, status: 2, left: 3, right: 66 };
-    assert_eq!(queue.report(), Report { anchor, busy: 2, waiting: 2, taken: 3, retries: 1 });
+    let mut retries = [0; MOST_TASKS as usize];
+    retries[0] = 1;
+    assert_eq!(queue.report(), Report { anchor, busy: 2, waiting: 2, taken: 3, retries });
+    finish(&mut queue, 0);
+    retries[0] = 2; // task 2 was faster as well
+    queue.pop(0, Side::Left).unwrap();
+    assert_eq!(queue.report().retries, retries, "an answer and a start keep the count");
 }
 
 #[test]

@@ -8,7 +8,7 @@ use lib.Dec.{eqb, ltb, leb}
 use lib.ListN.{length, length-replicate}
 use borrow.Author.Tests.{ltb-true, leb-true, eqb-true, le-leb, eq-eqb, ne-eqb}
 use Rattle.model.specs.declared.Opening.the-variants as opening
-use Rattle.model.specs.Tables.{Tables, Queue, idle, zeroed}
+use Rattle.model.specs.Tables.{Tables, Queue, unused, zeroed}
 use Rattle.model.specs.Sound.{rowsFit}
 use Rattle.model.specs.Refusals.{rule, first, openRefusal}
 use Rattle.model.specs.Calls.{stacked, opened, openAs, OpenDone}
@@ -59,7 +59,7 @@ module _ (pooled : Bool) (q : Tables) (records tasks slots : ℕ) where
 
   counted : openRefusal pooled (counting q records) tasks slots ≡ why
   unfolding openRefusal openingRefusal
-  counted = rw (length-replicate records idle)
+  counted = rw (length-replicate records unused)
 
   pub refused-parts : (tag : ℕ) → (why ≡ 0 → ⊥)
       → _≡_ {A = OpenedParts} (record { tables = q; clear = 0; outcome = opening.Refused why }) (openTables pooled q records tasks slots tag)
@@ -115,7 +115,7 @@ module _ (pooled : Bool) (q : Queue) (tasks slots tag : ℕ) where
 
   same-why : openRefusal pooled few tasks slots ≡ openRefusal pooled q tasks slots
   unfolding openRefusal
-  same-why = rw (length-replicate (length (q .records)) idle)
+  same-why = rw (length-replicate (length (q .records)) unused)
 
   abbrev done : Bool → ℕ → Queue → OpenDone
   done b n p = cond b (record { queue = opened pooled p tasks slots tag; outcome = opening.Opened }) (record { queue = p; outcome = opening.Refused n })

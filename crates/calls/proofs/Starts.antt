@@ -6,24 +6,34 @@ use Prim.Native.Nat.{ℕ}
 use lib.Dec.{eqb}
 use Rattle.model.specs.declared.Control.{Control}
 use Rattle.model.specs.declared.Record.{Record}
+use Rattle.model.specs.declared.TaskRecord.{TaskRecord}
 use Rattle.model.specs.declared.Answer.the-variants.{Running}
 use Rattle.model.specs.declared.Outcome.the-variants.{Refused, Moved}
+use Rattle.model.specs.Calls as calls
 use Rattle.model.specs.Calls.{decide}
-use Rattle.model.specs.Tables.{tablesOf}
+use Rattle.model.specs.Route.{counted}
+use Rattle.model.specs.Tables.{Tables, tablesOf, withCall}
+use Rattle.table.specs.declared.Acted.{Acted}
 use Rattle.table.specs.Lent.{withTables}
 use Rattle.calls.specs.Starting.{decided}
 
-module _ (c : Control) (r : Record) (why : ℕ) (task : Record) (lefts rights labels marks next : List ℕ) where
-  pub on-tables : withTables (decided c r why task) lefts rights labels marks next
-      ≡ decide why (tablesOf c lefts rights labels marks next) r
-      (record { tables = tablesOf c lefts rights labels marks next; task = task; outcome = Moved (Running (task .place)) })
+module _ (c : Control) (r : TaskRecord) (why : ℕ) (task : Record) (lefts rights labels marks next : List ℕ) where
+  abbrev q : Tables
+  q = tablesOf c lefts rights labels marks next
+
+  abbrev lent : Acted → calls.Acted
+  lent m = withTables m lefts rights labels marks next (r .retries)
+
+  pub on-tables : lent (decided c (r .call) why task)
+      ≡ decide why q r (record { tables = q; task = withCall r task; outcome = Moved (Running (task .place)) })
+  unfolding counted
   on-tables = go (eqb why 0)
     where
       go : (b : Bool)
-          → withTables
-          (cond b (record { control = c; task = task; outcome = Moved (Running (task .place)) }) (record { control = c; task = r; outcome = Refused why }))
-          lefts rights labels marks next
-          ≡ cond b (record { tables = tablesOf c lefts rights labels marks next; task = task; outcome = Moved (Running (task .place)) })
-          (record { tables = tablesOf c lefts rights labels marks next; task = r; outcome = Refused why })
+          → lent
+          (cond b (record { control = c; task = task; outcome = Moved (Running (task .place)); failed = false })
+          (record { control = c; task = r .call; outcome = Refused why; failed = false }))
+          ≡ cond b (record { tables = q; task = withCall r task; outcome = Moved (Running (task .place)) })
+          (record { tables = q; task = r; outcome = Refused why })
       go true = refl
       go false = refl

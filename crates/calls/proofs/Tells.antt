@@ -62,7 +62,6 @@ module _ (q : Tables) (enough : Bool) (busy : ℕ) where
           busy = busy;
           waiting = m;
           taken = told q busy .taken;
-          retries = q .control .retries;
         }) ≡ tell q enough busy
     unfolding tell reportRefusal waiting
     tells m f = let g = all-counted (contents q) m f in rw (passed .0, passed .1, g .0, g .1)
@@ -95,6 +94,22 @@ module _ (q : Queue) where
       let few = both (leb 1 (control .tasks)) (leb (control .tasks) 16) tasks .1 in
       let enough = both (rowsFit (isPooled control) (control .slots) (q .tables)) (leb (control .tasks) lent) (not-false _ (z .1 .0)) .1 in
       rw (few, enough)
+
+  abbrev why-not : ℕ
+  why-not = reportRefusal (q .tables) (leb (control .tasks) lent)
+
+  abbrev told-by : Bool → Reported
+  told-by b = cond b (reported.Told (told (q .tables) (busy q))) (reported.Refused why-not)
+
+  -- What is told beside a report may rest on all tasks: a refused one looks at none.
+  pub all-looked-at : {A : Type 0} (f : Reported → ℕ → A) → ((w k m : ℕ) → f (reported.Refused w) k ≡ f (reported.Refused w) m)
+      → f (report q) (countable control lent) ≡ f (report q) (control .tasks)
+  unfolding report tell
+  all-looked-at f same = go (eqb why-not 0) refl
+    where
+      go : (b : Bool) → eqb why-not 0 ≡ b → f (told-by b) (countable control lent) ≡ f (told-by b) (control .tasks)
+      go true e = ap (f (told-by true)) (all-tasks (eqb-true _ 0 e))
+      go false e = same why-not _ _
 
   pub report-parts : report q ≡ tell (q .tables) (leb (control .tasks) lent) (count (λ t. not (eqb (recordAt q t .place) 0)) (countable control lent))
   unfolding report busy

@@ -6,9 +6,9 @@ use lib.Dec.{eqb}
 use lib.ListN.{replicate}
 use Rattle.word.specs.Anchor.{packAnchor, emptyAnchor}
 use Rattle.model.specs.declared.Control.{Control}
-use Rattle.model.specs.declared.Record.{Record}
+use Rattle.model.specs.declared.TaskRecord.{TaskRecord}
 use Rattle.model.specs.declared.Opening.{Opening}
-use Rattle.model.specs.Tables.{Tables, Queue, idle, zeroed}
+use Rattle.model.specs.Tables.{Tables, Queue, unused, zeroed}
 use Rattle.model.specs.Refusals.{openRefusal}
 use Rattle.model.specs.Calls.{OpenDone, openAs}
 
@@ -17,14 +17,13 @@ openedControl pooled tasks slots tag = record {
   tasks = tasks;
   slots = slots;
   anchor = packAnchor (emptyAnchor tag);
-  retries = 0;
   pooled = cond pooled 1 0;
   head = cond pooled 1 0;
 }
 
 -- A queue with n records, of which only the number counts.
 abbrev pub counting : Tables → ℕ → Queue
-counting q n = record { tables = q; records = replicate n idle }
+counting q n = record { tables = q; records = replicate n unused }
 
 pub record OpenedParts : Type 0 where
   pub tables : Tables
@@ -38,5 +37,5 @@ openTables pooled q records tasks slots tag =
     record { tables = done .queue .tables; clear = clear; outcome = done .outcome }
 
 -- The parts with the lent records make the whole.
-abbrev pub whole : List Record → OpenedParts → OpenDone
-whole rs o = record { queue = record { tables = o .tables; records = zeroed (o .clear) idle rs }; outcome = o .outcome }
+abbrev pub whole : List TaskRecord → OpenedParts → OpenDone
+whole rs o = record { queue = record { tables = o .tables; records = zeroed (o .clear) unused rs }; outcome = o .outcome }

@@ -1,5 +1,5 @@
 -- A start's record, and what it leaves of control and record.
-use mathlib.Core.Bool.{cond}
+use mathlib.Core.Bool.{cond, false}
 use Prim.Native.Nat.{ℕ}
 use lib.Dec.{eqb}
 use Rattle.model.specs.declared.Control.{Control}
@@ -24,5 +24,5 @@ begun place kind side own label = record {
 -- Refused: the number alone. Accepted: the record at its first place.
 abbrev pub decided : Control → Record → ℕ → Record → Acted
 decided c r why task =
-    cond (eqb why 0) (record { control = c; task = task; outcome = Moved (Running (task .place)) })
-    (record { control = c; task = r; outcome = Refused why })
+    cond (eqb why 0) (record { control = c; task = task; outcome = Moved (Running (task .place)); failed = false })
+    (record { control = c; task = r; outcome = Refused why; failed = false })

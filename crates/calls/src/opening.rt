@@ -63,7 +63,6 @@ fn opened_control(pooled: bool, tasks: u64, slots: u64, tag: u32) -> Control
         tasks,
         slots,
         anchor,
-        retries: 0,
         pooled: way,
         head: way,
     }

@@ -72,7 +72,6 @@ pub fn told(
                 busy,
                 waiting,
                 taken,
-                retries: c.retries,
             })
         }
     }

@@ -6,6 +6,7 @@ use model::Outcome;
 use model::Record;
 use table::Acted;
 ghost use mathlib.Core.Path.{_≡_};
+ghost use Prim.Native.Nat.{ℕ};
 ghost use lib.Dec.{ltb, leb};
 ghost use Rattle.model.specs.Tables.{tablesOf};
 ghost use Rattle.model.specs.Calls.{pushStart, putStart, popStart};
@@ -39,12 +40,14 @@ fn decided(c: Control, r: Record, why: u32, task: Record) -> Acted
             control: c,
             task,
             outcome: Outcome::Moved(answer),
+            failed: false,
         }
     } else {
         Acted {
             control: c,
             task: r,
             outcome: Outcome::Refused(why),
+            failed: false,
         }
     }
 }
@@ -62,11 +65,11 @@ pub fn pop_start(
     next: &[u64],
 ) -> Acted
     ensures { λ m.
-        ⌜ withTables m (now (lefts .entry)) (now (rights .entry)) (now (labels .entry)) (now (marks .entry)) (now (next .entry))
+        ⌜ ((retries : ℕ) → withTables m (now (lefts .entry)) (now (rights .entry)) (now (labels .entry)) (now (marks .entry)) (now (next .entry)) retries
         ≡ popStart
         (tablesOf c (now (lefts .entry)) (now (rights .entry)) (now (labels .entry)) (now (marks .entry)) (now (next .entry)))
         (record { enough = leb (c .tasks) records; known = ltb task (c .tasks) })
-        r side ⌝ }
+        (record { call = r; retries = retries }) side) ⌝ }
 {
     let enough = c.tasks <= records as u64;
     let known = (task as u64) < c.tasks;
@@ -101,11 +104,11 @@ pub fn put_start(
     next: &[u64],
 ) -> Acted
     ensures { λ m.
-        ⌜ withTables m (now (lefts .entry)) (now (rights .entry)) (now (labels .entry)) (now (marks .entry)) (now (next .entry))
+        ⌜ ((retries : ℕ) → withTables m (now (lefts .entry)) (now (rights .entry)) (now (labels .entry)) (now (marks .entry)) (now (next .entry)) retries
         ≡ putStart
         (tablesOf c (now (lefts .entry)) (now (rights .entry)) (now (labels .entry)) (now (marks .entry)) (now (next .entry)))
         (record { enough = leb (c .tasks) records; known = ltb task (c .tasks) })
-        r side label ⌝ }
+        (record { call = r; retries = retries }) side label) ⌝ }
 {
     let enough = c.tasks <= records as u64;
     let known = (task as u64) < c.tasks;
@@ -140,11 +143,11 @@ pub fn push_start(
     next: &[u64],
 ) -> Acted
     ensures { λ m.
-        ⌜ withTables m (now (lefts .entry)) (now (rights .entry)) (now (labels .exit)) (now (marks .exit)) (now (next .entry))
+        ⌜ ((retries : ℕ) → withTables m (now (lefts .entry)) (now (rights .entry)) (now (labels .exit)) (now (marks .exit)) (now (next .entry)) retries
         ≡ pushStart
         (tablesOf c (now (lefts .entry)) (now (rights .entry)) (now (labels .entry)) (now (marks .entry)) (now (next .entry)))
         (record { enough = leb (c .tasks) records; known = ltb task (c .tasks) })
-        r side slot label ⌝ }
+        (record { call = r; retries = retries }) side slot label) ⌝ }
 {
     let enough = c.tasks <= records as u64;
     let known = (task as u64) < c.tasks;

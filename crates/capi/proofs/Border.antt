@@ -9,16 +9,18 @@ use lib.ListN.{length, set}
 use lib.Seq.{set-getD}
 use Rattle.model.specs.declared.Control.{Control}
 use Rattle.model.specs.declared.Record.{Record}
+use Rattle.model.specs.declared.TaskRecord.{TaskRecord}
 use Rattle.model.specs.declared.Outcome.{Outcome}
 use Rattle.model.specs.declared.Reply.{Reply}
 use Rattle.model.specs.declared.Reported.{Reported}
 use Rattle.model.specs.declared.Op.{Op}
 use Rattle.model.specs.declared.Opening.the-variants as opening
 use Rattle.model.specs.declared.Op.the-variants.{Push, Pop, Put, Step}
-use Rattle.model.specs.Tables.{Tables, Queue, isPooled, tablesOf, queueOf, recordAt, idle, zeroed}
+use Rattle.model.specs.Tables.{Tables, Queue, isPooled, tablesOf, queueOf, taskAt, unused, withCall, zeroed}
 use Rattle.model.specs.Sound.{rowsFit}
 use Rattle.model.specs.Refusals.{Lent, among, openRefusal, pushRefusal, putRefusal, popRefusal}
-use Rattle.model.specs.Report.{report, tell}
+use Rattle.model.specs.Report.{report, retryCounts, tell}
+use Rattle.model.specs.Route.{counted}
 use Rattle.model.specs.Calls.{Acted, Done, OpenDone, opened as openedQueue, openAs, pushStart, putStart, popStart, back, act, actOn, replyOf}
 use Rattle.model.proofs.tests.Truth.{split, not-both}
 use Rattle.table.specs.declared.Acted.{Acted as Moved}
@@ -30,11 +32,11 @@ use Rattle.calls.specs.Opening.{counting, OpenedParts, openTables, whole}
 use Rattle.calls.proofs.Parts.{clear-fits, open-parts}
 use Rattle.calls.specs.Telling.{countable}
 use Rattle.calls.proofs.Counts.{countable-fits}
-use Rattle.calls.proofs.Tells.{report-parts}
-use Rattle.rows.specs.Rows.{controlOf, recordsOf, uppersOf, queueIn}
+use Rattle.calls.proofs.Tells.{all-looked-at, report-parts}
+use Rattle.rows.specs.Rows.{controlOf, recordsOf, uppersOf, queueIn, withCallAt}
 use Rattle.rows.proofs.Rows.{length-records}
 use Rattle.rows.proofs.OneStep.{lent, lent-among}
-use Rattle.capi.specs.Replies.{openingCode, uppersAt, Coded, coded, Replied, replied}
+use Rattle.capi.specs.Replies.{openingCode, uppersAt, Coded, coded, Replied, replied, countsIn, reportReplyOf}
 use Rattle.capi.proofs.Count.{busyIn}
 
 -- The step, its outcome in numbers.
@@ -85,8 +87,8 @@ clear-uppers pooled q n tasks slots tag us =
     split (eqb (openRefusal pooled (counting q n) tasks slots) 0) (λ a. rw a) (λ a. rw a)
 
 -- No more records are looked at than are lent, and 16 at the most.
-pub counted : (rows : List (List ℕ)) (c : Control) (n k : ℕ) → n ≡ length rows → k ≡ countable c n → (k ≤ length rows) × (k ≤ 16)
-counted rows c n k en ek = let h = countable-fits c n in (omega (arith, h .0), omega (arith, h .1))
+pub few : (rows : List (List ℕ)) (c : Control) (n k : ℕ) → n ≡ length rows → k ≡ countable c n → (k ≤ length rows) × (k ≤ 16)
+few rows c n k en ek = let h = countable-fits c n in (omega (arith, h .0), omega (arith, h .1))
 
 module _ (ws : List ℕ) (rows : List (List ℕ)) (lefts rights labels marks next : List ℕ) where
   abbrev entry : Tables
@@ -100,57 +102,60 @@ module _ (ws : List ℕ) (rows : List (List ℕ)) (lefts rights labels marks nex
   fit c = lengthsFit (isPooled c) (c .slots) (length lefts) (length rights) (length labels) (length marks) (length next)
 
   module _ (task : ℕ) where
-    abbrev r₀ : Record
-    r₀ = recordAt queue task
+    abbrev r₀ : TaskRecord
+    r₀ = taskAt queue task
 
-    -- ---- the starts: they leave control as it is, and all where they are refused
-    abbrev Starts : Record → Acted → Type 0
-    Starts r a = (a .tables .control ≡ controlOf ws) × (isMoved (a .outcome) ≡ false → a .task ≡ r)
+    -- ---- the starts: they leave control and the count as they are, and all where they are refused
+    abbrev Starts : TaskRecord → Acted → Type 0
+    Starts r a = (a .tables .control ≡ controlOf ws) × (isMoved (a .outcome) ≡ false → a .task ≡ r) × (a .task .retries ≡ r .retries)
 
-    kept : (b : Bool) (r : Record) (x y : Acted) → Starts r x → Starts r y → Starts r (cond b x y)
+    kept : (b : Bool) (r : TaskRecord) (x y : Acted) → Starts r x → Starts r y → Starts r (cond b x y)
     kept true r x y h _ = h
     kept false r x y _ h = h
 
-    module _ (o : Op) (starts : (p : Lent) (r : Record) → Starts r (actOn entry p r o)) (rows′ : List (List ℕ)) (labels′ marks′ : List ℕ) where
+    module _ (o : Op) (starts : (p : Lent) (r : TaskRecord) → Starts r (actOn entry p r o)) (rows′ : List (List ℕ)) (labels′ marks′ : List ℕ) where
       abbrev leaving : Moved → Control → Replied
       leaving m c = record {
-        queue = queueOf c (set (recordsOf rows) task (m .task)) lefts rights labels′ marks′ next;
+        queue = queueOf c (set (recordsOf rows) task (record { call = m .task; retries = counted (r₀ .retries) (m .failed) })) lefts rights labels′ marks′ next;
         uppers = cond (isMoved (m .outcome)) (set (uppersOf rows) task 0) (uppersOf rows);
         reply = replyOf (m .outcome);
       }
 
-      pub started : (c : Control) (n : ℕ) (r : Record) (m : Moved) (u : Reply) → c ≡ controlOf ws → n ≡ length rows → r ≡ r₀
-          → withTables m lefts rights labels′ marks′ next ≡ actOn (tablesOf c lefts rights labels marks next) (lent ws rows lefts rights labels marks next task c n) r o
-          → recordsOf rows′ ≡ cond (isMoved (m .outcome)) (set (recordsOf rows) task (m .task)) (recordsOf rows)
+      pub started : (c : Control) (n : ℕ) (r : Record) (m : Moved) (u : Reply) → c ≡ controlOf ws → n ≡ length rows → r ≡ r₀ .call
+          → ((k : ℕ) → withTables m lefts rights labels′ marks′ next k
+          ≡ actOn (tablesOf c lefts rights labels marks next) (lent ws rows lefts rights labels marks next task c n) (record { call = r; retries = k }) o)
+          → recordsOf rows′ ≡ cond (isMoved (m .outcome)) (withCallAt (recordsOf rows) task (m .task)) (recordsOf rows)
           → uppersOf rows′ ≡ cond (isMoved (m .outcome)) (set (uppersOf rows) task 0) (uppersOf rows) → u ≡ replyOf (m .outcome)
           → _≡_ {A = Replied} (record { queue = queueIn ws rows′ lefts rights labels′ marks′ next; uppers = uppersOf rows′; reply = u })
           (replied isMoved task (uppersOf rows) (act queue task o))
       unfolding act
       started c n r m u ec en er e e2 e3 eu =
-          let left : withTables m lefts rights labels′ marks′ next ≡ actOn entry (among queue task) r₀ o =
-          e
-          ∙ ap (λ (p : Lent). actOn (tablesOf c lefts rights labels marks next) p r o) (lent-among ws rows lefts rights labels marks next task c n ec en)
-          ∙ ap (λ (d : Control). actOn (tablesOf d lefts rights labels marks next) (among queue task) r o) ec
-          ∙ ap (λ (t : Record). actOn entry (among queue task) t o) er in
+          let k = r₀ .retries in
+          let left : withTables m lefts rights labels′ marks′ next k ≡ actOn entry (among queue task) r₀ o =
+          e k
+          ∙ ap (λ (p : Lent). actOn (tablesOf c lefts rights labels marks next) p (record { call = r; retries = k }) o)
+          (lent-among ws rows lefts rights labels marks next task c n ec en)
+          ∙ ap (λ (d : Control). actOn (tablesOf d lefts rights labels marks next) (among queue task) (record { call = r; retries = k }) o) ec
+          ∙ ap (λ (t : Record). actOn entry (among queue task) (record { call = t; retries = k }) o) er in
           let s = subst (Starts r₀) (sym left) (starts (among queue task) r₀) in
-          let put : recordsOf rows′ ≡ set (recordsOf rows) task (m .task) =
+          let put : recordsOf rows′ ≡ set (recordsOf rows) task (record { call = m .task; retries = counted k (m .failed) }) =
           split (isMoved (m .outcome))
-          (λ a. e2 ∙ rw a)
-          (λ a. e2 ∙ rw a (sym (set-getD (recordsOf rows) task idle) ∙ ap (set (recordsOf rows) task) (sym (s .1 a)))) in
+          (λ a. e2 ∙ rw a (ap (λ (n : ℕ). set (recordsOf rows) task (record { call = m .task; retries = n })) (sym (s .2))))
+          (λ a. e2 ∙ rw a (sym (set-getD (recordsOf rows) task unused) ∙ ap (set (recordsOf rows) task) (sym (s .1 a)))) in
           rw (eu, put, e3)
           (ap (leaving m) (sym (s .0)) ∙ ap (λ (a : Acted). replied isMoved task (uppersOf rows) (back queue task a)) left)
 
-    pub push-starts : (side slot label : ℕ) (p : Lent) (r : Record) → Starts r (actOn entry p r (Push side slot label))
+    pub push-starts : (side slot label : ℕ) (p : Lent) (r : TaskRecord) → Starts r (actOn entry p r (Push side slot label))
     unfolding actOn pushStart
-    push-starts side slot label p r = kept (eqb (pushRefusal entry p r side slot) 0) r _ _ (refl, λ h. absurd (not-both refl h)) (refl, λ _. refl)
+    push-starts side slot label p r = kept (eqb (pushRefusal entry p (r .call) side slot) 0) r _ _ (refl, λ h. absurd (not-both refl h), refl) (refl, λ _. refl, refl)
 
-    pub put-starts : (side label : ℕ) (p : Lent) (r : Record) → Starts r (actOn entry p r (Put side label))
+    pub put-starts : (side label : ℕ) (p : Lent) (r : TaskRecord) → Starts r (actOn entry p r (Put side label))
     unfolding actOn putStart
-    put-starts side label p r = kept (eqb (putRefusal entry p r side) 0) r _ _ (refl, λ h. absurd (not-both refl h)) (refl, λ _. refl)
+    put-starts side label p r = kept (eqb (putRefusal entry p (r .call) side) 0) r _ _ (refl, λ h. absurd (not-both refl h), refl) (refl, λ _. refl, refl)
 
-    pub pop-starts : (side : ℕ) (p : Lent) (r : Record) → Starts r (actOn entry p r (Pop side))
+    pub pop-starts : (side : ℕ) (p : Lent) (r : TaskRecord) → Starts r (actOn entry p r (Pop side))
     unfolding actOn popStart
-    pop-starts side p r = kept (eqb (popRefusal entry p r side) 0) r _ _ (refl, λ h. absurd (not-both refl h)) (refl, λ _. refl)
+    pop-starts side p r = kept (eqb (popRefusal entry p (r .call) side) 0) r _ _ (refl, λ h. absurd (not-both refl h), refl) (refl, λ _. refl, refl)
 
   -- ---- the opening
   module _ (pooled : Bool) (tasks slots tag : ℕ) (ws′ : List ℕ) (rows′ : List (List ℕ)) (lefts′ rights′ labels′ marks′ next′ : List ℕ)
@@ -164,7 +169,7 @@ module _ (ws : List ℕ) (rows : List (List ℕ)) (lefts rights labels marks nex
         (subst (λ (o : OpenedParts). o .clear ≤ n) (sym e) (clear-fits pooled (tablesOf c lefts rights labels marks next) n tasks slots tag))
 
     pub opened : (code : ℕ) → c ≡ controlOf ws → n ≡ length rows → parts ≡ openTables pooled (tablesOf c lefts rights labels marks next) n tasks slots tag
-        → controlOf ws′ ≡ m .control → recordsOf rows′ ≡ zeroed (m .clear) idle (recordsOf rows)
+        → controlOf ws′ ≡ m .control → recordsOf rows′ ≡ zeroed (m .clear) unused (recordsOf rows)
         → uppersOf rows′ ≡ zeroed (m .clear) 0 (uppersOf rows) → code ≡ openingCode (m .outcome)
         → _≡_ {A = Coded} (record { queue = queueIn ws′ rows′ lefts′ rights′ labels′ marks′ next′; uppers = uppersOf rows′; code = code })
         (coded tasks (uppersOf rows) (openAs pooled queue tasks slots tag))
@@ -181,7 +186,14 @@ module _ (ws : List ℕ) (rows : List (List ℕ)) (lefts rights labels marks nex
         ∙ ap (coded tasks (uppersOf rows)) (sym (open-parts pooled queue tasks slots tag)))
 
   -- ---- the report
-  pub reported : (c : Control) (n k b : ℕ) (r : Reported) → c ≡ controlOf ws → n ≡ length rows
+  pub reported : (c : Control) (n k b : ℕ) (r : Reported) (l : List ℕ) → c ≡ controlOf ws → n ≡ length rows
       → k ≡ countable c n → b ≡ busyIn k (recordsOf rows)
-      → r ≡ tell (tablesOf c lefts rights labels marks next) (leb (c .tasks) n) b → r ≡ report queue
-  reported c n k b r ec en ek eb e = e ∙ rw (eb, ek, en, ec, ← length-records rows) (sym (report-parts queue))
+      → r ≡ tell (tablesOf c lefts rights labels marks next) (leb (c .tasks) n) b → l ≡ countsIn k (recordsOf rows)
+      → reportReplyOf r l ≡ reportReplyOf (report queue) (retryCounts queue)
+  unfolding retryCounts
+  reported c n k b r l ec en ek eb e el =
+      let told : r ≡ report queue = e ∙ rw (eb, ek, en, ec, ← length-records rows) (sym (report-parts queue)) in
+      let looked : k ≡ countable (controlOf ws) (length (recordsOf rows)) = ek ∙ rw (ec, en, ← length-records rows) in
+      ap (λ (x : Reported). reportReplyOf x l) told
+      ∙ ap (reportReplyOf (report queue)) (el ∙ ap (λ (m : ℕ). countsIn m (recordsOf rows)) looked)
+      ∙ all-looked-at queue (λ x m. reportReplyOf x (countsIn m (recordsOf rows))) (λ w m o. refl)

@@ -2,14 +2,17 @@
 use mathlib.Core.Bool.{Bool, cond}
 use mathlib.Core.List.{List}
 use Prim.Native.Nat.{ℕ}
-use lib.ListN.{set}
+use lib.Dec.{ltb}
+use lib.ListN.{getD, replicate, set}
 use Rattle.model.specs.declared.Opening.{Opening}
 use Rattle.model.specs.declared.Opening.the-variants as opening
 use Rattle.model.specs.declared.Outcome.{Outcome}
 use Rattle.model.specs.declared.Reply.{Reply}
 use Rattle.model.specs.declared.Reported.{Reported}
 use Rattle.model.specs.declared.Reported.the-variants as reported
-use Rattle.model.specs.Tables.{Queue, zeroed}
+use Rattle.model.specs.declared.TaskRecord.{TaskRecord}
+use Rattle.model.specs.Tables.{Queue, unused, zeroed}
+use Rattle.model.specs.Report.{listed}
 use Rattle.model.specs.Calls.{OpenDone, Done, replyOf}
 use Rattle.capi.specs.declared.ReportReply.{ReportReply}
 
@@ -18,9 +21,11 @@ abbrev pub openingCode : Opening → ℕ
 openingCode opening.Opened = 0
 openingCode (opening.Refused n) = n
 
-abbrev pub reportReplyOf : Reported → ReportReply
-reportReplyOf (reported.Refused n) = record { code = n; tag = 0; status = 0; left = 0; right = 0; busy = 0; waiting = 0; taken = 0; retries = 0 }
-reportReplyOf (reported.Told r) =
+-- A report with the tasks' counts beside it; all 0 in a refusal.
+abbrev pub reportReplyOf : Reported → List ℕ → ReportReply
+reportReplyOf (reported.Refused n) retries =
+    record { code = n; tag = 0; status = 0; left = 0; right = 0; busy = 0; waiting = 0; taken = 0; retries = replicate 16 0 }
+reportReplyOf (reported.Told r) retries =
     record {
       code = 0;
       tag = r .anchor .tag;
@@ -30,8 +35,12 @@ reportReplyOf (reported.Told r) =
       busy = r .busy;
       waiting = r .waiting;
       taken = r .taken;
-      retries = r .retries;
+      retries = retries;
     }
+
+-- The counts of the first n records.
+abbrev pub countsIn : ℕ → List TaskRecord → List ℕ
+countsIn n rs = listed (λ t. cond (ltb t n) (getD rs t unused .retries) 0) 16
 
 -- What an opening answers, and what each lent table then holds. The upper halves of the labels' words are in no field: an opening
 -- zeroes them with the records, and a refusal leaves them.

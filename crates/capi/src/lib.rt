@@ -13,12 +13,12 @@ ghost use Prim.Native.Nat.{_≤_};
 ghost use lib.Dec.{eqb};
 ghost use lib.ListN.{length, getD};
 ghost use Rattle.model.specs.declared.Op.the-variants.{Push, Pop, Put, Step};
-ghost use Rattle.model.specs.Tables.{idle};
+ghost use Rattle.model.specs.Tables.{unused};
 ghost use Rattle.model.specs.Calls.{act};
-ghost use Rattle.model.specs.Report.{count, report};
+ghost use Rattle.model.specs.Report.{count, report, retryCounts};
 ghost use Rattle.model.specs.Ends.{endsCall, isMoved};
 ghost use Rattle.rows.specs.Rows.{queueIn, recordsOf, uppersOf};
-ghost use Rattle.capi.specs.Replies.{reportReplyOf, Replied, replied};
+ghost use Rattle.capi.specs.Replies.{reportReplyOf, countsIn, Replied, replied};
 
 /// A report in numbers.
 #[repr(C)]
@@ -32,11 +32,12 @@ pub struct ReportReply {
     pub busy: u64,
     pub waiting: u64,
     pub taken: u64,
-    pub retries: u64,
+    /// In task order; 0 beyond the tasks.
+    pub retries: [u64; 16],
 }
 
-fn report_reply(r: Reported) -> ReportReply
-    ensures { λ n. ⌜ n ≡ reportReplyOf r ⌝ }
+fn report_reply(r: Reported, retries: [u64; 16]) -> ReportReply
+    ensures { λ n. ⌜ n ≡ reportReplyOf r retries ⌝ }
 {
     match r {
         Reported::Refused(number) => ReportReply {
@@ -48,7 +49,7 @@ fn report_reply(r: Reported) -> ReportReply
             busy: 0,
             waiting: 0,
             taken: 0,
-            retries: 0,
+            retries: [0; 16],
         },
         Reported::Told(t) => ReportReply {
             code: 0,
@@ -59,7 +60,7 @@ fn report_reply(r: Reported) -> ReportReply
             busy: t.busy,
             waiting: t.waiting,
             taken: t.taken,
-            retries: t.retries,
+            retries,
         },
     }
 }
@@ -93,7 +94,7 @@ pub extern "C" fn zc_push(
     let row = *control;
     let c = rows::control_of(row);
     let n = records.len();
-    let r = rows::record_at(records, task);
+    let r = rows::call_at(records, task);
     let m = start::push_start(
         c,
         r,
@@ -141,7 +142,7 @@ pub extern "C" fn zc_push_pooled(
     let row = *control;
     let c = rows::control_of(row);
     let n = records.len();
-    let r = rows::record_at(records, task);
+    let r = rows::call_at(records, task);
     let m = start::put_start(
         c,
         r,
@@ -187,7 +188,7 @@ pub extern "C" fn zc_pop(
     let row = *control;
     let c = rows::control_of(row);
     let n = records.len();
-    let r = rows::record_at(records, task);
+    let r = rows::call_at(records, task);
     let m = start::pop_start(c, r, n, task, side, lefts, rights, labels, marks, next);
     rows::store_start(records, task, m);
     let o = m.outcome;
@@ -224,20 +225,35 @@ pub extern "C" fn zc_step(
 // How many of the first n records are busy tasks'.
 fn busy(records: &[[u64; rows::RECORD_WORDS]], n: usize) -> u64
     requires { ⌜ (n ≤ length (now records)) × (n ≤ 16) ⌝ }
-    ensures { λ k. ⌜ k ≡ count (λ t. not (eqb (getD (recordsOf (now (records .entry))) t idle .place) 0)) n ⌝ }
+    ensures { λ k. ⌜ k ≡ count (λ t. not (eqb (getD (recordsOf (now (records .entry))) t unused .call .place) 0)) n ⌝ }
 {
     let mut k: u64 = 0;
     let mut i: usize = 0;
     while i < n {
         let row = records[i];
-        let r = rows::record_of(row);
+        let r = rows::call_of(row);
         k = report::count_busy(k, r);
         i += 1;
     }
     k
 }
 
-/// Tells the fields of Anchor, the busy tasks, the labels waiting, the slots taken and the retries.
+// The counts of the first n tasks, and 0 beyond.
+fn retry_counts(records: &[[u64; rows::RECORD_WORDS]], n: usize) -> [u64; 16]
+    requires { ⌜ (n ≤ length (now records)) × (n ≤ 16) ⌝ }
+    ensures { λ out. ⌜ out ≡ countsIn n (recordsOf (now (records .entry))) ⌝ }
+{
+    let mut out: [u64; 16] = [0; 16];
+    let mut i: usize = 0;
+    while i < n {
+        let row = records[i];
+        out[i] = rows::retries_of(row);
+        i += 1;
+    }
+    out
+}
+
+/// Tells the fields of Anchor, the busy tasks, the labels waiting, the slots taken and each task's retries.
 #[no_mangle]
 pub extern "C" fn zc_report(
     control: &[u64; rows::CONTROL_WORDS],
@@ -249,8 +265,8 @@ pub extern "C" fn zc_report(
     next: &[u64],
 ) -> ReportReply
     ensures { λ r.
-        ⌜ r ≡ reportReplyOf (report
-        (queueIn (now (control .entry)) (now (records .entry)) (now (lefts .entry)) (now (rights .entry)) (now (labels .entry)) (now (marks .entry)) (now (next .entry)))) ⌝ }
+        ⌜ (let q = queueIn (now (control .entry)) (now (records .entry)) (now (lefts .entry)) (now (rights .entry)) (now (labels .entry)) (now (marks .entry)) (now (next .entry)) in
+        r ≡ reportReplyOf (report q) (retryCounts q)) ⌝ }
 {
     let row = *control;
     let c = rows::control_of(row);
@@ -258,5 +274,6 @@ pub extern "C" fn zc_report(
     let k = report::to_count(c, n);
     let b = busy(records, k);
     let t = report::told(c, n, b, lefts, rights, labels, marks, next);
-    report_reply(t)
+    let retries = retry_counts(records, k);
+    report_reply(t, retries)
 }

@@ -14,22 +14,25 @@ use Rattle.table.specs.Lent.{withTables}
 use Rattle.model.specs.Ends.{endsCall}
 use Rattle.engine.specs.Stored.{controlAfter, recordAfter}
 use Rattle.engine.proofs.Stored.{stored}
-use Rattle.rows.specs.Rows.{controlOf, recordOf, upperOf}
+use Rattle.rows.specs.Rows.{controlOf, callOf, recordOf, upperOf}
+use Rattle.rows.proofs.Rows.{counting}
 use Rattle.capi_record.specs.Replies.{RepliedAlone, repliedAlone}
 
 module _ (ws row ws′ row′ lefts rights labels marks next lefts′ rights′ labels′ marks′ next′ : List ℕ) where
   abbrev before : Control → Tables
   before c = tablesOf c lefts rights labels marks next
 
-  pub stepped : (c : Control) (r : Record) (m : Moved) (n : Reply) → c ≡ controlOf ws → r ≡ recordOf row
-      → withTables m lefts′ rights′ labels′ marks′ next′ ≡ stepLent (before c) r
+  pub stepped : (c : Control) (r : Record) (m : Moved) (n : Reply) → c ≡ controlOf ws → r ≡ callOf row
+      → ((k : ℕ) → withTables m lefts′ rights′ labels′ marks′ next′ k ≡ stepLent (before c) (counting r k))
       → controlOf ws′ ≡ controlAfter (controlOf ws) m → recordOf row′ ≡ recordAfter (recordOf row) m
       → upperOf row′ ≡ cond (endsCall (m .outcome)) 0 (upperOf row) → n ≡ replyOf (m .outcome)
       → _≡_ {A = RepliedAlone}
       (record { tables = tablesOf (controlOf ws′) lefts′ rights′ labels′ marks′ next′; task = recordOf row′; upper = upperOf row′; reply = n })
       (repliedAlone (upperOf row) (stepLent (before (controlOf ws)) (recordOf row)))
-  unfolding stepLent
+  unfolding stepLent recordOf
   stepped c r m n ec er e e1 e2 e3 en =
-      let e′ = e ∙ ap (λ (d : Control). step (before d) alone r) ec ∙ ap (step (before (controlOf ws)) alone) er in
+      let k = recordOf row .retries in
+      let e′ =
+      e k ∙ ap (λ (d : Control). step (before d) alone (counting r k)) ec ∙ ap (λ (t : Record). step (before (controlOf ws)) alone (counting t k)) er in
       rw (en, e1, e2, e3)
       (ap (repliedAlone (upperOf row)) (stored (before (controlOf ws)) alone (recordOf row) m lefts′ rights′ labels′ marks′ next′ e′))

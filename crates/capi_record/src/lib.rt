@@ -32,7 +32,7 @@ pub extern "C" fn zc_step_record(
         (recordOf (now (task .entry))))) ⌝ }
 {
     let row = *task;
-    let r = rows::record_of(row);
+    let r = rows::call_of(row);
     let words = *control;
     let c = rows::control_of(words);
     let m = engine::step_alone(c, r, lefts, rights, labels, marks, next);

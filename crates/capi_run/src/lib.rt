@@ -84,6 +84,6 @@ pub extern "C" fn zc_run(
         }
         steps += 1;
     }
-    let r = rows::record_at(records, task);
+    let r = rows::call_at(records, task);
     run_reply(running(r.place), steps)
 }

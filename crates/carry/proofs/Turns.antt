@@ -8,9 +8,10 @@ use lib.ListN.{length, getD}
 use native.Mathlib.Omega.{arith}
 use borrow.Author.Tests.{leb-true, leb-false, le-leb, lt-leb}
 use Rattle.model.specs.declared.Record.{Record}
+use Rattle.model.specs.declared.TaskRecord.{TaskRecord}
 use Rattle.model.specs.declared.Op.{Op}
 use Rattle.model.specs.declared.Opening.the-variants as opening
-use Rattle.model.specs.Tables.{Tables, Queue, idle, recordAt, zeroed}
+use Rattle.model.specs.Tables.{Tables, Queue, taskAt, unused, zeroed}
 use Rattle.model.specs.Refusals.{Lent, among, openRefusal}
 use Rattle.model.specs.Calls.{Acted, OpenDone, act, actOn, openAs}
 use Rattle.model.specs.Calls as calls
@@ -36,7 +37,7 @@ put-fits out out′ to to′ l h p = rw (le-leb (to + 128) (length out) h) at p
 
 -- An operation answered is the list of that one operation.
 answered-one : (p : Page) (task : ℕ) (op : Op)
-    → answered p task op (actOn (p .run .queue .tables) (among (p .run .queue) task) (recordAt (p .run .queue) task) op)
+    → answered p task op (actOn (p .run .queue .tables) (among (p .run .queue) task) (taskAt (p .run .queue) task) op)
     ≡ operates p (record { task = task; op = op } ∷ [])
 unfolding answered operated final run linesOf numberOf act emptied
 answered-one p task op = rw append-nil
@@ -50,16 +51,22 @@ module _ (s : RunState) (out : List ℕ) (rows : List (List ℕ)) (ls rs bs ms n
   abbrev lent : ℕ → Lent
   lent k = record { enough = leb (s .control .tasks) k; known = ltb task (s .control .tasks) }
 
-  pub operate-page : n ≡ length rows → r ≡ getD (recordsOf rows) task idle
-      → withTables m ls′ rs′ bs′ ms′ ns′ ≡ actOn (before .run .queue .tables) (lent n) r op
-      → x ≡ answered (pageOf s out rows ls′ rs′ bs′ ms′ ns′) task op (withTables m ls′ rs′ bs′ ms′ ns′)
+  abbrev own : ℕ
+  own = getD (recordsOf rows) task unused .retries
+
+  abbrev counted : Record → ℕ → TaskRecord
+  counted y k = record { call = y; retries = k }
+
+  pub operate-page : n ≡ length rows → r ≡ getD (recordsOf rows) task unused .call
+      → ((k : ℕ) → withTables m ls′ rs′ bs′ ms′ ns′ k ≡ actOn (before .run .queue .tables) (lent n) (counted r k) op)
+      → x ≡ answered (pageOf s out rows ls′ rs′ bs′ ms′ ns′) task op (withTables m ls′ rs′ bs′ ms′ ns′ own)
       → x ≡ operates before (record { task = task; op = op } ∷ [])
   unfolding answered written
   operate-page en er e ex =
       let q = before .run .queue in
-      let done : withTables m ls′ rs′ bs′ ms′ ns′ ≡ actOn (q .tables) (among q task) (recordAt q task) op =
-      e ∙ ap (λ (k : ℕ). actOn (q .tables) (lent k) r op) (en ∙ sym (length-records rows))
-      ∙ ap (λ (y : Record). actOn (q .tables) (among q task) y op) er in
+      let done : withTables m ls′ rs′ bs′ ms′ ns′ own ≡ actOn (q .tables) (among q task) (taskAt q task) op =
+      e own ∙ ap (λ (k : ℕ). actOn (q .tables) (lent k) (counted r own) op) (en ∙ sym (length-records rows))
+      ∙ ap (λ (y : Record). actOn (q .tables) (among q task) (counted y own) op) er in
       ex ∙ ap (answered before task op) done ∙ answered-one before task op
 
 -- A malformed place told where its line fits.
@@ -99,12 +106,12 @@ clear-asked pooled q n tasks slots tag = go (eqb why 0)
 
 -- An opening, from its parts: rs′ and u′ are the records and the upper halves afterwards.
 module _ (pooled : Bool) (p : Page) (n tasks slots tag : ℕ) (o : OpenedParts) where
-  abbrev opened-queue : List Record → Queue
+  abbrev opened-queue : List TaskRecord → Queue
   opened-queue rs = record { tables = o .tables; records = rs }
 
-  pub open-page : (rs : List Record) (u : List ℕ) (good : Bool) (event : ℕ) (out : List ℕ) (to : ℕ)
+  pub open-page : (rs : List TaskRecord) (u : List ℕ) (good : Bool) (event : ℕ) (out : List ℕ) (to : ℕ)
       → n ≡ length (p .run .queue .records) → o ≡ openTables pooled (p .run .queue .tables) n tasks slots tag
-      → rs ≡ zeroed (o .clear) idle (p .run .queue .records) → u ≡ zeroed (o .clear) 0 (p .uppers) → good ≡ isOpened (o .outcome)
+      → rs ≡ zeroed (o .clear) unused (p .run .queue .records) → u ≡ zeroed (o .clear) 0 (p .uppers) → good ≡ isOpened (o .outcome)
       → event ≡ next (p .run .event)
       → Put (p .out) out (p .to) to (lineOf event (Open (o .outcome)) (o .tables .control .anchor))
       → _≡_ {A = Page}

@@ -8,9 +8,11 @@ use table::Acted;
 ghost use mathlib.Core.Path.{_≡_};
 ghost use mathlib.Core.List.{List, [], _∷_};
 ghost use Prim.Native.Nat.{ℕ, _+_, _*_, _-_, _≤_};
-ghost use lib.ListN.{length};
+ghost use lib.ListN.{length, getD};
 ghost use lib.Seq.{slice};
+ghost use Rattle.model.specs.Tables.{unused};
 ghost use Rattle.table.specs.Lent.{withTables};
+ghost use Rattle.rows.specs.Rows.{recordsOf};
 ghost use Rattle.carry.specs.Run.{isOpened, eachOf};
 ghost use Rattle.carry.specs.Page.{pageOf, answered, operates, opens};
 
@@ -26,13 +28,13 @@ fn answer(
     requires { ⌜ s .to + 128 ≤ length (now out) ⌝ }
     ensures { λ r.
         ⌜ ((ls rs bs ms ns : List ℕ) → pageOf r (now (out .exit)) (now (rows .exit)) ls rs bs ms ns
-        ≡ answered (pageOf s (now (out .entry)) (now (rows .entry)) ls rs bs ms ns) task op (withTables m ls rs bs ms ns)) ⌝ }
+        ≡ answered (pageOf s (now (out .entry)) (now (rows .entry)) ls rs bs ms ns) task op
+        (withTables m ls rs bs ms ns (getD (recordsOf (now (rows .entry))) task unused .retries))) ⌝ }
     ensures { λ r. ⌜ r .to ≤ s .to + 128 ⌝ }
 {
     let control = m.control;
     let outcome = m.outcome;
-    let moved = m.task;
-    rows::put_record(rows, task, moved);
+    rows::put_acted(rows, task, m);
     let event = std::num::wrapping_add_u64(s.event, 1);
     let to = lines::write_line(
         out,
@@ -75,7 +77,7 @@ fn operate(
     ensures { λ r. ⌜ r .to ≤ s .to + 128 ⌝ }
 {
     let c = s.control;
-    let r = rows::record_at(rows, task);
+    let r = rows::call_at(rows, task);
     let m = operation::act(
         c,
         r,

@@ -1,7 +1,6 @@
--- The engine's calls that both walks of a step make: a step by value (`engine::step_alone`, `engine::move_on`), and a test of its outcome
--- (`engine::moves`, `engine::ends`). Two that are alike have one contract, up to what they compute, and one rule for the call.
+-- The call that both walks of a step make: a step by value (`step_alone`, `move_on`). The two have one contract, up to what they compute,
+-- and one rule for the call.
 use mathlib.Core.Path.{_≡_}
-use mathlib.Core.Bool.{Bool}
 use Prim.Native.Nat.{ℕ}
 use mathlib.Core.List.{[], _∷_, List}
 use lib.ListN.{length}
@@ -14,38 +13,32 @@ use prog.Wp.{Heap, Env, Calls, Loops}
 use ghost.Atoms.{Atoms}
 use contract.Monad.{fact}
 use types.Kit.{Given, Item, ‵, raw, some, later, _⊛_, ⋆, Post as PostOf, runs, lands, Seq, _$_, _∵_, !, qed, move, drop, use1, use2, split, join, pick, fsplit, fjoin, feqL, frame, await, done}
-use types.Run.{Opd, Opds, and-then, no-more}
+use types.Run.{Opds}
 use sound.WpLaws.{FmC}
 use denote.RattleType.{owns}
 use denote.Laws.{Is, shows}
-use denote.Builtin.{u32, u64, bool}
+use denote.Builtin.{u32, u64}
 use denote.Ref.{RefT}
 use denote.Slice.{MutSlice, finally}
-use denote.Steps.{owned, facts, heard, nothing}
+use denote.Steps.{owned, facts, heard}
 use denote.Struct.Laws as LL
-use denote.Enum.Laws as EL
 use denote.Triple.Statement.{Contract, Triple}
 use denote.Triple.Call.{calls-at}
 use denote.Triple.Clauses.{Clauses, closing, ensured, lasts}
 use denote.Triple.Spec.{tripleOf}
 use Rattle.model.specs.declared.Control.{Control}
-use Rattle.model.specs.declared.Record.{Record}
-use Rattle.model.specs.declared.Outcome.{Outcome}
+use Rattle.model.specs.declared.TaskRecord.{TaskRecord}
 use Rattle.model.specs.Tables.{Tables}
 use Rattle.model.specs.Calls.{Acted}
-use Rattle.table.specs.declared.Acted.{Acted as Moved}
-use Rattle.deque.proofs.Walk.{control-value, record-value, outcome-value, slice-value}
+use Rattle.deque.specs.declared.Stepped.{Stepped}
+use Rattle.deque.proofs.Walk.{control-value, record-value, slice-value}
 use Rattle.model.proofs.Control as K
 use Rattle.model.proofs.Control.Laws as K′
-use Rattle.model.proofs.Record as T
-use Rattle.model.proofs.Record.Laws as T′
-use Rattle.model.proofs.Outcome as E
-use Rattle.model.proofs.Outcome.Laws as E′
-use Rattle.table.proofs.Acted as N
-use Rattle.engine.proofs.move_on as move-on
-use Rattle.engine.proofs.ends as ends
+use Rattle.model.proofs.TaskRecord as T
+use Rattle.model.proofs.TaskRecord.Laws as T′
+use Rattle.deque.proofs.Stepped as N
+use Rattle.deque.proofs.move_on as move-on
 
--- ---- a step by value
 -- Something of each list: lefts, rights, labels, marks and next rows.
 abbrev pub Five : Type 0 → Type 0
 Five X = X × (X × (X × (X × (X × Unit {0}))))
@@ -69,18 +62,18 @@ Lengths xs ls =
     × (length (ls .1 .1 .1 .0) ≡ length (xs .1 .1 .1 .0 .now)) × (length (ls .1 .1 .1 .1 .0) ≡ length (xs .1 .1 .1 .1 .0 .now))
 
 -- What a step leaves is what f says.
-abbrev pub Leaves : (Tables → Record → Acted) → Control → Record → Five (RefT (List ℕ)) → Moved → Five (List ℕ) → Type 0
+abbrev pub Leaves : (Tables → TaskRecord → Acted) → Control → TaskRecord → Five (RefT (List ℕ)) → Stepped → Five (List ℕ) → Type 0
 Leaves f c r xs m ls = _≡_ {A = Acted} (record { tables = tabled (m .control) ls; task = m .task; outcome = m .outcome }) (f (tabled c (unwritten xs)) r)
 
--- The contract of a step f: `engine::step_alone` and `engine::move_on` differ in f alone.
-abbrev stepped : {M : Type 1} (𝓤 : URA M) (f : Tables → Record → Acted) → Clauses 𝓤 move-on.ended
+-- The contract of a step f: `step_alone` and `move_on` differ in f alone.
+abbrev stepped : {M : Type 1} (𝓤 : URA M) (f : Tables → TaskRecord → Acted) → Clauses 𝓤 move-on.ended
 stepped 𝓤 f κs a = record {
   ghost = Unit {0};
   requires = λ _. emp 𝓤;
   ensures = λ _ m e. fact 𝓤 (Leaves f (a .0) (a .1 .0) (a .1 .1) m (unwritten (e .1 .1)));
 }
 
-abbrev pub Move : {M : Type 1} (𝓤 : URA M) (H : Heap 𝓤) (A : Atoms 𝓤) (f : Tables → Record → Acted) → Contract 𝓤
+abbrev pub Move : {M : Type 1} (𝓤 : URA M) (H : Heap 𝓤) (A : Atoms 𝓤) (f : Tables → TaskRecord → Acted) → Contract 𝓤
 Move 𝓤 H A f = tripleOf 𝓤 H A move-on.signature (closing 𝓤 H A move-on.ended (stepped 𝓤 f))
 
 abbrev pub slices : Five (RefT (List ℕ)) → Five (List Val)
@@ -100,7 +93,7 @@ module _ {M : Type 1} (𝓤 : URA M) (κs : Five Lft) (qs : Five Share) (xs : Fi
       tokens ∷ ‵ (finally u64 (xs .1 .1 .1 .1 .0 .name) (ls .1 .1 .1 .1 .0)) ∷ ‵ (finally u64 (xs .1 .1 .1 .0 .name) (ls .1 .1 .1 .0)) ∷ ‵ (finally u32 (xs .1 .1 .0 .name) (ls .1 .1 .0))
       ∷ ‵ (finally u64 (xs .1 .0 .name) (ls .1 .0)) ∷ ‵ (finally u64 (xs .0 .name) (ls .0)) ∷ Γ
 
-module _ {M : Type 1} (𝓤 : URA M) (H : Heap 𝓤) (A : Atoms 𝓤) (f : Tables → Record → Acted) (κs : Five Lft) (qs : Five Share) (c : Control) (r : Record) (xs : Five (RefT (List ℕ))) where
+module _ {M : Type 1} (𝓤 : URA M) (H : Heap 𝓤) (A : Atoms 𝓤) (f : Tables → TaskRecord → Acted) (κs : Five Lft) (qs : Five Share) (c : Control) (r : TaskRecord) (xs : Five (RefT (List ℕ))) where
   abbrev to-step : Move 𝓤 H A f .Ghost
   to-step = ((κs, qs, tt, (c, (r, xs)), (control-value c ∷ [], (record-value r ∷ [], slices xs))), tt)
 
@@ -115,15 +108,15 @@ module _ {M : Type 1} (𝓤 : URA M) (H : Heap 𝓤) (A : Atoms 𝓤) (f : Table
 
 -- A step is called.
 module _ {M : Type 1} {𝓤 : URA M} {H : Heap 𝓤} {A : Atoms 𝓤} {G : Type 0} {W : Given 𝓤 H A} {Γ : List (Item 𝓤)} {En : Env 𝓤 H} {C : Calls 𝓤 H} {Λ : Loops 𝓤 H} {q : PostOf 𝓤 H} where
-  pub moves : G → (f : Tables → Record → Acted) (κs : Five Lft) (qs : Five Share) (c : Control) (r : Record) (xs : Five (RefT (List ℕ))) {name : Name} {os : List Operand} {d : Place} {rest : Body}
+  pub moves : G → (f : Tables → TaskRecord → Acted) (κs : Five Lft) (qs : Five Share) (c : Control) (r : TaskRecord) (xs : Five (RefT (List ℕ))) {name : Name} {os : List Operand} {d : Place} {rest : Body}
       → FmC 𝓤 H (W .laws) C → Triple 𝓤 (C name) (Move 𝓤 H A f) → Is K.the-row c (control-value c ∷ []) → Is T.the-row r (record-value r ∷ [])
       → Opds G W (raw (Move 𝓤 H A f .pre (to-step 𝓤 H A f κs qs c r xs)) ∷ Γ) En os (Move 𝓤 H A f .args (to-step 𝓤 H A f κs qs c r xs))
-      → ((w : Val) (m : Moved) (ls : Five (List ℕ)) → Leaves f c r xs m ls → Lengths xs ls → Is N.the-row m (w ∷ []) → Seq G W (returned 𝓤 κs qs xs ls Γ) (lands C Λ En d w rest q))
+      → ((w : Val) (m : Stepped) (ls : Five (List ℕ)) → Leaves f c r xs m ls → Lengths xs ls → Is N.the-row m (w ∷ []) → Seq G W (returned 𝓤 κs qs xs ls Γ) (lands C Λ En d w rest q))
       → Seq G W (tokens 𝓤 κs qs xs ∷ lists 𝓤 κs qs xs ∷ Γ) (runs C Λ En (seq (call name os d) rest) q)
   moves t f κs qs c r xs fm known gc g os k =
       use2 W (raw (Move 𝓤 H A f .pre (to-step 𝓤 H A f κs qs c r xs))) (goes-step 𝓤 H A f κs qs c r xs W gc g) $
       calls-at t fm (Move 𝓤 H A f) known (to-step 𝓤 H A f κs qs c r xs) os (λ w.
-      use1 W (later (some (λ (m : Moved). (tokens 𝓤 κs qs xs ⊛ ‵ (N.the-row .own m (w ∷ []))) ⊛ raw (ensured 𝓤 H A move-on.ended (stepped 𝓤 f) κs (c, (r, xs)) tt m)))) (id⊢ 𝓤 _) $
+      use1 W (later (some (λ (m : Stepped). (tokens 𝓤 κs qs xs ⊛ ‵ (N.the-row .own m (w ∷ []))) ⊛ raw (ensured 𝓤 H A move-on.ended (stepped 𝓤 f) κs (c, (r, xs)) tt m)))) (id⊢ 𝓤 _) $
       await t tt $ pick t (λ m.
       split t $ move t (1 ∷ []) $ use1 W (some (λ (zs : Lasts). ‵ (lasts move-on.ended κs (c, (r, xs)) zs) ⊛ raw (fact 𝓤 (Leaves f c r xs m (zs .1 .1))))) (id⊢ 𝓤 _) $
       pick t (λ zs.
@@ -132,35 +125,3 @@ module _ {M : Type 1} {𝓤 : URA M} {H : Heap 𝓤} {A : Atoms 𝓤} {G : Type 
       feqL t (λ e2. move t (1 ∷ []) $ fsplit t $ fsplit t $ move t (1 ∷ []) $ feqL t (λ e3. move t (1 ∷ []) $ fsplit t $ fsplit t $ move t (1 ∷ []) $
       feqL t (λ e4. move t (1 ∷ []) $ fsplit t $ fsplit t $ move t (1 ∷ []) $ feqL t (λ e5. move t (1 ∷ []) $ drop t $
       move t (5 ∷ []) $ split t $ move t (1 ∷ []) $ facts t N.the-row (Is N.the-row) (shows 𝓤 H A N.the-row) m (w ∷ []) (λ is. k w m (zs .1 .1) e (e1, e2, e3, e4, e5) is))))))))))
-
--- ---- a test
--- The contract of a test f of an outcome: `engine::moves` and `engine::ends` differ in f alone.
-abbrev asked : {M : Type 1} (𝓤 : URA M) (f : Outcome → Bool) → Clauses 𝓤 ends.ended
-asked 𝓤 f κs a = record { ghost = Unit {0}; requires = λ _. emp 𝓤; ensures = λ _ b _. fact 𝓤 (b ≡ f (a .0)) }
-
-abbrev pub Test : {M : Type 1} (𝓤 : URA M) (H : Heap 𝓤) (A : Atoms 𝓤) (f : Outcome → Bool) → Contract 𝓤
-Test 𝓤 H A f = tripleOf 𝓤 H A ends.signature (closing 𝓤 H A ends.ended (asked 𝓤 f))
-
-module _ {M : Type 1} (𝓤 : URA M) (H : Heap 𝓤) (A : Atoms 𝓤) (f : Outcome → Bool) (o : Outcome) where
-  abbrev to-test : Test 𝓤 H A f .Ghost
-  to-test = ((tt, tt, tt, (o, tt), (outcome-value o ∷ [], tt)), tt)
-
-  goes-test : (W : Given 𝓤 H A) → Is E.the-row o (outcome-value o ∷ []) → ent 𝓤 (⋆ 𝓤 H A (‵ ftrue ∷ [])) (Test 𝓤 H A f .pre to-test)
-  goes-test W g =
-      qed W (‵ ftrue ∷ []) ∵ nothing ! $ owned ! E.the-row (Is E.the-row) (EL.makes E.the-type E′.the-plain 𝓤 H A) o _ g $ fjoin ! $ move ! (1 ∷ 0 ∷ []) $ join ! $ frame ! $ done !
-
--- An outcome is tested: what comes back is f of it.
-module _ {M : Type 1} {𝓤 : URA M} {H : Heap 𝓤} {A : Atoms 𝓤} {K : Type 0} {W : Given 𝓤 H A} {Γ : List (Item 𝓤)} {En : Env 𝓤 H} {C : Calls 𝓤 H} {Λ : Loops 𝓤 H} {q : PostOf 𝓤 H} where
-  pub asks : K → (f : Outcome → Bool) (o : Outcome) {name : Name} {x : Operand} {d : Place} {rest : Body} → FmC 𝓤 H (W .laws) C → Triple 𝓤 (C name) (Test 𝓤 H A f)
-      → Is E.the-row o (outcome-value o ∷ []) → Opd K W (raw (Test 𝓤 H A f .pre (to-test 𝓤 H A f o)) ∷ Γ) En x (outcome-value o)
-      → ((v : Val) (b : Bool) → b ≡ f o → Is bool b (v ∷ []) → Seq K W Γ (lands C Λ En d v rest q)) → Seq K W Γ (runs C Λ En (seq (call name (x ∷ []) d) rest) q)
-  asks t f o fm known g x k =
-      nothing t $ use1 W (raw (Test 𝓤 H A f .pre (to-test 𝓤 H A f o))) (goes-test 𝓤 H A f o W g) $
-      calls-at t fm (Test 𝓤 H A f) known (to-test 𝓤 H A f o) (and-then t x (no-more t)) (λ v.
-      use1 W (later (some (λ (b : Bool). (‵ ftrue ⊛ ‵ (bool .own b (v ∷ []))) ⊛ raw (ensured 𝓤 H A ends.ended (asked 𝓤 f) tt (o, tt) tt b)))) (id⊢ 𝓤 _) $
-      await t tt $ pick t (λ b.
-      split t $ move t (1 ∷ []) $ use1 W (some (λ (us : Unit {0} × Unit {0}). ‵ (lasts ends.ended tt (o, tt) us) ⊛ raw (fact 𝓤 (b ≡ f o)))) (id⊢ 𝓤 _) $
-      pick t (λ us.
-      split t $ move t (1 ∷ []) $ heard t (b ≡ f o) (λ told.
-      fsplit t $ drop t $ drop t $
-      split t $ move t (1 ∷ []) $ facts t bool (Is bool) (shows 𝓤 H A bool) b (v ∷ []) (λ is. drop t $ k v b told is)))))

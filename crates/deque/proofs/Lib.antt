@@ -1,3 +1,4 @@
+pub mod Admission
 pub mod Engine
 pub mod Frame
 pub mod Stored

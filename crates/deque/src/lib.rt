@@ -2,29 +2,92 @@
 //! record. Rows of words (crate `rows`) take the same way without a proof by hand.
 use model::Control;
 use model::Outcome;
-use model::Record;
+use model::TaskRecord;
+use table::Acted;
 ghost use mathlib.Core.Path.{_≡_};
 ghost use Rattle.model.specs.declared.Op.the-variants.{Step};
 ghost use Rattle.model.specs.Tables.{tablesOf, queueOf};
-ghost use Rattle.model.specs.Calls.{Acted, Done, act, stepLent};
+ghost use Rattle.model.specs.Calls as calls;
+ghost use Rattle.model.specs.Calls.{Done, act, stepLent};
+ghost use Rattle.model.specs.Route.{counted};
+ghost use Rattle.engine.specs.Parts.{moveOn};
 
-/// The record of a task that has no call.
-const IDLE: Record = Record {
-    place: 0,
-    kind: 0,
-    side: 0,
-    own: 0,
-    label: 0,
-    seen: 0,
-    neighbour: 0,
-    link: 0,
-    finishing: 0,
-};
+/// What a step leaves of control and its task's record, and its outcome.
+struct Stepped {
+    control: Control,
+    task: TaskRecord,
+    outcome: Outcome,
+}
+
+/// The same of a step by value: a failed change is counted in the record.
+fn counting(t: TaskRecord, m: Acted) -> Stepped
+    ensures { λ s.
+        ⌜ s
+        ≡ record { control = m .control; task = record { call = m .task; retries = counted (t .retries) (m .failed) }; outcome = m .outcome } ⌝ }
+{
+    let retries = table::counted(t.retries, m.failed);
+    let control = m.control;
+    let call = m.task;
+    let outcome = m.outcome;
+    Stepped {
+        control: control,
+        task: TaskRecord { call, retries },
+        outcome: outcome,
+    }
+}
+
+/// The step of a record once it is admitted.
+fn move_on(
+    c: Control,
+    t: TaskRecord,
+    lefts: &mut [u64],
+    rights: &mut [u64],
+    labels: &mut [u32],
+    marks: &mut [u64],
+    next: &mut [u64],
+) -> Stepped
+    ensures { λ s.
+        ⌜ _≡_ {A = calls.Acted}
+        (record {
+          tables = tablesOf (s .control) (now (lefts .exit)) (now (rights .exit)) (now (labels .exit)) (now (marks .exit)) (now (next .exit));
+          task = s .task;
+          outcome = s .outcome;
+        })
+        (moveOn (tablesOf c (now (lefts .entry)) (now (rights .entry)) (now (labels .entry)) (now (marks .entry)) (now (next .entry))) t) ⌝ }
+{
+    let r = t.call;
+    let m = engine::move_on(c, r, lefts, rights, labels, marks, next);
+    counting(t, m)
+}
+
+/// The step of a record lent alone.
+fn step_alone(
+    c: Control,
+    t: TaskRecord,
+    lefts: &mut [u64],
+    rights: &mut [u64],
+    labels: &mut [u32],
+    marks: &mut [u64],
+    next: &mut [u64],
+) -> Stepped
+    ensures { λ s.
+        ⌜ _≡_ {A = calls.Acted}
+        (record {
+          tables = tablesOf (s .control) (now (lefts .exit)) (now (rights .exit)) (now (labels .exit)) (now (marks .exit)) (now (next .exit));
+          task = s .task;
+          outcome = s .outcome;
+        })
+        (stepLent (tablesOf c (now (lefts .entry)) (now (rights .entry)) (now (labels .entry)) (now (marks .entry)) (now (next .entry))) t) ⌝ }
+{
+    let r = t.call;
+    let m = engine::step_alone(c, r, lefts, rights, labels, marks, next);
+    counting(t, m)
+}
 
 /// Moves a task by one step.
 pub fn step(
     control: &mut Control,
-    records: &mut [Record],
+    records: &mut [TaskRecord],
     task: usize,
     lefts: &mut [u64],
     rights: &mut [u64],
@@ -57,31 +120,17 @@ pub fn step(
         return engine::refuse(why);
     }
     let record = &mut records[task];
-    let r = *record;
-    let m = engine::move_on(c, r, lefts, rights, labels, marks, next);
-    if engine::moves(m.outcome) {
-        control.anchor = m.control.anchor;
-        control.retries = m.control.retries;
-        control.head = m.control.head;
-        if engine::ends(m.outcome) {
-            *record = IDLE;
-        } else {
-            record.place = m.task.place;
-            record.own = m.task.own;
-            record.label = m.task.label;
-            record.seen = m.task.seen;
-            record.neighbour = m.task.neighbour;
-            record.link = m.task.link;
-            record.finishing = m.task.finishing;
-        }
-    }
+    let t = *record;
+    let m = move_on(c, t, lefts, rights, labels, marks, next);
+    *control = m.control;
+    *record = m.task;
     m.outcome
 }
 
 /// Moves the task of one lent record by one step.
 pub fn step_record(
     control: &mut Control,
-    task: &mut Record,
+    task: &mut TaskRecord,
     lefts: &mut [u64],
     rights: &mut [u64],
     labels: &mut [u32],
@@ -89,7 +138,7 @@ pub fn step_record(
     next: &mut [u64],
 ) -> Outcome
     ensures { λ r.
-        ⌜ _≡_ {A = Acted}
+        ⌜ _≡_ {A = calls.Acted}
         (record {
           tables = tablesOf (now (control .exit)) (now (lefts .exit)) (now (rights .exit)) (now (labels .exit)) (now (marks .exit)) (now (next .exit));
           task = now (task .exit);
@@ -99,23 +148,9 @@ pub fn step_record(
         (now (task .entry))) ⌝ }
 {
     let c = *control;
-    let r = *task;
-    let m = engine::step_alone(c, r, lefts, rights, labels, marks, next);
-    if engine::moves(m.outcome) {
-        control.anchor = m.control.anchor;
-        control.retries = m.control.retries;
-        control.head = m.control.head;
-        if engine::ends(m.outcome) {
-            *task = IDLE;
-        } else {
-            task.place = m.task.place;
-            task.own = m.task.own;
-            task.label = m.task.label;
-            task.seen = m.task.seen;
-            task.neighbour = m.task.neighbour;
-            task.link = m.task.link;
-            task.finishing = m.task.finishing;
-        }
-    }
+    let t = *task;
+    let m = step_alone(c, t, lefts, rights, labels, marks, next);
+    *control = m.control;
+    *task = m.task;
     m.outcome
 }

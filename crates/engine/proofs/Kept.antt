@@ -10,15 +10,16 @@ use lib.ListN.{getD}
 use borrow.Author.Tests.{leb-true, eqb-true, eqb-false, ne-eqb}
 use Rattle.model.specs.declared.Control.{Control}
 use Rattle.model.specs.declared.Record.{Record}
+use Rattle.model.specs.declared.TaskRecord.{TaskRecord}
 use Rattle.model.specs.declared.Entry.{Entry}
 use Rattle.model.specs.declared.Outcome.the-variants.{Refused, Moved}
 use Rattle.model.specs.Tables.{Tables, isPooled, idle}
 use Rattle.model.specs.Places.{Touch, nothing, setAnchor, setLink, clearMark, takeSlot, setNext, setHead, Move, linkMet, withSeen, withOwn, new4, row}
 use Rattle.model.specs.Places.{at1, at2, at3, at4, at5, at6, at7, at9, at10, at11, at12, at13, at14, at15, at16, at17, move, apply}
 use Rattle.model.specs.Sound.{isPush}
-use Rattle.model.specs.Route.{pushRoute, popRoute, route, onward, answer, goes, counted}
+use Rattle.model.specs.Route.{pushRoute, popRoute, route, onward, answer, goes}
 use Rattle.model.specs.Refusals.{Lent, stepSound}
-use Rattle.model.specs.Calls.{Acted, withRetries, finish, step}
+use Rattle.model.specs.Calls.{Acted, finish, step}
 use Rattle.places.specs.Arm.{stepAt}
 use Rattle.engine.specs.Parts.{moveOn}
 use Rattle.model.specs.Ends.{endsCall, isMoved}
@@ -209,13 +210,13 @@ route-known place kind outcome =
     (λ k. rw k (some-known (getD popRoute place []) outcome (some-line popRoute place refl)))
 
 -- ---- the step
-pub record Kept (q : Tables) (r : Record) (a : Acted) : Type 0 where
+pub record Kept (q : Tables) (r : TaskRecord) (a : Acted) : Type 0 where
   pub tasks : a .tables .control .tasks ≡ q .control .tasks
   pub slots : a .tables .control .slots ≡ q .control .slots
   pub pooled : a .tables .control .pooled ≡ q .control .pooled
   pub head : isPooled (q .control) ≡ false → a .tables .control .head ≡ q .control .head
-  pub keeps : endsCall (a .outcome) ≡ false → Keeps (isPooled (q .control) ≡ false) r (a .task)
-  pub zero : endsCall (a .outcome) ≡ true → a .task ≡ idle
+  pub keeps : endsCall (a .outcome) ≡ false → Keeps (isPooled (q .control) ≡ false) (r .call) (a .task .call)
+  pub zero : endsCall (a .outcome) ≡ true → a .task .call ≡ idle
   pub still : isMoved (a .outcome) ≡ false → (a .tables ≡ q) × (a .task ≡ r)
 
 -- What a touch leaves of control.
@@ -279,19 +280,19 @@ onward-live n finishing h =
     (λ b. let x : _≡_ {A = ℕ} 1 20 = simp (a, b) at h in omega arith))
     (λ a. eqb-false n 20 a (simp a at h))
 
-module _ (q : Tables) (r : Record) where
-  finishes : (m : Move) → Moves (q .control) r m → Kept q r (finish q r m)
+module _ (q : Tables) (r : TaskRecord) where
+  finishes : (m : Move) → Moves (q .control) (r .call) m → Kept q r (finish q r m)
   unfolding finish
   finishes m k =
-      let t = touches (m .touch) (withRetries q (counted (q .control .retries) (m .failed))) in
-      let n = route (r .place) (r .kind) (m .outcome) in
+      let t = touches (m .touch) q in
+      let n = route (r .call .place) (r .call .kind) (m .outcome) in
       let f = m .task .finishing in
       record {
         tasks = t .tasks;
         slots = t .slots;
         pooled = t .pooled;
         head = λ named. t .head (k .1 named);
-        keeps = λ h. stays _ _ _ r (m .task) (k .0) (onward-known n f (route-known (r .place) (r .kind) (m .outcome))) (onward-live n f) h;
+        keeps = λ h. stays _ _ _ (r .call) (m .task) (k .0) (onward-known n f (route-known (r .call .place) (r .call .kind) (m .outcome))) (onward-live n f) h;
         zero = λ h. leaves _ _ (m .task) h;
         still = λ h. absurd (clash (sym h));
       }
@@ -307,17 +308,17 @@ module _ (q : Tables) (r : Record) where
     slots = refl;
     pooled = refl;
     head = λ _. refl;
-    keeps = λ _. itself (q .control) r;
+    keeps = λ _. itself (q .control) (r .call);
     zero = λ h. absurd (clash h);
     still = λ _. (refl, refl);
   }
 
-  at-its-place : fault q r ≡ 0 → Kept q r (stepAt (r .place) q r)
+  at-its-place : fault q r ≡ 0 → Kept q r (stepAt (r .call .place) q (r .call) (r .retries))
   at-its-place none =
       let range = placed q r none in
       subst (λ (a : Acted). Kept q r a) (sym (here q r))
-      (whichever (eqb (cond (stepSound (q .control) r (linkMet q r)) 0 34) 0) _ _
-      (λ _. finishes _ (moves (q .control) r (linkMet q r) (range .0) (λ n. rw n at (range .1))))
+      (whichever (eqb (cond (stepSound (q .control) (r .call) (linkMet q (r .call))) 0 34) 0) _ _
+      (λ _. finishes _ (moves (q .control) (r .call) (linkMet q (r .call)) (range .0) (λ n. rw n at (range .1))))
       (same _))
 
   moved-on : Kept q r (moveOn q r)

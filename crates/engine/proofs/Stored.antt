@@ -5,9 +5,11 @@ use mathlib.Core.List.{List}
 use Prim.Native.Nat.{ℕ}
 use Rattle.model.specs.declared.Control.{Control}
 use Rattle.model.specs.declared.Record.{Record}
+use Rattle.model.specs.declared.TaskRecord.{TaskRecord}
 use Rattle.model.specs.declared.Outcome.{Outcome}
 use Rattle.model.specs.declared.Outcome.the-variants as outcome
 use Rattle.model.specs.Tables.{Tables, tablesOf, idle}
+use Rattle.model.specs.Route.{counted}
 use Rattle.model.specs.Refusals.{Lent}
 use Rattle.model.specs.Calls.{Acted, step}
 use Rattle.model.proofs.tests.Truth.{split, not-both}
@@ -22,14 +24,18 @@ refused-goes (outcome.Refused n) h = refl
 refused-goes (outcome.Moved a) h = absurd (not-both (sym h) refl)
 
 -- By the outcome: what is stored.
-module _ (c : Control) (r : Record) (m : Moved) where
+module _ (c : Control) (r : TaskRecord) (m : Moved) where
+  -- The record with another call, and its failed change counted.
+  abbrev pub goneOn : Record → TaskRecord
+  goneOn t = record { call = t; retries = counted (r .retries) (m .failed) }
+
   pub stored-end : isMoved (m .outcome) ≡ true → endsCall (m .outcome) ≡ true
-      → (controlMoved c (m .control) ≡ controlAfter c m) × (idle ≡ recordAfter r m)
+      → (controlMoved c (m .control) ≡ controlAfter c m) × (goneOn idle ≡ recordAfter r m)
   unfolding controlAfter recordAfter
   stored-end a b = (rw a, rw (a, b))
 
   pub stored-going : isMoved (m .outcome) ≡ true → endsCall (m .outcome) ≡ false
-      → (controlMoved c (m .control) ≡ controlAfter c m) × (recordMoved r (m .task) ≡ recordAfter r m)
+      → (controlMoved c (m .control) ≡ controlAfter c m) × (goneOn (recordMoved (r .call) (m .task)) ≡ recordAfter r m)
   unfolding controlAfter recordAfter
   stored-going a b = (rw a, rw (a, b))
 
@@ -47,7 +53,6 @@ whole-control c old e1 e2 e3 =
       tasks = tasks;
       slots = slots;
       anchor = c .anchor;
-      retries = c .retries;
       pooled = pooled;
       head = c .head;
     }
@@ -68,25 +73,28 @@ whole-record named r old k = ap (λ (n : ℕ). of n (old .side)) (sym (k .kind))
       finishing = r .finishing;
     }
 
-module _ (q : Tables) (p : Lent) (r : Record) (m : Moved) (lefts rights labels marks next : List ℕ) where
-  abbrev pub leaves : Control → Record → Acted
+module _ (q : Tables) (p : Lent) (r : TaskRecord) (m : Moved) (lefts rights labels marks next : List ℕ) where
+  abbrev pub leaves : Control → TaskRecord → Acted
   leaves c t = record { tables = tablesOf c lefts rights labels marks next; task = t; outcome = m .outcome }
 
-  module _ (e : leaves (m .control) (m .task) ≡ step q p r) where
-    kept : Kept q r (leaves (m .control) (m .task))
+  abbrev pub gone : Record → TaskRecord
+  gone = goneOn (q .control) r m
+
+  module _ (e : leaves (m .control) (gone (m .task)) ≡ step q p r) where
+    kept : Kept q r (leaves (m .control) (gone (m .task)))
     kept = subst (Kept q r) (sym e) (step-kept q r p)
 
     same-control : controlMoved (q .control) (m .control) ≡ m .control
     same-control = whole-control (m .control) (q .control) (kept .tasks) (kept .slots) (kept .pooled)
 
-    pub over : endsCall (m .outcome) ≡ true → leaves (controlMoved (q .control) (m .control)) idle ≡ step q p r
-    over h = ap (λ (c : Control). leaves c idle) same-control ∙ ap (leaves (m .control)) (sym (kept .zero h)) ∙ e
+    pub over : endsCall (m .outcome) ≡ true → leaves (controlMoved (q .control) (m .control)) (gone idle) ≡ step q p r
+    over h = ap (λ (c : Control). leaves c (gone idle)) same-control ∙ ap (λ (t : Record). leaves (m .control) (gone t)) (sym (kept .zero h)) ∙ e
 
     pub going : endsCall (m .outcome) ≡ false
-        → leaves (controlMoved (q .control) (m .control)) (recordMoved r (m .task)) ≡ step q p r
+        → leaves (controlMoved (q .control) (m .control)) (gone (recordMoved (r .call) (m .task))) ≡ step q p r
     going h =
-        ap (λ (c : Control). leaves c (recordMoved r (m .task))) same-control
-        ∙ ap (leaves (m .control)) (whole-record _ (m .task) r (kept .keeps h)) ∙ e
+        ap (λ (c : Control). leaves c (gone (recordMoved (r .call) (m .task)))) same-control
+        ∙ ap (λ (t : Record). leaves (m .control) (gone t)) (whole-record _ (m .task) (r .call) (kept .keeps h)) ∙ e
 
     pub unmoved : isMoved (m .outcome) ≡ false → leaves (q .control) r ≡ step q p r
     unmoved h =

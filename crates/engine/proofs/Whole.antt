@@ -5,7 +5,7 @@ use Prim.Native.Nat.{ℕ, suc, _≤_}
 use native.Mathlib.Omega.{arith}
 use lib.Dec.{eqb}
 use borrow.Author.Tests.{leb-true, eqb-false, ne-eqb}
-use Rattle.model.specs.declared.Record.{Record}
+use Rattle.model.specs.declared.TaskRecord.{TaskRecord}
 use Rattle.model.specs.declared.Outcome.the-variants.{Refused}
 use Rattle.model.specs.Tables.{Tables, isPooled}
 use Rattle.model.specs.Sound.{controlSound, recordSound, rowsFit}
@@ -26,12 +26,13 @@ pub below : {n x : ℕ} → x ≤ suc n → (x ≡ suc n → ⊥) → x ≤ n
 below high other = omega arith
 
 -- The step at a record's own place.
-pub here : (q : Tables) (r : Record)
-    → stepAt (r .place) q r ≡ decide (cond (stepSound (q .control) r (linkMet q r)) 0 34) q r (finish q r (move (q .control) r (linkMet q r)))
+pub here : (q : Tables) (r : TaskRecord)
+    → (let t = r .call in
+    stepAt (t .place) q t (r .retries) ≡ decide (cond (stepSound (q .control) t (linkMet q t)) 0 34) q r (finish q r (move (q .control) t (linkMet q t))))
 unfolding stepAt
 here q r = refl
 
-module _ (q : Tables) (p : Lent) (r : Record) where
+module _ (q : Tables) (p : Lent) (r : TaskRecord) where
   abbrev pub why : ℕ
   why = admission (q .control) (rowsFit (isPooled (q .control)) (q .control .slots) q) p
 
@@ -41,10 +42,10 @@ module _ (q : Tables) (p : Lent) (r : Record) where
       split (controlSound (q .control))
       (λ a. split (rowsFit (isPooled (q .control)) (q .control .slots) q && p .enough)
       (λ b. split (p .known)
-      (λ k. split (recordSound (isPooled (q .control)) (q .control .slots) r)
-      (λ s. split (eqb (r .place) 0)
+      (λ k. split (recordSound (isPooled (q .control)) (q .control .slots) (r .call))
+      (λ s. split (eqb (r .call .place) 0)
       (λ z. simp (a, b, k, s, z))
-      (λ z. split (stepSound (q .control) r (linkMet q r)) (λ t. simp (a, b, k, s, z, here, t)) (λ t. simp (a, b, k, s, z, here, t))))
+      (λ z. split (stepSound (q .control) (r .call) (linkMet q (r .call))) (λ t. simp (a, b, k, s, z, here, t)) (λ t. simp (a, b, k, s, z, here, t))))
       (λ s. simp (a, b, k, s)))
       (λ k. simp (a, b, k)))
       (λ b. simp (a, b)))
@@ -69,36 +70,36 @@ module _ (q : Tables) (p : Lent) (r : Record) where
       (λ b. absurd (let h : _≡_ {A = ℕ} 12 0 = simp (a, b) at none in omega arith)))
       (λ a. absurd (let h : _≡_ {A = ℕ} 34 0 = simp a at none in omega arith))
 
-module _ (q : Tables) (r : Record) where
+module _ (q : Tables) (r : TaskRecord) where
   abbrev pub fault : ℕ
-  fault = recordRefusal (isPooled (q .control)) (q .control .slots) r
+  fault = recordRefusal (isPooled (q .control)) (q .control .slots) (r .call)
 
   pub stopped : (w : ℕ) → w ≡ fault → (w ≡ 0 → ⊥) → record { tables = q; task = r; outcome = Refused w } ≡ moveOn q r
   unfolding moveOn
   stopped w e h = rw (← e, ne-eqb _ _ h)
 
-  pub at-place : (n : ℕ) → fault ≡ 0 → r .place ≡ n → stepAt n q r ≡ moveOn q r
+  pub at-place : (n : ℕ) → fault ≡ 0 → r .call .place ≡ n → stepAt n q (r .call) (r .retries) ≡ moveOn q r
   unfolding moveOn
-  at-place n none at = ap (λ (k : ℕ). stepAt k q r) (sym at) ∙ rw none
+  at-place n none at = ap (λ (k : ℕ). stepAt k q (r .call) (r .retries)) (sym at) ∙ rw none
 
   -- Past the refusals the place is 1 to 17, and in a named queue 1 to 11.
-  pub placed : fault ≡ 0 → (1 ≤ r .place) × (r .place ≤ cond (isPooled (q .control)) 17 11)
+  pub placed : fault ≡ 0 → (1 ≤ r .call .place) × (r .call .place ≤ cond (isPooled (q .control)) 17 11)
   unfolding recordRefusal recordSound
   placed none =
-      split (recordSound (isPooled (q .control)) (q .control .slots) r)
-      (λ s. split (eqb (r .place) 0)
+      split (recordSound (isPooled (q .control)) (q .control .slots) (r .call))
+      (λ s. split (eqb (r .call .place) 0)
       (λ z. never (simp (s, z) at none))
       (λ z. (busy (eqb-false _ _ z), leb-true _ _ (and-eq-true-iff _ _ .0 (rw z at s) .0))))
       (λ s. never (simp s at none))
     where
-      busy : (r .place ≡ 0 → ⊥) → 1 ≤ r .place
+      busy : (r .call .place ≡ 0 → ⊥) → 1 ≤ r .call .place
       busy other = omega arith
 
-      never : {n : ℕ} → suc n ≡ 0 → (1 ≤ r .place) × (r .place ≤ cond (isPooled (q .control)) 17 11)
+      never : {n : ℕ} → suc n ≡ 0 → (1 ≤ r .call .place) × (r .call .place ≤ cond (isPooled (q .control)) 17 11)
       never h = absurd (omega arith)
 
-  pub below-18 : fault ≡ 0 → r .place ≤ 17
+  pub below-18 : fault ≡ 0 → r .call .place ≤ 17
   below-18 none = split (isPooled (q .control)) (λ e. rw e at (placed none .1)) (λ e. wider (rw e at (placed none .1)))
     where
-      wider : r .place ≤ 11 → r .place ≤ 17
+      wider : r .call .place ≤ 11 → r .call .place ≤ 17
       wider h = omega arith

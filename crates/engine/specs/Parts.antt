@@ -5,6 +5,7 @@ use Prim.Native.Nat.{ℕ}
 use lib.Dec.{eqb}
 use Rattle.model.specs.declared.Control.{Control}
 use Rattle.model.specs.declared.Record.{Record}
+use Rattle.model.specs.declared.TaskRecord.{TaskRecord}
 use Rattle.model.specs.declared.Outcome.the-variants.{Refused}
 use Rattle.model.specs.Tables.{Tables, isPooled}
 use Rattle.model.specs.Sound.{controlSound, recordSound}
@@ -27,7 +28,7 @@ unfoldable pub recordRefusal : Bool → ℕ → Record → ℕ
 recordRefusal pooled slots r = first (recordRules pooled slots r)
 
 -- The step of a record that is admitted.
-unfoldable pub moveOn : Tables → Record → Acted
+unfoldable pub moveOn : Tables → TaskRecord → Acted
 moveOn q r =
-    let why = recordRefusal (isPooled (q .control)) (q .control .slots) r in
-    cond (eqb why 0) (stepAt (r .place) q r) (record { tables = q; task = r; outcome = Refused why })
+    let why = recordRefusal (isPooled (q .control)) (q .control .slots) (r .call) in
+    cond (eqb why 0) (stepAt (r .call .place) q (r .call) (r .retries)) (record { tables = q; task = r; outcome = Refused why })

@@ -2,22 +2,23 @@
 use mathlib.Core.Bool.{cond}
 use Rattle.model.specs.declared.Control.{Control}
 use Rattle.model.specs.declared.Record.{Record}
+use Rattle.model.specs.declared.TaskRecord.{TaskRecord}
 use Rattle.model.specs.Tables.{idle}
+use Rattle.model.specs.Route.{counted}
 use Rattle.table.specs.declared.Acted.{Acted}
 use Rattle.model.specs.Ends.{endsCall, isMoved}
 
--- A control that takes Anchor, retries and head of another.
+-- A control that takes Anchor and head of another.
 abbrev pub controlMoved : Control → Control → Control
 controlMoved old c = record {
   tasks = old .tasks;
   slots = old .slots;
   anchor = c .anchor;
-  retries = c .retries;
   pooled = old .pooled;
   head = c .head;
 }
 
--- A record that takes all of another but its call's kind and side.
+-- A call that takes all of another but its kind and side.
 abbrev pub recordMoved : Record → Record → Record
 recordMoved old r = record {
   place = r .place;
@@ -31,9 +32,11 @@ recordMoved old r = record {
   finishing = r .finishing;
 }
 
--- Nothing where the step was refused; a record all zero where it ended the call.
+-- Nothing where the step was refused; a call all zero where it ended. A failed change is counted.
 unfoldable pub controlAfter : Control → Acted → Control
 controlAfter c m = cond (isMoved (m .outcome)) (controlMoved c (m .control)) c
 
-unfoldable pub recordAfter : Record → Acted → Record
-recordAfter r m = cond (isMoved (m .outcome)) (cond (endsCall (m .outcome)) idle (recordMoved r (m .task))) r
+unfoldable pub recordAfter : TaskRecord → Acted → TaskRecord
+recordAfter r m =
+    let call : Record = cond (endsCall (m .outcome)) idle (recordMoved (r .call) (m .task)) in
+    cond (isMoved (m .outcome)) (record { call = call; retries = counted (r .retries) (m .failed) }) r

@@ -5,6 +5,8 @@ use model::Outcome;
 use model::Record;
 use table::Acted;
 ghost use mathlib.Core.Path.{_≡_};
+ghost use mathlib.Core.Bool.{false};
+ghost use Prim.Native.Nat.{ℕ};
 ghost use lib.Dec.{leb, ltb};
 ghost use Rattle.model.specs.Calls.{step, stepLent};
 ghost use Rattle.model.specs.Tables.{isPooled, tablesOf};
@@ -80,12 +82,13 @@ fn refusal(pooled: bool, slots: u64, r: Record) -> u32
 
 /// A refusal is its number alone.
 fn refused(c: Control, r: Record, why: u32) -> Acted
-    ensures { λ m. ⌜ m ≡ record { control = c; task = r; outcome = Outcome.Refused why } ⌝ }
+    ensures { λ m. ⌜ m ≡ record { control = c; task = r; outcome = Outcome.Refused why; failed = false } ⌝ }
 {
     Acted {
         control: c,
         task: r,
         outcome: Outcome::Refused(why),
+        failed: false,
     }
 }
 
@@ -102,10 +105,10 @@ pub fn step(
     next: &mut [u64],
 ) -> Acted
     ensures { λ m.
-        ⌜ withTables m (now (lefts .exit)) (now (rights .exit)) (now (labels .exit)) (now (marks .exit)) (now (next .exit))
+        ⌜ ((retries : ℕ) → withTables m (now (lefts .exit)) (now (rights .exit)) (now (labels .exit)) (now (marks .exit)) (now (next .exit)) retries
         ≡ step (tablesOf c (now (lefts .entry)) (now (rights .entry)) (now (labels .entry)) (now (marks .entry)) (now (next .entry)))
         (record { enough = leb (c .tasks) records; known = ltb task (c .tasks) })
-        r ⌝ }
+        (record { call = r; retries = retries })) ⌝ }
 {
     let why = admit(
         c,
@@ -134,8 +137,9 @@ pub fn step_alone(
     next: &mut [u64],
 ) -> Acted
     ensures { λ m.
-        ⌜ withTables m (now (lefts .exit)) (now (rights .exit)) (now (labels .exit)) (now (marks .exit)) (now (next .exit))
-        ≡ stepLent (tablesOf c (now (lefts .entry)) (now (rights .entry)) (now (labels .entry)) (now (marks .entry)) (now (next .entry))) r ⌝ }
+        ⌜ ((retries : ℕ) → withTables m (now (lefts .exit)) (now (rights .exit)) (now (labels .exit)) (now (marks .exit)) (now (next .exit)) retries
+        ≡ stepLent (tablesOf c (now (lefts .entry)) (now (rights .entry)) (now (labels .entry)) (now (marks .entry)) (now (next .entry)))
+        (record { call = r; retries = retries })) ⌝ }
 {
     // No record is wanting, and the task is known by it.
     let lent = true;
@@ -166,8 +170,9 @@ pub fn move_on(
     next: &mut [u64],
 ) -> Acted
     ensures { λ m.
-        ⌜ withTables m (now (lefts .exit)) (now (rights .exit)) (now (labels .exit)) (now (marks .exit)) (now (next .exit))
-        ≡ moveOn (tablesOf c (now (lefts .entry)) (now (rights .entry)) (now (labels .entry)) (now (marks .entry)) (now (next .entry))) r ⌝ }
+        ⌜ ((retries : ℕ) → withTables m (now (lefts .exit)) (now (rights .exit)) (now (labels .exit)) (now (marks .exit)) (now (next .exit)) retries
+        ≡ moveOn (tablesOf c (now (lefts .entry)) (now (rights .entry)) (now (labels .entry)) (now (marks .entry)) (now (next .entry)))
+        (record { call = r; retries = retries })) ⌝ }
 {
     let pooled = c.pooled == 1;
     let why = refusal(pooled, c.slots, r);

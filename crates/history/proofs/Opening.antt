@@ -1,4 +1,4 @@
--- An opening of idle records, and what follows it.
+-- An opening of unused records, and what follows it.
 use Prim.Native.Nat.{ℕ, zero, suc, _*_, _≤_}
 use mathlib.Core.Path.{_≡_, refl, sym, ap, _∙_, subst}
 use mathlib.Core.Bool.{Bool, true, false}
@@ -6,26 +6,27 @@ use mathlib.Core.List.{List, _∷_}
 use native.Mathlib.Omega.{arith}
 use lib.Dec.{eqb}
 use lib.ListN.{length, replicate}
-use Rattle.model.specs.declared.Record.{Record}
+use Rattle.model.specs.declared.TaskRecord.{TaskRecord}
 use Rattle.model.specs.declared.Opening.{Opening}
 use Rattle.model.specs.declared.Opening.the-variants.{Refused, Opened}
-use Rattle.model.specs.Tables.{Tables, Queue, idle, zeroed}
+use Rattle.model.specs.Tables.{Tables, Queue, unused, zeroed}
 use Rattle.model.specs.Refusals.{openRefusal}
 use Rattle.model.specs.Calls.{OpenDone, openAs}
 use Rattle.model.specs.History.{Request, run, final, NoSlotTrue}
 use Rattle.model.proofs.Linearizable.{linearizable}
 use Rattle.model.proofs.NeverUnsound.{never-unsound}
 use Rattle.model.proofs.NoSlot.{no-slot-right}
+use Rattle.model.proofs.Retries.{retries-sum}
 use Rattle.calls.specs.Opening.{OpenedParts, openTables, whole}
 use Rattle.calls.proofs.Parts.{open-parts, clear-fits}
 use Rattle.history.specs.Words.{requestsOf, requestsFrom, repliesOf}
 use Rattle.history.specs.Serving.{State, served, countAfter, Follows, Serves}
 
--- Idle records stay as they are where some are zeroed.
-still-idle : (n m : ℕ) → n ≤ m → zeroed n idle (replicate m idle) ≡ replicate m idle
-still-idle zero m h = refl
-still-idle (suc n) zero h = absurd (omega arith)
-still-idle (suc n) (suc m) h = ap (λ (l : List Record). idle ∷ l) (still-idle n m (omega arith))
+-- Unused records stay as they are where some are zeroed.
+still-unused : (n m : ℕ) → n ≤ m → zeroed n unused (replicate m unused) ≡ replicate m unused
+still-unused zero m h = refl
+still-unused (suc n) zero h = absurd (omega arith)
+still-unused (suc n) (suc m) h = ap (λ (l : List TaskRecord). unused ∷ l) (still-unused n m (omega arith))
 
 refused-keeps : (pooled : Bool) (q : Queue) (tasks slots tag why : ℕ) → openAs pooled q tasks slots tag .outcome ≡ Refused why
     → openAs pooled q tasks slots tag .queue ≡ q
@@ -61,30 +62,31 @@ module _ (pooled : Bool) (tasks slots tag : ℕ) (words : List ℕ) (before afte
       answers = ap (λ (x : State). x .replies) s;
       linearized = linearizable pooled (before .queue) tasks slots tag (sym e) (requestsOf count words);
       sound = never-unsound pooled (before .queue) tasks slots tag (sym e) (requestsOf count words);
+      counts = retries-sum pooled (before .queue) tasks slots tag (sym e) (requestsOf count words);
       truthful = λ p os left h. truthful os (sym e) p;
     },
   )
 
--- The same for the code's values: an opening's parts, and records that are idle.
-module _ (pooled : Bool) (tasks slots tag : ℕ) (words : List ℕ) (q : Tables) (replies : List ℕ) (o : OpenedParts) (none : Record) where
+-- The same for the code's values: an opening's parts, and records that are unused.
+module _ (pooled : Bool) (tasks slots tag : ℕ) (words : List ℕ) (q : Tables) (replies : List ℕ) (o : OpenedParts) (none : TaskRecord) where
   abbrev first : Queue
-  first = record { tables = q; records = replicate 16 idle }
+  first = record { tables = q; records = replicate 16 unused }
 
-  abbrev with-records : List Record → OpenDone
+  abbrev with-records : List TaskRecord → OpenDone
   with-records l = record { queue = record { tables = o .tables; records = l }; outcome = o .outcome }
 
-  opened-idle : none ≡ idle → o ≡ openTables pooled q 16 tasks slots tag → with-records (replicate 16 none) ≡ openAs pooled first tasks slots tag
-  opened-idle i e =
+  opened-unused : none ≡ unused → o ≡ openTables pooled q 16 tasks slots tag → with-records (replicate 16 none) ≡ openAs pooled first tasks slots tag
+  opened-unused i e =
       let h : o .clear ≤ 16 = subst (λ (x : OpenedParts). x .clear ≤ 16) (sym e) (clear-fits pooled q 16 tasks slots tag) in
-      ap with-records (ap (replicate 16) i ∙ sym (still-idle (o .clear) 16 h))
-      ∙ ap (whole (replicate 16 idle)) e ∙ sym (open-parts pooled first tasks slots tag)
+      ap with-records (ap (replicate 16) i ∙ sym (still-unused (o .clear) 16 h))
+      ∙ ap (whole (replicate 16 unused)) e ∙ sym (open-parts pooled first tasks slots tag)
 
-  pub serves : (after : State) (count : ℕ) → none ≡ idle → o ≡ openTables pooled q 16 tasks slots tag
+  pub serves : (after : State) (count : ℕ) → none ≡ unused → o ≡ openTables pooled q 16 tasks slots tag
       → count ≡ countAfter (o .outcome) (length words) (length replies)
       → after ≡ served 0 (record { queue = record { tables = o .tables; records = replicate 16 none }; replies = replies }) (requestsOf count words)
       → Serves pooled tasks slots tag words (record { queue = first; replies = replies }) after (o .outcome) count
   serves after count i e n s =
-      let d = opened-idle i e in
+      let d = opened-unused i e in
       let here = ap (λ (x : OpenDone). x .outcome) d in
       record {
         opening = here;

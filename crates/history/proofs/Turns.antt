@@ -7,29 +7,41 @@ use native.Mathlib.Omega.{arith}
 use lib.Dec.{leb, ltb}
 use lib.ListN.{length, getD, set}
 use lib.Seq.{sets}
-use Rattle.model.specs.declared.Record.{Record}
+use Rattle.model.specs.declared.TaskRecord.{TaskRecord}
 use Rattle.model.specs.declared.Op.{Op}
-use Rattle.model.specs.Tables.{Tables, idle}
-use Rattle.model.specs.Calls.{Acted, Done, actOn, act}
+use Rattle.model.specs.Tables.{Tables, Queue, tablesOf, taskAt}
+use Rattle.model.specs.Refusals.{Lent, among}
+use Rattle.model.specs.Route.{counted}
+use Rattle.model.specs.Calls.{Done, back, actOn, act}
+use Rattle.table.specs.declared.Acted.{Acted as Moved}
+use Rattle.table.specs.Lent.{withTables}
 use Rattle.model.specs.History.{Request, run, final}
 use Rattle.history.specs.Words.{requestAt, requestsFrom, replyWords, repliesOf}
 use Rattle.history.specs.Serving.{State, served}
 
 -- A record that is there is the same whatever stands for a missing one.
-pub record-there : (rs : List Record) (t : ℕ) (d e : Record) → t < length rs → getD rs t d ≡ getD rs t e
+pub record-there : (rs : List TaskRecord) (t : ℕ) (d e : TaskRecord) → t < length rs → getD rs t d ≡ getD rs t e
 record-there [] t d e h = absurd (omega arith)
 record-there (r ∷ rs) zero d e h = refl
 record-there (r ∷ rs) (suc t) d e h = record-there rs t d e (omega arith)
 
--- An operation on the record of its task, which is put back.
-module _ (q : Tables) (rs rs′ : List Record) (task : ℕ) (op : Op) (r : Record) (a : Acted) where
-  pub turn-done : length rs ≡ 16 → r ≡ getD rs task idle
-      → a ≡ actOn q (record { enough = leb (q .control .tasks) 16; known = ltb task (q .control .tasks) }) r op
-      → rs′ ≡ set rs task (a .task)
-      → _≡_ {A = Done} (record { queue = record { tables = a .tables; records = rs′ }; outcome = a .outcome })
-      (act (record { tables = q; records = rs }) task op)
+-- An operation on the record of its task, which is put back with its count.
+module _ (q : Tables) (rs rs′ : List TaskRecord) (task : ℕ) (op : Op) (r : TaskRecord) (m : Moved) (lefts rights labels marks next : List ℕ) where
+  abbrev queue : Queue
+  queue = record { tables = q; records = rs }
+
+  abbrev lent : ℕ → Lent
+  lent n = record { enough = leb (q .control .tasks) n; known = ltb task (q .control .tasks) }
+
+  pub turn-done : length rs ≡ 16 → r ≡ taskAt queue task
+      → ((k : ℕ) → withTables m lefts rights labels marks next k ≡ actOn q (lent 16) (record { call = r .call; retries = k }) op)
+      → rs′ ≡ set rs task (record { call = m .task; retries = counted (r .retries) (m .failed) })
+      → _≡_ {A = Done} (record { queue = record { tables = tablesOf (m .control) lefts rights labels marks next; records = rs′ }; outcome = m .outcome })
+      (act queue task op)
   unfolding act
-  turn-done h i e k = rw (k, e, i, ← h)
+  turn-done h i e put =
+      ap (λ (l : List TaskRecord). record { queue = record { tables = tablesOf (m .control) lefts rights labels marks next; records = l }; outcome = m .outcome }) put
+      ∙ ap (back queue task) (e (r .retries) ∙ ap (λ (n : ℕ). actOn q (lent n) r op) (sym h) ∙ ap (λ (t : TaskRecord). actOn q (among queue task) t op) i)
 
 -- An operation and then the rest.
 served-more : (n : ℕ) (s : State) (o : Request) (os : List Request) (d : Done) (replies : List ℕ) → d ≡ act (s .queue) (o .task) (o .op)

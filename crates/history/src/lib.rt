@@ -1,8 +1,8 @@
 //! A queue opened in lent tables, and a list of operations carried out on it from lent memory.
 //!
 //! What `serve` answers and leaves is `run` and `final` of just that list (`specs/History.antt` of `model`),
-//! so its contract states the theorems on histories of running code: demand 3, that 34 never occurs, and that
-//! *no slot* is answered only where every slot is in use.
+//! so its contract states the theorems on histories of running code: demand 3, that 34 never occurs, that the
+//! tasks' counts add up to the failed changes, and that *no slot* is answered only where every slot is in use.
 mod reply;
 mod request;
 mod turn;
@@ -10,7 +10,7 @@ mod turn;
 use calls::opening;
 use model::Control;
 use model::Opening;
-use model::Record;
+use model::TaskRecord;
 ghost use mathlib.Core.Path.{_≡_};
 ghost use Prim.Native.Nat.{_*_, _≤_};
 ghost use lib.ListN.{length};
@@ -21,7 +21,7 @@ ghost use Rattle.history.specs.Serving.{unopened, State, served, countAf
 /// What is left beside the lent tables, and what was done.
 pub struct Served {
     pub control: Control,
-    pub records: [Record; 16],
+    pub records: [TaskRecord; 16],
     pub outcome: Opening,
     /// How many operations were carried out.
     pub count: usize,
@@ -30,7 +30,7 @@ pub struct Served {
 // What the operations leave of control and records.
 struct Held {
     control: Control,
-    records: [Record; 16],
+    records: [TaskRecord; 16],
 }
 
 // How many operations follow an opening, by the lengths of requests and replies.
@@ -50,7 +50,7 @@ fn count_after(o: Opening, requests: usize, replies: usize) -> usize
 // The first `count` requests, in order.
 fn carry_out(
     control: Control,
-    records: [Record; 16],
+    records: [TaskRecord; 16],
     count: usize,
     requests: &[u64],
     replies: &mut [u64],
@@ -129,13 +129,12 @@ pub fn serve(
         })
         (r .outcome) (r .count) ⌝ }
 {
-    let none = operation::idle();
+    let none = turn::unused();
     let o = opening::open_tables(
         Control {
             tasks: 0,
             slots: 0,
             anchor: 0,
-            retries: 0,
             pooled: 0,
             head: 0,
         },

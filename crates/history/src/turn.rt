@@ -2,25 +2,33 @@
 use model::Control;
 use model::Op;
 use model::Outcome;
-use model::Record;
+use model::TaskRecord;
 ghost use mathlib.Core.Path.{_≡_};
 ghost use Rattle.model.specs.Calls as calls;
-ghost use Rattle.model.specs.Tables.{queueOf};
+ghost use Rattle.model.specs.Tables.{queueOf, unused};
 
 /// As many records as an opening can ask for.
 pub const TASKS: usize = 16;
 
+/// The record of a task that has no call and no failed change.
+pub fn unused() -> TaskRecord
+    ensures { λ r. ⌜ r ≡ unused ⌝ }
+{
+    let call = operation::idle();
+    TaskRecord { call, retries: 0 }
+}
+
 /// What an operation leaves of control and records, and its outcome.
 pub struct Turn {
     pub control: Control,
-    pub records: [Record; 16],
+    pub records: [TaskRecord; 16],
     pub outcome: Outcome,
 }
 
 /// An operation of a task, whose record is put back where it lay.
 pub fn take_turn(
     c: Control,
-    records: [Record; 16],
+    records: [TaskRecord; 16],
     task: usize,
     op: Op,
     lefts: &mut [u64],
@@ -40,12 +48,15 @@ pub fn take_turn(
         task op) ⌝ }
 {
     let mut rows = records;
-    let mut r = operation::idle();
+    let mut t = unused();
     if task < TASKS {
-        r = rows[task];
+        t = rows[task];
     }
+    let r = t.call;
     let m = operation::act(c, r, TASKS, task, op, lefts, rights, labels, marks, next);
-    let moved = m.task;
+    let call = m.task;
+    let retries = table::counted(t.retries, m.failed);
+    let moved = TaskRecord { call, retries };
     if task < TASKS {
         rows[task] = moved;
     }

@@ -10,7 +10,7 @@ use Rattle.model.specs.declared.Outcome.{Outcome}
 use Rattle.model.specs.declared.Outcome.the-variants.{Refused, Moved}
 use Rattle.model.specs.declared.Opening.the-variants.{Opened}
 use Rattle.model.specs.declared.Op.the-variants.{Push, Pop, Step}
-use Rattle.model.specs.Tables.{Queue, idle}
+use Rattle.model.specs.Tables.{Queue, unused}
 use Rattle.model.specs.Sound.{anchorSound, linkSound, controlSound, recordSound, rowsFit}
 use Rattle.model.specs.Places.{sideOf, row, linkSide, reading, at1, at2, at3, new4, at4, at5, at6, at7, at9, at10, at11, move}
 use Rattle.model.specs.Route.{pushRoute, popRoute, route, onward, answer, goes, counted}
@@ -23,14 +23,14 @@ use Rattle.model.specs.History.{Request, Event, run, final}
 abbrev zeros : Queue
 zeros = record {
   tables = record {
-    control = record { tasks = 0; slots = 0; anchor = 0; retries = 0; pooled = 0; head = 0 };
+    control = record { tasks = 0; slots = 0; anchor = 0; pooled = 0; head = 0 };
     lefts = replicate 4 0;
     rights = replicate 4 0;
     labels = replicate 4 0;
     marks = replicate 1 0;
     next = [];
   };
-  records = replicate 2 idle;
+  records = replicate 2 unused;
 }
 
 abbrev fresh : ℕ → Queue

@@ -17,6 +17,7 @@ pub mod Openings
 pub mod Linearizable
 pub mod NeverUnsound
 pub mod Standing
+pub mod Retries
 pub mod NoSlot
 pub mod StepBounds
 pub mod LinksBack

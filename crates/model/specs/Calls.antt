@@ -6,6 +6,7 @@ use lib.Dec.{eqb}
 use lib.ListN.{getD, set, drop}
 use Rattle.word.specs.Anchor.{packAnchor, emptyAnchor}
 use Rattle.model.specs.declared.Record.{Record}
+use Rattle.model.specs.declared.TaskRecord.{TaskRecord}
 use Rattle.model.specs.declared.Entry.{Entry}
 use Rattle.model.specs.declared.Answer.the-variants.{Running, Pushed, Empty, Popped, NoSlot}
 use Rattle.model.specs.declared.Outcome.{Outcome}
@@ -15,13 +16,13 @@ use Rattle.model.specs.declared.Opening.the-variants as opening
 use Rattle.model.specs.declared.Op.{Op}
 use Rattle.model.specs.declared.Op.the-variants.{Push, Pop, Put, Step}
 use Rattle.model.specs.declared.Reply.{Reply}
-use Rattle.model.specs.Tables.{Tables, Queue, idle, started, asking, recordAt, zeroed, climb}
+use Rattle.model.specs.Tables.{Tables, Queue, unused, withCall, started, asking, taskAt, zeroed, climb}
 use Rattle.model.specs.Places.{row, linkMet, Move, move, apply}
 pub use Rattle.model.specs.Places.{taken}
 use Rattle.model.specs.Route.{route, onward, answer, goes, counted}
 use Rattle.model.specs.Refusals.{openRefusal, Lent, among, alone, pushRefusal, putRefusal, popRefusal, stepRefusal}
 
--- Opening: rows 0 to slots, the records, marks and retries zeroed; Anchor empty and STABLE with the first tag.
+-- Opening: rows 0 to slots, the records, their counts and marks zeroed; Anchor empty and STABLE with the first tag.
 -- A pooled opening also stacks all slots: the head is tag 0 and slot 1, each slot's next the one above, the last one's 0.
 abbrev pub stacked : ℕ → List ℕ → List ℕ
 stacked slots l = 0 ∷ climb 2 slots ++ drop (slots + 1) l
@@ -29,14 +30,14 @@ stacked slots l = 0 ∷ climb 2 slots ++ drop (slots + 1) l
 unfoldable pub opened : Bool → Queue → ℕ → ℕ → ℕ → Queue
 opened pooled q tasks slots tag = record {
   tables = record {
-    control = record { tasks = tasks; slots = slots; anchor = packAnchor (emptyAnchor tag); retries = 0; pooled = cond pooled 1 0; head = cond pooled 1 0 };
+    control = record { tasks = tasks; slots = slots; anchor = packAnchor (emptyAnchor tag); pooled = cond pooled 1 0; head = cond pooled 1 0 };
     lefts = zeroed (slots + 1) 0 (q .tables .lefts);
     rights = zeroed (slots + 1) 0 (q .tables .rights);
     labels = zeroed (slots + 1) 0 (q .tables .labels);
     marks = zeroed (slots / 64 + 1) 0 (q .tables .marks);
     next = cond pooled (stacked slots (q .tables .next)) (q .tables .next);
   };
-  records = zeroed tasks idle (q .records);
+  records = zeroed tasks unused (q .records);
 }
 
 pub record OpenDone : Type 0 where
@@ -60,60 +61,49 @@ openPooled q tasks slots tag = openAs true q tasks slots tag
 -- What a start or step of one record leaves of tables and record, and its outcome.
 pub record Acted : Type 0 where
   pub tables : Tables
-  pub task : Record
+  pub task : TaskRecord
   pub outcome : Outcome
 
 -- A refusal is its number alone; everything keeps its contents.
-abbrev pub decide : ℕ → Tables → Record → Acted → Acted
+abbrev pub decide : ℕ → Tables → TaskRecord → Acted → Acted
 decide why q r done = cond (eqb why 0) done (record { tables = q; task = r; outcome = Refused why })
 
 -- A push start also stores the label in the named slot's row and sets its mark.
-unfoldable pub pushStart : Tables → Lent → Record → ℕ → ℕ → ℕ → Acted
+unfoldable pub pushStart : Tables → Lent → TaskRecord → ℕ → ℕ → ℕ → Acted
 pushStart q p r side slot label =
-    decide (pushRefusal q p r side slot) q r
-    (record { tables = taken q slot label; task = started 0 side slot label; outcome = Moved (Running 1) })
+    decide (pushRefusal q p (r .call) side slot) q r
+    (record { tables = taken q slot label; task = withCall r (started 0 side slot label); outcome = Moved (Running 1) })
 
 -- One that names no slot only writes the record.
-unfoldable pub putStart : Tables → Lent → Record → ℕ → ℕ → Acted
+unfoldable pub putStart : Tables → Lent → TaskRecord → ℕ → ℕ → Acted
 putStart q p r side label =
-    decide (putRefusal q p r side) q r
-    (record { tables = q; task = asking side label; outcome = Moved (Running 12) })
+    decide (putRefusal q p (r .call) side) q r
+    (record { tables = q; task = withCall r (asking side label); outcome = Moved (Running 12) })
 
-unfoldable pub popStart : Tables → Lent → Record → ℕ → Acted
+unfoldable pub popStart : Tables → Lent → TaskRecord → ℕ → Acted
 popStart q p r side =
-    decide (popRefusal q p r side) q r
-    (record { tables = q; task = started 1 side 0 0; outcome = Moved (Running 1) })
-
--- The tables with the retries counted.
-abbrev pub withRetries : Tables → ℕ → Tables
-withRetries q n = record {
-  control = record { tasks = q .control .tasks; slots = q .control .slots; anchor = q .control .anchor; retries = n; pooled = q .control .pooled; head = q .control .head };
-  lefts = q .lefts;
-  rights = q .rights;
-  labels = q .labels;
-  marks = q .marks;
-  next = q .next;
-}
+    decide (popRefusal q p (r .call) side) q r
+    (record { tables = q; task = withCall r (started 1 side 0 0); outcome = Moved (Running 1) })
 
 -- The entry that a pop answers: the end taken with the label found, or, once the slot is given back, the record's.
 abbrev pub entryOf : Tables → Record → Entry
 entryOf q r = record { slot = row r; label = cond (eqb (r .place) 17) (r .label) (getD (q .labels) (row r) 0) }
 
--- A place's move made: its touch, the retries, the record gone on, the answer.
-unfoldable pub finish : Tables → Record → Move → Acted
+-- A place's move made: its touch, the call gone on, a failed change counted, the answer.
+unfoldable pub finish : Tables → TaskRecord → Move → Acted
 finish q r m =
-    let n = onward (route (r .place) (r .kind) (m .outcome)) (m .task .finishing) in
+    let n = onward (route (r .call .place) (r .call .kind) (m .outcome)) (m .task .finishing) in
     record {
-      tables = apply (m .touch) (withRetries q (counted (q .control .retries) (m .failed)));
-      task = goes (m .task) n;
-      outcome = Moved (answer n (entryOf q r));
+      tables = apply (m .touch) q;
+      task = record { call = goes (m .task) n; retries = counted (r .retries) (m .failed) };
+      outcome = Moved (answer n (entryOf q (r .call)));
     }
 
-unfoldable pub step : Tables → Lent → Record → Acted
-step q p r = decide (stepRefusal q p r) q r (finish q r (move (q .control) r (linkMet q r)))
+unfoldable pub step : Tables → Lent → TaskRecord → Acted
+step q p r = decide (stepRefusal q p (r .call)) q r (finish q r (move (q .control) (r .call) (linkMet q (r .call))))
 
 -- A start or step of one record.
-unfoldable pub actOn : Tables → Lent → Record → Op → Acted
+unfoldable pub actOn : Tables → Lent → TaskRecord → Op → Acted
 actOn q p r (Push side slot label) = pushStart q p r side slot label
 actOn q p r (Pop side) = popStart q p r side
 actOn q p r (Put side label) = putStart q p r side label
@@ -128,10 +118,10 @@ abbrev pub back : Queue → ℕ → Acted → Done
 back q t a = record { queue = record { tables = a .tables; records = set (q .records) t (a .task) }; outcome = a .outcome }
 
 unfoldable pub act : Queue → ℕ → Op → Done
-act q t o = back q t (actOn (q .tables) (among q t) (recordAt q t) o)
+act q t o = back q t (actOn (q .tables) (among q t) (taskAt q t) o)
 
 -- A step on one lent record.
-unfoldable pub stepLent : Tables → Record → Acted
+unfoldable pub stepLent : Tables → TaskRecord → Acted
 stepLent q r = step q alone r
 
 -- The number and values of each outcome.

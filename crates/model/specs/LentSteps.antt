@@ -4,10 +4,10 @@ use mathlib.Core.List.{List, [], _∷_, map}
 use mathlib.Core.Logic.{_≢_}
 use Prim.Native.Nat.{ℕ, _<_, _≤_}
 use lib.ListN.{length}
-use Rattle.model.specs.declared.Record.{Record}
+use Rattle.model.specs.declared.TaskRecord.{TaskRecord}
 use Rattle.model.specs.declared.Outcome.the-variants.{Refused}
 use Rattle.model.specs.declared.Op.the-variants.{Step}
-use Rattle.model.specs.Tables.{Tables, Queue, recordAt}
+use Rattle.model.specs.Tables.{Tables, Queue, taskAt}
 use Rattle.model.specs.Calls.{Done, back, act, stepLent}
 use Rattle.model.specs.History.{All, Request, Event, run, final}
 
@@ -23,7 +23,7 @@ requestOf (lent t) = record { task = t; op = Step }
 
 unfoldable pub takeTurn : Queue → Turn → Done
 takeTurn q (asked o) = act q (o .task) (o .op)
-takeTurn q (lent t) = back q t (stepLent (q .tables) (recordAt q t))
+takeTurn q (lent t) = back q t (stepLent (q .tables) (taskAt q t))
 
 -- The events of such a list, and the queue after it, as `run` and `final` of one without.
 unfoldable pub runTurns : Queue → List Turn → List Event
@@ -53,4 +53,4 @@ LentStand = (q : Queue) (us : List Turn) → q .tables .control .tasks ≤ lengt
 
 -- 13 can't occur on a lent record.
 abbrev pub LentKnown : Type 0
-LentKnown = (q : Tables) (r : Record) → stepLent q r .outcome ≢ Refused 13
+LentKnown = (q : Tables) (r : TaskRecord) → stepLent q r .outcome ≢ Refused 13

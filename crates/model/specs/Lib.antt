@@ -15,3 +15,4 @@ pub mod Solo
 pub mod Progress
 pub mod Neighbours
 pub mod LentSteps
+pub mod Retries

@@ -7,9 +7,10 @@ use Rattle.word.specs.declared.Anchor.{Anchor}
 use Rattle.word.specs.Anchor.{anchorOf, anchorWord}
 use Rattle.model.specs.declared.Control.{Control}
 use Rattle.model.specs.declared.Record.{Record}
+use Rattle.model.specs.declared.TaskRecord.{TaskRecord}
 use Rattle.model.specs.declared.Op.{Op}
 use Rattle.model.specs.declared.Op.the-variants.{Push, Pop, Put, Step}
-use Rattle.model.specs.Tables.{Tables, Queue}
+use Rattle.model.specs.Tables.{Tables, Queue, withCall}
 use Rattle.model.specs.Calls.{OpenDone, Acted, Done}
 
 -- Sides 0 and 1 exchanged, RPUSH and LPUSH exchanged; any other number is kept.
@@ -26,7 +27,7 @@ unfoldable pub mirrorWord : ℕ → ℕ
 mirrorWord w = anchorWord (mirrorAnchor (anchorOf w))
 
 abbrev pub mirrorControl : Control → Control
-mirrorControl c = record { tasks = c .tasks; slots = c .slots; anchor = mirrorWord (c .anchor); retries = c .retries; pooled = c .pooled; head = c .head }
+mirrorControl c = record { tasks = c .tasks; slots = c .slots; anchor = mirrorWord (c .anchor); pooled = c .pooled; head = c .head }
 
 abbrev pub mirrorTables : Tables → Tables
 mirrorTables q = record { control = mirrorControl (q .control); lefts = q .rights; rights = q .lefts; labels = q .labels; marks = q .marks; next = q .next }
@@ -48,8 +49,11 @@ mirrorBusy r = record {
 unfoldable pub mirrorRecord : Record → Record
 mirrorRecord r = cond (eqb (r .place) 0) r (mirrorBusy r)
 
+abbrev pub mirrorTask : TaskRecord → TaskRecord
+mirrorTask r = withCall r (mirrorRecord (r .call))
+
 abbrev pub mirrorQueue : Queue → Queue
-mirrorQueue q = record { tables = mirrorTables (q .tables); records = map mirrorRecord (q .records) }
+mirrorQueue q = record { tables = mirrorTables (q .tables); records = map mirrorTask (q .records) }
 
 abbrev pub mirrorOp : Op → Op
 mirrorOp (Push side slot label) = Push (mirrorSide side) slot label
@@ -59,7 +63,7 @@ mirrorOp Step = Step
 
 -- What a call leaves.
 abbrev pub mirrorActed : Acted → Acted
-mirrorActed a = record { tables = mirrorTables (a .tables); task = mirrorRecord (a .task); outcome = a .outcome }
+mirrorActed a = record { tables = mirrorTables (a .tables); task = mirrorTask (a .task); outcome = a .outcome }
 
 abbrev pub mirrorOpened : OpenDone → OpenDone
 mirrorOpened d = record { queue = mirrorQueue (d .queue); outcome = d .outcome }

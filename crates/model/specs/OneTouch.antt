@@ -5,7 +5,6 @@ use Prim.Native.Nat.{ℕ}
 use lib.ListN.{set}
 use Rattle.model.specs.Tables.{Tables}
 use Rattle.model.specs.Places.{withAnchor, withHead, taken}
-use Rattle.model.specs.Calls.{withRetries}
 
 -- Tables q with another list for one of its tables.
 abbrev pub withLefts : Tables → List ℕ → Tables
@@ -20,12 +19,11 @@ withMarks q l = record { control = q .control; lefts = q .lefts; rights = q .rig
 abbrev pub withNext : Tables → List ℕ → Tables
 withNext q l = record { control = q .control; lefts = q .lefts; rights = q .rights; labels = q .labels; marks = q .marks; next = l }
 
--- After a step at a place: tables q, or those that differ from q in one word: Anchor, the retries, a link word, a word of marks, a next, the head.
+-- After a step at a place: tables q, or those that differ from q in one word: Anchor, a link word, a word of marks, a next, the head.
 -- At 14 alone, where a slot is drawn, head, label and mark are set at once.
 pub data OneTouch (place : ℕ) (q : Tables) : Tables → Type 0 where
   untouched : OneTouch place q q
   anchor : (w : ℕ) → OneTouch place q (withAnchor q w)
-  retries : (n : ℕ) → OneTouch place q (withRetries q n)
   left : (x w : ℕ) → OneTouch place q (withLefts q (set (q .lefts) x w))
   right : (x w : ℕ) → OneTouch place q (withRights q (set (q .rights) x w))
   mark : (x w : ℕ) → OneTouch place q (withMarks q (set (q .marks) x w))

@@ -218,7 +218,7 @@ move c r w =
 -- The tables after a touch.
 abbrev pub withAnchor : Tables → ℕ → Tables
 withAnchor q w = record {
-  control = record { tasks = q .control .tasks; slots = q .control .slots; anchor = w; retries = q .control .retries; pooled = q .control .pooled; head = q .control .head };
+  control = record { tasks = q .control .tasks; slots = q .control .slots; anchor = w; pooled = q .control .pooled; head = q .control .head };
   lefts = q .lefts;
   rights = q .rights;
   labels = q .labels;
@@ -228,7 +228,7 @@ withAnchor q w = record {
 
 abbrev pub withHead : Tables → ℕ → Tables
 withHead q w = record {
-  control = record { tasks = q .control .tasks; slots = q .control .slots; anchor = q .control .anchor; retries = q .control .retries; pooled = q .control .pooled; head = w };
+  control = record { tasks = q .control .tasks; slots = q .control .slots; anchor = q .control .anchor; pooled = q .control .pooled; head = w };
   lefts = q .lefts;
   rights = q .rights;
   labels = q .labels;

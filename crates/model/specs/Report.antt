@@ -1,14 +1,14 @@
--- The report. (Document 01: Places, below the table; document 02, #102.)
+-- The report. (Document 01: Places, below the table; document 02, #101 and #102.)
 use mathlib.Core.Bool.{Bool, not, cond}
-use mathlib.Core.List.{List}
+use mathlib.Core.List.{List, [], _∷_}
 use Prim.Native.Nat.{ℕ, zero, suc, _+_}
-use lib.Dec.{eqb}
+use lib.Dec.{eqb, ltb}
 use lib.ListN.{length}
 use Rattle.word.specs.Anchor.{anchorOf}
 use Rattle.model.specs.declared.Report.{Report}
 use Rattle.model.specs.declared.Reported.{Reported}
 use Rattle.model.specs.declared.Reported.the-variants as reported
-use Rattle.model.specs.Tables.{Tables, Queue, marked, recordAt}
+use Rattle.model.specs.Tables.{Tables, Queue, marked, recordAt, taskAt}
 use Rattle.model.specs.Walk.{contents, met}
 use Rattle.model.specs.Refusals.{recordsFit, reportRefusal}
 
@@ -36,7 +36,6 @@ told q busy = record {
   busy = busy;
   waiting = waiting q;
   taken = takenSlots (q .control .slots) (q .marks);
-  retries = q .control .retries;
 }
 
 unfoldable pub tell : Tables → Bool → ℕ → Reported
@@ -46,3 +45,12 @@ tell q enough busy =
 
 unfoldable pub report : Queue → Reported
 report q = tell (q .tables) (recordsFit (q .tables .control .tasks) q) (busy q)
+
+-- The values of f at the numbers below n, in their order.
+unfoldable pub listed : (ℕ → ℕ) → ℕ → List ℕ
+listed f zero = []
+listed f (suc n) = f 0 ∷ listed (λ t. f (suc t)) n
+
+-- Retries: one count a task, in task order, with places for sixteen tasks: 0 beyond those opened. They stand beside the report.
+unfoldable pub retryCounts : Queue → List ℕ
+retryCounts q = listed (λ t. cond (ltb t (q .tables .control .tasks)) (taskAt q t .retries) 0) 16

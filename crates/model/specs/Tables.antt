@@ -7,6 +7,7 @@ use lib.ListN.{getD, set, replicate, drop}
 use Rattle.word.specs.declared.Anchor.{Anchor}
 use Rattle.model.specs.declared.Control.{Control}
 use Rattle.model.specs.declared.Record.{Record}
+use Rattle.model.specs.declared.TaskRecord.{TaskRecord}
 
 -- What all tasks share: control, the slot rows (a Left and a Right link word and a label), the marks; in a pooled queue the next table too.
 pub record Tables : Type 0 where
@@ -24,14 +25,14 @@ isPooled c = eqb (c .pooled) 1
 -- The tables with the task records, one for each task.
 pub record Queue : Type 0 where
   pub tables : Tables
-  pub records : List Record
+  pub records : List TaskRecord
 
 -- Both, as a call is lent them.
 abbrev pub tablesOf : Control → List ℕ → List ℕ → List ℕ → List ℕ → List ℕ → Tables
 tablesOf control lefts rights labels marks next =
     record { control = control; lefts = lefts; rights = rights; labels = labels; marks = marks; next = next }
 
-abbrev pub queueOf : Control → List Record → List ℕ → List ℕ → List ℕ → List ℕ → List ℕ → Queue
+abbrev pub queueOf : Control → List TaskRecord → List ℕ → List ℕ → List ℕ → List ℕ → List ℕ → Queue
 queueOf control records lefts rights labels marks next =
     record { tables = tablesOf control lefts rights labels marks next; records = records }
 
@@ -80,7 +81,7 @@ marked ws n = eqb (bit (getD ws (n / 64) 0) (n % 64)) 1
 abbrev pub withMark : List ℕ → ℕ → ℕ → List ℕ
 withMark ws n b = set ws (n / 64) (putBit (getD ws (n / 64) 0) (n % 64) b)
 
--- The record of a task that has no call: all zero.
+-- A record that has no call: all zero but for the count, which is 0 at opening.
 abbrev pub idle : Record
 idle = record { place = 0; kind = 0; side = 0; own = 0; label = 0; seen = 0; neighbour = 0; link = 0; finishing = 0 }
 
@@ -99,8 +100,19 @@ abbrev pub atPlace : Record → ℕ → Record
 atPlace r p =
     record { place = p; kind = r .kind; side = r .side; own = r .own; label = r .label; seen = r .seen; neighbour = r .neighbour; link = r .link; finishing = r .finishing }
 
+abbrev pub unused : TaskRecord
+unused = record { call = idle; retries = 0 }
+
+-- A record with another call; a start and an answer keep the count. (Request #101.)
+abbrev pub withCall : TaskRecord → Record → TaskRecord
+withCall r c = record { call = c; retries = r .retries }
+
+-- The record of task t, and its call.
+abbrev pub taskAt : Queue → ℕ → TaskRecord
+taskAt q t = getD (q .records) t unused
+
 abbrev pub recordAt : Queue → ℕ → Record
-recordAt q t = getD (q .records) t idle
+recordAt q t = taskAt q t .call
 
 -- Numbers from k up that end with 0, n of them in all: where each slot from 1 leads to the next one, and the last to none.
 abbrev pub climb : ℕ → ℕ → List ℕ

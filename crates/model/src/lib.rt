@@ -7,7 +7,6 @@ pub struct Control {
     pub tasks: u64,
     pub slots: u64,
     pub anchor: u64,
-    pub retries: u64,
     /// 0 a named queue, where a push names its slot; 1 a pooled one, where it draws it from the stack.
     pub pooled: u64,
     /// The stack's head word; 0 in a named queue.
@@ -35,6 +34,14 @@ pub struct Record {
     pub link: u64,
     /// 1 once a push has taken effect and only helps the queue to be STABLE.
     pub finishing: u64,
+}
+
+/// A task's record: its call, and what outlives it.
+#[repr(C)]
+pub struct TaskRecord {
+    pub call: Record,
+    /// The task's failed changes since the opening.
+    pub retries: u64,
 }
 
 /// A label in its slot.
@@ -76,7 +83,6 @@ pub struct Report {
     pub waiting: u64,
     /// The slots marked, those of half-done calls included.
     pub taken: u64,
-    pub retries: u64,
 }
 
 pub enum Reported {

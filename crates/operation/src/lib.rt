@@ -8,6 +8,7 @@ use model::Record;
 use model::Reply;
 use table::Acted;
 ghost use mathlib.Core.Path.{_≡_};
+ghost use Prim.Native.Nat.{ℕ};
 ghost use lib.Dec.{leb, ltb};
 ghost use Rattle.model.specs.declared.Outcome.the-variants.{Moved};
 ghost use Rattle.model.specs.Tables.{tablesOf, idle};
@@ -45,11 +46,11 @@ pub fn act(
     next: &mut [u64],
 ) -> Acted
     ensures { λ m.
-        ⌜ withTables m (now (lefts .exit)) (now (rights .exit)) (now (labels .exit)) (now (marks .exit)) (now (next .exit))
+        ⌜ ((retries : ℕ) → withTables m (now (lefts .exit)) (now (rights .exit)) (now (labels .exit)) (now (marks .exit)) (now (next .exit)) retries
         ≡ calls.actOn
         (tablesOf c (now (lefts .entry)) (now (rights .entry)) (now (labels .entry)) (now (marks .entry)) (now (next .entry)))
         (record { enough = leb (c .tasks) records; known = ltb task (c .tasks) })
-        r op ⌝ }
+        (record { call = r; retries = retries }) op) ⌝ }
 {
     match op {
         Op::Push { side, slot, label } => start::push_start(

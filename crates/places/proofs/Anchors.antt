@@ -18,7 +18,7 @@ use Rattle.model.proofs.laws.Onward.{reads-on}
 use Rattle.table.specs.declared.Acted as made
 use Rattle.table.specs.Lent.{withTables}
 use Rattle.places.specs.Arm.{stepAt, Steps, StepsOnAnchor}
-use Rattle.places.specs.Ending.{refused, settled, noEntry, bumped, withAnchor, anchorRead, mayChange, remembered, compared, changed}
+use Rattle.places.specs.Ending.{refused, settled, noEntry, failing, withFailed, withAnchor, anchorRead, mayChange, remembered, compared, changed}
 use Rattle.places.proofs.Routes.{split, kinds, readings, Quiet, quietly}
 
 -- The step at place n tries to change Anchor: the change fails, is denied or is made.
@@ -57,8 +57,8 @@ module _ (c : Control) (r : Record) where
 
   pub step1 : Steps 1 c r (anchorRead c r)
   unfolding stepAt stepSound move at1 finish anchorRead settled goes counted
-  step1 ls rs ns ms xs =
-      ap (λ m. withTables m ls rs ns ms xs)
+  step1 ls rs ns ms xs k =
+      ap (λ m. withTables m ls rs ns ms xs k)
       (quietly c seeing (route 1 (r .kind) outcome) (entryOf (tablesOf c ls rs ns ms xs) (atPlace r 1)) read-quiet)
 
   -- A place that needs no slot row and meets no link, head or next slot.
@@ -79,11 +79,11 @@ module _ (c : Control) (r : Record) where
         → ((w : ℕ) → move c (atPlace r n) w ≡ compares (c .anchor) (r .seen) (atPlace r n))
         → Steps n c r (compared c r (leads 0) (leads 1))
     unfolding stepAt stepSound finish compared settled goes counted
-    comparing first second moves ls rs ns ms xs =
+    comparing first second moves ls rs ns ms xs k =
         let e = entryOf (tablesOf c ls rs ns ms xs) (atPlace r n) in
         split (eqb (c .anchor) (r .seen))
-        (λ h. rw (moves, p .needs, p .meets, p .heads, p .nexts, h) (ap (λ m. withTables m ls rs ns ms xs) (quietly c r (leads 0) e first)))
-        (λ h. rw (moves, p .needs, p .meets, p .heads, p .nexts, h) (ap (λ m. withTables m ls rs ns ms xs) (quietly c r (leads 1) e second)))
+        (λ h. rw (moves, p .needs, p .meets, p .heads, p .nexts, h) (ap (λ m. withTables m ls rs ns ms xs k) (quietly c r (leads 0) e first)))
+        (λ h. rw (moves, p .needs, p .meets, p .heads, p .nexts, h) (ap (λ m. withTables m ls rs ns ms xs k) (quietly c r (leads 1) e second)))
 
     -- A change of Anchor, places 2, 4 and 10: done, with the record t; failed, with the record u and the outcome o.
     abbrev trying : ℕ → Record → Record → ℕ → Move
@@ -96,19 +96,19 @@ module _ (c : Control) (r : Record) where
         → Quiet (leads 0)
         → Quiet (leads o)
         → ((w : ℕ) → move c (atPlace r n) w ≡ trying new t u o)
-        → Tries n c r new t (leads 0) (settled (bumped c) u (leads o) noEntry)
+        → Tries n c r new t (leads 0) (failing (settled c u (leads o) noEntry))
     unfolding stepAt stepSound finish changed settled goes counted
     changing new t u o first second moves = record {
-      steps = λ ls rs ns ms xs.
+      steps = λ ls rs ns ms xs k.
           let e = entryOf (tablesOf c ls rs ns ms xs) (atPlace r n) in
           split (eqb (c .anchor) (r .seen))
           (λ h. split (anchorSound (c .slots) (anchorOf new))
           (λ s. split (ltb (anchorOf (r .seen) .tag) 4294967295)
           (λ l. rw (moves, p .needs, p .meets, p .heads, p .nexts, h, s, l)
-          (ap (λ m. withTables m ls rs ns ms xs) (quietly (withAnchor c new) t (leads 0) e first)))
+          (ap (λ m. withTables m ls rs ns ms xs k) (quietly (withAnchor c new) t (leads 0) e first)))
           (λ l. rw (moves, p .needs, p .meets, p .heads, p .nexts, h, s, l)))
           (λ s. rw (moves, p .needs, p .meets, p .heads, p .nexts, h, s)))
-          (λ h. rw (moves, p .needs, p .meets, p .heads, p .nexts, h) (ap (λ m. withTables m ls rs ns ms xs) (quietly (bumped c) u (leads o) e second)));
+          (λ h. rw (moves, p .needs, p .meets, p .heads, p .nexts, h) (ap (λ m. withTables (failing m) ls rs ns ms xs k) (quietly c u (leads o) e second)));
     }
 
     -- Where a failed change reads on: places 2 and 4.
@@ -117,7 +117,7 @@ module _ (c : Control) (r : Record) where
         → Quiet (leads 0)
         → leads (outcome + 1) ≡ route 1 (r .kind) outcome
         → ((w : ℕ) → move c (atPlace r n) w ≡ trying new t seeing (outcome + 1))
-        → Tries n c r new t (leads 0) (anchorRead (bumped c) r)
+        → Tries n c r new t (leads 0) (failing (anchorRead c r))
     unfolding anchorRead
     replacing new t first on moves =
         rw on at (changing new t seeing (outcome + 1) first (rw on read-quiet) moves)
@@ -126,7 +126,7 @@ module _ (c : Control) (r : Record) where
       (end new : ℕ)
       → end ≡ cond (eqb (r .kind) 0) (r .own) 0
       → new ≡ packAnchor (facing (r .side) (r .seen / 2 ^ 32 + 1) (anchorOf (r .seen) .status) end end)
-      → Tries 2 c r new r (route 2 (r .kind) 0) (anchorRead (bumped c) r)
+      → Tries 2 c r new r (route 2 (r .kind) 0) (failing (anchorRead c r))
   unfolding move at2 sideOf route pushRoute popRoute
   step2 end new e n =
       replacing 2 (record { needs = refl; meets = refl; heads = refl; nexts = refl }) new r
@@ -139,13 +139,13 @@ module _ (c : Control) (r : Record) where
   abbrev newPop : ℕ
   newPop = packAnchor (facing (r .side) (r .seen / 2 ^ 32 + 1) (anchorOf (r .seen) .status) (r .neighbour) (far (r .side) (anchorOf (r .seen))))
 
-  push4 : eqb (r .kind) 0 ≡ true → Tries 4 c r newPush (withSeen r newPush 1) (route 4 (r .kind) 0) (anchorRead (bumped c) r)
+  push4 : eqb (r .kind) 0 ≡ true → Tries 4 c r newPush (withSeen r newPush 1) (route 4 (r .kind) 0) (failing (anchorRead c r))
   unfolding move at4 new4 sideOf route pushRoute popRoute
   push4 k =
       replacing 4 (record { needs = refl; meets = refl; heads = refl; nexts = refl }) newPush (withSeen r newPush 1)
       (kinds Quiet 4 (r .kind) 0 refl refl) (reads-on (r .kind) outcome .1) (λ w. rw k)
 
-  pop4 : eqb (r .kind) 0 ≡ false → Tries 4 c r newPop r (route 4 (r .kind) 0) (anchorRead (bumped c) r)
+  pop4 : eqb (r .kind) 0 ≡ false → Tries 4 c r newPop r (route 4 (r .kind) 0) (failing (anchorRead c r))
   unfolding move at4 new4 sideOf route pushRoute popRoute
   pop4 k =
       replacing 4 (record { needs = refl; meets = refl; heads = refl; nexts = refl }) newPop r
@@ -156,7 +156,7 @@ module _ (c : Control) (r : Record) where
       → status ≡ cond (eqb (r .kind) 0) (pushing (r .side)) (anchorOf (r .seen) .status)
       → end ≡ cond (eqb (r .kind) 0) (r .own) (r .neighbour)
       → new ≡ packAnchor (facing (r .side) (r .seen / 2 ^ 32 + 1) status end (far (r .side) (anchorOf (r .seen))))
-      → Tries 4 c r new (remembered r new) (route 4 (r .kind) 0) (anchorRead (bumped c) r)
+      → Tries 4 c r new (remembered r new) (route 4 (r .kind) 0) (failing (anchorRead c r))
   unfolding remembered
   step4 status end new s e n =
       split (eqb (r .kind) 0)
@@ -164,17 +164,18 @@ module _ (c : Control) (r : Record) where
       (λ k. rw (n, s, e, k) (pop4 k))
 
   -- A failed change doesn't depend on the word it would have made.
-  failed2 : (c .anchor ≡ r .seen → ⊥) → Steps 2 c r (anchorRead (bumped c) r)
+  failed2 : (c .anchor ≡ r .seen → ⊥) → Steps 2 c r (failing (anchorRead c r))
   failed2 h = fails (step2 _ _ refl refl) h
 
-  failed4 : (c .anchor ≡ r .seen → ⊥) → Steps 4 c r (anchorRead (bumped c) r)
+  failed4 : (c .anchor ≡ r .seen → ⊥) → Steps 4 c r (failing (anchorRead c r))
   failed4 h = split (eqb (r .kind) 0) (λ k. fails (push4 k) h) (λ k. fails (pop4 k) h)
 
   -- By the record's place: 1, or a failed change.
-  pub reads-first : r .place ≡ 1 → StepsOnAnchor c r (anchorRead c r)
+  pub reads-first : r .place ≡ 1 → StepsOnAnchor c r (withFailed (anchorRead c r) false)
+  unfolding anchorRead settled
   reads-first at = (λ _. step1, λ two. absurd (omega arith), λ four. absurd (omega arith))
 
-  pub reads-failed : (r .place ≡ 1 → ⊥) → (c .anchor ≡ r .seen → ⊥) → StepsOnAnchor c r (anchorRead (bumped c) r)
+  pub reads-failed : (r .place ≡ 1 → ⊥) → (c .anchor ≡ r .seen → ⊥) → StepsOnAnchor c r (failing (anchorRead c r))
   reads-failed later moved = (λ one. absurd (later one), λ _. failed2 moved, λ _. failed4 moved)
 
   pub step6 : Steps 6 c r (compared c r (route 6 (r .kind) 0) (route 6 (r .kind) 1))
@@ -192,7 +193,7 @@ module _ (c : Control) (r : Record) where
   abbrev stable : ℕ
   stable = packAnchor (record { tag = r .seen / 2 ^ 32 + 1; status = 0; left = anchorOf (r .seen) .left; right = anchorOf (r .seen) .right })
 
-  pub step10 : (new : ℕ) → new ≡ stable → Tries 10 c r new r (route 10 (r .kind) 0) (settled (bumped c) r (route 10 (r .kind) 1) noEntry)
+  pub step10 : (new : ℕ) → new ≡ stable → Tries 10 c r new r (route 10 (r .kind) 0) (failing (settled c r (route 10 (r .kind) 1) noEntry))
   unfolding move at10 route pushRoute popRoute
   step10 new e =
       changing 10 (record { needs = refl; meets = refl; heads = refl; nexts = refl }) new r r 1

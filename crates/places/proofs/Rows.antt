@@ -18,7 +18,7 @@ use Rattle.model.specs.Calls.{Acted, finish}
 use Rattle.table.specs.declared.Acted as made
 use Rattle.table.specs.Lent.{withTables}
 use Rattle.places.specs.Arm.{stepAt}
-use Rattle.places.specs.Ending.{refused, settled, noEntry, bumped, rowSound, neighbourRead, linkRead}
+use Rattle.places.specs.Ending.{refused, settled, noEntry, failing, rowSound, neighbourRead, linkRead}
 use Rattle.places.proofs.Routes.{split, kinds, Quiet, entry, quietly}
 
 -- The side that a status names, and the opposite of a side.
@@ -41,16 +41,16 @@ module _ (c : Control) (r : Record) where
   abbrev pub named : Bool
   named = eqb (anchorOf (r .seen) .status) 1
 
-  module _ (ls rs ns ms xs : List ℕ) where
+  module _ (ls rs ns ms xs : List ℕ) (k : ℕ) where
     abbrev lent : made.Acted → Acted
-    lent m = withTables m ls rs ns ms xs
+    lent m = withTables m ls rs ns ms xs k
 
     abbrev q : Tables
     q = tablesOf c ls rs ns ms xs
 
     -- Slot x's link word stored at a side.
     abbrev pub linked : made.Acted → Bool → ℕ → ℕ → Acted
-    linked m right x w = withTables m (cond right ls (set ls x w)) (cond right (set rs x w) rs) ns ms xs
+    linked m right x w = withTables m (cond right ls (set ls x w)) (cond right (set rs x w) rs) ns ms xs k
 
     pub push3 :
         eqb (r .kind) 0 ≡ true
@@ -58,7 +58,7 @@ module _ (c : Control) (r : Record) where
         cond (rowSound (c .slots) (r .own) w)
         (linked (settled c r (route 3 (r .kind) 0) noEntry) (not own) (r .own) (packLink (record { tag = linkOf w .tag; slot = end own })))
         (lent (refused c r))
-        ≡ stepAt 3 q r)
+        ≡ stepAt 3 q r k)
     unfolding stepAt stepSound move row sideOf linkSide at3 finish rowSound settled goes counted route pushRoute popRoute
     push3 k =
         let w = getD (cond (not own) rs ls) (r .own) 0 in
@@ -70,7 +70,7 @@ module _ (c : Control) (r : Record) where
 
     pub pop3 :
         eqb (r .kind) 0 ≡ false
-        → lent (neighbourRead c r (end own) (getD (cond (not own) rs ls) (end own) 0) (route 3 (r .kind) 0)) ≡ stepAt 3 q r
+        → lent (neighbourRead c r (end own) (getD (cond (not own) rs ls) (end own) 0) (route 3 (r .kind) 0)) ≡ stepAt 3 q r k
     unfolding stepAt stepSound move row sideOf linkSide at3 finish neighbourRead rowSound settled goes counted route pushRoute popRoute
     pop3 k =
         let w = getD (cond (not own) rs ls) (end own) 0 in
@@ -80,7 +80,7 @@ module _ (c : Control) (r : Record) where
         (λ l. simp (k, turn, f, l)))
         (λ f. simp (k, turn, f))
 
-    pub step5 : lent (neighbourRead c r (end named) (getD (cond (not named) rs ls) (end named) 0) (route 5 (r .kind) 0)) ≡ stepAt 5 q r
+    pub step5 : lent (neighbourRead c r (end named) (getD (cond (not named) rs ls) (end named) 0) (route 5 (r .kind) 0)) ≡ stepAt 5 q r k
     unfolding stepAt stepSound move row sideOf linkSide at5 finish neighbourRead rowSound settled goes counted route pushRoute popRoute
     step5 =
         let w = getD (cond (not named) rs ls) (end named) 0 in
@@ -90,7 +90,7 @@ module _ (c : Control) (r : Record) where
         (λ l. simp (mirror, turn, f, l)))
         (λ f. simp (mirror, turn, f))
 
-    pub step7 : lent (linkRead c r (end named) (getD (cond named rs ls) (r .neighbour) 0) (route 7 (r .kind) 0) (route 7 (r .kind) 1)) ≡ stepAt 7 q r
+    pub step7 : lent (linkRead c r (end named) (getD (cond named rs ls) (r .neighbour) 0) (route 7 (r .kind) 0) (route 7 (r .kind) 1)) ≡ stepAt 7 q r k
     unfolding stepAt stepSound move row sideOf linkSide at7 finish linkRead rowSound settled goes counted route pushRoute popRoute
     step7 =
         let w = getD (cond named rs ls) (r .neighbour) 0 in
@@ -108,9 +108,9 @@ module _ (c : Control) (r : Record) where
         (cond (ltb (linkOf (r .link) .tag) 4294967295)
         (linked (settled c r (route 9 (r .kind) 0) noEntry) named (r .neighbour) (packLink (record { tag = r .link / 2 ^ 32 + 1; slot = end named })))
         (lent (refused c r)))
-        (lent (settled (bumped c) r (route 9 (r .kind) 1) noEntry)))
+        (lent (failing (settled c r (route 9 (r .kind) 1) noEntry))))
         (lent (refused c r))
-        ≡ stepAt 9 q r
+        ≡ stepAt 9 q r k
     unfolding stepAt stepSound move row sideOf linkSide at9 finish settled goes counted route pushRoute popRoute
     step9 =
         split (from1 (c .slots) (r .neighbour))
@@ -118,30 +118,30 @@ module _ (c : Control) (r : Record) where
         (λ s. split (ltb (linkOf (r .link) .tag) 4294967295)
         (λ t. simp (mirror, f, s, t) (ap (λ m. linked m named (r .neighbour) (packLink (record { tag = r .link / 2 ^ 32 + 1; slot = end named }))) (quietly c r (route 9 (r .kind) 0) (entry (r .neighbour) ns) (kinds Quiet 9 (r .kind) 0 refl refl))))
         (λ t. simp (mirror, f, s, t)))
-        (λ s. simp (mirror, f, s) (ap lent (quietly (bumped c) r (route 9 (r .kind) 1) (entry (r .neighbour) ns) (kinds Quiet 9 (r .kind) 1 refl refl)))))
+        (λ s. simp (mirror, f, s) (ap (λ m. lent (failing m)) (quietly c r (route 9 (r .kind) 1) (entry (r .neighbour) ns) (kinds Quiet 9 (r .kind) 1 refl refl)))))
         (λ f. simp (mirror, f))
 
     -- The label of the end taken is the answer's, or in a pooled queue the record's.
     pub named11 : isPooled c ≡ false →
         cond (from1 (c .slots) (end own))
-        (withTables (settled c r (route 11 (r .kind) 0) (entry (end own) ns)) ls rs ns (withMark ms (end own) 0) xs)
+        (withTables (settled c r (route 11 (r .kind) 0) (entry (end own) ns)) ls rs ns (withMark ms (end own) 0) xs k)
         (lent (refused c r))
-        ≡ stepAt 11 q r
+        ≡ stepAt 11 q r k
     unfolding stepAt stepSound move row sideOf at11 finish settled goes counted
     named11 p = split (from1 (c .slots) (end own)) (λ f. simp (p, f)) (λ f. simp (p, f))
 
     pub pooled11 : isPooled c ≡ true →
         cond (from1 (c .slots) (end own))
-        (withTables (settled c (withOwn r (end own) (getD ns (end own) 0)) (route 11 (r .kind) 1) noEntry) ls rs ns (withMark ms (end own) 0) xs)
+        (withTables (settled c (withOwn r (end own) (getD ns (end own) 0)) (route 11 (r .kind) 1) noEntry) ls rs ns (withMark ms (end own) 0) xs k)
         (lent (refused c r))
-        ≡ stepAt 11 q r
+        ≡ stepAt 11 q r k
     unfolding stepAt stepSound move row sideOf at11 finish settled goes counted route pushRoute popRoute
     pooled11 p = split (from1 (c .slots) (end own))
         (λ f. simp (p, f)
-        (ap (λ m. withTables m ls rs ns (withMark ms (end own) 0) xs)
+        (ap (λ m. withTables m ls rs ns (withMark ms (end own) 0) xs k)
         (quietly c (withOwn r (end own) (getD ns (end own) 0)) (route 11 (r .kind) 1) (entry (end own) ns) (kinds Quiet 11 (r .kind) 1 refl refl))))
         (λ f. simp (p, f))
 
-    pub refused11 : from1 (c .slots) (end own) ≡ false → lent (refused c r) ≡ stepAt 11 q r
-    unfolding stepAt stepSound move row sideOf at11 finish
+    pub refused11 : from1 (c .slots) (end own) ≡ false → lent (refused c r) ≡ stepAt 11 q r k
+    unfolding stepAt stepSound move row sideOf at11 finish counted
     refused11 f = split (isPooled c) (λ p. simp (p, f)) (λ p. simp (p, f))

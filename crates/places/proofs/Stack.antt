@@ -17,12 +17,12 @@ use Rattle.model.specs.Calls.{Acted, entryOf, finish}
 use Rattle.table.specs.declared.Acted as made
 use Rattle.table.specs.Lent.{withTables}
 use Rattle.places.specs.Arm.{stepAt}
-use Rattle.places.specs.Ending.{refused, settled, noEntry, bumped, withHead, headRead}
+use Rattle.places.specs.Ending.{refused, settled, noEntry, failing, withHead, headRead}
 use Rattle.places.proofs.Routes.{split, kinds, Quiet, quietly}
 
-module _ (c : Control) (r : Record) (ls rs ns ms xs : List ℕ) where
+module _ (c : Control) (r : Record) (ls rs ns ms xs : List ℕ) (k : ℕ) where
   abbrev lent : made.Acted → Acted
-  lent m = withTables m ls rs ns ms xs
+  lent m = withTables m ls rs ns ms xs k
 
   abbrev q : Tables
   q = tablesOf c ls rs ns ms xs
@@ -34,7 +34,7 @@ module _ (c : Control) (r : Record) (ls rs ns ms xs : List ℕ) where
   abbrev pub raised : ℕ → ℕ
   raised x = packLink (record { tag = r .link / 2 ^ 32 + 1; slot = x })
 
-  pub step12 : lent (headRead c r (route 12 (r .kind) 0) (route 12 (r .kind) 1)) ≡ stepAt 12 q r
+  pub step12 : lent (headRead c r (route 12 (r .kind) 0) (route 12 (r .kind) 1)) ≡ stepAt 12 q r k
   unfolding stepAt stepSound move at12 finish headRead settled goes counted route pushRoute popRoute
   step12 =
       let t = withLink r (c .head) in
@@ -48,7 +48,7 @@ module _ (c : Control) (r : Record) (ls rs ns ms xs : List ℕ) where
   pub step13 :
       (let n = getD xs top 0 in
       cond (leb n (c .slots)) (lent (settled c (withNeighbour r n) (route 13 (r .kind) 0) noEntry)) (lent (refused c r))
-      ≡ stepAt 13 q r)
+      ≡ stepAt 13 q r k)
   unfolding stepAt stepSound move row at13 finish settled goes counted route pushRoute popRoute
   step13 =
       let n = getD xs top 0 in
@@ -58,15 +58,15 @@ module _ (c : Control) (r : Record) (ls rs ns ms xs : List ℕ) where
 
   -- The tables once slot `top` is drawn.
   abbrev pub drawn : made.Acted → Acted
-  drawn m = withTables m ls rs (set ns top (r .label)) (withMark ms top 1) xs
+  drawn m = withTables m ls rs (set ns top (r .label)) (withMark ms top 1) xs k
 
   pub step14 :
       cond (eqb (c .head) (r .link))
       (cond (ltb (linkOf (r .link) .tag) 4294967295)
       (drawn (settled (withHead c (raised (r .neighbour))) (withOwn r top (r .label)) (route 14 (r .kind) 0) noEntry))
       (lent (refused c r)))
-      (lent (settled (bumped c) r (route 14 (r .kind) 1) noEntry))
-      ≡ stepAt 14 q r
+      (lent (failing (settled c r (route 14 (r .kind) 1) noEntry)))
+      ≡ stepAt 14 q r k
   unfolding stepAt stepSound move row at14 finish settled goes counted route pushRoute popRoute
   step14 =
       let e = entryOf q (atPlace r 14) in
@@ -75,9 +75,9 @@ module _ (c : Control) (r : Record) (ls rs ns ms xs : List ℕ) where
       (λ t. simp (s, t)
       (ap drawn (quietly (withHead c (raised (r .neighbour))) (withOwn r top (r .label)) (route 14 (r .kind) 0) e (kinds Quiet 14 (r .kind) 0 refl refl))))
       (λ t. simp (s, t)))
-      (λ s. simp s (ap lent (quietly (bumped c) r (route 14 (r .kind) 1) e (kinds Quiet 14 (r .kind) 1 refl refl))))
+      (λ s. simp s (ap (λ m. lent (failing m)) (quietly c r (route 14 (r .kind) 1) e (kinds Quiet 14 (r .kind) 1 refl refl))))
 
-  pub step15 : lent (headRead c r (route 15 (r .kind) 0) (route 15 (r .kind) 0)) ≡ stepAt 15 q r
+  pub step15 : lent (headRead c r (route 15 (r .kind) 0) (route 15 (r .kind) 0)) ≡ stepAt 15 q r k
   unfolding stepAt stepSound move at15 finish headRead settled goes counted route pushRoute popRoute
   step15 =
       let t = withLink r (c .head) in
@@ -87,10 +87,10 @@ module _ (c : Control) (r : Record) (ls rs ns ms xs : List ℕ) where
       (λ l. split (eqb (linkOf (c .head) .slot) 0) (λ z. simp (l, z) same) (λ z. simp (l, z) same))
       (λ l. simp l)
 
-  pub step16 : withTables (settled c r (route 16 (r .kind) 0) noEntry) ls rs ns ms (set xs (r .own) top) ≡ stepAt 16 q r
+  pub step16 : withTables (settled c r (route 16 (r .kind) 0) noEntry) ls rs ns ms (set xs (r .own) top) k ≡ stepAt 16 q r k
   unfolding stepAt stepSound move row at16 finish settled goes counted route pushRoute popRoute
   step16 =
-      ap (λ m. withTables m ls rs ns ms (set xs (r .own) top))
+      ap (λ m. withTables m ls rs ns ms (set xs (r .own) top) k)
       (quietly c r (route 16 (r .kind) 0) (entryOf q (atPlace r 16)) (kinds Quiet 16 (r .kind) 0 refl refl))
 
   pub step17 :
@@ -98,10 +98,10 @@ module _ (c : Control) (r : Record) (ls rs ns ms xs : List ℕ) where
       (cond (ltb (linkOf (r .link) .tag) 4294967295)
       (lent (settled (withHead c (raised (r .own))) r (route 17 (r .kind) 0) (record { slot = r .own; label = r .label })))
       (lent (refused c r)))
-      (lent (settled (bumped c) r (route 17 (r .kind) 1) noEntry))
-      ≡ stepAt 17 q r
+      (lent (failing (settled c r (route 17 (r .kind) 1) noEntry)))
+      ≡ stepAt 17 q r k
   unfolding stepAt stepSound move row at17 finish settled goes counted route pushRoute popRoute
   step17 =
       split (eqb (c .head) (r .link))
       (λ s. split (ltb (linkOf (r .link) .tag) 4294967295) (λ t. simp (s, t)) (λ t. simp (s, t)))
-      (λ s. simp s (ap lent (quietly (bumped c) r (route 17 (r .kind) 1) (entryOf q (atPlace r 17)) (kinds Quiet 17 (r .kind) 1 refl refl))))
+      (λ s. simp s (ap (λ m. lent (failing m)) (quietly c r (route 17 (r .kind) 1) (entryOf q (atPlace r 17)) (kinds Quiet 17 (r .kind) 1 refl refl))))

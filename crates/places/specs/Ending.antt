@@ -1,5 +1,5 @@
 -- How a step ends, by value: refused, gone on, Anchor compared or changed, a link or the head read.
-use mathlib.Core.Bool.{Bool, true, _&&_, cond}
+use mathlib.Core.Bool.{Bool, true, false, _&&_, cond}
 use Prim.Native.Nat.{ℕ}
 use lib.Dec.{eqb, ltb}
 use Rattle.word.specs.Anchor.{anchorOf}
@@ -10,35 +10,32 @@ use Rattle.model.specs.declared.Entry.{Entry}
 use Rattle.model.specs.declared.Outcome.the-variants.{Refused, Moved}
 use Rattle.model.specs.Sound.{from1, isPop, anchorSound, linkSound}
 use Rattle.model.specs.Places.{withSeen, withNeighbour, withLink, reading}
-use Rattle.model.specs.Route.{route, onward, goes, answer, counted}
+use Rattle.model.specs.Route.{route, onward, goes, answer}
 use Rattle.table.specs.declared.Acted as made
 
 abbrev pub refused : Control → Record → made.Acted
-refused c r = record { control = c; task = r; outcome = Refused 34 }
+refused c r = record { control = c; task = r; outcome = Refused 34; failed = false }
 
 -- The record gone on by the route's n, and the answer, with e the entry popped.
 unfoldable pub settled : Control → Record → ℕ → Entry → made.Acted
 settled c t n e =
     let m = onward n (t .finishing) in
-    record { control = c; task = goes t m; outcome = Moved (answer m e) }
+    record { control = c; task = goes t m; outcome = Moved (answer m e); failed = false }
 
-abbrev pub bumped : Control → Control
-bumped c = record {
-  tasks = c .tasks;
-  slots = c .slots;
-  anchor = c .anchor;
-  retries = counted (c .retries) true;
-  pooled = c .pooled;
-  head = c .head;
-}
+-- The same with a change that failed or none.
+abbrev pub withFailed : made.Acted → Bool → made.Acted
+withFailed m b = record { control = m .control; task = m .task; outcome = m .outcome; failed = b }
+
+abbrev pub failing : made.Acted → made.Acted
+failing m = withFailed m true
 
 abbrev pub withAnchor : Control → ℕ → Control
 withAnchor c w =
-    record { tasks = c .tasks; slots = c .slots; anchor = w; retries = c .retries; pooled = c .pooled; head = c .head }
+    record { tasks = c .tasks; slots = c .slots; anchor = w; pooled = c .pooled; head = c .head }
 
 abbrev pub withHead : Control → ℕ → Control
 withHead c w =
-    record { tasks = c .tasks; slots = c .slots; anchor = c .anchor; retries = c .retries; pooled = c .pooled; head = w }
+    record { tasks = c .tasks; slots = c .slots; anchor = c .anchor; pooled = c .pooled; head = w }
 
 abbrev pub noEntry : Entry
 noEntry = record { slot = 0; label = 0 }

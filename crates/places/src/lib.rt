@@ -24,14 +24,16 @@ ghost use Rattle.places.specs.Arm.{Steps, StepsOnAnchor, StepsOnLinks, S
 pub fn on_anchor(c: Control, r: Record) -> Acted
     ensures { λ m. ⌜ StepsOnAnchor c r m ⌝ }
 {
-    let mut d = c;
+    let mut failed = false;
     if r.place != 1 {
         if c.anchor == r.seen {
             return if r.place == 2 { at2(c, r) } else { at4(c, r) };
         }
-        d = step::bumped(c);
+        failed = true;
     }
-    step::reads_anchor(d, r)
+    let mut m = step::reads_anchor(c, r);
+    m.failed = failed;
+    m
 }
 
 /// Place 2, Anchor as read: change it to own, own, s; a pop to null, null, s. (Figure 3, line 2; figure 5, line 12.)
@@ -148,7 +150,8 @@ pub fn at9(c: Control, r: Record, lefts: &mut [u64], rights: &mut [u64]) -> Acte
         return step::refused(c, r);
     }
     if w != r.link {
-        return step::settles(step::bumped(c), r, next::next(9, r.kind, 1), step::NO_ENTRY);
+        let m = step::settles(c, r, next::next(9, r.kind, 1), step::NO_ENTRY);
+        return step::fails(m);
     }
     if link.tag < Link::TAG_MASK {
         let new = step::link_word(step::raised(r.link), side::near(right, a));
@@ -171,12 +174,8 @@ pub fn at10(c: Control, r: Record) -> Acted
     };
     let new = stable.pack();
     if c.anchor != r.seen {
-        return step::settles(
-            step::bumped(c),
-            r,
-            next::next(10, r.kind, 1),
-            step::NO_ENTRY,
-        );
+        let m = step::settles(c, r, next::next(10, r.kind, 1), step::NO_ENTRY);
+        return step::fails(m);
     }
     if !step::may_change(c.slots, r.seen, new) {
         return step::refused(c, r);

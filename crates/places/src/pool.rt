@@ -40,12 +40,8 @@ pub fn at14(c: Control, r: Record, labels: &mut [u32], marks: &mut [u64]) -> Act
 {
     let head = Link::unpack(r.link);
     if c.head != r.link {
-        return step::settles(
-            step::bumped(c),
-            r,
-            next::next(14, r.kind, 1),
-            step::NO_ENTRY,
-        );
+        let m = step::settles(c, r, next::next(14, r.kind, 1), step::NO_ENTRY);
+        return step::fails(m);
     }
     if head.tag < Link::TAG_MASK {
         let d = step::with_head(c, step::link_word(step::raised(r.link), r.neighbour));
@@ -81,12 +77,8 @@ pub fn at17(c: Control, r: Record) -> Acted
 {
     let head = Link::unpack(r.link);
     if c.head != r.link {
-        return step::settles(
-            step::bumped(c),
-            r,
-            next::next(17, r.kind, 1),
-            step::NO_ENTRY,
-        );
+        let m = step::settles(c, r, next::next(17, r.kind, 1), step::NO_ENTRY);
+        return step::fails(m);
     }
     if head.tag < Link::TAG_MASK {
         let d = step::with_head(c, step::link_word(step::raised(r.link), r.own));

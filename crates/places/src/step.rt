@@ -9,11 +9,12 @@ use table::Acted;
 use word::Anchor;
 use word::Link;
 ghost use mathlib.Core.Path.{_≡_};
+ghost use mathlib.Core.Bool.{false};
 ghost use Prim.Native.Nat.{_+_, _/_, _^_};
 ghost use Rattle.word.specs.Link.{packLink};
 ghost use Rattle.model.specs.Tables.{idle};
 ghost use Rattle.model.specs.Route.{goes};
-ghost use Rattle.places.specs.Ending.{refused, settled, anchorRead, bumped, mayChange, withAnchor, withHead, remembered};
+ghost use Rattle.places.specs.Ending.{refused, settled, anchorRead, failing, mayChange, withAnchor, withHead, remembered};
 ghost use Rattle.places.specs.Ending.{compared, rowSound, neighbourRead, linkRead, headRead};
 
 /// For a step that pops nothing.
@@ -27,12 +28,13 @@ pub fn refused(c: Control, r: Record) -> Acted
         control: c,
         task: r,
         outcome: Outcome::Refused(34),
+        failed: false,
     }
 }
 
 /// The call goes on at place n.
 fn goes(c: Control, t: Record, n: u8) -> Acted
-    ensures { λ m. ⌜ m ≡ record { control = c; task = goes t n; outcome = Outcome.Moved (Answer.Running n) } ⌝ }
+    ensures { λ m. ⌜ m ≡ record { control = c; task = goes t n; outcome = Outcome.Moved (Answer.Running n); failed = false } ⌝ }
 {
     let place = n as u64;
     if n > 17 {
@@ -44,12 +46,13 @@ fn goes(c: Control, t: Record, n: u8) -> Acted
         control: c,
         task: gone,
         outcome: Outcome::Moved(Answer::Running(place)),
+        failed: false,
     }
 }
 
 /// The call is answered, and its record all zero.
 fn ends(c: Control, a: Answer) -> Acted
-    ensures { λ m. ⌜ m ≡ record { control = c; task = idle; outcome = Outcome.Moved a } ⌝ }
+    ensures { λ m. ⌜ m ≡ record { control = c; task = idle; outcome = Outcome.Moved a; failed = false } ⌝ }
 {
     Acted {
         control: c,
@@ -65,6 +68,7 @@ fn ends(c: Control, a: Answer) -> Acted
             finishing: 0,
         },
         outcome: Outcome::Moved(a),
+        failed: false,
     }
 }
 
@@ -101,14 +105,12 @@ pub fn reads_anchor(c: Control, r: Record) -> Acted
     settles(c, t, next::after_reading(r.kind, a), NO_ENTRY)
 }
 
-/// One more failed change, up to the ceiling.
-pub fn bumped(c: Control) -> Control
-    ensures { λ d. ⌜ d ≡ bumped c ⌝ }
+/// A step whose change failed.
+pub fn fails(m: Acted) -> Acted
+    ensures { λ d. ⌜ d ≡ failing m ⌝ }
 {
-    let mut d = c;
-    if c.retries < 4294967295 {
-        d.retries = c.retries + 1;
-    }
+    let mut d = m;
+    d.failed = true;
     d
 }
 

@@ -4,7 +4,7 @@ use mathlib.Core.List.{List, [], _∷_, _++_}
 use Prim.Native.Nat.{ℕ, zero, suc}
 use lib.Dec.{eqb}
 use lib.ListN.{length, drop, replicate}
-use Rattle.model.specs.Tables.{idle}
+use Rattle.model.specs.Tables.{unused}
 use Rattle.runfile.specs.Field.{fieldOf}
 use Rattle.lines.specs.Line.{header}
 use Rattle.carry.specs.Run.{Run, Told, malformed, carried}
@@ -45,14 +45,14 @@ unfoldable pub fresh : Run
 fresh = record {
   queue = record {
     tables = record {
-      control = record { tasks = 0; slots = 0; anchor = 0; retries = 0; pooled = 0; head = 0 };
+      control = record { tasks = 0; slots = 0; anchor = 0; pooled = 0; head = 0 };
       lefts = replicate 1024 0;
       rights = replicate 1024 0;
       labels = replicate 1024 0;
       marks = replicate 16 0;
       next = replicate 1024 0;
     };
-    records = replicate 16 idle;
+    records = replicate 16 unused;
   };
   opened = false;
   over = false;

@@ -62,7 +62,6 @@ pub fn begin(out: &mut [u8]) -> RunState
             tasks: 0,
             slots: 0,
             anchor: 0,
-            retries: 0,
             pooled: 0,
             head: 0,
         },

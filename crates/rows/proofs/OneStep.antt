@@ -10,10 +10,11 @@ use lib.Seq.{set-getD}
 use borrow.Author.Tests.{leb-true, ltb-true}
 use Rattle.model.specs.declared.Control.{Control}
 use Rattle.model.specs.declared.Record.{Record}
+use Rattle.model.specs.declared.TaskRecord.{TaskRecord}
 use Rattle.model.specs.declared.Outcome.{Outcome}
 use Rattle.model.specs.declared.Outcome.the-variants.{Refused}
 use Rattle.model.specs.declared.Op.the-variants.{Step}
-use Rattle.model.specs.Tables.{Tables, Queue, isPooled, tablesOf, recordAt, idle}
+use Rattle.model.specs.Tables.{Tables, Queue, isPooled, tablesOf, taskAt, unused}
 use Rattle.model.specs.Ends.{endsCall}
 use Rattle.model.specs.Sound.{rowsFit}
 use Rattle.model.specs.Refusals.{Lent, among}
@@ -25,8 +26,8 @@ use Rattle.engine.specs.Parts.{admission, moveOn}
 use Rattle.engine.specs.Stored.{controlAfter, recordAfter}
 use Rattle.engine.proofs.Stored.{stored}
 use Rattle.engine.proofs.Whole.{turned-away, admitted, task-there}
-use Rattle.rows.specs.Rows.{controlOf, recordOf, recordsOf, upperOf, uppersOf, queueIn}
-use Rattle.rows.proofs.Rows.{length-records, record-read, upper-read, record-put, upper-put}
+use Rattle.rows.specs.Rows.{controlOf, callOf, recordOf, recordsOf, upperOf, uppersOf, queueIn}
+use Rattle.rows.proofs.Rows.{counting, length-records, record-read, upper-read, record-put, upper-put}
 
 module _ (ws : List ℕ) (rows : List (List ℕ)) (lefts rights labels marks next : List ℕ) (task : ℕ) where
   abbrev entry : Tables
@@ -35,8 +36,8 @@ module _ (ws : List ℕ) (rows : List (List ℕ)) (lefts rights labels marks nex
   abbrev queue : Queue
   queue = queueIn ws rows lefts rights labels marks next
 
-  abbrev r₀ : Record
-  r₀ = recordAt queue task
+  abbrev r₀ : TaskRecord
+  r₀ = taskAt queue task
 
   abbrev row₀ : List ℕ
   row₀ = getD rows task []
@@ -72,8 +73,8 @@ module _ (ws : List ℕ) (rows : List (List ℕ)) (lefts rights labels marks nex
   refused why o e h eo =
       let same : _≡_ {A = Done} (record { queue = queue; outcome = o }) (act queue task Step) =
       ap (λ (u : Outcome). record { queue = queue; outcome = u }) eo
-      ∙ ap (λ (l : List Record). record { queue = record { tables = entry; records = l }; outcome = Refused why })
-      (sym (set-getD (recordsOf rows) task idle))
+      ∙ ap (λ (l : List TaskRecord). record { queue = record { tables = entry; records = l }; outcome = Refused why })
+      (sym (set-getD (recordsOf rows) task unused))
       ∙ ap (back queue task) (turned-away entry (among queue task) r₀ why e h) in
       (same, rw eo)
 
@@ -92,19 +93,20 @@ module _ (ws : List ℕ) (rows : List (List ℕ)) (lefts rights labels marks nex
 
   -- Admitted: what it may change is stored.
   pub stepped : (ws′ row′ lefts′ rights′ labels′ marks′ next′ : List ℕ) (c : Control) (r : Record) (m : Moved)
-      → c ≡ controlOf ws → r ≡ recordOf row₀ → fault ≡ 0
-      → withTables m lefts′ rights′ labels′ marks′ next′ ≡ moveOn (tablesOf c lefts rights labels marks next) r
+      → c ≡ controlOf ws → r ≡ callOf row₀ → fault ≡ 0
+      → ((k : ℕ) → withTables m lefts′ rights′ labels′ marks′ next′ k ≡ moveOn (tablesOf c lefts rights labels marks next) (counting r k))
       → controlOf ws′ ≡ controlAfter (controlOf ws) m → recordOf row′ ≡ recordAfter (recordOf row₀) m
       → upperOf row′ ≡ cond (endsCall (m .outcome)) 0 (upperOf row₀)
       → Steps ws′ (set rows task row′) lefts′ rights′ labels′ marks′ next′ (m .outcome)
-  unfolding act actOn rowsFit lengthsFit
+  unfolding act actOn rowsFit lengthsFit recordOf
   stepped ws′ row′ lefts′ rights′ labels′ marks′ next′ c r m ec er f e e1 e2 e3 =
-      let e′ : withTables m lefts′ rights′ labels′ marks′ next′ ≡ moveOn entry r₀ =
-      e
-      ∙ ap (λ (d : Control). moveOn (tablesOf d lefts rights labels marks next) r) ec
-      ∙ ap (moveOn entry) (er ∙ record-read rows task) in
+      let k = r₀ .retries in
+      let e′ : withTables m lefts′ rights′ labels′ marks′ next′ k ≡ moveOn entry r₀ =
+      e k
+      ∙ ap (λ (d : Control). moveOn (tablesOf d lefts rights labels marks next) (counting r k)) ec
+      ∙ ap (λ (t : Record). moveOn entry (counting t k)) (er ∙ ap (λ (t : TaskRecord). t .call) (record-read rows task)) in
       let left = stored entry (among queue task) r₀ m lefts′ rights′ labels′ marks′ next′ (e′ ∙ admitted entry (among queue task) r₀ f) in
       let put : recordsOf (set rows task row′) ≡ set (recordsOf rows) task (recordAfter r₀ m) =
       record-put rows task row′
-      ∙ ap (set (recordsOf rows) task) (e2 ∙ ap (λ (t : Record). recordAfter t m) (record-read rows task)) in
+      ∙ ap (set (recordsOf rows) task) (e2 ∙ ap (λ (t : TaskRecord). recordAfter t m) (record-read rows task)) in
       (rw (e1, put) (ap (back queue task) left), upper-put rows task row′ ∙ ap (set (uppersOf rows) task) e3 ∙ kept-upper (endsCall (m .outcome)))

@@ -6,8 +6,9 @@ use native.Mathlib.Numerals.{add-one}
 use native.Mathlib.Omega.{arith}
 use lib.ListN.{length, getD, set}
 use Rattle.model.specs.declared.Record.{Record}
-use Rattle.model.specs.Tables.{idle, zeroed}
-use Rattle.rows.specs.Rows.{recordOf, recordsOf, upperOf, uppersOf}
+use Rattle.model.specs.declared.TaskRecord.{TaskRecord}
+use Rattle.model.specs.Tables.{unused, zeroed}
+use Rattle.rows.specs.Rows.{callOf, recordOf, recordsOf, upperOf, uppersOf}
 
 pub length-records : (rows : List (List ℕ)) → length (recordsOf rows) ≡ length rows
 unfolding recordsOf
@@ -19,8 +20,8 @@ unfolding uppersOf
 length-uppers [] = refl
 length-uppers (ws ∷ rows) = ap suc (length-uppers rows)
 
-pub record-read : (rows : List (List ℕ)) (i : ℕ) → recordOf (getD rows i []) ≡ getD (recordsOf rows) i idle
-unfolding recordsOf recordOf
+pub record-read : (rows : List (List ℕ)) (i : ℕ) → recordOf (getD rows i []) ≡ getD (recordsOf rows) i unused
+unfolding recordsOf recordOf callOf
 record-read [] i = refl
 record-read (ws ∷ rows) zero = refl
 record-read (ws ∷ rows) (suc i) = record-read rows i
@@ -35,7 +36,7 @@ pub record-put : (rows : List (List ℕ)) (i : ℕ) (ws : List ℕ) → recordsO
 unfolding recordsOf
 record-put [] i ws = refl
 record-put (us ∷ rows) zero ws = refl
-record-put (us ∷ rows) (suc i) ws = ap (λ (l : List Record). recordOf us ∷ l) (record-put rows i ws)
+record-put (us ∷ rows) (suc i) ws = ap (λ (l : List TaskRecord). recordOf us ∷ l) (record-put rows i ws)
 
 pub upper-put : (rows : List (List ℕ)) (i : ℕ) (ws : List ℕ) → uppersOf (set rows i ws) ≡ set (uppersOf rows) i (upperOf ws)
 unfolding uppersOf
@@ -43,7 +44,11 @@ upper-put [] i ws = refl
 upper-put (us ∷ rows) zero ws = refl
 upper-put (us ∷ rows) (suc i) ws = ap (λ (l : List ℕ). upperOf us ∷ l) (upper-put rows i ws)
 
--- A record with another label.
+-- A call and a count.
+abbrev pub counting : Record → ℕ → TaskRecord
+counting r n = record { call = r; retries = n }
+
+-- A call with another label.
 abbrev pub labelled : Record → ℕ → Record
 labelled r n = record {
   place = r .place;

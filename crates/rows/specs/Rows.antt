@@ -1,24 +1,26 @@
 -- Control and records as rows of words, in the order of their fields.
 use mathlib.Core.List.{List, [], _∷_}
 use Prim.Native.Nat.{ℕ, _/_, _%_, _^_}
-use lib.ListN.{getD}
+use lib.ListN.{getD, set}
 use Rattle.model.specs.declared.Control.{Control}
 use Rattle.model.specs.declared.Record.{Record}
-use Rattle.model.specs.Tables.{Queue, queueOf}
+use Rattle.model.specs.declared.TaskRecord.{TaskRecord}
+use Rattle.model.specs.Route.{counted}
+use Rattle.table.specs.declared.Acted.{Acted}
+use Rattle.model.specs.Tables.{Queue, queueOf, unused, withCall}
 
 unfoldable pub controlOf : List ℕ → Control
 controlOf ws = record {
   tasks = getD ws 0 0;
   slots = getD ws 1 0;
   anchor = getD ws 2 0;
-  retries = getD ws 3 0;
-  pooled = getD ws 4 0;
-  head = getD ws 5 0;
+  pooled = getD ws 3 0;
+  head = getD ws 4 0;
 }
 
--- A label has 32 bits.
-unfoldable pub recordOf : List ℕ → Record
-recordOf ws = record {
+-- A task's call; a label has 32 bits.
+unfoldable pub callOf : List ℕ → Record
+callOf ws = record {
   place = getD ws 0 0;
   kind = getD ws 1 0;
   side = getD ws 2 0;
@@ -30,12 +32,16 @@ recordOf ws = record {
   finishing = getD ws 8 0;
 }
 
+-- The whole record: the call, and the task's count of failed changes.
+unfoldable pub recordOf : List ℕ → TaskRecord
+recordOf ws = record { call = callOf ws; retries = getD ws 9 0 }
+
 -- The upper half of the label's word is in no field: with the record it makes up the whole row.
 unfoldable pub upperOf : List ℕ → ℕ
 upperOf ws = getD ws 4 0 / 2 ^ 32
 
 -- The same of each row.
-unfoldable pub recordsOf : List (List ℕ) → List Record
+unfoldable pub recordsOf : List (List ℕ) → List TaskRecord
 recordsOf [] = []
 recordsOf (ws ∷ rows) = recordOf ws ∷ recordsOf rows
 
@@ -46,3 +52,11 @@ uppersOf (ws ∷ rows) = upperOf ws ∷ uppersOf rows
 -- A queue whose control and records are lent as rows.
 abbrev pub queueIn : List ℕ → List (List ℕ) → List ℕ → List ℕ → List ℕ → List ℕ → List ℕ → Queue
 queueIn control rows = queueOf (controlOf control) (recordsOf rows)
+
+-- Records in which a task has another call and its own count.
+abbrev pub withCallAt : List TaskRecord → ℕ → Record → List TaskRecord
+withCallAt rs t r = set rs t (withCall (getD rs t unused) r)
+
+-- Records in which a task has what a start or step leaves of its own.
+abbrev pub withActedAt : List TaskRecord → ℕ → Acted → List TaskRecord
+withActedAt rs t m = set rs t (record { call = m .task; retries = counted (getD rs t unused .retries) (m .failed) })

@@ -9,17 +9,17 @@ ghost use mathlib.Core.Bool.{cond};
 ghost use Prim.Native.Nat.{_/_, _%_, _^_, _≤_};
 ghost use lib.ListN.{length, getD, set};
 ghost use Rattle.model.specs.declared.Op.the-variants.{Step};
-ghost use Rattle.model.specs.Tables.{idle, zeroed};
+ghost use Rattle.model.specs.Tables.{unused, zeroed};
 ghost use Rattle.model.specs.Calls.{Done, act};
 ghost use Rattle.model.specs.Ends.{endsCall, isMoved};
 ghost use Rattle.engine.specs.Stored.{controlMoved, recordMoved, controlAfter, recordAfter};
-ghost use Rattle.rows.specs.Rows.{controlOf, recordOf, recordsOf, upperOf, uppersOf, queueIn};
+ghost use Rattle.rows.specs.Rows.{controlOf, callOf, recordOf, recordsOf, upperOf, uppersOf, queueIn, withCallAt, withActedAt};
 
 /// The words of a control.
-pub const CONTROL_WORDS: usize = 6;
+pub const CONTROL_WORDS: usize = 5;
 
 /// The words of a record.
-pub const RECORD_WORDS: usize = 9;
+pub const RECORD_WORDS: usize = 10;
 
 // A label is below this. The upper half of its word is in no field.
 const LABELS: u64 = 4294967296;
@@ -32,9 +32,8 @@ pub fn control_of(row: [u64; CONTROL_WORDS]) -> Control
         tasks: row[0],
         slots: row[1],
         anchor: row[2],
-        retries: row[3],
-        pooled: row[4],
-        head: row[5],
+        pooled: row[3],
+        head: row[4],
     }
 }
 
@@ -42,19 +41,19 @@ pub fn control_of(row: [u64; CONTROL_WORDS]) -> Control
 pub fn control_row(c: Control) -> [u64; CONTROL_WORDS]
     ensures { λ row. ⌜ controlOf row ≡ c ⌝ }
 {
-    [c.tasks, c.slots, c.anchor, c.retries, c.pooled, c.head]
+    [c.tasks, c.slots, c.anchor, c.pooled, c.head]
 }
 
 /// The row of a control after a step.
 pub fn control_moved(row: [u64; CONTROL_WORDS], c: Control) -> [u64; CONTROL_WORDS]
     ensures { λ after. ⌜ controlOf after ≡ controlMoved (controlOf row) c ⌝ }
 {
-    [row[0], row[1], c.anchor, c.retries, row[4], c.head]
+    [row[0], row[1], c.anchor, row[3], c.head]
 }
 
-/// The record that a row is.
-pub fn record_of(row: [u64; RECORD_WORDS]) -> Record
-    ensures { λ r. ⌜ r ≡ recordOf row ⌝ }
+/// The call that a row holds.
+pub fn call_of(row: [u64; RECORD_WORDS]) -> Record
+    ensures { λ r. ⌜ r ≡ callOf row ⌝ }
 {
     Record {
         place: row[0],
@@ -69,9 +68,16 @@ pub fn record_of(row: [u64; RECORD_WORDS]) -> Record
     }
 }
 
-/// The row of a record.
-pub fn record_row(r: Record) -> [u64; RECORD_WORDS]
-    ensures { λ row. ⌜ (recordOf row ≡ r) × (upperOf row ≡ 0) ⌝ }
+/// The count that a row holds.
+pub fn retries_of(row: [u64; RECORD_WORDS]) -> u64
+    ensures { λ n. ⌜ n ≡ recordOf row .retries ⌝ }
+{
+    row[9]
+}
+
+/// The row of a call and a count.
+pub fn record_row(r: Record, retries: u64) -> [u64; RECORD_WORDS]
+    ensures { λ row. ⌜ (recordOf row ≡ record { call = r; retries = retries }) × (upperOf row ≡ 0) ⌝ }
 {
     [
         r.place,
@@ -83,6 +89,7 @@ pub fn record_row(r: Record) -> [u64; RECORD_WORDS]
         r.neighbour,
         r.link,
         r.finishing,
+        retries,
     ]
 }
 
@@ -93,9 +100,10 @@ fn relabelled(word: u64, label: u32) -> u64
     word / LABELS * LABELS + label as u64
 }
 
-/// The row of a record after a step whose call goes on.
-pub fn record_moved(row: [u64; RECORD_WORDS], r: Record) -> [u64; RECORD_WORDS]
-    ensures { λ after. ⌜ (recordOf after ≡ recordMoved (recordOf row) r) × (upperOf after ≡ upperOf row) ⌝ }
+/// The row after a step whose call goes on.
+pub fn record_moved(row: [u64; RECORD_WORDS], r: Record, retries: u64) -> [u64; RECORD_WORDS]
+    ensures { λ after.
+        ⌜ (recordOf after ≡ record { call = recordMoved (callOf row) r; retries = retries }) × (upperOf after ≡ upperOf row) ⌝ }
 {
     let word = relabelled(row[4], r.label);
     [
@@ -108,28 +116,45 @@ pub fn record_moved(row: [u64; RECORD_WORDS], r: Record) -> [u64; RECORD_WORDS]
         r.neighbour,
         r.link,
         r.finishing,
+        retries,
     ]
 }
 
-/// A task's record, or an idle one where there is none.
-pub fn record_at(rows: &[[u64; RECORD_WORDS]], task: usize) -> Record
-    ensures { λ r. ⌜ r ≡ getD (recordsOf (now (rows .entry))) task idle ⌝ }
+/// A task's call, or an idle one where there is no such task.
+pub fn call_at(rows: &[[u64; RECORD_WORDS]], task: usize) -> Record
+    ensures { λ r. ⌜ r ≡ getD (recordsOf (now (rows .entry))) task unused .call ⌝ }
 {
     if task < rows.len() {
         let row = rows[task];
-        record_of(row)
+        call_of(row)
     } else {
-        record_of([0; RECORD_WORDS])
+        call_of([0; RECORD_WORDS])
     }
 }
 
-/// A task's record stored, where there is one.
-pub fn put_record(rows: &mut [[u64; RECORD_WORDS]], task: usize, r: Record)
-    ensures { λ _. ⌜ recordsOf (now (rows .exit)) ≡ set (recordsOf (now (rows .entry))) task r ⌝ }
+/// A task's call stored, where there is such a task; its count stays.
+pub fn put_call(rows: &mut [[u64; RECORD_WORDS]], task: usize, r: Record)
+    ensures { λ _. ⌜ recordsOf (now (rows .exit)) ≡ withCallAt (recordsOf (now (rows .entry))) task r ⌝ }
     ensures { λ _. ⌜ uppersOf (now (rows .exit)) ≡ set (uppersOf (now (rows .entry))) task 0 ⌝ }
 {
     if task < rows.len() {
-        let row = record_row(r);
+        let was = rows[task];
+        let row = record_row(r, was[9]);
+        rows[task] = row;
+    }
+}
+
+/// What a start or step leaves of its task's record, where there is such a task: its call, and its
+/// failed change counted.
+pub fn put_acted(rows: &mut [[u64; RECORD_WORDS]], task: usize, m: Acted)
+    ensures { λ _. ⌜ recordsOf (now (rows .exit)) ≡ withActedAt (recordsOf (now (rows .entry))) task m ⌝ }
+    ensures { λ _. ⌜ uppersOf (now (rows .exit)) ≡ set (uppersOf (now (rows .entry))) task 0 ⌝ }
+{
+    if task < rows.len() {
+        let was = rows[task];
+        let r = m.task;
+        let retries = table::counted(was[9], m.failed);
+        let row = record_row(r, retries);
         rows[task] = row;
     }
 }
@@ -138,7 +163,7 @@ pub fn put_record(rows: &mut [[u64; RECORD_WORDS]], task: usize, r: Record)
 pub fn store_start(rows: &mut [[u64; RECORD_WORDS]], task: usize, m: Acted)
     ensures { λ _.
         ⌜ recordsOf (now (rows .exit))
-        ≡ cond (isMoved (m .outcome)) (set (recordsOf (now (rows .entry))) task (m .task)) (recordsOf (now (rows .entry))) ⌝ }
+        ≡ cond (isMoved (m .outcome)) (withCallAt (recordsOf (now (rows .entry))) task (m .task)) (recordsOf (now (rows .entry))) ⌝ }
     ensures { λ _.
         ⌜ uppersOf (now (rows .exit))
         ≡ cond (isMoved (m .outcome)) (set (uppersOf (now (rows .entry))) task 0) (uppersOf (now (rows .entry))) ⌝ }
@@ -146,14 +171,14 @@ pub fn store_start(rows: &mut [[u64; RECORD_WORDS]], task: usize, m: Acted)
     let o = m.outcome;
     if engine::moves(o) {
         let r = m.task;
-        put_record(rows, task, r);
+        put_call(rows, task, r);
     }
 }
 
-/// The first n records made idle.
+/// The first n records zeroed, their counts too.
 pub fn clear(rows: &mut [[u64; RECORD_WORDS]], n: usize)
     requires { ⌜ n ≤ length (now rows) ⌝ }
-    ensures { λ _. ⌜ recordsOf (now (rows .exit)) ≡ zeroed n idle (recordsOf (now (rows .entry))) ⌝ }
+    ensures { λ _. ⌜ recordsOf (now (rows .exit)) ≡ zeroed n unused (recordsOf (now (rows .entry))) ⌝ }
     ensures { λ _. ⌜ uppersOf (now (rows .exit)) ≡ zeroed n 0 (uppersOf (now (rows .entry))) ⌝ }
 {
     let mut i: usize = 0;
@@ -163,7 +188,8 @@ pub fn clear(rows: &mut [[u64; RECORD_WORDS]], n: usize)
     }
 }
 
-/// What a step may change, stored: nothing if it was refused, a row all zero if it ended the call.
+/// What a step may change, stored: nothing if it was refused, a row all zero but for the count if it
+/// ended the call.
 pub fn store(control: &mut [u64; CONTROL_WORDS], row: &mut [u64; RECORD_WORDS], m: Acted)
     ensures { λ _. ⌜ controlOf (now (control .exit)) ≡ controlAfter (controlOf (now (control .entry))) m ⌝ }
     ensures { λ _. ⌜ recordOf (now (row .exit)) ≡ recordAfter (recordOf (now (row .entry))) m ⌝ }
@@ -175,12 +201,13 @@ pub fn store(control: &mut [u64; CONTROL_WORDS], row: &mut [u64; RECORD_WORDS], 
         let c = m.control;
         let after = control_moved(old, c);
         *control = after;
+        let was = *row;
+        let retries = table::counted(was[9], m.failed);
         if engine::ends(o) {
-            *row = [0; RECORD_WORDS];
+            *row = [0, 0, 0, 0, 0, 0, 0, 0, 0, retries];
         } else {
-            let was = *row;
             let r = m.task;
-            let moved = record_moved(was, r);
+            let moved = record_moved(was, r, retries);
             *row = moved;
         }
     }
@@ -225,7 +252,7 @@ pub fn step(
         return engine::refuse(why);
     }
     let row = records[task];
-    let r = record_of(row);
+    let r = call_of(row);
     let m = engine::move_on(c, r, lefts, rights, labels, marks, next);
     store(control, &mut records[task], m);
     m.outcome

@@ -18,16 +18,18 @@ pub fn from1(n: u64, x: u64) -> bool
     (1 <= x) & (x <= n)
 }
 
-/// No status 3, no end above slots, not just one end null, not unstable with equal ends.
+/// No status 3, no end above slots, not just one end null, not unstable with equal ends. So equal
+/// ends are STABLE, and of different ones both are slots.
 pub fn anchor_sound(slots: u64, w: u64) -> bool
     ensures { λ r. ⌜ r ≡ anchorSound slots (anchorOf w) ⌝ }
 {
     let a = Anchor::unpack(w);
-    (a.status <= 2)
-        & (a.left <= slots)
-        & (a.right <= slots)
-        & ((a.left == 0) == (a.right == 0))
-        & ((a.status == 0) | (a.left != a.right))
+    if a.left == a.right {
+        return (a.status == 0) & (a.left <= slots);
+    }
+    let left = from1(slots, a.left);
+    let right = from1(slots, a.right);
+    (a.status <= 2) & left & right
 }
 
 /// No set bit in 31 to 15, no slot above slots.
@@ -100,6 +102,21 @@ pub fn record_sound(pooled: bool, slots: u64, r: Record) -> bool
     let call = call_sound(pooled, slots, r);
     let reads = reads_sound(slots, r);
     (r.place == 0) | (call & reads)
+}
+
+/// The same of a record beyond place 10, where no push is helped. A step tests this apart, so that the
+/// places up to 10 don't carry it.
+pub fn late_sound(pooled: bool, slots: u64, r: Record) -> bool
+    ensures { λ b. ⌜ (10 < r .place → b ≡ recordSound pooled slots r) ⌝ }
+{
+    let link = link_sound(slots, r.link);
+    let seen = anchor_sound(slots, r.seen);
+    let reads = (r.neighbour <= slots) & link & seen;
+    if 11 < r.place {
+        let pool = pool_sound(slots, r);
+        return pooled & pool & reads;
+    }
+    (r.side <= 1) & (r.kind == 1) & (r.finishing == 0) & (r.own == 0) & reads
 }
 
 /// Whether tables of these lengths have rows 0 to slots and the mark words for them. The next table

@@ -1,10 +1,15 @@
--- What a start or step hands back by value, with the tables that it was lent.
+-- What a start or step hands back by value, with the tables that it was lent and its task's count of failed changes, as it was.
 use mathlib.Core.List.{List}
 use Prim.Native.Nat.{ℕ}
 use Rattle.model.specs.Tables.{tablesOf}
 use Rattle.model.specs.Calls as calls
+use Rattle.model.specs.Route.{counted}
 use Rattle.table.specs.declared.Acted.{Acted}
 
-abbrev pub withTables : Acted → List ℕ → List ℕ → List ℕ → List ℕ → List ℕ → calls.Acted
-withTables m lefts rights labels marks next =
-    record { tables = tablesOf (m .control) lefts rights labels marks next; task = m .task; outcome = m .outcome }
+abbrev pub withTables : Acted → List ℕ → List ℕ → List ℕ → List ℕ → List ℕ → ℕ → calls.Acted
+withTables m lefts rights labels marks next retries =
+    record {
+      tables = tablesOf (m .control) lefts rights labels marks next;
+      task = record { call = m .task; retries = counted retries (m .failed) };
+      outcome = m .outcome;
+    }

@@ -9,14 +9,29 @@ ghost use Prim.Native.Nat.{_<_, _≤_};
 ghost use lib.ListN.{length, getD, set};
 ghost use Rattle.model.specs.Tables.{marked, withMark, zeroed, climb};
 ghost use Rattle.model.specs.Calls.{stacked};
+ghost use Rattle.model.specs.Route.{counted};
 ghost use Rattle.table.specs.Zeroing.{zeroing};
 ghost use Rattle.table.specs.Stacking.{stacking};
 
-/// What a start or step leaves of control and record, and its outcome.
+/// What a start or step leaves of control and its task's call, its outcome, and whether a change failed,
+/// which the task's record counts.
 pub struct Acted {
     pub control: Control,
     pub task: Record,
     pub outcome: Outcome,
+    pub failed: bool,
+}
+
+/// A task's failed changes, with one more or not; the count stays at the ceiling.
+pub fn counted(retries: u64, failed: bool) -> u64
+    ensures { λ n. ⌜ n ≡ counted retries failed ⌝ }
+{
+    if failed {
+        if retries < 4294967295 {
+            return retries + 1;
+        }
+    }
+    retries
 }
 
 pub fn word_at(t: &[u64], i: u64) -> u64

@@ -1,5 +1,5 @@
 //! The judge of a run: no 34, the clerk content, the labels waiting his, *no slot* only when
-//! there is none, the invariant kept.
+//! there is none, the tasks' retries adding up, the invariant kept.
 
 use crate::clerk::Clerk;
 use crate::contents;
@@ -7,6 +7,7 @@ use crate::invariant;
 use crate::machine::Moved;
 use crate::pool;
 use crate::refusal::Refusal;
+use crate::retries::Ledger;
 use crate::run::{Call, Event, Reply, Watcher};
 use crate::tables::Tables;
 
@@ -17,6 +18,7 @@ pub struct Judge {
     anchor: u64,
     /// A slot that nobody used when a push without a slot was about to step.
     idle_slot: Option<u64>,
+    ledger: Ledger,
 }
 
 impl Watcher for Judge {
@@ -26,6 +28,7 @@ impl Watcher for Judge {
         let record = task.and_then(|task| records.get(usize::from(task)));
         let asking = record.is_some_and(|record| (12..=14).contains(&record.place));
         self.anchor = control.anchor;
+        self.ledger.before(tables, record);
         self.idle_slot = if asking { pool::idle_slot(tables) } else { None };
     }
 
@@ -39,6 +42,7 @@ impl Watcher for Judge {
         if let (Reply::Moved(Moved::NoSlot), Some(slot)) = (event.reply, self.idle_slot) {
             return Err(format!("no slot is answered, and nobody uses slot {slot}"));
         }
+        self.ledger.after(tables, event)?;
         self.queue_agrees(tables)?;
         invariant::check(tables, self.clerk.queue())
     }

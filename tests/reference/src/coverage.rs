@@ -179,7 +179,8 @@ impl Coverage {
             5..=10 => Anchor::unpack(record.seen).pushed_side(),
             _ => Side::numbered(record.side),
         };
-        let failed = tables.shared.control.retries > control.retries;
+        let after = task.and_then(|task| tables.records.get(usize::from(task)));
+        let failed = after.is_some_and(|after| after.retries > record.retries);
         let pooled = control.pooled == POOLED;
         let way = Way { pooled, place: record.place, role, failed, next };
         self.fooled(&way);

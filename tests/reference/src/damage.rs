@@ -25,8 +25,10 @@ pub const DAMAGES: &[Damage] = &[
     Damage { name: "control: fewer slots", inflict: |s, d| s.control.slots = d.between(1, 3) },
     Damage { name: "control: fewer tasks", inflict: |s, d| s.control.tasks = d.between(1, 2) },
     Damage {
-        name: "control: retries",
-        inflict: |s, d| s.control.retries = d.pick(&[LAST_TAG - 1, LAST_TAG, u64::MAX]),
+        name: "record: retries",
+        inflict: |s, d| {
+            record(s, d, |r, d| r.retries = d.pick(&[LAST_TAG - 1, LAST_TAG, u64::MAX]))
+        },
     },
     Damage {
         name: "control: pooled",

@@ -5,7 +5,8 @@
 //! The program: `runfile` (fields in), `run` (events), `trace` (lines out).
 //! Over the tables: `sheet` (document 02, #111 and #112), `schedules` (#107), `join` (#113).
 //! The judge: `clerk` (a sequential deque), `contents` (labels waiting), `pool` (free
-//! slots), `invariant` (what holds between any two steps), `check` (all of them at once).
+//! slots), `invariant` (what holds between any two steps), `retries` (the counts' sum), `check`
+//! (all of them at once).
 //! The differential test: `dice`, `script`, `shift`, `scenario`, `malformed`, `coverage`, `ways`.
 //! For tests that drive the calls themselves: `damage` (tables that no run leaves).
 
@@ -24,6 +25,7 @@ pub mod malformed;
 mod places;
 pub mod pool;
 pub mod refusal;
+mod retries;
 pub mod run;
 pub mod runfile;
 pub mod scenario;

@@ -36,7 +36,8 @@ pub struct Report {
     pub busy: u64,
     pub waiting: u64,
     pub taken: u64,
-    pub retries: u64,
+    /// In task order; 0 beyond the tasks.
+    pub retries: [u64; MOST_TASKS as usize],
 }
 
 impl Tables<'_> {
@@ -75,7 +76,7 @@ impl Tables<'_> {
         self.shared.marks[..=last / 64].fill(0);
         self.records[..tasks as usize].fill(Record::default());
         let anchor = u64::from(first_tag) << 32;
-        *self.shared.control = Control { tasks, slots, anchor, retries: 0, pooled: NAMED, head: 0 };
+        *self.shared.control = Control { tasks, slots, anchor, pooled: NAMED, head: 0 };
     }
 
     pub fn push(&mut self, task: u64, side: u64, slot: u64, label: u32) -> Result<(), Refusal> {
@@ -86,8 +87,8 @@ impl Tables<'_> {
         self.admit_start(task)?;
         demand(!self.shared.is_marked(slot), Refusal::Taken)?;
         self.tag_unworn()?;
-        self.records[task as usize] =
-            Record { place: 1, kind: PUSH, side, own: slot, label, ..Record::default() };
+        let record = &mut self.records[task as usize];
+        *record = Record { place: 1, kind: PUSH, side, own: slot, label, ..record.cleared() };
         self.shared.labels[slot as usize] = label;
         self.shared.set_mark(slot);
         Ok(())
@@ -100,8 +101,8 @@ impl Tables<'_> {
         demand(self.shared.is_pooled(), Refusal::WrongPush)?;
         self.admit_start(task)?;
         self.tag_unworn()?;
-        self.records[task as usize] =
-            Record { place: 12, kind: PUSH, side, label, ..Record::default() };
+        let record = &mut self.records[task as usize];
+        *record = Record { place: 12, kind: PUSH, side, label, ..record.cleared() };
         Ok(())
     }
 
@@ -110,7 +111,8 @@ impl Tables<'_> {
         demand(side <= 1, Refusal::NoSide)?;
         self.admit_start(task)?;
         self.tag_unworn()?;
-        self.records[task as usize] = Record { place: 1, kind: POP, side, ..Record::default() };
+        let record = &mut self.records[task as usize];
+        *record = Record { place: 1, kind: POP, side, ..record.cleared() };
         Ok(())
     }
 
@@ -144,7 +146,10 @@ impl Tables<'_> {
         let busy = records.iter().filter(|record| record.place != 0).count() as u64;
         let waiting = contents::waiting(&self.shared).ok_or(Refusal::Unsound)?.len() as u64;
         let taken = (1..=control.slots).filter(|&slot| self.shared.is_marked(slot)).count() as u64;
-        let retries = control.retries;
+        let mut retries = [0; MOST_TASKS as usize];
+        for (count, record) in retries.iter_mut().zip(records) {
+            *count = record.retries;
+        }
         Ok(Report { tag, status, left, right, busy, waiting, taken, retries })
     }
 

@@ -9,8 +9,8 @@ use crate::refusal::{demand, Refusal};
 use crate::tables::{Record, Shared, POP, PUSH};
 use crate::word::{Anchor, Link, Side, LAST_TAG, STABLE};
 
-/// Retries stay here once there.
-const MOST_RETRIES: u64 = 0xffff_ffff;
+/// A task's retries stay here once there.
+pub const MOST_RETRIES: u64 = 0xffff_ffff;
 
 #[inline]
 pub(crate) fn advance(shared: &mut Shared, record: &mut Record) -> Answer {
@@ -59,7 +59,7 @@ fn take_reading(record: &mut Record, found: u64) -> Answer {
 fn fill_or_drain(shared: &mut Shared, record: &mut Record) -> Answer {
     let (left, right) = (record.own, record.own);
     let wanted = Anchor { left, right, ..Anchor::unpack(record.seen) };
-    match change_anchor(shared, record.seen, wanted)? {
+    match change_anchor(shared, record, wanted)? {
         Change::Failed(found) => take_reading(record, found),
         Change::Done(_) if record.kind == PUSH => answer(record, Moved::Pushed),
         Change::Done(_) => go(record, 11),
@@ -90,7 +90,7 @@ fn move_end(shared: &mut Shared, record: &mut Record) -> Answer {
         PUSH => seen.with_end(side, record.own).with_status(side.push_status()),
         _ => seen.with_end(side, record.neighbour),
     };
-    match change_anchor(shared, record.seen, wanted)? {
+    match change_anchor(shared, record, wanted)? {
         Change::Failed(found) => take_reading(record, found),
         Change::Done(_) if record.kind == POP => go(record, 11),
         Change::Done(word) => {
@@ -126,7 +126,7 @@ fn mend_back_link(shared: &mut Shared, record: &mut Record) -> Answer {
     let side = seen.pushed_side();
     let row = row_of(shared, record.neighbour)?;
     if shared.links(side)[row] != record.link {
-        count_retry(shared);
+        count_retry(record);
         return leave(record);
     }
     let tag = raised(Link(record.link).tag())?;
@@ -137,7 +137,7 @@ fn mend_back_link(shared: &mut Shared, record: &mut Record) -> Answer {
 /// Place 10: figure 4 line 10. Whether done or failed, the task leaves.
 fn settle(shared: &mut Shared, record: &mut Record) -> Answer {
     let wanted = Anchor::unpack(record.seen).with_status(STABLE);
-    change_anchor(shared, record.seen, wanted)?;
+    change_anchor(shared, record, wanted)?;
     leave(record)
 }
 
@@ -176,7 +176,7 @@ fn read_next(shared: &Shared, record: &mut Record) -> Answer {
 
 /// Place 14: the slot on top becomes the push's own, marked and labelled in the same step.
 fn take_slot(shared: &mut Shared, record: &mut Record) -> Answer {
-    if !change_head(shared, record.link, record.neighbour)? {
+    if !change_head(shared, record, record.neighbour)? {
         return go(record, 12);
     }
     let slot = Link(record.link).slot();
@@ -195,19 +195,19 @@ fn write_next(shared: &mut Shared, record: &mut Record) -> Answer {
 /// Place 17: the slot is on top again, and only now the pop answers.
 fn give_slot_back(shared: &mut Shared, record: &mut Record) -> Answer {
     let Record { own: slot, label, .. } = *record;
-    if !change_head(shared, record.link, slot)? {
+    if !change_head(shared, record, slot)? {
         return go(record, 15);
     }
     answer(record, Moved::Popped { slot, label })
 }
 
 /// A change of the head: whether it was done.
-fn change_head(shared: &mut Shared, read: u64, slot: u64) -> Result<bool, Refusal> {
-    if shared.control.head != read {
-        count_retry(shared);
+fn change_head(shared: &mut Shared, record: &mut Record, slot: u64) -> Result<bool, Refusal> {
+    if shared.control.head != record.link {
+        count_retry(record);
         return Ok(false);
     }
-    let tag = raised(Link(read).tag())?;
+    let tag = raised(Link(record.link).tag())?;
     shared.control.head = Link::new(tag, slot).0;
     Ok(true)
 }
@@ -219,10 +219,14 @@ enum Change {
 }
 
 /// 34 only for a change that would be made.
-fn change_anchor(shared: &mut Shared, seen: u64, wanted: Anchor) -> Result<Change, Refusal> {
+fn change_anchor(
+    shared: &mut Shared,
+    record: &mut Record,
+    wanted: Anchor,
+) -> Result<Change, Refusal> {
     let found = shared.control.anchor;
-    if found != seen {
-        count_retry(shared);
+    if found != record.seen {
+        count_retry(record);
         return Ok(Change::Failed(found));
     }
     demand(wanted.is_sound(shared.control.slots), Refusal::Unsound)?;
@@ -238,9 +242,10 @@ fn raised(tag: u64) -> Result<u64, Refusal> {
     Ok(tag + 1)
 }
 
-fn count_retry(shared: &mut Shared) {
-    if shared.control.retries < MOST_RETRIES {
-        shared.control.retries += 1;
+/// In the task's own record: a failed change touches nothing shared (#101).
+fn count_retry(record: &mut Record) {
+    if record.retries < MOST_RETRIES {
+        record.retries += 1;
     }
 }
 
@@ -262,9 +267,9 @@ fn go(record: &mut Record, place: u64) -> Answer {
     Ok(Moved::Running(place))
 }
 
-/// After an answer the record is all zero.
+/// After an answer all of the record but its count is zero.
 fn answer(record: &mut Record, moved: Moved) -> Answer {
-    *record = Record::default();
+    *record = record.cleared();
     Ok(moved)
 }
 

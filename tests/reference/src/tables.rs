@@ -19,12 +19,12 @@ pub struct Control {
     pub tasks: u64,
     pub slots: u64,
     pub anchor: u64,
-    pub retries: u64,
     pub pooled: u64,
     pub head: u64,
 }
 
-/// A task record; `seen` is the Anchor as read, `link` the link word as read.
+/// A task record; `seen` is the Anchor as read, `link` the link word as read. `retries` is no part
+/// of the call: the changes of this task that failed since the opening, #101.
 #[repr(C)]
 #[derive(Clone, Copy, Debug, Default, PartialEq, Eq, Hash)]
 pub struct Record {
@@ -37,6 +37,14 @@ pub struct Record {
     pub neighbour: u64,
     pub link: u64,
     pub finishing: u64,
+    pub retries: u64,
+}
+
+impl Record {
+    /// The same count with no call: what an answer leaves, and what a start fills.
+    pub fn cleared(&self) -> Record {
+        Record { retries: self.retries, ..Record::default() }
+    }
 }
 
 /// The tables that every task touches.

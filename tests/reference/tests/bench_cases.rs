@@ -81,7 +81,7 @@ fn second_push_takes_nine_steps() {
     let storage = two_waiting();
     assert_eq!(storage.control.anchor, 0x0000_0003_0000_8002);
     assert_eq!(storage.rights[1], 0x0000_0001_0000_0002);
-    assert_eq!(storage.control.retries, 0);
+    assert_eq!(storage.records[0].retries, 0);
 }
 
 #[test]
@@ -106,7 +106,8 @@ fn two_pops_on_one_label() {
     let moved = [Running(2), Running(2), Running(11), Empty, got].map(Ok);
     assert_eq!(answers[..5], moved);
     assert_eq!(answers[5], Err(Refusal::Idle));
-    assert_eq!(storage.lend().report().expect("reports").retries, 1);
+    let retries = storage.lend().report().expect("reports").retries;
+    assert_eq!(retries[..3], [0, 1, 0], "the answer keeps the count");
 }
 
 /// What a task at 2 or 4 goes on to when another has changed Anchor to this one.
@@ -115,18 +116,17 @@ fn outrun(kind: u64, place: u64, now: Anchor) -> (Moved, Record) {
     let seen = Anchor { tag: 4, status: STABLE, left: 1, right: 2 }.pack();
     let own = if kind == PUSH { 3 } else { 0 };
     let link = Link::new(9, 2).0;
-    let record =
-        Record { place, kind, side: 1, own, label: 8, seen, neighbour: 1, link, finishing: 0 };
+    let started = Record { place, kind, side: 1, own, label: 8, ..Record::default() };
+    let record = Record { seen, neighbour: 1, link, ..started };
     storage.records[0] = record;
     storage.control.anchor = now.pack();
     let before = storage.clone();
     let moved = storage.lend().step(0).expect("a failed change is never refused");
-    assert_eq!(storage.control, Control { retries: 1, ..before.control });
     let after = storage.records[0];
+    assert_eq!(after.retries, 1);
     storage.records[0] = record;
-    storage.control.retries = 0;
-    assert_eq!(storage, before, "only control and the record move");
-    (moved, after)
+    assert_eq!(storage, before, "only the record moves");
+    (moved, Record { retries: 0, ..after })
 }
 
 #[test]
@@ -195,7 +195,7 @@ fn a_pooled_opening() {
     storage.next.fill(9);
     storage.lend().open_pooled(2, 3, 0xffff_ffff).expect("opens");
     let anchor = 0xffff_ffff << 32;
-    let control = Control { tasks: 2, slots: 3, anchor, retries: 0, pooled: 1, head: 1 };
+    let control = Control { tasks: 2, slots: 3, anchor, pooled: 1, head: 1 };
     assert_eq!(storage.control, control);
     assert_eq!(storage.next[..5], [0, 2, 3, 0, 9]);
     let before = storage.next.clone();
@@ -269,7 +269,7 @@ fn the_report_counts() {
     storage.lend().push(0, 0, 3, 30).expect("starts");
     let report = storage.lend().report().expect("reports");
     assert_eq!((report.tag, report.status, report.left, report.right), (3, STABLE, 1, 2));
-    assert_eq!((report.busy, report.waiting, report.taken, report.retries), (1, 2, 3, 0));
+    assert_eq!((report.busy, report.waiting, report.taken), (1, 2, 3));
     storage.marks[0] |= 1 | 1 << 4;
     assert_eq!(storage.lend().report(), Ok(report), "slots 0 and 4 are not of 1 to 3");
 }
@@ -279,9 +279,10 @@ fn an_opening_keeps_what_lies_beyond() {
     let mut storage = Storage::default();
     storage.lefts.fill(7);
     storage.marks.fill(7);
-    storage.records.iter_mut().for_each(|record| record.place = 18);
+    storage.records.iter_mut().for_each(|record| (record.place, record.retries) = (18, 9));
     storage.lend().open(2, 64, 5).expect("opens");
     assert_eq!((storage.lefts[64], storage.lefts[65]), (0, 7));
     assert_eq!((storage.marks[1], storage.marks[2]), (0, 7));
     assert_eq!((storage.records[1].place, storage.records[2].place), (0, 18));
+    assert_eq!((storage.records[1].retries, storage.records[2].retries), (0, 9));
 }

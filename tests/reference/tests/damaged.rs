@@ -110,7 +110,7 @@ fn damaged_tables_are_refused_whole() {
             count_touch(&before, task, answer, &mut touched);
         }
     }
-    let harmless = ["control: retries", "head: as read"];
+    let harmless = ["record: retries", "head: as read"];
     for damage in DAMAGES.iter().filter(|damage| !harmless.contains(&damage.name)) {
         assert!(refused.contains_key(damage.name), "{} is refused somewhere", damage.name);
     }
@@ -148,22 +148,5 @@ fn count_touch(
     let record = &before.records[task as usize];
     if record_sound(record, &before.control).is_ok() {
         *touched.entry(record.place).or_default() += 1;
-    }
-}
-
-#[test]
-fn retries_stay_at_their_most() {
-    let mut storage = Storage::default();
-    storage.lend().open(2, 2, 0).expect("opens");
-    storage.lend().push(0, 0, 1, 1).expect("starts");
-    storage.lend().push(1, 0, 2, 2).expect("starts");
-    for task in [0, 1, 0] {
-        storage.lend().step(task).expect("steps");
-    }
-    for (retries, then) in [(5, 6), (0xffff_fffe, 0xffff_ffff), (0xffff_ffff, 0xffff_ffff)] {
-        let mut storage = storage.clone();
-        storage.control.retries = retries;
-        assert_eq!(storage.lend().step(1), Ok(Moved::Running(3)));
-        assert_eq!(storage.control.retries, then);
     }
 }

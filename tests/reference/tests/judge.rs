@@ -185,3 +185,9 @@ fn objects_to_a_pooled_push_elsewhere() {
     let objection = step(&mut judge, &mut storage, 0, |moved| moved).unwrap_err();
     assert!(objection.starts_with("waiting: the tables hold [Entry { slot: 2, label: 0 }]"));
 }
+
+#[test]
+fn objects_to_a_count_that_no_failed_change_made() {
+    let objection = pop_left(RIGHT, |storage| storage.records[1].retries = 1).unwrap_err();
+    assert_eq!(objection, "retries: the records count 1, the ledger 0");
+}

@@ -4,7 +4,8 @@ use Prim.Native.Nat.{ℕ, _-_, _<_, _≤_}
 use native.Mathlib.Numerals.{add-one}
 use native.Mathlib.Omega.{arith}
 use Rattle.calls.specs.Telling.{countBusy}
-use Rattle.rows.specs.Rows.{recordsOf}
+use Rattle.model.specs.declared.TaskRecord.{TaskRecord}
+use Rattle.rows.specs.Rows.{recordOf, recordsOf}
 use Rattle.rows.proofs.Rows.{record-read}
 use Rattle.capi.proofs.Count.{busyIn, busy-none, busy-more}
 use borrow.Author.Needs.{needs}
@@ -18,6 +19,7 @@ abbrev μ-loop : tie.MeasureT-loop
 μ-loop records n k₀ i₀ k i = n - i
 
 loop-again : tie.Need-loop-again Inv-loop μ-loop
+unfolding recordOf
 loop-again c =
     let turn = c .before .before .before .before .loop in
     let few = c .before .before .before .before .before .pre .1 in
@@ -25,8 +27,8 @@ loop-again c =
     let rs = recordsOf (c .before .before .before .before .before .args .records .now) in (
       omega arith,
       c .count-busy .ensures
-          ∙ ap (λ (k : ℕ). countBusy k (c .before .record-of .result)) (turn .inv .1)
-          ∙ ap (countBusy (busyIn (turn .i) rs)) (c .before .record-of .ensures ∙ record-read _ _)
+          ∙ ap (λ (k : ℕ). countBusy k (c .before .call-of .result)) (turn .inv .1)
+          ∙ ap (countBusy (busyIn (turn .i) rs)) (c .before .call-of .ensures ∙ ap (λ (r : TaskRecord). r .call) (record-read _ _))
           ∙ busy-more (turn .i) rs (omega arith)
           ∙ ap (λ (k : ℕ). busyIn k rs) (sym (add-one (turn .i))),
     )

@@ -1,7 +1,6 @@
 -- The records to look at, how many of them are busy, what is told.
-use mathlib.Core.Path.{refl, ap, _∙_}
-use Rattle.capi.specs.Replies.{reportReplyOf}
-use Rattle.capi.proofs.Border.{counted, reported}
+use mathlib.Core.Path.{refl, _∙_}
+use Rattle.capi.proofs.Border.{few, reported}
 use borrow.Author.Needs.{needs}
 use Rattle.capi.proofs.zc_report.Statement.{statement}
 use Rattle.capi.proofs.zc_report.Tie as tie
@@ -13,13 +12,13 @@ module _ (told : tie.After-control-of) where
 
 returns : tie.Need-returns
 returns c =
-    let told = c .before .before .before .before in
+    let counted = c .before .before .before .before in
+    let told = counted .before in
     let s = a told .args in
     c .report-reply .ensures
-    ∙ ap reportReplyOf
-    (reported (s .control .now) (s .records .now) (s .lefts .now) (s .rights .now) (s .labels .now) (s .marks .now) (s .next .now) _ _ _ _ _
-    (told .control-of .ensures) refl (c .before .before .before .to-count .ensures)
-    (c .before .before .busy .ensures) (c .before .told .ensures))
+    ∙ reported (s .control .now) (s .records .now) (s .lefts .now) (s .rights .now) (s .labels .now) (s .marks .now) (s .next .now) _ _ _ _ _ _
+    (told .control-of .ensures) refl (counted .to-count .ensures)
+    (c .before .before .before .busy .ensures) (c .before .before .told .ensures) (c .before .retry-counts .ensures)
 
 pub zc-report-spec : {M : Type 1} → statement M
 zc-report-spec =
@@ -27,7 +26,8 @@ zc-report-spec =
     (tie.spec
     (λ c κs. search needs)
     (λ c κs. search needs)
-    (λ c κs. counted (a (c .before) .args .records .now) _ _ _ refl (c .to-count .ensures))
+    (λ c κs. few (a (c .before) .args .records .now) _ _ _ refl (c .to-count .ensures))
     (λ c κs. search needs)
+    (λ c κs. few (a (c .before .before .before) .args .records .now) _ _ _ refl (c .before .before .to-count .ensures))
     (λ c κs. search needs)
     returns)

@@ -14,7 +14,7 @@ returns c =
     let read = lent .before .before .before in
     let put = c .before .store .ensures in
     stepped _ _ _ _ _ _ _ _ _ _ _ _ _ _ _ _ _ _
-    (read .control-of .ensures) (read .before .before .record-of .ensures) (moved .step-alone .ensures)
+    (read .control-of .ensures) (read .before .before .call-of .ensures) (moved .step-alone .ensures)
     (put .0) (put .1 .0) (put .1 .1) (c .reply .ensures)
 
 pub zc-step-record-spec : {M : Type 1} → statement M

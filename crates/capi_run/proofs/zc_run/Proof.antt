@@ -66,7 +66,7 @@ returns-2 c =
     let out = c .before .before .before .before in
     let inv = out .before .loop .inv in
     let past = out .loop-test .left in
-    cut _ _ _ _ _ _ _ (inv .1) (inv .2) _ _ _ (omega arith) (c .before .before .record-at .ensures) (c .before .running .ensures)
+    cut _ _ _ _ _ _ _ (inv .1) (inv .2) _ _ _ (omega arith) (c .before .before .call-at .ensures) (c .before .running .ensures)
     (c .run-reply2 .ensures)
 
 pub zc-run-spec : {M : Type 1} → statement M

@@ -6,7 +6,7 @@ use native.Mathlib.Omega.{arith}
 use borrow.Author.Needs.{needs}
 use lib.ListN.{length}
 use Rattle.model.specs.declared.Control.{Control}
-use Rattle.model.specs.declared.Record.{Record}
+use Rattle.model.specs.declared.TaskRecord.{TaskRecord}
 use Rattle.history.specs.Words.{requestsFrom}
 use Rattle.history.specs.Serving.{State, served}
 use Rattle.model.specs.Tables.{queueOf}
@@ -14,7 +14,7 @@ use Rattle.history.proofs.Turns.{served-all, served-none, served-next}
 use Rattle.history.proofs.carry_out.Statement.{statement}
 use Rattle.history.proofs.carry_out.Tie as tie
 
-abbrev state : Control → List Record → List ℕ → List ℕ → List ℕ → List ℕ → List ℕ → List ℕ → State
+abbrev state : Control → List TaskRecord → List ℕ → List ℕ → List ℕ → List ℕ → List ℕ → List ℕ → State
 state c rows replies lefts rights labels marks next = record { queue = queueOf c rows lefts rights labels marks next; replies = replies }
 
 abbrev Inv-loop : tie.InvT-loop

@@ -1,4 +1,4 @@
--- The opening finds and leaves idle records; the list then follows the opened queue, of which the theorems on histories speak.
+-- The opening finds and leaves unused records; the list then follows the opened queue, of which the theorems on histories speak.
 use mathlib.Core.Path.{_∙_, sym, subst}
 use Prim.Native.Nat.{ℕ, _*_, _≤_}
 use borrow.Author.Needs.{needs}
@@ -7,19 +7,19 @@ use Rattle.history.proofs.Opening.{serves, count-fits}
 use Rattle.history.proofs.serve.Statement.{statement}
 use Rattle.history.proofs.serve.Tie as tie
 
--- Back to the opening, past what it leaves of each table; to the idle record; to the start.
+-- Back to the opening, past what it leaves of each table; to the unused record; to the start.
 abbrev opened : tie.After-count-after → tie.After-open-tables
 opened c =
     let marks = c .before .before .before .before in
     let rights = marks .before .before .before .before in
     rights .before .before .before .before
 
-abbrev records : tie.After-open-tables → tie.After-idle
+abbrev records : tie.After-open-tables → tie.After-unused
 records c =
     let args = c .before .before .before .before in
     args .before .before
 
-abbrev start : tie.After-idle → tie.Start
+abbrev start : tie.After-unused → tie.Start
 start c =
     let known = c .before .before .before .before in
     known .before .before .before .before
@@ -58,7 +58,7 @@ returns c =
     let count = counted done in
     let begun = opened count in
     let none = records begun in
-    serves _ _ _ _ _ _ _ _ _ _ _ (none .idle .ensures) (begun .open-tables .ensures) (count .count-after .ensures) (done .carry-out .ensures)
+    serves _ _ _ _ _ _ _ _ _ _ _ (none .unused .ensures) (begun .open-tables .ensures) (count .count-after .ensures) (done .carry-out .ensures)
 
 pub serve-spec : {M : Type 1} → statement M
 serve-spec =

@@ -7,12 +7,13 @@ use native.Mathlib.Omega.{arith}
 use lib.Dec.{eqb, ltb}
 use lib.ListN.{getD, set}
 use borrow.Author.Tests.{lt-ltb}
-use Rattle.model.specs.Calls.{entryOf, finish, withRetries}
+use Rattle.model.specs.Calls.{entryOf, finish}
 use Rattle.model.specs.Places.{Move, Touch, clearMark, linkMet, move, nothing, setAnchor, setHead, setLink, setNext, takeSlot, taken}
 use Rattle.model.specs.Route.{answer, counted, goes}
-use Rattle.model.specs.Tables.{Queue, Tables, asking, idle, isPooled, marked, recordAt, started}
+use Rattle.model.specs.Tables.{Queue, Tables, asking, isPooled, marked, recordAt, started, taskAt, unused, withCall}
 use Rattle.model.specs.declared.Answer as answered
 use Rattle.model.specs.declared.Record.{Record}
+use Rattle.model.specs.declared.TaskRecord.{TaskRecord}
 use Rattle.model.proofs.tests.ByPlace.{by-place}
 use Rattle.model.proofs.tests.Truth.{not-both}
 use Rattle.model.proofs.machine.Answers.{Ends, act-ends}
@@ -39,7 +40,8 @@ unfolding stateOf
 task-of q t lt = rw (lt-ltb t (q .tables .control .tasks) lt)
 
 -- A record put back is a record of the machine replaced.
-pub put-back : (q : Queue) (t : ℕ) → Lies q t → (r : Record) → (λ (u : ℕ). stateOf (record { tables = q .tables; records = set (q .records) t r }) .task u) ≡ upd (stateOf q .task) t (recOf r)
+pub put-back : (q : Queue) (t : ℕ) → Lies q t → (r : TaskRecord)
+    → (λ (u : ℕ). stateOf (record { tables = q .tables; records = set (q .records) t r }) .task u) ≡ upd (stateOf q .task) t (recOf (r .call))
 unfolding stateOf
 put-back q t z r = task-set (q .tables .control .tasks) (q .records) t r (omega (arith, z .length, z .known)) (z .known)
 
@@ -49,6 +51,10 @@ module _ (q : Queue) (b : B.Book) (i : Inv (record { state = stateOf q; book = b
 
   abbrev r : Record
   r = recordAt q t
+
+  -- The task's record with another call.
+  abbrev put : Record → TaskRecord
+  put c = withCall (taskAt q t) c
 
   -- An accepted step.
   module _ (s : Stepping q t) where
@@ -71,7 +77,7 @@ module _ (q : Queue) (b : B.Book) (i : Inv (record { state = stateOf q; book = b
         subst seenAfter (ap (λ (x : M.Rec). M.act (x .place) (view g) x) (task-of q t (s .lies .known)) ∙ seen) (step-inv (record { state = stateOf q; book = b }) i t e)
 
     abbrev pub stepped : Queue
-    stepped = record { tables = finish g r m .tables; records = set (q .records) t (finish g r m .task) }
+    stepped = record { tables = finish g (taskAt q t) m .tables; records = set (q .records) t (finish g (taskAt q t) m .task) }
 
     abbrev pub reply : answered.Answer
     reply = answer (next r m) (entryOf g r)
@@ -79,11 +85,10 @@ module _ (q : Queue) (b : B.Book) (i : Inv (record { state = stateOf q; book = b
     pub state-is : stateOf stepped ≡ record { shared = M.apply (view g) (seenMove g r .touch); task = upd (stateOf q .task) t (seenMove g r .rec) }
     unfolding stateOf finish
     state-is =
-        let n = counted (g .control .retries) (m .failed) in
-        let r′ = goes (m .task) (next r m) in
-        (λ j. record { shared = view (finish g r m .tables); task = λ u. cond (ltb u (touched-tasks (m .touch) (withRetries g n) j)) (recOf (getD (set (q .records) t r′) u idle)) M.blank })
+        let r′ : TaskRecord = record { call = goes (m .task) (next r m); retries = counted (taskAt q t .retries) (m .failed) } in
+        (λ j. record { shared = view (finish g (taskAt q t) m .tables); task = λ u. cond (ltb u (touched-tasks (m .touch) g j)) (recOf (getD (set (q .records) t r′) u unused .call)) M.blank })
         ∙ (λ j. record {
-          shared = view-touched g (s .lies .rows) n (m .touch) (move-fine (isPooled (g .control)) (g .control .slots) r (s .fine) (s .control .slots) (g .control) (linkMet g r) (s .busy)) j;
+          shared = view-touched g (s .lies .rows) (m .touch) (move-fine (isPooled (g .control)) (g .control .slots) r (s .fine) (s .control .slots) (g .control) (linkMet g r) (s .busy)) j;
           task = task-set (g .control .tasks) (q .records) t r′ (omega (arith, s .lies .length, s .lies .known)) (s .lies .known) j;
         })
 
@@ -119,7 +124,7 @@ module _ (q : Queue) (b : B.Book) (i : Inv (record { state = stateOf q; book = b
 
     pub step-pooled : isPooled (stepped .tables .control) ≡ isPooled (g .control)
     unfolding finish
-    step-pooled = ap (λ (n : ℕ). eqb n 1) (touched-pooled (m .touch) (withRetries g (counted (g .control .retries) (m .failed))))
+    step-pooled = ap (λ (n : ℕ). eqb n 1) (touched-pooled (m .touch) g)
 
     -- A push that has its effect stands at the end of its side.
     pub step-told : let k = B.granted (touchSeen (m .touch)) (b .calls t) in
@@ -148,7 +153,7 @@ module _ (q : Queue) (b : B.Book) (i : Inv (record { state = stateOf q; book = b
 
     pub step-links : LinksFine (stepped .tables)
     unfolding finish
-    step-links = links-touched g (s .lies .rows) k (counted (g .control .retries) (m .failed)) (m .touch) (move-fine (isPooled (g .control)) (g .control .slots) r (s .fine) (s .control .slots) (g .control) (linkMet g r) (s .busy))
+    step-links = links-touched g (s .lies .rows) k (m .touch) (move-fine (isPooled (g .control)) (g .control .slots) r (s .fine) (s .control .slots) (g .control) (linkMet g r) (s .busy))
 
   -- Accepted starts.
   module _ (z : Lies q t) (free : recordAt q t .place ≡ 0) where
@@ -161,11 +166,11 @@ module _ (q : Queue) (b : B.Book) (i : Inv (record { state = stateOf q; book = b
     rec-started kind side x l = refl
 
     tasks-are : (kind side x l : ℕ)
-        → (λ (u : ℕ). stateOf (record { tables = g; records = set (q .records) t (started kind side x l) }) .task u) ≡ upd (stateOf q .task) t (M.started (cond (eqb kind 0) M.push M.pop) (eqb side 1) x l)
-    tasks-are kind side x l = put-back q t z (started kind side x l) ∙ ap (λ (v : M.Rec). upd (stateOf q .task) t v) (rec-started kind side x l)
+        → (λ (u : ℕ). stateOf (record { tables = g; records = set (q .records) t (put (started kind side x l)) }) .task u) ≡ upd (stateOf q .task) t (M.started (cond (eqb kind 0) M.push M.pop) (eqb side 1) x l)
+    tasks-are kind side x l = put-back q t z (put (started kind side x l)) ∙ ap (λ (v : M.Rec). upd (stateOf q .task) t v) (rec-started kind side x l)
 
     pub pop-keeps : (side : ℕ) → Inv (record {
-      state = stateOf (record { tables = g; records = set (q .records) t (started 1 side 0 0) });
+      state = stateOf (record { tables = g; records = set (q .records) t (put (started 1 side 0 0)) });
       book = B.begun b t (B.opened M.pop (eqb side 1) 0 0);
     })
     unfolding stateOf
@@ -174,16 +179,16 @@ module _ (q : Queue) (b : B.Book) (i : Inv (record { state = stateOf q; book = b
         (pop-inv (record { state = stateOf q; book = b }) i t (eqb side 1) ready)
 
     pub put-keeps : (side l : ℕ) → isPooled (g .control) ≡ true → Inv (record {
-      state = stateOf (record { tables = g; records = set (q .records) t (asking side l) });
+      state = stateOf (record { tables = g; records = set (q .records) t (put (asking side l)) });
       book = B.begun b t (B.opened M.push (eqb side 1) 0 l);
     })
     unfolding stateOf recOf view
     put-keeps side l pooled = subst (λ (s : M.State). Inv (record { state = s; book = B.begun b t (B.opened M.push (eqb side 1) 0 l) }))
-        (sym (λ j. record { shared = view g; task = put-back q t z (asking side l) j }))
+        (sym (λ j. record { shared = view g; task = put-back q t z (put (asking side l)) j }))
         (ask-inv (record { state = stateOf q; book = b }) i t (eqb side 1) l ready pooled)
 
     pub push-keeps : (side x l : ℕ) → 1 ≤ x → x ≤ g .control .slots → isPooled (g .control) ≡ false → marked (g .marks) x ≡ false → Inv (record {
-      state = stateOf (record { tables = taken g x l; records = set (q .records) t (started 0 side x l) });
+      state = stateOf (record { tables = taken g x l; records = set (q .records) t (put (started 0 side x l)) });
       book = B.begun b t (B.opened M.push (eqb side 1) x l);
     })
     unfolding stateOf view

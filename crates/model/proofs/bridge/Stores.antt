@@ -10,10 +10,9 @@ use lib.ListN.{getD, length, set}
 use lib.Seq.{getD-set-other, getD-set-same}
 use borrow.Author.Tests.{eqb-false, eqb-true, lt-ltb}
 use Rattle.word.specs.Link.{linkOf, spareOf}
-use Rattle.model.specs.Calls.{withRetries}
 use Rattle.model.specs.Places.{Touch, apply, clearMark, nothing, setAnchor, setHead, setLink, setNext, takeSlot, taken}
-use Rattle.model.specs.Tables.{Tables, isPooled, idle, marked, withMark}
-use Rattle.model.specs.declared.Record.{Record}
+use Rattle.model.specs.Tables.{Tables, isPooled, marked, withMark, unused}
+use Rattle.model.specs.declared.TaskRecord.{TaskRecord}
 use Rattle.model.proofs.tests.Truth.{by-test, decide-eq, split}
 use Rattle.model.proofs.machine.Machine as M
 use Rattle.model.proofs.machine.Machine.{relink, upd}
@@ -35,14 +34,14 @@ upd-mark ws x b hb hx = fun-ext (λ y. by-test (λ v. marked (withMark ws x b) y
     (λ e. marked-other ws x b hb hx y (eqb-false y x e)))
 
 -- A record put back, where the records beyond the tasks count as idle.
-pub task-set : (n : ℕ) (l : List Record) (t : ℕ) (r : Record) → t < length l → t < n
-    → (λ (u : ℕ). cond (ltb u n) (recOf (getD (set l t r) u idle)) M.blank) ≡ upd (λ u. cond (ltb u n) (recOf (getD l u idle)) M.blank) t (recOf r)
+pub task-set : (n : ℕ) (l : List TaskRecord) (t : ℕ) (r : TaskRecord) → t < length l → t < n
+    → (λ (u : ℕ). cond (ltb u n) (recOf (getD (set l t r) u unused .call)) M.blank) ≡ upd (λ u. cond (ltb u n) (recOf (getD l u unused .call)) M.blank) t (recOf (r .call))
 unfolding upd
-task-set n l t r h g = fun-ext (λ u. by-test (λ v. cond (ltb u n) (recOf (getD (set l t r) u idle)) M.blank ≡ v) (eqb u t)
+task-set n l t r h g = fun-ext (λ u. by-test (λ v. cond (ltb u n) (recOf (getD (set l t r) u unused .call)) M.blank ≡ v) (eqb u t)
     (λ e. let z = eqb-true u t e in
-    ap (λ (b : Bool). cond b (recOf (getD (set l t r) u idle)) M.blank) (lt-ltb u n (omega arith))
-    ∙ ap (λ (v : ℕ). recOf (getD (set l t r) v idle)) z ∙ ap recOf (getD-set-same l t r idle h))
-    (λ e. ap (λ (v : Record). cond (ltb u n) (recOf v) M.blank) (getD-set-other l t u r idle (eqb-false u t e))))
+    ap (λ (b : Bool). cond b (recOf (getD (set l t r) u unused .call)) M.blank) (lt-ltb u n (omega arith))
+    ∙ ap (λ (v : ℕ). recOf (getD (set l t r) v unused .call)) z ∙ ap (λ (x : TaskRecord). recOf (x .call)) (getD-set-same l t r unused h))
+    (λ e. ap (λ (v : TaskRecord). cond (ltb u n) (recOf (v .call)) M.blank) (getD-set-other l t u r unused (eqb-false u t e))))
 
 -- No touch changes the numbers of tasks and slots.
 pub touched-tasks : (t : Touch) (q : Tables) → apply t q .control .tasks ≡ q .control .tasks
@@ -93,27 +92,27 @@ set-keeps P l x w y h p g = go (decide-eq y x)
     go (inr z) = subst P (sym (getD-set-other l x y w 0 z)) g
 
 module _ (q : Tables) (h : RowsFine q) where
-  relinked : (n side x w : ℕ) → x ≤ q .control .slots → view (apply (setLink side x w) (withRetries q n)) .link ≡ relink (view q .link) (eqb side 1) x (linkSeen w)
+  relinked : (side x w : ℕ) → x ≤ q .control .slots → view (apply (setLink side x w) q) .link ≡ relink (view q .link) (eqb side 1) x (linkSeen w)
   unfolding view relink
-  relinked n side x w hx = split (eqb side 1)
+  relinked side x w hx = split (eqb side 1)
       (λ e. rw e (fun-ext (elim [ false ↦ refl | true ↦ upd-list linkSeen (q .rights) 0 w x (omega (arith, h .rights)) ])))
       (λ e. rw e (fun-ext (elim [ false ↦ upd-list linkSeen (q .lefts) 0 w x (omega (arith, h .lefts)) | true ↦ refl ])))
 
-  pub view-touched : (n : ℕ) (t : Touch) → TouchFine (isPooled (q .control)) (q .control .slots) t → view (apply t (withRetries q n)) ≡ M.apply (view q) (touchSeen t)
+  pub view-touched : (t : Touch) → TouchFine (isPooled (q .control)) (q .control .slots) t → view (apply t q) ≡ M.apply (view q) (touchSeen t)
   unfolding view
-  view-touched n nothing f = refl
-  view-touched n (setAnchor w) f = refl
-  view-touched n (setLink side x w) f = λ i. record {
+  view-touched nothing f = refl
+  view-touched (setAnchor w) f = refl
+  view-touched (setLink side x w) f = λ i. record {
     slots = q .control .slots;
     pooled = view q .pooled;
     anchor = view q .anchor;
     head = view q .head;
     next = view q .next;
-    link = relinked n side x w (f .0) i;
+    link = relinked side x w (f .0) i;
     label = view q .label;
     mark = view q .mark;
   }
-  view-touched n (clearMark x) f = λ i. record {
+  view-touched (clearMark x) f = λ i. record {
     slots = q .control .slots;
     pooled = view q .pooled;
     anchor = view q .anchor;
@@ -123,7 +122,7 @@ module _ (q : Tables) (h : RowsFine q) where
     label = view q .label;
     mark = upd-mark (q .marks) x 0 (omega arith) (omega (arith, h .marks)) i;
   }
-  view-touched n (takeSlot w x l) f = λ i. record {
+  view-touched (takeSlot w x l) f = λ i. record {
     slots = q .control .slots;
     pooled = view q .pooled;
     anchor = view q .anchor;
@@ -133,7 +132,7 @@ module _ (q : Tables) (h : RowsFine q) where
     label = upd-list (λ v. v) (q .labels) 0 l x (omega (arith, h .labels, f .1)) i;
     mark = upd-mark (q .marks) x 1 (omega arith) (omega (arith, h .marks, f .1)) i;
   }
-  view-touched n (setNext x v) f = λ i. record {
+  view-touched (setNext x v) f = λ i. record {
     slots = q .control .slots;
     pooled = view q .pooled;
     anchor = view q .anchor;
@@ -143,7 +142,7 @@ module _ (q : Tables) (h : RowsFine q) where
     label = view q .label;
     mark = view q .mark;
   }
-  view-touched n (setHead w) f = refl
+  view-touched (setHead w) f = refl
 
   pub view-taken : (x l : ℕ) → x ≤ q .control .slots → view (taken q x l) ≡ M.withLabel (view q) x l
   unfolding view
@@ -158,20 +157,20 @@ module _ (q : Tables) (h : RowsFine q) where
     mark = upd-mark (q .marks) x 1 (omega arith) (omega (arith, h .marks)) i;
   }
 
-  pub links-touched : LinksFine q → (n : ℕ) (t : Touch) → TouchFine (isPooled (q .control)) (q .control .slots) t → LinksFine (apply t (withRetries q n))
-  links-touched k n nothing f = record { spare = k .spare; tag = k .tag; slot = k .slot; next = k .next; head = k .head }
-  links-touched k n (setAnchor w) f = record { spare = k .spare; tag = k .tag; slot = k .slot; next = k .next; head = k .head }
-  links-touched k n (clearMark x) f = record { spare = k .spare; tag = k .tag; slot = k .slot; next = k .next; head = k .head }
-  links-touched k n (takeSlot w x l) f = record { spare = k .spare; tag = k .tag; slot = k .slot; next = k .next; head = f .2 }
-  links-touched k n (setHead w) f = record { spare = k .spare; tag = k .tag; slot = k .slot; next = k .next; head = f }
-  links-touched k n (setNext x v) f = record {
+  pub links-touched : LinksFine q → (t : Touch) → TouchFine (isPooled (q .control)) (q .control .slots) t → LinksFine (apply t q)
+  links-touched k nothing f = record { spare = k .spare; tag = k .tag; slot = k .slot; next = k .next; head = k .head }
+  links-touched k (setAnchor w) f = record { spare = k .spare; tag = k .tag; slot = k .slot; next = k .next; head = k .head }
+  links-touched k (clearMark x) f = record { spare = k .spare; tag = k .tag; slot = k .slot; next = k .next; head = k .head }
+  links-touched k (takeSlot w x l) f = record { spare = k .spare; tag = k .tag; slot = k .slot; next = k .next; head = f .2 }
+  links-touched k (setHead w) f = record { spare = k .spare; tag = k .tag; slot = k .slot; next = k .next; head = f }
+  links-touched k (setNext x v) f = record {
     spare = k .spare;
     tag = k .tag;
     slot = k .slot;
     next = λ p y g. set-keeps (λ z. z ≤ q .control .slots) (q .next) x v y (omega (arith, h .next p, f .1)) (f .2) (k .next p y g);
     head = k .head;
   }
-  links-touched k n (setLink side x w) f = record {
+  links-touched k (setLink side x w) f = record {
     spare = λ d y g. stays (λ v. spareOf v ≡ 0) (f .1 .0) d y (λ d. k .spare d y g);
     tag = λ d y g. stays (λ v. linkOf v .tag < 2 ^ 32) (f .1 .2) d y (λ d. k .tag d y g);
     slot = λ d y g. stays (λ v. linkOf v .slot ≤ q .control .slots) (f .1 .1) d y (λ d. k .slot d y g);
@@ -179,6 +178,6 @@ module _ (q : Tables) (h : RowsFine q) where
     head = k .head;
   }
     where
-      stays : (P : ℕ → Type 0) → P w → (d : Bool) (y : ℕ) → ((d : Bool) → P (linkAt q d y)) → P (linkAt (apply (setLink side x w) (withRetries q n)) d y)
+      stays : (P : ℕ → Type 0) → P w → (d : Bool) (y : ℕ) → ((d : Bool) → P (linkAt q d y)) → P (linkAt (apply (setLink side x w) q) d y)
       stays P p false y o = by-test (λ l. P (getD l y 0)) (eqb side 1) (λ e. o false) (λ e. set-keeps P (q .lefts) x w y (omega (arith, h .lefts, f .0)) p (o false))
       stays P p true y o = by-test (λ l. P (getD l y 0)) (eqb side 1) (λ e. set-keeps P (q .rights) x w y (omega (arith, h .rights, f .0)) p (o true)) (λ e. o true)

@@ -6,42 +6,36 @@ use Prim.Native.Nat.{ℕ}
 use lib.Dec.{eqb}
 use Rattle.word.specs.Anchor.{anchorOf}
 use Rattle.model.specs.declared.Record.{Record}
-use Rattle.model.specs.Tables.{Tables, isPooled}
+use Rattle.model.specs.declared.TaskRecord.{TaskRecord}
+use Rattle.model.specs.Tables.{Tables, isPooled, atPlace, withCall}
 use Rattle.model.specs.Sound.{isPop, controlSound, recordSound, rowsFit}
 use Rattle.model.specs.Places.{sideOf, row, reading, at1, at2, at4, move}
 use Rattle.model.specs.Route.{counted, goes}
 use Rattle.model.specs.Refusals.{Lent, stepSound, stepRefusal}
-use Rattle.model.specs.Calls.{withRetries, finish, step}
+use Rattle.model.specs.Calls.{finish, step}
 use Rattle.model.proofs.tests.Truth.{split}
 use Rattle.model.proofs.laws.Onward.{reads-on}
 
-module _ (q : Tables) (p : Lent) (r : Record) where
-  -- The record at another place, and the tables with one more failed change.
-  abbrev at : ℕ → Record
-  at place = record {
-    place = place;
-    kind = r .kind;
-    side = r .side;
-    own = r .own;
-    label = r .label;
-    seen = r .seen;
-    neighbour = r .neighbour;
-    link = r .link;
-    finishing = r .finishing;
-  }
+module _ (q : Tables) (p : Lent) (t : TaskRecord) where
+  abbrev r : Record
+  r = t .call
 
-  abbrev retried : Tables
-  retried = withRetries q (counted (q .control .retries) true)
+  -- The call at another place, and at 1 with one more failed change.
+  abbrev at : ℕ → TaskRecord
+  at place = withCall t (atPlace r place)
+
+  abbrev retried : TaskRecord
+  retried = record { call = atPlace r 1; retries = counted (t .retries) true }
 
   -- A step at this place that is not refused is place 1's.
   abbrev ReadsAs1 : ℕ → Type 0
-  ReadsAs1 place = stepRefusal q p (at place) ≡ 0 → step q p (at place) ≡ step retried p (at 1)
+  ReadsAs1 place = stepRefusal q p (atPlace r place) ≡ 0 → step q p (at place) ≡ step q p retried
 
   abbrev outcome : ℕ
   outcome = reading (isPop r) (anchorOf (q .control .anchor))
 
   module _ (moved : eqb (q .control .anchor) (r .seen) ≡ false) where
-    same2 : stepRefusal retried p (at 1) ≡ stepRefusal q p (at 2)
+    same2 : stepRefusal q p (atPlace r 1) ≡ stepRefusal q p (atPlace r 2)
     unfolding stepRefusal stepSound recordSound controlSound rowsFit move at1 at2
     same2 = split (isPooled (q .control)) (λ e. rw (moved, e)) (λ e. rw (moved, e))
 
@@ -49,7 +43,7 @@ module _ (q : Tables) (p : Lent) (r : Record) where
     unfolding step finish move at1 at2 row sideOf counted goes
     failed2 none = rw (same2, none, moved, reads-on (r .kind) outcome .0)
 
-    same4 : stepRefusal retried p (at 1) ≡ stepRefusal q p (at 4)
+    same4 : stepRefusal q p (atPlace r 1) ≡ stepRefusal q p (atPlace r 4)
     unfolding stepRefusal stepSound recordSound controlSound rowsFit move at1 at4
     same4 = split (isPooled (q .control)) (λ e. rw (moved, e)) (λ e. rw (moved, e))
 

@@ -7,10 +7,10 @@ use native.Mathlib.Omega.{arith}
 use lib.Dec.{eqb, leb, ltb}
 use lib.ListN.{length, set, length-set, length-append, length-replicate, length-drop}
 use borrow.Author.Tests.{leb-true, ltb-true, not-false}
-use Rattle.model.specs.declared.Record.{Record}
+use Rattle.model.specs.declared.TaskRecord.{TaskRecord}
 use Rattle.model.specs.declared.Op.{Op}
 use Rattle.model.specs.declared.Op.the-variants.{Push, Pop, Put, Step}
-use Rattle.model.specs.Tables.{Tables, Queue, zeroed, idle, recordAt}
+use Rattle.model.specs.Tables.{Tables, Queue, zeroed, unused, taskAt}
 use Rattle.model.specs.Sound.{rowTests, rowsFit}
 use Rattle.model.specs.Places.{Touch, nothing, setAnchor, setLink, clearMark, takeSlot, setNext, setHead, linkMet, move, apply}
 use Rattle.model.specs.Refusals.{Lent, among, alone, openRules, stepRefusal, pushRefusal, putRefusal, popRefusal}
@@ -55,24 +55,24 @@ touched (setNext x v) q = simp length-set
 touched (setHead w) q = refl
 
 -- Refused or carried out.
-settled : (why : ℕ) (q : Tables) (r : Record) (done : Acted) → lengths (done .tables) ≡ lengths q → lengths (decide why q r done .tables) ≡ lengths q
+settled : (why : ℕ) (q : Tables) (r : TaskRecord) (done : Acted) → lengths (done .tables) ≡ lengths q → lengths (decide why q r done .tables) ≡ lengths q
 settled why q r done e = either (λ (a : Acted). lengths (a .tables) ≡ lengths q) (eqb why 0) e refl
 
-act-on : (q : Tables) (p : Lent) (r : Record) (o : Op) → lengths (actOn q p r o .tables) ≡ lengths q
+act-on : (q : Tables) (p : Lent) (r : TaskRecord) (o : Op) → lengths (actOn q p r o .tables) ≡ lengths q
 unfolding actOn pushStart putStart popStart step finish
-act-on q p r (Push side slot label) = settled (pushRefusal q p r side slot) q r _ (simp length-set)
-act-on q p r (Pop side) = settled (popRefusal q p r side) q r _ refl
-act-on q p r (Put side label) = settled (putRefusal q p r side) q r _ refl
-act-on q p r Step = settled (stepRefusal q p r) q r _ (touched (move (q .control) r (linkMet q r) .touch) _)
+act-on q p r (Push side slot label) = settled (pushRefusal q p (r .call) side slot) q r _ (simp length-set)
+act-on q p r (Pop side) = settled (popRefusal q p (r .call) side) q r _ refl
+act-on q p r (Put side label) = settled (putRefusal q p (r .call) side) q r _ refl
+act-on q p r Step = settled (stepRefusal q p (r .call)) q r _ (touched (move (q .control) (r .call) (linkMet q (r .call)) .touch) _)
 
 -- The laws.
-pub lent-lengths : (q : Tables) (r : Record) → lengths (stepLent q r .tables) ≡ lengths q
+pub lent-lengths : (q : Tables) (r : TaskRecord) → lengths (stepLent q r .tables) ≡ lengths q
 unfolding stepLent actOn
 lent-lengths q r = act-on q alone r Step
 
 pub act-lengths : (q : Queue) (t : ℕ) (o : Op) → SameLengths q (act q t o .queue)
 unfolding act
-act-lengths q t o = record { tables = act-on (q .tables) (among q t) (recordAt q t) o; records = length-set (q .records) t _ }
+act-lengths q t o = record { tables = act-on (q .tables) (among q t) (taskAt q t) o; records = length-set (q .records) t _ }
 
 -- Zeroed within its length, a table keeps it.
 length-zeroed : {A : Type 0} (n : ℕ) (z : A) (l : List A) → n ≤ length l → length (zeroed n z l) ≡ length l
@@ -103,5 +103,5 @@ open-lengths pooled q tasks slots tag = go (open-decided pooled q tasks slots ta
             marks = row-zeroed (slots / 64) (q .tables .marks) (rows .1 .1 .1 .0) i;
             next = next-length pooled slots (q .tables .next) (rows .1 .1 .1 .1 .0) i;
           };
-          records = length-zeroed tasks idle (q .records) (leb-true _ _ (long .1));
+          records = length-zeroed tasks unused (q .records) (leb-true _ _ (long .1));
         }

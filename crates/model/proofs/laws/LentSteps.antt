@@ -10,7 +10,7 @@ use lib.ListN.{length}
 use lib.Seq.{set-getD}
 use Rattle.model.specs.declared.Outcome.the-variants.{Refused}
 use Rattle.model.specs.declared.Op.the-variants.{Step}
-use Rattle.model.specs.Tables.{Queue, idle, recordAt}
+use Rattle.model.specs.Tables.{Queue, taskAt, unused}
 use Rattle.model.specs.Refusals.{Rule, alone, first, stepRefusal, stepRules}
 use Rattle.model.specs.Calls.{Acted, Done, act, finish, step, stepLent}
 use Rattle.model.specs.History.{All, Event, Request, final, run}
@@ -21,14 +21,14 @@ use Rattle.model.proofs.laws.LentRecord.{lent-record, withRow}
 use Rattle.model.proofs.laws.Sizes.{act-tasks}
 
 -- A task's own record, put where it lies.
-own-row : (q : Queue) (t : ℕ) → withRow q t (recordAt q t) ≡ q
-own-row q t = λ i. record { tables = q .tables; records = set-getD (q .records) t idle i }
+own-row : (q : Queue) (t : ℕ) → withRow q t (taskAt q t) ≡ q
+own-row q t = λ i. record { tables = q .tables; records = set-getD (q .records) t unused i }
 
 turn-is : (q : Queue) (u : Turn) → q .tables .control .tasks ≤ length (q .records) → Lendable (q .tables .control .tasks) u
     → takeTurn q u ≡ act q (requestOf u .task) (requestOf u .op)
 unfolding takeTurn
 turn-is q (asked o) long h = refl
-turn-is q (lent t) long h = sym (lent-record q t (recordAt q t) h long) ∙ ap (λ (p : Queue). act p t Step) (own-row q t)
+turn-is q (lent t) long h = sym (lent-record q t (taskAt q t) h long) ∙ ap (λ (p : Queue). act p t Step) (own-row q t)
 
 abbrev shown : Queue → Request → Done → Event
 shown q o d = record { task = o .task; op = o .op; outcome = d .outcome; before = q .tables .control .anchor; after = d .queue .tables .control .anchor }
@@ -59,7 +59,7 @@ refused-by e = cc
 
 pub lent-known : LentKnown
 unfolding stepLent step stepRefusal finish
-lent-known q r = by-test (λ (a : Acted). a .outcome ≢ Refused 13) (eqb (stepRefusal q alone r) 0)
+lent-known q r = by-test (λ (a : Acted). a .outcome ≢ Refused 13) (eqb (stepRefusal q alone (r .call)) 0)
     (λ z e. let w : _≡_ {A = ℕ} 0 1 = cc in omega arith)
-    (λ z e. not-given 13 (stepRules q alone r) (λ w. omega arith)
+    (λ z e. not-given 13 (stepRules q alone (r .call)) (λ w. omega arith)
     ((λ t w. omega arith), ((λ t w. omega arith), ((λ t. absurd (not-both t refl)), ((λ t w. omega arith), ((λ t w. omega arith), ((λ t w. omega arith), tt)))))) (refused-by e))

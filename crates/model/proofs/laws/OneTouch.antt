@@ -1,6 +1,7 @@
--- A step changes one shared word at the most, the retry count among them: a failed change is counted and changes nothing else.
+-- A step changes one shared word at the most; where a failed change is counted, in the task's own record, none.
 -- The one exception is 14 done, which sets the head, the slot's label and its mark.
-use mathlib.Core.Path.{_≡_, refl}
+use mathlib.Core.Logic.{_⊎_, inl, inr}
+use mathlib.Core.Path.{_≡_, refl, subst, sym}
 use mathlib.Core.Bool.{Bool, true, false, cond}
 use Prim.Native.Nat.{ℕ}
 use lib.Dec.{eqb}
@@ -9,16 +10,17 @@ use lib.Seq.{getD-set-other}
 use borrow.Author.Tests.{eqb-true}
 use Rattle.model.specs.declared.Control.{Control}
 use Rattle.model.specs.declared.Record.{Record}
+use Rattle.model.specs.declared.TaskRecord.{TaskRecord}
 use Rattle.model.specs.declared.Op.{Op}
 use Rattle.model.specs.declared.Op.the-variants.{Step}
-use Rattle.model.specs.Tables.{Tables, Queue, isPooled, idle, recordAt}
+use Rattle.model.specs.Tables.{Tables, Queue, isPooled, recordAt, taskAt, unused}
 use Rattle.model.specs.Places.{Touch, nothing, setAnchor, setLink, clearMark, takeSlot, setNext, setHead, Move, linkMet, move, apply}
 use Rattle.model.specs.Places.{at1, at2, at3, at4, at5, at6, at7, at9, at10, at11, at12, at13, at14, at15, at16, at17}
 use Rattle.model.specs.Sound.{isPush}
 use Rattle.model.specs.Route.{counted}
 use Rattle.model.specs.Refusals.{Lent, among, alone, stepRefusal}
 use Rattle.model.specs.Calls.{Acted, finish, step, actOn, act, stepLent}
-use Rattle.model.specs.OneTouch.{OneTouch, untouched, anchor, retries, left, right, mark, next, head, drawn, withLefts, withRights}
+use Rattle.model.specs.OneTouch.{OneTouch, untouched, anchor, left, right, mark, next, head, drawn, withLefts, withRights}
 use Rattle.model.proofs.laws.Tests.{either, by-test}
 
 -- A slot is drawn at 14 alone.
@@ -135,27 +137,49 @@ applied place (takeSlot w x l) q d = drawn w x l d
 applied place (setNext x v) q d = next x v
 applied place (setHead w) q d = head w
 
-finished : (q : Tables) (r : Record) (m : Move) → Single (r .place) m → OneTouch (r .place) q (finish q r m .tables)
-unfolding finish counted
-finished q r m (touches e d) = rw e (applied (r .place) (m .touch) q d)
-finished q r m (counts e) = rw e (retries _)
+abbrev moved : Tables → TaskRecord → Move
+moved q r = move (q .control) (r .call) (linkMet q (r .call))
 
-step-touch : (q : Tables) (p : Lent) (r : Record) → OneTouch (r .place) q (step q p r .tables)
-unfolding step
+-- What a single move touches is drawn at 14 alone, if at all.
+drawn14 : (place : ℕ) (m : Move) → Single place m → Draws14 place (m .touch)
+drawn14 place m (touches e d) = d
+drawn14 place m (counts e) = subst (Draws14 place) (sym e) tt
+
+step-touch : (q : Tables) (p : Lent) (r : TaskRecord) → OneTouch (r .call .place) q (step q p r .tables)
+unfolding step finish
 step-touch q p r =
-    either (λ (a : Acted). OneTouch (r .place) q (a .tables)) (eqb (stepRefusal q p r) 0)
-    (finished q r (move (q .control) r (linkMet q r)) (single (q .control) r (linkMet q r))) untouched
+    either (λ (a : Acted). OneTouch (r .call .place) q (a .tables)) (eqb (stepRefusal q p (r .call)) 0)
+    (applied (r .call .place) (moved q r .touch) q (drawn14 (r .call .place) (moved q r) (single (q .control) (r .call) (linkMet q (r .call))))) untouched
+
+-- Where a failed change is counted no shared word is touched.
+abbrev Uncounted : Tables → TaskRecord → Acted → Type 0
+Uncounted q r a = (a .task .retries ≡ r .retries) ⊎ (a .tables ≡ q)
+
+uncounted : (q : Tables) (r : TaskRecord) (m : Move) → Single (r .call .place) m → Uncounted q r (finish q r m)
+unfolding finish counted
+uncounted q r m (touches e d) = inl (rw e)
+uncounted q r m (counts e) = inr (rw e)
+
+step-uncounted : (q : Tables) (p : Lent) (r : TaskRecord) → Uncounted q r (step q p r)
+unfolding step
+step-uncounted q p r =
+    either (Uncounted q r) (eqb (stepRefusal q p (r .call)) 0)
+    (uncounted q r (moved q r) (single (q .control) (r .call) (linkMet q (r .call)))) (inl refl)
 
 -- The laws, for all arguments.
-pub lent-touch : (q : Tables) (r : Record) → OneTouch (r .place) q (stepLent q r .tables)
+pub lent-touch : (q : Tables) (r : TaskRecord) → OneTouch (r .call .place) q (stepLent q r .tables)
 unfolding stepLent
 lent-touch q r = step-touch q alone r
 
 pub act-touch : (q : Queue) (t : ℕ) → OneTouch (recordAt q t .place) (q .tables) (act q t Step .queue .tables)
 unfolding act actOn
-act-touch q t = step-touch (q .tables) (among q t) (recordAt q t)
+act-touch q t = step-touch (q .tables) (among q t) (taskAt q t)
+
+pub lent-uncounted : (q : Tables) (r : TaskRecord) → (stepLent q r .task .retries ≡ r .retries) ⊎ (stepLent q r .tables ≡ q)
+unfolding stepLent
+lent-uncounted q r = step-uncounted q alone r
 
 -- No start or step changes the record of another task.
-pub act-others : (q : Queue) (t u : ℕ) (o : Op) → (u ≡ t → ⊥) → recordAt (act q t o .queue) u ≡ recordAt q u
+pub act-others : (q : Queue) (t u : ℕ) (o : Op) → (u ≡ t → ⊥) → taskAt (act q t o .queue) u ≡ taskAt q u
 unfolding act
-act-others q t u o other = getD-set-other (q .records) t u _ idle other
+act-others q t u o other = getD-set-other (q .records) t u _ unused other

@@ -8,13 +8,14 @@ use lib.Dec.{ltb, eqb}
 use lib.Seq.{set-getD}
 use borrow.Author.Tests.{ltb-true, ne-eqb}
 use Rattle.model.specs.declared.Record.{Record}
+use Rattle.model.specs.declared.TaskRecord.{TaskRecord}
 use Rattle.model.specs.declared.Answer.{Answer}
 use Rattle.model.specs.declared.Answer.the-variants.{Running}
 use Rattle.model.specs.declared.Outcome.the-variants.{Refused, Moved}
 use Rattle.model.specs.declared.Opening.the-variants as opening
 use Rattle.model.specs.declared.Op.{Op}
 use Rattle.model.specs.declared.Op.the-variants.{Push, Pop, Put, Step}
-use Rattle.model.specs.Tables.{Tables, Queue, idle, recordAt}
+use Rattle.model.specs.Tables.{Tables, Queue, unused, taskAt}
 use Rattle.model.specs.Refusals.{Rule, rule, first, openRules, openRefusal, Lent, among, alone, pushRules, pushRefusal, putRules, putRefusal, popRules, popRefusal, stepRules, stepRefusal}
 use Rattle.model.specs.History.{All}
 use Rattle.model.specs.Calls.{opened, OpenDone, openAs, Acted, decide, pushStart, putStart, popStart, finish, step, actOn, back, act, stepLent}
@@ -57,11 +58,11 @@ none-applies l h e = go (find l h) e
     go (some n h f) e = absurd (omega arith)
 
 -- A start or step is carried out if no rule applies; else it answers the first one's number, and record and tables are as they were.
-pub data Decided (rules : List Rule) (q : Tables) (r : Record) : Acted → Type 0 where
+pub data Decided (rules : List Rule) (q : Tables) (r : TaskRecord) : Acted → Type 0 where
   accepted : {done : Acted} (a : Answer) → NoneApplies rules → done .outcome ≡ Moved a → Decided rules q r done
   refused : (n : ℕ) → FirstApplies n rules → Decided rules q r (record { tables = q; task = r; outcome = Refused n })
 
-decided-by : (rules : List Rule) → numbered rules ≡ true → (q : Tables) (r : Record) (done : Acted) (a : Answer) → done .outcome ≡ Moved a
+decided-by : (rules : List Rule) → numbered rules ≡ true → (q : Tables) (r : TaskRecord) (done : Acted) (a : Answer) → done .outcome ≡ Moved a
     → Decided rules q r (decide (first rules) q r done)
 decided-by rules h q r done a e = go (first rules) (find rules h)
   where
@@ -76,15 +77,15 @@ rulesOf q p r (Pop side) = popRules q p r side
 rulesOf q p r (Put side label) = putRules q p r side
 rulesOf q p r Step = stepRules q p r
 
-pub decided : (q : Tables) (p : Lent) (r : Record) (o : Op) → Decided (rulesOf q p r o) q r (actOn q p r o)
+pub decided : (q : Tables) (p : Lent) (r : TaskRecord) (o : Op) → Decided (rulesOf q p (r .call) o) q r (actOn q p r o)
 unfolding actOn pushStart putStart popStart step finish pushRefusal putRefusal popRefusal stepRefusal
-decided q p r (Push side slot label) = decided-by (pushRules q p r side slot) refl q r _ (Running 1) refl
-decided q p r (Pop side) = decided-by (popRules q p r side) refl q r _ (Running 1) refl
-decided q p r (Put side label) = decided-by (putRules q p r side) refl q r _ (Running 12) refl
-decided q p r Step = decided-by (stepRules q p r) refl q r _ _ refl
+decided q p r (Push side slot label) = decided-by (pushRules q p (r .call) side slot) refl q r _ (Running 1) refl
+decided q p r (Pop side) = decided-by (popRules q p (r .call) side) refl q r _ (Running 1) refl
+decided q p r (Put side label) = decided-by (putRules q p (r .call) side) refl q r _ (Running 12) refl
+decided q p r Step = decided-by (stepRules q p (r .call)) refl q r _ _ refl
 
 -- What a refused start or step of a record leaves.
-unmoved : {rules : List Rule} {q : Tables} {r : Record} {done : Acted} → Decided rules q r done → (n : ℕ) → done .outcome ≡ Refused n
+unmoved : {rules : List Rule} {q : Tables} {r : TaskRecord} {done : Acted} → Decided rules q r done → (n : ℕ) → done .outcome ≡ Refused n
     → done ≡ record { tables = q; task = r; outcome = Refused n }
 unmoved (accepted a f e) n h = absurd (let z : _≡_ {A = ℕ} 0 1 = cc in omega arith)
 unmoved {q = q} {r = r} (refused m f) n h = λ i. record { tables = q; task = r; outcome = h i }
@@ -92,10 +93,10 @@ unmoved {q = q} {r = r} (refused m f) n h = λ i. record { tables = q; task = r;
 pub act-refused : (q : Queue) (t : ℕ) (o : Op) (n : ℕ) → act q t o .outcome ≡ Refused n → act q t o .queue ≡ q
 unfolding act
 act-refused q t o n h =
-    let e = unmoved (decided (q .tables) (among q t) (recordAt q t) o) n h in
-    ap (λ (a : Acted). back q t a .queue) e ∙ λ i. record { tables = q .tables; records = set-getD (q .records) t idle i }
+    let e = unmoved (decided (q .tables) (among q t) (taskAt q t) o) n h in
+    ap (λ (a : Acted). back q t a .queue) e ∙ λ i. record { tables = q .tables; records = set-getD (q .records) t unused i }
 
-pub lent-refused : (q : Tables) (r : Record) (n : ℕ) → stepLent q r .outcome ≡ Refused n → stepLent q r ≡ record { tables = q; task = r; outcome = Refused n }
+pub lent-refused : (q : Tables) (r : TaskRecord) (n : ℕ) → stepLent q r .outcome ≡ Refused n → stepLent q r ≡ record { tables = q; task = r; outcome = Refused n }
 unfolding stepLent actOn
 lent-refused q r n h = unmoved (decided q alone r Step) n h
 

@@ -13,7 +13,7 @@ use Rattle.model.specs.Calls.{Acted, Done, act, actOn, back, finish, pop
 use Rattle.model.specs.History.{All, Call, Event, Ledger, Request, accept, attend, begins, final, ledgerFrom, note, over, run}
 use Rattle.model.specs.Places.{linkMet, move, taken}
 use Rattle.model.specs.Refusals.{among, popRefusal, pushRefusal, putRefusal, stepRefusal}
-use Rattle.model.specs.Tables.{Queue, asking, idle, isPooled, recordAt, started}
+use Rattle.model.specs.Tables.{Queue, asking, isPooled, recordAt, started, taskAt, unused, withCall}
 use Rattle.model.specs.declared.Answer.the-variants.{Empty, NoSlot, Popped, Pushed, Running}
 use Rattle.model.specs.declared.Answer.{Answer}
 use Rattle.model.specs.declared.Entry.{Entry}
@@ -21,6 +21,7 @@ use Rattle.model.specs.declared.Op.the-variants.{Pop, Push, Put, Step}
 use Rattle.model.specs.declared.Op.{Op}
 use Rattle.model.specs.declared.Outcome.the-variants.{Moved, Refused}
 use Rattle.model.specs.declared.Record.{Record}
+use Rattle.model.specs.declared.TaskRecord.{TaskRecord}
 use Rattle.model.proofs.tests.Truth.{by-test, decide-eq}
 use Rattle.model.proofs.lists.Store.{set-back}
 use Rattle.model.proofs.machine.Answers.{EndsAt}
@@ -73,6 +74,10 @@ module _ (n : ℕ) (q : Queue) (l : Ledger) (g : Matched n q l) (t : ℕ) where
   abbrev r : Record
   r = recordAt q t
 
+  -- The task's record with another call.
+  abbrev put : Record → TaskRecord
+  put c = withCall (taskAt q t) c
+
   abbrev After : Op → Done → Type 0
   After o d = Matched (suc n) (d .queue) (note n (record { task = t; op = o; outcome = d .outcome; before = q .tables .control .anchor; after = d .queue .tables .control .anchor }) (d .outcome) l)
 
@@ -80,9 +85,9 @@ module _ (n : ℕ) (q : Queue) (l : Ledger) (g : Matched n q l) (t : ℕ) where
   Puts o a = After o (back q t a)
 
   -- A refused operation puts the record back as it was.
-  refused : (o : Op) (why : ℕ) → Puts o (record { tables = q .tables; task = r; outcome = Refused why })
+  refused : (o : Op) (why : ℕ) → Puts o (record { tables = q .tables; task = taskAt q t; outcome = Refused why })
   unfolding note
-  refused o why = subst (λ (x : List Record). Matched (suc n) (record { tables = q .tables; records = x }) l) (sym (set-back (q .records) t idle))
+  refused o why = subst (λ (x : List TaskRecord). Matched (suc n) (record { tables = q .tables; records = x }) l) (sym (set-back (q .records) t unused))
       (record { book = g .book; inv = g .inv; links = g .links; deque = g .deque; tracks = tracks-mono (isPooled (q .tables .control)) n (g .book .calls) (l .calls) (g .tracks); busy = g .busy })
 
   module _ (s : Stepping q t) where
@@ -121,7 +126,7 @@ module _ (n : ℕ) (q : Queue) (l : Ledger) (g : Matched n q l) (t : ℕ) where
     attended = subst (λ d. Attended (isPooled (q .tables .control)) n b t k ev a (l .calls) (attend n ev a d (l .calls))) (g .deque)
         (attend-keeps (isPooled (q .tables .control)) n b k ev a ready (kept-head b t _ a (kept .kept)) (l .calls) (g .busy t ∙ ap busyNo was-busy) (g .tracks))
 
-    step-good : Puts Step (finish (q .tables) r (move (q .tables .control) r (linkMet (q .tables) r)))
+    step-good : Puts Step (finish (q .tables) (taskAt q t) (move (q .tables .control) r (linkMet (q .tables) r)))
     unfolding note accept finish
     step-good = record {
       book = bookAfter b t k ev a;
@@ -181,22 +186,22 @@ module _ (n : ℕ) (q : Queue) (l : Ledger) (g : Matched n q l) (t : ℕ) where
     unnamed false = refl
     unnamed true = refl
 
-    replaced : (x : Record) (u : ℕ) → stateOf (record { tables = q .tables; records = set (q .records) t x }) .task u ≡ upd (stateOf q .task) t (recOf x) u
-    replaced x u = ap (λ (f : ℕ → M.Rec). f u) (put-back q t z x)
+    replaced : (x : Record) (u : ℕ) → stateOf (record { tables = q .tables; records = set (q .records) t (put x) }) .task u ≡ upd (stateOf q .task) t (recOf x) u
+    replaced x u = ap (λ (f : ℕ → M.Rec). f u) (put-back q t z (put x))
 
-    pop-good : (side : ℕ) → Puts (Pop side) (record { tables = q .tables; task = started 1 side 0 0; outcome = Moved (Running 1) })
+    pop-good : (side : ℕ) → Puts (Pop side) (record { tables = q .tables; task = put (started 1 side 0 0); outcome = Moved (Running 1) })
     unfolding note accept recOf
-    pop-good side = begun (record { tables = q .tables; records = set (q .records) t (started 1 side 0 0) }) (started 1 side 0 0) 1 side (record { slot = 0; label = 0 }) refl refl
+    pop-good side = begun (record { tables = q .tables; records = set (q .records) t (put (started 1 side 0 0)) }) (started 1 side 0 0) 1 side (record { slot = 0; label = 0 }) refl refl
         (replaced (started 1 side 0 0)) (unnamed (isPooled (q .tables .control))) (pop-keeps q (g .book) (g .inv) (g .links) t z free side) (g .links)
 
-    put-good : (side y : ℕ) → isPooled (q .tables .control) ≡ true → Puts (Put side y) (record { tables = q .tables; task = asking side y; outcome = Moved (Running 12) })
+    put-good : (side y : ℕ) → isPooled (q .tables .control) ≡ true → Puts (Put side y) (record { tables = q .tables; task = put (asking side y); outcome = Moved (Running 12) })
     unfolding note accept recOf
-    put-good side y p = begun (record { tables = q .tables; records = set (q .records) t (asking side y) }) (asking side y) 0 side (record { slot = 0; label = y }) refl refl
+    put-good side y p = begun (record { tables = q .tables; records = set (q .records) t (put (asking side y)) }) (asking side y) 0 side (record { slot = 0; label = y }) refl refl
         (replaced (asking side y)) (unnamed (isPooled (q .tables .control))) (put-keeps q (g .book) (g .inv) (g .links) t z free side y p) (g .links)
 
-    push-good : (side x y : ℕ) → Pushing q t side x → Puts (Push side x y) (record { tables = taken (q .tables) x y; task = started 0 side x y; outcome = Moved (Running 1) })
+    push-good : (side x y : ℕ) → Pushing q t side x → Puts (Push side x y) (record { tables = taken (q .tables) x y; task = put (started 0 side x y); outcome = Moved (Running 1) })
     unfolding note accept stateOf recOf
-    push-good side x y p = begun (record { tables = taken (q .tables) x y; records = set (q .records) t (started 0 side x y) }) (started 0 side x y) 0 side (record { slot = x; label = y }) refl refl
+    push-good side x y p = begun (record { tables = taken (q .tables) x y; records = set (q .records) t (put (started 0 side x y)) }) (started 0 side x y) 0 side (record { slot = x; label = y }) refl refl
         (replaced (started 0 side x y)) (subst (λ b. Names b x x) (sym (p .named)) refl)
         (push-keeps q (g .book) (g .inv) (g .links) t z free side x y (p .real) (p .within) (p .named) (p .unmarked))
         (record { spare = g .links .spare; tag = g .links .tag; slot = g .links .slot; next = g .links .next; head = g .links .head })

@@ -13,8 +13,9 @@ use Rattle.word.specs.Link.{linkOf, spareOf}
 use Rattle.model.specs.Calls.{opened, stacked}
 use Rattle.model.specs.History.{Ledger}
 use Rattle.model.specs.Refusals.{openRefusal, openRules}
-use Rattle.model.specs.Tables.{Queue, idle, isPooled, recordAt, zeroed}
+use Rattle.model.specs.Tables.{Queue, idle, isPooled, recordAt, zeroed, unused}
 use Rattle.model.specs.declared.Record.{Record}
+use Rattle.model.specs.declared.TaskRecord.{TaskRecord}
 use Rattle.model.proofs.tests.Rules.{cleared}
 use Rattle.model.proofs.tests.Truth.{by-test, decide-eq}
 use Rattle.model.proofs.lists.Range.{climb-last, climb-step}
@@ -29,7 +30,7 @@ use Rattle.model.proofs.ledger.Matched.{Matched, busyNo}
 abbrev pub nobody : Ledger
 nobody = record { deque = []; calls = [] }
 
-zeroed-at : {A : Type 0} (n : ℕ) (z : A) (l : List A) (x : ℕ) → x < n → getD (zeroed n z l) x z ≡ z
+pub zeroed-at : {A : Type 0} (n : ℕ) (z : A) (l : List A) (x : ℕ) → x < n → getD (zeroed n z l) x z ≡ z
 zeroed-at n z l x h = List·getD-append (replicate n z) (drop n l) z x (rw length-replicate h) ∙ getD-replicate n x z z h
 
 -- An accepted opening has a slot.
@@ -52,7 +53,7 @@ module _ (pooled : Bool) (q : Queue) (tasks slots tag : ℕ) where
 
   pub no-record : (t : ℕ) → t < tasks → recordAt o t ≡ idle
   unfolding opened
-  no-record t lt = zeroed-at tasks idle (q .records) t lt
+  no-record t lt = ap (λ (r : TaskRecord). r .call) (zeroed-at tasks unused (q .records) t lt)
 
   pub all-idle : (t : ℕ) → stateOf o .task t .place ≡ M.idle
   unfolding stateOf opened recOf

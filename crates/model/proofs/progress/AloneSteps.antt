@@ -12,13 +12,14 @@ use Rattle.model.specs.Places.{Move, linkMet, move}
 use Rattle.model.specs.Progress.{AnsweredWithin, Busy, limit}
 use Rattle.model.specs.Solo.{soloRun}
 use Rattle.model.specs.Refusals.{among, stepRefusal}
-use Rattle.model.specs.Route.{goes}
-use Rattle.model.specs.Tables.{Queue, Tables, idle, recordAt}
+use Rattle.model.specs.Route.{goes, counted}
+use Rattle.model.specs.Tables.{Queue, Tables, recordAt, taskAt, unused}
 use Rattle.model.specs.declared.Answer.the-variants.{Empty, NoSlot, Popped, Pushed, Running}
 use Rattle.model.specs.declared.Answer.{Answer}
 use Rattle.model.specs.declared.Op.the-variants.{Step}
 use Rattle.model.specs.declared.Outcome.the-variants.{Moved}
 use Rattle.model.specs.declared.Record.{Record}
+use Rattle.model.specs.declared.TaskRecord.{TaskRecord}
 use Rattle.model.proofs.tests.Truth.{by-test, not-both, split}
 use Rattle.model.proofs.machine.Answers.{EndsAt}
 use Rattle.model.proofs.machine.Laws.{upd-same}
@@ -64,6 +65,9 @@ module _ (n : ℕ) (q : Queue) (l : Ledger) (g : Matched n q l) (f : Safe q) (ta
   abbrev r′ : Record
   r′ = goes (m .task) (next r m)
 
+  abbrev moved : TaskRecord
+  moved = record { call = r′; retries = counted (taskAt q t .retries) (m .failed) }
+
   abbrev z : Lies q t
   z = lies n q l g f tasks y t b
 
@@ -82,7 +86,7 @@ module _ (n : ℕ) (q : Queue) (l : Ledger) (g : Matched n q l) (f : Safe q) (ta
   -- The record that is put back.
   own : recordAt q′ t ≡ r′
   unfolding finish
-  own = getD-set-same (q .records) t r′ idle (omega (arith, z .length, z .known))
+  own = ap (λ (x : TaskRecord). x .call) (getD-set-same (q .records) t moved unused (omega (arith, z .length, z .known)))
 
   still : answerSeen a ≡ M.running → r′ .place ≢ 0
   unfolding recOf

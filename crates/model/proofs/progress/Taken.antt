@@ -11,7 +11,7 @@ use Rattle.model.specs.History.{Ledger}
 use Rattle.model.specs.Progress.{Busy}
 use Rattle.model.specs.Refusals.{among, openRefusal, openRules, recordsFit, stepRefusal}
 use Rattle.model.specs.Sound.{rowTests, rowsFit}
-use Rattle.model.specs.Tables.{Queue, Tables, isPooled, recordAt}
+use Rattle.model.specs.Tables.{Queue, Tables, isPooled, recordAt, taskAt}
 use Rattle.model.specs.declared.Op.{Op}
 use Rattle.model.specs.declared.Record.{Record}
 use Rattle.model.proofs.tests.Rules.{_and_, cleared, passes, tests}

@@ -14,13 +14,14 @@ use Rattle.model.specs.Places.{linkMet, move}
 use Rattle.model.specs.Ends.{answerEnds}
 use Rattle.model.specs.Progress.{any, stepping, steps, stretchLimit, tells, tellsBy}
 use Rattle.model.specs.Refusals.{among, popRefusal, pushRefusal, putRefusal, stepRefusal}
-use Rattle.model.specs.Tables.{Queue, Tables, idle, isPooled, recordAt, started}
+use Rattle.model.specs.Tables.{Queue, Tables, idle, isPooled, recordAt, started, taskAt, unused, withCall}
 use Rattle.model.specs.declared.Answer.the-variants.{Empty, NoSlot, Popped, Pushed, Running}
 use Rattle.model.specs.declared.Answer.{Answer}
 use Rattle.model.specs.declared.Op.the-variants.{Pop, Push, Put, Step}
 use Rattle.model.specs.declared.Op.{Op}
 use Rattle.model.specs.declared.Outcome.the-variants.{Moved, Refused}
 use Rattle.model.specs.declared.Record.{Record}
+use Rattle.model.specs.declared.TaskRecord.{TaskRecord}
 use Rattle.model.proofs.tests.Truth.{by-test, decide-eq, not-both, split}
 use Rattle.model.proofs.lists.Store.{set-back}
 use Rattle.model.proofs.machine.Clerk.{effect}
@@ -93,9 +94,9 @@ module _ (n : ℕ) (q : Queue) (l : Ledger) (g : Matched n q l) (named : isPoole
   abbrev Puts : Op → Acted → Type 0
   Puts o a = Hushed o (back q t a)
 
-  refused : (o : Op) (why : ℕ) → Puts o (record { tables = G; task = r; outcome = Refused why })
-  refused o why z = subst (λ (x : List Record). stepping o (Refused why) + all tasks (stateOf (record { tables = G; records = x })) ≤ all tasks (stateOf q))
-      (sym (set-back (q .records) t idle)) (go o)
+  refused : (o : Op) (why : ℕ) → Puts o (record { tables = G; task = taskAt q t; outcome = Refused why })
+  refused o why z = subst (λ (x : List TaskRecord). stepping o (Refused why) + all tasks (stateOf (record { tables = G; records = x })) ≤ all tasks (stateOf q))
+      (sym (set-back (q .records) t unused)) (go o)
     where
       go : (o : Op) → stepping o (Refused why) + all tasks (stateOf q) ≤ all tasks (stateOf q)
       go (Push side x y) = omega arith
@@ -111,7 +112,7 @@ module _ (n : ℕ) (q : Queue) (l : Ledger) (g : Matched n q l) (named : isPoole
     abbrev begun : Queue
     begun = record {
       tables = record { control = G .control; lefts = G .lefts; rights = G .rights; labels = labels; marks = marks; next = G .next };
-      records = set (q .records) t new;
+      records = set (q .records) t (withCall (taskAt q t) new);
     }
 
     owes-same : together (view G) (recOf new) ≡ together (view G) (stateOf q .task t)
@@ -120,7 +121,7 @@ module _ (n : ℕ) (q : Queue) (l : Ledger) (g : Matched n q l) (named : isPoole
 
     start-all : all tasks (stateOf begun) ≤ all tasks (stateOf q)
     unfolding view stateOf
-    start-all = subst (λ (k : ℕ → M.Rec). total (λ u. together (view G) (k u)) tasks ≤ all tasks (stateOf q)) (sym (put-back q t z new))
+    start-all = subst (λ (k : ℕ → M.Rec). total (λ u. together (view G) (k u)) tasks ≤ all tasks (stateOf q)) (sym (put-back q t z (withCall (taskAt q t) new)))
         (all-keep (view G) (stateOf q .task) t (view G) (recOf new) (λ u. omega arith) tasks (omega (arith, owes-same)))
 
   -- An accepted step.
@@ -153,13 +154,13 @@ module _ (n : ℕ) (q : Queue) (l : Ledger) (g : Matched n q l) (named : isPoole
         (omega (arith, calm .own silent, ap (together (view G)) (task-of q t (s .lies .known)))))
 
   push-put : (side x y : ℕ) → Lies q t → r .place ≡ 0
-      → Puts (Push side x y) (record { tables = taken G x y; task = started 0 side x y; outcome = Moved (Running 1) })
+      → Puts (Push side x y) (record { tables = taken G x y; task = withCall (taskAt q t) (started 0 side x y); outcome = Moved (Running 1) })
   push-put side x y z free _ = omega (arith, start-all z free (taken G x y .labels) (taken G x y .marks) 0 side x y)
 
-  pop-put : (side : ℕ) → Lies q t → r .place ≡ 0 → Puts (Pop side) (record { tables = G; task = started 1 side 0 0; outcome = Moved (Running 1) })
+  pop-put : (side : ℕ) → Lies q t → r .place ≡ 0 → Puts (Pop side) (record { tables = G; task = withCall (taskAt q t) (started 1 side 0 0); outcome = Moved (Running 1) })
   pop-put side z free _ = omega (arith, start-all z free (G .labels) (G .marks) 1 side 0 0)
 
-  step-put : Stepping q t → Puts Step (finish G r (move (G .control) r (linkMet G r)))
+  step-put : Stepping q t → Puts Step (finish G (taskAt q t) (move (G .control) r (linkMet G r)))
   unfolding finish
   step-put s z = omega (arith, step-all s z)
 

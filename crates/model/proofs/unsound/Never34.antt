@@ -12,12 +12,13 @@ use Rattle.model.specs.History.{Ledger, NeverUnsound, Request, final, ru
 use Rattle.model.specs.Places.{linkMet}
 use Rattle.model.specs.Refusals.{among, late, popRefusal, pushRefusal, putRefusal, stepRefusal, stepSound}
 use Rattle.model.specs.Sound.{controlSound, from1, recordSound, rowsFit}
-use Rattle.model.specs.Tables.{Queue, Tables, asking, idle, isPooled, marked, recordAt, started}
+use Rattle.model.specs.Tables.{Queue, Tables, asking, isPooled, marked, recordAt, started, taskAt, unused}
 use Rattle.model.specs.declared.Answer.{Answer}
 use Rattle.model.specs.declared.Op.the-variants.{Pop, Push, Put, Step}
 use Rattle.model.specs.declared.Op.{Op}
 use Rattle.model.specs.declared.Outcome.the-variants.{Moved, Refused}
 use Rattle.model.specs.declared.Record.{Record}
+use Rattle.model.specs.declared.TaskRecord.{TaskRecord}
 use Rattle.model.proofs.tests.Truth.{by-test, decide-eq, not-both}
 use Rattle.model.proofs.lists.Store.{set-back}
 use Rattle.model.proofs.bridge.Accepted.{Lies, lies, pop-accepted, push-accepted, put-accepted, step-accepted}
@@ -111,8 +112,8 @@ module _ (n : ℕ) (q : Queue) (l : Ledger) (g : Matched n q l) (f : Safe q) (t 
   abbrev Puts : Acted → Type 0
   Puts a = After (back q t a)
 
-  refused : (why : ℕ) → Not34 why → Puts (record { tables = G; task = r; outcome = Refused why })
-  refused why h = (λ e. h cc, subst (λ (x : List Record). Safe (record { tables = G; records = x })) (sym (set-back (q .records) t idle)) f)
+  refused : (why : ℕ) → Not34 why → Puts (record { tables = G; task = taskAt q t; outcome = Refused why })
+  refused why h = (λ e. h cc, subst (λ (x : List TaskRecord). Safe (record { tables = G; records = x })) (sym (set-back (q .records) t unused)) f)
 
   moved : (a : Answer) → Moved a ≡ Refused 34 → ⊥
   moved a e = let w : _≡_ {A = ℕ} 0 1 = cc in omega arith

@@ -10,8 +10,9 @@ use lib.Seq.{getD-set-other, getD-set-same}
 use borrow.Author.Tests.{ltb-false}
 use Rattle.word.specs.Anchor.{anchorOf}
 use Rattle.model.specs.Refusals.{late}
-use Rattle.model.specs.Tables.{Queue, Tables, asking, idle, isPooled, recordAt, started}
+use Rattle.model.specs.Tables.{Queue, Tables, asking, isPooled, recordAt, started, taskAt, unused, withCall}
 use Rattle.model.specs.declared.Record.{Record}
+use Rattle.model.specs.declared.TaskRecord.{TaskRecord}
 use Rattle.model.proofs.tests.Truth.{decide-eq, not-both}
 use Rattle.model.proofs.machine.Laws.{upd-other, upd-same}
 use Rattle.model.proofs.machine.Machine as M
@@ -99,20 +100,22 @@ module _ (q : Queue) (f : Safe q) (t : ℕ) (z : Lies q t) (early : late (q .tab
   abbrev q′ : Queue
   q′ = record {
     tables = record { control = G .control; lefts = G .lefts; rights = G .rights; labels = labels; marks = marks; next = G .next };
-    records = set (q .records) t new;
+    records = set (q .records) t (withCall (taskAt q t) new);
   }
 
   tasks-are : (λ (u : ℕ). stateOf q′ .task u) ≡ upd (stateOf q .task) t (recOf new)
   unfolding stateOf
-  tasks-are = put-back q t z new
+  tasks-are = put-back q t z (withCall (taskAt q t) new)
 
   fine′ : (u : ℕ) → u < G .control .tasks → recordAt q′ u .place ≢ 0 → RecordFine (isPooled (G .control)) (G .control .slots) (recordAt q′ u)
   fine′ u lu = go (decide-eq u t)
     where
       go : (u ≡ t) ⊎ (u ≢ t) → recordAt q′ u .place ≢ 0 → RecordFine (isPooled (G .control)) (G .control .slots) (recordAt q′ u)
       go (inl e) = subst (λ (v : Record). v .place ≢ 0 → RecordFine (isPooled (G .control)) (G .control .slots) v)
-          (sym (ap (λ (v : ℕ). getD (set (q .records) t new) v idle) e ∙ getD-set-same (q .records) t new idle (omega (arith, z .length, z .known)))) (λ b. h .fine)
-      go (inr e) = subst (λ (v : Record). v .place ≢ 0 → RecordFine (isPooled (G .control)) (G .control .slots) v) (sym (getD-set-other (q .records) t u new idle e)) (f .fine u lu)
+          (sym (ap (λ (v : ℕ). getD (set (q .records) t (withCall (taskAt q t) new)) v unused .call) e
+          ∙ ap (λ (x : TaskRecord). x .call) (getD-set-same (q .records) t (withCall (taskAt q t) new) unused (omega (arith, z .length, z .known))))) (λ b. h .fine)
+      go (inr e) = subst (λ (v : TaskRecord). v .call .place ≢ 0 → RecordFine (isPooled (G .control)) (G .control .slots) (v .call))
+          (sym (getD-set-other (q .records) t u (withCall (taskAt q t) new) unused e)) (f .fine u lu)
 
   extra′ : (u : ℕ) → Extra (stateOf q′ .task u .place) (stateOf q′ .task u)
   unfolding recOf

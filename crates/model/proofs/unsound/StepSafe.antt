@@ -8,14 +8,15 @@ use lib.Dec.{eqb}
 use lib.ListN.{getD, set}
 use lib.Seq.{getD-set-other, getD-set-same}
 use borrow.Author.Tests.{le-leb}
-use Rattle.model.specs.Calls.{finish, withRetries}
+use Rattle.model.specs.Calls.{finish}
 use Rattle.model.specs.History.{Ledger}
 use Rattle.model.specs.Places.{Move, Touch, apply, clearMark, linkMet, move, nothing, setAnchor, setHead, setLink, setNext, takeSlot}
 use Rattle.model.specs.Refusals.{leavesSound}
 use Rattle.model.specs.Route.{counted, goes}
 use Rattle.model.specs.Sound.{controlSound, controlTests}
-use Rattle.model.specs.Tables.{atPlace, Queue, Tables, idle, isPooled, recordAt}
+use Rattle.model.specs.Tables.{atPlace, Queue, Tables, idle, isPooled, recordAt, taskAt, unused}
 use Rattle.model.specs.declared.Record.{Record}
+use Rattle.model.specs.declared.TaskRecord.{TaskRecord}
 use Rattle.model.proofs.tests.Rules.{_and_, passes, tests}
 use Rattle.model.proofs.tests.Truth.{decide-eq}
 use Rattle.model.proofs.machine.Clerk.{Call}
@@ -53,16 +54,16 @@ apply-pooled s (M.take w x l) = refl
 apply-pooled s (M.putNext x v) = refl
 apply-pooled s (M.putHead w) = refl
 
-control-touched : (t : Touch) (q : Tables) (n : ℕ) → leavesSound (q .control .slots) t ≡ true → controlSound (q .control) ≡ true → controlSound (apply t (withRetries q n) .control) ≡ true
+control-touched : (t : Touch) (q : Tables) → leavesSound (q .control .slots) t ≡ true → controlSound (q .control) ≡ true → controlSound (apply t q .control) ≡ true
 unfolding controlSound
-control-touched nothing q n s c = c
-control-touched (setAnchor w) q n s c = let z = tests (controlTests (q .control)) c in
-    passes (controlTests (apply (setAnchor w) (withRetries q n) .control)) (z .0 and z .1 .0 and s and z .1 .1 .1 .0 and tt)
-control-touched (setLink side x w) q n s c = c
-control-touched (clearMark x) q n s c = c
-control-touched (takeSlot w x l) q n s c = c
-control-touched (setNext x v) q n s c = c
-control-touched (setHead w) q n s c = c
+control-touched nothing q s c = c
+control-touched (setAnchor w) q s c = let z = tests (controlTests (q .control)) c in
+    passes (controlTests (apply (setAnchor w) q .control)) (z .0 and z .1 .0 and s and z .1 .1 .1 .0 and tt)
+control-touched (setLink side x w) q s c = c
+control-touched (clearMark x) q s c = c
+control-touched (takeSlot w x l) q s c = c
+control-touched (setNext x v) q s c = c
+control-touched (setHead w) q s c = c
 
 module _ (n : ℕ) (q : Queue) (l : Ledger) (g : Matched n q l) (f : Safe q) (t : ℕ) (z : Lies q t) (busy : recordAt q t .place ≢ 0) where
   abbrev r : Record
@@ -74,8 +75,8 @@ module _ (n : ℕ) (q : Queue) (l : Ledger) (g : Matched n q l) (f : Safe q) (t 
   abbrev m : Move
   m = move (G .control) r (linkMet G r)
 
-  abbrev r′ : Record
-  r′ = goes (m .task) (next r m)
+  abbrev moved : TaskRecord
+  moved = record { call = goes (m .task) (next r m); retries = counted (taskAt q t .retries) (m .failed) }
 
   abbrev q′ : Queue
   q′ = stepped q (g .book) (g .inv) (g .links) t (stepping n q l g f t z busy)
@@ -119,9 +120,10 @@ module _ (n : ℕ) (q : Queue) (l : Ledger) (g : Matched n q l) (f : Safe q) (t 
     where
       go : (u ≡ t) ⊎ (u ≢ t) → recordAt q′ u .place ≢ 0 → RecordFine (isPooled (G .control)) (G .control .slots) (recordAt q′ u)
       go (inl e) = subst (λ (x : Record). x .place ≢ 0 → RecordFine (isPooled (G .control)) (G .control .slots) x)
-          (sym (ap (λ (v : ℕ). getD (set (q .records) t r′) v idle) e ∙ getD-set-same (q .records) t r′ idle (omega (arith, z .length, z .known))))
+          (sym (ap (λ (v : ℕ). getD (set (q .records) t moved) v unused .call) e ∙ ap (λ (x : TaskRecord). x .call) (getD-set-same (q .records) t moved unused (omega (arith, z .length, z .known)))))
           (goes-fine (isPooled (G .control)) (G .control .slots) r (m .task) (next r m) fine keeps suit)
-      go (inr e) = subst (λ (x : Record). x .place ≢ 0 → RecordFine (isPooled (G .control)) (G .control .slots) x) (sym (getD-set-other (q .records) t u r′ idle e)) (f .fine u lu)
+      go (inr e) = subst (λ (x : TaskRecord). x .call .place ≢ 0 → RecordFine (isPooled (G .control)) (G .control .slots) (x .call))
+          (sym (getD-set-other (q .records) t u moved unused e)) (f .fine u lu)
 
   extra′ : (u : ℕ) → Extra (stateOf q′ .task u .place) (stateOf q′ .task u)
   extra′ u = subst (λ (x : M.Rec). Extra (x .place) x) (sym (step-task q (g .book) (g .inv) (g .links) t (stepping n q l g f t z busy) u)) (go (decide-eq u t))
@@ -145,13 +147,12 @@ module _ (n : ℕ) (q : Queue) (l : Ledger) (g : Matched n q l) (f : Safe q) (t 
   pub step-safe : Safe q′
   unfolding finish stateOf
   step-safe =
-      let k = withRetries G (counted (G .control .retries) (m .failed)) in
       record {
-        control = control-touched (m .touch) G _ (new-sound n q l g f t z busy) (f .control);
-        fine = λ u lu b. subst₂ (λ p s. RecordFine p s (recordAt q′ u)) (sym (ap (λ (v : ℕ). eqb v 1) (touched-pooled (m .touch) k))) (sym (touched-slots (m .touch) k))
-            (fine′ u (subst (λ s. u < s) (touched-tasks (m .touch) k) lu) b);
+        control = control-touched (m .touch) G (new-sound n q l g f t z busy) (f .control);
+        fine = λ u lu b. subst₂ (λ p s. RecordFine p s (recordAt q′ u)) (sym (ap (λ (v : ℕ). eqb v 1) (touched-pooled (m .touch) G))) (sym (touched-slots (m .touch) G))
+            (fine′ u (subst (λ s. u < s) (touched-tasks (m .touch) G) lu) b);
         extra = extra′;
         tags = fits′ .0;
-        bound = subst (λ s. weight (view (q′ .tables)) + total (λ u. cost (stateOf q′ .task u)) s ≤ 4294967295) (sym (touched-tasks (m .touch) k)) (fits′ .1);
-        head = subst (λ s. view (q′ .tables) .head .tag + total (λ u. share (stateOf q′ .task u)) s ≤ view (q′ .tables) .anchor .tag + s) (sym (touched-tasks (m .touch) k)) (fits′ .2);
+        bound = subst (λ s. weight (view (q′ .tables)) + total (λ u. cost (stateOf q′ .task u)) s ≤ 4294967295) (sym (touched-tasks (m .touch) G)) (fits′ .1);
+        head = subst (λ s. view (q′ .tables) .head .tag + total (λ u. share (stateOf q′ .task u)) s ≤ view (q′ .tables) .anchor .tag + s) (sym (touched-tasks (m .touch) G)) (fits′ .2);
       }

@@ -3,7 +3,7 @@ use mathlib.Core.Path.{sym, _∙_}
 use borrow.Author.Tests.{not-true, not-false}
 use borrow.Author.Needs.{needs}
 use Rattle.model.specs.Route.{route}
-use Rattle.places.specs.Ending.{settled, noEntry, bumped}
+use Rattle.places.specs.Ending.{settled, noEntry, failing}
 use Rattle.places.proofs.Anchors.{Tries, fails, denies, makes, step10}
 use Rattle.places.proofs.at10.Statement.{statement}
 use Rattle.places.proofs.at10.Tie as tie
@@ -14,14 +14,14 @@ module _ (b : tie.After-pack) where
 
   tried :
       Tries 10 (a .args .c) (a .args .r) (b .pack .result) (a .args .r) (route 10 (a .args .r .kind) 0)
-      (settled (bumped (a .args .c)) (a .args .r) (route 10 (a .args .r .kind) 1) noEntry)
+      (failing (settled (a .args .c) (a .args .r) (route 10 (a .args .r .kind) 1) noEntry))
   tried =
       step10 (a .args .c) (a .args .r) (b .pack .result) (rw (b .before .raised .ensures, b .before .before .unpack .ensures) at (b .pack .ensures))
 
 returns : tie.Need-returns
 returns c =
     let i = c .before .before .before in
-    rw (c .settles .ensures, c .before .next .ensures, c .before .before .bumped .ensures) (fails (tried (i .before .before .before)) (i .if1 .taken))
+    rw (c .fails .ensures, c .before .settles .ensures, c .before .before .next .ensures) (fails (tried (i .before .before .before)) (i .if1 .taken))
 
 returns-2 : tie.Need-returns-2
 returns-2 c =
@@ -43,8 +43,8 @@ at10-spec =
     (λ _ _. tt)
     (λ _ _. tt)
     (λ _ _. tt)
-    (λ _ _. tt)
     (λ c κs. search needs)
+    (λ _ _. tt)
     (λ _ _. tt)
     returns
     (λ _ _. tt)

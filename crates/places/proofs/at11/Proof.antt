@@ -21,9 +21,9 @@ returns c =
     let i = l .before .before in
     let a = start i .args in
     let taken = rw (near i) at (sym (i .from1 .ensures) ∙ l .before .if1 .taken) in
-    λ ls rs xs.
+    λ ls rs xs n.
     rw (c .settles .ensures, c .before .next .ensures, k .clear-mark .ensures, l .label-at .ensures, near i)
-    (rw taken at (pooled11 (a .c) (a .r) ls rs (a .labels .now) (a .marks .now) xs (eq-eqb _ _ (c .before .before .if2 .taken))))
+    (rw taken at (pooled11 (a .c) (a .r) ls rs (a .labels .now) (a .marks .now) xs n (eq-eqb _ _ (c .before .before .if2 .taken))))
 
 returns-2 : tie.Need-returns-2
 returns-2 c =
@@ -32,16 +32,16 @@ returns-2 c =
     let i = l .before .before in
     let a = start i .args in
     let taken = rw (near i) at (sym (i .from1 .ensures) ∙ l .before .if1 .taken) in
-    λ ls rs xs.
+    λ ls rs xs n.
     rw (c .settles2 .ensures, c .before .next2 .ensures, k .clear-mark .ensures, l .label-at .ensures, near i)
-    (rw taken at (named11 (a .c) (a .r) ls rs (a .labels .now) (a .marks .now) xs (ne-eqb _ _ (c .before .before .if2 .left))))
+    (rw taken at (named11 (a .c) (a .r) ls rs (a .labels .now) (a .marks .now) xs n (ne-eqb _ _ (c .before .before .if2 .left))))
 
 returns-3 : tie.Need-returns-3
 returns-3 c =
     let i = c .before .before in
     let a = start i .args in
     let left = rw (near i) at (sym (i .from1 .ensures) ∙ c .before .if1 .left) in
-    λ ls rs xs. rw (c .refused .ensures) (refused11 (a .c) (a .r) ls rs (a .labels .now) (a .marks .now) xs left)
+    λ ls rs xs n. rw (c .refused .ensures) (refused11 (a .c) (a .r) ls rs (a .labels .now) (a .marks .now) xs n left)
 
 pub at11-spec : {M : Type 1} → statement M
 at11-spec =

@@ -3,7 +3,7 @@ use mathlib.Core.Path.{sym, _∙_}
 use borrow.Author.Tests.{not-true, not-false}
 use borrow.Author.Needs.{needs}
 use Rattle.model.specs.Route.{route}
-use Rattle.places.specs.Ending.{anchorRead, bumped}
+use Rattle.places.specs.Ending.{anchorRead, failing}
 use Rattle.places.proofs.Anchors.{Tries, denies, makes, step2}
 use Rattle.places.proofs.at2.Statement.{statement}
 use Rattle.places.proofs.at2.Tie as tie
@@ -12,7 +12,7 @@ module _ (b : tie.After-facing) where
   abbrev a : tie.Start
   a = let d = b .before .before .before in d .before .before .before
 
-  tried : Tries 2 (a .args .c) (a .args .r) (b .facing .result) (a .args .r) (route 2 (a .args .r .kind) 0) (anchorRead (bumped (a .args .c)) (a .args .r))
+  tried : Tries 2 (a .args .c) (a .args .r) (b .facing .result) (a .args .r) (route 2 (a .args .r .kind) 0) (failing (anchorRead (a .args .c) (a .args .r)))
   tried =
       let d = b .before .before .before in
       step2 (a .args .c) (a .args .r) (d .choose .result) (b .facing .result) (d .choose .ensures)

@@ -3,7 +3,7 @@ use mathlib.Core.Path.{sym, _∙_}
 use borrow.Author.Tests.{not-true, not-false}
 use borrow.Author.Needs.{needs}
 use Rattle.model.specs.Route.{route}
-use Rattle.places.specs.Ending.{anchorRead, bumped, remembered}
+use Rattle.places.specs.Ending.{anchorRead, failing, remembered}
 use Rattle.places.proofs.Anchors.{Tries, denies, makes, step4}
 use Rattle.places.proofs.at4.Statement.{statement}
 use Rattle.places.proofs.at4.Tie as tie
@@ -17,7 +17,7 @@ module _ (b : tie.After-facing) where
 
   tried :
       (let new = b .facing .result in
-      Tries 4 (a .args .c) (a .args .r) new (remembered (a .args .r) new) (route 4 (a .args .r .kind) 0) (anchorRead (bumped (a .args .c)) (a .args .r)))
+      Tries 4 (a .args .c) (a .args .r) new (remembered (a .args .r) new) (route 4 (a .args .r .kind) 0) (failing (anchorRead (a .args .c) (a .args .r))))
   tried =
       let p = b .before .before .before in
       let d = p .before .before in

@@ -3,7 +3,7 @@ use mathlib.Core.Path.{_≡_}
 use mathlib.Core.Logic.{⊎-elim}
 use native.Mathlib.Omega.{arith}
 use Rattle.places.specs.Arm.{StepsOnAnchor}
-use Rattle.places.specs.Ending.{anchorRead, bumped}
+use Rattle.places.specs.Ending.{anchorRead, withFailed}
 use Rattle.places.proofs.Anchors.{reads-first, reads-failed}
 use Rattle.places.proofs.on_anchor.Statement.{statement}
 use Rattle.places.proofs.on_anchor.Tie as tie
@@ -20,11 +20,11 @@ returns-2 c =
     (λ one. absurd (i .before .before .before .if1 .taken one), λ two. absurd (c .before .if3 .left two), λ four. c .at4 .ensures (i .if2 .taken))
 
 -- The reading: at 1, or where the change has failed.
-joined : (j : tie.Joined1) → StepsOnAnchor (j .before .before .args .c) (j .before .before .args .r) (anchorRead (j .if1 .d) (j .before .before .args .r))
+joined : (j : tie.Joined1) → (let a = j .before .before .args in StepsOnAnchor (a .c) (a .r) (withFailed (anchorRead (a .c) (a .r)) (j .if1 .failed)))
 joined j =
     let a = j .before .before .args in
     ⊎-elim
-    (λ t. rw (t .5, t .4 .ensures) (reads-failed (a .c) (a .r) (t .0 .taken) (t .3 .left)))
+    (λ t. rw (t .4) (reads-failed (a .c) (a .r) (t .0 .taken) (t .3 .left)))
     (λ t. rw (t .1) (reads-first (a .c) (a .r) (t .0 .left)))
     (j .if1 .came)
 
@@ -32,4 +32,4 @@ returns-3 : tie.Need-returns-3
 returns-3 c = rw (c .reads-anchor .ensures) (joined (c .before))
 
 pub on-anchor-spec : {M : Type 1} → statement M
-on-anchor-spec = tie.close (tie.spec (λ _ _. tt) (λ _ _. tt) returns returns-2 (λ _ _. tt) (λ _ _. tt) returns-3)
+on-anchor-spec = tie.close (tie.spec (λ _ _. tt) (λ _ _. tt) returns returns-2 (λ _ _. tt) returns-3)

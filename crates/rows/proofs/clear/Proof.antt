@@ -4,9 +4,9 @@ use mathlib.Core.List.{List}
 use Prim.Native.Nat.{ℕ, _-_, _<_, _≤_}
 use native.Mathlib.Omega.{arith}
 use lib.ListN.{length, set, length-set}
-use Rattle.model.specs.declared.Record.{Record}
-use Rattle.model.specs.Tables.{zeroed, idle}
-use Rattle.rows.specs.Rows.{recordOf, recordsOf, upperOf, uppersOf}
+use Rattle.model.specs.declared.TaskRecord.{TaskRecord}
+use Rattle.model.specs.Tables.{zeroed, unused}
+use Rattle.rows.specs.Rows.{callOf, recordOf, recordsOf, upperOf, uppersOf}
 use Rattle.rows.proofs.Rows.{length-records, length-uppers, record-put, upper-put, one-more}
 use borrow.Author.Needs.{needs}
 use Rattle.rows.proofs.clear.Statement.{statement}
@@ -15,7 +15,7 @@ use Rattle.rows.proofs.clear.Tie as tie
 abbrev Inv-loop : tie.InvT-loop
 Inv-loop rows₀ n i₀ rows i =
     (i ≤ n) × (length rows ≡ length rows₀)
-    × (recordsOf rows ≡ zeroed i idle (recordsOf rows₀)) × (uppersOf rows ≡ zeroed i 0 (uppersOf rows₀))
+    × (recordsOf rows ≡ zeroed i unused (recordsOf rows₀)) × (uppersOf rows ≡ zeroed i 0 (uppersOf rows₀))
 
 abbrev μ-loop : tie.MeasureT-loop
 μ-loop rows₀ n i₀ rows i = n - i
@@ -24,7 +24,7 @@ inside : tie.Need-slice-set-from-rows Inv-loop μ-loop
 inside c = omega (arith, c .loop-test .taken, c .before .loop .inv .1, c .before .before .pre)
 
 loop-again : tie.Need-loop-again Inv-loop μ-loop
-unfolding recordOf upperOf
+unfolding callOf recordOf upperOf
 loop-again c =
     let less = c .loop-test .taken in
     let turn = c .before .loop in
@@ -34,7 +34,7 @@ loop-again c =
     let here : turn .i < length (uppersOf rows₀) = omega (arith, length-uppers rows₀) in (
       omega arith,
       length-set (turn .rows) (turn .i) _ ∙ turn .inv .1,
-      record-put _ _ _ ∙ ap (λ (l : List Record). set l (turn .i) idle) (turn .inv .2) ∙ one-more (turn .i) idle (recordsOf rows₀) there,
+      record-put _ _ _ ∙ ap (λ (l : List TaskRecord). set l (turn .i) unused) (turn .inv .2) ∙ one-more (turn .i) unused (recordsOf rows₀) there,
       upper-put _ _ _ ∙ ap (λ (l : List ℕ). set l (turn .i) 0) (turn .inv .3) ∙ one-more (turn .i) 0 (uppersOf rows₀) here,
     )
 
@@ -44,7 +44,7 @@ returns c =
     let below = c .before .loop .inv .0 in
     let rows₀ = c .before .before .args .rows .now in
     let e : c .before .loop .i ≡ c .before .before .args .n = omega arith in (
-      c .before .loop .inv .2 ∙ ap (λ (k : ℕ). zeroed k idle (recordsOf rows₀)) e,
+      c .before .loop .inv .2 ∙ ap (λ (k : ℕ). zeroed k unused (recordsOf rows₀)) e,
       c .before .loop .inv .3 ∙ ap (λ (k : ℕ). zeroed k 0 (uppersOf rows₀)) e,
     )
 

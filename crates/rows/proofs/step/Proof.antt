@@ -63,7 +63,7 @@ returns-2 c =
     let told = left .before in
     stepped _ _ _ _ _ _ _ _ _ _ _ _ _ _ _ _ _ _
     (told .before .control-of .ensures)
-    (read .before .before .before .record-of .ensures)
+    (read .before .before .before .call-of .ensures)
     (sym (why told) ∙ left .if1 .left)
     (moved .move-on .ensures)
     (put .0)

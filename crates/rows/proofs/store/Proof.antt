@@ -1,30 +1,37 @@
 -- Nothing, a row all zero, or what a step that goes on may change.
-use mathlib.Core.Path.{sym, _∙_}
-use Rattle.rows.specs.Rows.{recordOf, upperOf}
+use mathlib.Core.Path.{ap, sym, _∙_}
+use Rattle.rows.specs.Rows.{callOf, recordOf, upperOf}
+use Rattle.rows.proofs.Rows.{counting}
+use Rattle.model.specs.Tables.{idle}
 use Rattle.engine.proofs.Stored.{stored-end, stored-going, stored-nothing, refused-goes}
 use borrow.Author.Needs.{needs}
 use Rattle.rows.proofs.store.Statement.{statement}
 use Rattle.rows.proofs.store.Tie as tie
 
 returns : tie.Need-returns
-unfolding recordOf upperOf
+unfolding callOf recordOf upperOf
 returns c =
     let ended = c .before in
-    let moved = ended .before .before .before .before .before in
+    let counted = ended .before .before in
+    let after-control = counted .before .before in
+    let moved = after-control .before .before .before in
     let m = moved .before .before .args .m in
     let ends = sym (ended .before .ends .ensures) ∙ ended .if2 .taken in
     let after = stored-end _ _ m (sym (moved .before .moves .ensures) ∙ moved .if1 .taken) ends in
-    (ended .before .before .control-moved .ensures ∙ after .0, (after .1, rw ends))
+    (after-control .control-moved .ensures ∙ after .0, (ap (counting idle) (counted .counted .ensures) ∙ after .1, rw ends))
 
 returns-2 : tie.Need-returns-2
+unfolding recordOf
 returns-2 c =
-    let ended = c .before .before .before in
-    let moved = ended .before .before .before .before .before in
+    let ended = c .before .before in
+    let counted = ended .before .before in
+    let after-control = counted .before .before in
+    let moved = after-control .before .before .before in
     let m = moved .before .before .args .m in
     let goes = sym (ended .before .ends .ensures) ∙ ended .if2 .left in
     let after = stored-going _ _ m (sym (moved .before .moves .ensures) ∙ moved .if1 .taken) goes in
     let next = c .record-moved .ensures in
-    (ended .before .before .control-moved .ensures ∙ after .0, (next .0 ∙ after .1, rw goes (next .1)))
+    (after-control .control-moved .ensures ∙ after .0, (next .0 ∙ ap (counting _) (counted .counted .ensures) ∙ after .1, rw goes (next .1)))
 
 returns-3 : tie.Need-returns-3
 returns-3 c =
@@ -38,6 +45,8 @@ store-spec =
     tie.close
     (tie.spec
     (λ c κs. search needs)
+    (λ c κs. search needs)
+    (λ c. search needs)
     (λ c κs. search needs)
     (λ c κs. search needs)
     (λ c κs. search needs)

@@ -8,7 +8,7 @@ returns : tie.Need-returns
 returns c =
     let taken = c .before .before .before .before in
     let moved = sym (taken .before .moves .ensures) ∙ taken .if1 .taken in
-    (rw moved (c .before .put-record .ensures .0), rw moved (c .before .put-record .ensures .1))
+    (rw moved (c .before .put-call .ensures .0), rw moved (c .before .put-call .ensures .1))
 
 returns-2 : tie.Need-returns-2
 returns-2 c =

@@ -83,16 +83,10 @@ fn lent<T: Clone>(held: usize, count: usize, filler: T) -> Lent<T> {
 
 /// Tables with junk in them, before an opening; a named queue needs no next table.
 fn unopened(tasks: usize, slots: usize, next_rows: usize) -> World {
-    let junk = Record { place: 99, kind: 98, side: 97, own: 96, label: 95, ..Record::default() };
+    let idle = Record { retries: 94, ..Record::default() };
+    let junk = Record { place: 99, kind: 98, side: 97, own: 96, label: 95, ..idle };
     World {
-        control: Control {
-            tasks: 7,
-            slots: 7,
-            anchor: u64::MAX,
-            retries: 7,
-            pooled: 7,
-            head: u64::MAX,
-        },
+        control: Control { tasks: 7, slots: 7, anchor: u64::MAX, pooled: 7, head: u64::MAX },
         records: lent(tasks + 2, tasks, junk),
         one: junk,
         lefts: lent(slots + 3, slots + 1, u64::MAX),

@@ -16,13 +16,12 @@ fn spoil_count<T>(dice: &mut Dice, table: &mut Lent<T>) {
 
 fn spoil_control(dice: &mut Dice, scene: &mut Scene) {
     let control = &mut scene.world.control;
-    match dice.between(0, 44) {
+    match dice.between(0, 43) {
         0 => control.tasks = wild(dice, 16),
         1 => control.slots = wild(dice, scene.slots),
         2..=4 => control.anchor = wild_word(dice, scene.slots),
-        5 => control.retries = dice.throw(),
-        6 => control.pooled = wild(dice, 1),
-        7..=9 => control.head = wild_word(dice, scene.slots),
+        5 => control.pooled = wild(dice, 1),
+        6..=8 => control.head = wild_word(dice, scene.slots),
         _ => {}
     }
 }

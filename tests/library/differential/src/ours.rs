@@ -61,17 +61,9 @@ pub fn by_library(world: &mut World, call: Call) -> Told {
         }
         Call::Report => {
             let told = library!(world.zc_report(control, records, count) next);
-            return Told::Report([
-                told.code,
-                told.tag,
-                told.status,
-                told.left,
-                told.right,
-                told.busy,
-                told.waiting,
-                told.taken,
-                told.retries,
-            ]);
+            let anchor = [told.tag, told.status, told.left, told.right];
+            let counts = [told.busy, told.waiting, told.taken];
+            return Told::Report(told.code, anchor, counts, told.retries);
         }
         Call::Find { asked, count } => {
             let found = library!(world.zc_find(control, asked.as_ptr(), count));

@@ -45,16 +45,18 @@ fn refuses(tally: &mut Tally, scene: &Scene, number: u32) -> bool {
     told.is_some_and(|told| told.code() == number) && ours == scene.world
 }
 
-/// Whether a step's change fails on both sides: it is counted, and no shared word moves.
-fn fails(tally: &mut Tally, scene: &Scene) -> bool {
-    let before = &scene.world;
+/// Whether a step's change fails on both sides: its record counts it, and no shared word moves.
+fn fails(tally: &mut Tally, scene: &mut Scene) -> bool {
+    let retries = scene.record().retries;
+    let before = scene.world.clone();
     let (mut ours, mut theirs) = (before.clone(), before.clone());
     let told = tally.compare(&mut ours, &mut theirs, scene.call);
-    let retries = before.control.retries;
+    scene.world = ours;
+    let after = scene.record().retries;
+    let ours = &scene.world;
     told.is_some_and(|told| told.code() < 10)
-        && ours.control.retries == retries + u64::from(retries < MOST_RETRIES)
-        && ours.control.anchor == before.control.anchor
-        && (ours.control.head == before.control.head && ours.next == before.next)
+        && after == retries + u64::from(retries < MOST_RETRIES)
+        && (ours.control == before.control && ours.next == before.next)
         && (ours.lefts == before.lefts && ours.rights == before.rights)
         && (ours.labels == before.labels && ours.marks == before.marks)
 }
@@ -82,7 +84,7 @@ pub fn failures(tally: &mut Tally, dice: &mut Dice, times: u32) {
             for _ in 0..times {
                 let mut scene = Scene::draw(dice, wanted, least);
                 outrun(&mut scene, dice);
-                holds &= fails(tally, &scene);
+                holds &= fails(tally, &mut scene);
             }
             let name = if kind == PUSH { "push" } else { "pop" };
             let what = format!("{export:?}: {place}: a {name} outrun at the last tag fails");

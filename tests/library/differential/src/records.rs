@@ -1,7 +1,7 @@
 //! Task records that are sound or idle, and the places that they may stand at.
 
 use crate::sound::{sound_anchor, sound_link};
-use crate::wild::wild_record;
+use crate::wild::{any_retries, wild_record};
 use reference::dice::Dice;
 use reference::tables::{Record, POP, PUSH};
 use reference::word::{Anchor, Link, STABLE};
@@ -32,7 +32,7 @@ pub fn any_place(dice: &mut Dice, slots: u64, last: u64) -> u64 {
 
 /// Idle; its other fields are anything, for nobody looks at them.
 pub fn idle_record(dice: &mut Dice) -> Record {
-    let mut record = Record::default();
+    let mut record = Record { retries: any_retries(dice), ..Record::default() };
     if dice.percent(50) {
         record = wild_record(dice);
         record.place = 0;
@@ -62,10 +62,12 @@ pub fn busy_record(dice: &mut Dice, slots: u64, place: u64, kind: u64) -> Record
         neighbour: dice.between(0, slots),
         link,
         finishing: if kind == PUSH && helping { dice.between(0, 1) } else { 0 },
+        retries: any_retries(dice),
     }
 }
 
-/// The record of a task that the call is not about: nobody looks at more than its place.
+/// The record of a task that the call is not about: nobody looks at more than its place,
+/// and the report at its count.
 pub fn any_record(dice: &mut Dice, slots: u64) -> Record {
     let place = any_place(dice, slots, 17);
     let kind = kind_at(place, None, dice);

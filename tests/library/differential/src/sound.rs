@@ -2,7 +2,7 @@
 
 use crate::line::{any_question, line_up};
 use crate::records::{any_place, any_record, busy_record, helping, idle_record, kind_at};
-use crate::wild::{any_retries, wild_control, wild_word};
+use crate::wild::{wild_control, wild_word};
 use crate::world::{Call, Export, Lent, World};
 use reference::dice::Dice;
 use reference::tables::{Control, Record, NAMED, POOLED, PUSH};
@@ -225,11 +225,10 @@ fn sound_world(dice: &mut Dice, tasks: u64, slots: u64, pooled: bool) -> World {
     let (held, count) = table(dice, rows);
     let next = Lent::new((0..held).map(|_| dice.between(0, slots)).collect(), count);
     let anchor = sound_anchor(dice, slots);
-    let retries = any_retries(dice);
     let one = any_record(dice, slots);
     // Nobody looks at the head of a named queue.
     let head = if pooled { sound_link(dice, slots) } else { wild_word(dice, slots) };
     let pooled = if pooled { POOLED } else { NAMED };
-    let control = Control { tasks, slots, anchor, retries, pooled, head };
+    let control = Control { tasks, slots, anchor, pooled, head };
     World { control, records, one, lefts, rights, labels, marks, next }
 }

@@ -81,19 +81,13 @@ pub fn by_reference(world: &mut World, call: Call) -> Told {
             Told::Run(code, label, value, steps)
         }
         Call::StepRecord | Call::StepRow { .. } | Call::Find { .. } => unreachable!(),
-        Call::Report => Told::Report(match tables.report() {
-            Ok(told) => [
-                0,
-                told.tag,
-                told.status,
-                told.left,
-                told.right,
-                told.busy,
-                told.waiting,
-                told.taken,
-                told.retries,
-            ],
-            Err(refusal) => [u64::from(refusal.number()), 0, 0, 0, 0, 0, 0, 0, 0],
-        }),
+        Call::Report => match tables.report() {
+            Ok(told) => {
+                let anchor = [told.tag, told.status, told.left, told.right];
+                let counts = [told.busy, told.waiting, told.taken];
+                Told::Report(0, anchor, counts, told.retries)
+            }
+            Err(refusal) => Told::Report(refusal.number().into(), [0; 4], [0; 3], [0; 16]),
+        },
     }
 }

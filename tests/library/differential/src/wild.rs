@@ -46,6 +46,7 @@ pub fn wild_record(dice: &mut Dice) -> Record {
         neighbour: wild(dice, 3),
         link: wild_word(dice, 3),
         finishing: wild(dice, 1),
+        retries: any_retries(dice),
     }
 }
 
@@ -54,7 +55,6 @@ pub fn wild_control(dice: &mut Dice) -> Control {
         tasks: wild(dice, 16),
         slots: wild(dice, 1_023),
         anchor: wild_word(dice, 3),
-        retries: any_retries(dice),
         pooled: wild(dice, 1),
         head: wild_word(dice, 3),
     }

@@ -123,13 +123,14 @@ impl Call {
     }
 }
 
-/// An answer in numbers: code, label, value; a run's, and its steps; the report's nine fields; code,
-/// rows and positions.
+/// An answer in numbers: code, label, value; a run's, and its steps; the report's fields; code, rows
+/// and positions.
 #[derive(Clone, Copy, Debug, PartialEq)]
 pub enum Told {
     Reply(u32, u32, u64),
     Run(u32, u32, u64, u64),
-    Report([u64; 9]),
+    /// Code, Anchor's fields, busy, waiting and taken, each task's retries.
+    Report(u64, [u64; 4], [u64; 3], [u64; 16]),
     Find(u64, u64, [u64; MOST_ASKED]),
 }
 
@@ -137,8 +138,7 @@ impl Told {
     pub fn code(&self) -> u32 {
         match self {
             Told::Reply(code, ..) | Told::Run(code, ..) => *code,
-            Told::Report(fields) => fields[0] as u32,
-            Told::Find(code, ..) => *code as u32,
+            Told::Report(code, ..) | Told::Find(code, ..) => *code as u32,
         }
     }
 }

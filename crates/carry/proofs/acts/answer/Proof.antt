@@ -13,7 +13,7 @@ returns c =
     let event = told .before .before in
     let put = event .before .before in
     let w = put-fits _ _ _ _ _ (omega arith) (told .write-line .ensures .0) in (
-      λ ls rs bs ms ns. rw (w .stop, w .stored, event .wrapping-add-u64 .ensures, put .put-record .ensures .0, put .put-record .ensures .1),
+      λ ls rs bs ms ns. rw (w .stop, w .stored, event .wrapping-add-u64 .ensures, put .put-acted .ensures .0, put .put-acted .ensures .1),
       told .write-line .ensures .1,
     )
 

@@ -7,7 +7,7 @@ use Rattle.carry.proofs.acts.operate.Tie as tie
 
 -- The operation, the record that it was given, and the beginning.
 module _ (made : tie.After-act) where
-  abbrev read : tie.After-record-at
+  abbrev read : tie.After-call-at
   read =
       let lent = made .before .before .before .before in
       lent .before .before
@@ -40,7 +40,7 @@ returns : tie.Need-returns
 returns c =
     let e = told c .answer .ensures in
     let m = made c in
-    (operate-page _ _ _ _ _ _ _ _ _ _ _ _ _ _ _ _ _ _ _ refl (read m .record-at .ensures) (m .act .ensures) (e .0 _ _ _ _ _), e .1)
+    (operate-page _ _ _ _ _ _ _ _ _ _ _ _ _ _ _ _ _ _ _ refl (read m .call-at .ensures) (m .act .ensures) (e .0 _ _ _ _ _), e .1)
 
 pub operate-spec : {M : Type 1} → statement M
 operate-spec =

@@ -8,14 +8,15 @@ use lib.ListN.{getD}
 use borrow.Author.Tests.{eqb-true, not-false}
 use Rattle.model.specs.declared.Control.{Control}
 use Rattle.model.specs.declared.Record.{Record}
+use Rattle.model.specs.declared.TaskRecord.{TaskRecord}
 use Rattle.model.specs.declared.Outcome.the-variants.{Refused, Moved}
-use Rattle.model.specs.Tables.{atPlace, Tables, isPooled, opposite, idle}
+use Rattle.model.specs.Tables.{atPlace, Tables, isPooled, opposite, idle, withCall}
 use Rattle.model.specs.Sound.{from1, every, linkSound, controlSound, recordSound, rowsFit}
 use Rattle.model.specs.Places.{sideOf, row, linkMet, Touch, nothing, setAnchor, setLink, clearMark, takeSlot, setNext, setHead, Move, move}
 use Rattle.model.specs.Route.{route, onward, answer, goes, counted}
 use Rattle.model.specs.Refusals.{Lent, rule, first, needsRow, meetsLink, meetsHead, leavesSound, hasRoom, stepSound, stepRules, stepRefusal}
-use Rattle.model.specs.Calls.{Acted, decide, withRetries, finish, step}
-use Rattle.model.specs.Mirror.{mirrorControl, mirrorTables, mirrorBusy, mirrorRecord, mirrorActed}
+use Rattle.model.specs.Calls.{Acted, decide, finish, step}
+use Rattle.model.specs.Mirror.{mirrorTask, mirrorControl, mirrorTables, mirrorBusy, mirrorRecord, mirrorActed}
 use Rattle.model.proofs.laws.Tests.{sound-record}
 use Rattle.model.proofs.laws.Refusals.{none-applies}
 use Rattle.model.proofs.laws.Onward.{leads-on}
@@ -97,42 +98,47 @@ goes-mirror r n h = go (leb n 17)
     go true = sym (busy-record (atPlace r n) h)
     go false = refl
 
-finish-mirror : (q : Tables) (r : Record) (m : Move) → row (mirrorBusy r) ≡ row r → eqb (onward (route (r .place) (r .kind) (m .outcome)) (m .task .finishing)) 0 ≡ false
-    → finish (mirrorTables q) (mirrorBusy r) (mirrorMove m) ≡ mirrorActed (finish q r m)
+finish-mirror : (q : Tables) (r : TaskRecord) (m : Move) → row (mirrorBusy (r .call)) ≡ row (r .call)
+    → eqb (onward (route (r .call .place) (r .call .kind) (m .outcome)) (m .task .finishing)) 0 ≡ false
+    → finish (mirrorTables q) (withCall r (mirrorBusy (r .call))) (mirrorMove m) ≡ mirrorActed (finish q r m)
 unfolding finish
-finish-mirror q r m same on = λ i. record {
-  tables = apply-mirror (m .touch) (withRetries q (counted (q .control .retries) (m .failed))) i;
-  task = goes-mirror (m .task) (onward (route (r .place) (r .kind) (m .outcome)) (m .task .finishing)) on i;
-  outcome = Moved (answer (onward (route (r .place) (r .kind) (m .outcome)) (m .task .finishing)) (record { slot = same i; label = cond (eqb (r .place) 17) (r .label) (getD (q .labels) (same i) 0) }));
-}
+finish-mirror q r m same on =
+    let c = r .call in
+    let n = onward (route (c .place) (c .kind) (m .outcome)) (m .task .finishing) in
+    λ i. record {
+      tables = apply-mirror (m .touch) q i;
+      task = record { call = goes-mirror (m .task) n on i; retries = counted (r .retries) (m .failed) };
+      outcome = Moved (answer n (record { slot = same i; label = cond (eqb (c .place) 17) (c .label) (getD (q .labels) (same i) 0) }));
+    }
 
 -- Refused, or carried out.
-pub decide-mirror : (why : ℕ) (q : Tables) (r : Record) (done done′ : Acted) → (why ≡ 0 → done′ ≡ mirrorActed done)
-    → decide why (mirrorTables q) (mirrorRecord r) done′ ≡ mirrorActed (decide why q r done)
+pub decide-mirror : (why : ℕ) (q : Tables) (r : TaskRecord) (done done′ : Acted) → (why ≡ 0 → done′ ≡ mirrorActed done)
+    → decide why (mirrorTables q) (mirrorTask r) done′ ≡ mirrorActed (decide why q r done)
 decide-mirror why q r done done′ h = go (eqb why 0) refl
   where
-    go : (b : Bool) → eqb why 0 ≡ b → cond b done′ (record { tables = mirrorTables q; task = mirrorRecord r; outcome = Refused why })
+    go : (b : Bool) → eqb why 0 ≡ b → cond b done′ (record { tables = mirrorTables q; task = mirrorTask r; outcome = Refused why })
         ≡ mirrorActed (cond b done (record { tables = q; task = r; outcome = Refused why }))
     go true e = h (eqb-true why 0 e)
     go false e = refl
 
-abbrev carried : Tables → Record → Acted
-carried q r = finish q r (move (q .control) r (linkMet q r))
+abbrev carried : Tables → TaskRecord → Acted
+carried q r = finish q r (move (q .control) (r .call) (linkMet q (r .call)))
 
-carried-mirror : (q : Tables) (r : Record) → recordSound (isPooled (q .control)) (q .control .slots) r ≡ true → eqb (r .place) 0 ≡ false
-    → carried (mirrorTables q) (mirrorRecord r) ≡ mirrorActed (carried q r)
+carried-mirror : (q : Tables) (r : TaskRecord) → recordSound (isPooled (q .control)) (q .control .slots) (r .call) ≡ true → eqb (r .call .place) 0 ≡ false
+    → carried (mirrorTables q) (mirrorTask r) ≡ mirrorActed (carried q r)
 carried-mirror q r sound busy =
-    let side = turned (isPooled (q .control)) (q .control .slots) r sound busy in
-    ap (carried (mirrorTables q)) (busy-record r busy)
-    ∙ ap (λ (w : ℕ). finish (mirrorTables q) (mirrorBusy r) (move (mirrorControl (q .control)) (mirrorBusy r) w)) (link-met-mirror r side q)
-    ∙ ap (finish (mirrorTables q) (mirrorBusy r)) (move-mirror (q .control) r (linkMet q r) side)
-    ∙ finish-mirror q r (move (q .control) r (linkMet q r)) (row-mirror r side) (leads-on (isPooled (q .control)) (q .control .slots) (q .control) r (linkMet q r) sound busy)
+    let c = r .call in
+    let side = turned (isPooled (q .control)) (q .control .slots) c sound busy in
+    ap (λ (x : Record). carried (mirrorTables q) (withCall r x)) (busy-record c busy)
+    ∙ ap (λ (w : ℕ). finish (mirrorTables q) (withCall r (mirrorBusy c)) (move (mirrorControl (q .control)) (mirrorBusy c) w)) (link-met-mirror c side q)
+    ∙ ap (finish (mirrorTables q) (withCall r (mirrorBusy c))) (move-mirror (q .control) c (linkMet q c) side)
+    ∙ finish-mirror q r (move (q .control) c (linkMet q c)) (row-mirror c side) (leads-on (isPooled (q .control)) (q .control .slots) (q .control) c (linkMet q c) sound busy)
 
-pub step-mirror : (q : Tables) (p : Lent) (r : Record) → step (mirrorTables q) p (mirrorRecord r) ≡ mirrorActed (step q p r)
+pub step-mirror : (q : Tables) (p : Lent) (r : TaskRecord) → step (mirrorTables q) p (mirrorTask r) ≡ mirrorActed (step q p r)
 unfolding step stepRefusal
 step-mirror q p r =
-    ap (λ (why : ℕ). decide why (mirrorTables q) (mirrorRecord r) (carried (mirrorTables q) (mirrorRecord r))) (step-refusal-mirror q r p)
-    ∙ decide-mirror (stepRefusal q p r) q r (carried q r) (carried (mirrorTables q) (mirrorRecord r)) go
+    ap (λ (why : ℕ). decide why (mirrorTables q) (mirrorTask r) (carried (mirrorTables q) (mirrorTask r))) (step-refusal-mirror q (r .call) p)
+    ∙ decide-mirror (stepRefusal q p (r .call)) q r (carried q r) (carried (mirrorTables q) (mirrorTask r)) go
   where
-    go : stepRefusal q p r ≡ 0 → carried (mirrorTables q) (mirrorRecord r) ≡ mirrorActed (carried q r)
-    go e = let passed = none-applies (stepRules q p r) refl e in carried-mirror q r (not-false _ (passed .1 .1 .1 .0)) (passed .1 .1 .1 .1 .0)
+    go : stepRefusal q p (r .call) ≡ 0 → carried (mirrorTables q) (mirrorTask r) ≡ mirrorActed (carried q r)
+    go e = let passed = none-applies (stepRules q p (r .call)) refl e in carried-mirror q r (not-false _ (passed .1 .1 .1 .0)) (passed .1 .1 .1 .1 .0)

@@ -7,8 +7,9 @@ use native.Mathlib.Omega.{arith}
 use lib.Dec.{eqb}
 use borrow.Author.Tests.{ne-eqb}
 use Rattle.model.specs.declared.Record.{Record}
-use Rattle.model.specs.Tables.{Queue}
-use Rattle.model.specs.Mirror.{mirrorSide, mirrorBusy, mirrorRecord, mirrorQueue}
+use Rattle.model.specs.declared.TaskRecord.{TaskRecord}
+use Rattle.model.specs.Tables.{Queue, withCall}
+use Rattle.model.specs.Mirror.{mirrorSide, mirrorBusy, mirrorRecord, mirrorTask, mirrorQueue}
 use Rattle.model.proofs.laws.Mirror.Words.{mirror-involutive}
 use Rattle.model.proofs.laws.Mirror.Steps.{busy-record}
 
@@ -32,14 +33,14 @@ record-twice r = go (eqb (r .place) 0) refl
         ∙ ap₂ (λ (d w : ℕ). record { place = r .place; kind = r .kind; side = d; own = r .own; label = r .label; seen = w; neighbour = r .neighbour; link = r .link; finishing = r .finishing })
         (side-twice (r .side)) (mirror-involutive (r .seen))
 
-records-twice : (l : List Record) → map mirrorRecord (map mirrorRecord l) ≡ l
+records-twice : (l : List TaskRecord) → map mirrorTask (map mirrorTask l) ≡ l
 records-twice [] = refl
-records-twice (r ∷ l) = ap₂ (λ (x : Record) (m : List Record). x ∷ m) (record-twice r) (records-twice l)
+records-twice (r ∷ l) = ap₂ (λ (x : Record) (m : List TaskRecord). withCall r x ∷ m) (record-twice (r .call)) (records-twice l)
 
 pub mirror-twice : (q : Queue) → mirrorQueue (mirrorQueue q) ≡ q
 mirror-twice q = λ i. record {
   tables = record {
-    control = record { tasks = q .tables .control .tasks; slots = q .tables .control .slots; anchor = mirror-involutive (q .tables .control .anchor) i; retries = q .tables .control .retries; pooled = q .tables .control .pooled; head = q .tables .control .head };
+    control = record { tasks = q .tables .control .tasks; slots = q .tables .control .slots; anchor = mirror-involutive (q .tables .control .anchor) i; pooled = q .tables .control .pooled; head = q .tables .control .head };
     lefts = q .tables .lefts;
     rights = q .tables .rights;
     labels = q .tables .labels;

@@ -10,16 +10,16 @@ returns c =
     let n = c .before .before .before .before in
     let a = n .before .before .before .args in
     let low = rw (n .word-at .ensures, n .before .unpack .ensures) at (le-leb _ _ (c .before .before .if1 .taken)) in
-    λ ls rs ns ms.
+    λ ls rs ns ms k.
     rw (c .settles .ensures, c .before .next .ensures, n .word-at .ensures, n .before .unpack .ensures)
-    (rw low at (step13 (a .c) (a .r) ls rs ns ms (a .nexts .now)))
+    (rw low at (step13 (a .c) (a .r) ls rs ns ms (a .nexts .now) k))
 
 returns-2 : tie.Need-returns-2
 returns-2 c =
     let n = c .before .before .before in
     let a = n .before .before .before .args in
     let high = rw (n .word-at .ensures, n .before .unpack .ensures) at (lt-leb _ _ (c .before .if1 .left)) in
-    λ ls rs ns ms. rw (c .refused .ensures) (rw high at (step13 (a .c) (a .r) ls rs ns ms (a .nexts .now)))
+    λ ls rs ns ms k. rw (c .refused .ensures) (rw high at (step13 (a .c) (a .r) ls rs ns ms (a .nexts .now) k))
 
 pub at13-spec : {M : Type 1} → statement M
 at13-spec =

@@ -9,8 +9,8 @@ returns c =
     let p = c .before .before .before .before in
     let u = p .before .before in
     let a = u .before .before .args in
-    λ ls rs ns ms.
-    rw (c .settles .ensures, c .before .next .ensures, p .put-word .ensures, u .unpack .ensures) (step16 (a .c) (a .r) ls rs ns ms (a .nexts .now))
+    λ ls rs ns ms k.
+    rw (c .settles .ensures, c .before .next .ensures, p .put-word .ensures, u .unpack .ensures) (step16 (a .c) (a .r) ls rs ns ms (a .nexts .now) k)
 
 pub at16-spec : {M : Type 1} → statement M
 at16-spec =

@@ -1,0 +1,27 @@
+-- The engine's step at the record's own count.
+use borrow.Author.Needs.{needs}
+use Rattle.deque.proofs.move_on.Statement.{statement}
+use Rattle.deque.proofs.move_on.Tie as tie
+
+returns : tie.Need-returns
+returns c =
+    let rights = c .before .before .before .before in
+    let lefts = rights .before .before .before .before in
+    let moved = lefts .before .before .before in
+    let lent = moved .before .before .before .before in
+    let sized = lent .before .before .before .before in
+    let start = sized .before .before .before .before in
+    rw (c .counting .ensures) (moved .move-on .ensures (start .args .t .retries))
+
+pub move-on-spec : {M : Type 1} → statement M
+move-on-spec =
+    tie.close
+    (tie.spec
+    (λ c κs. search needs)
+    (λ c κs. search needs)
+    (λ c. search needs)
+    (λ c. search needs)
+    (λ c. search needs)
+    (λ c. search needs)
+    (λ c. search needs)
+    returns)
