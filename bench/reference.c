@@ -628,3 +628,45 @@ zc_find_reply CALL(find)(const zc_control *control, const uint32_t *asked, size_
             reply.positions[at] = reply.rows + 1 - reply.positions[at];
     return reply;
 }
+
+/* Counted in one walk, written in a second. */
+zc_waiting_reply CALL(waiting)(const zc_control *control, uint64_t *slots_out,
+                               size_t slots_out_count, uint32_t *labels_out,
+                               size_t labels_out_count,
+                               TABLES(const uint64_t, const uint32_t, const uint64_t))
+{
+    zc_waiting_reply reply = {0, 0};
+    (void)marks;
+    if (!control_sound(control))
+        reply.code = ZC_UNSOUND;
+    else if (!rows_fit(control->slots, left_count, right_count, label_count, mark_count))
+        reply.code = ZC_SHORT;
+    if (reply.code != 0 || zc_anchor_right(control->anchor) == 0)
+        return reply;
+    int leftmost_first = zc_anchor_status(control->anchor) == ZC_LPUSH;
+    const uint64_t *links = leftmost_first ? rights : lefts;
+    uint64_t left = zc_anchor_left(control->anchor), right = zc_anchor_right(control->anchor);
+    uint64_t first = leftmost_first ? left : right, last = leftmost_first ? right : left;
+    uint64_t count = 1;
+    for (uint64_t slot = first; slot != last; count++) {
+        uint64_t link = links[slot];
+        slot = zc_link_slot(link);
+        if (count == control->slots || !link_sound(link, control->slots) || slot == 0) {
+            reply.code = ZC_UNSOUND;
+            return reply;
+        }
+    }
+    if (slots_out_count < count || labels_out_count < count) {
+        reply.code = ZC_SHORT;
+        return reply;
+    }
+    uint64_t slot = first;
+    for (uint64_t met = 0; met < count; met++) {
+        uint64_t at = leftmost_first ? met : count - 1 - met;
+        slots_out[at] = slot;
+        labels_out[at] = labels[slot];
+        slot = zc_link_slot(links[slot]);
+    }
+    reply.count = count;
+    return reply;
+}

@@ -47,5 +47,9 @@ zc_report_reply CALL(report)(const zc_control *control, const zc_record *records
                              NEXT(const uint64_t));
 zc_find_reply CALL(find)(const zc_control *control, const uint32_t *asked, size_t asked_count,
                          TABLES(const uint64_t, const uint32_t, const uint64_t));
+zc_waiting_reply CALL(waiting)(const zc_control *control, uint64_t *slots_out,
+                               size_t slots_out_count, uint32_t *labels_out,
+                               size_t labels_out_count,
+                               TABLES(const uint64_t, const uint32_t, const uint64_t));
 
 #endif

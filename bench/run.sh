@@ -98,7 +98,7 @@ echo "The calls that walk the queue, 1,023 slots; nanoseconds and instructions a
 echo
 echo "| call | labels waiting | ns: library | C | library/C | instructions: library | C |"
 echo "|---|---|---|---|---|---|---|"
-for call in report find; do
+for call in report find waiting; do
     for labels in 3 64 1023; do
         "$work/walks" check $labels
         "$work/walks" time $call $labels 500 >"$work/times"

@@ -71,7 +71,7 @@
  *   zc_run            608      2461      4083      4712
  *   zc_report         368       284       515     20331
  *   table bytes         -       240       816     30120
- *   code bytes: audit 1804, capi 10379, capi_record 5813, capi_run 6089, find 3517, join 3567, schedule 10892, sheet 3512
+ *   code bytes: audit 1804, capi 10379, capi_record 5813, capi_run 6089, find 3517, join 3567, schedule 10892, sheet 3512, waiting 831
  * As to the machine: x86-64, System V calling convention. The code uses the red zone (128 bytes
  * below the stack pointer) and SSE registers, no AVX: an interrupt handler that makes a call saves
  * the SSE state first, and an interrupt that is not masked during a call leaves the red zone alone.
@@ -277,6 +277,12 @@ typedef struct zc_find_reply {
     uint64_t positions[ZC_MOST_ASKED];
 } zc_find_reply;
 
+/* How many labels wait. With a refusal the count is 0. */
+typedef struct zc_waiting_reply {
+    uint64_t code; /* 0, or the number of a refusal */
+    uint64_t count;
+} zc_waiting_reply;
+
 #ifdef __cplusplus
 #define ZC_LAYOUT(fact) static_assert(fact, #fact)
 #else
@@ -307,13 +313,15 @@ ZC_LAYOUT(offsetof(zc_report_reply, retries) == 64);
 ZC_LAYOUT(sizeof(zc_find_reply) == 272);
 ZC_LAYOUT(offsetof(zc_find_reply, code) == 0 && offsetof(zc_find_reply, rows) == 8);
 ZC_LAYOUT(offsetof(zc_find_reply, positions) == 16);
+ZC_LAYOUT(sizeof(zc_waiting_reply) == 16);
+ZC_LAYOUT(offsetof(zc_waiting_reply, code) == 0 && offsetof(zc_waiting_reply, count) == 8);
 
 /* ---- The calls ---------------------------------------------------------------------------
  * The tables always come last and in this order, each a pointer and its count of elements:
  * lefts and rights (link words: tag 63-32, zero 31-15, slot 14-0), labels, marks, and, but for
- * zc_open, zc_find and the order sheets, next. A table that a call only reads is lent as const; a
- * start leaves control as it was. The next table of a queue that was opened by zc_open is not looked
- * at, nor is its count.
+ * zc_open, zc_find, zc_waiting and the order sheets, next. A table that a call only reads is lent as
+ * const; a start leaves control as it was. The next table of a queue that was opened by zc_open is
+ * not looked at, nor is its count.
  */
 
 /*
@@ -437,6 +445,22 @@ zc_find_reply zc_find(const zc_control *control, const uint32_t *asked, size_t a
                       const uint64_t *lefts, size_t left_count, const uint64_t *rights,
                       size_t right_count, const uint32_t *labels, size_t label_count,
                       const uint64_t *marks, size_t mark_count);
+
+/*
+ * Writes the labels waiting, from left to right, with their slots: slots_out gets the slots,
+ * labels_out the labels, one entry each for each label; entries beyond keep their values. The two
+ * lie apart from the other tables. Looks at no records.
+ * The walk goes from the right end along Left links or, under LPUSH, from the left end along Right
+ * links: only at the end that the status names may the link back be unfinished. A queue that was
+ * written by the calls alone has every label on the walk.
+ * Answers code 0 and the count, or refuses: 34 for control, 12 (rows and marks only), 34 for the
+ * walk, 12 for slots_out or labels_out shorter than what waits (slots entries are always enough).
+ */
+zc_waiting_reply zc_waiting(const zc_control *control, uint64_t *slots_out, size_t slots_out_count,
+                            uint32_t *labels_out, size_t labels_out_count, const uint64_t *lefts,
+                            size_t left_count, const uint64_t *rights, size_t right_count,
+                            const uint32_t *labels, size_t label_count, const uint64_t *marks,
+                            size_t mark_count);
 
 /* ---- An answer taken apart --------------------------------------------------------------- */
 
@@ -621,6 +645,13 @@ static inline zc_find_reply zc_queue_find(const zc_queue *queue, const uint32_t 
 {
     return zc_find(queue->control, asked, asked_count, ZC_ROW_TABLES(queue));
 }
+
+/* Both tables have `most` entries, and get the slots and the labels that wait, from left to right. */
+static inline zc_waiting_reply zc_queue_waiting(const zc_queue *queue, uint64_t *slots,
+                                                uint32_t *labels, size_t most)
+{
+    return zc_waiting(queue->control, slots, most, labels, most, ZC_ROW_TABLES(queue));
+}
 #endif
 
 static inline zc_report_reply zc_queue_report(const zc_queue *queue)
@@ -643,62 +674,6 @@ static inline uint64_t zc_queue_free_slot(const zc_queue *queue)
     return 0;
 }
 
-/* The last row that control and the lengths of lefts, rights and labels allow; 0: there is none. */
-static inline uint64_t zc_queue_last_row(const zc_queue *queue)
-{
-    uint64_t rows = queue->left_count;
-    if (queue->right_count < rows)
-        rows = queue->right_count;
-    if (queue->label_count < rows)
-        rows = queue->label_count;
-    if (rows == 0)
-        return 0;
-    return queue->control->slots < rows ? queue->control->slots : rows - 1;
-}
-
-/*
- * The labels waiting: writes their slots to `slots` and the labels themselves to `labels`, either of
- * which may be null and both of which lie apart from the tables, from left to right, the first
- * `most` if there are more, and answers how many it wrote.
- * The walk goes from the right end along Left links or, under LPUSH, from the left end along Right
- * links: only at the end that the status names may the link back be unfinished. A queue that was
- * written by the calls alone has every label on the walk. Any contents may lie in the tables: it
- * ends before a row that there is not, and takes no more slots than there are. This loop is not
- * among what is proved; wherever zc_report is not refused, both count the same.
- */
-static inline size_t zc_queue_read_out(const zc_queue *queue, uint64_t *slots, uint32_t *labels,
-                                       size_t most)
-{
-    uint64_t anchor = queue->control->anchor;
-    uint64_t left = zc_anchor_left(anchor), right = zc_anchor_right(anchor);
-    int from_left = zc_anchor_status(anchor) == ZC_LPUSH;
-    const uint64_t *links = from_left ? queue->rights : queue->lefts;
-    uint64_t first = from_left ? left : right, last = from_left ? right : left;
-    uint64_t last_row = zc_queue_last_row(queue);
-    size_t count = 0;
-    uint64_t slot = first;
-    while (slot != 0 && slot <= last_row && count < last_row) {
-        count++;
-        slot = slot == last ? 0 : zc_link_slot(links[slot]);
-    }
-    slot = first;
-    for (size_t walked = 0; walked < count; walked++) {
-        size_t at = from_left ? walked : count - 1 - walked;
-        if (at < most && slots)
-            slots[at] = slot;
-        if (at < most && labels)
-            labels[at] = queue->labels[slot];
-        slot = zc_link_slot(links[slot]);
-    }
-    return count < most ? count : most;
-}
-
-/* The slots alone. */
-static inline size_t zc_queue_waiting(const zc_queue *queue, uint64_t *slots, size_t most)
-{
-    return zc_queue_read_out(queue, slots, NULL, most);
-}
-
 /*
  * Steps one task, alone, until it answers, and gives that answer; a refusal if the task was idle
  * (31) or the tables are not those of an open queue; running if it has not answered after
@@ -712,19 +687,22 @@ static inline zc_reply zc_queue_finish(const zc_queue *queue, size_t task)
     return reply;
 }
 
+#ifndef ZC_CORE_ONLY
 /*
  * Brings an open queue to rest and reads it out, as 33 asks for. Steps every busy task to its answer
  * and writes that to answers[task], code 0 for a task that was idle: a popped label is nowhere else.
- * Then writes the labels waiting, from left to right, to `labels` and answers how many there are.
- * `answers` has room for each record and `labels` for each slot, both apart from the tables.
+ * Then writes the labels waiting and their slots as zc_queue_waiting does, and answers so.
+ * `answers` has room for each record, `slots` and `labels` for each slot, all apart from the tables.
  */
-static inline size_t zc_queue_drain(const zc_queue *queue, zc_reply *answers, uint32_t *labels)
+static inline zc_waiting_reply zc_queue_drain(const zc_queue *queue, zc_reply *answers,
+                                              uint64_t *slots, uint32_t *labels)
 {
     const zc_reply none = {0, 0, 0};
     for (size_t task = 0; task < queue->record_count; task++)
         answers[task] = queue->records[task].place == 0 ? none : zc_queue_finish(queue, task);
-    return zc_queue_read_out(queue, NULL, labels, zc_queue_last_row(queue));
+    return zc_queue_waiting(queue, slots, labels, (size_t)queue->control->slots);
 }
+#endif
 
 /*
  * Pushes `count` labels at the right, in this order, into free slots, by a task that is idle and

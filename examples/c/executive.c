@@ -74,11 +74,12 @@ static void step(size_t task)
 /* Counts the labels still waiting. */
 static uint64_t walk(int *waiting)
 {
+    uint64_t slots[SLOTS];
     uint32_t labels[SLOTS];
-    size_t count = zc_queue_read_out(&queue, NULL, labels, SLOTS);
-    for (size_t at = 0; at < count; at++)
+    zc_waiting_reply reply = zc_queue_waiting(&queue, slots, labels, SLOTS);
+    for (size_t at = 0; at < reply.count; at++)
         waiting[labels[at]]++;
-    return count;
+    return reply.count;
 }
 
 int main(int argc, char **argv)

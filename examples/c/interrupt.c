@@ -101,8 +101,9 @@ static void set_timer(long period_us)
 /* Every label started was pushed once, and was printed once or waits. */
 static int check(void)
 {
+    uint64_t slots[SLOTS];
     uint32_t labels[SLOTS];
-    size_t count = zc_queue_read_out(&queue, NULL, labels, SLOTS);
+    uint64_t count = zc_queue_waiting(&queue, slots, labels, SLOTS).count;
     for (size_t at = 0; at < count; at++)
         waiting[labels[at]]++;
     uint64_t all = 0, wrong = 0, from_desk = started[DESK];
@@ -112,7 +113,7 @@ static int check(void)
             wrong += pushed[label] != 1 || printed[label] + waiting[label] != 1;
         }
     zc_report_reply report = zc_queue_report(&queue);
-    printf("%d signals; %" PRIu64 " labels, %" PRIu64 " of them pushed by the interrupt, %zu waiting\n",
+    printf("%d signals; %" PRIu64 " labels, %" PRIu64 " of them pushed by the interrupt, %" PRIu64 " waiting\n",
            (int)signals, all, from_desk, count);
     if (signals < FEWEST_SIGNALS || from_desk == 0)
         return puts("too few signals to tell"), 3;

@@ -49,13 +49,16 @@ static void take(size_t task, zc_reply reply)
 static void renew(void)
 {
     zc_reply answers[TASKS];
+    uint64_t slots[SLOTS];
     uint32_t labels[SLOTS];
-    size_t count = zc_queue_drain(&queue, answers, labels);
+    zc_waiting_reply drained = zc_queue_drain(&queue, answers, slots, labels);
+    if (drained.code != 0)
+        stop(zc_refusal_text(drained.code), drained.code);
     for (size_t task = 0; task < TASKS; task++)
         take(task, answers[task]);
     uint64_t code = zc_queue_open_pooled(&queue, TASKS, SLOTS, FIRST_TAG);
     if (code == 0)
-        code = zc_queue_refill(&queue, HEAD, labels, count);
+        code = zc_queue_refill(&queue, HEAD, labels, (size_t)drained.count);
     if (code != 0)
         stop(zc_refusal_text(code), code);
     renewals++;

@@ -51,7 +51,8 @@ static uint64_t draw(uint64_t limit)
 /* A count: as needed, or less. */
 static size_t cut(size_t needed) { return draw(8) ? needed : (size_t)draw(needed); }
 
-static struct ground grounds[8];
+enum { GROUNDS = 9 };
+static struct ground grounds[GROUNDS];
 
 /* All tables of a queue, each up to its fence. */
 static zc_queue lend(uint64_t tasks, uint64_t slots)
@@ -114,7 +115,7 @@ static uint64_t call(zc_queue whole, int *wrong)
     uint64_t side = draw(2), slot = 1 + draw(slots), code;
     size_t asked_count = (size_t)draw(ZC_MOST_ASKED + 1);
     uint32_t *asked = last(grounds[6], asked_count * sizeof *asked);
-    switch (draw(12)) {
+    switch (draw(13)) {
     case 0: code = zc_queue_push(&queue, task, side, slot, (uint32_t)slot).code; break;
     case 1: code = zc_queue_pop(&queue, task, side).code; break;
     case 2: code = zc_queue_report(&queue).code; break;
@@ -136,6 +137,12 @@ static uint64_t call(zc_queue whole, int *wrong)
         break;
     case 7: code = zc_queue_push_pooled(&queue, task, side, (uint32_t)slot).code; break;
     case 8: code = zc_queue_run(&queue, task, 1).code; break;
+    case 9:
+        code = zc_queue_waiting(&queue, last(grounds[6], (size_t)slots * sizeof(uint64_t)),
+                                last(grounds[8], (size_t)slots * sizeof(uint32_t)), (size_t)slots)
+                   .code;
+        too_short = shared_short(queue, whole, 0);
+        break;
     default: code = zc_queue_step(&queue, task).code; break;
     }
     *wrong |= too_short != (code == ZC_SHORT);
@@ -162,12 +169,13 @@ static int walk(zc_queue whole)
     zc_queue queue = cut_some(whole);
     size_t most = (size_t)draw(slots + 3);
     uint64_t *found = last(grounds[6], most * sizeof *found);
+    uint32_t *copies = last(grounds[8], most * sizeof *copies);
     zc_queue_report(&queue);
     zc_queue_find(&queue, NULL, 0);
-    size_t count = zc_queue_waiting(&queue, found, most);
-    int wrong = count > most || count > whole.control->slots;
-    for (size_t at = 0; at < count; at++)
-        wrong |= found[at] < 1 || found[at] > slots || found[at] > whole.control->slots;
+    zc_waiting_reply reply = zc_queue_waiting(&queue, found, copies, most);
+    int wrong = reply.count > most || (reply.code != 0 && reply.count != 0);
+    for (size_t at = 0; at < reply.count; at++)
+        wrong |= found[at] < 1 || found[at] > slots || copies[at] != whole.labels[found[at]];
     return wrong;
 }
 
@@ -177,7 +185,7 @@ int main(void)
     unsigned long refused = 0, carried_out = 0;
     int wrong = 0;
     page = (size_t)sysconf(_SC_PAGESIZE);
-    for (int at = 0; at < 8; at++)
+    for (int at = 0; at < GROUNDS; at++)
         grounds[at] = fenced((ZC_MOST_SLOTS + 3) * sizeof(uint64_t));
     for (int round = 0; round < 3000; round++) {
         uint64_t tasks = 1 + draw(ZC_MOST_TASKS);

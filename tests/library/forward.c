@@ -26,6 +26,7 @@ static __typeof__(zc_step_record) *step_record_call;
 static __typeof__(zc_run) *run_call;
 static __typeof__(zc_report) *report_call;
 static __typeof__(zc_find) *find_call;
+static __typeof__(zc_waiting) *waiting_call;
 
 __attribute__((constructor)) static void load(void)
 {
@@ -45,6 +46,7 @@ __attribute__((constructor)) static void load(void)
     *(void **)&run_call = dlsym(object, "zc_run");
     *(void **)&report_call = dlsym(object, "zc_report");
     *(void **)&find_call = dlsym(object, "zc_find");
+    *(void **)&waiting_call = dlsym(object, "zc_waiting");
 }
 
 uint32_t zc_open(zc_control *control, zc_record *records, size_t record_count, uint64_t tasks,
@@ -111,4 +113,11 @@ zc_find_reply zc_find(const zc_control *control, const uint32_t *asked, size_t a
                       TABLES(const uint64_t, const uint32_t, const uint64_t))
 {
     return find_call(control, asked, asked_count, ROWS);
+}
+
+zc_waiting_reply zc_waiting(const zc_control *control, uint64_t *slots_out, size_t slots_out_count,
+                            uint32_t *labels_out, size_t labels_out_count,
+                            TABLES(const uint64_t, const uint32_t, const uint64_t))
+{
+    return waiting_call(control, slots_out, slots_out_count, labels_out, labels_out_count, ROWS);
 }

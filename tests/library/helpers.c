@@ -77,7 +77,8 @@ static void finish(void)
 static void drain(void)
 {
     zc_reply answers[TASKS];
-    uint32_t labels[SLOTS];
+    static uint64_t slots[SLOTS];
+    static uint32_t labels[SLOTS], again[SLOTS];
     const uint32_t first[] = {10, 20, 30};
     zc_queue_open(&queue, TASKS, SLOTS, 0);
     is("refill", zc_queue_refill(&queue, 2, first, 3), 0);
@@ -87,28 +88,34 @@ static void drain(void)
     zc_queue_pop(&queue, 1, ZC_RIGHT);
     while (queue_tables.records[1].place != 11)
         zc_queue_step(&queue, 1);
-    is("labels drained", zc_queue_drain(&queue, answers, labels), 3);
+    zc_waiting_reply drained = zc_queue_drain(&queue, answers, slots, labels);
+    is("drained", drained.code, 0);
+    is("labels drained", drained.count, 3);
+    is("the slot pushed last", slots[0], 100);
     is("in order", labels[0] * 10000 + labels[1] * 100 + labels[2], 51020);
     is("the push's answer", answers[0].code, ZC_PUSHED);
     is("the pop's answer", answers[1].code * 100 + zc_label(answers[1]), ZC_POPPED * 100 + 30);
     is("no answer of an idle task", answers[2].code, 0);
     is("nobody is busy", zc_queue_report(&queue).busy, 0);
     is("opened again", zc_queue_open(&queue, TASKS, SLOTS, 0), 0);
-    is("nothing waits", zc_queue_read_out(&queue, NULL, labels + 3, SLOTS - 3), 0);
+    is("nothing waits", zc_queue_waiting(&queue, slots, again, SLOTS).count, 0);
     is("refilled", zc_queue_refill(&queue, 0, labels, 3), 0);
-    is("three wait again", zc_queue_drain(&queue, answers, labels + 3), 3);
-    is("in the same order", labels[3] * 10000 + labels[4] * 100 + labels[5], 51020);
+    is("three wait again", zc_queue_drain(&queue, answers, slots, again).count, 3);
+    is("in the same order", again[0] * 10000 + again[1] * 100 + again[2], 51020);
+    queue_tables.lefts[slots[1]] = UINT64_C(1) << 20;
+    is("a damaged queue", zc_queue_drain(&queue, answers, slots, again).code, ZC_UNSOUND);
 }
 
 static void refill(void)
 {
     static uint32_t labels[SLOTS + 1], found[SLOTS];
+    static uint64_t slots[SLOTS];
     zc_reply answers[TASKS];
     for (uint32_t at = 0; at <= SLOTS; at++)
         labels[at] = 7 * at;
     zc_queue_open(&queue, TASKS, SLOTS, 0);
     is("more labels than slots", zc_queue_refill(&queue, 0, labels, SLOTS + 1), ZC_TAKEN);
-    is("as many as there are slots", zc_queue_drain(&queue, answers, found), SLOTS);
+    is("as many as there are slots", zc_queue_drain(&queue, answers, slots, found).count, SLOTS);
     uint64_t same = 0;
     for (size_t at = 0; at < SLOTS; at++)
         same += found[at] == labels[at];
@@ -131,12 +138,13 @@ static void steps(size_t task, int count)
 static void pooled(void)
 {
     static uint32_t labels[SLOTS + 1], found[SLOTS];
+    static uint64_t slots[SLOTS];
     zc_reply answers[TASKS];
     zc_queue_open_pooled(&queue, TASKS, SLOTS, 0);
     is("more labels than the pool has slots", zc_queue_refill(&queue, 0, labels, SLOTS + 1), ZC_TAKEN);
     zc_queue_push_pooled(&queue, 1, ZC_LEFT, 7);
     zc_queue_pop(&queue, 2, ZC_LEFT);
-    is("labels of a full pool", zc_queue_drain(&queue, answers, found), SLOTS - 1);
+    is("labels of a full pool", zc_queue_drain(&queue, answers, slots, found).count, SLOTS - 1);
     is("no slot", answers[1].code, ZC_NO_FREE_SLOT);
     is("a pop", answers[2].code, ZC_POPPED);
     zc_queue_pop(&queue, 2, ZC_LEFT);

@@ -202,6 +202,23 @@ static void find(void)
           ZC_MANY_ASKED);
 }
 
+static void waiting(void)
+{
+    unsigned char bytes[16];
+    uint64_t slots[3] = {1, 2, 3};
+    uint32_t copies[3] = {4, 5, 6};
+    zc_waiting_reply reply = zc_waiting((zc_control *)control, slots, 3, copies, 3, ROWS);
+    memcpy(bytes, &reply, sizeof reply);
+    equal("waiting: code", word(bytes, 0), 0);
+    equal("waiting: count", word(bytes, 8), 2);
+    equal("waiting: slots", slots[0] * 10000 + slots[1] * 100 + slots[2], 666703);
+    equal("waiting: the first label", copies[0], 700);
+    equal("waiting: the second label", copies[1], labels[67]);
+    equal("waiting: beyond them", copies[2], 6);
+    reply = zc_waiting((zc_control *)control, slots, 3, copies, 1, ROWS);
+    equal("waiting: refused", reply.code * 10 + reply.count, 10 * ZC_SHORT);
+}
+
 static void pop(void)
 {
     unsigned char bytes[16];
@@ -284,6 +301,7 @@ int main(void)
     push();
     report();
     find();
+    waiting();
     pop();
     pool();
     printf("%u passed, %u failed\n", passed, failed);

@@ -1,7 +1,7 @@
 /*
- * zc_queue_waiting: the order under each status, the first few of many, and tables whose links lead
- * astray, where it must end. zc_report: waiting where links lead astray, and, on tables of any
- * contents, the same as the header's walk wherever it is told.
+ * zc_waiting: the order under each status, tables with just enough room and with one entry less,
+ * and links that lead astray. zc_report: waiting where links lead astray, and, on tables of any
+ * contents, the same code and count as zc_waiting.
  */
 #include "zeppolecape.h"
 
@@ -29,21 +29,38 @@ static zc_queue queue = {
 
 static unsigned passed, failed;
 
-/* The first `most` slots as digits, from left to right: 123 is slot 1, slot 2, slot 3. */
-static void waits(const char *what, size_t most, uint64_t expected)
+enum { GUARD = 77, SPARE = 2 };
+
+/* So many slots and labels lent are refused with a code, or get the slots as digits from left to
+ * right: 123 is slot 1, slot 2, slot 3. The label of slot n is 100 + n; no other entry changes. */
+static void lent(const char *what, size_t slot_most, size_t label_most, uint64_t code,
+                 uint64_t expected)
 {
-    uint64_t slots[SLOTS + 1], found = 0;
-    size_t count = zc_queue_waiting(&queue, slots, most);
-    for (size_t at = 0; at < count && at <= SLOTS; at++)
-        found = 10 * found + slots[at];
-    if (count <= most && found == expected) {
+    uint64_t slots[SLOTS + SPARE], found = 0;
+    uint32_t copies[SLOTS + SPARE];
+    for (size_t at = 0; at < SLOTS + SPARE; at++)
+        slots[at] = copies[at] = GUARD;
+    zc_waiting_reply reply =
+        zc_waiting(&control, slots, slot_most, copies, label_most, ZC_ROW_TABLES(&queue));
+    int right = reply.code == code && reply.count <= SLOTS && (code == 0 || reply.count == 0);
+    for (size_t at = 0; right && at < SLOTS + SPARE; at++) {
+        int written = at < reply.count;
+        found = written ? 10 * found + slots[at] : found;
+        right &= written ? copies[at] == 100 + slots[at] : slots[at] == GUARD && copies[at] == GUARD;
+    }
+    if (right && found == expected) {
         passed++;
         return;
     }
     failed++;
-    printf("FAILED waiting, %s: %zu slots, %llu, expected %llu\n", what, count,
+    printf("FAILED waiting, %s: code %llu, %llu labels, %llu, expected %llu\n", what,
+           (unsigned long long)reply.code, (unsigned long long)reply.count,
            (unsigned long long)found, (unsigned long long)expected);
 }
+
+static void waits(const char *what, uint64_t expected) { lent(what, SLOTS, SLOTS, 0, expected); }
+
+static void refuses(const char *what, uint64_t code) { lent(what, SLOTS, SLOTS, code, 0); }
 
 /* Task 0 steps until it answers, or is about to make the step at `stop`. */
 static void finish(zc_reply reply, uint64_t stop)
@@ -54,15 +71,16 @@ static void finish(zc_reply reply, uint64_t stop)
 
 static void push(uint64_t side, uint64_t slot, uint64_t stop)
 {
-    finish(zc_queue_push(&queue, 0, side, slot, 0), stop);
+    finish(zc_queue_push(&queue, 0, side, slot, (uint32_t)(100 + slot)), stop);
 }
 
 static void opened(void)
 {
     zc_queue_open(&queue, TASKS, SLOTS, 0);
-    waits("nothing", SLOTS, 0);
+    waits("nothing", 0);
+    lent("nothing, and no room", 0, 0, 0, 0);
     push(ZC_RIGHT, 2, 0);
-    waits("one label", SLOTS, 2);
+    waits("one label", 2);
     push(ZC_RIGHT, 3, 0);
     push(ZC_LEFT, 1, 0);
 }
@@ -70,42 +88,52 @@ static void opened(void)
 static void order(void)
 {
     opened();
-    waits("STABLE", SLOTS, 123);
-    waits("the first two", 2, 12);
-    waits("none of them", 0, 0);
+    waits("STABLE", 123);
+    lent("room for just these", 3, 3, 0, 123);
+    lent("one slot too short", 2, SLOTS, ZC_SHORT, 0);
+    lent("one label too short", SLOTS, 2, ZC_SHORT, 0);
+    lent("no room", 0, 0, ZC_SHORT, 0);
     push(ZC_RIGHT, 4, 5);
-    waits("RPUSH", SLOTS, 1234);
-    waits("RPUSH, the first", 1, 1);
+    waits("RPUSH", 1234);
+    lent("RPUSH, one too short", 3, 3, ZC_SHORT, 0);
     opened();
     push(ZC_LEFT, 4, 5);
-    waits("LPUSH", SLOTS, 4123);
-    waits("LPUSH, the first three", 3, 412);
+    waits("LPUSH", 4123);
+    lent("LPUSH, room for just these", 4, 4, 0, 4123);
+    lent("LPUSH, one too short", 3, 3, ZC_SHORT, 0);
     opened();
     finish(zc_queue_pop(&queue, 0, ZC_LEFT), 0);
-    waits("the left end still names the slot popped", SLOTS, 23);
+    waits("the left end still names the slot popped", 23);
+    for (size_t row = 0; row <= SLOTS; row++)
+        push(ZC_RIGHT, row, 0);
+    waits("all slots", 23145);
 }
 
 static void astray(void)
 {
     opened();
     lefts[2] = 3;
-    waits("a circle", SLOTS + 1, 32323);
+    refuses("a circle", ZC_UNSOUND);
+    lent("a circle, and no room", 0, 0, ZC_UNSOUND, 0);
     control.slots = UINT64_MAX;
-    waits("a circle, control spoilt", SLOTS + 1, 32323);
+    refuses("a circle, control spoilt", ZC_UNSOUND);
     control.slots = 2;
-    waits("control with fewer slots", SLOTS, 0);
+    refuses("control with fewer slots", ZC_UNSOUND);
     control.slots = SLOTS;
     lefts[2] = 0;
-    waits("a link to null", SLOTS, 23);
+    refuses("a link to null", ZC_UNSOUND);
     lefts[2] = 0x7fff;
-    waits("a link to no row", SLOTS, 23);
-    queue.label_count = 3;
-    waits("short labels", SLOTS, 0);
+    refuses("a link to no row", ZC_UNSOUND);
+    queue.label_count = SLOTS;
+    refuses("short labels", ZC_SHORT);
     queue.label_count = 0;
-    waits("no labels", SLOTS, 0);
+    refuses("no labels", ZC_SHORT);
     queue.label_count = ZC_ROWS(SLOTS);
+    queue.mark_count = 0;
+    refuses("no marks", ZC_SHORT);
     control.anchor = UINT64_MAX;
-    waits("ends that are no rows", SLOTS, 0);
+    refuses("ends that are no rows, and no marks", ZC_UNSOUND);
+    queue.mark_count = ZC_MARK_WORDS(SLOTS);
 }
 
 /* What the report tells of the labels waiting, or its refusal. */
@@ -174,15 +202,15 @@ static void agree(void)
         }
         zc_report_reply reply = zc_queue_report(&queue);
         uint64_t slots[SLOTS];
-        if (reply.code != 0) {
-            refused++;
-        } else if (zc_queue_waiting(&queue, slots, SLOTS) == reply.waiting) {
-            told++;
-        } else {
+        uint32_t copies[SLOTS];
+        zc_waiting_reply written = zc_queue_waiting(&queue, slots, copies, SLOTS);
+        if (written.code != reply.code || written.count != reply.waiting) {
             failed++;
             printf("FAILED zc_queue_waiting and zc_report differ\n");
             return;
         }
+        refused += reply.code != 0;
+        told += reply.code == 0;
     }
     passed += told > 10000 && refused > 10000;
     failed += told <= 10000 || refused <= 10000;

@@ -39,6 +39,7 @@ mod sheet;
 mod tables;
 #[cfg(test)]
 mod tests;
+mod waiting;
 
 pub use audit::{audit, audit_words, Finished, Verdict, MOST_CALLS};
 pub use find::Found;

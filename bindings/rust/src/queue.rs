@@ -1,9 +1,7 @@
 //! The queue that owns its tables.
 
 use crate::tables::{report, Shared, Tables};
-use crate::{
-    link_slot, mark_words, raw, rows, Anchor, Answer, Control, Record, Refusal, Report, Run, Side,
-};
+use crate::{mark_words, rows, Answer, Control, Record, Refusal, Report, Run, Side};
 use crate::{LAST_START_TAG, MOST_SLOTS, MOST_TASKS, POOLED_PUSH_STEPS};
 use alloc::vec;
 use alloc::vec::Vec;
@@ -178,28 +176,5 @@ impl Queue {
     /// A slot to be named in a push: no label and no call holds it.
     pub fn free_slot(&self) -> Option<u64> {
         (1..=self.control.slots).find(|&slot| !self.is_taken(slot))
-    }
-
-    /// The slots and labels that wait, from left to right: from the right end along Left links, or,
-    /// under LPUSH, from the left end along Right links. Never more than there are slots, and no
-    /// row that there is not, whatever the tables hold.
-    pub fn waiting(&self) -> Vec<(u64, u32)> {
-        let Anchor { status, left, right, .. } = Anchor::of(self.control.anchor);
-        let from_left = status == raw::LPUSH;
-        let (links, first, last) = match from_left {
-            true => (&self.rights, left, right),
-            false => (&self.lefts, right, left),
-        };
-        let last_row = self.control.slots.min(links.len() as u64 - 1);
-        let mut found = Vec::new();
-        let mut slot = first;
-        while (1..=last_row).contains(&slot) && (found.len() as u64) < last_row {
-            found.push((slot, self.labels[slot as usize]));
-            slot = if slot == last { 0 } else { link_slot(links[slot as usize]) };
-        }
-        if !from_left {
-            found.reverse();
-        }
-        found
     }
 }

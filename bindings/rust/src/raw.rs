@@ -7,8 +7,10 @@
 //! checked by the call.
 
 mod calls;
+mod waiting;
 
 pub use calls::*;
+pub use waiting::*;
 
 /// Side left.
 pub const LEFT: u64 = 0;

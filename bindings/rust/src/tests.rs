@@ -72,23 +72,25 @@ fn waiting_follows_the_unstable_side() {
 }
 
 #[test]
-fn waiting_ends_whatever_the_tables_hold() {
+fn waiting_in_lent_tables() {
     let mut queue = Queue::open(1, 3, 0).unwrap();
     for slot in 1..=3 {
         queue.push(0, Side::Right, slot, 10 * slot as u32).unwrap();
         finish(&mut queue, 0);
     }
     assert_eq!(queue.waiting(), [(1, 10), (2, 20), (3, 30)]);
-    queue.lefts[2] = 3;
-    assert_eq!(queue.waiting(), [(3, 30), (2, 20), (3, 30)]);
-    queue.control.slots = u64::MAX;
-    assert_eq!(queue.waiting().len(), 3);
-    for slot in [0, 4, 0x7fff] {
-        queue.lefts[2] = slot;
-        assert_eq!(queue.waiting(), [(2, 20), (3, 30)]);
+    let (mut slots, mut labels) = ([9; 4], [8; 4]);
+    assert_eq!(queue.lend().waiting(&mut slots[..2], &mut labels), Err(Refusal::Short));
+    assert_eq!(queue.lend().waiting(&mut slots, &mut labels[..2]), Err(Refusal::Short));
+    assert_eq!((slots, labels), ([9; 4], [8; 4]));
+    assert_eq!(queue.lend().waiting(&mut slots, &mut labels[..3]), Ok(3));
+    assert_eq!((slots, labels), ([1, 2, 3, 9], [10, 20, 30, 8]));
+    for word in [0, 3, 4, 0x7fff, 1 | 1 << 15] {
+        queue.lefts[2] = word;
+        assert_eq!(queue.lend().waiting(&mut slots, &mut labels), Err(Refusal::Unsound));
     }
     queue.control = Control { slots: 3, anchor: u64::MAX, ..queue.control };
-    assert_eq!(queue.waiting(), []);
+    assert_eq!(queue.lend().waiting(&mut slots, &mut labels), Err(Refusal::Unsound));
 }
 
 #[test]

@@ -1,7 +1,7 @@
 //! An independent implementation of documents 01 and 02, written from the papers alone.
 //!
 //! The machine: `word` (packed words), `tables` (what is lent), `refusal` (the
-//! ordered tests), `places` (what a step does), `machine` and `find` (the outside calls).
+//! ordered tests), `places` (what a step does), `machine`, `find` and `read_out` (the outside calls).
 //! The program: `runfile` (fields in), `run` (events), `trace` (lines out).
 //! Over the tables: `sheet` (document 02, #111 and #112), `schedules` (#107), `join` (#113).
 //! The judge: `clerk` (a sequential deque), `contents` (labels waiting), `pool` (free
@@ -24,6 +24,7 @@ pub mod machine;
 pub mod malformed;
 mod places;
 pub mod pool;
+mod read_out;
 pub mod refusal;
 mod retries;
 pub mod run;

@@ -37,6 +37,7 @@ pub enum Group {
     Worn,
     Touch,
     Walk,
+    Room,
 }
 
 impl Group {
@@ -45,7 +46,7 @@ impl Group {
             Group::Tasks => 10,
             Group::Slots => 11,
             Group::Many => 45,
-            Group::Short => 12,
+            Group::Short | Group::Room => 12,
             Group::Task => 13,
             Group::Side => 14,
             Group::Slot => 15,
@@ -62,7 +63,9 @@ impl Group {
         use Export::*;
         let exports: &[Export] = match self {
             Group::Tasks | Group::Slots => &[Open, OpenPooled],
-            Group::Control => &[Push, PushPooled, Pop, Step, Run, StepRecord, Report, Find],
+            Group::Control => {
+                &[Push, PushPooled, Pop, Step, Run, StepRecord, Report, Find, Waiting]
+            }
             Group::Many => &[Find],
             Group::Short => return true,
             Group::Task => &[Push, PushPooled, Pop, Step, Run],
@@ -71,7 +74,8 @@ impl Group {
             Group::Slot | Group::Taken => &[Push],
             Group::Record => &[Push, PushPooled, Pop, Step, Run, StepRecord],
             Group::Idle | Group::Touch => &[Step, Run, StepRecord],
-            Group::Walk => &[Report, Find],
+            Group::Walk => &[Report, Find, Waiting],
+            Group::Room => &[Waiting],
         };
         exports.contains(&export)
     }
@@ -101,8 +105,10 @@ impl Fault {
         };
         let fits = self.pooled.is_none() || way.is_none() || self.pooled == way;
         let seen = match self.name {
-            "short records" => !matches!(export, Export::StepRecord | Export::Find),
-            "short next" => export != Export::Find,
+            "short records" => {
+                !matches!(export, Export::StepRecord | Export::Find | Export::Waiting)
+            }
+            "short next" => !matches!(export, Export::Find | Export::Waiting),
             SHORT_IN_A_WRONG_PUSH => export == Export::Push,
             _ => true,
         };

@@ -94,6 +94,8 @@ fn unopened(tasks: usize, slots: usize, next_rows: usize) -> World {
         labels: lent(slots + 3, slots + 1, u32::MAX),
         marks: lent(slots / 64 + 3, slots / 64 + 1, u64::MAX),
         next: lent(slots + 3, next_rows, u64::MAX),
+        slots_out: lent(slots + 2, slots, u64::MAX),
+        labels_out: lent(slots + 2, slots, u32::MAX),
     }
 }
 
@@ -123,6 +125,7 @@ fn next_call(dice: &mut Dice, world: &World) -> Call {
         true => Call::Pop { task, side },
         false if dice.percent(2) => Call::Report,
         false if dice.percent(2) => any_question(dice),
+        false if dice.percent(2) => Call::Waiting,
         false if dice.percent(4) => Call::Run { task, most: dice.between(0, 25) },
         false if dice.percent(50) && task < tasks as usize => Call::StepRow { task },
         false => Call::Step { task },

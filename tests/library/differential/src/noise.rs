@@ -80,14 +80,14 @@ fn spoil_arguments(dice: &mut Dice, scene: &mut Scene) {
         }
         Call::Step { task } | Call::Run { task, .. } => *task = wild(dice, most_tasks) as usize,
         Call::Find { count, .. } => *count = dice.between(0, 33) as usize,
-        Call::StepRecord | Call::StepRow { .. } | Call::Report => {}
+        Call::StepRecord | Call::StepRow { .. } | Call::Report | Call::Waiting => {}
     }
 }
 
 pub fn noise(tally: &mut Tally, dice: &mut Dice, scenes: u32) {
     let before = tally.mismatches;
     for _ in 0..scenes {
-        let export = match dice.between(0, 15) {
+        let export = match dice.between(0, 17) {
             0 => Export::Open,
             1 => Export::OpenPooled,
             2 => Export::Push,
@@ -97,7 +97,8 @@ pub fn noise(tally: &mut Tally, dice: &mut Dice, scenes: u32) {
             9 => Export::Run,
             10..=12 => Export::StepRecord,
             13 => Export::Report,
-            _ => Export::Find,
+            14 | 15 => Export::Find,
+            _ => Export::Waiting,
         };
         let mut scene = Scene::draw(dice, Wanted::any(export), 1);
         if let Call::Run { most, .. } = &mut scene.call {
@@ -112,6 +113,8 @@ pub fn noise(tally: &mut Tally, dice: &mut Dice, scenes: u32) {
         spoil_count(dice, &mut scene.world.marks);
         spoil_count(dice, &mut scene.world.next);
         spoil_count(dice, &mut scene.world.records);
+        spoil_count(dice, &mut scene.world.slots_out);
+        spoil_count(dice, &mut scene.world.labels_out);
         spoil_arguments(dice, &mut scene);
         let (mut ours, mut theirs) = (scene.world.clone(), scene.world);
         tally.compare(&mut ours, &mut theirs, scene.call);

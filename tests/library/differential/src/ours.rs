@@ -69,6 +69,12 @@ pub fn by_library(world: &mut World, call: Call) -> Told {
             let found = library!(world.zc_find(control, asked.as_ptr(), count));
             return Told::Find(found.code, found.rows, found.positions);
         }
+        Call::Waiting => {
+            let (slots, slot_count) = (world.slots_out.pointer(), world.slots_out.count);
+            let (labels, label_count) = (world.labels_out.pointer(), world.labels_out.count);
+            let told = library!(world.zc_waiting(control, slots, slot_count, labels, label_count));
+            return Told::Waiting(told.code, told.count);
+        }
     };
     Told::Reply(reply.code, reply.label, reply.value)
 }

@@ -10,7 +10,7 @@ use reference::dice::Dice;
 use reference::tables::{POP, PUSH};
 use zeppolecape::MOST_RETRIES;
 
-const EXPORTS: [Export; 10] = [
+const EXPORTS: [Export; 11] = [
     Export::Open,
     Export::OpenPooled,
     Export::Push,
@@ -21,6 +21,7 @@ const EXPORTS: [Export; 10] = [
     Export::StepRecord,
     Export::Report,
     Export::Find,
+    Export::Waiting,
 ];
 
 /// A scene in which a fault may be planted.

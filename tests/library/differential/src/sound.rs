@@ -55,7 +55,8 @@ impl Scene {
             | Call::Open { .. }
             | Call::OpenPooled { .. }
             | Call::Report
-            | Call::Find { .. } => &mut self.world.one,
+            | Call::Find { .. }
+            | Call::Waiting => &mut self.world.one,
             Call::Push { task, .. }
             | Call::PushPooled { task, .. }
             | Call::Pop { task, .. }
@@ -102,10 +103,12 @@ impl Scene {
             Export::StepRecord => Call::StepRecord,
             Export::Report => Call::Report,
             Export::Find => any_question(dice),
+            Export::Waiting => Call::Waiting,
         };
         let mut scene = Scene { world, call, slots, tasks };
-        if let Export::Report | Export::Find = wanted.export {
-            line_up(&mut scene, dice, 0);
+        if let Export::Report | Export::Find | Export::Waiting = wanted.export {
+            let waiting = line_up(&mut scene, dice, 0).len();
+            scene.make_room(dice, waiting);
         }
         if let Export::Step | Export::Run | Export::StepRecord = wanted.export {
             let last = if pooled { 17 } else { 11 };
@@ -114,6 +117,16 @@ impl Scene {
             scene.ready(dice, place, kind);
         }
         scene
+    }
+
+    /// Room for so many labels waiting and their slots, or for more.
+    fn make_room(&mut self, dice: &mut Dice, waiting: usize) {
+        let spare = |dice: &mut Dice| dice.pick(&[0, 0, 1, 2]);
+        let count = waiting + spare(dice);
+        self.world.slots_out = Lent::new((0..count + 2).map(|_| dice.throw()).collect(), count);
+        let count = waiting + spare(dice);
+        let labels = (0..count + 2).map(|_| dice.throw() as u32);
+        self.world.labels_out = Lent::new(labels.collect(), count);
     }
 
     pub fn is_pooled(&self) -> bool {
@@ -230,5 +243,6 @@ fn sound_world(dice: &mut Dice, tasks: u64, slots: u64, pooled: bool) -> World {
     let head = if pooled { sound_link(dice, slots) } else { wild_word(dice, slots) };
     let pooled = if pooled { POOLED } else { NAMED };
     let control = Control { tasks, slots, anchor, pooled, head };
-    World { control, records, one, lefts, rights, labels, marks, next }
+    let (slots_out, labels_out) = (Lent::new(vec![], 0), Lent::new(vec![], 0));
+    World { control, records, one, lefts, rights, labels, marks, next, slots_out, labels_out }
 }

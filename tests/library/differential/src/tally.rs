@@ -56,7 +56,7 @@ impl Tally {
 
     /// Every answer and refusal of every call must have been reached, and no other.
     pub fn check_reached(&mut self) {
-        const WANTED: [(Export, &[u32]); 10] = [
+        const WANTED: [(Export, &[u32]); 11] = [
             (Export::Open, &[0, 10, 11, 12]),
             (Export::OpenPooled, &[0, 10, 11, 12]),
             (Export::Push, &[1, 12, 13, 14, 15, 30, 32, 33, 34, 41]),
@@ -67,6 +67,7 @@ impl Tally {
             (Export::StepRecord, &[1, 2, 3, 4, 5, 12, 31, 34]),
             (Export::Report, &[0, 12, 34]),
             (Export::Find, &[0, 12, 34, 45]),
+            (Export::Waiting, &[0, 12, 34]),
         ];
         for (export, wanted) in WANTED {
             let found: Vec<(u32, u64)> = self

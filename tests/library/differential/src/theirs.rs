@@ -63,6 +63,13 @@ pub fn by_reference(world: &mut World, call: Call) -> Told {
     if let Call::Find { asked, count } = call {
         return found(shared.find(&asked[..count]));
     }
+    if let Call::Waiting = call {
+        let told = shared.read_out(world.slots_out.slice(), world.labels_out.slice());
+        return match told {
+            Ok(count) => Told::Waiting(0, count),
+            Err(refusal) => Told::Waiting(refusal.number().into(), 0),
+        };
+    }
     let mut tables = Tables { shared, records: world.records.slice() };
     match call {
         Call::Open { tasks, slots, tag } => opened(tables.open(tasks, slots, tag)),
@@ -80,7 +87,9 @@ pub fn by_reference(world: &mut World, call: Call) -> Told {
             let Told::Reply(code, label, value) = moved(answer) else { unreachable!() };
             Told::Run(code, label, value, steps)
         }
-        Call::StepRecord | Call::StepRow { .. } | Call::Find { .. } => unreachable!(),
+        Call::StepRecord | Call::StepRow { .. } | Call::Find { .. } | Call::Waiting => {
+            unreachable!()
+        }
         Call::Report => match tables.report() {
             Ok(told) => {
                 let anchor = [told.tag, told.status, told.left, told.right];

@@ -40,6 +40,9 @@ pub struct World {
     pub labels: Lent<u32>,
     pub marks: Lent<u64>,
     pub next: Lent<u64>,
+    /// Where the labels waiting are written: their slots, and the labels.
+    pub slots_out: Lent<u64>,
+    pub labels_out: Lent<u32>,
 }
 
 #[derive(Clone, Copy, Debug, PartialEq)]
@@ -89,6 +92,7 @@ pub enum Call {
         asked: [u32; MOST_ASKED + 1],
         count: usize,
     },
+    Waiting,
 }
 
 /// The exported calls.
@@ -104,6 +108,7 @@ pub enum Export {
     StepRecord,
     Report,
     Find,
+    Waiting,
 }
 
 impl Call {
@@ -119,12 +124,13 @@ impl Call {
             Call::StepRecord | Call::StepRow { .. } => Export::StepRecord,
             Call::Report => Export::Report,
             Call::Find { .. } => Export::Find,
+            Call::Waiting => Export::Waiting,
         }
     }
 }
 
 /// An answer in numbers: code, label, value; a run's, and its steps; the report's fields; code, rows
-/// and positions.
+/// and positions; code and how many wait.
 #[derive(Clone, Copy, Debug, PartialEq)]
 pub enum Told {
     Reply(u32, u32, u64),
@@ -132,13 +138,14 @@ pub enum Told {
     /// Code, Anchor's fields, busy, waiting and taken, each task's retries.
     Report(u64, [u64; 4], [u64; 3], [u64; 16]),
     Find(u64, u64, [u64; MOST_ASKED]),
+    Waiting(u64, u64),
 }
 
 impl Told {
     pub fn code(&self) -> u32 {
         match self {
             Told::Reply(code, ..) | Told::Run(code, ..) => *code,
-            Told::Report(code, ..) | Told::Find(code, ..) => *code as u32,
+            Told::Report(code, ..) | Told::Find(code, ..) | Told::Waiting(code, _) => *code as u32,
         }
     }
 }
@@ -165,4 +172,6 @@ pub fn difference(ours: &World, theirs: &World) -> Option<String> {
         .or_else(|| rows("labels", &ours.labels, &theirs.labels))
         .or_else(|| rows("marks", &ours.marks, &theirs.marks))
         .or_else(|| rows("next", &ours.next, &theirs.next))
+        .or_else(|| rows("slots out", &ours.slots_out, &theirs.slots_out))
+        .or_else(|| rows("labels out", &ours.labels_out, &theirs.labels_out))
 }

@@ -1,0 +1,4 @@
+pub mod Turns
+pub mod Laid
+pub mod ReadingOut
+pub mod Standing

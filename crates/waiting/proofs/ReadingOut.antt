@@ -1,0 +1,90 @@
+-- The answer: refused before the walk, by the walk, for want of room, or written.
+use mathlib.Core.Path.{_≡_, refl, sym, ap, _∙_}
+use mathlib.Core.Bool.{Bool, true, false, _||_, not}
+use mathlib.Core.List.{List, [], _∷_}
+use Prim.Native.Nat.{ℕ, _≤_}
+use native.Mathlib.Omega.{arith}
+use lib.Dec.{ltb}
+use lib.ListN.{length}
+use borrow.Author.Tests.{ltb-false, ne-eqb}
+use Rattle.word.specs.Anchor.{anchorOf}
+use Rattle.model.specs.Tables.{Tables}
+use Rattle.model.specs.Sound.{controlSound, rowsFit}
+use Rattle.model.specs.Walk.{contents, isBroken}
+use Rattle.model.specs.Refusals.{rule, first}
+use Rattle.model.specs.Report.{waiting}
+use Rattle.model.proofs.tests.Truth.{not-both}
+use Rattle.walk.specs.declared.Tally.the-variants.{Broken, Labels}
+use Rattle.walk.specs.Counted.{counted}
+use Rattle.walk.proofs.Counting.{all-counted, none-counted}
+use Rattle.waiting.specs.Waiting.{Written, kept, labelsOf, readOut, slotsOf, tooShort, waitingRefusal}
+use Rattle.waiting.specs.Trail.{laid, refusalBefore}
+use Rattle.waiting.proofs.Laid.{lays}
+
+none-applies : (a b : Bool) → refusalBefore a b ≡ 0 → (a ≡ true) × (b ≡ true)
+unfolding refusalBefore
+none-applies true true e = (refl, refl)
+none-applies true false e = let z : ⊥ = omega arith in absurd z
+none-applies false b e = let z : ⊥ = omega arith in absurd z
+
+one-applies : (a b c d : Bool) → (refusalBefore a b ≡ 0 → ⊥)
+    → first (rule 34 (not a) ∷ rule 12 (not b) ∷ rule 34 c ∷ rule 12 d ∷ []) ≡ refusalBefore a b
+unfolding refusalBefore
+one-applies true true c d h = absurd (h refl)
+one-applies true false c d h = refl
+one-applies false b c d h = refl
+
+-- Both tables have room.
+room : (n : ℕ) (slots labels : List ℕ) → tooShort n slots labels ≡ false → (n ≤ length slots) × (n ≤ length labels)
+room n slots labels e =
+    let z = neither (ltb (length slots) n) (ltb (length labels) n) e in
+    (ltb-false _ _ (z .0), ltb-false _ _ (z .1))
+  where
+    neither : (a b : Bool) → a || b ≡ false → (a ≡ false) × (b ≡ false)
+    neither true b e = absurd (not-both refl e)
+    neither false b e = (refl, e)
+
+module _ (q : Tables) (slots labels : List ℕ) where
+  abbrev pub why : ℕ
+  why = refusalBefore (controlSound (q .control)) (rowsFit false (q .control .slots) q)
+
+  pub turned-away : (n : ℕ) → n ≡ why → (n ≡ 0 → ⊥) → kept n slots labels ≡ readOut q slots labels
+  unfolding readOut waitingRefusal
+  turned-away n e h =
+      let fits = rowsFit false (q .control .slots) q in
+      let short = tooShort (waiting q) slots labels in
+      let r = one-applies (controlSound (q .control)) fits (isBroken (contents q)) short (λ z. h (e ∙ z)) ∙ sym e in
+      rw (r, ne-eqb n 0 h)
+
+  module _ (n : ℕ) (e : n ≡ why) (z : n ≡ 0) where
+    passed : (controlSound (q .control) ≡ true) × (rowsFit false (q .control .slots) q ≡ true)
+    passed = none-applies _ _ (sym e ∙ z)
+
+    pub lost : Broken ≡ counted (contents q) → kept 34 slots labels ≡ readOut q slots labels
+    unfolding readOut waitingRefusal
+    lost t = rw (passed .0, passed .1, none-counted (contents q) t)
+
+    module _ (m : ℕ) (t : Labels m ≡ counted (contents q)) where
+      met-all : (isBroken (contents q) ≡ false) × (m ≡ waiting q)
+      unfolding waiting
+      met-all = all-counted (contents q) m t
+
+      pub short : tooShort m slots labels ≡ true → kept 12 slots labels ≡ readOut q slots labels
+      unfolding readOut waitingRefusal
+      short h =
+          let s : tooShort (waiting q) slots labels ≡ true = ap (λ (k : ℕ). tooShort k slots labels) (sym (met-all .1)) ∙ h in
+          rw (passed .0, passed .1, met-all .0, s)
+
+      pub writes : tooShort m slots labels ≡ false → (s l : List ℕ)
+          → s ≡ laid slotsOf (anchorOf (q .control .anchor)) m (q .lefts) (q .rights) (q .labels) slots
+          → l ≡ laid labelsOf (anchorOf (q .control .anchor)) m (q .lefts) (q .rights) (q .labels) labels
+          → _≡_ {A = Written} (record { reply = record { code = 0; count = m }; slots = s; labels = l }) (readOut q slots labels)
+      unfolding readOut waitingRefusal waiting
+      writes h s l sets-s sets-l =
+          let g = all-counted (contents q) m t in
+          let r = room m slots labels h in
+          let enough : tooShort (waiting q) slots labels ≡ false = ap (λ (k : ℕ). tooShort k slots labels) (sym (g .1)) ∙ h in
+          let slotted = sets-s ∙ lays q (λ e. e .slot) m slots (g .0) (g .1) (r .0) in
+          let labelled = sets-l ∙ lays q (λ e. e .label) m labels (g .0) (g .1) (r .1) in
+          rw (passed .0, passed .1, g .0, enough)
+          (λ i. record { reply = record { code = 0; count = g .1 i }; slots = slotted i; labels = labelled i })
