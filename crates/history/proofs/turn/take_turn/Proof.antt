@@ -1,56 +1,101 @@
--- Past the sixteen records a task's record is unused, and none is put back.
-use mathlib.Core.Path.{_≡_, sym, ap, _∙_}
-use mathlib.Core.Logic.{⊎-elim}
+-- The call that is made is the one that the number names.
+use mathlib.Core.Path.{_≡_, _∙_}
+use mathlib.Core.List.{List}
 use Prim.Native.Nat.{ℕ}
-use native.Mathlib.Omega.{arith}
-use lib.ListN.{length, set, List·getD-eq-default}
-use lib.Seq.{set-out}
 use borrow.Author.Needs.{needs}
-use Rattle.history.proofs.Turns.{record-there, turn-done}
+use Rattle.model.specs.declared.Op.{Op}
+use Rattle.model.specs.Tables.{Queue}
+use Rattle.model.specs.Calls.{act}
+use Rattle.rows.specs.Rows.{queueIn, uppersOf}
+use Rattle.capi.specs.Replies.{replied}
+use Rattle.history.specs.Words.{opOf}
+use Rattle.history.specs.Serving.{writesRow}
+use Rattle.history.proofs.Turns.{as-asked, a-push, a-pop, a-put, a-step}
 use Rattle.history.proofs.turn.take_turn.Statement.{statement}
 use Rattle.history.proofs.turn.take_turn.Tie as tie
 
--- Back to the operation, past what it leaves of each table; to the record read; to the start.
-abbrev act : tie.After-counted → tie.After-act
-act c =
-    let marks = c .before .before .before .before in
-    let rights = marks .before .before .before .before in
-    rights .before .before .before .before
+-- From the first test to the start.
+module _ (test : tie.After-struct-known2) where
+  abbrev first : tie.Start
+  first = let lists = test .before .before .before .before in lists .before .before .before
 
-abbrev record-read : tie.After-act → tie.Joined1
-record-read c =
-    let args = c .before .before .before .before in
-    args .before .before .before
+  abbrev lent : Queue
+  lent =
+      let a = first .args in
+      queueIn (a .control .now) (a .records .now) (a .lefts .now) (a .rights .now) (a .labels .now) (a .marks .now) (a .next .now)
 
-abbrev start : tie.Joined1 → tie.Start
-start c =
-    let known = c .before .before .before .before in
-    known .before .before .before
+  -- What answers the operation that the number names is what was asked for.
+  abbrev answered : (o : Op) → let r = first .args .request in opOf (r .operation) (r .side) (r .slot) (r .label) ≡ o
+      → let a = first .args in
+      let n = opOf (a .request .operation) (a .request .side) (a .request .slot) (a .request .label) in
+      replied (writesRow o) (a .request .task) (uppersOf (a .records .now)) (act lent (a .request .task) o)
+      ≡ replied (writesRow n) (a .request .task) (uppersOf (a .records .now)) (act lent (a .request .task) n)
+  answered o e = as-asked lent (uppersOf (first .args .records .now)) (first .args .request .task) e
 
 returns : tie.Need-returns
 returns c =
-    let done = c .before .before in
-    let acted = act done in
-    let read = record-read acted in
-    let first = start read in
-    let rs = first .args .records in
-    let len : length rs ≡ 16 = search (needs, first .good .1 .0 .1) in
-    turn-done _ rs _ _ _ _ _ _ _ _ _ _ len
-    (⊎-elim (λ w. w .2 ∙ record-there rs _ _ _ (let h = w .0 .taken in omega arith))
-    (λ w. w .1 ∙ read .before .unused .ensures ∙ sym (List·getD-eq-default rs _ (let h = w .0 .left in omega arith)))
-    (read .if1 .came))
-    (acted .act .ensures)
-    (⊎-elim (λ w. w .1) (λ w. w .1 ∙ sym (set-out rs _ _ (let h = w .0 .left in omega arith))) (c .before .if2 .came)
-    ∙ ap (λ (k : ℕ). set rs (first .args .task) (record { call = acted .act .result .task; retries = k })) (done .counted .ensures))
+    let done = c .before .before .before .before .before in
+    let lent = done .before .before .before .before in
+    let test = lent .before .before .before .before in
+    done .zc-push .ensures ∙ answered (test .before) _ (a-push _ _ _ _ (test .if1 .taken))
+
+returns-2 : tie.Need-returns-2
+returns-2 c =
+    let done = c .before in
+    let lent = done .before .before .before .before in
+    let test = lent .before .before .before .before in
+    let named = test .before .before in
+    done .zc-pop .ensures ∙ answered (named .before) _ (a-pop _ _ _ _ (named .if1 .left) (test .if2 .taken))
+
+returns-3 : tie.Need-returns-3
+returns-3 c =
+    let done = c .before in
+    let lent = done .before .before .before .before in
+    let test = lent .before .before .before .before in
+    let pop = test .before .before in
+    let push = pop .before .before in
+    done .zc-push-pooled .ensures ∙ answered (push .before) _ (a-put _ _ _ _ (push .if1 .left) (pop .if2 .left) (test .if3 .taken))
+
+returns-4 : tie.Need-returns-4
+returns-4 c =
+    let marks = c .before .before .before .before in
+    let rights = marks .before .before .before .before in
+    let done = rights .before .before .before in
+    let lent = done .before .before .before .before in
+    let test = lent .before .before .before .before in
+    let pop = test .before .before in
+    let push = pop .before .before in
+    done .zc-step .ensures ∙ answered (push .before) _ (a-step _ _ _ _ (push .if1 .left) (pop .if2 .left) (test .if3 .left))
 
 pub take-turn-spec : {M : Type 1} → statement M
 take-turn-spec =
     tie.close
     (tie.spec
+    (λ c. search needs)
+    (λ c κs. search needs)
+    (λ c. search needs)
+    (λ c. search needs)
+    (λ c. search needs)
+    (λ c. search needs)
+    (λ c. search needs)
+    (λ c. search needs)
+    returns
     (λ c κs. search needs)
     (λ c. search needs)
     (λ c. search needs)
+    (λ c. search needs)
+    (λ c. search needs)
+    (λ c. search needs)
+    (λ c. search needs)
+    returns-2
     (λ c κs. search needs)
+    (λ c. search needs)
+    (λ c. search needs)
+    (λ c. search needs)
+    (λ c. search needs)
+    (λ c. search needs)
+    (λ c. search needs)
+    returns-3
     (λ c κs. search needs)
     (λ c. search needs)
     (λ c. search needs)
@@ -58,5 +103,4 @@ take-turn-spec =
     (λ c. search needs)
     (λ c. search needs)
     (λ c. search needs)
-    (λ c. search needs)
-    returns)
+    returns-4)
