@@ -6,9 +6,7 @@ use native.Mathlib.Numerals.{add-one}
 use native.Mathlib.Omega.{arith}
 use borrow.Author.Tests.{eq-eqb, ne-eqb}
 use lib.Seq.{sets}
-use Rattle.model.specs.declared.Op.{Op}
 use Rattle.model.specs.declared.Op.the-variants.{Push, Pop, Put, Step}
-use Rattle.model.specs.Tables.{Queue}
 use Rattle.model.specs.Calls.{act}
 use Rattle.model.specs.History.{Request, run, final}
 use Rattle.capi.specs.Replies.{Replied, replied}
@@ -60,19 +58,14 @@ module _ (code side slot label : ℕ) where
   unfolding opOf
   a-push e = rw (eq-eqb _ _ e)
 
-  pub a-pop : (code ≡ 0 → ⊥) → code ≡ 1 → opOf code side slot label ≡ Pop side
+  pub a-pop : code ≡ 1 → opOf code side slot label ≡ Pop side
   unfolding opOf
-  a-pop n e = rw (ne-eqb _ _ n, eq-eqb _ _ e)
+  a-pop e = rw (ne-eqb code 0 (λ z. omega arith), eq-eqb code 1 e)
 
-  pub a-put : (code ≡ 0 → ⊥) → (code ≡ 1 → ⊥) → code ≡ 2 → opOf code side slot label ≡ Put side (label % 2 ^ 32)
+  pub a-put : code ≡ 2 → opOf code side slot label ≡ Put side (label % 2 ^ 32)
   unfolding opOf
-  a-put n m e = rw (ne-eqb _ _ n, ne-eqb _ _ m, eq-eqb _ _ e)
+  a-put e = rw (ne-eqb code 0 (λ z. omega arith), ne-eqb code 1 (λ z. omega arith), eq-eqb code 2 e)
 
-  pub a-step : (code ≡ 0 → ⊥) → (code ≡ 1 → ⊥) → (code ≡ 2 → ⊥) → opOf code side slot label ≡ Step
+  pub a-step : 2 < code → opOf code side slot label ≡ Step
   unfolding opOf
-  a-step n m k = rw (ne-eqb _ _ n, ne-eqb _ _ m, ne-eqb _ _ k)
-
--- What answers one name of an operation answers the other.
-pub as-asked : {op op′ : Op} (q : Queue) (us : List ℕ) (t : ℕ) → op ≡ op′
-    → replied (writesRow op′) t us (act q t op′) ≡ replied (writesRow op) t us (act q t op)
-as-asked q us t e = ap (λ (o : Op). replied (writesRow o) t us (act q t o)) (sym e)
+  a-step h = rw (ne-eqb code 0 (λ z. omega arith), ne-eqb code 1 (λ z. omega arith), ne-eqb code 2 (λ z. omega arith))

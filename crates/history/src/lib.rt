@@ -56,9 +56,11 @@ fn carry_out(
 )
     requires { ⌜ (5 * count ≤ length (now requests)) × (3 * count ≤ length (now replies)) ⌝ }
     ensures { λ _.
-        ⌜ stateIn (now (control .exit)) (now (records .exit)) (now (replies .exit)) (now (lefts .exit)) (now (rights .exit)) (now (labels .exit)) (now (marks .exit)) (now (next .exit))
+        ⌜ stateIn (now (control .exit)) (now (records .exit)) (now (replies .exit))
+        (now (lefts .exit)) (now (rights .exit)) (now (labels .exit)) (now (marks .exit)) (now (next .exit))
         ≡ served 0
-        (stateIn (now (control .entry)) (now (records .entry)) (now (replies .entry)) (now (lefts .entry)) (now (rights .entry)) (now (labels .entry)) (now (marks .entry)) (now (next .entry)))
+        (stateIn (now (control .entry)) (now (records .entry)) (now (replies .entry))
+        (now (lefts .entry)) (now (rights .entry)) (now (labels .entry)) (now (marks .entry)) (now (next .entry)))
         (requestsOf count (now (requests .entry))) ⌝ }
 {
     for i in 0..count {
@@ -98,8 +100,10 @@ pub extern "C" fn zc_serve(
 ) -> ServeReply
     ensures { λ r.
         ⌜ Serves (not (eqb pooled 0)) tasks slots tag (now (requests .entry))
-        (stateIn (now (control .entry)) (now (records .entry)) (now (replies .entry)) (now (lefts .entry)) (now (rights .entry)) (now (labels .entry)) (now (marks .entry)) (now (next .entry)))
-        (stateIn (now (control .exit)) (now (records .exit)) (now (replies .exit)) (now (lefts .exit)) (now (rights .exit)) (now (labels .exit)) (now (marks .exit)) (now (next .exit)))
+        (stateIn (now (control .entry)) (now (records .entry)) (now (replies .entry))
+        (now (lefts .entry)) (now (rights .entry)) (now (labels .entry)) (now (marks .entry)) (now (next .entry)))
+        (stateIn (now (control .exit)) (now (records .exit)) (now (replies .exit))
+        (now (lefts .exit)) (now (rights .exit)) (now (labels .exit)) (now (marks .exit)) (now (next .exit)))
         r ⌝ }
 {
     let code = turn::open_as(

@@ -2,7 +2,7 @@
 use crate::request::Request;
 use model::Reply;
 ghost use mathlib.Core.Path.{_≡_};
-ghost use mathlib.Core.Bool.{Bool};
+ghost use Prim.Native.Nat.{_≤_};
 ghost use Rattle.model.specs.Calls.{openAs, act};
 ghost use Rattle.rows.specs.Rows.{queueIn, uppersOf};
 ghost use Rattle.capi.specs.Replies.{Coded, coded, Replied, replied};
@@ -35,12 +35,14 @@ pub fn open_as(
     ensures { λ r.
         ⌜ _≡_ {A = Coded}
         (record {
-          queue = queueIn (now (control .exit)) (now (records .exit)) (now (lefts .exit)) (now (rights .exit)) (now (labels .exit)) (now (marks .exit)) (now (next .exit));
+          queue = queueIn (now (control .exit)) (now (records .exit)) (now (lefts .exit)) (now (rights .exit))
+              (now (labels .exit)) (now (marks .exit)) (now (next .exit));
           uppers = uppersOf (now (records .exit));
           code = r;
         })
         (coded tasks (uppersOf (now (records .entry)))
-        (openAs pooled (queueIn (now (control .entry)) (now (records .entry)) (now (lefts .entry)) (now (rights .entry)) (now (labels .entry)) (now (marks .entry)) (now (next .entry)))
+        (openAs pooled (queueIn (now (control .entry)) (now (records .entry)) (now (lefts .entry)) (now (rights .entry))
+        (now (labels .entry)) (now (marks .entry)) (now (next .entry)))
         tasks slots tag)) ⌝ }
 {
     if pooled {
@@ -70,27 +72,30 @@ pub fn open_as(
     )
 }
 
-/// Carries out one request: a push, a pop, a push that names no slot, or else a step.
-pub fn take_turn(
-    control: &mut [u64; rows::CONTROL_WORDS],
+// Starts a push, a pop, or a push that names no slot.
+fn start(
+    control: &[u64; rows::CONTROL_WORDS],
     records: &mut [[u64; rows::RECORD_WORDS]],
     request: Request,
-    lefts: &mut [u64],
-    rights: &mut [u64],
+    lefts: &[u64],
+    rights: &[u64],
     labels: &mut [u32],
     marks: &mut [u64],
-    next: &mut [u64],
+    next: &[u64],
 ) -> Reply
+    requires { ⌜ request .operation ≤ 2 ⌝ }
     ensures { λ r.
         ⌜ (let o = opOf (request .operation) (request .side) (request .slot) (request .label) in
         _≡_ {A = Replied}
         (record {
-          queue = queueIn (now (control .exit)) (now (records .exit)) (now (lefts .exit)) (now (rights .exit)) (now (labels .exit)) (now (marks .exit)) (now (next .exit));
+          queue = queueIn (now (control .entry)) (now (records .exit)) (now (lefts .entry)) (now (rights .entry))
+              (now (labels .exit)) (now (marks .exit)) (now (next .entry));
           uppers = uppersOf (now (records .exit));
           reply = r;
         })
         (replied (writesRow o) (request .task) (uppersOf (now (records .entry)))
-        (act (queueIn (now (control .entry)) (now (records .entry)) (now (lefts .entry)) (now (rights .entry)) (now (labels .entry)) (now (marks .entry)) (now (next .entry)))
+        (act (queueIn (now (control .entry)) (now (records .entry)) (now (lefts .entry)) (now (rights .entry))
+        (now (labels .entry)) (now (marks .entry)) (now (next .entry)))
         (request .task) o))) ⌝ }
 {
     let task = request.task;
@@ -125,13 +130,50 @@ pub fn take_turn(
             next,
         );
     }
-    if request.operation == PUSH_POOLED {
-        return capi::zc_push_pooled(
+    capi::zc_push_pooled(
+        control,
+        records,
+        task,
+        side,
+        label,
+        lefts,
+        rights,
+        labels,
+        marks,
+        next,
+    )
+}
+
+/// Carries out one request: a push, a pop, a push that names no slot, or else a step.
+pub fn take_turn(
+    control: &mut [u64; rows::CONTROL_WORDS],
+    records: &mut [[u64; rows::RECORD_WORDS]],
+    request: Request,
+    lefts: &mut [u64],
+    rights: &mut [u64],
+    labels: &mut [u32],
+    marks: &mut [u64],
+    next: &mut [u64],
+) -> Reply
+    ensures { λ r.
+        ⌜ (let o = opOf (request .operation) (request .side) (request .slot) (request .label) in
+        _≡_ {A = Replied}
+        (record {
+          queue = queueIn (now (control .exit)) (now (records .exit)) (now (lefts .exit)) (now (rights .exit))
+              (now (labels .exit)) (now (marks .exit)) (now (next .exit));
+          uppers = uppersOf (now (records .exit));
+          reply = r;
+        })
+        (replied (writesRow o) (request .task) (uppersOf (now (records .entry)))
+        (act (queueIn (now (control .entry)) (now (records .entry)) (now (lefts .entry)) (now (rights .entry))
+        (now (labels .entry)) (now (marks .entry)) (now (next .entry)))
+        (request .task) o))) ⌝ }
+{
+    if request.operation <= PUSH_POOLED {
+        return start(
             control,
             records,
-            task,
-            side,
-            label,
+            request,
             lefts,
             rights,
             labels,
@@ -139,5 +181,6 @@ pub fn take_turn(
             next,
         );
     }
+    let task = request.task;
     capi::zc_step(control, records, task, lefts, rights, labels, marks, next)
 }

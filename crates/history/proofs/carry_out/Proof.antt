@@ -11,16 +11,15 @@ use Rattle.history.proofs.carry_out.Statement.{statement}
 use Rattle.history.proofs.carry_out.Tie as tie
 
 abbrev Inv-loop : tie.InvT-loop
-Inv-loop control₀ records₀ count requests replies₀ lefts₀ rights₀ labels₀ marks₀ next₀ i₀ control records replies lefts rights labels marks next i =
+Inv-loop co₀ rs₀ count requests replies₀ lefts₀ rights₀ labels₀ marks₀ next₀ i₀ co rs replies lefts rights labels marks next i =
     (i ≤ count) × (count < 9223372036854775808) × (5 * count ≤ length requests) × (3 * count ≤ length replies₀)
-    × (served (3 * i) (stateIn control records replies lefts rights labels marks next) (requestsFrom i (count - i) requests)
-    ≡ served 0 (stateIn control₀ records₀ replies₀ lefts₀ rights₀ labels₀ marks₀ next₀) (requestsFrom 0 count requests))
-    × (length records ≡ length records₀) × (length replies ≡ length replies₀) × (length lefts ≡ length lefts₀)
+    × (served (3 * i) (stateIn co rs replies lefts rights labels marks next) (requestsFrom i (count - i) requests)
+    ≡ served 0 (stateIn co₀ rs₀ replies₀ lefts₀ rights₀ labels₀ marks₀ next₀) (requestsFrom 0 count requests))
+    × (length rs ≡ length rs₀) × (length replies ≡ length replies₀) × (length lefts ≡ length lefts₀)
     × (length rights ≡ length rights₀) × (length labels ≡ length labels₀) × (length marks ≡ length marks₀) × (length next ≡ length next₀)
 
 abbrev μ-loop : tie.MeasureT-loop
-μ-loop control₀ records₀ count requests replies₀ lefts₀ rights₀ labels₀ marks₀ next₀ i₀ control records replies lefts rights labels marks next i =
-    count - i
+μ-loop co₀ rs₀ count requests replies₀ lefts₀ rights₀ labels₀ marks₀ next₀ i₀ co rs replies lefts rights labels marks next i = count - i
 
 loop-holds : tie.Need-loop-holds Inv-loop μ-loop
 loop-holds c = (search needs, search needs, search needs, search needs, served-all _ _ _, refl, refl, refl, refl, refl, refl, refl)
