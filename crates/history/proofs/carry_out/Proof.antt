@@ -86,11 +86,11 @@ carry-out-spec =
     add-i
     (λ c. search needs)
     loop-again
-    (λ c. search needs)
-    (λ c. search needs)
-    (λ c. search needs)
-    (λ c. search needs)
-    (λ c. search needs)
-    (λ c. search needs)
-    (λ c. search needs)
+    (λ c. c .before .loop .inv .5)
+    (λ c. c .before .loop .inv .6)
+    (λ c. c .before .loop .inv .7)
+    (λ c. c .before .loop .inv .8)
+    (λ c. c .before .loop .inv .9)
+    (λ c. c .before .loop .inv .10)
+    (λ c. c .before .loop .inv .11)
     returns)

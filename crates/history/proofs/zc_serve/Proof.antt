@@ -1,5 +1,5 @@
 -- The list follows the opened queue, of which the theorems on histories speak.
-use mathlib.Core.Path.{sym, subst}
+use mathlib.Core.Path.{sym, subst, _∙_}
 use Prim.Native.Nat.{ℕ, _*_, _≤_}
 use borrow.Author.Needs.{needs}
 use lib.ListN.{length}
@@ -42,12 +42,20 @@ carry-out-requires c κs =
     subst (λ (k : ℕ). (5 * k ≤ length (first .requests .now)) × (3 * k ≤ length (first .replies .now))) (sym (count .count-after .ensures))
     (count-fits (begun .open-as .result) (length (first .requests .now)) (length (first .replies .now)))
 
+-- The opening and the operations keep every length; what they say of the tables from `replies` and from `lefts` on.
+module _ (c : tie.After-slice-known17) where
+  abbrev done : tie.After-carry-out
+  done = carried c
+
+  abbrev count : tie.After-count-after
+  count = counted (done .before)
+
+  abbrev begun : tie.After-open-as
+  begun = opened count
+
 returns : tie.Need-returns
 returns c =
-    let done = carried c in
-    let count = counted (done .before) in
-    let begun = opened count in
-    serves _ _ _ _ _ _ _ _ _ (begun .open-as .ensures) (count .count-after .ensures) (done .carry-out .ensures)
+    serves _ _ _ _ _ _ _ _ _ (begun c .open-as .ensures) (count c .count-after .ensures) (done c .carry-out .ensures)
 
 pub zc-serve-spec : {M : Type 1} → statement M
 zc-serve-spec =
@@ -57,11 +65,11 @@ zc-serve-spec =
     (λ c κs. search needs)
     carry-out-requires
     (λ c. search needs)
-    (λ c. search needs)
-    (λ c. search needs)
-    (λ c. search needs)
-    (λ c. search needs)
-    (λ c. search needs)
-    (λ c. search needs)
-    (λ c. search needs)
+    (λ c. done c .carry-out .kept .1 .0 ∙ begun c .open-as .kept .1 .0)
+    (λ c. done c .carry-out .kept .1 .1 .1 .1 .0)
+    (λ c. done c .carry-out .kept .1 .1 .1 .1 .1 .0 ∙ begun c .open-as .kept .1 .1 .1 .1 .1 .1 .0)
+    (λ c. done c .carry-out .kept .1 .1 .1 .1 .1 .1 .0 ∙ begun c .open-as .kept .1 .1 .1 .1 .1 .1 .1 .0)
+    (λ c. done c .carry-out .kept .1 .1 .1 .1 .1 .1 .1 .0 ∙ begun c .open-as .kept .1 .1 .1 .1 .1 .1 .1 .1 .0)
+    (λ c. done c .carry-out .kept .1 .1 .1 .1 .1 .1 .1 .1 .0 ∙ begun c .open-as .kept .1 .1 .1 .1 .1 .1 .1 .1 .1 .0)
+    (λ c. done c .carry-out .kept .1 .1 .1 .1 .1 .1 .1 .1 .1 .0 ∙ begun c .open-as .kept .1 .1 .1 .1 .1 .1 .1 .1 .1 .1 .0)
     returns)
