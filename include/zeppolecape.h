@@ -15,8 +15,8 @@
  *     make                                          (proves, and writes target/lib/libzeppolecape.a)
  *     cc -Iinclude main.c target/lib/libzeppolecape.a
  *
- * The library is for x86-64. It calls nothing but memset, from the openings, zc_audit_words and the
- * order sheets, and memcpy, from zc_find and the order sheets.
+ * The library is for x86-64. It calls nothing but memset, from the openings, zc_serve, zc_audit_words
+ * and the order sheets, and memcpy, from zc_find and the order sheets.
  *
  * In short:
  *
@@ -948,6 +948,77 @@ static inline zc_schedule_reply zc_queue_next_schedule(const zc_queue *queue, ui
 {
     return zc_next_schedule(queue->control, queue->records, queue->record_count, schedule,
                             schedule_count, ZC_TABLES(queue));
+}
+#endif
+
+/* ---- A list carried out -------------------------------------------------------------------
+ * A queue opened, and a list of starts and steps carried out on it, in one call: what was asked of a
+ * queue, carried out again from memory. What is proved of every such list is proved of this call.
+ */
+
+/* Operations of a request. Any other number is a step. */
+#define ZC_ASK_PUSH 0
+#define ZC_ASK_POP 1
+#define ZC_ASK_PUSH_POOLED 2
+#define ZC_ASK_STEP 3
+
+#define ZC_REQUEST_WORDS 5
+#define ZC_ANSWER_WORDS 3
+
+/* A request: five words, no padding. A word that its operation has no use for is not looked at. */
+typedef struct zc_request {
+    uint64_t task;
+    uint64_t operation; /* ZC_ASK_PUSH to ZC_ASK_STEP */
+    uint64_t side;      /* of a push or a pop */
+    uint64_t slot;      /* of ZC_ASK_PUSH */
+    uint64_t label;     /* of a push: its lower 32 bits */
+} zc_request;
+
+/* Its answer: the fields of a zc_reply, a word each. */
+typedef struct zc_answer {
+    uint64_t code, label, value;
+} zc_answer;
+
+typedef struct zc_serve_reply {
+    uint64_t code;   /* 0, or the number by which the opening is refused */
+    uint64_t served; /* requests carried out */
+} zc_serve_reply;
+
+ZC_LAYOUT(sizeof(zc_request) == 8 * ZC_REQUEST_WORDS);
+ZC_LAYOUT(offsetof(zc_request, task) == 0 && offsetof(zc_request, operation) == 8);
+ZC_LAYOUT(offsetof(zc_request, side) == 16 && offsetof(zc_request, slot) == 24);
+ZC_LAYOUT(offsetof(zc_request, label) == 32);
+ZC_LAYOUT(sizeof(zc_answer) == 8 * ZC_ANSWER_WORDS);
+ZC_LAYOUT(offsetof(zc_answer, label) == 8 && offsetof(zc_answer, value) == 16);
+ZC_LAYOUT(sizeof(zc_serve_reply) == 16 && offsetof(zc_serve_reply, served) == 8);
+
+/*
+ * Opens a queue, as zc_open does if `pooled` is 0 and else as zc_open_pooled does. Then carries out
+ * the requests in order, each by zc_push, zc_pop, zc_push_pooled or zc_step: their code is what runs.
+ * A request that is refused is answered its number and changes nothing; the list goes on. It ends
+ * after the last whole request, or where the next answer has no room: a rest of fewer than five
+ * words is no request, and fewer than three are no room. Words behind the last answer keep their values.
+ * Refuses what the opening refuses: 10, 11, 12 (next only if pooled; neither requests nor replies).
+ * Nothing is then written, and no request carried out.
+ *
+ * Both are lent as words: five a request in the order of zc_request, three an answer.
+ */
+zc_serve_reply zc_serve(zc_control *control, zc_record *records, size_t record_count,
+                        uint64_t pooled, uint64_t tasks, uint64_t slots, uint32_t tag,
+                        const uint64_t *requests, size_t request_words, uint64_t *replies,
+                        size_t reply_words, uint64_t *lefts, size_t left_count, uint64_t *rights,
+                        size_t right_count, uint32_t *labels, size_t label_count, uint64_t *marks,
+                        size_t mark_count, uint64_t *next, size_t next_count);
+
+#ifndef ZC_CORE_ONLY
+static inline zc_serve_reply zc_queue_serve(const zc_queue *queue, uint64_t pooled, uint64_t tasks,
+                                            uint64_t slots, uint32_t tag,
+                                            const zc_request *requests, size_t request_count,
+                                            zc_answer *replies, size_t reply_count)
+{
+    return zc_serve(queue->control, queue->records, queue->record_count, pooled, tasks, slots, tag,
+                    (const uint64_t *)requests, ZC_REQUEST_WORDS * request_count,
+                    (uint64_t *)replies, ZC_ANSWER_WORDS * reply_count, ZC_TABLES(queue));
 }
 #endif
 

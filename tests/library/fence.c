@@ -179,6 +179,25 @@ static int walk(zc_queue whole)
     return wrong;
 }
 
+/* A list carried out from words, whole requests or not, with any room for its answers. */
+static int list(zc_queue whole)
+{
+    uint64_t tasks = whole.control->tasks, slots = whole.control->slots;
+    zc_queue queue = cut_some(whole);
+    size_t words = (size_t)draw(60), room = (size_t)draw(40);
+    size_t served = words / 5 < room / 3 ? words / 5 : room / 3;
+    uint64_t *requests = last(grounds[6], words * sizeof *requests);
+    uint64_t *replies = last(grounds[8], room * sizeof *replies);
+    for (size_t at = 0; at < words; at++)
+        requests[at] = draw(4);
+    int pooled = (int)draw(2);
+    int too_short = shared_short(queue, whole, pooled) || queue.record_count < whole.record_count;
+    zc_serve_reply told =
+        zc_serve(queue.control, queue.records, queue.record_count, (uint64_t)pooled, tasks, slots,
+                 0, requests, words, replies, room, ZC_TABLES(&queue));
+    return too_short != (told.code == ZC_SHORT) || told.served != (too_short ? 0 : served);
+}
+
 int main(void)
 {
     static const uint64_t sizes[] = {1, 2, 3, 62, 63, 64, 65, 127, 128, 1022, 1023};
@@ -199,6 +218,7 @@ int main(void)
                 refused++;
             else
                 carried_out++;
+        wrong |= list(whole);
         wrong |= walk(whole);
     }
     wrong |= refused < 1000 || carried_out < 1000;

@@ -1,8 +1,8 @@
 #!/bin/bash
-# Do the tests of the audit and of the order sheets fail when they should? Each fault is planted in a
-# copy of the part written by hand, and the differential test must notice it.
+# Do the tests of the audit, of the order sheets and of lists carried out fail when they should? Each
+# fault is planted in a copy of the part written by hand, and the differential test must notice it.
 #
-#     tests/library/part_faults.sh [PART]    audit or sheet, both by default
+#     tests/library/part_faults.sh [PART]    audit, sheet or serve, all by default
 set -u -o pipefail
 cd "$(dirname "$0")/../.."
 
@@ -35,11 +35,11 @@ END
 
 caught=0
 missed=0
-try() { # PART SOURCE OTHER: the faults of a part, beside another part as it is
+try() { # PART SOURCE OTHER..: the faults of a part, beside other parts as they are
     local count number verdict
     count=$(plant "$2" "tests/library/faults/$1.txt") || { missed=$((missed + 1)); return; }
     for number in $(seq 0 $((count - 1))); do
-        gcc -shared -fPIC -std=c11 -O2 -w -DAS_LIBRARY -Iinclude -Ibench "$work/$number.c" "$3" -o "$work/fault.so" || exit 2
+        gcc -shared -fPIC -std=c11 -O2 -w -DAS_LIBRARY -Iinclude -Ibench "$work/$number.c" "${@:3}" -o "$work/fault.so" || exit 2
         verdict=caught
         ZC_OBJECT=$work/fault.so timeout 100 "$work/cargo/checked/library-differential" 1 1 "$1" >/dev/null 2>&1 && verdict=MISSED
         if [ "$number" -eq 0 ]; then # the part as it is, which must pass
@@ -53,11 +53,13 @@ try() { # PART SOURCE OTHER: the faults of a part, beside another part as it is
     done
 }
 
-case ${1:-both} in
-audit | both) try audit bench/audit_reference.c bench/sheet.c ;;&
-sheet | both) try sheet bench/sheet.c bench/audit_reference.c ;;
-audit) ;;
-*) echo "a part is audit or sheet" >&2; exit 2 ;;
+audit=bench/audit_reference.c sheet=bench/sheet.c serve="bench/serve.c bench/reference.c"
+case ${1:-all} in
+audit | all) try audit $audit $sheet $serve ;;&
+sheet | all) try sheet $sheet $audit $serve ;;&
+serve | all) try serve $serve $audit $sheet ;;
+audit | sheet) ;;
+*) echo "a part is audit, sheet or serve" >&2; exit 2 ;;
 esac
 echo "$caught passed, $missed failed"
 [ $missed -eq 0 ] && [ $caught -gt 0 ]

@@ -2,17 +2,17 @@
 # Tests of the static library through its C interface.
 #
 #     tests/library/run.sh [FOLDER]     of libzeppolecape.a; default: target/lib, where `make` writes it
-#     tests/library/run.sh --stand-in   bench/reference.c, audit_reference.c, sheet.c, schedules.c and join_reference.c, the same calls by hand, in its place
+#     tests/library/run.sh --stand-in   bench/reference.c, audit_reference.c, sheet.c, schedules.c, join_reference.c and serve.c, the same calls by hand, in its place
 #
 # PARTS names what runs, all of it by default: header, a program NAME for each tests/library/NAME.c that has a main,
-# bindings examples projects bench audit sheet schedules joining facts differential.
+# bindings examples projects bench audit sheet serve schedules joining facts differential.
 # SEED and TIMES go to the differential test (1 and 1). BUILD keeps what is built there.
 set -u -o pipefail
 from=$PWD
 cd "$(dirname "$0")/../.."
 
 PROGRAMS=$(grep -l '^int main' tests/library/*.c | grep -v '/join.c$' | xargs -n 1 basename -s .c | tr '\n' ' ')
-PARTS=${PARTS:-header $PROGRAMS bindings examples projects bench audit sheet schedules joining facts differential}
+PARTS=${PARTS:-header $PROGRAMS bindings examples projects bench audit sheet serve schedules joining facts differential}
 CC=${CC:-gcc}
 CXX=${CXX:-g++}
 WARNINGS="-Wall -Wextra -Wpedantic -Werror"
@@ -36,7 +36,8 @@ case ${1:-} in
     $CC -std=c11 -O2 $WARNINGS -DAS_LIBRARY -Iinclude -c bench/sheet.c -o "$work/sheet.o" || exit 2
     $CC -std=c11 -O2 $WARNINGS -DAS_LIBRARY -Iinclude -c bench/schedules.c -o "$work/schedules.o" || exit 2
     $CC -std=c11 -O2 $WARNINGS -DAS_LIBRARY -Iinclude -c bench/join_reference.c -o "$work/join.o" || exit 2
-    ar rcs "$archive" "$work/library.o" "$work/audit.o" "$work/sheet.o" "$work/schedules.o" "$work/join.o"
+    $CC -std=c11 -O2 $WARNINGS -DAS_LIBRARY -Iinclude -c bench/serve.c -o "$work/serve.o" || exit 2
+    ar rcs "$archive" "$work"/{library,audit,sheet,schedules,join,serve}.o
     ;;
 *)
     given=${1:-$PWD/target/lib}
@@ -206,6 +207,11 @@ part_audit() {
 part_sheet() {
     holds "the sheet's benchmark compiles" $CC -std=gnu11 -O2 -Iinclude bench/sheet_main.c bench/sheet.c "$archive" -o "$work/sheet_bench"
     holds "library and C judge sheets alike" "$work/sheet_bench" 1
+}
+
+part_serve() {
+    holds "the benchmark of lists compiles" $CC -std=gnu11 -O2 -Iinclude bench/serve_main.c bench/serve.c bench/reference.c "$archive" -o "$work/serve_bench"
+    holds "library and C carry out lists alike" "$work/serve_bench" 100000 3
 }
 
 part_facts() {

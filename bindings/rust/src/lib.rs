@@ -35,6 +35,7 @@ mod numbers;
 mod queue;
 pub mod raw;
 mod schedules;
+mod serve;
 mod sheet;
 mod tables;
 #[cfg(test)]
@@ -47,6 +48,7 @@ pub use numbers::*;
 pub use queue::Queue;
 pub use raw::{Control, Record};
 pub use schedules::{Ending, Schedule, Schedules, MOST_SCHEDULE, SCHEDULE_WORDS};
+pub use serve::{Request, ANSWER_WORDS, REQUEST_WORDS};
 pub use sheet::{rule, SheetVerdict, MOST_LISTED, MOST_RULES, SHEET_WORDS};
 pub use tables::Tables;
 

@@ -23,21 +23,20 @@ impl Queue {
     /// An empty queue for tasks 0 to `tasks` - 1 and slots 1 to `slots`, which its pushes name;
     /// `first_tag` is any number.
     pub fn open(tasks: u64, slots: u64, first_tag: u32) -> Result<Queue, Refusal> {
-        let mut queue = Queue::held(tasks, slots);
+        let mut queue = Queue::held(tasks, slots, false);
         queue.lend().open(tasks, slots, first_tag)?;
         Ok(queue)
     }
 
     /// The same with all slots in a pool, from which its pushes take them.
     pub fn open_pooled(tasks: u64, slots: u64, first_tag: u32) -> Result<Queue, Refusal> {
-        let mut queue = Queue::held(tasks, slots);
-        queue.next = vec![0; queue.lefts.len()];
+        let mut queue = Queue::held(tasks, slots, true);
         queue.lend().open_pooled(tasks, slots, first_tag)?;
         Ok(queue)
     }
 
-    /// Tables long enough for an opening, without a next table.
-    fn held(tasks: u64, slots: u64) -> Queue {
+    /// Tables long enough for an opening, the next table only of a pooled one.
+    pub(crate) fn held(tasks: u64, slots: u64, pooled: bool) -> Queue {
         // Outside the limits the library refuses; no table is then needed.
         let (held_tasks, held_slots) = (tasks.min(MOST_TASKS), slots.min(MOST_SLOTS));
         Queue {
@@ -47,7 +46,7 @@ impl Queue {
             rights: vec![0; rows(held_slots)],
             labels: vec![0; rows(held_slots)],
             marks: vec![0; mark_words(held_slots)],
-            next: Vec::new(),
+            next: vec![0; if pooled { rows(held_slots) } else { 0 }],
         }
     }
 

@@ -46,6 +46,25 @@ pub const STOPPED: u64 = 2;
 /// In place of an ending: the last schedule was handed out before.
 pub const NO_MORE: u64 = 3;
 
+/// Operation of a request: a push in a named slot.
+pub const ASK_PUSH: u64 = 0;
+/// Operation of a request: a pop.
+pub const ASK_POP: u64 = 1;
+/// Operation of a request: a push in a slot of the pool.
+pub const ASK_PUSH_POOLED: u64 = 2;
+/// Operation of a request: a step, as is any other number.
+pub const ASK_STEP: u64 = 3;
+
+/// What [`zc_serve`] answers.
+#[repr(C)]
+#[derive(Clone, Copy, Debug, Default, PartialEq, Eq)]
+pub struct ServeReply {
+    /// 0, or the number by which the opening is refused.
+    pub code: u64,
+    /// Requests carried out; 0 with a refusal.
+    pub served: u64,
+}
+
 /// What [`zc_next_schedule`] answers.
 #[repr(C)]
 #[derive(Clone, Copy, Debug, Default, PartialEq, Eq)]
@@ -211,6 +230,7 @@ const _: () = {
     assert!(offset_of!(ReportReply, retries) == 64);
     assert!(size_of::<FindReply>() == 272 && align_of::<FindReply>() == 8);
     assert!(offset_of!(FindReply, rows) == 8 && offset_of!(FindReply, positions) == 16);
+    assert!(size_of::<ServeReply>() == 16 && offset_of!(ServeReply, served) == 8);
     assert!(size_of::<SheetReply>() == 24 && align_of::<SheetReply>() == 8);
     assert!(offset_of!(SheetReply, code) == 0 && offset_of!(SheetReply, first) == 8);
     assert!(offset_of!(SheetReply, second) == 16);

@@ -1,6 +1,6 @@
 //! The label queue for C and Rust. Control and records are lent as rows of words, which in memory are the
 //! structs of the header. The step of one lent record stands in crate `capi_record`.
-mod openings;
+pub mod openings;
 
 use calls::report;
 use calls::start;

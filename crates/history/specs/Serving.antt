@@ -1,52 +1,81 @@
 -- An opening and a list of operations after it: what is answered and left, and what the theorems on histories say of it.
-use mathlib.Core.Bool.{Bool, true}
-use mathlib.Core.List.{List, _++_}
+use mathlib.Core.Bool.{Bool, true, cond}
+use mathlib.Core.List.{List, [], _∷_, _++_}
 use mathlib.Core.Path.{_≡_}
 use Prim.Native.Nat.{ℕ}
-use lib.ListN.{length, replicate}
+use lib.Dec.{eqb}
+use lib.ListN.{length, set}
 use lib.Seq.{sets}
+use Rattle.model.specs.declared.Op.{Op}
+use Rattle.model.specs.declared.Op.the-variants.{Push, Pop, Put, Step}
 use Rattle.model.specs.declared.Opening.{Opening}
 use Rattle.model.specs.declared.Opening.the-variants.{Refused, Opened}
-use Rattle.model.specs.Tables.{Queue, queueOf, unused}
-use Rattle.model.specs.Calls.{openAs}
-use Rattle.model.specs.History.{Request, run, final, Linearized, NeverUnsound, NoSlotTrue}
+use Rattle.model.specs.declared.Outcome.{Outcome}
+use Rattle.model.specs.Tables.{Queue, zeroed}
+use Rattle.model.specs.Calls.{OpenDone, openAs}
+use Rattle.model.specs.Ends.{isMoved, endsCall}
+use Rattle.model.specs.History.{Request, Event, run, final, Linearized, NeverUnsound, NoSlotTrue}
 use Rattle.model.specs.Retries.{SumIsOld}
+use Rattle.rows.specs.Rows.{queueIn, uppersOf}
+use Rattle.capi.specs.Replies.{openingCode}
+use Rattle.history.specs.declared.ServeReply.{ServeReply}
 use Rattle.history.specs.Words.{requestsOf, repliesOf, room}
 
--- Before the opening: the lent tables as they are, control zero, sixteen unused records.
-abbrev pub unopened : List ℕ → List ℕ → List ℕ → List ℕ → List ℕ → Queue
-unopened = queueOf (record { tasks = 0; slots = 0; anchor = 0; pooled = 0; head = 0 }) (replicate 16 unused)
-
--- A queue, and the lent memory of the replies.
+-- All that is lent but the requests: the queue, the upper halves of the labels' words in the records, which are in no field, and
+-- the memory of the replies.
 pub record State : Type 0 where
   pub queue : Queue
+  pub uppers : List ℕ
   pub replies : List ℕ
 
--- How many operations follow an opening, by the lengths of requests and replies.
-abbrev pub countAfter : Opening → ℕ → ℕ → ℕ
-countAfter (Refused why) requests replies = 0
-countAfter Opened requests replies = room requests replies
+abbrev pub stateIn : List ℕ → List (List ℕ) → List ℕ → List ℕ → List ℕ → List ℕ → List ℕ → List ℕ → State
+stateIn control rows replies lefts rights labels marks next =
+    record { queue = queueIn control rows lefts rights labels marks next; uppers = uppersOf rows; replies = replies }
+
+-- How many operations follow an opening that answers `code`, by the lengths of requests and replies.
+abbrev pub countAfter : ℕ → ℕ → ℕ → ℕ
+countAfter code requests replies = cond (eqb code 0) (room requests replies) 0
+
+-- The operations that write their task's row whole, its upper half zero: a start that is carried out, a step that answers.
+abbrev pub writesRow : Op → Outcome → Bool
+writesRow (Push side slot label) o = isMoved o
+writesRow (Pop side) o = isMoved o
+writesRow (Put side label) o = isMoved o
+writesRow Step o = endsCall o
+
+unfoldable pub uppersAfter : List ℕ → List Event → List ℕ
+uppersAfter us [] = us
+uppersAfter us (e ∷ es) = uppersAfter (cond (writesRow (e .op) (e .outcome)) (set us (e .task) 0) us) es
 
 -- A list of operations, whose replies are stored from word n on.
 unfoldable pub served : ℕ → State → List Request → State
-served n s os = record { queue = final (s .queue) os; replies = sets (s .replies) n (repliesOf (run (s .queue) os)) }
+served n s os = record {
+  queue = final (s .queue) os;
+  uppers = uppersAfter (s .uppers) (run (s .queue) os);
+  replies = sets (s .replies) n (repliesOf (run (s .queue) os));
+}
 
--- From queue q exactly the list os was carried out; and that list is linearized, with no operation refused as unsound.
--- Wherever in it *no slot* is answered, every slot is in use. The tasks' counts add up to the failed changes.
-pub record CarriedOut (pooled : Bool) (q : Queue) (os : List Request) (replies : List ℕ) (after : State) : Type 0 where
+-- From the opened queue q exactly the list os was carried out: its replies, and every word that is lent. And that list is linearized,
+-- with no operation refused as unsound; the tasks' counts add up to the failed changes; wherever in it *no slot* is answered, every
+-- slot is in use.
+pub record CarriedOut (pooled : Bool) (tasks : ℕ) (q : Queue) (os : List Request) (before after : State) : Type 0 where
   pub queue : after .queue ≡ final q os
-  pub answers : after .replies ≡ sets replies 0 (repliesOf (run q os))
+  pub uppers : after .uppers ≡ zeroed tasks 0 (before .uppers)
+  pub answers : after .replies ≡ sets (before .replies) 0 (repliesOf (run q os))
   pub linearized : Linearized q os
   pub sound : NeverUnsound q os
   pub counts : SumIsOld q os
   pub truthful : pooled ≡ true → (done left : List Request) → os ≡ done ++ left → NoSlotTrue q done
 
 -- A refused opening changes nothing. After an accepted one as many requests are carried out as there are and have room for a reply.
-abbrev pub Follows : Bool → Opening → Queue → List ℕ → State → State → ℕ → Type 0
-Follows pooled (Refused why) q requests before after count = (count ≡ 0) × (after ≡ before)
-Follows pooled Opened q requests before after count =
-    (count ≡ room (length requests) (length (before .replies))) × CarriedOut pooled q (requestsOf count requests) (before .replies) after
+abbrev pub FollowsOn : Bool → ℕ → Opening → Queue → List ℕ → State → State → ℕ → Type 0
+FollowsOn pooled tasks (Refused why) q requests before after count = (count ≡ 0) × (after ≡ before)
+FollowsOn pooled tasks Opened q requests before after count =
+    (count ≡ room (length requests) (length (before .replies))) × CarriedOut pooled tasks q (requestsOf count requests) before after
 
-pub record Serves (pooled : Bool) (tasks slots tag : ℕ) (requests : List ℕ) (before after : State) (outcome : Opening) (count : ℕ) : Type 0 where
-  pub opening : outcome ≡ openAs pooled (before .queue) tasks slots tag .outcome
-  pub follows : Follows pooled outcome (openAs pooled (before .queue) tasks slots tag .queue) requests before after count
+abbrev pub Follows : Bool → ℕ → OpenDone → List ℕ → State → State → ℕ → Type 0
+Follows pooled tasks o requests before after count = FollowsOn pooled tasks (o .outcome) (o .queue) requests before after count
+
+pub record Serves (pooled : Bool) (tasks slots tag : ℕ) (requests : List ℕ) (before after : State) (reply : ServeReply) : Type 0 where
+  pub opening : reply .code ≡ openingCode (openAs pooled (before .queue) tasks slots tag .outcome)
+  pub follows : Follows pooled tasks (openAs pooled (before .queue) tasks slots tag) requests before after (reply .served)

@@ -6,7 +6,7 @@ use lib.Dec.{eqb}
 use lib.ListN.{getD}
 use Rattle.model.specs.declared.Op.{Op}
 use Rattle.model.specs.declared.Op.the-variants.{Push, Pop, Put, Step}
-use Rattle.model.specs.declared.Outcome.{Outcome}
+use Rattle.model.specs.declared.Reply.{Reply}
 use Rattle.model.specs.Calls.{replyOf}
 use Rattle.model.specs.History.{Request, Event}
 
@@ -32,13 +32,13 @@ requestsFrom i (suc n) ws = requestAt ws i ∷ requestsFrom (suc i) n ws
 abbrev pub requestsOf : ℕ → List ℕ → List Request
 requestsOf n ws = requestsFrom 0 n ws
 
-abbrev pub replyWords : Outcome → List ℕ
-replyWords o = let r = replyOf o in r .code ∷ r .label ∷ r .value ∷ []
+abbrev pub replyWords : Reply → List ℕ
+replyWords r = r .code ∷ r .label ∷ r .value ∷ []
 
 -- The replies of some events, one behind the other.
 unfoldable pub repliesOf : List Event → List ℕ
 repliesOf [] = []
-repliesOf (e ∷ es) = replyWords (e .outcome) ++ repliesOf es
+repliesOf (e ∷ es) = replyWords (replyOf (e .outcome)) ++ repliesOf es
 
 -- As many operations as there are whole requests and room for whole replies.
 abbrev pub room : ℕ → ℕ → ℕ

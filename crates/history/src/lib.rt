@@ -1,56 +1,50 @@
-//! A queue opened in lent tables, and a list of operations carried out on it from lent memory.
+//! A queue opened in lent tables, and a list of operations carried out on it from lent memory, for C and Rust.
 //!
-//! What `serve` answers and leaves is `run` and `final` of just that list (`specs/History.antt` of `model`),
-//! so its contract states the theorems on histories of running code: demand 3, that 34 never occurs, that the
-//! tasks' counts add up to the failed changes, and that *no slot* is answered only where every slot is in use.
+//! It opens and acts by the exported calls themselves (`capi`), and what it answers and leaves is `run` and `final` of just
+//! that list (`specs/History.antt` of `model`). So its contract states the theorems on histories of what ships: demand 3,
+//! that 34 never occurs, that the tasks' counts add up to the failed changes, and that *no slot* is answered only where
+//! every slot is in use.
 mod reply;
 mod request;
 mod turn;
 
-use calls::opening;
-use model::Control;
-use model::Opening;
-use model::TaskRecord;
 ghost use mathlib.Core.Path.{_≡_};
+ghost use mathlib.Core.Bool.{not};
 ghost use Prim.Native.Nat.{_*_, _≤_};
+ghost use lib.Dec.{eqb};
 ghost use lib.ListN.{length};
 ghost use Rattle.history.specs.Words.{requestsOf};
-ghost use Rattle.model.specs.Tables.{queueOf};
-ghost use Rattle.history.specs.Serving.{unopened, State, served, countAfter, Serves};
+ghost use Rattle.history.specs.Serving.{stateIn, served, countAfter, Serves};
 
-/// What is left beside the lent tables, and what was done.
-pub struct Served {
-    pub control: Control,
-    pub records: [TaskRecord; 16],
-    pub outcome: Opening,
-    /// How many operations were carried out.
-    pub count: usize,
+/// The words of a request, and of a reply.
+const REQUEST_WORDS: usize = 5;
+
+const REPLY_WORDS: usize = 3;
+
+/// What the opening answered, and how many requests were carried out.
+#[repr(C)]
+pub struct ServeReply {
+    /// 0, or the number of a refusal; served is then 0.
+    pub code: u64,
+    pub served: u64,
 }
 
-// What the operations leave of control and records.
-struct Held {
-    control: Control,
-    records: [TaskRecord; 16],
-}
-
-// How many operations follow an opening, by the lengths of requests and replies.
-fn count_after(o: Opening, requests: usize, replies: usize) -> usize
-    ensures { λ r. ⌜ r ≡ countAfter o requests replies ⌝ }
+// How many operations follow an opening that answers `code`, by the lengths of requests and replies.
+fn count_after(code: u32, requests: usize, replies: usize) -> usize
+    ensures { λ r. ⌜ r ≡ countAfter code requests replies ⌝ }
 {
-    match o {
-        Opening::Refused(_) => 0,
-        Opening::Opened => {
-            let asked = requests / 5;
-            let fit = replies / 3;
-            if asked <= fit { asked } else { fit }
-        }
+    if code != 0 {
+        return 0;
     }
+    let asked = requests / REQUEST_WORDS;
+    let fit = replies / REPLY_WORDS;
+    if asked <= fit { asked } else { fit }
 }
 
 // The first `count` requests, in order.
 fn carry_out(
-    control: Control,
-    records: [TaskRecord; 16],
+    control: &mut [u64; rows::CONTROL_WORDS],
+    records: &mut [[u64; rows::RECORD_WORDS]],
     count: usize,
     requests: &[u64],
     replies: &mut [u64],
@@ -59,53 +53,40 @@ fn carry_out(
     labels: &mut [u32],
     marks: &mut [u64],
     next: &mut [u64],
-) -> Held
+)
     requires { ⌜ (5 * count ≤ length (now requests)) × (3 * count ≤ length (now replies)) ⌝ }
-    ensures { λ r.
-        ⌜ _≡_ {A = State}
-        (record {
-          queue = queueOf (r .control) (r .records) (now (lefts .exit)) (now (rights .exit)) (now (labels .exit)) (now (marks .exit)) (now (next .exit));
-          replies = now (replies .exit);
-        })
-        (served 0
-        (record {
-          queue = queueOf control records (now (lefts .entry)) (now (rights .entry)) (now (labels .entry)) (now (marks .entry)) (now (next .entry));
-          replies = now (replies .entry);
-        })
-        (requestsOf count (now (requests .entry)))) ⌝ }
+    ensures { λ _.
+        ⌜ stateIn (now (control .exit)) (now (records .exit)) (now (replies .exit))
+        (now (lefts .exit)) (now (rights .exit)) (now (labels .exit)) (now (marks .exit)) (now (next .exit))
+        ≡ served 0
+        (stateIn (now (control .entry)) (now (records .entry)) (now (replies .entry))
+        (now (lefts .entry)) (now (rights .entry)) (now (labels .entry)) (now (marks .entry)) (now (next .entry)))
+        (requestsOf count (now (requests .entry))) ⌝ }
 {
-    let mut c = control;
-    let mut rows = records;
     for i in 0..count {
         let request = request::request_at(requests, i);
-        let op = request.op;
-        let t = turn::take_turn(
-            c,
-            rows,
-            request.task,
-            op,
+        let r = turn::take_turn(
+            control,
+            records,
+            request,
             lefts,
             rights,
             labels,
             marks,
             next,
         );
-        c = t.control;
-        rows = t.records;
-        let outcome = t.outcome;
-        reply::write_reply(replies, i, outcome);
-    }
-    Held {
-        control: c,
-        records: rows,
+        reply::write_reply(replies, i, r);
     }
 }
 
-/// Opens a queue, a pooled or a named one, and carries out as many requests as there are and have room for a
-/// reply. A request is five words: task, operation (0 push, 1 pop, 2 a push that names no slot, any other a
+/// Opens a queue, a named one if `pooled` is 0 and else a pooled one, and carries out as many requests as there are and have
+/// room for a reply. A request is five words: task, operation (0 push, 1 pop, 2 a push that names no slot, any other a
 /// step), side, slot, label. A reply is three: code, label, value.
-pub fn serve(
-    pooled: bool,
+#[no_mangle]
+pub extern "C" fn zc_serve(
+    control: &mut [u64; rows::CONTROL_WORDS],
+    records: &mut [[u64; rows::RECORD_WORDS]],
+    pooled: u64,
     tasks: u64,
     slots: u64,
     tag: u32,
@@ -116,30 +97,19 @@ pub fn serve(
     labels: &mut [u32],
     marks: &mut [u64],
     next: &mut [u64],
-) -> Served
+) -> ServeReply
     ensures { λ r.
-        ⌜ Serves pooled tasks slots tag (now (requests .entry))
-        (record {
-          queue = unopened (now (lefts .entry)) (now (rights .entry)) (now (labels .entry)) (now (marks .entry)) (now (next .entry));
-          replies = now (replies .entry);
-        })
-        (record {
-          queue = queueOf (r .control) (r .records) (now (lefts .exit)) (now (rights .exit)) (now (labels .exit)) (now (marks .exit)) (now (next .exit));
-          replies = now (replies .exit);
-        })
-        (r .outcome) (r .count) ⌝ }
+        ⌜ Serves (not (eqb pooled 0)) tasks slots tag (now (requests .entry))
+        (stateIn (now (control .entry)) (now (records .entry)) (now (replies .entry))
+        (now (lefts .entry)) (now (rights .entry)) (now (labels .entry)) (now (marks .entry)) (now (next .entry)))
+        (stateIn (now (control .exit)) (now (records .exit)) (now (replies .exit))
+        (now (lefts .exit)) (now (rights .exit)) (now (labels .exit)) (now (marks .exit)) (now (next .exit)))
+        r ⌝ }
 {
-    let none = turn::unused();
-    let o = opening::open_tables(
-        Control {
-            tasks: 0,
-            slots: 0,
-            anchor: 0,
-            pooled: 0,
-            head: 0,
-        },
-        pooled,
-        turn::TASKS,
+    let code = turn::open_as(
+        control,
+        records,
+        pooled != 0,
         tasks,
         slots,
         tag,
@@ -149,12 +119,10 @@ pub fn serve(
         marks,
         next,
     );
-    let control = o.control;
-    let outcome = o.outcome;
-    let count = count_after(outcome, requests.len(), replies.len());
-    let left = carry_out(
+    let count = count_after(code, requests.len(), replies.len());
+    carry_out(
         control,
-        [none; 16],
+        records,
         count,
         requests,
         replies,
@@ -164,12 +132,8 @@ pub fn serve(
         marks,
         next,
     );
-    let control = left.control;
-    let records = left.records;
-    Served {
-        control: control,
-        records: records,
-        outcome: outcome,
-        count: count,
+    ServeReply {
+        code: code as u64,
+        served: count as u64,
     }
 }

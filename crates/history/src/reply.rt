@@ -1,5 +1,5 @@
-//! Outcomes in words.
-use model::Outcome;
+//! Replies in words.
+use model::Reply;
 ghost use mathlib.Core.Path.{_≡_};
 ghost use Prim.Native.Nat.{_+_, _*_, _≤_};
 ghost use lib.ListN.{length};
@@ -7,11 +7,10 @@ ghost use lib.Seq.{sets};
 ghost use Rattle.history.specs.Words.{replyWords};
 
 /// Stores reply i.
-pub fn write_reply(words: &mut [u64], i: usize, o: Outcome)
+pub fn write_reply(words: &mut [u64], i: usize, r: Reply)
     requires { ⌜ 3 * i + 3 ≤ length (now words) ⌝ }
-    ensures { λ _. ⌜ now (words .exit) ≡ sets (now (words .entry)) (3 * i) (replyWords o) ⌝ }
+    ensures { λ _. ⌜ now (words .exit) ≡ sets (now (words .entry)) (3 * i) (replyWords r) ⌝ }
 {
-    let r = operation::reply(o);
     let at = 3 * i;
     words[at] = r.code as u64;
     words[at + 1] = r.label as u64;

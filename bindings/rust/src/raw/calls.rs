@@ -1,7 +1,8 @@
 //! The calls.
 
 use super::{
-    Control, FindReply, Record, Reply, ReportReply, RunReply, ScheduleReply, SheetReply, Verdict,
+    Control, FindReply, Record, Reply, ReportReply, RunReply, ScheduleReply, ServeReply,
+    SheetReply, Verdict,
 };
 
 #[link(name = "zeppolecape", kind = "static")]
@@ -179,6 +180,34 @@ unsafe extern "C" {
         marks: *const u64,
         mark_count: usize,
     ) -> FindReply;
+
+    /// Opens a queue, a named one if `pooled` is 0, and carries out a list of requests, five words
+    /// each, with three words for each answer.
+    /// Refuses: 10, 11, 12.
+    pub fn zc_serve(
+        control: *mut Control,
+        records: *mut Record,
+        record_count: usize,
+        pooled: u64,
+        tasks: u64,
+        slots: u64,
+        tag: u32,
+        requests: *const u64,
+        request_words: usize,
+        replies: *mut u64,
+        reply_words: usize,
+        lefts: *mut u64,
+        left_count: usize,
+        rights: *mut u64,
+        right_count: usize,
+        labels: *mut u32,
+        label_count: usize,
+        marks: *mut u64,
+        mark_count: usize,
+        next: *mut u64,
+        next_count: usize,
+    ) -> ServeReply;
+
     /// Joins two queues at rest in a third that is fresh.
     pub fn zc_join(
         first: *const Control,

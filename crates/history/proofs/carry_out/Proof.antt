@@ -1,52 +1,45 @@
 -- What is left of the list leads from here to where the whole list leads from the start.
-use mathlib.Core.Path.{_≡_, refl, sym, _∙_}
-use mathlib.Core.List.{List}
-use Prim.Native.Nat.{ℕ, _-_, _*_, _<_, _≤_}
+use mathlib.Core.Path.{_≡_, refl, sym, ap, _∙_}
+use Prim.Native.Nat.{_-_, _*_, _<_, _≤_}
 use native.Mathlib.Omega.{arith}
 use borrow.Author.Needs.{needs}
 use lib.ListN.{length}
-use Rattle.model.specs.declared.Control.{Control}
-use Rattle.model.specs.declared.TaskRecord.{TaskRecord}
 use Rattle.history.specs.Words.{requestsFrom}
-use Rattle.history.specs.Serving.{State, served}
-use Rattle.model.specs.Tables.{queueOf}
-use Rattle.history.proofs.Turns.{served-all, served-none, served-next}
+use Rattle.history.specs.Serving.{stateIn, served}
+use Rattle.history.proofs.Turns.{asked, served-all, served-none, served-next}
 use Rattle.history.proofs.carry_out.Statement.{statement}
 use Rattle.history.proofs.carry_out.Tie as tie
 
-abbrev state : Control → List TaskRecord → List ℕ → List ℕ → List ℕ → List ℕ → List ℕ → List ℕ → State
-state c rows replies lefts rights labels marks next = record { queue = queueOf c rows lefts rights labels marks next; replies = replies }
-
 abbrev Inv-loop : tie.InvT-loop
-Inv-loop count requests replies₀ lefts₀ rights₀ labels₀ marks₀ next₀ c₀ rows₀ i₀ replies lefts rights labels marks next c rows i =
+Inv-loop co₀ rs₀ count requests replies₀ lefts₀ rights₀ labels₀ marks₀ next₀ i₀ co rs replies lefts rights labels marks next i =
     (i ≤ count) × (count < 9223372036854775808) × (5 * count ≤ length requests) × (3 * count ≤ length replies₀)
-    × (served (3 * i) (state c rows replies lefts rights labels marks next) (requestsFrom i (count - i) requests)
-    ≡ served 0 (state c₀ rows₀ replies₀ lefts₀ rights₀ labels₀ marks₀ next₀) (requestsFrom 0 count requests))
-    × (length replies ≡ length replies₀) × (length lefts ≡ length lefts₀) × (length rights ≡ length rights₀)
-    × (length labels ≡ length labels₀) × (length marks ≡ length marks₀) × (length next ≡ length next₀)
+    × (served (3 * i) (stateIn co rs replies lefts rights labels marks next) (requestsFrom i (count - i) requests)
+    ≡ served 0 (stateIn co₀ rs₀ replies₀ lefts₀ rights₀ labels₀ marks₀ next₀) (requestsFrom 0 count requests))
+    × (length rs ≡ length rs₀) × (length replies ≡ length replies₀) × (length lefts ≡ length lefts₀)
+    × (length rights ≡ length rights₀) × (length labels ≡ length labels₀) × (length marks ≡ length marks₀) × (length next ≡ length next₀)
 
 abbrev μ-loop : tie.MeasureT-loop
-μ-loop count requests replies₀ lefts₀ rights₀ labels₀ marks₀ next₀ c₀ rows₀ i₀ replies lefts rights labels marks next c rows i = count - i
+μ-loop co₀ rs₀ count requests replies₀ lefts₀ rights₀ labels₀ marks₀ next₀ i₀ co rs replies lefts rights labels marks next i = count - i
 
 loop-holds : tie.Need-loop-holds Inv-loop μ-loop
-loop-holds c = (search needs, search needs, search needs, search needs, served-all _ _ _, refl, refl, refl, refl, refl, refl)
+loop-holds c = (search needs, search needs, search needs, search needs, served-all _ _ _, refl, refl, refl, refl, refl, refl, refl)
 
 -- Back to the operation, past what it leaves of each table; and to the request.
 abbrev turn : tie.After-write-reply Inv-loop μ-loop → tie.After-take-turn Inv-loop μ-loop
 turn c =
-    let next = c .before .before .before .before in
-    let labels = next .before .before .before .before in
-    let lefts = labels .before .before .before .before in
-    lefts .before .before
+    let marks = c .before .before .before .before in
+    let rights = marks .before .before .before .before in
+    let records = rights .before .before .before .before in
+    records .before
 
-abbrev asked : tie.After-take-turn Inv-loop μ-loop → tie.After-request-at Inv-loop μ-loop
-asked c =
+abbrev read : tie.After-take-turn Inv-loop μ-loop → tie.After-request-at Inv-loop μ-loop
+read c =
     let args = c .before .before .before .before in
-    args .before .before
+    args .before .before .before .before
 
 add-i : tie.Need-add-i Inv-loop μ-loop
 add-i c =
-    let test = asked (turn (c .before .before)) .before in
+    let test = read (turn (c .before .before)) .before in
     let less = test .loop-test .taken in
     let small = test .before .loop .inv .1 in
     omega arith
@@ -55,21 +48,22 @@ loop-again : tie.Need-loop-again Inv-loop μ-loop
 loop-again c =
     let wrote = c .before .before in
     let done = turn wrote in
-    let read = asked done in
-    let less = read .before .loop-test .taken in
-    let inv = read .before .before .loop .inv in
-    let kept = done .take-turn .kept .1 .1 .1 .1 in (
+    let request = read done in
+    let less = request .before .loop-test .taken in
+    let inv = request .before .before .loop .inv in
+    let kept = done .take-turn .kept .1 .1 .1 in (
       omega arith,
       inv .1,
       inv .2,
       inv .3,
-      served-next _ _ _ _ _ _ _ less (read .request-at .ensures) (done .take-turn .ensures) (wrote .write-reply .ensures) ∙ inv .4,
-      wrote .write-reply .kept .0 ∙ inv .5,
-      kept .0 ∙ inv .6,
-      kept .1 .0 ∙ inv .7,
-      kept .1 .1 .0 ∙ inv .8,
-      kept .1 .1 .1 .0 ∙ inv .9,
-      kept .1 .1 .1 .1 .0 ∙ inv .10,
+      served-next _ _ _ _ _ _ _ less (ap asked (request .request-at .ensures)) (done .take-turn .ensures) (wrote .write-reply .ensures) ∙ inv .4,
+      done .take-turn .kept .1 .0 ∙ inv .5,
+      wrote .write-reply .kept .0 ∙ inv .6,
+      kept .0 ∙ inv .7,
+      kept .1 .0 ∙ inv .8,
+      kept .1 .1 .0 ∙ inv .9,
+      kept .1 .1 .1 .0 ∙ inv .10,
+      kept .1 .1 .1 .1 .0 ∙ inv .11,
     )
 
 returns : tie.Need-returns Inv-loop μ-loop
@@ -92,10 +86,11 @@ carry-out-spec =
     add-i
     (λ c. search needs)
     loop-again
-    (λ c. search needs)
-    (λ c. search needs)
-    (λ c. search needs)
-    (λ c. search needs)
-    (λ c. search needs)
-    (λ c. search needs)
+    (λ c. c .before .loop .inv .5)
+    (λ c. c .before .loop .inv .6)
+    (λ c. c .before .loop .inv .7)
+    (λ c. c .before .loop .inv .8)
+    (λ c. c .before .loop .inv .9)
+    (λ c. c .before .loop .inv .10)
+    (λ c. c .before .loop .inv .11)
     returns)

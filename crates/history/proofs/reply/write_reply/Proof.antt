@@ -16,15 +16,14 @@ slice-write-words-3 c = simp length-set (omega arith)
 
 returns : tie.Need-returns
 returns c =
-    let at = 3 * c .before .before .before .before .args .i in
+    let at = 3 * c .before .before .args .i in
     let two : at + 2 ≡ suc (suc at) = omega arith in
-    rw (c .before .before .reply .ensures, add-one, two)
+    rw (add-one, two)
 
 pub write-reply-spec : {M : Type 1} → statement M
 write-reply-spec =
     tie.close
     (tie.spec
-    (λ c κs. search needs)
     (λ c. search needs)
     (λ c. search needs)
     (λ c. search needs)

@@ -1,47 +1,35 @@
--- Past the sixteen records a task's record is unused, and none is put back.
-use mathlib.Core.Path.{_≡_, sym, ap, _∙_}
-use mathlib.Core.Logic.{⊎-elim}
-use Prim.Native.Nat.{ℕ}
-use native.Mathlib.Omega.{arith}
-use lib.ListN.{length, set, List·getD-eq-default}
-use lib.Seq.{set-out}
+-- A number above that of the last start is a step's.
+use mathlib.Core.Path.{sym, ap, _∙_}
 use borrow.Author.Needs.{needs}
-use Rattle.history.proofs.Turns.{record-there, turn-done}
+use Rattle.model.specs.declared.Op.{Op}
+use Rattle.model.specs.Calls.{act}
+use Rattle.rows.specs.Rows.{queueIn, uppersOf}
+use Rattle.capi.specs.Replies.{Replied, replied}
+use Rattle.history.specs.Serving.{writesRow}
+use Rattle.history.proofs.Turns.{a-step}
 use Rattle.history.proofs.turn.take_turn.Statement.{statement}
 use Rattle.history.proofs.turn.take_turn.Tie as tie
 
--- Back to the operation, past what it leaves of each table; to the record read; to the start.
-abbrev act : tie.After-counted → tie.After-act
-act c =
+-- From the test to the start; what each operation answers.
+module _ (test : tie.After-struct-known) where
+  abbrev first : tie.Start
+  first = let lists = test .before .before .before .before in lists .before .before
+
+  abbrev answer : Op → Replied
+  answer o =
+      let a = first .args in
+      replied (writesRow o) (a .request .task) (uppersOf (a .records .now))
+      (act (queueIn (a .control .now) (a .records .now) (a .lefts .now) (a .rights .now) (a .labels .now) (a .marks .now) (a .next .now))
+      (a .request .task) o)
+
+returns-2 : tie.Need-returns-2
+returns-2 c =
     let marks = c .before .before .before .before in
     let rights = marks .before .before .before .before in
-    rights .before .before .before .before
-
-abbrev record-read : tie.After-act → tie.Joined1
-record-read c =
-    let args = c .before .before .before .before in
-    args .before .before .before
-
-abbrev start : tie.Joined1 → tie.Start
-start c =
-    let known = c .before .before .before .before in
-    known .before .before .before
-
-returns : tie.Need-returns
-returns c =
-    let done = c .before .before in
-    let acted = act done in
-    let read = record-read acted in
-    let first = start read in
-    let rs = first .args .records in
-    let len : length rs ≡ 16 = search (needs, first .good .1 .0 .1) in
-    turn-done _ rs _ _ _ _ _ _ _ _ _ _ len
-    (⊎-elim (λ w. w .2 ∙ record-there rs _ _ _ (let h = w .0 .taken in omega arith))
-    (λ w. w .1 ∙ read .before .unused .ensures ∙ sym (List·getD-eq-default rs _ (let h = w .0 .left in omega arith)))
-    (read .if1 .came))
-    (acted .act .ensures)
-    (⊎-elim (λ w. w .1) (λ w. w .1 ∙ sym (set-out rs _ _ (let h = w .0 .left in omega arith))) (c .before .if2 .came)
-    ∙ ap (λ (k : ℕ). set rs (first .args .task) (record { call = acted .act .result .task; retries = k })) (done .counted .ensures))
+    let done = rights .before .before .before in
+    let lent = done .before .before .before .before in
+    let test = lent .before .before .before .before in
+    done .zc-step .ensures ∙ ap (answer (test .before)) (sym (a-step _ _ _ _ (test .if1 .left)))
 
 pub take-turn-spec : {M : Type 1} → statement M
 take-turn-spec =
@@ -50,13 +38,16 @@ take-turn-spec =
     (λ c κs. search needs)
     (λ c. search needs)
     (λ c. search needs)
+    (λ c. search needs)
+    (λ c. search needs)
+    (λ c. search needs)
+    (λ c. search needs)
+    (λ c. search needs)
     (λ c κs. search needs)
-    (λ c κs. search needs)
     (λ c. search needs)
     (λ c. search needs)
     (λ c. search needs)
     (λ c. search needs)
     (λ c. search needs)
     (λ c. search needs)
-    (λ c. search needs)
-    returns)
+    returns-2)
