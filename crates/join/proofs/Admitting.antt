@@ -1,5 +1,5 @@
 -- The rules stage by stage: refused before the walks, by one of them, or as the rules after them say.
-use mathlib.Core.Path.{_≡_, refl, sym, ap, ap₂, _∙_}
+use mathlib.Core.Path.{_≡_, refl, sym, ap, ap₂, subst, _∙_}
 use mathlib.Core.Bool.{Bool, true, false, not, cond}
 use mathlib.Core.List.{List, [], _∷_}
 use mathlib.Core.Logic.{_≢_}
@@ -15,6 +15,7 @@ use Rattle.model.specs.Walk.{contents, met}
 use Rattle.model.specs.Refusals.{first}
 use Rattle.model.proofs.tests.Rules.{tests}
 use Rattle.model.proofs.bridge.Facts.{from1-true}
+use Rattle.walk.specs.declared.Tally.{Tally}
 use Rattle.walk.specs.declared.Tally.the-variants.{Broken, Labels}
 use Rattle.walk.specs.Counted.{counted}
 use Rattle.walk.proofs.Counting.{all-counted, none-counted}
@@ -25,7 +26,7 @@ use Rattle.join_model.specs.Closed.{lateFor, closedRefusal}
 use Rattle.join_model.proofs.Merged.{interleaved, length-merged}
 use Rattle.join.specs.declared.admit.Admission.{Admission}
 use Rattle.join.specs.Rules.{lengthsFit, testsRefusal, laterRefusal}
-use Rattle.join.specs.Admits.{Admits}
+use Rattle.join.specs.Admits.{walked, Admits}
 
 -- Long enough by the lengths is long enough.
 pub fits-is : (c : Control) (rows : List (List ℕ)) (lefts rights labels marks next : List ℕ)
@@ -75,12 +76,12 @@ module _ (a b q : Queue) where
     unfolding controlSound
     small = from1-true 1023 (q .tables .control .slots) (tests (controlTests (q .tables .control)) (passed .2) .1 .0) .1
 
-    pub first-lost : Broken ≡ counted (contents (a .tables)) → Admits a b q (refusedBy 34)
+    first-lost : Broken ≡ counted (contents (a .tables)) → Admits a b q (refusedBy 34)
     unfolding closedRefusal
     first-lost g = refusing 34 (rw (passed .0, passed .1, passed .2, passed .3, none-counted (contents (a .tables)) g)) (λ z. omega arith)
 
     module _ (k : ℕ) (g : Labels k ≡ counted (contents (a .tables))) where
-      pub second-lost : Broken ≡ counted (contents (b .tables)) → Admits a b q (refusedBy 34)
+      second-lost : Broken ≡ counted (contents (b .tables)) → Admits a b q (refusedBy 34)
       unfolding closedRefusal
       second-lost h =
           refusing 34 (rw (
@@ -117,3 +118,24 @@ module _ (a b q : Queue) where
           first = λ z. in-first;
           second = λ z. in-second;
         }
+
+    -- What the walks said: 34, or what they counted.
+    module _ (r : Admission) (w : r ≡ walked (counted (contents (a .tables))) (counted (contents (b .tables)))) where
+      pub lost : r .code ≢ 0 → Admits a b q r
+      lost h = subst (Admits a b q) (sym w) (go _ _ refl refl (λ z. h (ap (λ (x : Admission). x .code) w ∙ z)))
+        where
+          go : (x y : Tally) → x ≡ counted (contents (a .tables)) → y ≡ counted (contents (b .tables)) → walked x y .code ≢ 0 → Admits a b q (walked x y)
+          go Broken y ex ey h = first-lost ex
+          go (Labels k) Broken ex ey h = second-lost k ex ey
+          go (Labels k) (Labels m) ex ey h = absurd (h refl)
+
+      abbrev Met : Admission → Type 0
+      Met x = (Labels (x .first) ≡ counted (contents (a .tables))) × (Labels (x .second) ≡ counted (contents (b .tables)))
+
+      pub met-all : r .code ≡ 0 → Met r
+      met-all z = subst Met (sym w) (go _ _ refl refl (ap (λ (x : Admission). x .code) (sym w) ∙ z))
+        where
+          go : (x y : Tally) → x ≡ counted (contents (a .tables)) → y ≡ counted (contents (b .tables)) → walked x y .code ≡ 0 → Met (walked x y)
+          go Broken y ex ey z = absurd (omega arith)
+          go (Labels k) Broken ex ey z = absurd (omega arith)
+          go (Labels k) (Labels m) ex ey z = (ex, ey)

@@ -1,5 +1,5 @@
 -- Refused, nothing to lay, or laid: what the joining leaves is what the definition says.
-use mathlib.Core.Path.{_≡_, refl, sym, ap, ap₂, _∙_}
+use mathlib.Core.Path.{_≡_, refl, sym, ap, ap₂, subst, _∙_}
 use mathlib.Core.Bool.{Bool, true, false, _&&_, cond}
 use mathlib.Core.List.{List, [], _∷_, reverse}
 use mathlib.Core.Logic.{_≢_}
@@ -221,6 +221,10 @@ module _ (a b q : Queue) (d : Done) (lefts rights labels marks : List ℕ) (j : 
 
   pub upper : (was now : List ℕ) → now ≡ cond (d .laid) (set was 0 0) was → now ≡ cond (laid a b q) (set was 0 0) was
   upper was now e = e ∙ ap (λ (b : Bool). cond b (set was 0 0) was) (j .lays)
+
+-- What holds of three controls holds of the same three.
+pub same-three : (P : Control → Control → Control → Type 0) (a b c a′ b′ c′ : Control) → a ≡ a′ → b ≡ b′ → c ≡ c′ → P a b c → P a′ b′ c′
+same-three P a b c a′ b′ c′ ea eb ec p = subst (λ (x : Control). P x b′ c′) ea (subst (λ (y : Control). P a y c′) eb (subst (P a b) ec p))
 
 -- Not both are none.
 pub one-left : (n m : ℕ) → eqb n 0 && eqb m 0 ≡ false → 1 ≤ n + m

@@ -1,7 +1,7 @@
 -- The tests of 47 that are loops: one entry more, or one that fails.
 use mathlib.Core.Path.{_≡_, refl, sym, ap, _∙_}
 use mathlib.Core.Bool.{Bool, true, false, _&&_, not}
-use mathlib.Core.List.{List}
+use mathlib.Core.List.{List, [], _∷_}
 use mathlib.Core.Logic.{_≢_}
 use Prim.Native.Nat.{ℕ, zero, suc, _+_, _-_, _<_, _≤_}
 use native.Mathlib.Numerals.{add-one}
@@ -11,11 +11,21 @@ use lib.ListN.{length, getD, List·getD-eq-default}
 use borrow.Author.Tests.{ne-eqb, eqb-true, ltb-true, ltb-false}
 use Rattle.model.specs.declared.TaskRecord.{TaskRecord}
 use Rattle.model.specs.Tables.{unused}
+use Rattle.model.specs.Sound.{every}
 use Rattle.model.specs.Report.{count}
 use Rattle.model.proofs.tests.Truth.{split, not-both}
 use Rattle.join_model.specs.Join.{blank}
 use Rattle.join_model.proofs.Fresh.{none-pass}
 use Rattle.join.specs.Rules.{least}
+
+-- Seven tests, made one after the other.
+pub seven : (a b c d e f g : Bool) → (((((a && b) && c) && d) && e) && f) && g ≡ every (a ∷ b ∷ c ∷ d ∷ e ∷ f ∷ g ∷ [])
+seven false b c d e f g = refl
+seven true false c d e f g = refl
+seven true true false d e f g = refl
+seven true true true false e f g = refl
+seven true true true true false f g = refl
+seven true true true true true f g = refl
 
 pub least-le : (n m : ℕ) → least n m ≤ m
 least-le n m = split (ltb n m) (λ e. rw e (let h = ltb-true n m e in omega arith)) (λ e. rw e (omega arith))

@@ -2,9 +2,17 @@
 use mathlib.Core.Path.{_≡_}
 use lib.ListN.{length}
 use Rattle.model.specs.Tables.{Queue}
+use Rattle.walk.specs.declared.Tally.{Tally}
+use Rattle.walk.specs.declared.Tally.the-variants.{Broken, Labels}
 use Rattle.join_model.specs.Join.{lane}
 use Rattle.join_model.specs.Closed.{closedRefusal}
 use Rattle.join.specs.declared.admit.Admission.{Admission}
+
+-- What the two walks say: 34 where one of them is broken, else how many labels they meet.
+abbrev pub walked : Tally → Tally → Admission
+walked Broken t = record { code = 34; first = 0; second = 0 }
+walked (Labels n) Broken = record { code = 34; first = 0; second = 0 }
+walked (Labels n) (Labels m) = record { code = 0; first = n; second = m }
 
 -- Its refusal; and where there is none, how many labels wait in each of the two queues.
 pub record Admits (a b q : Queue) (r : Admission) : Type 0 where

@@ -8,13 +8,15 @@ ghost use mathlib.Core.List.{List, [], _∷_};
 ghost use Prim.Native.Nat.{ℕ, _+_, _≤_};
 ghost use lib.Dec.{ltb};
 ghost use Rattle.word.specs.Anchor.{anchorOf};
-ghost use Rattle.model.specs.Tables.{queueOf};
+ghost use Rattle.model.specs.Tables.{tablesOf, queueOf};
 ghost use Rattle.model.specs.Sound.{every, controlSound};
+ghost use Rattle.model.specs.Walk.{contents};
+ghost use Rattle.walk.specs.Counted.{counted};
 ghost use Rattle.rows.specs.Rows.{recordsOf};
 ghost use Rattle.join_model.specs.Join.{atRest, fresh};
 ghost use Rattle.join_model.specs.Closed.{lateFor};
 ghost use Rattle.join.specs.Rules.{lengthsFit, testsRefusal, laterRefusal};
-ghost use Rattle.join.specs.Admits.{Admits};
+ghost use Rattle.join.specs.Admits.{walked, Admits};
 
 // The highest Anchor tag that a start is accepted at.
 const LAST_TAG: u64 = 4294967262;
@@ -152,6 +154,35 @@ fn refused(code: u32) -> Admission
     }
 }
 
+/// The two walks: 34 where one of them is broken, else what they count.
+fn walks(
+    first: Control,
+    second: Control,
+    lefts1: &[u64],
+    rights1: &[u64],
+    lefts2: &[u64],
+    rights2: &[u64],
+) -> Admission
+    ensures { λ r.
+        ⌜ ((a b c d e f : List ℕ) → r ≡ walked
+        (counted (contents (tablesOf first (now (lefts1 .entry)) (now (rights1 .entry)) a b c)))
+        (counted (contents (tablesOf second (now (lefts2 .entry)) (now (rights2 .entry)) d e f)))) ⌝ }
+{
+    let one = walk::waiting(first, lefts1, rights1);
+    let two = walk::waiting(second, lefts2, rights2);
+    let Tally::Labels(n) = one else {
+        return refused(34);
+    };
+    let Tally::Labels(m) = two else {
+        return refused(34);
+    };
+    Admission {
+        code: 0,
+        first: n,
+        second: m,
+    }
+}
+
 /// All the rules, in order.
 pub fn admit(
     first: Control,
@@ -204,14 +235,10 @@ pub fn admit(
     if why != 0 {
         return refused(why);
     }
-    let one = walk::waiting(first, lefts1, rights1);
-    let two = walk::waiting(second, lefts2, rights2);
-    let Tally::Labels(n) = one else {
-        return refused(34);
-    };
-    let Tally::Labels(m) = two else {
-        return refused(34);
-    };
+    let lanes = walks(first, second, lefts1, rights1, lefts2, rights2);
+    if lanes.code != 0 {
+        return lanes;
+    }
     let code = final_rules(
         first,
         second,
@@ -223,12 +250,12 @@ pub fn admit(
         rights,
         labels,
         marks,
-        n,
-        m,
+        lanes.first,
+        lanes.second,
     );
     Admission {
         code,
-        first: n,
-        second: m,
+        first: lanes.first,
+        second: lanes.second,
     }
 }

@@ -1,6 +1,6 @@
 -- Refused, nothing to lay, or laid: on the queues that the call was given.
 use mathlib.Core.Path.{_≡_, sym, _∙_}
-use mathlib.Core.List.{[]}
+use mathlib.Core.List.{List, []}
 use Prim.Native.Nat.{ℕ, _+_, _≤_}
 use native.Mathlib.Omega.{arith}
 use lib.Dec.{eqb}
@@ -91,13 +91,28 @@ anchored-requires c κs =
       ),
     )
 
+-- The third's tables as they were filled.
+module _ (f : tie.After-fill) where
+  abbrev left : List ℕ
+  left = let t = f .fill .last .1 .1 .1 .1 in t .1 .1 .1 .1 .0
+
+  abbrev right : List ℕ
+  right = let t = f .fill .last .1 .1 .1 .1 in t .1 .1 .1 .1 .1 .0
+
+  abbrev label : List ℕ
+  label = let t = f .fill .last .1 .1 .1 .1 in t .1 .1 .1 .1 .1 .1 .0
+
+  abbrev mark : List ℕ
+  mark = let t = f .fill .last .1 .1 .1 .1 in t .1 .1 .1 .1 .1 .1 .1 .0
+
 returns-3 : tie.Need-returns-3
 returns-3 c =
     let f = filled (c .before) in
     let k = laying f in
     let i = first-test k in
     let r = asked i in
-    lays (one r) (two r) (third r) (none i) (n i) (m i) (r .admit .ensures .first (i .if1 .left)) (r .admit .ensures .second (i .if1 .left)) (some k) _ _ _ _ _
+    lays (one r) (two r) (third r) (none i) (n i) (m i) (r .admit .ensures .first (i .if1 .left)) (r .admit .ensures .second (i .if1 .left)) (some k)
+    (left f) (right f) (label f) (mark f) (c .anchored .result)
     (f .fill .ensures .0) (f .fill .ensures .1 .0) (f .fill .ensures .1 .1 .0) (f .fill .ensures .1 .1 .1) (c .anchored .ensures)
 
 pub join-spec : {M : Type 1} → statement M

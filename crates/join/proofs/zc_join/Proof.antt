@@ -1,14 +1,14 @@
 -- The controls that the rows are; what was left, stored.
-use mathlib.Core.Path.{_≡_, refl, sym, ap, subst, _∙_}
+use mathlib.Core.Path.{_≡_, refl, sym, ap, _∙_}
 use mathlib.Core.Bool.{Bool, cond}
 use mathlib.Core.List.{List, []}
 use Prim.Native.Nat.{ℕ}
 use lib.ListN.{set, replicate}
 use borrow.Author.Needs.{needs}
 use Rattle.model.specs.Tables.{Queue, queueOf, idle}
-use Rattle.rows.specs.Rows.{callOf, recordsOf, uppersOf, queueIn, withCallAt}
+use Rattle.rows.specs.Rows.{controlOf, callOf, recordsOf, uppersOf, queueIn, withCallAt}
 use Rattle.join.specs.Anchored.{Joins}
-use Rattle.join.proofs.Joining.{stored, untouched, upper}
+use Rattle.join.proofs.Joining.{same-three, stored, untouched, upper}
 use Rattle.join.proofs.zc_join.Statement.{statement}
 use Rattle.join.proofs.zc_join.Tie as tie
 
@@ -49,15 +49,17 @@ module _ (j : tie.After-join) where
   joined : Joins one two third (j .join .result) left right label mark
   joined =
       let a = start .args in
-      let e1 = read .before .before .control-of .ensures in
-      let e2 = read .before .control-of2 .ensures in
-      let e3 = read .control-of3 .ensures in
-      subst (λ (T : Type 0). T)
-      (λ i. Joins
-      (queueOf (e1 i) (recordsOf (a .records1 .now)) (a .lefts1 .now) (a .rights1 .now) (a .labels1 .now) [] [])
-      (queueOf (e2 i) (recordsOf (a .records2 .now)) (a .lefts2 .now) (a .rights2 .now) (a .labels2 .now) [] [])
-      (queueOf (e3 i) (recordsOf (a .records .now)) (a .lefts .now) (a .rights .now) (a .labels .now) (a .marks .now) [])
+      let r1 = read .before .before in
+      let r2 = read .before in
+      same-three
+      (λ x y z. Joins
+      (queueOf x (recordsOf (a .records1 .now)) (a .lefts1 .now) (a .rights1 .now) (a .labels1 .now) [] [])
+      (queueOf y (recordsOf (a .records2 .now)) (a .lefts2 .now) (a .rights2 .now) (a .labels2 .now) [] [])
+      (queueOf z (recordsOf (a .records .now)) (a .lefts .now) (a .rights .now) (a .labels .now) (a .marks .now) [])
       (j .join .result) left right label mark)
+      (r1 .control-of .result) (r2 .control-of2 .result) (read .control-of3 .result)
+      (controlOf (a .first .now)) (controlOf (a .second .now)) (controlOf (a .third .now))
+      (r1 .control-of .ensures) (r2 .control-of2 .ensures) (read .control-of3 .ensures)
       (j .join .ensures)
 
 -- A row of zeros has no call.

@@ -2,20 +2,19 @@
 use mathlib.Core.Path.{_≡_, sym, subst, _∙_}
 use mathlib.Core.Bool.{_&&_}
 use mathlib.Core.List.{[], _∷_}
-use Prim.Native.Nat.{ℕ, _/_}
+use Prim.Native.Nat.{_/_}
 use lib.Dec.{ltb}
 use lib.ListN.{length}
 use borrow.Author.Needs.{needs}
 use Rattle.model.specs.Tables.{Queue, queueOf}
 use Rattle.model.specs.Sound.{every, controlSound}
 use Rattle.model.specs.Walk.{contents}
-use Rattle.walk.specs.declared.Tally.the-variants.{Labels}
 use Rattle.walk.specs.Counted.{counted}
 use Rattle.rows.specs.Rows.{recordsOf}
 use Rattle.join_model.specs.Join.{thirdFits}
 use Rattle.join.specs.Rules.{testsRefusal}
-use Rattle.join.specs.Admits.{Admits}
-use Rattle.join.proofs.Admitting.{fits-is, why, turned-away, small, first-lost, second-lost, decided}
+use Rattle.join.specs.Admits.{walked, Admits}
+use Rattle.join.proofs.Admitting.{fits-is, why, turned-away, small, lost, met-all, decided}
 use Rattle.join.proofs.admit.admit.Statement.{statement}
 use Rattle.join.proofs.admit.admit.Tie as tie
 
@@ -54,60 +53,36 @@ returns c =
     subst (Admits (one w) (two w) (third w)) (sym (c .refused .ensures)) (turned-away (one w) (two w) (third w) _ (tried w) (c .before .if1 .taken))
 
 -- No rule before the walks applies; then the walks.
-module _ (v : tie.After-waiting2) where
+module _ (v : tie.After-walks) where
   abbrev passed : tie.Else1
-  passed = v .before .before
+  passed = v .before
 
   abbrev tests : tie.After-early-rules
   tests = passed .before
 
-  walked1 : v .before .waiting .result ≡ counted (contents (one tests .tables))
-  walked1 = v .before .waiting .ensures (start tests .args .labels1 .now) [] []
-
-  walked2 : v .waiting2 .result ≡ counted (contents (two tests .tables))
-  walked2 = v .waiting2 .ensures (start tests .args .labels2 .now) [] []
+  said : v .walks .result ≡ walked (counted (contents (one tests .tables))) (counted (contents (two tests .tables)))
+  said = let a = start tests .args in v .walks .ensures (a .labels1 .now) [] [] (a .labels2 .now) [] []
 
 returns-2 : tie.Need-returns-2
 returns-2 c =
-    let v = c .before .before .before in
+    let v = c .before .before in
     let w = tests v in
-    subst (Admits (one w) (two w) (third w)) (sym (c .refused2 .ensures))
-    (first-lost (one w) (two w) (third w) _ (tried w) (passed v .if1 .left) (sym (c .before .enum-told .given .1) ∙ walked1 v))
-
--- The first walk is not broken.
-module _ (o : tie.After-one) where
-  abbrev both : tie.After-waiting2
-  both = o .before .before
-
-  abbrev n : ℕ
-  n = o .one .given .0 .0
-
-  counted1 : Labels n ≡ counted (contents (one (tests both) .tables))
-  counted1 = sym (o .one .given .1) ∙ walked1 both
-
-returns-3 : tie.Need-returns-3
-returns-3 c =
-    let o = c .before .before .before .before in
-    let v = both o in
-    let w = tests v in
-    subst (Admits (one w) (two w) (third w)) (sym (c .refused3 .ensures))
-    (second-lost (one w) (two w) (third w) _ (tried w) (passed v .if1 .left) (n o) (counted1 o) (sym (c .before .enum-told2 .given .1) ∙ walked2 v))
+    lost (one w) (two w) (third w) _ (tried w) (passed v .if1 .left) _ (said v) (c .if2 .taken)
 
 final-requires : tie.Need-final-rules-requires
 final-requires c κs =
-    let o = c .before .before .before .before in
-    let v = both o in
+    let v = c .before .before in
     let w = tests v in
     small (one w) (two w) (third w) _ (tried w) (passed v .if1 .left)
 
-returns-4 : tie.Need-returns-4
-returns-4 c =
-    let t = c .before .before in
-    let o = t .before .before .before in
-    let v = both o in
+returns-3 : tie.Need-returns-3
+returns-3 c =
+    let e = c .before in
+    let v = e .before .before in
     let w = tests v in
     let a = start w .args in
-    decided (one w) (two w) (third w) _ (tried w) (passed v .if1 .left) (n o) (counted1 o) (t .two .given .0 .0) (sym (t .two .given .1) ∙ walked2 v) _
+    let all = met-all (one w) (two w) (third w) _ (tried w) (passed v .if1 .left) _ (said v) (e .if2 .left) in
+    decided (one w) (two w) (third w) _ (tried w) (passed v .if1 .left) _ (all .0) _ (all .1) _
     (c .final-rules .ensures (a .lefts1 .now) (a .rights1 .now) (a .labels1 .now) [] [] (a .lefts2 .now) (a .rights2 .now) (a .labels2 .now) [] [] [])
 
 pub admit-spec : {M : Type 1} → statement M
@@ -121,14 +96,6 @@ admit-spec =
     (λ _ _. tt)
     returns
     (λ _ _. tt)
-    (λ _ _. tt)
-    (λ c. search needs)
-    (λ c. search needs)
-    (λ _ _. tt)
     returns-2
-    (λ c. search needs)
-    (λ c. search needs)
-    (λ _ _. tt)
-    returns-3
     final-requires
-    returns-4)
+    returns-3)
