@@ -63,7 +63,7 @@ module _ (q : Tables) (x : ℕ) where
   alike ls rs bs ms ns l r b m n = λ i. tablesOf (q .control) (l i) (r i) (b i) (m i) (n i)
 
   abbrev back : Tables → Tables
-  back q′ = putBack (q .control) x (saved x q) q′
+  back q′ = putBack (q .control) (saved x q) q′
 
   -- Each list where the touch left it alone.
   left : set (q .lefts) x (getD (q .lefts) x 0) ≡ q .lefts
