@@ -4,7 +4,8 @@ mod SeekNeeds
 mod StepNeeds
 mod ThroughNeeds
 use borrow.Author.Needs.{needs}
-use Rattle.schedule_search.proofs.+seek+step_and_back+through.Proof.Falling.{μ-seek, μ-step-and-back, μ-through, seek-at, step-and-back-at, through-at}
+use Rattle.schedule_search.proofs.+seek+step_and_back+through.Proof.Falling.{μ-seek, μ-step-and-back, μ-through}
+use Rattle.schedule_search.proofs.+seek+step_and_back+through.Proof.Falling.{seek-at, step-and-back-at, through-at}
 use Rattle.schedule_search.proofs.+seek+step_and_back+through.Proof.Falling.{seek-callees, step-and-back-callees, through-callees}
 use Rattle.schedule_search.proofs.+seek+step_and_back+through.Proof.SeekNeeds as by-seek
 use Rattle.schedule_search.proofs.+seek+step_and_back+through.Proof.StepNeeds as by-step

@@ -24,7 +24,8 @@ begun t c =
     let at1 = c .before .before .before .before in
     at1 .before .before .before .before
 
-some : (t : ℕ) (c : seek-lts.Else1 (seek-callees t) (seek-at t) seek.Post) → let a = begun t c .args in Goes (a .two .stopped) (eqb (a .two .a .place) 0 && eqb (a .two .b .place) 0) (a .left)
+some : (t : ℕ) (c : seek-lts.Else1 (seek-callees t) (seek-at t) seek.Post)
+    → let a = begun t c .args in Goes (a .two .stopped) (eqb (a .two .a .place) 0 && eqb (a .two .b .place) 0) (a .left)
 some t c =
     let a = begun t c .args in
     goes-on (a .two .stopped) (eqb (a .two .a .place) 0 && eqb (a .two .b .place) 0) (a .left) _ (c .before .ending .ensures) (c .if1 .left)
@@ -84,7 +85,8 @@ seek-returns-2 t c =
     let a = begun t on .args in
     by-first _ (a .len) (a .free) _ (a .two .a) (a .two .b) _ (a .two .stopped) (some t on) _ _ _ (tried .through .ensures) (c .if2 .taken)
 
-abbrev second-call : (t : ℕ) → seek-lts.After-slice-known18 (seek-callees t) (seek-at t) seek.Post → seek-lts.After-through2 (seek-callees t) (seek-at t) seek.Post
+abbrev second-call : (t : ℕ) → seek-lts.After-slice-known18 (seek-callees t) (seek-at t) seek.Post
+    → seek-lts.After-through2 (seek-callees t) (seek-at t) seek.Post
 second-call t c =
     let at1 = c .before .before .before .before in
     let at2 = at1 .before .before .before .before in

@@ -8,14 +8,16 @@ use Rattle.schedule_search.proofs.step_and_back.Reads as step-and-back
 use Rattle.schedule_search.proofs.+seek+step_and_back+through.Lts-step_and_back as step-and-back-lts
 
 -- The calls made, from the last one back, and the arguments.
-abbrev put : (t : ℕ) → step-and-back-lts.After-slice-known23 (step-and-back-callees t) (step-and-back-at t) step-and-back.Post → step-and-back-lts.After-put-back (step-and-back-callees t) (step-and-back-at t) step-and-back.Post
+abbrev put : (t : ℕ) → step-and-back-lts.After-slice-known23 (step-and-back-callees t) (step-and-back-at t) step-and-back.Post
+    → step-and-back-lts.After-put-back (step-and-back-callees t) (step-and-back-at t) step-and-back.Post
 put t c =
     let at1 = c .before .before .before .before in
     let at2 = at1 .before .before .before .before in
     let at3 = at2 .before .before .before .before in
     at3 .before .before
 
-abbrev sought : (t : ℕ) → step-and-back-lts.After-put-back (step-and-back-callees t) (step-and-back-at t) step-and-back.Post → step-and-back-lts.After-seek (step-and-back-callees t) (step-and-back-at t) step-and-back.Post
+abbrev sought : (t : ℕ) → step-and-back-lts.After-put-back (step-and-back-callees t) (step-and-back-at t) step-and-back.Post
+    → step-and-back-lts.After-seek (step-and-back-callees t) (step-and-back-at t) step-and-back.Post
 sought t c =
     let at1 = c .before .before .before .before in
     let at2 = at1 .before .before .before .before in
@@ -23,33 +25,39 @@ sought t c =
     let at4 = at3 .before .before .before .before in
     at4 .before .before
 
-abbrev made : (t : ℕ) → step-and-back-lts.After-seek (step-and-back-callees t) (step-and-back-at t) step-and-back.Post → step-and-back-lts.After-after (step-and-back-callees t) (step-and-back-at t) step-and-back.Post
+abbrev made : (t : ℕ) → step-and-back-lts.After-seek (step-and-back-callees t) (step-and-back-at t) step-and-back.Post
+    → step-and-back-lts.After-after (step-and-back-callees t) (step-and-back-at t) step-and-back.Post
 made t c =
     let at1 = c .before .before .before .before in
     at1 .before .before .before
 
-abbrev moved : (t : ℕ) → step-and-back-lts.After-after (step-and-back-callees t) (step-and-back-at t) step-and-back.Post → step-and-back-lts.After-step (step-and-back-callees t) (step-and-back-at t) step-and-back.Post
+abbrev moved : (t : ℕ) → step-and-back-lts.After-after (step-and-back-callees t) (step-and-back-at t) step-and-back.Post
+    → step-and-back-lts.After-step (step-and-back-callees t) (step-and-back-at t) step-and-back.Post
 moved t c =
     let at1 = c .before .before .before .before in
     let at2 = at1 .before .before .before .before in
     at2 .before .before .before
 
-abbrev kept : (t : ℕ) → step-and-back-lts.After-step (step-and-back-callees t) (step-and-back-at t) step-and-back.Post → step-and-back-lts.After-keep (step-and-back-callees t) (step-and-back-at t) step-and-back.Post
+abbrev kept : (t : ℕ) → step-and-back-lts.After-step (step-and-back-callees t) (step-and-back-at t) step-and-back.Post
+    → step-and-back-lts.After-keep (step-and-back-callees t) (step-and-back-at t) step-and-back.Post
 kept t c =
     let at1 = c .before .before .before .before in
     at1 .before .before .before
 
-abbrev picked : (t : ℕ) → step-and-back-lts.After-keep (step-and-back-callees t) (step-and-back-at t) step-and-back.Post → step-and-back-lts.After-pick (step-and-back-callees t) (step-and-back-at t) step-and-back.Post
+abbrev picked : (t : ℕ) → step-and-back-lts.After-keep (step-and-back-callees t) (step-and-back-at t) step-and-back.Post
+    → step-and-back-lts.After-pick (step-and-back-callees t) (step-and-back-at t) step-and-back.Post
 picked t c =
     let at1 = c .before .before .before .before in
     at1 .before .before
 
-abbrev start : (t : ℕ) → step-and-back-lts.After-pick (step-and-back-callees t) (step-and-back-at t) step-and-back.Post → step-and-back-lts.Start (step-and-back-callees t) (step-and-back-at t) step-and-back.Post
+abbrev start : (t : ℕ) → step-and-back-lts.After-pick (step-and-back-callees t) (step-and-back-at t) step-and-back.Post
+    → step-and-back-lts.Start (step-and-back-callees t) (step-and-back-at t) step-and-back.Post
 start t c =
     let at1 = c .before .before .before .before in
     at1 .before .before .before
 
-abbrev begun : (t : ℕ) → step-and-back-lts.After-after (step-and-back-callees t) (step-and-back-at t) step-and-back.Post → step-and-back-lts.Start (step-and-back-callees t) (step-and-back-at t) step-and-back.Post
+abbrev begun : (t : ℕ) → step-and-back-lts.After-after (step-and-back-callees t) (step-and-back-at t) step-and-back.Post
+    → step-and-back-lts.Start (step-and-back-callees t) (step-and-back-at t) step-and-back.Post
 begun t c = start t (picked t (kept t (moved t c)))
 
 pub step-and-back-sub-seek : (t : ℕ) → step-and-back-lts.Need-sub-seek (step-and-back-callees t) (step-and-back-at t) step-and-back.Post

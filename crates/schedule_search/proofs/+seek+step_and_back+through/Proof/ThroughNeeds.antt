@@ -6,7 +6,8 @@ use Rattle.schedule_search.proofs.+seek+step_and_back+through.Proof.Fal
 use Rattle.schedule_search.proofs.through.Reads as through
 use Rattle.schedule_search.proofs.+seek+step_and_back+through.Lts-through as through-lts
 
-abbrev begun : (t : ℕ) → through-lts.After-place-of (through-callees t) (through-at t) through.Post → through-lts.Start (through-callees t) (through-at t) through.Post
+abbrev begun : (t : ℕ) → through-lts.After-place-of (through-callees t) (through-at t) through.Post
+    → through-lts.Start (through-callees t) (through-at t) through.Post
 begun t c =
     let at1 = c .before .before .before .before in
     at1 .before .before .before
@@ -28,7 +29,8 @@ through-step-and-back-requires t c κs =
     let z = begun t whose .pre in
     (omega (arith, z .0, z .1 .1 .0), z .1)
 
-abbrev gone : (t : ℕ) → through-lts.After-slice-known12 (through-callees t) (through-at t) through.Post → through-lts.After-step-and-back (through-callees t) (through-at t) through.Post
+abbrev gone : (t : ℕ) → through-lts.After-slice-known12 (through-callees t) (through-at t) through.Post
+    → through-lts.After-step-and-back (through-callees t) (through-at t) through.Post
 gone t c =
     let at1 = c .before .before .before .before in
     let at2 = at1 .before .before .before .before in
