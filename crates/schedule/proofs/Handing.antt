@@ -28,11 +28,11 @@ use Rattle.schedule_model.proofs.Admitted.{enough, memory, tasks}
 use Rattle.schedule_model.proofs.Searched.{finds}
 use Rattle.schedule_model.proofs.TwoRecords.{two-records}
 use Rattle.schedule_model.proofs.Uncounted.{uncounted}
-use Rattle.schedule.specs.declared.Found.{Found}
-use Rattle.schedule.specs.Sought.{pairOf, foundOf, Sought, sought}
+use Rattle.schedule_search.specs.declared.Found.{Found}
+use Rattle.schedule_search.specs.Sought.{pairOf, foundOf, Sought, sought}
 use Rattle.schedule.specs.Answered.{refusalBefore, refusalAfter, Begins, Answered, answered}
-use Rattle.schedule.proofs.Seeking.{handed}
-use Rattle.schedule.proofs.Stepping.{sets-above}
+use Rattle.schedule_search.proofs.Seeking.{handed}
+use Rattle.schedule_search.proofs.Stepping.{sets-above}
 
 abbrev pub told : ScheduleReply → List ℕ → Tables → Answered
 told r ws q = record { handed = record { reply = r; memory = ws }; tables = q }

@@ -1,3 +1,1 @@
-pub mod Seeking
-pub mod Stepping
 pub mod Handing

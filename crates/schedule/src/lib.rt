@@ -2,6 +2,7 @@
 use model::Control;
 use model::Record;
 use schedule_model::ScheduleReply;
+use schedule_search::Two;
 use walk::Tally;
 ghost use mathlib.Core.Path.{_≡_};
 ghost use mathlib.Core.Bool.{_&&_, not, false};
@@ -14,18 +15,8 @@ ghost use Rattle.sound.specs.Lengths.{lengthsFit};
 ghost use Rattle.rows.specs.Rows.{controlOf, recordsOf};
 ghost use Rattle.schedule_model.specs.Next.{memoryLength, handing};
 ghost use Rattle.schedule_model.specs.Search.{seekOf};
-ghost use Rattle.schedule.specs.Sought.{pairOf};
+ghost use Rattle.schedule_search.specs.Sought.{pairOf};
 ghost use Rattle.schedule.specs.Answered.{refusalBefore, refusalAfter, Begins, Answered, answered};
-
-pub mod search;
-pub mod undo;
-
-/// Whether a schedule was found, its length, and how it ends.
-pub struct Found {
-    pub found: bool,
-    pub length: u64,
-    pub ending: u64,
-}
 
 /// 34 for control and Anchor, and 12. The tables and the memory are given by their lengths.
 fn refusal(
@@ -103,10 +94,14 @@ fn hand_out(
         record { handed = handing ws (seekOf ws (memoryLength ws) 48 false (pairOf q a b)); tables = q }) ⌝ }
 {
     let len = memory_length(given);
-    let f = search::seek(
-        c,
+    let two = Two {
+        control: c,
         a,
         b,
+        stopped: false,
+    };
+    let f = schedule_search::seek(
+        two,
         48,
         false,
         len,

@@ -28,7 +28,8 @@ use Rattle.schedule_model.specs.Claims.{tries, OnlyUnsound}
 use Rattle.schedule_model.proofs.Admitted.{control, enough, tasks}
 
 -- A change that leaves Anchor sound leaves control sound.
-touched : (t : Touch) (q : Tables) → controlSound (q .control) ≡ true → leavesSound (q .control .slots) t ≡ true → controlSound (apply t q .control) ≡ true
+touched : (t : Touch) (q : Tables) → controlSound (q .control) ≡ true → leavesSound (q .control .slots) t ≡ true
+    → controlSound (apply t q .control) ≡ true
 unfolding controlSound
 touched nothing q h s = h
 touched (setAnchor w) q h s =
@@ -41,7 +42,8 @@ touched (setNext x v) q h s = h
 touched (setHead w) q h s = h
 
 -- The move of a step that is not refused leaves Anchor sound.
-lawful : (q : Tables) (p : Lent) (r : Record) → stepRefusal q p r ≡ 0 → leavesSound (q .control .slots) (move (q .control) r (linkMet q r) .touch) ≡ true
+lawful : (q : Tables) (p : Lent) (r : Record) → stepRefusal q p r ≡ 0
+    → leavesSound (q .control .slots) (move (q .control) r (linkMet q r) .touch) ≡ true
 unfolding stepRefusal stepSound
 lawful q p r e =
     let rules = cleared (stepRules q p r) refl e in

@@ -34,7 +34,8 @@ through-starts q t l = go (atWork q t) (act q t Step .outcome)
     go false a = tt
 
 -- A relation that steps in common keep, and that holds where the schedules part.
-module _ (R : List ℕ → List ℕ → Type 0) (common : (t : ℕ) (g s : List ℕ) → R g s → R (t ∷ g) (t ∷ s)) (part : (g s : List ℕ) → R (0 ∷ g) (1 ∷ s)) where
+module _ (R : List ℕ → List ℕ → Type 0) (common : (t : ℕ) (g s : List ℕ) → R g s → R (t ∷ g) (t ∷ s))
+    (part : (g s : List ℕ) → R (0 ∷ g) (1 ∷ s)) where
   abbrev S : Schedule → Schedule → Type 0
   S s x = R (s .steps) (x .steps)
 

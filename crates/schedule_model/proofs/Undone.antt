@@ -63,7 +63,7 @@ module _ (q : Tables) (x : ℕ) where
   alike ls rs bs ms ns l r b m n = λ i. tablesOf (q .control) (l i) (r i) (b i) (m i) (n i)
 
   abbrev back : Tables → Tables
-  back q′ = putBack (q .control) x (saved x q) q′
+  back q′ = putBack (q .control) (saved x q) q′
 
   -- Each list where the touch left it alone.
   left : set (q .lefts) x (getD (q .lefts) x 0) ≡ q .lefts
@@ -87,7 +87,9 @@ module _ (q : Tables) (x : ℕ) where
   applied t (link side w) = go (eqb side 1)
     where
       go : (b : Bool)
-          → back (tablesOf (q .control) (cond b (q .lefts) (set (q .lefts) x w)) (cond b (set (q .rights) x w) (q .rights)) (q .labels) (q .marks) (q .next)) ≡ q
+          → back (tablesOf (q .control) (cond b (q .lefts) (set (q .lefts) x w)) (cond b (set (q .rights) x w) (q .rights))
+          (q .labels) (q .marks) (q .next))
+          ≡ q
       go true = alike _ _ _ _ _ left (set-back (q .rights) x w) label marks next
       go false = alike _ _ _ _ _ (set-back (q .lefts) x w) right label marks next
   applied t mark = alike _ _ _ _ _ left right label (set-back (q .marks) (x / 64) _) next

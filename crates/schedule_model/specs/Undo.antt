@@ -13,6 +13,7 @@ use Rattle.schedule_model.specs.declared.Saved.{Saved}
 -- Slot x's words.
 abbrev pub saved : ℕ → Tables → Saved
 saved x q = record {
+  slot = x;
   left = getD (q .lefts) x 0;
   right = getD (q .rights) x 0;
   label = getD (q .labels) x 0;
@@ -21,15 +22,15 @@ saved x q = record {
 }
 
 -- Put back, with the control c of before.
-abbrev pub putBack : Control → ℕ → Saved → Tables → Tables
-putBack c x s q = record {
+abbrev pub putBack : Control → Saved → Tables → Tables
+putBack c s q = record {
   control = c;
-  lefts = set (q .lefts) x (s .left);
-  rights = set (q .rights) x (s .right);
-  labels = set (q .labels) x (s .label);
-  marks = set (q .marks) (x / 64) (s .mark);
-  next = set (q .next) x (s .next);
+  lefts = set (q .lefts) (s .slot) (s .left);
+  rights = set (q .rights) (s .slot) (s .right);
+  labels = set (q .labels) (s .slot) (s .label);
+  marks = set (q .marks) (s .slot / 64) (s .mark);
+  next = set (q .next) (s .slot) (s .next);
 }
 
 abbrev pub Undoes : Type 0
-Undoes = (q : Tables) (p : Lent) (r : TaskRecord) → putBack (q .control) (row (r .call)) (saved (row (r .call)) q) (step q p r .tables) ≡ q
+Undoes = (q : Tables) (p : Lent) (r : TaskRecord) → putBack (q .control) (saved (row (r .call)) q) (step q p r .tables) ≡ q

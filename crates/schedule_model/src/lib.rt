@@ -13,6 +13,7 @@ pub struct ScheduleReply {
 
 /// The words of one slot's row, and the word of its mark: all of the lent tables that a step can write.
 pub struct Saved {
+    pub slot: u64,
     pub left: u64,
     pub right: u64,
     pub label: u32,

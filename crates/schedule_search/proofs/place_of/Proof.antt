@@ -1,0 +1,14 @@
+-- By the test.
+use mathlib.Core.Path.{refl}
+use borrow.Author.Tests.{eq-eqb, ne-eqb}
+use Rattle.schedule_search.proofs.place_of.Statement.{statement}
+use Rattle.schedule_search.proofs.place_of.Tie as tie
+
+returns : tie.Need-returns
+returns c = simp (eq-eqb _ _ (c .if1 .taken)) refl
+
+returns-2 : tie.Need-returns-2
+returns-2 c = simp (ne-eqb _ _ (c .if1 .left)) refl
+
+pub place-of-spec : {M : Type 1} → statement M
+place-of-spec = tie.close (tie.spec returns returns-2)
