@@ -157,7 +157,8 @@ module _ (a b q : Queue) where
           (q .tables .labels))
           (mark : marks ≡ markedTo (n + m) (q .tables .marks))
           (control : c ≡ anchored (q .tables .control) (n + m)) where
-        laid-as : (l : List ℕ) → lanes a b ≡ l → queueOf c (set (q .records) 0 (withCall (taskAt q 0) idle)) lefts rights labels marks (q .tables .next) ≡ holding q l
+        laid-as : (l : List ℕ) → lanes a b ≡ l
+            → queueOf c (set (q .records) 0 (withCall (taskAt q 0) idle)) lefts rights labels marks (q .tables .next) ≡ holding q l
         unfolding holding held anchored
         laid-as [] z = absurd (let g = ap length z in omega (arith, size))
         laid-as (x ∷ l) z =
@@ -203,7 +204,8 @@ module _ (a b q : Queue) (d : Done) (lefts rights labels marks : List ℕ) (j : 
       (λ i. record {
         code = d .code;
         third = queueOf (ec i)
-            ((er ∙ sym (ap (λ (b : Bool). cond b (set (q .records) 0 (withCall (taskAt q 0) idle)) (q .records)) e)) i) lefts rights labels marks (q .tables .next);
+            ((er ∙ sym (ap (λ (b : Bool). cond b (set (q .records) 0 (withCall (taskAt q 0) idle)) (q .records)) e)) i)
+            lefts rights labels marks (q .tables .next);
       })
       ∙ j .leaves
 
