@@ -94,7 +94,7 @@ fn main() -> ExitCode {
         |otherwise: u64| arguments.next().map_or(otherwise, |text| text.parse().expect("a number"));
     let (seed, times) = (number(1), number(1));
     let (mut tally, mut dice) = (Tally::default(), Dice::new(seed));
-    for turn in 0..4_000 * times {
+    for turn in 0..8_000 * times {
         let (mut storage, mut memory) = scene::scene(&mut dice);
         let told = compare(&mut tally, &mut storage, &mut memory);
         if told.code == 0 && turn % 8 == 0 && tally.failed == 0 {

@@ -49,7 +49,7 @@ fn crowded(dice: &mut Dice) -> Storage {
 
 /// Tables and memory.
 pub fn scene(dice: &mut Dice) -> (Storage, Vec<u64>) {
-    if dice.percent(10) {
+    if dice.percent(30) {
         return (crowded(dice), turns(dice, 48));
     }
     let storage = half_done(dice);
