@@ -71,7 +71,7 @@
  *   zc_run            672      2552      4196      4850
  *   zc_report         112       234       512     27353
  *   table bytes         -       240       816     30120
- *   code bytes: audit 1804, capi 10181, capi_record 6077, capi_run 6516, find 3570, join 3458, schedule 12034, sheet 3512
+ *   code bytes: audit 1804, capi 10181, capi_record 6077, capi_run 6516, find 3570, history 9145, join 3458, schedule 12034, sheet 3512
  * As to the machine: x86-64, System V calling convention. The code uses the red zone (128 bytes
  * below the stack pointer) and SSE registers, no AVX: an interrupt handler that makes a call saves
  * the SSE state first, and an interrupt that is not masked during a call leaves the red zone alone.
