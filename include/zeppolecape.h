@@ -71,7 +71,7 @@
  *   zc_run            608      2461      4083      4712
  *   zc_report         368       284       515     20331
  *   table bytes         -       240       816     30120
- *   code bytes: audit 1804, capi 10379, capi_record 5813, capi_run 6089, find 3517, join 3567, schedule 10341, sheet 3512, waiting 831
+ *   code bytes: audit 1804, capi 10379, capi_record 5813, capi_run 6089, find 3517, history 9145, join 3567, schedule 10341, sheet 3512, waiting 831
  * As to the machine: x86-64, System V calling convention. The code uses the red zone (128 bytes
  * below the stack pointer) and SSE registers, no AVX: an interrupt handler that makes a call saves
  * the SSE state first, and an interrupt that is not masked during a call leaves the red zone alone.
