@@ -18,6 +18,7 @@ use Rattle.model.proofs.NeverUnsound.{never-unsound}
 use Rattle.model.proofs.NoSlot.{no-slot-right}
 use Rattle.model.proofs.Retries.{retries-sum}
 use Rattle.model.proofs.tests.Truth.{split}
+use Rattle.stock_model.proofs.Accounts.{every-label, stock-taking}
 use Rattle.capi.specs.Replies.{openingCode, uppersAt, Coded, coded}
 use Rattle.history.specs.Words.{requestsOf, requestsFrom, repliesOf}
 use Rattle.history.specs.Serving.{State, uppersAfter, served, countAfter, FollowsOn, Serves}
@@ -82,6 +83,8 @@ module _ (pooled : Bool) (tasks slots tag : ℕ) (words : List ℕ) (before afte
       linearized = linearizable pooled (before .queue) tasks slots tag e (requestsOf count words);
       sound = never-unsound pooled (before .queue) tasks slots tag e (requestsOf count words);
       counts = retries-sum pooled (before .queue) tasks slots tag e (requestsOf count words);
+      accounts = λ label. every-label label pooled (before .queue) tasks slots tag e (requestsOf count words);
+      stock = stock-taking pooled (before .queue) tasks slots tag e (requestsOf count words);
       truthful = λ p os left h. truthful pooled (before .queue) tasks slots tag os e p;
     },
   )

@@ -16,6 +16,7 @@ use Rattle.model.specs.Calls.{OpenDone, openAs}
 use Rattle.model.specs.Ends.{isMoved, endsCall}
 use Rattle.model.specs.History.{Request, Event, run, final, Linearized, NeverUnsound, NoSlotTrue}
 use Rattle.model.specs.Retries.{SumIsOld}
+use Rattle.stock_model.specs.Accounts.{Accounted, only, StockSum}
 use Rattle.rows.specs.Rows.{queueIn, uppersOf}
 use Rattle.capi.specs.Replies.{openingCode}
 use Rattle.history.specs.declared.ServeReply.{ServeReply}
@@ -56,8 +57,8 @@ served n s os = record {
 }
 
 -- From the opened queue q exactly the list os was carried out: its replies, and every word that is lent. And that list is linearized,
--- with no operation refused as unsound; the tasks' counts add up to the failed changes; wherever in it *no slot* is answered, every
--- slot is in use.
+-- with no operation refused as unsound; the tasks' counts add up to the failed changes; every label is accounted for, and all of them
+-- in one sum (#114); wherever in it *no slot* is answered, every slot is in use.
 pub record CarriedOut (pooled : Bool) (tasks : ℕ) (q : Queue) (os : List Request) (before after : State) : Type 0 where
   pub queue : after .queue ≡ final q os
   pub uppers : after .uppers ≡ zeroed tasks 0 (before .uppers)
@@ -65,6 +66,8 @@ pub record CarriedOut (pooled : Bool) (tasks : ℕ) (q : Queue) (os : List Reque
   pub linearized : Linearized q os
   pub sound : NeverUnsound q os
   pub counts : SumIsOld q os
+  pub accounts : (label : ℕ) → Accounted (only label) q os
+  pub stock : StockSum q os
   pub truthful : pooled ≡ true → (done left : List Request) → os ≡ done ++ left → NoSlotTrue q done
 
 -- A refused opening changes nothing. After an accepted one as many requests are carried out as there are and have room for a reply.

@@ -13,6 +13,7 @@ use Rattle.model.specs.Walk.{contents, entries, met}
 use Rattle.model.specs.History.{Request, final}
 use Rattle.model.proofs.Linearizable.{linearizable}
 use Rattle.model.proofs.NeverUnsound.{never-unsound}
+use Rattle.stock_model.proofs.Accounts.{every-label}
 use Rattle.join_model.specs.Join.{anchorIn, lane, lanes, pushes, joinRefusal, join}
 use Rattle.join_model.specs.Closed.{tagAfter, lateFor, holding, closedRefusal}
 use Rattle.join_model.specs.Laws.{OwnOrder, StaysAscending, TieToFirst, SameCopies, RefusalKeeps, Zeros, OnlyFresh, JoinedWait, numbered, Continues}
@@ -85,6 +86,7 @@ continues pooled q tasks slots tag o os a b e later = record {
       (final-on os joining begun ∙ sym (third-is a b (final begun os) e)) ∙ waits a b (final begun os) e);
   linearized = linearizable pooled q tasks slots tag o (os ++ joining ++ later);
   sound = never-unsound pooled q tasks slots tag o (os ++ joining ++ later);
+  accounted = λ x. every-label x pooled q tasks slots tag o (os ++ joining ++ later);
 }
   where
     joining : List Request
