@@ -1,0 +1,3 @@
+pub mod Balance
+pub mod Held
+pub mod Accounts
