@@ -15,19 +15,16 @@ use Rattle.model.specs.History.{Event, Request, final, run}
 use Rattle.model.proofs.tests.Rules.{cleared}
 use Rattle.model.proofs.tests.Truth.{and-true, decide-eq, split}
 use Rattle.shelf_model.specs.Cut.{cut}
-use Rattle.shelf_model.specs.Shelves.{Shelves, copied, holds, returnRefusal, returnRules, returned, saveRefusal, saveRules, saved, shelfAt, withShelf}
-use Rattle.shelf_model.specs.Changeovers.{Action, Changeovers, Left, Past, True, World, after, asks, begins, continues, does, opens, returns, saves}
+use Rattle.shelf_model.specs.Shelves.{Shelves, copied, holds, shelfAt, withShelf}
+use Rattle.shelf_model.specs.Shelves.{returnRefusal, returnRules, returned, saveRefusal, saveRules, saved}
+use Rattle.shelf_model.specs.Changeovers.{Action, asks, opens, returns, saves}
+use Rattle.shelf_model.specs.Changeovers.{Changeovers, Explained, Holds, Past, World, after, begins, continues, does, shown}
 use Rattle.shelf_model.proofs.CutCalls.{act-cut}
 use Rattle.shelf_model.proofs.Copied.{Long, cut-copied, long, shelf-other, shelf-same}
 
 -- One request more.
-shown : Queue → Request → Event
-shown q o =
-    let d = act q (o .task) (o .op) in
-    record { task = o .task; op = o .op; outcome = d .outcome; before = q .tables .control .anchor; after = d .queue .tables .control .anchor }
-
 run-more : (os : List Request) (q : Queue) (o : Request) → run q (os ++ (o ∷ [])) ≡ run q os ++ (shown (final q os) o ∷ [])
-unfolding run final shown
+unfolding run final
 run-more [] q o = refl
 run-more (p ∷ os) q o = ap (λ (es : List Event). shown q p ∷ es) (run-more os (act q (p .task) (p .op) .queue) o)
 
@@ -44,34 +41,34 @@ act-alike q p o e =
     ∙ ap (λ (d : Done). d .queue) (act-cut p (o .task) (o .op))
 
 shown-cut : (q : Queue) (o : Request) → shown (cut q) o ≡ shown q o
-unfolding shown
-shown-cut q o =
-    ap (λ (d : Done). record { task = o .task; op = o .op; outcome = d .outcome; before = q .tables .control .anchor; after = d .queue .tables .control .anchor })
-    (act-cut q (o .task) (o .op))
+shown-cut q o = ap told (act-cut q (o .task) (o .op))
+  where
+    told : Done → Event
+    told d = record {
+      task = o .task;
+      op = o .op;
+      outcome = d .outcome;
+      before = q .tables .control .anchor;
+      after = d .queue .tables .control .anchor;
+    }
 
 shown-alike : (q p : Queue) (o : Request) → cut q ≡ cut p → shown q o ≡ shown p o
 shown-alike q p o e = sym (shown-cut q o) ∙ ap (λ (x : Queue). shown x o) e ∙ shown-cut p o
 
--- What is kept: of the queue, and of each shelf that was filled.
-abbrev Told : Past → Queue → Type 0
-Told p q = True p × Left p q
-
-record Kept (w : World) : Type 0 where
-  now : Told (w .past) (w .queue)
-  shelved : (n : ℕ) → n ≤ 7 → shelfAt (w .shelves) n .tables .control .tasks ≢ 0 → Told (w .stored n) (shelfAt (w .shelves) n)
-
 opening-told : (pooled : Bool) (q : Queue) (tasks slots tag : ℕ) → openAs pooled q tasks slots tag .outcome ≡ Opened
-    → Told (begins (openAs pooled q tasks slots tag .queue)) (openAs pooled q tasks slots tag .queue)
+    → Explained (begins (openAs pooled q tasks slots tag .queue)) (openAs pooled q tasks slots tag .queue)
 unfolding run final
-opening-told pooled q tasks slots tag e =
-    (record { pooled = pooled; before = q; tasks = tasks; slots = slots; tag = tag; accepted = e; opened = refl; events = refl }, refl)
+opening-told pooled q tasks slots tag e = record {
+  true = record { pooled = pooled; before = q; tasks = tasks; slots = slots; tag = tag; accepted = e; opened = refl; events = refl };
+  left = refl;
+}
 
-request-told : (p : Past) (q : Queue) (o : Request) → Told p q → Told (continues p q o) (act q (o .task) (o .op) .queue)
-unfolding shown
+request-told : (p : Past) (q : Queue) (o : Request) → Explained p q → Explained (continues p q o) (act q (o .task) (o .op) .queue)
 request-told p q o h =
-    let t = h .0 in
-    let f = final (p .opened) (p .since) in (
-      record {
+    let t = h .true in
+    let f = final (p .opened) (p .since) in
+    record {
+      true = record {
         pooled = t .pooled;
         before = t .before;
         tasks = t .tasks;
@@ -81,14 +78,14 @@ request-told p q o h =
         opened = t .opened;
         events =
             ap (λ (es : List Event). es ++ (shown q o ∷ [])) (t .events)
-            ∙ ap (λ (e : Event). run (p .opened) (p .since) ++ (e ∷ [])) (shown-alike q f o (h .1))
+            ∙ ap (λ (e : Event). run (p .opened) (p .since) ++ (e ∷ [])) (shown-alike q f o (h .left))
             ∙ sym (run-more (p .since) (p .opened) o);
-      },
-      act-alike q f o (h .1) ∙ ap cut (sym (final-more (p .since) (p .opened) o)),
-    )
+      };
+      left = act-alike q f o (h .left) ∙ ap cut (sym (final-more (p .since) (p .opened) o));
+    }
 
 -- A saving.
-module _ (w : World) (k : Kept w) (n : ℕ) (e : saveRefusal (w .queue) (w .shelves) n ≡ 0) where
+module _ (w : World) (k : Holds w) (n : ℕ) (e : saveRefusal (w .queue) (w .shelves) n ≡ 0) where
   abbrev q : Queue
   q = w .queue
 
@@ -107,23 +104,25 @@ module _ (w : World) (k : Kept w) (n : ℕ) (e : saveRefusal (w .queue) (w .shel
       let x = and-true (holds c q) (holds c (shelfAt s n)) (y .0) in
       (leb-true _ _ (not-false _ (z .1 .0)), long c q (x .0), long c (shelfAt s n) (x .1), leb-true _ _ (y .1))
 
-  new-told : Told (w .past) new
-  new-told = (k .now .0, cut-copied q (shelfAt s n) (passed .1) ∙ k .now .1)
+  new-told : Explained (w .past) new
+  new-told = record { true = k .now .true; left = cut-copied q (shelfAt s n) (passed .1) ∙ k .now .left }
 
   put-told : (m : ℕ) → m ≤ 7 → shelfAt (withShelf s n new) m .tables .control .tasks ≢ 0
-      → Told (cond (eqb m n) (w .past) (w .stored m)) (shelfAt (withShelf s n new) m)
+      → Explained (cond (eqb m n) (w .past) (w .stored m)) (shelfAt (withShelf s n new) m)
   put-told m g h = go (decide-eq m n)
     where
-      go : (m ≡ n) ⊎ (m ≢ n) → Told (cond (eqb m n) (w .past) (w .stored m)) (shelfAt (withShelf s n new) m)
-      go (inl z) = rw (eq-eqb m n z) (subst (λ (x : Queue). Told (w .past) x)
-          (sym (ap (λ (k : ℕ). shelfAt (withShelf s n new) k) z ∙ shelf-same q s n (passed .0) (passed .1) (passed .2) (passed .3))) new-told)
+      go : (m ≡ n) ⊎ (m ≢ n) → Explained (cond (eqb m n) (w .past) (w .stored m)) (shelfAt (withShelf s n new) m)
+      go (inl z) =
+          let same = shelf-same q s n (passed .0) (passed .1) (passed .2) (passed .3) in
+          rw (eq-eqb m n z) (subst (λ (x : Queue). Explained (w .past) x) (sym (ap (shelfAt (withShelf s n new)) z ∙ same)) new-told)
       go (inr z) =
           let same = shelf-other q s n (passed .0) (passed .1) (passed .2) (passed .3) m g z in
-          rw (ne-eqb m n z) (subst (λ (x : Queue). Told (w .stored m) x) (sym same) (k .shelved m g (subst (λ (x : Queue). x .tables .control .tasks ≢ 0) same h)))
+          let filled = subst (λ (x : Queue). x .tables .control .tasks ≢ 0) same h in
+          rw (ne-eqb m n z) (subst (λ (x : Queue). Explained (w .stored m) x) (sym same) (k .shelved m g filled))
 
 -- A return.
-module _ (w : World) (k : Kept w) (n : ℕ) (e : returnRefusal (w .queue) (w .shelves) n ≡ 0) where
-  back-told : Told (w .stored n) (copied (shelfAt (w .shelves) n) (w .queue))
+module _ (w : World) (k : Holds w) (n : ℕ) (e : returnRefusal (w .queue) (w .shelves) n ≡ 0) where
+  back-told : Explained (w .stored n) (copied (shelfAt (w .shelves) n) (w .queue))
   unfolding returnRefusal
   back-told =
       let z = cleared (returnRules (w .queue) (w .shelves) n) refl e in
@@ -132,9 +131,9 @@ module _ (w : World) (k : Kept w) (n : ℕ) (e : returnRefusal (w .queue) (w .sh
       let y = and-true (holds c (w .queue) && holds c f) (leb 8 (length (w .shelves .controls))) (not-false _ (z .1 .1 .1 .0)) in
       let x = and-true (holds c (w .queue)) (holds c f) (y .0) in
       let t = k .shelved n (leb-true _ _ (not-false _ (z .0))) (eqb-false _ _ (z .1 .0)) in
-      (t .0, cut-copied f (w .queue) (long c f (x .1)) ∙ t .1)
+      record { true = t .true; left = cut-copied f (w .queue) (long c f (x .1)) ∙ t .left }
 
-does-kept : (a : Action) (w : World) → Kept w → Kept (does w a)
+does-kept : (a : Action) (w : World) → Holds w → Holds (does w a)
 unfolding does openAs saved returned
 does-kept (opens pooled tasks slots tag) w k = split (eqb (openRefusal pooled (w .queue) tasks slots) 0)
     (λ z. record {
@@ -152,13 +151,11 @@ does-kept (returns n) w k = split (eqb (returnRefusal (w .queue) (w .shelves) n)
     (λ z. record { now = rw z (back-told w k n (eqb-true _ _ z)); shelved = k .shelved })
     (λ z. record { now = rw z (k .now); shelved = k .shelved })
 
-after-kept : (l : List Action) (w : World) → Kept w → Kept (after w l)
+after-kept : (l : List Action) (w : World) → Holds w → Holds (after w l)
 unfolding after
 after-kept [] w k = k
 after-kept (a ∷ l) w k = after-kept l (does w a) (does-kept a w k)
 
 pub changeovers : Changeovers
 changeovers q s zero pooled tasks slots tag e none l =
-    let t = opening-told pooled q tasks slots tag e in
-    let k = after-kept l _ (record { now = t; shelved = λ n g h. absurd (h (zero n)) }) in
-    record { true = k .now .0; left = k .now .1 }
+    after-kept l _ (record { now = opening-told pooled q tasks slots tag e; shelved = λ n g h. absurd (h (zero n)) })

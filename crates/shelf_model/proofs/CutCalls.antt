@@ -101,7 +101,7 @@ among-cut : (q : Queue) (t : ℕ) → among (cut q) t ≡ among q t
 among-cut q t = λ i. record { enough = enough-take (q .tables .control .tasks) (q .records) i; known = ltb t (q .tables .control .tasks) }
 
 -- The law: what lies beyond the lengths matters to no start or step.
-abbrev cutDone : Done → Done
+abbrev pub cutDone : Done → Done
 cutDone d = record { queue = cut (d .queue); outcome = d .outcome }
 
 back-cut : (q : Queue) (t : ℕ) (a : Acted) → a .tables .control .tasks ≡ q .tables .control .tasks → back (cut q) t (cutActed a) ≡ cutDone (back q t a)

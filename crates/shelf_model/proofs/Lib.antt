@@ -3,5 +3,7 @@ pub mod Parts
 pub mod Cut
 pub mod CutCalls
 pub mod Copied
+pub mod Stretches
 pub mod Changeovers
+pub mod Pasts
 pub mod Promises

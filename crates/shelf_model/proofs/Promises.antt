@@ -1,118 +1,121 @@
 -- The promises of a past hold of the queue that it leaves.
-use mathlib.Core.Bool.{Bool, true, false, cond}
+use mathlib.Core.Bool.{Bool, true, false, not}
 use mathlib.Core.List.{List, [], _∷_}
-use mathlib.Core.Path.{_≡_, _∙_, ap, ap₂, refl, subst, subst₂, sym}
-use Prim.Native.Nat.{ℕ, zero, suc, _+_, _≤_}
+use mathlib.Core.Logic.{_≢_}
+use mathlib.Core.Path.{_≡_, _∙_, refl, subst, subst₂, sym}
+use Prim.Native.Nat.{ℕ, _<_, _≤_}
 use native.Mathlib.Omega.{arith}
-use lib.Dec.{eqb}
-use Rattle.model.specs.declared.Opening.the-variants.{Opened}
-use Rattle.model.specs.declared.Outcome.the-variants.{Refused}
+use lib.Dec.{eqb, leb}
+use borrow.Author.Tests.{eqb-false, leb-true, not-false}
+use Rattle.model.specs.declared.Entry.{Entry}
+use Rattle.model.specs.declared.Reported.the-variants as reported
 use Rattle.model.specs.declared.TaskRecord.{TaskRecord}
-use Rattle.model.specs.declared.Control.{Control}
-use Rattle.model.specs.Tables.{Queue, isPooled, unused}
-use Rattle.model.specs.Calls.{act, openAs, opened}
-use Rattle.model.specs.Walk.{contents, entries}
-use Rattle.model.specs.History.{AfterOpeningAs, All, Call, Event, Lawful, Linearized, NeverUnsound, Request, final, ledger, run}
-use Rattle.model.specs.Progress.{StretchTells, any, steps, stretchLimit, tells}
-use Rattle.model.specs.Retries.{SumIsOld, retriesBelow}
+use Rattle.model.specs.Tables.{Queue, isPooled}
+use Rattle.model.specs.Sound.{controlSound}
+use Rattle.model.specs.Refusals.{first, recordsFit, reportRefusal, rule}
+use Rattle.model.specs.Report.{busy, report, tell, told, waiting}
+use Rattle.model.specs.History.{Event, final}
+use Rattle.model.specs.Solo.{soloRun}
+use Rattle.model.specs.Progress.{AnsweredWithin, Busy, SoloWithin, StretchTells, any, limit, steps, stretchLimit, tells}
+use Rattle.model.specs.Retries.{SumIsOld}
 use Rattle.stock_model.specs.Accounts.{Accounted}
 use Rattle.model.proofs.tests.Truth.{not-both}
-use Rattle.model.proofs.laws.Sizes.{act-pooled, act-tasks}
-use Rattle.model.proofs.Openings.{after-opening}
-use Rattle.model.proofs.Linearizable.{linearizable}
-use Rattle.model.proofs.NeverUnsound.{never-unsound}
 use Rattle.model.proofs.Retries.{retries-sum}
-use Rattle.model.proofs.StepBounds.{stretch-bound}
+use Rattle.model.proofs.Standing.{Standing}
+use Rattle.model.proofs.StepBounds.{solo-bound, stretch-bound}
 use Rattle.stock_model.proofs.Accounts.{accounted}
-use Rattle.shelf_model.specs.Cut.{cut}
-use Rattle.shelf_model.specs.Changeovers.{Holds, Past, True, World}
-use Rattle.shelf_model.specs.Promises.{Promised, Promises}
-use Rattle.shelf_model.proofs.Lists.{get-take}
-use Rattle.shelf_model.proofs.CutCalls.{contents-cut, run-cut}
+use Rattle.shelf_model.specs.Shelves.{bothHold, returnRefusal, saveRefusal, shelfAt}
+use Rattle.shelf_model.specs.Changeovers.{Holds, Past, World}
+use Rattle.shelf_model.specs.Promises as stated
+use Rattle.shelf_model.specs.Promises.{Progresses, Promised, Promises}
+use Rattle.shelf_model.proofs.Stretches.{asked, shows-run, solo-alike}
 use Rattle.shelf_model.proofs.Changeovers.{changeovers}
+use Rattle.shelf_model.proofs.Pasts.{all-served, counts, final-tasks, has-named, operations-sound, past-has}
+use Rattle.shelf_model.proofs.Pasts.{same-run, same-task, same-tasks, stands}
 
-below-cut : (q : Queue) (n : ℕ) → n ≤ q .tables .control .tasks → retriesBelow (cut q) n ≡ retriesBelow q n
-unfolding retriesBelow
-below-cut q zero h = refl
-below-cut q (suc n) h = ap₂ (λ (r : TaskRecord) (k : ℕ). r .retries + k) (get-take (q .tables .control .tasks) (q .records) n unused (omega arith)) (below-cut q n (omega arith))
+-- A report where control is sound, the tables are long enough and the walk meets what waits.
+report-none : (q : Queue) (d : List Entry) → Standing q d → reportRefusal (q .tables) (recordsFit (q .tables .control .tasks) q) ≡ 0
+unfolding reportRefusal
+report-none q d s = rw (s .control, s .long, s .walk)
 
--- No list changes the number of tasks, nor the way of opening.
-final-tasks : (os : List Request) (q : Queue) → final q os .tables .control .tasks ≡ q .tables .control .tasks
-unfolding final
-final-tasks [] q = refl
-final-tasks (o ∷ os) q = final-tasks os (act q (o .task) (o .op) .queue) ∙ act-tasks q (o .task) (o .op)
+report-told : (q : Queue) (d : List Entry) → Standing q d → report q ≡ reported.Told (told (q .tables) (busy q))
+unfolding report tell
+report-told q d s = rw (report-none q d s)
 
-final-pooled : (os : List Request) (q : Queue) → final q os .tables .control .pooled ≡ q .tables .control .pooled
-unfolding final
-final-pooled [] q = refl
-final-pooled (o ∷ os) q = final-pooled os (act q (o .task) (o .op) .queue) ∙ act-pooled q (o .task) (o .op)
+-- The rules of a saving and of a return give no 34 where control is sound.
+save-sound : (a b c : Bool) → a ≡ true → first (rule 34 (not a) ∷ rule 43 b ∷ rule 12 c ∷ []) ≢ 34
+save-sound false b c e = λ z. not-both refl (sym e)
+save-sound true true c e = λ z. let y : _≡_ {A = ℕ} 43 34 = z in omega arith
+save-sound true false true e = λ z. let y : _≡_ {A = ℕ} 12 34 = z in omega arith
+save-sound true false false e = λ z. let y : _≡_ {A = ℕ} 0 34 = z in omega arith
 
-open-pooled : (pooled : Bool) → AfterOpeningAs pooled (λ q os. isPooled (q .tables .control) ≡ pooled)
-unfolding opened
-open-pooled pooled = after-opening pooled (λ q os. isPooled (q .tables .control) ≡ pooled) (λ q tasks slots tag e os. way pooled)
-  where
-    way : (b : Bool) → eqb (cond b 1 0) 1 ≡ b
-    way true = refl
-    way false = refl
+return-sound : (a b c d : Bool) → (a ≡ false → b ≡ false → c ≡ true) → first (rule 43 a ∷ rule 44 b ∷ rule 34 (not c) ∷ rule 12 d ∷ []) ≢ 34
+return-sound true b c d h = λ z. let y : _≡_ {A = ℕ} 43 34 = z in omega arith
+return-sound false true c d h = λ z. let y : _≡_ {A = ℕ} 44 34 = z in omega arith
+return-sound false false false d h = λ z. not-both refl (sym (h refl refl))
+return-sound false false true true h = λ z. let y : _≡_ {A = ℕ} 12 34 = z in omega arith
+return-sound false false true false h = λ z. let y : _≡_ {A = ℕ} 0 34 = z in omega arith
 
--- A named queue's stretch.
-named-stretch : (pooled : Bool) (q : Queue) (tasks slots tag : ℕ) → openAs pooled q tasks slots tag .outcome ≡ Opened → pooled ≡ false → (os : List Request)
-    → StretchTells (openAs pooled q tasks slots tag .queue) os
-named-stretch true q tasks slots tag e n os = absurd (not-both refl n)
-named-stretch false q tasks slots tag e n os = stretch-bound q tasks slots tag e os
-
-module _ (w : World) (h : Holds w) where
+-- #108.
+module _ (w : World) (h : Holds w) (named : isPooled (w .queue .tables .control) ≡ false) where
   abbrev p : Past
   p = w .past
 
-  abbrev t : True (w .past)
-  t = h .true
+  abbrev then : Queue
+  then = final (p .opened) (p .since)
 
-  abbrev now : Queue
-  now = final (p .opened) (p .since)
+  progresses : Progresses w
+  progresses = record {
+    solo = λ i n b more.
+        let same = same-task p (w .queue) (h .now) i (b .known) in
+        let known = subst (λ k. i < k) (same-tasks p (w .queue) (h .now)) (b .known) in
+        let busy : Busy then i = record { known = known; place = subst (λ (r : TaskRecord). r .call .place ≢ 0) same (b .place) } in
+        let less = subst (λ (r : TaskRecord). limit (r .call .kind) ≤ n) same more in
+        let z = has-named p (w .queue) (h .now) SoloWithin solo-bound named i n busy less in
+        solo-alike n _ (w .queue) then i (b .known) known (h .now .left)
+        (subst (λ (r : TaskRecord). AnsweredWithin (limit (r .call .kind)) (soloRun n then i)) (sym same) z);
+    stretch = λ l u enough.
+        let same = shows-run l w u ∙ same-run p (w .queue) (h .now) (asked l) in
+        let tasks = same-tasks p (w .queue) (h .now) ∙ final-tasks (p .since) (p .opened) in
+        subst (λ (es : List Event). any tells es ≡ true) (sym same)
+        (has-named p (w .queue) (h .now) StretchTells stretch-bound named (asked l)
+        (subst₂ (λ n (es : List Event). stretchLimit n ≤ steps es) tasks same enough));
+  }
 
-  -- What holds after every accepted opening holds of the past.
-  past-has : (P : Queue → List Request → Type 0) → P (openAs (t .pooled) (t .before) (t .tasks) (t .slots) (t .tag) .queue) (p .since) → P (p .opened) (p .since)
-  past-has P x = subst (λ (q : Queue). P q (p .since)) (sym (t .opened)) x
+module _ (w : World) (h : Holds w) where
+  save-never : (n : ℕ) → saveRefusal (w .queue) (w .shelves) n ≢ 34
+  unfolding saveRefusal
+  save-never n =
+      let c = w .queue .tables .control in
+      save-sound (controlSound c) (not (leb n 7)) (not (bothHold c (w .queue) (w .shelves) n)) (stands (w .past) (w .queue) (h .now) .control)
 
-  lawful : Linearized (p .opened) (p .since)
-  lawful = past-has Linearized (linearizable (t .pooled) (t .before) (t .tasks) (t .slots) (t .tag) (t .accepted) (p .since))
+  return-never : (n : ℕ) → returnRefusal (w .queue) (w .shelves) n ≢ 34
+  unfolding returnRefusal
+  return-never n =
+      let c = shelfAt (w .shelves) n .tables .control in
+      return-sound (not (leb n 7)) (eqb (c .tasks) 0) (controlSound c) (not (bothHold c (w .queue) (w .shelves) n)) (λ low filled.
+      stands (w .stored n) (shelfAt (w .shelves) n) (h .shelved n (leb-true _ _ (not-false _ low)) (eqb-false _ _ filled)) .control)
 
-  same-control : w .queue .tables .control ≡ now .tables .control
-  same-control = ap (λ (q : Queue). q .tables .control) (h .left)
-
-  walk : contents (w .queue .tables) ≡ contents (now .tables)
-  walk = sym (contents-cut (w .queue .tables)) ∙ ap (λ (q : Queue). contents (q .tables)) (h .left) ∙ contents-cut (now .tables)
-
-  counts : retriesBelow (w .queue) (w .queue .tables .control .tasks) ≡ retriesBelow now (now .tables .control .tasks)
-  counts =
-      sym (below-cut (w .queue) (w .queue .tables .control .tasks) (omega arith))
-      ∙ ap (λ (q : Queue). retriesBelow q (q .tables .control .tasks)) (h .left)
-      ∙ below-cut now (now .tables .control .tasks) (omega arith)
-
-  runs : (l : List Request) → run (w .queue) l ≡ run now l
-  runs l = sym (run-cut l (w .queue)) ∙ ap (λ (q : Queue). run q l) (h .left) ∙ run-cut l now
-
-  is-named : isPooled (w .queue .tables .control) ≡ false → t .pooled ≡ false
-  is-named e =
-      sym (open-pooled (t .pooled) (t .before) (t .tasks) (t .slots) (t .tag) (t .accepted) [])
-      ∙ ap (λ (q : Queue). isPooled (q .tables .control)) (sym (t .opened))
-      ∙ ap (λ (n : ℕ). eqb n 1) (sym (final-pooled (p .since) (p .opened)) ∙ ap (λ (c : Control). c .pooled) (sym same-control))
-      ∙ e
+  sound : stated.NeverUnsound w
+  unfolding waiting
+  sound =
+      let s = stands (w .past) (w .queue) (h .now) in
+      record {
+        operations = operations-sound (w .past) (w .queue) (h .now);
+        told = told (w .queue .tables) (busy (w .queue));
+        is = report-told (w .queue) _ s;
+        waiting = rw (s .walk);
+        saving = save-never;
+        returning = return-never;
+      }
 
   promised : Promised w
   promised = record {
-    calls = subst (λ (es : List Event). All (λ (c : Call). Lawful c (c .ending)) (ledger es .calls)) (sym (t .events)) (lawful .calls);
-    waits = walk ∙ lawful .waits ∙ ap (λ (es : List Event). entries (ledger es .deque)) (sym (t .events));
-    sound = subst (λ (es : List Event). All (λ (e : Event). e .outcome ≡ Refused 34 → ⊥) es) (sym (t .events))
-        (past-has NeverUnsound (never-unsound (t .pooled) (t .before) (t .tasks) (t .slots) (t .tag) (t .accepted) (p .since)) .operations);
-    retries = λ low. counts ∙ past-has SumIsOld (retries-sum (t .pooled) (t .before) (t .tasks) (t .slots) (t .tag) (t .accepted) (p .since)) low;
-    stretch = λ named l enough.
-        let tasks = ap (λ (c : Control). c .tasks) same-control ∙ final-tasks (p .since) (p .opened) in
-        subst (λ (es : List Event). any tells es ≡ true) (sym (runs l))
-        (past-has StretchTells (named-stretch (t .pooled) (t .before) (t .tasks) (t .slots) (t .tag) (t .accepted) (is-named named) (p .since)) l
-        (subst₂ (λ n (es : List Event). stretchLimit n ≤ steps es) tasks (runs l) enough));
-    accounted = λ count. past-has (Accounted count) (accounted count (t .pooled) (t .before) (t .tasks) (t .slots) (t .tag) (t .accepted) (p .since));
+    served = record { calls = all-served (w .past) (w .queue) (h .now); waits = stands (w .past) (w .queue) (h .now) .walk };
+    sound = sound;
+    retries = λ low. counts (w .past) (w .queue) (h .now) ∙ past-has (w .past) (w .queue) (h .now) SumIsOld (retries-sum (h .now .true .pooled)) low;
+    progress = progresses w h;
+    accounted = λ count. past-has (w .past) (w .queue) (h .now) (Accounted count) (accounted count (h .now .true .pooled));
   }
 
 pub promises : Promises
