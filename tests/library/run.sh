@@ -2,17 +2,17 @@
 # Tests of the static library through its C interface.
 #
 #     tests/library/run.sh [FOLDER]     of libzeppolecape.a; default: target/lib, where `make` writes it
-#     tests/library/run.sh --stand-in   bench/reference.c, audit_reference.c, sheet.c, schedules.c and join_reference.c, the same calls by hand, in its place
+#     tests/library/run.sh --stand-in   bench/reference.c, audit_reference.c, sheet.c, schedules.c, join_reference.c and shelf_reference.c, the same calls by hand, in its place
 #
 # PARTS names what runs, all of it by default: header, a program NAME for each tests/library/NAME.c that has a main,
-# bindings examples projects bench audit sheet schedules joining facts differential.
+# bindings examples projects bench audit sheet schedules joining shelves facts differential.
 # SEED and TIMES go to the differential test (1 and 1). BUILD keeps what is built there.
 set -u -o pipefail
 from=$PWD
 cd "$(dirname "$0")/../.."
 
-PROGRAMS=$(grep -l '^int main' tests/library/*.c | grep -v '/join.c$' | xargs -n 1 basename -s .c | tr '\n' ' ')
-PARTS=${PARTS:-header $PROGRAMS bindings examples projects bench audit sheet schedules joining facts differential}
+PROGRAMS=$(grep -l '^int main' tests/library/*.c | grep -v '/join.c$\|/shelf.c$' | xargs -n 1 basename -s .c | tr '\n' ' ')
+PARTS=${PARTS:-header $PROGRAMS bindings examples projects bench audit sheet schedules joining shelves facts differential}
 CC=${CC:-gcc}
 CXX=${CXX:-g++}
 WARNINGS="-Wall -Wextra -Wpedantic -Werror"
@@ -36,7 +36,8 @@ case ${1:-} in
     $CC -std=c11 -O2 $WARNINGS -DAS_LIBRARY -Iinclude -c bench/sheet.c -o "$work/sheet.o" || exit 2
     $CC -std=c11 -O2 $WARNINGS -DAS_LIBRARY -Iinclude -c bench/schedules.c -o "$work/schedules.o" || exit 2
     $CC -std=c11 -O2 $WARNINGS -DAS_LIBRARY -Iinclude -c bench/join_reference.c -o "$work/join.o" || exit 2
-    ar rcs "$archive" "$work/library.o" "$work/audit.o" "$work/sheet.o" "$work/schedules.o" "$work/join.o"
+    $CC -std=c11 -O2 $WARNINGS -DAS_LIBRARY -Iinclude -c bench/shelf_reference.c -o "$work/shelf.o" || exit 2
+    ar rcs "$archive" "$work"/{library,audit,sheet,schedules,join,shelf}.o
     ;;
 *)
     given=${1:-$PWD/target/lib}
@@ -154,6 +155,7 @@ example() { # NAME LINE
 part_examples() {
     example interrupt 'no label lost'
     example renew 'no label lost'
+    example changeover 'cheese: 301 302 303'
     example sheet "a wedge behind the pallet's label: broken, 7105 must print before 9000"
     holds "C example compiles" $CC $WARNINGS -Iinclude examples/c/executive.c "$archive" -o "$work/executive_c"
     holds "Rust example compiles" in_cargo build --release -p executive
@@ -223,6 +225,12 @@ part_schedules() {
 
 part_joining() { # join.c is linked with the call by hand, and planted faults are tried in that
     holds "joinings against C and against the pushes, and planted faults" sh tests/library/join.sh "$archive"
+}
+
+part_shelves() { # shelf.c is linked with the calls by hand, and planted faults are tried in those
+    holds "shelves against C, and planted faults" sh tests/library/shelf.sh "$archive"
+    holds "the benchmark of shelves compiles" $CC -std=gnu11 -O2 -Iinclude bench/shelf.c bench/shelf_reference.c "$archive" -o "$work/shelf_bench"
+    holds "the benchmark of shelves runs" "$work/shelf_bench" 16 1023 2
 }
 
 part_differential() {

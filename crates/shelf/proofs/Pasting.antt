@@ -7,8 +7,8 @@ use native.Mathlib.Nat.{mul-le-mul-right, suc-mul}
 use native.Mathlib.Numerals.{add-one}
 use native.Mathlib.Omega.{arith}
 use lib.Dec.{leb}
-use lib.ListN.{drop, getD, length, length-drop, length-map, length-set, set, take}
-use lib.Seq.{drop-drop, getD-drop, paste-suc, paste-zero, take-take}
+use lib.ListN.{drop, getD, length, length-append, length-drop, length-map, length-set, set, take}
+use lib.Seq.{drop-drop, getD-drop, length-take-le, paste-suc, paste-zero, take-append-le, take-take}
 use borrow.Author.Tests.{le-leb, leb-true}
 use Rattle.model.proofs.tests.Truth.{and-true}
 use Rattle.shelf_model.specs.Shelves.{over, part, share, withPart}
@@ -35,6 +35,33 @@ module _ {A : Type 0} where
             ∙ paste-suc to at (drop start from) i z (omega arith) (omega arith)
             ∙ ap (λ (j : ℕ). pasted from start to at j) (sym (add-one i)),
       )
+
+  -- Copied into a table of our own and on from there.
+  own : (from : List A) (start : ℕ) (held : List A) (k : ℕ) → pasted from start held 0 k ≡ take k (drop start from) ++ drop k held
+  unfolding pasted
+  own from start held k = ap (λ (j : ℕ). take k (drop start from) ++ drop j held) (let z : 0 + k ≡ k = omega arith in z)
+
+  front : (from : List A) (start k : ℕ) → start + k ≤ length from → length (take k (drop start from)) ≡ k
+  front from start k h = length-take-le k (drop start from) (let n = length-drop start from in omega arith)
+
+  pub own-long : (from : List A) (start : ℕ) (held : List A) (k : ℕ) → start + k ≤ length from → 0 + k ≤ length (pasted from start held 0 k)
+  own-long from start held k h =
+      let n = ap length (own from start held k) ∙ length-append (take k (drop start from)) (drop k held) in
+      let m = front from start k h in
+      omega arith
+
+  again : (from : List A) (start : ℕ) (held to : List A) (at k : ℕ) → start + k ≤ length from
+      → pasted (take k (drop start from) ++ drop k held) 0 to at k ≡ pasted from start to at k
+  unfolding pasted
+  again from start held to at k h =
+      let m = front from start k h in
+      ap (λ (l : List A). (take at to ++ l) ++ drop (at + k) to)
+      (take-append-le k (take k (drop start from)) (drop k held) (omega arith) ∙ take-take k k (drop start from) (omega arith))
+
+  pub pasted-twice : (from : List A) (start : ℕ) (held to : List A) (at k : ℕ) → start + k ≤ length from
+      → pasted (pasted from start held 0 k) 0 to at k ≡ pasted from start to at k
+  pasted-twice from start held to at k h =
+      ap (λ (l : List A). pasted l 0 to at k) (own from start held k) ∙ again from start held to at k h
 
   -- A part taken out and put together again.
   rejoined : (k s : ℕ) (l : List A) → k ≤ s → drop k (take s l) ++ drop s l ≡ drop k l

@@ -1,9 +1,9 @@
 //! The static library and the second program driven by the same calls, answers and all tables
 //! compared after each: scenes that are accepted, every fault alone and in pairs, tables of any
-//! contents, histories from an opening, order sheets and joinings. Then audits of histories.
+//! contents, histories from an opening, order sheets, joinings and shelves. Then audits of histories.
 //!
 //!     differential [SEED] [TIMES]       all of it
-//!     differential SEED TIMES PART      one part alone: calls, sheet, join or audit
+//!     differential SEED TIMES PART      one part alone: calls, sheet, join, shelf or audit
 
 mod audit;
 mod audit_histories;
@@ -16,6 +16,7 @@ mod ours;
 mod plant;
 mod records;
 mod sheets;
+mod shelves;
 mod sound;
 mod tally;
 mod theirs;
@@ -43,6 +44,9 @@ fn main() -> ExitCode {
     }
     if wanted("join") {
         joins::joins(&mut tally, &mut dice, 20_000 * times);
+    }
+    if wanted("shelf") {
+        shelves::shelves(&mut tally, &mut dice, 20_000 * times);
     }
     println!("seed {seed}: {} calls compared", tally.calls);
     if wanted("audit") {

@@ -12,7 +12,7 @@ fits c = let a = c .before .before .before .args in put-fits (a .shelf) (a .k) (
 
 returns : tie.Need-returns
 unfolding putOn
-returns c = let copied = c .before .before in rw (copied .before .before .if1 .taken) (copied .copy-labels .ensures)
+returns c = let copied = c .before .before in rw (copied .before .before .if1 .taken) (copied .move-labels .ensures)
 
 returns-2 : tie.Need-returns-2
 unfolding putOn
