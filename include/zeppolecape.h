@@ -16,7 +16,7 @@
  *     cc -Iinclude main.c target/lib/libzeppolecape.a
  *
  * The library is for x86-64. It calls nothing but memset, from the openings, zc_audit_words and the
- * order sheets, and memcpy, from zc_find and the order sheets.
+ * order sheets, memcpy, from zc_find and the order sheets, and memmove, from zc_save and zc_return.
  *
  * In short:
  *

@@ -1,16 +1,16 @@
 -- A table into which the first i of k entries are copied, and one entry more; and what that makes of shelves.
 use mathlib.Core.List.{List, [], _∷_, _++_, append-assoc, map}
 use mathlib.Core.Path.{_≡_, _∙_, ap, refl, sym}
-use mathlib.Core.Bool.{Bool, true, false, cond, _&&_}
+use mathlib.Core.Bool.{Bool, true, false, cond, _&&_, _||_}
 use Prim.Native.Nat.{ℕ, zero, suc, _+_, _*_, _/_, _<_, _≤_}
 use native.Mathlib.Nat.{mul-le-mul-right, suc-mul}
 use native.Mathlib.Numerals.{add-one}
 use native.Mathlib.Omega.{arith}
-use lib.Dec.{leb}
+use lib.Dec.{eqb, leb, ltb}
 use lib.ListN.{drop, getD, length, length-append, length-drop, length-map, length-set, set, take}
 use lib.Seq.{drop-drop, getD-drop, length-take-le, paste-suc, paste-zero, take-append-le, take-take}
-use borrow.Author.Tests.{le-leb, leb-true}
-use Rattle.model.proofs.tests.Truth.{and-true}
+use borrow.Author.Tests.{le-leb, leb-true, ltb-false}
+use Rattle.model.proofs.tests.Truth.{and-true, not-both}
 use Rattle.shelf_model.specs.Shelves.{over, part, share, withPart}
 use Rattle.shelf.specs.Pasting.{pasted, putBack, putOn}
 
@@ -44,9 +44,10 @@ module _ {A : Type 0} where
   front : (from : List A) (start k : ℕ) → start + k ≤ length from → length (take k (drop start from)) ≡ k
   front from start k h = length-take-le k (drop start from) (let n = length-drop start from in omega arith)
 
-  pub own-long : (from : List A) (start : ℕ) (held : List A) (k : ℕ) → start + k ≤ length from → 0 + k ≤ length (pasted from start held 0 k)
-  own-long from start held k h =
-      let n = ap length (own from start held k) ∙ length-append (take k (drop start from)) (drop k held) in
+  pub own-long : (from : List A) (start : ℕ) (held l : List A) (k : ℕ) → start + k ≤ length from → l ≡ pasted from start held 0 k
+      → 0 + k ≤ length l
+  own-long from start held l k h e =
+      let n = ap length (e ∙ own from start held k) ∙ length-append (take k (drop start from)) (drop k held) in
       let m = front from start k h in
       omega arith
 
@@ -93,6 +94,15 @@ module _ {A : Type 0} where
       ap (λ (j : ℕ). take k (drop a from) ++ drop j to) (let z : 0 + k ≡ k = omega arith in z)
       ∙ ap (λ (m : List A). m ++ drop k to) (sym (take-take k (share from) (drop a from) f))
       )
+
+-- What is moved by way of a table of our own fits there.
+pub small : (k : ℕ) → (eqb k 0 || ltb 1024 k) ≡ false → k ≤ 1024
+small k e = go (ltb 1024 k) refl (eqb k 0) e
+  where
+    go : (b : Bool) → ltb 1024 k ≡ b → (a : Bool) → (a || b) ≡ false → k ≤ 1024
+    go true f true e = absurd (not-both refl e)
+    go true f false e = absurd (not-both refl e)
+    go false f a e = let z = ltb-false 1024 k f in omega arith
 
 -- A shelf's part lies in the table: what a copy requires.
 room : (n k l : ℕ) → n ≤ 7 → k ≤ l / 8 → n * (l / 8) + k ≤ l

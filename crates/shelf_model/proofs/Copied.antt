@@ -46,7 +46,8 @@ long c q e =
       records = leb-true _ _ (w .1);
     }
 
-cut-next : (b : Bool) (n : ℕ) (l m : List ℕ) → (b ≡ true → n < length l) → cond b (take (suc n) (cond b (over (suc n) l m) m)) [] ≡ cond b (take (suc n) l) []
+cut-next : (b : Bool) (n : ℕ) (l m : List ℕ) → (b ≡ true → n < length l)
+    → cond b (take (suc n) (cond b (over (suc n) l m) m)) [] ≡ cond b (take (suc n) l) []
 cut-next true n l m h = take-over (suc n) l m (omega (arith, h refl))
 cut-next false n l m h = refl
 
@@ -69,11 +70,13 @@ cut-copied from to h =
     }
 
 -- A shelf after a saving there, and any other.
-next-length : (b : Bool) (n : ℕ) (l m : List ℕ) → (b ≡ true → n < length l) → (b ≡ true → n < length m) → length (cond b (over (suc n) l m) m) ≡ length m
+next-length : (b : Bool) (n : ℕ) (l m : List ℕ) → (b ≡ true → n < length l)
+    → (b ≡ true → n < length m) → length (cond b (over (suc n) l m) m) ≡ length m
 next-length true n l m h g = length-over (suc n) l m (omega (arith, h refl)) (omega (arith, g refl))
 next-length false n l m h g = refl
 
-module _ (q : Queue) (s : Shelves) (n : ℕ) (h : n ≤ 7) (from : Long (q .tables .control) q) (to : Long (q .tables .control) (shelfAt s n)) (eight : 8 ≤ length (s .controls)) where
+module _ (q : Queue) (s : Shelves) (n : ℕ) (h : n ≤ 7) (from : Long (q .tables .control) q)
+    (to : Long (q .tables .control) (shelfAt s n)) (eight : 8 ≤ length (s .controls)) where
   abbrev c : Control
   c = q .tables .control
 
@@ -87,15 +90,18 @@ module _ (q : Queue) (s : Shelves) (n : ℕ) (h : n ≤ 7) (from : Long (q .tabl
 
   fit-rights : length (new .tables .rights) ≡ share (s .rights)
   unfolding copied
-  fit-rights = length-over (suc (c .slots)) (q .tables .rights) (part n (s .rights)) (from .rights) (to .rights) ∙ part-length n (s .rights) h
+  fit-rights = length-over (suc (c .slots)) (q .tables .rights) (part n (s .rights)) (from .rights) (to .rights)
+      ∙ part-length n (s .rights) h
 
   fit-labels : length (new .tables .labels) ≡ share (s .labels)
   unfolding copied
-  fit-labels = length-over (suc (c .slots)) (q .tables .labels) (part n (s .labels)) (from .labels) (to .labels) ∙ part-length n (s .labels) h
+  fit-labels = length-over (suc (c .slots)) (q .tables .labels) (part n (s .labels)) (from .labels) (to .labels)
+      ∙ part-length n (s .labels) h
 
   fit-marks : length (new .tables .marks) ≡ share (s .marks)
   unfolding copied
-  fit-marks = length-over (suc (c .slots / 64)) (q .tables .marks) (part n (s .marks)) (from .marks) (to .marks) ∙ part-length n (s .marks) h
+  fit-marks = length-over (suc (c .slots / 64)) (q .tables .marks) (part n (s .marks)) (from .marks) (to .marks)
+      ∙ part-length n (s .marks) h
 
   fit-next : length (new .tables .next) ≡ share (s .next)
   unfolding copied

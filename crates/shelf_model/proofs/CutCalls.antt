@@ -33,22 +33,26 @@ use Rattle.shelf_model.proofs.Cut.{columns, cutActed, decide-cut, fits-
 
 -- A push looks at its slot's mark, which lies within the lengths once 15 has passed.
 same-from : (a b c d e x y : Bool) (k : ℕ) → (a ≡ true → x ≡ y)
-    → first (rule 15 (not a) ∷ rule 34 b ∷ rule 30 c ∷ rule 32 x ∷ rule 33 d ∷ []) ≡ first (rule 15 (not a) ∷ rule 34 b ∷ rule 30 c ∷ rule 32 y ∷ rule 33 d ∷ [])
+    → first (rule 15 (not a) ∷ rule 34 b ∷ rule 30 c ∷ rule 32 x ∷ rule 33 d ∷ [])
+    ≡ first (rule 15 (not a) ∷ rule 34 b ∷ rule 30 c ∷ rule 32 y ∷ rule 33 d ∷ [])
 same-from false b c d e x y k h = refl
 same-from true b c d e x y k h = ap (λ (z : Bool). first (rule 34 b ∷ rule 30 c ∷ rule 32 z ∷ rule 33 d ∷ [])) (h refl)
 
-push-refusal-cut : (q : Tables) (p : Lent) (r : Record) (side slot : ℕ) → pushRefusal (cutTables q) p r side slot ≡ pushRefusal q p r side slot
+push-refusal-cut : (q : Tables) (p : Lent) (r : Record) (side slot : ℕ)
+    → pushRefusal (cutTables q) p r side slot ≡ pushRefusal q p r side slot
 unfolding pushRefusal
 push-refusal-cut q p r side slot =
     let pooled = isPooled (q .control) in
     rw (fits-cut q)
-    (ap (λ (n : ℕ). first (rule 34 (not (controlSound (q .control))) ∷ rule 12 (not (rowsFit pooled (q .control .slots) q && p .enough)) ∷ rule 13 (not (p .known))
+    (ap (λ (n : ℕ). first (rule 34 (not (controlSound (q .control)))
+    ∷ rule 12 (not (rowsFit pooled (q .control .slots) q && p .enough)) ∷ rule 13 (not (p .known))
     ∷ rule 14 (not (leb side 1)) ∷ rule 41 pooled ∷ rule n true ∷ []))
     (same-from (from1 (q .control .slots) slot) (not (recordSound pooled (q .control .slots) r)) (isBusy r) (late q) true _ _ 0
     (λ e. marked-cut (q .control .slots) (q .marks) slot (from1-true (q .control .slots) slot e .1))))
 
 taken-cut : (q : Tables) (x l : ℕ) → x ≤ q .control .slots → taken (cutTables q) x l ≡ cutTables (taken q x l)
-taken-cut q x l h = λ i. columns q (cutTables q .lefts) (cutTables q .rights) (set-take (suc (q .control .slots)) (q .labels) x l i) (mark-cut (q .control .slots) (q .marks) x 1 h i) (cutTables q .next)
+taken-cut q x l h = λ i. columns q (cutTables q .lefts) (cutTables q .rights)
+    (set-take (suc (q .control .slots)) (q .labels) x l i) (mark-cut (q .control .slots) (q .marks) x 1 h i) (cutTables q .next)
 
 push-within : (q : Tables) (p : Lent) (r : Record) (side slot : ℕ) → pushRefusal q p r side slot ≡ 0 → slot ≤ q .control .slots
 unfolding pushRefusal
@@ -83,19 +87,25 @@ act-on-cut q p r Step = step-cut q p r
 
 -- A task that there is not: refused by 34, 12 or 13, whatever its record.
 abbrev unknownBy : Tables → Lent → ℕ
-unknownBy q p = first (rule 34 (not (controlSound (q .control))) ∷ rule 12 (not (rowsFit (isPooled (q .control)) (q .control .slots) q && p .enough)) ∷ rule 13 true ∷ [])
+unknownBy q p = first (rule 34 (not (controlSound (q .control)))
+    ∷ rule 12 (not (rowsFit (isPooled (q .control)) (q .control .slots) q && p .enough)) ∷ rule 13 true ∷ [])
 
 not-zero : (a b : Bool) → eqb (first (rule 34 a ∷ rule 12 b ∷ rule 13 true ∷ [])) 0 ≡ false
 not-zero true b = refl
 not-zero false true = refl
 not-zero false false = refl
 
-unknown : (q : Tables) (p : Lent) (r : TaskRecord) (o : Op) → p .known ≡ false → actOn q p r o ≡ record { tables = q; task = r; outcome = Refused (unknownBy q p) }
+unknown : (q : Tables) (p : Lent) (r : TaskRecord) (o : Op) → p .known ≡ false
+    → actOn q p r o ≡ record { tables = q; task = r; outcome = Refused (unknownBy q p) }
 unfolding actOn pushStart putStart popStart step pushRefusal putRefusal popRefusal stepRefusal
-unknown q p r (Push side slot label) e = rw (e, not-zero (not (controlSound (q .control))) (not (rowsFit (isPooled (q .control)) (q .control .slots) q && p .enough)))
-unknown q p r (Pop side) e = rw (e, not-zero (not (controlSound (q .control))) (not (rowsFit (isPooled (q .control)) (q .control .slots) q && p .enough)))
-unknown q p r (Put side label) e = rw (e, not-zero (not (controlSound (q .control))) (not (rowsFit (isPooled (q .control)) (q .control .slots) q && p .enough)))
-unknown q p r Step e = rw (e, not-zero (not (controlSound (q .control))) (not (rowsFit (isPooled (q .control)) (q .control .slots) q && p .enough)))
+unknown q p r (Push side slot label) e = rw
+    (e, not-zero (not (controlSound (q .control))) (not (rowsFit (isPooled (q .control)) (q .control .slots) q && p .enough)))
+unknown q p r (Pop side) e = rw
+    (e, not-zero (not (controlSound (q .control))) (not (rowsFit (isPooled (q .control)) (q .control .slots) q && p .enough)))
+unknown q p r (Put side label) e = rw
+    (e, not-zero (not (controlSound (q .control))) (not (rowsFit (isPooled (q .control)) (q .control .slots) q && p .enough)))
+unknown q p r Step e = rw (e, not-zero (not (controlSound (q .control)))
+    (not (rowsFit (isPooled (q .control)) (q .control .slots) q && p .enough)))
 
 among-cut : (q : Queue) (t : ℕ) → among (cut q) t ≡ among q t
 among-cut q t = λ i. record { enough = enough-take (q .tables .control .tasks) (q .records) i; known = ltb t (q .tables .control .tasks) }
@@ -104,22 +114,28 @@ among-cut q t = λ i. record { enough = enough-take (q .tables .control .tasks) 
 abbrev pub cutDone : Done → Done
 cutDone d = record { queue = cut (d .queue); outcome = d .outcome }
 
-back-cut : (q : Queue) (t : ℕ) (a : Acted) → a .tables .control .tasks ≡ q .tables .control .tasks → back (cut q) t (cutActed a) ≡ cutDone (back q t a)
+back-cut : (q : Queue) (t : ℕ) (a : Acted) → a .tables .control .tasks ≡ q .tables .control .tasks
+    → back (cut q) t (cutActed a) ≡ cutDone (back q t a)
 back-cut q t a e = λ i. record {
-  queue = record { tables = cutTables (a .tables); records = (set-take (q .tables .control .tasks) (q .records) t (a .task) ∙ ap (λ (n : ℕ). take n (set (q .records) t (a .task))) (sym e)) i };
+  queue = record { tables = cutTables (a .tables);
+      records = (set-take (q .tables .control .tasks) (q .records) t (a .task)
+      ∙ ap (λ (n : ℕ). take n (set (q .records) t (a .task))) (sym e)) i };
   outcome = a .outcome;
 }
 
 -- A refused operation leaves the queue as it was.
-absent-act : (q : Queue) (t : ℕ) (o : Op) → ltb t (q .tables .control .tasks) ≡ false → act q t o ≡ record { queue = q; outcome = Refused (unknownBy (q .tables) (among q t)) }
+absent-act : (q : Queue) (t : ℕ) (o : Op) → ltb t (q .tables .control .tasks) ≡ false
+    → act q t o ≡ record { queue = q; outcome = Refused (unknownBy (q .tables) (among q t)) }
 unfolding act
 absent-act q t o e =
     ap (back q t) (unknown (q .tables) (among q t) (taskAt q t) o e)
-    ∙ (λ i. record { queue = record { tables = q .tables; records = set-getD (q .records) t unused i }; outcome = Refused (unknownBy (q .tables) (among q t)) })
+    ∙ (λ i. record { queue = record { tables = q .tables; records = set-getD (q .records) t unused i };
+    outcome = Refused (unknownBy (q .tables) (among q t)) })
 
 unknown-cut : (q : Queue) (t : ℕ) → unknownBy (cutTables (q .tables)) (among (cut q) t) ≡ unknownBy (q .tables) (among q t)
 unknown-cut q t = ap (λ (p : Lent). unknownBy (cutTables (q .tables)) p) (among-cut q t)
-    ∙ ap (λ (b : Bool). first (rule 34 (not (controlSound (q .tables .control))) ∷ rule 12 (not (b && among q t .enough)) ∷ rule 13 true ∷ [])) (fits-cut (q .tables))
+    ∙ ap (λ (b : Bool). first (rule 34 (not (controlSound (q .tables .control)))
+    ∷ rule 12 (not (b && among q t .enough)) ∷ rule 13 true ∷ [])) (fits-cut (q .tables))
 
 pub act-cut : (q : Queue) (t : ℕ) (o : Op) → act (cut q) t o ≡ cutDone (act q t o)
 unfolding act
@@ -130,7 +146,8 @@ act-cut q t o = split (ltb t (q .tables .control .tasks)) known absent
 
     known : ltb t (q .tables .control .tasks) ≡ true → act (cut q) t o ≡ cutDone (act q t o)
     known e =
-        ap₂ (λ (p : Lent) (r : TaskRecord). back (cut q) t (actOn (cutTables (q .tables)) p r o)) (among-cut q t) (get-take (q .tables .control .tasks) (q .records) t unused (ltb-true _ _ e))
+        ap₂ (λ (p : Lent) (r : TaskRecord). back (cut q) t (actOn (cutTables (q .tables)) p r o))
+        (among-cut q t) (get-take (q .tables .control .tasks) (q .records) t unused (ltb-true _ _ e))
         ∙ ap (back (cut q) t) (act-on-cut (q .tables) (among q t) (taskAt q t) o)
         ∙ back-cut q t (actOn (q .tables) (among q t) (taskAt q t) o) same
 
@@ -149,7 +166,8 @@ run-cut (o ∷ os) q =
     ∙ ap (λ (es : List Event). seen (act q (o .task) (o .op)) ∷ es) (run-cut os (act q (o .task) (o .op) .queue))
   where
     seen : Done → Event
-    seen d = record { task = o .task; op = o .op; outcome = d .outcome; before = q .tables .control .anchor; after = d .queue .tables .control .anchor }
+    seen d = record { task = o .task; op = o .op; outcome = d .outcome;
+        before = q .tables .control .anchor; after = d .queue .tables .control .anchor }
 
 pub final-cut : (os : List Request) (q : Queue) → final (cut q) os ≡ cut (final q os)
 unfolding final
@@ -165,7 +183,8 @@ along-cut slots links labels last zero x = refl
 along-cut slots links labels last (suc n) x = split (from1 slots x)
     (λ e. let low = from1-true slots x e .1 in
     rw (e, get-take (suc slots) labels x 0 (omega arith), get-take (suc slots) links x 0 (omega arith))
-    (ap (λ (w : Walk). cond (eqb x last) (entries (record { slot = x; label = getD labels x 0 } ∷ [])) (andThen (record { slot = x; label = getD labels x 0 }) (cond (linkSound slots (getD links x 0)) w broken)))
+    (ap (λ (w : Walk). cond (eqb x last) (entries (record { slot = x; label = getD labels x 0 } ∷ []))
+    (andThen (record { slot = x; label = getD labels x 0 }) (cond (linkSound slots (getD links x 0)) w broken)))
     (along-cut slots links labels last n (linkOf (getD links x 0) .slot))))
     (λ e. rw e)
 
@@ -178,7 +197,11 @@ contents-cut q =
     ap (λ (w : Walk). cond (isEmpty a) (entries []) (walkFrom side w)) (go (eqb (opposite side) 1))
   where
     go : (d : Bool)
-        → along (q .control .slots) (cond d (cutTables q .rights) (cutTables q .lefts)) (cutTables q .labels) (far (whence (anchorOf (q .control .anchor) .status)) (anchorOf (q .control .anchor))) (q .control .slots) (near (whence (anchorOf (q .control .anchor) .status)) (anchorOf (q .control .anchor)))
-        ≡ along (q .control .slots) (cond d (q .rights) (q .lefts)) (q .labels) (far (whence (anchorOf (q .control .anchor) .status)) (anchorOf (q .control .anchor))) (q .control .slots) (near (whence (anchorOf (q .control .anchor) .status)) (anchorOf (q .control .anchor)))
+        → along (q .control .slots) (cond d (cutTables q .rights) (cutTables q .lefts)) (cutTables q .labels)
+        (far (whence (anchorOf (q .control .anchor) .status)) (anchorOf (q .control .anchor)))
+        (q .control .slots) (near (whence (anchorOf (q .control .anchor) .status)) (anchorOf (q .control .anchor)))
+        ≡ along (q .control .slots) (cond d (q .rights) (q .lefts)) (q .labels)
+        (far (whence (anchorOf (q .control .anchor) .status)) (anchorOf (q .control .anchor)))
+        (q .control .slots) (near (whence (anchorOf (q .control .anchor) .status)) (anchorOf (q .control .anchor)))
     go true = along-cut (q .control .slots) (q .rights) (q .labels) _ (q .control .slots) _
     go false = along-cut (q .control .slots) (q .lefts) (q .labels) _ (q .control .slots) _

@@ -120,5 +120,6 @@ module _ (p : Past) (q : Queue) (h : Explained p q) where
       ∙ ap (λ (n : ℕ). eqb n 1) (sym (final-pooled (p .since) (p .opened)) ∙ ap (λ (c : Control). c .pooled) (sym same-control))
       ∙ e
 
-  pub has-named : (P : Queue → List Request → Type 0) → AfterOpeningAs false P → isPooled (q .tables .control) ≡ false → P (p .opened) (p .since)
+  pub has-named : (P : Queue → List Request → Type 0) → AfterOpeningAs false P
+      → isPooled (q .tables .control) ≡ false → P (p .opened) (p .since)
   has-named P x e = past-has P (if-named P x (t .pooled) (is-named e))

@@ -87,7 +87,8 @@ module _ (w : World) (h : Holds w) where
   unfolding saveRefusal
   save-never n =
       let c = w .queue .tables .control in
-      save-sound (controlSound c) (not (leb n 7)) (not (bothHold c (w .queue) (w .shelves) n)) (stands (w .past) (w .queue) (h .now) .control)
+      save-sound (controlSound c) (not (leb n 7))
+      (not (bothHold c (w .queue) (w .shelves) n)) (stands (w .past) (w .queue) (h .now) .control)
 
   return-never : (n : ℕ) → returnRefusal (w .queue) (w .shelves) n ≢ 34
   unfolding returnRefusal
@@ -113,7 +114,8 @@ module _ (w : World) (h : Holds w) where
   promised = record {
     served = record { calls = all-served (w .past) (w .queue) (h .now); waits = stands (w .past) (w .queue) (h .now) .walk };
     sound = sound;
-    retries = λ low. counts (w .past) (w .queue) (h .now) ∙ past-has (w .past) (w .queue) (h .now) SumIsOld (retries-sum (h .now .true .pooled)) low;
+    retries = λ low. counts (w .past) (w .queue) (h .now)
+        ∙ past-has (w .past) (w .queue) (h .now) SumIsOld (retries-sum (h .now .true .pooled)) low;
     progress = progresses w h;
     accounted = λ count. past-has (w .past) (w .queue) (h .now) (Accounted count) (accounted count (h .now .true .pooled));
   }

@@ -74,7 +74,8 @@ open-refused : (q : Queue) (pooled : Bool) (tasks slots tag : ℕ) → eqb (open
 unfolding openAs
 open-refused q pooled tasks slots tag e = rw e
 
-return-refused : (w : World) (n : ℕ) → eqb (returnRefusal (w .queue) (w .shelves) n) 0 ≡ false → returned (w .queue) (w .shelves) n ≡ w .queue
+return-refused : (w : World) (n : ℕ) → eqb (returnRefusal (w .queue) (w .shelves) n) 0 ≡ false
+    → returned (w .queue) (w .shelves) n ≡ w .queue
 unfolding returned
 return-refused w n e = rw e
 

@@ -33,7 +33,8 @@ pub record NeverUnsound (w : World) : Type 0 where
   pub saving : (n : ℕ) → saveRefusal (w .queue) (w .shelves) n ≢ 34
   pub returning : (n : ℕ) → returnRefusal (w .queue) (w .shelves) n ≢ 34
 
--- #108, for a queue with named slots: a busy task alone answers within its limit; a stretch of 26 times its tasks holds an effect or an answer.
+-- #108, for a queue with named slots: a busy task alone answers within its limit; a stretch of 26 times its tasks holds
+-- an effect or an answer.
 pub record Progresses (w : World) : Type 0 where
   pub solo : (t n : ℕ) → Busy (w .queue) t → let most = limit (recordAt (w .queue) t .kind) in
       most ≤ n → AnsweredWithin most (soloRun n (w .queue) t)

@@ -62,7 +62,8 @@ withShelf s n q = record {
 abbrev pub over : {A : Type 0} → ℕ → List A → List A → List A
 over k from to = take k from ++ drop k to
 
--- A queue put over another: control whole, the records of its tasks, rows 0 to slots, their mark words; the next table of a pooled queue alone.
+-- A queue put over another: control whole, the records of its tasks, rows 0 to slots, their mark words; the next table of
+-- a pooled queue alone.
 unfoldable pub copied : Queue → Queue → Queue
 copied from to =
     let c = from .tables .control in
@@ -96,7 +97,8 @@ saveRules q s n =
 unfoldable pub saveRefusal : Queue → Shelves → ℕ → ℕ
 saveRefusal q s n = first (saveRules q s n)
 
--- A return: 43, 44 where the shelf was never filled, 34 for the shelf's control and Anchor, 12. It does not look at the queue's own control.
+-- A return: 43, 44 where the shelf was never filled, 34 for the shelf's control and Anchor, 12. It does not look at the
+-- queue's own control.
 abbrev pub returnRules : Queue → Shelves → ℕ → List Rule
 returnRules q s n =
     let c = shelfAt s n .tables .control in
