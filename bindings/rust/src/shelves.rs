@@ -188,7 +188,7 @@ impl Queue {
     /// queue.save(&mut shelves, 5)?; // in the middle of the push
     /// assert_eq!(queue.finish(0)?, Answer::Pushed);
     /// queue.return_to(&shelves, 5)?; // that answer now belongs to no history
-    /// assert_eq!(queue.report()?.waiting, 0);
+    /// assert_eq!(queue.report().waiting, 0);
     /// assert_eq!(queue.finish(0)?, Answer::Pushed);
     /// assert_eq!(queue.return_to(&shelves, 4), Err(Refusal::Unfilled));
     /// # Ok::<(), Refusal>(())

@@ -200,7 +200,10 @@ fn lent_tables_and_a_lent_record() {
 #[test]
 fn refusals_have_their_numbers() {
     let known: Vec<u64> = (0..100).filter(|&n| Refusal::numbered(n).is_some()).collect();
-    assert_eq!(known, [10, 11, 12, 13, 14, 15, 30, 31, 32, 33, 34, 40, 41, 42, 43, 44, 45, 46, 47, 48]);
+    assert_eq!(
+        known,
+        [10, 11, 12, 13, 14, 15, 30, 31, 32, 33, 34, 40, 41, 42, 43, 44, 45, 46, 47, 48]
+    );
     assert_eq!(Refusal::Worn.to_string(), "33: the Anchor tag is too high for another start");
 }
 
