@@ -1,4 +1,4 @@
-/* Saving and returning of reference.c's kind: by hand in C, with the arguments of zc_save and zc_return. */
+/* Shelves of reference.c's kind: by hand in C, with the arguments of zc_save and zc_return. */
 #ifndef SHELF_REFERENCE_H
 #define SHELF_REFERENCE_H
 

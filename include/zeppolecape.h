@@ -71,7 +71,7 @@
  *   zc_run            672      2552      4196      4850
  *   zc_report         112       234       512     27353
  *   table bytes         -       240       816     30120
- *   code bytes: audit 1804, capi 10181, capi_record 6077, capi_run 6516, find 3570, join 3458, schedule 12034, sheet 3512
+ *   code bytes: audit 1804, capi 10181, capi_record 6077, capi_run 6516, find 3570, join 3458, schedule 12034, sheet 3512, shelf 3744
  * As to the machine: x86-64, System V calling convention. The code uses the red zone (128 bytes
  * below the stack pointer) and SSE registers, no AVX: an interrupt handler that makes a call saves
  * the SSE state first, and an interrupt that is not masked during a call leaves the red zone alone.
@@ -961,7 +961,7 @@ typedef struct zc_shelves {
  */
 #define ZC_SHELF_STORAGE(name, tasks, slots)                                                       \
     ZC_SHELVES_OF(name, tasks, slots, uint64_t next[ZC_SHELVES][ZC_ROWS(slots)];                   \
-                  , name##_tables.next[0], ZC_SHELVES *ZC_ROWS(slots))
+                  , name##_tables.next[0], ZC_SHELVES * ZC_ROWS(slots))
 #define ZC_NAMED_SHELF_STORAGE(name, tasks, slots) ZC_SHELVES_OF(name, tasks, slots, , NULL, 0)
 
 /* Both of these; the next table is declared, lent and counted by the last three. */
@@ -976,11 +976,13 @@ typedef struct zc_shelves {
         declared uint32_t labels[ZC_SHELVES][ZC_ROWS(slots)];                                      \
     } name##_tables;                                                                               \
     static const zc_shelves name = {                                                               \
-        name##_tables.controls,  ZC_SHELVES,                        name##_tables.records[0],      \
-        ZC_SHELVES * (tasks),    name##_tables.lefts[0],            ZC_SHELVES * ZC_ROWS(slots),   \
-        name##_tables.rights[0], ZC_SHELVES * ZC_ROWS(slots),       name##_tables.labels[0],       \
-        ZC_SHELVES * ZC_ROWS(slots), name##_tables.marks[0],        ZC_SHELVES * ZC_MARK_WORDS(slots), \
-        lent,                    count,                                                            \
+        name##_tables.controls,  ZC_SHELVES,                                                       \
+        name##_tables.records[0], ZC_SHELVES * (tasks),                                            \
+        name##_tables.lefts[0],  ZC_SHELVES * ZC_ROWS(slots),                                      \
+        name##_tables.rights[0], ZC_SHELVES * ZC_ROWS(slots),                                      \
+        name##_tables.labels[0], ZC_SHELVES * ZC_ROWS(slots),                                      \
+        name##_tables.marks[0],  ZC_SHELVES * ZC_MARK_WORDS(slots),                                \
+        lent, count,                                                                               \
     }
 
 #ifndef ZC_CORE_ONLY

@@ -46,7 +46,7 @@ int main(void)
     zc_queue_open_pooled(&line, TASKS, SLOTS, 0);
     weigh(301);
     weigh(302);
-    zc_queue_push_pooled(&line, SCALE, ZC_RIGHT, 303); /* the scale stops in the middle of its push */
+    zc_queue_push_pooled(&line, SCALE, ZC_RIGHT, 303); /* it stops in the middle */
     zc_queue_step(&line, SCALE);
     zc_queue_step(&line, SCALE);
     said("back to an empty shelf", zc_queue_return(&line, &shelves, CHEESE));

@@ -87,7 +87,8 @@ counts() { # WHAT COMMAND..
 
 part_header() {
     printf '#include "zeppolecape.h"\nZC_QUEUE_STORAGE(queue, 2, 3);\nZC_NAMED_STORAGE(named, 2, 3);\n' >"$work/alone.c"
-    printf 'uint64_t used(void);\nuint64_t used(void) { return zc_queue_free_slot(&queue) + zc_queue_free_slot(&named); }\n' >>"$work/alone.c"
+    printf 'ZC_SHELF_STORAGE(shelves, 2, 3);\nZC_NAMED_SHELF_STORAGE(few, 2, 3);\n' >>"$work/alone.c"
+    printf 'uint64_t used(void);\nuint64_t used(void) { return zc_queue_free_slot(&queue) + zc_queue_free_slot(&named) + shelves.left_count + few.next_count; }\n' >>"$work/alone.c"
     for standard in c11 c17; do
         holds "header as $standard" $CC -std=$standard $WARNINGS -Wconversion -Iinclude -fsyntax-only "$work/alone.c"
     done
@@ -104,7 +105,7 @@ part_header() {
     holds "header for the core alone" $CC -fkeep-inline-functions -Iinclude -c "$work/core.c" -o "$work/core.o"
     holds "the core's calls" test "$(nm -u "$work/core.o" | tr -d ' U' | sort | tr '\n' ' ')" = 'zc_open zc_open_pooled zc_pop zc_push zc_push_pooled zc_report zc_step '
     # The macros refuse what the opening would.
-    for macro in ZC_QUEUE_STORAGE ZC_NAMED_STORAGE; do
+    for macro in ZC_QUEUE_STORAGE ZC_NAMED_STORAGE ZC_SHELF_STORAGE ZC_NAMED_SHELF_STORAGE; do
         for sizes in 0,3 17,3 2,0 2,1024; do
             printf '#include "zeppolecape.h"\n%s(queue, %s);\n' $macro $sizes >"$work/storage.c"
             holds "no $macro for $sizes" sh -c "! $CC -Iinclude -fsyntax-only $work/storage.c"

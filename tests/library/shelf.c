@@ -1,8 +1,8 @@
 /*
- * Shelves against the same calls by hand in C (bench/shelf_reference.c): any queue, sound or damaged, in
- * tables of any length, saved on any shelf and returned to from other tables. Every byte is compared,
- * those beyond the lengths and those of the other shelves too. What is returned to then goes on, call
- * by call, as the queue that was saved (bench/reference.c).
+ * Shelves against the same calls by hand in C (bench/shelf_reference.c): any queue, sound or
+ * damaged, in tables of any length, saved on any shelf and returned to from other tables. Every byte
+ * is compared, those beyond the lengths and those of the other shelves too. What is returned to then
+ * goes on, call by call, as the queue that was saved (bench/reference.c).
  *
  *     shelf ROUNDS [SEED]
  */
@@ -264,5 +264,7 @@ int main(int count, char **words)
         printf("\n");
     }
     printf("went on alike: %llu\n", (unsigned long long)went_on);
-    return rounds >= 5000 && (shelves_used != 255 || went_on == 0) ? fail(rounds, "a shelf was never used") : 0;
+    if (rounds >= 5000 && (shelves_used != 255 || went_on == 0))
+        return fail(rounds, "a shelf was never used");
+    return 0;
 }

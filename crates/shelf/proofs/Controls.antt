@@ -40,13 +40,17 @@ uppers-map (ws ∷ rows) = ap (λ (l : List ℕ). upperOf ws ∷ l) (uppers-map 
 
 module _ (n k : ℕ) (from to : List (List ℕ)) where
   pub put-records : recordsOf (putOn n k from to) ≡ putOn n k (recordsOf from) (recordsOf to)
-  put-records = records-map (putOn n k from to) ∙ map-put recordOf n k from to ∙ (λ i. putOn n k (sym (records-map from) i) (sym (records-map to) i))
+  put-records = records-map (putOn n k from to) ∙ map-put recordOf n k from to
+      ∙ (λ i. putOn n k (sym (records-map from) i) (sym (records-map to) i))
 
   pub put-uppers : uppersOf (putOn n k from to) ≡ putOn n k (uppersOf from) (uppersOf to)
-  put-uppers = uppers-map (putOn n k from to) ∙ map-put upperOf n k from to ∙ (λ i. putOn n k (sym (uppers-map from) i) (sym (uppers-map to) i))
+  put-uppers = uppers-map (putOn n k from to) ∙ map-put upperOf n k from to
+      ∙ (λ i. putOn n k (sym (uppers-map from) i) (sym (uppers-map to) i))
 
   pub back-records : recordsOf (putBack n k from to) ≡ putBack n k (recordsOf from) (recordsOf to)
-  back-records = records-map (putBack n k from to) ∙ map-back recordOf n k from to ∙ (λ i. putBack n k (sym (records-map from) i) (sym (records-map to) i))
+  back-records = records-map (putBack n k from to) ∙ map-back recordOf n k from to
+      ∙ (λ i. putBack n k (sym (records-map from) i) (sym (records-map to) i))
 
   pub back-uppers : uppersOf (putBack n k from to) ≡ putBack n k (uppersOf from) (uppersOf to)
-  back-uppers = uppers-map (putBack n k from to) ∙ map-back upperOf n k from to ∙ (λ i. putBack n k (sym (uppers-map from) i) (sym (uppers-map to) i))
+  back-uppers = uppers-map (putBack n k from to) ∙ map-back upperOf n k from to
+      ∙ (λ i. putBack n k (sym (uppers-map from) i) (sym (uppers-map to) i))

@@ -74,7 +74,8 @@ module _ {A : Type 0} where
   rejoined (suc k) (suc s) (x ∷ l) h = rejoined k s l (omega arith)
 
   -- What is put at a shelf's part is put over that part.
-  pub put-is : (n k : ℕ) (from to : List A) → n ≤ 7 → k ≤ length from → k ≤ share to → putOn n k from to ≡ withPart n to (over k from (part n to))
+  pub put-is : (n k : ℕ) (from to : List A) → n ≤ 7 → k ≤ length from
+      → k ≤ share to → putOn n k from to ≡ withPart n to (over k from (part n to))
   unfolding putOn pasted withPart part
   put-is n k from to h f g =
       let a = n * share to in
@@ -138,18 +139,22 @@ module _ {A B : Type 0} (f : A → B) where
   map-drop (suc n) [] = refl
   map-drop (suc n) (x ∷ l) = map-drop n l
 
-  map-pasted : (from : List A) (start : ℕ) (to : List A) (at k : ℕ) → map f (pasted from start to at k) ≡ pasted (map f from) start (map f to) at k
+  map-pasted : (from : List A) (start : ℕ) (to : List A) (at k : ℕ)
+      → map f (pasted from start to at k) ≡ pasted (map f from) start (map f to) at k
   unfolding pasted
   map-pasted from start to at k =
       map-app (take at to ++ take k (drop start from)) (drop (at + k) to)
       ∙ ap (λ (m : List B). m ++ map f (drop (at + k) to)) (map-app (take at to) (take k (drop start from)))
-      ∙ (λ i. map-take at to i ++ (map-take k (drop start from) ∙ ap (λ (m : List B). take k m) (map-drop start from)) i ++ map-drop (at + k) to i)
+      ∙ (λ i. map-take at to i
+      ++ (map-take k (drop start from) ∙ ap (λ (m : List B). take k m) (map-drop start from)) i
+      ++ map-drop (at + k) to i)
 
   pub map-put : (n k : ℕ) (from to : List A) → map f (putOn n k from to) ≡ putOn n k (map f from) (map f to)
   unfolding putOn
   map-put n k from to = rw (length-map from f, length-map to f) (go (leb n 7 && leb k (length from) && leb k (share to)))
     where
-      go : (b : Bool) → map f (cond b (pasted from 0 to (n * share to) k) to) ≡ cond b (pasted (map f from) 0 (map f to) (n * share to) k) (map f to)
+      go : (b : Bool) → map f (cond b (pasted from 0 to (n * share to) k) to)
+          ≡ cond b (pasted (map f from) 0 (map f to) (n * share to) k) (map f to)
       go true = map-pasted from 0 to (n * share to) k
       go false = refl
 
@@ -157,6 +162,7 @@ module _ {A B : Type 0} (f : A → B) where
   unfolding putBack
   map-back n k from to = rw (length-map from f, length-map to f) (go (leb n 7 && leb k (share from) && leb k (length to)))
     where
-      go : (b : Bool) → map f (cond b (pasted from (n * share from) to 0 k) to) ≡ cond b (pasted (map f from) (n * share from) (map f to) 0 k) (map f to)
+      go : (b : Bool) → map f (cond b (pasted from (n * share from) to 0 k) to)
+          ≡ cond b (pasted (map f from) (n * share from) (map f to) 0 k) (map f to)
       go true = map-pasted from (n * share from) to 0 k
       go false = refl

@@ -12,7 +12,14 @@ use Rattle.shelf.specs.declared.refusal.Extents.{Extents}
 
 -- A shelf's part of each table.
 abbrev pub eighth : Extents → Extents
-eighth t = record { records = t .records / 8; lefts = t .lefts / 8; rights = t .rights / 8; labels = t .labels / 8; marks = t .marks / 8; next = t .next / 8 }
+eighth t = record {
+  records = t .records / 8;
+  lefts = t .lefts / 8;
+  rights = t .rights / 8;
+  labels = t .labels / 8;
+  marks = t .marks / 8;
+  next = t .next / 8;
+}
 
 -- 12, for one side, and for both.
 unfoldable pub extentsFit : Control → Extents → Bool

@@ -61,13 +61,16 @@ pub extern "C" fn zc_save(
         ⌜ _≡_ {A = Saved}
         (record {
           code = r;
-          shelves = shelvesIn (now (controls8 .exit)) (now (records8 .exit)) (now (lefts8 .exit)) (now (rights8 .exit)) (now (labels8 .exit)) (now (marks8 .exit)) (now (next8 .exit));
+          shelves = shelvesIn (now (controls8 .exit)) (now (records8 .exit)) (now (lefts8 .exit)) (now (rights8 .exit))
+              (now (labels8 .exit)) (now (marks8 .exit)) (now (next8 .exit));
           uppers = uppersOf (now (records8 .exit));
         })
         (saving
-        (queueIn (now (control .entry)) (now (records .entry)) (now (lefts .entry)) (now (rights .entry)) (now (labels .entry)) (now (marks .entry)) (now (next .entry)))
+        (queueIn (now (control .entry)) (now (records .entry)) (now (lefts .entry)) (now (rights .entry))
+        (now (labels .entry)) (now (marks .entry)) (now (next .entry)))
         (uppersOf (now (records .entry)))
-        (shelvesIn (now (controls8 .entry)) (now (records8 .entry)) (now (lefts8 .entry)) (now (rights8 .entry)) (now (labels8 .entry)) (now (marks8 .entry)) (now (next8 .entry)))
+        (shelvesIn (now (controls8 .entry)) (now (records8 .entry)) (now (lefts8 .entry)) (now (rights8 .entry))
+        (now (labels8 .entry)) (now (marks8 .entry)) (now (next8 .entry)))
         (uppersOf (now (records8 .entry)))
         shelf) ⌝ }
 {
@@ -135,13 +138,16 @@ pub extern "C" fn zc_return(
         ⌜ _≡_ {A = Returned}
         (record {
           code = r;
-          queue = queueIn (now (control .exit)) (now (records .exit)) (now (lefts .exit)) (now (rights .exit)) (now (labels .exit)) (now (marks .exit)) (now (next .exit));
+          queue = queueIn (now (control .exit)) (now (records .exit)) (now (lefts .exit)) (now (rights .exit))
+              (now (labels .exit)) (now (marks .exit)) (now (next .exit));
           uppers = uppersOf (now (records .exit));
         })
         (returning
-        (queueIn (now (control .entry)) (now (records .entry)) (now (lefts .entry)) (now (rights .entry)) (now (labels .entry)) (now (marks .entry)) (now (next .entry)))
+        (queueIn (now (control .entry)) (now (records .entry)) (now (lefts .entry)) (now (rights .entry))
+        (now (labels .entry)) (now (marks .entry)) (now (next .entry)))
         (uppersOf (now (records .entry)))
-        (shelvesIn (now (controls8 .entry)) (now (records8 .entry)) (now (lefts8 .entry)) (now (rights8 .entry)) (now (labels8 .entry)) (now (marks8 .entry)) (now (next8 .entry)))
+        (shelvesIn (now (controls8 .entry)) (now (records8 .entry)) (now (lefts8 .entry)) (now (rights8 .entry))
+        (now (labels8 .entry)) (now (marks8 .entry)) (now (next8 .entry)))
         (uppersOf (now (records8 .entry)))
         shelf) ⌝ }
 {

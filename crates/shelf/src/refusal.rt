@@ -62,9 +62,9 @@ pub fn save_refusal(
 ) -> u32
     ensures { λ n. ⌜ n ≡ saveNumber c shelf queue shelves controls ⌝ }
 {
-    let control = sound::control_sound(c);
+    let queue_sound = sound::control_sound(c);
     let fit = both_hold(c, queue, shelves, controls);
-    if !control {
+    if !queue_sound {
         return 34;
     }
     if 7 < shelf {
@@ -86,7 +86,7 @@ pub fn return_refusal(
 ) -> u32
     ensures { λ n. ⌜ n ≡ returnNumber c shelf queue shelves controls ⌝ }
 {
-    let control = sound::control_sound(c);
+    let shelf_sound = sound::control_sound(c);
     let fit = both_hold(c, queue, shelves, controls);
     if 7 < shelf {
         return 43;
@@ -94,7 +94,7 @@ pub fn return_refusal(
     if c.tasks == 0 {
         return 44;
     }
-    if !control {
+    if !shelf_sound {
         return 34;
     }
     if !fit {

@@ -36,8 +36,13 @@ pub fits-cut : (q : Tables) → rowsFit (isPooled (q .control)) (q .control .slo
 unfolding rowsFit
 fits-cut q =
     let n = q .control .slots in
-    rw (longer-take n (q .lefts), longer-take n (q .rights), longer-take n (q .labels), longer-take (n / 64) (q .marks),
-    next-fits (isPooled (q .control)) n (q .next))
+    rw (
+      longer-take n (q .lefts),
+      longer-take n (q .rights),
+      longer-take n (q .labels),
+      longer-take (n / 64) (q .marks),
+      next-fits (isPooled (q .control)) n (q .next),
+    )
 
 -- Stores: a touch of a row, within the slots where it is a mark.
 abbrev Within : ℕ → Touch → Type 0

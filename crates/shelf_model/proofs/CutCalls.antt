@@ -104,8 +104,11 @@ unknown q p r (Pop side) e = rw
     (e, not-zero (not (controlSound (q .control))) (not (rowsFit (isPooled (q .control)) (q .control .slots) q && p .enough)))
 unknown q p r (Put side label) e = rw
     (e, not-zero (not (controlSound (q .control))) (not (rowsFit (isPooled (q .control)) (q .control .slots) q && p .enough)))
-unknown q p r Step e = rw (e, not-zero (not (controlSound (q .control)))
-    (not (rowsFit (isPooled (q .control)) (q .control .slots) q && p .enough)))
+unknown q p r Step e = rw (
+  e,
+  not-zero (not (controlSound (q .control)))
+      (not (rowsFit (isPooled (q .control)) (q .control .slots) q && p .enough)),
+)
 
 among-cut : (q : Queue) (t : ℕ) → among (cut q) t ≡ among q t
 among-cut q t = λ i. record { enough = enough-take (q .tables .control .tasks) (q .records) i; known = ltb t (q .tables .control .tasks) }
@@ -117,9 +120,11 @@ cutDone d = record { queue = cut (d .queue); outcome = d .outcome }
 back-cut : (q : Queue) (t : ℕ) (a : Acted) → a .tables .control .tasks ≡ q .tables .control .tasks
     → back (cut q) t (cutActed a) ≡ cutDone (back q t a)
 back-cut q t a e = λ i. record {
-  queue = record { tables = cutTables (a .tables);
-      records = (set-take (q .tables .control .tasks) (q .records) t (a .task)
-      ∙ ap (λ (n : ℕ). take n (set (q .records) t (a .task))) (sym e)) i };
+  queue = record {
+    tables = cutTables (a .tables);
+    records = (set-take (q .tables .control .tasks) (q .records) t (a .task)
+        ∙ ap (λ (n : ℕ). take n (set (q .records) t (a .task))) (sym e)) i;
+  };
   outcome = a .outcome;
 }
 
@@ -129,8 +134,10 @@ absent-act : (q : Queue) (t : ℕ) (o : Op) → ltb t (q .tables .control .tasks
 unfolding act
 absent-act q t o e =
     ap (back q t) (unknown (q .tables) (among q t) (taskAt q t) o e)
-    ∙ (λ i. record { queue = record { tables = q .tables; records = set-getD (q .records) t unused i };
-    outcome = Refused (unknownBy (q .tables) (among q t)) })
+    ∙ (λ i. record {
+      queue = record { tables = q .tables; records = set-getD (q .records) t unused i };
+      outcome = Refused (unknownBy (q .tables) (among q t));
+    })
 
 unknown-cut : (q : Queue) (t : ℕ) → unknownBy (cutTables (q .tables)) (among (cut q) t) ≡ unknownBy (q .tables) (among q t)
 unknown-cut q t = ap (λ (p : Lent). unknownBy (cutTables (q .tables)) p) (among-cut q t)
@@ -166,8 +173,13 @@ run-cut (o ∷ os) q =
     ∙ ap (λ (es : List Event). seen (act q (o .task) (o .op)) ∷ es) (run-cut os (act q (o .task) (o .op) .queue))
   where
     seen : Done → Event
-    seen d = record { task = o .task; op = o .op; outcome = d .outcome;
-        before = q .tables .control .anchor; after = d .queue .tables .control .anchor }
+    seen d = record {
+      task = o .task;
+      op = o .op;
+      outcome = d .outcome;
+      before = q .tables .control .anchor;
+      after = d .queue .tables .control .anchor;
+    }
 
 pub final-cut : (os : List Request) (q : Queue) → final (cut q) os ≡ cut (final q os)
 unfolding final

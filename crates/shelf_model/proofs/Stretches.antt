@@ -53,7 +53,7 @@ pub solo-alike : (n most : ℕ) (q p : Queue) (t : ℕ) → t < q .tables .contr
     → AnsweredWithin most (soloRun n p t) → AnsweredWithin most (soloRun n q t)
 solo-alike n most q p t h g e a =
     let same : cutSolo (soloRun n p t) ≡ cutSolo (soloRun n q t) =
-        sym (solo-cut n p t g) ∙ ap (λ (x : Queue). soloRun n x t) (sym e) ∙ solo-cut n q t h in
+    sym (solo-cut n p t g) ∙ ap (λ (x : Queue). soloRun n x t) (sym e) ∙ solo-cut n q t h in
     let z = subst (AnsweredWithin most) same (record { answered = a .answered; within = a .within }) in
     record { answered = z .answered; within = z .within }
 
