@@ -1,26 +1,24 @@
 -- After any openings, starts, steps, savings and returns a queue is, within its lengths, what its past leaves.
-use mathlib.Core.Bool.{Bool, true, _&&_, cond}
+use mathlib.Core.Bool.{Bool, true, cond}
 use mathlib.Core.List.{List, [], _∷_, _++_}
 use mathlib.Core.Logic.{_≢_, _⊎_, inl, inr}
 use mathlib.Core.Path.{_≡_, _∙_, ap, refl, subst, sym}
 use Prim.Native.Nat.{ℕ, _≤_}
-use lib.Dec.{eqb, leb}
-use lib.ListN.{length}
-use borrow.Author.Tests.{eq-eqb, eqb-false, eqb-true, leb-true, ne-eqb, not-false}
+use lib.Dec.{eqb}
+use borrow.Author.Tests.{eq-eqb, eqb-true, ne-eqb}
 use Rattle.model.specs.declared.Opening.the-variants.{Opened}
 use Rattle.model.specs.Tables.{Queue}
 use Rattle.model.specs.Refusals.{openRefusal}
 use Rattle.model.specs.Calls.{Done, act, openAs, opened}
 use Rattle.model.specs.History.{Event, Request, final, run}
-use Rattle.model.proofs.tests.Rules.{cleared}
-use Rattle.model.proofs.tests.Truth.{and-true, decide-eq, split}
+use Rattle.model.proofs.tests.Truth.{decide-eq, split}
 use Rattle.shelf_model.specs.Cut.{cut}
-use Rattle.shelf_model.specs.Shelves.{Shelves, copied, holds, shelfAt, withShelf}
-use Rattle.shelf_model.specs.Shelves.{returnRefusal, returnRules, returned, saveRefusal, saveRules, saved}
+use Rattle.shelf_model.specs.Shelves.{Shelves, copied, returnRefusal, returned, saveRefusal, saved, shelfAt, withShelf}
 use Rattle.shelf_model.specs.Changeovers.{Action, asks, opens, returns, saves}
 use Rattle.shelf_model.specs.Changeovers.{Changeovers, Explained, Holds, Past, World, after, begins, continues, does, shown}
 use Rattle.shelf_model.proofs.CutCalls.{act-cut}
-use Rattle.shelf_model.proofs.Copied.{Long, cut-copied, long, shelf-other, shelf-same}
+use Rattle.shelf_model.proofs.Copied.{cut-copied, shelf-other, shelf-same}
+use Rattle.shelf_model.proofs.Accepted.{Fits, return-filled, return-fits, save-fits}
 
 -- One request more.
 run-more : (os : List Request) (q : Queue) (o : Request) → run q (os ++ (o ∷ [])) ≡ run q os ++ (shown (final q os) o ∷ [])
@@ -95,17 +93,11 @@ module _ (w : World) (k : Holds w) (n : ℕ) (e : saveRefusal (w .queue) (w .she
   abbrev new : Queue
   new = copied q (shelfAt s n)
 
-  passed : (n ≤ 7) × Long (q .tables .control) q × Long (q .tables .control) (shelfAt s n) × (8 ≤ length (s .controls))
-  unfolding saveRefusal
-  passed =
-      let z = cleared (saveRules q s n) refl e in
-      let c = q .tables .control in
-      let y = and-true (holds c q && holds c (shelfAt s n)) (leb 8 (length (s .controls))) (not-false _ (z .1 .1 .0)) in
-      let x = and-true (holds c q) (holds c (shelfAt s n)) (y .0) in
-      (leb-true _ _ (not-false _ (z .1 .0)), long c q (x .0), long c (shelfAt s n) (x .1), leb-true _ _ (y .1))
+  passed : Fits (q .tables .control) q s n
+  passed = save-fits q s n e
 
   new-told : Explained (w .past) new
-  new-told = record { true = k .now .true; left = cut-copied q (shelfAt s n) (passed .1) ∙ k .now .left }
+  new-told = record { true = k .now .true; left = cut-copied q (shelfAt s n) (passed .here) ∙ k .now .left }
 
   put-told : (m : ℕ) → m ≤ 7 → shelfAt (withShelf s n new) m .tables .control .tasks ≢ 0
       → Explained (cond (eqb m n) (w .past) (w .stored m)) (shelfAt (withShelf s n new) m)
@@ -113,25 +105,20 @@ module _ (w : World) (k : Holds w) (n : ℕ) (e : saveRefusal (w .queue) (w .she
     where
       go : (m ≡ n) ⊎ (m ≢ n) → Explained (cond (eqb m n) (w .past) (w .stored m)) (shelfAt (withShelf s n new) m)
       go (inl z) =
-          let same = shelf-same q s n (passed .0) (passed .1) (passed .2) (passed .3) in
+          let same = shelf-same q s n (passed .low) (passed .here) (passed .there) (passed .eight) in
           rw (eq-eqb m n z) (subst (λ (x : Queue). Explained (w .past) x) (sym (ap (shelfAt (withShelf s n new)) z ∙ same)) new-told)
       go (inr z) =
-          let same = shelf-other q s n (passed .0) (passed .1) (passed .2) (passed .3) m g z in
+          let same = shelf-other q s n (passed .low) (passed .here) (passed .there) (passed .eight) m g z in
           let filled = subst (λ (x : Queue). x .tables .control .tasks ≢ 0) same h in
           rw (ne-eqb m n z) (subst (λ (x : Queue). Explained (w .stored m) x) (sym same) (k .shelved m g filled))
 
 -- A return.
 module _ (w : World) (k : Holds w) (n : ℕ) (e : returnRefusal (w .queue) (w .shelves) n ≡ 0) where
   back-told : Explained (w .stored n) (copied (shelfAt (w .shelves) n) (w .queue))
-  unfolding returnRefusal
   back-told =
-      let z = cleared (returnRules (w .queue) (w .shelves) n) refl e in
-      let f = shelfAt (w .shelves) n in
-      let c = f .tables .control in
-      let y = and-true (holds c (w .queue) && holds c f) (leb 8 (length (w .shelves .controls))) (not-false _ (z .1 .1 .1 .0)) in
-      let x = and-true (holds c (w .queue)) (holds c f) (y .0) in
-      let t = k .shelved n (leb-true _ _ (not-false _ (z .0))) (eqb-false _ _ (z .1 .0)) in
-      record { true = t .true; left = cut-copied f (w .queue) (long c f (x .1)) ∙ t .left }
+      let f = return-fits (w .queue) (w .shelves) n e in
+      let t = k .shelved n (f .low) (return-filled (w .queue) (w .shelves) n e) in
+      record { true = t .true; left = cut-copied (shelfAt (w .shelves) n) (w .queue) (f .there) ∙ t .left }
 
 does-kept : (a : Action) (w : World) → Holds w → Holds (does w a)
 unfolding does openAs saved returned

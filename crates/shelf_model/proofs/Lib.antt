@@ -3,6 +3,8 @@ pub mod Parts
 pub mod Cut
 pub mod CutCalls
 pub mod Copied
+pub mod Accepted
+pub mod Laws
 pub mod Stretches
 pub mod Changeovers
 pub mod Pasts
