@@ -61,17 +61,17 @@
  * FACTS, the most that bench/facts.sh saw over random calls; memset's instructions are not counted:
  *                  stack,   instructions at most, by tasks and slots
  *                  bytes      1, 3     5, 12  16, 1023
- *   zc_open            88        88        88        88
- *   zc_open_pooled     88       125       181      6255
- *   zc_push           360       318       318       318
- *   zc_push_pooled    360       288       288       288
- *   zc_pop            360       283       283       283
- *   zc_step           624       359       357       357
- *   zc_step_record    640       343       338       338
- *   zc_run            672      2552      4196      4850
- *   zc_report         112       234       512     27353
+ *   zc_open            88        78        78        78
+ *   zc_open_pooled     88       111       167      6241
+ *   zc_push           352       300       300       300
+ *   zc_push_pooled    344       272       272       272
+ *   zc_pop            336       268       268       268
+ *   zc_step           576       350       348       348
+ *   zc_step_record    592       343       338       338
+ *   zc_run            608      2461      4083      4712
+ *   zc_report         368       284       515     20331
  *   table bytes         -       240       816     30120
- *   code bytes: audit 1804, capi 10181, capi_record 6077, capi_run 6516, find 3570, join 3458, schedule 12034, sheet 3512, shelf 3744
+ *   code bytes: audit 1804, capi 10379, capi_record 5813, capi_run 6089, find 3517, join 3567, schedule 10892, sheet 3512, shelf 3744
  * As to the machine: x86-64, System V calling convention. The code uses the red zone (128 bytes
  * below the stack pointer) and SSE registers, no AVX: an interrupt handler that makes a call saves
  * the SSE state first, and an interrupt that is not masked during a call leaves the red zone alone.
