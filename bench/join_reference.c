@@ -116,6 +116,6 @@ uint32_t JOIN(const zc_control *first, const zc_record *first_records, size_t fi
         marks[slot / 64] |= UINT64_C(1) << (slot % 64);
     }
     third->anchor = (tag + 2 * count - 1) << 32 | UINT64_C(1) << 15 | count;
-    memset(third_records, 0, sizeof *third_records);
+    memset(third_records, 0, offsetof(zc_record, retries));
     return 0;
 }

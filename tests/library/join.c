@@ -50,12 +50,14 @@ static void open_lane(lane *l, uint64_t slots, uint32_t tag)
     reference_open(&l->control, l->records, l->record_count, tasks, slots, tag, l->lefts,
                    l->left_count, l->rights, l->right_count, l->labels, l->label_count, l->marks,
                    l->mark_count);
-    for (uint64_t task = 0; task < tasks; task++)
+    for (uint64_t task = 0; task < tasks; task++) {
+        l->records[task].retries = draw(UINT64_MAX);
         if (once_in(2)) { /* an idle record may hold anything */
             l->records[task].kind = draw(3);
             l->records[task].label = (uint32_t)draw(UINT32_MAX);
             l->records[task].seen = draw(UINT64_MAX);
         }
+    }
 }
 
 /* So many labels in slots drawn at random, STABLE; some lanes ascend, some have few different labels. */

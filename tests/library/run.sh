@@ -217,6 +217,7 @@ part_schedules() {
     holds "library and C hand out the same schedules" "$work/schedules_bench" 1
     holds "the test of schedules compiles" in_cargo build --release -p library-schedules -p schedules
     counts "schedules against the second program" "$work/cargo/release/library-schedules" "${SEED:-1}" "${TIMES:-1}"
+    counts "planted faults in schedules by hand" tests/library/schedule_faults.sh
     tools/runfile examples/the_last_label.txt | "$work/cargo/release/schedules" >"$work/orders"
     holds "every order of the example is printed" test "$(tail -n 1 "$work/orders")" = "18644 schedules: 18644 answered, 0 cut, 0 refused"
 }

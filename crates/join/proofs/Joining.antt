@@ -10,8 +10,8 @@ use lib.ListN.{length, getD, set, length-map, length-reverse}
 use borrow.Author.Tests.{eqb-false, ne-eqb, ltb-true}
 use Rattle.model.specs.declared.Control.{Control}
 use Rattle.model.specs.declared.Entry.{Entry}
-use Rattle.model.specs.declared.Record.{Record}
-use Rattle.model.specs.Tables.{Tables, Queue, queueOf, isEmpty, idle}
+use Rattle.model.specs.declared.TaskRecord.{TaskRecord}
+use Rattle.model.specs.Tables.{Tables, Queue, queueOf, isEmpty, idle, withCall, taskAt}
 use Rattle.model.specs.Sound.{rowTests, rowsFit}
 use Rattle.model.specs.Walk.{Walk, entries, broken, along, contents, isBroken, met, walkFrom}
 use Rattle.model.proofs.tests.Rules.{tests}
@@ -157,7 +157,7 @@ module _ (a b q : Queue) where
           (q .tables .labels))
           (mark : marks ≡ markedTo (n + m) (q .tables .marks))
           (control : c ≡ anchored (q .tables .control) (n + m)) where
-        laid-as : (l : List ℕ) → lanes a b ≡ l → queueOf c (set (q .records) 0 idle) lefts rights labels marks (q .tables .next) ≡ holding q l
+        laid-as : (l : List ℕ) → lanes a b ≡ l → queueOf c (set (q .records) 0 (withCall (taskAt q 0) idle)) lefts rights labels marks (q .tables .next) ≡ holding q l
         unfolding holding held anchored
         laid-as [] z = absurd (let g = ap length z in omega (arith, size))
         laid-as (x ∷ l) z =
@@ -184,7 +184,7 @@ module _ (a b q : Queue) where
                 marks = (mark ∙ ap (λ (j : ℕ). markedTo j (q .tables .marks)) count) i;
                 next = q .tables .next;
               };
-              records = set (q .records) 0 idle;
+              records = set (q .records) 0 (withCall (taskAt q 0) idle);
             }
 
         pub lays : Joins a b q (record { code = 0; laid = true; control = c }) lefts rights labels marks
@@ -197,13 +197,13 @@ module _ (a b q : Queue) where
 
 -- Stored: the rows hold what the joining by value left.
 module _ (a b q : Queue) (d : Done) (lefts rights labels marks : List ℕ) (j : Joins a b q d lefts rights labels marks) where
-  pub stored : d .laid ≡ true → (c : Control) (rs : List Record) → c ≡ d .control → rs ≡ set (q .records) 0 idle
+  pub stored : d .laid ≡ true → (c : Control) (rs : List TaskRecord) → c ≡ d .control → rs ≡ set (q .records) 0 (withCall (taskAt q 0) idle)
       → _≡_ {A = Joined} (record { code = d .code; third = queueOf c rs lefts rights labels marks (q .tables .next) }) (join a b q)
   stored e c rs ec er =
       (λ i. record {
         code = d .code;
         third = queueOf (ec i)
-            ((er ∙ sym (ap (λ (b : Bool). cond b (set (q .records) 0 idle) (q .records)) e)) i) lefts rights labels marks (q .tables .next);
+            ((er ∙ sym (ap (λ (b : Bool). cond b (set (q .records) 0 (withCall (taskAt q 0) idle)) (q .records)) e)) i) lefts rights labels marks (q .tables .next);
       })
       ∙ j .leaves
 
@@ -214,7 +214,7 @@ module _ (a b q : Queue) (d : Done) (lefts rights labels marks : List ℕ) (j : 
       let no = sym e in
       (λ i. record {
         code = d .code;
-        third = queueOf (same i) (cond (no i) (set (q .records) 0 idle) (q .records)) lefts rights labels marks
+        third = queueOf (same i) (cond (no i) (set (q .records) 0 (withCall (taskAt q 0) idle)) (q .records)) lefts rights labels marks
             (q .tables .next);
       })
       ∙ j .leaves

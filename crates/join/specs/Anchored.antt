@@ -6,7 +6,7 @@ use Prim.Native.Nat.{ℕ}
 use lib.ListN.{set}
 use Rattle.word.specs.Anchor.{anchorOf, packAnchor}
 use Rattle.model.specs.declared.Control.{Control}
-use Rattle.model.specs.Tables.{Queue, tablesOf, queueOf, idle}
+use Rattle.model.specs.Tables.{Queue, tablesOf, queueOf, idle, withCall, taskAt}
 use Rattle.model.specs.Places.{withAnchor}
 use Rattle.join_model.specs.Join.{Joined, join, laid}
 use Rattle.join_model.specs.Closed.{tagAfter}
@@ -17,7 +17,7 @@ unfoldable pub anchored : Control → ℕ → Control
 anchored c n =
     withAnchor (tablesOf c [] [] [] [] []) (packAnchor (record { tag = tagAfter (anchorOf (c .anchor) .tag) n; status = 0; left = 1; right = n })) .control
 
--- Its answer and the third then, once record 0 is idle where labels were laid.
+-- Its answer and the third then, once record 0 has no call, and its own count, where labels were laid.
 pub record Joins (a b q : Queue) (d : Done) (lefts rights labels marks : List ℕ) : Type 0 where
   pub lays : d .laid ≡ laid a b q
   pub kept : d .laid ≡ false → d .control ≡ q .tables .control
@@ -25,7 +25,7 @@ pub record Joins (a b q : Queue) (d : Done) (lefts rights labels marks : List �
       _≡_ {A = Joined}
       (record {
         code = d .code;
-        third = queueOf (d .control) (cond (d .laid) (set (q .records) 0 idle) (q .records)) lefts rights labels marks
+        third = queueOf (d .control) (cond (d .laid) (set (q .records) 0 (withCall (taskAt q 0) idle)) (q .records)) lefts rights labels marks
             (q .tables .next);
       })
       (join a b q)

@@ -7,7 +7,7 @@ ghost use mathlib.Core.List.{[]};
 ghost use Prim.Native.Nat.{_≤_};
 ghost use lib.ListN.{set};
 ghost use Rattle.word.specs.Anchor.{anchorOf};
-ghost use Rattle.model.specs.Tables.{queueOf, idle};
+ghost use Rattle.model.specs.Tables.{queueOf};
 ghost use Rattle.rows.specs.Rows.{recordsOf, uppersOf, queueIn};
 ghost use Rattle.join_model.specs.Join.{Joined, join, laid};
 ghost use Rattle.join.specs.Anchored.{anchored, Joins};
@@ -20,7 +20,7 @@ pub mod rest;
 pub struct Done {
     /// 0, or the number of a refusal.
     pub code: u32,
-    /// Some labels were laid into the third, whose record 0 is then idle.
+    /// Some labels were laid into the third, whose record 0 then has no call and its own count.
     pub laid: bool,
     pub control: Control,
 }
@@ -186,8 +186,8 @@ pub extern "C" fn zc_join(
     if d.laid {
         let control = d.control;
         *third = rows::control_row(control);
-        let idle = rows::record_of([0; rows::RECORD_WORDS]);
-        rows::put_record(records, 0, idle);
+        let idle = rows::call_of([0; rows::RECORD_WORDS]);
+        rows::put_call(records, 0, idle);
     }
     d.code
 }

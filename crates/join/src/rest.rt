@@ -7,7 +7,7 @@ ghost use mathlib.Core.List.{List};
 ghost use Prim.Native.Nat.{ℕ, _≤_};
 ghost use lib.Dec.{eqb};
 ghost use lib.ListN.{getD};
-ghost use Rattle.model.specs.Tables.{queueOf, idle};
+ghost use Rattle.model.specs.Tables.{queueOf, unused};
 ghost use Rattle.model.specs.Report.{count};
 ghost use Rattle.rows.specs.Rows.{recordsOf};
 ghost use Rattle.join_model.specs.Join.{atRest, blank, fresh};
@@ -51,11 +51,11 @@ fn blank_labels(t: &[u32], n: u64) -> bool
 
 /// None of the first n tasks is busy.
 fn idle(records: &[[u64; rows::RECORD_WORDS]], n: usize) -> bool
-    ensures { λ r. ⌜ r ≡ eqb (count (λ t. not (eqb (getD (recordsOf (now (records .entry))) t idle .place) 0)) n) 0 ⌝ }
+    ensures { λ r. ⌜ r ≡ eqb (count (λ t. not (eqb (getD (recordsOf (now (records .entry))) t unused .call .place) 0)) n) 0 ⌝ }
 {
     let mut i: usize = 0;
     while i < n {
-        let r = rows::record_at(records, i);
+        let r = rows::call_at(records, i);
         if r.place != 0 {
             return false;
         }

@@ -15,7 +15,7 @@ use Rattle.word.proofs.Laws.{unpack-pack}
 use Rattle.model.specs.declared.Answer.the-variants.{Running, Pushed}
 use Rattle.model.specs.declared.Outcome.the-variants.{Moved}
 use Rattle.model.specs.declared.Op.the-variants.{Push, Step}
-use Rattle.model.specs.Tables.{Tables, Queue, idle}
+use Rattle.model.specs.Tables.{Tables, Queue, idle, withCall, taskAt}
 use Rattle.model.specs.Sound.{anchorSound, rowTests, rowsFit}
 use Rattle.model.specs.Places.{setLink, apply, withAnchor}
 use Rattle.model.proofs.tests.Rules.{tests}
@@ -25,7 +25,7 @@ use Rattle.join_model.specs.Join.{anchorIn}
 use Rattle.join_model.specs.Closed.{rightOf}
 use Rattle.join_model.proofs.Alone.{Able, at, step1, step3, step4, step5, step6, step7, step8, step9, step10}
 use Rattle.join_model.proofs.Ran.{Ran, ran-none, ran-more, stands, steps}
-use Rattle.join_model.proofs.Pushed.{Ready, control-kept, first, long, low, high, starts, sound, still, room}
+use Rattle.join_model.proofs.Pushed.{Ready, control-kept, tries, first, long, low, high, starts, sound, still, room}
 
 module _ (q : Queue) (k label : ℕ) (r : Ready q k) (some : 1 ≤ k) (begun : anchorIn q .left ≡ 1) (early : ltb 4294967262 (anchorIn q .tag) ≡ false)
     (blankLeft : getD (q .tables .lefts) (suc k) 0 ≡ 0) (blankRight : getD (q .tables .rights) k 0 ≡ 0) where
@@ -37,6 +37,10 @@ module _ (q : Queue) (k label : ℕ) (r : Ready q k) (some : 1 ≤ k) (begun : a
 
   abbrev x : ℕ
   x = suc k
+
+  -- The count of task 0, as it stays.
+  abbrev n : ℕ
+  n = tries q
 
   -- The Anchor words that it writes at 4 and 10.
   abbrev new : ℕ
@@ -155,7 +159,8 @@ module _ (q : Queue) (k label : ℕ) (r : Ready q k) (some : 1 ≤ k) (begun : a
   end-link : packLink (record { tag = 0; slot = anchorIn q .right }) ≡ k
   end-link = omega (arith, r .right, x-low)
 
-  pub next-push : Ran q (record { task = 0; op = Push 1 x label } ∷ replicate 9 (record { task = 0; op = Step })) (stands t10 (q .records) idle)
+  pub next-push : Ran q (record { task = 0; op = Push 1 x label } ∷ replicate 9 (record { task = 0; op = Step }))
+      (stands t10 (q .records) (withCall (taskAt q 0) idle))
       (Moved (Running 1) ∷ Moved (Running 3) ∷ Moved (Running 4) ∷ Moved (Running 5) ∷ Moved (Running 6) ∷ Moved (Running 7) ∷ Moved (Running 8)
       ∷ Moved (Running 9) ∷ Moved (Running 10) ∷ Moved Pushed ∷ [])
   next-push =
@@ -163,20 +168,21 @@ module _ (q : Queue) (k label : ℕ) (r : Ready q k) (some : 1 ≤ k) (begun : a
       let h = long q k label r in
       let left : eqb (anchorIn q .left) 0 ≡ false = rw begun in
       ran-more (starts q k label r early)
-      (ran-more (steps t0 rs (at 1 x label 0 0 0) (r .tasks) h (step1 t0 x label word able0 refl left (eq-eqb _ _ (r .status))))
-      (ran-more (steps t0 rs (at 3 x label word 0 0) (r .tasks) h (step3 t0 x label word able0 k end-link blankLeft))
-      (ran-more (steps t3 rs (at 4 x label word 0 0) (r .tasks) h
-      (step4 t3 x label word able3 refl new refl new-sound (room q k label r early (anchorIn q .tag) (omega arith))))
-      (ran-more (steps t4 rs (at 5 x label new 0 1) (r .tasks) h
-      (step5 t4 x label new able4 k helps mine (getD-set-same (q .tables .lefts) x k 0 wide)
+      (ran-more (steps t0 rs (at n 1 x label 0 0 0) (r .tasks) h (step1 t0 n x label word able0 refl left (eq-eqb _ _ (r .status))))
+      (ran-more (steps t0 rs (at n 3 x label word 0 0) (r .tasks) h (step3 t0 n x label word able0 k end-link blankLeft))
+      (ran-more (steps t3 rs (at n 4 x label word 0 0) (r .tasks) h
+      (step4 t3 n x label word able3 refl new refl new-sound (room q k label r early (anchorIn q .tag) (omega arith))))
+      (ran-more (steps t4 rs (at n 5 x label new 0 1) (r .tasks) h
+      (step5 t4 n x label new able4 k helps mine (getD-set-same (q .tables .lefts) x k 0 wide)
       (link-sound slots k (omega (arith, x-low)) (omega (arith, r .more, x-low))) (omega (arith, x-low))))
-      (ran-more (steps t4 rs (at 6 x label new k 1) (r .tasks) h (step6 t4 x label new able4 refl k k-high helps))
-      (ran-more (steps t4 rs (at 7 x label new k 1) (r .tasks) h
-      (step7 t4 x label new able4 k helps mine (and-of (le-leb 1 k some) k-high) k-high blankRight (ne-eqb 0 x (λ z. omega arith))))
-      (ran-more (steps t4 rs (at 8 x label new k 1) (r .tasks) h (step8 t4 x label new able4 refl k k-high helps))
-      (ran-more (steps t4 rs (at 9 x label new k 1) (r .tasks) h (step9 t4 x label new able4 k helps mine (and-of (le-leb 1 k some) k-high) k-high blankRight))
-      (ran-more (steps t9 rs (at 10 x label new k 1) (r .tasks) h
-      (step10 t9 x label new able9 refl k k-high helps last closes last-sound (room9 (anchorOf new .tag) (ap (λ (a : Anchor). a .tag) new-reads))))
+      (ran-more (steps t4 rs (at n 6 x label new k 1) (r .tasks) h (step6 t4 n x label new able4 refl k k-high helps))
+      (ran-more (steps t4 rs (at n 7 x label new k 1) (r .tasks) h
+      (step7 t4 n x label new able4 k helps mine (and-of (le-leb 1 k some) k-high) k-high blankRight (ne-eqb 0 x (λ z. omega arith))))
+      (ran-more (steps t4 rs (at n 8 x label new k 1) (r .tasks) h (step8 t4 n x label new able4 refl k k-high helps))
+      (ran-more (steps t4 rs (at n 9 x label new k 1) (r .tasks) h
+      (step9 t4 n x label new able4 k helps mine (and-of (le-leb 1 k some) k-high) k-high blankRight))
+      (ran-more (steps t9 rs (at n 10 x label new k 1) (r .tasks) h
+      (step10 t9 n x label new able9 refl k k-high helps last closes last-sound (room9 (anchorOf new .tag) (ap (λ (a : Anchor). a .tag) new-reads))))
       (ran-none _))))))))))
     where
       room9 : (n : ℕ) → n ≡ anchorIn q .tag + 1 → ltb n 4294967295 ≡ true

@@ -12,7 +12,7 @@ use Rattle.word.proofs.Laws.{unpack-pack}
 use Rattle.model.specs.declared.Answer.the-variants.{Running, Pushed}
 use Rattle.model.specs.declared.Outcome.the-variants.{Moved, Refused}
 use Rattle.model.specs.declared.Op.the-variants.{Push, Step}
-use Rattle.model.specs.Tables.{Tables, Queue, isPooled, idle, marked, recordAt}
+use Rattle.model.specs.Tables.{Tables, Queue, isPooled, idle, withCall, marked, recordAt, taskAt}
 use Rattle.model.specs.Sound.{every, anchorSound, controlTests, controlSound, recordSound, rowsFit}
 use Rattle.model.specs.Places.{withAnchor}
 use Rattle.model.specs.Refusals.{recordsFit, pushRefusal}
@@ -50,6 +50,10 @@ pub record Ready (q : Queue) (k : ℕ) : Type 0 where
 abbrev pub fitting : ℕ → Lengths → Bool
 fitting n l = every (ltb n (l .lefts) ∷ ltb n (l .rights) ∷ ltb n (l .labels) ∷ ltb (n / 64) (l .marks) ∷ (not false || ltb n (l .next)) ∷ [])
 
+-- The count of task 0.
+abbrev pub tries : Queue → ℕ
+tries q = taskAt q 0 .retries
+
 -- A label in its slot.
 abbrev pub labelled : Queue → ℕ → ℕ → Tables
 labelled q own label = taken (q .tables) own label
@@ -72,7 +76,7 @@ module _ (q : Queue) (k label : ℕ) (r : Ready q k) where
 
   -- The start, and where the tag has no room, its refusal.
   pub starts : ltb 4294967262 (anchorIn q .tag) ≡ false
-      → act q 0 (Push 1 own label) ≡ record { queue = stands first (q .records) (at 1 own label 0 0 0); outcome = Moved (Running 1) }
+      → act q 0 (Push 1 own label) ≡ record { queue = stands first (q .records) (at (tries q) 1 own label 0 0 0); outcome = Moved (Running 1) }
   unfolding act actOn pushStart pushRefusal recordSound
   starts e = rw (r .control, r .named, r .rows, r .records, lt-ltb 0 _ (r .tasks), low, high, eq-eqb _ _ (r .rests), r .unmarked, e)
 
@@ -119,11 +123,11 @@ module _ (q : Queue) (k label : ℕ) (r : Ready q k) where
     }))
 
     pub first-push : Ran q (record { task = 0; op = Push 1 own label } ∷ replicate 2 (record { task = 0; op = Step }))
-        (stands (withAnchor first alone) (q .records) idle) (Moved (Running 1) ∷ Moved (Running 2) ∷ Moved Pushed ∷ [])
+        (stands (withAnchor first alone) (q .records) (withCall (taskAt q 0) idle)) (Moved (Running 1) ∷ Moved (Running 2) ∷ Moved Pushed ∷ [])
     first-push =
         ran-more (starts early)
-        (ran-more (steps first (q .records) (at 1 own label 0 0 0) (r .tasks) long
-        (step1-empty first own label _ able refl (eq-eqb _ _ empty) (eq-eqb _ _ (r .right ∙ none))))
-        (ran-more (steps first (q .records) (at 2 own label (q .tables .control .anchor) 0 0) (r .tasks) long
-        (step2 first own label _ able refl alone refl alone-sound (room early (anchorIn q .tag) (omega arith))))
+        (ran-more (steps first (q .records) (at (tries q) 1 own label 0 0 0) (r .tasks) long
+        (step1-empty first (tries q) own label _ able refl (eq-eqb _ _ empty) (eq-eqb _ _ (r .right ∙ none))))
+        (ran-more (steps first (q .records) (at (tries q) 2 own label (q .tables .control .anchor) 0 0) (r .tasks) long
+        (step2 first (tries q) own label _ able refl alone refl alone-sound (room early (anchorIn q .tag) (omega arith))))
         (ran-none _)))

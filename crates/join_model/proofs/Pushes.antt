@@ -11,9 +11,9 @@ use borrow.Author.Tests.{ne-eqb, ltb-true, leb-true}
 use Rattle.word.specs.declared.Anchor.{Anchor}
 use Rattle.word.specs.Anchor.{packAnchor}
 use Rattle.word.proofs.Laws.{unpack-pack}
-use Rattle.model.specs.declared.Record.{Record}
+use Rattle.model.specs.declared.TaskRecord.{TaskRecord}
 use Rattle.model.specs.declared.Op.the-variants.{Push, Step}
-use Rattle.model.specs.Tables.{Queue, idle}
+use Rattle.model.specs.Tables.{Queue, idle, unused, withCall, taskAt}
 use Rattle.model.specs.Sound.{anchorSound, rowTests, rowsFit}
 use Rattle.model.specs.Places.{withAnchor}
 use Rattle.model.specs.Calls.{taken}
@@ -36,6 +36,10 @@ module _ (q : Queue) (fresh : Fresh q) (f : ℕ → ℕ) where
 
   abbrev tag : ℕ
   tag = anchorIn q .tag
+
+  -- Record 0 once its call is answered.
+  abbrev rested : TaskRecord
+  rested = withCall (taskAt q 0) idle
 
   -- The first label.
   pub ready : 0 < slots → Ready q 0
@@ -65,7 +69,7 @@ module _ (q : Queue) (fresh : Fresh q) (f : ℕ → ℕ) where
       tags = omega arith
 
       is-held : stands (withAnchor (taken (q .tables) 1 (f 1))
-          (packAnchor (record { tag = tag + 1; status = anchorIn q .status; left = 1; right = 1 }))) (q .records) idle
+          (packAnchor (record { tag = tag + 1; status = anchorIn q .status; left = 1; right = 1 }))) (q .records) rested
           ≡ held q 0 f
       is-held = λ i. record {
         tables = withAnchor (record {
@@ -76,7 +80,7 @@ module _ (q : Queue) (fresh : Fresh q) (f : ℕ → ℕ) where
           marks = markedTo 1 (q .tables .marks);
           next = q .tables .next;
         }) (packAnchor (record { tag = tags i; status = fresh .status i; left = 1; right = 1 }));
-        records = set (q .records) 0 idle;
+        records = set (q .records) 0 rested;
       }
 
   -- The Anchor of the closed form.
@@ -123,14 +127,18 @@ module _ (q : Queue) (fresh : Fresh q) (f : ℕ → ℕ) where
     nonempty : 0 < length (q .records)
     nonempty = omega (arith, fresh .tasks, leb-true (q .tables .control .tasks) (length (q .records)) (fresh .records))
 
+    rested-there : taskAt before 0 ≡ rested
+    unfolding held
+    rested-there = getD-set-same (q .records) 0 rested unused nonempty
+
     pub prepared : Ready before count
     unfolding held rowsFit
     prepared = record {
       control = control-kept (q .tables) _ (fresh .control) sound;
       named = fresh .named;
       rows = (λ i. fitting slots (sizes i)) ∙ fresh .rows;
-      records = ap (leb (q .tables .control .tasks)) (length-set (q .records) 0 idle) ∙ fresh .records;
-      rests = ap (λ (r : Record). r .place) (getD-set-same (q .records) 0 idle idle nonempty);
+      records = ap (leb (q .tables .control .tasks)) (length-set (q .records) 0 rested) ∙ fresh .records;
+      rests = ap (λ (r : TaskRecord). r .call .place) rested-there;
       status = ap (λ (a : Anchor). a .status) reads;
       right = ap (λ (a : Anchor). a .right) reads;
       more = h;
@@ -164,10 +172,12 @@ module _ (q : Queue) (fresh : Fresh q) (f : ℕ → ℕ) where
       next-tag : anchorIn before .tag + 2 ≡ tagAfter tag (suc count)
       next-tag = let z = ap (λ (a : Anchor). a .tag) reads in omega arith
 
-      is-held : stands (t10 before count (f (suc count)) prepared some starts-at-1 early blank-left blank-right) (before .records) idle ≡ held q count f
+      is-held : stands (t10 before count (f (suc count)) prepared some starts-at-1 early blank-left blank-right) (before .records)
+          (withCall (taskAt before 0) idle) ≡ held q count f
       unfolding held
       is-held =
           let left : count ≡ leftOf (suc count) = omega arith in
+          let same = ap (λ (r : TaskRecord). set (before .records) 0 (withCall r idle)) rested-there ∙ set-set (q .records) 0 rested rested in
           λ i. record {
             tables = withAnchor (record {
               control = q .tables .control;
@@ -177,7 +187,7 @@ module _ (q : Queue) (fresh : Fresh q) (f : ℕ → ℕ) where
               marks = markedTo (suc count) (q .tables .marks);
               next = q .tables .next;
             }) (packAnchor (record { tag = next-tag i; status = 0; left = 1; right = suc count }));
-            records = set-set (q .records) 0 idle idle i;
+            records = same i;
           }
 
       pub one-more : Ran before (pushAlone (suc count) (f (suc count))) (held q count f) answersNext

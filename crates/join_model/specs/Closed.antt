@@ -6,7 +6,7 @@ use lib.Dec.{ltb, eqb}
 use lib.ListN.{length, getD, set}
 use Rattle.word.specs.Anchor.{packAnchor}
 use Rattle.word.specs.Link.{packLink}
-use Rattle.model.specs.Tables.{Queue, withMark, idle}
+use Rattle.model.specs.Tables.{Queue, withMark, idle, withCall, taskAt}
 use Rattle.model.specs.Places.{withAnchor}
 use Rattle.model.specs.Refusals.{first}
 use Rattle.join_model.specs.Join.{anchorIn, lanes, joinRules, Joined, joined}
@@ -35,7 +35,7 @@ markedTo (suc n) ws = withMark (markedTo n ws) (suc n) 1
 abbrev pub tagAfter : ℕ → ℕ → ℕ
 tagAfter tag n = tag + 2 * n - 1
 
--- n labels, one and as many as before, in slots 1 to n. The last one's Right stays as it was; record 0 is idle; the rest is as it was.
+-- n labels, one and as many as before, in slots 1 to n. The last one's Right stays as it was; record 0 has no call and its own count; the rest is as it was.
 unfoldable pub held : Queue → ℕ → (ℕ → ℕ) → Queue
 held q before label =
     let t = q .tables in
@@ -49,7 +49,7 @@ held q before label =
         marks = markedTo n (t .marks);
         next = t .next;
       }) (packAnchor (record { tag = tagAfter (anchorIn q .tag) n; status = 0; left = 1; right = n }));
-      records = set (q .records) 0 idle;
+      records = set (q .records) 0 (withCall (taskAt q 0) idle);
     }
 
 -- With no labels nothing changes.

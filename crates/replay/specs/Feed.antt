@@ -36,4 +36,4 @@ firstPage out = written (emptyPage out) (record { run = fresh; lines = fitting (
 abbrev pub Begins : List ℕ → List ℕ → RunState → Type 0
 Begins before after s =
     let q = fresh .queue .tables in
-    pageOf s after (replicate 16 (replicate 9 0)) (q .lefts) (q .rights) (q .labels) (q .marks) (q .next) ≡ firstPage before
+    pageOf s after (replicate 16 (replicate 10 0)) (q .lefts) (q .rights) (q .labels) (q .marks) (q .next) ≡ firstPage before

@@ -10,7 +10,8 @@ use lib.Seq.{sets}
 use borrow.Author.Tests.{ne-eqb, leb-true, not-true}
 use Rattle.model.specs.declared.Control.{Control}
 use Rattle.model.specs.declared.Record.{Record}
-use Rattle.model.specs.Tables.{Tables, Queue, isPooled, idle, tablesOf}
+use Rattle.model.specs.declared.TaskRecord.{TaskRecord}
+use Rattle.model.specs.Tables.{Tables, Queue, isPooled, tablesOf}
 use Rattle.model.specs.Sound.{controlSound, rowsFit}
 use Rattle.model.specs.Walk.{Walk, entries, broken, contents, isBroken, met}
 use Rattle.model.specs.Report.{waiting}
@@ -26,6 +27,7 @@ use Rattle.schedule_model.specs.Search.{seekOf}
 use Rattle.schedule_model.proofs.Admitted.{enough, memory, tasks}
 use Rattle.schedule_model.proofs.Searched.{finds}
 use Rattle.schedule_model.proofs.TwoRecords.{two-records}
+use Rattle.schedule_model.proofs.Uncounted.{uncounted}
 use Rattle.schedule.specs.declared.Found.{Found}
 use Rattle.schedule.specs.Sought.{pairOf, foundOf, Sought, sought}
 use Rattle.schedule.specs.Answered.{refusalBefore, refusalAfter, Begins, Answered, answered}
@@ -74,13 +76,17 @@ module _ (ws ws′ : List ℕ) (len : ℕ) (q q′ : Tables) (p : Queue) (f : Fo
       ap (λ (l : List ℕ). told (record { code = 0; ending = f .ending; length = f .length }) l q′) e
       ∙ some-told f ws ws′ q q′ (seekOf ws (memoryLength ws) 48 false p) all h
 
--- The records beyond the first two do not count.
-same-list : (q : Tables) (rs : List Record) (n : ℕ) (a b : Record) → Begins rs n a b → q .control .tasks ≡ 2 → q .control .tasks ≤ length rs
-    → allSchedules (record { tables = q; records = rs }) ≡ allSchedules (pairOf q a b)
-same-list q [] n a b these two few = absurd (omega (arith, two, few))
-same-list q (x ∷ []) n a b these two few = absurd (omega (arith, two, few))
-same-list q (x ∷ y ∷ rest) n a b these two few =
-    two-records 48 q x y rest two ∙ (λ i. allSchedules (pairOf q (these .first i) (these .second i)))
+-- Neither the records beyond the first two count, nor their counts.
+same-search : (ws : List ℕ) (q : Tables) (rs : List TaskRecord) (n : ℕ) (a b : Record) → 49 ≤ length ws → Begins rs n a b → q .control .tasks ≡ 2
+    → q .control .tasks ≤ length rs
+    → seekOf ws (memoryLength ws) 48 false (pairOf q a b) ≡ firstAfter (remembered ws) (allSchedules (record { tables = q; records = rs }))
+same-search ws q [] n a b m these two few = absurd (omega (arith, two, few))
+same-search ws q (x ∷ []) n a b m these two few = absurd (omega (arith, two, few))
+same-search ws q (x ∷ y ∷ rest) n a b m these two few =
+    (λ i. seekOf ws (memoryLength ws) 48 false (pairOf q (sym (these .first) i) (sym (these .second) i)))
+    ∙ uncounted ws (memoryLength ws) 48 false q (x .call) (y .call) 0 0 (x .retries) (y .retries)
+    ∙ finds ws (record { tables = q; records = x ∷ y ∷ [] }) m
+    ∙ ap (firstAfter (remembered ws)) (sym (two-records 48 q x y rest two))
 
 -- The rules in two parts.
 first-part : (c f : Bool) (l : List Rule)
@@ -100,7 +106,7 @@ last-part two (entries l) = go (two && leb (length l) 4)
     go true = refl
     go false = refl
 
-module _ (q : Tables) (rs : List Record) (n : ℕ) (a b : Record) (ws : List ℕ) (these : Begins rs n a b) where
+module _ (q : Tables) (rs : List TaskRecord) (n : ℕ) (a b : Record) (ws : List ℕ) (these : Begins rs n a b) where
   abbrev Q : Queue
   Q = record { tables = q; records = rs }
 
@@ -150,12 +156,11 @@ module _ (q : Tables) (rs : List Record) (n : ℕ) (a b : Record) (ws : List ℕ
       let ok : scheduleRefusal Q ws ≡ 0 = rules ∙ rw (sym e, z) (ap (refusalAfter two) (sym w) ∙ sym l ∙ y) in
       let m = memory Q ws ok in
       let few : q .control .tasks ≤ length rs = leb-true _ _ (and-true (rowsFit (isPooled (q .control)) (q .control .slots) q) _ (enough Q ws ok) .1) in
-      rw (ok, finds ws (pairOf q a b) m)
-      (ap (λ (l : List Schedule). record { handed = handing ws (firstAfter (remembered ws) l); tables = q })
-      (sym (same-list q rs n a b these (tasks Q ws ok) few)))
+      rw ok
+      (ap (λ (s : Next). record { handed = handing ws s; tables = q }) (same-search ws q rs n a b m these (tasks Q ws ok) few))
 
 -- The control that its row is.
-pub by-rows : (c d : Control) (ls rs bs ms ns ls′ rs′ bs′ ms′ ns′ : List ℕ) (records : List Record) (ws ws′ : List ℕ) (r : ScheduleReply) → c ≡ d
+pub by-rows : (c d : Control) (ls rs bs ms ns ls′ rs′ bs′ ms′ ns′ : List ℕ) (records : List TaskRecord) (ws ws′ : List ℕ) (r : ScheduleReply) → c ≡ d
     → told r ws′ (tablesOf c ls′ rs′ bs′ ms′ ns′) ≡ answered (tablesOf c ls rs bs ms ns) records ws
     → told r ws′ (tablesOf d ls′ rs′ bs′ ms′ ns′) ≡ answered (tablesOf d ls rs bs ms ns) records ws
 by-rows c d ls rs bs ms ns ls′ rs′ bs′ ms′ ns′ records ws ws′ r e h =

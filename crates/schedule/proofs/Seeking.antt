@@ -14,7 +14,7 @@ use Rattle.model.specs.declared.Record.{Record}
 use Rattle.model.specs.declared.Outcome.{Outcome}
 use Rattle.model.specs.declared.Outcome.the-variants.{Refused, Moved}
 use Rattle.model.specs.declared.Op.the-variants.{Step}
-use Rattle.model.specs.Tables.{Tables, Queue, idle, recordAt}
+use Rattle.model.specs.Tables.{Tables, Queue, recordAt}
 use Rattle.model.specs.Calls.{act}
 use Rattle.model.specs.Ends.{isMoved}
 use Rattle.model.proofs.tests.Truth.{not-both}
@@ -129,11 +129,11 @@ module _ (ws : List ℕ) (len : ℕ) (free : Bool) (q : Tables) (a b : Record) (
       ∙ ap (λ (m : Next). found-by (orElse m (branch ws len free q a b left 1))) (sym (n .none))
       ∙ ap found-by (sym (both-tried ws len free q a b left busy some))
 
--- The record of one of two tasks.
-pub record-at : (t : ℕ) (a b : Record) → t < 2 → getD (a ∷ b ∷ []) t idle ≡ cond (eqb t 0) a b
-record-at zero a b h = refl
-record-at (suc zero) a b h = refl
-record-at (suc (suc t)) a b h = absurd (omega (arith, h))
+-- The call of one of two tasks.
+call-at : (q : Tables) (t : ℕ) (a b : Record) → t < 2 → recordAt (pairOf q a b) t ≡ cond (eqb t 0) a b
+call-at q zero a b h = refl
+call-at q (suc zero) a b h = refl
+call-at q (suc (suc t)) a b h = absurd (omega (arith, h))
 
 -- A task that may not be next, and one that may. low: the number that stands next in the list.
 module _ (ws : List ℕ) (len left : ℕ) (free : Bool) (q : Tables) (a b : Record) (t : ℕ) (r : Record) (low : ℕ) (two : t < 2)
@@ -143,7 +143,7 @@ module _ (ws : List ℕ) (len left : ℕ) (free : Bool) (q : Tables) (a b : Reco
 
   test-is : (not (atWork (pairOf q a b) t) || skips ws len left free t) ≡ (eqb (r .place) 0 || (binds && ltb t low))
   test-is =
-      ap (λ (v : Record). not (not (eqb (v .place) 0)) || skips ws len left free t) (record-at t a b two ∙ sym whose)
+      ap (λ (v : Record). not (not (eqb (v .place) 0)) || skips ws len left free t) (call-at q t a b two ∙ sym whose)
       ∙ go (eqb (r .place) 0)
       ∙ ap (λ (u : ℕ). eqb (r .place) 0 || (binds && ltb t u)) (sym next)
     where

@@ -12,19 +12,19 @@ use Rattle.model.specs.declared.Record.{Record}
 use Rattle.model.specs.declared.Outcome.{Outcome}
 use Rattle.model.specs.declared.Outcome.the-variants.{Refused, Moved}
 use Rattle.model.specs.declared.Op.the-variants.{Step}
-use Rattle.model.specs.Tables.{Tables, Queue, recordAt}
+use Rattle.model.specs.Tables.{Tables, Queue, unused, withCall}
 use Rattle.model.specs.Places.{row}
-use Rattle.model.specs.Refusals.{Lent, among}
 use Rattle.model.specs.Calls.{Acted, step, actOn, Done, back, act}
 use Rattle.schedule_model.specs.declared.Saved.{Saved}
 use Rattle.schedule_model.specs.Schedules.{Schedule, begun}
 use Rattle.schedule_model.specs.Next.{Next, given, noMore}
 use Rattle.schedule_model.specs.Search.{prefixed, stepped, seekOf}
 use Rattle.schedule_model.specs.Undo.{saved, putBack}
+use Rattle.schedule_model.proofs.Uncounted.{uncounted}
 use Rattle.schedule_model.proofs.Undone.{undoes}
 use Rattle.schedule.specs.declared.Found.{Found}
 use Rattle.schedule.specs.Sought.{pairOf, foundOf, written, Sought, sought, under}
-use Rattle.schedule.proofs.Seeking.{handed, record-at}
+use Rattle.schedule.proofs.Seeking.{handed}
 
 stepped-is : (t : ℕ) (o : Outcome) (free : Bool) (m : Next) → stepped t o free m ≡ prefixed t (under o free m)
 stepped-is t (Refused why) true m = refl
@@ -53,37 +53,44 @@ prefix-written left t (given s) ws h k =
     let z : 49 - (left - 1) ≡ suc (49 - left) = omega (arith, h, k) in
     ap (λ (n : ℕ). set (sets ws n (s .steps)) (49 - left) t) z ∙ sets-above ws (s .steps) (suc (49 - left)) (49 - left) t (omega arith)
 
--- The queue of two tasks after a step of one.
-stepped-pair : (q : Tables) (a b r : Record) (t : ℕ) (d : Acted) → t < 2 → r ≡ cond (eqb t 0) a b
-    → d ≡ step q (record { enough = leb (q .control .tasks) 2; known = ltb t (q .control .tasks) }) r
-    → act (pairOf q a b) t Step
-    ≡ record { queue = pairOf (d .tables) (cond (eqb t 0) (d .task) a) (cond (eqb t 0) b (d .task)); outcome = d .outcome }
-unfolding act actOn
-stepped-pair q a b r zero d low whose e =
-    ap (back (pairOf q a b) zero) (sym (e ∙ ap (step q (among (pairOf q a b) zero)) whose))
-stepped-pair q a b r (suc zero) d low whose e =
-    ap (back (pairOf q a b) (suc zero)) (sym (e ∙ ap (step q (among (pairOf q a b) (suc zero))) whose))
-stepped-pair q a b r (suc (suc t)) d low whose e = absurd (omega (arith, low))
+-- The step of one of two tasks, by its call: how many failed changes its task counts does not matter.
+abbrev made : Tables → Record → ℕ → Acted
+made q r t = step q (record { enough = leb (q .control .tasks) 2; known = ltb t (q .control .tasks) }) (withCall unused r)
+
+-- What is found below a step, and by it.
+module _ (ws : List ℕ) (len left : ℕ) (free : Bool) (a b : Record) where
+  abbrev below : ℕ → Acted → Next
+  below t d = seekOf ws len left free (pairOf (d .tables) (cond (eqb t 0) (d .task .call) a) (cond (eqb t 0) b (d .task .call)))
+
+  abbrev by : ℕ → Done → Next
+  by t e = stepped t (e .outcome) free (seekOf ws len left free (e .queue))
+
+  stepped-pair : (q : Tables) (r : Record) (t : ℕ) (d : Acted) → t < 2 → r ≡ cond (eqb t 0) a b → d ≡ made q r t
+      → by t (act (pairOf q a b) t Step) ≡ stepped t (d .outcome) free (below t d)
+  unfolding act actOn
+  stepped-pair q r zero d low whose e =
+      ap (λ (x : Acted). by 0 (back (pairOf q a b) 0 x)) (sym (e ∙ ap (λ (c : Record). made q c 0) whose))
+      ∙ ap (stepped 0 (d .outcome) free) (uncounted ws len left free (d .tables) (d .task .call) b (d .task .retries) 0 0 0)
+  stepped-pair q r (suc zero) d low whose e =
+      ap (λ (x : Acted). by 1 (back (pairOf q a b) 1 x)) (sym (e ∙ ap (λ (c : Record). made q c 1) whose))
+      ∙ ap (stepped 1 (d .outcome) free) (uncounted ws len left free (d .tables) a (d .task .call) 0 (d .task .retries) 0 0)
+  stepped-pair q r (suc (suc t)) d low whose e = absurd (omega (arith, low))
 
 -- x, s: the row and the words kept; d: the step; q′, ws′: what is left by the search below it; q″, ws″: after putting back.
 module _ (q : Tables) (a b r : Record) (t left len : ℕ) (free : Bool) (ws : List ℕ) (low : t < 2) (some : 0 < left) (few : left ≤ 48)
     (whose : r ≡ cond (eqb t 0) a b) where
-  abbrev lent : Lent
-  lent = record { enough = leb (q .control .tasks) 2; known = ltb t (q .control .tasks) }
-
-  abbrev below : Acted → Next
-  below d = seekOf ws len (left - 1) free (pairOf (d .tables) (cond (eqb t 0) (d .task) a) (cond (eqb t 0) b (d .task)))
+  abbrev beneath : Acted → Next
+  beneath d = under (d .outcome) free (below ws len (left - 1) free a b t d)
 
   pub there-and-back : (d : Acted) (x : ℕ) (s : Saved) (f : Found) (ws′ ws″ : List ℕ) (q′ q″ : Tables)
-      → x ≡ row r → s ≡ saved x q → d ≡ step q lent r
-      → handed f ws′ q′ ≡ sought (left - 1) ws (under (d .outcome) free (below d)) (d .tables)
+      → x ≡ row r → s ≡ saved x q → d ≡ made q r t
+      → handed f ws′ q′ ≡ sought (left - 1) ws (beneath d) (d .tables)
       → q″ ≡ putBack (q .control) x s q′
       → ws″ ≡ cond (f .found) (set ws′ (49 - left) t) ws′
-      → let e = act (pairOf q a b) t Step in
-      handed f ws″ q″ ≡ sought left ws (stepped t (e .outcome) free (seekOf ws len (left - 1) free (e .queue))) q
+      → handed f ws″ q″ ≡ sought left ws (by ws len (left - 1) free a b t (act (pairOf q a b) t Step)) q
   unfolding sought
-  there-and-back d x s f ws′ ws″ q′ q″ row-is kept made found put noted =
-      let u = under (d .outcome) free (below d) in
+  there-and-back d x s f ws′ ws″ q′ q″ row-is kept done found put noted =
+      let u = beneath d in
       let fs : f ≡ foundOf (48 - (left - 1)) u = ap (λ (z : Sought). z .found) found in
       let ms : ws′ ≡ written (49 - (left - 1)) u ws = ap (λ (z : Sought). z .memory) found in
       let ts : q′ ≡ d .tables = ap (λ (z : Sought). z .tables) found in
@@ -95,13 +102,10 @@ module _ (q : Tables) (a b r : Record) (t left len : ℕ) (free : Bool) (ws : Li
       in
       let tables : q″ ≡ q =
       put
-      ∙ ap (λ (v : Tables). putBack (q .control) x s v) (ts ∙ ap (λ (g : Acted). g .tables) made)
-      ∙ ap (λ (k : Saved). putBack (q .control) x k (step q lent r .tables)) kept
-      ∙ ap (λ (y : ℕ). putBack (q .control) y (saved y q) (step q lent r .tables)) row-is
-      ∙ undoes q lent r
+      ∙ ap (λ (v : Tables). putBack (q .control) x s v) (ts ∙ ap (λ (g : Acted). g .tables) done)
+      ∙ ap (λ (k : Saved). putBack (q .control) x k (made q r t .tables)) kept
+      ∙ ap (λ (y : ℕ). putBack (q .control) y (saved y q) (made q r t .tables)) row-is
+      ∙ undoes q _ (withCall unused r)
       in
-      let next =
-      ap (λ (z : Done). stepped t (z .outcome) free (seekOf ws len (left - 1) free (z .queue))) (stepped-pair q a b r t d low whose made)
-      ∙ stepped-is t (d .outcome) free (below d)
-      in
+      let next = stepped-pair ws len (left - 1) free a b q r t d low whose done ∙ stepped-is t (d .outcome) free _ in
       (λ i. handed ((fs ∙ prefix-found left t u some few) i) (memory i) (tables i)) ∙ ap (λ (m : Next). sought left ws m q) (sym next)

@@ -6,7 +6,8 @@ use Prim.Native.Nat.{ℕ}
 use lib.Dec.{leb}
 use lib.ListN.{length, getD}
 use Rattle.model.specs.declared.Record.{Record}
-use Rattle.model.specs.Tables.{Tables, idle}
+use Rattle.model.specs.declared.TaskRecord.{TaskRecord}
+use Rattle.model.specs.Tables.{Tables, unused}
 use Rattle.model.specs.Refusals.{rule, first}
 use Rattle.walk.specs.declared.Tally.{Tally}
 use Rattle.walk.specs.declared.Tally.the-variants.{Broken, Labels}
@@ -20,11 +21,11 @@ unfoldable pub refusalAfter : Bool → Tally → ℕ
 refusalAfter two Broken = 34
 refusalAfter two (Labels n) = cond (two && leb n 4) 0 42
 
--- So many records, of which these are the first two.
-pub record Begins (records : List Record) (n : ℕ) (a b : Record) : Type 0 where
+-- So many records, of which the first two have these calls.
+pub record Begins (records : List TaskRecord) (n : ℕ) (a b : Record) : Type 0 where
   pub count : length records ≡ n
-  pub first : getD records 0 idle ≡ a
-  pub second : getD records 1 idle ≡ b
+  pub first : getD records 0 unused .call ≡ a
+  pub second : getD records 1 unused .call ≡ b
 
 -- What a call hands out, and the tables after it.
 pub record Answered : Type 0 where
@@ -32,5 +33,5 @@ pub record Answered : Type 0 where
   pub tables : Tables
 
 -- The tables are as before.
-abbrev pub answered : Tables → List Record → List ℕ → Answered
+abbrev pub answered : Tables → List TaskRecord → List ℕ → Answered
 answered q records ws = record { handed = nextSchedule (record { tables = q; records = records }) ws; tables = q }

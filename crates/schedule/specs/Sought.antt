@@ -8,15 +8,15 @@ use Rattle.model.specs.declared.Control.{Control}
 use Rattle.model.specs.declared.Record.{Record}
 use Rattle.model.specs.declared.Outcome.{Outcome}
 use Rattle.model.specs.declared.Outcome.the-variants.{Refused, Moved}
-use Rattle.model.specs.Tables.{Tables, Queue}
+use Rattle.model.specs.Tables.{Tables, Queue, unused, withCall}
 use Rattle.schedule_model.specs.Schedules.{ends}
 use Rattle.schedule_model.specs.Next.{Next, given, noMore}
 use Rattle.schedule_model.specs.Search.{ended}
 use Rattle.schedule.specs.declared.Found.{Found}
 
--- The tables with the records of two tasks.
+-- The tables with the calls of two tasks. Their counts do not matter to the search, which keeps none.
 abbrev pub pairOf : Tables → Record → Record → Queue
-pairOf q a b = record { tables = q; records = a ∷ b ∷ [] }
+pairOf q a b = record { tables = q; records = withCall unused a ∷ withCall unused b ∷ [] }
 
 -- After so many steps made: the whole length and the ending.
 abbrev pub foundOf : ℕ → Next → Found

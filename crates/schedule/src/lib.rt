@@ -6,7 +6,7 @@ use walk::Tally;
 ghost use mathlib.Core.Path.{_≡_};
 ghost use mathlib.Core.Bool.{_&&_, not, false};
 ghost use mathlib.Core.List.{List};
-ghost use Rattle.model.specs.declared.Record.{Record};
+ghost use Rattle.model.specs.declared.TaskRecord.{TaskRecord};
 ghost use lib.Dec.{eqb, leb};
 ghost use Rattle.model.specs.Tables.{isPooled, tablesOf};
 ghost use Rattle.model.specs.Sound.{controlSound};
@@ -132,7 +132,7 @@ fn hand_out(
     }
 }
 
-/// One call: a and b are the first two of so many records.
+/// One call: a and b are the calls of the first two of so many records.
 pub fn next_schedule(
     c: Control,
     a: Record,
@@ -146,7 +146,7 @@ pub fn next_schedule(
     next: &mut [u64],
 ) -> ScheduleReply
     ensures { λ r.
-        ⌜ ((rs : List Record) → Begins rs records a b
+        ⌜ ((rs : List TaskRecord) → Begins rs records a b
         → _≡_ {A = Answered}
         (record {
           handed = record { reply = r; memory = now (given .exit) };
@@ -201,8 +201,8 @@ pub extern "C" fn zc_next_schedule(
 {
     let row = *control;
     let c = rows::control_of(row);
-    let a = rows::record_at(records, 0);
-    let b = rows::record_at(records, 1);
+    let a = rows::call_at(records, 0);
+    let b = rows::call_at(records, 1);
     let n = records.len();
     next_schedule(c, a, b, n, schedule, lefts, rights, labels, marks, next)
 }

@@ -7,3 +7,4 @@ pub mod Enumerated
 pub mod OnlyUnsound
 pub mod Worked
 pub mod TwoRecords
+pub mod Uncounted

@@ -9,10 +9,11 @@ use borrow.Author.Tests.{lt-ltb, not-true, not-false, eqb-true}
 use Rattle.word.specs.Anchor.{anchorOf}
 use Rattle.model.specs.declared.Control.{Control}
 use Rattle.model.specs.declared.Record.{Record}
+use Rattle.model.specs.declared.TaskRecord.{TaskRecord}
 use Rattle.model.specs.declared.Outcome.{Outcome}
 use Rattle.model.specs.declared.Outcome.the-variants.{Refused, Moved}
 use Rattle.model.specs.declared.Op.the-variants.{Step}
-use Rattle.model.specs.Tables.{Tables, Queue, isPooled, recordAt}
+use Rattle.model.specs.Tables.{Tables, Queue, isPooled, taskAt, recordAt}
 use Rattle.model.specs.Sound.{controlTests, controlSound, recordSound, anchorSound}
 use Rattle.model.specs.Places.{Touch, nothing, setAnchor, setLink, clearMark, takeSlot, setNext, setHead, linkMet, Move, move, apply}
 use Rattle.model.specs.Refusals.{Rule, Lent, among, isBusy, leavesSound, stepTests, stepSound, stepRules, stepRefusal}
@@ -46,11 +47,11 @@ lawful q p r e =
     let rules = cleared (stepRules q p r) refl e in
     tests (stepTests (q .control) r (linkMet q r)) (not-false _ (rules .1 .1 .1 .1 .1 .0)) .1 .1 .0
 
-sound-after : (q : Tables) (p : Lent) (r : Record) → controlSound (q .control) ≡ true → controlSound (step q p r .tables .control) ≡ true
+sound-after : (q : Tables) (p : Lent) (r : TaskRecord) → controlSound (q .control) ≡ true → controlSound (step q p r .tables .control) ≡ true
 unfolding step finish controlSound
 sound-after q p r h =
-    by-test (λ (a : Acted). controlSound (a .tables .control) ≡ true) (eqb (stepRefusal q p r) 0)
-    (λ e. touched (move (q .control) r (linkMet q r) .touch) _ h (lawful q p r (eqb-true _ _ e)))
+    by-test (λ (a : Acted). controlSound (a .tables .control) ≡ true) (eqb (stepRefusal q p (r .call)) 0)
+    (λ e. touched (move (q .control) (r .call) (linkMet q (r .call)) .touch) q h (lawful q p (r .call) (eqb-true _ _ e)))
     (λ _. h)
 
 -- A queue whose control is sound, with tables long enough for its two tasks.
@@ -62,7 +63,7 @@ record Ready (q : Queue) : Type 0 where
 stays : (q : Queue) (t : ℕ) → Ready q → Ready (act q t Step .queue)
 unfolding act actOn
 stays q t h = record {
-  sound = sound-after (q .tables) (among q t) (recordAt q t) (h .sound);
+  sound = sound-after (q .tables) (among q t) (taskAt q t) (h .sound);
   enough = act-fits q t Step ∙ h .enough;
   tasks = act-tasks q t Step ∙ h .tasks;
 }
@@ -81,13 +82,13 @@ busy-refusal : (q : Queue) (t : ℕ) → Ready q → t < 2 → atWork q t ≡ tr
 unfolding stepRefusal
 busy-refusal q t h low busy = rw (h .sound, h .enough, h .tasks, lt-ltb t 2 low, not-true (eqb (recordAt q t .place) 0) busy) refl
 
-refused-by : (a b : Bool) (q : Tables) (r : Record) (done : Acted) (n : ℕ) → (done .outcome ≡ Refused n → ⊥)
+refused-by : (a b : Bool) (q : Tables) (r : TaskRecord) (done : Acted) (n : ℕ) → (done .outcome ≡ Refused n → ⊥)
     → decide (cond a 34 (cond b 34 0)) q r done .outcome ≡ Refused n → n ≡ 34
 refused-by true b q r done n f e = let z : _≡_ {A = ℕ} 34 n = cc in sym z
 refused-by false true q r done n f e = let z : _≡_ {A = ℕ} 34 n = cc in sym z
 refused-by false false q r done n f e = absurd (f e)
 
-moved : (q : Tables) (r : Record) (m : Move) (n : ℕ) → finish q r m .outcome ≡ Refused n → ⊥
+moved : (q : Tables) (r : TaskRecord) (m : Move) (n : ℕ) → finish q r m .outcome ≡ Refused n → ⊥
 unfolding finish
 moved q r m n e = let z : _≡_ {A = ℕ} 0 1 = cc in omega arith
 
@@ -95,11 +96,12 @@ by34 : (q : Queue) (t n : ℕ) → Ready q → t < 2 → atWork q t ≡ true →
 unfolding act actOn step
 by34 q t n h low busy e =
     let r = recordAt q t in
+    let whole = taskAt q t in
     let c = q .tables .control in
     let w = linkMet (q .tables) r in
-    let done = finish (q .tables) r (move c r w) in
-    refused-by (not (recordSound (isPooled c) (c .slots) r)) (not (stepSound c r w)) (q .tables) r done n (moved (q .tables) r _ n)
-    (ap (λ (why : ℕ). decide why (q .tables) r done .outcome) (sym (busy-refusal q t h low busy)) ∙ e)
+    let done = finish (q .tables) whole (move c r w) in
+    refused-by (not (recordSound (isPooled c) (c .slots) r)) (not (stepSound c r w)) (q .tables) whole done n (moved (q .tables) whole _ n)
+    (ap (λ (why : ℕ). decide why (q .tables) whole done .outcome) (sym (busy-refusal q t h low busy)) ∙ e)
 
 pub only-unsound : OnlyUnsound
 only-unsound q ws ts t n ok low busy e =

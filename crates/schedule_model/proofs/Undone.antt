@@ -8,6 +8,7 @@ use lib.ListN.{getD, set}
 use lib.Seq.{set-getD, set-set}
 use Rattle.model.specs.declared.Control.{Control}
 use Rattle.model.specs.declared.Record.{Record}
+use Rattle.model.specs.declared.TaskRecord.{TaskRecord}
 use Rattle.model.specs.Tables.{Tables, isPooled, tablesOf}
 use Rattle.model.specs.Sound.{isPush}
 use Rattle.model.specs.Places.{Touch, nothing, setAnchor, setLink, clearMark, takeSlot, setNext, setHead, Move, row, linkMet, apply}
@@ -80,25 +81,25 @@ module _ (q : Tables) (x : ℕ) where
   next : set (q .next) x (getD (q .next) x 0) ≡ q .next
   next = set-getD (q .next) x 0
 
-  -- The touch of tables that have the rows of q, and any control.
-  applied : (c : Control) (t : Touch) → At x t → back (apply t (tablesOf c (q .lefts) (q .rights) (q .labels) (q .marks) (q .next))) ≡ q
-  applied c t none = alike _ _ _ _ _ left right label marks next
-  applied c t (anchor w) = alike _ _ _ _ _ left right label marks next
-  applied c t (link side w) = go (eqb side 1)
+  applied : (t : Touch) → At x t → back (apply t q) ≡ q
+  applied t none = alike _ _ _ _ _ left right label marks next
+  applied t (anchor w) = alike _ _ _ _ _ left right label marks next
+  applied t (link side w) = go (eqb side 1)
     where
       go : (b : Bool)
-          → back (tablesOf c (cond b (q .lefts) (set (q .lefts) x w)) (cond b (set (q .rights) x w) (q .rights)) (q .labels) (q .marks) (q .next)) ≡ q
+          → back (tablesOf (q .control) (cond b (q .lefts) (set (q .lefts) x w)) (cond b (set (q .rights) x w) (q .rights)) (q .labels) (q .marks) (q .next)) ≡ q
       go true = alike _ _ _ _ _ left (set-back (q .rights) x w) label marks next
       go false = alike _ _ _ _ _ (set-back (q .lefts) x w) right label marks next
-  applied c t mark = alike _ _ _ _ _ left right label (set-back (q .marks) (x / 64) _) next
-  applied c t (drawn w l) = alike _ _ _ _ _ left right (set-back (q .labels) x l) (set-back (q .marks) (x / 64) _) next
-  applied c t (given v) = alike _ _ _ _ _ left right label marks (set-back (q .next) x v)
-  applied c t (head w) = alike _ _ _ _ _ left right label marks next
+  applied t mark = alike _ _ _ _ _ left right label (set-back (q .marks) (x / 64) _) next
+  applied t (drawn w l) = alike _ _ _ _ _ left right (set-back (q .labels) x l) (set-back (q .marks) (x / 64) _) next
+  applied t (given v) = alike _ _ _ _ _ left right label marks (set-back (q .next) x v)
+  applied t (head w) = alike _ _ _ _ _ left right label marks next
 
 pub undoes : Undoes
 unfolding step finish
 undoes q p r =
-    let m = move (q .control) r (linkMet q r) in
-    either (λ (a : Acted). back q (row r) (a .tables) ≡ q) (eqb (stepRefusal q p r) 0)
-    (applied q (row r) _ (m .touch) (there (q .control) r (linkMet q r)))
-    (applied q (row r) (q .control) nothing none)
+    let c = r .call in
+    let m = move (q .control) c (linkMet q c) in
+    either (λ (a : Acted). back q (row c) (a .tables) ≡ q) (eqb (stepRefusal q p c) 0)
+    (applied q (row c) (m .touch) (there (q .control) c (linkMet q c)))
+    (applied q (row c) nothing none)

@@ -6,8 +6,8 @@ use Prim.Native.Nat.{ℕ}
 use lib.Dec.{eqb}
 use lib.ListN.{replicate}
 use Rattle.word.specs.Anchor.{packAnchor}
-use Rattle.model.specs.declared.Record.{Record}
-use Rattle.model.specs.Tables.{Queue, queueOf, idle, started}
+use Rattle.model.specs.declared.TaskRecord.{TaskRecord}
+use Rattle.model.specs.Tables.{Queue, queueOf, unused, withCall, started}
 use Rattle.model.specs.Sound.{anchorSound, linkSound, controlSound, recordSound, rowsFit}
 use Rattle.model.specs.Places.{sideOf, row, linkSide, reading, at1, at2, move}
 use Rattle.model.specs.Route.{pushRoute, popRoute, route, onward, answer, goes, counted}
@@ -19,10 +19,10 @@ use Rattle.schedule_model.specs.Schedules.{Schedule, schedules}
 use Rattle.schedule_model.specs.Next.{scheduleRefusal}
 
 -- A queue of 7 slots: so many waiting, in slots 1 to last where the Left links lead that way.
-abbrev lane : ℕ → ℕ → List ℕ → ℕ → List Record → Queue
+abbrev lane : ℕ → ℕ → List ℕ → ℕ → List TaskRecord → Queue
 lane tasks last lefts marks records =
     let anchor = packAnchor (record { tag = 1; status = 0; left = cond (eqb last 0) 0 1; right = last }) in
-    queueOf (record { tasks = tasks; slots = 7; anchor = anchor; retries = 0; pooled = 0; head = 0 })
+    queueOf (record { tasks = tasks; slots = 7; anchor = anchor; pooled = 0; head = 0 })
     records lefts (replicate 8 0) (replicate 8 0) (marks ∷ []) []
 
 abbrev memory : List ℕ
@@ -34,12 +34,12 @@ links = 0 ∷ 0 ∷ 1 ∷ 2 ∷ 3 ∷ 4 ∷ 5 ∷ 6 ∷ []
 abbrev astray : List ℕ
 astray = replicate 8 0
 
-abbrev pop : Record
-pop = started 1 0 0 0
+abbrev pop : TaskRecord
+pop = withCall unused (started 1 0 0 0)
 
 -- A record of no kind.
-abbrev damaged : Record
-damaged = started 2 0 0 0
+abbrev damaged : TaskRecord
+damaged = withCall unused (started 2 0 0 0)
 
 abbrev why : Queue → List ℕ → ℕ
 why q ws = scheduleRefusal q ws
@@ -48,8 +48,8 @@ pub record Cases : Type 0 where
   -- Four labels wait; what is marked besides does not count.
   pub four : why (lane 2 4 links 0xfe (pop ∷ pop ∷ [])) memory ≡ 0
   pub five : why (lane 2 5 links 0 (pop ∷ pop ∷ [])) memory ≡ 42
-  pub one-idle : why (lane 2 1 links 0 (pop ∷ idle ∷ [])) memory ≡ 42
-  pub other-idle : why (lane 2 1 links 0 (idle ∷ pop ∷ [])) memory ≡ 42
+  pub one-idle : why (lane 2 1 links 0 (pop ∷ unused ∷ [])) memory ≡ 42
+  pub other-idle : why (lane 2 1 links 0 (unused ∷ pop ∷ [])) memory ≡ 42
   pub three-tasks : why (lane 3 1 links 0 (pop ∷ pop ∷ pop ∷ [])) memory ≡ 42
   -- A damaged record that is busy is no refusal.
   pub busy-damaged : why (lane 2 1 links 0 (damaged ∷ pop ∷ [])) memory ≡ 0

@@ -3,7 +3,7 @@ use mathlib.Core.Path.{_≡_}
 use Prim.Native.Nat.{ℕ, _/_}
 use lib.ListN.{getD, set}
 use Rattle.model.specs.declared.Control.{Control}
-use Rattle.model.specs.declared.Record.{Record}
+use Rattle.model.specs.declared.TaskRecord.{TaskRecord}
 use Rattle.model.specs.Tables.{Tables}
 use Rattle.model.specs.Places.{row}
 use Rattle.model.specs.Refusals.{Lent}
@@ -32,4 +32,4 @@ putBack c x s q = record {
 }
 
 abbrev pub Undoes : Type 0
-Undoes = (q : Tables) (p : Lent) (r : Record) → putBack (q .control) (row r) (saved (row r) q) (step q p r .tables) ≡ q
+Undoes = (q : Tables) (p : Lent) (r : TaskRecord) → putBack (q .control) (row (r .call)) (saved (row (r .call)) q) (step q p r .tables) ≡ q

@@ -142,12 +142,13 @@ mod tests {
         let (mut first, mut second) = (lane(&[5, 1]), lane(&[5, 9]));
         let mut third = Storage::fitting(1, 4);
         third.lend().open(1, 4, 7).expect("opens");
-        third.records[0] = Record { kind: 1, label: 9, seen: 77, ..Record::default() };
+        let idle = Record { retries: 3, ..Record::default() };
+        third.records[0] = Record { kind: 1, label: 9, seen: 77, ..idle };
         assert_eq!(join(&first.lend(), &second.lend(), &mut third.lend()), Ok(()));
         assert_eq!(third.labels, [0, 5, 1, 5, 9]);
         assert_eq!(third.lefts, [0, 0, 1, 2, 3]);
         assert_eq!(third.rights, [0, 1 << 32 | 2, 1 << 32 | 3, 1 << 32 | 4, 0]);
-        assert_eq!((third.marks[0], third.records[0]), (0b11110, Record::default()));
+        assert_eq!((third.marks[0], third.records[0]), (0b11110, idle));
         assert_eq!(third.control.anchor, (7 + 7) << 32 | 1 << 15 | 4);
     }
 

@@ -6,7 +6,7 @@ use Prim.Native.Nat.{ℕ}
 use lib.ListN.{set, replicate}
 use borrow.Author.Needs.{needs}
 use Rattle.model.specs.Tables.{Queue, queueOf, idle}
-use Rattle.rows.specs.Rows.{recordOf, recordsOf, uppersOf, queueIn}
+use Rattle.rows.specs.Rows.{callOf, recordsOf, uppersOf, queueIn, withCallAt}
 use Rattle.join.specs.Anchored.{Joins}
 use Rattle.join.proofs.Joining.{stored, untouched, upper}
 use Rattle.join.proofs.zc_join.Statement.{statement}
@@ -60,9 +60,9 @@ module _ (j : tie.After-join) where
       (j .join .result) left right label mark)
       (j .join .ensures)
 
--- A row of zeros is an idle record.
-zeros-idle : recordOf (replicate 9 0) ≡ idle
-unfolding recordOf
+-- A row of zeros has no call.
+zeros-idle : callOf (replicate 10 0) ≡ idle
+unfolding callOf
 zeros-idle = refl
 
 -- From the test of what was laid back to the joining.
@@ -78,9 +78,9 @@ returns c =
     let j = back (i .before .before) in
     let was = start j .args .records .now in (
       stored (one j) (two j) (third j) _ (left j) (right j) (label j) (mark j) (joined j) (i .if1 .taken) _ _ (row .control-row .ensures)
-          (p .put-record .ensures .0 ∙ ap (set (recordsOf was) 0) (zero .record-of .ensures ∙ zeros-idle)),
+          (p .put-call .ensures .0 ∙ ap (withCallAt (recordsOf was) 0) (zero .call-of .ensures ∙ zeros-idle)),
       upper (one j) (two j) (third j) _ (left j) (right j) (label j) (mark j) (joined j) (uppersOf was) _
-          (p .put-record .ensures .1 ∙ sym (ap (λ (b : Bool). cond b (set (uppersOf was) 0 0) (uppersOf was)) (i .if1 .taken))),
+          (p .put-call .ensures .1 ∙ sym (ap (λ (b : Bool). cond b (set (uppersOf was) 0 0) (uppersOf was)) (i .if1 .taken))),
     )
 
 returns-2 : tie.Need-returns-2

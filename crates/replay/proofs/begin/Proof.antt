@@ -1,7 +1,7 @@
 -- The header, and a fresh run.
 use mathlib.Core.Path.{refl}
 use borrow.Author.Needs.{needs}
-use Rattle.rows.specs.Rows.{recordOf, recordsOf, upperOf, uppersOf}
+use Rattle.rows.specs.Rows.{callOf, recordOf, recordsOf, upperOf, uppersOf}
 use Rattle.carry.specs.Page.{written}
 use Rattle.replay.specs.Trace.{fresh}
 use Rattle.replay.specs.Feed.{firstPage}
@@ -9,7 +9,7 @@ use Rattle.replay.proofs.begin.Statement.{statement}
 use Rattle.replay.proofs.begin.Tie as tie
 
 returns : tie.Need-returns
-unfolding written fresh firstPage recordsOf recordOf uppersOf upperOf
+unfolding written fresh firstPage recordsOf recordOf callOf uppersOf upperOf
 returns c =
     let w = c .before .before .write-header .ensures .0 in
     rw (w .stop, w .stored)

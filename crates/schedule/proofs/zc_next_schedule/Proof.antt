@@ -23,8 +23,8 @@ returns c =
     (told .next-schedule .ensures rs
     (record {
       count = length-records (start .args .records .now);
-      first = sym (first .record-at .ensures);
-      second = sym (second .record-at2 .ensures);
+      first = sym (first .call-at .ensures);
+      second = sym (second .call-at2 .ensures);
     }))
 
 pub zc-next-schedule-spec : {M : Type 1} → statement M

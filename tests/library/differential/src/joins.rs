@@ -31,6 +31,7 @@ fn lane(dice: &mut Dice, count: u64) -> Storage {
     for record in &mut tables.records {
         record.label = dice.throw() as u32;
         record.seen = dice.throw();
+        record.retries = dice.throw();
     }
     let (left, right) = (order.first().unwrap_or(&0), order.last().unwrap_or(&0));
     tables.control.tasks = tasks;
@@ -50,8 +51,10 @@ fn fresh(dice: &mut Dice, slots: u64, count: u64) -> Storage {
         _ => dice.throw() >> 32,
     };
     tables.lend().open(tasks, slots, tag.min(u64::from(u32::MAX)) as u32).expect("opens");
-    tables.control.retries = dice.throw();
-    tables.records[0].kind = dice.between(0, 3);
+    for record in &mut tables.records {
+        record.kind = dice.between(0, 3);
+        record.retries = dice.throw();
+    }
     tables
 }
 

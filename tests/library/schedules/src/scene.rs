@@ -89,12 +89,20 @@ fn half_done(dice: &mut Dice) -> Storage {
             start(&mut storage, dice, task, pooled);
         }
     }
+    spoil(&mut storage, dice);
+    storage
+}
+
+/// Any counts, which matter to no schedule; and now and then damage.
+fn spoil(storage: &mut Storage, dice: &mut Dice) {
+    for record in &mut storage.records {
+        record.retries = dice.pick(&[record.retries, 0, 4_294_967_295, u64::MAX]);
+    }
     if dice.percent(40) {
         for _ in 0..dice.between(1, 2) {
-            (DAMAGES[dice.throw() as usize % DAMAGES.len()].inflict)(&mut storage, dice);
+            (DAMAGES[dice.throw() as usize % DAMAGES.len()].inflict)(storage, dice);
         }
     }
-    storage
 }
 
 /// The tasks in turn, one for the other now and then.

@@ -138,7 +138,7 @@ step-and-back-returns t c =
     let start = start1 .before .before .before in
     let z = start .pre .1 in
     there-and-back _ _ _ _ _ _ _ _ _ (z .0) (z .1 .0) (z .1 .1 .0) (z .1 .1 .1) _ _ _ _ _ _ _ _ (row .row-of .ensures)
-    (kept .keep .ensures (start .args .c)) (stepped .step .ensures) (gone .onward .ensures) (put .put-back .ensures (start .args .c)) (noted .note .ensures)
+    (kept .keep .ensures (start .args .c)) (stepped .step .ensures 0) (gone .onward .ensures) (put .put-back .ensures (start .args .c)) (noted .note .ensures)
 
 pub step-and-back-same-length : (t : ℕ) → step-and-back-lts.Need-same-length (
   row-of-reads.Asked,
