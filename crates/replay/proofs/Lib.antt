@@ -1,4 +1,6 @@
 pub mod Feeding
 pub mod Loop
 pub mod Pages
+pub mod PageEnds
 pub mod Whole
+pub mod Cutting
