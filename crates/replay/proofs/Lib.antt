@@ -2,5 +2,6 @@ pub mod Feeding
 pub mod Loop
 pub mod Pages
 pub mod PageEnds
+pub mod PageLoop
 pub mod Whole
 pub mod Cutting

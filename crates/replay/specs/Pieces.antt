@@ -1,9 +1,10 @@
 -- A file that comes in pieces, carried out with one buffer: fed page by page, and each page written out. (Document 01: The run file and
 -- its trace.)
-use mathlib.Core.Bool.{cond}
+use mathlib.Core.Bool.{true, cond}
+use mathlib.Core.Path.{_≡_}
 use mathlib.Core.List.{List, [], _∷_, _++_}
 use Prim.Native.Nat.{ℕ, zero, suc}
-use lib.Dec.{eqb}
+use lib.Dec.{eqb, leb}
 use lib.ListN.{length, take, drop}
 use Rattle.carry.specs.Page.{Page}
 use Rattle.replay.specs.Feed.{feedPage, finishPage, firstPage}
@@ -67,3 +68,18 @@ lastPage left p = finishPage left (atFront p)
 
 unfoldable pub afterEnd : Between → Between
 afterEnd s = let q = lastPage (length (s .rest)) (s .page) in record { page = q; rest = s .rest; bytes = s .bytes ++ held q }
+
+-- A round: the bytes b that were left, and c that was read behind them. Nothing read is the end of the file.
+unfoldable pub roundPage : List ℕ → List ℕ → Page → Page
+roundPage b c p = cond (leb (length c) 0) (lastPage (length b) p) (pagesOf (b ++ c) (fromStart p) .page)
+
+-- A run that stands after some pieces, its buffer first lent as `out`, and has bytes left; and one that has gone to its end: the file's,
+-- or before it.
+pub record Stands (out : List ℕ) (p : Page) (rest : List ℕ) : Type 0 where
+  pub pieces : List (List ℕ)
+  pub page : p ≡ afterPieces (begun out) pieces .page
+  pub left : rest ≡ afterPieces (begun out) pieces .rest
+
+pub data Gone (out : List ℕ) (p : Page) : Type 0 where
+  ended : (cs : List (List ℕ)) → p ≡ afterEnd (afterPieces (begun out) cs) .page → Gone out p
+  stopped : (cs : List (List ℕ)) → p ≡ afterPieces (begun out) cs .page → p .run .over ≡ true → Gone out p
