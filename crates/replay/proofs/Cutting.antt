@@ -129,3 +129,14 @@ over-ends s [] e = over-end s e
 over-ends s (c ∷ cs) e =
     let same = over-piece s e c in
     over-ends (afterPiece s c) cs (ap (λ (p : Page). p .run .over) (same .1) ∙ e) ∙ same .0
+
+pieces-append : (s : Between) (cs ds : List (List ℕ)) → afterPieces s (cs ++ ds) ≡ afterPieces (afterPieces s cs) ds
+unfolding afterPieces
+pieces-append s [] ds = refl
+pieces-append s (c ∷ cs) ds = pieces-append (afterPiece s c) cs ds
+
+pub stopped-early : (out : List ℕ) (cs ds : List (List ℕ)) → fieldRoom ≤ length out → afterPieces (begun out) cs .page .run .over ≡ true
+    → afterPieces (begun out) cs .bytes ≡ traceOf (flatten (cs ++ ds))
+stopped-early out cs ds h over =
+    sym (over-ends (afterPieces (begun out) cs) ds over) ∙ ap (λ (s : Between). afterEnd s .bytes) (sym (pieces-append (begun out) cs ds))
+    ∙ cut-anywhere out (cs ++ ds) h

@@ -3,5 +3,6 @@ pub mod Loop
 pub mod Pages
 pub mod PageEnds
 pub mod PageLoop
+pub mod Bounds
 pub mod Whole
 pub mod Cutting
