@@ -107,7 +107,8 @@ end-reached file s r =
     ∙ ap (λ (x : Fed). header ++ (f .lines ++ finished (x .run) (length (x .rest)) .lines)) (sym (r .fed))
 
 -- The theorem: for every cutting, and every buffer with room for a field.
-pub cut-anywhere : (out : List ℕ) (cs : List (List ℕ)) → fieldRoom ≤ length out → afterEnd (afterPieces (begun out) cs) .bytes ≡ traceOf (flatten cs)
+pub cut-anywhere : (out : List ℕ) (cs : List (List ℕ)) → fieldRoom ≤ length out
+    → afterEnd (afterPieces (begun out) cs) .bytes ≡ traceOf (flatten cs)
 unfolding begun
 cut-anywhere out cs h = end-reached (flatten cs) (afterPieces (begun out) cs) (pieces-reached [] (begun out) cs (first-reached out h))
 

@@ -1,17 +1,16 @@
 -- The loop over the pages of a piece: a page, and then the rest; and the rounds, a piece and then the next.
 use Prim.Native.Nat.{ℕ, zero, suc, _-_, _<_, _≤_}
-use mathlib.Core.Path.{_≡_, refl, sym, ap, _∙_, subst}
-use mathlib.Core.Bool.{Bool, true, false, not, _&&_, cond}
+use mathlib.Core.Path.{_≡_, refl, sym, ap, _∙_}
+use mathlib.Core.Bool.{Bool, true, false, cond}
 use mathlib.Core.List.{List, [], _∷_, _++_}
 use native.Mathlib.Omega.{arith}
-use lib.Dec.{leb, ltb, eqb}
+use lib.Dec.{leb, eqb}
 use lib.ListN.{length, drop}
-use borrow.Author.Tests.{eqb-true, eqb-false, le-leb, lt-leb, leb-true, leb-false, lt-ltb}
+use borrow.Author.Tests.{eqb-true, eqb-false, le-leb, lt-leb, leb-true, leb-false}
 use Rattle.carry.specs.Page.{Page}
 use Rattle.carry.proofs.Pages.{cond-true, cond-false}
-use Rattle.replay.specs.Pieces.{atFront, fromStart, nextPage, Written, pagesIn, pagesOf, Between, begun, afterPiece, afterPieces, lastPage, afterEnd}
+use Rattle.replay.specs.Pieces.{fromStart, nextPage, Written, pagesIn, pagesOf, Between, begun, afterPiece, afterPieces, lastPage, afterEnd}
 use Rattle.replay.specs.Pieces.{roundPage, Stands, Gone, ended, stopped}
-use Rattle.replay.proofs.Loop.{affirmed}
 use Rattle.replay.proofs.PageEnds.{next-onward, pages-over, pages-still, pages-next}
 
 abbrev left-at : Written → Page
@@ -36,7 +35,8 @@ module _ (bytes : List ℕ) where
           ap left-at (pages-next bytes p (suc n) e moves) ∙ ih (omega (arith, on, h)) ∙ sym (ap left-at (pages-next bytes p n e moves))
 
   -- A page that takes bytes, and then the rest; the last page; and a run that is over.
-  pub pages-rest : (p : Page) → p .run .over ≡ false → (nextPage bytes p .at ≡ p .at → ⊥) → pagesOf bytes (nextPage bytes p) .page ≡ pagesOf bytes p .page
+  pub pages-rest : (p : Page) → p .run .over ≡ false → (nextPage bytes p .at ≡ p .at → ⊥)
+      → pagesOf bytes (nextPage bytes p) .page ≡ pagesOf bytes p .page
   unfolding pagesOf
   pages-rest p e h =
       let on = next-onward bytes p h in
@@ -87,12 +87,9 @@ module _ (out : List ℕ) (p p′ : Page) (b c : List ℕ) (s : Stands out p b) 
         left = piece-left h ∙ ap (λ (x : Between). x .rest) more;
       }
 
-  pub round-gone : (ltb 0 (length c) && not (p′ .run .over)) ≡ false → Gone out p′
-  round-gone h = go (leb (length c) 0) refl
+  pub round-gone : (0 < length c → p′ .run .over ≡ true) → Gone out p′
+  round-gone over = go (leb (length c) 0) refl
     where
-      over : 0 < length c → p′ .run .over ≡ true
-      over k = affirmed (p′ .run .over) (subst (λ (x : Bool). (x && not (p′ .run .over)) ≡ false) (lt-ltb 0 (length c) k) h)
-
       go : (x : Bool) → leb (length c) 0 ≡ x → Gone out p′
       go true k = ended (s .pieces) (end-page (leb-true _ _ k))
       go false k =
