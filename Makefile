@@ -8,7 +8,7 @@
 
 # The crates that export calls. Each is compiled for itself (`rt staticlib NAME`); the library holds them
 # all, and a program takes in only those whose calls it makes.
-EXPORTS = capi capi_record capi_run history audit find waiting sheet schedule join
+EXPORTS = capi capi_record capi_run history audit find waiting sheet shelf schedule join
 
 PREFIX ?= /usr/local
 LIBRARY ?= target/lib/libzeppolecape.a

@@ -16,7 +16,8 @@
  *     cc -Iinclude main.c target/lib/libzeppolecape.a
  *
  * The library is for x86-64. It calls nothing but memset, from the openings, zc_serve, zc_audit_words
- * and the order sheets, and memcpy, from zc_find and the order sheets.
+ * and the order sheets, memcpy, from zc_find, zc_next_schedule and the order sheets, and memmove, from
+ * zc_save and zc_return.
  *
  * In short:
  *
@@ -71,7 +72,7 @@
  *   zc_run            608      2461      4083      4712
  *   zc_report         368       284       515     20331
  *   table bytes         -       240       816     30120
- *   code bytes: audit 1804, capi 10379, capi_record 5813, capi_run 6089, find 3517, history 9145, join 3567, schedule 10341, sheet 3512, waiting 831
+ *   code bytes: audit 1804, capi 10379, capi_record 5813, capi_run 6089, find 3517, history 9145, join 3567, schedule 10341, sheet 3512, shelf 3744, waiting 831
  * As to the machine: x86-64, System V calling convention. The code uses the red zone (128 bytes
  * below the stack pointer) and SSE registers, no AVX: an interrupt handler that makes a call saves
  * the SSE state first, and an interrupt that is not masked during a call leaves the red zone alone.
@@ -211,6 +212,10 @@ extern "C" {
 /* Refusal of zc_next_schedule, because of the state: tasks not 2, one of them idle, or over four
  * labels waiting. */
 #define ZC_NOT_TWO 42
+
+/* Refusals of zc_save and zc_return: one because of the input, one because of the state. */
+#define ZC_NO_SHELF 43 /* shelves are 0 to 7 */
+#define ZC_UNFILLED 44 /* the shelf was never filled: its tasks are still 0 */
 
 /* Refusals of zc_join, because of the state: see there. */
 #define ZC_NOT_AT_REST 47 /* a source is not at rest, or the third is not fresh */
@@ -510,6 +515,8 @@ static inline const char *zc_refusal_text(uint64_t number)
     case ZC_WRONG_PUSH: return "a slot named in a pooled queue, or none in the other";
     case ZC_BAD_SHEET: return "the sheet is malformed";
     case ZC_NOT_TWO: return "not two busy tasks, or over four labels waiting";
+    case ZC_NO_SHELF: return "shelf not 0 to 7";
+    case ZC_UNFILLED: return "the shelf was never filled";
     case ZC_NOT_AT_REST: return "a queue is not at rest, or the third is not fresh";
     case ZC_CROWDED: return "more labels than slots in the third queue";
     default: return "not a refusal";
@@ -855,6 +862,128 @@ static inline zc_sheet_reply zc_queue_sheet_words(const zc_queue *queue, const u
 {
     return zc_sheet_words(queue->control, listed, listed_count, rules, rule_count, words,
                           word_count, ZC_ROW_TABLES(queue));
+}
+#endif
+
+/* ---- Shelves ------------------------------------------------------------------------------
+ * Before a changeover the line saves its queue, and may go back to it: eight shelves, 0 to 7, each a
+ * lent copy of control, records, rows, marks and, of a pooled queue, next table. Lend them with every
+ * entry zero at first, and let only zc_save write them.
+ *
+ * Shelves are lent as flat tables. Each is cut into eight equal parts of count div 8 entries, and
+ * shelf n is part n: in C an array of eight arrays. Controls are one a shelf, eight of them.
+ */
+#define ZC_SHELVES 8
+
+/*
+ * Saves a queue on a shelf, and overwrites what lies there: control, with the head; `tasks` records
+ * whole, half-done calls and retries with them; rows 0 to slots; mark words 0 to slots div 64; rows 0
+ * to slots of next if the queue is pooled. All other entries keep their values: those beyond, those
+ * of the other shelves, and next of a queue with named slots, whose length does not matter either.
+ * The queue is only read. Neither its records nor its links are looked at.
+ *
+ * Answers 0, or refuses: 34 for control, 43, 12 (the queue's tables or the shelf's, by this control;
+ * fewer than eight controls). A refusal changes nothing. No two of the tables overlap.
+ */
+uint32_t zc_save(const zc_control *control, const zc_record *records, size_t record_count,
+                 zc_control *shelf_controls, size_t shelf_control_count, zc_record *shelf_records,
+                 size_t shelf_record_count, uint64_t shelf, const uint64_t *lefts,
+                 size_t left_count, const uint64_t *rights, size_t right_count,
+                 const uint32_t *labels, size_t label_count, const uint64_t *marks,
+                 size_t mark_count, const uint64_t *next, size_t next_count, uint64_t *shelf_lefts,
+                 size_t shelf_left_count, uint64_t *shelf_rights, size_t shelf_right_count,
+                 uint32_t *shelf_labels, size_t shelf_label_count, uint64_t *shelf_marks,
+                 size_t shelf_mark_count, uint64_t *shelf_next, size_t shelf_next_count);
+
+/*
+ * Puts the queue that lies on a shelf back, its tasks, slots and way of opening too: the same
+ * entries, the other way. What the queue's tables held before does not matter, nor does its control.
+ * The shelf keeps its copy. Calls that were half done at the saving are so again; what was answered
+ * between the saving and the return is then no part of the queue's history.
+ *
+ * Answers 0, or refuses: 43, 44, 34 for the shelf's control, 12 (by the shelf's control; fewer than
+ * eight controls, of which one that is not lent reads as zero: 44). A refusal changes nothing.
+ */
+uint32_t zc_return(zc_control *control, zc_record *records, size_t record_count,
+                   const zc_control *shelf_controls, size_t shelf_control_count,
+                   const zc_record *shelf_records, size_t shelf_record_count, uint64_t shelf,
+                   uint64_t *lefts, size_t left_count, uint64_t *rights, size_t right_count,
+                   uint32_t *labels, size_t label_count, uint64_t *marks, size_t mark_count,
+                   uint64_t *next, size_t next_count, const uint64_t *shelf_lefts,
+                   size_t shelf_left_count, const uint64_t *shelf_rights, size_t shelf_right_count,
+                   const uint32_t *shelf_labels, size_t shelf_label_count,
+                   const uint64_t *shelf_marks, size_t shelf_mark_count,
+                   const uint64_t *shelf_next, size_t shelf_next_count);
+
+/* The shelves' tables named once. */
+typedef struct zc_shelves {
+    zc_control *controls;
+    size_t control_count;
+    zc_record *records;
+    size_t record_count;
+    uint64_t *lefts;
+    size_t left_count;
+    uint64_t *rights;
+    size_t right_count;
+    uint32_t *labels;
+    size_t label_count;
+    uint64_t *marks;
+    size_t mark_count;
+    uint64_t *next; /* for pooled queues; else null and 0 will do */
+    size_t next_count;
+} zc_shelves;
+
+/*
+ * Declares the tables of eight shelves and the zc_shelves `name` that lends them, all static, zero at
+ * first and as long as queues of `tasks` and `slots`, two constants, ask for; shorter queues fit too.
+ * Shelf n is name_tables.lefts[n] and so on. ZC_NAMED_SHELF_STORAGE leaves out the next table.
+ */
+#define ZC_SHELF_STORAGE(name, tasks, slots)                                                       \
+    ZC_SHELVES_OF(name, tasks, slots, uint64_t next[ZC_SHELVES][ZC_ROWS(slots)];                   \
+                  , name##_tables.next[0], ZC_SHELVES * ZC_ROWS(slots))
+#define ZC_NAMED_SHELF_STORAGE(name, tasks, slots) ZC_SHELVES_OF(name, tasks, slots, , NULL, 0)
+
+/* Both of these; the next table is declared, lent and counted by the last three. */
+#define ZC_SHELVES_OF(name, tasks, slots, declared, lent, count)                                   \
+    ZC_LAYOUT((tasks) >= 1 && (tasks) <= ZC_MOST_TASKS);                                           \
+    ZC_LAYOUT((slots) >= 1 && (slots) <= ZC_MOST_SLOTS);                                           \
+    static struct {                                                                                \
+        zc_control controls[ZC_SHELVES];                                                           \
+        zc_record records[ZC_SHELVES][tasks];                                                      \
+        uint64_t lefts[ZC_SHELVES][ZC_ROWS(slots)], rights[ZC_SHELVES][ZC_ROWS(slots)];            \
+        uint64_t marks[ZC_SHELVES][ZC_MARK_WORDS(slots)];                                          \
+        declared uint32_t labels[ZC_SHELVES][ZC_ROWS(slots)];                                      \
+    } name##_tables;                                                                               \
+    static const zc_shelves name = {                                                               \
+        name##_tables.controls,  ZC_SHELVES,                                                       \
+        name##_tables.records[0], ZC_SHELVES * (tasks),                                            \
+        name##_tables.lefts[0],  ZC_SHELVES * ZC_ROWS(slots),                                      \
+        name##_tables.rights[0], ZC_SHELVES * ZC_ROWS(slots),                                      \
+        name##_tables.labels[0], ZC_SHELVES * ZC_ROWS(slots),                                      \
+        name##_tables.marks[0],  ZC_SHELVES * ZC_MARK_WORDS(slots),                                \
+        lent, count,                                                                               \
+    }
+
+#ifndef ZC_CORE_ONLY
+#define ZC_SHELF_TABLES(shelves)                                                                   \
+    (shelves)->lefts, (shelves)->left_count, (shelves)->rights, (shelves)->right_count,            \
+        (shelves)->labels, (shelves)->label_count, (shelves)->marks, (shelves)->mark_count,        \
+        (shelves)->next, (shelves)->next_count
+
+static inline uint32_t zc_queue_save(const zc_queue *queue, const zc_shelves *shelves,
+                                     uint64_t shelf)
+{
+    return zc_save(queue->control, queue->records, queue->record_count, shelves->controls,
+                   shelves->control_count, shelves->records, shelves->record_count, shelf,
+                   ZC_TABLES(queue), ZC_SHELF_TABLES(shelves));
+}
+
+static inline uint32_t zc_queue_return(const zc_queue *queue, const zc_shelves *shelves,
+                                       uint64_t shelf)
+{
+    return zc_return(queue->control, queue->records, queue->record_count, shelves->controls,
+                     shelves->control_count, shelves->records, shelves->record_count, shelf,
+                     ZC_TABLES(queue), ZC_SHELF_TABLES(shelves));
 }
 #endif
 

@@ -43,7 +43,8 @@ mkdir "$work/forward" &&
     gcc -std=c11 -O2 -DAS_LIBRARY -Iinclude -c bench/schedules.c -o "$work/schedules.o" &&
     gcc -std=c11 -O2 -DAS_LIBRARY -Iinclude -c bench/join_reference.c -o "$work/join.o" &&
     gcc -std=c11 -O2 -DAS_LIBRARY -Iinclude -c bench/serve.c -o "$work/serve.o" &&
-    ar rcs "$work/forward/libzeppolecape.a" "$work"/{forward,audit,sheet,schedules,join,serve}.o &&
+    gcc -std=c11 -O2 -DAS_LIBRARY -Iinclude -c bench/shelf_reference.c -o "$work/shelf.o" &&
+    ar rcs "$work/forward/libzeppolecape.a" "$work"/{forward,audit,sheet,schedules,join,serve,shelf}.o &&
     gcc -shared -fPIC -O2 -DAS_LIBRARY -Iinclude bench/reference.c -o "$work/faultless.so" || exit 2
 parts="layout fence waiting taken bindings examples bench differential" # the facts are the library's
 [ -z "${ALONE:-}" ] || parts=differential

@@ -149,6 +149,46 @@ static uint64_t call(zc_queue whole, int *wrong)
     return code;
 }
 
+static struct ground racks[7];
+
+/* Eight shelves for queues of so many tasks and slots, each table up to its fence. */
+static zc_shelves lend_shelves(uint64_t tasks, uint64_t slots)
+{
+    size_t rows = ZC_SHELVES * ZC_ROWS(slots), words = ZC_SHELVES * ZC_MARK_WORDS(slots);
+    zc_shelves shelves = {
+        .controls = last(racks[0], ZC_SHELVES * sizeof(zc_control)),
+        .control_count = ZC_SHELVES,
+        .records = last(racks[1], ZC_SHELVES * tasks * sizeof(zc_record)),
+        .record_count = ZC_SHELVES * tasks,
+        .lefts = last(racks[2], rows * sizeof(uint64_t)),
+        .left_count = rows,
+        .rights = last(racks[3], rows * sizeof(uint64_t)),
+        .right_count = rows,
+        .labels = last(racks[4], rows * sizeof(uint32_t)),
+        .label_count = rows,
+        .marks = last(racks[5], words * sizeof(uint64_t)),
+        .mark_count = words,
+        .next = last(racks[6], rows * sizeof(uint64_t)),
+        .next_count = rows,
+    };
+    return shelves;
+}
+
+/* A saving on the last shelf, whose parts end at the fences, and a return from there. */
+static int shelve(zc_queue whole)
+{
+    uint64_t shelf = ZC_SHELVES - 1;
+    zc_shelves shelves = lend_shelves(whole.control->tasks, whole.control->slots);
+    zc_queue queue = cut_some(whole);
+    int too_short = shared_short(queue, whole, whole.control->pooled != 0) ||
+                    queue.record_count < whole.record_count;
+    uint32_t expected = too_short ? ZC_SHORT : 0;
+    int wrong = zc_queue_save(&queue, &shelves, shelf) != expected;
+    wrong |= zc_queue_save(&whole, &shelves, shelf) != 0;
+    wrong |= zc_queue_return(&queue, &shelves, shelf) != expected;
+    return wrong;
+}
+
 /* A word whose slots are rows, or near the last, or anything. */
 static uint64_t wild_word(uint64_t slots)
 {
@@ -206,6 +246,8 @@ int main(void)
     page = (size_t)sysconf(_SC_PAGESIZE);
     for (int at = 0; at < GROUNDS; at++)
         grounds[at] = fenced((ZC_MOST_SLOTS + 3) * sizeof(uint64_t));
+    for (int at = 0; at < 7; at++)
+        racks[at] = fenced(ZC_SHELVES * ZC_ROWS(ZC_MOST_SLOTS) * sizeof(uint64_t));
     for (int round = 0; round < 3000; round++) {
         uint64_t tasks = 1 + draw(ZC_MOST_TASKS);
         uint64_t slots = sizes[draw(sizeof sizes / sizeof *sizes)];
@@ -219,6 +261,7 @@ int main(void)
             else
                 carried_out++;
         wrong |= list(whole);
+        wrong |= shelve(whole);
         wrong |= walk(whole);
     }
     wrong |= refused < 1000 || carried_out < 1000;

@@ -13,7 +13,9 @@ trap 'rm -rf "$work"' EXIT
 mkdir "$work/library" &&
     gcc -std=c11 -O2 -DAS_LIBRARY -Iinclude -c bench/reference.c -o "$work/reference.o" &&
     gcc -std=gnu11 -O2 -Iinclude -c tests/library/part_forward.c -o "$work/forward.o" &&
-    ar rcs "$work/library/libzeppolecape.a" "$work"/{reference,forward}.o &&
+    gcc -std=c11 -O2 -DAS_LIBRARY -Iinclude -c bench/join_reference.c -o "$work/join.o" &&
+    gcc -std=c11 -O2 -DAS_LIBRARY -Iinclude -c bench/shelf_reference.c -o "$work/shelf.o" &&
+    ar rcs "$work/library/libzeppolecape.a" "$work"/{reference,join,shelf,forward}.o &&
     ZEPPOLECAPE_LIB_DIR=$work/library cargo build --quiet --offline --locked --profile checked -p library-differential \
         --target-dir "$work/cargo" || exit 2
 

@@ -2,17 +2,18 @@
 # Tests of the static library through its C interface.
 #
 #     tests/library/run.sh [FOLDER]     of libzeppolecape.a; default: target/lib, where `make` writes it
-#     tests/library/run.sh --stand-in   bench/reference.c, audit_reference.c, sheet.c, schedules.c, join_reference.c and serve.c, the same calls by hand, in its place
+#     tests/library/run.sh --stand-in   the same calls by hand in its place: bench/reference.c, audit_reference.c, sheet.c, schedules.c,
+#                                       join_reference.c, serve.c and shelf_reference.c
 #
 # PARTS names what runs, all of it by default: header, a program NAME for each tests/library/NAME.c that has a main,
-# bindings examples projects bench audit sheet serve schedules joining facts differential.
+# bindings examples projects bench audit sheet serve schedules joining shelves facts differential.
 # SEED and TIMES go to the differential test (1 and 1). BUILD keeps what is built there.
 set -u -o pipefail
 from=$PWD
 cd "$(dirname "$0")/../.."
 
-PROGRAMS=$(grep -l '^int main' tests/library/*.c | grep -v '/join.c$' | xargs -n 1 basename -s .c | tr '\n' ' ')
-PARTS=${PARTS:-header $PROGRAMS bindings examples projects bench audit sheet serve schedules joining facts differential}
+PROGRAMS=$(grep -l '^int main' tests/library/*.c | grep -v '/join.c$\|/shelf.c$' | xargs -n 1 basename -s .c | tr '\n' ' ')
+PARTS=${PARTS:-header $PROGRAMS bindings examples projects bench audit sheet serve schedules joining shelves facts differential}
 CC=${CC:-gcc}
 CXX=${CXX:-g++}
 WARNINGS="-Wall -Wextra -Wpedantic -Werror"
@@ -37,7 +38,8 @@ case ${1:-} in
     $CC -std=c11 -O2 $WARNINGS -DAS_LIBRARY -Iinclude -c bench/schedules.c -o "$work/schedules.o" || exit 2
     $CC -std=c11 -O2 $WARNINGS -DAS_LIBRARY -Iinclude -c bench/join_reference.c -o "$work/join.o" || exit 2
     $CC -std=c11 -O2 $WARNINGS -DAS_LIBRARY -Iinclude -c bench/serve.c -o "$work/serve.o" || exit 2
-    ar rcs "$archive" "$work"/{library,audit,sheet,schedules,join,serve}.o
+    $CC -std=c11 -O2 $WARNINGS -DAS_LIBRARY -Iinclude -c bench/shelf_reference.c -o "$work/shelf.o" || exit 2
+    ar rcs "$archive" "$work"/{library,audit,sheet,schedules,join,serve,shelf}.o
     ;;
 *)
     given=${1:-$PWD/target/lib}
@@ -87,7 +89,8 @@ counts() { # WHAT COMMAND..
 
 part_header() {
     printf '#include "zeppolecape.h"\nZC_QUEUE_STORAGE(queue, 2, 3);\nZC_NAMED_STORAGE(named, 2, 3);\n' >"$work/alone.c"
-    printf 'uint64_t used(void);\nuint64_t used(void) { return zc_queue_free_slot(&queue) + zc_queue_free_slot(&named); }\n' >>"$work/alone.c"
+    printf 'ZC_SHELF_STORAGE(shelves, 2, 3);\nZC_NAMED_SHELF_STORAGE(few, 2, 3);\n' >>"$work/alone.c"
+    printf 'uint64_t used(void);\nuint64_t used(void) { return zc_queue_free_slot(&queue) + zc_queue_free_slot(&named) + shelves.left_count + few.next_count; }\n' >>"$work/alone.c"
     for standard in c11 c17; do
         holds "header as $standard" $CC -std=$standard $WARNINGS -Wconversion -Iinclude -fsyntax-only "$work/alone.c"
     done
@@ -104,7 +107,7 @@ part_header() {
     holds "header for the core alone" $CC -fkeep-inline-functions -Iinclude -c "$work/core.c" -o "$work/core.o"
     holds "the core's calls" test "$(nm -u "$work/core.o" | tr -d ' U' | sort | tr '\n' ' ')" = 'zc_open zc_open_pooled zc_pop zc_push zc_push_pooled zc_report zc_step '
     # The macros refuse what the opening would.
-    for macro in ZC_QUEUE_STORAGE ZC_NAMED_STORAGE; do
+    for macro in ZC_QUEUE_STORAGE ZC_NAMED_STORAGE ZC_SHELF_STORAGE ZC_NAMED_SHELF_STORAGE; do
         for sizes in 0,3 17,3 2,0 2,1024; do
             printf '#include "zeppolecape.h"\n%s(queue, %s);\n' $macro $sizes >"$work/storage.c"
             holds "no $macro for $sizes" sh -c "! $CC -Iinclude -fsyntax-only $work/storage.c"
@@ -155,6 +158,7 @@ example() { # NAME LINE
 part_examples() {
     example interrupt 'no label lost'
     example renew 'no label lost'
+    example changeover 'cheese: 301 302 303'
     example sheet "a wedge behind the pallet's label: broken, 7105 must print before 9000"
     holds "C example compiles" $CC $WARNINGS -Iinclude examples/c/executive.c "$archive" -o "$work/executive_c"
     holds "Rust example compiles" in_cargo build --release -p executive
@@ -230,6 +234,12 @@ part_schedules() {
 
 part_joining() { # join.c is linked with the call by hand, and planted faults are tried in that
     holds "joinings against C and against the pushes, and planted faults" sh tests/library/join.sh "$archive"
+}
+
+part_shelves() { # shelf.c is linked with the calls by hand, and planted faults are tried in those
+    holds "shelves against C, and planted faults" sh tests/library/shelf.sh "$archive"
+    holds "the benchmark of shelves compiles" $CC -std=gnu11 -O2 -Iinclude bench/shelf.c bench/shelf_reference.c "$archive" -o "$work/shelf_bench"
+    holds "the benchmark of shelves runs" "$work/shelf_bench" 16 1023 2
 }
 
 part_differential() {

@@ -37,6 +37,7 @@ pub mod raw;
 mod schedules;
 mod serve;
 mod sheet;
+mod shelves;
 mod tables;
 #[cfg(test)]
 mod tests;
@@ -50,6 +51,7 @@ pub use raw::{Control, Record};
 pub use schedules::{Ending, Schedule, Schedules, MOST_SCHEDULE, SCHEDULE_WORDS};
 pub use serve::{Request, ANSWER_WORDS, REQUEST_WORDS};
 pub use sheet::{rule, SheetVerdict, MOST_LISTED, MOST_RULES, SHEET_WORDS};
+pub use shelves::{ShelfTables, Shelves, SHELVES};
 pub use tables::Tables;
 
 /// The version of this crate, and of the header and the library that it goes with.

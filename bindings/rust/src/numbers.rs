@@ -119,6 +119,8 @@ refusals! {
     BadHistory = 40, "not a history that can be judged", "(of [`audit`](crate::audit()) alone)";
     WrongPush = 41, "a slot named in a pooled queue, or none in the other";
     NotTwo = 42, "not two busy tasks, or over four labels waiting", "(of [`Queue::schedules`](crate::Queue::schedules) alone)";
+    NoShelf = 43, "shelf not 0 to 7", "(of [`Queue::save`](crate::Queue::save) and [`Queue::return_to`](crate::Queue::return_to))";
+    Unfilled = 44, "the shelf was never filled", "(of [`Queue::return_to`](crate::Queue::return_to) alone)";
     ManyAsked = 45, "more than 32 labels asked for", "(of [`Queue::find`](crate::Queue::find) alone)";
     BadSheet = 46, "the sheet is malformed", "(of [`Queue::sheet`](crate::Queue::sheet) alone)";
     NotAtRest = 47, "a queue is not at rest, or the third is not fresh", "(of [`Queue::join`](crate::Queue::join) alone)";

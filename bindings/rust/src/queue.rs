@@ -7,7 +7,8 @@ use alloc::vec;
 use alloc::vec::Vec;
 
 /// A queue that owns its tables. They are only written by the library's calls, so that
-/// [`Refusal::Unsound`], [`Refusal::Short`] and [`Refusal::NoSide`] cannot occur after `open`.
+/// [`Refusal::Unsound`], [`Refusal::Short`] and [`Refusal::NoSide`] cannot occur after `open`, but
+/// for shelves that are too short ([`Queue::save`], [`Queue::return_to`]).
 #[derive(Clone, Debug)]
 pub struct Queue {
     pub(crate) control: Control,

@@ -202,7 +202,10 @@ fn lent_tables_and_a_lent_record() {
 #[test]
 fn refusals_have_their_numbers() {
     let known: Vec<u64> = (0..100).filter(|&n| Refusal::numbered(n).is_some()).collect();
-    assert_eq!(known, [10, 11, 12, 13, 14, 15, 30, 31, 32, 33, 34, 40, 41, 42, 45, 46, 47, 48]);
+    assert_eq!(
+        known,
+        [10, 11, 12, 13, 14, 15, 30, 31, 32, 33, 34, 40, 41, 42, 43, 44, 45, 46, 47, 48]
+    );
     assert_eq!(Refusal::Worn.to_string(), "33: the Anchor tag is too high for another start");
 }
 
@@ -302,4 +305,25 @@ fn two_lanes_become_one() {
     assert_eq!(third.find(&[1, 9]).unwrap().positions, [Some(2), Some(4)]);
     assert_eq!(third.join(&first, &second), Err(Refusal::NotAtRest));
     assert_eq!(Queue::open(1, 3, 0).unwrap().join(&first, &first), Err(Refusal::Crowded));
+}
+
+#[test]
+fn a_queue_goes_back_to_its_shelf() {
+    let mut queue = Queue::open(2, 4, 0).unwrap();
+    let mut shelves = Shelves::new(2, 4);
+    assert_eq!(queue.return_to(&shelves, 8), Err(Refusal::NoShelf));
+    assert_eq!(queue.return_to(&shelves, 7), Err(Refusal::Unfilled));
+    queue.push(0, Side::Right, 2, 700).unwrap();
+    finish(&mut queue, 0);
+    queue.pop(1, Side::Left).unwrap();
+    queue.step(1).unwrap();
+    queue.save(&mut shelves, 7).unwrap();
+    assert_eq!(finish(&mut queue, 1).1, Popped { slot: 2, label: 700 });
+    assert_eq!(queue.return_to(&shelves, 7), Ok(()));
+    assert_eq!(finish(&mut queue, 1).1, Popped { slot: 2, label: 700 });
+    assert_eq!(queue.save(&mut shelves, 8), Err(Refusal::NoShelf));
+    assert_eq!(queue.save(&mut Shelves::new(1, 4), 0), Err(Refusal::Short));
+    let mut small = Queue::open(2, 3, 0).unwrap();
+    assert_eq!(small.return_to(&shelves, 7), Err(Refusal::Short));
+    assert_eq!(Refusal::Unfilled.to_string(), "44: the shelf was never filled");
 }

@@ -3,7 +3,8 @@
 //! The machine: `word` (packed words), `tables` (what is lent), `refusal` (the
 //! ordered tests), `places` (what a step does), `machine`, `find` and `read_out` (the outside calls).
 //! The program: `runfile` (fields in), `run` (events), `trace` (lines out).
-//! Over the tables: `sheet` (document 02, #111 and #112), `schedules` (#107), `join` (#113).
+//! Over the tables: `sheet` (document 02, #111 and #112), `schedules` (#107), `join` (#113),
+//! `shelf` (#109).
 //! The judge: `clerk` (a sequential deque), `contents` (labels waiting), `pool` (free
 //! slots), `invariant` (what holds between any two steps), `retries` (the counts' sum), `check`
 //! (all of them at once).
@@ -33,6 +34,7 @@ pub mod scenario;
 pub mod schedules;
 pub mod script;
 pub mod sheet;
+pub mod shelf;
 pub mod shift;
 pub mod tables;
 pub mod trace;

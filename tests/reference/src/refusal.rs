@@ -22,6 +22,8 @@ pub enum Refusal {
     Unsound = 34,
     WrongPush = 41,
     NotTwo = 42,
+    NoShelf = 43,
+    Unfilled = 44,
     ManyAsked = 45,
     NotAtRest = 47,
     Crowded = 48,

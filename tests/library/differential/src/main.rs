@@ -1,10 +1,10 @@
 //! The static library and the second program driven by the same calls, answers and all tables
 //! compared after each: scenes that are accepted, every fault alone and in pairs, tables of any
-//! contents, histories from an opening, order sheets, joinings, and lists carried out in one call.
-//! Then audits of histories.
+//! contents, histories from an opening, order sheets, joinings, shelves, and lists carried out in one
+//! call. Then audits of histories.
 //!
 //!     differential [SEED] [TIMES]       all of it
-//!     differential SEED TIMES PART      one part alone: calls, sheet, join, serve or audit
+//!     differential SEED TIMES PART      one part alone: calls, sheet, join, shelf, serve or audit
 
 mod audit;
 mod audit_histories;
@@ -18,6 +18,7 @@ mod plant;
 mod records;
 mod serves;
 mod sheets;
+mod shelves;
 mod sound;
 mod tally;
 mod theirs;
@@ -48,6 +49,9 @@ fn main() -> ExitCode {
     }
     if wanted("serve") {
         serves::serves(&mut tally, &mut dice, 20_000 * times);
+    }
+    if wanted("shelf") {
+        shelves::shelves(&mut tally, &mut dice, 20_000 * times);
     }
     println!("seed {seed}: {} calls compared", tally.calls);
     if wanted("audit") {

@@ -1,0 +1,3 @@
+pub mod Pasting
+pub mod Extents
+pub mod Lent

@@ -1,0 +1,11 @@
+pub mod Lists
+pub mod Parts
+pub mod Cut
+pub mod CutCalls
+pub mod Copied
+pub mod Accepted
+pub mod Laws
+pub mod Stretches
+pub mod Changeovers
+pub mod Pasts
+pub mod Promises

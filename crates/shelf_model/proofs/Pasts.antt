@@ -1,0 +1,125 @@
+-- A queue, and a past that leaves it: what holds after every accepted opening holds of both.
+use mathlib.Core.Bool.{Bool, true, false, _&&_, cond}
+use mathlib.Core.List.{List, [], _∷_}
+use mathlib.Core.Path.{_≡_, _∙_, ap, ap₂, refl, subst, sym}
+use Prim.Native.Nat.{ℕ, zero, suc, _+_, _<_, _≤_}
+use native.Mathlib.Omega.{arith}
+use lib.Dec.{eqb}
+use Rattle.model.specs.declared.Control.{Control}
+use Rattle.model.specs.declared.Outcome.the-variants.{Refused}
+use Rattle.model.specs.declared.TaskRecord.{TaskRecord}
+use Rattle.model.specs.Tables.{Queue, isPooled, taskAt}
+use Rattle.model.specs.Sound.{controlSound}
+use Rattle.model.specs.Calls.{act, opened}
+use Rattle.model.specs.Walk.{contents, entries}
+use Rattle.model.specs.History.{AfterOpeningAs, All, Call, Event, Lawful, Linearized, NeverUnsound, Request, final, ledger, run}
+use Rattle.model.specs.Retries.{retriesBelow}
+use Rattle.model.proofs.tests.Truth.{not-both}
+use Rattle.model.proofs.laws.Sizes.{act-pooled, act-tasks, fits}
+use Rattle.model.proofs.Openings.{after-opening}
+use Rattle.model.proofs.Linearizable.{linearizable}
+use Rattle.model.proofs.NeverUnsound.{never-unsound}
+use Rattle.model.proofs.Standing.{Standing, standing}
+use Rattle.shelf_model.specs.Cut.{cut}
+use Rattle.shelf_model.specs.Changeovers.{Explained, Past, True}
+use Rattle.shelf_model.proofs.Lists.{enough-take}
+use Rattle.shelf_model.proofs.Cut.{fits-cut}
+use Rattle.shelf_model.proofs.CutCalls.{contents-cut, run-cut}
+use Rattle.shelf_model.proofs.Stretches.{task-cut}
+
+below-cut : (q : Queue) (n : ℕ) → n ≤ q .tables .control .tasks → retriesBelow (cut q) n ≡ retriesBelow q n
+unfolding retriesBelow
+below-cut q zero h = refl
+below-cut q (suc n) h =
+    ap₂ (λ (r : TaskRecord) (k : ℕ). r .retries + k) (task-cut q n (omega arith)) (below-cut q n (omega arith))
+
+long-cut : (q : Queue) → fits (cut q) ≡ fits q
+long-cut q = ap₂ _&&_ (fits-cut (q .tables)) (enough-take (q .tables .control .tasks) (q .records))
+
+-- No list changes the number of tasks, nor the way of opening.
+pub final-tasks : (os : List Request) (q : Queue) → final q os .tables .control .tasks ≡ q .tables .control .tasks
+unfolding final
+final-tasks [] q = refl
+final-tasks (o ∷ os) q = final-tasks os (act q (o .task) (o .op) .queue) ∙ act-tasks q (o .task) (o .op)
+
+final-pooled : (os : List Request) (q : Queue) → final q os .tables .control .pooled ≡ q .tables .control .pooled
+unfolding final
+final-pooled [] q = refl
+final-pooled (o ∷ os) q = final-pooled os (act q (o .task) (o .op) .queue) ∙ act-pooled q (o .task) (o .op)
+
+open-pooled : (pooled : Bool) → AfterOpeningAs pooled (λ q os. isPooled (q .tables .control) ≡ pooled)
+unfolding opened
+open-pooled pooled = after-opening pooled (λ q os. isPooled (q .tables .control) ≡ pooled) (λ q tasks slots tag e os. way pooled)
+  where
+    way : (b : Bool) → eqb (cond b 1 0) 1 ≡ b
+    way true = refl
+    way false = refl
+
+-- What holds after every named opening.
+if-named : (P : Queue → List Request → Type 0) → AfterOpeningAs false P → (pooled : Bool) → pooled ≡ false → AfterOpeningAs pooled P
+if-named P h true e = absurd (not-both refl e)
+if-named P h false e = h
+
+-- A queue, and a past that leaves it.
+module _ (p : Past) (q : Queue) (h : Explained p q) where
+  abbrev t : True p
+  t = h .true
+
+  abbrev now : Queue
+  now = final (p .opened) (p .since)
+
+  -- What holds after every accepted opening holds of the past.
+  pub past-has : (P : Queue → List Request → Type 0) → AfterOpeningAs (t .pooled) P → P (p .opened) (p .since)
+  past-has P x =
+      subst (λ (o : Queue). P o (p .since)) (sym (t .opened)) (x (t .before) (t .tasks) (t .slots) (t .tag) (t .accepted) (p .since))
+
+  same-control : q .tables .control ≡ now .tables .control
+  same-control = ap (λ (x : Queue). x .tables .control) (h .left)
+
+  pub same-tasks : q .tables .control .tasks ≡ now .tables .control .tasks
+  same-tasks = ap (λ (c : Control). c .tasks) same-control
+
+  same-walk : contents (q .tables) ≡ contents (now .tables)
+  same-walk = sym (contents-cut (q .tables)) ∙ ap (λ (x : Queue). contents (x .tables)) (h .left) ∙ contents-cut (now .tables)
+
+  pub same-run : (l : List Request) → run q l ≡ run now l
+  same-run l = sym (run-cut l q) ∙ ap (λ (x : Queue). run x l) (h .left) ∙ run-cut l now
+
+  pub same-task : (i : ℕ) → i < q .tables .control .tasks → taskAt q i ≡ taskAt now i
+  same-task i k =
+      sym (task-cut q i k) ∙ ap (λ (x : Queue). taskAt x i) (h .left) ∙ task-cut now i (subst (λ n. i < n) same-tasks k)
+
+  pub stands : Standing q (ledger (p .events) .deque)
+  stands =
+      let s = past-has (λ q os. Standing (final q os) (ledger (run q os) .deque)) (standing (t .pooled)) in
+      record {
+        control = subst (λ (c : Control). controlSound c ≡ true) (sym same-control) (s .control);
+        long = sym (long-cut q) ∙ ap fits (h .left) ∙ long-cut now ∙ s .long;
+        walk = same-walk ∙ s .walk ∙ ap (λ (es : List Event). entries (ledger es .deque)) (sym (t .events));
+      }
+
+  pub all-served : All (λ (c : Call). Lawful c (c .ending)) (ledger (p .events) .calls)
+  all-served =
+      subst (λ (es : List Event). All (λ (c : Call). Lawful c (c .ending)) (ledger es .calls)) (sym (t .events))
+      (past-has Linearized (linearizable (t .pooled)) .calls)
+
+  pub operations-sound : All (λ (e : Event). e .outcome ≡ Refused 34 → ⊥) (p .events)
+  operations-sound =
+      subst (λ (es : List Event). All (λ (e : Event). e .outcome ≡ Refused 34 → ⊥) es) (sym (t .events))
+      (past-has NeverUnsound (never-unsound (t .pooled)) .operations)
+
+  pub counts : retriesBelow q (q .tables .control .tasks) ≡ retriesBelow now (now .tables .control .tasks)
+  counts =
+      sym (below-cut q (q .tables .control .tasks) (omega arith))
+      ∙ ap (λ (x : Queue). retriesBelow x (x .tables .control .tasks)) (h .left)
+      ∙ below-cut now (now .tables .control .tasks) (omega arith)
+
+  is-named : isPooled (q .tables .control) ≡ false → t .pooled ≡ false
+  is-named e =
+      sym (past-has (λ q os. isPooled (q .tables .control) ≡ t .pooled) (open-pooled (t .pooled)))
+      ∙ ap (λ (n : ℕ). eqb n 1) (sym (final-pooled (p .since) (p .opened)) ∙ ap (λ (c : Control). c .pooled) (sym same-control))
+      ∙ e
+
+  pub has-named : (P : Queue → List Request → Type 0) → AfterOpeningAs false P
+      → isPooled (q .tables .control) ≡ false → P (p .opened) (p .since)
+  has-named P x e = past-has P (if-named P x (t .pooled) (is-named e))
