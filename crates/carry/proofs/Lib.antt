@@ -1,3 +1,4 @@
 pub mod Pages
 pub mod Turns
 pub mod Fields
+pub mod Room

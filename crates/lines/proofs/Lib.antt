@@ -3,3 +3,4 @@ pub mod Lanes
 pub mod Glyphs
 pub mod Digits
 pub mod Decimal
+pub mod Lengths

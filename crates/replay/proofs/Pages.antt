@@ -81,15 +81,15 @@ module _ (bytes : List ℕ) where
         go (breaks f g) = run.feed-over (length b) (told (p .run) b .run) b (broken (p .run) b g)
         go (moves l k f g) = absurd (omega arith)
 
-  abbrev Done : Page → Type 0
+  abbrev pub Done : Page → Type 0
   Done p = ahead bytes p ≡ unmoved (p .run) (drop (p .at) bytes)
 
   -- A run that is over; a field taken that took no bytes.
-  over-done : (p : Page) → p .run .over ≡ true → Done p
+  pub over-done : (p : Page) → p .run .over ≡ true → Done p
   unfolding feed
   over-done p e = run.feed-over (length (drop (p .at) bytes)) (p .run) (drop (p .at) bytes) e
 
-  still-done : (p : Page) → fits p ≡ true → takes bytes p .at ≡ p .at → Done (takes bytes p)
+  pub still-done : (p : Page) → fits p ≡ true → takes bytes p .at ≡ p .at → Done (takes bytes p)
   unfolding written told sizeAt
   still-done p f h =
       let e = taken bytes p f in

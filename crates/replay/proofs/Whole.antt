@@ -1,5 +1,4 @@
--- What the definitions come to. Fed at once: the first page, fed with room to spare and finished, holds the file's trace. Fed page by
--- page, the buffer emptied each time: what a page holds, then what is left to print, is what was to print.
+-- A file fed at once: the first page, fed with room to spare and finished, holds its trace. (`Cutting.antt`: in pieces, and page by page.)
 use Prim.Native.Nat.{ℕ, _+_, _-_, _≤_}
 use mathlib.Core.Path.{_≡_, refl, sym, ap, _∙_}
 use mathlib.Core.Bool.{Bool, true, false, _&&_, _||_, cond}
@@ -7,8 +6,8 @@ use mathlib.Core.List.{List, [], _++_, append-nil, append-assoc}
 use native.Mathlib.Nat.{zero-add, add-zero}
 use native.Mathlib.Omega.{arith}
 use lib.Dec.{leb, eqb}
-use lib.ListN.{length, take, drop, length-drop, length-append}
-use lib.Seq.{sets, sets-eq, take-append-seam}
+use lib.ListN.{length, drop, length-drop, length-append}
+use lib.Seq.{sets}
 use borrow.Author.Tests.{leb-true, le-leb}
 use Rattle.lines.specs.Line.{header, fitting, room}
 use Rattle.lines.proofs.Puts.{sets-append}
@@ -17,14 +16,14 @@ use Rattle.carry.specs.Page.{Page, written, breaks, fieldRoom}
 use Rattle.carry.proofs.Pages.{cond-true, breaks-fits}
 use Rattle.replay.specs.Trace.{Fed, unmoved, after, feed, finished, fresh, printed, traceOf}
 use Rattle.replay.specs.Feed.{feedPage, finishPage, emptyPage, firstPage}
-use Rattle.replay.proofs.Pages.{fits, ahead, Reaches, page-reaches, page-done}
+use Rattle.replay.proofs.Pages.{fits, Reaches, page-reaches, page-done}
 
 -- Lines behind what stands at the front of a buffer.
 sets-behind : (out xs ys : List ℕ) → sets (sets out 0 xs) (length xs) ys ≡ sets out 0 (xs ++ ys)
 sets-behind out xs ys = ap (λ (n : ℕ). sets (sets out 0 xs) n ys) (sym (zero-add (length xs))) ∙ sets-append out 0 xs ys
 
 -- The end of a file, where a line fits: what `finished` tells is written.
-finish-writes : (left : ℕ) (p : Page) → leb (p .to + room) (length (p .out)) ≡ true
+pub finish-writes : (left : ℕ) (p : Page) → leb (p .to + room) (length (p .out)) ≡ true
     → finishPage left p ≡ written p (finished (p .run) left) (p .uppers)
 unfolding finishPage finished written
 finish-writes left p f = go (p .run .over || (p .run .opened && eqb left 0))
@@ -85,19 +84,3 @@ module _ (before file : List ℕ) where
         ap (λ (x : Page). x .to) e ∙ ap (λ (n : ℕ). n + length (ending .lines)) to
             ∙ sym (length-append (header ++ reached .lines) (ending .lines)) ∙ ap length all,
       )
-
--- What was written from the front of a buffer, where it fits, is what stands there.
-front : (out l : List ℕ) → length l ≤ length out → take (length l) (sets out 0 l) ≡ l
-front out l h = ap (take (length l)) (sets-eq l out 0 (omega (arith, h))) ∙ take-append-seam l (drop (0 + length l) out)
-
--- A page fed from the front of its buffer holds the lines of the fields that it took.
-pub page-lines : (bytes : List ℕ) (p : Page) → p .to ≡ 0
-    → (let q = feedPage bytes p in q .to ≤ length (p .out) → take (q .to) (q .out) ++ ahead bytes q .lines ≡ ahead bytes p .lines)
-page-lines bytes p z h =
-    let q = feedPage bytes p in
-    let r = page-reaches bytes p in
-    let to : q .to ≡ length (r .lines) = r .to ∙ ap (λ (n : ℕ). n + length (r .lines)) z ∙ zero-add (length (r .lines)) in
-    let there : take (q .to) (q .out) ≡ r .lines =
-    ap (λ (n : ℕ). take n (q .out)) to ∙ ap (take (length (r .lines))) (r .out ∙ ap (λ (n : ℕ). sets (p .out) n (r .lines)) z)
-    ∙ front (p .out) (r .lines) (rw to at h) in
-    ap (λ (l : List ℕ). l ++ ahead bytes q .lines) there ∙ sym (ap (λ (x : Fed). x .lines) (r .rest))

@@ -32,6 +32,12 @@ emptyPage out = record { run = fresh; uppers = replicate 16 0; out = out; to = 0
 unfoldable pub firstPage : List ℕ → Page
 firstPage out = written (emptyPage out) (record { run = fresh; lines = fitting (length out) 0 header }) (replicate 16 0)
 
+-- The program's tables, all zero.
+abbrev pub Zeros : List (List ℕ) → List ℕ → List ℕ → List ℕ → List ℕ → List ℕ → Type 0
+Zeros rows lefts rights labels marks next =
+    (rows ≡ replicate 16 (replicate 10 0)) × (lefts ≡ replicate 1024 0) × (rights ≡ replicate 1024 0) × (labels ≡ replicate 1024 0)
+    × (marks ≡ replicate 16 0) × (next ≡ replicate 1024 0)
+
 -- The same over the program's tables.
 abbrev pub Begins : List ℕ → List ℕ → RunState → Type 0
 Begins before after s =

@@ -1,2 +1,3 @@
 pub mod Trace
 pub mod Feed
+pub mod Pieces

@@ -1,22 +1,36 @@
 //! Prints the trace of the run file on standard input.
+//!
+//! No contract says what the system reads into a buffer, or that it writes what it is lent; what is between is proved.
 use carry::RunState;
-ghost use Prim.Native.Nat.{_≤_};
+ghost use Prim.Native.Nat.{ℕ, _≤_, _-_};
 ghost use mathlib.Core.Path.{_≡_};
+ghost use mathlib.Core.Bool.{true, false, not, _&&_};
+ghost use mathlib.Core.List.{List};
+ghost use lib.Dec.{ltb};
 ghost use lib.ListN.{length, take};
 ghost use lib.Seq.{slice};
+ghost use Rattle.carry.specs.Page.{pageOf, fieldRoom};
+ghost use Rattle.replay.specs.Feed.{Zeros};
+ghost use Rattle.replay.specs.Pieces.{fromStart, nextPage, pagesOf, lastPage, roundPage, Gone};
 
 // Writes out the lines, or tells that it cannot.
-fn flush(out: &[u8], to: usize) -> bool {
-    if to <= out.len() {
-        if io::write_all(1, &out[..to]) {
-            return true;
-        }
+fn flush(out: &[u8], to: usize) -> bool
+    requires { ⌜ to ≤ length (now out) ⌝ }
+{
+    if io::write_all(1, &out[..to]) {
+        return true;
     }
     io::write_all(2, b"trace: cannot write\n");
     false
 }
 
-// One call of `feed`, and its lines written out. A failed write ends the run.
+/// A run after some pages, and whether they were written out.
+pub struct Taken {
+    pub state: RunState,
+    pub written: bool,
+}
+
+// One call of `feed`, and what its page holds written out.
 fn take_page(
     s: RunState,
     bytes: &[u8],
@@ -27,17 +41,23 @@ fn take_page(
     labels: &mut [u32],
     marks: &mut [u64],
     next: &mut [u64],
-) -> RunState {
-    let mut q = replay::feed(s, bytes, out, rows, lefts, rights, labels, marks, next);
+) -> Taken
+    ensures { λ r.
+        ⌜ pageOf (r .state) (now (out .exit)) (now (rows .exit))
+        (now (lefts .exit)) (now (rights .exit)) (now (labels .exit)) (now (marks .exit)) (now (next .exit))
+        ≡ nextPage (now (bytes .entry))
+        (pageOf s (now (out .entry)) (now (rows .entry))
+        (now (lefts .entry)) (now (rights .entry)) (now (labels .entry)) (now (marks .entry)) (now (next .entry))) ⌝ }
+{
+    let mut p = s;
+    p.to = 0;
+    let q = replay::feed(p, bytes, out, rows, lefts, rights, labels, marks, next);
     let to = q.to;
-    if !flush(out, to) {
-        q.over = true;
-    }
-    q.to = 0;
-    q
+    let written = flush(out, to);
+    Taken { state: q, written }
 }
 
-// Every whole field of the bytes read: `feed` takes none only where none is left.
+// Every whole field of the bytes, until a page cannot be written: a page takes none only where none is left.
 fn take_piece(
     s: RunState,
     bytes: &[u8],
@@ -48,19 +68,27 @@ fn take_piece(
     labels: &mut [u32],
     marks: &mut [u64],
     next: &mut [u64],
-) -> RunState {
+) -> Taken
+    ensures { λ r.
+        ⌜ (r .written ≡ true → pageOf (r .state) (now (out .exit)) (now (rows .exit))
+        (now (lefts .exit)) (now (rights .exit)) (now (labels .exit)) (now (marks .exit)) (now (next .exit))
+        ≡ pagesOf (now (bytes .entry))
+        (fromStart (pageOf s (now (out .entry)) (now (rows .entry))
+        (now (lefts .entry)) (now (rights .entry)) (now (labels .entry)) (now (marks .entry)) (now (next .entry)))) .page) ⌝ }
+{
     let mut q = s;
     q.at = 0;
-    let mut left = bytes.len();
-    while left > 0 {
-        left -= 1;
+    while !q.over {
         let at = q.at;
-        q = take_page(q, bytes, out, rows, lefts, rights, labels, marks, next);
-        if q.over | (q.at == at) {
-            return q;
+        let t = take_page(q, bytes, out, rows, lefts, rights, labels, marks, next);
+        let written = t.written;
+        q = t.state;
+        if !written | (q.at == at) {
+            return Taken { state: q, written };
         }
     }
-    q
+    let written = true;
+    Taken { state: q, written }
 }
 
 /// What a read left: how many bytes there are, as many as before at the end of the input.
@@ -72,7 +100,8 @@ pub struct Input {
 // Reads once behind the first `have` bytes.
 fn read_more(input: &mut [u8], have: usize) -> Input
     requires { ⌜ have ≤ length (now input) ⌝ }
-    ensures { λ r. ⌜ r .have ≤ length (now (input .entry)) ⌝ }
+    ensures { λ r. ⌜ (have ≤ r .have) × (r .have ≤ length (now (input .entry))) ⌝ }
+    ensures { λ r. ⌜ take have (now (input .exit)) ≡ take have (now (input .entry)) ⌝ }
 {
     let got = libc::read(0, &mut input[have..]);
     let n = have + io::count(got, &input[have..]);
@@ -85,7 +114,7 @@ fn read_more(input: &mut [u8], have: usize) -> Input
 // Moves the bytes from `from` to `have` to the front, and answers how many there are.
 fn slide(input: &mut [u8], from: usize, have: usize) -> usize
     requires { ⌜ have ≤ length (now input) ⌝ }
-    ensures { λ r. ⌜ r ≤ length (now (input .entry)) ⌝ }
+    ensures { λ r. ⌜ r ≡ have - from ⌝ }
     ensures { λ r. ⌜ take r (now (input .exit)) ≡ slice from have (now (input .entry)) ⌝ }
 {
     if have < from {
@@ -98,21 +127,29 @@ fn slide(input: &mut [u8], from: usize, have: usize) -> usize
     n
 }
 
-// The end of the input: the rest of the trace.
-fn end(s: RunState, left: usize, out: &mut [u8]) -> RunState {
-    let mut q = replay::finish(s, left, out);
+// The end of the input, where so many bytes are left: the rest of the trace.
+fn end(s: RunState, left: usize, out: &mut [u8]) -> Taken
+    ensures { λ r.
+        ⌜ ((ws : List (List ℕ)) (ls rs bs ms ns : List ℕ)
+        → pageOf (r .state) (now (out .exit)) ws ls rs bs ms ns ≡ lastPage left (pageOf s (now (out .entry)) ws ls rs bs ms ns)) ⌝ }
+{
+    let mut p = s;
+    p.to = 0;
+    let q = replay::finish(p, left, out);
     let to = q.to;
-    flush(out, to);
-    q.over = true;
-    q
+    let written = flush(out, to);
+    Taken { state: q, written }
 }
 
-/// A run after a read, and how many bytes are left for the next.
+/// A run after a read: how many bytes the input holds, those from `state.at` on left; whether to read on; whether a read or write failed.
 pub struct Round {
     pub state: RunState,
     pub have: usize,
+    pub going: bool,
+    pub failed: bool,
 }
 
+// Reads behind the bytes that are left, and takes them all, or the end of the input.
 fn take_round(
     s: RunState,
     input: &mut [u8],
@@ -126,27 +163,39 @@ fn take_round(
     next: &mut [u64],
 ) -> Round
     requires { ⌜ have ≤ length (now input) ⌝ }
-    ensures { λ r. ⌜ r .have ≤ length (now (input .entry)) ⌝ }
+    ensures { λ r. ⌜ (have - s .at ≤ r .have) × (r .have ≤ length (now (input .entry))) ⌝ }
+    ensures { λ r. ⌜ take (have - s .at) (now (input .exit)) ≡ slice (s .at) have (now (input .entry)) ⌝ }
+    ensures { λ r.
+        ⌜ (r .failed ≡ false → pageOf (r .state) (now (out .exit)) (now (rows .exit))
+        (now (lefts .exit)) (now (rights .exit)) (now (labels .exit)) (now (marks .exit)) (now (next .exit))
+        ≡ roundPage (slice (s .at) have (now (input .entry))) (slice (have - s .at) (r .have) (now (input .exit)))
+        (pageOf s (now (out .entry)) (now (rows .entry))
+        (now (lefts .entry)) (now (rights .entry)) (now (labels .entry)) (now (marks .entry)) (now (next .entry)))) ⌝ }
+    ensures { λ r. ⌜ (r .failed ≡ false → r .going ≡ (ltb (have - s .at) (r .have) && not (r .state .over))) ⌝ }
 {
-    let more = read_more(input, have);
+    let rest = slide(input, s.at, have);
+    let more = read_more(input, rest);
     let full = more.have;
     if more.failed {
         io::write_all(2, b"trace: cannot read\n");
-        let mut q = s;
-        q.over = true;
         return Round {
-            state: q,
-            have: have,
+            state: s,
+            have: full,
+            going: false,
+            failed: true,
         };
     }
-    if full == have {
-        let q = end(s, have, out);
+    if full == rest {
+        let t = end(s, rest, out);
+        let q = t.state;
         return Round {
             state: q,
-            have: have,
+            have: full,
+            going: false,
+            failed: !t.written,
         };
     }
-    let r = take_piece(
+    let t = take_piece(
         s,
         &input[..full],
         out,
@@ -157,13 +206,16 @@ fn take_round(
         marks,
         next,
     );
-    let left = slide(input, r.at, full);
+    let q = t.state;
     Round {
-        state: r,
-        have: left,
+        state: q,
+        have: full,
+        going: !q.over,
+        failed: !t.written,
     }
 }
 
+// Reads and writes until the file ends, or the run, and tells whether all of the trace was written.
 fn rounds(
     input: &mut [u8],
     out: &mut [u8],
@@ -173,13 +225,21 @@ fn rounds(
     labels: &mut [u32],
     marks: &mut [u64],
     next: &mut [u64],
-) {
+) -> Taken
+    requires { ⌜ fieldRoom ≤ length (now out) ⌝ }
+    requires { ⌜ Zeros (now rows) (now lefts) (now rights) (now labels) (now marks) (now next) ⌝ }
+    ensures { λ r.
+        ⌜ (r .written ≡ true → Gone (now (out .entry)) (pageOf (r .state) (now (out .exit)) (now (rows .exit))
+        (now (lefts .exit)) (now (rights .exit)) (now (labels .exit)) (now (marks .exit)) (now (next .exit)))) ⌝ }
+{
     let mut s = replay::begin(out);
     let to = s.to;
     if !flush(out, to) {
-        return;
+        return Taken {
+            state: s,
+            written: false,
+        };
     }
-    s.to = 0;
     let mut have = 0;
     // A proved loop has to end, and nothing says that the input does: a count that no run uses up.
     let mut turns = u64::MAX;
@@ -197,12 +257,18 @@ fn rounds(
             marks,
             next,
         );
-        let q = r.state;
-        if q.over {
-            return;
+        s = r.state;
+        if r.failed | !r.going {
+            return Taken {
+                state: s,
+                written: !r.failed,
+            };
         }
-        s = q;
         have = r.have;
+    }
+    Taken {
+        state: s,
+        written: false,
     }
 }
 

@@ -1,57 +1,87 @@
--- The lent buffers keep their lengths; `turns` falls.
-use mathlib.Core.Path.{_≡_, _∙_}
-use Prim.Native.Nat.{_≤_}
+-- The run stands after the pieces read so far. The lent buffers keep their lengths; `turns` falls.
+use mathlib.Core.Path.{_≡_, refl, sym, _∙_}
+use mathlib.Core.List.{List}
+use Prim.Native.Nat.{ℕ, _≤_}
 use native.Mathlib.Omega.{arith}
 use lib.ListN.{length}
+use lib.Seq.{slice, drop-nil}
 use borrow.Author.Needs.{needs}
+use Rattle.carry.specs.Page.{pageOf}
+use Rattle.replay.specs.Pieces.{Stands}
+use Rattle.replay.proofs.Bounds.{begun-within}
+use Rattle.trace.proofs.Reading.{never, first-stands, round-on, round-ends}
 use Rattle.trace.proofs.rounds.Statement.{statement}
 use Rattle.trace.proofs.rounds.Tie as tie
 
 abbrev Inv-loop : tie.InvT-loop
 Inv-loop input₀ out₀ rows₀ lefts₀ rights₀ labels₀ marks₀ next₀ s₀ to have₀ turns₀ input out rows lefts rights labels marks next s have turns =
-    (have ≤ length input) × (length input ≡ length input₀) × (length out ≡ length out₀) × (length rows ≡ length rows₀)
+    ((o : List ℕ) → Stands o (pageOf s₀ out₀ rows₀ lefts₀ rights₀ labels₀ marks₀ next₀) (slice (s₀ .at) have₀ input₀)
+    → Stands o (pageOf s out rows lefts rights labels marks next) (slice (s .at) have input))
+    × (have ≤ length input) × (length input ≡ length input₀) × (length out ≡ length out₀) × (length rows ≡ length rows₀)
     × (length lefts ≡ length lefts₀) × (length rights ≡ length rights₀) × (length labels ≡ length labels₀) × (length marks ≡ length marks₀)
     × (length next ≡ length next₀)
 
 abbrev μ-loop : tie.MeasureT-loop
 μ-loop input₀ out₀ rows₀ lefts₀ rights₀ labels₀ marks₀ next₀ s₀ to have₀ turns₀ input out rows lefts rights labels marks next s have turns = turns
 
--- A turn of the loop: the round taken, what it was lent, and the beginning of the trace.
-module _ (c : tie.After-q Inv-loop μ-loop) where
+-- A turn of the loop: the round taken, what it was lent, the run before it, and the beginning of the trace.
+module _ (c : tie.After-struct-known2 Inv-loop μ-loop) where
   abbrev done : tie.After-take-round Inv-loop μ-loop
   done =
       let marks = c .before .before .before .before in
       let rights = marks .before .before .before .before in
       let rows = rights .before .before .before .before in
-      rows .before .before .before .before
+      let out = rows .before .before .before .before in
+      out .before .before
 
   abbrev lent : tie.After-take-round-arg Inv-loop μ-loop
   lent =
       let more = done .before .before .before .before in
       more .before .before .before .before
 
+  abbrev loop : tie.At-loop Inv-loop μ-loop
+  loop = lent .before .before
+
   abbrev begun : tie.After-begin Inv-loop μ-loop
-  begun =
-      let loop = lent .before .before in
-      let told = loop .before .before .before .before in
-      told .before .before
+  begun = let told = loop .before .before .before .before in told .before .before
+
+  abbrev start : tie.Start Inv-loop μ-loop
+  start =
+      let known = begun .before .before .before .before in
+      known .before .before .before .before .before
+
+flush-requires : tie.Need-flush-requires Inv-loop μ-loop
+flush-requires c κs = begun-within _ _ (c .before .before .before .begin .ensures)
+
+returns-2 : tie.Need-returns-2 Inv-loop μ-loop
+returns-2 c = λ w.
+    let turn = c .before .before in
+    let round = done turn .take-round in
+    let says = round .ensures in
+    let first = first-stands _ _ _ _ _ _ _ _ _ _ (start turn .pre .1) (begun turn .begin .ensures) (drop-nil (begun turn .begin .result .at)) in
+    round-ends _ _ _ _ _ _ _ _ _ _ (loop turn .loop .inv .0 _ first) (says .0 .0) (says .0 .1) (round .kept .1 .0) (says .1 .0)
+    (says .1 .1 .0) (says .1 .1 .1) (c .before .if2 .taken) w
 
 loop-again : tie.Need-loop-again Inv-loop μ-loop
 loop-again c =
-    let round = done (c .before) .take-round in
+    let turn = c .before in
+    let round = done turn .take-round in
+    let says = round .ensures in
     let kept = round .kept .1 .1 .1 in
-    let inv = lent (c .before) .before .before .loop .inv in
-    let within = round .ensures in
-    let same = round .kept .1 .0 in (
-      omega arith,
-      same ∙ inv .1,
-      kept .0 ∙ inv .2,
-      kept .1 .0 ∙ inv .3,
-      kept .1 .1 .0 ∙ inv .4,
-      kept .1 .1 .1 .0 ∙ inv .5,
-      kept .1 .1 .1 .1 .0 ∙ inv .6,
-      kept .1 .1 .1 .1 .1 .0 ∙ inv .7,
-      kept .1 .1 .1 .1 .1 .1 .0 ∙ inv .8,
+    let inv = loop turn .loop .inv in
+    let same = round .kept .1 .0 in
+    let within = says .0 .1 in (
+      (λ o h.
+          round-on _ _ _ _ _ _ _ _ _ _ (inv .0 o h) (says .0 .0) within same (says .1 .0) (says .1 .1 .0) (says .1 .1 .1) (c .if2 .left)),
+      omega (arith, within, same),
+      same ∙ inv .2,
+      kept .0 ∙ inv .3,
+      kept .1 .0 ∙ inv .4,
+      kept .1 .1 .0 ∙ inv .5,
+      kept .1 .1 .1 .0 ∙ inv .6,
+      kept .1 .1 .1 .1 .0 ∙ inv .7,
+      kept .1 .1 .1 .1 .1 .0 ∙ inv .8,
+      kept .1 .1 .1 .1 .1 .1 .0 ∙ inv .9,
     )
 
 pub rounds-spec : {M : Type 1} → statement M
@@ -61,21 +91,21 @@ rounds-spec =
     Inv-loop
     μ-loop
     (λ c κs. search needs)
+    flush-requires
+    (λ c. search needs)
+    (λ c. λ z. never (sym z))
+    (λ c. ((λ o h. h), search needs, refl, refl, refl, refl, refl, refl, refl, refl))
+    (λ c. search needs)
     (λ c κs. search needs)
-    (λ c. search needs)
-    (λ c. search needs)
-    (λ c. search needs)
-    (λ c. search needs)
-    (λ c κs. search needs)
-    (λ c. done (c .before) .take-round .kept .1 .0 ∙ lent (c .before) .before .before .loop .inv .1)
-    (λ c. done (c .before) .take-round .kept .1 .1 .1 .0 ∙ lent (c .before) .before .before .loop .inv .2 ∙ begun (c .before) .begin .kept .0)
-    (λ c. done (c .before) .take-round .kept .1 .1 .1 .1 .0 ∙ lent (c .before) .before .before .loop .inv .3)
-    (λ c. done (c .before) .take-round .kept .1 .1 .1 .1 .1 .0 ∙ lent (c .before) .before .before .loop .inv .4)
-    (λ c. done (c .before) .take-round .kept .1 .1 .1 .1 .1 .1 .0 ∙ lent (c .before) .before .before .loop .inv .5)
-    (λ c. done (c .before) .take-round .kept .1 .1 .1 .1 .1 .1 .1 .0 ∙ lent (c .before) .before .before .loop .inv .6)
-    (λ c. done (c .before) .take-round .kept .1 .1 .1 .1 .1 .1 .1 .1 .0 ∙ lent (c .before) .before .before .loop .inv .7)
-    (λ c. done (c .before) .take-round .kept .1 .1 .1 .1 .1 .1 .1 .1 .1 .0 ∙ lent (c .before) .before .before .loop .inv .8)
-    (λ c. search needs)
+    (λ c. let t = c .before .before in done t .take-round .kept .1 .0 ∙ loop t .loop .inv .2)
+    (λ c. let t = c .before .before in done t .take-round .kept .1 .1 .1 .0 ∙ loop t .loop .inv .3 ∙ begun t .begin .kept .0)
+    (λ c. let t = c .before .before in done t .take-round .kept .1 .1 .1 .1 .0 ∙ loop t .loop .inv .4)
+    (λ c. let t = c .before .before in done t .take-round .kept .1 .1 .1 .1 .1 .0 ∙ loop t .loop .inv .5)
+    (λ c. let t = c .before .before in done t .take-round .kept .1 .1 .1 .1 .1 .1 .0 ∙ loop t .loop .inv .6)
+    (λ c. let t = c .before .before in done t .take-round .kept .1 .1 .1 .1 .1 .1 .1 .0 ∙ loop t .loop .inv .7)
+    (λ c. let t = c .before .before in done t .take-round .kept .1 .1 .1 .1 .1 .1 .1 .1 .0 ∙ loop t .loop .inv .8)
+    (λ c. let t = c .before .before in done t .take-round .kept .1 .1 .1 .1 .1 .1 .1 .1 .1 .0 ∙ loop t .loop .inv .9)
+    returns-2
     (λ c. let more = lent (c .before) .before .loop-test .taken in omega arith)
     loop-again
     (λ c. search needs)
@@ -86,4 +116,4 @@ rounds-spec =
     (λ c. search needs)
     (λ c. search needs)
     (λ c. search needs)
-    (λ c. search needs))
+    (λ c. λ z. never (sym z)))

@@ -1,49 +1,129 @@
--- The part handed over has as many bytes as its end says.
-use mathlib.Core.Path.{sym, _∙_}
+-- What was left stands before what was read, and all of it is taken, or the end of the input.
+use Prim.Native.Nat.{ℕ, _-_, _≤_}
+use mathlib.Core.Path.{_≡_, sym, ap, _∙_}
+use mathlib.Core.Bool.{Bool, true, false}
+use mathlib.Core.List.{List}
 use native.Mathlib.Omega.{arith}
-use lib.Seq.{length-take-le}
+use lib.ListN.{length, take}
+use lib.Seq.{slice, length-take-le, length-slice}
 use borrow.Author.Needs.{needs}
+use Rattle.replay.proofs.Loop.{affirmed}
+use Rattle.trace.proofs.Reading.{never, end-round, piece-round, none-read, some-read}
 use Rattle.trace.proofs.take_round.Statement.{statement}
 use Rattle.trace.proofs.take_round.Tie as tie
 
+-- After the read: the input when the function was called, what is in it now, and what of it was left.
+module _ (c : tie.After-read-more) where
+  abbrev slid : tie.After-slide
+  slid = c .before .before .before .before
+
+  abbrev first : tie.Start
+  first =
+      let known = slid .before .before .before .before in
+      known .before .before .before .before .before
+
+  abbrev old : List ℕ
+  old = first .args .input .now
+
+  abbrev new : List ℕ
+  new = c .read-more .last .0
+
+  abbrev full : ℕ
+  full = c .read-more .result .have
+
+  abbrev at : ℕ
+  at = first .args .s .at
+
+  abbrev have : ℕ
+  have = first .args .have
+
+  same : length new ≡ length old
+  same = c .read-more .kept .0 ∙ slid .slide .kept .0
+
+  order : have - at ≤ full
+  order = let e = slid .slide .ensures .0 in let h = c .read-more .ensures .0 .0 in omega (arith, e, h)
+
+  within : full ≤ length old
+  within = let e = slid .slide .kept .0 in let h = c .read-more .ensures .0 .1 in omega (arith, e, h)
+
+  within-new : full ≤ length new
+  within-new = omega (arith, within, same)
+
+  kept : take (have - at) new ≡ slice at have old
+  kept = ap (λ (n : ℕ). take n new) (sym (slid .slide .ensures .0)) ∙ c .read-more .ensures .1 ∙ slid .slide .ensures .1
+
+  as-many : length (slice at have old) ≡ have - at
+  as-many = length-slice at have old (first .pre)
+
 slice-aggregate-take-piece : tie.Need-slice-aggregate-take-piece
-slice-aggregate-take-piece c = sym (length-take-le _ _ (search needs))
+slice-aggregate-take-piece c =
+    let read = c .before .before .before .before .before in
+    sym (length-take-le (full read) (new read) (within-new read))
 
--- The bytes slid to the front, and the read before that.
-module _ (c : tie.After-slice-known16) where
-  abbrev piece : tie.After-take-piece
-  piece =
-      let next = c .before .before .before .before in
-      let labels = next .before .before .before .before in
-      let lefts = labels .before .before .before .before in
-      let out = lefts .before .before .before .before in
-      out .before
+returns : tie.Need-returns
+returns c =
+    let read = c .before .before .before .before .before in
+    ((order read, within read), (kept read, ((λ z. never z), (λ z. never z))))
 
-  abbrev read : tie.After-read-more
-  read =
-      let lent = piece .before .before .before .before in
-      let more = lent .before .before .before .before in
-      let tests = more .before .before .before .before in
-      tests .before
+returns-2 : tie.Need-returns-2
+returns-2 c =
+    let done = c .before .before .before .before in
+    let read = done .before .before .before .before .before .before in
+    let left = slid read .slide .ensures .0 in
+    let none = done .before .before .if2 .taken in (
+      (order read, within read),
+      (
+        kept read,
+        (
+          (λ w. end-round _ _ _ _ _ _ _ left none (within-new read) (as-many read) (done .end .ensures _ _ _ _ _ _)),
+          (λ w. none-read _ _ (done .end .result .state .over) _ left none),
+        ),
+      ),
+    )
+
+returns-3 : tie.Need-returns-3
+returns-3 c =
+    let slices = c .before .before .before .before .before .before .before .before in
+    let piece = slices .before .before .before .before .before .before .before .before in
+    let args = piece .before .before .before .before .before .before .before .before in
+    let read = args .before .before .before .before .before in
+    let left = slid read .slide .ensures .0 in
+    let some : full read ≡ have read - at read → ⊥ = λ k. args .before .if2 .left (k ∙ sym left) in (
+      (order read, within read),
+      (
+        kept read,
+        (
+          (λ w. piece-round _ _ _ _ _ _ (order read) (within-new read) some (kept read) (piece .take-piece .ensures (affirmed _ w))),
+          (λ w. some-read _ _ (piece .take-piece .result .state .over) (order read) some),
+        ),
+      ),
+    )
+
+same-length-4 : tie.Need-same-length-4
+same-length-4 c =
+    let slices = c .before .before .before .before .before .before .before .before in
+    let piece = slices .before .before .before .before .before .before .before .before in
+    let args = piece .before .before .before .before .before .before .before .before in
+    same (args .before .before .before .before .before)
 
 pub take-round-spec : {M : Type 1} → statement M
 take-round-spec =
     tie.close
     (tie.spec
     (λ c κs. search needs)
+    (λ c κs. search needs)
     (λ c. search needs)
     (λ c κs. search needs)
     (λ c. search needs)
-    (λ c. search needs)
+    returns
     (λ c κs. search needs)
     (λ c. search needs)
     (λ c. search needs)
-    (λ c. search needs)
+    returns-2
     (λ c. search needs)
     slice-aggregate-take-piece
     (λ c κs. search needs)
-    (λ c κs. search needs)
-    (λ c. c .before .before .slide .kept .0 ∙ read c .read-more .kept .0)
+    same-length-4
     (λ c. search needs)
     (λ c. search needs)
     (λ c. search needs)
@@ -51,4 +131,4 @@ take-round-spec =
     (λ c. search needs)
     (λ c. search needs)
     (λ c. search needs)
-    (λ c. let within = c .before .before .slide .ensures .0 in let same = read c .read-more .kept .0 in omega arith))
+    returns-3)
