@@ -21,7 +21,7 @@ use Rattle.model.specs.Sound.{rowsFit}
 use Rattle.model.specs.Refusals.{Lent, among, openRefusal, pushRefusal, putRefusal, popRefusal}
 use Rattle.model.specs.Report.{report, retryCounts, tell}
 use Rattle.model.specs.Route.{counted}
-use Rattle.model.specs.Calls.{Acted, Done, OpenDone, opened as openedQueue, openAs, pushStart, putStart, popStart, back, act, actOn, replyOf}
+use Rattle.model.specs.Calls.{Acted, Done, OpenDone, opened as openedQueue, openAs, pushStart, putStart, popStart, back, act, actOn, openingCode, replyOf}
 use Rattle.model.proofs.tests.Truth.{split, not-both}
 use Rattle.table.specs.declared.Acted.{Acted as Moved}
 use Rattle.table.specs.Lent.{withTables}
@@ -36,7 +36,7 @@ use Rattle.calls.proofs.Tells.{all-looked-at, report-parts}
 use Rattle.rows.specs.Rows.{controlOf, recordsOf, uppersOf, queueIn, withCallAt}
 use Rattle.rows.proofs.Rows.{length-records}
 use Rattle.rows.proofs.OneStep.{lent, lent-among}
-use Rattle.capi.specs.Replies.{openingCode, uppersAt, Coded, coded, Replied, replied, countsIn, reportReplyOf}
+use Rattle.capi.specs.Replies.{uppersAt, Coded, coded, Replied, replied, countsIn, reportReplyOf}
 use Rattle.capi.proofs.Count.{busyIn}
 
 -- The step, its outcome in numbers.

@@ -20,6 +20,7 @@ pub mod Standing
 pub mod Retries
 pub mod NoSlot
 pub mod StepBounds
+pub mod MarksRight
 pub mod LinksBack
 -- Laws of single calls, and the worked cases of the document.
 pub mod laws

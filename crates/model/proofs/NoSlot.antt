@@ -30,7 +30,7 @@ use Rattle.model.proofs.lists.Slots.{slots}
 use Rattle.model.proofs.machine.Clerk as B
 use Rattle.model.proofs.machine.Machine as M
 use Rattle.model.proofs.invariant.Tasks.{Task}
-use Rattle.model.proofs.places.NoSlot.{Holds, Lacks, act-lacks, no-slot}
+use Rattle.model.proofs.places.NoSlot.{Holds, Lacks, Used, act-lacks, no-slot}
 use Rattle.model.proofs.bridge.Accepted.{Stepping, step-accepted}
 use Rattle.model.proofs.bridge.EveryPlace.{step-seen}
 use Rattle.model.proofs.bridge.Operations.{reply, task-of}
@@ -60,7 +60,7 @@ module _ (r : Record) (x : ℕ) where
   unfolding holdsSlot
   pushing p l s w = rw l (passes (leb 1 p ∷ eqb (r .kind) 0 ∷ not (eqb (r .finishing) 1) ∷ eqb (r .own) x ∷ []) (s and eq-eqb _ _ (kind-push (r .kind) (w .0)) and ap not (w .1) and eq-eqb _ _ (w .2) and tt))
 
-  tip-near : (d : Bool) → M.tip (anchorSeen (r .seen)) d ≡ cond d (anchorOf (r .seen) .right) (anchorOf (r .seen) .left)
+  pub tip-near : (d : Bool) → M.tip (anchorSeen (r .seen)) d ≡ cond d (anchorOf (r .seen) .right) (anchorOf (r .seen) .left)
   tip-near false = refl
   tip-near true = refl
 
@@ -94,6 +94,19 @@ module _ (r : Record) (x : ℕ) where
       go (inr z) (yes l) = absurd (subst (λ (p : M.Place). Holds p (recOf r) x) (List·getD-eq-default placeList M.idle {n = r .place} (omega arith)) w)
       go (inr z) (no l) = holds-place (r .place) z (omega arith) w
 
+-- What is used in the decoded state is in use in the tables.
+pub used-is : (n : ℕ) (q : Queue) (l : _) (g : Matched n q l) (x : ℕ) → Used (record { state = stateOf q; book = g .book }) x → InUse q x
+unfolding stateOf view
+used-is n q l g x = go
+  where
+    held : (u : ℕ) (b : Bool) → ltb u (q .tables .control .tasks) ≡ b → (let y = cond b (recOf (recordAt q u)) M.blank in Holds (y .place) y x) → InUse q x
+    held u true z w = holds u (ltb-true _ _ z) (holds-is (recordAt q u) x w)
+    held u false z w = absurd w
+
+    go : Used (record { state = stateOf q; book = g .book }) x → InUse q x
+    go (inl i) = waits (subst (Waits x) (sym (waiting.waits (q .tables) (g .links) (g .inv .owner) (g .book .queue) (g .inv .whole))) (in-waits (g .book .queue) x i))
+    go (inr w) = held (w .0) (ltb (w .0) (q .tables .control .tasks)) refl (w .1)
+
 module _ (n : ℕ) (q : Queue) (l : _) (g : Matched n q l) (t : ℕ) where
   abbrev G : Tables
   G = q .tables
@@ -112,15 +125,7 @@ module _ (n : ℕ) (q : Queue) (l : _) (g : Matched n q l) (t : ℕ) where
 
     all-used : (x : ℕ) → 1 ≤ x → x ≤ G .control .slots → InUse q x
     unfolding stateOf view
-    all-used x some low = go (no-slot (record { state = stateOf q; book = g .book }) (g .inv) (empty-head .0) (empty-head .1) x (λ z. omega arith) low)
-      where
-        held : (u : ℕ) (b : Bool) → ltb u (G .control .tasks) ≡ b → (let y = cond b (recOf (recordAt q u)) M.blank in Holds (y .place) y x) → InUse q x
-        held u true z w = holds u (ltb-true _ _ z) (holds-is (recordAt q u) x w)
-        held u false z w = absurd w
-
-        go : In x (slots (g .book .queue)) ⊎ ((u : ℕ) × Holds (stateOf q .task u .place) (stateOf q .task u) x) → InUse q x
-        go (inl i) = waits (subst (Waits x) (sym (waiting.waits G (g .links) (g .inv .owner) (g .book .queue) (g .inv .whole))) (in-waits (g .book .queue) x i))
-        go (inr w) = held (w .0) (ltb (w .0) (G .control .tasks)) refl (w .1)
+    all-used x some low = used-is n q l g x (no-slot (record { state = stateOf q; book = g .book }) (g .inv) (empty-head .0) (empty-head .1) x (λ z. omega arith) low)
 
   pub told-truly : act q t Step .outcome ≡ Moved NoSlot → (x : ℕ) → 1 ≤ x → x ≤ G .control .slots → InUse q x
   unfolding act actOn step finish

@@ -13,7 +13,7 @@ use Rattle.model.specs.declared.Outcome.{Outcome}
 use Rattle.model.specs.declared.Outcome.the-variants.{Refused, Moved}
 use Rattle.model.specs.declared.Op.{Op}
 use Rattle.model.specs.declared.Op.the-variants.{Push, Pop, Put, Step}
-use Rattle.model.specs.Tables.{Queue, near, recordAt}
+use Rattle.model.specs.Tables.{Queue, marked, near, recordAt}
 use Rattle.model.specs.declared.Record.{Record}
 use Rattle.model.specs.Sound.{every, isPush, giving}
 use Rattle.model.specs.declared.Opening.the-variants.{Opened}
@@ -223,3 +223,14 @@ NoSlotTrue q os = (t : ℕ) → act (final q os) t Step .outcome ≡ Moved NoSlo
 
 abbrev pub NoSlotRight : Type 0
 NoSlotRight = AfterOpeningAs true NoSlotTrue
+
+-- In a named queue a mark says that its slot is in use, and says so of every slot that waits. (Without it a program whose pops leave their slots
+-- marked, so that they are taken for ever, passes.)
+abbrev pub MarksTrue : Queue → List Request → Type 0
+MarksTrue q os =
+    let now = final q os .tables in
+    (x : ℕ) → 1 ≤ x → x ≤ now .control .slots
+    → (marked (now .marks) x ≡ true → InUse (final q os) x) × (InUse (final q os) x → marked (now .marks) x ≡ true)
+
+abbrev pub MarksRight : Type 0
+MarksRight = AfterOpeningAs false MarksTrue

@@ -64,20 +64,27 @@ module _ (s : Shared) (h : ℕ → Owner) (t : ℕ) (r : Rec) (c : Call) (x : �
   holds (draw p) w = w .1 .bare x e
   holds (give p) w = sym (w .1 .sole x e)
 
+-- A slot that somebody has is in the queue, or a task's record holds it.
+abbrev pub Used : Both → ℕ → Type 0
+Used p x = In x (slots (p .book .queue)) ⊎ ((t : ℕ) × Holds (p .state .task t .place) (p .state .task t) x)
+
+pub used : (p : Both) (i : Inv p) (x : ℕ) → i .owner x ≢ free → Used p x
+used p i x n = go (i .owner x) refl
+  where
+    go : (o : Owner) → i .owner x ≡ o → Used p x
+    go free g = absurd (n g)
+    go queued g = inl (i .whole .listed x g)
+    go (held t) g = inr (t, holds (p .state .shared) (i .owner) t (p .state .task t) (p .book .calls t) x g (p .state .task t .place) (i .tasks t))
+
 pub no-slot : (p : Both) → Inv p → p .state .shared .pooled ≡ true → p .state .shared .head .slot ≡ 0 → (x : ℕ) → x ≢ 0 → x ≤ p .state .shared .slots
-    → In x (slots (p .book .queue)) ⊎ ((t : ℕ) × Holds (p .state .task t .place) (p .state .task t) x)
-no-slot p i e z x nz le = go (i .owner x) refl
+    → Used p x
+no-slot p i e z x nz le = used p i x (λ g. none-free pool z x nz le g)
   where
     s : Shared
     s = p .state .shared
 
     pool : Pool (s .slots) (s .next) (s .head .slot) (i .owner)
     pool = subst (λ b. Spare b (s .slots) (s .mark) (s .next) (s .head .slot) (i .owner)) e (i .whole .spare)
-
-    go : (o : Owner) → i .owner x ≡ o → In x (slots (p .book .queue)) ⊎ ((t : ℕ) × Holds (p .state .task t .place) (p .state .task t) x)
-    go free g = absurd (none-free pool z x nz le g)
-    go queued g = inl (i .whole .listed x g)
-    go (held t) g = inr (t, holds s (i .owner) t (p .state .task t) (p .book .calls t) x g (p .state .task t .place) (i .tasks t))
 
 -- Who answers *no slot* has just read a head that names none.
 pub record Lacks (s : Shared) (m : Move) : Type 0 where

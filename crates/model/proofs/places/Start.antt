@@ -8,7 +8,7 @@ use Rattle.model.proofs.machine.Clerk.{Both, begun, opened}
 use Rattle.model.proofs.machine.Laws.{upd-other, upd-same}
 use Rattle.model.proofs.machine.Machine.{Shared, asking, idle, moved, pop, push, started, upd, withLabel}
 use Rattle.model.proofs.invariant.Invariant.{Inv}
-use Rattle.model.proofs.invariant.Owners.{Owner, Spare, free, held, queued}
+use Rattle.model.proofs.invariant.Owners.{Marks, Owner, Spare, free, held, queued}
 use Rattle.model.proofs.invariant.Tasks.{Bare, Task}
 use Rattle.model.proofs.places.Owned.{held-free, queued-free}
 use Rattle.model.proofs.places.Owning.{gets-rely, gets-sole, gets-whole}
@@ -50,7 +50,7 @@ module _ (p : Both) (i : Inv p) where
 
   -- An accepted start of a push that names a slot.
   module _ (t : ℕ) (d : Bool) (x l : ℕ) (ready : p .state .task t .place ≡ idle) (nz : x ≢ 0) (low : x ≤ s .slots) (named : s .pooled ≡ false) (clear : s .mark x ≡ false) where
-    marks : (y : ℕ) → h y ≢ free → s .mark y ≡ true
+    marks : Marks (s .slots) (s .mark) h
     marks = subst (λ b. Spare b (s .slots) (s .mark) (s .next) (s .head .slot) h) named (i .whole .spare)
 
     unowned : h x ≡ free
@@ -58,15 +58,19 @@ module _ (p : Both) (i : Inv p) where
       where
         go : (o : Owner) → h x ≡ o → h x ≡ free
         go free e = e
-        go queued e = absurd (not-both (marks x (λ f. queued-free (sym e ∙ f))) clear)
-        go (held u) e = absurd (not-both (marks x (λ f. held-free (sym e ∙ f))) clear)
+        go queued e = absurd (not-both (marks .set x (λ f. queued-free (sym e ∙ f))) clear)
+        go (held u) e = absurd (not-both (marks .set x (λ f. held-free (sym e ∙ f))) clear)
 
-    marked : (y : ℕ) → upd h x (held t) y ≢ free → upd (s .mark) x true y ≡ true
-    marked y n = go (decide-eq y x)
-      where
-        go : (y ≡ x) ⊎ (y ≢ x) → upd (s .mark) x true y ≡ true
-        go (inl z) = ap (λ (v : ℕ). upd (s .mark) x true v) z ∙ upd-same (s .mark) x true
-        go (inr z) = upd-other (s .mark) x true y z ∙ marks y (λ e. n (upd-other h x (held t) y z ∙ e))
+    marked-set : (y : ℕ) → (y ≡ x) ⊎ (y ≢ x) → upd h x (held t) y ≢ free → upd (s .mark) x true y ≡ true
+    marked-set y (inl z) n = ap (λ (v : ℕ). upd (s .mark) x true v) z ∙ upd-same (s .mark) x true
+    marked-set y (inr z) n = upd-other (s .mark) x true y z ∙ marks .set y (λ e. n (upd-other h x (held t) y z ∙ e))
+
+    marked-owed : (y : ℕ) → (y ≡ x) ⊎ (y ≢ x) → y ≤ s .slots → upd (s .mark) x true y ≡ true → upd h x (held t) y ≢ free
+    marked-owed y (inl z) l m e = held-free (sym (ap (λ (v : ℕ). upd h x (held t) v) z ∙ upd-same h x (held t)) ∙ e)
+    marked-owed y (inr z) l m e = marks .owed y l (sym (upd-other (s .mark) x true y z) ∙ m) (sym (upd-other h x (held t) y z) ∙ e)
+
+    marked : Marks (s .slots) (upd (s .mark) x true) (upd h x (held t))
+    marked = record { set = λ y. marked-set y (decide-eq y x); owed = λ y. marked-owed y (decide-eq y x) }
 
     pub push-inv : Inv (record { state = moved (p .state) t (withLabel s x l) (started push d x l); book = begun (p .book) t (opened push d x l) })
     push-inv =
