@@ -66,16 +66,16 @@ static inline zc_reply go(zc_record *record, uint64_t place)
 }
 static inline zc_reply answer(zc_record *record, uint32_t code, uint32_t label, uint64_t slot)
 {
-    memset(record, 0, sizeof *record);
+    memset(record, 0, offsetof(zc_record, retries));
     return (zc_reply){code, label, slot};
 }
 static inline zc_reply leave(zc_record *record)
 {
     return record->finishing ? answer(record, ZC_PUSHED, 0, 0) : go(record, 1);
 }
-static inline void retry(zc_control *control)
+static inline void retry(zc_record *record)
 {
-    control->retries += control->retries < ZC_MOST_RETRIES;
+    record->retries += record->retries < ZC_MOST_RETRIES;
 }
 
 /* Place 1, and a failed change at 2 or 4. */
@@ -121,7 +121,7 @@ static inline zc_reply pool_step(zc_control *control, zc_record *record, uint32_
         return go(record, 14);
     case 14:
         if (head != record->link) {
-            retry(control);
+            retry(record);
             return go(record, 12);
         }
         if (WORN(head))
@@ -139,7 +139,7 @@ static inline zc_reply pool_step(zc_control *control, zc_record *record, uint32_
     case 16: next[record->own] = top; return go(record, 17);
     default:
         if (head != record->link) {
-            retry(control);
+            retry(record);
             return go(record, 15);
         }
         if (WORN(head))
@@ -182,7 +182,7 @@ zc_reply lean_step(zc_control *control, zc_record *records, size_t record_count,
     case 2:
         wanted = anchor_of(seen, STATUS(seen), right, own, own);
         if (anchor != seen) {
-            retry(control);
+            retry(record);
             return read_anchor(record, anchor);
         }
         if (WORN(seen) || !anchor_ok(wanted, (uint32_t)slots))
@@ -205,7 +205,7 @@ zc_reply lean_step(zc_control *control, zc_record *records, size_t record_count,
         return go(record, record->place + 1);
     case 4:
         if (anchor != seen) {
-            retry(control);
+            retry(record);
             return read_anchor(record, anchor);
         }
         wanted = push ? anchor_of(seen, right ? ZC_RPUSH : ZC_LPUSH, right, own, far)
@@ -231,7 +231,7 @@ zc_reply lean_step(zc_control *control, zc_record *records, size_t record_count,
         if (neighbour == 0)
             return refuse(ZC_UNSOUND);
         if (outward[neighbour] != word) {
-            retry(control);
+            retry(record);
             return leave(record);
         }
         if (WORN(word))
@@ -245,7 +245,7 @@ zc_reply lean_step(zc_control *control, zc_record *records, size_t record_count,
                 return refuse(ZC_UNSOUND);
             control->anchor = wanted;
         } else {
-            retry(control);
+            retry(record);
         }
         return leave(record);
     case 11: {
