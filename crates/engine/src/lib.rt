@@ -35,8 +35,10 @@ fn admission(
         return 34;
     }
     let pooled = c.pooled == 1;
-    let fit = sound::rows_fit(pooled, c.slots, lefts, rights, labels, marks, next) & enough;
-    if !fit {
+    if !sound::rows_fit(pooled, c.slots, lefts, rights, labels, marks, next) {
+        return 12;
+    }
+    if !enough {
         return 12;
     }
     if known { 0 } else { 13 }
