@@ -1,5 +1,6 @@
 -- Each return is the first rule that applies, by the tests passed before it.
 use mathlib.Core.Path.{sym, _∙_}
+use mathlib.Core.Bool.{Bool}
 use borrow.Author.Tests.{not-true, not-false}
 use Rattle.engine.specs.Parts.{admission}
 use Rattle.engine.proofs.admission.Statement.{statement}
@@ -23,6 +24,9 @@ module _ (fit : tie.Else2) where
   abbrev sound : tie.Else1
   sound = fit .before .before .before
 
+  abbrev enough : Bool
+  enough = sound .before .before .args .enough
+
 returns-3 : tie.Need-returns-3
 unfolding admission
 returns-3 c =
@@ -30,7 +34,7 @@ returns-3 c =
     simp (
       sym (sound fit .before .control-sound .ensures) ∙ not-false _ (sound fit .if1 .left),
       sym (fit .before .rows-fit .ensures) ∙ not-false _ (fit .if2 .left),
-      not-true _ (c .if3 .taken),
+      not-true (enough fit) (c .if3 .taken),
     )
 
 returns-4 : tie.Need-returns-4
@@ -40,7 +44,7 @@ returns-4 c =
     simp (
       sym (sound fit .before .control-sound .ensures) ∙ not-false _ (sound fit .if1 .left),
       sym (fit .before .rows-fit .ensures) ∙ not-false _ (fit .if2 .left),
-      not-false _ (c .before .if3 .left),
+      not-false (enough fit) (c .before .if3 .left),
       c .if4 .taken,
     )
 
@@ -51,7 +55,7 @@ returns-5 c =
     simp (
       sym (sound fit .before .control-sound .ensures) ∙ not-false _ (sound fit .if1 .left),
       sym (fit .before .rows-fit .ensures) ∙ not-false _ (fit .if2 .left),
-      not-false _ (c .before .if3 .left),
+      not-false (enough fit) (c .before .if3 .left),
       c .if4 .left,
     )
 
