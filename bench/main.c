@@ -11,6 +11,7 @@
  * loop and these stores cost is measured without any step and taken off.
  */
 #include "bare.h"
+#include "lean.h"
 #include "reference.h"
 
 #include <inttypes.h>
@@ -168,6 +169,7 @@ static inline zc_reply no_step(size_t task)
 REPLAY(loop, no_step(task))
 REPLAY(library, zc_step(&control, records, tasks, task, LENT))
 REPLAY(reference, reference_step(&control, records, tasks, task, LENT))
+REPLAY(lean, lean_step(&control, records, tasks, task, LENT))
 REPLAY(bare, bare_step(&control, &records[task], lefts, rights, labels, marks, next))
 REPLAY(library_record, zc_step_record(&control, &records[task], LENT))
 REPLAY(reference_record, reference_step_record(&control, &records[task], LENT))
@@ -180,6 +182,7 @@ static const struct engine {
     {"library", replay_library},
     {"reference", replay_reference},
     {"bare", replay_bare},
+    {"lean", replay_lean},
     {"library_record", replay_library_record},
     {"reference_record", replay_reference_record},
 };
@@ -256,6 +259,13 @@ static zc_reply library_move(const struct operation *move)
     }
 }
 
+static zc_reply lean_move(const struct operation *move)
+{
+    if (move->what != STEP)
+        return reference_move(move);
+    return lean_step(&control, records, tasks, move->task, LENT);
+}
+
 static zc_reply reference_record_move(const struct operation *move)
 {
     if (move->what != STEP)
@@ -291,6 +301,7 @@ static const struct mover {
 } movers[] = {
     {"library", library_move},
     {"reference", reference_move},
+    {"lean", lean_move},
     {"library_record", library_record_move},
     {"reference_record", reference_record_move},
 };

@@ -188,7 +188,7 @@ part_projects() {
 }
 
 part_bench() {
-    holds "benchmark compiles" $CC -std=gnu11 -O2 -Iinclude bench/main.c bench/reference.c bench/bare.c "$archive" -o "$work/bench"
+    holds "benchmark compiles" $CC -std=gnu11 -O2 -Iinclude bench/main.c bench/reference.c bench/lean.c bench/bare.c "$archive" -o "$work/bench"
     holds "benchmark of the walks compiles" $CC -std=gnu11 -O2 -Iinclude bench/walks.c bench/reference.c "$archive" -o "$work/walks"
     for labels in 0 1 2 64 1023; do
         holds "library and C alike: $labels labels" "$work/walks" check $labels
