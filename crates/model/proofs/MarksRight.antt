@@ -18,7 +18,7 @@ use Rattle.model.proofs.tests.Rules.{tests}
 use Rattle.model.proofs.tests.Truth.{decide-eq, not-both}
 use Rattle.model.proofs.lists.In.{In}
 use Rattle.model.proofs.lists.Slots.{slots}
-use Rattle.model.proofs.machine.Clerk.{Call}
+use Rattle.model.proofs.machine.Book.{Call}
 use Rattle.model.proofs.machine.Machine as M
 use Rattle.model.proofs.invariant.Owners.{Marks, Owner, Spare, free, held, queued}
 use Rattle.model.proofs.invariant.Tasks.{Own, Stage, Task}
@@ -31,7 +31,7 @@ use Rattle.model.proofs.progress.Reached.{Reached, final-reached, open-
 use Rattle.model.proofs.NoSlot.{tip-near, used-is}
 use Rattle.model.proofs.Openings.{after-opening}
 
--- What waits is in the clerk's deque.
+-- What waits is in the sequential deque.
 waits-in : (l : List Entry) (x : ℕ) → Waits x (entries l) → In x (slots l)
 waits-in (e ∷ l) x (here _ _ z) = inl z
 waits-in (e ∷ l) x (later _ _ w) = inr (waits-in l x w)
@@ -116,7 +116,8 @@ module _ (tasks : ℕ) (q : Queue) (z : Reached tasks q) where
 
   -- A marked slot is in use.
   marked-used : (x : ℕ) → x ≤ G .control .slots → marked (G .marks) x ≡ true → InUse q x
-  marked-used x l m = used-is (z .position) q (z .ledger) (z .matched) x (used (record { state = stateOf q; book = z .matched .book }) (z .matched .inv) x (marks .owed x l m))
+  marked-used x l m = used-is (z .position) q (z .ledger) (z .matched) x
+      (used (record { state = stateOf q; book = z .matched .book }) (z .matched .inv) x (marks .owed x l m))
 
   holder : (t : ℕ) → t < G .control .tasks → (x : ℕ) → holdsSlot (recordAt q t) x ≡ true → h x ≡ held t
   unfolding stateOf recOf

@@ -49,10 +49,14 @@ module _ (ws row lefts rights labels marks next : List ℕ) (c : Control) (r : R
   refuses why o e h eo =
       let number =
       e ∙ ap (λ (d : Control). recordRefusal (isPooled d) (d .slots) r) ec
-      ∙ ap (λ (t : Record). recordRefusal (isPooled (controlOf ws)) (controlOf ws .slots) t) er in
-      (ap (λ (u : Outcome). record { tables = q (controlOf ws); task = recordOf row; outcome = u }) eo ∙ stopped (q (controlOf ws)) (recordOf row) why number h, rw eo)
+      ∙ ap (λ (t : Record). recordRefusal (isPooled (controlOf ws)) (controlOf ws .slots) t) er in (
+        ap (λ (u : Outcome). record { tables = q (controlOf ws); task = recordOf row; outcome = u }) eo
+            ∙ stopped (q (controlOf ws)) (recordOf row) why number h,
+        rw eo,
+      )
 
-  module _ (ws′ row′ lefts′ rights′ labels′ marks′ next′ : List ℕ) (m : Moved) (up : upperOf row′ ≡ cond (endsCall (m .outcome)) 0 (upperOf row)) where
+  module _ (ws′ row′ lefts′ rights′ labels′ marks′ next′ : List ℕ) (m : Moved)
+      (up : upperOf row′ ≡ cond (endsCall (m .outcome)) 0 (upperOf row)) where
     abbrev q′ : Control → Tables
     q′ d = tablesOf d lefts′ rights′ labels′ marks′ next′
 

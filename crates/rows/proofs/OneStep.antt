@@ -93,5 +93,8 @@ module _ (ws : List ℕ) (rows : List (List ℕ)) (lefts rights labels marks nex
       → Steps ws′ (set rows task row′) lefts′ rights′ labels′ marks′ next′ o
   unfolding act actOn rowsFit lengthsFit
   stepped ws′ row′ lefts′ rights′ labels′ marks′ next′ o f moved =
-      let left = moved .0 ∙ ap (moveOn entry) (record-read rows task) ∙ admitted entry (among queue task) r₀ f in
-      (rw (record-put rows task row′) (ap (back queue task) left), upper-put rows task row′ ∙ ap (set (uppersOf rows) task) (moved .1) ∙ kept-upper (endsCall o))
+      let left = moved .0 ∙ ap (moveOn entry) (record-read rows task) ∙ admitted entry (among queue task) r₀ f in (
+        rw (record-put rows task row′) (ap (back queue task) left),
+        upper-put rows task row′ ∙ ap (set (uppersOf rows) task) (moved .1)
+            ∙ kept-upper (endsCall o),
+      )

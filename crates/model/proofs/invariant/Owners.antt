@@ -43,7 +43,7 @@ abbrev pub Spare : Bool → ℕ → (ℕ → Bool) → (ℕ → ℕ) → ℕ →
 Spare false n m f top h = Marks n m h
 Spare true n m f top h = Pool n f top h
 
--- The queue part of the invariant: q is the clerk's deque.
+-- The queue part of the invariant: q is the sequential deque.
 pub record Whole (s : Shared) (h : ℕ → Owner) (q : List Entry) : Type 0 where
   pub shape : Shape (s .link) (s .anchor) (slots q)
   pub owned : All (λ x. h x ≡ queued) (slots q)

@@ -8,8 +8,10 @@ use lib.Dec.{eqb}
 use Rattle.model.proofs.tests.Truth.{by-test, not-both}
 use Rattle.model.proofs.lists.In.{In}
 use Rattle.model.proofs.lists.Slots.{slots}
-use Rattle.model.proofs.machine.Clerk.{Both, Call, isNoSlot}
-use Rattle.model.proofs.machine.Machine.{Kind, Move, Place, Rec, Shared, Touch, act, at1, at10, at11, at12, at13, at14, at15, at16, at17, at2, at3, at4, at5, at6, at7, at8, at9, draw, four, give, idle, isStable, leave, none, one, pop, push, putAnchor, same, sameLink, settled, three, tip, towards, two}
+use Rattle.model.proofs.machine.Book.{Both, Call, isNoSlot}
+use Rattle.model.proofs.machine.Machine.{Kind, Move, Place, Rec, Shared, Touch, act, at1, at10, at11, at12, at13, at14, at15, at16}
+use Rattle.model.proofs.machine.Machine.{at17, at2, at3, at4, at5, at6, at7, at8, at9, draw, four, give, idle, isStable, leave, none}
+use Rattle.model.proofs.machine.Machine.{one, pop, push, putAnchor, same, sameLink, settled, three, tip, towards, two}
 use Rattle.model.proofs.machine.Machine.{exhausted}
 use Rattle.model.proofs.machine.Laws.{exhausted-true}
 use Rattle.model.proofs.invariant.Invariant.{Inv}
@@ -98,9 +100,11 @@ module _ (s : Shared) (r : Rec) where
   lacks-leave g = by-test (Lacks s) (r .finishing) (λ e. other refl) (λ e. other refl)
 
   lacks1 : (k : Kind) → Lacks s (one k s r)
-  lacks1 push = by-test (Lacks s) (eqb (s .anchor .left) 0) (λ e. other refl) (λ e. by-test (Lacks s) (isStable (s .anchor .status)) (λ e. other refl) (λ e. other refl))
+  lacks1 push = by-test (Lacks s) (eqb (s .anchor .left) 0) (λ e. other refl)
+      (λ e. by-test (Lacks s) (isStable (s .anchor .status)) (λ e. other refl) (λ e. other refl))
   lacks1 pop = by-test (Lacks s) (eqb (s .anchor .left) 0) (λ e. other refl)
-      (λ e. by-test (Lacks s) (eqb (s .anchor .left) (s .anchor .right)) (λ e. other refl) (λ e. by-test (Lacks s) (isStable (s .anchor .status)) (λ e. other refl) (λ e. other refl)))
+      (λ e. by-test (Lacks s) (eqb (s .anchor .left) (s .anchor .right)) (λ e. other refl)
+      (λ e. by-test (Lacks s) (isStable (s .anchor .status)) (λ e. other refl) (λ e. other refl)))
 
   lacks2 : (k : Kind) → Lacks s (two k s r)
   lacks2 push = by-test (Lacks s) (same (r .read) (s .anchor)) (λ e. other refl) (λ e. lacks1 push)
@@ -122,12 +126,15 @@ module _ (s : Shared) (r : Rec) where
   act-lacks h t c at4 w = lacks4 (r .kind)
   act-lacks h t c at5 w = other refl
   act-lacks h t c at6 w = by-test (Lacks s) (same (r .read) (s .anchor)) (λ e. other refl) (λ e. lacks-leave none)
-  act-lacks h t c at7 w = by-test (Lacks s) (eqb (s .link (towards (r .read .status)) (r .near) .slot) (tip (r .read) (towards (r .read .status)))) (λ e. other refl) (λ e. other refl)
+  act-lacks h t c at7 w = by-test (Lacks s) (eqb (s .link (towards (r .read .status)) (r .near) .slot) (tip (r .read) (towards (r .read .status))))
+      (λ e. other refl) (λ e. other refl)
   act-lacks h t c at8 w = by-test (Lacks s) (same (r .read) (s .anchor)) (λ e. other refl) (λ e. lacks-leave none)
-  act-lacks h t c at9 w = by-test (Lacks s) (sameLink (r .link) (s .link (towards (r .read .status)) (r .near))) (λ e. other refl) (λ e. lacks-leave none)
+  act-lacks h t c at9 w = by-test (Lacks s) (sameLink (r .link) (s .link (towards (r .read .status)) (r .near))) (λ e. other refl)
+      (λ e. lacks-leave none)
   act-lacks h t c at10 w = by-test (Lacks s) (same (r .read) (s .anchor)) (λ e. lacks-leave (putAnchor (settled (r .read)))) (λ e. lacks-leave none)
   act-lacks h t c at11 w = by-test (Lacks s) (s .pooled) (λ e. other refl) (λ e. other refl)
-  act-lacks h t c (draw at12) w = by-test (Lacks s) (exhausted (s .head)) (λ e. record { lacks = λ _. (w .0, exhausted-true (s .head) e) }) (λ e. other refl)
+  act-lacks h t c (draw at12) w = by-test (Lacks s) (exhausted (s .head)) (λ e. record { lacks = λ _. (w .0, exhausted-true (s .head) e) })
+      (λ e. other refl)
   act-lacks h t c (draw at13) w = other refl
   act-lacks h t c (draw at14) w = by-test (Lacks s) (sameLink (r .link) (s .head)) (λ e. other refl) (λ e. other refl)
   act-lacks h t c (give at15) w = other refl

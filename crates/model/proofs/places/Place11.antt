@@ -6,7 +6,7 @@ use mathlib.Core.Path.{_∙_, _≡_, ap, refl, subst, sym}
 use Prim.Native.Nat.{_≤_, ℕ}
 use Rattle.model.specs.declared.Entry.{Entry}
 use Rattle.model.proofs.tests.Truth.{by-test, decide-eq, not-both}
-use Rattle.model.proofs.machine.Clerk.{Call}
+use Rattle.model.proofs.machine.Book.{Call}
 use Rattle.model.proofs.machine.Laws.{upd-other, upd-same}
 use Rattle.model.proofs.machine.Machine.{Rec, Shared, act, at11, at15, clear, ends, give, owns, popped, running, runs, tip, upd}
 use Rattle.model.proofs.invariant.Owners.{Marks, Owner, Spare, Whole, free}
@@ -32,7 +32,8 @@ module _ (t : ℕ) (s : Shared) (h : ℕ → Owner) (q : List Entry) (c : Call) 
             listed = all .listed;
             labels = all .labels;
             bounds = all .bounds;
-            spare = subst (λ b. Spare b (s .slots) (s .mark) (s .next) (s .head .slot) h → Spare b (s .slots) (upd (s .mark) x false) (s .next) (s .head .slot) h) (sym e) (λ z. z) (all .spare);
+            spare = subst (λ b. Spare b (s .slots) (s .mark) (s .next) (s .head .slot) h
+                → Spare b (s .slots) (upd (s .mark) x false) (s .next) (s .head .slot) h) (sym e) (λ z. z) (all .spare);
           })
           (λ u n. rely-marks (upd (s .mark) x false) u)
           (e, record { after = w .after; holds = w .holds; sole = w .sole }, tt)
@@ -52,6 +53,10 @@ module _ (t : ℕ) (s : Shared) (h : ℕ → Owner) (q : List Entry) (c : Call) 
       frees e =
           plain (ends (clear x) (popped x (s .label x))) (upd h x free) (no-effect (s .anchor) (s .anchor) (popped x (s .label x)) refl refl refl)
           (frees-whole all t x (w .holds) (upd (s .mark) x false) (s .head)
-          (subst (λ b. Spare b (s .slots) (s .mark) (s .next) (s .head .slot) h → Spare b (s .slots) (upd (s .mark) x false) (s .next) (s .head .slot) (upd h x free)) (sym e) unmarked (all .spare)))
-          (frees-rely all t x (w .holds) (upd (s .mark) x false) (s .head) (stack-same refl refl refl))
-          (refl, record { once = w .after .once; agrees = sym (w .after .told) }, frees-bare all t x (w .holds) (upd (s .mark) x false) (s .head) (w .sole))
+          (subst (λ b. Spare b (s .slots) (s .mark) (s .next) (s .head .slot) h
+          → Spare b (s .slots) (upd (s .mark) x false) (s .next) (s .head .slot) (upd h x free)) (sym e) unmarked (all .spare)))
+          (frees-rely all t x (w .holds) (upd (s .mark) x false) (s .head) (stack-same refl refl refl)) (
+            refl,
+            record { once = w .after .once; agrees = sym (w .after .told) },
+            frees-bare all t x (w .holds) (upd (s .mark) x false) (s .head) (w .sole),
+          )

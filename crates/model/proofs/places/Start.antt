@@ -4,7 +4,7 @@ use mathlib.Core.Logic.{_≢_, _⊎_, inl, inr}
 use mathlib.Core.Path.{_∙_, _≡_, ap, refl, subst, sym}
 use Prim.Native.Nat.{_≤_, ℕ}
 use Rattle.model.proofs.tests.Truth.{decide-eq, not-both}
-use Rattle.model.proofs.machine.Clerk.{Both, begun, opened}
+use Rattle.model.proofs.machine.Book.{Both, begun, opened}
 use Rattle.model.proofs.machine.Laws.{upd-other, upd-same}
 use Rattle.model.proofs.machine.Machine.{Shared, asking, idle, moved, pop, push, started, upd, withLabel}
 use Rattle.model.proofs.invariant.Invariant.{Inv}
@@ -27,7 +27,10 @@ module _ (p : Both) (i : Inv p) where
   bare t e = subst (λ z. Task z s h t (p .state .task t) (p .book .calls t)) e (i .tasks t) .1
 
   -- An accepted start of a pop.
-  pub pop-inv : (t : ℕ) (d : Bool) → p .state .task t .place ≡ idle → Inv (record { state = moved (p .state) t s (started pop d 0 0); book = begun (p .book) t (opened pop d 0 0) })
+  pub pop-inv : (t : ℕ) (d : Bool) → p .state .task t .place ≡ idle → Inv (record {
+    state = moved (p .state) t s (started pop d 0 0);
+    book = begun (p .book) t (opened pop d 0 0);
+  })
   pop-inv t d ready =
       record {
         owner = h;
@@ -38,18 +41,32 @@ module _ (p : Both) (i : Inv p) where
       }
 
   -- An accepted start of a push that names no slot.
-  pub ask-inv : (t : ℕ) (d : Bool) (l : ℕ) → p .state .task t .place ≡ idle → s .pooled ≡ true → Inv (record { state = moved (p .state) t s (asking d l); book = begun (p .book) t (opened push d 0 l) })
+  pub ask-inv : (t : ℕ) (d : Bool) (l : ℕ) → p .state .task t .place ≡ idle → s .pooled ≡ true → Inv (record {
+    state = moved (p .state) t s
+        (asking d l);
+    book = begun (p .book) t (opened push d 0 l);
+  })
   ask-inv t d l ready e =
       record {
         owner = h;
         whole = i .whole;
         kept = i .kept;
-        tasks = tasks-upd s h (p .state .task) (p .book .calls) t (asking d l) (opened push d 0 l) (λ u n. i .tasks u)
-            (e, record { early = refl; kind = refl; agrees = record { kind = refl; side = refl; slot = refl; label = refl }; none = refl; bare = bare t ready }, tt);
+        tasks = tasks-upd s h (p .state .task) (p .book .calls) t (asking d l) (opened push d 0 l) (λ u n. i .tasks u) (
+          e,
+          record {
+            early = refl;
+            kind = refl;
+            agrees = record { kind = refl; side = refl; slot = refl; label = refl };
+            none = refl;
+            bare = bare t ready;
+          },
+          tt,
+        );
       }
 
   -- An accepted start of a push that names a slot.
-  module _ (t : ℕ) (d : Bool) (x l : ℕ) (ready : p .state .task t .place ≡ idle) (nz : x ≢ 0) (low : x ≤ s .slots) (named : s .pooled ≡ false) (clear : s .mark x ≡ false) where
+  module _ (t : ℕ) (d : Bool) (x l : ℕ) (ready : p .state .task t .place ≡ idle) (nz : x ≢ 0) (low : x ≤ s .slots) (named : s .pooled ≡ false)
+      (clear : s .mark x ≡ false) where
     marks : Marks (s .slots) (s .mark) h
     marks = subst (λ b. Spare b (s .slots) (s .mark) (s .next) (s .head .slot) h) named (i .whole .spare)
 
@@ -80,6 +97,12 @@ module _ (p : Both) (i : Inv p) where
               (subst (λ b. Spare b (s .slots) (upd (s .mark) x true) (s .next) (s .head .slot) (upd h x (held t))) (sym named) marked);
           kept = i .kept;
           tasks = tasks-upd (withLabel s x l) (upd h x (held t)) (p .state .task) (p .book .calls) t (started push d x l) (opened push d x l)
-              (others p i t (withLabel s x l) (upd h x (held t)) (gets-rely (i .whole) t x l unowned (s .head) (stack-same refl refl refl)))
-              (refl, record { agrees = record { kind = refl; side = refl; slot = refl; label = refl }; none = refl; own = (nz, upd-same h x (held t), upd-same (s .label) x l, gets-sole (i .whole) t x l unowned (s .head) (bare t ready)) });
+              (others p i t (withLabel s x l) (upd h x (held t)) (gets-rely (i .whole) t x l unowned (s .head) (stack-same refl refl refl))) (
+                refl,
+                record {
+                  agrees = record { kind = refl; side = refl; slot = refl; label = refl };
+                  none = refl;
+                  own = (nz, upd-same h x (held t), upd-same (s .label) x l, gets-sole (i .whole) t x l unowned (s .head) (bare t ready));
+                },
+              );
         }

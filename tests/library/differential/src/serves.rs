@@ -40,6 +40,8 @@ fn unopened(dice: &mut Dice, tasks: u64, slots: u64) -> World {
         labels: rows(dice, slots + 1, |dice| dice.throw() as u32),
         marks: rows(dice, slots / 64 + 1, Dice::throw),
         next: rows(dice, slots + 1, |dice| wild(dice, slots)),
+        slots_out: Lent::new(vec![], 0),
+        labels_out: Lent::new(vec![], 0),
     }
 }
 
