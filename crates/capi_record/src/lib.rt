@@ -33,7 +33,14 @@ pub extern "C" fn zc_step_record(
 {
     let words = *control;
     let c = rows::control_of(words);
-    let why = engine::admit_alone(c, lefts.len(), rights.len(), labels.len(), marks.len(), next.len());
+    let why = engine::admit_alone(
+        c,
+        lefts.len(),
+        rights.len(),
+        labels.len(),
+        marks.len(),
+        next.len(),
+    );
     if why != 0 {
         let o = engine::refuse(why);
         return operation::reply(o);

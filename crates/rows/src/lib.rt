@@ -280,5 +280,13 @@ pub fn step(
     if why != 0 {
         return engine::refuse(why);
     }
-    moving::move_row(control, &mut records[task], lefts, rights, labels, marks, next)
+    moving::move_row(
+        control,
+        &mut records[task],
+        lefts,
+        rights,
+        labels,
+        marks,
+        next,
+    )
 }
