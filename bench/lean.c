@@ -12,6 +12,7 @@
 #define ONE UINT64_C(0x100000000)
 #define LEFT(word) ((uint32_t)(word) >> 15 & 0x7fff)
 #define RIGHT(word) ((uint32_t)(word) & 0x7fff)
+#define END(word, right) ((right) ? RIGHT(word) : LEFT(word))
 #define STATUS(word) ((uint32_t)(word) >> 30)
 #define SLOT(word) ((uint32_t)(word) & 0x7fff)
 #define WORN(word) ((word) >= TAG)
@@ -93,6 +94,17 @@ static inline zc_reply read_anchor(zc_record *record, uint64_t found)
     return go(record, STATUS(found) == ZC_STABLE ? 3 : 5);
 }
 
+/* Places 3, of a pop, and 5. */
+static inline zc_reply read_neighbour(zc_record *record, const uint64_t *inward, uint32_t end,
+                                      uint32_t slots, uint64_t next)
+{
+    uint64_t word = inward[end];
+    if (end == 0 || !link_ok(word, slots))
+        return refuse(ZC_UNSOUND);
+    record->neighbour = SLOT(word);
+    return go(record, next);
+}
+
 static inline uint64_t anchor_of(uint64_t seen, uint32_t status, bool right, uint32_t near,
                                  uint32_t far)
 {
@@ -170,46 +182,35 @@ zc_reply lean_step(zc_control *control, zc_record *records, size_t record_count,
     if (!record_ok(record, anchor, (uint32_t)slots, control->pooled))
         return refuse(ZC_UNSOUND);
 
-    uint64_t seen = record->seen, word, wanted;
-    bool push = record->kind == ZC_PUSH;
-    bool right = record->place - 5 < 6 ? STATUS(seen) == ZC_RPUSH : record->side == ZC_RIGHT;
-    uint32_t end = right ? RIGHT(seen) : LEFT(seen), far = right ? LEFT(seen) : RIGHT(seen);
-    uint64_t *inward = right ? lefts : rights, *outward = right ? rights : lefts;
-    uint32_t own = (uint32_t)record->own, neighbour = (uint32_t)record->neighbour;
+    uint64_t seen = record->seen, word, wanted, *row;
+    bool push = record->kind == ZC_PUSH, side = record->side, helped = STATUS(seen) == ZC_RPUSH;
+    uint32_t own = (uint32_t)record->own, neighbour = (uint32_t)record->neighbour, end;
 
     switch (record->place) {
     case 1: return read_anchor(record, anchor);
     case 2:
-        wanted = anchor_of(seen, STATUS(seen), right, own, own);
-        if (anchor != seen) {
-            retry(record);
-            return read_anchor(record, anchor);
-        }
+        if (anchor != seen)
+            return retry(record), read_anchor(record, anchor);
+        wanted = anchor_of(seen, STATUS(seen), true, own, own);
         if (WORN(seen) || !anchor_ok(wanted, (uint32_t)slots))
             return refuse(ZC_UNSOUND);
         control->anchor = wanted;
         return push ? answer(record, ZC_PUSHED, 0, 0) : go(record, 11);
     case 3:
+        end = END(seen, side);
         if (push) {
-            word = inward[own];
-            if (!link_ok(word, (uint32_t)slots))
+            row = &(side ? lefts : rights)[own];
+            if (!link_ok(*row, (uint32_t)slots))
                 return refuse(ZC_UNSOUND);
-            inward[own] = (word & TAG) | end;
+            *row = (*row & TAG) | end;
             return go(record, 4);
-        } /* fall through */
-    case 5:
-        word = inward[end];
-        if (end == 0 || !link_ok(word, (uint32_t)slots))
-            return refuse(ZC_UNSOUND);
-        record->neighbour = SLOT(word);
-        return go(record, record->place + 1);
-    case 4:
-        if (anchor != seen) {
-            retry(record);
-            return read_anchor(record, anchor);
         }
-        wanted = push ? anchor_of(seen, right ? ZC_RPUSH : ZC_LPUSH, right, own, far)
-                      : anchor_of(seen, STATUS(seen), right, neighbour, far);
+        return read_neighbour(record, side ? lefts : rights, end, (uint32_t)slots, 4);
+    case 4:
+        if (anchor != seen)
+            return retry(record), read_anchor(record, anchor);
+        wanted = push ? anchor_of(seen, side ? ZC_RPUSH : ZC_LPUSH, side, own, END(seen, !side))
+                      : anchor_of(seen, STATUS(seen), side, neighbour, END(seen, !side));
         if (WORN(seen) || !anchor_ok(wanted, (uint32_t)slots))
             return refuse(ZC_UNSOUND);
         control->anchor = wanted;
@@ -218,37 +219,36 @@ zc_reply lean_step(zc_control *control, zc_record *records, size_t record_count,
         record->seen = wanted;
         record->finishing = 1;
         return go(record, 5);
-    case 6:
-    case 8: return anchor == seen ? go(record, record->place + 1) : leave(record);
+    case 5:
+        return read_neighbour(record, helped ? lefts : rights, END(seen, helped), (uint32_t)slots, 6);
+    case 6: return anchor == seen ? go(record, 7) : leave(record);
     case 7:
-        word = outward[neighbour];
+        word = (helped ? rights : lefts)[neighbour];
         if (neighbour == 0 || !link_ok(word, (uint32_t)slots))
             return refuse(ZC_UNSOUND);
         record->link = word;
-        return go(record, SLOT(word) == end ? 10 : 8);
+        return go(record, SLOT(word) == END(seen, helped) ? 10 : 8);
+    case 8: return anchor == seen ? go(record, 9) : leave(record);
     case 9:
         word = record->link;
+        row = &(helped ? rights : lefts)[neighbour];
         if (neighbour == 0)
             return refuse(ZC_UNSOUND);
-        if (outward[neighbour] != word) {
-            retry(record);
-            return leave(record);
-        }
+        if (*row != word)
+            return retry(record), leave(record);
         if (WORN(word))
             return refuse(ZC_UNSOUND);
-        outward[neighbour] = ((word & TAG) + ONE) | end;
+        *row = ((word & TAG) + ONE) | END(seen, helped);
         return go(record, 10);
-    case 10:
-        if (anchor == seen) {
-            wanted = anchor_of(seen, ZC_STABLE, right, end, far);
-            if (WORN(seen) || !anchor_ok(wanted, (uint32_t)slots))
-                return refuse(ZC_UNSOUND);
-            control->anchor = wanted;
-        } else {
-            retry(record);
-        }
+    case 10: /* the ends stay, and are sound */
+        if (anchor != seen)
+            return retry(record), leave(record);
+        if (WORN(seen))
+            return refuse(ZC_UNSOUND);
+        control->anchor = (seen + ONE) & ~(UINT64_C(3) << 30);
         return leave(record);
     case 11: {
+        end = END(seen, side);
         if (end == 0)
             return refuse(ZC_UNSOUND);
         uint32_t label = labels[end];
