@@ -341,9 +341,22 @@ static uint64_t spoilt(uint64_t word, uint64_t *state)
     }
 }
 
+/* Tags that no change can raise, alike in what was read and where it was read. */
+static void wear(zc_record *record)
+{
+    uint64_t tag = UINT64_C(0xffffffff00000000);
+    control.anchor |= tag, control.head |= tag, record->seen |= tag, record->link |= tag;
+    for (size_t row = 0; row <= slots; row++)
+        lefts[row] |= tag, rights[row] |= tag;
+}
+
 /* One to three words of control, the task's record or a row of the links, the task's first. */
 static void damage(size_t task, uint64_t *state)
 {
+    if (draw(state) % 8 == 0) {
+        wear(&records[task]);
+        return;
+    }
     for (uint64_t left = draw(state) % 3 + 1; left > 0; left--) {
         uint64_t number = draw(state), row = (number >> 16) % (slots + 1);
         uint64_t *record = (uint64_t *)&records[task], *shared = (uint64_t *)&control;
