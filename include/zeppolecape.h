@@ -324,9 +324,9 @@ ZC_LAYOUT(offsetof(zc_waiting_reply, code) == 0 && offsetof(zc_waiting_reply, co
 /* ---- The calls ---------------------------------------------------------------------------
  * The tables always come last and in this order, each a pointer and its count of elements:
  * lefts and rights (link words: tag 63-32, zero 31-15, slot 14-0), labels, marks, and, but for
- * zc_open, zc_find, zc_waiting and the order sheets, next. A table that a call only reads is lent as
- * const; a start leaves control as it was. The next table of a queue that was opened by zc_open is
- * not looked at, nor is its count.
+ * zc_open, zc_find, zc_waiting, zc_join and the order sheets, next. A table that a call only reads is
+ * lent as const; a start leaves control as it was. The next table of a queue that was opened by
+ * zc_open is not looked at, nor is its count.
  */
 
 /*
