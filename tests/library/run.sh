@@ -159,6 +159,7 @@ part_examples() {
     example interrupt 'no label lost'
     example renew 'no label lost'
     example changeover 'cheese: 301 302 303'
+    example lanes 'prints 101 102 103 104 105 106 107'
     example sheet "a wedge behind the pallet's label: broken, 7105 must print before 9000"
     holds "C example compiles" $CC $WARNINGS -Iinclude examples/c/executive.c "$archive" -o "$work/executive_c"
     holds "Rust example compiles" in_cargo build --release -p executive
