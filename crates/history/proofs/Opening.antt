@@ -11,7 +11,7 @@ use Rattle.model.specs.declared.Opening.{Opening}
 use Rattle.model.specs.declared.Opening.the-variants.{Refused, Opened}
 use Rattle.model.specs.Tables.{Queue, zeroed}
 use Rattle.model.specs.Refusals.{openRefusal}
-use Rattle.model.specs.Calls.{OpenDone, opened, openAs}
+use Rattle.model.specs.Calls.{OpenDone, opened, openAs, openingCode}
 use Rattle.model.specs.History.{Request, run, final, NoSlotTrue}
 use Rattle.model.proofs.Linearizable.{linearizable}
 use Rattle.model.proofs.Never34.{never-34}
@@ -19,7 +19,7 @@ use Rattle.model.proofs.NoSlot.{no-slot-right}
 use Rattle.model.proofs.Retries.{retries-sum}
 use Rattle.model.proofs.tests.Truth.{split}
 use Rattle.stock_model.proofs.Accounts.{every-label, stock-taking}
-use Rattle.capi.specs.Replies.{openingCode, uppersAt, Coded, coded}
+use Rattle.capi.specs.Replies.{uppersAt, Coded, coded}
 use Rattle.history.specs.Words.{requestsOf, requestsFrom, repliesOf}
 use Rattle.history.specs.Serving.{State, uppersAfter, served, countAfter, FollowsOn, Serves}
 use Rattle.history.proofs.Uppers.{still-zero}
