@@ -1,7 +1,7 @@
 /*
  * Drives the library, the hand-written calls and the bare algorithm through one schedule.
  *
- *     bench check WAY TASKS SLOTS STEPS          all three answer and leave the same, in both calls
+ *     bench check WAY TASKS SLOTS STEPS          all answer and leave the same, in both calls, on damaged tables too
  *     bench time  WAY TASKS SLOTS STEPS TIMES    nanoseconds a step, best of TIMES, interleaved
  *     bench count ENGINE WAY TASKS SLOTS STEPS   one replay, for a program that counts instructions
  *
@@ -11,6 +11,7 @@
  * loop and these stores cost is measured without any step and taken off.
  */
 #include "bare.h"
+#include "lean.h"
 #include "reference.h"
 
 #include <inttypes.h>
@@ -168,6 +169,7 @@ static inline zc_reply no_step(size_t task)
 REPLAY(loop, no_step(task))
 REPLAY(library, zc_step(&control, records, tasks, task, LENT))
 REPLAY(reference, reference_step(&control, records, tasks, task, LENT))
+REPLAY(lean, lean_step(&control, records, tasks, task, LENT))
 REPLAY(bare, bare_step(&control, &records[task], lefts, rights, labels, marks, next))
 REPLAY(library_record, zc_step_record(&control, &records[task], LENT))
 REPLAY(reference_record, reference_step_record(&control, &records[task], LENT))
@@ -180,6 +182,7 @@ static const struct engine {
     {"library", replay_library},
     {"reference", replay_reference},
     {"bare", replay_bare},
+    {"lean", replay_lean},
     {"library_record", replay_library_record},
     {"reference_record", replay_reference_record},
 };
@@ -256,6 +259,13 @@ static zc_reply library_move(const struct operation *move)
     }
 }
 
+static zc_reply lean_move(const struct operation *move)
+{
+    if (move->what != STEP)
+        return reference_move(move);
+    return lean_step(&control, records, tasks, move->task, LENT);
+}
+
 static zc_reply reference_record_move(const struct operation *move)
 {
     if (move->what != STEP)
@@ -291,6 +301,7 @@ static const struct mover {
 } movers[] = {
     {"library", library_move},
     {"reference", reference_move},
+    {"lean", lean_move},
     {"library_record", library_record_move},
     {"reference_record", reference_record_move},
 };
@@ -306,6 +317,96 @@ static int check(const struct operation *schedule, size_t count)
             differ = 1;
         }
     return differ;
+}
+
+/* ---- Damaged tables ---------------------------------------------------------------------- */
+
+#define EACH_TABLE(act) act(lefts) act(rights) act(marks) act(labels) act(next) act(records)
+#define KEEP(table) memcpy(kept_##table, table, sizeof table);
+#define BACK(table) memcpy(table, kept_##table, sizeof table);
+#define KEPT(table) static __typeof__(table) kept_##table;
+EACH_TABLE(KEPT)
+static zc_control kept_control;
+
+/* A word as it is likely to tell two steps apart: small, near its limits, or one bit off. */
+static uint64_t spoilt(uint64_t word, uint64_t *state)
+{
+    uint64_t number = draw(state);
+    switch (number % 5) {
+    case 0: return number >> 8 & 31;
+    case 1: return slots + (number >> 8 & 1);
+    case 2: return word ^ UINT64_C(1) << (number >> 8) % 64;
+    case 3: return word | UINT64_C(0xffffffff00000000);
+    default: return draw(state) << 32 ^ draw(state);
+    }
+}
+
+/* Tags that no change can raise, alike in what was read and where it was read. */
+static void wear(zc_record *record)
+{
+    uint64_t tag = UINT64_C(0xffffffff00000000);
+    control.anchor |= tag, control.head |= tag, record->seen |= tag, record->link |= tag;
+    for (size_t row = 0; row <= slots; row++)
+        lefts[row] |= tag, rights[row] |= tag;
+}
+
+/* One to three words of control, the task's record or a row of the links, the task's first. */
+static void damage(size_t task, uint64_t *state)
+{
+    if (draw(state) % 8 == 0) {
+        wear(&records[task]);
+        return;
+    }
+    for (uint64_t left = draw(state) % 3 + 1; left > 0; left--) {
+        uint64_t number = draw(state), row = (number >> 16) % (slots + 1);
+        uint64_t *record = (uint64_t *)&records[task], *shared = (uint64_t *)&control;
+        uint64_t *rows[] = {&lefts[row], &rights[row], &next[row]};
+        uint64_t *word = number % 8 < 5   ? &record[(number >> 8) % 10]
+                         : number % 8 < 7 ? &shared[(number >> 8) % 5]
+                                          : rows[(number >> 8) % 3];
+        *word = spoilt(*word, state);
+    }
+}
+
+/* Each step from the same damaged tables, in the middle of a run: same answer, same tables. */
+static int check_damaged(const struct operation *schedule, size_t count)
+{
+    uint64_t state = UINT64_C(2463534242);
+    open_queue();
+    for (size_t at = 0; at < count && at < 20000; at++) {
+        if (schedule[at].what == STEP) {
+            zc_control whole = control;
+            zc_record record = records[schedule[at].task];
+            uint64_t hash[sizeof movers / sizeof *movers];
+            static __typeof__(lefts) whole_lefts, whole_rights, whole_next;
+            memcpy(whole_lefts, lefts, sizeof lefts);
+            memcpy(whole_rights, rights, sizeof rights);
+            memcpy(whole_next, next, sizeof next);
+            damage(schedule[at].task, &state);
+            EACH_TABLE(KEEP)
+            kept_control = control;
+            for (size_t mover = 0; mover < sizeof movers / sizeof *movers; mover++) {
+                EACH_TABLE(BACK)
+                control = kept_control;
+                zc_reply reply = movers[mover].move(&schedule[at]);
+                hash[mover] = hash_tables(hash_move(0, reply, &records[schedule[at].task]));
+                int alone = strstr(movers[mover].name, "record") != NULL;
+                if (hash[mover] != hash[alone ? 3 : 0]) {
+                    fprintf(stderr, "damaged tables: %s answers or leaves otherwise\n",
+                            movers[mover].name);
+                    return 1;
+                }
+            }
+            EACH_TABLE(BACK)
+            control = whole;
+            records[schedule[at].task] = record;
+            memcpy(lefts, whole_lefts, sizeof lefts);
+            memcpy(rights, whole_rights, sizeof rights);
+            memcpy(next, whole_next, sizeof next);
+        }
+        reference_move(&schedule[at]);
+    }
+    return 0;
 }
 
 /* ---- Time -------------------------------------------------------------------------------- */
@@ -375,5 +476,7 @@ int main(int argc, char **argv)
     size_t count = draw_schedule(schedule, steps);
     if (shift)
         return count_one(argv[2], schedule, count);
-    return timed ? time_all(schedule, count, steps, atoi(argv[6])) : check(schedule, count);
+    if (timed)
+        return time_all(schedule, count, steps, atoi(argv[6]));
+    return check(schedule, count) || check_damaged(schedule, count);
 }

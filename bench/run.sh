@@ -32,10 +32,10 @@ else
     fi
 fi
 
-for source in main reference bare walks; do
+for source in main reference lean bare walks; do
     $CC $WARNINGS $OPT -I../include -c $source.c -o "$work/$source.o"
 done
-$CC "$work"/{main,reference,bare}.o "$archive" -o "$work/bench"
+$CC "$work"/{main,reference,lean,bare}.o "$archive" -o "$work/bench"
 $CC "$work"/{walks,reference}.o "$archive" -o "$work/walks"
 
 # Instructions of a whole replay by callgrind; nothing if it cannot tell.
@@ -92,7 +92,39 @@ for way in named pooled; do
     done
 done
 echo
-echo "Answers and tables of all three were the same in every line."
+echo "Answers and tables of all were the same in every line."
+echo
+echo "zc_step on a named queue against both steps by hand in C (reference.c; lean.c, of fewer instructions) by each compiler, at -O3."
+echo
+echo "| C by | tasks | slots | ns: library | C | lean | library/C | library/lean | instructions: library | C | lean |"
+echo "|---|---|---|---|---|---|---|---|---|---|---|"
+both=$work/both
+for compiler in gcc clang; do
+    if ! command -v $compiler >/dev/null; then
+        absent="$compiler is not here: the other compiler alone was compared with."
+        continue
+    fi
+    for source in reference lean; do
+        $compiler $WARNINGS -O3 -I../include -c $source.c -o "$work/$source.$compiler.o"
+    done
+    $CC "$work"/{main,bare,reference.$compiler,lean.$compiler}.o "$archive" -o "$both"
+    for tasks in 1 5 16; do
+        for slots in 3 1023; do
+            "$both" check named $tasks $slots "$STEPS"
+            "$both" time named $tasks $slots "$STEPS" "$TIMES" >"$work/times"
+            for engine in library reference lean; do
+                count=-
+                if [ $have_callgrind = yes ]; then
+                    loop=$(collected loop "$both" count loop named $tasks $slots $COUNTED)
+                    count=$((($(collected $engine "$both" count $engine named $tasks $slots $COUNTED) - loop) / COUNTED))
+                fi
+                echo "$(awk -v n=$engine '$1 == n { print $2 }' "$work/times") $count"
+            done | tr '\n' ' ' | awk -v c=$compiler -v t=$tasks -v s=$slots \
+                '{ printf "| %s | %s | %s | %.1f | %.1f | %.1f | %.2f | %.2f | %s | %s | %s |\n", c, t, s, $1, $3, $5, $1 / $3, $1 / $5, $2, $4, $6 }'
+        done
+    done
+done
+[ -z "${absent:-}" ] || echo "$absent"
 echo
 echo "The calls that walk the queue, 1,023 slots; nanoseconds and instructions a call."
 echo

@@ -16,8 +16,8 @@
  *     cc -Iinclude main.c target/lib/libzeppolecape.a
  *
  * The library is for x86-64. It calls nothing but memset, from the openings, zc_serve, zc_audit_words
- * and the order sheets, memcpy, from zc_find, zc_next_schedule and the order sheets, and memmove, from
- * zc_save and zc_return.
+ * and the order sheets, memcpy, from zc_find and zc_next_schedule, and memmove, from zc_save and
+ * zc_return.
  *
  * In short:
  *
@@ -37,17 +37,17 @@
  * 0. Pops, steps and the report are the same calls for both.
  *
  * YOUR DUTY, in every call
- *  - `control`, and `one` of zc_step_record, are not null. Every pointer is aligned
- *    for its type and good for its count of elements (a count is never in bytes).
- *  - No two of the tables overlap, nor do they overlap control or a record.
+ *  - `control`, `one` of zc_step_record and the three controls of zc_join are not null. Every pointer
+ *    is aligned for its type and good for its count of elements (a count is never in bytes).
+ *  - Nothing that a call writes overlaps anything else that it is lent.
  *  - One call at a time on a queue, as said above: it is the executive that makes each step
  *    one undivided touch. Calls on different queues are independent.
  *  - Between calls the tables are yours to read. Writing into an open queue is
  *    never dangerous to memory, but only a queue that was written by these calls
  *    alone keeps its promises (and never answers 34).
  * Everything else is checked: any number may be passed for any other argument, any
- * contents may lie in the tables, and any table may be too short. A table with
- * count 0 may be null; it is a short table (12) like any other.
+ * contents may lie in the tables, and any table may be too short. Every table with
+ * count 0 may be null; where the call needs it, it is a short table (12) like any other.
  *
  * WHO STEPS A TASK. A call belongs to its task's record, not to whoever steps it: a watchdog may
  * step a task that hangs, to its answer if it likes. The answer goes to the caller of that step and
@@ -55,9 +55,10 @@
  * keeps it for the task: a popped label is nowhere else. The task finds its place 0, and its own
  * next step is refused 31.
  *
- * CODES, one convention for all calls: an unsigned number, 0 for an opening or a report carried out,
- * 1 to 9 for what a call answers, 10 and above for a refusal (zc_is_refusal). A reply holds it in
- * 32 bits, a report in 64; a uint64_t takes either, and all the ZC_ names below compare with both.
+ * CODES, one convention for all calls: an unsigned number, 1 to 5 for what a start or a step answers,
+ * 0 for any other call carried out (but ZC_FAILS of an audit, 1), 10 and above for a refusal
+ * (zc_is_refusal). Some replies hold it in 32 bits, some in 64; a uint64_t takes either, and all the
+ * ZC_ names below compare with both.
  *
  * FACTS, the most that bench/facts.sh saw over random calls; memset's instructions are not counted:
  *                  stack,   instructions at most, by tasks and slots
@@ -90,7 +91,11 @@
  *   13  no such task                         33  start: the Anchor tag is above 4,294,967,262
  *   14  side not 0 or 1                      34  unsound, see ZC_UNSOUND
  *   15  slot not 1 to slots                  41  push: a slot named in a pooled queue, or none
- *                                                in the other
+ *   40  audit: no history to be judged           in the other
+ *   43  shelf above 7                        42  schedules: not two busy tasks, or over four labels
+ *   45  find: more than 32 labels            44  return: the shelf was never filled
+ *   46  the order sheet is malformed         47  join: a source not at rest, or the third not fresh
+ *                                            48  join: more labels than slots in the third
  */
 #ifndef ZEPPOLECAPE_H
 #define ZEPPOLECAPE_H
@@ -156,7 +161,7 @@ extern "C" {
 #define ZC_RPUSH 1
 #define ZC_LPUSH 2
 
-/* Codes of a zc_reply. Any other code is the number of a refusal. */
+/* Codes of a zc_reply and of a zc_run_reply. Any other code is the number of a refusal. */
 #define ZC_RUNNING 1      /* the call goes on; value: the place of its next step */
 #define ZC_PUSHED 2       /* the push is answered */
 #define ZC_EMPTY 3        /* the pop is answered: nothing was waiting */
@@ -166,11 +171,14 @@ extern "C" {
 /* Refusals because of the input. */
 #define ZC_BAD_TASKS 10
 #define ZC_BAD_SLOTS 11
-#define ZC_SHORT 12   /* see ZC_ROWS and ZC_MARK_WORDS; one record a task; next only if pooled */
-#define ZC_NO_TASK 13 /* tasks are 0 to tasks - 1 */
-#define ZC_NO_SIDE 14
-#define ZC_NO_SLOT 15 /* slots are 1 to slots; 0 is null */
-#define ZC_MANY_ASKED 45 /* more than 32 labels asked for */
+#define ZC_SHORT 12       /* see ZC_ROWS and ZC_MARK_WORDS; one record a task; next only if pooled */
+#define ZC_NO_TASK 13     /* tasks are 0 to tasks - 1 */
+#define ZC_NO_SIDE 14     /* sides are ZC_LEFT and ZC_RIGHT */
+#define ZC_NO_SLOT 15     /* slots are 1 to slots; 0 is null */
+#define ZC_BAD_HISTORY 40 /* zc_audit: not a history that can be judged, see there */
+#define ZC_NO_SHELF 43    /* zc_save, zc_return: shelves are 0 to 7 */
+#define ZC_MANY_ASKED 45  /* zc_find: more than 32 labels asked for */
+#define ZC_BAD_SHEET 46   /* over 32 labels or 128 rules, a label twice, a rule outside the list */
 
 /* Refusals because of the state. */
 #define ZC_BUSY 30  /* step the task to its answer first */
@@ -183,8 +191,9 @@ extern "C" {
  */
 #define ZC_WORN 33
 /*
- * The contents of a table contradict each other; never after an opening and calls of this
- * library alone, so somebody else wrote there. Four groups, each tested at its time:
+ * The contents of a table contradict each other; never after an opening, or a return to a shelf that
+ * was so saved, and calls of this library alone, so somebody else wrote there. Four groups, each
+ * tested at its time:
  *  - control: tasks or slots outside their limits; pooled above 1; an Anchor with status 3, an end
  *    above slots, just one end null, or unstable with equal ends;
  *  - the record, if busy: place above 11, in a pooled queue above 17; kind, side or finishing above
@@ -200,30 +209,15 @@ extern "C" {
  *    word with a set bit in 31-15 or a slot above slots, or more slots than exist.
  */
 #define ZC_UNSOUND 34
-#define ZC_WRONG_PUSH 41 /* zc_push is for queues opened by zc_open, zc_push_pooled for the other */
-
-/* Refusal of zc_audit, because of the input: no history that can be judged. */
-#define ZC_BAD_HISTORY 40
-
-/* Refusal of the order sheets, because of the input: over 32 labels or 128 rules, a label listed twice, or a
- * rule that points outside the list. */
-#define ZC_BAD_SHEET 46
-
-/* Refusal of zc_next_schedule, because of the state: tasks not 2, one of them idle, or over four
- * labels waiting. */
-#define ZC_NOT_TWO 42
-
-/* Refusals of zc_save and zc_return: one because of the input, one because of the state. */
-#define ZC_NO_SHELF 43 /* shelves are 0 to 7 */
-#define ZC_UNFILLED 44 /* the shelf was never filled: its tasks are still 0 */
-
-/* Refusals of zc_join, because of the state: see there. */
-#define ZC_NOT_AT_REST 47 /* a source is not at rest, or the third is not fresh */
-#define ZC_CROWDED 48     /* more labels than slots in the third */
+#define ZC_WRONG_PUSH 41  /* zc_push is for queues opened by zc_open, zc_push_pooled for the other */
+#define ZC_NOT_TWO 42     /* zc_next_schedule: tasks not 2, one of them idle, over four labels */
+#define ZC_UNFILLED 44    /* zc_return: the shelf was never filled, its tasks are still 0 */
+#define ZC_NOT_AT_REST 47 /* zc_join: a source is not at rest, or the third is not fresh */
+#define ZC_CROWDED 48     /* zc_join: more labels than slots in the third */
 
 /* ---- Types ------------------------------------------------------------------------------ */
 
-/* What all tasks share besides rows and marks. Written by the openings and the steps. */
+/* What all tasks share besides the tables. Written by the openings, the steps, zc_return and zc_join. */
 typedef struct zc_control {
     uint64_t tasks;
     uint64_t slots;
@@ -234,14 +228,15 @@ typedef struct zc_control {
 
 /*
  * Where a task stands in its call, and its count of retries. An opening zeroes every field. A start
- * writes every field but the count, and an answer zeroes every field but the count.
+ * writes every field but the count, and an answer zeroes every field but the count: a task is idle
+ * where its place is 0.
  */
 typedef struct zc_record {
     uint64_t place;     /* 0 idle, or the place of the next step, 1 to 11, pooled to 17 */
     uint64_t kind;      /* ZC_PUSH or ZC_POP */
     uint64_t side;      /* ZC_LEFT or ZC_RIGHT */
     uint64_t own;       /* the slot of a push, or that a pop gives back (15 to 17); else 0 */
-    uint32_t label;     /* its label; 4 bytes of padding follow, which nobody reads */
+    uint32_t label;     /* its label; 4 bytes of padding follow, by which no call goes */
     uint64_t seen;      /* Anchor as read */
     uint64_t neighbour; /* the neighbour slot as read; at 14 the next of the slot on top */
     uint64_t link;      /* the link word as read; at 13 to 17 the head */
@@ -324,9 +319,9 @@ ZC_LAYOUT(offsetof(zc_waiting_reply, code) == 0 && offsetof(zc_waiting_reply, co
 /* ---- The calls ---------------------------------------------------------------------------
  * The tables always come last and in this order, each a pointer and its count of elements:
  * lefts and rights (link words: tag 63-32, zero 31-15, slot 14-0), labels, marks, and, but for
- * zc_open, zc_find, zc_waiting and the order sheets, next. A table that a call only reads is lent as
- * const; a start leaves control as it was. The next table of a queue that was opened by zc_open is
- * not looked at, nor is its count.
+ * zc_open, zc_find, zc_waiting, zc_join and the order sheets, next. A table that a call only reads is
+ * lent as const; a start leaves control as it was. The next table of a queue that was opened by
+ * zc_open is not looked at, nor is its count: it may be null and 0.
  */
 
 /*
@@ -356,7 +351,8 @@ uint32_t zc_open_pooled(zc_control *control, zc_record *records, size_t record_c
  * Starts a push for an idle task in a queue opened by zc_open: `label`, any number, in `slot`, at
  * the end `side`. The slot must be free (its mark clear); it is taken from now until the pop of its
  * label answers.
- * Writes the record but its count, the slot's label and its mark; the queue itself moves by steps only.
+ * Writes the record but its count, the slot's label and its mark; the queue itself moves by steps
+ * only.
  * Answers running at place 1, or refuses: 34 for control, 12, 13, 14, 41, 15, 34 for the record,
  * 30, 32, 33.
  */
@@ -370,7 +366,7 @@ zc_reply zc_push(zc_control *control, zc_record *records, size_t record_count, s
  * Starts a push for an idle task in a pooled queue. Its first steps take a slot from the pool; if
  * there is none the first step answers ZC_NO_FREE_SLOT, and nothing is pushed: every slot then
  * waited, or was held by a push or a pop half done. Start again once a pop has answered.
- * Writes the record alone, but its count.
+ * Writes the record but its count, and nothing else.
  * Answers running at place 12, or refuses: 34 for control, 12, 13, 14, 41, 34 for the record, 30,
  * 33.
  */
@@ -381,8 +377,8 @@ zc_reply zc_push_pooled(zc_control *control, zc_record *records, size_t record_c
                         const uint64_t *next, size_t next_count);
 
 /*
- * Starts a pop for an idle task at the end `side`. Writes the record alone, but its
- * count.
+ * Starts a pop for an idle task at the end `side`. Writes the record but its count, and nothing
+ * else.
  * Answers running at place 1, or refuses: 34 for control, 12, 13, 14, 34 for the record, 30, 33.
  */
 zc_reply zc_pop(zc_control *control, zc_record *records, size_t record_count, size_t task,
@@ -419,8 +415,8 @@ zc_reply zc_step_record(zc_control *control, zc_record *one, uint64_t *lefts, si
  * last step did. With `most` steps made, or none to make, the answer is running at the task's place
  * (0: it is idle). ZC_PUSH_STEPS or ZC_POP_STEPS, pooled ZC_POOLED_PUSH_STEPS or
  * ZC_POOLED_POP_STEPS, are always enough.
- * Refuses as the step does. In a queue that somebody else wrote to, a later step may be refused too:
- * the `steps` before it are made and stay.
+ * Refuses as the step does, and nothing with `most` 0. In a queue that somebody else wrote to, a
+ * later step may be refused too: the `steps` before it are made and stay.
  */
 zc_run_reply zc_run(zc_control *control, zc_record *records, size_t record_count, size_t task,
                     uint64_t most, uint64_t *lefts, size_t left_count, uint64_t *rights,
@@ -460,6 +456,7 @@ zc_find_reply zc_find(const zc_control *control, const uint32_t *asked, size_t a
  * written by the calls alone has every label on the walk.
  * Answers code 0 and the count, or refuses: 34 for control, 12 (rows and marks only), 34 for the
  * walk, 12 for slots_out or labels_out shorter than what waits (slots entries are always enough).
+ * A refusal writes nothing.
  */
 zc_waiting_reply zc_waiting(const zc_control *control, uint64_t *slots_out, size_t slots_out_count,
                             uint32_t *labels_out, size_t labels_out_count, const uint64_t *lefts,
@@ -505,7 +502,6 @@ static inline const char *zc_refusal_text(uint64_t number)
     case ZC_NO_TASK: return "no such task";
     case ZC_NO_SIDE: return "side not 0 or 1";
     case ZC_NO_SLOT: return "slot not 1 to slots";
-    case ZC_MANY_ASKED: return "more than 32 labels asked for";
     case ZC_BUSY: return "the task is busy";
     case ZC_IDLE: return "the task is idle";
     case ZC_TAKEN: return "the slot is taken";
@@ -513,10 +509,11 @@ static inline const char *zc_refusal_text(uint64_t number)
     case ZC_UNSOUND: return "the tables are unsound";
     case ZC_BAD_HISTORY: return "not a history that can be judged";
     case ZC_WRONG_PUSH: return "a slot named in a pooled queue, or none in the other";
-    case ZC_BAD_SHEET: return "the sheet is malformed";
     case ZC_NOT_TWO: return "not two busy tasks, or over four labels waiting";
     case ZC_NO_SHELF: return "shelf not 0 to 7";
     case ZC_UNFILLED: return "the shelf was never filled";
+    case ZC_MANY_ASKED: return "more than 32 labels asked for";
+    case ZC_BAD_SHEET: return "the sheet is malformed";
     case ZC_NOT_AT_REST: return "a queue is not at rest, or the third is not fresh";
     case ZC_CROWDED: return "more labels than slots in the third queue";
     default: return "not a refusal";
@@ -697,7 +694,7 @@ static inline zc_reply zc_queue_finish(const zc_queue *queue, size_t task)
 #ifndef ZC_CORE_ONLY
 /*
  * Brings an open queue to rest and reads it out, as 33 asks for. Steps every busy task to its answer
- * and writes that to answers[task], code 0 for a task that was idle: a popped label is nowhere else.
+ * and writes that to answers[task], code 0 where no call was under way: a popped label is nowhere else.
  * Then writes the labels waiting and their slots as zc_queue_waiting does, and answers so.
  * `answers` has room for each record, `slots` and `labels` for each slot, all apart from the tables.
  */
@@ -705,8 +702,10 @@ static inline zc_waiting_reply zc_queue_drain(const zc_queue *queue, zc_reply *a
                                               uint64_t *slots, uint32_t *labels)
 {
     const zc_reply none = {0, 0, 0};
-    for (size_t task = 0; task < queue->record_count; task++)
-        answers[task] = queue->records[task].place == 0 ? none : zc_queue_finish(queue, task);
+    for (size_t task = 0; task < queue->record_count; task++) {
+        int busy = task < queue->control->tasks && queue->records[task].place != 0;
+        answers[task] = busy ? zc_queue_finish(queue, task) : none;
+    }
     return zc_queue_waiting(queue, slots, labels, (size_t)queue->control->slots);
 }
 #endif
@@ -805,12 +804,12 @@ static inline zc_verdict zc_audit(const zc_finished *calls, size_t call_count,
 #define ZC_MOST_RULES 128
 #define ZC_SHEET_WORDS 32 /* that zc_sheet_words is lent */
 
-/* Code 0: kept, first and second 0, or the first broken pair by its places in the list. */
+/* Whether a sheet is kept: both places are 0, else they are the first broken pair's in the list. */
 typedef struct zc_sheet_reply {
     uint64_t code; /* 0, or the number of a refusal; the rest is then 0 */
     uint64_t first, second;
 } zc_sheet_reply;
-ZC_LAYOUT(sizeof(zc_sheet_reply) == 24);
+ZC_LAYOUT(sizeof(zc_sheet_reply) == 24 && offsetof(zc_sheet_reply, code) == 0);
 ZC_LAYOUT(offsetof(zc_sheet_reply, first) == 8 && offsetof(zc_sheet_reply, second) == 16);
 
 /* The rule that the label at place `first` prints before the one at `second`. A place above 65,535
@@ -824,9 +823,8 @@ static inline uint32_t zc_rule(uint64_t first, uint64_t second)
  * Whether the labels waiting keep the sheet. A chained pair is broken when any copy of the second
  * waits left of any copy of the first; a label chained to itself as soon as it waits. Of several
  * broken pairs the one with the smallest first place, then the smallest second, is answered.
- * Writes nothing. Refuses: 34 for control, 46, 12 (rows and marks only), 34 for the links: the
- * walk of the labels waiting meets slot 0 early, a link word as ZC_UNSOUND names it, or more slots
- * than there are.
+ * Writes nothing, and looks at no records.
+ * Answers code 0, or refuses: 34 for control, 46, 12 (rows and marks only), 34 for the walk.
  */
 zc_sheet_reply zc_sheet(const zc_control *control, const uint32_t *listed, size_t listed_count,
                         const uint32_t *rules, size_t rule_count, const uint64_t *lefts,
@@ -836,9 +834,10 @@ zc_sheet_reply zc_sheet(const zc_control *control, const uint32_t *listed, size_
 
 /*
  * The same with 32 lent words for the chained rules in place of a square on the stack: it answers
- * as zc_sheet does. With code 0 bit b of word a is then set exactly if place a + 1 is chained
- * before place b + 1, and all other bits of the 32 words are clear; words beyond keep. A refusal
- * leaves the words. Refuses: 34 for control, 46, 12 (fewer than 32 words too), 34 for the links.
+ * as zc_sheet does. With code 0, kept or broken, bit b of word a is then set exactly if place a + 1
+ * is chained before place b + 1, and all other bits of the 32 words are clear; words beyond keep. A
+ * refusal leaves the words.
+ * Answers code 0, or refuses: 34 for control, 46, 12 (fewer than 32 words too), 34 for the walk.
  */
 zc_sheet_reply zc_sheet_words(const zc_control *control, const uint32_t *listed,
                               size_t listed_count, const uint32_t *rules, size_t rule_count,
@@ -883,7 +882,7 @@ static inline zc_sheet_reply zc_queue_sheet_words(const zc_queue *queue, const u
  * The queue is only read. Neither its records nor its links are looked at.
  *
  * Answers 0, or refuses: 34 for control, 43, 12 (the queue's tables or the shelf's, by this control;
- * fewer than eight controls). A refusal changes nothing. No two of the tables overlap.
+ * fewer than eight controls). A refusal changes nothing. With named slots both next tables may be null.
  */
 uint32_t zc_save(const zc_control *control, const zc_record *records, size_t record_count,
                  zc_control *shelf_controls, size_t shelf_control_count, zc_record *shelf_records,
@@ -897,9 +896,10 @@ uint32_t zc_save(const zc_control *control, const zc_record *records, size_t rec
 
 /*
  * Puts the queue that lies on a shelf back, its tasks, slots and way of opening too: the same
- * entries, the other way. What the queue's tables held before does not matter, nor does its control.
- * The shelf keeps its copy. Calls that were half done at the saving are so again; what was answered
- * between the saving and the return is then no part of the queue's history.
+ * entries, the other way. What the queue's tables held before does not matter, nor does its control:
+ * it need not be open. The shelf keeps its copy. Calls that were half done at the saving are so again;
+ * what was answered between the saving and the return is then no part of the queue's history, nor
+ * does a stretch of ZC_STRETCH span a return.
  *
  * Answers 0, or refuses: 43, 44, 34 for the shelf's control, 12 (by the shelf's control; fewer than
  * eight controls, of which one that is not lent reads as zero: 44). A refusal changes nothing.
@@ -1002,8 +1002,9 @@ static inline uint32_t zc_queue_return(const zc_queue *queue, const zc_shelves *
  * and zero in rows 0 to slots and in the whole mark words of these; its tag and retries are free.
  * It shares no table with a source. While the labels are merged its link tables hold other words.
  *
- * Answers 0, or refuses: 34 for the three controls, 12, 34 for the two walks, 47, 48, 33 (if one of
- * the pushes would meet it). A refusal changes nothing.
+ * Of a source neither marks nor next are lent. Answers 0, or refuses: 34 for the three controls, 12
+ * (records and rows of all three, marks of the third), 34 for the two walks, 47, 48, 33 (if one of the
+ * pushes would meet it). A refusal changes nothing.
  */
 uint32_t zc_join(const zc_control *first, const zc_record *first_records, size_t first_record_count,
                  const zc_control *second, const zc_record *second_records,
@@ -1044,10 +1045,10 @@ static inline uint32_t zc_queue_join(const zc_queue *first, const zc_queue *seco
 
 typedef struct zc_schedule_reply {
     uint64_t code;   /* 0, or the number of a refusal; the rest is then 0 */
-    uint64_t ending; /* ZC_BOTH_ANSWERED to ZC_NO_MORE */
+    uint64_t ending; /* ZC_BOTH_ANSWERED, ZC_CUT, ZC_STOPPED, or ZC_NO_MORE in place of one */
     uint64_t length; /* the steps of the schedule; 0 with ZC_NO_MORE */
 } zc_schedule_reply;
-ZC_LAYOUT(sizeof(zc_schedule_reply) == 24);
+ZC_LAYOUT(sizeof(zc_schedule_reply) == 24 && offsetof(zc_schedule_reply, code) == 0);
 ZC_LAYOUT(offsetof(zc_schedule_reply, ending) == 8 && offsetof(zc_schedule_reply, length) == 16);
 
 /*
@@ -1062,7 +1063,8 @@ ZC_LAYOUT(offsetof(zc_schedule_reply, ending) == 8 && offsetof(zc_schedule_reply
  *
  * It holds no memory between calls: each goes the way of the last schedule again, then on to the
  * next. It is recursive, a level for each step; with 48 steps a call takes 88,000 bytes of stack.
- * Refuses: 34 for control, 12 (`schedule` too: 49), 34 for the walk, 42.
+ * Answers code 0, or refuses: 34 for control, 12 (`schedule` too: 49), 34 for the walk, 42. A refusal
+ * leaves `schedule`. A busy record that is unsound is no refusal: its step is, and stops the schedule.
  */
 zc_schedule_reply zc_next_schedule(const zc_control *control, const zc_record *records,
                                    size_t record_count, uint64_t *schedule, size_t schedule_count,
@@ -1110,25 +1112,27 @@ typedef struct zc_answer {
 
 typedef struct zc_serve_reply {
     uint64_t code;   /* 0, or the number by which the opening is refused */
-    uint64_t served; /* requests carried out */
+    uint64_t served; /* requests carried out; 0 with a refusal */
 } zc_serve_reply;
 
 ZC_LAYOUT(sizeof(zc_request) == 8 * ZC_REQUEST_WORDS);
 ZC_LAYOUT(offsetof(zc_request, task) == 0 && offsetof(zc_request, operation) == 8);
 ZC_LAYOUT(offsetof(zc_request, side) == 16 && offsetof(zc_request, slot) == 24);
 ZC_LAYOUT(offsetof(zc_request, label) == 32);
-ZC_LAYOUT(sizeof(zc_answer) == 8 * ZC_ANSWER_WORDS);
+ZC_LAYOUT(sizeof(zc_answer) == 8 * ZC_ANSWER_WORDS && offsetof(zc_answer, code) == 0);
 ZC_LAYOUT(offsetof(zc_answer, label) == 8 && offsetof(zc_answer, value) == 16);
-ZC_LAYOUT(sizeof(zc_serve_reply) == 16 && offsetof(zc_serve_reply, served) == 8);
+ZC_LAYOUT(sizeof(zc_serve_reply) == 16 && offsetof(zc_serve_reply, code) == 0);
+ZC_LAYOUT(offsetof(zc_serve_reply, served) == 8);
 
 /*
  * Opens a queue, as zc_open does if `pooled` is 0 and else as zc_open_pooled does. Then carries out
  * the requests in order, each by zc_push, zc_pop, zc_push_pooled or zc_step: their code is what runs.
  * A request that is refused is answered its number and changes nothing; the list goes on. It ends
  * after the last whole request, or where the next answer has no room: a rest of fewer than five
- * words is no request, and fewer than three are no room. Words behind the last answer keep their values.
- * Refuses what the opening refuses: 10, 11, 12 (next only if pooled; neither requests nor replies).
- * Nothing is then written, and no request carried out.
+ * words is no request, and fewer than three are no room. Words behind the last answer keep their
+ * values. With no requests, or no room, both tables may be null: the queue is opened.
+ * Answers code 0, or refuses what the opening refuses: 10, 11, 12 (next only if pooled; neither
+ * requests nor replies). Nothing is then written, and no request carried out.
  *
  * Both are lent as words: five a request in the order of zc_request, three an answer.
  */

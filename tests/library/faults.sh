@@ -46,7 +46,7 @@ mkdir "$work/forward" &&
     gcc -std=c11 -O2 -DAS_LIBRARY -Iinclude -c bench/shelf_reference.c -o "$work/shelf.o" &&
     ar rcs "$work/forward/libzeppolecape.a" "$work"/{forward,audit,sheet,schedules,join,serve,shelf}.o &&
     gcc -shared -fPIC -O2 -DAS_LIBRARY -Iinclude bench/reference.c -o "$work/faultless.so" || exit 2
-parts="layout fence waiting taken bindings examples bench differential" # the facts are the library's
+parts="layout layout_pool layout_answers fence waiting taken bindings examples bench differential" # the facts are the library's
 [ -z "${ALONE:-}" ] || parts=differential
 if ! ZC_OBJECT=$work/faultless.so BUILD=$work/build PARTS=$parts tests/library/run.sh "$work/forward" >"$work/said"; then
     cat "$work/said"
@@ -78,7 +78,7 @@ noticed() {
 
 others() {
     local part way seed odd= lost=
-    for part in layout fence waiting taken; do
+    for part in layout layout_pool layout_answers fence waiting taken; do
         limited 10 "$work/build/$part" || echo -n " $part"
     done
     bindings || echo -n " bindings"

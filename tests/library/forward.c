@@ -2,11 +2,8 @@
  * The library's calls handed on to a shared object, named by ZC_OBJECT. With it the test programs
  * are built once and run on many faulty libraries; faults.sh alone uses it.
  */
+#include "forward.h"
 #include "zeppolecape.h"
-
-#include <dlfcn.h>
-#include <stdio.h>
-#include <stdlib.h>
 
 /* The tables as each call has them: read only, or written too. */
 #define TABLES(link, label, mark)                                                                  \
@@ -30,12 +27,7 @@ static __typeof__(zc_waiting) *waiting_call;
 
 __attribute__((constructor)) static void load(void)
 {
-    const char *name = getenv("ZC_OBJECT");
-    void *object = name == NULL ? NULL : dlopen(name, RTLD_NOW | RTLD_LOCAL);
-    if (object == NULL) {
-        fprintf(stderr, "ZC_OBJECT: %s\n", name == NULL ? "not set" : dlerror());
-        exit(2);
-    }
+    void *object = load_object();
     *(void **)&open_call = dlsym(object, "zc_open");
     *(void **)&open_pooled_call = dlsym(object, "zc_open_pooled");
     *(void **)&push_call = dlsym(object, "zc_push");

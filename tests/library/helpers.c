@@ -2,26 +2,12 @@
  * The header's helpers over an open queue: storage, a free slot, finish, drain and refill, and what
  * they answer where the tables are damaged.
  */
+#include "check.h"
 #include "zeppolecape.h"
-
-#include <stdio.h>
 
 enum { TASKS = 3, SLOTS = 130 };
 ZC_QUEUE_STORAGE(queue, TASKS, SLOTS);
 ZC_NAMED_STORAGE(named, TASKS, SLOTS);
-
-static unsigned passed, failed;
-
-static void is(const char *what, uint64_t found, uint64_t expected)
-{
-    if (found == expected) {
-        passed++;
-        return;
-    }
-    failed++;
-    printf("FAILED %s: %llu, expected %llu\n", what, (unsigned long long)found,
-           (unsigned long long)expected);
-}
 
 static void storage(void)
 {
@@ -104,6 +90,20 @@ static void drain(void)
     is("in the same order", again[0] * 10000 + again[1] * 100 + again[2], 51020);
     queue_tables.lefts[slots[1]] = UINT64_C(1) << 20;
     is("a damaged queue", zc_queue_drain(&queue, answers, slots, again).code, ZC_UNSOUND);
+}
+
+/* A record beyond the tasks keeps its call from an earlier opening; it is nobody's. */
+static void fewer_tasks(void)
+{
+    zc_reply answers[TASKS];
+    static uint64_t slots[SLOTS];
+    static uint32_t labels[SLOTS];
+    zc_queue_open(&queue, TASKS, SLOTS, 0);
+    zc_queue_pop(&queue, TASKS - 1, ZC_LEFT);
+    is("fewer tasks", zc_queue_open(&queue, TASKS - 1, SLOTS, 0), 0);
+    is("a call beyond them", queue_tables.records[TASKS - 1].place, 1);
+    is("they are drained", zc_queue_drain(&queue, answers, slots, labels).code, 0);
+    is("no answer beyond them", answers[TASKS - 1].code, 0);
 }
 
 static void refill(void)
@@ -194,9 +194,9 @@ int main(void)
     free_slot();
     finish();
     drain();
+    fewer_tasks();
     refill();
     pooled();
     longest();
-    printf("%u passed, %u failed\n", passed, failed);
-    return failed != 0;
+    return told();
 }

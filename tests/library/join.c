@@ -5,10 +5,10 @@
  *
  *     join ROUNDS [SEED]
  */
+#include "draw.h"
 #include "join_reference.h"
 #include "reference.h"
 
-#include <stdbool.h>
 #include <stdio.h>
 #include <stdlib.h>
 #include <string.h>
@@ -22,18 +22,6 @@ typedef struct lane {
     uint32_t labels[ROWS];
     size_t record_count, left_count, right_count, label_count, mark_count;
 } lane;
-
-static uint64_t state = UINT64_C(88172645463325252);
-
-static uint64_t draw(uint64_t below)
-{
-    state ^= state << 13;
-    state ^= state >> 7;
-    state ^= state << 17;
-    return (state >> 16) % below;
-}
-
-static bool once_in(uint64_t times) { return draw(times) == 0; }
 
 /* A queue opened in tables of noise that are long enough. */
 static void open_lane(lane *l, uint64_t slots, uint32_t tag)

@@ -2,11 +2,8 @@
  * The calls of the audit, of the order sheets and of lists carried out, handed on to a shared object,
  * named by ZC_OBJECT; part_faults.sh alone uses it.
  */
+#include "forward.h"
 #include "zeppolecape.h"
-
-#include <dlfcn.h>
-#include <stdio.h>
-#include <stdlib.h>
 
 #define TABLES                                                                                     \
     const uint64_t *lefts, size_t left_count, const uint64_t *rights, size_t right_count,          \
@@ -20,12 +17,7 @@ static __typeof__(zc_serve) *serve_call;
 
 __attribute__((constructor)) static void load(void)
 {
-    const char *name = getenv("ZC_OBJECT");
-    void *object = name == NULL ? NULL : dlopen(name, RTLD_NOW | RTLD_LOCAL);
-    if (object == NULL) {
-        fprintf(stderr, "ZC_OBJECT: %s\n", name == NULL ? "not set" : dlerror());
-        exit(2);
-    }
+    void *object = load_object();
     *(void **)&audit_call = dlsym(object, "zc_audit_words");
     *(void **)&sheet_call = dlsym(object, "zc_sheet");
     *(void **)&sheet_words_call = dlsym(object, "zc_sheet_words");

@@ -159,6 +159,7 @@ part_examples() {
     example interrupt 'no label lost'
     example renew 'no label lost'
     example changeover 'cheese: 301 302 303'
+    example lanes 'prints 101 102 103 104 105 106 107'
     example sheet "a wedge behind the pallet's label: broken, 7105 must print before 9000"
     holds "C example compiles" $CC $WARNINGS -Iinclude examples/c/executive.c "$archive" -o "$work/executive_c"
     holds "Rust example compiles" in_cargo build --release -p executive
@@ -188,7 +189,7 @@ part_projects() {
 }
 
 part_bench() {
-    holds "benchmark compiles" $CC -std=gnu11 -O2 -Iinclude bench/main.c bench/reference.c bench/bare.c "$archive" -o "$work/bench"
+    holds "benchmark compiles" $CC -std=gnu11 -O2 -Iinclude bench/main.c bench/reference.c bench/lean.c bench/bare.c "$archive" -o "$work/bench"
     holds "benchmark of the walks compiles" $CC -std=gnu11 -O2 -Iinclude bench/walks.c bench/reference.c "$archive" -o "$work/walks"
     for labels in 0 1 2 64 1023; do
         holds "library and C alike: $labels labels" "$work/walks" check $labels

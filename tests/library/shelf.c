@@ -6,10 +6,10 @@
  *
  *     shelf ROUNDS [SEED]
  */
+#include "draw.h"
 #include "reference.h"
 #include "shelf_reference.h"
 
-#include <stdbool.h>
 #include <stdio.h>
 #include <stdlib.h>
 #include <string.h>
@@ -33,18 +33,6 @@ typedef struct rack {
     size_t control_count, record_count, left_count, right_count, label_count, mark_count,
         next_count;
 } rack;
-
-static uint64_t state = UINT64_C(88172645463325252);
-
-static uint64_t draw(uint64_t below)
-{
-    state ^= state << 13;
-    state ^= state >> 7;
-    state ^= state << 17;
-    return (state >> 16) % below;
-}
-
-static bool once_in(uint64_t times) { return draw(times) == 0; }
 
 static void noise(void *table, size_t bytes)
 {

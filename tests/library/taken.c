@@ -2,9 +2,9 @@
  * The slots taken, as the report counts them: marks of every kind at the numbers of slots where a
  * word of marks begins or ends. Bit 0 and the bits above the last slot are no slots.
  */
+#include "check.h"
 #include "zeppolecape.h"
 
-#include <stdio.h>
 #include <string.h>
 
 enum { WORDS = ZC_MARK_WORDS(ZC_MOST_SLOTS) + 1 };
@@ -13,8 +13,6 @@ static zc_control control;
 static zc_record records[1];
 static uint64_t lefts[ZC_ROWS(ZC_MOST_SLOTS)], rights[ZC_ROWS(ZC_MOST_SLOTS)], marks[WORDS];
 static uint32_t labels[ZC_ROWS(ZC_MOST_SLOTS)];
-
-static unsigned passed, failed;
 
 static void set(uint64_t slot) { marks[slot / 64] |= UINT64_C(1) << slot % 64; }
 
@@ -63,6 +61,5 @@ int main(void)
     static const uint64_t several[] = {1, 2, 62, 63, 64, 65, 127, 128, 1022, 1023};
     for (size_t at = 0; at < sizeof several / sizeof *several; at++)
         with_slots(several[at]);
-    printf("%u passed, %u failed\n", passed, failed);
-    return failed != 0;
+    return told();
 }

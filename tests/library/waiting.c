@@ -3,9 +3,8 @@
  * and links that lead astray. zc_report: waiting where links lead astray, and, on tables of any
  * contents, the same code and count as zc_waiting.
  */
+#include "check.h"
 #include "zeppolecape.h"
-
-#include <stdio.h>
 
 enum { TASKS = 2, SLOTS = 5 };
 
@@ -26,8 +25,6 @@ static zc_queue queue = {
     .marks = marks,
     .mark_count = ZC_MARK_WORDS(SLOTS),
 };
-
-static unsigned passed, failed;
 
 enum { GUARD = 77, SPARE = 2 };
 
@@ -222,6 +219,5 @@ int main(void)
     astray();
     report();
     agree();
-    printf("%u passed, %u failed\n", passed, failed);
-    return failed != 0;
+    return told();
 }

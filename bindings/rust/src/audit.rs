@@ -68,6 +68,6 @@ const _: () = {
     assert!(offset_of!(Finished, side) == 16 && offset_of!(Finished, label) == 24);
     assert!(offset_of!(Finished, answer) == 32 && offset_of!(Finished, start) == 40);
     assert!(offset_of!(Finished, end) == 48);
-    assert!(size_of::<raw::Verdict>() == 8);
-    assert!(offset_of!(raw::Verdict, position) == 4);
+    assert!(size_of::<raw::Verdict>() == 8 && align_of::<raw::Verdict>() == 4);
+    assert!(offset_of!(raw::Verdict, code) == 0 && offset_of!(raw::Verdict, position) == 4);
 };

@@ -1,6 +1,6 @@
 //! Two lanes into one.
 
-use crate::tables::Shared;
+use crate::tables::{done, Shared};
 use crate::{raw, Queue, Refusal, Tables};
 
 fn join(first: Shared<'_>, second: Shared<'_>, third: &mut Tables<'_>) -> Result<(), Refusal> {
@@ -39,10 +39,7 @@ fn join(first: Shared<'_>, second: Shared<'_>, third: &mut Tables<'_>) -> Result
             third.marks.len(),
         )
     };
-    match code {
-        0 => Ok(()),
-        number => Err(Refusal::answered(u64::from(number))),
-    }
+    done(code)
 }
 
 impl Tables<'_> {
@@ -57,7 +54,8 @@ impl Queue {
     /// Joins two queues at rest in this one, which is fresh: of the two leftmost labels remaining the
     /// smaller goes next, the first queue's on a tie, as if task 0 had pushed each at the right,
     /// alone. Both sources are only read, and may be the same. A queue that is not as it must be is
-    /// refused [`Refusal::NotAtRest`], more labels than slots [`Refusal::Crowded`].
+    /// refused [`Refusal::NotAtRest`], more labels than slots [`Refusal::Crowded`], a first tag too high
+    /// for the pushes [`Refusal::Worn`]; nothing then changes.
     pub fn join(&mut self, first: &Queue, second: &Queue) -> Result<(), Refusal> {
         join(first.shared(), second.shared(), &mut self.lend())
     }

@@ -5,8 +5,8 @@
 //! lock-free is the tasks, between calls: wherever a task is stopped, the others go on.
 //!
 //! [`Queue`] owns its tables. [`Tables`] lends tables that the caller keeps elsewhere, with any
-//! contents and any lengths. [`audit()`] checks a history of finished calls. [`raw`] holds the C
-//! declarations themselves.
+//! contents and any lengths. [`Shelves`] keep copies of a queue to go back to. [`audit()`] checks a
+//! history of finished calls. [`raw`] holds the C declarations themselves.
 //!
 //! ```
 //! use zeppolecape::{Answer, Queue, Side};

@@ -7,8 +7,9 @@ use alloc::vec;
 use alloc::vec::Vec;
 
 /// A queue that owns its tables. They are only written by the library's calls, so that
-/// [`Refusal::Unsound`], [`Refusal::Short`] and [`Refusal::NoSide`] cannot occur after `open`, but
-/// for shelves that are too short ([`Queue::save`], [`Queue::return_to`]).
+/// [`Refusal::Unsound`] and [`Refusal::NoSide`] cannot occur after `open`, nor can [`Refusal::Short`], but
+/// for what is lent beside the queue: shelves ([`Queue::save`], [`Queue::return_to`]) and the words of
+/// [`Queue::sheet_words`].
 #[derive(Clone, Debug)]
 pub struct Queue {
     pub(crate) control: Control,
@@ -22,14 +23,14 @@ pub struct Queue {
 
 impl Queue {
     /// An empty queue for tasks 0 to `tasks` - 1 and slots 1 to `slots`, which its pushes name;
-    /// `first_tag` is any number.
+    /// `first_tag` is any number. Refuses 10, 11.
     pub fn open(tasks: u64, slots: u64, first_tag: u32) -> Result<Queue, Refusal> {
         let mut queue = Queue::held(tasks, slots, false);
         queue.lend().open(tasks, slots, first_tag)?;
         Ok(queue)
     }
 
-    /// The same with all slots in a pool, from which its pushes take them.
+    /// The same with all slots in a pool, from which its pushes take them. Refuses 10, 11.
     pub fn open_pooled(tasks: u64, slots: u64, first_tag: u32) -> Result<Queue, Refusal> {
         let mut queue = Queue::held(tasks, slots, true);
         queue.lend().open_pooled(tasks, slots, first_tag)?;
@@ -68,7 +69,7 @@ impl Queue {
         Shared { control, records, lefts, rights, labels, marks, next }
     }
 
-    /// Starts a push of `label` in a free slot.
+    /// Starts a push of `label` in a free slot. Refuses 13, 41, 15, 30, 32, 33.
     pub fn push(
         &mut self,
         task: usize,
@@ -79,23 +80,24 @@ impl Queue {
         self.lend().push(task, side as u64, slot, label)
     }
 
-    /// Starts a push of `label` in a slot of the pool.
+    /// Starts a push of `label` in a slot of the pool. Refuses 13, 41, 30, 33.
     pub fn push_pooled(&mut self, task: usize, side: Side, label: u32) -> Result<Answer, Refusal> {
         self.lend().push_pooled(task, side as u64, label)
     }
 
-    /// Starts a pop.
+    /// Starts a pop. Refuses 13, 30, 33.
     pub fn pop(&mut self, task: usize, side: Side) -> Result<Answer, Refusal> {
         self.lend().pop(task, side as u64)
     }
 
     /// Moves one task by one step. A call belongs to its task, whoever steps it; the answer is told
-    /// once, to the caller of the step that answers.
+    /// once, to the caller of the step that answers. Refuses 13, 31.
     pub fn step(&mut self, task: usize) -> Result<Answer, Refusal> {
         self.lend().step(task)
     }
 
-    /// Steps one task until it answers, `most` times at the most.
+    /// Steps one task until it answers, `most` times at the most. Refuses as [`step`](Queue::step) does,
+    /// and nothing with `most` 0.
     pub fn run(&mut self, task: usize, most: u64) -> Run {
         self.lend().run(task, most)
     }
@@ -129,8 +131,9 @@ impl Queue {
         if u64::from(first_tag) + 2 * self.control.slots > LAST_START_TAG {
             return Err(Refusal::Worn);
         }
-        let mut answers = Vec::with_capacity(self.records.len());
-        for task in 0..self.records.len() {
+        let tasks = self.records().len();
+        let mut answers = Vec::with_capacity(tasks);
+        for task in 0..tasks {
             let busy = self.records[task].place != 0;
             answers.push(if busy { Some(self.finish(task)?) } else { None });
         }
@@ -162,7 +165,8 @@ impl Queue {
 
     /// One record for each task.
     pub fn records(&self) -> &[Record] {
-        &self.records
+        // After a return to a queue with fewer tasks there are more, which are nobody's.
+        &self.records[..self.control.tasks as usize]
     }
 
     /// Whether a slot is taken.

@@ -2,9 +2,9 @@
 //! does, refuses and asks of its caller.
 //!
 //! # Safety
-//! For every call: pointers are aligned and good for their counts of elements, `control` and `one` are
-//! not null, no two tables overlap, and nobody else uses them during the call. Everything else is
-//! checked by the call.
+//! For every call: pointers are aligned and good for their counts of elements (with count 0 null will
+//! do), controls and `one` are not null, nothing that is written overlaps anything else that is lent,
+//! and nobody else uses it during the call. Everything else is checked by the call.
 
 mod calls;
 mod waiting;
@@ -77,7 +77,7 @@ pub struct ScheduleReply {
     pub length: u64,
 }
 
-/// What all tasks share besides rows and marks.
+/// What all tasks share besides the tables.
 #[repr(C)]
 #[derive(Clone, Copy, Debug, Default, PartialEq, Eq)]
 pub struct Control {
@@ -93,7 +93,8 @@ pub struct Control {
     pub head: u64,
 }
 
-/// Where a task stands in its call, all zero while it has none, and its count of retries.
+/// Where a task stands in its call, and its count of retries. A start writes every field but the count,
+/// and an answer zeroes every field but the count: a task is idle where its place is 0.
 #[repr(C)]
 #[derive(Clone, Copy, Debug, Default, PartialEq, Eq)]
 pub struct Record {
@@ -229,8 +230,13 @@ const _: () = {
     assert!(offset_of!(ReportReply, waiting) == 48 && offset_of!(ReportReply, taken) == 56);
     assert!(offset_of!(ReportReply, retries) == 64);
     assert!(size_of::<FindReply>() == 272 && align_of::<FindReply>() == 8);
-    assert!(offset_of!(FindReply, rows) == 8 && offset_of!(FindReply, positions) == 16);
-    assert!(size_of::<ServeReply>() == 16 && offset_of!(ServeReply, served) == 8);
+    assert!(offset_of!(FindReply, code) == 0 && offset_of!(FindReply, rows) == 8);
+    assert!(offset_of!(FindReply, positions) == 16);
+    assert!(size_of::<ServeReply>() == 16 && align_of::<ServeReply>() == 8);
+    assert!(offset_of!(ServeReply, code) == 0 && offset_of!(ServeReply, served) == 8);
+    assert!(size_of::<ScheduleReply>() == 24 && align_of::<ScheduleReply>() == 8);
+    assert!(offset_of!(ScheduleReply, code) == 0 && offset_of!(ScheduleReply, ending) == 8);
+    assert!(offset_of!(ScheduleReply, length) == 16);
     assert!(size_of::<SheetReply>() == 24 && align_of::<SheetReply>() == 8);
     assert!(offset_of!(SheetReply, code) == 0 && offset_of!(SheetReply, first) == 8);
     assert!(offset_of!(SheetReply, second) == 16);

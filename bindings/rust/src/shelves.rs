@@ -1,6 +1,6 @@
 //! Eight shelves: a queue saved, and returned to.
 
-use crate::tables::Shared;
+use crate::tables::{done, Shared};
 use crate::{
     mark_words, raw, rows, Control, Queue, Record, Refusal, Tables, MOST_SLOTS, MOST_TASKS,
 };
@@ -80,13 +80,6 @@ struct Look<'a> {
     next: &'a [u64],
 }
 
-fn answered(code: u32) -> Result<(), Refusal> {
-    match code {
-        0 => Ok(()),
-        number => Err(Refusal::answered(u64::from(number))),
-    }
-}
-
 fn save(queue: Shared<'_>, shelves: &mut ShelfTables<'_>, shelf: u64) -> Result<(), Refusal> {
     // SAFETY: slices are non-null, aligned and as long as the counts that go with them; the shelves
     // are lent by `&mut`, so they are apart from the queue. The rest is checked by the library.
@@ -122,7 +115,7 @@ fn save(queue: Shared<'_>, shelves: &mut ShelfTables<'_>, shelf: u64) -> Result<
             shelves.next.len(),
         )
     };
-    answered(code)
+    done(code)
 }
 
 fn return_to(queue: &mut Tables<'_>, shelves: Look<'_>, shelf: u64) -> Result<(), Refusal> {
@@ -159,7 +152,7 @@ fn return_to(queue: &mut Tables<'_>, shelves: Look<'_>, shelf: u64) -> Result<()
             shelves.next.len(),
         )
     };
-    answered(code)
+    done(code)
 }
 
 impl Tables<'_> {

@@ -80,8 +80,8 @@ macro_rules! look {
 }
 pub(crate) use {call, look};
 
-/// What an opening answers.
-fn opened(code: u32) -> Result<(), Refusal> {
+/// What a call answers that has no more to tell: 0, or a refusal.
+pub(crate) fn done(code: u32) -> Result<(), Refusal> {
     match code {
         0 => Ok(()),
         number => Err(Refusal::answered(u64::from(number))),
@@ -97,7 +97,7 @@ impl Tables<'_> {
     /// Opens an empty queue whose pushes name their slots. Refuses 10, 11, 12.
     pub fn open(&mut self, tasks: u64, slots: u64, first_tag: u32) -> Result<(), Refusal> {
         let (records, count) = (self.records.as_mut_ptr(), self.records.len());
-        opened(call!(self.zc_open(self.control, records, count, tasks, slots, first_tag)))
+        done(call!(self.zc_open(self.control, records, count, tasks, slots, first_tag)))
     }
 
     /// Opens an empty queue with all slots in a pool. Refuses 10, 11, 12.
@@ -105,7 +105,7 @@ impl Tables<'_> {
         let (records, count) = (self.records.as_mut_ptr(), self.records.len());
         let code =
             call!(self.zc_open_pooled(self.control, records, count, tasks, slots, first_tag) next);
-        opened(code)
+        done(code)
     }
 
     /// Starts a push. Refuses 34 for control, 12, 13, 14, 41, 15, 34 for the record, 30, 32, 33.
@@ -120,7 +120,8 @@ impl Tables<'_> {
         outcome(call!(self.zc_push(self.control, records, count, task, side, slot, label) next))
     }
 
-    /// Starts a push with a slot from the pool. Refuses 34 for control, 12, 13, 14, 41, 34 for the record, 30, 33.
+    /// Starts a push with a slot from the pool. Refuses 34 for control, 12, 13, 14, 41, 34 for the
+    /// record, 30, 33.
     pub fn push_pooled(&mut self, task: usize, side: u64, label: u32) -> Result<Answer, Refusal> {
         let (records, count) = (self.records.as_mut_ptr(), self.records.len());
         outcome(call!(self.zc_push_pooled(self.control, records, count, task, side, label) next))
@@ -145,7 +146,7 @@ impl Tables<'_> {
     }
 
     /// Steps a task until it does not answer running, `most` times at the most. Refuses as
-    /// [`step`](Tables::step).
+    /// [`step`](Tables::step), and nothing with `most` 0.
     pub fn run(&mut self, task: usize, most: u64) -> Run {
         let (records, count) = (self.records.as_mut_ptr(), self.records.len());
         let raw::RunReply { code, label, value, steps } =

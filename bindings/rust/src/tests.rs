@@ -231,42 +231,6 @@ fn runs_to_its_answer() {
     assert_eq!(queue.waiting(), [(1, 11), (2, 12), (3, 13), (4, 21)]);
 }
 
-/// A label pushed, then two pops of it at once; the second gets it.
-fn calls() -> [Finished; 3] {
-    let push = Finished { task: 0, kind: 0, side: 1, label: 700, answer: 2, start: 1, end: 3 };
-    let left = Finished { kind: 1, side: 0, label: 0, answer: 3, start: 4, end: 11, ..push };
-    let right = Finished { task: 1, kind: 1, side: 1, label: 700, answer: 4, start: 5, end: 10 };
-    [push, left, right]
-}
-
-#[test]
-fn verdicts() {
-    assert_eq!(audit(&calls(), &[1, 3, 2]), Ok(Verdict::Passes));
-    assert_eq!(audit(&calls(), &[1, 2, 3]), Ok(Verdict::Fails { position: 2 }));
-    assert_eq!(audit(&calls(), &[2, 1, 3]), Ok(Verdict::Fails { position: 1 }));
-    assert_eq!(audit(&calls(), &[1, 3, 3]), Ok(Verdict::NoRearrangement));
-    assert_eq!(audit(&calls(), &[1, 3]), Ok(Verdict::NoRearrangement));
-    assert_eq!(audit(&[], &[]), Ok(Verdict::Passes));
-    let bad = Finished { answer: 5, ..calls()[0] };
-    assert_eq!(audit(&[bad], &[1]), Err(Refusal::BadHistory));
-    assert_eq!(Refusal::BadHistory.to_string(), "40: not a history that can be judged");
-}
-
-#[test]
-fn as_many_calls_as_fit() {
-    let pop = |n: u64| Finished {
-        kind: 1,
-        answer: 3,
-        start: 2 * n,
-        end: 2 * n + 1,
-        ..Finished::default()
-    };
-    let calls: Vec<Finished> = (0..65).map(pop).collect();
-    let order: Vec<u64> = (1..=65).collect();
-    assert_eq!(audit(&calls[..MOST_CALLS], &order[..MOST_CALLS]), Ok(Verdict::Passes));
-    assert_eq!(audit(&calls, &order), Err(Refusal::BadHistory));
-}
-
 #[test]
 fn a_sheet_is_kept_or_broken() {
     let mut queue = Queue::open(1, 3, 0).unwrap();
@@ -305,25 +269,4 @@ fn two_lanes_become_one() {
     assert_eq!(third.find(&[1, 9]).unwrap().positions, [Some(2), Some(4)]);
     assert_eq!(third.join(&first, &second), Err(Refusal::NotAtRest));
     assert_eq!(Queue::open(1, 3, 0).unwrap().join(&first, &first), Err(Refusal::Crowded));
-}
-
-#[test]
-fn a_queue_goes_back_to_its_shelf() {
-    let mut queue = Queue::open(2, 4, 0).unwrap();
-    let mut shelves = Shelves::new(2, 4);
-    assert_eq!(queue.return_to(&shelves, 8), Err(Refusal::NoShelf));
-    assert_eq!(queue.return_to(&shelves, 7), Err(Refusal::Unfilled));
-    queue.push(0, Side::Right, 2, 700).unwrap();
-    finish(&mut queue, 0);
-    queue.pop(1, Side::Left).unwrap();
-    queue.step(1).unwrap();
-    queue.save(&mut shelves, 7).unwrap();
-    assert_eq!(finish(&mut queue, 1).1, Popped { slot: 2, label: 700 });
-    assert_eq!(queue.return_to(&shelves, 7), Ok(()));
-    assert_eq!(finish(&mut queue, 1).1, Popped { slot: 2, label: 700 });
-    assert_eq!(queue.save(&mut shelves, 8), Err(Refusal::NoShelf));
-    assert_eq!(queue.save(&mut Shelves::new(1, 4), 0), Err(Refusal::Short));
-    let mut small = Queue::open(2, 3, 0).unwrap();
-    assert_eq!(small.return_to(&shelves, 7), Err(Refusal::Short));
-    assert_eq!(Refusal::Unfilled.to_string(), "44: the shelf was never filled");
 }

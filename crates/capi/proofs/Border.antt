@@ -21,7 +21,7 @@ use Rattle.model.specs.Sound.{rowsFit}
 use Rattle.model.specs.Refusals.{Lent, among, openRefusal, pushRefusal, putRefusal, popRefusal}
 use Rattle.model.specs.Report.{report, retryCounts, tell}
 use Rattle.model.specs.Route.{counted}
-use Rattle.model.specs.Calls.{Acted, Done, OpenDone, opened as openedQueue, openAs, pushStart, putStart, popStart, back, act, actOn, replyOf}
+use Rattle.model.specs.Calls.{Acted, Done, OpenDone, opened as openedQueue, openAs, pushStart, putStart, popStart, back, act, actOn, openingCode, replyOf}
 use Rattle.model.proofs.tests.Truth.{split, not-both}
 use Rattle.table.specs.declared.Acted.{Acted as Moved}
 use Rattle.table.specs.Lent.{withTables}
@@ -36,7 +36,7 @@ use Rattle.calls.proofs.Tells.{all-looked-at, report-parts}
 use Rattle.rows.specs.Rows.{controlOf, recordsOf, uppersOf, queueIn, withCallAt}
 use Rattle.rows.proofs.Rows.{length-records}
 use Rattle.rows.proofs.OneStep.{lent, lent-among}
-use Rattle.capi.specs.Replies.{openingCode, uppersAt, Coded, coded, Replied, replied, countsIn, reportReplyOf}
+use Rattle.capi.specs.Replies.{uppersAt, Coded, coded, Replied, replied, countsIn, reportReplyOf}
 use Rattle.capi.proofs.Count.{busyIn}
 
 -- The step, its outcome in numbers.
@@ -116,14 +116,18 @@ module _ (ws : List ℕ) (rows : List (List ℕ)) (lefts rights labels marks nex
     module _ (o : Op) (starts : (p : Lent) (r : TaskRecord) → Starts r (actOn entry p r o)) (rows′ : List (List ℕ)) (labels′ marks′ : List ℕ) where
       abbrev leaving : Moved → Control → Replied
       leaving m c = record {
-        queue = queueOf c (set (recordsOf rows) task (record { call = m .task; retries = counted (r₀ .retries) (m .failed) })) lefts rights labels′ marks′ next;
+        queue = queueOf c (set (recordsOf rows) task
+            (record { call = m .task; retries = counted (r₀ .retries) (m .failed) })) lefts rights labels′ marks′ next;
         uppers = cond (isMoved (m .outcome)) (set (uppersOf rows) task 0) (uppersOf rows);
         reply = replyOf (m .outcome);
       }
 
       pub started : (c : Control) (n : ℕ) (r : Record) (m : Moved) (u : Reply) → c ≡ controlOf ws → n ≡ length rows → r ≡ r₀ .call
           → ((k : ℕ) → withTables m lefts rights labels′ marks′ next k
-          ≡ actOn (tablesOf c lefts rights labels marks next) (lent ws rows lefts rights labels marks next task c n) (record { call = r; retries = k }) o)
+          ≡ actOn (tablesOf c lefts rights labels marks next) (lent ws rows lefts rights labels marks next task c n) (record {
+            call = r;
+            retries = k;
+          }) o)
           → recordsOf rows′ ≡ cond (isMoved (m .outcome)) (withCallAt (recordsOf rows) task (m .task)) (recordsOf rows)
           → uppersOf rows′ ≡ cond (isMoved (m .outcome)) (set (uppersOf rows) task 0) (uppersOf rows) → u ≡ replyOf (m .outcome)
           → _≡_ {A = Replied} (record { queue = queueIn ws rows′ lefts rights labels′ marks′ next; uppers = uppersOf rows′; reply = u })
@@ -147,11 +151,13 @@ module _ (ws : List ℕ) (rows : List (List ℕ)) (lefts rights labels marks nex
 
     pub push-starts : (side slot label : ℕ) (p : Lent) (r : TaskRecord) → Starts r (actOn entry p r (Push side slot label))
     unfolding actOn pushStart
-    push-starts side slot label p r = kept (eqb (pushRefusal entry p (r .call) side slot) 0) r _ _ (refl, λ h. absurd (not-both refl h), refl) (refl, λ _. refl, refl)
+    push-starts side slot label p r = kept (eqb (pushRefusal entry p (r .call) side slot) 0) r _ _ (refl, λ h. absurd (not-both refl h), refl)
+        (refl, λ _. refl, refl)
 
     pub put-starts : (side label : ℕ) (p : Lent) (r : TaskRecord) → Starts r (actOn entry p r (Put side label))
     unfolding actOn putStart
-    put-starts side label p r = kept (eqb (putRefusal entry p (r .call) side) 0) r _ _ (refl, λ h. absurd (not-both refl h), refl) (refl, λ _. refl, refl)
+    put-starts side label p r = kept (eqb (putRefusal entry p (r .call) side) 0) r _ _ (refl, λ h. absurd (not-both refl h), refl)
+        (refl, λ _. refl, refl)
 
     pub pop-starts : (side : ℕ) (p : Lent) (r : TaskRecord) → Starts r (actOn entry p r (Pop side))
     unfolding actOn popStart
@@ -168,7 +174,8 @@ module _ (ws : List ℕ) (rows : List (List ℕ)) (lefts rights labels marks nex
         subst (λ (k : ℕ). m .clear ≤ k) en
         (subst (λ (o : OpenedParts). o .clear ≤ n) (sym e) (clear-fits pooled (tablesOf c lefts rights labels marks next) n tasks slots tag))
 
-    pub opened : (code : ℕ) → c ≡ controlOf ws → n ≡ length rows → parts ≡ openTables pooled (tablesOf c lefts rights labels marks next) n tasks slots tag
+    pub opened : (code : ℕ) → c ≡ controlOf ws → n ≡ length rows
+        → parts ≡ openTables pooled (tablesOf c lefts rights labels marks next) n tasks slots tag
         → controlOf ws′ ≡ m .control → recordsOf rows′ ≡ zeroed (m .clear) unused (recordsOf rows)
         → uppersOf rows′ ≡ zeroed (m .clear) 0 (uppersOf rows) → code ≡ openingCode (m .outcome)
         → _≡_ {A = Coded} (record { queue = queueIn ws′ rows′ lefts′ rights′ labels′ marks′ next′; uppers = uppersOf rows′; code = code })

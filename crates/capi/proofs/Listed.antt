@@ -16,7 +16,8 @@ use Rattle.capi.specs.Replies.{countsIn}
 listed-same : (f g : ℕ → ℕ) (n : ℕ) → ((t : ℕ) → f t ≡ g t) → listed f n ≡ listed g n
 unfolding listed
 listed-same f g zero h = refl
-listed-same f g (suc n) h = ap (λ (x : ℕ). x ∷ listed (λ t. f (suc t)) n) (h 0) ∙ ap (λ (l : List ℕ). g 0 ∷ l) (listed-same (λ t. f (suc t)) (λ t. g (suc t)) n (λ t. h (suc t)))
+listed-same f g (suc n) h = ap (λ (x : ℕ). x ∷ listed (λ t. f (suc t)) n) (h 0)
+    ∙ ap (λ (l : List ℕ). g 0 ∷ l) (listed-same (λ t. f (suc t)) (λ t. g (suc t)) n (λ t. h (suc t)))
 
 same-test : (t i : ℕ) → eqb (suc t) (suc i) ≡ eqb t i
 same-test t i =
@@ -41,7 +42,9 @@ listed-put : (f : ℕ → ℕ) (n i v : ℕ) → set (listed f n) i v ≡ listed
 unfolding listed
 listed-put f zero i v = refl
 listed-put f (suc n) zero v = ap (λ (l : List ℕ). v ∷ l) (listed-same (λ t. f (suc t)) (λ t. put f 0 v (suc t)) n (λ t. rw (not-first t)))
-listed-put f (suc n) (suc i) v = rw (not-last i) (ap (λ (l : List ℕ). f 0 ∷ l) (listed-put (λ t. f (suc t)) n i v ∙ listed-same (put (λ t. f (suc t)) i v) (λ t. put f (suc i) v (suc t)) n (λ t. rw (same-test t i))))
+listed-put f (suc n) (suc i) v = rw (not-last i)
+    (ap (λ (l : List ℕ). f 0 ∷ l)
+    (listed-put (λ t. f (suc t)) n i v ∙ listed-same (put (λ t. f (suc t)) i v) (λ t. put f (suc i) v (suc t)) n (λ t. rw (same-test t i))))
 
 module _ (rs : List TaskRecord) where
   abbrev own : ℕ → ℕ

@@ -12,22 +12,17 @@ use Rattle.model.specs.declared.Reported.{Reported}
 use Rattle.model.specs.declared.Reported.the-variants as reported
 use Rattle.model.specs.declared.TaskRecord.{TaskRecord}
 use Rattle.model.specs.Tables.{Queue, unused, zeroed}
-use Rattle.model.specs.Report.{listed}
-use Rattle.model.specs.Calls.{OpenDone, Done, replyOf}
+use Rattle.model.specs.Report.{listed, reportCode}
+use Rattle.model.specs.Calls.{OpenDone, Done, openingCode, replyOf}
 use Rattle.capi.specs.declared.ReportReply.{ReportReply}
-
--- An opening: 0, or the number of a refusal.
-abbrev pub openingCode : Opening → ℕ
-openingCode opening.Opened = 0
-openingCode (opening.Refused n) = n
 
 -- A report with the tasks' counts beside it; all 0 in a refusal.
 abbrev pub reportReplyOf : Reported → List ℕ → ReportReply
 reportReplyOf (reported.Refused n) retries =
-    record { code = n; tag = 0; status = 0; left = 0; right = 0; busy = 0; waiting = 0; taken = 0; retries = replicate 16 0 }
+    record { code = reportCode (reported.Refused n); tag = 0; status = 0; left = 0; right = 0; busy = 0; waiting = 0; taken = 0; retries = replicate 16 0 }
 reportReplyOf (reported.Told r) retries =
     record {
-      code = 0;
+      code = reportCode (reported.Told r);
       tag = r .anchor .tag;
       status = r .anchor .status;
       left = r .anchor .left;

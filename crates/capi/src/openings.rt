@@ -4,9 +4,9 @@ use model::Opening;
 ghost use mathlib.Core.Path.{_≡_};
 ghost use mathlib.Core.List.{List};
 ghost use Prim.Native.Nat.{ℕ};
-ghost use Rattle.model.specs.Calls.{openQueue, openPooled};
+ghost use Rattle.model.specs.Calls.{openQueue, openPooled, openingCode};
 ghost use Rattle.rows.specs.Rows.{queueIn, uppersOf};
-ghost use Rattle.capi.specs.Replies.{openingCode, Coded, coded};
+ghost use Rattle.capi.specs.Replies.{Coded, coded};
 
 fn opening_code(o: Opening) -> u32
     ensures { λ r. ⌜ r ≡ openingCode o ⌝ }

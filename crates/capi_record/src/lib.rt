@@ -31,12 +31,20 @@ pub extern "C" fn zc_step_record(
         (tablesOf (controlOf (now (control .entry))) (now (lefts .entry)) (now (rights .entry)) (now (labels .entry)) (now (marks .entry)) (now (next .entry)))
         (recordOf (now (task .entry))))) ⌝ }
 {
-    let row = *task;
-    let r = rows::call_of(row);
     let words = *control;
     let c = rows::control_of(words);
-    let m = engine::step_alone(c, r, lefts, rights, labels, marks, next);
-    rows::store(control, task, m);
-    let o = m.outcome;
+    let why = engine::admit_alone(
+        c,
+        lefts.len(),
+        rights.len(),
+        labels.len(),
+        marks.len(),
+        next.len(),
+    );
+    if why != 0 {
+        let o = engine::refuse(why);
+        return operation::reply(o);
+    }
+    let o = rows::moving::move_row(control, task, lefts, rights, labels, marks, next);
     operation::reply(o)
 }

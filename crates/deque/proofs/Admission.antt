@@ -13,7 +13,8 @@ use prog.Routine.{Routine}
 use prog.Wp.{Heap, Env, Calls, Loops}
 use ghost.Atoms.{Atoms}
 use contract.Monad.{Fun, fact}
-use types.Kit.{Given, Item, ‵, raw, some, later, _⊛_, ⋆, Post as PostOf, runs, lands, Seq, _$_, _∵_, !, qed, move, drop, use1, split, join, pick, fsplit, fjoin, frame, await, done}
+use types.Kit.{Given, Item, ‵, raw, some, later, _⊛_, ⋆, Post as PostOf, runs, lands, Seq, _$_, _∵_, !, qed, move, drop, use1, split, join}
+use types.Kit.{pick, fsplit, fjoin, frame, await, done}
 use types.Run.{Opds}
 use sound.WpLaws.{FmC}
 use denote.Laws.{Is, shows}
@@ -62,12 +63,28 @@ Lasts = Unit {0} × (Unit {0} × (Unit {0} × Five (Unit {0})))
 abbrev word : ℕ → List Val
 word k = vint w64 k ∷ []
 
-module _ {M : Type 1} (𝓤 : URA M) (H : Heap 𝓤) (A : Atoms 𝓤) (mem : Memory → SProp 𝓤) (run : Routine → Fun 𝓤) (c : Control) (n task : ℕ) (ls : Five ℕ) where
+module _ {M : Type 1} (𝓤 : URA M) (H : Heap 𝓤) (A : Atoms 𝓤) (mem : Memory → SProp 𝓤) (run : Routine → Fun 𝓤) (c : Control) (n task : ℕ)
+    (ls : Five ℕ) where
   abbrev asked : Asked
   asked = (c, (n, (task, ls)))
 
   abbrev to-admit : Admit 𝓤 H A mem run .Ghost
-  to-admit = ((tt, tt, tt, asked, (control-value c ∷ [], (word n, (word task, (word (ls .0), (word (ls .1 .0), (word (ls .1 .1 .0), (word (ls .1 .1 .1 .0), (word (ls .1 .1 .1 .1 .0), tt))))))))), tt)
+  to-admit = (
+    (
+      tt,
+      tt,
+      tt,
+      asked,
+      (
+        control-value c ∷ [],
+        (
+          word n,
+          (word task, (word (ls .0), (word (ls .1 .0), (word (ls .1 .1 .0), (word (ls .1 .1 .1 .0), (word (ls .1 .1 .1 .1 .0), tt)))))),
+        ),
+      ),
+    ),
+    tt,
+  )
 
   goes-admit : (W : Given 𝓤 H A) → Is K.the-row c (control-value c ∷ []) → n < 2 ^ 64 → task < 2 ^ 64 → Small ls
       → ent 𝓤 (⋆ 𝓤 H A (‵ ftrue ∷ [])) (Admit 𝓤 H A mem run .pre to-admit)
@@ -82,21 +99,26 @@ module _ {M : Type 1} (𝓤 : URA M) (H : Heap 𝓤) (A : Atoms 𝓤) (mem : Mem
       owned ! usize (Is usize) (uint-makes 𝓤 H A W w64) n _ (refl, fits) $ fjoin ! $
       owned ! K.the-row (Is K.the-row) (LL.makes K.the-type K′.the-plain 𝓤 H A) c _ gc $ fjoin ! $ move ! (1 ∷ 0 ∷ []) $ join ! $ frame ! $ done !
 
-module _ {M : Type 1} {𝓤 : URA M} {H : Heap 𝓤} {A : Atoms 𝓤} {G : Type 0} {W : Given 𝓤 H A} {Γ : List (Item 𝓤)} {En : Env 𝓤 H} {C : Calls 𝓤 H} {Λ : Loops 𝓤 H} {q : PostOf 𝓤 H} where
+module _ {M : Type 1} {𝓤 : URA M} {H : Heap 𝓤} {A : Atoms 𝓤} {G : Type 0} {W : Given 𝓤 H A} {Γ : List (Item 𝓤)} {En : Env 𝓤 H} {C : Calls 𝓤 H}
+    {Λ : Loops 𝓤 H} {q : PostOf 𝓤 H} where
   pub admits : G
-      → (mem : Memory → SProp 𝓤) (run : Routine → Fun 𝓤) (c : Control) (n task : ℕ) (ls : Five ℕ) {name : Name} {os : List Operand} {d : Place} {rest : Body}
+      → (mem : Memory → SProp 𝓤) (run : Routine → Fun 𝓤) (c : Control) (n task : ℕ) (ls : Five ℕ) {name : Name} {os : List Operand}
+      {d : Place} {rest : Body}
       → FmC 𝓤 H (W .laws) C → Triple 𝓤 (C name) (Admit 𝓤 H A mem run) → Is K.the-row c (control-value c ∷ []) → n < 2 ^ 64 → task < 2 ^ 64 → Small ls
-      → Opds G W (raw (Admit 𝓤 H A mem run .pre (to-admit 𝓤 H A mem run c n task ls)) ∷ Γ) En os (Admit 𝓤 H A mem run .args (to-admit 𝓤 H A mem run c n task ls))
+      → Opds G W (raw (Admit 𝓤 H A mem run .pre (to-admit 𝓤 H A mem run c n task ls)) ∷ Γ) En os
+      (Admit 𝓤 H A mem run .args (to-admit 𝓤 H A mem run c n task ls))
       → ((w : Val) (why : ℕ) → why ≡ reason c n task ls → Is u32 why (w ∷ []) → Seq G W Γ (lands C Λ En d w rest q))
       → Seq G W Γ (runs C Λ En (seq (call name os d) rest) q)
   admits t mem run c n task ls fm known gc fits task-fits small os k =
       nothing t $ use1 W (raw (Admit 𝓤 H A mem run .pre (to-admit 𝓤 H A mem run c n task ls)))
       (goes-admit 𝓤 H A mem run c n task ls W gc fits task-fits small) $
       calls-at t fm (Admit 𝓤 H A mem run) known (to-admit 𝓤 H A mem run c n task ls) os (λ w.
-      use1 W (later (some (λ (why : ℕ). (‵ ftrue ⊛ ‵ (u32 .own why (w ∷ []))) ⊛ raw (ensured 𝓤 H A admit.ended (admit.clauses 𝓤 H A mem run) tt (asked 𝓤 H A mem run c n task ls) tt why)))) (id⊢ 𝓤 _) $
+      use1 W (later (some (λ (why : ℕ). (‵ ftrue ⊛ ‵ (u32 .own why (w ∷ []))) ⊛ raw
+      (ensured 𝓤 H A admit.ended (admit.clauses 𝓤 H A mem run) tt (asked 𝓤 H A mem run c n task ls) tt why)))) (id⊢ 𝓤 _) $
       await t tt $ pick t (λ why.
       split t $ move t (1 ∷ []) $
-      use1 W (some (λ (us : Lasts). ‵ (lasts admit.ended tt (asked 𝓤 H A mem run c n task ls) us) ⊛ raw (fact 𝓤 (why ≡ reason c n task ls)))) (id⊢ 𝓤 _) $
+      use1 W (some (λ (us : Lasts). ‵ (lasts admit.ended tt (asked 𝓤 H A mem run c n task ls) us) ⊛ raw
+      (fact 𝓤 (why ≡ reason c n task ls)))) (id⊢ 𝓤 _) $
       pick t (λ us.
       split t $ move t (1 ∷ []) $ heard t (why ≡ reason c n task ls) (λ e.
       fsplit t $ drop t $ fsplit t $ drop t $ fsplit t $ drop t $ fsplit t $ drop t $ fsplit t $ drop t $ fsplit t $ drop t $ fsplit t $ drop t $
@@ -116,7 +138,8 @@ module _ {M : Type 1} (𝓤 : URA M) (H : Heap 𝓤) (A : Atoms 𝓤) (mem : Mem
       qed W (‵ ftrue ∷ []) ∵ nothing ! $ owned ! u32 (Is u32) (uint-makes 𝓤 H A W w32) why _ (refl, fits) $ fjoin ! $ move ! (1 ∷ 0 ∷ []) $ join ! $
       frame ! $ done !
 
-module _ {M : Type 1} {𝓤 : URA M} {H : Heap 𝓤} {A : Atoms 𝓤} {G : Type 0} {W : Given 𝓤 H A} {Γ : List (Item 𝓤)} {En : Env 𝓤 H} {C : Calls 𝓤 H} {Λ : Loops 𝓤 H} {q : PostOf 𝓤 H} where
+module _ {M : Type 1} {𝓤 : URA M} {H : Heap 𝓤} {A : Atoms 𝓤} {G : Type 0} {W : Given 𝓤 H A} {Γ : List (Item 𝓤)} {En : Env 𝓤 H} {C : Calls 𝓤 H}
+    {Λ : Loops 𝓤 H} {q : PostOf 𝓤 H} where
   pub refuses : G → (mem : Memory → SProp 𝓤) (run : Routine → Fun 𝓤) (why : ℕ) {name : Name} {os : List Operand} {d : Place} {rest : Body}
       → FmC 𝓤 H (W .laws) C → Triple 𝓤 (C name) (Refuse 𝓤 H A mem run) → why < 2 ^ 32
       → Opds G W (raw (Refuse 𝓤 H A mem run .pre (to-refuse 𝓤 H A mem run why)) ∷ Γ) En os (Refuse 𝓤 H A mem run .args (to-refuse 𝓤 H A mem run why))
@@ -125,7 +148,8 @@ module _ {M : Type 1} {𝓤 : URA M} {H : Heap 𝓤} {A : Atoms 𝓤} {G : Type 
   refuses t mem run why fm known fits os k =
       nothing t $ use1 W (raw (Refuse 𝓤 H A mem run .pre (to-refuse 𝓤 H A mem run why))) (goes-refuse 𝓤 H A mem run why W fits) $
       calls-at t fm (Refuse 𝓤 H A mem run) known (to-refuse 𝓤 H A mem run why) os (λ w.
-      use1 W (later (some (λ (o : Outcome). (‵ ftrue ⊛ ‵ (E.the-row .own o (w ∷ []))) ⊛ raw (ensured 𝓤 H A refuse.ended (refuse.clauses 𝓤 H A mem run) tt (why, tt) tt o)))) (id⊢ 𝓤 _) $
+      use1 W (later (some (λ (o : Outcome). (‵ ftrue ⊛ ‵ (E.the-row .own o (w ∷ []))) ⊛ raw
+      (ensured 𝓤 H A refuse.ended (refuse.clauses 𝓤 H A mem run) tt (why, tt) tt o)))) (id⊢ 𝓤 _) $
       await t tt $ pick t (λ o.
       split t $ move t (1 ∷ []) $
       use1 W (some (λ (us : Unit {0} × Unit {0}). ‵ (lasts refuse.ended tt (why, tt) us) ⊛ raw (fact 𝓤 (o ≡ Refused why)))) (id⊢ 𝓤 _) $

@@ -74,29 +74,37 @@ module _ {M : Type 1} (𝓤 : URA M) (H : Heap 𝓤) (A : Atoms 𝓤) (W : Given
   released (e ∷ E) [] Q P h = via 𝓤 (never 𝓤) (fst∗ 𝓤 (never 𝓤) Q) (neverE 𝓤 _)
   released ((τ, b) ∷ E) (c ∷ cs) Q P h =
       via 𝓤 (sep 𝓤 (sep 𝓤 (H .room τ b zero) (sep 𝓤 (H .dies τ b) (⋆ 𝓤 H A (cells 𝓤 E cs)))) Q)
-      (monoL 𝓤 Q (via 𝓤 (sep 𝓤 (mean 𝓤 H A (cell 𝓤 τ b c)) (⋆ 𝓤 H A (‵ (fdies τ b) ∷ cells 𝓤 E cs))) (pop 𝓤 H A (cell 𝓤 τ b c) (‵ (fdies τ b) ∷ cells 𝓤 E cs))
+      (monoL 𝓤 Q (via 𝓤 (sep 𝓤 (mean 𝓤 H A (cell 𝓤 τ b c)) (⋆ 𝓤 H A (‵ (fdies τ b) ∷ cells 𝓤 E cs)))
+      (pop 𝓤 H A (cell 𝓤 τ b c) (‵ (fdies τ b) ∷ cells 𝓤 E cs))
       (via 𝓤 (sep 𝓤 (H .room τ b zero) (⋆ 𝓤 H A (‵ (fdies τ b) ∷ cells 𝓤 E cs))) (monoL 𝓤 (⋆ 𝓤 H A (‵ (fdies τ b) ∷ cells 𝓤 E cs)) (held τ b c))
       (monoR 𝓤 (H .room τ b zero) (pop 𝓤 H A (‵ (fdies τ b)) (cells 𝓤 E cs))))))
-      (via 𝓤 (sep 𝓤 (sep 𝓤 (sep 𝓤 (H .room τ b zero) (H .dies τ b)) (⋆ 𝓤 H A (cells 𝓤 E cs))) Q) (monoL 𝓤 Q (assoc′ 𝓤 (H .room τ b zero) (H .dies τ b) (⋆ 𝓤 H A (cells 𝓤 E cs))))
-      (via 𝓤 (sep 𝓤 (sep 𝓤 (H .room τ b zero) (H .dies τ b)) (sep 𝓤 (⋆ 𝓤 H A (cells 𝓤 E cs)) Q)) (assoc∗ 𝓤 (sep 𝓤 (H .room τ b zero) (H .dies τ b)) (⋆ 𝓤 H A (cells 𝓤 E cs)) Q)
+      (via 𝓤 (sep 𝓤 (sep 𝓤 (sep 𝓤 (H .room τ b zero) (H .dies τ b)) (⋆ 𝓤 H A (cells 𝓤 E cs))) Q)
+      (monoL 𝓤 Q (assoc′ 𝓤 (H .room τ b zero) (H .dies τ b) (⋆ 𝓤 H A (cells 𝓤 E cs))))
+      (via 𝓤 (sep 𝓤 (sep 𝓤 (H .room τ b zero) (H .dies τ b)) (sep 𝓤 (⋆ 𝓤 H A (cells 𝓤 E cs)) Q))
+      (assoc∗ 𝓤 (sep 𝓤 (H .room τ b zero) (H .dies τ b)) (⋆ 𝓤 H A (cells 𝓤 E cs)) Q)
       (monoR 𝓤 (sep 𝓤 (H .room τ b zero) (H .dies τ b)) (released E cs Q P h))))
 
 module _ {M : Type 1} {𝓤 : URA M} {H : Heap 𝓤} {A : Atoms 𝓤} {K : Type 0} {W : Given 𝓤 H A} where
-  each-allocated : K → (Γ : List (Item 𝓤)) (ls : List Local) (Kt : Env 𝓤 H → Goal 𝓤 H) → ((bs : Blocks ls) → Seq K W (rooms 𝓤 ls bs ++ Γ) (Kt (env-of ls bs))) → Seq K W Γ (allocs ls Kt)
+  each-allocated : K → (Γ : List (Item 𝓤)) (ls : List Local) (Kt : Env 𝓤 H → Goal 𝓤 H)
+      → ((bs : Blocks ls) → Seq K W (rooms 𝓤 ls bs ++ Γ) (Kt (env-of ls bs))) → Seq K W Γ (allocs ls Kt)
   each-allocated t Γ [] Kt k = alloc0 t $ k tt
   each-allocated t Γ (local τ h ∷ ls) Kt k =
       alloc1 t (λ b. each-allocated t (‵ (froom τ b zero) ∷ ‵ (fdies τ b) ∷ Γ) ls (λ (E : Env 𝓤 H). Kt ((τ, b) ∷ E)) (λ bs.
       record { prf = via 𝓤 _ (past 𝓤 H A (rooms 𝓤 ls bs) (‵ (froom τ b zero)) (‵ (fdies τ b)) Γ) (k (b, bs) .prf) }))
 
-  pub allocates : K → {Γ : List (Item 𝓤)} {ls : List Local} {Kt : Env 𝓤 H → Goal 𝓤 H} → ((bs : Blocks ls) → Seq K W (rooms 𝓤 ls bs ++ Γ) (Kt (env-of ls bs))) → Seq K W Γ (allocs ls Kt)
+  pub allocates : K → {Γ : List (Item 𝓤)} {ls : List Local} {Kt : Env 𝓤 H → Goal 𝓤 H}
+      → ((bs : Blocks ls) → Seq K W (rooms 𝓤 ls bs ++ Γ) (Kt (env-of ls bs))) → Seq K W Γ (allocs ls Kt)
   allocates t {Γ} {ls} {Kt} k = each-allocated t Γ ls Kt k
 
   -- the entries from n on are the locals' cells
-  pub frees-all : K → {Γ : List (Item 𝓤)} {E : Env 𝓤 H} {g : Goal 𝓤 H} (n : ℕ) (cs : List Cell) → aft 𝓤 n Γ ≡ cells 𝓤 E cs → Step K W (fore 𝓤 n Γ) g Γ (frees E g)
+  pub frees-all : K → {Γ : List (Item 𝓤)} {E : Env 𝓤 H} {g : Goal 𝓤 H} (n : ℕ) (cs : List Cell) → aft 𝓤 n Γ ≡ cells 𝓤 E cs
+      → Step K W (fore 𝓤 n Γ) g Γ (frees E g)
   frees-all t {Γ} {E} {g} n cs e = step (λ s. record {
     prf =
         via 𝓤 (sep 𝓤 (⋆ 𝓤 H A (fore 𝓤 n Γ)) (⋆ 𝓤 H A (aft 𝓤 n Γ)))
-        (subst (λ (Δ : List (Item 𝓤)). ent 𝓤 (⋆ 𝓤 H A Δ) (sep 𝓤 (⋆ 𝓤 H A (fore 𝓤 n Γ)) (⋆ 𝓤 H A (aft 𝓤 n Γ)))) (halves 𝓤 n Γ) (⊢++ 𝓤 H A (fore 𝓤 n Γ) (aft 𝓤 n Γ)))
+        (subst (λ (Δ : List (Item 𝓤)). ent 𝓤 (⋆ 𝓤 H A Δ) (sep 𝓤 (⋆ 𝓤 H A (fore 𝓤 n Γ)) (⋆ 𝓤 H A (aft 𝓤 n Γ)))) (halves 𝓤 n Γ)
+        (⊢++ 𝓤 H A (fore 𝓤 n Γ) (aft 𝓤 n Γ)))
         (via 𝓤 (sep 𝓤 (⋆ 𝓤 H A (aft 𝓤 n Γ)) (⋆ 𝓤 H A (fore 𝓤 n Γ))) (comm∗ 𝓤 (⋆ 𝓤 H A (fore 𝓤 n Γ)) (⋆ 𝓤 H A (aft 𝓤 n Γ)))
-        (subst (λ (Δ : List (Item 𝓤)). ent 𝓤 (sep 𝓤 (⋆ 𝓤 H A Δ) (⋆ 𝓤 H A (fore 𝓤 n Γ))) (release 𝓤 H E (aim 𝓤 H g))) (sym e) (released 𝓤 H A W E cs (⋆ 𝓤 H A (fore 𝓤 n Γ)) (aim 𝓤 H g) (s .prf))));
+        (subst (λ (Δ : List (Item 𝓤)). ent 𝓤 (sep 𝓤 (⋆ 𝓤 H A Δ) (⋆ 𝓤 H A (fore 𝓤 n Γ))) (release 𝓤 H E (aim 𝓤 H g))) (sym e)
+        (released 𝓤 H A W E cs (⋆ 𝓤 H A (fore 𝓤 n Γ)) (aim 𝓤 H g) (s .prf))));
   })

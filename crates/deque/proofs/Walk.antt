@@ -71,15 +71,18 @@ fails false _ = refl
 
 -- ---- rules
 module _ {M : Type 1} {𝓤 : URA M} {H : Heap 𝓤} {A : Atoms 𝓤} {K : Type 0} {W : Given 𝓤 H A} {Γ : List (Item 𝓤)} {E : Env 𝓤 H} where
-  pub var : K → (n : ℕ) {i : ℕ} {q : Share} {v : Val} → nth 𝓤 H A n Γ ≡ ‵ (fat q (spotOf 𝓤 H E i .0) (spotOf 𝓤 H E i .1) (spotOf 𝓤 H E i .2) v) → Opd K W Γ E (copy (place i [])) v
+  pub var : K → (n : ℕ) {i : ℕ} {q : Share} {v : Val} → nth 𝓤 H A n Γ ≡ ‵ (fat q (spotOf 𝓤 H E i .0) (spotOf 𝓤 H E i .1) (spotOf 𝓤 H E i .2) v)
+      → Opd K W Γ E (copy (place i [])) v
   var t n e = load t (from t (stop t)) (look t n e)
 
   pub part : K → (n k : ℕ) {i : ℕ} {q : Share} {ν : Sym} {τs : Tys} {vs : Vals} {τ : Ty} {d : ℕ}
-      → nth 𝓤 H A n Γ ≡ ‵ (fat q (tyStruct ν τs) (spotOf 𝓤 H E i .1) (spotOf 𝓤 H E i .2) (vstruct vs)) → fieldOf (spotOf 𝓤 H E i .0) k ≡ some (τ, d) → fieldAt zero τs k ≡ some (τ, d)
+      → nth 𝓤 H A n Γ ≡ ‵ (fat q (tyStruct ν τs) (spotOf 𝓤 H E i .1) (spotOf 𝓤 H E i .2) (vstruct vs)) → fieldOf (spotOf 𝓤 H E i .0) k ≡ some (τ, d)
+      → fieldAt zero τs k ≡ some (τ, d)
       → Opd K W Γ E (copy (place i (field k ∷ []))) (getV vs k)
   part t n k {i} {q} {ν} {τs} {vs} {τ} {d} at of-place of-value =
       load t (from t (fld t of-place (stop t)))
-      (look-in t n (subst (λ (j : Item 𝓤). Part K W j q τ (spotOf 𝓤 H E i .1) (spotOf 𝓤 H E i .2 + d) (getV vs k) (λ u. ‵ (fat q (tyStruct ν τs) (spotOf 𝓤 H E i .1) (spotOf 𝓤 H E i .2) (vstruct (setV vs k u))))) (sym at)
+      (look-in t n (subst (λ (j : Item 𝓤). Part K W j q τ (spotOf 𝓤 H E i .1) (spotOf 𝓤 H E i .2 + d) (getV vs k)
+      (λ u. ‵ (fat q (tyStruct ν τs) (spotOf 𝓤 H E i .1) (spotOf 𝓤 H E i .2) (vstruct (setV vs k u))))) (sym at)
       (sub t k of-value (whole t))))
 
   pub lets : K → {C : Calls 𝓤 H} {Λ : Loops 𝓤 H} {q : Post 𝓤 H} {i : ℕ} {rv : RValue} {rest : Body} {v : Val} {Γ′ : List (Item 𝓤)}
@@ -94,13 +97,16 @@ module _ {M : Type 1} {𝓤 : URA M} {H : Heap 𝓤} {A : Atoms 𝓤} {K : Type 
   -- a call's result goes to a local, written another way
   pub receive : K → {C : Calls 𝓤 H} {Λ : Loops 𝓤 H} {q : Post 𝓤 H} {i : ℕ} {r v : Val} {rest : Body} (n : ℕ)
       → nth 𝓤 H A n Γ ≡ ‵ (froom (spotOf 𝓤 H E i .0) (spotOf 𝓤 H E i .1) (spotOf 𝓤 H E i .2)) → T (hasTy (spotOf 𝓤 H E i .0) r) × WT r → r ≡ v
-      → Step K W (put 𝓤 H A n (‵ (fat fullShare (spotOf 𝓤 H E i .0) (spotOf 𝓤 H E i .1) (spotOf 𝓤 H E i .2) v)) Γ) (runs C Λ E rest q) Γ (lands C Λ E (place i []) r rest q)
+      → Step K W (put 𝓤 H A n (‵ (fat fullShare (spotOf 𝓤 H E i .0) (spotOf 𝓤 H E i .1) (spotOf 𝓤 H E i .2) v)) Γ) (runs C Λ E rest q) Γ
+      (lands C Λ E (place i []) r rest q)
   receive t {C} {Λ} {q} {i} {r} {v} {rest} n at wt e =
-      subst (λ (u : Val). Step K W (put 𝓤 H A n (‵ (fat fullShare (spotOf 𝓤 H E i .0) (spotOf 𝓤 H E i .1) (spotOf 𝓤 H E i .2) u)) Γ) (runs C Λ E rest q) Γ (lands C Λ E (place i []) r rest q)) e
+      subst (λ (u : Val). Step K W (put 𝓤 H A n (‵ (fat fullShare (spotOf 𝓤 H E i .0) (spotOf 𝓤 H E i .1) (spotOf 𝓤 H E i .2) u)) Γ)
+      (runs C Λ E rest q) Γ (lands C Λ E (place i []) r rest q)) e
       (land t (from t (stop t)) (init t n at wt))
 
 module _ {M : Type 1} (𝓤 : URA M) (H : Heap 𝓤) (A : Atoms 𝓤) (W : Given 𝓤 H A) where
-  pub gives-up : (ℓ : Lifetime) (κ : Lft) (R : RattleType) (x : RefT (List (R .Denot))) (vs : List Val) → ent 𝓤 (⋆ 𝓤 H A (‵ (MutSlice ℓ κ R .own x vs) ∷ [])) (sem 𝓤 H A (finally R (x .name) (x .now)))
+  pub gives-up : (ℓ : Lifetime) (κ : Lft) (R : RattleType) (x : RefT (List (R .Denot))) (vs : List Val)
+      → ent 𝓤 (⋆ 𝓤 H A (‵ (MutSlice ℓ κ R .own x vs) ∷ [])) (sem 𝓤 H A (finally R (x .name) (x .now)))
   gives-up ℓ κ R x vs =
       qed W (‵ (MutSlice ℓ κ R .own x vs) ∷ []) ∵ fsplit ! $ move ! (1 ∷ []) $ fsplit ! $
       use1 W (‵ (fres (x .name) (codedHoleys R .code (heres R (x .now))))) (W .names .obs-res (x .name) (codedHoleys R .code (heres R (x .now)))) $

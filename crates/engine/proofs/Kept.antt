@@ -1,5 +1,5 @@
--- What a step never changes: control's tasks, slots and way of opening, in a named queue its head; and, unless it ends the call, the record's
--- kind and side, in a named queue its own slot and label. A step that ends the call leaves the record all zero, a refused one all as it was.
+-- What a step never changes: control's tasks, slots and way of opening, at places 1 to 10 its head; and, unless it ends the call, the record's
+-- kind and side, at 1 to 10 its own slot and label. A step that ends the call leaves the record all zero, a refused one all as it was.
 use mathlib.Core.Path.{_≡_, refl, sym, ap, subst, _∙_}
 use mathlib.Core.Bool.{Bool, true, false, _||_, cond}
 use mathlib.Core.List.{List, [], _∷_}
@@ -29,12 +29,12 @@ clash : false ≡ true → ⊥
 clash h = let z : _≡_ {A = ℕ} 0 1 = cc in omega arith
 
 -- ---- places keep what the call started with
--- What a step leaves of a record; in a `named` queue slot and label too.
-pub record Keeps (named : Type 0) (r t : Record) : Type 0 where
+-- What a step leaves of a record; at an `early` place slot and label too.
+pub record Keeps (early : Type 0) (r t : Record) : Type 0 where
   pub kind : t .kind ≡ r .kind
   pub side : t .side ≡ r .side
-  pub own : named → t .own ≡ r .own
-  pub label : named → t .label ≡ r .label
+  pub own : early → t .own ≡ r .own
+  pub label : early → t .label ≡ r .label
 
 -- A touch of the head.
 heads : Touch → Bool
@@ -47,13 +47,13 @@ heads (setNext x v) = false
 heads (setHead w) = true
 
 module _ (c : Control) (r : Record) where
-  abbrev named : Type 0
-  named = isPooled c ≡ false
+  abbrev early : Type 0
+  early = r .place ≤ 10
 
   abbrev Moves : Move → Type 0
-  Moves m = Keeps named r (m .task) × (named → heads (m .touch) ≡ false)
+  Moves m = Keeps early r (m .task) × (early → heads (m .touch) ≡ false)
 
-  itself : Keeps named r r
+  itself : Keeps early r r
   itself = record { kind = refl; side = refl; own = λ _. refl; label = λ _. refl }
 
   -- of two moves, whichever is made
@@ -64,13 +64,13 @@ module _ (c : Control) (r : Record) where
   either : (b : Bool) (m n : Move) → Moves m → Moves n → Moves (cond b m n)
   either b m n p q = when b m n (λ _. p) (λ _. q)
 
-  pushing : (b : Bool) (t : Record) → Keeps named r t → Keeps named r (cond b t r)
+  pushing : (b : Bool) (t : Record) → Keeps early r t → Keeps early r (cond b t r)
   pushing true t k = k
   pushing false t k = itself
 
-  -- A slot is drawn, and kept for the answer, in a pooled queue alone.
-  pooled : (x l : ℕ) → (named → ⊥) → Keeps named r (withOwn r x l)
-  pooled x l never = record { kind = refl; side = refl; own = λ n. absurd (never n); label = λ n. absurd (never n) }
+  -- A slot is drawn, and kept for the answer, beyond place 10 alone.
+  owned : (x l : ℕ) → (early → ⊥) → Keeps early r (withOwn r x l)
+  owned x l never = record { kind = refl; side = refl; own = λ n. absurd (never n); label = λ n. absurd (never n) }
 
   module _ (w : ℕ) where
     moves1 : Moves (at1 c r)
@@ -114,9 +114,9 @@ module _ (c : Control) (r : Record) where
     unfolding at10 heads
     moves10 = either (eqb (c .anchor) (r .seen)) _ _ (itself, λ _. refl) (itself, λ _. refl)
 
-    moves11 : Moves (at11 c r w)
+    moves11 : (early → ⊥) → Moves (at11 c r w)
     unfolding at11 heads
-    moves11 = when (isPooled c) _ _ (λ p. (pooled (row r) w (λ n. clash (sym n ∙ p)), λ _. refl)) (λ _. (itself, λ _. refl))
+    moves11 never = either (isPooled c) _ _ (owned (row r) w never, λ _. refl) (itself, λ _. refl)
 
     moves12 : Moves (at12 c r)
     unfolding at12 heads
@@ -126,10 +126,10 @@ module _ (c : Control) (r : Record) where
     unfolding at13 heads
     moves13 = (record { kind = refl; side = refl; own = λ _. refl; label = λ _. refl }, λ _. refl)
 
-    moves14 : (named → ⊥) → Moves (at14 c r)
+    moves14 : (early → ⊥) → Moves (at14 c r)
     unfolding at14 heads
     moves14 never =
-        either (eqb (c .head) (r .link)) _ _ (pooled (row r) (r .label) never, λ n. absurd (never n)) (itself, λ _. refl)
+        either (eqb (c .head) (r .link)) _ _ (owned (row r) (r .label) never, λ n. absurd (never n)) (itself, λ _. refl)
 
     moves15 : Moves (at15 c r)
     unfolding at15 heads
@@ -139,7 +139,7 @@ module _ (c : Control) (r : Record) where
     unfolding at16 heads
     moves16 = (itself, λ _. refl)
 
-    moves17 : (named → ⊥) → Moves (at17 c r)
+    moves17 : (early → ⊥) → Moves (at17 c r)
     unfolding at17 heads
     moves17 never = either (eqb (c .head) (r .link)) _ _ (itself, λ n. absurd (never n)) (itself, λ _. refl)
 
@@ -147,9 +147,9 @@ module _ (c : Control) (r : Record) where
     turn : (i : ℕ) (x y : Move) → i ≤ r .place → (r .place ≡ i → Moves x) → (suc i ≤ r .place → Moves y) → Moves (cond (eqb (r .place) i) x y)
     turn i x y h here later = when (eqb (r .place) i) x y (λ e. here (eqb-true _ _ e)) (λ e. later (above h (eqb-false _ _ e)))
 
-    moves : 1 ≤ r .place → (named → r .place ≤ 11) → Moves (move c r w)
+    moves : 1 ≤ r .place → Moves (move c r w)
     unfolding move
-    moves busy low =
+    moves busy =
         turn 1 _ _ busy (λ _. moves1)
         (λ h. turn 2 _ _ h (λ _. moves2)
         (λ h. turn 3 _ _ h (λ _. moves3)
@@ -160,19 +160,22 @@ module _ (c : Control) (r : Record) where
         (λ h. turn 8 _ _ h (λ _. moves6)
         (λ h. turn 9 _ _ h (λ _. moves9)
         (λ h. turn 10 _ _ h (λ _. moves10)
-        (λ h. turn 11 _ _ h (λ _. moves11)
+        (λ h. turn 11 _ _ h (λ _. moves11 (λ n. beyond h n))
         (λ h. turn 12 _ _ h (λ _. moves12)
         (λ h. turn 13 _ _ h (λ _. moves13)
-        (λ h. turn 14 _ _ h (λ _. moves14 (λ n. beyond h (low n)))
+        (λ h. turn 14 _ _ h (λ _. moves14 (λ n. beyond (fourteen h) n))
         (λ h. turn 15 _ _ h (λ _. moves15)
         (λ h. turn 16 _ _ h (λ _. moves16)
-        (λ h. moves17 (λ n. beyond (later h) (low n))))))))))))))))))
+        (λ h. moves17 (λ n. beyond (seventeen h) n)))))))))))))))))
       where
-        beyond : 14 ≤ r .place → r .place ≤ 11 → ⊥
+        beyond : 11 ≤ r .place → r .place ≤ 10 → ⊥
         beyond h l = omega arith
 
-        later : 17 ≤ r .place → 14 ≤ r .place
-        later h = omega arith
+        fourteen : 14 ≤ r .place → 11 ≤ r .place
+        fourteen h = omega arith
+
+        seventeen : 17 ≤ r .place → 11 ≤ r .place
+        seventeen h = omega arith
 
 -- ---- a route leads to a place or to an answer
 known : ℕ → Bool
@@ -214,8 +217,8 @@ pub record Kept (q : Tables) (r : TaskRecord) (a : Acted) : Type 0 where
   pub tasks : a .tables .control .tasks ≡ q .control .tasks
   pub slots : a .tables .control .slots ≡ q .control .slots
   pub pooled : a .tables .control .pooled ≡ q .control .pooled
-  pub head : isPooled (q .control) ≡ false → a .tables .control .head ≡ q .control .head
-  pub keeps : endsCall (a .outcome) ≡ false → Keeps (isPooled (q .control) ≡ false) (r .call) (a .task .call)
+  pub head : r .call .place ≤ 10 → a .tables .control .head ≡ q .control .head
+  pub keeps : endsCall (a .outcome) ≡ false → Keeps (r .call .place ≤ 10) (r .call) (a .task .call)
   pub zero : endsCall (a .outcome) ≡ true → a .task .call ≡ idle
   pub still : isMoved (a .outcome) ≡ false → (a .tables ≡ q) × (a .task ≡ r)
 
@@ -238,9 +241,9 @@ touches (setHead w) q = record { tasks = refl; slots = refl; pooled = refl; head
 
 -- Where the route leads on to n, a record goes on with the fields that it kept, or the answer ends the call.
 module _ (n : ℕ) (e : Entry) where
-  stays : (named : Type 0) (r t : Record) → Keeps named r t → known n ≡ true → (n ≡ 20 → ⊥) → endsCall (Moved (answer n e)) ≡ false → Keeps named r (goes t n)
+  stays : (early : Type 0) (r t : Record) → Keeps early r t → known n ≡ true → (n ≡ 20 → ⊥) → endsCall (Moved (answer n e)) ≡ false → Keeps early r (goes t n)
   unfolding goes answer known
-  stays named r t k ok live h =
+  stays early r t k ok live h =
       split (leb n 17)
       (λ low. rw low (record { kind = k .kind; side = k .side; own = k .own; label = k .label }))
       (λ high. split (eqb n 21)
@@ -291,7 +294,7 @@ module _ (q : Tables) (r : TaskRecord) where
         tasks = t .tasks;
         slots = t .slots;
         pooled = t .pooled;
-        head = λ named. t .head (k .1 named);
+        head = λ early. t .head (k .1 early);
         keeps = λ h. stays _ _ _ (r .call) (m .task) (k .0) (onward-known n f (route-known (r .call .place) (r .call .kind) (m .outcome))) (onward-live n f) h;
         zero = λ h. leaves _ _ (m .task) h;
         still = λ h. absurd (clash (sym h));
@@ -318,10 +321,10 @@ module _ (q : Tables) (r : TaskRecord) where
       let range = placed q r none in
       subst (λ (a : Acted). Kept q r a) (sym (here q r))
       (whichever (eqb (cond (stepSound (q .control) (r .call) (linkMet q (r .call))) 0 34) 0) _ _
-      (λ _. finishes _ (moves (q .control) (r .call) (linkMet q (r .call)) (range .0) (λ n. rw n at (range .1))))
+      (λ _. finishes _ (moves (q .control) (r .call) (linkMet q (r .call)) (range .0)))
       (same _))
 
-  moved-on : Kept q r (moveOn q r)
+  pub moved-on : Kept q r (moveOn q r)
   unfolding moveOn
   moved-on = whichever (eqb (fault q r) 0) _ _ (λ e. at-its-place (eqb-true _ _ e)) (same _)
 

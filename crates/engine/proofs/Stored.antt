@@ -2,7 +2,7 @@
 use mathlib.Core.Path.{_≡_, refl, sym, ap, subst, _∙_}
 use mathlib.Core.Bool.{true, false}
 use mathlib.Core.List.{List}
-use Prim.Native.Nat.{ℕ}
+use Prim.Native.Nat.{ℕ, _≤_}
 use Rattle.model.specs.declared.Control.{Control}
 use Rattle.model.specs.declared.Record.{Record}
 use Rattle.model.specs.declared.TaskRecord.{TaskRecord}
@@ -15,8 +15,9 @@ use Rattle.model.specs.Calls.{Acted, step}
 use Rattle.model.proofs.tests.Truth.{split, not-both}
 use Rattle.table.specs.declared.Acted.{Acted as Moved}
 use Rattle.model.specs.Ends.{endsCall, isMoved}
-use Rattle.engine.specs.Stored.{controlMoved, recordMoved, controlAfter, recordAfter}
-use Rattle.engine.proofs.Kept.{Kept, Keeps, step-kept}
+use Rattle.engine.specs.Parts.{moveOn}
+use Rattle.engine.specs.Stored.{controlMoved, recordMoved, controlAfter, recordAfter, anchorMoved, callMoved, anchorAfter, callAfter}
+use Rattle.engine.proofs.Kept.{Kept, Keeps, step-kept, moved-on}
 
 -- A refused step ends no call.
 pub refused-goes : (o : Outcome) → isMoved o ≡ false → endsCall o ≡ false
@@ -42,6 +43,21 @@ module _ (c : Control) (r : TaskRecord) (m : Moved) where
   pub stored-nothing : isMoved (m .outcome) ≡ false → (c ≡ controlAfter c m) × (r ≡ recordAfter r m)
   unfolding controlAfter recordAfter
   stored-nothing a = (rw a, rw a)
+
+  -- The same at places 1 to 10.
+  pub early-end : isMoved (m .outcome) ≡ true → endsCall (m .outcome) ≡ true
+      → (anchorMoved c (m .control) ≡ anchorAfter c m) × (goneOn idle ≡ callAfter r m)
+  unfolding anchorAfter callAfter
+  early-end a b = (rw a, rw (a, b))
+
+  pub early-going : isMoved (m .outcome) ≡ true → endsCall (m .outcome) ≡ false
+      → (anchorMoved c (m .control) ≡ anchorAfter c m) × (goneOn (callMoved (r .call) (m .task)) ≡ callAfter r m)
+  unfolding anchorAfter callAfter
+  early-going a b = (rw a, rw (a, b))
+
+  pub early-nothing : isMoved (m .outcome) ≡ false → (c ≡ anchorAfter c m) × (r ≡ callAfter r m)
+  unfolding anchorAfter callAfter
+  early-nothing a = (rw a, rw a)
 
 -- A control or record whose kept fields are its own.
 whole-control : (c old : Control) → c .tasks ≡ old .tasks → c .slots ≡ old .slots → c .pooled ≡ old .pooled → controlMoved old c ≡ c
@@ -73,38 +89,86 @@ whole-record named r old k = ap (λ (n : ℕ). of n (old .side)) (sym (k .kind))
       finishing = r .finishing;
     }
 
-module _ (q : Tables) (p : Lent) (r : TaskRecord) (m : Moved) (lefts rights labels marks next : List ℕ) where
+-- At places 1 to 10 head, own slot and label are too.
+same-head : (c old : Control) → c .head ≡ old .head → anchorMoved old c ≡ controlMoved old c
+same-head c old e = ap of (sym e)
+  where
+    of : ℕ → Control
+    of head = record {
+      tasks = old .tasks;
+      slots = old .slots;
+      anchor = c .anchor;
+      pooled = old .pooled;
+      head = head;
+    }
+
+same-call : (r old : Record) → r .own ≡ old .own → r .label ≡ old .label → callMoved old r ≡ recordMoved old r
+same-call r old e1 e2 = ap (λ (n : ℕ). of n (old .label)) (sym e1) ∙ ap (of (r .own)) (sym e2)
+  where
+    of : ℕ → ℕ → Record
+    of own label = record {
+      place = r .place;
+      kind = old .kind;
+      side = old .side;
+      own = own;
+      label = label;
+      seen = r .seen;
+      neighbour = r .neighbour;
+      link = r .link;
+      finishing = r .finishing;
+    }
+
+module _ (q : Tables) (r : TaskRecord) (m : Moved) (lefts rights labels marks next : List ℕ) where
   abbrev pub leaves : Control → TaskRecord → Acted
   leaves c t = record { tables = tablesOf c lefts rights labels marks next; task = t; outcome = m .outcome }
 
   abbrev pub gone : Record → TaskRecord
   gone = goneOn (q .control) r m
 
-  module _ (e : leaves (m .control) (gone (m .task)) ≡ step q p r) where
+  module _ (a : Acted) (keeps : Kept q r a) (e : leaves (m .control) (gone (m .task)) ≡ a) where
     kept : Kept q r (leaves (m .control) (gone (m .task)))
-    kept = subst (Kept q r) (sym e) (step-kept q r p)
+    kept = subst (Kept q r) (sym e) keeps
 
     same-control : controlMoved (q .control) (m .control) ≡ m .control
     same-control = whole-control (m .control) (q .control) (kept .tasks) (kept .slots) (kept .pooled)
 
-    pub over : endsCall (m .outcome) ≡ true → leaves (controlMoved (q .control) (m .control)) (gone idle) ≡ step q p r
+    over : endsCall (m .outcome) ≡ true → leaves (controlMoved (q .control) (m .control)) (gone idle) ≡ a
     over h = ap (λ (c : Control). leaves c (gone idle)) same-control ∙ ap (λ (t : Record). leaves (m .control) (gone t)) (sym (kept .zero h)) ∙ e
 
-    pub going : endsCall (m .outcome) ≡ false
-        → leaves (controlMoved (q .control) (m .control)) (gone (recordMoved (r .call) (m .task))) ≡ step q p r
+    going : endsCall (m .outcome) ≡ false → leaves (controlMoved (q .control) (m .control)) (gone (recordMoved (r .call) (m .task))) ≡ a
     going h =
         ap (λ (c : Control). leaves c (gone (recordMoved (r .call) (m .task)))) same-control
         ∙ ap (λ (t : Record). leaves (m .control) (gone t)) (whole-record _ (m .task) (r .call) (kept .keeps h)) ∙ e
 
-    pub unmoved : isMoved (m .outcome) ≡ false → leaves (q .control) r ≡ step q p r
+    unmoved : isMoved (m .outcome) ≡ false → leaves (q .control) r ≡ a
     unmoved h =
         let k = kept .still h in
         ap (λ (c : Control). leaves c r) (sym (ap (λ (t : Tables). t .control) (k .0)))
         ∙ ap (leaves (m .control)) (sym (k .1)) ∙ e
 
-    pub stored : leaves (controlAfter (q .control) m) (recordAfter r m) ≡ step q p r
+    kept-stored : leaves (controlAfter (q .control) m) (recordAfter r m) ≡ a
     unfolding controlAfter recordAfter
-    stored =
+    kept-stored =
         split (isMoved (m .outcome))
         (λ a. split (endsCall (m .outcome)) (λ b. rw (a, b) (over b)) (λ b. rw (a, b) (going b)))
         (λ a. rw a (unmoved a))
+
+    kept-early : r .call .place ≤ 10 → leaves (anchorAfter (q .control) m) (callAfter r m) ≡ a
+    unfolding anchorAfter callAfter
+    kept-early early =
+        let head = same-head (m .control) (q .control) (kept .head early) in
+        split (isMoved (m .outcome))
+        (λ a. split (endsCall (m .outcome))
+        (λ b. rw (a, b, head) (over b))
+        (λ b. let k = kept .keeps b in rw (a, b, head, same-call (m .task) (r .call) (k .own early) (k .label early)) (going b)))
+        (λ a. rw a (unmoved a))
+
+  pub stored : (p : Lent) → leaves (m .control) (gone (m .task)) ≡ step q p r → leaves (controlAfter (q .control) m) (recordAfter r m) ≡ step q p r
+  stored p e = kept-stored (step q p r) (step-kept q r p) e
+
+  pub moved-stored : leaves (m .control) (gone (m .task)) ≡ moveOn q r → leaves (controlAfter (q .control) m) (recordAfter r m) ≡ moveOn q r
+  moved-stored e = kept-stored (moveOn q r) (moved-on q r) e
+
+  pub early-stored : leaves (m .control) (gone (m .task)) ≡ moveOn q r → r .call .place ≤ 10
+      → leaves (anchorAfter (q .control) m) (callAfter r m) ≡ moveOn q r
+  early-stored e = kept-early (moveOn q r) (moved-on q r) e

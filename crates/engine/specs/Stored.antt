@@ -32,6 +32,29 @@ recordMoved old r = record {
   finishing = r .finishing;
 }
 
+-- The same at places 1 to 10: a control that takes Anchor of another, a call that takes all but kind, side, own slot and label.
+abbrev pub anchorMoved : Control → Control → Control
+anchorMoved old c = record {
+  tasks = old .tasks;
+  slots = old .slots;
+  anchor = c .anchor;
+  pooled = old .pooled;
+  head = old .head;
+}
+
+abbrev pub callMoved : Record → Record → Record
+callMoved old r = record {
+  place = r .place;
+  kind = old .kind;
+  side = old .side;
+  own = old .own;
+  label = old .label;
+  seen = r .seen;
+  neighbour = r .neighbour;
+  link = r .link;
+  finishing = r .finishing;
+}
+
 -- Nothing where the step was refused; a call all zero where it ended. A failed change is counted.
 unfoldable pub controlAfter : Control → Acted → Control
 controlAfter c m = cond (isMoved (m .outcome)) (controlMoved c (m .control)) c
@@ -39,4 +62,13 @@ controlAfter c m = cond (isMoved (m .outcome)) (controlMoved c (m .control)) c
 unfoldable pub recordAfter : TaskRecord → Acted → TaskRecord
 recordAfter r m =
     let call : Record = cond (endsCall (m .outcome)) idle (recordMoved (r .call) (m .task)) in
+    cond (isMoved (m .outcome)) (record { call = call; retries = counted (r .retries) (m .failed) }) r
+
+-- The same at places 1 to 10.
+unfoldable pub anchorAfter : Control → Acted → Control
+anchorAfter c m = cond (isMoved (m .outcome)) (anchorMoved c (m .control)) c
+
+unfoldable pub callAfter : TaskRecord → Acted → TaskRecord
+callAfter r m =
+    let call : Record = cond (endsCall (m .outcome)) idle (callMoved (r .call) (m .task)) in
     cond (isMoved (m .outcome)) (record { call = call; retries = counted (r .retries) (m .failed) }) r

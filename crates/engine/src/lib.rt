@@ -9,6 +9,7 @@ ghost use mathlib.Core.Bool.{false};
 ghost use Prim.Native.Nat.{ℕ};
 ghost use lib.Dec.{leb, ltb};
 ghost use Rattle.model.specs.Calls.{step, stepLent};
+ghost use Rattle.model.specs.Refusals.{alone};
 ghost use Rattle.model.specs.Tables.{isPooled, tablesOf};
 ghost use Rattle.table.specs.Lent.{withTables};
 ghost use Rattle.sound.specs.Lengths.{lengthsFit};
@@ -35,8 +36,10 @@ fn admission(
         return 34;
     }
     let pooled = c.pooled == 1;
-    let fit = sound::rows_fit(pooled, c.slots, lefts, rights, labels, marks, next) & enough;
-    if !fit {
+    if !sound::rows_fit(pooled, c.slots, lefts, rights, labels, marks, next) {
+        return 12;
+    }
+    if !enough {
         return 12;
     }
     if known { 0 } else { 13 }
@@ -61,6 +64,21 @@ pub fn admit(
     let enough = c.tasks <= records as u64;
     let known = (task as u64) < c.tasks;
     admission(c, enough, known, lefts, rights, labels, marks, next)
+}
+
+/// The same for a record lent alone: none is wanting, and the task is known by it.
+pub fn admit_alone(
+    c: Control,
+    lefts: usize,
+    rights: usize,
+    labels: usize,
+    marks: usize,
+    next: usize,
+) -> u32
+    ensures { λ why. ⌜ why ≡ admission c (lengthsFit (isPooled c) (c .slots) lefts rights labels marks next) alone ⌝ }
+{
+    let lent = true;
+    admission(c, lent, lent, lefts, rights, labels, marks, next)
 }
 
 /// Why an admitted step is refused before its place is looked at, or 0. An idle record is sound
@@ -141,12 +159,8 @@ pub fn step_alone(
         ≡ stepLent (tablesOf c (now (lefts .entry)) (now (rights .entry)) (now (labels .entry)) (now (marks .entry)) (now (next .entry)))
         (record { call = r; retries = retries })) ⌝ }
 {
-    // No record is wanting, and the task is known by it.
-    let lent = true;
-    let why = admission(
+    let why = admit_alone(
         c,
-        lent,
-        lent,
         lefts.len(),
         rights.len(),
         labels.len(),

@@ -11,15 +11,15 @@ use Rattle.model.specs.declared.Opening.{Opening}
 use Rattle.model.specs.declared.Opening.the-variants.{Refused, Opened}
 use Rattle.model.specs.Tables.{Queue, zeroed}
 use Rattle.model.specs.Refusals.{openRefusal}
-use Rattle.model.specs.Calls.{OpenDone, opened, openAs}
+use Rattle.model.specs.Calls.{OpenDone, opened, openAs, openingCode}
 use Rattle.model.specs.History.{Request, run, final, NoSlotTrue}
 use Rattle.model.proofs.Linearizable.{linearizable}
-use Rattle.model.proofs.NeverUnsound.{never-unsound}
+use Rattle.model.proofs.Never34.{never-34}
 use Rattle.model.proofs.NoSlot.{no-slot-right}
 use Rattle.model.proofs.Retries.{retries-sum}
 use Rattle.model.proofs.tests.Truth.{split}
 use Rattle.stock_model.proofs.Accounts.{every-label, stock-taking}
-use Rattle.capi.specs.Replies.{openingCode, uppersAt, Coded, coded}
+use Rattle.capi.specs.Replies.{uppersAt, Coded, coded}
 use Rattle.history.specs.Words.{requestsOf, requestsFrom, repliesOf}
 use Rattle.history.specs.Serving.{State, uppersAfter, served, countAfter, FollowsOn, Serves}
 use Rattle.history.proofs.Uppers.{still-zero}
@@ -81,7 +81,7 @@ module _ (pooled : Bool) (tasks slots tag : ℕ) (words : List ℕ) (before afte
           ∙ still-zero (requestsOf count words) tasks (opening .queue) (before .uppers) (opened-tasks pooled (before .queue) tasks slots tag e);
       answers = ap (λ (x : State). x .replies) s;
       linearized = linearizable pooled (before .queue) tasks slots tag e (requestsOf count words);
-      sound = never-unsound pooled (before .queue) tasks slots tag e (requestsOf count words);
+      sound = never-34 pooled (before .queue) tasks slots tag e (requestsOf count words);
       counts = retries-sum pooled (before .queue) tasks slots tag e (requestsOf count words);
       accounts = λ label. every-label label pooled (before .queue) tasks slots tag e (requestsOf count words);
       stock = stock-taking pooled (before .queue) tasks slots tag e (requestsOf count words);

@@ -12,7 +12,7 @@ use Rattle.model.specs.Calls.{openAs}
 use Rattle.model.specs.Walk.{contents, entries, met}
 use Rattle.model.specs.History.{Request, final}
 use Rattle.model.proofs.Linearizable.{linearizable}
-use Rattle.model.proofs.NeverUnsound.{never-unsound}
+use Rattle.model.proofs.Never34.{never-34}
 use Rattle.stock_model.proofs.Accounts.{every-label}
 use Rattle.join_model.specs.Join.{anchorIn, lane, lanes, pushes, joinRefusal, join}
 use Rattle.join_model.specs.Closed.{tagAfter, lateFor, holding, closedRefusal}
@@ -85,7 +85,7 @@ continues pooled q tasks slots tag o os a b e later = record {
       ap met (sym (linearizable pooled q tasks slots tag o (os ++ joining) .waits) ∙ ap (λ (z : Queue). contents (z .tables))
       (final-on os joining begun ∙ sym (third-is a b (final begun os) e)) ∙ waits a b (final begun os) e);
   linearized = linearizable pooled q tasks slots tag o (os ++ joining ++ later);
-  sound = never-unsound pooled q tasks slots tag o (os ++ joining ++ later);
+  sound = never-34 pooled q tasks slots tag o (os ++ joining ++ later);
   accounted = λ x. every-label x pooled q tasks slots tag o (os ++ joining ++ later);
 }
   where

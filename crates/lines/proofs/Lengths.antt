@@ -6,6 +6,7 @@ use mathlib.Core.List.{List, [], _∷_, _++_}
 use native.Mathlib.Omega.{arith}
 use lib.Dec.{ltb}
 use lib.ListN.{length, length-append}
+use Rattle.model.specs.Refusals.{malformed}
 use Rattle.model.specs.declared.Entry.{Entry}
 use Rattle.model.specs.declared.Answer.{Answer}
 use Rattle.model.specs.declared.Answer.the-variants.{Running, Pushed, Empty, Popped, NoSlot}
@@ -86,7 +87,7 @@ told-most : (l : Line) → length (told l) ≤ 72
 unfolding told
 told-most (Open o) = omega (arith, opening-most o)
 told-most (Act task o x) = both-most (callOf task o) (outcomeOf o x) 27 45 (call-most task o) (outcome-most o x)
-told-most File = omega arith
+told-most File = omega (arith, numbered-most no malformed)
 
 anchor-most : (w : ℕ) → length (anchorOf w) ≤ 18
 unfolding anchorOf hex hexFour

@@ -15,6 +15,7 @@ use Rattle.model.specs.declared.Opening.{Opening}
 use Rattle.model.specs.declared.Opening.the-variants as opening
 use Rattle.model.specs.declared.Op.{Op}
 use Rattle.model.specs.declared.Op.the-variants as op
+use Rattle.model.specs.Refusals.{malformed}
 use Rattle.lines.specs.declared.Line.{Line}
 use Rattle.lines.specs.declared.Line.the-variants.{Open, Act, File}
 
@@ -97,7 +98,7 @@ openingOf opening.Opened = ok
 unfoldable pub told : Line → List ℕ
 told (Open o) = (32 ∷ 45 ∷ 32 ∷ 111 ∷ 112 ∷ 101 ∷ 110 ∷ 32 ∷ []) ++ openingOf o
 told (Act task op outcome) = callOf task op ++ outcomeOf op outcome
-told File = 32 ∷ 45 ∷ 32 ∷ 102 ∷ 105 ∷ 108 ∷ 101 ∷ 32 ∷ 110 ∷ 111 ∷ 49 ∷ 54 ∷ []
+told File = (32 ∷ 45 ∷ 32 ∷ 102 ∷ 105 ∷ 108 ∷ 101 ∷ 32 ∷ []) ++ numbered no malformed
 
 -- " ANCHOR" and the line's end.
 unfoldable pub anchorOf : ℕ → List ℕ

@@ -1,22 +1,26 @@
 -- The bench cases that document 01 marks with a star, as one table. Each line holds by computing the meanings.
 use mathlib.Core.Path.{_≡_, refl}
 use mathlib.Core.Bool.{true}
-use mathlib.Core.List.{List, [], _∷_, map}
+use mathlib.Core.List.{List, [], _∷_, _++_, map}
 use Prim.Native.Nat.{ℕ}
 use lib.ListN.{getD, replicate}
 use Rattle.word.specs.Anchor.{packAnchor}
-use Rattle.model.specs.declared.Answer.the-variants.{Running, Pushed, Empty, Popped}
+use Rattle.model.specs.declared.Answer.the-variants.{Running, Pushed, Empty, Popped, NoSlot}
 use Rattle.model.specs.declared.Outcome.{Outcome}
 use Rattle.model.specs.declared.Outcome.the-variants.{Refused, Moved}
-use Rattle.model.specs.declared.Opening.the-variants.{Opened}
+use Rattle.model.specs.declared.Opening.the-variants as opening
+use Rattle.model.specs.declared.Report.{Report}
+use Rattle.model.specs.declared.Reported.the-variants as reported
+use Rattle.model.specs.declared.Reply.{Reply}
 use Rattle.model.specs.declared.Op.the-variants.{Push, Pop, Step}
 use Rattle.model.specs.Tables.{Queue, unused}
 use Rattle.model.specs.Sound.{anchorSound, linkSound, controlSound, recordSound, rowsFit}
 use Rattle.model.specs.Places.{sideOf, row, linkSide, reading, at1, at2, at3, new4, at4, at5, at6, at7, at9, at10, at11, move}
 use Rattle.model.specs.Route.{pushRoute, popRoute, route, onward, answer, goes, counted}
-use Rattle.model.specs.Refusals.{openRefusal, pushRefusal, popRefusal, stepSound, stepRefusal}
-use Rattle.model.specs.Calls.{opened, openAs, openQueue, pushStart, popStart, finish, step, actOn, act}
+use Rattle.model.specs.Refusals.{openRefusal, pushRefusal, popRefusal, stepSound, stepRefusal, reportRefusal}
+use Rattle.model.specs.Calls.{opened, openAs, openQueue, pushStart, popStart, finish, step, actOn, act, openingCode, replyOf}
 use Rattle.model.specs.Walk.{entries, along, contents}
+use Rattle.model.specs.Report.{count, busy, waiting, takenSlots, tell, report, reportCode, listed, retryCounts}
 use Rattle.model.specs.History.{Request, Event, run, final}
 
 -- Tables of zeros for 2 tasks and 3 slots, and the queue opened in them with a first tag.
@@ -71,13 +75,24 @@ two = final one pushSecond
 abbrev worn : Queue
 worn = final (fresh 4294967262) (push 0 1 1 700 ∷ pop 1 1 ∷ steps (replicate 2 0))
 
+-- Of two labels task 1 has taken the left one and is at 11; task 0, with a third, is at 4, before its effect.
+abbrev halfway : Queue
+halfway = final two (pop 1 0 ∷ steps (replicate 3 1) ++ push 0 1 3 900 ∷ steps (replicate 2 0))
+
+-- After the race of two pops below.
+abbrev raced : Queue
+raced = final one (pop 0 0 ∷ pop 1 1 ∷ steps (0 ∷ 1 ∷ 0 ∷ 1 ∷ 0 ∷ []))
+
+abbrev reply : ℕ → ℕ → ℕ → Reply
+reply code label value = record { code = code; label = label; value = value }
+
 pub record Table : Type 0 where
   -- tag 1, STABLE, 1, 1 packs to 0x0000000100008001
   pub packs-stable : packAnchor (record { tag = 1; status = 0; left = 1; right = 1 }) ≡ 0x0000000100008001
   -- tag 2, RPUSH, 1, 2 packs to 0x0000000240008002
   pub packs-pushing : packAnchor (record { tag = 2; status = 1; left = 1; right = 2 }) ≡ 0x0000000240008002
   -- 2 tasks and 3 slots open
-  pub opens : openQueue zeros 2 3 0 .outcome ≡ Opened
+  pub opens : openQueue zeros 2 3 0 .outcome ≡ opening.Opened
   -- pop on empty: 1 step
   pub pop-on-empty : outcomes (fresh 0) (pop 0 1 ∷ steps (0 ∷ [])) ≡ at 1 ∷ Moved Empty ∷ []
   -- push on empty: 2 steps
@@ -103,12 +118,25 @@ pub record Table : Type 0 where
   pub pop-past-it : outcomes (fresh 4294967263) (pop 0 1 ∷ []) ≡ Refused 33 ∷ []
   -- the order of 30, 32 and 33: all three apply, then the last two, then the last
   pub start-order : outcomes worn (push 1 1 1 5 ∷ push 0 1 1 5 ∷ push 0 1 2 5 ∷ []) ≡ Refused 30 ∷ Refused 32 ∷ Refused 33 ∷ []
+  -- the report of calls half done: both are busy, one label waits, and with the slots of the two calls three are taken
+  pub tells : report halfway
+      ≡ reported.Told (record { anchor = record { tag = 4; status = 0; left = 2; right = 2 }; busy = 2; waiting = 1; taken = 3 })
+  -- the failed change of the race is its task's
+  pub retries-told : retryCounts raced ≡ 0 ∷ 1 ∷ replicate 14 0
+  -- a refused report
+  pub report-short : report (record { tables = two .tables; records = [] }) ≡ reported.Refused 12
+  -- the number and values of each outcome, of openings and of reports
+  pub numbers : map replyOf (at 7 ∷ Moved Pushed ∷ Moved Empty ∷ got 2 800 ∷ Moved NoSlot ∷ Refused 34 ∷ [])
+      ≡ reply 1 0 7 ∷ reply 2 0 0 ∷ reply 3 0 0 ∷ reply 4 800 2 ∷ reply 5 0 0 ∷ reply 34 0 0 ∷ []
+  pub opening-numbers : map openingCode (opening.Opened ∷ opening.Refused 11 ∷ []) ≡ 0 ∷ 11 ∷ []
+  pub report-numbers : reportCode (report two) ≡ 0
+  pub report-refused : reportCode (reported.Refused 34) ≡ 34
   -- retries stay at 4,294,967,295 once there
   pub ceiling-reached : counted 4294967294 true ≡ 4294967295
   pub ceiling-kept : counted 4294967295 true ≡ 4294967295
 
 pub bench : Table
-unfolding openAs opened openRefusal run final act actOn pushStart popStart step finish pushRefusal popRefusal stepRefusal stepSound move at1 at2 at3 new4 at4 at5 at6 at7 at9 at10 at11 reading sideOf row linkSide anchorSound linkSound controlSound recordSound rowsFit pushRoute popRoute route onward answer goes counted along contents
+unfolding openAs opened openRefusal run final act actOn pushStart popStart step finish pushRefusal popRefusal stepRefusal stepSound move at1 at2 at3 new4 at4 at5 at6 at7 at9 at10 at11 reading sideOf row linkSide anchorSound linkSound controlSound recordSound rowsFit pushRoute popRoute route onward answer goes counted along contents report tell reportRefusal busy count waiting takenSlots retryCounts listed
 bench = record {
   packs-stable = refl;
   packs-pushing = refl;
@@ -127,6 +155,13 @@ bench = record {
   pop-at-last-tag = refl;
   pop-past-it = refl;
   start-order = refl;
+  tells = refl;
+  retries-told = refl;
+  report-short = refl;
+  numbers = refl;
+  opening-numbers = refl;
+  report-numbers = refl;
+  report-refused = refl;
   ceiling-reached = refl;
   ceiling-kept = refl;
 }

@@ -1,7 +1,7 @@
--- Three theorems over the meanings: Linearizable (demand 3) and NeverUnsound (34 never occurs), for named and pooled queues alike, and NoSlot
+-- Three theorems over the meanings: Linearizable (demand 3) and Never34 (34 never occurs), for named and pooled queues alike, and NoSlot
 -- (a pooled push is answered *no slot* only where every slot is in use).
 -- A step of the tables is a step of a decoded machine (bridge), which keeps an invariant (invariant, chain, places);
--- a clerk's book follows the machine and matches the ledger (ledger); bounds on tags and fields keep every table sound (tags, unsound).
+-- a book of the sequential deque follows the machine and matches the ledger (ledger); bounds on tags and fields keep every table sound (tags, unsound).
 pub mod tests
 pub mod lists
 pub mod machine
@@ -15,11 +15,12 @@ pub mod unsound
 pub mod progress
 pub mod Openings
 pub mod Linearizable
-pub mod NeverUnsound
+pub mod Never34
 pub mod Standing
 pub mod Retries
 pub mod NoSlot
 pub mod StepBounds
+pub mod MarksRight
 pub mod LinksBack
 -- Laws of single calls, and the worked cases of the document.
 pub mod laws

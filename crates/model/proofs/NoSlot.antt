@@ -27,10 +27,10 @@ use Rattle.model.proofs.tests.Rules.{_and_, passes}
 use Rattle.model.proofs.tests.Truth.{by-test, decide-eq}
 use Rattle.model.proofs.lists.In.{In}
 use Rattle.model.proofs.lists.Slots.{slots}
-use Rattle.model.proofs.machine.Clerk as B
+use Rattle.model.proofs.machine.Book as B
 use Rattle.model.proofs.machine.Machine as M
 use Rattle.model.proofs.invariant.Tasks.{Task}
-use Rattle.model.proofs.places.NoSlot.{Holds, Lacks, act-lacks, no-slot}
+use Rattle.model.proofs.places.NoSlot.{Holds, Lacks, Used, act-lacks, no-slot}
 use Rattle.model.proofs.bridge.Accepted.{Stepping, step-accepted}
 use Rattle.model.proofs.bridge.EveryPlace.{step-seen}
 use Rattle.model.proofs.bridge.Operations.{reply, task-of}
@@ -42,7 +42,7 @@ use Rattle.model.proofs.ledger.Waiting as waiting
 use Rattle.model.proofs.unsound.Suits.{kind-push}
 use Rattle.model.proofs.Openings.{after-opening}
 
--- A slot of the clerk's deque waits.
+-- A slot of the sequential deque waits.
 in-waits : (l : List Entry) (x : ℕ) → In x (slots l) → Waits x (entries l)
 in-waits [] x i = absurd i
 in-waits (e ∷ l) x (inl z) = here e l z
@@ -56,11 +56,13 @@ module _ (r : Record) (x : ℕ) where
   abbrev Here : ℕ → Type 0
   Here p = Holds (placeOf p) (recOf r) x → holdsSlot (at p) x ≡ true
 
-  pushing : (p : ℕ) → leb p 10 ≡ true → leb 1 p ≡ true → (kindOf (r .kind) ≡ M.push) × (eqb (r .finishing) 1 ≡ false) × (r .own ≡ x) → holdsSlot (at p) x ≡ true
+  pushing : (p : ℕ) → leb p 10 ≡ true → leb 1 p ≡ true → (kindOf (r .kind) ≡ M.push) × (eqb (r .finishing) 1 ≡ false) × (r .own ≡ x)
+      → holdsSlot (at p) x ≡ true
   unfolding holdsSlot
-  pushing p l s w = rw l (passes (leb 1 p ∷ eqb (r .kind) 0 ∷ not (eqb (r .finishing) 1) ∷ eqb (r .own) x ∷ []) (s and eq-eqb _ _ (kind-push (r .kind) (w .0)) and ap not (w .1) and eq-eqb _ _ (w .2) and tt))
+  pushing p l s w = rw l (passes (leb 1 p ∷ eqb (r .kind) 0 ∷ not (eqb (r .finishing) 1) ∷ eqb (r .own) x ∷ [])
+      (s and eq-eqb _ _ (kind-push (r .kind) (w .0)) and ap not (w .1) and eq-eqb _ _ (w .2) and tt))
 
-  tip-near : (d : Bool) → M.tip (anchorSeen (r .seen)) d ≡ cond d (anchorOf (r .seen) .right) (anchorOf (r .seen) .left)
+  pub tip-near : (d : Bool) → M.tip (anchorSeen (r .seen)) d ≡ cond d (anchorOf (r .seen) .right) (anchorOf (r .seen) .left)
   tip-near false = refl
   tip-near true = refl
 
@@ -91,8 +93,24 @@ module _ (r : Record) (x : ℕ) where
     where
       go : (r .place ≡ 0) ⊎ (r .place ≢ 0) → Dec (17 < r .place) → holdsSlot r x ≡ true
       go (inl z) d = absurd (subst (λ p. Holds (placeOf p) (recOf r) x) z w)
-      go (inr z) (yes l) = absurd (subst (λ (p : M.Place). Holds p (recOf r) x) (List·getD-eq-default placeList M.idle {n = r .place} (omega arith)) w)
+      go (inr z) (yes l) = absurd (subst (λ (p : M.Place). Holds p (recOf r) x)
+          (List·getD-eq-default placeList M.idle {n = r .place} (omega arith)) w)
       go (inr z) (no l) = holds-place (r .place) z (omega arith) w
+
+-- What is used in the decoded state is in use in the tables.
+pub used-is : (n : ℕ) (q : Queue) (l : _) (g : Matched n q l) (x : ℕ) → Used (record { state = stateOf q; book = g .book }) x → InUse q x
+unfolding stateOf view
+used-is n q l g x = go
+  where
+    held : (u : ℕ) (b : Bool) → ltb u (q .tables .control .tasks) ≡ b → (let y = cond b (recOf (recordAt q u)) M.blank in
+        Holds (y .place) y x) → InUse q x
+    held u true z w = holds u (ltb-true _ _ z) (holds-is (recordAt q u) x w)
+    held u false z w = absurd w
+
+    go : Used (record { state = stateOf q; book = g .book }) x → InUse q x
+    go (inl i) = waits (subst (Waits x) (sym (waiting.waits (q .tables) (g .links) (g .inv .owner) (g .book .queue) (g .inv .whole)))
+        (in-waits (g .book .queue) x i))
+    go (inr w) = held (w .0) (ltb (w .0) (q .tables .control .tasks)) refl (w .1)
 
 module _ (n : ℕ) (q : Queue) (l : _) (g : Matched n q l) (t : ℕ) where
   abbrev G : Tables
@@ -106,25 +124,21 @@ module _ (n : ℕ) (q : Queue) (l : _) (g : Matched n q l) (t : ℕ) where
     empty-head : (view G .pooled ≡ true) × (view G .head .slot ≡ 0)
     unfolding stateOf recOf
     empty-head =
-        let w = subst (λ (x : M.Rec). Task (x .place) (view G) (g .inv .owner) t x (g .book .calls t)) (task-of q t (s .lies .known)) (g .inv .tasks t) in
-        let k = subst (Lacks (view G)) (step-seen G (s .control) (g .links) r (s .fine) (s .busy) (s .room)) (act-lacks (view G) (recOf r) (g .inv .owner) t (g .book .calls t) (placeOf (r .place)) w) in
+        let w = subst (λ (x : M.Rec). Task (x .place) (view G) (g .inv .owner) t x (g .book .calls t)) (task-of q t (s .lies .known))
+        (g .inv .tasks t) in
+        let k = subst (Lacks (view G)) (step-seen G (s .control) (g .links) r (s .fine) (s .busy) (s .room))
+        (act-lacks (view G) (recOf r) (g .inv .owner) t (g .book .calls t) (placeOf (r .place)) w) in
         k .lacks (ap (λ (a : Answer). B.isNoSlot (answerSeen a)) e)
 
     all-used : (x : ℕ) → 1 ≤ x → x ≤ G .control .slots → InUse q x
     unfolding stateOf view
-    all-used x some low = go (no-slot (record { state = stateOf q; book = g .book }) (g .inv) (empty-head .0) (empty-head .1) x (λ z. omega arith) low)
-      where
-        held : (u : ℕ) (b : Bool) → ltb u (G .control .tasks) ≡ b → (let y = cond b (recOf (recordAt q u)) M.blank in Holds (y .place) y x) → InUse q x
-        held u true z w = holds u (ltb-true _ _ z) (holds-is (recordAt q u) x w)
-        held u false z w = absurd w
-
-        go : In x (slots (g .book .queue)) ⊎ ((u : ℕ) × Holds (stateOf q .task u .place) (stateOf q .task u) x) → InUse q x
-        go (inl i) = waits (subst (Waits x) (sym (waiting.waits G (g .links) (g .inv .owner) (g .book .queue) (g .inv .whole))) (in-waits (g .book .queue) x i))
-        go (inr w) = held (w .0) (ltb (w .0) (G .control .tasks)) refl (w .1)
+    all-used x some low = used-is n q l g x
+        (no-slot (record { state = stateOf q; book = g .book }) (g .inv) (empty-head .0) (empty-head .1) x (λ z. omega arith) low)
 
   pub told-truly : act q t Step .outcome ≡ Moved NoSlot → (x : ℕ) → 1 ≤ x → x ≤ G .control .slots → InUse q x
   unfolding act actOn step finish
-  told-truly = by-test (λ (a : Acted). a .outcome ≡ Moved NoSlot → (x : ℕ) → 1 ≤ x → x ≤ G .control .slots → InUse q x) (eqb (stepRefusal G (among q t) r) 0)
+  told-truly = by-test (λ (a : Acted). a .outcome ≡ Moved NoSlot → (x : ℕ) → 1 ≤ x → x ≤ G .control .slots → InUse q x)
+      (eqb (stepRefusal G (among q t) r) 0)
       (λ z e. all-used (step-accepted q t (eqb-true _ _ z)) cc)
       (λ z e. absurd (let w : _≡_ {A = ℕ} 0 1 = cc in omega arith))
 

@@ -41,12 +41,15 @@ count-of : (q : Queue) (t : ℕ) (o : Op) → actOn (q .tables) (among q t) (tas
 unfolding actOn pushStart popStart putStart step finish fails counted
 count-of q t (Push side slot label) =
     by-test (λ (a : Acted). a .task .retries ≡ own q t) (eqb (pushRefusal (q .tables) (among q t) (recordAt q t) side slot) 0) (λ e. refl) (λ e. refl)
-count-of q t (Pop side) = by-test (λ (a : Acted). a .task .retries ≡ own q t) (eqb (popRefusal (q .tables) (among q t) (recordAt q t) side) 0) (λ e. refl) (λ e. refl)
-count-of q t (Put side label) = by-test (λ (a : Acted). a .task .retries ≡ own q t) (eqb (putRefusal (q .tables) (among q t) (recordAt q t) side) 0) (λ e. refl) (λ e. refl)
+count-of q t (Pop side) = by-test (λ (a : Acted). a .task .retries ≡ own q t) (eqb (popRefusal (q .tables) (among q t) (recordAt q t) side) 0)
+    (λ e. refl) (λ e. refl)
+count-of q t (Put side label) = by-test (λ (a : Acted). a .task .retries ≡ own q t) (eqb (putRefusal (q .tables) (among q t) (recordAt q t) side) 0)
+    (λ e. refl) (λ e. refl)
 count-of q t Step = split (eqb (stepRefusal (q .tables) (among q t) (recordAt q t)) 0) (λ e. rw e) (λ e. rw e)
 
 -- A record put back with the same count.
-same-column : (l : List TaskRecord) (t : ℕ) (x : TaskRecord) → x .retries ≡ getD l t unused .retries → (u : ℕ) → getD (set l t x) u unused .retries ≡ getD l u unused .retries
+same-column : (l : List TaskRecord) (t : ℕ) (x : TaskRecord) → x .retries ≡ getD l t unused .retries → (u : ℕ)
+    → getD (set l t x) u unused .retries ≡ getD l u unused .retries
 same-column [] t x e u = refl
 same-column (r ∷ l) zero x e zero = e
 same-column (r ∷ l) zero x e (suc u) = refl
@@ -62,7 +65,8 @@ other-column l t x h = fun-ext (λ u. go u (decide-eq u t))
     go u (inl e) =
         subst (λ u. getD (set l t x) u unused .retries ≡ upd (λ u. getD l u unused .retries) t (x .retries) u) (sym e)
         (ap (λ (r : TaskRecord). r .retries) (getD-set-same l t x unused h) ∙ sym (upd-same (λ u. getD l u unused .retries) t (x .retries)))
-    go u (inr e) = ap (λ (r : TaskRecord). r .retries) (getD-set-other l t u x unused e) ∙ sym (upd-other (λ u. getD l u unused .retries) t (x .retries) u e)
+    go u (inr e) = ap (λ (r : TaskRecord). r .retries) (getD-set-other l t u x unused e)
+        ∙ sym (upd-other (λ u. getD l u unused .retries) t (x .retries) u e)
 
 sum : Queue → ℕ
 sum q = total (own q) (q .tables .control .tasks)

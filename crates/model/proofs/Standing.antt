@@ -14,9 +14,9 @@ use Rattle.model.specs.Report.{busy, report, tell, told, waiting}
 use Rattle.model.specs.History.{AfterOpening, Reports, Told, Request, final, ledger, run}
 use Rattle.model.proofs.laws.Sizes.{act-fits, fits, open-fits}
 use Rattle.model.proofs.ledger.Opened.{nobody, open-good, some-slots}
-use Rattle.model.proofs.unsound.Never34.{run-safe}
+use Rattle.model.proofs.unsound.Runs.{run-safe}
 use Rattle.model.proofs.Linearizable.{linearized}
-use Rattle.model.proofs.NeverUnsound.{open-safe}
+use Rattle.model.proofs.Never34.{open-safe}
 use Rattle.model.proofs.Openings.{after-opening}
 
 -- Control and Anchor are sound, every table is long enough, and the walk meets the entries d.

@@ -1,4 +1,4 @@
--- Histories: the ledger against the clerk's book, operation by operation, and the labels waiting.
+-- Histories: the ledger against the book, operation by operation, and the labels waiting.
 pub mod Matches
 pub mod Served
 pub mod Attended

@@ -1,6 +1,6 @@
--- The decoded machine: document 003's figures over data types, and the clerk who keeps its book.
+-- The decoded machine: document 003's figures over data types, and the book of the sequential deque.
 pub mod Machine
-pub mod Clerk
+pub mod Book
 pub mod Laws
 pub mod LinkTags
 pub mod Answers

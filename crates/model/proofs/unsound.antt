@@ -8,4 +8,4 @@ pub mod Safe
 pub mod StepSound
 pub mod StepSafe
 pub mod StartSafe
-pub mod Never34
+pub mod Runs

@@ -124,6 +124,11 @@ act q t o = back q t (actOn (q .tables) (among q t) (taskAt q t) o)
 unfoldable pub stepLent : Tables → TaskRecord → Acted
 stepLent q r = step q alone r
 
+-- The number of an opening: 0 carried out, or that of a refusal.
+abbrev pub openingCode : Opening → ℕ
+openingCode opening.Opened = 0
+openingCode (opening.Refused n) = n
+
 -- The number and values of each outcome.
 abbrev pub replyOf : Outcome → Reply
 replyOf (Refused n) = record { code = n; label = 0; value = 0 }

@@ -13,7 +13,7 @@ use Rattle.model.specs.declared.Outcome.{Outcome}
 use Rattle.model.specs.declared.Outcome.the-variants.{Refused, Moved}
 use Rattle.model.specs.declared.Op.{Op}
 use Rattle.model.specs.declared.Op.the-variants.{Push, Pop, Put, Step}
-use Rattle.model.specs.Tables.{Queue, near, recordAt}
+use Rattle.model.specs.Tables.{Queue, marked, near, recordAt}
 use Rattle.model.specs.declared.Record.{Record}
 use Rattle.model.specs.Sound.{every, isPush, giving}
 use Rattle.model.specs.declared.Opening.the-variants.{Opened}
@@ -42,7 +42,8 @@ unfoldable pub run : Queue → List Request → List Event
 run q [] = []
 run q (o ∷ os) =
     let d = act q (o .task) (o .op) in
-    record { task = o .task; op = o .op; outcome = d .outcome; before = q .tables .control .anchor; after = d .queue .tables .control .anchor } ∷ run (d .queue) os
+    record { task = o .task; op = o .op; outcome = d .outcome; before = q .tables .control .anchor; after = d .queue .tables .control .anchor }
+    ∷ run (d .queue) os
 
 unfoldable pub final : Queue → List Request → Queue
 final q [] = q
@@ -186,7 +187,8 @@ pub record Told (q : Queue) (os : List Request) : Type 0 where
 
 -- The list follows any accepted opening, named or pooled, on any tables; it may be empty, and may name any numbers.
 abbrev pub AfterOpeningAs : Bool → (Queue → List Request → Type 0) → Type 0
-AfterOpeningAs pooled P = (q : Queue) (tasks slots tag : ℕ) → openAs pooled q tasks slots tag .outcome ≡ Opened → (os : List Request) → P (openAs pooled q tasks slots tag .queue) os
+AfterOpeningAs pooled P = (q : Queue) (tasks slots tag : ℕ) → openAs pooled q tasks slots tag .outcome ≡ Opened → (os : List Request)
+    → P (openAs pooled q tasks slots tag .queue) os
 
 abbrev pub AfterOpening : (Queue → List Request → Type 0) → Type 0
 AfterOpening P = (pooled : Bool) → AfterOpeningAs pooled P
@@ -219,7 +221,19 @@ pub data InUse (q : Queue) (x : ℕ) : Type 0 where
 
 -- *No slot* is true: if a step after the list answers so, every slot was in use. (Request #104. Without it a program that loses slots passes.)
 abbrev pub NoSlotTrue : Queue → List Request → Type 0
-NoSlotTrue q os = (t : ℕ) → act (final q os) t Step .outcome ≡ Moved NoSlot → (x : ℕ) → 1 ≤ x → x ≤ final q os .tables .control .slots → InUse (final q os) x
+NoSlotTrue q os = (t : ℕ) → act (final q os) t Step .outcome ≡ Moved NoSlot → (x : ℕ) → 1 ≤ x → x ≤ final q os .tables .control .slots
+    → InUse (final q os) x
 
 abbrev pub NoSlotRight : Type 0
 NoSlotRight = AfterOpeningAs true NoSlotTrue
+
+-- In a named queue a mark says that its slot is in use, and says so of every slot that waits. (Without it a program whose pops leave their slots
+-- marked, so that they are taken for ever, passes.)
+abbrev pub MarksTrue : Queue → List Request → Type 0
+MarksTrue q os =
+    let now = final q os .tables in
+    (x : ℕ) → 1 ≤ x → x ≤ now .control .slots
+    → (marked (now .marks) x ≡ true → InUse (final q os) x) × (InUse (final q os) x → marked (now .marks) x ≡ true)
+
+abbrev pub MarksRight : Type 0
+MarksRight = AfterOpeningAs false MarksTrue

@@ -18,7 +18,8 @@ pub record Joined (q : Tables) (before : List Entry) (x y : Entry) (after : List
 -- So it is with any two neighbours among the labels that wait after the list.
 abbrev pub NeighboursJoined : Queue → List Request → Type 0
 NeighboursJoined q os =
-    (before after : List Entry) (x y : Entry) → contents (final q os .tables) ≡ entries (before ++ (x ∷ y ∷ after)) → Joined (final q os .tables) before x y after
+    (before after : List Entry) (x y : Entry) → contents (final q os .tables) ≡ entries (before ++ (x ∷ y ∷ after))
+    → Joined (final q os .tables) before x y after
 
 abbrev pub LinksBack : Type 0
 LinksBack = AfterOpening NeighboursJoined

@@ -60,19 +60,59 @@ pub record Move : Type 0 where
 -- A place keeps the fields it doesn't name.
 abbrev pub withSeen : Record → ℕ → ℕ → Record
 withSeen r a f =
-    record { place = r .place; kind = r .kind; side = r .side; own = r .own; label = r .label; seen = a; neighbour = r .neighbour; link = r .link; finishing = f }
+    record {
+      place = r .place;
+      kind = r .kind;
+      side = r .side;
+      own = r .own;
+      label = r .label;
+      seen = a;
+      neighbour = r .neighbour;
+      link = r .link;
+      finishing = f;
+    }
 
 abbrev pub withNeighbour : Record → ℕ → Record
 withNeighbour r n =
-    record { place = r .place; kind = r .kind; side = r .side; own = r .own; label = r .label; seen = r .seen; neighbour = n; link = r .link; finishing = r .finishing }
+    record {
+      place = r .place;
+      kind = r .kind;
+      side = r .side;
+      own = r .own;
+      label = r .label;
+      seen = r .seen;
+      neighbour = n;
+      link = r .link;
+      finishing = r .finishing;
+    }
 
 abbrev pub withLink : Record → ℕ → Record
 withLink r w =
-    record { place = r .place; kind = r .kind; side = r .side; own = r .own; label = r .label; seen = r .seen; neighbour = r .neighbour; link = w; finishing = r .finishing }
+    record {
+      place = r .place;
+      kind = r .kind;
+      side = r .side;
+      own = r .own;
+      label = r .label;
+      seen = r .seen;
+      neighbour = r .neighbour;
+      link = w;
+      finishing = r .finishing;
+    }
 
 abbrev pub withOwn : Record → ℕ → ℕ → Record
 withOwn r x l =
-    record { place = r .place; kind = r .kind; side = r .side; own = x; label = l; seen = r .seen; neighbour = r .neighbour; link = r .link; finishing = r .finishing }
+    record {
+      place = r .place;
+      kind = r .kind;
+      side = r .side;
+      own = x;
+      label = l;
+      seen = r .seen;
+      neighbour = r .neighbour;
+      link = r .link;
+      finishing = r .finishing;
+    }
 
 -- A place that only reads.
 abbrev pub reads : Record → ℕ → Move
@@ -117,7 +157,12 @@ at2 c r =
 unfoldable pub at3 : Record → ℕ → Move
 at3 r w =
     cond (isPush r)
-    (record { touch = setLink (linkSide r) (row r) (packLink (record { tag = linkOf w .tag; slot = endSeen r })); task = r; outcome = 0; failed = false })
+    (record {
+      touch = setLink (linkSide r) (row r) (packLink (record { tag = linkOf w .tag; slot = endSeen r }));
+      task = r;
+      outcome = 0;
+      failed = false;
+    })
     (reads (withNeighbour r (linkOf w .slot)) 0)
 
 -- 4: change Anchor to l, own, RPUSH, and remember it, finishing; a pop to l, neighbour, s.

@@ -26,6 +26,10 @@ abbrev pub first : List Rule → ℕ
 first [] = 0
 first (r ∷ l) = cond (r .applies) (r .number) (first l)
 
+-- 16: the run file is malformed. It is asked of the file, before any call.
+abbrev pub malformed : ℕ
+malformed = 16
+
 -- As many records as tasks.
 abbrev pub recordsFit : ℕ → Queue → Bool
 recordsFit tasks q = leb tasks (length (q .records))

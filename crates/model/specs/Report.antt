@@ -46,6 +46,11 @@ tell q enough busy =
 unfoldable pub report : Queue → Reported
 report q = tell (q .tables) (recordsFit (q .tables .control .tasks) q) (busy q)
 
+-- The number of a report: 0 told, or that of a refusal.
+abbrev pub reportCode : Reported → ℕ
+reportCode (reported.Told r) = 0
+reportCode (reported.Refused n) = n
+
 -- The values of f at the numbers below n, in their order.
 unfoldable pub listed : (ℕ → ℕ) → ℕ → List ℕ
 listed f zero = []

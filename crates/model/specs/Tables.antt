@@ -98,7 +98,17 @@ asking side label =
 -- A record at another place.
 abbrev pub atPlace : Record → ℕ → Record
 atPlace r p =
-    record { place = p; kind = r .kind; side = r .side; own = r .own; label = r .label; seen = r .seen; neighbour = r .neighbour; link = r .link; finishing = r .finishing }
+    record {
+      place = p;
+      kind = r .kind;
+      side = r .side;
+      own = r .own;
+      label = r .label;
+      seen = r .seen;
+      neighbour = r .neighbour;
+      link = r .link;
+      finishing = r .finishing;
+    }
 
 abbrev pub unused : TaskRecord
 unused = record { call = idle; retries = 0 }

@@ -164,10 +164,10 @@ module _ (c : Control) (r : Record) where
       (λ k. rw (n, s, e, k) (pop4 k))
 
   -- A failed change doesn't depend on the word it would have made.
-  failed2 : (c .anchor ≡ r .seen → ⊥) → Steps 2 c r (failing (anchorRead c r))
+  pub failed2 : (c .anchor ≡ r .seen → ⊥) → Steps 2 c r (failing (anchorRead c r))
   failed2 h = fails (step2 _ _ refl refl) h
 
-  failed4 : (c .anchor ≡ r .seen → ⊥) → Steps 4 c r (failing (anchorRead c r))
+  pub failed4 : (c .anchor ≡ r .seen → ⊥) → Steps 4 c r (failing (anchorRead c r))
   failed4 h = split (eqb (r .kind) 0) (λ k. fails (push4 k) h) (λ k. fails (pop4 k) h)
 
   -- By the record's place: 1, or a failed change.

@@ -64,7 +64,8 @@ module _ (c : Control) (r : Record) where
         let w = getD (cond (not own) rs ls) (r .own) 0 in
         split (from1 (c .slots) (r .own))
         (λ f. split (linkSound (c .slots) w)
-        (λ l. simp (k, turn, f, l) (ap (λ m. linked m (not own) (r .own) (packLink (record { tag = linkOf w .tag; slot = end own }))) (quietly c r (route 3 0 0) (entry (r .own) ns) refl)))
+        (λ l. simp (k, turn, f, l) (ap (λ m. linked m (not own) (r .own) (packLink (record { tag = linkOf w .tag; slot = end own })))
+        (quietly c r (route 3 0 0) (entry (r .own) ns) refl)))
         (λ l. simp (k, turn, f, l)))
         (λ f. simp (k, turn, f))
 
@@ -86,19 +87,23 @@ module _ (c : Control) (r : Record) where
         let w = getD (cond (not named) rs ls) (end named) 0 in
         split (from1 (c .slots) (end named))
         (λ f. split (linkSound (c .slots) w)
-        (λ l. simp (mirror, turn, f, l) (ap lent (quietly c (withNeighbour r (linkOf w .slot)) (route 5 (r .kind) 0) (entry (end named) ns) (kinds Quiet 5 (r .kind) 0 refl refl))))
+        (λ l. simp (mirror, turn, f, l)
+        (ap lent (quietly c (withNeighbour r (linkOf w .slot)) (route 5 (r .kind) 0) (entry (end named) ns) (kinds Quiet 5 (r .kind) 0 refl refl))))
         (λ l. simp (mirror, turn, f, l)))
         (λ f. simp (mirror, turn, f))
 
-    pub step7 : lent (linkRead c r (end named) (getD (cond named rs ls) (r .neighbour) 0) (route 7 (r .kind) 0) (route 7 (r .kind) 1)) ≡ stepAt 7 q r k
+    pub step7 : lent (linkRead c r (end named) (getD (cond named rs ls) (r .neighbour) 0) (route 7 (r .kind) 0) (route 7 (r .kind) 1))
+        ≡ stepAt 7 q r k
     unfolding stepAt stepSound move row sideOf linkSide at7 finish linkRead rowSound settled goes counted route pushRoute popRoute
     step7 =
         let w = getD (cond named rs ls) (r .neighbour) 0 in
         split (from1 (c .slots) (r .neighbour))
         (λ f. split (linkSound (c .slots) w)
         (λ l. split (eqb (linkOf w .slot) (end named))
-        (λ s. simp (mirror, f, l, s) (ap lent (quietly c (withLink r w) (route 7 (r .kind) 0) (entry (r .neighbour) ns) (kinds Quiet 7 (r .kind) 0 refl refl))))
-        (λ s. simp (mirror, f, l, s) (ap lent (quietly c (withLink r w) (route 7 (r .kind) 1) (entry (r .neighbour) ns) (kinds Quiet 7 (r .kind) 1 refl refl)))))
+        (λ s. simp (mirror, f, l, s) (ap lent
+        (quietly c (withLink r w) (route 7 (r .kind) 0) (entry (r .neighbour) ns) (kinds Quiet 7 (r .kind) 0 refl refl))))
+        (λ s. simp (mirror, f, l, s) (ap lent
+        (quietly c (withLink r w) (route 7 (r .kind) 1) (entry (r .neighbour) ns) (kinds Quiet 7 (r .kind) 1 refl refl)))))
         (λ l. simp (mirror, f, l)))
         (λ f. simp (mirror, f))
 
@@ -116,9 +121,11 @@ module _ (c : Control) (r : Record) where
         split (from1 (c .slots) (r .neighbour))
         (λ f. split (eqb (getD (cond named rs ls) (r .neighbour) 0) (r .link))
         (λ s. split (ltb (linkOf (r .link) .tag) 4294967295)
-        (λ t. simp (mirror, f, s, t) (ap (λ m. linked m named (r .neighbour) (packLink (record { tag = r .link / 2 ^ 32 + 1; slot = end named }))) (quietly c r (route 9 (r .kind) 0) (entry (r .neighbour) ns) (kinds Quiet 9 (r .kind) 0 refl refl))))
+        (λ t. simp (mirror, f, s, t) (ap (λ m. linked m named (r .neighbour) (packLink (record { tag = r .link / 2 ^ 32 + 1; slot = end named })))
+        (quietly c r (route 9 (r .kind) 0) (entry (r .neighbour) ns) (kinds Quiet 9 (r .kind) 0 refl refl))))
         (λ t. simp (mirror, f, s, t)))
-        (λ s. simp (mirror, f, s) (ap (λ m. lent (failing m)) (quietly c r (route 9 (r .kind) 1) (entry (r .neighbour) ns) (kinds Quiet 9 (r .kind) 1 refl refl)))))
+        (λ s. simp (mirror, f, s) (ap (λ m. lent (failing m))
+        (quietly c r (route 9 (r .kind) 1) (entry (r .neighbour) ns) (kinds Quiet 9 (r .kind) 1 refl refl)))))
         (λ f. simp (mirror, f))
 
     -- The label of the end taken is the answer's, or in a pooled queue the record's.

@@ -36,6 +36,35 @@ pub fn on_anchor(c: Control, r: Record) -> Acted
     m
 }
 
+/// Place 1 by itself. A step that stores at each place for itself has one function a place.
+pub fn at1(c: Control, r: Record) -> Acted
+    ensures { λ m. ⌜ Steps 1 c r m ⌝ }
+{
+    step::reads_anchor(c, r)
+}
+
+/// Place 2 by itself: the change, tried.
+pub fn tries2(c: Control, r: Record) -> Acted
+    ensures { λ m. ⌜ Steps 2 c r m ⌝ }
+{
+    if c.anchor == r.seen {
+        return at2(c, r);
+    }
+    let m = step::reads_anchor(c, r);
+    step::fails(m)
+}
+
+/// Place 4 by itself: the change, tried.
+pub fn tries4(c: Control, r: Record) -> Acted
+    ensures { λ m. ⌜ Steps 4 c r m ⌝ }
+{
+    if c.anchor == r.seen {
+        return at4(c, r);
+    }
+    let m = step::reads_anchor(c, r);
+    step::fails(m)
+}
+
 /// Place 2, Anchor as read: change it to own, own, s; a pop to null, null, s. (Figure 3, line 2; figure 5, line 12.)
 fn at2(c: Control, r: Record) -> Acted
     ensures { λ m. ⌜ (c .anchor ≡ r .seen → Steps 2 c r m) ⌝ }

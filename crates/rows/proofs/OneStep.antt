@@ -9,7 +9,6 @@ use lib.ListN.{length, getD, set}
 use lib.Seq.{set-getD}
 use borrow.Author.Tests.{leb-true, ltb-true}
 use Rattle.model.specs.declared.Control.{Control}
-use Rattle.model.specs.declared.Record.{Record}
 use Rattle.model.specs.declared.TaskRecord.{TaskRecord}
 use Rattle.model.specs.declared.Outcome.{Outcome}
 use Rattle.model.specs.declared.Outcome.the-variants.{Refused}
@@ -19,15 +18,12 @@ use Rattle.model.specs.Ends.{endsCall}
 use Rattle.model.specs.Sound.{rowsFit}
 use Rattle.model.specs.Refusals.{Lent, among}
 use Rattle.model.specs.Calls.{Acted, Done, back, act, actOn}
-use Rattle.table.specs.declared.Acted.{Acted as Moved}
-use Rattle.table.specs.Lent.{withTables}
 use Rattle.sound.specs.Lengths.{lengthsFit}
 use Rattle.engine.specs.Parts.{admission, moveOn}
-use Rattle.engine.specs.Stored.{controlAfter, recordAfter}
-use Rattle.engine.proofs.Stored.{stored}
 use Rattle.engine.proofs.Whole.{turned-away, admitted, task-there}
-use Rattle.rows.specs.Rows.{controlOf, callOf, recordOf, recordsOf, upperOf, uppersOf, queueIn}
-use Rattle.rows.proofs.Rows.{counting, length-records, record-read, upper-read, record-put, upper-put}
+use Rattle.rows.specs.Rows.{controlOf, recordOf, recordsOf, upperOf, uppersOf, queueIn}
+use Rattle.rows.specs.Moved.{RowMoved}
+use Rattle.rows.proofs.Rows.{length-records, record-read, upper-read, record-put, upper-put}
 
 module _ (ws : List ℕ) (rows : List (List ℕ)) (lefts rights labels marks next : List ℕ) (task : ℕ) where
   abbrev entry : Tables
@@ -91,22 +87,14 @@ module _ (ws : List ℕ) (rows : List (List ℕ)) (lefts rights labels marks nex
   kept-upper true = refl
   kept-upper false = ap (set (uppersOf rows) task) (upper-read rows task) ∙ set-getD (uppersOf rows) task 0
 
-  -- Admitted: what it may change is stored.
-  pub stepped : (ws′ row′ lefts′ rights′ labels′ marks′ next′ : List ℕ) (c : Control) (r : Record) (m : Moved)
-      → c ≡ controlOf ws → r ≡ callOf row₀ → fault ≡ 0
-      → ((k : ℕ) → withTables m lefts′ rights′ labels′ marks′ next′ k ≡ moveOn (tablesOf c lefts rights labels marks next) (counting r k))
-      → controlOf ws′ ≡ controlAfter (controlOf ws) m → recordOf row′ ≡ recordAfter (recordOf row₀) m
-      → upperOf row′ ≡ cond (endsCall (m .outcome)) 0 (upperOf row₀)
-      → Steps ws′ (set rows task row′) lefts′ rights′ labels′ marks′ next′ (m .outcome)
-  unfolding act actOn rowsFit lengthsFit recordOf
-  stepped ws′ row′ lefts′ rights′ labels′ marks′ next′ c r m ec er f e e1 e2 e3 =
-      let k = r₀ .retries in
-      let e′ : withTables m lefts′ rights′ labels′ marks′ next′ k ≡ moveOn entry r₀ =
-      e k
-      ∙ ap (λ (d : Control). moveOn (tablesOf d lefts rights labels marks next) (counting r k)) ec
-      ∙ ap (λ (t : Record). moveOn entry (counting t k)) (er ∙ ap (λ (t : TaskRecord). t .call) (record-read rows task)) in
-      let left = stored entry (among queue task) r₀ m lefts′ rights′ labels′ marks′ next′ (e′ ∙ admitted entry (among queue task) r₀ f) in
-      let put : recordsOf (set rows task row′) ≡ set (recordsOf rows) task (recordAfter r₀ m) =
-      record-put rows task row′
-      ∙ ap (set (recordsOf rows) task) (e2 ∙ ap (λ (t : TaskRecord). recordAfter t m) (record-read rows task)) in
-      (rw (e1, put) (ap (back queue task) left), upper-put rows task row′ ∙ ap (set (uppersOf rows) task) e3 ∙ kept-upper (endsCall (m .outcome)))
+  -- Admitted: the record is moved on in its row.
+  pub stepped : (ws′ row′ lefts′ rights′ labels′ marks′ next′ : List ℕ) (o : Outcome) → fault ≡ 0
+      → RowMoved entry row₀ (tablesOf (controlOf ws′) lefts′ rights′ labels′ marks′ next′) row′ o
+      → Steps ws′ (set rows task row′) lefts′ rights′ labels′ marks′ next′ o
+  unfolding act actOn rowsFit lengthsFit
+  stepped ws′ row′ lefts′ rights′ labels′ marks′ next′ o f moved =
+      let left = moved .0 ∙ ap (moveOn entry) (record-read rows task) ∙ admitted entry (among queue task) r₀ f in (
+        rw (record-put rows task row′) (ap (back queue task) left),
+        upper-put rows task row′ ∙ ap (set (uppersOf rows) task) (moved .1)
+            ∙ kept-upper (endsCall o),
+      )

@@ -1,5 +1,7 @@
 //! Control and records as rows of words, as C lends them: the one place that knows which word is which
 //! field. To C a control is a struct of so many words, and so is a record.
+pub mod moving;
+
 use model::Control;
 use model::Outcome;
 use model::Record;
@@ -13,6 +15,7 @@ ghost use Rattle.model.specs.Tables.{unused, zeroed};
 ghost use Rattle.model.specs.Calls.{Done, act};
 ghost use Rattle.model.specs.Ends.{endsCall, isMoved};
 ghost use Rattle.engine.specs.Stored.{controlMoved, recordMoved, controlAfter, recordAfter};
+ghost use Rattle.engine.specs.Stored.{anchorMoved, callMoved, anchorAfter, callAfter};
 ghost use Rattle.rows.specs.Rows.{controlOf, callOf, recordOf, recordsOf, upperOf, uppersOf, queueIn, withCallAt, withActedAt};
 
 /// The words of a control.
@@ -49,6 +52,13 @@ pub fn control_moved(row: [u64; CONTROL_WORDS], c: Control) -> [u64; CONTROL_WOR
     ensures { λ after. ⌜ controlOf after ≡ controlMoved (controlOf row) c ⌝ }
 {
     [row[0], row[1], c.anchor, row[3], c.head]
+}
+
+/// The same after a step at 1 to 10, which leaves the head.
+fn anchor_moved(row: [u64; CONTROL_WORDS], c: Control) -> [u64; CONTROL_WORDS]
+    ensures { λ after. ⌜ controlOf after ≡ anchorMoved (controlOf row) c ⌝ }
+{
+    [row[0], row[1], c.anchor, row[3], row[4]]
 }
 
 /// The call that a row holds.
@@ -112,6 +122,25 @@ pub fn record_moved(row: [u64; RECORD_WORDS], r: Record, retries: u64) -> [u64; 
         row[2],
         r.own,
         word,
+        r.seen,
+        r.neighbour,
+        r.link,
+        r.finishing,
+        retries,
+    ]
+}
+
+/// The same after a step at 1 to 10, which leaves the own slot and the label's word.
+fn call_moved(row: [u64; RECORD_WORDS], r: Record, retries: u64) -> [u64; RECORD_WORDS]
+    ensures { λ after.
+        ⌜ (recordOf after ≡ record { call = callMoved (callOf row) r; retries = retries }) × (upperOf after ≡ upperOf row) ⌝ }
+{
+    [
+        r.place,
+        row[1],
+        row[2],
+        row[3],
+        row[4],
         r.seen,
         r.neighbour,
         r.link,
@@ -251,9 +280,13 @@ pub fn step(
     if why != 0 {
         return engine::refuse(why);
     }
-    let row = records[task];
-    let r = call_of(row);
-    let m = engine::move_on(c, r, lefts, rights, labels, marks, next);
-    store(control, &mut records[task], m);
-    m.outcome
+    moving::move_row(
+        control,
+        &mut records[task],
+        lefts,
+        rights,
+        labels,
+        marks,
+        next,
+    )
 }

@@ -1,10 +1,12 @@
 -- The field at the head of some bytes. (Document 01: The run file and its trace.)
 use Prim.Native.Nat.{ℕ, _+_, _*_}
+use mathlib.Core.Path.{_≡_}
 use mathlib.Core.Bool.{Bool, _&&_, _||_, cond}
 use mathlib.Core.List.{List}
 use lib.ListN.{length, getD, drop}
 use lib.Dec.{ltb, leb, eqb}
 use Rattle.model.specs.declared.Op.the-variants.{Push, Pop, Put, Step}
+use Rattle.model.specs.Refusals.{malformed}
 use Rattle.runfile.specs.declared.Field.{Field}
 use Rattle.runfile.specs.declared.Field.the-variants.{Open, Each, Malformed, Cut, End}
 use Rattle.runfile.specs.declared.Found.{Found}
@@ -33,6 +35,17 @@ contentOf tag len b =
     (cond (eqb tag 6) (Each (Put (getD b 1 0) (fourAt b 2)) 1)
     (Each Step len))))
 
+-- The number of a field: its tag, or that of the refusal; 0 where no field is there.
+abbrev pub fieldNumber : Field → ℕ
+fieldNumber (Open pooled tasks slots tag) = cond pooled 5 1
+fieldNumber (Each (Push side slot label) n) = 2
+fieldNumber (Each (Pop side) n) = 3
+fieldNumber (Each Step n) = 4
+fieldNumber (Each (Put side label) n) = 6
+fieldNumber Malformed = malformed
+fieldNumber Cut = 0
+fieldNumber End = 0
+
 -- Where there is no whole field.
 abbrev pub missing : Field → Found
 missing f = record { field = f; size = 0 }
@@ -47,3 +60,7 @@ fieldOf opened b =
     (cond (formed opened tag len)
     (cond (ltb (length b) (3 + len)) (missing Cut) (record { field = contentOf tag len (drop 3 b); size = 3 + len }))
     (missing Malformed)))
+
+-- A whole field has the number that its tag byte names.
+abbrev pub Numbered : Type 0
+Numbered = (opened : Bool) (b : List ℕ) → (fieldOf opened b .size ≡ 0 → ⊥) → fieldNumber (fieldOf opened b .field) ≡ getD b 0 0

@@ -59,9 +59,11 @@ pub record Cases : Type 0 where
   pub short-records : why (lane 3 5 astray 0 (pop ∷ pop ∷ [])) memory ≡ 12
   pub control-first : why (lane 17 5 astray 0 []) [] ≡ 34
   -- Two pops on an empty queue.
-  pub pops : schedules (lane 2 0 links 0 (pop ∷ pop ∷ [])) 2 ≡ record { steps = 0 ∷ 1 ∷ []; ending = 0 } ∷ record { steps = 1 ∷ 0 ∷ []; ending = 0 } ∷ []
+  pub pops : schedules (lane 2 0 links 0 (pop ∷ pop ∷ [])) 2 ≡ record { steps = 0 ∷ 1 ∷ []; ending = 0 }
+      ∷ record { steps = 1 ∷ 0 ∷ []; ending = 0 } ∷ []
   -- A step is refused: as the last of those to go too, where a call unanswered is else cut.
-  pub refused : schedules (lane 2 0 links 0 (damaged ∷ pop ∷ [])) 2 ≡ record { steps = 0 ∷ []; ending = 2 } ∷ record { steps = 1 ∷ 0 ∷ []; ending = 2 } ∷ []
+  pub refused : schedules (lane 2 0 links 0 (damaged ∷ pop ∷ [])) 2 ≡ record { steps = 0 ∷ []; ending = 2 }
+      ∷ record { steps = 1 ∷ 0 ∷ []; ending = 2 } ∷ []
   pub cut : schedules (lane 2 0 links 0 (damaged ∷ pop ∷ [])) 1 ≡ record { steps = 0 ∷ []; ending = 2 } ∷ record { steps = 1 ∷ []; ending = 1 } ∷ []
 
 pub cases : Cases

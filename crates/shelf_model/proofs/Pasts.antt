@@ -18,7 +18,7 @@ use Rattle.model.proofs.tests.Truth.{not-both}
 use Rattle.model.proofs.laws.Sizes.{act-pooled, act-tasks, fits}
 use Rattle.model.proofs.Openings.{after-opening}
 use Rattle.model.proofs.Linearizable.{linearizable}
-use Rattle.model.proofs.NeverUnsound.{never-unsound}
+use Rattle.model.proofs.Never34.{never-34}
 use Rattle.model.proofs.Standing.{Standing, standing}
 use Rattle.shelf_model.specs.Cut.{cut}
 use Rattle.shelf_model.specs.Changeovers.{Explained, Past, True}
@@ -106,7 +106,7 @@ module _ (p : Past) (q : Queue) (h : Explained p q) where
   pub operations-sound : All (λ (e : Event). e .outcome ≡ Refused 34 → ⊥) (p .events)
   operations-sound =
       subst (λ (es : List Event). All (λ (e : Event). e .outcome ≡ Refused 34 → ⊥) es) (sym (t .events))
-      (past-has NeverUnsound (never-unsound (t .pooled)) .operations)
+      (past-has NeverUnsound (never-34 (t .pooled)) .operations)
 
   pub counts : retriesBelow q (q .tables .control .tasks) ≡ retriesBelow now (now .tables .control .tasks)
   counts =

@@ -131,35 +131,3 @@ module _ (slots : ℕ) (r : Record) where
   unfolding callSound
   beyond true low = refl
   beyond false low = rw (lt-leb (r .place) 11 low)
-
--- Beyond place 10.
-module _ (pooled : Bool) (slots : ℕ) (r : Record) where
-  skip : (k o : Bool) → (leb (r .finishing) 1 && (k && (eqb (r .finishing) 0 && o))) ≡ (k && (eqb (r .finishing) 0 && o))
-  skip true o = zero-most (r .finishing) o
-  skip false o = simp and-false
-
-  -- At 11 a pop, or nothing sound.
-  pub at-eleven : r .place ≡ 11 → (leb (r .side) 1 && eqb (r .kind) 1 && eqb (r .finishing) 0 && eqb (r .own) 0) ≡ callSound pooled slots r
-  at-eleven at = simp and-assoc (by-kind (eqb (r .kind) 0) refl)
-    where
-      low : r .place ≤ 11
-      low = omega arith
-
-      by-kind : (push : Bool) → eqb (r .kind) 0 ≡ push
-          → (leb (r .side) 1 && (eqb (r .kind) 1 && (eqb (r .finishing) 0 && eqb (r .own) 0))) ≡ callSound pooled slots r
-      by-kind true e =
-          let zero : r .kind ≡ 0 = eqb-true _ _ e in
-          rw (ne-eqb (r .kind) 1 (λ x. omega (arith, x)), ← at-push slots r pooled low zero, eq-eqb (r .place) 11 at) (simp and-false)
-      by-kind false e =
-          ap (λ (b : Bool). leb (r .side) 1 && b) (sym (skip (eqb (r .kind) 1) (eqb (r .own) 0)))
-          ∙ (simp and-assoc at (at-other slots r pooled low (eqb-false _ _ e)))
-
-  -- No push is helped: what is read is sound by itself.
-  pub reads-late : 10 < r .place
-      → ((leb (r .neighbour) slots && linkSound slots (r .link)) && anchorSound slots (anchorOf (r .seen))) ≡ readsSound slots r
-  unfolding readsSound
-  reads-late late = rw (lt-leb (r .place) 10 late) (simp (and-false, and-true, and-assoc))
-
-  pub late-parts : (call reads : Bool) → 10 < r .place → call ≡ callSound pooled slots r → reads ≡ readsSound slots r
-      → (call && reads) ≡ recordSound pooled slots r
-  late-parts call reads late e f = rw (e, f) (busy-sound pooled slots r (ne-eqb (r .place) 0 (λ x. omega (arith, x))))

@@ -4,6 +4,7 @@ use mathlib.Core.Bool.{Bool, true, false, _&&_, _||_, not, cond, and-assoc}
 use mathlib.Core.List.{[], _∷_}
 use Prim.Native.Nat.{ℕ}
 use lib.Dec.{leb, eqb}
+use Rattle.word.specs.declared.Anchor.{Anchor}
 use Rattle.word.specs.Anchor.{anchorOf}
 use Rattle.word.specs.Link.{linkOf}
 use Rattle.model.specs.declared.Record.{Record}
@@ -33,6 +34,19 @@ readsSound slots r =
     ∷ anchorSound slots (anchorOf (r .seen))
     ∷ (not (helping r) || not (eqb (anchorOf (r .seen) .status) 0))
     ∷ [])
+
+-- The tests of a record at 1 to 10 of its kind, own slot and finishing, and of the Anchor word that it has read.
+unfoldable pub earlyCall : ℕ → Record → Bool
+earlyCall slots r =
+    cond (isPush r)
+    (from1 slots (r .own) && (eqb (r .finishing) 0 || (eqb (r .finishing) 1 && leb 5 (r .place))))
+    (isPop r && (eqb (r .own) 0 && eqb (r .finishing) 0))
+
+unfoldable pub earlySeen : ℕ → ℕ → Anchor → Bool
+earlySeen slots place a =
+    cond (eqb (a .left) (a .right))
+    (not (leb 5 place) && (eqb (a .status) 0 && leb (a .left) slots))
+    (from1 slots (a .left) && (from1 slots (a .right) && cond (leb 5 place) (from1 2 (a .status)) (leb (a .status) 2)))
 
 -- A test that stands fourth from the end is made first.
 moved : (h n l a s : Bool) → (h && (n && (l && (a && s)))) ≡ (n && (l && (h && (a && s))))

@@ -4,12 +4,12 @@ use model::Record;
 use word::Anchor;
 use word::Link;
 ghost use mathlib.Core.Path.{_≡_};
-ghost use mathlib.Core.Bool.{true};
-ghost use Prim.Native.Nat.{_<_};
+ghost use mathlib.Core.Bool.{Bool, true};
+ghost use Prim.Native.Nat.{_<_, _≤_};
 ghost use Rattle.word.specs.Anchor.{anchorOf};
 ghost use Rattle.model.specs.Sound.{from1, anchorSound, linkSound, controlSound, recordSound};
 ghost use Rattle.sound.specs.Lengths.{lengthsFit};
-ghost use Rattle.sound.specs.Parts.{callSound, readsSound};
+ghost use Rattle.sound.specs.Parts.{callSound, readsSound, earlyCall, earlySeen};
 
 /// Whether x is 1 to n.
 pub fn from1(n: u64, x: u64) -> bool
@@ -32,13 +32,18 @@ pub fn anchor_sound(slots: u64, w: u64) -> bool
     (a.status <= 2) & left & right
 }
 
-/// No set bit in 31 to 15, no slot above slots.
+// The lower half of a word is below this.
+const HALF: u64 = 4294967296;
+
+/// No set bit in 31 to 15, no slot above slots: as one number the lower half is no more than either.
 pub fn link_sound(slots: u64, w: u64) -> bool
     ensures { λ r. ⌜ r ≡ linkSound slots w ⌝ }
 {
-    let spare = Link::spare(w);
-    let link = Link::unpack(w);
-    (spare == 0) & (link.slot <= slots)
+    let half = w % HALF;
+    if slots < Link::SLOT_MASK {
+        return half <= slots;
+    }
+    half <= Link::SLOT_MASK
 }
 
 pub fn control_sound(c: Control) -> bool
@@ -104,19 +109,66 @@ pub fn record_sound(pooled: bool, slots: u64, r: Record) -> bool
     (r.place == 0) | (call & reads)
 }
 
-/// The same of a record beyond place 10, where no push is helped. A step tests this apart, so that the
-/// places up to 10 don't carry it.
-pub fn late_sound(pooled: bool, slots: u64, r: Record) -> bool
-    ensures { λ b. ⌜ (10 < r .place → b ≡ recordSound pooled slots r) ⌝ }
+/// Kind, own slot and finishing of a record at 1 to 10.
+fn early_call(slots: u64, r: Record) -> bool
+    ensures { λ b. ⌜ b ≡ earlyCall slots r ⌝ }
 {
-    let link = link_sound(slots, r.link);
-    let seen = anchor_sound(slots, r.seen);
-    let reads = (r.neighbour <= slots) & link & seen;
-    if 11 < r.place {
-        let pool = pool_sound(slots, r);
-        return pooled & pool & reads;
+    if r.kind == 0 {
+        if !from1(slots, r.own) {
+            return false;
+        }
+        if r.finishing == 0 {
+            return true;
+        }
+        return (r.finishing == 1) & (5 <= r.place);
     }
-    (r.side <= 1) & (r.kind == 1) & (r.finishing == 0) & (r.own == 0) & reads
+    if r.kind != 1 {
+        return false;
+    }
+    (r.own == 0) & (r.finishing == 0)
+}
+
+/// Anchor as read of a record at 1 to 10: unstable from 5 on.
+fn early_seen(slots: u64, r: Record) -> bool
+    ensures { λ b. ⌜ b ≡ earlySeen slots (r .place) (anchorOf (r .seen)) ⌝ }
+{
+    let a = Anchor::unpack(r.seen);
+    if a.left == a.right {
+        if 5 <= r.place {
+            return false;
+        }
+        return (a.status == 0) & (a.left <= slots);
+    }
+    if !from1(slots, a.left) {
+        return false;
+    }
+    if !from1(slots, a.right) {
+        return false;
+    }
+    if 5 <= r.place {
+        return from1(2, a.status);
+    }
+    a.status <= 2
+}
+
+/// The same of a busy record at 1 to 10, one test after the other: a step asks it before all else, and
+/// nearly always to be told yes.
+pub fn early_sound(slots: u64, r: Record) -> bool
+    ensures { λ b. ⌜ ((pooled : Bool) → 0 < r .place → r .place ≤ 10 → b ≡ recordSound pooled slots r) ⌝ }
+{
+    if 1 < r.side {
+        return false;
+    }
+    if slots < r.neighbour {
+        return false;
+    }
+    if !link_sound(slots, r.link) {
+        return false;
+    }
+    if !early_call(slots, r) {
+        return false;
+    }
+    early_seen(slots, r)
 }
 
 /// Whether tables of these lengths have rows 0 to slots and the mark words for them. The next table
@@ -133,9 +185,17 @@ pub fn rows_fit(
     ensures { λ r. ⌜ r ≡ lengthsFit pooled slots lefts rights labels marks next ⌝ }
 {
     let last = slots as usize;
-    (last < lefts)
-        & (last < rights)
-        & (last < labels)
-        & (last / 64 < marks)
-        & (!pooled | (last < next))
+    if lefts <= last {
+        return false;
+    }
+    if rights <= last {
+        return false;
+    }
+    if labels <= last {
+        return false;
+    }
+    if marks <= last / 64 {
+        return false;
+    }
+    !pooled | (last < next)
 }

@@ -15,7 +15,7 @@ use Rattle.model.specs.Tables.{Queue, atPlace, isPooled, recordAt}
 use Rattle.model.specs.History.{All, Call, Effect, Ending, Ledger, answered, isOpen, pending}
 use Rattle.model.proofs.tests.ByPlace.{by-place}
 use Rattle.model.proofs.tests.Truth.{by-test, decide-eq, not-both, split}
-use Rattle.model.proofs.machine.Clerk as B
+use Rattle.model.proofs.machine.Book as B
 use Rattle.model.proofs.machine.Machine as M
 use Rattle.model.proofs.invariant.Owners.{Owner}
 use Rattle.model.proofs.invariant.Tasks.{Stage, Task}

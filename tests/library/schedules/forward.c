@@ -1,22 +1,14 @@
 /*
  * zc_next_schedule handed on to a shared object, named by ZC_OBJECT; schedule_faults.sh alone uses it.
  */
+#include "../forward.h"
 #include "zeppolecape.h"
-
-#include <dlfcn.h>
-#include <stdio.h>
-#include <stdlib.h>
 
 static __typeof__(zc_next_schedule) *call;
 
 __attribute__((constructor)) static void load(void)
 {
-    const char *name = getenv("ZC_OBJECT");
-    void *object = name == NULL ? NULL : dlopen(name, RTLD_NOW | RTLD_LOCAL);
-    if (object == NULL) {
-        fprintf(stderr, "ZC_OBJECT: %s\n", name == NULL ? "not set" : dlerror());
-        exit(2);
-    }
+    void *object = load_object();
     *(void **)&call = dlsym(object, "zc_next_schedule");
 }
 

@@ -128,7 +128,7 @@ unsafe extern "C" {
     ) -> Reply;
 
     /// Steps a task until a step does not answer running, `most` times at the most.
-    /// Refuses as [`zc_step`].
+    /// Refuses as [`zc_step`], and nothing with `most` 0.
     pub fn zc_run(
         control: *mut Control,
         records: *mut Record,
@@ -147,7 +147,7 @@ unsafe extern "C" {
         next_count: usize,
     ) -> RunReply;
 
-    /// Reports; of the records it looks at the places alone.
+    /// Reports; of the records it looks at places and counts.
     /// Refuses: 34 for control, 12, 34 for the walk.
     pub fn zc_report(
         control: *const Control,
@@ -183,7 +183,7 @@ unsafe extern "C" {
 
     /// Opens a queue, a named one if `pooled` is 0, and carries out a list of requests, five words
     /// each, with three words for each answer.
-    /// Refuses: 10, 11, 12.
+    /// Refuses: 10, 11, 12, and then carries out none.
     pub fn zc_serve(
         control: *mut Control,
         records: *mut Record,
@@ -208,7 +208,8 @@ unsafe extern "C" {
         next_count: usize,
     ) -> ServeReply;
 
-    /// Joins two queues at rest in a third that is fresh.
+    /// Joins two queues at rest in a third that is fresh. Answers 0, or refuses: 34 for the three
+    /// controls, 12, 34 for the two walks, 47, 48, 33.
     pub fn zc_join(
         first: *const Control,
         first_records: *const Record,
@@ -242,7 +243,7 @@ unsafe extern "C" {
     ) -> u32;
 
     /// The same step on one lent record, which need not lie among the others.
-    /// Refuses: 34 for control, 12 (rows and marks only), 34 for the record, 31, 34 for what the step
+    /// Refuses: 34 for control, 12 (not for records), 34 for the record, 31, 34 for what the step
     /// touches.
     pub fn zc_step_record(
         control: *mut Control,

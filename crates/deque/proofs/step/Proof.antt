@@ -22,8 +22,10 @@ use prog.Wp.{Heap, Calls, Loops, WpFn, Tables as Program}
 use ghost.Atoms.{Atoms}
 use contract.Monad.{Fun}
 use contract.Running.{givenOf, tables, tablesOf}
-use types.Kit.{Given, Item, ‵, _⊛_, ⋆, post, atRet, _$_, _∵_, !, qed, by, move, keep, drop, use1, split, join, fsplit, fsplit3, fjoin, fjoin3, feqI, suffices, frame, done}
-use types.Run.{look, look-raw, init, store, store-raw, stop, hop, fld, from, load, lit, addr, bin, of-opd, and-then, no-more, assigns, first, branches, skips, exec, returns, returns-within, enter, params1, pass1, pass0}
+use types.Kit.{Given, Item, ‵, _⊛_, ⋆, post, atRet, _$_, _∵_, !, qed, by, move, keep, drop, use1, split, join, fsplit, fsplit3, fjoin}
+use types.Kit.{fjoin3, feqI, suffices, frame, done}
+use types.Run.{look, look-raw, init, store, store-raw, stop, hop, fld, from, load, lit, addr, bin, of-opd, and-then, no-more, assigns}
+use types.Run.{first, branches, skips, exec, returns, returns-within, enter, params1, pass1, pass0}
 use types.Part.{agg, whole, sub, look-in}
 use sound.WpLaws.{FmC, fmOf, WpFn-mono}
 use denote.RattleType.{owns}
@@ -44,7 +46,8 @@ use denote.Triple.Statement.{Triple}
 use denote.Triple.Entry.{onEntry}
 use denote.Triple.Spec.{Meets, tripleOf}
 use denote.Triple.Table.{entered, cited}
-use denote.Triple.Walked.{says, Stays, walkOf, Walks, ends-at, walked, walk-meets, stay-ref, goes-ref, stay-slice, goes-slice, stay-none, goes-none, gave-slice, goes-gave-slice}
+use denote.Triple.Walked.{says, Stays, walkOf, Walks, ends-at, walked, walk-meets, stay-ref, goes-ref, stay-slice, goes-slice, stay-none}
+use denote.Triple.Walked.{goes-none, gave-slice, goes-gave-slice}
 use denote.Exit.{yes}
 use Rattle.model.specs.declared.Control.{Control}
 use Rattle.model.specs.declared.TaskRecord.{TaskRecord}
@@ -59,7 +62,8 @@ use Rattle.model.specs.Calls.{Done, back, act, actOn}
 use Rattle.sound.specs.Lengths.{lengthsFit}
 use Rattle.engine.specs.Parts.{moveOn}
 use Rattle.engine.proofs.Whole.{turned-away, admitted, task-there}
-use Rattle.deque.proofs.Walk.{control-value, record-value, outcome-value, slice-value, kept, var, part, lets, receive, valued, fails, fits-scaled, gives-up}
+use Rattle.deque.proofs.Walk.{control-value, record-value, outcome-value, slice-value, kept, var, part, lets, receive, valued, fails}
+use Rattle.deque.proofs.Walk.{fits-scaled, gives-up}
 use Rattle.deque.proofs.Admission.{Admit, Refuse, reason, admits, refuses}
 use Rattle.deque.proofs.Engine.{Five, tabled, unwritten, Lengths, Leaves, Move, slices, returned, moves}
 use Rattle.deque.proofs.Stored.{control-of, task-of, outcome-of}
@@ -113,7 +117,8 @@ stayed = (
 )
 
 module _ {M : Type 1} (𝓤 : URA M) (H : Heap 𝓤) (A : Atoms 𝓤) (W : Given 𝓤 H A) (at-mem : Memory → SProp 𝓤) (run : Routine → Fun 𝓤)
-    (κc κr κ1 κ2 κ3 κ4 κ5 : Lft) (qc qr q1 q2 q3 q4 q5 : Share) (xc : RefT Control) (xr : RefT (List TaskRecord)) (task : ℕ) (task-fits : task < 2 ^ 64)
+    (κc κr κ1 κ2 κ3 κ4 κ5 : Lft) (qc qr q1 q2 q3 q4 q5 : Share) (xc : RefT Control) (xr : RefT (List TaskRecord)) (task : ℕ)
+    (task-fits : task < 2 ^ 64)
     (x1 x2 x3 x4 x5 : RefT (List ℕ)) where
   -- what is lent, at entry
   abbrev c : Control
@@ -197,12 +202,14 @@ module _ {M : Type 1} (𝓤 : URA M) (H : Heap 𝓤) (A : Atoms 𝓤) (W : Given
   abbrev lent : List (Item 𝓤)
   lent =
       (‵ (flft κc qc) ⊛ ‵ (flft κr qr) ⊛ ‵ (flft κ1 q1) ⊛ ‵ (flft κ2 q2) ⊛ ‵ (flft κ3 q3) ⊛ ‵ (flft κ4 q4) ⊛ ‵ (flft κ5 q5) ⊛ ‵ ftrue)
-      ∷ ‵ (owns (MutRef (named 0) κc K.the-row ∷ MutSlice (named 1) κr T.the-row ∷ usize ∷ MutSlice (named 2) κ1 u64 ∷ MutSlice (named 3) κ2 u64 ∷ MutSlice (named 4) κ3 u32 ∷ MutSlice (named 5) κ4 u64 ∷ MutSlice (named 6) κ5 u64 ∷ []) a vals)
+      ∷ ‵ (owns (MutRef (named 0) κc K.the-row ∷ MutSlice (named 1) κr T.the-row ∷ usize ∷ MutSlice (named 2) κ1 u64 ∷ MutSlice (named 3) κ2 u64
+      ∷ MutSlice (named 4) κ3 u32 ∷ MutSlice (named 5) κ4 u64 ∷ MutSlice (named 6) κ5 u64 ∷ []) a vals)
       ∷ []
 
   abbrev leaving : Control → List TaskRecord → Five (List ℕ) → List (Item 𝓤)
   leaving z zr ls =
-      ‵ (MutRef (named 0) κc K.the-row .own (kept xc z) (pc ∷ [])) ∷ ‵ (MutSlice (named 1) κr T.the-row .own (kept xr zr) (s ∷ [])) ∷ ‵ (flft κc qc) ∷ ‵
+      ‵ (MutRef (named 0) κc K.the-row .own (kept xc z) (pc ∷ [])) ∷ ‵ (MutSlice (named 1) κr T.the-row .own (kept xr zr) (s ∷ []))
+      ∷ ‵ (flft κc qc) ∷ ‵
       (flft κr qr) ∷ returned 𝓤 κs qs xs ls []
 
   -- out of the function, at what is lent then holds
@@ -211,10 +218,13 @@ module _ {M : Type 1} (𝓤 : URA M) (H : Heap 𝓤) (A : Atoms 𝓤) (W : Given
       → ent 𝓤 (⋆ 𝓤 H A (leaving z zr ls)) (Post w)
   exits r′ w z zr ls e e0 eqs g =
       qed W (leaving z zr ls) ∵
-      suffices ! _ (ends-at 𝓤 H A self.ended stayed (self.clauses 𝓤 H A at-mem run) W bound w r′ (z, (zr, (tt, ls))) (tt, (e0, (tt, (eqs .0, (eqs .1, (eqs .2, (eqs .3, (eqs .4, tt))))))))) $
-      says ! e $ move ! (3 ∷ 4 ∷ []) $ join ! $ move ! (3 ∷ 0 ∷ []) $ join ! $ frame ! $ nothing ! $ move ! (3 ∷ 0 ∷ []) $ fjoin ! $ move ! (3 ∷ 0 ∷ []) $
+      suffices ! _ (ends-at 𝓤 H A self.ended stayed (self.clauses 𝓤 H A at-mem run) W bound w r′ (z, (zr, (tt, ls)))
+      (tt, (e0, (tt, (eqs .0, (eqs .1, (eqs .2, (eqs .3, (eqs .4, tt))))))))) $
+      says ! e $ move ! (3 ∷ 4 ∷ []) $ join ! $ move ! (3 ∷ 0 ∷ []) $ join ! $ frame ! $ nothing ! $ move !
+      (3 ∷ 0 ∷ []) $ fjoin ! $ move ! (3 ∷ 0 ∷ []) $
       fjoin ! $ move ! (3 ∷ 0 ∷ []) $ fjoin ! $
-      move ! (3 ∷ 0 ∷ []) $ fjoin ! $ move ! (3 ∷ 0 ∷ []) $ fjoin ! $ owned ! usize (Is usize) (uint-makes 𝓤 H A W w64) task _ (refl, task-fits) $ fjoin ! $
+      move ! (3 ∷ 0 ∷ []) $ fjoin ! $ move ! (3 ∷ 0 ∷ []) $ fjoin ! $ owned ! usize (Is usize) (uint-makes 𝓤 H A W w64) task _
+      (refl, task-fits) $ fjoin ! $
       move ! (2 ∷ 0 ∷ []) $ fjoin ! $ move ! (1 ∷ 0 ∷ []) $ fjoin ! $
       owned ! E.the-row (Is E.the-row) (EL.makes E.the-type E′.the-plain 𝓤 H A) r′ _ g $ move ! (1 ∷ 0 ∷ []) $ done !
 
@@ -224,7 +234,8 @@ module _ {M : Type 1} (𝓤 : URA M) (H : Heap 𝓤) (A : Atoms 𝓤) (W : Given
       full (outcome-value (m .outcome)) ∷ full pc ∷ full s ∷ full (vint w64 task) ∷ full (slice-value x1) ∷ full (slice-value x2) ∷ full
       (slice-value x3) ∷ full (slice-value x4) ∷ full (slice-value x5)
       ∷ full (vint w64 n) ∷ full (control-value c) ∷ full (vint w32 why) ∷ full pr ∷ full (record-value r) ∷ full (LL.val N.the-type N′.the-laws m)
-      ∷ full (vint w64 (task * 80)) ∷ full (vint w64 (length (x2 .now))) ∷ full (vint w64 (length (x3 .now))) ∷ full (vint w64 (length (x4 .now))) ∷ full
+      ∷ full (vint w64 (task * 80)) ∷ full (vint w64 (length (x2 .now))) ∷ full (vint w64 (length (x3 .now)))
+      ∷ full (vint w64 (length (x4 .now))) ∷ full
       (vint w64 (length (x5 .now)))
       ∷ full (vbool (not (eqb why 0))) ∷ full pr
       ∷ full (vptr (x1 .ptr .0) (x1 .ptr .1)) ∷ full (slice-value x1) ∷ full (vptr (x2 .ptr .0) (x2 .ptr .1)) ∷ full (slice-value x2) ∷ full
@@ -233,26 +244,33 @@ module _ {M : Type 1} (𝓤 : URA M) (H : Heap 𝓤) (A : Atoms 𝓤) (W : Given
       ∷ []
 
   module _ (C : Calls 𝓤 H) (Λ : Loops 𝓤 H) where
-    module _ (fm : FmC 𝓤 H (W .laws) C) (known-admit : Triple 𝓤 (C #engine·admit) (Admit 𝓤 H A at-mem run)) (known-refuse : Triple 𝓤 (C #engine·refuse) (Refuse 𝓤 H A at-mem run))
+    module _ (fm : FmC 𝓤 H (W .laws) C) (known-admit : Triple 𝓤 (C #engine·admit) (Admit 𝓤 H A at-mem run))
+        (known-refuse : Triple 𝓤 (C #engine·refuse) (Refuse 𝓤 H A at-mem run))
         (known : Triple 𝓤 (C #deque·move-on) (Move 𝓤 H A moveOn)) where
       walk : Room T.the-row n → Room u64 (length (x1 .now)) → Room u64 (length (x2 .now)) → Room u32 (length (x3 .now)) → Room u64 (length (x4 .now))
           → Room u64 (length (x5 .now))
-          → ent 𝓤 (onEntry 𝓤 H A self.signature (κc, (κr, κs)) (qc, (qr, qs)) a vals) (WpFn 𝓤 H C Λ code.function (pc ∷ s ∷ vint w64 task ∷ slice-value x1 ∷ slice-value x2 ∷ slice-value x3 ∷ slice-value x4 ∷ slice-value x5 ∷ []) Post)
+          → ent 𝓤 (onEntry 𝓤 H A self.signature (κc, (κr, κs)) (qc, (qr, qs)) a vals)
+          (WpFn 𝓤 H C Λ code.function (pc ∷ s ∷ vint w64 task ∷ slice-value x1 ∷ slice-value x2 ∷ slice-value x3 ∷ slice-value x4
+          ∷ slice-value x5 ∷ []) Post)
       walk room room1 room2 room3 room4 room5 =
           qed W lent ∵
-          enter ! C Λ code.function (pc ∷ s ∷ vint w64 task ∷ slice-value x1 ∷ slice-value x2 ∷ slice-value x3 ∷ slice-value x4 ∷ slice-value x5 ∷ []) _ $
+          enter ! C Λ code.function (pc ∷ s ∷ vint w64 task ∷ slice-value x1 ∷ slice-value x2 ∷ slice-value x3 ∷ slice-value x4
+          ∷ slice-value x5 ∷ []) _ $
           allocates ! (λ bs. params1 ! $
           pass1 ! (init ! 2 refl (tt, tt)) $ pass1 ! (init ! 4 refl (tt, (tt, (record { fits = room .0 }, tt)))) $
           pass1 ! (init ! 6 refl (tt, record { fits = task-fits })) $
-          pass1 ! (init ! 8 refl (tt, (tt, (record { fits = room1 .0 }, tt)))) $ pass1 ! (init ! 10 refl (tt, (tt, (record { fits = room2 .0 }, tt)))) $
-          pass1 ! (init ! 12 refl (tt, (tt, (record { fits = room3 .0 }, tt)))) $ pass1 ! (init ! 14 refl (tt, (tt, (record { fits = room4 .0 }, tt)))) $
+          pass1 ! (init ! 8 refl (tt, (tt, (record { fits = room1 .0 }, tt)))) $ pass1 !
+          (init ! 10 refl (tt, (tt, (record { fits = room2 .0 }, tt)))) $
+          pass1 ! (init ! 12 refl (tt, (tt, (record { fits = room3 .0 }, tt)))) $ pass1 !
+          (init ! 14 refl (tt, (tt, (record { fits = room4 .0 }, tt)))) $
           pass1 ! (init ! 16 refl (tt, (tt, (record { fits = room5 .0 }, tt)))) $ pass0 ! $
           -- the control is opened
           move ! (65 ∷ []) $ fsplit ! $ fsplit3 ! $ drop ! $
           move ! (67 ∷ []) $ split ! $
           move ! (2 ∷ 3 ∷ 0 ∷ []) $
           opens ! tt K.the-row {h = c} (xc .ptr .0) (xc .ptr .1)
-          (λ vK. spelt ! K.the-row (Is K.the-row) (shows 𝓤 H A K.the-row) (LL.vals K.the-type K′.the-laws) (LL.tells K.the-type K′.the-laws) fullShare c vK
+          (λ vK. spelt ! K.the-row (Is K.the-row) (shows 𝓤 H A K.the-row) (LL.vals K.the-type K′.the-laws)
+          (LL.tells K.the-type K′.the-laws) fullShare c vK
           (xc .ptr .0) (xc .ptr .1) $
           move ! (1 ∷ []) $ facts ! K.the-row (Is K.the-row) (shows 𝓤 H A K.the-row) c (control-value c ∷ []) (λ gc.
           -- [cellc; oborc; obsc; authc; toks; rest; local i at position 6 + 2 i]
@@ -265,8 +283,15 @@ module _ {M : Type 1} (𝓤 : URA M) (H : Heap 𝓤) (A : Atoms 𝓤) (W : Given
           lets ! (of-opd ! (part ! 20 1 refl refl refl)) (init ! 42 refl (tt, record { fits = room4 .0 })) $
           lets ! (of-opd ! (part ! 22 1 refl refl refl)) (init ! 44 refl (tt, record { fits = room5 .0 })) $
           -- whether the step is admitted
-          admits ! at-mem run c n task (length (x1 .now), (length (x2 .now), (length (x3 .now), (length (x4 .now), (length (x5 .now), tt))))) fm known-admit gc (room .0) task-fits (room1 .0, room2 .0, room3 .0, room4 .0, room5 .0)
-          (and-then ! (var ! 27 refl) (and-then ! (var ! 25 refl) (and-then ! (var ! 13 refl) (and-then ! (var ! 37 refl) (and-then ! (var ! 39 refl) (and-then ! (var ! 41 refl) (and-then ! (var ! 43 refl) (and-then ! (var ! 45 refl) (no-more !))))))))) (λ w-why why e-why is-why.
+          admits ! at-mem run c n task (
+            length (x1 .now),
+            (length (x2 .now), (length (x3 .now), (length (x4 .now), (length (x5 .now), tt)))),
+          ) fm known-admit gc (room .0) task-fits
+          (room1 .0, room2 .0, room3 .0, room4 .0, room5 .0)
+          (and-then ! (var ! 27 refl) (and-then ! (var ! 25 refl)
+          (and-then ! (var ! 13 refl) (and-then ! (var ! 37 refl)
+          (and-then ! (var ! 39 refl) (and-then ! (var ! 41 refl) (and-then ! (var ! 43 refl) (and-then ! (var ! 45 refl) (no-more !)))))))))
+          (λ w-why why e-why is-why.
           receive ! 28 refl (uint-lawful 𝓤 H A W w32 .typed why _ is-why .0) (ap only (is-why .0)) $
           lets ! (bin ! (var ! 28 refl) (lit ! tt) tt) (init ! 46 refl (tt, tt)) $
           first ! $ branches ! (var ! 46 refl)
@@ -278,7 +303,9 @@ module _ {M : Type 1} (𝓤 : URA M) (H : Heap 𝓤) (A : Atoms 𝓤) (W : Given
           move ! (1 ∷ 0 ∷ 2 ∷ 3 ∷ 4 ∷ []) $ closes ! tt K.the-row c (control-value c ∷ []) (xc .ptr .0) (xc .ptr .1) $
           -- the locals are freed, and the tables given up
           returns-within ! Post refl (look ! 5 refl) $
-          frees-all ! 5 (full _ ∷ full _ ∷ full _ ∷ full _ ∷ full _ ∷ full _ ∷ full _ ∷ full _ ∷ full _ ∷ full _ ∷ full _ ∷ full _ ∷ bare ∷ bare ∷ bare ∷ full _ ∷ full _ ∷ full _ ∷ full _ ∷ full _ ∷ full _ ∷ bare ∷ bare ∷ bare ∷ bare ∷ bare ∷ bare ∷ bare ∷ bare ∷ bare ∷ bare ∷ bare ∷ []) refl $
+          frees-all ! 5 (full _ ∷ full _ ∷ full _ ∷ full _ ∷ full _ ∷ full _ ∷ full _ ∷ full _ ∷ full _ ∷ full _ ∷ full _ ∷ full _ ∷ bare ∷ bare
+          ∷ bare ∷ full _ ∷ full _ ∷ full _ ∷ full _ ∷ full _ ∷ full _ ∷ bare ∷ bare ∷ bare ∷ bare ∷ bare ∷ bare ∷ bare ∷ bare ∷ bare ∷ bare
+          ∷ bare ∷ []) refl $
           move ! (0 ∷ 1 ∷ []) $ feqI ! (List Val) (pc ∷ []) (pc ∷ []) refl $ fjoin3 ! $
           move ! (2 ∷ []) $ split ! $ move ! (4 ∷ []) $ fsplit ! $ move ! (1 ∷ []) $ fsplit ! $ drop ! $
           fsplit ! $ use1 W (‵ (finally u64 (x1 .name) (x1 .now))) (gives-up 𝓤 H A W (named 2) κ1 u64 x1 (slice-value x1 ∷ [])) $
@@ -287,7 +314,8 @@ module _ {M : Type 1} (𝓤 : URA M) (H : Heap 𝓤) (A : Atoms 𝓤) (W : Given
           move ! (1 ∷ []) $ fsplit ! $ use1 W (‵ (finally u64 (x4 .name) (x4 .now))) (gives-up 𝓤 H A W (named 5) κ4 u64 x4 (slice-value x4 ∷ [])) $
           move ! (1 ∷ []) $ fsplit ! $ use1 W (‵ (finally u64 (x5 .name) (x5 .now))) (gives-up 𝓤 H A W (named 6) κ5 u64 x5 (slice-value x5 ∷ [])) $
           keep ! (9 ∷ 6 ∷ 10 ∷ 7 ∷ 8 ∷ 0 ∷ 2 ∷ 3 ∷ 4 ∷ 5 ∷ []) $
-          by ! (exits o _ c rs (unwritten xs) (ap (λ (o : Outcome). record { queue = queue; outcome = o }) e-o ∙ refused why e-why (nonzero why away)) refl (refl, refl, refl, refl, refl) is-o)))
+          by ! (exits o _ c rs (unwritten xs) (ap (λ (o : Outcome). record { queue = queue; outcome = o }) e-o
+          ∙ refused why e-why (nonzero why away)) refl (refl, refl, refl, refl, refl) is-o)))
           (λ let-in.
           -- the records are opened, and the task's record is taken out
           skips ! $
@@ -305,7 +333,8 @@ module _ {M : Type 1} (𝓤 : URA M) (H : Heap 𝓤) (A : Atoms 𝓤) (W : Given
           -- [cell; others; obor; obs; auth; toks1; rest; cellc; oborc; obsc; authc; local i at position 11 + 2 i]
           lets ! (bin ! (var ! 17 refl) (lit ! tt) (record { fits = fits-scaled (room .1) here }))
           (store ! 41 refl (tt, record { fits = fits-scaled (room .1) here })) $
-          lets ! (valued ! (ap (vptr (xr .ptr .0)) (sym (place-is (mem T.the-row .size) (xr .ptr .1) task))) (bin ! (part ! 15 0 refl refl refl) (var ! 41 refl) tt)) (init ! 53 refl (tt, tt)) $
+          lets ! (valued ! (ap (vptr (xr .ptr .0)) (sym (place-is (mem T.the-row .size) (xr .ptr .1) task)))
+          (bin ! (part ! 15 0 refl refl refl) (var ! 41 refl) tt)) (init ! 53 refl (tt, tt)) $
           lets ! (addr ! (from ! (hop ! (look ! 53 refl) (stop !)))) (init ! 35 refl (tt, tt)) $
           lets ! (of-opd ! (load ! (from ! (hop ! (look ! 35 refl) (stop !))) (look-raw ! 0 refl)))
           (init ! 37 refl (LL.lawful T.the-type T′.the-laws 𝓤 H A W .typed r _ g .0)) $
@@ -328,7 +357,9 @@ module _ {M : Type 1} (𝓤 : URA M) (H : Heap 𝓤) (A : Atoms 𝓤) (W : Given
           -- the call
           move ! (5 ∷ 6 ∷ []) $
           moves ! moveOn κs qs c r xs fm known gc g
-          (and-then ! (var ! 30 refl) (and-then ! (var ! 36 refl) (and-then ! (var ! 56 refl) (and-then ! (var ! 60 refl) (and-then ! (var ! 64 refl) (and-then ! (var ! 68 refl) (and-then ! (var ! 72 refl) (no-more !)))))))) (λ w m ls e eqs is.
+          (and-then ! (var ! 30 refl) (and-then ! (var ! 36 refl)
+          (and-then ! (var ! 56 refl) (and-then ! (var ! 60 refl)
+          (and-then ! (var ! 64 refl) (and-then ! (var ! 68 refl) (and-then ! (var ! 72 refl) (no-more !)))))))) (λ w m ls e eqs is.
           -- [toks1; fin5 to fin1; cell; others; obor; obs; auth; cellc; oborc; obsc; authc; local i at position 15 + 2 i]
           receive ! 43 refl (LL.lawful N.the-type N′.the-laws 𝓤 H A W .typed m _ is .0) (ap only (LL.tells N.the-type N′.the-laws m (w ∷ []) is)) $
           -- what comes back is stored
@@ -381,7 +412,8 @@ module _ {M : Type 1} (𝓤 : URA M) (H : Heap 𝓤) (A : Atoms 𝓤) (W : Given
       ))
       (λ κs qs bounds a g are. via 𝓤 _ (fst∗ 𝓤 _ (emp 𝓤)) (walk 𝓤 H A W mem run
       (κs .0) (κs .1 .0) (κs .1 .1 .0) (κs .1 .1 .1 .0) (κs .1 .1 .1 .1 .0) (κs .1 .1 .1 .1 .1 .0) (κs .1 .1 .1 .1 .1 .1 .0) (qs .0) (qs .1 .0)
-      (qs .1 .1 .0) (qs .1 .1 .1 .0) (qs .1 .1 .1 .1 .0) (qs .1 .1 .1 .1 .1 .0) (qs .1 .1 .1 .1 .1 .1 .0) (a .0) (a .1 .0) (a .1 .1 .0) (are .1 .1 .0 .1)
+      (qs .1 .1 .0) (qs .1 .1 .1 .0) (qs .1 .1 .1 .1 .0) (qs .1 .1 .1 .1 .1 .0) (qs .1 .1 .1 .1 .1 .1 .0) (a .0) (a .1 .0) (a .1 .1 .0)
+      (are .1 .1 .0 .1)
       (a .1 .1 .1 .0) (a .1 .1 .1 .1 .0) (a .1 .1 .1 .1 .1 .0) (a .1 .1 .1 .1 .1 .1 .0) (a .1 .1 .1 .1 .1 .1 .1 .0)
       C Λ fm known-admit known-refuse known (are .1 .0 .0 .1) (are .1 .1 .1 .0 .0 .1) (are .1 .1 .1 .1 .0 .0 .1) (are .1 .1 .1 .1 .1 .0 .0 .1)
       (are .1 .1 .1 .1 .1 .1 .0 .0 .1) (are .1 .1 .1 .1 .1 .1 .1 .0 .0 .1)))
@@ -421,5 +453,6 @@ step-spec 𝓤 H 𝓜 𝓖 𝓡 =
     (tables 𝓤 H 𝓜 𝓡 code.env .C) (tables 𝓤 H 𝓜 𝓡 code.env .Λ) #deque·step code.function (code.unfolded 𝓤 H 𝓜 𝓡)
     (self-meets 𝓤 H (𝓖 .A) (givenOf 𝓤 H 𝓜 𝓖) (𝓜 .mem) (𝓡 .run) (tablesOf 𝓤 H 𝓜 (tables 𝓤 H 𝓜 𝓡 code.env))
     (cited 𝓤 H (Admit 𝓤 H (𝓖 .A) (𝓜 .mem) (𝓡 .run)) 𝓜 𝓡 code.env #engine·admit admit-def.routine code.calls-engine·admit (admit-thm.met 𝓤 H 𝓜 𝓖 𝓡))
-    (cited 𝓤 H (Refuse 𝓤 H (𝓖 .A) (𝓜 .mem) (𝓡 .run)) 𝓜 𝓡 code.env #engine·refuse refuse-def.routine code.calls-engine·refuse (refuse-thm.met 𝓤 H 𝓜 𝓖 𝓡))
+    (cited 𝓤 H (Refuse 𝓤 H (𝓖 .A) (𝓜 .mem) (𝓡 .run)) 𝓜 𝓡 code.env #engine·refuse refuse-def.routine code.calls-engine·refuse
+    (refuse-thm.met 𝓤 H 𝓜 𝓖 𝓡))
     (cited 𝓤 H (Move 𝓤 H (𝓖 .A) moveOn) 𝓜 𝓡 code.env #deque·move-on callee-def.routine code.calls-deque·move-on (callee-thm.met 𝓤 H 𝓜 𝓖 𝓡)))

@@ -122,7 +122,8 @@ module _ {M : Type 1} (𝓤 : URA M) (H : Heap 𝓤) (A : Atoms 𝓤) (W : Given
   abbrev lent : List (Item 𝓤)
   lent =
       (‵ (flft κc qc) ⊛ ‵ (flft κr qr) ⊛ ‵ (flft κ1 q1) ⊛ ‵ (flft κ2 q2) ⊛ ‵ (flft κ3 q3) ⊛ ‵ (flft κ4 q4) ⊛ ‵ (flft κ5 q5) ⊛ ‵ ftrue)
-      ∷ ‵ (owns (MutRef (named 0) κc K.the-row ∷ MutRef (named 1) κr T.the-row ∷ MutSlice (named 2) κ1 u64 ∷ MutSlice (named 3) κ2 u64 ∷ MutSlice (named 4) κ3 u32 ∷ MutSlice (named 5) κ4 u64 ∷ MutSlice (named 6) κ5 u64 ∷ []) a vals)
+      ∷ ‵ (owns (MutRef (named 0) κc K.the-row ∷ MutRef (named 1) κr T.the-row ∷ MutSlice (named 2) κ1 u64 ∷ MutSlice (named 3) κ2 u64
+      ∷ MutSlice (named 4) κ3 u32 ∷ MutSlice (named 5) κ4 u64 ∷ MutSlice (named 6) κ5 u64 ∷ []) a vals)
       ∷ []
 
   -- the locals' cells once all is stored
@@ -140,21 +141,25 @@ module _ {M : Type 1} (𝓤 : URA M) (H : Heap 𝓤) (A : Atoms 𝓤) (W : Given
     module _ (fm : FmC 𝓤 H (W .laws) C) (known : Triple 𝓤 (C #deque·step-alone) (Move 𝓤 H A stepLent)) where
       walk : Room u64 (length (x1 .now)) → Room u64 (length (x2 .now)) → Room u32 (length (x3 .now)) → Room u64 (length (x4 .now))
           → Room u64 (length (x5 .now))
-          → ent 𝓤 (onEntry 𝓤 H A self.signature (κc, (κr, κs)) (qc, (qr, qs)) a vals) (WpFn 𝓤 H C Λ code.function (pc ∷ pr ∷ slice-value x1 ∷ slice-value x2 ∷ slice-value x3 ∷ slice-value x4 ∷ slice-value x5 ∷ []) Post)
+          → ent 𝓤 (onEntry 𝓤 H A self.signature (κc, (κr, κs)) (qc, (qr, qs)) a vals)
+          (WpFn 𝓤 H C Λ code.function (pc ∷ pr ∷ slice-value x1 ∷ slice-value x2 ∷ slice-value x3 ∷ slice-value x4 ∷ slice-value x5 ∷ []) Post)
       walk room1 room2 room3 room4 room5 =
           qed W lent ∵
           enter ! C Λ code.function (pc ∷ pr ∷ slice-value x1 ∷ slice-value x2 ∷ slice-value x3 ∷ slice-value x4 ∷ slice-value x5 ∷ []) _ $
           allocates ! (λ bs. params1 ! $
           pass1 ! (init ! 2 refl (tt, tt)) $ pass1 ! (init ! 4 refl (tt, tt)) $ pass1 ! (init ! 6 refl (tt, (tt, (record { fits = room1 .0 }, tt)))) $
-          pass1 ! (init ! 8 refl (tt, (tt, (record { fits = room2 .0 }, tt)))) $ pass1 ! (init ! 10 refl (tt, (tt, (record { fits = room3 .0 }, tt)))) $
-          pass1 ! (init ! 12 refl (tt, (tt, (record { fits = room4 .0 }, tt)))) $ pass1 ! (init ! 14 refl (tt, (tt, (record { fits = room5 .0 }, tt)))) $
+          pass1 ! (init ! 8 refl (tt, (tt, (record { fits = room2 .0 }, tt)))) $ pass1 !
+          (init ! 10 refl (tt, (tt, (record { fits = room3 .0 }, tt)))) $
+          pass1 ! (init ! 12 refl (tt, (tt, (record { fits = room4 .0 }, tt)))) $ pass1 !
+          (init ! 14 refl (tt, (tt, (record { fits = room5 .0 }, tt)))) $
           pass0 ! $
           -- the control is opened
           move ! (43 ∷ []) $ fsplit ! $ fsplit3 ! $ drop ! $
           move ! (45 ∷ []) $ split ! $
           move ! (2 ∷ 3 ∷ 0 ∷ []) $
           opens ! tt K.the-row {h = c} (xc .ptr .0) (xc .ptr .1)
-          (λ vK. spelt ! K.the-row (Is K.the-row) (shows 𝓤 H A K.the-row) (LL.vals K.the-type K′.the-laws) (LL.tells K.the-type K′.the-laws) fullShare c vK
+          (λ vK. spelt ! K.the-row (Is K.the-row) (shows 𝓤 H A K.the-row) (LL.vals K.the-type K′.the-laws)
+          (LL.tells K.the-type K′.the-laws) fullShare c vK
           (xc .ptr .0) (xc .ptr .1) $
           move ! (1 ∷ []) $ facts ! K.the-row (Is K.the-row) (shows 𝓤 H A K.the-row) c (control-value c ∷ []) (λ gc.
           -- the record is opened
@@ -162,7 +167,8 @@ module _ {M : Type 1} (𝓤 : URA M) (H : Heap 𝓤) (A : Atoms 𝓤) (W : Given
           move ! (7 ∷ []) $ split ! $
           move ! (2 ∷ 3 ∷ 0 ∷ []) $
           opens ! tt T.the-row {h = r} (xr .ptr .0) (xr .ptr .1)
-          (λ vT. spelt ! T.the-row (Is T.the-row) (shows 𝓤 H A T.the-row) (LL.vals T.the-type T′.the-laws) (LL.tells T.the-type T′.the-laws) fullShare r vT
+          (λ vT. spelt ! T.the-row (Is T.the-row) (shows 𝓤 H A T.the-row) (LL.vals T.the-type T′.the-laws)
+          (LL.tells T.the-type T′.the-laws) fullShare r vT
           (xr .ptr .0) (xr .ptr .1) $
           move ! (1 ∷ []) $ facts ! T.the-row (Is T.the-row) (shows 𝓤 H A T.the-row) r (record-value r ∷ []) (λ g.
           -- [cell; obor; obs; auth; toks1; rest; cellc; oborc; obsc; authc; local i at position 10 + 2 i]
@@ -188,7 +194,9 @@ module _ {M : Type 1} (𝓤 : URA M) (H : Heap 𝓤) (A : Atoms 𝓤) (W : Given
           -- the call
           move ! (4 ∷ 5 ∷ []) $
           moves ! stepLent κs qs c r xs fm known gc g
-          (and-then ! (var ! 25 refl) (and-then ! (var ! 27 refl) (and-then ! (var ! 33 refl) (and-then ! (var ! 37 refl) (and-then ! (var ! 41 refl) (and-then ! (var ! 45 refl) (and-then ! (var ! 49 refl) (no-more !)))))))) (λ w m ls e eqs is.
+          (and-then ! (var ! 25 refl) (and-then ! (var ! 27 refl)
+          (and-then ! (var ! 33 refl) (and-then ! (var ! 37 refl)
+          (and-then ! (var ! 41 refl) (and-then ! (var ! 45 refl) (and-then ! (var ! 49 refl) (no-more !)))))))) (λ w m ls e eqs is.
           -- [toks1; fin5 to fin1; cell; obor; obs; auth; cellc; oborc; obsc; authc; local i at position 14 + 2 i]
           receive ! 34 refl (LL.lawful N.the-type N′.the-laws 𝓤 H A W .typed m _ is .0) (ap only (LL.tells N.the-type N′.the-laws m (w ∷ []) is)) $
           -- what comes back is stored
@@ -207,11 +215,13 @@ module _ {M : Type 1} (𝓤 : URA M) (H : Heap 𝓤) (A : Atoms 𝓤) (W : Given
           move ! (3 ∷ 4 ∷ []) $ feqI ! (List Val) (pr ∷ []) (pr ∷ []) refl $ fjoin3 ! $
           move ! (1 ∷ 2 ∷ []) $ feqI ! (List Val) (pc ∷ []) (pc ∷ []) refl $ fjoin3 ! $
           -- [control; record; lftc; lftr; toks1; fin5 to fin1]
-          suffices ! _ (ends-at 𝓤 H A self.ended stayed (self.clauses 𝓤 H A at-mem run) W bound _ (m .outcome) (m .control, (m .task, ls)) (tt, (tt, (eqs .0, (eqs .1, (eqs .2, (eqs .3, (eqs .4, tt)))))))) $
+          suffices ! _ (ends-at 𝓤 H A self.ended stayed (self.clauses 𝓤 H A at-mem run) W bound _ (m .outcome) (m .control, (m .task, ls))
+          (tt, (tt, (eqs .0, (eqs .1, (eqs .2, (eqs .3, (eqs .4, tt)))))))) $
           says ! e $ move ! (3 ∷ 4 ∷ []) $ join ! $ move ! (3 ∷ 0 ∷ []) $ join ! $ frame ! $ nothing ! $ move ! (3 ∷ 0 ∷ []) $ fjoin ! $
           move ! (3 ∷ 0 ∷ []) $ fjoin ! $ move ! (3 ∷ 0 ∷ []) $ fjoin ! $
           move ! (3 ∷ 0 ∷ []) $ fjoin ! $ move ! (3 ∷ 0 ∷ []) $ fjoin ! $ move ! (2 ∷ 0 ∷ []) $ fjoin ! $ move ! (1 ∷ 0 ∷ []) $ fjoin ! $
-          owned ! E.the-row (Is E.the-row) (EL.makes E.the-type E′.the-plain 𝓤 H A) (m .outcome) _ (outcome-of m is) $ move ! (1 ∷ 0 ∷ []) $ done !))))))
+          owned ! E.the-row (Is E.the-row) (EL.makes E.the-type E′.the-plain 𝓤 H A) (m .outcome) _ (outcome-of m is) $ move !
+          (1 ∷ 0 ∷ []) $ done !))))))
 
 module _ {M : Type 1} (𝓤 : URA M) (H : Heap 𝓤) (A : Atoms 𝓤) (W : Given 𝓤 H A) (mem : Memory → SProp 𝓤) (run : Routine → Fun 𝓤) where
   self-walks : (C : Calls 𝓤 H) (Λ : Loops 𝓤 H) → FmC 𝓤 H (W .laws) C → Triple 𝓤 (C #deque·step-alone) (Move 𝓤 H A stepLent)
@@ -236,9 +246,11 @@ module _ {M : Type 1} (𝓤 : URA M) (H : Heap 𝓤) (A : Atoms 𝓤) (W : Given
       ))
       (λ κs qs bounds a g are. via 𝓤 _ (fst∗ 𝓤 _ (emp 𝓤)) (walk 𝓤 H A W mem run
       (κs .0) (κs .1 .0) (κs .1 .1 .0) (κs .1 .1 .1 .0) (κs .1 .1 .1 .1 .0) (κs .1 .1 .1 .1 .1 .0) (κs .1 .1 .1 .1 .1 .1 .0) (qs .0) (qs .1 .0)
-      (qs .1 .1 .0) (qs .1 .1 .1 .0) (qs .1 .1 .1 .1 .0) (qs .1 .1 .1 .1 .1 .0) (qs .1 .1 .1 .1 .1 .1 .0) (a .0) (a .1 .0) (a .1 .1 .0) (a .1 .1 .1 .0)
+      (qs .1 .1 .0) (qs .1 .1 .1 .0) (qs .1 .1 .1 .1 .0) (qs .1 .1 .1 .1 .1 .0) (qs .1 .1 .1 .1 .1 .1 .0) (a .0) (a .1 .0)
+      (a .1 .1 .0) (a .1 .1 .1 .0)
       (a .1 .1 .1 .1 .0) (a .1 .1 .1 .1 .1 .0) (a .1 .1 .1 .1 .1 .1 .0)
-      C Λ fm known (are .1 .1 .0 .0 .1) (are .1 .1 .1 .0 .0 .1) (are .1 .1 .1 .1 .0 .0 .1) (are .1 .1 .1 .1 .1 .0 .0 .1) (are .1 .1 .1 .1 .1 .1 .0 .0 .1)))
+      C Λ fm known (are .1 .1 .0 .0 .1) (are .1 .1 .1 .0 .0 .1) (are .1 .1 .1 .1 .0 .0 .1) (are .1 .1 .1 .1 .1 .0 .0 .1)
+      (are .1 .1 .1 .1 .1 .1 .0 .0 .1)))
 
 self-meets : {M : Type 1} (𝓤 : URA M) (H : Heap 𝓤) (A : Atoms 𝓤) → Given 𝓤 H A → (mem : Memory → SProp 𝓤) (run : Routine → Fun 𝓤) (𝓣 : Program 𝓤 H)
     → Triple 𝓤 (𝓣 .C #deque·step-alone) (Move 𝓤 H A stepLent)
@@ -261,7 +273,8 @@ self-meets 𝓤 H A W mem run 𝓣 known =
       ),
     )
     (self.clauses 𝓤 H A mem run)
-    (WpFn 𝓤 H (𝓣 .C) (𝓣 .Λ) code.function) (WpFn-mono 𝓤 H (W .laws) 𝓣 code.function) (self-walks 𝓤 H A W mem run (𝓣 .C) (𝓣 .Λ) (fmOf 𝓤 H (W .laws) 𝓣) known)
+    (WpFn 𝓤 H (𝓣 .C) (𝓣 .Λ) code.function) (WpFn-mono 𝓤 H (W .laws) 𝓣 code.function)
+    (self-walks 𝓤 H A W mem run (𝓣 .C) (𝓣 .Λ) (fmOf 𝓤 H (W .laws) 𝓣) known)
 
 pub step-record-spec : {M : Type 1} → stated.statement M
 unfolding code.routine tablesOf

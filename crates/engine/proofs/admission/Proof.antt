@@ -1,5 +1,6 @@
 -- Each return is the first rule that applies, by the tests passed before it.
 use mathlib.Core.Path.{sym, _∙_}
+use mathlib.Core.Bool.{Bool}
 use borrow.Author.Tests.{not-true, not-false}
 use Rattle.engine.specs.Parts.{admission}
 use Rattle.engine.proofs.admission.Statement.{statement}
@@ -15,27 +16,47 @@ returns-2 c =
     let i = c .before .before .before in
     simp (
       sym (i .before .control-sound .ensures) ∙ not-false _ (i .if1 .left),
-      rw (c .before .rows-fit .ensures) at (c .if2 .taken),
+      sym (c .before .rows-fit .ensures) ∙ not-true _ (c .if2 .taken),
     )
+
+-- The tables are long enough.
+module _ (fit : tie.Else2) where
+  abbrev sound : tie.Else1
+  sound = fit .before .before .before
+
+  abbrev enough : Bool
+  enough = sound .before .before .args .enough
 
 returns-3 : tie.Need-returns-3
 unfolding admission
 returns-3 c =
-    let i = c .before .before .before .before in
+    let fit = c .before in
     simp (
-      sym (i .before .control-sound .ensures) ∙ not-false _ (i .if1 .left),
-      rw (c .before .before .rows-fit .ensures) at (c .before .if2 .left),
-      c .if3 .taken,
+      sym (sound fit .before .control-sound .ensures) ∙ not-false _ (sound fit .if1 .left),
+      sym (fit .before .rows-fit .ensures) ∙ not-false _ (fit .if2 .left),
+      not-true (enough fit) (c .if3 .taken),
     )
 
 returns-4 : tie.Need-returns-4
 unfolding admission
 returns-4 c =
-    let i = c .before .before .before .before in
+    let fit = c .before .before in
     simp (
-      sym (i .before .control-sound .ensures) ∙ not-false _ (i .if1 .left),
-      rw (c .before .before .rows-fit .ensures) at (c .before .if2 .left),
-      c .if3 .left,
+      sym (sound fit .before .control-sound .ensures) ∙ not-false _ (sound fit .if1 .left),
+      sym (fit .before .rows-fit .ensures) ∙ not-false _ (fit .if2 .left),
+      not-false (enough fit) (c .before .if3 .left),
+      c .if4 .taken,
+    )
+
+returns-5 : tie.Need-returns-5
+unfolding admission
+returns-5 c =
+    let fit = c .before .before in
+    simp (
+      sym (sound fit .before .control-sound .ensures) ∙ not-false _ (sound fit .if1 .left),
+      sym (fit .before .rows-fit .ensures) ∙ not-false _ (fit .if2 .left),
+      not-false (enough fit) (c .before .if3 .left),
+      c .if4 .left,
     )
 
 pub admission-spec : {M : Type 1} → statement M
@@ -47,4 +68,5 @@ admission-spec =
     (λ _ _. tt)
     returns-2
     returns-3
-    returns-4)
+    returns-4
+    returns-5)

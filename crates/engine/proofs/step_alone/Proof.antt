@@ -25,7 +25,7 @@ returns c =
     let f = c .before .before in
     let s = f .before .before .before in
     let a = s .before .before .before in
-    λ k. rw (c .refused .ensures) (turned-away (q a) (p a) (record { call = a .args .r; retries = k }) _ (f .admission .ensures) (c .before .if1 .taken))
+    λ k. rw (c .refused .ensures) (turned-away (q a) (p a) (record { call = a .args .r; retries = k }) _ (f .admit-alone .ensures) (c .before .if1 .taken))
 
 returns-2 : tie.Need-returns-2
 unfolding stepLent rowsFit lengthsFit
@@ -36,7 +36,7 @@ returns-2 c =
     let told = n .before .before .before in
     let s = told .before .before .before .before in
     let a = s .before .before .before in
-    λ k. m .move-on .ensures k ∙ admitted (q a) (p a) (record { call = a .args .r; retries = k }) (sym (told .before .admission .ensures) ∙ told .if1 .left)
+    λ k. m .move-on .ensures k ∙ admitted (q a) (p a) (record { call = a .args .r; retries = k }) (sym (told .before .admit-alone .ensures) ∙ told .if1 .left)
 
 pub step-alone-spec : {M : Type 1} → statement M
 step-alone-spec =

@@ -1,5 +1,5 @@
 -- One kind of line after the other.
-use Rattle.lines.specs.Line.{told}
+use Rattle.lines.specs.Line.{decimal, decimalIn, numbered, told}
 use borrow.Author.Needs.{needs}
 use Rattle.lines.proofs.put_told.Statement.{statement}
 use Rattle.lines.proofs.put_told.Tie as tie
@@ -11,7 +11,7 @@ returns-2 : tie.Need-returns-2
 returns-2 c = (rw (c .before .before .before .before .before .line2 .given .1) (c .before .before .put-act .ensures .0), search needs)
 
 returns-3 : tie.Need-returns-3
-unfolding told
+unfolding told numbered decimal decimalIn
 returns-3 c = (rw (c .before .before .before .before .before .enum-told .given .1) (c .before .before .put-text .ensures), search needs)
 
 pub put-told-spec : {M : Type 1} → statement M

@@ -6,7 +6,8 @@ use Prim.Native.Nat.{_<_, _≤_, ℕ}
 use lib.ListN.{length}
 use borrow.Author.Tests.{eqb-false, eqb-true, leb-true, ltb-true, not-false}
 use Rattle.model.specs.Places.{linkMet}
-use Rattle.model.specs.Refusals.{among, late, popRefusal, popRules, pushRefusal, pushRules, putRefusal, putRules, stepRefusal, stepRules, stepSound, stepTests}
+use Rattle.model.specs.Refusals.{among, late, popRefusal, popRules, pushRefusal, pushRules, putRefusal, putRules, stepRefusal}
+use Rattle.model.specs.Refusals.{stepRules, stepSound, stepTests}
 use Rattle.model.specs.Sound.{rowsFit}
 use Rattle.model.specs.Tables.{Queue, isPooled, marked, recordAt}
 use Rattle.model.proofs.tests.Rules.{cleared, tests}
@@ -43,7 +44,8 @@ module _ (q : Queue) (t : ℕ) where
     pub unmarked : marked (q .tables .marks) slot ≡ false
     pub named : isPooled (q .tables .control) ≡ false
 
-  pub lies : rowsFit (isPooled (q .tables .control)) (q .tables .control .slots) (q .tables) && among q t .enough ≡ true → among q t .known ≡ true → Lies
+  pub lies : rowsFit (isPooled (q .tables .control)) (q .tables .control .slots) (q .tables) && among q t .enough ≡ true
+      → among q t .known ≡ true → Lies
   lies e k =
       let z = and-true (rowsFit (isPooled (q .tables .control)) (q .tables .control .slots) (q .tables)) (among q t .enough) e in
       record { rows = rows-fine (q .tables) (z .0); length = leb-true _ _ (z .1); known = ltb-true _ _ k }

@@ -67,5 +67,6 @@ pub route-shared : (p k o : ℕ) → getD pushRoute p [] ≡ getD popRoute p [] 
 unfolding route
 route-shared p k o z = split (eqb k 0) (λ e. rw (e, z)) (λ e. rw e)
 
-pub same-touch : {t u : M.Touch} {r : M.Rec} {v : M.Answer} → t ≡ u → _≡_ {A = M.Move} (record { touch = t; rec = r; answer = v }) (record { touch = u; rec = r; answer = v })
+pub same-touch : {t u : M.Touch} {r : M.Rec} {v : M.Answer} → t ≡ u → _≡_ {A = M.Move} (record { touch = t; rec = r; answer = v })
+    (record { touch = u; rec = r; answer = v })
 same-touch {r = r} {v = v} p = λ i. record { touch = p i; rec = r; answer = v }

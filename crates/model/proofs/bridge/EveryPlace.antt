@@ -21,12 +21,24 @@ by-kind P k h f g = go (decide-eq k 0)
     go (inl z) = subst P (sym z) (f z)
     go (inr z) = let e : k ≡ 1 = omega arith in subst P (sym e) (g e)
 
-module _ (q : Tables) (c : ControlFine (q .control)) (k : LinksFine q) (r : Record) (h : RecordFine (isPooled (q .control)) (q .control .slots) r) where
+module _ (q : Tables) (c : ControlFine (q .control)) (k : LinksFine q) (r : Record)
+    (h : RecordFine (isPooled (q .control)) (q .control .slots) r) where
   abbrev at : ℕ → ℕ → Record
-  at p j = record { place = p; kind = j; side = r .side; own = r .own; label = r .label; seen = r .seen; neighbour = r .neighbour; link = r .link; finishing = r .finishing }
+  at p j = record {
+    place = p;
+    kind = j;
+    side = r .side;
+    own = r .own;
+    label = r .label;
+    seen = r .seen;
+    neighbour = r .neighbour;
+    link = r .link;
+    finishing = r .finishing;
+  }
 
   abbrev Here : ℕ → Type 0
-  Here p = (p ≡ 11 → r .kind ≡ 1) → (12 ≤ p → p ≤ 14 → r .kind ≡ 0) → (15 ≤ p → r .kind ≡ 1) → RoomAt q (at p (r .kind)) (placeOf p) → Seen q (at p (r .kind))
+  Here p = (p ≡ 11 → r .kind ≡ 1) → (12 ≤ p → p ≤ 14 → r .kind ≡ 0) → (15 ≤ p → r .kind ≡ 1) → RoomAt q (at p (r .kind)) (placeOf p)
+      → Seen q (at p (r .kind))
 
   kinds : (p : ℕ) → (r .kind ≡ 0 → Seen q (at p 0)) → (r .kind ≡ 1 → Seen q (at p 1)) → Seen q (at p (r .kind))
   kinds p f g = by-kind (λ j. Seen q (at p j)) (r .kind) (h .kind) f g

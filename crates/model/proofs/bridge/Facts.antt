@@ -10,7 +10,8 @@ use borrow.Author.Tests.{eq-eqb, eqb-true, le-leb, leb-true, ltb-true, ne-eqb}
 use Rattle.word.specs.Anchor.{anchorOf}
 use Rattle.word.specs.Link.{linkOf, spareOf}
 use Rattle.word.specs.declared.Anchor.{Anchor}
-use Rattle.model.specs.Sound.{giving, owning, anchorSound, anchorTests, controlSound, controlTests, from1, linkSound, recordSound, recordTests, rowTests, rowsFit}
+use Rattle.model.specs.Sound.{giving, owning, anchorSound, anchorTests, controlSound, controlTests, from1, linkSound, recordSound}
+use Rattle.model.specs.Sound.{recordTests, rowTests, rowsFit}
 use Rattle.model.specs.Tables.{Tables, isPooled}
 use Rattle.model.specs.declared.Control.{Control}
 use Rattle.model.specs.declared.Record.{Record}

@@ -35,8 +35,10 @@ module _ (q : Tables) (k d x l a n w f : ℕ) where
   place7 =
       let z = towards-status (anchorOf a .status) in
       split (eqb (anchorOf a .status) 1)
-      (λ e. split (eqb (linkOf (linkAt q true n) .slot) (anchorOf a .right)) (λ g. rw (z, e, g, route-shared 7 k 0 refl, e)) (λ g. rw (z, e, g, route-shared 7 k 1 refl, e)))
-      (λ e. split (eqb (linkOf (linkAt q false n) .slot) (anchorOf a .left)) (λ g. rw (z, e, g, route-shared 7 k 0 refl, e)) (λ g. rw (z, e, g, route-shared 7 k 1 refl, e)))
+      (λ e. split (eqb (linkOf (linkAt q true n) .slot) (anchorOf a .right)) (λ g. rw (z, e, g, route-shared 7 k 0 refl, e))
+      (λ g. rw (z, e, g, route-shared 7 k 1 refl, e)))
+      (λ e. split (eqb (linkOf (linkAt q false n) .slot) (anchorOf a .left)) (λ g. rw (z, e, g, route-shared 7 k 0 refl, e))
+      (λ g. rw (z, e, g, route-shared 7 k 1 refl, e)))
 
   -- The link word as read is compared with the word as it is.
   module _ (read-spare : spareOf w ≡ 0) (now-spare : (b : Bool) → spareOf (linkAt q b n) ≡ 0) where
@@ -44,8 +46,11 @@ module _ (q : Tables) (k d x l a n w f : ℕ) where
     link-equal b = same-link-word w (linkAt q b n) read-spare (now-spare b)
 
     raised : (b : Bool) (s : ℕ) → linkOf w .tag < 4294967295 → s < 2 ^ 15
-        → M.putLink b n (record { tag = suc (linkOf w .tag); slot = s }) ≡ M.putLink b n (linkSeen (packLink (record { tag = linkOf w .tag + 1; slot = s })))
-    raised b s h g = ap (M.putLink b n) (sym (link-back (linkOf w .tag + 1) s (omega arith) g ∙ (let e : linkOf w .tag + 1 ≡ suc (linkOf w .tag) = omega arith in λ i. record { tag = e i; slot = s })))
+        → M.putLink b n (record { tag = suc (linkOf w .tag); slot = s })
+        ≡ M.putLink b n (linkSeen (packLink (record { tag = linkOf w .tag + 1; slot = s })))
+    raised b s h g = ap (M.putLink b n)
+        (sym (link-back (linkOf w .tag + 1) s (omega arith) g ∙ (let e : linkOf w .tag + 1 ≡ suc (linkOf w .tag) = omega arith in
+        λ i. record { tag = e i; slot = s })))
 
     pub place9 : LinkRoom q (at 9) → Seen q (at 9)
     unfolding recOf view move at9 row linkSide sideOf onward pushRoute popRoute goes answer
@@ -53,11 +58,15 @@ module _ (q : Tables) (k d x l a n w f : ℕ) where
         let z = towards-status (anchorOf a .status) in
         split (eqb (anchorOf a .status) 1)
         (λ e. split (eqb (linkAt q true n) w)
-        (λ g. rw (z, e, link-equal true, g, route-shared 9 k 0 refl, e) (same-touch (raised true (anchorOf a .right) (room (ap (λ (b : Bool). linkAt q b n) e ∙ eqb-true _ _ g)) (omega arith))))
-        (λ g. split (eqb f 1) (λ j. rw (z, e, link-equal true, g, route-shared 9 k 1 refl, j)) (λ j. rw (z, e, link-equal true, g, route-shared 9 k 1 refl, j, e, j))))
+        (λ g. rw (z, e, link-equal true, g, route-shared 9 k 0 refl, e)
+        (same-touch (raised true (anchorOf a .right) (room (ap (λ (b : Bool). linkAt q b n) e ∙ eqb-true _ _ g)) (omega arith))))
+        (λ g. split (eqb f 1) (λ j. rw (z, e, link-equal true, g, route-shared 9 k 1 refl, j))
+        (λ j. rw (z, e, link-equal true, g, route-shared 9 k 1 refl, j, e, j))))
         (λ e. split (eqb (linkAt q false n) w)
-        (λ g. rw (z, e, link-equal false, g, route-shared 9 k 0 refl, e) (same-touch (raised false (anchorOf a .left) (room (ap (λ (b : Bool). linkAt q b n) e ∙ eqb-true _ _ g)) (omega arith))))
-        (λ g. split (eqb f 1) (λ j. rw (z, e, link-equal false, g, route-shared 9 k 1 refl, j)) (λ j. rw (z, e, link-equal false, g, route-shared 9 k 1 refl, j, e, j))))
+        (λ g. rw (z, e, link-equal false, g, route-shared 9 k 0 refl, e)
+        (same-touch (raised false (anchorOf a .left) (room (ap (λ (b : Bool). linkAt q b n) e ∙ eqb-true _ _ g)) (omega arith))))
+        (λ g. split (eqb f 1) (λ j. rw (z, e, link-equal false, g, route-shared 9 k 1 refl, j))
+        (λ j. rw (z, e, link-equal false, g, route-shared 9 k 1 refl, j, e, j))))
 
   -- The Anchor as read is compared with Anchor as it is.
   module _ (now-status : anchorOf now .status ≤ 2) (read-status : anchorOf a .status ≤ 2) where
@@ -79,11 +88,19 @@ module _ (q : Tables) (k d x l a n w f : ℕ) where
     -- A change of Anchor raises its tag, which has room.
     module _ (room : AnchorRoom q (at 0)) where
       settled-back : eqb now a ≡ true
-          → M.putAnchor (M.settled (anchorSeen a)) ≡ M.putAnchor (anchorSeen (packAnchor (record { tag = anchorOf a .tag + 1; status = 0; left = anchorOf a .left; right = anchorOf a .right })))
-      settled-back e = ap M.putAnchor (sym (anchor-back (anchorOf a .tag) 0 (anchorOf a .left) (anchorOf a .right) (room (eqb-true _ _ e)) (omega arith) (omega arith) (omega arith)))
+          → M.putAnchor (M.settled (anchorSeen a)) ≡ M.putAnchor (anchorSeen (packAnchor (record {
+            tag = anchorOf a .tag + 1;
+            status = 0;
+            left = anchorOf a .left;
+            right = anchorOf a .right;
+          })))
+      settled-back e = ap M.putAnchor
+          (sym (anchor-back (anchorOf a .tag) 0 (anchorOf a .left) (anchorOf a .right) (room (eqb-true _ _ e)) (omega arith)
+          (omega arith) (omega arith)))
 
       pub place10 : Seen q (at 10)
       unfolding recOf view move at10 row linkSide sideOf onward pushRoute popRoute goes answer
       place10 = split (eqb now a)
-          (λ e. split (eqb f 1) (λ g. rw (equal, e, route-shared 10 k 0 refl, g) (same-touch (settled-back e))) (λ g. rw (equal, e, route-shared 10 k 0 refl, g, g) (same-touch (settled-back e))))
+          (λ e. split (eqb f 1) (λ g. rw (equal, e, route-shared 10 k 0 refl, g) (same-touch (settled-back e)))
+          (λ g. rw (equal, e, route-shared 10 k 0 refl, g, g) (same-touch (settled-back e))))
           (λ e. split (eqb f 1) (λ g. rw (equal, e, route-shared 10 k 1 refl, g)) (λ g. rw (equal, e, route-shared 10 k 1 refl, g, g)))

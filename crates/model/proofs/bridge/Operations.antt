@@ -17,7 +17,7 @@ use Rattle.model.specs.declared.TaskRecord.{TaskRecord}
 use Rattle.model.proofs.tests.ByPlace.{by-place}
 use Rattle.model.proofs.tests.Truth.{not-both}
 use Rattle.model.proofs.machine.Answers.{Ends, act-ends}
-use Rattle.model.proofs.machine.Clerk as B
+use Rattle.model.proofs.machine.Book as B
 use Rattle.model.proofs.machine.Machine as M
 use Rattle.model.proofs.machine.Machine.{upd}
 use Rattle.model.proofs.invariant.Invariant.{Inv}
@@ -33,7 +33,8 @@ use Rattle.model.proofs.bridge.Touches.{move-fine}
 use Rattle.model.proofs.bridge.View.{answerSeen, placeOf, recOf, stateOf, touchSeen, view}
 
 pub not-idle : (p : ℕ) → p ≢ 0 → p ≤ 17 → M.isIdle (placeOf p) ≡ false
-not-idle p n h = by-place (λ p. M.isIdle (placeOf p) ≡ false) refl refl refl refl refl refl refl refl refl refl refl refl refl refl refl refl refl p n h
+not-idle p n h = by-place (λ p. M.isIdle (placeOf p)
+    ≡ false) refl refl refl refl refl refl refl refl refl refl refl refl refl refl refl refl refl p n h
 
 pub task-of : (q : Queue) (t : ℕ) → t < q .tables .control .tasks → stateOf q .task t ≡ recOf (recordAt q t)
 unfolding stateOf
@@ -64,7 +65,8 @@ module _ (q : Queue) (b : B.Book) (i : Inv (record { state = stateOf q; book = b
     abbrev seenAfter : M.Move → Type 0
     seenAfter m = Inv (record {
       state = record { shared = M.apply (view g) (m .touch); task = upd (stateOf q .task) t (m .rec) };
-      book = B.stepped b t (B.noted (B.granted (m .touch) (b .calls t)) (b .queue) (view g .anchor) (M.apply (view g) (m .touch) .anchor) (m .answer)) (m .answer);
+      book = B.stepped b t (B.noted (B.granted (m .touch) (b .calls t)) (b .queue) (view g .anchor) (M.apply (view g) (m .touch) .anchor)
+          (m .answer)) (m .answer);
     })
 
     seen : M.act (placeOf (r .place)) (view g) (recOf r) ≡ seenMove g r
@@ -73,8 +75,13 @@ module _ (q : Queue) (b : B.Book) (i : Inv (record { state = stateOf q; book = b
     pub step-seen-keeps : seenAfter (seenMove g r)
     unfolding stateOf recOf
     step-seen-keeps =
-        let e : M.isIdle (stateOf q .task t .place) ≡ false = ap (λ (x : M.Rec). M.isIdle (x .place)) (task-of q t (s .lies .known)) ∙ not-idle (r .place) (s .busy) (s .fine .place) in
-        subst seenAfter (ap (λ (x : M.Rec). M.act (x .place) (view g) x) (task-of q t (s .lies .known)) ∙ seen) (step-inv (record { state = stateOf q; book = b }) i t e)
+        let e : M.isIdle (stateOf q .task t .place) ≡ false = ap (λ (x : M.Rec). M.isIdle (x .place)) (task-of q t (s .lies .known))
+        ∙ not-idle (r .place) (s .busy) (s .fine .place) in
+        subst seenAfter (ap (λ (x : M.Rec). M.act (x .place) (view g) x) (task-of q t (s .lies .known)) ∙ seen) (step-inv (record {
+          state =
+              stateOf q;
+          book = b;
+        }) i t e)
 
     abbrev pub stepped : Queue
     stepped = record { tables = finish g (taskAt q t) m .tables; records = set (q .records) t (finish g (taskAt q t) m .task) }
@@ -86,9 +93,13 @@ module _ (q : Queue) (b : B.Book) (i : Inv (record { state = stateOf q; book = b
     unfolding stateOf finish
     state-is =
         let r′ : TaskRecord = record { call = goes (m .task) (next r m); retries = counted (taskAt q t .retries) (m .failed) } in
-        (λ j. record { shared = view (finish g (taskAt q t) m .tables); task = λ u. cond (ltb u (touched-tasks (m .touch) g j)) (recOf (getD (set (q .records) t r′) u unused .call)) M.blank })
+        (λ j. record {
+          shared = view (finish g (taskAt q t) m .tables);
+          task = λ u. cond (ltb u (touched-tasks (m .touch) g j)) (recOf (getD (set (q .records) t r′) u unused .call)) M.blank;
+        })
         ∙ (λ j. record {
-          shared = view-touched g (s .lies .rows) (m .touch) (move-fine (isPooled (g .control)) (g .control .slots) r (s .fine) (s .control .slots) (g .control) (linkMet g r) (s .busy)) j;
+          shared = view-touched g (s .lies .rows) (m .touch)
+              (move-fine (isPooled (g .control)) (g .control .slots) r (s .fine) (s .control .slots) (g .control) (linkMet g r) (s .busy)) j;
           task = task-set (g .control .tasks) (q .records) t r′ (omega (arith, s .lies .length, s .lies .known)) (s .lies .known) j;
         })
 
@@ -99,11 +110,19 @@ module _ (q : Queue) (b : B.Book) (i : Inv (record { state = stateOf q; book = b
     unfolding recOf
     step-ends = subst Ends seen (act-ends (placeOf (r .place)) (view g) (recOf r) (not-idle (r .place) (s .busy) (s .fine .place)))
 
-    pub step-keeps : Inv (record { state = stateOf stepped; book = B.stepped b t (B.noted (B.granted (touchSeen (m .touch)) (b .calls t)) (b .queue) (view g .anchor) (view (stepped .tables) .anchor) (answerSeen reply)) (answerSeen reply) })
+    pub step-keeps : Inv (record {
+      state = stateOf stepped;
+      book = B.stepped b t (B.noted (B.granted (touchSeen (m .touch)) (b .calls t)) (b .queue) (view g .anchor) (view (stepped .tables) .anchor)
+          (answerSeen reply)) (answerSeen reply);
+    })
     unfolding stateOf
     step-keeps =
         let After : M.State → Type 0 =
-        λ s. Inv (record { state = s; book = B.stepped b t (B.noted (B.granted (touchSeen (m .touch)) (b .calls t)) (b .queue) (view g .anchor) (s .shared .anchor) (answerSeen reply)) (answerSeen reply) }) in
+        λ s. Inv (record {
+          state = s;
+          book = B.stepped b t (B.noted (B.granted (touchSeen (m .touch)) (b .calls t)) (b .queue) (view g .anchor) (s .shared .anchor)
+              (answerSeen reply)) (answerSeen reply);
+        }) in
         subst After (sym state-is) step-seen-keeps
 
     touch-fine : TouchFine (isPooled (g .control)) (g .control .slots) (m .touch)
@@ -128,20 +147,29 @@ module _ (q : Queue) (b : B.Book) (i : Inv (record { state = stateOf q; book = b
 
     -- A push that has its effect stands at the end of its side.
     pub step-told : let k = B.granted (touchSeen (m .touch)) (b .calls t) in
-        B.effect (view g .anchor) (view (stepped .tables) .anchor) (answerSeen reply) ≡ true → B.isNoSlot (answerSeen reply) ≡ false → k .kind ≡ M.push
+        B.effect (view g .anchor) (view (stepped .tables) .anchor) (answerSeen reply) ≡ true → B.isNoSlot (answerSeen reply) ≡ false
+        → k .kind ≡ M.push
         → M.tip (view (stepped .tables) .anchor) (k .side) ≡ k .slot
     unfolding stateOf recOf
     step-told e n k =
-        let busy : M.isIdle (stateOf q .task t .place) ≡ false = ap (λ (x : M.Rec). M.isIdle (x .place)) (task-of q t (s .lies .known)) ∙ not-idle (r .place) (s .busy) (s .fine .place) in
+        let busy : M.isIdle (stateOf q .task t .place) ≡ false = ap (λ (x : M.Rec). M.isIdle (x .place)) (task-of q t (s .lies .known))
+        ∙ not-idle (r .place) (s .busy) (s .fine .place) in
         let stands : Stands (view g) (b .calls t) (seenMove g r) =
-        subst (Stands (view g) (b .calls t)) (ap (λ (x : M.Rec). M.act (x .place) (view g) x) (task-of q t (s .lies .known)) ∙ seen) (step-stands (record { state = stateOf q; book = b }) i t busy) in
+        subst (Stands (view g) (b .calls t)) (ap (λ (x : M.Rec). M.act (x .place) (view g) x) (task-of q t (s .lies .known)) ∙ seen) (step-stands (record {
+          state =
+              stateOf q;
+          book = b;
+        }) i t busy) in
         let is = ap (λ (z : M.State). z .shared .anchor) state-is in
-        go (m .touch) (subst (λ (a : M.Anchor). B.effect (view g .anchor) a (answerSeen reply) ≡ true → B.isNoSlot (answerSeen reply) ≡ false → b .calls t .kind ≡ M.push
+        go (m .touch) (subst (λ (a : M.Anchor). B.effect (view g .anchor) a (answerSeen reply) ≡ true → B.isNoSlot (answerSeen reply) ≡ false
+        → b .calls t .kind ≡ M.push
         → M.tip a (b .calls t .side) ≡ B.granted (touchSeen (m .touch)) (b .calls t) .slot) (sym is) stands) e n k
       where
-        go : (w : Touch) → (B.effect (view g .anchor) (view (stepped .tables) .anchor) (answerSeen reply) ≡ true → B.isNoSlot (answerSeen reply) ≡ false → b .calls t .kind ≡ M.push
+        go : (w : Touch) → (B.effect (view g .anchor) (view (stepped .tables) .anchor) (answerSeen reply) ≡ true
+            → B.isNoSlot (answerSeen reply) ≡ false → b .calls t .kind ≡ M.push
             → M.tip (view (stepped .tables) .anchor) (b .calls t .side) ≡ B.granted (touchSeen w) (b .calls t) .slot)
-            → let k = B.granted (touchSeen w) (b .calls t) in B.effect (view g .anchor) (view (stepped .tables) .anchor) (answerSeen reply) ≡ true → B.isNoSlot (answerSeen reply) ≡ false → k .kind ≡ M.push
+            → let k = B.granted (touchSeen w) (b .calls t) in B.effect (view g .anchor) (view (stepped .tables) .anchor) (answerSeen reply) ≡ true
+            → B.isNoSlot (answerSeen reply) ≡ false → k .kind ≡ M.push
             → M.tip (view (stepped .tables) .anchor) (k .side) ≡ k .slot
         go nothing f = f
         go (setAnchor a) f = f
@@ -153,7 +181,8 @@ module _ (q : Queue) (b : B.Book) (i : Inv (record { state = stateOf q; book = b
 
     pub step-links : LinksFine (stepped .tables)
     unfolding finish
-    step-links = links-touched g (s .lies .rows) k (m .touch) (move-fine (isPooled (g .control)) (g .control .slots) r (s .fine) (s .control .slots) (g .control) (linkMet g r) (s .busy))
+    step-links = links-touched g (s .lies .rows) k (m .touch)
+        (move-fine (isPooled (g .control)) (g .control .slots) r (s .fine) (s .control .slots) (g .control) (linkMet g r) (s .busy))
 
   -- Accepted starts.
   module _ (z : Lies q t) (free : recordAt q t .place ≡ 0) where
@@ -166,7 +195,8 @@ module _ (q : Queue) (b : B.Book) (i : Inv (record { state = stateOf q; book = b
     rec-started kind side x l = refl
 
     tasks-are : (kind side x l : ℕ)
-        → (λ (u : ℕ). stateOf (record { tables = g; records = set (q .records) t (put (started kind side x l)) }) .task u) ≡ upd (stateOf q .task) t (M.started (cond (eqb kind 0) M.push M.pop) (eqb side 1) x l)
+        → (λ (u : ℕ). stateOf (record { tables = g; records = set (q .records) t (put (started kind side x l)) }) .task u)
+        ≡ upd (stateOf q .task) t (M.started (cond (eqb kind 0) M.push M.pop) (eqb side 1) x l)
     tasks-are kind side x l = put-back q t z (put (started kind side x l)) ∙ ap (λ (v : M.Rec). upd (stateOf q .task) t v) (rec-started kind side x l)
 
     pub pop-keeps : (side : ℕ) → Inv (record {
@@ -192,6 +222,7 @@ module _ (q : Queue) (b : B.Book) (i : Inv (record { state = stateOf q; book = b
       book = B.begun b t (B.opened M.push (eqb side 1) x l);
     })
     unfolding stateOf view
-    push-keeps side x l real low named clear = subst (λ (s : M.State). Inv (record { state = s; book = B.begun b t (B.opened M.push (eqb side 1) x l) }))
+    push-keeps side x l real low named clear = subst
+        (λ (s : M.State). Inv (record { state = s; book = B.begun b t (B.opened M.push (eqb side 1) x l) }))
         (sym (λ j. record { shared = view-taken g (z .rows) x l low j; task = tasks-are 0 side x l j }))
         (push-inv (record { state = stateOf q; book = b }) i t (eqb side 1) x l ready (λ e. omega arith) low named clear)

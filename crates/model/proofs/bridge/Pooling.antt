@@ -53,7 +53,8 @@ module _ (q : Tables) (d x l a n w f : ℕ) where
 
     raised : (s : ℕ) → linkOf w .tag < 4294967295 → s < 2 ^ 15
         → _≡_ {A = M.Link} (record { tag = suc (linkOf w .tag); slot = s }) (linkSeen (packLink (record { tag = linkOf w .tag + 1; slot = s })))
-    raised s h g = sym (link-back (linkOf w .tag + 1) s (omega arith) g ∙ (let e : linkOf w .tag + 1 ≡ suc (linkOf w .tag) = omega arith in λ i. record { tag = e i; slot = s }))
+    raised s h g = sym (link-back (linkOf w .tag + 1) s (omega arith) g
+        ∙ (let e : linkOf w .tag + 1 ≡ suc (linkOf w .tag) = omega arith in λ i. record { tag = e i; slot = s }))
 
     pub place14-push : HeadRoom q (at 14 0) → n < 2 ^ 15 → Seen q (at 14 0)
     unfolding recOf view move at14 row linkSide sideOf onward route pushRoute popRoute goes answer

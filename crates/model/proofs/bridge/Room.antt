@@ -7,7 +7,8 @@ use lib.Dec.{eqb, ltb}
 use borrow.Author.Tests.{eq-eqb, eqb-true, lt-ltb, ltb-true}
 use Rattle.word.specs.Anchor.{anchorOf}
 use Rattle.word.specs.Link.{linkOf}
-use Rattle.model.specs.Places.{at1, at10, at11, at12, at13, at14, at15, at16, at17, at2, at3, at4, at5, at6, at7, at9, linkMet, linkSide, move, row, sideOf}
+use Rattle.model.specs.Places.{at1, at10, at11, at12, at13, at14, at15, at16, at17, at2, at3, at4, at5, at6, at7, at9, linkMet}
+use Rattle.model.specs.Places.{linkSide, move, row, sideOf}
 use Rattle.model.specs.Refusals.{hasRoom}
 use Rattle.model.specs.Tables.{atPlace, Tables, isPooled}
 use Rattle.model.specs.declared.Record.{Record}
@@ -78,7 +79,8 @@ module _ (q : Tables) (r : Record) where
         (λ m. refl)
         (λ m. split (eqb (anchorOf a .status) 1)
         (λ g. split (eqb (linkAt q true n) w) (λ e. rw (g, e) (lt-ltb _ _ (m (ap (λ (b : Bool). linkAt q b n) g ∙ eqb-true _ _ e)))) (λ e. rw (g, e)))
-        (λ g. split (eqb (linkAt q false n) w) (λ e. rw (g, e) (lt-ltb _ _ (m (ap (λ (b : Bool). linkAt q b n) g ∙ eqb-true _ _ e)))) (λ e. rw (g, e))))
+        (λ g. split (eqb (linkAt q false n) w) (λ e. rw (g, e) (lt-ltb _ _ (m (ap (λ (b : Bool). linkAt q b n) g ∙ eqb-true _ _ e))))
+        (λ e. rw (g, e))))
         (λ m. split (eqb now a) (λ e. rw e (anchor-test m e)) (λ e. rw e))
         (λ m. split (isPooled (q .control)) (λ e. rw e) (λ e. rw e))
         (λ m. refl)

@@ -21,7 +21,8 @@ use Rattle.model.proofs.bridge.Marks.{marked-other, marked-same}
 use Rattle.model.proofs.bridge.View.{linkAt, linkSeen, recOf, touchSeen, view}
 
 -- A store in a list is a store in the function that it stands for.
-upd-list : {A B : Type 0} (f : B → A) (l : List B) (z w : B) (x : ℕ) → x < length l → (λ (y : ℕ). f (getD (set l x w) y z)) ≡ upd (λ y. f (getD l y z)) x (f w)
+upd-list : {A B : Type 0} (f : B → A) (l : List B) (z w : B) (x : ℕ) → x < length l
+    → (λ (y : ℕ). f (getD (set l x w) y z)) ≡ upd (λ y. f (getD l y z)) x (f w)
 unfolding upd
 upd-list f l z w x h = fun-ext (λ y. by-test (λ v. f (getD (set l x w) y z) ≡ v) (eqb y x)
     (λ e. ap (λ (n : ℕ). f (getD (set l x w) n z)) (eqb-true y x e) ∙ ap f (getD-set-same l x w z h))
@@ -35,7 +36,8 @@ upd-mark ws x b hb hx = fun-ext (λ y. by-test (λ v. marked (withMark ws x b) y
 
 -- A record put back, where the records beyond the tasks count as idle.
 pub task-set : (n : ℕ) (l : List TaskRecord) (t : ℕ) (r : TaskRecord) → t < length l → t < n
-    → (λ (u : ℕ). cond (ltb u n) (recOf (getD (set l t r) u unused .call)) M.blank) ≡ upd (λ u. cond (ltb u n) (recOf (getD l u unused .call)) M.blank) t (recOf (r .call))
+    → (λ (u : ℕ). cond (ltb u n) (recOf (getD (set l t r) u unused .call)) M.blank)
+    ≡ upd (λ u. cond (ltb u n) (recOf (getD l u unused .call)) M.blank) t (recOf (r .call))
 unfolding upd
 task-set n l t r h g = fun-ext (λ u. by-test (λ v. cond (ltb u n) (recOf (getD (set l t r) u unused .call)) M.blank ≡ v) (eqb u t)
     (λ e. let z = eqb-true u t e in
@@ -179,5 +181,7 @@ module _ (q : Tables) (h : RowsFine q) where
   }
     where
       stays : (P : ℕ → Type 0) → P w → (d : Bool) (y : ℕ) → ((d : Bool) → P (linkAt q d y)) → P (linkAt (apply (setLink side x w) q) d y)
-      stays P p false y o = by-test (λ l. P (getD l y 0)) (eqb side 1) (λ e. o false) (λ e. set-keeps P (q .lefts) x w y (omega (arith, h .lefts, f .0)) p (o false))
-      stays P p true y o = by-test (λ l. P (getD l y 0)) (eqb side 1) (λ e. set-keeps P (q .rights) x w y (omega (arith, h .rights, f .0)) p (o true)) (λ e. o true)
+      stays P p false y o = by-test (λ l. P (getD l y 0)) (eqb side 1) (λ e. o false)
+          (λ e. set-keeps P (q .lefts) x w y (omega (arith, h .lefts, f .0)) p (o false))
+      stays P p true y o = by-test (λ l. P (getD l y 0)) (eqb side 1)
+          (λ e. set-keeps P (q .rights) x w y (omega (arith, h .rights, f .0)) p (o true)) (λ e. o true)

@@ -10,7 +10,10 @@ use Rattle.model.specs.Places as place
 use Rattle.model.specs.Tables.{Queue, Tables, isPooled, marked, recordAt}
 use Rattle.model.specs.declared.Answer as answer
 use Rattle.model.specs.declared.Record.{Record}
-use Rattle.model.proofs.machine.Machine.{Anchor, Answer, Kind, Link, Place, Rec, Shared, State, Status, Touch, at1, at10, at11, at12, at13, at14, at15, at16, at17, at2, at3, at4, at5, at6, at7, at8, at9, blank, clear, draw, empty, give, idle, noSlot, none, pop, popped, push, pushed, pushing, putAnchor, putHead, putLink, putNext, running, stable, take}
+use Rattle.model.proofs.machine.Machine.{Anchor, Answer, Kind, Link, Place, Rec, Shared, State, Status, Touch, at1, at10, at11, at12}
+use Rattle.model.proofs.machine.Machine.{at13, at14, at15, at16, at17, at2, at3, at4, at5, at6, at7, at8, at9, blank, clear, draw}
+use Rattle.model.proofs.machine.Machine.{empty, give, idle, noSlot, none, pop, popped, push, pushed, pushing, putAnchor, putHead}
+use Rattle.model.proofs.machine.Machine.{putLink, putNext, running, stable, take}
 
 abbrev pub statusOf : ℕ → Status
 statusOf n = cond (eqb n 1) (pushing true) (cond (eqb n 2) (pushing false) stable)
@@ -25,7 +28,8 @@ abbrev pub kindOf : ℕ → Kind
 kindOf n = cond (eqb n 0) push pop
 
 abbrev pub placeList : List Place
-placeList = idle ∷ at1 ∷ at2 ∷ at3 ∷ at4 ∷ at5 ∷ at6 ∷ at7 ∷ at8 ∷ at9 ∷ at10 ∷ at11 ∷ draw at12 ∷ draw at13 ∷ draw at14 ∷ give at15 ∷ give at16 ∷ give at17 ∷ []
+placeList = idle ∷ at1 ∷ at2 ∷ at3 ∷ at4 ∷ at5 ∷ at6 ∷ at7 ∷ at8 ∷ at9 ∷ at10 ∷ at11 ∷ draw at12 ∷ draw at13 ∷ draw at14 ∷ give at15 ∷ give at16
+    ∷ give at17 ∷ []
 
 abbrev pub placeOf : ℕ → Place
 placeOf n = getD placeList n idle

@@ -57,8 +57,18 @@ module _ (k : Bool → ℕ → Link) (a : Anchor) (q : List ℕ) (s : Shape k a 
 module _ (k : Bool → ℕ → Link) (a : Anchor) (q : List ℕ) (s : Shape k a q) where
   pub first-shape : (n : ℕ) → a .left ≡ 0 → n ≢ 0 → Shape k (both a n) (n ∷ [])
   first-shape n h nz =
-      record { linked = under k (n ∷ []) (small k a q s (ap rest (no-entry k a q s h))) tt; tips = elim [ false ↦ refl | true ↦ refl ]; distinct = (tt, tt); real = (nz, tt) }
+      record {
+        linked = under k (n ∷ []) (small k a q s (ap rest (no-entry k a q s h))) tt;
+        tips = elim [ false ↦ refl | true ↦ refl ];
+        distinct = (tt, tt);
+        real = (nz, tt);
+      }
 
   pub last-shape : a .left ≡ a .right → a .left ≢ 0 → Shape k (both a 0) []
   last-shape h ne =
-      record { linked = under k [] (small k a q s (ap rest (single k a q s h ne))) tt; tips = elim [ false ↦ refl | true ↦ refl ]; distinct = tt; real = tt }
+      record {
+        linked = under k [] (small k a q s (ap rest (single k a q s h ne))) tt;
+        tips = elim [ false ↦ refl | true ↦ refl ];
+        distinct = tt;
+        real = tt;
+      }

@@ -30,13 +30,21 @@ module _ (k : Bool → ℕ → Link) (a : Anchor) (q : List ℕ) (s : Shape k a 
           rw e (
             ap (λ (w : Link). w .slot) (relink-across k d _ v x) ∙ r .0,
             from-next (Joint k d) (Joint k′ d) (λ b. b ≢ y)
-                (λ b c m p. (ap (λ (w : Link). w .slot) (relink-across k d _ v b) ∙ p .0, ap (λ (w : Link). w .slot) (relink-other k d _ v d c (λ z. m (z ∙ h))) ∙ p .1))
+                (λ b c m p. (
+                  ap (λ (w : Link). w .slot) (relink-across k d _ v b) ∙ p .0,
+                  ap (λ (w : Link). w .slot) (relink-other k d _ v d c (λ z. m (z ∙ h))) ∙ p .1,
+                ))
                 y l (apart k a q s d (x ∷ y ∷ l) e .1 .0) (r .1),
           )
 
   -- Place 10: with the link back the queue is stable.
   pub settled-shape : a .status ≡ pushing d → k d (k (not d) (tip a d) .slot) .slot ≡ tip a d → Shape k (settled a) q
-  settled-shape st made = record { linked = unturn k d q (go (seen d q) refl); tips = elim [ false ↦ s .tips false | true ↦ s .tips true ]; distinct = s .distinct; real = s .real }
+  settled-shape st made = record {
+    linked = unturn k d q (go (seen d q) refl);
+    tips = elim [ false ↦ s .tips false | true ↦ s .tips true ];
+    distinct = s .distinct;
+    real = s .real;
+  }
     where
       go : (l : List ℕ) → seen d q ≡ l → Chain (Joint k d) (seen d q)
       go [] e = absurd (rough k a q s d [] e st)
@@ -57,7 +65,10 @@ module _ (k : Bool → ℕ → Link) (a : Anchor) (q : List ℕ) (s : Shape k a 
       rough′ : (e : Bool) (l : List ℕ) → All (λ y. (e : Bool) → k′ e y ≡ k e y) l → Rough k e l → Rough k′ e l
       rough′ e [] m r = r
       rough′ e (x ∷ []) m r = r
-      rough′ e (x ∷ y ∷ l) m r = (ap (λ (w : Link). w .slot) (m .0 (not e)) ∙ r .0, from-map (Joint k e) (Joint k′ e) _ (joint e) y l (m .1 .0) (m .1 .1) (r .1))
+      rough′ e (x ∷ y ∷ l) m r = (
+        ap (λ (w : Link). w .slot) (m .0 (not e)) ∙ r .0,
+        from-map (Joint k e) (Joint k′ e) _ (joint e) y l (m .1 .0) (m .1 .1) (r .1),
+      )
 
       go : (st : Status) → Linked k st q → Linked k′ st q
       go stable c = chain-map (Joint k false) (Joint k′ false) _ (joint false) q f c

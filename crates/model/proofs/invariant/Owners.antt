@@ -32,13 +32,18 @@ pub record Pool (n : ℕ) (f : ℕ → ℕ) (top : ℕ) (h : ℕ → Owner) : Ty
   -- (15) Nothing is lost: every free slot is there.
   pub full : (x : ℕ) → x ≢ 0 → x ≤ n → h x ≡ free → In x stack
 
--- How a push learns that a slot is nobody's. In a named queue by its mark: (1, 7, 8) a slot that somebody has is marked.
+-- The marks of a named queue: (1, 7, 8) a slot that somebody has is marked, and (21) no other of 0 to slots.
+pub record Marks (n : ℕ) (m : ℕ → Bool) (h : ℕ → Owner) : Type 0 where
+  pub set : (x : ℕ) → h x ≢ free → m x ≡ true
+  pub owed : (x : ℕ) → x ≤ n → m x ≡ true → h x ≢ free
+
+-- How a push learns that a slot is nobody's. In a named queue by its mark.
 -- In a pooled queue, where marks tell nothing, by the stack. (It names the fields that it speaks of, so that it stands where another changes.)
 abbrev pub Spare : Bool → ℕ → (ℕ → Bool) → (ℕ → ℕ) → ℕ → (ℕ → Owner) → Type 0
-Spare false n m f top h = (x : ℕ) → h x ≢ free → m x ≡ true
+Spare false n m f top h = Marks n m h
 Spare true n m f top h = Pool n f top h
 
--- The queue part of the invariant: q is the clerk's deque.
+-- The queue part of the invariant: q is the sequential deque.
 pub record Whole (s : Shared) (h : ℕ → Owner) (q : List Entry) : Type 0 where
   pub shape : Shape (s .link) (s .anchor) (slots q)
   pub owned : All (λ x. h x ≡ queued) (slots q)

@@ -3,7 +3,8 @@ use mathlib.Core.Bool.{Bool, cond, false, true}
 use mathlib.Core.Logic.{_⊎_}
 use mathlib.Core.Path.{_≡_}
 use Prim.Native.Nat.{_+_, _<_, _≤_, ℕ}
-use Rattle.model.proofs.machine.Machine.{Kind, Place, Rec, Shared, Status, at1, at10, at11, at2, at3, at4, at5, at6, at7, at8, at9, draw, give, idle, pop, push, pushing, stable}
+use Rattle.model.proofs.machine.Machine.{Kind, Place, Rec, Shared, Status, at1, at10, at11, at2, at3, at4, at5, at6, at7, at8, at9}
+use Rattle.model.proofs.machine.Machine.{draw, give, idle, pop, push, pushing, stable}
 use Rattle.model.proofs.invariant.Shape.{Made}
 
 -- (3) Each link's tag is at most Anchor's; while the link back is not made, the tags of that side are below it.

@@ -5,8 +5,10 @@ use mathlib.Core.Bool.{Bool, false, true}
 use mathlib.Core.Logic.{_≢_, _⊎_}
 use mathlib.Core.Path.{_≡_}
 use Prim.Native.Nat.{_<_, _≤_, ℕ}
-use Rattle.model.proofs.machine.Clerk.{Call}
-use Rattle.model.proofs.machine.Machine.{Anchor, Answer, Draw, Give, Kind, Link, Place, Rec, Shared, at1, at10, at11, at12, at13, at14, at15, at16, at17, at2, at3, at4, at5, at6, at7, at8, at9, draw, give, idle, inner, pop, popped, push, pushed, pushing, stable, tip, towards}
+use Rattle.model.proofs.machine.Book.{Call}
+use Rattle.model.proofs.machine.Machine.{Anchor, Answer, Draw, Give, Kind, Link, Place, Rec, Shared, at1, at10, at11, at12, at13}
+use Rattle.model.proofs.machine.Machine.{at14, at15, at16, at17, at2, at3, at4, at5, at6, at7, at8, at9, draw, give, idle, inner}
+use Rattle.model.proofs.machine.Machine.{pop, popped, push, pushed, pushing, stable, tip, towards}
 use Rattle.model.proofs.invariant.Owners.{Owner, held}
 use Rattle.model.proofs.invariant.Shape.{Made}
 
@@ -35,7 +37,7 @@ pub record Before (g : ℕ → ℕ) (h : ℕ → Owner) (t : ℕ) (k : Kind) (d 
   pub none : c .effects ≡ 0
   pub own : Own k g h t x l
 
--- After it, just one, to which the clerk replied what the call will answer.
+-- After it, just one, to which the sequential deque replied what the call will answer.
 pub record After (c : Call) (a : Answer) : Type 0 where
   pub once : c .effects ≡ 1
   pub told : c .told ≡ a
@@ -113,7 +115,7 @@ pub record Ninth (s : Shared) (a : Anchor) (n : ℕ) (w : Link) : Type 0 where
   pub other : Other a w
   pub chance : Live s a n w ⊎ Grown s a n w
 
--- (8) Place 11: the pop owns the end that it took, and its row has the label that the clerk replied.
+-- (8) Place 11: the pop owns the end that it took, and its row has the label that the sequential deque replied.
 pub record Eleventh (g : ℕ → ℕ) (h : ℕ → Owner) (t x : ℕ) (c : Call) : Type 0 where
   pub after : After c (popped x (g x))
   pub holds : h x ≡ held t

@@ -31,7 +31,13 @@ turn-is q (asked o) long h = refl
 turn-is q (lent t) long h = sym (lent-record q t (taskAt q t) h long) ∙ ap (λ (p : Queue). act p t Step) (own-row q t)
 
 abbrev shown : Queue → Request → Done → Event
-shown q o d = record { task = o .task; op = o .op; outcome = d .outcome; before = q .tables .control .anchor; after = d .queue .tables .control .anchor }
+shown q o d = record {
+  task = o .task;
+  op = o .op;
+  outcome = d .outcome;
+  before = q .tables .control .anchor;
+  after = d .queue .tables .control .anchor;
+}
 
 pub lent-stand : LentStand
 unfolding runTurns finalTurns run final
@@ -41,7 +47,8 @@ lent-stand q (u ∷ us) long h =
     let d = act q (o .task) (o .op) in
     let e = turn-is q u long (h .0) in
     let n = act-tasks q (o .task) (o .op) in
-    let ih = lent-stand (d .queue) us (omega (arith, n, act-lengths q (o .task) (o .op) .records)) (subst (λ n. All (Lendable n) us) (sym n) (h .1)) in
+    let ih = lent-stand (d .queue) us (omega (arith, n, act-lengths q (o .task) (o .op) .records))
+    (subst (λ n. All (Lendable n) us) (sym n) (h .1)) in
     record {
       events =
           ap (λ (d : Done). shown q o d ∷ runTurns (d .queue) us) e
@@ -61,5 +68,10 @@ pub lent-known : LentKnown
 unfolding stepLent step stepRefusal finish
 lent-known q r = by-test (λ (a : Acted). a .outcome ≢ Refused 13) (eqb (stepRefusal q alone (r .call)) 0)
     (λ z e. let w : _≡_ {A = ℕ} 0 1 = cc in omega arith)
-    (λ z e. not-given 13 (stepRules q alone (r .call)) (λ w. omega arith)
-    ((λ t w. omega arith), ((λ t w. omega arith), ((λ t. absurd (not-both t refl)), ((λ t w. omega arith), ((λ t w. omega arith), ((λ t w. omega arith), tt)))))) (refused-by e))
+    (λ z e. not-given 13 (stepRules q alone (r .call)) (λ w. omega arith) (
+      (λ t w. omega arith),
+      (
+        (λ t w. omega arith),
+        ((λ t. absurd (not-both t refl)), ((λ t w. omega arith), ((λ t w. omega arith), ((λ t w. omega arith), tt)))),
+      ),
+    ) (refused-by e))

@@ -24,7 +24,8 @@ use Rattle.model.specs.Tables.{Tables, Queue, asking, started, taskAt, u
 use Rattle.model.specs.Places.{taken}
 use Rattle.model.specs.Refusals.{openRefusal, Lent, among, alone, pushRefusal, putRefusal, popRefusal}
 use Rattle.model.specs.Calls.{stacked, opened, OpenDone, openAs, Acted, decide, pushStart, putStart, popStart, actOn, back, act, stepLent}
-use Rattle.model.specs.Mirror.{mirrorSide, mirrorStatus, mirrorWord, mirrorTables, mirrorRecord, mirrorTask, mirrorQueue, mirrorOp, mirrorActed, mirrorOpened, mirrorDone}
+use Rattle.model.specs.Mirror.{mirrorSide, mirrorStatus, mirrorWord, mirrorTables, mirrorRecord, mirrorTask, mirrorQueue, mirrorOp}
+use Rattle.model.specs.Mirror.{mirrorActed, mirrorOpened, mirrorDone}
 use Rattle.model.proofs.laws.Mirror.Words.{mirror-pack}
 use Rattle.model.proofs.laws.Mirror.Sound.{rows-fit-mirror, push-refusal-mirror, put-refusal-mirror, pop-refusal-mirror}
 use Rattle.model.proofs.laws.Mirror.Steps.{decide-mirror, step-mirror}
@@ -41,10 +42,16 @@ asking-mirror side label = refl
 act-on-mirror : (q : Tables) (p : Lent) (r : TaskRecord) (o : Op) → actOn (mirrorTables q) p (mirrorTask r) (mirrorOp o) ≡ mirrorActed (actOn q p r o)
 unfolding actOn pushStart putStart popStart
 act-on-mirror q p r (Push side slot label) =
-    let begun : (Tables → ℕ → Acted) = λ q side. record { tables = taken q slot label; task = withCall r (started 0 side slot label); outcome = Moved (Running 1) } in
-    ap (λ (why : ℕ). decide why (mirrorTables q) (mirrorTask r) (begun (mirrorTables q) (mirrorSide side))) (push-refusal-mirror q p (r .call) side slot)
+    let begun : (Tables → ℕ → Acted) = λ q side. record
+    { tables = taken q slot label; task = withCall r (started 0 side slot label); outcome = Moved (Running 1) } in
+    ap (λ (why : ℕ). decide why (mirrorTables q) (mirrorTask r) (begun (mirrorTables q) (mirrorSide side)))
+    (push-refusal-mirror q p (r .call) side slot)
     ∙ decide-mirror (pushRefusal q p (r .call) side slot) q r (begun q side) (begun (mirrorTables q) (mirrorSide side))
-    (λ e i. record { tables = mirrorTables (taken q slot label); task = withCall r (started-mirror 0 side slot label i); outcome = Moved (Running 1) })
+    (λ e i. record {
+      tables = mirrorTables (taken q slot label);
+      task = withCall r (started-mirror 0 side slot label i);
+      outcome = Moved (Running 1);
+    })
 act-on-mirror q p r (Pop side) =
     let begun : (Tables → ℕ → Acted) = λ q side. record { tables = q; task = withCall r (started 1 side 0 0); outcome = Moved (Running 1) } in
     ap (λ (why : ℕ). decide why (mirrorTables q) (mirrorTask r) (begun (mirrorTables q) (mirrorSide side))) (pop-refusal-mirror q p (r .call) side)
@@ -78,13 +85,15 @@ among-mirror q t = λ i. record {
 }
 
 back-mirror : (q : Queue) (t : ℕ) (a : Acted) → back (mirrorQueue q) t (mirrorActed a) ≡ mirrorDone (back q t a)
-back-mirror q t a = λ i. record { queue = record { tables = mirrorTables (a .tables); records = map-set mirrorTask (q .records) t (a .task) i }; outcome = a .outcome }
+back-mirror q t a = λ i. record
+    { queue = record { tables = mirrorTables (a .tables); records = map-set mirrorTask (q .records) t (a .task) i }; outcome = a .outcome }
 
 -- The law.
 pub act-mirror : (q : Queue) (t : ℕ) (o : Op) → act (mirrorQueue q) t (mirrorOp o) ≡ mirrorDone (act q t o)
 unfolding act
 act-mirror q t o =
-    ap₂ (λ (p : Lent) (r : TaskRecord). back (mirrorQueue q) t (actOn (mirrorTables (q .tables)) p r (mirrorOp o))) (among-mirror q t) (record-at-mirror q t)
+    ap₂ (λ (p : Lent) (r : TaskRecord). back (mirrorQueue q) t (actOn (mirrorTables (q .tables)) p r (mirrorOp o))) (among-mirror q t)
+    (record-at-mirror q t)
     ∙ ap (back (mirrorQueue q) t) (act-on-mirror (q .tables) (among q t) (taskAt q t) o)
     ∙ back-mirror q t (actOn (q .tables) (among q t) (taskAt q t) o)
 
@@ -101,15 +110,23 @@ map-zeroed f n z l = ap (λ (m : List _). replicate n (f z) ++ m) (map-drop f n 
     go zero = refl
     go (suc k) = ap (λ (m : List _). f z ∷ m) (go k)
 
-open-refusal-mirror : (pooled : Bool) (q : Queue) (tasks slots : ℕ) → openRefusal pooled (mirrorQueue q) tasks slots ≡ openRefusal pooled q tasks slots
+open-refusal-mirror : (pooled : Bool) (q : Queue) (tasks slots : ℕ)
+    → openRefusal pooled (mirrorQueue q) tasks slots ≡ openRefusal pooled q tasks slots
 unfolding openRefusal
 open-refusal-mirror pooled q tasks slots = rw (rows-fit-mirror pooled slots (q .tables), length-map (q .records) mirrorTask) refl
 
-opened-mirror : (pooled : Bool) (q : Queue) (tasks slots tag : ℕ) → opened pooled (mirrorQueue q) tasks slots tag ≡ mirrorQueue (opened pooled q tasks slots tag)
+opened-mirror : (pooled : Bool) (q : Queue) (tasks slots tag : ℕ)
+    → opened pooled (mirrorQueue q) tasks slots tag ≡ mirrorQueue (opened pooled q tasks slots tag)
 unfolding opened mirrorRecord mirrorStatus
 opened-mirror pooled q tasks slots tag = λ i. record {
   tables = record {
-    control = record { tasks = tasks; slots = slots; anchor = mirror-pack (emptyAnchor tag) (omega arith) i; pooled = cond pooled 1 0; head = cond pooled 1 0 };
+    control = record {
+      tasks = tasks;
+      slots = slots;
+      anchor = mirror-pack (emptyAnchor tag) (omega arith) i;
+      pooled = cond pooled 1 0;
+      head = cond pooled 1 0;
+    };
     lefts = zeroed (slots + 1) 0 (q .tables .rights);
     rights = zeroed (slots + 1) 0 (q .tables .lefts);
     labels = zeroed (slots + 1) 0 (q .tables .labels);
@@ -119,7 +136,8 @@ opened-mirror pooled q tasks slots tag = λ i. record {
   records = map-zeroed mirrorTask tasks unused (q .records) i;
 }
 
-pub open-mirror : (pooled : Bool) (q : Queue) (tasks slots tag : ℕ) → openAs pooled (mirrorQueue q) tasks slots tag ≡ mirrorOpened (openAs pooled q tasks slots tag)
+pub open-mirror : (pooled : Bool) (q : Queue) (tasks slots tag : ℕ)
+    → openAs pooled (mirrorQueue q) tasks slots tag ≡ mirrorOpened (openAs pooled q tasks slots tag)
 unfolding openAs
 open-mirror pooled q tasks slots tag =
     ap₂ (settled (mirrorQueue q)) (open-refusal-mirror pooled q tasks slots) (opened-mirror pooled q tasks slots tag)
@@ -128,7 +146,9 @@ open-mirror pooled q tasks slots tag =
     settled : Queue → ℕ → Queue → OpenDone
     settled q why new = cond (eqb why 0) (record { queue = new; outcome = opening.Opened }) (record { queue = q; outcome = opening.Refused why })
 
-    go : (b : Bool) (why : ℕ) → cond b (record { queue = mirrorQueue (opened pooled q tasks slots tag); outcome = opening.Opened }) (record { queue = mirrorQueue q; outcome = opening.Refused why })
-        ≡ mirrorOpened (cond b (record { queue = opened pooled q tasks slots tag; outcome = opening.Opened }) (record { queue = q; outcome = opening.Refused why }))
+    go : (b : Bool) (why : ℕ) → cond b (record { queue = mirrorQueue (opened pooled q tasks slots tag); outcome = opening.Opened })
+        (record { queue = mirrorQueue q; outcome = opening.Refused why })
+        ≡ mirrorOpened (cond b (record { queue = opened pooled q tasks slots tag; outcome = opening.Opened })
+        (record { queue = q; outcome = opening.Refused why }))
     go true why = refl
     go false why = refl

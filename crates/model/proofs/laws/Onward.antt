@@ -173,7 +173,8 @@ module _ (c : Control) (r : Record) (w : ℕ) (kind : leb (r .kind) 1 ≡ true) 
     leads : eqb (r .place) 0 ≡ false → From (r .kind) (r .place) (move c r w)
     unfolding move
     leads busy =
-        turn 1 (omega (arith, eqb-false (r .place) 0 busy)) (λ _. lead1) (λ h. turn 2 h (λ _. lead2) (λ h. turn 3 h (λ _. lead3) (λ h. turn 4 h (λ _. lead4) (λ h. turn 5 h (λ _. lead5)
+        turn 1 (omega (arith, eqb-false (r .place) 0 busy)) (λ _. lead1)
+        (λ h. turn 2 h (λ _. lead2) (λ h. turn 3 h (λ _. lead3) (λ h. turn 4 h (λ _. lead4) (λ h. turn 5 h (λ _. lead5)
         (λ h. turn 6 h (λ _. lead6) (λ h. turn 7 h (λ _. lead7) (λ h. turn 8 h (λ _. lead8) (λ h. turn 9 h (λ _. lead9) (λ h. turn 10 h (λ _. lead10)
         (λ h. turn 11 h (λ e. lead11 (is-pop (or-first _ (eq-eqb (r .place) 11 e)))) (λ h. turn 12 h (λ e. lead12 (is-push h (omega arith)))
         (λ h. turn 13 h (λ e. lead13 (is-push (omega arith) (omega arith))) (λ h. turn 14 h (λ e. lead14 (is-push (omega arith) (omega arith)))

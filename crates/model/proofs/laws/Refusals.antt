@@ -16,7 +16,8 @@ use Rattle.model.specs.declared.Opening.the-variants as opening
 use Rattle.model.specs.declared.Op.{Op}
 use Rattle.model.specs.declared.Op.the-variants.{Push, Pop, Put, Step}
 use Rattle.model.specs.Tables.{Tables, Queue, unused, taskAt}
-use Rattle.model.specs.Refusals.{Rule, rule, first, openRules, openRefusal, Lent, among, alone, pushRules, pushRefusal, putRules, putRefusal, popRules, popRefusal, stepRules, stepRefusal}
+use Rattle.model.specs.Refusals.{Rule, rule, first, openRules, openRefusal, Lent, among, alone, pushRules, pushRefusal, putRules}
+use Rattle.model.specs.Refusals.{putRefusal, popRules, popRefusal, stepRules, stepRefusal}
 use Rattle.model.specs.History.{All}
 use Rattle.model.specs.Calls.{opened, OpenDone, openAs, Acted, decide, pushStart, putStart, popStart, finish, step, actOn, back, act, stepLent}
 use Rattle.model.proofs.laws.Tests.{and-both}
@@ -96,7 +97,11 @@ act-refused q t o n h =
     let e = unmoved (decided (q .tables) (among q t) (taskAt q t) o) n h in
     ap (λ (a : Acted). back q t a .queue) e ∙ λ i. record { tables = q .tables; records = set-getD (q .records) t unused i }
 
-pub lent-refused : (q : Tables) (r : TaskRecord) (n : ℕ) → stepLent q r .outcome ≡ Refused n → stepLent q r ≡ record { tables = q; task = r; outcome = Refused n }
+pub lent-refused : (q : Tables) (r : TaskRecord) (n : ℕ) → stepLent q r .outcome ≡ Refused n → stepLent q r ≡ record {
+  tables = q;
+  task = r;
+  outcome = Refused n;
+}
 unfolding stepLent actOn
 lent-refused q r n h = unmoved (decided q alone r Step) n h
 
@@ -105,19 +110,23 @@ pub data OpenDecided (rules : List Rule) (q new : Queue) : OpenDone → Type 0 w
   accepted-opening : NoneApplies rules → OpenDecided rules q new (record { queue = new; outcome = opening.Opened })
   refused-opening : (n : ℕ) → FirstApplies n rules → OpenDecided rules q new (record { queue = q; outcome = opening.Refused n })
 
-pub open-decided : (pooled : Bool) (q : Queue) (tasks slots tag : ℕ) → OpenDecided (openRules pooled q tasks slots) q (opened pooled q tasks slots tag) (openAs pooled q tasks slots tag)
+pub open-decided : (pooled : Bool) (q : Queue) (tasks slots tag : ℕ)
+    → OpenDecided (openRules pooled q tasks slots) q (opened pooled q tasks slots tag) (openAs pooled q tasks slots tag)
 unfolding openAs openRefusal
 open-decided pooled q tasks slots tag = go (find (openRules pooled q tasks slots) refl)
   where
     go : {n : ℕ} → Found (openRules pooled q tasks slots) n
         → OpenDecided (openRules pooled q tasks slots) q (opened pooled q tasks slots tag)
-        (cond (eqb n 0) (record { queue = opened pooled q tasks slots tag; outcome = opening.Opened }) (record { queue = q; outcome = opening.Refused n }))
+        (cond (eqb n 0) (record { queue = opened pooled q tasks slots tag; outcome = opening.Opened })
+        (record { queue = q; outcome = opening.Refused n }))
     go (none f) = accepted-opening f
     go (some n h f) = rw (ne-eqb n 0 (λ e. omega arith)) (refused-opening n f)
 
-pub open-refused : (pooled : Bool) (q : Queue) (tasks slots tag n : ℕ) → openAs pooled q tasks slots tag .outcome ≡ opening.Refused n → openAs pooled q tasks slots tag .queue ≡ q
+pub open-refused : (pooled : Bool) (q : Queue) (tasks slots tag n : ℕ) → openAs pooled q tasks slots tag .outcome ≡ opening.Refused n
+    → openAs pooled q tasks slots tag .queue ≡ q
 open-refused pooled q tasks slots tag n h = go (open-decided pooled q tasks slots tag) h
   where
-    go : {done : OpenDone} → OpenDecided (openRules pooled q tasks slots) q (opened pooled q tasks slots tag) done → done .outcome ≡ opening.Refused n → done .queue ≡ q
+    go : {done : OpenDone} → OpenDecided (openRules pooled q tasks slots) q (opened pooled q tasks slots tag) done
+        → done .outcome ≡ opening.Refused n → done .queue ≡ q
     go (accepted-opening f) h = absurd (let z : _≡_ {A = ℕ} 0 1 = cc in omega arith)
     go (refused-opening m f) h = refl

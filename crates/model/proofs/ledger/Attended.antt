@@ -13,7 +13,7 @@ use Rattle.model.specs.declared.Answer.the-variants.{Empty, NoSlot, Popp
 use Rattle.model.specs.declared.Answer.{Answer}
 use Rattle.model.specs.declared.Entry.{Entry}
 use Rattle.model.proofs.tests.Truth.{and-true, by-test, not-both}
-use Rattle.model.proofs.machine.Clerk as B
+use Rattle.model.proofs.machine.Book as B
 use Rattle.model.proofs.machine.Laws.{upd-other, upd-same}
 use Rattle.model.proofs.machine.Machine as M
 use Rattle.model.proofs.machine.Machine.{upd}
@@ -36,12 +36,21 @@ goingOn (Popped e) = 0
 goingOn NoSlot = 0
 
 -- A call that its one effect closes.
-once : (p : Bool) (n : ℕ) (c : Call) (k : B.Call) (a : Answer) → Matches p (suc n) c k → B.Kept (record { call = k; answer = answerSeen a }) → Once c n a
+once : (p : Bool) (n : ℕ) (c : Call) (k : B.Call) (a : Answer) → Matches p (suc n) c k → B.Kept (record {
+  call = k;
+  answer = answerSeen a;
+}) → Once c n a
 once p n c k a m o = go (c .effects) refl (m .count) (m .last)
   where
     go : (l : List Effect) → c .effects ≡ l → k .effects ≡ length l → Last (suc n) c k l → Once c n a
     go [] e g h = absurd (omega (arith, o .once))
-    go (x ∷ []) e g h = record { effect = x; only = e; begun = h .begun; within = omega (arith, h .past); agrees = same-answer (x .reply) a (h .final) (o .agrees ∙ h .told) }
+    go (x ∷ []) e g h = record {
+      effect = x;
+      only = e;
+      begun = h .begun;
+      within = omega (arith, h .past);
+      agrees = same-answer (x .reply) a (h .final) (o .agrees ∙ h .told);
+    }
     go (x ∷ y ∷ l) e g h = absurd (omega (arith, o .once))
 
 -- The call of a step, in the book after it.
@@ -67,7 +76,8 @@ book-other b t k ev Empty u n = upd-other (b .calls) t _ u n
 book-other b t k ev (Popped e) u n = upd-other (b .calls) t _ u n
 book-other b t k ev NoSlot u n = upd-other (b .calls) t _ u n
 
-book-queue : (b : B.Book) (t : ℕ) (k : B.Call) (ev : Event) (a : Answer) → bookAfter b t k ev a .queue ≡ B.noted k (b .queue) (anchorSeen (ev .before)) (anchorSeen (ev .after)) (answerSeen a) .queue
+book-queue : (b : B.Book) (t : ℕ) (k : B.Call) (ev : Event) (a : Answer)
+    → bookAfter b t k ev a .queue ≡ B.noted k (b .queue) (anchorSeen (ev .before)) (anchorSeen (ev .after)) (answerSeen a) .queue
 book-queue b t k ev (Running p) = refl
 book-queue b t k ev Pushed = refl
 book-queue b t k ev Empty = refl
@@ -95,23 +105,30 @@ pub record Attended (p : Bool) (n : ℕ) (b : B.Book) (t : ℕ) (k : B.Call) (ev
   pub others : (u : ℕ) → u ≢ t → opens u (l .calls) ≡ opens u cs
 
 module _ (p : Bool) (n : ℕ) (b : B.Book) (k : B.Call) (ev : Event) (a : Answer)
-    (ready : (c : Call) → Matches p n c (b .calls (ev .task)) → Matches p n c k × Told c k ev a) (o : KeptHead n b (B.noted k (b .queue) (anchorSeen (ev .before)) (anchorSeen (ev .after)) (answerSeen a) .call) a) where
+    (ready : (c : Call) → Matches p n c (b .calls (ev .task)) → Matches p n c k × Told c k ev a)
+    (o : KeptHead n b (B.noted k (b .queue) (anchorSeen (ev .before)) (anchorSeen (ev .after)) (answerSeen a) .call) a) where
   abbrev t : ℕ
   t = ev .task
 
   -- The open call of the task comes first.
-  here : (c : Call) (cs : List Call) → c .task ≡ t → c .ending ≡ pending → opens t cs ≡ 0 → Matches p n c (b .calls (c .task)) → Tracks p n (b .calls) cs
+  here : (c : Call) (cs : List Call) → c .task ≡ t → c .ending ≡ pending → opens t cs ≡ 0 → Matches p n c (b .calls (c .task))
+      → Tracks p n (b .calls) cs
       → Attended p n b t k ev a (c ∷ cs) (stepOf n ev a (b .queue) c cs)
   here c cs z g f m r =
       let y = ready c (subst (λ u. Matches p n c (b .calls u)) z m) in
       let st = step-call p n ev a (b .queue) c k (y .0) cs (y .1) in
       record {
         deque = book-queue b t k ev a ∙ st .deque;
-        tracks = subst (Tracks p (suc n) (bookAfter b t k ev a .calls)) (sym (st .calls))
-            (closes p n b t k ev a (st .call) (st .call .ending) (st .task ∙ z) (st .ending) (st .matches) o, rest-keeps p n (b .calls) (bookAfter b t k ev a .calls) t (book-other b t k ev a) cs f r);
-        own = ap (opens t) (st .calls) ∙ ap (λ (b : Bool). cond (b && isOpen (st .call .ending)) (suc (opens t cs)) (opens t cs)) (eq-eqb _ _ (st .task ∙ z))
-            ∙ ap (λ (e : Ending). cond (isOpen e) (suc (opens t cs)) (opens t cs)) (st .ending) ∙ ap (λ (k : ℕ). cond (isOpen (ended n a)) (suc k) k) f ∙ ended-open n a;
-        others = λ u d. ap (opens u) (st .calls) ∙ opens-skip u (st .call) cs (λ w. d (sym w ∙ st .task ∙ z)) ∙ sym (opens-skip u c cs (λ w. d (sym w ∙ z)));
+        tracks = subst (Tracks p (suc n) (bookAfter b t k ev a .calls)) (sym (st .calls)) (
+          closes p n b t k ev a (st .call) (st .call .ending) (st .task ∙ z) (st .ending) (st .matches) o,
+          rest-keeps p n (b .calls) (bookAfter b t k ev a .calls) t (book-other b t k ev a) cs f r,
+        );
+        own = ap (opens t) (st .calls)
+            ∙ ap (λ (b : Bool). cond (b && isOpen (st .call .ending)) (suc (opens t cs)) (opens t cs)) (eq-eqb _ _ (st .task ∙ z))
+            ∙ ap (λ (e : Ending). cond (isOpen e) (suc (opens t cs)) (opens t cs)) (st .ending)
+            ∙ ap (λ (k : ℕ). cond (isOpen (ended n a)) (suc k) k) f ∙ ended-open n a;
+        others = λ u d. ap (opens u) (st .calls) ∙ opens-skip u (st .call) cs (λ w. d (sym w ∙ st .task ∙ z))
+            ∙ sym (opens-skip u c cs (λ w. d (sym w ∙ z)));
       }
 
   -- No other call takes part.

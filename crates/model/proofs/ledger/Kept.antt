@@ -25,7 +25,7 @@ use Rattle.model.specs.declared.TaskRecord.{TaskRecord}
 use Rattle.model.proofs.tests.Truth.{by-test, decide-eq}
 use Rattle.model.proofs.lists.Store.{set-back}
 use Rattle.model.proofs.machine.Answers.{EndsAt}
-use Rattle.model.proofs.machine.Clerk as B
+use Rattle.model.proofs.machine.Book as B
 use Rattle.model.proofs.machine.Laws.{upd-other, upd-same}
 use Rattle.model.proofs.machine.Machine as M
 use Rattle.model.proofs.machine.Machine.{upd}
@@ -33,7 +33,8 @@ use Rattle.model.proofs.invariant.Invariant.{Inv}
 use Rattle.model.proofs.bridge.Accepted.{Lies, Pushing, Stepping, pop-accepted, push-accepted, put-accepted, step-accepted}
 use Rattle.model.proofs.bridge.Decoded.{seenMove}
 use Rattle.model.proofs.bridge.Facts.{LinksFine}
-use Rattle.model.proofs.bridge.Operations.{not-idle, pop-keeps, push-keeps, put-back, put-keeps, reply, step-ends, step-grants, step-keeps, step-links, step-pooled, step-task, step-told, stepped, task-of}
+use Rattle.model.proofs.bridge.Operations.{not-idle, pop-keeps, push-keeps, put-back, put-keeps, reply, step-ends, step-grants}
+use Rattle.model.proofs.bridge.Operations.{step-keeps, step-links, step-pooled, step-task, step-told, stepped, task-of}
 use Rattle.model.proofs.bridge.View.{anchorSeen, answerSeen, kindOf, placeOf, recOf, stateOf, touchSeen, view}
 use Rattle.model.proofs.ledger.Attended.{Attended, attend-keeps, bookAfter, goingOn}
 use Rattle.model.proofs.ledger.Matched.{Matched, busyNo}
@@ -47,7 +48,11 @@ goes-on Empty b e = rw e
 goes-on (Popped x) b e = rw e
 goes-on NoSlot b e = rw e
 
-kept-head : (b : B.Book) (t : ℕ) (w : B.Noted) (a : Answer) → All B.Kept (B.stepped b t w (answerSeen a) .closed) → Final a → B.Kept (record { call = w .call; answer = answerSeen a })
+kept-head : (b : B.Book) (t : ℕ) (w : B.Noted) (a : Answer) → All B.Kept (B.stepped b t w (answerSeen a) .closed) → Final a → B.Kept (record {
+  call =
+      w .call;
+  answer = answerSeen a;
+})
 kept-head b t w (Running p) h f = absurd f
 kept-head b t w Pushed h f = h .0
 kept-head b t w Empty h f = h .0
@@ -56,7 +61,8 @@ kept-head b t w NoSlot h f = h .0
 
 -- The end that an effect sets at a push's side is the slot that the ledger tells: the one named, if one was.
 told-end : (c : Call) (k : B.Call) (ev : Event) (a : Answer) (p : Bool) → k .side ≡ eqb (c .side) 1 → Names p (k .slot) (c .entry .slot)
-    → (B.effect (anchorSeen (ev .before)) (anchorSeen (ev .after)) (answerSeen a) ≡ true → B.isNoSlot (answerSeen a) ≡ false → k .kind ≡ M.push → M.tip (anchorSeen (ev .after)) (k .side) ≡ k .slot)
+    → (B.effect (anchorSeen (ev .before)) (anchorSeen (ev .after)) (answerSeen a) ≡ true → B.isNoSlot (answerSeen a) ≡ false → k .kind ≡ M.push
+    → M.tip (anchorSeen (ev .after)) (k .side) ≡ k .slot)
     → Told c k ev a
 told-end c k ev a p side names f e z y = by-test (λ x. k .slot ≡ x) (eqb (c .entry .slot) 0)
     (λ _. sym (f (effect-is ev a ∙ e) (no-slot-is a ∙ z) y) ∙ ap (λ (d : Bool). M.tip (anchorSeen (ev .after)) d) side ∙ end (eqb (c .side) 1))
@@ -79,7 +85,14 @@ module _ (n : ℕ) (q : Queue) (l : Ledger) (g : Matched n q l) (t : ℕ) where
   put c = withCall (taskAt q t) c
 
   abbrev After : Op → Done → Type 0
-  After o d = Matched (suc n) (d .queue) (note n (record { task = t; op = o; outcome = d .outcome; before = q .tables .control .anchor; after = d .queue .tables .control .anchor }) (d .outcome) l)
+  After o d = Matched (suc n) (d .queue)
+      (note n (record {
+        task = t;
+        op = o;
+        outcome = d .outcome;
+        before = q .tables .control .anchor;
+        after = d .queue .tables .control .anchor;
+      }) (d .outcome) l)
 
   abbrev Puts : Op → Acted → Type 0
   Puts o a = After o (back q t a)
@@ -87,8 +100,16 @@ module _ (n : ℕ) (q : Queue) (l : Ledger) (g : Matched n q l) (t : ℕ) where
   -- A refused operation puts the record back as it was.
   refused : (o : Op) (why : ℕ) → Puts o (record { tables = q .tables; task = taskAt q t; outcome = Refused why })
   unfolding note
-  refused o why = subst (λ (x : List TaskRecord). Matched (suc n) (record { tables = q .tables; records = x }) l) (sym (set-back (q .records) t unused))
-      (record { book = g .book; inv = g .inv; links = g .links; deque = g .deque; tracks = tracks-mono (isPooled (q .tables .control)) n (g .book .calls) (l .calls) (g .tracks); busy = g .busy })
+  refused o why = subst (λ (x : List TaskRecord). Matched (suc n) (record { tables = q .tables; records = x }) l)
+      (sym (set-back (q .records) t unused))
+      (record {
+        book = g .book;
+        inv = g .inv;
+        links = g .links;
+        deque = g .deque;
+        tracks = tracks-mono (isPooled (q .tables .control)) n (g .book .calls) (l .calls) (g .tracks);
+        busy = g .busy;
+      })
 
   module _ (s : Stepping q t) where
     abbrev q′ : Queue
@@ -119,12 +140,14 @@ module _ (n : ℕ) (q : Queue) (l : Ledger) (g : Matched n q l) (t : ℕ) where
     ready : (c : Call) → Matches (isPooled (q .tables .control)) n c (b .calls t) → Matches (isPooled (q .tables .control)) n c k × Told c k ev a
     unfolding view
     ready c m =
-        let m′ = matches-granted (isPooled (q .tables .control)) n c (b .calls t) (touchSeen (move (q .tables .control) r (linkMet (q .tables) r) .touch)) (step-grants q b (g .inv) (g .links) t s (b .calls t)) m in
+        let m′ = matches-granted (isPooled (q .tables .control)) n c (b .calls t)
+        (touchSeen (move (q .tables .control) r (linkMet (q .tables) r) .touch)) (step-grants q b (g .inv) (g .links) t s (b .calls t)) m in
         (m′, told-end c k ev a (isPooled (q .tables .control)) (m′ .side) (m′ .slot) (step-told q b (g .inv) (g .links) t s))
 
     attended : Attended (isPooled (q .tables .control)) n b t k ev a (l .calls) (attend n ev a (l .deque) (l .calls))
     attended = subst (λ d. Attended (isPooled (q .tables .control)) n b t k ev a (l .calls) (attend n ev a d (l .calls))) (g .deque)
-        (attend-keeps (isPooled (q .tables .control)) n b k ev a ready (kept-head b t _ a (kept .kept)) (l .calls) (g .busy t ∙ ap busyNo was-busy) (g .tracks))
+        (attend-keeps (isPooled (q .tables .control)) n b k ev a ready (kept-head b t _ a (kept .kept)) (l .calls)
+        (g .busy t ∙ ap busyNo was-busy) (g .tracks))
 
     step-good : Puts Step (finish (q .tables) (taskAt q t) (move (q .tables .control) r (linkMet (q .tables) r)))
     unfolding note accept finish
@@ -133,14 +156,16 @@ module _ (n : ℕ) (q : Queue) (l : Ledger) (g : Matched n q l) (t : ℕ) where
       inv = kept;
       links = step-links q b (g .inv) (g .links) t s;
       deque = attended .deque;
-      tracks = subst (λ p. Tracks p (suc n) (bookAfter b t k ev a .calls) (attend n ev a (l .deque) (l .calls) .calls)) (sym (step-pooled q b (g .inv) (g .links) t s)) (attended .tracks);
+      tracks = subst (λ p. Tracks p (suc n) (bookAfter b t k ev a .calls) (attend n ev a (l .deque) (l .calls) .calls))
+          (sym (step-pooled q b (g .inv) (g .links) t s)) (attended .tracks);
       busy = λ u. go u (decide-eq u t);
     }
       where
         is : (u : ℕ) → stateOf q′ .task u ≡ upd (stateOf q .task) t (seenMove (q .tables) r .rec) u
         is u = step-task q b (g .inv) (g .links) t s u
 
-        idle-is : (u : ℕ) (x : M.Rec) → upd (stateOf q .task) t (seenMove (q .tables) r .rec) u ≡ x → busyNo (M.isIdle (x .place)) ≡ busyNo (M.isIdle (stateOf q′ .task u .place))
+        idle-is : (u : ℕ) (x : M.Rec) → upd (stateOf q .task) t (seenMove (q .tables) r .rec) u ≡ x
+            → busyNo (M.isIdle (x .place)) ≡ busyNo (M.isIdle (stateOf q′ .task u .place))
         idle-is u x e = ap (λ (x : M.Rec). busyNo (M.isIdle (x .place))) (sym (is u ∙ e))
 
         go : (u : ℕ) → (u ≡ t) ⊎ (u ≢ t) → opens u (attend n ev a (l .deque) (l .calls) .calls) ≡ busyNo (M.isIdle (stateOf q′ .task u .place))
@@ -151,11 +176,14 @@ module _ (n : ℕ) (q : Queue) (l : Ledger) (g : Matched n q l) (t : ℕ) where
   module _ (z : Lies q t) (free : r .place ≡ 0) where
     was-idle : opens t (l .calls) ≡ 0
     unfolding recOf
-    was-idle = g .busy t ∙ ap (λ (x : M.Rec). busyNo (M.isIdle (x .place))) (task-of q t (z .known)) ∙ ap (λ (p : ℕ). busyNo (M.isIdle (placeOf p))) free
+    was-idle = g .busy t ∙ ap (λ (x : M.Rec). busyNo (M.isIdle (x .place))) (task-of q t (z .known))
+        ∙ ap (λ (p : ℕ). busyNo (M.isIdle (placeOf p))) free
 
-    begun : (q′ : Queue) (new : Record) (kind side : ℕ) (e : Entry) → M.isIdle (recOf new .place) ≡ false → isPooled (q′ .tables .control) ≡ isPooled (q .tables .control)
+    begun : (q′ : Queue) (new : Record) (kind side : ℕ) (e : Entry) → M.isIdle (recOf new .place) ≡ false
+        → isPooled (q′ .tables .control) ≡ isPooled (q .tables .control)
         → ((u : ℕ) → stateOf q′ .task u ≡ upd (stateOf q .task) t (recOf new) u) → Names (isPooled (q .tables .control)) (e .slot) (e .slot)
-        → Inv (record { state = stateOf q′; book = B.begun (g .book) t (B.opened (kindOf kind) (eqb side 1) (e .slot) (e .label)) }) → LinksFine (q′ .tables)
+        → Inv (record { state = stateOf q′; book = B.begun (g .book) t (B.opened (kindOf kind) (eqb side 1) (e .slot) (e .label)) })
+        → LinksFine (q′ .tables)
         → Matched (suc n) q′ (over (begins n t kind side e) l)
     unfolding recOf
     begun q′ new kind side e up p is names i k =
@@ -174,9 +202,12 @@ module _ (n : ℕ) (q : Queue) (l : Ledger) (g : Matched n q l) (t : ℕ) where
           busy = λ u. go u (decide-eq u t);
         }
       where
-        go : (u : ℕ) → (u ≡ t) ⊎ (u ≢ t) → cond (eqb t u && true) (suc (opens u (l .calls))) (opens u (l .calls)) ≡ busyNo (M.isIdle (stateOf q′ .task u .place))
-        go u (inl z) = subst (λ u. cond (eqb t u && true) (suc (opens u (l .calls))) (opens u (l .calls)) ≡ busyNo (M.isIdle (stateOf q′ .task u .place))) (sym z)
-            (ap (λ (b : Bool). cond (b && true) (suc (opens t (l .calls))) (opens t (l .calls))) (eq-eqb t t refl) ∙ ap suc was-idle ∙ ap busyNo (sym up)
+        go : (u : ℕ) → (u ≡ t) ⊎ (u ≢ t)
+            → cond (eqb t u && true) (suc (opens u (l .calls))) (opens u (l .calls)) ≡ busyNo (M.isIdle (stateOf q′ .task u .place))
+        go u (inl z) = subst (λ u. cond (eqb t u && true) (suc (opens u (l .calls))) (opens u (l .calls))
+            ≡ busyNo (M.isIdle (stateOf q′ .task u .place))) (sym z)
+            (ap (λ (b : Bool). cond (b && true) (suc (opens t (l .calls))) (opens t (l .calls))) (eq-eqb t t refl) ∙ ap suc was-idle
+            ∙ ap busyNo (sym up)
             ∙ ap (λ (x : M.Rec). busyNo (M.isIdle (x .place))) (sym (is t ∙ upd-same (stateOf q .task) t (recOf new))))
         go u (inr z) = ap (λ (b : Bool). cond (b && true) (suc (opens u (l .calls))) (opens u (l .calls))) (ne-eqb t u (λ w. z (sym w))) ∙ g .busy u
             ∙ ap (λ (x : M.Rec). busyNo (M.isIdle (x .place))) (sym (is u ∙ upd-other (stateOf q .task) t (recOf new) u z))
@@ -186,22 +217,34 @@ module _ (n : ℕ) (q : Queue) (l : Ledger) (g : Matched n q l) (t : ℕ) where
     unnamed false = refl
     unnamed true = refl
 
-    replaced : (x : Record) (u : ℕ) → stateOf (record { tables = q .tables; records = set (q .records) t (put x) }) .task u ≡ upd (stateOf q .task) t (recOf x) u
+    replaced : (x : Record) (u : ℕ) → stateOf (record { tables = q .tables; records = set (q .records) t (put x) }) .task u
+        ≡ upd (stateOf q .task) t (recOf x) u
     replaced x u = ap (λ (f : ℕ → M.Rec). f u) (put-back q t z (put x))
 
     pop-good : (side : ℕ) → Puts (Pop side) (record { tables = q .tables; task = put (started 1 side 0 0); outcome = Moved (Running 1) })
     unfolding note accept recOf
-    pop-good side = begun (record { tables = q .tables; records = set (q .records) t (put (started 1 side 0 0)) }) (started 1 side 0 0) 1 side (record { slot = 0; label = 0 }) refl refl
+    pop-good side = begun (record { tables = q .tables; records = set (q .records) t (put (started 1 side 0 0)) }) (started 1 side 0 0) 1 side
+        (record { slot = 0; label = 0 }) refl refl
         (replaced (started 1 side 0 0)) (unnamed (isPooled (q .tables .control))) (pop-keeps q (g .book) (g .inv) (g .links) t z free side) (g .links)
 
-    put-good : (side y : ℕ) → isPooled (q .tables .control) ≡ true → Puts (Put side y) (record { tables = q .tables; task = put (asking side y); outcome = Moved (Running 12) })
+    put-good : (side y : ℕ) → isPooled (q .tables .control) ≡ true → Puts (Put side y) (record {
+      tables = q .tables;
+      task = put (asking side y);
+      outcome = Moved (Running 12);
+    })
     unfolding note accept recOf
-    put-good side y p = begun (record { tables = q .tables; records = set (q .records) t (put (asking side y)) }) (asking side y) 0 side (record { slot = 0; label = y }) refl refl
+    put-good side y p = begun (record { tables = q .tables; records = set (q .records) t (put (asking side y)) }) (asking side y) 0 side
+        (record { slot = 0; label = y }) refl refl
         (replaced (asking side y)) (unnamed (isPooled (q .tables .control))) (put-keeps q (g .book) (g .inv) (g .links) t z free side y p) (g .links)
 
-    push-good : (side x y : ℕ) → Pushing q t side x → Puts (Push side x y) (record { tables = taken (q .tables) x y; task = put (started 0 side x y); outcome = Moved (Running 1) })
+    push-good : (side x y : ℕ) → Pushing q t side x → Puts (Push side x y) (record {
+      tables = taken (q .tables) x y;
+      task = put (started 0 side x y);
+      outcome = Moved (Running 1);
+    })
     unfolding note accept stateOf recOf
-    push-good side x y p = begun (record { tables = taken (q .tables) x y; records = set (q .records) t (put (started 0 side x y)) }) (started 0 side x y) 0 side (record { slot = x; label = y }) refl refl
+    push-good side x y p = begun (record { tables = taken (q .tables) x y; records = set (q .records) t (put (started 0 side x y)) })
+        (started 0 side x y) 0 side (record { slot = x; label = y }) refl refl
         (replaced (started 0 side x y)) (subst (λ b. Names b x x) (sym (p .named)) refl)
         (push-keeps q (g .book) (g .inv) (g .links) t z free side x y (p .real) (p .within) (p .named) (p .unmarked))
         (record { spare = g .links .spare; tag = g .links .tag; slot = g .links .slot; next = g .links .next; head = g .links .head })

@@ -1,4 +1,4 @@
--- Calls that the clerk's book matches are lawful.
+-- Calls that the book matches are lawful.
 use mathlib.Core.List.{List, [], _∷_}
 use mathlib.Core.Path.{_≡_}
 use Prim.Native.Nat.{_≤_, ℕ}

@@ -1,4 +1,4 @@
--- A call of the ledger and the call in the clerk's book.
+-- A call of the ledger and the call in the book.
 use mathlib.Core.Bool.{Bool, _&&_, cond, false, true}
 use mathlib.Core.List.{List, [], _∷_}
 use mathlib.Core.Logic.{_≢_}
@@ -12,7 +12,7 @@ use Rattle.model.specs.History.{All, Call, Effect, Ending, Once, answere
 use Rattle.model.specs.declared.Answer.the-variants.{Empty, NoSlot, Popped, Pushed, Running}
 use Rattle.model.specs.declared.Answer.{Answer}
 use Rattle.model.proofs.tests.Truth.{not-both}
-use Rattle.model.proofs.machine.Clerk as B
+use Rattle.model.proofs.machine.Book as B
 use Rattle.model.proofs.machine.Machine.{Touch, clear, none, putAnchor, putHead, putLink, putNext, take}
 use Rattle.model.proofs.bridge.View.{answerSeen, kindOf}
 
@@ -91,7 +91,15 @@ last-mono n c k [] h = tt
 last-mono n c k (e ∷ l) h = record { told = h .told; final = h .final; begun = h .begun; past = omega (arith, h .past) }
 
 pub matches-mono : (p : Bool) (n : ℕ) (c : Call) (k : B.Call) → Matches p n c k → Matches p (suc n) c k
-matches-mono p n c k h = record { kind = h .kind; side = h .side; slot = h .slot; label = h .label; begun = omega (arith, h .begun); count = h .count; last = last-mono n c k (c .effects) (h .last) }
+matches-mono p n c k h = record {
+  kind = h .kind;
+  side = h .side;
+  slot = h .slot;
+  label = h .label;
+  begun = omega (arith, h .begun);
+  count = h .count;
+  last = last-mono n c k (c .effects) (h .last);
+}
 
 pub tracks-mono : (p : Bool) (n : ℕ) (f : ℕ → B.Call) (cs : List Call) → Tracks p n f cs → Tracks p (suc n) f cs
 tracks-mono p n f [] h = tt
@@ -104,7 +112,8 @@ tracks-mono p n f (c ∷ cs) h = (go (c .ending) (h .0), tracks-mono p n f cs (h
 module _ (p : Bool) (n : ℕ) (f g : ℕ → B.Call) (t : ℕ) (same : (u : ℕ) → u ≢ t → g u ≡ f u) where
   -- A call that is not the open one of the task.
   pub apart : (c : Call) (e : Ending) → eqb (c .task) t && isOpen e ≡ false → Tracked p n f c e → Tracked p (suc n) g c e
-  apart c pending z h = subst (Matches p (suc n) c) (sym (same (c .task) (λ y. not-both (ap (λ (b : Bool). b && true) (eq-eqb _ _ y)) z))) (matches-mono p n c (f (c .task)) h)
+  apart c pending z h = subst (Matches p (suc n) c) (sym (same (c .task) (λ y. not-both (ap (λ (b : Bool). b && true) (eq-eqb _ _ y)) z)))
+      (matches-mono p n c (f (c .task)) h)
   apart c (answered m a) z h = h
 
   pub rest-keeps : (cs : List Call) → opens t cs ≡ 0 → Tracks p n f cs → Tracks p (suc n) g cs
@@ -116,7 +125,8 @@ module _ (p : Bool) (n : ℕ) (f g : ℕ → B.Call) (t : ℕ) (same : (u : ℕ)
       go false e r = (apart c (c .ending) e (h .0), r (ap (λ (b : Bool). cond b (suc (opens t cs)) (opens t cs)) (sym e) ∙ z))
 
 -- A slot drawn from the pool.
-pub matches-granted : (p : Bool) (n : ℕ) (c : Call) (k : B.Call) (g : Touch) → (p ≡ false → B.granted g k ≡ k) → Matches p n c k → Matches p n c (B.granted g k)
+pub matches-granted : (p : Bool) (n : ℕ) (c : Call) (k : B.Call) (g : Touch) → (p ≡ false → B.granted g k ≡ k) → Matches p n c k
+    → Matches p n c (B.granted g k)
 matches-granted false n c k g e h = subst (Matches false n c) (sym (e refl)) h
 matches-granted true n c k g e h = go g
   where
@@ -125,7 +135,15 @@ matches-granted true n c k g e h = go g
     go (putAnchor a) = h
     go (putLink d x v) = h
     go (clear x) = h
-    go (take w x l) = record { kind = h .kind; side = h .side; slot = h .slot; label = h .label; begun = h .begun; count = h .count; last = last-granted (c .effects) (h .last) }
+    go (take w x l) = record {
+      kind = h .kind;
+      side = h .side;
+      slot = h .slot;
+      label = h .label;
+      begun = h .begun;
+      count = h .count;
+      last = last-granted (c .effects) (h .last);
+    }
       where
         last-granted : (l : List Effect) → Last n c k l → Last n c (B.granted (take w x 0) k) l
         last-granted [] m = tt

@@ -4,6 +4,7 @@ use mathlib.Core.Logic.{_≢_, _⊎_, inl, inr}
 use mathlib.Core.List.{List, []}
 use mathlib.Core.Path.{_∙_, _≡_, ap, refl, subst, sym}
 use Prim.Native.Nat.{_%_, _*_, _+_, _/_, _<_, _^_, _≤_, suc, zero, ℕ}
+use native.Mathlib.Nat.{zero-div}
 use native.Mathlib.Omega.{arith}
 use lib.Dec.{eqb, ltb}
 use lib.ListN.{List·getD-append, drop, getD, getD-replicate, length-replicate, replicate}
@@ -13,13 +14,13 @@ use Rattle.word.specs.Link.{linkOf, spareOf}
 use Rattle.model.specs.Calls.{opened, stacked}
 use Rattle.model.specs.History.{Ledger}
 use Rattle.model.specs.Refusals.{openRefusal, openRules}
-use Rattle.model.specs.Tables.{Queue, idle, isPooled, recordAt, zeroed, unused}
+use Rattle.model.specs.Tables.{Queue, idle, isPooled, marked, recordAt, zeroed, unused}
 use Rattle.model.specs.declared.Record.{Record}
 use Rattle.model.specs.declared.TaskRecord.{TaskRecord}
 use Rattle.model.proofs.tests.Rules.{cleared}
-use Rattle.model.proofs.tests.Truth.{by-test, decide-eq}
+use Rattle.model.proofs.tests.Truth.{by-test, decide-eq, not-both}
 use Rattle.model.proofs.lists.Range.{climb-last, climb-step}
-use Rattle.model.proofs.machine.Clerk as B
+use Rattle.model.proofs.machine.Book as B
 use Rattle.model.proofs.machine.Machine as M
 use Rattle.model.proofs.invariant.Owners.{Pool, Spare, free}
 use Rattle.model.proofs.places.Opening.{all-stacked, fresh}
@@ -74,7 +75,8 @@ module _ (pooled : Bool) (q : Queue) (tasks slots tag : ℕ) where
       go : (n i : ℕ) → 1 ≤ i → i < n → getD (cond pooled (stacked n (q .tables .next)) (q .tables .next)) i 0 ≡ suc i
       go zero i l h = absurd (omega arith)
       go (suc n) zero l h = absurd (omega arith)
-      go (suc n) (suc i) l h = rw p (climb-step 2 n (drop (suc n + 1) (q .tables .next)) i (omega arith) ∙ (let z : 2 + i ≡ suc (suc i) = omega arith in z))
+      go (suc n) (suc i) l h = rw p
+          (climb-step 2 n (drop (suc n + 1) (q .tables .next)) i (omega arith) ∙ (let z : 2 + i ≡ suc (suc i) = omega arith in z))
 
   next-end : pooled ≡ true → 1 ≤ slots → getD (o .tables .next) slots 0 ≡ 0
   unfolding opened
@@ -104,27 +106,43 @@ module _ (pooled : Bool) (q : Queue) (tasks slots tag : ℕ) where
       go true = refl
       go false = refl
 
+  no-mark : (x : ℕ) → x ≤ slots → marked (o .tables .marks) x ≡ false
+  unfolding opened
+  no-mark x h =
+      let e : getD (zeroed (slots / 64 + 1) 0 (q .tables .marks)) (x / 64) 0 ≡ 0 = zeroed-at (slots / 64 + 1) 0 (q .tables .marks) (x / 64)
+      (omega arith) in
+      ap (λ w. eqb (w / 2 ^ (x % 64) % 2) 1) e ∙ ap (λ v. eqb (v % 2) 1) (zero-div (2 ^ (x % 64)))
+
   -- Every slot is free: unmarked in a named queue, stacked in a pooled one.
   all-spare : 1 ≤ slots → let s = view (o .tables) in Spare (s .pooled) (s .slots) (s .mark) (s .next) (s .head .slot) (λ x. free)
   unfolding view opened
   all-spare some = go pooled refl
     where
       go : (b : Bool) → pooled ≡ b → let s = view (o .tables) in Spare (s .pooled) (s .slots) (s .mark) (s .next) (s .head .slot) (λ x. free)
-      go false e = rw (flag ∙ e) (λ x n. absurd (n refl))
+      go false e = rw (flag ∙ e) (record { set = λ x n. absurd (n refl); owed = λ x l m. absurd (not-both m (no-mark x l)) })
       go true e =
           let top : linkOf (o .tables .control .head) .slot ≡ 1 = ap (λ (b : Bool). linkOf (cond b 1 0) .slot) e in
-          rw (flag ∙ e) (subst (λ y. Pool slots (λ x. getD (o .tables .next) x 0) y (λ x. free)) (sym top) (all-stacked slots (λ x. getD (o .tables .next) x 0) some (next-up e) (next-end e some)))
+          rw (flag ∙ e) (subst (λ y. Pool slots (λ x. getD (o .tables .next) x 0) y (λ x. free)) (sym top)
+          (all-stacked slots (λ x. getD (o .tables .next) x 0) some (next-up e) (next-end e some)))
 
-  head-fine : 1 ≤ slots → (spareOf (o .tables .control .head) ≡ 0) × (linkOf (o .tables .control .head) .slot ≤ slots) × (linkOf (o .tables .control .head) .tag < 2 ^ 32)
+  head-fine : 1 ≤ slots → (spareOf (o .tables .control .head) ≡ 0) × (linkOf (o .tables .control .head) .slot ≤ slots)
+      × (linkOf (o .tables .control .head) .tag < 2 ^ 32)
   unfolding opened
-  head-fine some = by-test (λ w. (spareOf w ≡ 0) × (linkOf w .slot ≤ slots) × (linkOf w .tag < 2 ^ 32)) pooled (λ e. (refl, omega arith, omega arith)) (λ e. (refl, omega arith, omega arith))
+  head-fine some = by-test (λ w. (spareOf w ≡ 0) × (linkOf w .slot ≤ slots) × (linkOf w .tag < 2 ^ 32)) pooled
+      (λ e. (refl, omega arith, omega arith)) (λ e. (refl, omega arith, omega arith))
 
   pub open-good : 1 ≤ slots → Matched 1 o nobody
   unfolding opened stateOf view
   open-good some = record {
     book = B.noBook;
     inv = fresh (view (o .tables)) (stateOf o .task) empty-status empty-left empty-right all-idle (all-spare some);
-    links = record { spare = zero-links (λ w. spareOf w ≡ 0) refl; tag = zero-links (λ w. linkOf w .tag < 2 ^ 32) (omega arith); slot = zero-links (λ w. linkOf w .slot ≤ slots) (omega arith); next = λ p. next-low (sym flag ∙ p) some; head = head-fine some };
+    links = record {
+      spare = zero-links (λ w. spareOf w ≡ 0) refl;
+      tag = zero-links (λ w. linkOf w .tag < 2 ^ 32) (omega arith);
+      slot = zero-links (λ w. linkOf w .slot ≤ slots) (omega arith);
+      next = λ p. next-low (sym flag ∙ p) some;
+      head = head-fine some;
+    };
     deque = refl;
     tracks = tt;
     busy = λ t. sym (ap (λ (p : M.Place). busyNo (M.isIdle p)) (all-idle t));

@@ -1,4 +1,4 @@
--- The sequential deque of the ledger serves a call as the clerk does.
+-- The sequential deque of the ledger serves a call as that of the book does.
 use mathlib.Core.Bool.{Bool, cond, false, true}
 use mathlib.Core.List.{List, [], _∷_}
 use mathlib.Core.Path.{_∙_, _≡_, ap, refl, subst, sym}
@@ -13,7 +13,7 @@ use Rattle.model.specs.declared.Entry.{Entry}
 use Rattle.model.proofs.tests.Truth.{split}
 use Rattle.model.proofs.lists.Deque.{put, rest, seen, took}
 use Rattle.model.proofs.lists.Ends.{seen-nil}
-use Rattle.model.proofs.machine.Clerk as B
+use Rattle.model.proofs.machine.Book as B
 use Rattle.model.proofs.machine.Machine as M
 use Rattle.model.proofs.bridge.View.{anchorSeen, answerSeen}
 use Rattle.model.proofs.ledger.Matches.{Final, Last, Matches, matches-mono}
@@ -43,15 +43,19 @@ pub record Agrees (c : Call) (k : B.Call) (d : List Entry) (s : Served) (w : B.N
 serve-pop : (c : Call) (k : B.Call) (d : List Entry) (side : ℕ) (m : List Entry) → seen (eqb side 1) d ≡ m
     → Agrees c k d (takeFirst side m) (record { call = B.told k (B.given m); queue = took (eqb side 1) d })
 unfolding took
-serve-pop c k d side [] e = record { deque = ap (λ (l : List Entry). seen (eqb side 1) (rest l)) e ∙ seen-nil (eqb side 1); told = refl; final = tt; call = refl }
+serve-pop c k d side [] e = record
+    { deque = ap (λ (l : List Entry). seen (eqb side 1) (rest l)) e ∙ seen-nil (eqb side 1); told = refl; final = tt; call = refl }
 serve-pop c k d side (x ∷ m) e = record { deque = ap (λ (l : List Entry). seen (eqb side 1) (rest l)) e; told = refl; final = tt; call = refl }
 
-serve-is : (c : Call) (k : B.Call) (e : Entry) → k .side ≡ eqb (c .side) 1 → k .label ≡ e .label → (d : List Entry) (b : Bool) → (b ≡ true → k .slot ≡ e .slot)
+serve-is : (c : Call) (k : B.Call) (e : Entry) → k .side ≡ eqb (c .side) 1 → k .label ≡ e .label → (d : List Entry) (b : Bool)
+    → (b ≡ true → k .slot ≡ e .slot)
     → Agrees c k d (cond b (servePush (c .side) e d) (servePop (c .side) d)) (B.served (cond b M.push M.pop) k d)
 unfolding servePush servePop put
-serve-is c k e side label d true slot = record { deque = λ i. put (side i) (record { slot = slot refl i; label = label i }) d; told = refl; final = tt; call = refl }
+serve-is c k e side label d true slot = record
+    { deque = λ i. put (side i) (record { slot = slot refl i; label = label i }) d; told = refl; final = tt; call = refl }
 serve-is c k e side label d false slot =
-    subst (λ (b : Bool). Agrees c k d (servePop (c .side) d) (record { call = B.told k (B.given (seen b d)); queue = took b d })) (sym side) (serve-pop c k d (c .side) (seen (eqb (c .side) 1) d) refl)
+    subst (λ (b : Bool). Agrees c k d (servePop (c .side) d) (record { call = B.told k (B.given (seen b d)); queue = took b d })) (sym side)
+    (serve-pop c k d (c .side) (seen (eqb (c .side) 1) d) refl)
 
 -- The call after the step.
 pub record Stepped (p : Bool) (n : ℕ) (a : Answer) (c : Call) (cs : List Call) (w : B.Noted) (l : Ledger) : Type 0 where
@@ -70,7 +74,8 @@ last-other n c k (x ∷ l) e m h = record { told = h .told; final = h .final; be
 abbrev pub Told : Call → B.Call → Event → Answer → Type 0
 Told c k ev a = isEffect ev a ≡ true → saysNoSlot a ≡ false → k .kind ≡ M.push → k .slot ≡ toldEntry c ev .slot
 
-module _ (p : Bool) (n : ℕ) (ev : Event) (a : Answer) (d : List Entry) (c : Call) (k : B.Call) (h : Matches p n c k) (cs : List Call) (t : Told c k ev a) where
+module _ (p : Bool) (n : ℕ) (ev : Event) (a : Answer) (d : List Entry) (c : Call) (k : B.Call) (h : Matches p n c k) (cs : List Call)
+    (t : Told c k ev a) where
   abbrev s : Served
   s = serveFor a (c .kind) (c .side) (toldEntry c ev) d
 
@@ -87,7 +92,10 @@ module _ (p : Bool) (n : ℕ) (ev : Event) (a : Answer) (d : List Entry) (c : Ca
       (λ z. rw z (subst (λ y. Agrees c k d (serve (c .kind) (c .side) (toldEntry c ev) d) (B.served y k d)) (sym (h .kind))
       (serve-is c k (toldEntry c ev) (h .side) (h .label) d (eqb (c .kind) 0) (λ y. t e z (h .kind ∙ kind-is (eqb (c .kind) 0) y)))))
 
-  with-effect : isEffect ev a ≡ true → Stepped p n a c cs w (record { deque = s .deque; calls = continued c (record { at = n; reply = s .reply } ∷ c .effects) (ended n a) ∷ cs })
+  with-effect : isEffect ev a ≡ true → Stepped p n a c cs w (record {
+    deque = s .deque;
+    calls = continued c (record { at = n; reply = s .reply } ∷ c .effects) (ended n a) ∷ cs;
+  })
   with-effect e = let g = agrees e in record {
     call = continued c (record { at = n; reply = s .reply } ∷ c .effects) (ended n a);
     calls = refl;
@@ -113,7 +121,15 @@ module _ (p : Bool) (n : ℕ) (ev : Event) (a : Answer) (d : List Entry) (c : Ca
     task = refl;
     ending = refl;
     deque = refl;
-    matches = record { kind = m .kind; side = m .side; slot = m .slot; label = m .label; begun = m .begun; count = m .count; last = last-other (suc n) c k (c .effects) (ended n a) (c .effects) (m .last) };
+    matches = record {
+      kind = m .kind;
+      side = m .side;
+      slot = m .slot;
+      label = m .label;
+      begun = m .begun;
+      count = m .count;
+      last = last-other (suc n) c k (c .effects) (ended n a) (c .effects) (m .last);
+    };
   }
 
   pub step-call : Stepped p n a c cs (B.noted k d (anchorSeen (ev .before)) (anchorSeen (ev .after)) (answerSeen a)) (stepOf n ev a d c cs)

@@ -22,7 +22,7 @@ use Rattle.model.proofs.lists.Deque.{Chain, Distinct, From, front, seen
 use Rattle.model.proofs.lists.Ends.{far-cons, seen-seen}
 use Rattle.model.proofs.lists.Pigeonhole.{pigeon}
 use Rattle.model.proofs.lists.Slots.{map-seen, slots, slots-nil}
-use Rattle.model.proofs.machine.Clerk.{whence}
+use Rattle.model.proofs.machine.Book.{whence}
 use Rattle.model.proofs.machine.Machine.{Anchor, Link, Status, pushing, stable, tip}
 use Rattle.model.proofs.invariant.Owners.{Owner, Whole, queued}
 use Rattle.model.proofs.invariant.Shape.{Joint, Linked, Rough}
@@ -52,11 +52,19 @@ module _ (q : Tables) (fine : LinksFine q) (b : Bool) where
       → along (q .control .slots) (cond b (q .rights) (q .lefts)) (q .labels) (front (reverse (slots (e ∷ l))) 0) n (e .slot) ≡ entries (e ∷ l)
   unfolding along
   along-is e l zero c u v r h = absurd (omega arith)
-  along-is e [] (suc n) c u v r h = rw (real-test _ _ (r .0 .0) (r .0 .1), eq-eqb (e .slot) (e .slot) refl) (λ i. entries (record { slot = e .slot; label = v .0 i } ∷ []))
+  along-is e [] (suc n) c u v r h = rw (real-test _ _ (r .0 .0) (r .0 .1), eq-eqb (e .slot) (e .slot) refl)
+      (λ i. entries (record { slot = e .slot; label = v .0 i } ∷ []))
   along-is e (f ∷ l) (suc n) c u v r h =
       let g = far-cons (e .slot) (f .slot) (slots l) 0 in
       let ih = along-is f l n (c .1) (u .1) (v .1) (r .1) (omega arith) in
-      rw (real-test _ _ (r .0 .0) (r .0 .1), g, ne-eqb (e .slot) (front (reverse (slots (f ∷ l))) 0) (λ z. all-far (λ y. y ≢ e .slot) (f .slot) (slots l) 0 (u .0) (sym z)), sound (e .slot) (r .0 .1), c .0)
+      rw (
+        real-test _ _ (r .0 .0) (r .0 .1),
+        g,
+        ne-eqb (e .slot) (front (reverse (slots (f ∷ l))) 0) (λ z. all-far (λ y. y ≢ e .slot) (f .slot) (slots l) 0 (u .0) (sym z)),
+        sound (e .slot)
+            (r .0 .1),
+        c .0,
+      )
       (λ i. andThen (record { slot = e .slot; label = v .0 i }) (ih i))
 
 -- The walk as it is turned to run from left to right.
@@ -91,7 +99,8 @@ none false = refl
 none true = refl
 
 whence-is : (n : ℕ) → eqb (cond (eqb n 2) 0 1) 1 ≡ whence (statusOf n)
-whence-is n = split (eqb n 2) (λ e. subst (λ n. eqb (cond (eqb n 2) 0 1) 1 ≡ whence (statusOf n)) (sym (eqb-true n 2 e)) refl) (λ e. split (eqb n 1) (λ f. rw (e, f)) (λ f. rw (e, f)))
+whence-is n = split (eqb n 2) (λ e. subst (λ n. eqb (cond (eqb n 2) 0 1) 1 ≡ whence (statusOf n)) (sym (eqb-true n 2 e)) refl)
+    (λ e. split (eqb n 1) (λ f. rw (e, f)) (λ f. rw (e, f)))
 
 opposite-is : (d : Bool) → eqb (cond d 0 1) 1 ≡ not d
 opposite-is false = refl
@@ -114,7 +123,8 @@ module _ (q : Tables) (fine : LinksFine q) (h : ℕ → Owner) (l : List Entry) 
   real (e ∷ m) a b = ((a .0, b .0), real m (a .1) (b .1))
 
   few : length l ≤ q .control .slots
-  few = subst (λ k. k ≤ q .control .slots) (length-map l (λ (e : Entry). e .slot)) (pigeon (q .control .slots) (slots l) (w .shape .distinct) (w .shape .real) low)
+  few = subst (λ k. k ≤ q .control .slots) (length-map l (λ (e : Entry). e .slot))
+      (pigeon (q .control .slots) (slots l) (w .shape .distinct) (w .shape .real) low)
 
   from-side : (d : Bool) → whence (A .status) ≡ d → (m : List Entry) → seen d l ≡ m → eqb (A .left) 0 ≡ false
       → turned d (from d (tip A (not d)) (tip A d)) ≡ entries l
@@ -129,12 +139,14 @@ module _ (q : Tables) (fine : LinksFine q) (h : ℕ → Owner) (l : List Entry) 
       subst (λ (l : List ℕ). Chain (λ y z. k (not d) y .slot ≡ z) l) s
       (subst (λ (d : Bool). Chain (λ y z. k (not d) y .slot ≡ z) (seen d (slots l))) z (inward k (A .status) (slots l) (w .shape .linked))) in
       let u : Distinct (slots (x ∷ m)) = rw s at (distinct-seen d (slots l) (w .shape .distinct)) in
-      let v : All (λ (z : Entry). getD (q .labels) (z .slot) 0 ≡ z .label) (x ∷ m) = rw g at (all-seen (λ (z : Entry). getD (q .labels) (z .slot) 0 ≡ z .label) d l (w .labels)) in
+      let v : All (λ (z : Entry). getD (q .labels) (z .slot) 0 ≡ z .label) (x ∷ m) = rw g at
+      (all-seen (λ (z : Entry). getD (q .labels) (z .slot) 0 ≡ z .label) d l (w .labels)) in
       let r : All (Real q) (x ∷ m) = real (x ∷ m) (subst (λ (l : List ℕ). All (λ x. x ≢ 0) l) s (all-seen (λ x. x ≢ 0) d (slots l) (w .shape .real)))
       (subst (λ (l : List ℕ). All (λ x. x ≤ q .control .slots) l) s (all-seen (λ x. x ≤ q .control .slots) d (slots l) low)) in
       let b : length (x ∷ m) ≤ q .control .slots = let y = ap (λ (l : List Entry). length l) g in omega (arith, length-seen d l, few) in
       rw (opposite-is d, near-end k A (slots l) (w .shape) d (slots (x ∷ m)) s, far-end k A (slots l) (w .shape) d (slots (x ∷ m)) s)
-      (ap (turned d) (along-is q fine (not d) x m (q .control .slots) c u v r b) ∙ ap entries (ap (λ (l : List Entry). seen d l) (sym g) ∙ seen-seen d l))
+      (ap (turned d) (along-is q fine (not d) x m (q .control .slots) c u v r b)
+      ∙ ap entries (ap (λ (l : List Entry). seen d l) (sym g) ∙ seen-seen d l))
 
   -- Null ends: the queue is empty, and then both are null.
   no-left : eqb (A .left) 0 ≡ true → slots l ≡ []
@@ -144,7 +156,8 @@ module _ (q : Tables) (fine : LinksFine q) (h : ℕ → Owner) (l : List Entry) 
   some-left : isEmpty (anchorOf (q .control .anchor)) ≡ false → eqb (A .left) 0 ≡ false
   unfolding view
   some-left e = split (eqb (A .left) 0)
-      (λ z. absurd (not-both (and-of z (eq-eqb (A .right) 0 (w .shape .tips true ∙ ap (λ (m : List ℕ). front (seen true m) 0) (no-left z)))) e)) (λ z. z)
+      (λ z. absurd (not-both (and-of z
+      (eq-eqb (A .right) 0 (w .shape .tips true ∙ ap (λ (m : List ℕ). front (seen true m) 0) (no-left z)))) e)) (λ z. z)
 
   pub waits : contents q ≡ entries l
   unfolding contents view

@@ -21,7 +21,8 @@ module _ {A : Type 0} where
   distinct-seen true q c = distinct-reverse q c
 
   -- The chain of a relation that holds wherever another did, at entries that a predicate holds of.
-  pub from-map : (P R : A → A → Type 0) (S : A → Type 0) → ((a b : A) → S a → S b → P a b → R a b) → (x : A) (q : List A) → S x → All S q → From P x q → From R x q
+  pub from-map : (P R : A → A → Type 0) (S : A → Type 0) → ((a b : A) → S a → S b → P a b → R a b) → (x : A) (q : List A) → S x → All S q
+      → From P x q → From R x q
   from-map P R S f x [] s m c = tt
   from-map P R S f x (y ∷ q) s m c = (f x y s (m .0) (c .0), from-map P R S f y q (m .0) (m .1) (c .1))
 
@@ -42,6 +43,7 @@ module _ {A : Type 0} where
       rw (reverse-cons x (y ∷ q), reverse-cons y q) (chain-snoc R (reverse q) y x h (f x y (c .0)))
 
   -- The same where only the later entry of each pair is asked.
-  pub from-next : (P R : A → A → Type 0) (S : A → Type 0) → ((a b : A) → S b → P a b → R a b) → (x : A) (q : List A) → All S q → From P x q → From R x q
+  pub from-next : (P R : A → A → Type 0) (S : A → Type 0) → ((a b : A) → S b → P a b → R a b) → (x : A) (q : List A) → All S q
+      → From P x q → From R x q
   from-next P R S f x [] m c = tt
   from-next P R S f x (y ∷ q) m c = (f x y (m .0) (c .0), from-next P R S f y q (m .1) (c .1))

@@ -20,7 +20,8 @@ remove v (x ∷ l) = cond (eqb x v) l (x ∷ remove v l)
 remove-length : (v : ℕ) (l : List ℕ) → length l ≤ suc (length (remove v l))
 unfolding remove
 remove-length v [] = omega arith
-remove-length v (x ∷ l) = by-test (λ (z : List ℕ). suc (length l) ≤ suc (length z)) (eqb x v) (λ e. omega arith) (λ e. omega (arith, remove-length v l))
+remove-length v (x ∷ l) = by-test (λ (z : List ℕ). suc (length l) ≤ suc (length z)) (eqb x v) (λ e. omega arith)
+    (λ e. omega (arith, remove-length v l))
 
 remove-all : (P : ℕ → Type 0) (v : ℕ) (l : List ℕ) → All P l → All P (remove v l)
 unfolding remove
@@ -35,7 +36,8 @@ remove-distinct v (x ∷ l) c = by-test Distinct (eqb x v) (λ e. c .1) (λ e. (
 removed : (v : ℕ) (l : List ℕ) → Distinct l → All (λ y. y ≢ v) (remove v l)
 unfolding remove
 removed v [] c = tt
-removed v (x ∷ l) c = by-test (All (λ y. y ≢ v)) (eqb x v) (λ e. all-map _ _ (λ y f z. f (z ∙ sym (eqb-true x v e))) l (c .0)) (λ e. (eqb-false x v e, removed v l (c .1)))
+removed v (x ∷ l) c = by-test (All (λ y. y ≢ v)) (eqb x v) (λ e. all-map _ _ (λ y f z. f (z ∙ sym (eqb-true x v e))) l (c .0))
+    (λ e. (eqb-false x v e, removed v l (c .1)))
 
 none : (l : List ℕ) → All (λ x. x ≢ 0) l → All (λ x. x ≤ 0) l → length l ≤ 0
 none [] v w = omega arith

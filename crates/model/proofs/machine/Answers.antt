@@ -3,7 +3,10 @@ use mathlib.Core.Bool.{Bool, false, true}
 use mathlib.Core.Path.{_≡_, refl}
 use lib.Dec.{eqb}
 use Rattle.model.proofs.tests.Truth.{by-test, not-both}
-use Rattle.model.proofs.machine.Machine.{Answer, Draw, Give, Kind, Move, Place, Rec, Shared, Touch, act, at1, at10, at11, at12, at13, at14, at15, at16, at17, at2, at3, at4, at5, at6, at7, at8, at9, draw, draws, empty, four, give, gives, idle, isIdle, isStable, leave, noSlot, none, one, pop, popped, push, pushed, putAnchor, running, same, sameLink, settled, three, tip, towards, two}
+use Rattle.model.proofs.machine.Machine.{Answer, Draw, Give, Kind, Move, Place, Rec, Shared, Touch, act, at1, at10, at11, at12, at13}
+use Rattle.model.proofs.machine.Machine.{at14, at15, at16, at17, at2, at3, at4, at5, at6, at7, at8, at9, draw, draws, empty, four}
+use Rattle.model.proofs.machine.Machine.{give, gives, idle, isIdle, isStable, leave, noSlot, none, one, pop, popped, push, pushed}
+use Rattle.model.proofs.machine.Machine.{putAnchor, running, same, sameLink, settled, three, tip, towards, two}
 use Rattle.model.proofs.machine.Machine.{exhausted}
 
 abbrev pub EndsAt : Answer → Bool → Type 0
@@ -57,9 +60,11 @@ act-ends at3 s r e = ends3 (r .kind) s r
 act-ends at4 s r e = ends4 (r .kind) s r
 act-ends at5 s r e = record { ends = refl }
 act-ends at6 s r e = by-test Ends (same (r .read) (s .anchor)) (λ e. record { ends = refl }) (λ e. leaves none r)
-act-ends at7 s r e = by-test Ends (eqb (s .link (towards (r .read .status)) (r .near) .slot) (tip (r .read) (towards (r .read .status)))) (λ e. record { ends = refl }) (λ e. record { ends = refl })
+act-ends at7 s r e = by-test Ends (eqb (s .link (towards (r .read .status)) (r .near) .slot) (tip (r .read) (towards (r .read .status))))
+    (λ e. record { ends = refl }) (λ e. record { ends = refl })
 act-ends at8 s r e = by-test Ends (same (r .read) (s .anchor)) (λ e. record { ends = refl }) (λ e. leaves none r)
-act-ends at9 s r e = by-test Ends (sameLink (r .link) (s .link (towards (r .read .status)) (r .near))) (λ e. record { ends = refl }) (λ e. leaves none r)
+act-ends at9 s r e = by-test Ends (sameLink (r .link) (s .link (towards (r .read .status)) (r .near))) (λ e. record { ends = refl })
+    (λ e. leaves none r)
 act-ends at10 s r e = by-test Ends (same (r .read) (s .anchor)) (λ e. leaves (putAnchor (settled (r .read))) r) (λ e. leaves none r)
 act-ends at11 s r e = by-test Ends (s .pooled) (λ e. record { ends = refl }) (λ e. record { ends = refl })
 act-ends (draw p) s r e = ends-draw p s r

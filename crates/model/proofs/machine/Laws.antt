@@ -67,7 +67,12 @@ sameLink-true a b e =
 
 pub same-refl : (a : Anchor) → same a a ≡ true
 unfolding same
-same-refl a = rw (eq-eqb (a .tag) (a .tag) refl, eq-eqb (code (a .status)) (code (a .status)) refl, eq-eqb (a .left) (a .left) refl, eq-eqb (a .right) (a .right) refl)
+same-refl a = rw (
+  eq-eqb (a .tag) (a .tag) refl,
+  eq-eqb (code (a .status)) (code (a .status)) refl,
+  eq-eqb (a .left) (a .left) refl,
+  eq-eqb (a .right) (a .right) refl,
+)
 
 pub sameLink-refl : (a : Link) → sameLink a a ≡ true
 unfolding sameLink

@@ -97,22 +97,82 @@ abbrev pub blank : Rec
 blank = record { place = idle; kind = push; side = false; own = 0; label = 0; read = noAnchor; near = 0; link = noLink; finishing = false }
 
 abbrev pub goes : Rec → Place → Rec
-goes r p = record { place = p; kind = r .kind; side = r .side; own = r .own; label = r .label; read = r .read; near = r .near; link = r .link; finishing = r .finishing }
+goes r p = record {
+  place = p;
+  kind = r .kind;
+  side = r .side;
+  own = r .own;
+  label = r .label;
+  read = r .read;
+  near = r .near;
+  link = r .link;
+  finishing = r .finishing;
+}
 
 abbrev pub reads : Rec → Anchor → Place → Rec
-reads r a p = record { place = p; kind = r .kind; side = r .side; own = r .own; label = r .label; read = a; near = r .near; link = r .link; finishing = r .finishing }
+reads r a p = record {
+  place = p;
+  kind = r .kind;
+  side = r .side;
+  own = r .own;
+  label = r .label;
+  read = a;
+  near = r .near;
+  link = r .link;
+  finishing = r .finishing;
+}
 
 abbrev pub finds : Rec → ℕ → Place → Rec
-finds r x p = record { place = p; kind = r .kind; side = r .side; own = r .own; label = r .label; read = r .read; near = x; link = r .link; finishing = r .finishing }
+finds r x p = record {
+  place = p;
+  kind = r .kind;
+  side = r .side;
+  own = r .own;
+  label = r .label;
+  read = r .read;
+  near = x;
+  link = r .link;
+  finishing = r .finishing;
+}
 
 abbrev pub holds : Rec → Link → Place → Rec
-holds r w p = record { place = p; kind = r .kind; side = r .side; own = r .own; label = r .label; read = r .read; near = r .near; link = w; finishing = r .finishing }
+holds r w p = record {
+  place = p;
+  kind = r .kind;
+  side = r .side;
+  own = r .own;
+  label = r .label;
+  read = r .read;
+  near = r .near;
+  link = w;
+  finishing = r .finishing;
+}
 
 abbrev pub owns : Rec → ℕ → ℕ → Place → Rec
-owns r x l p = record { place = p; kind = r .kind; side = r .side; own = x; label = l; read = r .read; near = r .near; link = r .link; finishing = r .finishing }
+owns r x l p = record {
+  place = p;
+  kind = r .kind;
+  side = r .side;
+  own = x;
+  label = l;
+  read = r .read;
+  near = r .near;
+  link = r .link;
+  finishing = r .finishing;
+}
 
 abbrev pub finishes : Rec → Anchor → Rec
-finishes r a = record { place = at5; kind = r .kind; side = r .side; own = r .own; label = r .label; read = a; near = r .near; link = r .link; finishing = true }
+finishes r a = record {
+  place = at5;
+  kind = r .kind;
+  side = r .side;
+  own = r .own;
+  label = r .label;
+  read = a;
+  near = r .near;
+  link = r .link;
+  finishing = true;
+}
 
 -- What the tasks share. Head, a word as a link's, and next count in a pooled queue alone.
 pub record Shared : Type 0 where
@@ -135,22 +195,76 @@ relink k true x v false = k false
 relink k true x v true = upd (k true) x v
 
 abbrev pub withAnchor : Shared → Anchor → Shared
-withAnchor s a = record { slots = s .slots; pooled = s .pooled; anchor = a; head = s .head; link = s .link; next = s .next; label = s .label; mark = s .mark }
+withAnchor s a = record {
+  slots = s .slots;
+  pooled = s .pooled;
+  anchor = a;
+  head = s .head;
+  link = s .link;
+  next = s .next;
+  label = s .label;
+  mark = s .mark;
+}
 
 abbrev pub withLink : Shared → Bool → ℕ → Link → Shared
-withLink s d x v = record { slots = s .slots; pooled = s .pooled; anchor = s .anchor; head = s .head; link = relink (s .link) d x v; next = s .next; label = s .label; mark = s .mark }
+withLink s d x v = record {
+  slots = s .slots;
+  pooled = s .pooled;
+  anchor = s .anchor;
+  head = s .head;
+  link = relink (s .link) d x v;
+  next = s .next;
+  label = s .label;
+  mark = s .mark;
+}
 
 abbrev pub withMark : Shared → ℕ → Bool → Shared
-withMark s x b = record { slots = s .slots; pooled = s .pooled; anchor = s .anchor; head = s .head; link = s .link; next = s .next; label = s .label; mark = upd (s .mark) x b }
+withMark s x b = record {
+  slots = s .slots;
+  pooled = s .pooled;
+  anchor = s .anchor;
+  head = s .head;
+  link = s .link;
+  next = s .next;
+  label = s .label;
+  mark = upd (s .mark) x b;
+}
 
 abbrev pub withLabel : Shared → ℕ → ℕ → Shared
-withLabel s x l = record { slots = s .slots; pooled = s .pooled; anchor = s .anchor; head = s .head; link = s .link; next = s .next; label = upd (s .label) x l; mark = upd (s .mark) x true }
+withLabel s x l = record {
+  slots = s .slots;
+  pooled = s .pooled;
+  anchor = s .anchor;
+  head = s .head;
+  link = s .link;
+  next = s .next;
+  label = upd (s .label) x l;
+  mark = upd (s .mark) x true;
+}
 
 abbrev pub withHead : Shared → Link → Shared
-withHead s w = record { slots = s .slots; pooled = s .pooled; anchor = s .anchor; head = w; link = s .link; next = s .next; label = s .label; mark = s .mark }
+withHead s w = record {
+  slots = s .slots;
+  pooled = s .pooled;
+  anchor = s .anchor;
+  head = w;
+  link = s .link;
+  next = s .next;
+  label = s .label;
+  mark = s .mark;
+}
 
 abbrev pub withNext : Shared → ℕ → ℕ → Shared
-withNext s x v = record { slots = s .slots; pooled = s .pooled; anchor = s .anchor; head = s .head; link = s .link; next = upd (s .next) x v; label = s .label; mark = s .mark }
+withNext s x v = record {
+  slots = s .slots;
+  pooled = s .pooled;
+  anchor = s .anchor;
+  head = s .head;
+  link = s .link;
+  next = upd (s .next) x v;
+  label = s .label;
+  mark = s .mark;
+}
 
 pub data Answer : Type 0 where
   running pushed empty noSlot : Answer
@@ -252,7 +366,8 @@ draws at14 s r = let x = r .link .slot in
 abbrev pub gives : Give → Shared → Rec → Move
 gives at15 s r = runs none (holds r (s .head) (give at16))
 gives at16 s r = runs (putNext (r .own) (r .link .slot)) (goes r (give at17))
-gives at17 s r = cond (sameLink (r .link) (s .head)) (ends (putHead (raised r (r .own))) (popped (r .own) (r .label))) (runs none (goes r (give at15)))
+gives at17 s r = cond (sameLink (r .link) (s .head)) (ends (putHead (raised r (r .own))) (popped (r .own) (r .label)))
+    (runs none (goes r (give at15)))
 
 -- A step of a record at its place. At 5 to 10 the side is the one that the status as read names.
 abbrev pub act : Place → Shared → Rec → Move

@@ -1,8 +1,8 @@
--- A call in the clerk's book has at most one effect.
+-- A call in the book has at most one effect.
 use mathlib.Core.Bool.{Bool, false, true}
 use Prim.Native.Nat.{_≤_, ℕ}
 use native.Mathlib.Omega.{arith}
-use Rattle.model.proofs.machine.Clerk.{Both, Call}
+use Rattle.model.proofs.machine.Book.{Both, Call}
 use Rattle.model.proofs.machine.Machine.{Kind, Place, Rec, Shared, at1, at10, at11, at2, at3, at4, at5, at6, at7, at8, at9, draw, give, idle}
 use Rattle.model.proofs.invariant.Invariant.{Inv}
 use Rattle.model.proofs.invariant.Owners.{Owner}

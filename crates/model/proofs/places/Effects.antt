@@ -1,4 +1,4 @@
--- Where effects fall, and what the clerk then notes.
+-- Where effects fall, and what the book then notes.
 use mathlib.Core.Bool.{Bool, _&&_, _||_, false, not, true}
 use mathlib.Core.List.{List}
 use mathlib.Core.Logic.{_≢_}
@@ -9,7 +9,7 @@ use borrow.Author.Tests.{eq-eqb, ne-eqb}
 use Rattle.model.specs.declared.Entry.{Entry}
 use Rattle.model.proofs.tests.Truth.{or-second}
 use Rattle.model.proofs.lists.Deque.{put, seen, took}
-use Rattle.model.proofs.machine.Clerk.{Call, effect, given, isNoSlot, noted, served, told, unmoving}
+use Rattle.model.proofs.machine.Book.{Call, effect, given, isNoSlot, noted, served, told, unmoving}
 use Rattle.model.proofs.machine.Machine.{Anchor, Answer, Kind, Status, aimed, empty, noSlot, pop, push, pushed, tip}
 use Rattle.model.proofs.invariant.Tasks.{Agrees}
 
@@ -33,7 +33,7 @@ right-effect a b w r = rw (ne-eqb (a .right) (b .right) r) (go (eqb (a .left) (b
 pub empty-effect : (a b : Anchor) → effect a b empty ≡ true
 empty-effect a b = or-second (not (eqb (a .left) (b .left) && eqb (a .right) (b .right))) refl
 
--- *No slot*: the clerk replies the same, and his deque stays.
+-- *No slot*: the sequential deque replies the same, and stays as it is.
 pub noted-none : (c : Call) (q : List Entry) (a b : Anchor) → noted c q a b noSlot ≡ record { call = told c noSlot; queue = q }
 unfolding noted
 noted-none c q a b = rw (or-second (not (eqb (a .left) (b .left) && eqb (a .right) (b .right))) refl)
@@ -42,7 +42,8 @@ pub aimed-effect : (a : Anchor) (d : Bool) (x : ℕ) (st : Status) (w : Answer) 
 aimed-effect a false x st w h = left-effect a (aimed a false x st) w (λ e. h (sym e))
 aimed-effect a true x st w h = right-effect a (aimed a true x st) w (λ e. h (sym e))
 
-module _ {k : Kind} {d : Bool} {x l : ℕ} (c : Call) (g : Agrees k d x l c) (q : List Entry) (a b : Anchor) (w : Answer) (e : effect a b w ≡ true) (n : isNoSlot w ≡ false) where
+module _ {k : Kind} {d : Bool} {x l : ℕ} (c : Call) (g : Agrees k d x l c) (q : List Entry) (a b : Anchor) (w : Answer) (e : effect a b w ≡ true)
+    (n : isNoSlot w ≡ false) where
   pub noted-push : k ≡ push → noted c q a b w ≡ record { call = told c pushed; queue = put d (record { slot = x; label = l }) q }
   unfolding noted
   noted-push p = rw (e, n) (ap (λ (z : Kind). served z c q) (g .kind ∙ p)
@@ -50,4 +51,5 @@ module _ {k : Kind} {d : Bool} {x l : ℕ} (c : Call) (g : Agrees k d x l c) (q 
 
   pub noted-pop : k ≡ pop → noted c q a b w ≡ record { call = told c (given (seen d q)); queue = took d q }
   unfolding noted
-  noted-pop p = rw (e, n) (ap (λ (z : Kind). served z c q) (g .kind ∙ p) ∙ (λ i. record { call = told c (given (seen (g .side i) q)); queue = took (g .side i) q }))
+  noted-pop p = rw (e, n) (ap (λ (z : Kind). served z c q) (g .kind ∙ p)
+      ∙ (λ i. record { call = told c (given (seen (g .side i) q)); queue = took (g .side i) q }))

@@ -8,8 +8,10 @@ use lib.Dec.{eqb}
 use Rattle.model.proofs.tests.Truth.{by-test, not-both}
 use Rattle.model.proofs.lists.In.{In}
 use Rattle.model.proofs.lists.Slots.{slots}
-use Rattle.model.proofs.machine.Clerk.{Both, Call, isNoSlot}
-use Rattle.model.proofs.machine.Machine.{Kind, Move, Place, Rec, Shared, Touch, act, at1, at10, at11, at12, at13, at14, at15, at16, at17, at2, at3, at4, at5, at6, at7, at8, at9, draw, four, give, idle, isStable, leave, none, one, pop, push, putAnchor, same, sameLink, settled, three, tip, towards, two}
+use Rattle.model.proofs.machine.Book.{Both, Call, isNoSlot}
+use Rattle.model.proofs.machine.Machine.{Kind, Move, Place, Rec, Shared, Touch, act, at1, at10, at11, at12, at13, at14, at15, at16}
+use Rattle.model.proofs.machine.Machine.{at17, at2, at3, at4, at5, at6, at7, at8, at9, draw, four, give, idle, isStable, leave, none}
+use Rattle.model.proofs.machine.Machine.{one, pop, push, putAnchor, same, sameLink, settled, three, tip, towards, two}
 use Rattle.model.proofs.machine.Machine.{exhausted}
 use Rattle.model.proofs.machine.Laws.{exhausted-true}
 use Rattle.model.proofs.invariant.Invariant.{Inv}
@@ -64,20 +66,27 @@ module _ (s : Shared) (h : ℕ → Owner) (t : ℕ) (r : Rec) (c : Call) (x : �
   holds (draw p) w = w .1 .bare x e
   holds (give p) w = sym (w .1 .sole x e)
 
+-- A slot that somebody has is in the queue, or a task's record holds it.
+abbrev pub Used : Both → ℕ → Type 0
+Used p x = In x (slots (p .book .queue)) ⊎ ((t : ℕ) × Holds (p .state .task t .place) (p .state .task t) x)
+
+pub used : (p : Both) (i : Inv p) (x : ℕ) → i .owner x ≢ free → Used p x
+used p i x n = go (i .owner x) refl
+  where
+    go : (o : Owner) → i .owner x ≡ o → Used p x
+    go free g = absurd (n g)
+    go queued g = inl (i .whole .listed x g)
+    go (held t) g = inr (t, holds (p .state .shared) (i .owner) t (p .state .task t) (p .book .calls t) x g (p .state .task t .place) (i .tasks t))
+
 pub no-slot : (p : Both) → Inv p → p .state .shared .pooled ≡ true → p .state .shared .head .slot ≡ 0 → (x : ℕ) → x ≢ 0 → x ≤ p .state .shared .slots
-    → In x (slots (p .book .queue)) ⊎ ((t : ℕ) × Holds (p .state .task t .place) (p .state .task t) x)
-no-slot p i e z x nz le = go (i .owner x) refl
+    → Used p x
+no-slot p i e z x nz le = used p i x (λ g. none-free pool z x nz le g)
   where
     s : Shared
     s = p .state .shared
 
     pool : Pool (s .slots) (s .next) (s .head .slot) (i .owner)
     pool = subst (λ b. Spare b (s .slots) (s .mark) (s .next) (s .head .slot) (i .owner)) e (i .whole .spare)
-
-    go : (o : Owner) → i .owner x ≡ o → In x (slots (p .book .queue)) ⊎ ((t : ℕ) × Holds (p .state .task t .place) (p .state .task t) x)
-    go free g = absurd (none-free pool z x nz le g)
-    go queued g = inl (i .whole .listed x g)
-    go (held t) g = inr (t, holds s (i .owner) t (p .state .task t) (p .book .calls t) x g (p .state .task t .place) (i .tasks t))
 
 -- Who answers *no slot* has just read a head that names none.
 pub record Lacks (s : Shared) (m : Move) : Type 0 where
@@ -91,9 +100,11 @@ module _ (s : Shared) (r : Rec) where
   lacks-leave g = by-test (Lacks s) (r .finishing) (λ e. other refl) (λ e. other refl)
 
   lacks1 : (k : Kind) → Lacks s (one k s r)
-  lacks1 push = by-test (Lacks s) (eqb (s .anchor .left) 0) (λ e. other refl) (λ e. by-test (Lacks s) (isStable (s .anchor .status)) (λ e. other refl) (λ e. other refl))
+  lacks1 push = by-test (Lacks s) (eqb (s .anchor .left) 0) (λ e. other refl)
+      (λ e. by-test (Lacks s) (isStable (s .anchor .status)) (λ e. other refl) (λ e. other refl))
   lacks1 pop = by-test (Lacks s) (eqb (s .anchor .left) 0) (λ e. other refl)
-      (λ e. by-test (Lacks s) (eqb (s .anchor .left) (s .anchor .right)) (λ e. other refl) (λ e. by-test (Lacks s) (isStable (s .anchor .status)) (λ e. other refl) (λ e. other refl)))
+      (λ e. by-test (Lacks s) (eqb (s .anchor .left) (s .anchor .right)) (λ e. other refl)
+      (λ e. by-test (Lacks s) (isStable (s .anchor .status)) (λ e. other refl) (λ e. other refl)))
 
   lacks2 : (k : Kind) → Lacks s (two k s r)
   lacks2 push = by-test (Lacks s) (same (r .read) (s .anchor)) (λ e. other refl) (λ e. lacks1 push)
@@ -115,12 +126,15 @@ module _ (s : Shared) (r : Rec) where
   act-lacks h t c at4 w = lacks4 (r .kind)
   act-lacks h t c at5 w = other refl
   act-lacks h t c at6 w = by-test (Lacks s) (same (r .read) (s .anchor)) (λ e. other refl) (λ e. lacks-leave none)
-  act-lacks h t c at7 w = by-test (Lacks s) (eqb (s .link (towards (r .read .status)) (r .near) .slot) (tip (r .read) (towards (r .read .status)))) (λ e. other refl) (λ e. other refl)
+  act-lacks h t c at7 w = by-test (Lacks s) (eqb (s .link (towards (r .read .status)) (r .near) .slot) (tip (r .read) (towards (r .read .status))))
+      (λ e. other refl) (λ e. other refl)
   act-lacks h t c at8 w = by-test (Lacks s) (same (r .read) (s .anchor)) (λ e. other refl) (λ e. lacks-leave none)
-  act-lacks h t c at9 w = by-test (Lacks s) (sameLink (r .link) (s .link (towards (r .read .status)) (r .near))) (λ e. other refl) (λ e. lacks-leave none)
+  act-lacks h t c at9 w = by-test (Lacks s) (sameLink (r .link) (s .link (towards (r .read .status)) (r .near))) (λ e. other refl)
+      (λ e. lacks-leave none)
   act-lacks h t c at10 w = by-test (Lacks s) (same (r .read) (s .anchor)) (λ e. lacks-leave (putAnchor (settled (r .read)))) (λ e. lacks-leave none)
   act-lacks h t c at11 w = by-test (Lacks s) (s .pooled) (λ e. other refl) (λ e. other refl)
-  act-lacks h t c (draw at12) w = by-test (Lacks s) (exhausted (s .head)) (λ e. record { lacks = λ _. (w .0, exhausted-true (s .head) e) }) (λ e. other refl)
+  act-lacks h t c (draw at12) w = by-test (Lacks s) (exhausted (s .head)) (λ e. record { lacks = λ _. (w .0, exhausted-true (s .head) e) })
+      (λ e. other refl)
   act-lacks h t c (draw at13) w = other refl
   act-lacks h t c (draw at14) w = by-test (Lacks s) (sameLink (r .link) (s .head)) (λ e. other refl) (λ e. other refl)
   act-lacks h t c (give at15) w = other refl

@@ -7,7 +7,7 @@ use native.Mathlib.Omega.{arith}
 use Rattle.model.specs.History.{All}
 use Rattle.model.proofs.lists.All.{all-map}
 use Rattle.model.proofs.lists.Range.{in-range, range, range-bounds, range-distinct}
-use Rattle.model.proofs.machine.Clerk.{noBook, noCall}
+use Rattle.model.proofs.machine.Book.{noBook, noCall}
 use Rattle.model.proofs.machine.Machine.{Rec, Shared, idle, stable}
 use Rattle.model.proofs.invariant.Invariant.{Inv}
 use Rattle.model.proofs.invariant.Owners.{Pool, Spare, Stack, free}
@@ -50,4 +50,9 @@ all-stacked n f some up end = record {
     chained : (m k : ℕ) → 1 ≤ k → 1 ≤ m → k + m ≡ suc n → Stack f k (range k m)
     chained zero k l h e = absurd (omega arith)
     chained (suc zero) k l h e = (refl, λ z. omega arith, subst (λ x. f x ≡ 0) (let z : n ≡ k = omega arith in z) end)
-    chained (suc (suc m)) k l h e = (refl, λ z. omega arith, subst (λ x. Stack f x (range (suc k) (suc m))) (sym (up k l (omega arith))) (chained (suc m) (suc k) (omega arith) (omega arith) (omega arith)))
+    chained (suc (suc m)) k l h e = (
+      refl,
+      λ z. omega arith,
+      subst (λ x. Stack f x (range (suc k) (suc m))) (sym (up k l (omega arith)))
+          (chained (suc m) (suc k) (omega arith) (omega arith) (omega arith)),
+    )

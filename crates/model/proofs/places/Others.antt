@@ -7,12 +7,15 @@ use Prim.Native.Nat.{_<_, ℕ}
 use native.Mathlib.Omega.{arith}
 use Rattle.model.specs.declared.Entry.{Entry}
 use Rattle.model.proofs.lists.Slots.{slots}
-use Rattle.model.proofs.machine.Clerk.{Call}
-use Rattle.model.proofs.machine.Machine.{Anchor, Draw, Give, Kind, Link, Place, Rec, Shared, at1, at10, at11, at12, at13, at14, at15, at16, at17, at2, at3, at4, at5, at6, at7, at8, at9, draw, give, idle, inner, pop, push, pushing, tip}
+use Rattle.model.proofs.machine.Book.{Call}
+use Rattle.model.proofs.machine.Machine.{Anchor, Draw, Give, Kind, Link, Place, Rec, Shared, at1, at10, at11, at12, at13, at14, at15}
+use Rattle.model.proofs.machine.Machine.{at16, at17, at2, at3, at4, at5, at6, at7, at8, at9, draw, give, idle, inner, pop, push}
+use Rattle.model.proofs.machine.Machine.{pushing, tip}
 use Rattle.model.proofs.invariant.Owners.{Owner, Whole, held, queued}
 use Rattle.model.proofs.invariant.Rely.{Faces, Quiet, Rely, Turned}
 use Rattle.model.proofs.invariant.Shape.{Made}
-use Rattle.model.proofs.invariant.Tasks.{Bare, Before, Drawing, Eighth, Four, Fourteenth, Fresh, Giving, Grown, Helps, Live, Near, Ninth, Other, Own, Read, Stage, Task, Thirteenth, Three, Tries, way}
+use Rattle.model.proofs.invariant.Tasks.{Bare, Before, Drawing, Eighth, Four, Fourteenth, Fresh, Giving, Grown, Helps, Live, Near}
+use Rattle.model.proofs.invariant.Tasks.{Ninth, Other, Own, Read, Stage, Task, Thirteenth, Three, Tries, way}
 use Rattle.model.proofs.chain.Links.{inner-in}
 
 module _ (u : ℕ) (s : Shared) (h : ℕ → Owner) (s′ : Shared) (h′ : ℕ → Owner) (y : Rely u s h s′ h′) where
@@ -47,30 +50,36 @@ module _ (u : ℕ) (s : Shared) (h : ℕ → Owner) (s′ : Shared) (h′ : ℕ 
             record { past = omega (arith, v .past); present = λ p. v .present (p ∙ e) ∙ sym (q .kept) }
         go (inr q) = record { past = omega (arith, v .past, q .later); present = λ p. absurd (omega (arith, v .past, q .later)) }
 
-    keep-tries : {f : Bool} {k : Kind} {d : Bool} {x l : ℕ} {c : Call} → Tries (s .label) (s .anchor) h u f k d x l a c → Tries (s′ .label) (s′ .anchor) h′ u f k d x l a c
+    keep-tries : {f : Bool} {k : Kind} {d : Bool} {x l : ℕ} {c : Call} → Tries (s .label) (s .anchor) h u f k d x l a c
+        → Tries (s′ .label) (s′ .anchor) h′ u f k d x l a c
     keep-tries w = record { early = w .early; before = keep-before (w .before); read = keep-read (w .read) }
 
-    keep-helps : {f : Bool} {k : Kind} {d : Bool} {x l : ℕ} {c : Call} → Helps (s .label) (s .anchor) h u f k d x l a c → Helps (s′ .label) (s′ .anchor) h′ u f k d x l a c
+    keep-helps : {f : Bool} {k : Kind} {d : Bool} {x l : ℕ} {c : Call} → Helps (s .label) (s .anchor) h u f k d x l a c
+        → Helps (s′ .label) (s′ .anchor) h′ u f k d x l a c
     keep-helps {f} {k} {d} {x} {l} {c} w = record { stage = keep-stage f k d x l c (w .stage); read = keep-read (w .read); status = w .status }
 
     -- The inward link of an end that Anchor's status does not turn away from.
     inward : Quiet s s′ → (e : Bool) → a ≡ s .anchor → Faces (a .status) e → inner s′ e (tip a e) ≡ inner s e (tip a e)
     inward q e p f =
-        ap (λ (w : Link). w .slot) (subst (λ (b : Anchor). Faces (b .status) e → s′ .link (not e) (tip b e) ≡ s .link (not e) (tip b e)) (sym p) (q .inward e) f)
+        ap (λ (w : Link). w .slot) (subst (λ (b : Anchor). Faces (b .status) e → s′ .link (not e) (tip b e) ≡ s .link (not e) (tip b e)) (sym p)
+        (q .inward e) f)
 
     keep-four : (k : Kind) (d : Bool) (x l n : ℕ) → Read (s .anchor) a → Three k a → Own k (s .label) h u x l → Four k s d x a n → Four k s′ d x a n
     keep-four push d x l n v w o f = ap (λ (w : Link). w .slot) (y .spared x (o .1) .links (not d)) ∙ f
     keep-four pop d x l n v w o f = λ e. let q = quiet v e in inward (q .1) d (q .0) (inl (w .0)) ∙ f (q .0)
 
-    keep-made : Read (s .anchor) a → a .status ≡ pushing (way a) → (a ≡ s .anchor → Made (s .link) a (way a)) → a ≡ s′ .anchor → Made (s′ .link) a (way a)
+    keep-made : Read (s .anchor) a → a .status ≡ pushing (way a) → (a ≡ s .anchor → Made (s .link) a (way a)) → a ≡ s′ .anchor
+        → Made (s′ .link) a (way a)
     keep-made v st f e =
         let q = quiet v e in
-        subst (λ (b : Anchor). b .status ≡ pushing (way a) → Made (s .link) b (way a) → Made (s′ .link) b (way a)) (sym (q .0)) (q .1 .made (way a)) st (f (q .0))
+        subst (λ (b : Anchor). b .status ≡ pushing (way a) → Made (s .link) b (way a) → Made (s′ .link) b (way a)) (sym (q .0))
+        (q .1 .made (way a)) st (f (q .0))
 
     module _ (q : List Entry) (all : Whole s h q) (n : ℕ) where
       near-queued : a ≡ s .anchor → a .status ≡ pushing (way a) → Near s a n → h n ≡ queued
       near-queued p st e =
-          let i = inner-in (s .link) (s .anchor) (slots q) (all .shape) (way a) (λ x. h x ≡ queued) (ap (λ (b : Anchor). b .status) (sym p) ∙ st) (all .owned) in
+          let i = inner-in (s .link) (s .anchor) (slots q) (all .shape) (way a) (λ x. h x ≡ queued)
+          (ap (λ (b : Anchor). b .status) (sym p) ∙ st) (all .owned) in
           let j = subst (λ (b : Anchor). h (inner s (way a) (tip b (way a))) ≡ queued) (sym p) i in
           rw e at j
 
@@ -102,7 +111,8 @@ module _ (u : ℕ) (s : Shared) (h : ℕ → Owner) (s′ : Shared) (h′ : ℕ 
         outrun z o v st = go (v .fresh)
           where
             made : Made (s .link) a (way a)
-            made = subst (λ (b : Anchor). Made (s .link) b (way a)) (sym (v .current)) (z .closed (way a) (ap (λ (b : Anchor). b .status) (sym (v .current)) ∙ st))
+            made = subst (λ (b : Anchor). Made (s .link) b (way a)) (sym (v .current))
+                (z .closed (way a) (ap (λ (b : Anchor). b .status) (sym (v .current)) ∙ st))
 
             named : s .link (way a) n .slot ≡ tip a (way a)
             named = rw (v .near) at made
@@ -128,7 +138,8 @@ module _ (u : ℕ) (s : Shared) (h : ℕ → Owner) (s′ : Shared) (h′ : ℕ 
   keep-thirteenth : (a : Link) → Thirteenth (s .head) a → Thirteenth (s′ .head) a
   keep-thirteenth a w = go w (y .stack .head)
     where
-      go : Thirteenth (s .head) a → ((s′ .head ≡ s .head) × (s′ .next (s .head .slot) ≡ s .next (s .head .slot))) ⊎ (s .head .tag < s′ .head .tag) → Thirteenth (s′ .head) a
+      go : Thirteenth (s .head) a → ((s′ .head ≡ s .head) × (s′ .next (s .head .slot) ≡ s .next (s .head .slot))) ⊎ (s .head .tag < s′ .head .tag)
+          → Thirteenth (s′ .head) a
       go (inl e) (inl k) = inl (e ∙ sym (k .0))
       go (inl e) (inr l) = inr (omega (arith, ap (λ (w : Link). w .tag) e))
       go (inr g) (inl k) = inr (omega (arith, ap (λ (w : Link). w .tag) (k .0)))
@@ -137,9 +148,14 @@ module _ (u : ℕ) (s : Shared) (h : ℕ → Owner) (s′ : Shared) (h′ : ℕ 
   keep-fourteenth : (a : Link) (n : ℕ) → Fourteenth (s .next) (s .head) a n → Fourteenth (s′ .next) (s′ .head) a n
   keep-fourteenth a n w = go w (y .stack .head)
     where
-      go : Fourteenth (s .next) (s .head) a n → ((s′ .head ≡ s .head) × (s′ .next (s .head .slot) ≡ s .next (s .head .slot))) ⊎ (s .head .tag < s′ .head .tag)
+      go : Fourteenth (s .next) (s .head) a n
+          → ((s′ .head ≡ s .head) × (s′ .next (s .head .slot) ≡ s .next (s .head .slot))) ⊎ (s .head .tag < s′ .head .tag)
           → Fourteenth (s′ .next) (s′ .head) a n
-      go (inl e) (inl k) = inl (e .0 ∙ sym (k .0), ap (λ (w : Link). s′ .next (w .slot)) (e .0) ∙ k .1 ∙ ap (λ (w : Link). s .next (w .slot)) (sym (e .0)) ∙ e .1)
+      go (inl e) (inl k) = inl (
+        e .0 ∙ sym (k .0),
+        ap (λ (w : Link). s′ .next (w .slot)) (e .0) ∙ k .1
+            ∙ ap (λ (w : Link). s .next (w .slot)) (sym (e .0)) ∙ e .1,
+      )
       go (inl e) (inr l) = inr (omega (arith, ap (λ (w : Link). w .tag) (e .0)))
       go (inr g) (inl k) = inr (omega (arith, ap (λ (w : Link). w .tag) (k .0)))
       go (inr g) (inr l) = inr (omega arith)
@@ -159,8 +175,11 @@ module _ (u : ℕ) (s : Shared) (h : ℕ → Owner) (s′ : Shared) (h′ : ℕ 
   keep q all at1 r c w = (w .0, keep-before (w .1))
   keep q all at2 r c w = (keep-tries (r .read) (w .0), w .1)
   keep q all at3 r c w = (keep-tries (r .read) (w .0), w .1)
-  keep q all at4 r c w =
-      (keep-tries (r .read) (w .0), w .1, keep-four (r .read) (r .kind) (r .side) (r .own) (r .label) (r .near) (w .0 .read) (w .1) (w .0 .before .own) (w .2))
+  keep q all at4 r c w = (
+    keep-tries (r .read) (w .0),
+    w .1,
+    keep-four (r .read) (r .kind) (r .side) (r .own) (r .label) (r .near) (w .0 .read) (w .1) (w .0 .before .own) (w .2),
+  )
   keep q all at5 r c w = keep-helps (r .read) w
   keep q all at6 r c w = (keep-helps (r .read) (w .0), keep-near (r .read) q all (r .near) (w .0 .read) (w .0 .status) (w .1))
   keep q all at7 r c w = (keep-helps (r .read) (w .0), keep-near (r .read) q all (r .near) (w .0 .read) (w .0 .status) (w .1))
@@ -169,8 +188,25 @@ module _ (u : ℕ) (s : Shared) (h : ℕ → Owner) (s′ : Shared) (h′ : ℕ 
   keep q all at10 r c w = (keep-helps (r .read) (w .0), keep-made (r .read) (w .0 .read) (w .0 .status) (w .1))
   keep q all at11 r c w =
       let z = y .spared (tip (r .read) (r .side)) (w .holds) in
-      record { after = record { once = w .after .once; told = rw (z .label) (w .after .told) }; holds = z .owner; sole = λ x e. w .sole x (y .back x e) }
-  keep q all (draw p) r c w = (y .stack .pooled ∙ w .0, record { early = w .1 .early; kind = w .1 .kind; agrees = w .1 .agrees; none = w .1 .none; bare = keep-bare (w .1 .bare) }, keep-drawing p r (w .2))
+      record {
+        after = record { once = w .after .once; told = rw (z .label) (w .after .told) };
+        holds = z .owner;
+        sole = λ x e. w .sole x (y .back x e);
+      }
+  keep q all (draw p) r c w = (
+    y .stack .pooled ∙ w .0,
+    record {
+      early = w .1 .early;
+      kind = w .1 .kind;
+      agrees = w .1 .agrees;
+      none = w .1 .none;
+      bare = keep-bare (w .1 .bare);
+    },
+    keep-drawing p r (w .2),
+  )
   keep q all (give p) r c w =
-      let z = y .spared (r .own) (w .1 .holds) in
-      (y .stack .pooled ∙ w .0, record { after = w .1 .after; holds = z .owner; sole = λ x e. w .1 .sole x (y .back x e) }, keep-giving p r (w .1 .holds) (w .2))
+      let z = y .spared (r .own) (w .1 .holds) in (
+        y .stack .pooled ∙ w .0,
+        record { after = w .1 .after; holds = z .owner; sole = λ x e. w .1 .sole x (y .back x e) },
+        keep-giving p r (w .1 .holds) (w .2),
+      )

@@ -10,8 +10,9 @@ use Rattle.model.proofs.tests.Truth.{by-test}
 use Rattle.model.proofs.lists.Deque.{seen, took}
 use Rattle.model.proofs.lists.Ends.{seen-nil, took-nil}
 use Rattle.model.proofs.lists.Slots.{slots, slots-nil}
-use Rattle.model.proofs.machine.Clerk.{Call, given, told}
-use Rattle.model.proofs.machine.Machine.{Kind, Rec, Shared, Status, at1, at5, empty, ends, isStable, none, one, pop, push, pushing, reads, runs, stable, towards}
+use Rattle.model.proofs.machine.Book.{Call, given, told}
+use Rattle.model.proofs.machine.Machine.{Kind, Rec, Shared, Status, at1, at5, empty, ends, isStable, none, one, pop, push, pushing}
+use Rattle.model.proofs.machine.Machine.{reads, runs, stable, towards}
 use Rattle.model.proofs.invariant.Owners.{Owner, Whole}
 use Rattle.model.proofs.invariant.Tasks.{Before, Own, Stage, Task, Three, Tries, Two}
 use Rattle.model.proofs.chain.Ends.{no-entry}
@@ -55,12 +56,25 @@ module _ (t : ℕ) (s : Shared) (h : ℕ → Owner) (q : List Entry) (c : Call) 
       (λ e. let n = none-left (eqb-true (s .anchor .left) 0 e) in
       effective (ends none empty) h (told c (given (seen (r .side) q))) (took (r .side) q)
       (noted-pop c (w .1 .agrees) q (s .anchor) (s .anchor) empty (empty-effect (s .anchor) (s .anchor)) refl k)
-      (subst (λ z. Whole s h z) (sym (ap (λ (z : List Entry). took (r .side) z) n ∙ took-nil (r .side) ∙ sym n)) all) (λ u z. rely-refl u)
-      (refl, record { once = ap suc (w .1 .none); agrees = sym (ap (λ (z : List Entry). given (seen (r .side) z)) n ∙ ap given (seen-nil (r .side))) }, subst (λ z. Own z (s .label) h t (r .own) (r .label)) k (w .1 .own)) (λ _ _ z. absurd (push-pop (sym z ∙ w .1 .agrees .kind ∙ k))))
+      (subst (λ z. Whole s h z) (sym (ap (λ (z : List Entry). took (r .side) z) n ∙ took-nil (r .side) ∙ sym n)) all) (λ u z. rely-refl u) (
+        refl,
+        record {
+          once = ap suc (w .1 .none);
+          agrees = sym (ap (λ (z : List Entry). given (seen (r .side) z)) n ∙ ap given (seen-nil (r .side)));
+        },
+        subst
+            (λ z. Own z (s .label) h t (r .own) (r .label)) k (w .1 .own),
+      ) (λ _ _ z. absurd (push-pop (sym z ∙ w .1 .agrees .kind ∙ k))))
       (λ e. by-test (Shown t s h q c) (eqb (s .anchor .left) (s .anchor .right))
-      (λ f. still all
-      (tries-now (w .0) (w .1), subst (λ z. Two z (s .anchor)) (sym k) (eqb-true (s .anchor .left) (s .anchor .right) f, eqb-false (s .anchor .left) 0 e)))
+      (λ f. still all (
+        tries-now (w .0) (w .1),
+        subst (λ z. Two z (s .anchor)) (sym k)
+            (eqb-true (s .anchor .left) (s .anchor .right) f, eqb-false (s .anchor .left) 0 e),
+      ))
       (λ f. by-test (Shown t s h q c) (isStable (s .anchor .status))
-      (λ g. still all
-      (tries-now (w .0) (w .1), subst (λ z. Three z (s .anchor)) (sym k) (steady (s .anchor .status) g, eqb-false (s .anchor .left) (s .anchor .right) f)))
+      (λ g. still all (
+        tries-now (w .0) (w .1),
+        subst (λ z. Three z (s .anchor)) (sym k)
+            (steady (s .anchor .status) g, eqb-false (s .anchor .left) (s .anchor .right) f),
+      ))
       (λ g. helps-now (w .0) (w .1) g)))

@@ -7,7 +7,7 @@ use native.Mathlib.Omega.{arith}
 use Rattle.model.specs.declared.Entry.{Entry}
 use Rattle.model.proofs.tests.Truth.{by-test}
 use Rattle.model.proofs.lists.Slots.{slots}
-use Rattle.model.proofs.machine.Clerk.{Call}
+use Rattle.model.proofs.machine.Book.{Call}
 use Rattle.model.proofs.machine.Laws.{same-side, same-true}
 use Rattle.model.proofs.machine.Machine.{Anchor, Rec, Shared, act, at10, leave, pushing, putAnchor, same, settled}
 use Rattle.model.proofs.invariant.Owners.{Owner, Whole}
@@ -29,7 +29,8 @@ module _ (t : ℕ) (s : Shared) (h : ℕ → Owner) (q : List Entry) (c : Call) 
           let made : Made (s .link) (s .anchor) e = subst (λ (b : Anchor). Made (s .link) b e) p (w .1 p) in
           leaves (putAnchor (settled (r .read))) r h (ap (λ (b : Anchor). b .left) (sym p)) (ap (λ (b : Anchor). b .right) (sym p))
           (record {
-            shape = subst (λ (b : Anchor). Shape (s .link) (settled b) (slots q)) (sym p) (settled-shape (s .link) (s .anchor) (slots q) (all .shape) e st made);
+            shape = subst (λ (b : Anchor). Shape (s .link) (settled b) (slots q)) (sym p)
+                (settled-shape (s .link) (s .anchor) (slots q) (all .shape) e st made);
             owned = all .owned;
             listed = all .listed;
             labels = all .labels;

@@ -3,13 +3,13 @@ use mathlib.Core.Bool.{false, true}
 use mathlib.Core.List.{List}
 use mathlib.Core.Logic.{_≢_, _⊎_, inl, inr}
 use mathlib.Core.Path.{_∙_, _≡_, ap, refl, subst, sym}
-use Prim.Native.Nat.{ℕ}
+use Prim.Native.Nat.{_≤_, ℕ}
 use Rattle.model.specs.declared.Entry.{Entry}
-use Rattle.model.proofs.tests.Truth.{by-test, decide-eq}
-use Rattle.model.proofs.machine.Clerk.{Call}
+use Rattle.model.proofs.tests.Truth.{by-test, decide-eq, not-both}
+use Rattle.model.proofs.machine.Book.{Call}
 use Rattle.model.proofs.machine.Laws.{upd-other, upd-same}
 use Rattle.model.proofs.machine.Machine.{Rec, Shared, act, at11, at15, clear, ends, give, owns, popped, running, runs, tip, upd}
-use Rattle.model.proofs.invariant.Owners.{Owner, Spare, Whole, free}
+use Rattle.model.proofs.invariant.Owners.{Marks, Owner, Spare, Whole, free}
 use Rattle.model.proofs.invariant.Tasks.{Task}
 use Rattle.model.proofs.places.Effects.{no-effect}
 use Rattle.model.proofs.places.Owning.{frees-bare, frees-rely, frees-whole}
@@ -32,22 +32,31 @@ module _ (t : ℕ) (s : Shared) (h : ℕ → Owner) (q : List Entry) (c : Call) 
             listed = all .listed;
             labels = all .labels;
             bounds = all .bounds;
-            spare = subst (λ b. Spare b (s .slots) (s .mark) (s .next) (s .head .slot) h → Spare b (s .slots) (upd (s .mark) x false) (s .next) (s .head .slot) h) (sym e) (λ z. z) (all .spare);
+            spare = subst (λ b. Spare b (s .slots) (s .mark) (s .next) (s .head .slot) h
+                → Spare b (s .slots) (upd (s .mark) x false) (s .next) (s .head .slot) h) (sym e) (λ z. z) (all .spare);
           })
           (λ u n. rely-marks (upd (s .mark) x false) u)
           (e, record { after = w .after; holds = w .holds; sole = w .sole }, tt)
 
-      unmarked : ((y : ℕ) → h y ≢ free → s .mark y ≡ true) → (y : ℕ) → upd h x free y ≢ free → upd (s .mark) x false y ≡ true
-      unmarked m y n = go (decide-eq y x)
-        where
-          go : (y ≡ x) ⊎ (y ≢ x) → upd (s .mark) x false y ≡ true
-          go (inl z) = absurd (n (ap (λ (v : ℕ). upd h x free v) z ∙ upd-same h x free))
-          go (inr z) = upd-other (s .mark) x false y z ∙ m y (λ e. n (upd-other h x free y z ∙ e))
+      still-set : Marks (s .slots) (s .mark) h → (y : ℕ) → (y ≡ x) ⊎ (y ≢ x) → upd h x free y ≢ free → upd (s .mark) x false y ≡ true
+      still-set m y (inl z) n = absurd (n (ap (λ (v : ℕ). upd h x free v) z ∙ upd-same h x free))
+      still-set m y (inr z) n = upd-other (s .mark) x false y z ∙ m .set y (λ e. n (upd-other h x free y z ∙ e))
+
+      still-owed : Marks (s .slots) (s .mark) h → (y : ℕ) → (y ≡ x) ⊎ (y ≢ x) → y ≤ s .slots → upd (s .mark) x false y ≡ true → upd h x free y ≢ free
+      still-owed m y (inl z) l k e = not-both (sym (ap (λ (v : ℕ). upd (s .mark) x false v) z) ∙ k) (upd-same (s .mark) x false)
+      still-owed m y (inr z) l k e = m .owed y l (sym (upd-other (s .mark) x false y z) ∙ k) (sym (upd-other h x free y z) ∙ e)
+
+      unmarked : Marks (s .slots) (s .mark) h → Marks (s .slots) (upd (s .mark) x false) (upd h x free)
+      unmarked m = record { set = λ y. still-set m y (decide-eq y x); owed = λ y. still-owed m y (decide-eq y x) }
 
       frees : s .pooled ≡ false → Shown t s h q c (ends (clear x) (popped x (s .label x)))
       frees e =
           plain (ends (clear x) (popped x (s .label x))) (upd h x free) (no-effect (s .anchor) (s .anchor) (popped x (s .label x)) refl refl refl)
           (frees-whole all t x (w .holds) (upd (s .mark) x false) (s .head)
-          (subst (λ b. Spare b (s .slots) (s .mark) (s .next) (s .head .slot) h → Spare b (s .slots) (upd (s .mark) x false) (s .next) (s .head .slot) (upd h x free)) (sym e) unmarked (all .spare)))
-          (frees-rely all t x (w .holds) (upd (s .mark) x false) (s .head) (stack-same refl refl refl))
-          (refl, record { once = w .after .once; agrees = sym (w .after .told) }, frees-bare all t x (w .holds) (upd (s .mark) x false) (s .head) (w .sole))
+          (subst (λ b. Spare b (s .slots) (s .mark) (s .next) (s .head .slot) h
+          → Spare b (s .slots) (upd (s .mark) x false) (s .next) (s .head .slot) (upd h x free)) (sym e) unmarked (all .spare)))
+          (frees-rely all t x (w .holds) (upd (s .mark) x false) (s .head) (stack-same refl refl refl)) (
+            refl,
+            record { once = w .after .once; agrees = sym (w .after .told) },
+            frees-bare all t x (w .holds) (upd (s .mark) x false) (s .head) (w .sole),
+          )

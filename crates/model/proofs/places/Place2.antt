@@ -9,7 +9,7 @@ use Rattle.model.proofs.tests.Truth.{by-test}
 use Rattle.model.proofs.lists.Deque.{put, rest, took}
 use Rattle.model.proofs.lists.Ends.{put-nil, took-one}
 use Rattle.model.proofs.lists.Slots.{slots}
-use Rattle.model.proofs.machine.Clerk.{Call}
+use Rattle.model.proofs.machine.Book.{Call}
 use Rattle.model.proofs.machine.Laws.{both-tip, later, same-true}
 use Rattle.model.proofs.machine.Machine.{Anchor, Kind, Rec, Shared, at11, at2, both, ends, goes, pop, push, pushed, putAnchor, running, runs, same, two}
 use Rattle.model.proofs.invariant.Owners.{Owner, Whole}
@@ -34,9 +34,12 @@ module _ (t : ℕ) (s : Shared) (h : ℕ → Owner) (q : List Entry) (c : Call) 
           let n = no-entry (s .link) (s .anchor) (slots q) (all .shape) e in
           push-good all r (ends (putAnchor (both (r .read) (r .own))) pushed) k (w .0 .before)
           (left-effect (s .anchor) (both (r .read) (r .own)) pushed (λ f. o .0 (sym f ∙ e))) refl
-          (both (r .read) (r .own)) refl (both-tip (r .read) (r .own) (r .side)) (later (r .read) (s .anchor) p) (small (s .link) (s .anchor) (slots q) (all .shape) (ap (λ (z : List ℕ). rest z) n))
-          (subst (λ z. Shape (s .link) (both (r .read) (r .own)) z) (sym (ap (λ (z : List ℕ). put (r .side) (r .own) z) n ∙ put-nil (r .side) (r .own)))
-          (subst (λ b. Shape (s .link) (both b (r .own)) (r .own ∷ [])) (sym p) (first-shape (s .link) (s .anchor) (slots q) (all .shape) (r .own) e (o .0))))
+          (both (r .read) (r .own)) refl (both-tip (r .read) (r .own) (r .side)) (later (r .read) (s .anchor) p)
+          (small (s .link) (s .anchor) (slots q) (all .shape) (ap (λ (z : List ℕ). rest z) n))
+          (subst (λ z. Shape (s .link) (both (r .read) (r .own)) z)
+          (sym (ap (λ (z : List ℕ). put (r .side) (r .own) z) n ∙ put-nil (r .side) (r .own)))
+          (subst (λ b. Shape (s .link) (both b (r .own)) (r .own ∷ [])) (sym p)
+          (first-shape (s .link) (s .anchor) (slots q) (all .shape) (r .own) e (o .0))))
           (refl, record { once = ap suc (w .0 .before .none); agrees = refl }, put-bare h t (r .own) (o .3))
   place2 pop k w = by-test (Shown t s h q c) (same (r .read) (s .anchor)) ok (λ e. place1 t s h q c all r pop k (w .0 .early, w .0 .before))
     where
@@ -45,7 +48,8 @@ module _ (t : ℕ) (s : Shared) (h : ℕ → Owner) (q : List Entry) (c : Call) 
           let p = same-true (r .read) (s .anchor) z in
           let g = subst (λ (a : Anchor). (a .left ≡ a .right) × (a .left ≢ 0)) p (subst (λ z. Two z (r .read)) k (w .1)) in
           let n = single (s .link) (s .anchor) (slots q) (all .shape) (g .0) (g .1) in
-          pop-good all r (both (r .read) 0) k (w .0 .before) p (left-effect (s .anchor) (both (r .read) 0) running (g .1)) (later (r .read) (s .anchor) p)
+          pop-good all r (both (r .read) 0) k (w .0 .before) p (left-effect (s .anchor) (both (r .read) 0) running (g .1))
+          (later (r .read) (s .anchor) p)
           (small (s .link) (s .anchor) (slots q) (all .shape) (ap (λ (z : List ℕ). rest z) n))
           (λ e. g .1 (both-null (s .link) (s .anchor) (slots q) (all .shape) (r .side) false e))
           (subst (λ z. Shape (s .link) (both (r .read) 0) z) (sym (ap (λ (z : List ℕ). took (r .side) z) n ∙ took-one (r .side) (s .anchor .left)))

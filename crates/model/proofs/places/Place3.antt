@@ -9,7 +9,7 @@ use Rattle.model.specs.declared.Entry.{Entry}
 use Rattle.model.proofs.lists.All.{all-front, all-map, all-seen}
 use Rattle.model.proofs.lists.Deque.{seen}
 use Rattle.model.proofs.lists.Slots.{slots}
-use Rattle.model.proofs.machine.Clerk.{Call}
+use Rattle.model.proofs.machine.Book.{Call}
 use Rattle.model.proofs.machine.Laws.{relink-other, relink-same}
 use Rattle.model.proofs.machine.LinkTags.{relink-keeps}
 use Rattle.model.proofs.machine.Machine.{Kind, Link, Rec, Shared, at3, inner, ownLink, pop, push, relink, running, three, tip, withLink}
@@ -43,7 +43,12 @@ module _ (t : ℕ) (s : Shared) (h : ℕ → Owner) (q : List Entry) (c : Call) 
 
     pub own-rely : (u : ℕ) → u ≢ t → Rely u s h (withLink s d x v) h
     own-rely u n = record {
-      spared = λ y e. record { owner = e; label = refl; links = λ b. relink-other (s .link) d x v b y (λ z. n (held-inj (sym e ∙ ap h z ∙ o .1))); next = refl };
+      spared = λ y e. record {
+        owner = e;
+        label = refl;
+        links = λ b. relink-other (s .link) d x v b y (λ z. n (held-inj (sym e ∙ ap h z ∙ o .1)));
+        next = refl;
+      };
       back = λ y e. e;
       tags = λ e y. let z = relink-keeps (s .link) d x v g e y in omega arith;
       words = λ e y p. inl (relink-other (s .link) d x v e y (not-own y p));
@@ -70,4 +75,8 @@ module _ (t : ℕ) (s : Shared) (h : ℕ → Owner) (q : List Entry) (c : Call) 
         subst (λ z. Four z (withLink s (not (r .side)) (r .own) v) (r .side) (r .own) (r .read) (r .near)) (sym k)
             (ap (λ (w : Link). w .slot) (relink-same (s .link) (not (r .side)) (r .own) v)),
       )
-  place3 pop k w = still all (w .0, w .1, subst (λ z. Four z s (r .side) (r .own) (r .read) (inner s (r .side) (tip (r .read) (r .side)))) (sym k) (λ e. refl))
+  place3 pop k w = still all (
+    w .0,
+    w .1,
+    subst (λ z. Four z s (r .side) (r .own) (r .read) (inner s (r .side) (tip (r .read) (r .side)))) (sym k) (λ e. refl),
+  )

@@ -8,9 +8,10 @@ use Rattle.model.specs.declared.Entry.{Entry}
 use Rattle.model.proofs.tests.Truth.{by-test}
 use Rattle.model.proofs.lists.Deque.{put, took}
 use Rattle.model.proofs.lists.Slots.{slots}
-use Rattle.model.proofs.machine.Clerk.{Call, effect}
+use Rattle.model.proofs.machine.Book.{Call, effect}
 use Rattle.model.proofs.machine.Laws.{aimed-near, aimed-tag, aimed-way, later, same-true}
-use Rattle.model.proofs.machine.Machine.{Anchor, Kind, Rec, Shared, aimed, at11, at4, finishes, four, goes, inner, pop, push, pushing, putAnchor, running, runs, same, stable, tip}
+use Rattle.model.proofs.machine.Machine.{Anchor, Kind, Rec, Shared, aimed, at11, at4, finishes, four, goes, inner, pop, push}
+use Rattle.model.proofs.machine.Machine.{pushing, putAnchor, running, runs, same, stable, tip}
 use Rattle.model.proofs.invariant.Owners.{Owner, Whole}
 use Rattle.model.proofs.invariant.Shape.{Shape}
 use Rattle.model.proofs.invariant.Tasks.{Four, Own, Task, Three}
@@ -38,10 +39,14 @@ module _ (t : ℕ) (s : Shared) (h : ℕ → Owner) (q : List Entry) (c : Call) 
           let ne : tip (s .anchor) (r .side) ≢ 0 = λ e. g .1 (both-null (s .link) (s .anchor) (slots q) (all .shape) (r .side) false e) in
           push-good all r (runs (putAnchor a) (finishes r a)) k (w .0 .before)
           (subst (λ b. effect (s .anchor) (aimed b (r .side) (r .own) (pushing (r .side))) running ≡ true) (sym p)
-          (aimed-effect (s .anchor) (r .side) (r .own) (pushing (r .side)) running (λ e. queued-held (sym (end-entry all (r .side) (r .own) e (o .0) .1) ∙ o .1))))
-          refl a refl (aimed-near (r .read) (r .side) (r .own) (pushing (r .side))) (subst (λ n. s .anchor .tag < n) (sym (aimed-tag (r .read) (r .side) (r .own) (pushing (r .side)))) (later (r .read) (s .anchor) p)) (g .0)
+          (aimed-effect (s .anchor) (r .side) (r .own) (pushing (r .side)) running
+          (λ e. queued-held (sym (end-entry all (r .side) (r .own) e (o .0) .1) ∙ o .1))))
+          refl a refl (aimed-near (r .read) (r .side) (r .own) (pushing (r .side)))
+          (subst (λ n. s .anchor .tag < n) (sym (aimed-tag (r .read) (r .side) (r .own) (pushing (r .side))))
+          (later (r .read) (s .anchor) p)) (g .0)
           (subst (λ b. Shape (s .link) (aimed b (r .side) (r .own) (pushing (r .side))) (put (r .side) (r .own) (slots q))) (sym p)
-          (push-shape (s .link) (s .anchor) (slots q) (all .shape) (r .side) (r .own) (g .0) ne (o .0) (not-in all (o .1)) (f ∙ ap (λ (b : Anchor). tip b (r .side)) p)))
+          (push-shape (s .link) (s .anchor) (slots q) (all .shape) (r .side) (r .own) (g .0) ne (o .0) (not-in all (o .1))
+          (f ∙ ap (λ (b : Anchor). tip b (r .side)) p)))
           (record {
             stage = (record { once = ap suc (w .0 .before .none); told = refl }, put-bare h t (r .own) (o .3));
             read = read-now a;
@@ -60,7 +65,8 @@ module _ (t : ℕ) (s : Shared) (h : ℕ → Owner) (q : List Entry) (c : Call) 
           let f′ = ap (λ (b : Anchor). inner s (r .side) (tip b (r .side))) (sym p) ∙ f in
           pop-good all r a k (w .0 .before) p
           (subst (λ b. effect (s .anchor) (aimed b (r .side) (r .near) (b .status)) running ≡ true) (sym p)
-          (aimed-effect (s .anchor) (r .side) (r .near) (s .anchor .status) running (λ e. inner-apart (s .link) (s .anchor) (slots q) (all .shape) (r .side) (g .0) (g .1) (f′ ∙ e))))
+          (aimed-effect (s .anchor) (r .side) (r .near) (s .anchor .status) running
+          (λ e. inner-apart (s .link) (s .anchor) (slots q) (all .shape) (r .side) (g .0) (g .1) (f′ ∙ e))))
           (subst (λ n. s .anchor .tag < n) (sym (aimed-tag (r .read) (r .side) (r .near) (r .read .status))) (later (r .read) (s .anchor) p)) (g .0)
           (ends-real (s .link) (s .anchor) (slots q) (all .shape) (g .1) (r .side))
           (subst (λ b. Shape (s .link) (aimed b (r .side) (r .near) (b .status)) (took (r .side) (slots q))) (sym p)

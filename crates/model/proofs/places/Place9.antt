@@ -8,10 +8,11 @@ use native.Mathlib.Omega.{arith}
 use Rattle.model.specs.declared.Entry.{Entry}
 use Rattle.model.proofs.tests.Truth.{by-test}
 use Rattle.model.proofs.lists.Slots.{slots}
-use Rattle.model.proofs.machine.Clerk.{Call}
+use Rattle.model.proofs.machine.Book.{Call}
 use Rattle.model.proofs.machine.Laws.{relink-across, relink-other, relink-same, same-side, sameLink-true, stable-pushing}
 use Rattle.model.proofs.machine.LinkTags.{grows-le, relink-grows}
-use Rattle.model.proofs.machine.Machine.{Anchor, Link, Rec, Shared, act, at10, at9, goes, inner, pushing, putLink, relink, running, runs, sameLink, stable, tip, withLink}
+use Rattle.model.proofs.machine.Machine.{Anchor, Link, Rec, Shared, act, at10, at9, goes, inner, pushing, putLink, relink, running}
+use Rattle.model.proofs.machine.Machine.{runs, sameLink, stable, tip, withLink}
 use Rattle.model.proofs.invariant.Owners.{Owner, Whole, queued}
 use Rattle.model.proofs.invariant.Rely.{Rely}
 use Rattle.model.proofs.invariant.Shape.{Made}
@@ -35,11 +36,23 @@ module _ (t : ℕ) (s : Shared) (h : ℕ → Owner) (q : List Entry) (c : Call) 
         ∙ ap (λ (w : Link). w .slot) (relink-same (s .link) e back-at v) ∙ names
 
     back-whole : Whole (withLink s e back-at v) h q
-    back-whole = record { shape = back-shape (s .link) (s .anchor) (slots q) (all .shape) e v st names; owned = all .owned; listed = all .listed; labels = all .labels; bounds = all .bounds; spare = all .spare }
+    back-whole = record {
+      shape = back-shape (s .link) (s .anchor) (slots q) (all .shape) e v st names;
+      owned = all .owned;
+      listed = all .listed;
+      labels = all .labels;
+      bounds = all .bounds;
+      spare = all .spare;
+    }
 
     back-rely : s .link e back-at .tag < v .tag → (u : ℕ) → u ≢ t → Rely u s h (withLink s e back-at v) h
     back-rely lt u n = record {
-      spared = λ y g. record { owner = g; label = refl; links = λ b. relink-other (s .link) e back-at v b y (λ z. queued-held (sym back-queued ∙ sym (ap h z) ∙ g)); next = refl };
+      spared = λ y g. record {
+        owner = g;
+        label = refl;
+        links = λ b. relink-other (s .link) e back-at v b y (λ z. queued-held (sym back-queued ∙ sym (ap h z) ∙ g));
+        next = refl;
+      };
       back = λ y g. g;
       tags = λ b y. grows-le (relink-grows (s .link) e back-at v lt b y);
       words = λ b y p. relink-grows (s .link) e back-at v lt b y;
@@ -51,13 +64,16 @@ module _ (t : ℕ) (s : Shared) (h : ℕ → Owner) (q : List Entry) (c : Call) 
       stack = stack-same refl refl refl;
     }
       where
-        facing : (b : Bool) → (s .anchor .status ≡ stable) ⊎ (s .anchor .status ≡ pushing b) → relink (s .link) e back-at v (not b) (tip (s .anchor) b) ≡ s .link (not b) (tip (s .anchor) b)
+        facing : (b : Bool) → (s .anchor .status ≡ stable) ⊎ (s .anchor .status ≡ pushing b)
+            → relink (s .link) e back-at v (not b) (tip (s .anchor) b) ≡ s .link (not b) (tip (s .anchor) b)
         facing b (inl z) = absurd (stable-pushing (sym z ∙ st))
-        facing b (inr z) = subst (λ f. relink (s .link) e back-at v (not f) (tip (s .anchor) f) ≡ s .link (not f) (tip (s .anchor) f)) (same-side (sym st ∙ z))
+        facing b (inr z) = subst (λ f. relink (s .link) e back-at v (not f) (tip (s .anchor) f) ≡ s .link (not f) (tip (s .anchor) f))
+            (same-side (sym st ∙ z))
             (relink-across (s .link) e back-at v (tip (s .anchor) e))
 
   pub place9 : Task at9 s h t r c → Shown t s h q c (act at9 s r)
-  place9 w = by-test (Shown t s h q c) (sameLink (r .link) (s .link (way (r .read)) (r .near))) (λ z. ok (sameLink-true _ _ z) (w .1 .chance)) (λ z. away t s h q c all r (w .0))
+  place9 w = by-test (Shown t s h q c) (sameLink (r .link) (s .link (way (r .read)) (r .near))) (λ z. ok (sameLink-true _ _ z) (w .1 .chance))
+      (λ z. away t s h q c all r (w .0))
     where
       e : Bool
       e = way (r .read)
@@ -74,7 +90,8 @@ module _ (t : ℕ) (s : Shared) (h : ℕ → Owner) (q : List Entry) (c : Call) 
           let names : v .slot ≡ tip (s .anchor) e = ap (λ (b : Anchor). tip b e) p in
           let x = s .link (not e) (tip (s .anchor) e) .slot in
           let n : x ≡ r .near = ap (λ (b : Anchor). inner s e (tip b e)) (sym p) ∙ l .near in
-          let lt : s .link e x .tag < suc (r .link .tag) = subst (λ y. s .link e y .tag < suc (r .link .tag)) (sym n) (let f = ap (λ (w : Link). w .tag) z in omega arith) in
+          let lt : s .link e x .tag < suc (r .link .tag) = subst (λ y. s .link e y .tag < suc (r .link .tag)) (sym n)
+          (let f = ap (λ (w : Link). w .tag) z in omega arith) in
           subst (λ y. Shown t s h q c (runs (putLink e y v) (goes r at10))) n
           (plain (runs (putLink e x v) (goes r at10)) h (no-effect (s .anchor) (s .anchor) running refl refl refl)
           (back-whole e st v names) (back-rely e st v names lt)

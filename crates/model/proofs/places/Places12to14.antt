@@ -7,9 +7,10 @@ use Prim.Native.Nat.{_<_, suc, ℕ}
 use native.Mathlib.Omega.{arith}
 use Rattle.model.specs.declared.Entry.{Entry}
 use Rattle.model.proofs.tests.Truth.{by-test, not-both}
-use Rattle.model.proofs.machine.Clerk.{Call, told}
+use Rattle.model.proofs.machine.Book.{Call, told}
 use Rattle.model.proofs.machine.Laws.{exhausted-false, sameLink-true, upd-same}
-use Rattle.model.proofs.machine.Machine.{Draw, Link, Rec, Shared, at1, at12, at13, at14, draw, draws, ends, noSlot, none, owns, push, running, runs, sameLink, take, upd}
+use Rattle.model.proofs.machine.Machine.{Draw, Link, Rec, Shared, at1, at12, at13, at14, draw, draws, ends, noSlot, none, owns, push}
+use Rattle.model.proofs.machine.Machine.{running, runs, sameLink, take, upd}
 use Rattle.model.proofs.machine.Machine.{exhausted}
 use Rattle.model.proofs.invariant.Owners.{Owner, Pool, Spare, Whole, held}
 use Rattle.model.proofs.invariant.Tasks.{Fourteenth, Own, Task, Thirteenth}
@@ -57,7 +58,8 @@ module _ (t : ℕ) (s : Shared) (h : ℕ → Owner) (q : List Entry) (c : Call) 
       (refl, record { once = ap suc (w .1 .none); agrees = refl }, w .1 .bare) (λ _ z. absurd (not-both refl z)))
       (λ e. still all (w .0, w .1, (exhausted-false (s .head) e, inl refl)))
   place12to14 at13 w = still all (w .0, w .1, (w .2 .0, reads-next (w .2 .1)))
-  place12to14 at14 w = by-test (Shown t s h q c) (sameLink (r .link) (s .head)) (λ z. let e = sameLink-true (r .link) (s .head) z in drawing w e (current e (w .2 .1)) (let g = tags e in omega arith))
+  place12to14 at14 w = by-test (Shown t s h q c) (sameLink (r .link) (s .head))
+      (λ z. let e = sameLink-true (r .link) (s .head) z in drawing w e (current e (w .2 .1)) (let g = tags e in omega arith))
       (λ z. still all (w .0, w .1, tt))
     where
       tags : r .link ≡ s .head → r .link .tag ≡ s .head .tag

@@ -6,9 +6,10 @@ use Prim.Native.Nat.{_<_, _≤_, ℕ}
 use native.Mathlib.Omega.{arith}
 use Rattle.model.specs.declared.Entry.{Entry}
 use Rattle.model.proofs.tests.Truth.{by-test}
-use Rattle.model.proofs.machine.Clerk.{Call}
+use Rattle.model.proofs.machine.Book.{Call}
 use Rattle.model.proofs.machine.Laws.{sameLink-true, upd-other, upd-same}
-use Rattle.model.proofs.machine.Machine.{Give, Link, Rec, Shared, at15, at16, at17, ends, give, gives, goes, popped, putHead, putNext, running, runs, sameLink, upd, withNext}
+use Rattle.model.proofs.machine.Machine.{Give, Link, Rec, Shared, at15, at16, at17, ends, give, gives, goes, popped, putHead}
+use Rattle.model.proofs.machine.Machine.{putNext, running, runs, sameLink, upd, withNext}
 use Rattle.model.proofs.invariant.Owners.{Owner, Pool, Spare, Whole, free, held}
 use Rattle.model.proofs.invariant.Rely.{Rely}
 use Rattle.model.proofs.invariant.Tasks.{Task}
@@ -45,26 +46,38 @@ module _ (t : ℕ) (s : Shared) (h : ℕ → Owner) (q : List Entry) (c : Call) 
     where
       rely : Pool (s .slots) (s .next) (s .head .slot) h → (u : ℕ) → u ≢ t → Rely u s h (withNext s x (r .link .slot)) h
       rely k u n = record {
-        spared = λ y e. record { owner = e; label = refl; links = λ b. refl; next = upd-other (s .next) x (r .link .slot) y (λ z. n (held-inj (sym e ∙ ap h z ∙ w .1 .holds))) };
+        spared = λ y e. record {
+          owner = e;
+          label = refl;
+          links = λ b. refl;
+          next = upd-other (s .next) x (r .link .slot) y (λ z. n (held-inj (sym e ∙ ap h z ∙ w .1 .holds)));
+        };
         back = λ y e. e;
         tags = λ e y. omega arith;
         words = λ e y p. inl refl;
         anchor = inl (record { kept = refl; inward = λ e f. refl; made = λ e st m. m });
-        stack = record { pooled = refl; head = inl (refl, upd-other (s .next) x (r .link .slot) (s .head .slot) (top-apart k (bounds (w .1 .holds) .0) (w .1 .holds))) };
+        stack = record {
+          pooled = refl;
+          head = inl (refl, upd-other (s .next) x (r .link .slot) (s .head .slot) (top-apart k (bounds (w .1 .holds) .0) (w .1 .holds)));
+        };
       }
 
   -- 17: the own slot becomes the top, under a head with a higher tag.
-  giving : {v : Link} → Task (give at17) s h t r c → r .link ≡ s .head → v .slot ≡ x → s .head .tag < v .tag → Shown t s h q c (ends (putHead v) (popped x (r .label)))
+  giving : {v : Link} → Task (give at17) s h t r c → r .link ≡ s .head → v .slot ≡ x → s .head .tag < v .tag
+      → Shown t s h q c (ends (putHead v) (popped x (r .label)))
   giving {v} w e names later =
       let k = pool t s h q c all r (w .0) in
       let b = bounds (w .1 .holds) in
       plain (ends (putHead v) (popped x (r .label))) (upd h x free) (no-effect (s .anchor) (s .anchor) (popped x (r .label)) refl refl refl)
       (frees-whole all t x (w .1 .holds) (s .mark) v
-      (subst₂ (λ z y. Spare z (s .slots) (s .mark) (s .next) y (upd h x free)) (sym (w .0)) (sym names) (given k (b .0) (b .1) (w .1 .holds) (w .2 ∙ ap (λ (v : Link). v .slot) e))))
+      (subst₂ (λ z y. Spare z (s .slots) (s .mark) (s .next) y (upd h x free)) (sym (w .0)) (sym names)
+      (given k (b .0) (b .1) (w .1 .holds) (w .2 ∙ ap (λ (v : Link). v .slot) e))))
       (frees-rely all t x (w .1 .holds) (s .mark) v (record { pooled = refl; head = inr later }))
       (refl, record { once = w .1 .after .once; agrees = sym (w .1 .after .told) }, frees-bare all t x (w .1 .holds) (s .mark) v (w .1 .sole))
 
   pub place15to17 : (p : Give) → Task (give p) s h t r c → Shown t s h q c (gives p s r)
   place15to17 at15 w = still all (w .0, w .1, tt)
   place15to17 at16 w = linking w
-  place15to17 at17 w = by-test (Shown t s h q c) (sameLink (r .link) (s .head)) (λ z. let e = sameLink-true (r .link) (s .head) z in giving w e refl (let g = ap (λ (v : Link). v .tag) e in omega arith)) (λ z. still all (w .0, w .1, tt))
+  place15to17 at17 w = by-test (Shown t s h q c) (sameLink (r .link) (s .head))
+      (λ z. let e = sameLink-true (r .link) (s .head) z in giving w e refl (let g = ap (λ (v : Link). v .tag) e in omega arith))
+      (λ z. still all (w .0, w .1, tt))

@@ -8,7 +8,7 @@ use lib.Dec.{eqb}
 use borrow.Author.Tests.{eqb-false, eqb-true}
 use Rattle.model.specs.declared.Entry.{Entry}
 use Rattle.model.proofs.tests.Truth.{by-test}
-use Rattle.model.proofs.machine.Clerk.{Call}
+use Rattle.model.proofs.machine.Book.{Call}
 use Rattle.model.proofs.machine.Laws.{same-true}
 use Rattle.model.proofs.machine.Machine.{Rec, Shared, act, at5, at6, at7, at8, leave, none, same, tip}
 use Rattle.model.proofs.invariant.Owners.{Owner, Whole}
@@ -31,11 +31,13 @@ module _ (t : ℕ) (s : Shared) (h : ℕ → Owner) (q : List Entry) (c : Call) 
       let v = s .link e (r .near) in
       by-test (Shown t s h q c) (eqb (v .slot) (tip (r .read) e))
       (λ g. still all (w .0, λ p. ap (λ (n : ℕ). s .link e n .slot) (w .1 p) ∙ eqb-true (v .slot) (tip (r .read) e) g))
-      (λ g. let eighth : Eighth s (r .read) (r .near) v = record { other = eqb-false (v .slot) (tip (r .read) e) g; near = w .1; fresh = λ p. inl refl } in still all (w .0, eighth))
+      (λ g. let eighth : Eighth s (r .read) (r .near) v = record
+      { other = eqb-false (v .slot) (tip (r .read) e) g; near = w .1; fresh = λ p. inl refl } in still all (w .0, eighth))
 
   pub place8 : Task at8 s h t r c → Shown t s h q c (act at8 s r)
   place8 w = by-test (Shown t s h q c) (same (r .read) (s .anchor))
       (λ e. let p = same-true (r .read) (s .anchor) e in
-      let ninth : Ninth s (r .read) (r .near) (r .link) = record { other = w .1 .other; chance = inl (record { current = p; near = w .1 .near p; fresh = w .1 .fresh p }) } in
+      let ninth : Ninth s (r .read) (r .near) (r .link) = record
+      { other = w .1 .other; chance = inl (record { current = p; near = w .1 .near p; fresh = w .1 .fresh p }) } in
       still all (w .0, ninth))
       (λ e. away (w .0))

@@ -7,8 +7,9 @@ use Prim.Native.Nat.{_<_, ℕ}
 use native.Mathlib.Omega.{arith}
 use Rattle.model.specs.declared.Entry.{Entry}
 use Rattle.model.proofs.tests.Truth.{by-test, not-both}
-use Rattle.model.proofs.machine.Clerk.{Call, Kept, effect, granted, isNoSlot, noted}
-use Rattle.model.proofs.machine.Machine.{Anchor, Answer, Move, Rec, Shared, Touch, apply, at1, blank, empty, ends, goes, leave, noSlot, none, popped, push, pushed, pushing, running, runs, tip, withAnchor}
+use Rattle.model.proofs.machine.Book.{Call, Kept, effect, granted, isNoSlot, noted}
+use Rattle.model.proofs.machine.Machine.{Anchor, Answer, Move, Rec, Shared, Touch, apply, at1, blank, empty, ends, goes, leave}
+use Rattle.model.proofs.machine.Machine.{noSlot, none, popped, push, pushed, pushing, running, runs, tip, withAnchor}
 use Rattle.model.proofs.invariant.Owners.{Owner, Whole, held}
 use Rattle.model.proofs.invariant.Rely.{Rely, Stacked}
 use Rattle.model.proofs.invariant.Shape.{Made}
@@ -32,7 +33,8 @@ pub record Shown (t : ℕ) (s : Shared) (h : ℕ → Owner) (q : List Entry) (c 
   pub owner : ℕ → Owner
   pub whole : Whole (apply s (m .touch)) owner (noted (granted (m .touch) c) q (s .anchor) (apply s (m .touch) .anchor) (m .answer) .queue)
   pub rely : (u : ℕ) → u ≢ t → Rely u s h (apply s (m .touch)) owner
-  pub finish : Finish (m .answer) (apply s (m .touch)) owner t (m .rec) (noted (granted (m .touch) c) q (s .anchor) (apply s (m .touch) .anchor) (m .answer) .call)
+  pub finish : Finish (m .answer) (apply s (m .touch)) owner t (m .rec)
+      (noted (granted (m .touch) c) q (s .anchor) (apply s (m .touch) .anchor) (m .answer) .call)
   pub stands : Stands s c m
 
 -- The stack is left alone.
@@ -41,7 +43,16 @@ stack-same {s} p e n = record { pooled = p; head = inl (e, ap (λ (f : ℕ → �
 
 -- What is left to the others where nothing changes but marks,
 abbrev pub marking : Shared → (ℕ → Bool) → Shared
-marking s m = record { slots = s .slots; pooled = s .pooled; anchor = s .anchor; head = s .head; link = s .link; next = s .next; label = s .label; mark = m }
+marking s m = record {
+  slots = s .slots;
+  pooled = s .pooled;
+  anchor = s .anchor;
+  head = s .head;
+  link = s .link;
+  next = s .next;
+  label = s .label;
+  mark = m;
+}
 
 pub rely-marks : {s : Shared} {h : ℕ → Owner} (m : ℕ → Bool) (u : ℕ) → Rely u s h (marking s m) h
 rely-marks m u =
@@ -58,8 +69,10 @@ pub rely-refl : {s : Shared} {h : ℕ → Owner} (u : ℕ) → Rely u s h s h
 rely-refl {s} u = rely-marks (s .mark) u
 
 -- And where Anchor alone is changed.
-pub rely-turn : {t : ℕ} {s : Shared} {h : ℕ → Owner} (a : Anchor) (h′ : ℕ → Owner) → s .anchor .tag < a .tag → ((e : Bool) → s .anchor .status ≡ pushing e → Made (s .link) (s .anchor) e)
-    → ((u x : ℕ) → u ≢ t → h x ≡ held u → h′ x ≡ held u) → ((u x : ℕ) → u ≢ t → h′ x ≡ held u → h x ≡ held u) → (u : ℕ) → u ≢ t → Rely u s h (withAnchor s a) h′
+pub rely-turn : {t : ℕ} {s : Shared} {h : ℕ → Owner} (a : Anchor) (h′ : ℕ → Owner) → s .anchor .tag < a .tag
+    → ((e : Bool) → s .anchor .status ≡ pushing e → Made (s .link) (s .anchor) e)
+    → ((u x : ℕ) → u ≢ t → h x ≡ held u → h′ x ≡ held u) → ((u x : ℕ) → u ≢ t → h′ x ≡ held u → h x ≡ held u) → (u : ℕ) → u ≢ t
+    → Rely u s h (withAnchor s a) h′
 rely-turn a h′ later closed kept back u n =
     record {
       spared = λ x e. record { owner = kept u x n e; label = refl; links = λ b. refl; next = refl };
@@ -73,25 +86,41 @@ rely-turn a h′ later closed kept back u n =
 module _ {t : ℕ} {s : Shared} {h : ℕ → Owner} {q : List Entry} {c : Call} where
   -- A step with no effect.
   pub plain : (m : Move) (h′ : ℕ → Owner) → effect (s .anchor) (apply s (m .touch) .anchor) (m .answer) ≡ false → Whole (apply s (m .touch)) h′ q
-      → ((u : ℕ) → u ≢ t → Rely u s h (apply s (m .touch)) h′) → Finish (m .answer) (apply s (m .touch)) h′ t (m .rec) (granted (m .touch) c) → Shown t s h q c m
+      → ((u : ℕ) → u ≢ t → Rely u s h (apply s (m .touch)) h′) → Finish (m .answer) (apply s (m .touch)) h′ t (m .rec) (granted (m .touch) c)
+      → Shown t s h q c m
   plain m h′ e w y f =
       let n = noted-false (granted (m .touch) c) q (s .anchor) (apply s (m .touch) .anchor) (m .answer) e in
       record { owner = h′; whole = rw n w; rely = y; finish = rw n f; stands = λ z. absurd (not-both z e) }
 
   -- A step with its effect.
-  pub effective : (m : Move) (h′ : ℕ → Owner) (c′ : Call) (q′ : List Entry) → noted (granted (m .touch) c) q (s .anchor) (apply s (m .touch) .anchor) (m .answer) ≡ record { call = c′; queue = q′ }
-      → Whole (apply s (m .touch)) h′ q′ → ((u : ℕ) → u ≢ t → Rely u s h (apply s (m .touch)) h′) → Finish (m .answer) (apply s (m .touch)) h′ t (m .rec) c′ → Stands s c m → Shown t s h q c m
+  pub effective : (m : Move) (h′ : ℕ → Owner) (c′ : Call) (q′ : List Entry)
+      → noted (granted (m .touch) c) q (s .anchor) (apply s (m .touch) .anchor) (m .answer) ≡ record {
+        call =
+            c′;
+        queue = q′;
+      }
+      → Whole (apply s (m .touch)) h′ q′ → ((u : ℕ) → u ≢ t → Rely u s h (apply s (m .touch)) h′)
+      → Finish (m .answer) (apply s (m .touch)) h′ t (m .rec) c′ → Stands s c m → Shown t s h q c m
   effective m h′ c′ q′ n w y f z = record { owner = h′; whole = rw n w; rely = y; finish = rw n f; stands = z }
 
   -- The tables stay as they are.
   pub still : {r : Rec} → Whole s h q → Task (r .place) s h t r c → Shown t s h q c (runs none r)
   still {r} w f = plain (runs none r) h (no-effect (s .anchor) (s .anchor) running refl refl refl) w (λ u n. rely-refl u) f
 
-  pub leaves : (g : Touch) (r : Rec) (h′ : ℕ → Owner) → s .anchor .left ≡ apply s g .anchor .left → s .anchor .right ≡ apply s g .anchor .right → Whole (apply s g) h′ q
-      → ((u : ℕ) → u ≢ t → Rely u s h (apply s g) h′) → Stage (r .finishing) (apply s g .label) h′ t (r .kind) (r .side) (r .own) (r .label) (granted g c) → Shown t s h q c (leave g r)
+  pub leaves : (g : Touch) (r : Rec) (h′ : ℕ → Owner) → s .anchor .left ≡ apply s g .anchor .left → s .anchor .right ≡ apply s g .anchor .right
+      → Whole (apply s g) h′ q
+      → ((u : ℕ) → u ≢ t → Rely u s h (apply s g) h′)
+      → Stage (r .finishing) (apply s g .label) h′ t (r .kind) (r .side) (r .own) (r .label) (granted g c) → Shown t s h q c (leave g r)
   leaves g r h′ el er w y f = by-test (Shown t s h q c) (r .finishing)
       (λ e. let z = subst (λ b. Stage b (apply s g .label) h′ t (r .kind) (r .side) (r .own) (r .label) (granted g c)) e f in
-      plain (ends g pushed) h′ (no-effect (s .anchor) (apply s g .anchor) pushed refl el er) w y (refl, record { once = z .0 .once; agrees = sym (z .0 .told) }, z .1))
+      plain (ends g pushed) h′ (no-effect (s .anchor) (apply s g .anchor) pushed refl el er) w y (
+        refl,
+        record {
+          once = z .0 .once;
+          agrees = sym (z .0 .told);
+        },
+        z .1,
+      ))
       (λ e. plain (runs g (goes r at1)) h′ (no-effect (s .anchor) (apply s g .anchor) running refl el er) w y
       (e, subst (λ b. Stage b (apply s g .label) h′ t (r .kind) (r .side) (r .own) (r .label) (granted g c)) e f))
 

@@ -42,7 +42,8 @@ module _ {n : ℕ} {f : ℕ → ℕ} {top : ℕ} {h : ℕ → Owner} (p : Pool n
   pub drawn : (t : ℕ) → top ≢ 0 → Pool n f (f top) (upd h top (held t))
   drawn t ne = go (p .stack) (p .chain) (p .distinct) (p .unowned) (p .within) (p .full)
     where
-      go : (k : List ℕ) → Stack f top k → Distinct k → All (λ x. h x ≡ free) k → All (λ x. x ≤ n) k → ((x : ℕ) → x ≢ 0 → x ≤ n → h x ≡ free → In x k) → Pool n f (f top) (upd h top (held t))
+      go : (k : List ℕ) → Stack f top k → Distinct k → All (λ x. h x ≡ free) k → All (λ x. x ≤ n) k → ((x : ℕ) → x ≢ 0 → x ≤ n → h x ≡ free → In x k)
+          → Pool n f (f top) (upd h top (held t))
       go [] c d u w a = absurd (ne c)
       go (y ∷ l) c d u w a = record {
         stack = l;

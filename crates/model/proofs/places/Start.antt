@@ -4,11 +4,11 @@ use mathlib.Core.Logic.{_≢_, _⊎_, inl, inr}
 use mathlib.Core.Path.{_∙_, _≡_, ap, refl, subst, sym}
 use Prim.Native.Nat.{_≤_, ℕ}
 use Rattle.model.proofs.tests.Truth.{decide-eq, not-both}
-use Rattle.model.proofs.machine.Clerk.{Both, begun, opened}
+use Rattle.model.proofs.machine.Book.{Both, begun, opened}
 use Rattle.model.proofs.machine.Laws.{upd-other, upd-same}
 use Rattle.model.proofs.machine.Machine.{Shared, asking, idle, moved, pop, push, started, upd, withLabel}
 use Rattle.model.proofs.invariant.Invariant.{Inv}
-use Rattle.model.proofs.invariant.Owners.{Owner, Spare, free, held, queued}
+use Rattle.model.proofs.invariant.Owners.{Marks, Owner, Spare, free, held, queued}
 use Rattle.model.proofs.invariant.Tasks.{Bare, Task}
 use Rattle.model.proofs.places.Owned.{held-free, queued-free}
 use Rattle.model.proofs.places.Owning.{gets-rely, gets-sole, gets-whole}
@@ -27,7 +27,10 @@ module _ (p : Both) (i : Inv p) where
   bare t e = subst (λ z. Task z s h t (p .state .task t) (p .book .calls t)) e (i .tasks t) .1
 
   -- An accepted start of a pop.
-  pub pop-inv : (t : ℕ) (d : Bool) → p .state .task t .place ≡ idle → Inv (record { state = moved (p .state) t s (started pop d 0 0); book = begun (p .book) t (opened pop d 0 0) })
+  pub pop-inv : (t : ℕ) (d : Bool) → p .state .task t .place ≡ idle → Inv (record {
+    state = moved (p .state) t s (started pop d 0 0);
+    book = begun (p .book) t (opened pop d 0 0);
+  })
   pop-inv t d ready =
       record {
         owner = h;
@@ -38,19 +41,33 @@ module _ (p : Both) (i : Inv p) where
       }
 
   -- An accepted start of a push that names no slot.
-  pub ask-inv : (t : ℕ) (d : Bool) (l : ℕ) → p .state .task t .place ≡ idle → s .pooled ≡ true → Inv (record { state = moved (p .state) t s (asking d l); book = begun (p .book) t (opened push d 0 l) })
+  pub ask-inv : (t : ℕ) (d : Bool) (l : ℕ) → p .state .task t .place ≡ idle → s .pooled ≡ true → Inv (record {
+    state = moved (p .state) t s
+        (asking d l);
+    book = begun (p .book) t (opened push d 0 l);
+  })
   ask-inv t d l ready e =
       record {
         owner = h;
         whole = i .whole;
         kept = i .kept;
-        tasks = tasks-upd s h (p .state .task) (p .book .calls) t (asking d l) (opened push d 0 l) (λ u n. i .tasks u)
-            (e, record { early = refl; kind = refl; agrees = record { kind = refl; side = refl; slot = refl; label = refl }; none = refl; bare = bare t ready }, tt);
+        tasks = tasks-upd s h (p .state .task) (p .book .calls) t (asking d l) (opened push d 0 l) (λ u n. i .tasks u) (
+          e,
+          record {
+            early = refl;
+            kind = refl;
+            agrees = record { kind = refl; side = refl; slot = refl; label = refl };
+            none = refl;
+            bare = bare t ready;
+          },
+          tt,
+        );
       }
 
   -- An accepted start of a push that names a slot.
-  module _ (t : ℕ) (d : Bool) (x l : ℕ) (ready : p .state .task t .place ≡ idle) (nz : x ≢ 0) (low : x ≤ s .slots) (named : s .pooled ≡ false) (clear : s .mark x ≡ false) where
-    marks : (y : ℕ) → h y ≢ free → s .mark y ≡ true
+  module _ (t : ℕ) (d : Bool) (x l : ℕ) (ready : p .state .task t .place ≡ idle) (nz : x ≢ 0) (low : x ≤ s .slots) (named : s .pooled ≡ false)
+      (clear : s .mark x ≡ false) where
+    marks : Marks (s .slots) (s .mark) h
     marks = subst (λ b. Spare b (s .slots) (s .mark) (s .next) (s .head .slot) h) named (i .whole .spare)
 
     unowned : h x ≡ free
@@ -58,15 +75,19 @@ module _ (p : Both) (i : Inv p) where
       where
         go : (o : Owner) → h x ≡ o → h x ≡ free
         go free e = e
-        go queued e = absurd (not-both (marks x (λ f. queued-free (sym e ∙ f))) clear)
-        go (held u) e = absurd (not-both (marks x (λ f. held-free (sym e ∙ f))) clear)
+        go queued e = absurd (not-both (marks .set x (λ f. queued-free (sym e ∙ f))) clear)
+        go (held u) e = absurd (not-both (marks .set x (λ f. held-free (sym e ∙ f))) clear)
 
-    marked : (y : ℕ) → upd h x (held t) y ≢ free → upd (s .mark) x true y ≡ true
-    marked y n = go (decide-eq y x)
-      where
-        go : (y ≡ x) ⊎ (y ≢ x) → upd (s .mark) x true y ≡ true
-        go (inl z) = ap (λ (v : ℕ). upd (s .mark) x true v) z ∙ upd-same (s .mark) x true
-        go (inr z) = upd-other (s .mark) x true y z ∙ marks y (λ e. n (upd-other h x (held t) y z ∙ e))
+    marked-set : (y : ℕ) → (y ≡ x) ⊎ (y ≢ x) → upd h x (held t) y ≢ free → upd (s .mark) x true y ≡ true
+    marked-set y (inl z) n = ap (λ (v : ℕ). upd (s .mark) x true v) z ∙ upd-same (s .mark) x true
+    marked-set y (inr z) n = upd-other (s .mark) x true y z ∙ marks .set y (λ e. n (upd-other h x (held t) y z ∙ e))
+
+    marked-owed : (y : ℕ) → (y ≡ x) ⊎ (y ≢ x) → y ≤ s .slots → upd (s .mark) x true y ≡ true → upd h x (held t) y ≢ free
+    marked-owed y (inl z) l m e = held-free (sym (ap (λ (v : ℕ). upd h x (held t) v) z ∙ upd-same h x (held t)) ∙ e)
+    marked-owed y (inr z) l m e = marks .owed y l (sym (upd-other (s .mark) x true y z) ∙ m) (sym (upd-other h x (held t) y z) ∙ e)
+
+    marked : Marks (s .slots) (upd (s .mark) x true) (upd h x (held t))
+    marked = record { set = λ y. marked-set y (decide-eq y x); owed = λ y. marked-owed y (decide-eq y x) }
 
     pub push-inv : Inv (record { state = moved (p .state) t (withLabel s x l) (started push d x l); book = begun (p .book) t (opened push d x l) })
     push-inv =
@@ -76,6 +97,12 @@ module _ (p : Both) (i : Inv p) where
               (subst (λ b. Spare b (s .slots) (upd (s .mark) x true) (s .next) (s .head .slot) (upd h x (held t))) (sym named) marked);
           kept = i .kept;
           tasks = tasks-upd (withLabel s x l) (upd h x (held t)) (p .state .task) (p .book .calls) t (started push d x l) (opened push d x l)
-              (others p i t (withLabel s x l) (upd h x (held t)) (gets-rely (i .whole) t x l unowned (s .head) (stack-same refl refl refl)))
-              (refl, record { agrees = record { kind = refl; side = refl; slot = refl; label = refl }; none = refl; own = (nz, upd-same h x (held t), upd-same (s .label) x l, gets-sole (i .whole) t x l unowned (s .head) (bare t ready)) });
+              (others p i t (withLabel s x l) (upd h x (held t)) (gets-rely (i .whole) t x l unowned (s .head) (stack-same refl refl refl))) (
+                refl,
+                record {
+                  agrees = record { kind = refl; side = refl; slot = refl; label = refl };
+                  none = refl;
+                  own = (nz, upd-same h x (held t), upd-same (s .label) x l, gets-sole (i .whole) t x l unowned (s .head) (bare t ready));
+                },
+              );
         }

@@ -12,9 +12,10 @@ use Rattle.model.proofs.lists.Chain.{distinct-seen}
 use Rattle.model.proofs.lists.Deque.{Distinct, front, put, rest, seen, took}
 use Rattle.model.proofs.lists.In.{In, in-put, in-took}
 use Rattle.model.proofs.lists.Slots.{map-seen, slots, slots-put, slots-took}
-use Rattle.model.proofs.machine.Clerk.{Call, effect, given, granted, isNoSlot, noted, told}
+use Rattle.model.proofs.machine.Book.{Call, effect, given, granted, isNoSlot, noted, told}
 use Rattle.model.proofs.machine.Laws.{stable-pushing, upd-other, upd-same}
-use Rattle.model.proofs.machine.Machine.{Anchor, Move, Rec, Shared, Touch, apply, at1, at11, goes, none, pop, popped, push, pushed, pushing, putAnchor, running, runs, stable, tip, upd, withAnchor}
+use Rattle.model.proofs.machine.Machine.{Anchor, Move, Rec, Shared, Touch, apply, at1, at11, goes, none, pop, popped, push, pushed}
+use Rattle.model.proofs.machine.Machine.{pushing, putAnchor, running, runs, stable, tip, upd, withAnchor}
 use Rattle.model.proofs.invariant.Owners.{Owner, Whole, free, held, queued}
 use Rattle.model.proofs.invariant.Rely.{Rely}
 use Rattle.model.proofs.invariant.Shape.{Made, Shape}
@@ -43,7 +44,8 @@ module _ {s : Shared} {h : ℕ → Owner} {q : List Entry} (all : Whole s h q) w
             (all-seen _ d (x ∷ seen d (slots q)) (
               upd-same h x queued,
               all-seen _ d (slots q)
-                  (all-both (λ y. y ≢ x) (λ y. h y ≡ queued) (λ y. upd h x queued y ≡ queued) (λ y n g. upd-other h x queued y n ∙ g) (slots q) (not-in (o .1)) (all .owned)),
+                  (all-both (λ y. y ≢ x) (λ y. h y ≡ queued) (λ y. upd h x queued y ≡ queued) (λ y n g. upd-other h x queued y n ∙ g) (slots q)
+                  (not-in (o .1)) (all .owned)),
             ));
         labels = all-seen _ d (record { slot = x; label = l } ∷ seen d q) (o .2, all-seen _ d q (all .labels));
         bounds = owner-bounds h x queued _ owns (all .bounds);
@@ -71,7 +73,8 @@ module _ {s : Shared} {h : ℕ → Owner} {q : List Entry} (all : Whole s h q) w
           let o : All (λ z. h z ≡ queued) (slots (x ∷ l)) = rw (← map-seen d q, g) at (all-seen _ d (slots q) (all .owned)) in
           (ap given g ∙ cc, ap h f ∙ o .0)
 
-  popped-whole : (t : ℕ) (a : Anchor) (d : Bool) (y : ℕ) → y ≡ tip (s .anchor) d → y ≢ 0 → Shape (s .link) a (took d (slots q)) → Whole (withAnchor s a) (upd h y (held t)) (took d q)
+  popped-whole : (t : ℕ) (a : Anchor) (d : Bool) (y : ℕ) → y ≡ tip (s .anchor) d → y ≢ 0 → Shape (s .link) a (took d (slots q))
+      → Whole (withAnchor s a) (upd h y (held t)) (took d q)
   unfolding took
   popped-whole t a d y e n shape =
       let g : slots (took d q) ≡ took d (slots q) = slots-took d q in
@@ -79,8 +82,10 @@ module _ {s : Shared} {h : ℕ → Owner} {q : List Entry} (all : Whole s h q) w
       record {
         shape = subst (λ z. Shape (s .link) a z) (sym g) shape;
         owned = subst (λ z. All (λ y′. upd h y (held t) y′ ≡ queued) z) (sym g) (all-seen _ d (rest (seen d (slots q)))
-            (all-both (λ z. z ≢ y) (λ z. h z ≡ queued) (λ z. upd h y (held t) z ≡ queued) (λ z m f. upd-other h y (held t) z m ∙ f) (rest (seen d (slots q)))
-            (apart (seen d (slots q)) (e ∙ all .shape .tips d) (distinct-seen d (slots q) (all .shape .distinct))) (all-rest _ (seen d (slots q)) (all-seen _ d (slots q) (all .owned)))));
+            (all-both (λ z. z ≢ y) (λ z. h z ≡ queued) (λ z. upd h y (held t) z ≡ queued) (λ z m f. upd-other h y (held t) z m ∙ f)
+            (rest (seen d (slots q)))
+            (apart (seen d (slots q)) (e ∙ all .shape .tips d) (distinct-seen d (slots q) (all .shape .distinct)))
+            (all-rest _ (seen d (slots q)) (all-seen _ d (slots q) (all .owned)))));
         labels = all-seen _ d (rest (seen d q)) (all-rest _ (seen d q) (all-seen _ d q (all .labels)));
         bounds = owner-bounds h y (held t) _ ends (all .bounds);
         listed = λ z f. let b = owner-back h y (held t) queued (λ w. queued-held (sym w)) z f in
@@ -98,20 +103,26 @@ put-bare h t x o y f = let b = owner-back h x queued (held t) queued-held y f in
 
 module _ {t : ℕ} {s : Shared} {h : ℕ → Owner} {q : List Entry} {c : Call} (all : Whole s h q) (r : Rec) where
   -- A push has its effect.
-  pub push-good : (m : Move) → r .kind ≡ push → Before (s .label) h t (r .kind) (r .side) (r .own) (r .label) c → effect (s .anchor) (apply s (m .touch) .anchor) (m .answer) ≡ true
-      → isNoSlot (m .answer) ≡ false → (a : Anchor) → m .touch ≡ putAnchor a → tip a (r .side) ≡ r .own → s .anchor .tag < a .tag → s .anchor .status ≡ stable → Shape (s .link) a (put (r .side) (r .own) (slots q))
+  pub push-good : (m : Move) → r .kind ≡ push → Before (s .label) h t (r .kind) (r .side) (r .own) (r .label) c
+      → effect (s .anchor) (apply s (m .touch) .anchor) (m .answer) ≡ true
+      → isNoSlot (m .answer) ≡ false → (a : Anchor) → m .touch ≡ putAnchor a → tip a (r .side) ≡ r .own → s .anchor .tag < a .tag
+      → s .anchor .status ≡ stable → Shape (s .link) a (put (r .side) (r .own) (slots q))
       → Finish (m .answer) (apply s (m .touch)) (upd h (r .own) queued) t (m .rec) (told c pushed) → Shown t s h q c m
   push-good m k b eff ans a ms end lt st shape f =
       let o = subst (λ z. Own z (s .label) h t (r .own) (r .label)) k (b .own) in
       effective m (upd h (r .own) queued) (told c pushed) (put (r .side) (record { slot = r .own; label = r .label }) q)
-      (ap (λ (z : Touch). noted (granted z c) q (s .anchor) (apply s (m .touch) .anchor) (m .answer)) ms ∙ noted-push c (b .agrees) q (s .anchor) (apply s (m .touch) .anchor) (m .answer) eff ans k)
-      (subst (λ z. Whole (apply s z) (upd h (r .own) queued) (put (r .side) (record { slot = r .own; label = r .label }) q)) (sym ms) (pushed-whole all t a (r .side) (r .own) (r .label) o shape))
+      (ap (λ (z : Touch). noted (granted z c) q (s .anchor) (apply s (m .touch) .anchor) (m .answer)) ms
+      ∙ noted-push c (b .agrees) q (s .anchor) (apply s (m .touch) .anchor) (m .answer) eff ans k)
+      (subst (λ z. Whole (apply s z) (upd h (r .own) queued) (put (r .side) (record { slot = r .own; label = r .label }) q)) (sym ms)
+      (pushed-whole all t a (r .side) (r .own) (r .label) o shape))
       (λ u n. subst (λ z. Rely u s h (apply s z) (upd h (r .own) queued)) (sym ms) (rely-turn a (upd h (r .own) queued) lt (calm all st)
       (λ u x n g. owner-kept h (r .own) queued t (inl (o .1)) u x n g) (λ u x n g. owner-back h (r .own) queued (held u) queued-held x g .1) u n))
-      f (λ _ _ _. subst (λ (z : Touch). tip (apply s z .anchor) (c .side) ≡ granted z c .slot) (sym ms) (ap (λ (d : Bool). tip a d) (b .agrees .side) ∙ end ∙ sym (b .agrees .slot)))
+      f (λ _ _ _. subst (λ (z : Touch). tip (apply s z .anchor) (c .side) ≡ granted z c .slot) (sym ms)
+      (ap (λ (d : Bool). tip a d) (b .agrees .side) ∙ end ∙ sym (b .agrees .slot)))
 
   -- A pop has its effect.
-  pub pop-good : (a : Anchor) → r .kind ≡ pop → Before (s .label) h t (r .kind) (r .side) (r .own) (r .label) c → r .read ≡ s .anchor → effect (s .anchor) a running ≡ true
+  pub pop-good : (a : Anchor) → r .kind ≡ pop → Before (s .label) h t (r .kind) (r .side) (r .own) (r .label) c → r .read ≡ s .anchor
+      → effect (s .anchor) a running ≡ true
       → s .anchor .tag < a .tag → s .anchor .status ≡ stable → tip (s .anchor) (r .side) ≢ 0 → Shape (s .link) a (took (r .side) (slots q))
       → Shown t s h q c (runs (putAnchor a) (goes r at11))
   pop-good a k b p eff lt st ne shape =
@@ -121,8 +132,10 @@ module _ {t : ℕ} {s : Shared} {h : ℕ → Owner} {q : List Entry} {c : Call} 
       effective (runs (putAnchor a) (goes r at11)) (upd h y (held t)) (told c (given (seen (r .side) q))) (took (r .side) q)
       (noted-pop c (b .agrees) q (s .anchor) a running eff refl k)
       (popped-whole all t a (r .side) y e (λ z. ne (sym e ∙ z)) shape)
-      (rely-turn a (upd h y (held t)) lt (calm all st) (λ u x n f. owner-kept h y (held t) t (inr (g .1)) u x n f) (λ u x n f. owner-back h y (held t) (held u) (λ z. n (sym (held-inj z))) x f .1))
-      (record { after = record { once = ap suc (b .none); told = g .0 }; holds = upd-same h y (held t); sole = sole }) (λ _ _ z. absurd (push-pop (sym z ∙ b .agrees .kind ∙ k)))
+      (rely-turn a (upd h y (held t)) lt (calm all st) (λ u x n f. owner-kept h y (held t) t (inr (g .1)) u x n f)
+      (λ u x n f. owner-back h y (held t) (held u) (λ z. n (sym (held-inj z))) x f .1))
+      (record { after = record { once = ap suc (b .none); told = g .0 }; holds = upd-same h y (held t); sole = sole })
+      (λ _ _ z. absurd (push-pop (sym z ∙ b .agrees .kind ∙ k)))
     where
       o : Own pop (s .label) h t (r .own) (r .label)
       o = subst (λ z. Own z (s .label) h t (r .own) (r .label)) k (b .own)

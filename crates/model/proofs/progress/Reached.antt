@@ -11,9 +11,9 @@ use Rattle.model.specs.declared.Op.{Op}
 use Rattle.model.proofs.ledger.Kept.{act-good}
 use Rattle.model.proofs.ledger.Matched.{Matched}
 use Rattle.model.proofs.ledger.Opened.{nobody, open-good, some-slots}
-use Rattle.model.proofs.unsound.Never34.{act-safe}
+use Rattle.model.proofs.unsound.Runs.{act-safe}
 use Rattle.model.proofs.unsound.Safe.{Safe}
-use Rattle.model.proofs.NeverUnsound.{open-safe}
+use Rattle.model.proofs.Never34.{open-safe}
 use Rattle.model.proofs.progress.Taken.{Roomy, act-roomy, open-roomy}
 
 pub record Reached (tasks : ℕ) (q : Queue) : Type 0 where

@@ -9,7 +9,7 @@ use lib.Dec.{eqb}
 use Rattle.model.specs.declared.Entry.{Entry}
 use Rattle.model.proofs.tests.Truth.{by-test, not-both}
 use Rattle.model.proofs.laws.Tests.{either}
-use Rattle.model.proofs.machine.Clerk.{Call, Noted, effect, noted}
+use Rattle.model.proofs.machine.Book.{Call, Noted, effect, noted}
 use Rattle.model.proofs.machine.Laws.{same-true, sameLink-true}
 use Rattle.model.proofs.machine.Machine.{Anchor, Kind, Link, Move, Place, Rec, Shared, Touch, act, aimed, apply, at1, at10, at11, at2, at3}
 use Rattle.model.proofs.machine.Machine.{at4, at5, at6, at7, at8, at9, both, draw, finishes, four, give, goes, idle, isIdle, isStable, leave, none, one}
@@ -73,7 +73,7 @@ module _ (s : Shared) (r : Rec) where
     abbrev after : Move → Noted
     after m = noted b q (s .anchor) (apply s (m .touch) .anchor) (m .answer)
 
-    -- A done change at 2 or 4 is an effect: the clerk had noted none and has noted one.
+    -- A done change at 2 or 4 is an effect: the book had noted none and has noted one.
     not-silent : (m : Move) → b .effects ≡ 0 → after m .call .effects ≡ 1 → Silent s m → ⊥
     not-silent m n o z = let e = ap (λ (w : Noted). w .call .effects)
         (noted-false b q (s .anchor) (apply s (m .touch) .anchor) (m .answer) (z .1)) in omega arith

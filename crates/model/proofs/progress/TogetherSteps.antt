@@ -24,7 +24,7 @@ use Rattle.model.specs.declared.Record.{Record}
 use Rattle.model.specs.declared.TaskRecord.{TaskRecord}
 use Rattle.model.proofs.tests.Truth.{by-test, decide-eq, not-both, split}
 use Rattle.model.proofs.lists.Store.{set-back}
-use Rattle.model.proofs.machine.Clerk.{effect}
+use Rattle.model.proofs.machine.Book.{effect}
 use Rattle.model.proofs.machine.Laws.{upd-other, upd-same}
 use Rattle.model.proofs.machine.Machine as M
 use Rattle.model.proofs.machine.Machine.{upd}
@@ -56,7 +56,8 @@ module _ (s : M.Shared) (f : ℕ → M.Rec) (t : ℕ) (s′ : M.Shared) (r′ : 
           (subst (λ (x : M.Rec). together s′ x ≤ together s (f t)) (sym (upd-same f t r′)) own)
       go (inr e) = subst (λ (x : M.Rec). together s′ x ≤ together s (f u)) (sym (upd-other f t r′ u e)) (others (f u))
 
-  pub all-keep : (n : ℕ) → together s′ r′ ≤ together s (f t) → all n (record { shared = s′; task = upd f t r′ }) ≤ all n (record { shared = s; task = f })
+  pub all-keep : (n : ℕ) → together s′ r′ ≤ together s (f t) → all n (record { shared = s′; task = upd f t r′ }) ≤ all n
+      (record { shared = s; task = f })
   all-keep n own = total-keep _ _ n (each own)
 
   pub all-drop : (n : ℕ) → t < n → together s′ r′ < together s (f t)
@@ -95,7 +96,8 @@ module _ (n : ℕ) (q : Queue) (l : Ledger) (g : Matched n q l) (named : isPoole
   Puts o a = Hushed o (back q t a)
 
   refused : (o : Op) (why : ℕ) → Puts o (record { tables = G; task = taskAt q t; outcome = Refused why })
-  refused o why z = subst (λ (x : List TaskRecord). stepping o (Refused why) + all tasks (stateOf (record { tables = G; records = x })) ≤ all tasks (stateOf q))
+  refused o why z = subst (λ (x : List TaskRecord). stepping o (Refused why) + all tasks
+      (stateOf (record { tables = G; records = x })) ≤ all tasks (stateOf q))
       (sym (set-back (q .records) t unused)) (go o)
     where
       go : (o : Op) → stepping o (Refused why) + all tasks (stateOf q) ≤ all tasks (stateOf q)
@@ -121,7 +123,8 @@ module _ (n : ℕ) (q : Queue) (l : Ledger) (g : Matched n q l) (named : isPoole
 
     start-all : all tasks (stateOf begun) ≤ all tasks (stateOf q)
     unfolding view stateOf
-    start-all = subst (λ (k : ℕ → M.Rec). total (λ u. together (view G) (k u)) tasks ≤ all tasks (stateOf q)) (sym (put-back q t z (withCall (taskAt q t) new)))
+    start-all = subst (λ (k : ℕ → M.Rec). total (λ u. together (view G) (k u)) tasks ≤ all tasks (stateOf q))
+        (sym (put-back q t z (withCall (taskAt q t) new)))
         (all-keep (view G) (stateOf q .task) t (view G) (recOf new) (λ u. omega arith) tasks (omega (arith, owes-same)))
 
   -- An accepted step.
@@ -150,14 +153,19 @@ module _ (n : ℕ) (q : Queue) (l : Ledger) (g : Matched n q l) (named : isPoole
         let silent : Silent (view G) (seenMove G r) =
         (runs-on a (w .1), ap (λ (x : M.State). effect (view G .anchor) (x .shared .anchor) (answerSeen a)) (sym is) ∙ effect-is ev a ∙ w .0) in
         subst (λ (x : M.State). suc (all tasks x) ≤ all tasks (stateOf q)) (sym is)
-        (all-drop (view G) (stateOf q .task) t (M.apply (view G) (seenMove G r .touch)) (seenMove G r .rec) (calm .others silent) tasks (s .lies .known)
+        (all-drop (view G) (stateOf q .task) t (M.apply (view G) (seenMove G r .touch)) (seenMove G r .rec) (calm .others silent) tasks
+        (s .lies .known)
         (omega (arith, calm .own silent, ap (together (view G)) (task-of q t (s .lies .known)))))
 
   push-put : (side x y : ℕ) → Lies q t → r .place ≡ 0
       → Puts (Push side x y) (record { tables = taken G x y; task = withCall (taskAt q t) (started 0 side x y); outcome = Moved (Running 1) })
   push-put side x y z free _ = omega (arith, start-all z free (taken G x y .labels) (taken G x y .marks) 0 side x y)
 
-  pop-put : (side : ℕ) → Lies q t → r .place ≡ 0 → Puts (Pop side) (record { tables = G; task = withCall (taskAt q t) (started 1 side 0 0); outcome = Moved (Running 1) })
+  pop-put : (side : ℕ) → Lies q t → r .place ≡ 0 → Puts (Pop side) (record {
+    tables = G;
+    task = withCall (taskAt q t) (started 1 side 0 0);
+    outcome = Moved (Running 1);
+  })
   pop-put side z free _ = omega (arith, start-all z free (G .labels) (G .marks) 1 side 0 0)
 
   step-put : Stepping q t → Puts Step (finish G (taskAt q t) (move (G .control) r (linkMet G r)))
@@ -201,6 +209,7 @@ all-bound tasks q = total-le _ 16 tasks
       scale-most (stateOf q .shared),
     ))
 
-pub stretch-tells : (tasks : ℕ) (q : Queue) → Reached tasks q → (os : List Request) → stretchLimit tasks ≤ steps (run q os) → any tells (run q os) ≡ true
+pub stretch-tells : (tasks : ℕ) (q : Queue) → Reached tasks q → (os : List Request) → stretchLimit tasks ≤ steps (run q os)
+    → any tells (run q os) ≡ true
 stretch-tells tasks q z os le = split (any tells (run q os)) (λ e. e)
     (λ e. absurd (omega (arith, le, run-all os tasks q z e, all-bound tasks q, z .roomy .some)))

@@ -5,9 +5,12 @@ use Prim.Native.Nat.{_*_, _+_, _<_, _≤_, suc, ℕ}
 use native.Mathlib.Omega.{arith}
 use lib.Dec.{eqb}
 use Rattle.model.proofs.tests.Truth.{by-test}
-use Rattle.model.proofs.machine.Clerk.{Call}
+use Rattle.model.proofs.machine.Book.{Call}
 use Rattle.model.proofs.machine.Laws.{same-true}
-use Rattle.model.proofs.machine.Machine.{Anchor, Draw, Give, Kind, Move, Place, Rec, Shared, Status, Touch, act, aimed, apply, at1, at10, at11, at12, at13, at14, at15, at16, at17, at2, at3, at4, at5, at6, at7, at8, at9, draw, draws, four, give, gives, idle, isStable, leave, none, one, pop, push, pushing, putAnchor, same, sameLink, settled, stable, three, tip, two, upd}
+use Rattle.model.proofs.machine.Machine.{Anchor, Draw, Give, Kind, Move, Place, Rec, Shared, Status, Touch, act, aimed, apply, at1}
+use Rattle.model.proofs.machine.Machine.{at10, at11, at12, at13, at14, at15, at16, at17, at2, at3, at4, at5, at6, at7, at8, at9}
+use Rattle.model.proofs.machine.Machine.{draw, draws, four, give, gives, idle, isStable, leave, none, one, pop, push, pushing}
+use Rattle.model.proofs.machine.Machine.{putAnchor, same, sameLink, settled, stable, three, tip, two, upd}
 use Rattle.model.proofs.machine.Machine.{exhausted}
 use Rattle.model.proofs.invariant.Owners.{Owner}
 use Rattle.model.proofs.invariant.Tags.{cost, owes, spent, unsettled, weight}
@@ -62,7 +65,8 @@ module _ (s : Shared) (h : ℕ → Owner) (t : ℕ) (r : Rec) (c : Call) where
   light2 pop g f e = by-test (Light s r) (same (r .read) (s .anchor))
       (λ z. let p = same-true (r .read) (s .anchor) z in record { less = omega (arith, tag-of p, status-of p, owed pop f g) }) (λ z. light1 pop e)
 
-  aimed-weight : (a : Anchor) (d : Bool) (x : ℕ) (st : Status) → aimed a d x st .tag + unsettled (aimed a d x st .status) ≡ suc (a .tag) + unsettled st
+  aimed-weight : (a : Anchor) (d : Bool) (x : ℕ) (st : Status)
+      → aimed a d x st .tag + unsettled (aimed a d x st .status) ≡ suc (a .tag) + unsettled st
   aimed-weight a false x st = refl
   aimed-weight a true x st = refl
 
@@ -73,7 +77,8 @@ module _ (s : Shared) (h : ℕ → Owner) (t : ℕ) (r : Rec) (c : Call) where
       record { less = omega (arith, tag-of p, owed push f g, aimed-weight (r .read) (r .side) (r .own) (pushing (r .side))) }) (λ z. light1 push e)
   light4 pop g f st e = by-test (Light s r) (same (r .read) (s .anchor))
       (λ z. let p = same-true (r .read) (s .anchor) z in
-      record { less = omega (arith, tag-of p, status-of p, owed pop f g, aimed-weight (r .read) (r .side) (r .near) (r .read .status)) }) (λ z. light1 pop e)
+      record { less = omega (arith, tag-of p, status-of p, owed pop f g, aimed-weight (r .read) (r .side) (r .near) (r .read .status)) })
+      (λ z. light1 pop e)
 
   stable-of : (k : Kind) → Three k (r .read) → r .read .status ≡ stable
   stable-of push w = w .0
@@ -89,7 +94,8 @@ module _ (s : Shared) (h : ℕ → Owner) (t : ℕ) (r : Rec) (c : Call) where
   light-draw at12 e = by-test (Light s r) (exhausted (s .head)) (λ z. record { less = omega arith }) (λ z. record { less = omega arith })
   light-draw at13 e = record { less = omega arith }
   light-draw at14 e = by-test (Light s r) (sameLink (r .link) (s .head))
-      (λ z. record { less = by-test (λ n. weight s + n ≤ weight s + cost r) (r .finishing) (λ f. omega arith) (λ f. omega arith) }) (λ z. record { less = omega arith })
+      (λ z. record { less = by-test (λ n. weight s + n ≤ weight s + cost r) (r .finishing) (λ f. omega arith) (λ f. omega arith) })
+      (λ z. record { less = omega arith })
 
   light-give : (p : Give) → Light s r (gives p s r)
   light-give at15 = record { less = omega arith }
@@ -108,12 +114,17 @@ module _ (s : Shared) (h : ℕ → Owner) (t : ℕ) (r : Rec) (c : Call) where
   light at3 e w = light3 (r .kind) (spends at3 e refl)
   light at4 e w = light4 (r .kind) refl (w .0 .early) (stable-of (r .kind) (w .1)) (spends at4 e refl)
   light at5 e w = let z = spends at5 e refl in record { less = omega arith }
-  light at6 e w = let g = spends at6 e refl in by-test (Light s r) (same (r .read) (s .anchor)) (λ z. record { less = omega arith }) (λ z. light-leave none (omega arith) g)
+  light at6 e w = let g = spends at6 e refl in
+      by-test (Light s r) (same (r .read) (s .anchor)) (λ z. record { less = omega arith })
+      (λ z. light-leave none (omega arith) g)
   light at7 e w = let g = spends at7 e refl in
-      by-test (Light s r) (eqb (s .link (way (r .read)) (r .near) .slot) (tip (r .read) (way (r .read)))) (λ z. record { less = omega arith }) (λ z. record { less = omega arith })
-  light at8 e w = let g = spends at8 e refl in by-test (Light s r) (same (r .read) (s .anchor)) (λ z. record { less = omega arith }) (λ z. light-leave none (omega arith) g)
+      by-test (Light s r) (eqb (s .link (way (r .read)) (r .near) .slot) (tip (r .read) (way (r .read)))) (λ z. record { less = omega arith })
+      (λ z. record { less = omega arith })
+  light at8 e w = let g = spends at8 e refl in
+      by-test (Light s r) (same (r .read) (s .anchor)) (λ z. record { less = omega arith }) (λ z. light-leave none (omega arith) g)
   light at9 e w = let g = spends at9 e refl in
-      by-test (Light s r) (sameLink (r .link) (s .link (way (r .read)) (r .near))) (λ z. record { less = omega arith }) (λ z. light-leave none (omega arith) g)
+      by-test (Light s r) (sameLink (r .link) (s .link (way (r .read)) (r .near))) (λ z. record { less = omega arith })
+      (λ z. light-leave none (omega arith) g)
   light at10 e w = let g = spends at10 e refl in
       by-test (Light s r) (same (r .read) (s .anchor))
       (λ z. let p = same-true (r .read) (s .anchor) z in
@@ -127,11 +138,13 @@ module _ (s : Shared) (h : ℕ → Owner) (t : ℕ) (r : Rec) (c : Call) where
 -- Over all tasks.
 module _ (s : Shared) (f : ℕ → Rec) (n t : ℕ) (lt : t < n) where
   -- A step.
-  pub step-bound : (m : Move) (b : ℕ) → Light s (f t) m → weight s + total (λ u. cost (f u)) n ≤ b → weight (apply s (m .touch)) + total (λ u. cost (upd f t (m .rec) u)) n ≤ b
+  pub step-bound : (m : Move) (b : ℕ) → Light s (f t) m → weight s + total (λ u. cost (f u)) n ≤ b
+      → weight (apply s (m .touch)) + total (λ u. cost (upd f t (m .rec) u)) n ≤ b
   step-bound m b l h = omega (arith, l .less, total-at cost f t (m .rec) n lt)
 
   -- A start, below the limit of refusal 33: Anchor's tag, one change to settle, and two for each task.
-  pub start-bound : (s′ : Shared) (r : Rec) (b : ℕ) → s′ .anchor ≡ s .anchor → s .anchor .tag + 1 + 2 * n ≤ b → weight s′ + total (λ u. cost (upd f t r u)) n ≤ b
+  pub start-bound : (s′ : Shared) (r : Rec) (b : ℕ) → s′ .anchor ≡ s .anchor → s .anchor .tag + 1 + 2 * n ≤ b
+      → weight s′ + total (λ u. cost (upd f t r u)) n ≤ b
   start-bound s′ r b e h =
       let le = total-le (λ u. cost (upd f t r u)) 2 n (λ u. cost-small (upd f t r u)) in
       let g = ap (λ (a : Anchor). a .tag) e in

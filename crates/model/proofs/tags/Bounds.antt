@@ -36,9 +36,11 @@ module _ (s : M.Shared) (r : M.Rec) where
   room4 M.pop e l = let z = rw e at (l .less) in omega (arith, aimed-tag (r .read) (r .side) (r .near) (r .read .status))
 
   room10 : M.same (r .read) (s .anchor) ≡ true → Light s r (M.act M.at10 s r) → suc (r .read .tag) ≤ weight s + cost r
-  room10 e l = let z = rw e at (l .less) in let y = ap (λ (t : M.Touch). weight (M.apply s t)) (leave-touch (M.putAnchor (M.settled (r .read))) r) in omega arith
+  room10 e l = let z = rw e at (l .less) in
+      let y = ap (λ (t : M.Touch). weight (M.apply s t)) (leave-touch (M.putAnchor (M.settled (r .read))) r) in omega arith
 
-  room9 : M.sameLink (r .link) (s .link (M.towards (r .read .status)) (r .near)) ≡ true → r .near ≤ s .slots → Tagged s (M.act M.at9 s r) → suc (r .link .tag) ≤ s .anchor .tag
+  room9 : M.sameLink (r .link) (s .link (M.towards (r .read .status)) (r .near)) ≡ true → r .near ≤ s .slots → Tagged s (M.act M.at9 s r)
+      → suc (r .link .tag) ≤ s .anchor .tag
   room9 e h g =
       let d = M.towards (r .read .status) in
       let v : M.Link = record { tag = suc (r .link .tag); slot = M.tip (r .read) d } in
@@ -46,12 +48,14 @@ module _ (s : M.Shared) (r : M.Rec) where
       let z = ap (λ (w : M.Link). w .tag) (relink-same (s .link) d (r .near) v) in
       omega (arith, y .upper d (r .near) h)
 
-module _ (q : Tables) (c : ControlFine (q .control)) (k : LinksFine q) (r : Record) (h : RecordFine (isPooled (q .control)) (q .control .slots) r) (low : anchorOf (q .control .anchor) .tag ≤ 4294967295) where
+module _ (q : Tables) (c : ControlFine (q .control)) (k : LinksFine q) (r : Record) (h : RecordFine (isPooled (q .control)) (q .control .slots) r)
+    (low : anchorOf (q .control .anchor) .tag ≤ 4294967295) where
   abbrev at : ℕ → Record
   at p = atPlace r p
 
   abbrev Bounds : ℕ → Type 0
-  Bounds p = (12 ≤ p → p ≤ 14 → r .kind ≡ 0) → (2 ≤ share (recOf (at p)) + cost (recOf (at p)) → suc (linkOf (q .control .head) .tag) ≤ 4294967295) → weight (view q) + cost (recOf (at p)) ≤ 4294967295 → Light (view q) (recOf (at p)) (M.act (placeOf p) (view q) (recOf (at p)))
+  Bounds p = (12 ≤ p → p ≤ 14 → r .kind ≡ 0) → (2 ≤ share (recOf (at p)) + cost (recOf (at p)) → suc (linkOf (q .control .head) .tag) ≤ 4294967295)
+      → weight (view q) + cost (recOf (at p)) ≤ 4294967295 → Light (view q) (recOf (at p)) (M.act (placeOf p) (view q) (recOf (at p)))
       → Tagged (view q) (M.act (placeOf p) (view q) (recOf (at p))) → RoomAt q (at p) (placeOf p)
 
   current : q .control .anchor ≡ r .seen → M.same (anchorSeen (r .seen)) (anchorSeen (q .control .anchor)) ≡ true
@@ -83,7 +87,8 @@ module _ (q : Tables) (c : ControlFine (q .control)) (k : LinksFine q) (r : Reco
       (λ p i b l g. tt)
       (λ p i b l g. tt)
       (λ p i b l g. tt)
-      (λ p i b l g z. raise z (i (let k : owes (kindOf (r .kind)) ≡ 2 = ap (λ (n : ℕ). owes (kindOf n)) (p (omega arith) (omega arith)) in omega arith)))
+      (λ p i b l g z. raise z (i (let k : owes (kindOf (r .kind)) ≡ 2 = ap (λ (n : ℕ). owes (kindOf n))
+      (p (omega arith) (omega arith)) in omega arith)))
       (λ p i b l g. tt)
       (λ p i b l g. tt)
       (λ p i b l g z. raise z (i (omega arith)))

@@ -10,10 +10,13 @@ use Rattle.model.specs.declared.Entry.{Entry}
 use Rattle.model.proofs.tests.Truth.{by-test, decide-eq}
 use Rattle.model.proofs.lists.All.{all-map}
 use Rattle.model.proofs.lists.Slots.{slots}
-use Rattle.model.proofs.machine.Clerk.{Call}
+use Rattle.model.proofs.machine.Book.{Call}
 use Rattle.model.proofs.machine.Laws.{later, relink-across, relink-other, relink-same, same-side, same-true, sameLink-true}
 use Rattle.model.proofs.machine.LinkTags.{relink-keeps}
-use Rattle.model.proofs.machine.Machine.{Anchor, Kind, Link, Move, Place, Rec, Shared, Status, Touch, act, aimed, apply, at1, at10, at11, at12, at13, at14, at15, at16, at17, at2, at3, at4, at5, at6, at7, at8, at9, both, draw, four, give, idle, inner, isStable, leave, none, one, pop, push, pushing, putAnchor, relink, same, sameLink, settled, three, tip, two, withAnchor, withLink}
+use Rattle.model.proofs.machine.Machine.{Anchor, Kind, Link, Move, Place, Rec, Shared, Status, Touch, act, aimed, apply, at1, at10}
+use Rattle.model.proofs.machine.Machine.{at11, at12, at13, at14, at15, at16, at17, at2, at3, at4, at5, at6, at7, at8, at9, both}
+use Rattle.model.proofs.machine.Machine.{draw, four, give, idle, inner, isStable, leave, none, one, pop, push, pushing, putAnchor}
+use Rattle.model.proofs.machine.Machine.{relink, same, sameLink, settled, three, tip, two, withAnchor, withLink}
 use Rattle.model.proofs.machine.Machine.{exhausted}
 use Rattle.model.proofs.invariant.Owners.{Owner, Whole, held, queued}
 use Rattle.model.proofs.invariant.Rely.{Quiet, Turned}
@@ -60,9 +63,11 @@ module _ (s : Shared) (g : Tags s) where
 
   module _ (h : ℕ → Owner) (t : ℕ) (r : Rec) (c : Call) (q : List Entry) (all : Whole s h q) where
     tags1 : (k : Kind) → Tagged s (one k s r)
-    tags1 push = by-test (Tagged s) (eqb (s .anchor .left) 0) (λ e. keeps _ _) (λ e. by-test (Tagged s) (isStable (s .anchor .status)) (λ f. keeps _ _) (λ f. keeps _ _))
+    tags1 push = by-test (Tagged s) (eqb (s .anchor .left) 0) (λ e. keeps _ _)
+        (λ e. by-test (Tagged s) (isStable (s .anchor .status)) (λ f. keeps _ _) (λ f. keeps _ _))
     tags1 pop = by-test (Tagged s) (eqb (s .anchor .left) 0) (λ e. keeps _ _)
-        (λ e. by-test (Tagged s) (eqb (s .anchor .left) (s .anchor .right)) (λ f. keeps _ _) (λ f. by-test (Tagged s) (isStable (s .anchor .status)) (λ f. keeps _ _) (λ f. keeps _ _)))
+        (λ e. by-test (Tagged s) (eqb (s .anchor .left) (s .anchor .right)) (λ f. keeps _ _)
+        (λ f. by-test (Tagged s) (isStable (s .anchor .status)) (λ f. keeps _ _) (λ f. keeps _ _)))
 
     tags2 : (k : Kind) → Tagged s (two k s r)
     tags2 push = by-test (Tagged s) (same (r .read) (s .anchor))
@@ -93,10 +98,12 @@ module _ (s : Shared) (g : Tags s) where
     tags4 pop = by-test (Tagged s) (same (r .read) (s .anchor))
         (λ e. record { tagged = aimed-tags (r .read) (r .side) (r .near) _ (same-true _ _ e) }) (λ e. tags1 pop)
 
-    tags9 : Task at9 s h t r c → r .link ≡ s .link (way (r .read)) (r .near) → Live s (r .read) (r .near) (r .link) ⊎ (r .link .tag < s .link (way (r .read)) (r .near) .tag)
+    tags9 : Task at9 s h t r c → r .link ≡ s .link (way (r .read)) (r .near)
+        → Live s (r .read) (r .near) (r .link) ⊎ (r .link .tag < s .link (way (r .read)) (r .near) .tag)
         → Tags (withLink s (way (r .read)) (r .near) (record { tag = suc (r .link .tag); slot = tip (r .read) (way (r .read)) }))
     tags9 w z (inr f) = let e = ap (λ (w : Link). w .tag) z in absurd (omega arith)
-    tags9 w z (inl l) = subst (λ y. Tags (withLink s e y v)) n (record { upper = relink-upper (s .link) e x v (s .anchor .tag) (s .slots) (g .upper) (lt (g .room e st)); room = λ b st′. inl (made b st′) })
+    tags9 w z (inl l) = subst (λ y. Tags (withLink s e y v)) n
+        (record { upper = relink-upper (s .link) e x v (s .anchor .tag) (s .slots) (g .upper) (lt (g .room e st)); room = λ b st′. inl (made b st′) })
       where
         e : Bool
         e = way (r .read)
@@ -114,14 +121,17 @@ module _ (s : Shared) (g : Tags s) where
         n = ap (λ (b : Anchor). inner s e (tip b e)) (sym (l .current)) ∙ l .near
 
         low : x ≤ s .slots
-        low = inner-in (s .link) (s .anchor) (slots q) (all .shape) e (λ z. z ≤ s .slots) st (all-map (λ z. h z ≡ queued) _ (λ z e. all .bounds z (λ f. queued-free (sym e ∙ f)) .1) (slots q) (all .owned))
+        low = inner-in (s .link) (s .anchor) (slots q) (all .shape) e (λ z. z ≤ s .slots) st
+            (all-map (λ z. h z ≡ queued) _ (λ z e. all .bounds z (λ f. queued-free (sym e ∙ f)) .1) (slots q) (all .owned))
 
         lt : Made (s .link) (s .anchor) e ⊎ ((y : ℕ) → y ≤ s .slots → s .link e y .tag < s .anchor .tag) → suc (r .link .tag) ≤ s .anchor .tag
-        lt (inl m) = absurd (w .1 .other (ap (λ (w : Link). w .slot) z ∙ ap (λ (y : ℕ). s .link e y .slot) (sym n) ∙ m ∙ ap (λ (b : Anchor). tip b e) (sym (l .current))))
+        lt (inl m) = absurd (w .1 .other
+            (ap (λ (w : Link). w .slot) z ∙ ap (λ (y : ℕ). s .link e y .slot) (sym n) ∙ m ∙ ap (λ (b : Anchor). tip b e) (sym (l .current))))
         lt (inr f) = let u = ap (λ (w : Link). w .tag) z in omega (arith, f (r .near) (subst (λ z. z ≤ s .slots) n low))
 
         made : (b : Bool) → s .anchor .status ≡ pushing b → Made (relink (s .link) e x v) (s .anchor) b
-        made b st′ = subst (λ b. Made (relink (s .link) e x v) (s .anchor) b) (same-side (sym st ∙ st′)) (back-made t s h q c all r e st v (ap (λ (b : Anchor). tip b e) (l .current)))
+        made b st′ = subst (λ b. Made (relink (s .link) e x v) (s .anchor) b) (same-side (sym st ∙ st′))
+            (back-made t s h q c all r e st v (ap (λ (b : Anchor). tip b e) (l .current)))
 
     pub tags : (p : Place) → Task p s h t r c → Tagged s (act p s r)
     tags idle w = keeps _ _
@@ -133,13 +143,19 @@ module _ (s : Shared) (g : Tags s) where
     tags at6 w = by-test (Tagged s) (same (r .read) (s .anchor)) (λ e. keeps _ _) (λ e. leaves r none g)
     tags at7 w = by-test (Tagged s) (eqb (s .link (way (r .read)) (r .near) .slot) (tip (r .read) (way (r .read)))) (λ e. keeps _ _) (λ e. keeps _ _)
     tags at8 w = by-test (Tagged s) (same (r .read) (s .anchor)) (λ e. keeps _ _) (λ e. leaves r none g)
-    tags at9 w = by-test (Tagged s) (sameLink (r .link) (s .link (way (r .read)) (r .near))) (λ e. record { tagged = tags9 w (sameLink-true _ _ e) (w .1 .chance) }) (λ e. leaves r none g)
-    tags at10 w = by-test (Tagged s) (same (r .read) (s .anchor)) (λ e. leaves r (putAnchor (settled (r .read))) (turned (settled (r .read)) (later (r .read) (s .anchor) (same-true _ _ e)))) (λ e. leaves r none g)
+    tags at9 w = by-test (Tagged s) (sameLink (r .link) (s .link (way (r .read)) (r .near)))
+        (λ e. record { tagged = tags9 w (sameLink-true _ _ e) (w .1 .chance) }) (λ e. leaves r none g)
+    tags at10 w = by-test (Tagged s) (same (r .read) (s .anchor))
+        (λ e. leaves r (putAnchor (settled (r .read))) (turned (settled (r .read)) (later (r .read) (s .anchor) (same-true _ _ e))))
+        (λ e. leaves r none g)
     -- From here on neither Anchor nor a link is touched.
-    tags at11 w = by-test (Tagged s) (s .pooled) (λ e. record { tagged = record { upper = g .upper; room = g .room } }) (λ e. record { tagged = record { upper = g .upper; room = g .room } })
+    tags at11 w = by-test (Tagged s) (s .pooled) (λ e. record { tagged = record { upper = g .upper; room = g .room } })
+        (λ e. record { tagged = record { upper = g .upper; room = g .room } })
     tags (draw at12) w = by-test (Tagged s) (exhausted (s .head)) (λ e. keeps _ _) (λ e. keeps _ _)
     tags (draw at13) w = keeps _ _
-    tags (draw at14) w = by-test (Tagged s) (sameLink (r .link) (s .head)) (λ e. record { tagged = record { upper = g .upper; room = g .room } }) (λ e. keeps _ _)
+    tags (draw at14) w = by-test (Tagged s) (sameLink (r .link) (s .head)) (λ e. record { tagged = record { upper = g .upper; room = g .room } })
+        (λ e. keeps _ _)
     tags (give at15) w = keeps _ _
     tags (give at16) w = record { tagged = record { upper = g .upper; room = g .room } }
-    tags (give at17) w = by-test (Tagged s) (sameLink (r .link) (s .head)) (λ e. record { tagged = record { upper = g .upper; room = g .room } }) (λ e. keeps _ _)
+    tags (give at17) w = by-test (Tagged s) (sameLink (r .link) (s .head)) (λ e. record { tagged = record { upper = g .upper; room = g .room } })
+        (λ e. keeps _ _)

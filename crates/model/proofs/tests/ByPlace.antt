@@ -18,6 +18,7 @@ each-at P k (suc m) n e h g = go (decide-eq n k) (λ p. each-at P (suc k) m n (e
     go (inl z) f = subst P (sym z) (e .0)
     go (inr z) f = f (omega arith)
 
-pub by-place : (P : ℕ → Type 0) → P 1 → P 2 → P 3 → P 4 → P 5 → P 6 → P 7 → P 8 → P 9 → P 10 → P 11 → P 12 → P 13 → P 14 → P 15 → P 16 → P 17 → (p : ℕ) → p ≢ 0 → p ≤ 17 → P p
+pub by-place : (P : ℕ → Type 0) → P 1 → P 2 → P 3 → P 4 → P 5 → P 6 → P 7 → P 8 → P 9 → P 10 → P 11 → P 12 → P 13 → P 14 → P 15 → P 16 → P 17
+    → (p : ℕ) → p ≢ 0 → p ≤ 17 → P p
 by-place P a b c d e f g h i j k a′ b′ c′ d′ e′ f′ p n l =
     each-at P 1 17 p (a, (b, (c, (d, (e, (f, (g, (h, (i, (j, (k, (a′, (b′, (c′, (d′, (e′, (f′, tt))))))))))))))))) (omega arith) (omega arith)

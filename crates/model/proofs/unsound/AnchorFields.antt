@@ -25,7 +25,8 @@ use Rattle.model.proofs.unsound.Tests.{anchor-sound}
 
 tip-low : (s : Shared) (h : ℕ → Owner) (q : List Entry) → Whole s h q → (d : Bool) → tip (s .anchor) d ≤ s .slots
 tip-low s h q w d = subst (λ x. x ≤ s .slots) (sym (w .shape .tips d)) (all-front (λ x. x ≤ s .slots) (seen d (slots q)) 0
-    (all-seen (λ x. x ≤ s .slots) d (slots q) (all-map (λ x. h x ≡ queued) _ (λ x e. w .bounds x (λ f. queued-free (sym e ∙ f)) .1) (slots q) (w .owned))) (omega arith))
+    (all-seen (λ x. x ≤ s .slots) d (slots q)
+    (all-map (λ x. h x ≡ queued) _ (λ x e. w .bounds x (λ f. queued-free (sym e ∙ f)) .1) (slots q) (w .owned))) (omega arith))
 
 stable-zero : (n : ℕ) → n ≤ 2 → statusOf n ≡ M.stable → n ≡ 0
 stable-zero zero h e = refl
@@ -35,11 +36,13 @@ stable-zero (suc (suc (suc n))) h e = absurd (omega arith)
 
 -- An Anchor word over a whole queue is sound.
 module _ (q : Tables) where
-  whole-fine : (a : ℕ) (s : M.Shared) (h : ℕ → Owner) (l : List Entry) → s .anchor ≡ anchorSeen a → s .slots ≡ q .control .slots → Whole s h l → anchorOf a .status ≤ 2
+  whole-fine : (a : ℕ) (s : M.Shared) (h : ℕ → Owner) (l : List Entry) → s .anchor ≡ anchorSeen a → s .slots ≡ q .control .slots → Whole s h l
+      → anchorOf a .status ≤ 2
       → AnchorFine (q .control .slots) (anchorOf a)
   whole-fine a s h l e g w st =
       let sh = subst (λ (b : M.Anchor). Shape (s .link) b (slots l)) e (w .shape) in
-      let low : (d : Bool) → M.tip (anchorSeen a) d ≤ q .control .slots = λ d. subst (λ (n : ℕ). M.tip (anchorSeen a) d ≤ n) g (subst (λ (b : M.Anchor). M.tip b d ≤ s .slots) e (tip-low s h l w d)) in
+      let low : (d : Bool) → M.tip (anchorSeen a) d ≤ q .control .slots = λ d. subst (λ (n : ℕ). M.tip (anchorSeen a) d ≤ n) g
+      (subst (λ (b : M.Anchor). M.tip b d ≤ s .slots) e (tip-low s h l w d)) in
       record {
         status = st;
         left = low false;
@@ -49,7 +52,8 @@ module _ (q : Tables) where
         single = λ z. stable-zero (anchorOf a .status) st (alike-stable (s .link) (anchorSeen a) (slots l) sh z);
       }
 
-  pub touch-sound : (t : Touch) (h : ℕ → Owner) (l : List Entry) → Whole (M.apply (view q) (touchSeen t)) h l → StatusFine t → leavesSound (q .control .slots) t ≡ true
+  pub touch-sound : (t : Touch) (h : ℕ → Owner) (l : List Entry) → Whole (M.apply (view q) (touchSeen t)) h l → StatusFine t
+      → leavesSound (q .control .slots) t ≡ true
   unfolding view
   touch-sound nothing h l w st = refl
   touch-sound (setAnchor a) h l w st = anchor-sound (q .control .slots) (anchorOf a) (whole-fine a _ h l refl refl w st)

@@ -8,9 +8,12 @@ use lib.Dec.{eqb}
 use Rattle.model.specs.declared.Entry.{Entry}
 use Rattle.model.proofs.tests.Truth.{by-test, not-both}
 use Rattle.model.proofs.lists.Slots.{slots}
-use Rattle.model.proofs.machine.Clerk.{Call}
+use Rattle.model.proofs.machine.Book.{Call}
 use Rattle.model.proofs.machine.Laws.{same-true}
-use Rattle.model.proofs.machine.Machine.{Anchor, Kind, Move, Place, Rec, Shared, Touch, act, at1, at10, at11, at12, at13, at14, at15, at16, at17, at2, at3, at4, at5, at6, at7, at8, at9, draw, four, give, idle, inner, isIdle, isStable, leave, none, one, pop, push, pushing, putAnchor, same, sameLink, settled, three, tip, towards, two}
+use Rattle.model.proofs.machine.Machine.{Anchor, Kind, Move, Place, Rec, Shared, Touch, act, at1, at10, at11, at12, at13, at14, at15}
+use Rattle.model.proofs.machine.Machine.{at16, at17, at2, at3, at4, at5, at6, at7, at8, at9, draw, four, give, idle, inner, isIdle}
+use Rattle.model.proofs.machine.Machine.{isStable, leave, none, one, pop, push, pushing, putAnchor, same, sameLink, settled, three}
+use Rattle.model.proofs.machine.Machine.{tip, towards, two}
 use Rattle.model.proofs.machine.Machine.{exhausted}
 use Rattle.model.proofs.invariant.Fields.{Extra, Only}
 use Rattle.model.proofs.invariant.Owners.{Owner, Whole}
@@ -50,7 +53,15 @@ module _ (t : ℕ) (s : Shared) (h : ℕ → Owner) (q : List Entry) (c : Call) 
   extra4 push k f y o = by-test Extras (same (r .read) (s .anchor)) (λ e. record { extra = (λ z. k, o .1, o .2) }) (λ e. extra1 push o)
   extra4 pop k f y o = by-test Extras (same (r .read) (s .anchor))
       (λ e. let p = same-true (r .read) (s .anchor) e in
-      record { extra = (k, f, subst (λ (a : Anchor). tip a (r .side) ≢ 0) (sym p) (ends-real (s .link) (s .anchor) (slots q) (w .shape) (subst (λ (a : Anchor). a .left ≢ a .right) p (y .1)) (r .side)), o .2 k) })
+      record {
+        extra = (
+          k,
+          f,
+          subst (λ (a : Anchor). tip a (r .side) ≢ 0) (sym p)
+              (ends-real (s .link) (s .anchor) (slots q) (w .shape) (subst (λ (a : Anchor). a .left ≢ a .right) p (y .1)) (r .side)),
+          o .2 k,
+        );
+      })
       (λ e. extra1 pop o)
 
   pub act-extra : (p : Place) → isIdle p ≡ false → Task p s h t r c → Extra p r → Extras (act p s r)
@@ -71,14 +82,17 @@ module _ (t : ℕ) (s : Shared) (h : ℕ → Owner) (q : List Entry) (c : Call) 
         );
       })
       (λ e. leaves none o)
-  act-extra at7 i y o = by-test Extras (eqb (s .link (towards (r .read .status)) (r .near) .slot) (tip (r .read) (towards (r .read .status)))) (λ e. record { extra = o .0 }) (λ e. record { extra = o })
+  act-extra at7 i y o = by-test Extras (eqb (s .link (towards (r .read .status)) (r .near) .slot) (tip (r .read) (towards (r .read .status))))
+      (λ e. record { extra = o .0 }) (λ e. record { extra = o })
   act-extra at8 i y o = by-test Extras (same (r .read) (s .anchor)) (λ e. record { extra = o }) (λ e. leaves none (o .0))
-  act-extra at9 i y o = by-test Extras (sameLink (r .link) (s .link (towards (r .read .status)) (r .near))) (λ e. record { extra = o .0 }) (λ e. leaves none (o .0))
+  act-extra at9 i y o = by-test Extras (sameLink (r .link) (s .link (towards (r .read .status)) (r .near))) (λ e. record { extra = o .0 })
+      (λ e. leaves none (o .0))
   act-extra at10 i y o = by-test Extras (same (r .read) (s .anchor)) (λ e. leaves (putAnchor (settled (r .read))) o) (λ e. leaves none o)
   act-extra at11 i y o = by-test Extras (s .pooled) (λ e. record { extra = (o .0, o .1, o .2) }) (λ e. record { extra = tt })
   act-extra (draw at12) i y o = by-test Extras (exhausted (s .head)) (λ e. record { extra = tt }) (λ e. record { extra = o })
   act-extra (draw at13) i y o = record { extra = o }
-  act-extra (draw at14) i y o = by-test Extras (sameLink (r .link) (s .head)) (λ e. record { extra = (λ z. y .1 .kind, λ z. y .2 .0, λ z. absurd (push-pop (sym (y .1 .kind) ∙ z))) }) (λ e. record { extra = o })
+  act-extra (draw at14) i y o = by-test Extras (sameLink (r .link) (s .head))
+      (λ e. record { extra = (λ z. y .1 .kind, λ z. y .2 .0, λ z. absurd (push-pop (sym (y .1 .kind) ∙ z))) }) (λ e. record { extra = o })
   act-extra (give at15) i y o = record { extra = o }
   act-extra (give at16) i y o = record { extra = o }
   act-extra (give at17) i y o = by-test Extras (sameLink (r .link) (s .head)) (λ e. record { extra = tt }) (λ e. record { extra = o })

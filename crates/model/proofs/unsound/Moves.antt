@@ -8,7 +8,8 @@ use lib.Dec.{eqb, leb}
 use borrow.Author.Tests.{leb-true}
 use Rattle.word.specs.Anchor.{anchorOf, packAnchor}
 use Rattle.word.specs.Link.{linkOf, spareOf}
-use Rattle.model.specs.Places.{Touch, clearMark, move, new4, nothing, row, setAnchor, setHead, setLink, setNext, sideOf, takeSlot, withLink, withNeighbour, withOwn, withSeen}
+use Rattle.model.specs.Places.{Touch, clearMark, move, new4, nothing, row, setAnchor, setHead, setLink, setNext, sideOf, takeSlot}
+use Rattle.model.specs.Places.{withLink, withNeighbour, withOwn, withSeen}
 use Rattle.model.specs.Refusals.{leavesSound}
 use Rattle.model.specs.Route.{goes}
 use Rattle.model.specs.declared.Control.{Control}
@@ -38,19 +39,64 @@ Fine slots w = (spareOf w ≡ 0) × (linkOf w .slot ≤ slots)
 module _ (pooled : Bool) (c : Control) (r : Record) (w : ℕ) (h : RecordFine pooled (c .slots) r) (hc : AnchorFine (c .slots) (anchorOf (c .anchor)))
     (hw : r .place ≤ 10 → Fine (c .slots) w) (hn : r .place ≡ 13 → w ≤ c .slots) (hh : Fine (c .slots) (c .head)) where
   same : Keeps (c .slots) r r
-  same = record { kind = refl; side = refl; own = h .own; neighbour = h .neighbour; spare = h .spare; link = h .link; seen = h .seen; finishing = h .finishing }
+  same = record {
+    kind = refl;
+    side = refl;
+    own = h .own;
+    neighbour = h .neighbour;
+    spare = h .spare;
+    link = h .link;
+    seen = h .seen;
+    finishing = h .finishing;
+  }
 
   finds : (x : ℕ) → x ≤ c .slots → Keeps (c .slots) r (withNeighbour r x)
-  finds x l = record { kind = refl; side = refl; own = h .own; neighbour = l; spare = h .spare; link = h .link; seen = h .seen; finishing = h .finishing }
+  finds x l = record {
+    kind = refl;
+    side = refl;
+    own = h .own;
+    neighbour = l;
+    spare = h .spare;
+    link = h .link;
+    seen = h .seen;
+    finishing = h .finishing;
+  }
 
   holds : (v : ℕ) → Fine (c .slots) v → Keeps (c .slots) r (withLink r v)
-  holds v f = record { kind = refl; side = refl; own = h .own; neighbour = h .neighbour; spare = f .0; link = f .1; seen = h .seen; finishing = h .finishing }
+  holds v f = record {
+    kind = refl;
+    side = refl;
+    own = h .own;
+    neighbour = h .neighbour;
+    spare = f .0;
+    link = f .1;
+    seen = h .seen;
+    finishing = h .finishing;
+  }
 
   owns : (x l : ℕ) → x ≤ c .slots → Keeps (c .slots) r (withOwn r x l)
-  owns x l e = record { kind = refl; side = refl; own = e; neighbour = h .neighbour; spare = h .spare; link = h .link; seen = h .seen; finishing = h .finishing }
+  owns x l e = record {
+    kind = refl;
+    side = refl;
+    own = e;
+    neighbour = h .neighbour;
+    spare = h .spare;
+    link = h .link;
+    seen = h .seen;
+    finishing = h .finishing;
+  }
 
   remembers : (a f : ℕ) → f ≤ 1 → AnchorFine (c .slots) (anchorOf a) → Keeps (c .slots) r (withSeen r a f)
-  remembers a f e g = record { kind = refl; side = refl; own = h .own; neighbour = h .neighbour; spare = h .spare; link = h .link; seen = g; finishing = e }
+  remembers a f e g = record {
+    kind = refl;
+    side = refl;
+    own = h .own;
+    neighbour = h .neighbour;
+    spare = h .spare;
+    link = h .link;
+    seen = g;
+    finishing = e;
+  }
 
   pub move-keeps : r .place ≢ 0 → leavesSound (c .slots) (move c r w .touch) ≡ true → Keeps (c .slots) r (move c r w .task)
   move-keeps busy = by-move c w (λ t r′. leavesSound (c .slots) t ≡ true → Keeps (c .slots) r r′) r busy (h .place) (record {
@@ -74,7 +120,8 @@ module _ (pooled : Bool) (c : Control) (r : Record) (w : ℕ) (h : RecordFine po
   })
 
 -- The record goes to its next place.
-pub goes-fine : (pooled : Bool) (slots : ℕ) (r r′ : Record) (n : ℕ) → RecordFine pooled slots r → Keeps slots r r′ → (n ≢ 0 → n ≤ 17 → Suits pooled (kindOf (r′ .kind)) n)
+pub goes-fine : (pooled : Bool) (slots : ℕ) (r r′ : Record) (n : ℕ) → RecordFine pooled slots r → Keeps slots r r′
+    → (n ≢ 0 → n ≤ 17 → Suits pooled (kindOf (r′ .kind)) n)
     → goes r′ n .place ≢ 0 → RecordFine pooled slots (goes r′ n)
 unfolding goes
 goes-fine pooled slots r r′ n h k suit = by-test (λ (z : Record). z .place ≢ 0 → RecordFine pooled slots z) (leb n 17)
@@ -117,7 +164,8 @@ module _ (pooled : Bool) (c : Control) (r : Record) (w : ℕ) (h : RecordFine po
   new-status : anchorOf (new4 r) .status ≤ 2
   unfolding new4
   new-status = by-test (λ v. anchorOf v .status ≤ 2) (eqb (r .kind) 0)
-      (λ e. status-back _ _ _ _ (by-test (λ v. v ≤ 2) (eqb (sideOf r) 1) (λ e. omega arith) (λ e. omega arith))) (λ e. status-back _ _ _ _ (h .seen .status))
+      (λ e. status-back _ _ _ _ (by-test (λ v. v ≤ 2) (eqb (sideOf r) 1) (λ e. omega arith) (λ e. omega arith)))
+      (λ e. status-back _ _ _ _ (h .seen .status))
 
   pub move-status : r .place ≢ 0 → StatusFine (move c r w .touch)
   move-status busy = by-move c w (λ t _. StatusFine t) r busy (h .place) (record {

@@ -92,7 +92,8 @@ pub put-begins : (pooled : Bool) (slots side y : ℕ) → pooled ≡ true → si
 unfolding recOf
 put-begins pooled slots side y p hs = record { fine = asking-fine pooled slots side y p hs; extra = refl; share = omega arith }
 
-module _ (q : Queue) (f : Safe q) (t : ℕ) (z : Lies q t) (early : late (q .tables) ≡ false) (free : recordAt q t .place ≡ 0) (labels marks : List ℕ) (new : Record)
+module _ (q : Queue) (f : Safe q) (t : ℕ) (z : Lies q t) (early : late (q .tables) ≡ false) (free : recordAt q t .place ≡ 0)
+    (labels marks : List ℕ) (new : Record)
     (h : Begins (isPooled (q .tables .control)) (q .tables .control .slots) new) where
   abbrev G : Tables
   G = q .tables
@@ -113,7 +114,8 @@ module _ (q : Queue) (f : Safe q) (t : ℕ) (z : Lies q t) (early : late (q .tab
       go : (u ≡ t) ⊎ (u ≢ t) → recordAt q′ u .place ≢ 0 → RecordFine (isPooled (G .control)) (G .control .slots) (recordAt q′ u)
       go (inl e) = subst (λ (v : Record). v .place ≢ 0 → RecordFine (isPooled (G .control)) (G .control .slots) v)
           (sym (ap (λ (v : ℕ). getD (set (q .records) t (withCall (taskAt q t) new)) v unused .call) e
-          ∙ ap (λ (x : TaskRecord). x .call) (getD-set-same (q .records) t (withCall (taskAt q t) new) unused (omega (arith, z .length, z .known))))) (λ b. h .fine)
+          ∙ ap (λ (x : TaskRecord). x .call)
+          (getD-set-same (q .records) t (withCall (taskAt q t) new) unused (omega (arith, z .length, z .known))))) (λ b. h .fine)
       go (inr e) = subst (λ (v : TaskRecord). v .call .place ≢ 0 → RecordFine (isPooled (G .control)) (G .control .slots) (v .call))
           (sym (getD-set-other (q .records) t u (withCall (taskAt q t) new) unused e)) (f .fine u lu)
 
@@ -122,7 +124,8 @@ module _ (q : Queue) (f : Safe q) (t : ℕ) (z : Lies q t) (early : late (q .tab
   extra′ u = subst (λ (v : M.Rec). Extra (v .place) v) (sym (ap (λ (f : ℕ → M.Rec). f u) tasks-are)) (go (decide-eq u t))
     where
       go : (u ≡ t) ⊎ (u ≢ t) → Extra (upd (stateOf q .task) t (recOf new) u .place) (upd (stateOf q .task) t (recOf new) u)
-      go (inl e) = subst (λ (v : M.Rec). Extra (v .place) v) (sym (ap (λ (v : ℕ). upd (stateOf q .task) t (recOf new) v) e ∙ upd-same (stateOf q .task) t (recOf new))) (h .extra)
+      go (inl e) = subst (λ (v : M.Rec). Extra (v .place) v)
+          (sym (ap (λ (v : ℕ). upd (stateOf q .task) t (recOf new) v) e ∙ upd-same (stateOf q .task) t (recOf new))) (h .extra)
       go (inr e) = subst (λ (v : M.Rec). Extra (v .place) v) (sym (upd-other (stateOf q .task) t (recOf new) u e)) (f .extra u)
 
   bound′ : weight (view (q′ .tables)) + total (λ u. cost (stateOf q′ .task u)) (G .control .tasks) ≤ 4294967295
@@ -135,9 +138,18 @@ module _ (q : Queue) (f : Safe q) (t : ℕ) (z : Lies q t) (early : late (q .tab
 
   head′ : view G .head .tag + total (λ u. share (stateOf q′ .task u)) (G .control .tasks) ≤ view G .anchor .tag + G .control .tasks
   unfolding recOf
-  head′ = subst (λ (k : ℕ → M.Rec). view G .head .tag + total (λ u. share (k u)) (G .control .tasks) ≤ view G .anchor .tag + G .control .tasks) (sym tasks-are)
-      (head-start (stateOf q .task) (G .control .tasks) t (z .known) (recOf new) (ap (λ (x : M.Rec). x .place) (task-of q t (z .known)) ∙ ap placeOf free) (h .share) (view G .head .tag) (view G .anchor .tag) (f .head))
+  head′ = subst (λ (k : ℕ → M.Rec). view G .head .tag + total (λ u. share (k u))
+      (G .control .tasks) ≤ view G .anchor .tag + G .control .tasks) (sym tasks-are)
+      (head-start (stateOf q .task) (G .control .tasks) t (z .known) (recOf new)
+      (ap (λ (x : M.Rec). x .place) (task-of q t (z .known)) ∙ ap placeOf free) (h .share) (view G .head .tag) (view G .anchor .tag) (f .head))
 
   pub start-safe : Safe q′
   unfolding view
-  start-safe = record { control = f .control; fine = fine′; extra = extra′; tags = record { upper = f .tags .upper; room = f .tags .room }; bound = bound′; head = head′ }
+  start-safe = record {
+    control = f .control;
+    fine = fine′;
+    extra = extra′;
+    tags = record { upper = f .tags .upper; room = f .tags .room };
+    bound = bound′;
+    head = head′;
+  }

@@ -19,7 +19,7 @@ use Rattle.model.specs.declared.Record.{Record}
 use Rattle.model.specs.declared.TaskRecord.{TaskRecord}
 use Rattle.model.proofs.tests.Rules.{_and_, passes, tests}
 use Rattle.model.proofs.tests.Truth.{decide-eq}
-use Rattle.model.proofs.machine.Clerk.{Call}
+use Rattle.model.proofs.machine.Book.{Call}
 use Rattle.model.proofs.machine.Laws.{upd-other, upd-same}
 use Rattle.model.proofs.machine.Machine as M
 use Rattle.model.proofs.machine.Machine.{upd}
@@ -54,7 +54,8 @@ apply-pooled s (M.take w x l) = refl
 apply-pooled s (M.putNext x v) = refl
 apply-pooled s (M.putHead w) = refl
 
-control-touched : (t : Touch) (q : Tables) → leavesSound (q .control .slots) t ≡ true → controlSound (q .control) ≡ true → controlSound (apply t q .control) ≡ true
+control-touched : (t : Touch) (q : Tables) → leavesSound (q .control .slots) t ≡ true → controlSound (q .control) ≡ true
+    → controlSound (apply t q .control) ≡ true
 unfolding controlSound
 control-touched nothing q s c = c
 control-touched (setAnchor w) q s c = let z = tests (controlTests (q .control)) c in
@@ -91,7 +92,8 @@ module _ (n : ℕ) (q : Queue) (l : Ledger) (g : Matched n q l) (f : Safe q) (t 
       (not-idle (r .place) busy (fine .place)) (own-task n q l g f t z busy) (own-extra n q l g f t z busy))
 
   pub keeps : Keeps (G .control .slots) r (m .task)
-  keeps = move-keeps (isPooled (G .control)) (G .control) r (linkMet G r) fine (control-is n q l g f t .anchor) (met-link n q l g f t z busy) (met-next n q l g f t z busy)
+  keeps = move-keeps (isPooled (G .control)) (G .control) r (linkMet G r) fine (control-is n q l g f t .anchor) (met-link n q l g f t z busy)
+      (met-next n q l g f t z busy)
       (g .links .head .0, g .links .head .1) busy (new-sound n q l g f t z busy)
 
   -- The next place suits the kind and the queue: the invariant holds after the step.
@@ -120,28 +122,34 @@ module _ (n : ℕ) (q : Queue) (l : Ledger) (g : Matched n q l) (f : Safe q) (t 
     where
       go : (u ≡ t) ⊎ (u ≢ t) → recordAt q′ u .place ≢ 0 → RecordFine (isPooled (G .control)) (G .control .slots) (recordAt q′ u)
       go (inl e) = subst (λ (x : Record). x .place ≢ 0 → RecordFine (isPooled (G .control)) (G .control .slots) x)
-          (sym (ap (λ (v : ℕ). getD (set (q .records) t moved) v unused .call) e ∙ ap (λ (x : TaskRecord). x .call) (getD-set-same (q .records) t moved unused (omega (arith, z .length, z .known)))))
+          (sym (ap (λ (v : ℕ). getD (set (q .records) t moved) v unused .call) e
+          ∙ ap (λ (x : TaskRecord). x .call) (getD-set-same (q .records) t moved unused (omega (arith, z .length, z .known)))))
           (goes-fine (isPooled (G .control)) (G .control .slots) r (m .task) (next r m) fine keeps suit)
       go (inr e) = subst (λ (x : TaskRecord). x .call .place ≢ 0 → RecordFine (isPooled (G .control)) (G .control .slots) (x .call))
           (sym (getD-set-other (q .records) t u moved unused e)) (f .fine u lu)
 
   extra′ : (u : ℕ) → Extra (stateOf q′ .task u .place) (stateOf q′ .task u)
-  extra′ u = subst (λ (x : M.Rec). Extra (x .place) x) (sym (step-task q (g .book) (g .inv) (g .links) t (stepping n q l g f t z busy) u)) (go (decide-eq u t))
+  extra′ u = subst (λ (x : M.Rec). Extra (x .place) x) (sym (step-task q (g .book) (g .inv) (g .links) t (stepping n q l g f t z busy) u))
+      (go (decide-eq u t))
     where
       go : (u ≡ t) ⊎ (u ≢ t) → Extra (upd (stateOf q .task) t (seenMove G r .rec) u .place) (upd (stateOf q .task) t (seenMove G r .rec) u)
-      go (inl e) = subst (λ (x : M.Rec). Extra (x .place) x) (sym (ap (λ (v : ℕ). upd (stateOf q .task) t (seenMove G r .rec) v) e ∙ upd-same (stateOf q .task) t (seenMove G r .rec))) (extras .extra)
+      go (inl e) = subst (λ (x : M.Rec). Extra (x .place) x)
+          (sym (ap (λ (v : ℕ). upd (stateOf q .task) t (seenMove G r .rec) v) e ∙ upd-same (stateOf q .task) t (seenMove G r .rec))) (extras .extra)
       go (inr e) = subst (λ (x : M.Rec). Extra (x .place) x) (sym (upd-other (stateOf q .task) t (seenMove G r .rec) u e)) (f .extra u)
 
   abbrev Fits : M.State → Type 0
-  Fits s = Tags (s .shared) × (weight (s .shared) + total (λ u. cost (s .task u)) (G .control .tasks) ≤ 4294967295) × (s .shared .head .tag + total (λ u. share (s .task u)) (G .control .tasks) ≤ s .shared .anchor .tag + G .control .tasks)
+  Fits s = Tags (s .shared) × (weight (s .shared) + total (λ u. cost (s .task u)) (G .control .tasks) ≤ 4294967295)
+      × (s .shared .head .tag + total (λ u. share (s .task u)) (G .control .tasks) ≤ s .shared .anchor .tag + G .control .tasks)
 
   fits′ : Fits (stateOf q′)
   fits′ = subst Fits (sym (state-is q (g .book) (g .inv) (g .links) t (stepping n q l g f t z busy))) (
     subst (Tagged (view G)) (seen n q l g f t z busy) (tagged n q l g f t z busy) .tagged,
     step-bound (view G) (stateOf q .task) (G .control .tasks) t (z .known) (seenMove G r) 4294967295
-        (subst (λ (x : M.Rec). Light (view G) x (seenMove G r)) (sym (task-of q t (z .known))) (subst (Light (view G) (recOf r)) (seen n q l g f t z busy) (lighter n q l g f t z busy))) (f .bound),
+        (subst (λ (x : M.Rec). Light (view G) x (seenMove G r)) (sym (task-of q t (z .known)))
+        (subst (Light (view G) (recOf r)) (seen n q l g f t z busy) (lighter n q l g f t z busy))) (f .bound),
     head-step (view G) (stateOf q .task) (G .control .tasks) t (z .known) (seenMove G r)
-        (subst (λ (x : M.Rec). Even (view G) x (seenMove G r)) (sym (task-of q t (z .known))) (subst (Even (view G) (recOf r)) (seen n q l g f t z busy) (evener n q l g f t z busy))) (f .head),
+        (subst (λ (x : M.Rec). Even (view G) x (seenMove G r)) (sym (task-of q t (z .known)))
+        (subst (Even (view G) (recOf r)) (seen n q l g f t z busy) (evener n q l g f t z busy))) (f .head),
   )
 
   pub step-safe : Safe q′
@@ -149,10 +157,13 @@ module _ (n : ℕ) (q : Queue) (l : Ledger) (g : Matched n q l) (f : Safe q) (t 
   step-safe =
       record {
         control = control-touched (m .touch) G (new-sound n q l g f t z busy) (f .control);
-        fine = λ u lu b. subst₂ (λ p s. RecordFine p s (recordAt q′ u)) (sym (ap (λ (v : ℕ). eqb v 1) (touched-pooled (m .touch) G))) (sym (touched-slots (m .touch) G))
+        fine = λ u lu b. subst₂ (λ p s. RecordFine p s (recordAt q′ u)) (sym (ap (λ (v : ℕ). eqb v 1) (touched-pooled (m .touch) G)))
+            (sym (touched-slots (m .touch) G))
             (fine′ u (subst (λ s. u < s) (touched-tasks (m .touch) G) lu) b);
         extra = extra′;
         tags = fits′ .0;
-        bound = subst (λ s. weight (view (q′ .tables)) + total (λ u. cost (stateOf q′ .task u)) s ≤ 4294967295) (sym (touched-tasks (m .touch) G)) (fits′ .1);
-        head = subst (λ s. view (q′ .tables) .head .tag + total (λ u. share (stateOf q′ .task u)) s ≤ view (q′ .tables) .anchor .tag + s) (sym (touched-tasks (m .touch) G)) (fits′ .2);
+        bound = subst (λ s. weight (view (q′ .tables)) + total (λ u. cost (stateOf q′ .task u)) s ≤ 4294967295)
+            (sym (touched-tasks (m .touch) G)) (fits′ .1);
+        head = subst (λ s. view (q′ .tables) .head .tag + total (λ u. share (stateOf q′ .task u)) s ≤ view (q′ .tables) .anchor .tag + s)
+            (sym (touched-tasks (m .touch) G)) (fits′ .2);
       }

@@ -18,7 +18,7 @@ use Rattle.model.specs.declared.Record.{Record}
 use Rattle.model.proofs.tests.ByPlace.{by-place}
 use Rattle.model.proofs.tests.Rules.{_and_, passes}
 use Rattle.model.proofs.tests.Truth.{by-test, not-both, or-cases, or-first, or-second, split}
-use Rattle.model.proofs.machine.Clerk as B
+use Rattle.model.proofs.machine.Book as B
 use Rattle.model.proofs.machine.Machine as M
 use Rattle.model.proofs.invariant.Fields.{Extra}
 use Rattle.model.proofs.invariant.Tags.{cost, share}
@@ -95,7 +95,8 @@ module _ (n : ℕ) (q : Queue) (l : Ledger) (g : Matched n q l) (f : Safe q) (t 
     room : RoomAt G r (placeOf (r .place))
     unfolding view
     room = room-bounded G control-is (g .links) r h (omega (arith, f .bound)) busy (h .draws) head-fits
-        (let y = total-one (λ u. cost (stateOf q .task u)) t (G .control .tasks) (z .known) in let v = ap cost (task-of q t (z .known)) in omega (arith, f .bound)) lighter tagged
+        (let y = total-one (λ u. cost (stateOf q .task u)) t (G .control .tasks) (z .known) in let v = ap cost (task-of q t (z .known)) in
+        omega (arith, f .bound)) lighter tagged
 
     pub stepping : Stepping q t
     stepping = record { lies = z; control = control-is; fine = h; busy = busy; room = room }
@@ -132,7 +133,8 @@ module _ (n : ℕ) (q : Queue) (l : Ledger) (g : Matched n q l) (f : Safe q) (t 
     row5 : Says 5
     unfolding recOf row sideOf
     row5 y x = near-fine (named (anchorOf (r .seen) .status)) (near-real (G .control .slots) (anchorOf (r .seen)) (h .seen)
-        (λ z. not-both (eq-eqb _ _ (h .seen .single z)) (unstable (anchorOf (r .seen) .status) _ (y .status))) (eqb (named (anchorOf (r .seen) .status)) 1))
+        (λ z. not-both (eq-eqb _ _ (h .seen .single z)) (unstable (anchorOf (r .seen) .status) _ (y .status)))
+        (eqb (named (anchorOf (r .seen) .status)) 1))
 
     row11 : Says 11
     unfolding recOf row sideOf
@@ -169,12 +171,14 @@ module _ (n : ℕ) (q : Queue) (l : Ledger) (g : Matched n q l) (f : Safe q) (t 
     met-link le =
         let e = row-fine (isPooled (G .control)) (G .control .slots) r h in
         let d = eqb (linkSide r) 1 in
-        rw (ne-eqb (r .place) 11 (λ z. omega arith), ne-eqb (r .place) 13 (λ z. omega arith)) (g .links .spare d (row r) e, g .links .slot d (row r) e)
+        rw (ne-eqb (r .place) 11 (λ z. omega arith), ne-eqb (r .place) 13 (λ z. omega arith))
+        (g .links .spare d (row r) e, g .links .slot d (row r) e)
 
     pub met-next : r .place ≡ 13 → linkMet G r ≤ G .control .slots
     met-next e =
         let p : isPooled (G .control) ≡ true = beyond (isPooled (G .control)) (G .control .slots) r h (omega arith) in
-        rw (ne-eqb (r .place) 11 (λ z. omega arith), eq-eqb (r .place) 13 e) (g .links .next p (row r) (row-fine (isPooled (G .control)) (G .control .slots) r h))
+        rw (ne-eqb (r .place) 11 (λ z. omega arith), eq-eqb (r .place) 13 e)
+        (g .links .next p (row r) (row-fine (isPooled (G .control)) (G .control .slots) r h))
 
     link-test : not (meetsLink r) || linkSound (G .control .slots) (linkMet G r) ≡ true
     link-test = split (meetsLink r)
@@ -183,7 +187,8 @@ module _ (n : ℕ) (q : Queue) (l : Ledger) (g : Matched n q l) (f : Safe q) (t 
       where
         met-low : meetsLink r ≡ true → r .place ≤ 10
         met-low e = or-cases (eqb (r .place) 3 || eqb (r .place) 5) (eqb (r .place) 7) e
-            (λ y. or-cases (eqb (r .place) 3) (eqb (r .place) 5) y (λ x. omega (arith, eqb-true (r .place) 3 x)) (λ x. omega (arith, eqb-true (r .place) 5 x)))
+            (λ y. or-cases (eqb (r .place) 3) (eqb (r .place) 5) y (λ x. omega (arith, eqb-true (r .place) 3 x))
+            (λ x. omega (arith, eqb-true (r .place) 5 x)))
             (λ y. omega (arith, eqb-true (r .place) 7 y))
 
     next-test : not (eqb (r .place) 13) || leb (linkMet G r) (G .control .slots) ≡ true
@@ -201,4 +206,5 @@ module _ (n : ℕ) (q : Queue) (l : Ledger) (g : Matched n q l) (f : Safe q) (t 
     unfolding stepSound
     step-sound = passes (stepTests (G .control) r (linkMet G r))
         (row-sound and link-test and new-sound and room-testing G r busy (h .place) room
-        and or-second (not (meetsHead r)) (link-sound (G .control .slots) (G .control .head) (g .links .head .0) (g .links .head .1)) and next-test and tt)
+        and or-second (not (meetsHead r))
+        (link-sound (G .control .slots) (G .control .head) (g .links .head .0) (g .links .head .1)) and next-test and tt)

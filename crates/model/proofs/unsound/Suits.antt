@@ -8,7 +8,7 @@ use lib.Dec.{eqb}
 use borrow.Author.Tests.{eqb-false, eqb-true}
 use Rattle.model.proofs.tests.ByPlace.{by-place}
 use Rattle.model.proofs.tests.Truth.{not-both}
-use Rattle.model.proofs.machine.Clerk.{Call}
+use Rattle.model.proofs.machine.Book.{Call}
 use Rattle.model.proofs.machine.Machine.{Kind, Rec, Shared, pop, push}
 use Rattle.model.proofs.invariant.Fields.{Extra}
 use Rattle.model.proofs.invariant.Owners.{Owner}

@@ -14,7 +14,7 @@ use Rattle.model.specs.declared.Record.{Record}
 use Rattle.model.proofs.tests.ByPlace.{by-place}
 use Rattle.model.proofs.tests.Rules.{_and_, passes}
 use Rattle.model.proofs.tests.Truth.{agree, and-of, and-true, beq-of, or-cases, or-first, or-second, split}
-use Rattle.model.proofs.machine.Clerk.{Call}
+use Rattle.model.proofs.machine.Book.{Call}
 use Rattle.model.proofs.machine.Machine as M
 use Rattle.model.proofs.invariant.Fields.{Extra}
 use Rattle.model.proofs.invariant.Owners.{Owner}
@@ -61,10 +61,12 @@ module _ (pooled : Bool) (slots : ℕ) (r : Record) (h : RecordFine pooled slots
   early : (p : ℕ) → leb 5 p && leb p 10 ≡ false → eqb (r .finishing) 1 ≡ false → Placed (r .finishing) (r .kind) (anchorOf (r .seen) .status) p
   early p z e = (or-first _ (small-zero (r .finishing) (h .finishing) e), rw z)
 
-  late : (p : ℕ) → leb 5 p && leb p 10 ≡ true → (eqb (r .finishing) 1 ≡ true → kindOf (r .kind) ≡ M.push) → (d : Bool) → statusOf (anchorOf (r .seen) .status) ≡ M.pushing d
+  late : (p : ℕ) → leb 5 p && leb p 10 ≡ true → (eqb (r .finishing) 1 ≡ true → kindOf (r .kind) ≡ M.push) → (d : Bool)
+      → statusOf (anchorOf (r .seen) .status) ≡ M.pushing d
       → Placed (r .finishing) (r .kind) (anchorOf (r .seen) .status) p
   late p z o d s = (
-    split (eqb (r .finishing) 1) (λ e. or-second (eqb (r .finishing) 0) (and-of (kind-push (r .kind) (o e)) z)) (λ e. or-first _ (small-zero (r .finishing) (h .finishing) e)),
+    split (eqb (r .finishing) 1) (λ e. or-second (eqb (r .finishing) 0) (and-of (kind-push (r .kind) (o e)) z))
+        (λ e. or-first _ (small-zero (r .finishing) (h .finishing) e)),
     rw (unstable _ d s) (or-second (not (leb 5 p && leb p 10)) refl),
   )
 
@@ -75,7 +77,8 @@ module _ (pooled : Bool) (slots : ℕ) (r : Record) (h : RecordFine pooled slots
   real : r .own ≢ 0 → from1 slots (r .own) ≡ true
   real n = and-of (le-leb 1 (r .own) (omega arith)) (le-leb _ _ (h .own))
 
-  own-trying : (kindOf (r .kind) ≡ M.push → r .own ≢ 0) → (kindOf (r .kind) ≡ M.pop → r .own ≡ 0) → cond (cond (eqb (r .kind) 0) true false) (from1 slots (r .own)) (eqb (r .own) 0) ≡ true
+  own-trying : (kindOf (r .kind) ≡ M.push → r .own ≢ 0) → (kindOf (r .kind) ≡ M.pop → r .own ≡ 0)
+      → cond (cond (eqb (r .kind) 0) true false) (from1 slots (r .own)) (eqb (r .own) 0) ≡ true
   own-trying push pop = split (eqb (r .kind) 0) (λ e. rw e (real (push (rw e)))) (λ e. rw e (eq-eqb _ _ (pop (rw e))))
 
   own-drawing : r .own ≡ 0 → cond (cond (eqb (r .kind) 0) false false) (from1 slots (r .own)) (eqb (r .own) 0) ≡ true
@@ -102,12 +105,14 @@ module _ (pooled : Bool) (slots : ℕ) (r : Record) (h : RecordFine pooled slots
 
   push-test : not (leb 12 (r .place) && leb (r .place) 14) || eqb (r .kind) 0 ≡ true
   push-test = split (leb 12 (r .place) && leb (r .place) 14)
-      (λ e. let z = and-true (leb 12 (r .place)) (leb (r .place) 14) e in or-second (not (leb 12 (r .place) && leb (r .place) 14)) (eq-eqb _ _ (h .draws (leb-true _ _ (z .0)) (leb-true _ _ (z .1)))))
+      (λ e. let z = and-true (leb 12 (r .place)) (leb (r .place) 14) e in
+      or-second (not (leb 12 (r .place) && leb (r .place) 14)) (eq-eqb _ _ (h .draws (leb-true _ _ (z .0)) (leb-true _ _ (z .1)))))
       (λ e. or-first _ (ap not e))
 
   module _ (s : M.Shared) (o : ℕ → Owner) (t : ℕ) (c : Call) where
     abbrev Says : ℕ → Type 0
-    Says p = Task (placeOf p) s o t (recOf r) c → Extra (placeOf p) (recOf r) → Placed (r .finishing) (r .kind) (anchorOf (r .seen) .status) p × Owned p × Topped p
+    Says p = Task (placeOf p) s o t (recOf r) c → Extra (placeOf p) (recOf r) → Placed (r .finishing) (r .kind) (anchorOf (r .seen) .status) p
+        × Owned p × Topped p
 
     placed : r .place ≢ 0 → Says (r .place)
     unfolding recOf
@@ -131,7 +136,8 @@ module _ (pooled : Bool) (slots : ℕ) (r : Record) (h : RecordFine pooled slots
         (λ y x. (early 17 refl (x .1), own-giving (x .2), refl))
         (r .place) b (h .place)
 
-    pub record-sound : r .place ≢ 0 → Task (placeOf (r .place)) s o t (recOf r) c → Extra (placeOf (r .place)) (recOf r) → recordSound pooled slots r ≡ true
+    pub record-sound : r .place ≢ 0 → Task (placeOf (r .place)) s o t (recOf r) c → Extra (placeOf (r .place)) (recOf r)
+        → recordSound pooled slots r ≡ true
     unfolding recordSound
     record-sound b y x =
         let p = placed b y x in

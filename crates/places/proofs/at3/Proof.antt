@@ -14,7 +14,17 @@ returns c =
     let a = f .before .before .before .before .before .before .before .args in
     let passed = rw (d .before .link-at .ensures) at (sym (d .row-sound .ensures) ∙ b .before .before .before .before .before .if2 .taken) in
     λ ns ms xs k.
-    rw (c .settles .ensures, c .before .next .ensures, b .put-link .ensures .0, b .put-link .ensures .1, b .before .before .before .link-word .ensures, b .before .before .before .before .unpack2 .ensures, d .before .link-at .ensures, f .before .before .near .ensures, f .before .before .before .unpack .ensures)
+    rw (
+      c .settles .ensures,
+      c .before .next .ensures,
+      b .put-link .ensures .0,
+      b .put-link .ensures .1,
+      b .before .before .before .link-word .ensures,
+      b .before .before .before .before .unpack2 .ensures,
+      d .before .link-at .ensures,
+      f .before .before .near .ensures,
+      f .before .before .before .unpack .ensures,
+    )
     (rw passed at (push3 (a .c) (a .r) (a .lefts .now) (a .rights .now) ns ms xs k (eq-eqb _ _ (f .if1 .taken))))
 
 returns-2 : tie.Need-returns-2
@@ -30,7 +40,13 @@ returns-3 c =
     let f = c .before .before .before .before .before in
     let a = f .before .before .before .before .before .before .before .args in
     λ ns ms xs k.
-    rw (c .reads-neighbour .ensures, c .before .next2 .ensures, c .before .before .link-at2 .ensures, f .before .before .near .ensures, f .before .before .before .unpack .ensures)
+    rw (
+      c .reads-neighbour .ensures,
+      c .before .next2 .ensures,
+      c .before .before .link-at2 .ensures,
+      f .before .before .near .ensures,
+      f .before .before .before .unpack .ensures,
+    )
     (pop3 (a .c) (a .r) (a .lefts .now) (a .rights .now) ns ms xs k (ne-eqb _ _ (f .if1 .left)))
 
 pub at3-spec : {M : Type 1} → statement M

@@ -5,7 +5,8 @@ use Rattle.places.proofs.at6.Statement.{statement}
 use Rattle.places.proofs.at6.Tie as tie
 
 returns : tie.Need-returns
-returns c = let a = c .before .before .before .args in rw (c .compares .ensures, c .before .next2 .ensures, c .before .before .next .ensures) (step6 (a .c) (a .r))
+returns c = let a = c .before .before .before .args in
+    rw (c .compares .ensures, c .before .next2 .ensures, c .before .before .next .ensures) (step6 (a .c) (a .r))
 
 pub at6-spec : {M : Type 1} → statement M
 at6-spec =

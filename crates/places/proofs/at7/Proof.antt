@@ -8,7 +8,14 @@ returns : tie.Need-returns
 returns c =
     let b = c .before .before .before .before in
     let a = b .before .before .before .before .before .args in
-    rw (c .reads-link .ensures, c .before .next2 .ensures, c .before .before .next .ensures, c .before .before .before .link-at .ensures, b .near .ensures, b .before .before .unpack .ensures)
+    rw (
+      c .reads-link .ensures,
+      c .before .next2 .ensures,
+      c .before .before .next .ensures,
+      c .before .before .before .link-at .ensures,
+      b .near .ensures,
+      b .before .before .unpack .ensures,
+    )
     (step7 (a .c) (a .r) (a .lefts .now) (a .rights .now))
 
 pub at7-spec : {M : Type 1} → statement M

@@ -5,7 +5,8 @@ use Rattle.places.proofs.at8.Statement.{statement}
 use Rattle.places.proofs.at8.Tie as tie
 
 returns : tie.Need-returns
-returns c = let a = c .before .before .before .args in rw (c .compares .ensures, c .before .next2 .ensures, c .before .before .next .ensures) (step8 (a .c) (a .r))
+returns c = let a = c .before .before .before .args in
+    rw (c .compares .ensures, c .before .next2 .ensures, c .before .before .next .ensures) (step8 (a .c) (a .r))
 
 pub at8-spec : {M : Type 1} → statement M
 at8-spec =

@@ -35,7 +35,16 @@ returns-3 c =
     let same = rw (f .before .link-at .ensures, u .unpack .ensures) at (eq-eqb _ _ (l .before .before .if2 .left)) in
     let room = rw (f .before .before .before .before .unpack2 .ensures) at (lt-ltb _ _ (l .if3 .taken)) in
     λ ns ms xs k.
-    rw (c .settles2 .ensures, c .before .next2 .ensures, b .put-link .ensures .0, b .put-link .ensures .1, b .before .before .before .link-word .ensures, b .before .before .before .before .near .ensures, b .before .before .before .before .before .raised .ensures, u .unpack .ensures)
+    rw (
+      c .settles2 .ensures,
+      c .before .next2 .ensures,
+      b .put-link .ensures .0,
+      b .put-link .ensures .1,
+      b .before .before .before .link-word .ensures,
+      b .before .before .before .before .near .ensures,
+      b .before .before .before .before .before .raised .ensures,
+      u .unpack .ensures,
+    )
     (rw (row, same, room) at (step9 (a .c) (a .r) (a .lefts .now) (a .rights .now) ns ms xs k))
 
 returns-4 : tie.Need-returns-4

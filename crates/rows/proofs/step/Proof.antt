@@ -33,42 +33,20 @@ module _ (left : tie.Else1) where
   here : a (left .before) .args .task < length (a (left .before) .args .records .now)
   here = known (left .before) (left .if1 .left)
 
-abbrev admitted : tie.After-move-on → tie.Else1
-admitted moved = let lent = moved .before .before .before .before in lent .before .before .before .before
+mul-row : tie.Need-mul-move-row
+mul-row c = let there = here (c .before) in search needs
 
-abbrev moved-of : tie.After-store-arg → tie.After-move-on
-moved-of c =
-    let marks = c .before .before .before .before in
-    let lent = marks .before .before .before .before in
-    lent .before .before .before
-
-mul-row : tie.Need-mul-row
-mul-row left = let there = here left in search needs
-
-slice-copy-out-row : tie.Need-slice-copy-out-row
-slice-copy-out-row left = let there = here left in search needs
-
-mul-store : tie.Need-mul-store
-mul-store c = record { fits = mul-row (admitted (moved-of c)) .fits }
-
-index-store : tie.Need-index-1-store
-index-store c = let there = here (admitted (moved-of c)) in search needs
+index-row : tie.Need-index-1-move-row
+index-row c = let there = here (c .before) in search needs
 
 returns-2 : tie.Need-returns-2
 returns-2 c =
-    let put = c .store .ensures in
-    let moved = moved-of (c .before .before) in
-    let read = moved .before .before .before in
-    let left = admitted moved in
-    let told = left .before in
-    stepped _ _ _ _ _ _ _ _ _ _ _ _ _ _ _ _ _ _
-    (told .before .control-of .ensures)
-    (read .before .before .before .call-of .ensures)
-    (sym (why told) ∙ left .if1 .left)
-    (moved .move-on .ensures)
-    (put .0)
-    (put .1 .0)
-    (put .1 .1)
+    let moved0 = c .before .before .before .before in
+    let moved1 = moved0 .before .before .before .before in
+    let moved = moved1 .before .before in
+    let left0 = moved .before .before .before .before in
+    let left = left0 .before .before .before .before in
+    stepped _ _ _ _ _ _ _ _ _ _ _ _ _ _ _ _ (sym (why (left .before)) ∙ left .if1 .left) (moved .move-row .ensures)
 
 pub step-spec : {M : Type 1} → statement M
 step-spec =
@@ -79,11 +57,7 @@ step-spec =
     (λ c κs. search needs)
     returns
     mul-row
-    slice-copy-out-row
-    (λ c κs. search needs)
-    (λ c κs. search needs)
-    mul-store
-    index-store
+    index-row
     (λ c κs. search needs)
     (λ c. search needs)
     (λ c. search needs)

@@ -13,13 +13,18 @@ flush-requires c κs =
     let rows = rights .before .before .before .before in
     fed-within _ _ _ (rows .before .before .feed .ensures) (omega arith)
 
+-- The call of `feed`, from the function's end.
+module _ (c : tie.After-flush) where
+  abbrev fed : tie.After-feed
+  fed =
+      let marks = c .before .before .before .before .before in
+      let rights = marks .before .before .before .before in
+      let rows = rights .before .before .before .before in
+      rows .before .before
+
 returns : tie.Need-returns
 unfolding nextPage
-returns c =
-    let marks = c .before .before .before .before .before in
-    let rights = marks .before .before .before .before in
-    let rows = rights .before .before .before .before in
-    rows .before .before .feed .ensures
+returns c = fed c .feed .ensures
 
 pub take-page-spec : {M : Type 1} → statement M
 take-page-spec =
@@ -27,11 +32,11 @@ take-page-spec =
     (tie.spec
     (λ c κs. search needs)
     flush-requires
-    (λ c. search needs)
-    (λ c. search needs)
-    (λ c. search needs)
-    (λ c. search needs)
-    (λ c. search needs)
-    (λ c. search needs)
-    (λ c. search needs)
+    (λ c. fed c .feed .kept .1 .1 .0)
+    (λ c. fed c .feed .kept .1 .1 .1 .0)
+    (λ c. fed c .feed .kept .1 .1 .1 .1 .0)
+    (λ c. fed c .feed .kept .1 .1 .1 .1 .1 .0)
+    (λ c. fed c .feed .kept .1 .1 .1 .1 .1 .1 .0)
+    (λ c. fed c .feed .kept .1 .1 .1 .1 .1 .1 .1 .0)
+    (λ c. fed c .feed .kept .1 .1 .1 .1 .1 .1 .1 .1 .0)
     returns)

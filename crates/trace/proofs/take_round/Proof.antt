@@ -81,30 +81,38 @@ returns-2 c =
       ),
     )
 
+-- The call of `take_piece`, from the function's end.
+module _ (c : tie.After-struct-known3) where
+  abbrev piece : tie.After-take-piece
+  piece =
+      let marks = c .before .before .before .before in
+      let rights = marks .before .before .before .before in
+      let rows = rights .before .before .before .before in
+      rows .before .before .before .before
+
+  abbrev lent : tie.After-take-piece-arg
+  lent =
+      let more = piece .before .before .before .before in
+      more .before .before .before .before
+
+  abbrev read : tie.After-read-more
+  read = let tests = lent .before .before .before in tests .before .before
+
 returns-3 : tie.Need-returns-3
 returns-3 c =
-    let slices = c .before .before .before .before .before .before .before .before in
-    let piece = slices .before .before .before .before .before .before .before .before in
-    let args = piece .before .before .before .before .before .before .before .before in
-    let read = args .before .before .before .before .before in
-    let left = slid read .slide .ensures .0 in
-    let some : full read ≡ have read - at read → ⊥ = λ k. args .before .if2 .left (k ∙ sym left) in (
-      (order read, within read),
+    let r = read c in
+    let left = slid r .slide .ensures .0 in
+    let some : full r ≡ have r - at r → ⊥ = λ k. lent c .before .if2 .left (k ∙ sym left) in
+    let done = piece c .take-piece in (
+      (order r, within r),
       (
-        kept read,
+        kept r,
         (
-          (λ w. piece-round _ _ _ _ _ _ (order read) (within-new read) some (kept read) (piece .take-piece .ensures (affirmed _ w))),
-          (λ w. some-read _ _ (piece .take-piece .result .state .over) (order read) some),
+          (λ w. piece-round _ _ _ _ _ _ (order r) (within-new r) some (kept r) (done .ensures (affirmed _ w))),
+          (λ w. some-read _ _ (done .result .state .over) (order r) some),
         ),
       ),
     )
-
-same-length-4 : tie.Need-same-length-4
-same-length-4 c =
-    let slices = c .before .before .before .before .before .before .before .before in
-    let piece = slices .before .before .before .before .before .before .before .before in
-    let args = piece .before .before .before .before .before .before .before .before in
-    same (args .before .before .before .before .before)
 
 pub take-round-spec : {M : Type 1} → statement M
 take-round-spec =
@@ -123,12 +131,12 @@ take-round-spec =
     (λ c. search needs)
     slice-aggregate-take-piece
     (λ c κs. search needs)
-    same-length-4
-    (λ c. search needs)
-    (λ c. search needs)
-    (λ c. search needs)
-    (λ c. search needs)
-    (λ c. search needs)
-    (λ c. search needs)
-    (λ c. search needs)
+    (λ c. same (read c))
+    (λ c. piece c .take-piece .kept .1 .1 .0)
+    (λ c. piece c .take-piece .kept .1 .1 .1 .0)
+    (λ c. piece c .take-piece .kept .1 .1 .1 .1 .0)
+    (λ c. piece c .take-piece .kept .1 .1 .1 .1 .1 .0)
+    (λ c. piece c .take-piece .kept .1 .1 .1 .1 .1 .1 .0)
+    (λ c. piece c .take-piece .kept .1 .1 .1 .1 .1 .1 .1 .0)
+    (λ c. piece c .take-piece .kept .1 .1 .1 .1 .1 .1 .1 .1 .0)
     returns-3)

@@ -13,7 +13,8 @@ returns c =
     let a = lent .before .before .before .before .before .before .args in
     λ n.
     rw (c .decided .ensures, c .before .begun .ensures, ← why .ensures)
-    (on-tables (a .c) (record { call = a .r; retries = n }) (why .result) (begun 1 1 (a .side) 0 0) (a .lefts .now) (a .rights .now) (a .labels .now) (a .marks .now) (a .next .now))
+    (on-tables (a .c) (record { call = a .r; retries = n }) (why .result) (begun 1 1 (a .side) 0 0) (a .lefts .now) (a .rights .now) (a .labels .now)
+    (a .marks .now) (a .next .now))
 
 pub pop-start-spec : {M : Type 1} → statement M
 pop-start-spec = tie.close (tie.spec (λ _ _. tt) (λ _ _. tt) (λ _ _. tt) returns)

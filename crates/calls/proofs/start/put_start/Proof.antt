@@ -13,7 +13,8 @@ returns c =
     let a = lent .before .before .before .before .before .before .args in
     λ n.
     rw (c .decided .ensures, c .before .begun .ensures, ← why .ensures)
-    (on-tables (a .c) (record { call = a .r; retries = n }) (why .result) (begun 12 0 (a .side) 0 (a .label)) (a .lefts .now) (a .rights .now) (a .labels .now) (a .marks .now) (a .next .now))
+    (on-tables (a .c) (record { call = a .r; retries = n }) (why .result) (begun 12 0 (a .side) 0 (a .label)) (a .lefts .now) (a .rights .now)
+    (a .labels .now) (a .marks .now) (a .next .now))
 
 pub put-start-spec : {M : Type 1} → statement M
 put-start-spec = tie.close (tie.spec (λ _ _. tt) (λ _ _. tt) (λ _ _. tt) returns)

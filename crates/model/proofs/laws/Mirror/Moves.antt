@@ -12,7 +12,8 @@ use Rattle.model.specs.declared.Control.{Control}
 use Rattle.model.specs.declared.Record.{Record}
 use Rattle.model.specs.Tables.{Tables, isPooled, opposite, far, facing, pushing}
 use Rattle.model.specs.Sound.{isPush, isPop}
-use Rattle.model.specs.Places.{sideOf, Touch, nothing, setAnchor, setLink, clearMark, takeSlot, setNext, setHead, Move, withSeen, withLink, withOwn, reads, changes, reading, replaces}
+use Rattle.model.specs.Places.{sideOf, Touch, nothing, setAnchor, setLink, clearMark, takeSlot, setNext, setHead, Move, withSeen}
+use Rattle.model.specs.Places.{withLink, withOwn, reads, changes, reading, replaces}
 use Rattle.model.specs.Places.{at1, at2, at3, new4, at4, at5, at6, at7, at9, at10, at11, at12, at13, at14, at15, at16, at17, move, apply}
 use Rattle.model.specs.Places as placed
 use Rattle.model.specs.Mirror.{mirrorStatus, mirrorAnchor, mirrorWord, mirrorControl, mirrorTables, mirrorBusy}
@@ -82,7 +83,8 @@ module _ (c : Control) (r : Record) (w : ℕ) (turned : sideOf (mirrorBusy r) �
   far-read = ap₂ (λ (d : ℕ) (a : Anchor). far d a) turned (mirror-fields (r .seen)) ∙ far-mirror (sideOf r) (anchorOf (r .seen))
 
   raised : (s s′ n f f′ : ℕ) → s < 4 → s′ ≡ mirrorStatus s → f′ ≡ f
-      → packAnchor (facing (sideOf (mirrorBusy r)) (anchorOf (mirrorWord (r .seen)) .tag + 1) s′ n f′) ≡ mirrorWord (packAnchor (facing (sideOf r) (anchorOf (r .seen) .tag + 1) s n f))
+      → packAnchor (facing (sideOf (mirrorBusy r)) (anchorOf (mirrorWord (r .seen)) .tag + 1) s′ n f′)
+      ≡ mirrorWord (packAnchor (facing (sideOf r) (anchorOf (r .seen) .tag + 1) s n f))
   raised s s′ n f f′ small e h =
       ap₂ (λ (d : ℕ) (a : Anchor). packAnchor (facing d (a .tag + 1) s′ n f′)) turned (mirror-fields (r .seen))
       ∙ ap₂ (λ (x y : ℕ). packAnchor (facing (opposite (sideOf r)) (anchorOf (r .seen) .tag + 1) x n y)) e h
@@ -91,7 +93,8 @@ module _ (c : Control) (r : Record) (w : ℕ) (turned : sideOf (mirrorBusy r) �
 
   -- A change of Anchor.
   anchor-change : (v v′ : ℕ) (s s′ : Record) → v′ ≡ mirrorWord v → s′ ≡ mirrorBusy s
-      → changes (mirrorWord (c .anchor)) (mirrorWord (r .seen)) (setAnchor v′) s′ (mirrorBusy r) ≡ mirrorMove (changes (c .anchor) (r .seen) (setAnchor v) s r)
+      → changes (mirrorWord (c .anchor)) (mirrorWord (r .seen)) (setAnchor v′) s′ (mirrorBusy r)
+      ≡ mirrorMove (changes (c .anchor) (r .seen) (setAnchor v) s r)
   anchor-change v v′ s s′ e h =
       ap₂ (λ (t : Touch) (x : Record). changes (mirrorWord (c .anchor)) (mirrorWord (r .seen)) t x (mirrorBusy r)) (ap setAnchor e) h
       ∙ rw (mirror-equal (c .anchor) (r .seen)) (through mirrorMove (eqb (c .anchor) (r .seen)) refl refl)
@@ -105,7 +108,12 @@ module _ (c : Control) (r : Record) (w : ℕ) (turned : sideOf (mirrorBusy r) �
   anchor-replace v v′ s s′ e h =
       ap₂ (λ (t : ℕ) (x : Record). replaces (mirrorControl c) t x (mirrorBusy r)) e h
       ∙ rw (mirror-equal (c .anchor) (r .seen)) (through mirrorMove (eqb (c .anchor) (r .seen)) refl
-      (ap (λ (o : ℕ). record { touch = nothing; task = withSeen (mirrorBusy r) (mirrorWord (c .anchor)) (r .finishing); outcome = o + 1; failed = true })
+      (ap (λ (o : ℕ). record {
+        touch = nothing;
+        task = withSeen (mirrorBusy r) (mirrorWord (c .anchor)) (r .finishing);
+        outcome = o + 1;
+        failed = true;
+      })
       (ap (reading (isPop r)) (mirror-fields (c .anchor)) ∙ reading-mirror (isPop r) (anchorOf (c .anchor)))))
 
   mirror1 : at1 (mirrorControl c) (mirrorBusy r) ≡ mirrorMove (at1 c r)
@@ -125,7 +133,8 @@ module _ (c : Control) (r : Record) (w : ℕ) (turned : sideOf (mirrorBusy r) �
   mirror3 =
       through mirrorMove (isPush r)
       (λ i. record {
-        touch = setLink (link-side-mirror r turned i) (row-mirror r turned i) (packLink (record { tag = linkOf w .tag; slot = end-mirror r turned i }));
+        touch = setLink (link-side-mirror r turned i) (row-mirror r turned i)
+            (packLink (record { tag = linkOf w .tag; slot = end-mirror r turned i }));
         task = mirrorBusy r;
         outcome = 0;
         failed = false;
@@ -162,7 +171,8 @@ module _ (c : Control) (r : Record) (w : ℕ) (turned : sideOf (mirrorBusy r) �
   mirror9 =
       through mirrorMove (eqb w (r .link))
       (λ i. record {
-        touch = setLink (link-side-mirror r turned i) (row-mirror r turned i) (packLink (record { tag = linkOf (r .link) .tag + 1; slot = end-mirror r turned i }));
+        touch = setLink (link-side-mirror r turned i) (row-mirror r turned i)
+            (packLink (record { tag = linkOf (r .link) .tag + 1; slot = end-mirror r turned i }));
         task = mirrorBusy r;
         outcome = 0;
         failed = false;
@@ -175,12 +185,18 @@ module _ (c : Control) (r : Record) (w : ℕ) (turned : sideOf (mirrorBusy r) �
       let a = anchorOf (r .seen) in
       let stable : Anchor = record { tag = a .tag + 1; status = 0; left = a .left; right = a .right } in
       anchor-change (packAnchor stable) _ r _
-      (ap (λ (b : Anchor). packAnchor (record { tag = b .tag + 1; status = 0; left = b .left; right = b .right })) (mirror-fields (r .seen)) ∙ mirror-pack stable (omega arith)) refl
+      (ap (λ (b : Anchor). packAnchor (record { tag = b .tag + 1; status = 0; left = b .left; right = b .right })) (mirror-fields (r .seen))
+      ∙ mirror-pack stable (omega arith)) refl
 
   mirror11 : at11 (mirrorControl c) (mirrorBusy r) w ≡ mirrorMove (at11 c r w)
   unfolding at11
   mirror11 = through mirrorMove (isPooled c)
-      (λ i. record { touch = clearMark (row-mirror r turned i); task = withOwn (mirrorBusy r) (row-mirror r turned i) w; outcome = 1; failed = false })
+      (λ i. record {
+        touch = clearMark (row-mirror r turned i);
+        task = withOwn (mirrorBusy r) (row-mirror r turned i) w;
+        outcome = 1;
+        failed = false;
+      })
       (λ i. record { touch = clearMark (row-mirror r turned i); task = mirrorBusy r; outcome = 0; failed = false })
 
   mirror12 : at12 (mirrorControl c) (mirrorBusy r) ≡ mirrorMove (at12 c r)
@@ -194,7 +210,12 @@ module _ (c : Control) (r : Record) (w : ℕ) (turned : sideOf (mirrorBusy r) �
   mirror14 : at14 (mirrorControl c) (mirrorBusy r) ≡ mirrorMove (at14 c r)
   unfolding at14
   mirror14 = through mirrorMove (eqb (c .head) (r .link))
-      (λ i. record { touch = takeSlot (placed.raised r (r .neighbour)) (row-mirror r turned i) (r .label); task = withOwn (mirrorBusy r) (row-mirror r turned i) (r .label); outcome = 0; failed = false })
+      (λ i. record {
+        touch = takeSlot (placed.raised r (r .neighbour)) (row-mirror r turned i) (r .label);
+        task = withOwn (mirrorBusy r) (row-mirror r turned i) (r .label);
+        outcome = 0;
+        failed = false;
+      })
       refl
 
   mirror15 : at15 (mirrorControl c) (mirrorBusy r) ≡ mirrorMove (at15 c r)

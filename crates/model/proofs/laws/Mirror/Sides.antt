@@ -36,7 +36,12 @@ module _ (d : ℕ) where
   pub facing-mirror : (tag status n f : ℕ) → facing (opposite d) tag (mirrorStatus status) n f ≡ mirrorAnchor (facing d tag status n f)
   facing-mirror tag status n f = go (eqb d 1)
     where
-      go : (b : Bool) → facing (cond b 0 1) tag (mirrorStatus status) n f ≡ record { tag = tag; status = mirrorStatus status; left = cond b n f; right = cond b f n }
+      go : (b : Bool) → facing (cond b 0 1) tag (mirrorStatus status) n f ≡ record {
+        tag = tag;
+        status = mirrorStatus status;
+        left = cond b n f;
+        right = cond b f n;
+      }
       go true = refl
       go false = refl
 
@@ -75,7 +80,8 @@ side-or-named true (suc (suc zero)) d f g e = refl
 side-or-named true (suc (suc (suc s))) d f g e = absurd (omega (arith, leb-true (suc (suc (suc s))) 2 g))
 
 module _ (r : Record) where
-  pub side-mirror : leb (r .side) 1 ≡ true → leb (anchorOf (r .seen) .status) 2 ≡ true → not (helping r) || not (eqb (anchorOf (r .seen) .status) 0) ≡ true
+  pub side-mirror : leb (r .side) 1 ≡ true → leb (anchorOf (r .seen) .status) 2 ≡ true
+      → not (helping r) || not (eqb (anchorOf (r .seen) .status) 0) ≡ true
       → sideOf (mirrorBusy r) ≡ opposite (sideOf r)
   unfolding sideOf
   side-mirror f g e =
@@ -101,5 +107,7 @@ module _ (r : Record) where
 
     pub link-met-mirror : (q : Tables) → linkMet (mirrorTables q) (mirrorBusy r) ≡ linkMet q r
     link-met-mirror q =
-        ap₂ (λ (d x : ℕ). cond (eqb (r .place) 11) (getD (q .labels) x 0) (cond (eqb (r .place) 13) (getD (q .next) x 0) (getD (links (mirrorTables q) d) x 0))) link-side-mirror row-mirror
-        ∙ ap (λ (l : List ℕ). cond (eqb (r .place) 11) (getD (q .labels) (row r) 0) (cond (eqb (r .place) 13) (getD (q .next) (row r) 0) (getD l (row r) 0))) (links-mirror (linkSide r) q)
+        ap₂ (λ (d x : ℕ). cond (eqb (r .place) 11) (getD (q .labels) x 0)
+        (cond (eqb (r .place) 13) (getD (q .next) x 0) (getD (links (mirrorTables q) d) x 0))) link-side-mirror row-mirror
+        ∙ ap (λ (l : List ℕ). cond (eqb (r .place) 11) (getD (q .labels) (row r) 0)
+        (cond (eqb (r .place) 13) (getD (q .next) (row r) 0) (getD l (row r) 0))) (links-mirror (linkSide r) q)

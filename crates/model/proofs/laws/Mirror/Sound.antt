@@ -44,7 +44,8 @@ pub anchor-sound-mirror : (slots : ℕ) (a : Anchor) → anchorSound slots (mirr
 unfolding anchorSound
 anchor-sound-mirror slots a =
     rw (status-range (a .status), status-stable (a .status), eqb-sym (a .right) (a .left))
-    (swap-ends (leb (a .status) 2) (leb (a .left) slots) (leb (a .right) slots) (eqb (a .left) 0) (eqb (a .right) 0) (eqb (a .status) 0 || not (eqb (a .left) (a .right))))
+    (swap-ends (leb (a .status) 2) (leb (a .left) slots) (leb (a .right) slots) (eqb (a .left) 0) (eqb (a .right) 0)
+    (eqb (a .status) 0 || not (eqb (a .left) (a .right))))
 
 pub word-sound-mirror : (slots w : ℕ) → anchorSound slots (anchorOf (mirrorWord w)) ≡ anchorSound slots (anchorOf w)
 word-sound-mirror slots w = ap (anchorSound slots) (mirror-fields w) ∙ anchor-sound-mirror slots (anchorOf w)
@@ -57,7 +58,8 @@ stable-mirror w = ap (λ (a : Anchor). eqb (a .status) 0) (mirror-fields w) ∙ 
 
 pub control-sound-mirror : (c : Control) → controlSound (mirrorControl c) ≡ controlSound c
 unfolding controlSound
-control-sound-mirror c = ap (λ (b : Bool). from1 16 (c .tasks) && (from1 1023 (c .slots) && (b && leb (c .pooled) 1))) (word-sound-mirror (c .slots) (c .anchor))
+control-sound-mirror c = ap (λ (b : Bool). from1 16 (c .tasks) && (from1 1023 (c .slots) && (b && leb (c .pooled) 1)))
+    (word-sound-mirror (c .slots) (c .anchor))
 
 pub busy-sound-mirror : (pooled : Bool) (slots : ℕ) (r : Record) → recordSound pooled slots (mirrorBusy r) ≡ recordSound pooled slots r
 unfolding recordSound
@@ -94,14 +96,35 @@ module _ (q : Tables) (p : Lent) (r : Record) (side : ℕ) where
   pub push-refusal-mirror : (slot : ℕ) → pushRefusal (mirrorTables q) p (mirrorRecord r) (mirrorSide side) slot ≡ pushRefusal q p r side slot
   unfolding pushRefusal
   push-refusal-mirror slot =
-      rw (control-sound-mirror (q .control), rows-fit-mirror (isPooled (q .control)) (q .control .slots) q, side-range side, record-sound-mirror (isPooled (q .control)) (q .control .slots) r, place-mirror r, tag-mirror (q .control .anchor)) refl
+      rw (
+        control-sound-mirror (q .control),
+        rows-fit-mirror (isPooled (q .control)) (q .control .slots) q,
+        side-range side,
+        record-sound-mirror (isPooled (q .control)) (q .control .slots) r,
+        place-mirror r,
+        tag-mirror (q .control .anchor),
+      ) refl
 
   pub pop-refusal-mirror : popRefusal (mirrorTables q) p (mirrorRecord r) (mirrorSide side) ≡ popRefusal q p r side
   unfolding popRefusal
   pop-refusal-mirror =
-      rw (control-sound-mirror (q .control), rows-fit-mirror (isPooled (q .control)) (q .control .slots) q, side-range side, record-sound-mirror (isPooled (q .control)) (q .control .slots) r, place-mirror r, tag-mirror (q .control .anchor)) refl
+      rw (
+        control-sound-mirror (q .control),
+        rows-fit-mirror (isPooled (q .control)) (q .control .slots) q,
+        side-range side,
+        record-sound-mirror (isPooled (q .control)) (q .control .slots) r,
+        place-mirror r,
+        tag-mirror (q .control .anchor),
+      ) refl
 
   pub put-refusal-mirror : putRefusal (mirrorTables q) p (mirrorRecord r) (mirrorSide side) ≡ putRefusal q p r side
   unfolding putRefusal
   put-refusal-mirror =
-      rw (control-sound-mirror (q .control), rows-fit-mirror (isPooled (q .control)) (q .control .slots) q, side-range side, record-sound-mirror (isPooled (q .control)) (q .control .slots) r, place-mirror r, tag-mirror (q .control .anchor)) refl
+      rw (
+        control-sound-mirror (q .control),
+        rows-fit-mirror (isPooled (q .control)) (q .control .slots) q,
+        side-range side,
+        record-sound-mirror (isPooled (q .control)) (q .control .slots) r,
+        place-mirror r,
+        tag-mirror (q .control .anchor),
+      ) refl

@@ -29,7 +29,8 @@ unfolding mirrorRecord
 busy-record r e = ap (λ (b : Bool). cond b r (mirrorBusy r)) e
 
 -- A busy, sound record steps on the opposite side.
-turned : (pooled : Bool) (slots : ℕ) (r : Record) → recordSound pooled slots r ≡ true → eqb (r .place) 0 ≡ false → sideOf (mirrorBusy r) ≡ opposite (sideOf r)
+turned : (pooled : Bool) (slots : ℕ) (r : Record) → recordSound pooled slots r ≡ true → eqb (r .place) 0 ≡ false
+    → sideOf (mirrorBusy r) ≡ opposite (sideOf r)
 turned pooled slots r sound busy = let facts = sound-record pooled slots r sound busy in side-mirror r (facts .side) (facts .status) (facts .unstable)
 
 leaves-mirror : (slots : ℕ) (t : Touch) → leavesSound slots (mirrorTouch t) ≡ leavesSound slots t
@@ -50,7 +51,8 @@ room-mirror r (takeSlot w x l) = refl
 room-mirror r (setNext x v) = refl
 room-mirror r (setHead w) = refl
 
-step-sound-mirror : (c : Control) (r : Record) (w : ℕ) → sideOf (mirrorBusy r) ≡ opposite (sideOf r) → stepSound (mirrorControl c) (mirrorBusy r) w ≡ stepSound c r w
+step-sound-mirror : (c : Control) (r : Record) (w : ℕ) → sideOf (mirrorBusy r) ≡ opposite (sideOf r)
+    → stepSound (mirrorControl c) (mirrorBusy r) w ≡ stepSound c r w
 unfolding stepSound
 step-sound-mirror c r w side =
     let same = move-mirror c r w side in
@@ -85,8 +87,14 @@ module _ (q : Tables) (r : Record) where
   step-refusal-mirror : (p : Lent) → stepRefusal (mirrorTables q) p (mirrorRecord r) ≡ stepRefusal q p r
   unfolding stepRefusal
   step-refusal-mirror p =
-      rw (control-sound-mirror (q .control), rows-fit-mirror (isPooled (q .control)) (q .control .slots) q, record-sound-mirror (isPooled (q .control)) (q .control .slots) r, ap (λ (n : ℕ). eqb n 0) (place-mirror r))
-      (ap (λ (n : ℕ). first (rule 34 (not (controlSound (q .control))) ∷ rule 12 (not (rowsFit (isPooled (q .control)) (q .control .slots) q && p .enough)) ∷ rule 13 (not (p .known)) ∷ rule n true ∷ []))
+      rw (
+        control-sound-mirror (q .control),
+        rows-fit-mirror (isPooled (q .control)) (q .control .slots) q,
+        record-sound-mirror (isPooled (q .control)) (q .control .slots) r,
+        ap (λ (n : ℕ). eqb n 0) (place-mirror r),
+      )
+      (ap (λ (n : ℕ). first (rule 34 (not (controlSound (q .control)))
+      ∷ rule 12 (not (rowsFit (isPooled (q .control)) (q .control .slots) q && p .enough)) ∷ rule 13 (not (p .known)) ∷ rule n true ∷ []))
       (last-three (recordSound (isPooled (q .control)) (q .control .slots) r) (eqb (r .place) 0) _ _ last-rule))
 
 -- The record gone on.
@@ -124,15 +132,18 @@ decide-mirror why q r done done′ h = go (eqb why 0) refl
 abbrev carried : Tables → TaskRecord → Acted
 carried q r = finish q r (move (q .control) (r .call) (linkMet q (r .call)))
 
-carried-mirror : (q : Tables) (r : TaskRecord) → recordSound (isPooled (q .control)) (q .control .slots) (r .call) ≡ true → eqb (r .call .place) 0 ≡ false
+carried-mirror : (q : Tables) (r : TaskRecord) → recordSound (isPooled (q .control)) (q .control .slots) (r .call) ≡ true
+    → eqb (r .call .place) 0 ≡ false
     → carried (mirrorTables q) (mirrorTask r) ≡ mirrorActed (carried q r)
 carried-mirror q r sound busy =
     let c = r .call in
     let side = turned (isPooled (q .control)) (q .control .slots) c sound busy in
     ap (λ (x : Record). carried (mirrorTables q) (withCall r x)) (busy-record c busy)
-    ∙ ap (λ (w : ℕ). finish (mirrorTables q) (withCall r (mirrorBusy c)) (move (mirrorControl (q .control)) (mirrorBusy c) w)) (link-met-mirror c side q)
+    ∙ ap (λ (w : ℕ). finish (mirrorTables q) (withCall r (mirrorBusy c)) (move (mirrorControl (q .control)) (mirrorBusy c) w))
+    (link-met-mirror c side q)
     ∙ ap (finish (mirrorTables q) (withCall r (mirrorBusy c))) (move-mirror (q .control) c (linkMet q c) side)
-    ∙ finish-mirror q r (move (q .control) c (linkMet q c)) (row-mirror c side) (leads-on (isPooled (q .control)) (q .control .slots) (q .control) c (linkMet q c) sound busy)
+    ∙ finish-mirror q r (move (q .control) c (linkMet q c)) (row-mirror c side)
+    (leads-on (isPooled (q .control)) (q .control .slots) (q .control) c (linkMet q c) sound busy)
 
 pub step-mirror : (q : Tables) (p : Lent) (r : TaskRecord) → step (mirrorTables q) p (mirrorTask r) ≡ mirrorActed (step q p r)
 unfolding step stepRefusal

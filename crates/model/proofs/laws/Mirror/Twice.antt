@@ -30,7 +30,17 @@ record-twice r = go (eqb (r .place) 0) refl
     go true e = let kept = ap (λ (b : Bool). cond b r (mirrorBusy r)) e in ap mirrorRecord kept ∙ kept
     go false e =
         ap mirrorRecord (busy-record r e) ∙ busy-record (mirrorBusy r) e
-        ∙ ap₂ (λ (d w : ℕ). record { place = r .place; kind = r .kind; side = d; own = r .own; label = r .label; seen = w; neighbour = r .neighbour; link = r .link; finishing = r .finishing })
+        ∙ ap₂ (λ (d w : ℕ). record {
+          place = r .place;
+          kind = r .kind;
+          side = d;
+          own = r .own;
+          label = r .label;
+          seen = w;
+          neighbour = r .neighbour;
+          link = r .link;
+          finishing = r .finishing;
+        })
         (side-twice (r .side)) (mirror-involutive (r .seen))
 
 records-twice : (l : List TaskRecord) → map mirrorTask (map mirrorTask l) ≡ l
@@ -40,7 +50,13 @@ records-twice (r ∷ l) = ap₂ (λ (x : Record) (m : List TaskRecord). withCall
 pub mirror-twice : (q : Queue) → mirrorQueue (mirrorQueue q) ≡ q
 mirror-twice q = λ i. record {
   tables = record {
-    control = record { tasks = q .tables .control .tasks; slots = q .tables .control .slots; anchor = mirror-involutive (q .tables .control .anchor) i; pooled = q .tables .control .pooled; head = q .tables .control .head };
+    control = record {
+      tasks = q .tables .control .tasks;
+      slots = q .tables .control .slots;
+      anchor = mirror-involutive (q .tables .control .anchor) i;
+      pooled = q .tables .control .pooled;
+      head = q .tables .control .head;
+    };
     lefts = q .tables .lefts;
     rights = q .tables .rights;
     labels = q .tables .labels;

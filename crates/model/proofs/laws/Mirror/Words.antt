@@ -61,12 +61,14 @@ pub mirror-involutive : (w : ℕ) → mirrorWord (mirrorWord w) ≡ w
 unfolding mirrorWord
 mirror-involutive w =
     ap (λ (a : Anchor). anchorWord (mirrorAnchor a)) (mirror-fields w)
-    ∙ ap (λ (s : ℕ). anchorWord (record { tag = w / 2 ^ 32; status = s; left = w / 2 ^ 15 % 2 ^ 15; right = w % 2 ^ 15 })) (status-involutive (w / 2 ^ 30 % 2 ^ 2)) ∙ word-fields w
+    ∙ ap (λ (s : ℕ). anchorWord (record { tag = w / 2 ^ 32; status = s; left = w / 2 ^ 15 % 2 ^ 15; right = w % 2 ^ 15 }))
+    (status-involutive (w / 2 ^ 30 % 2 ^ 2)) ∙ word-fields w
 
 pub mirror-pack : (a : Anchor) → a .status < 4 → packAnchor (mirrorAnchor a) ≡ mirrorWord (packAnchor a)
 unfolding mirrorWord
 mirror-pack a h =
-    ap (λ (s : ℕ). anchorWord (record { tag = a .tag % 2 ^ 32; status = s; left = a .right % 2 ^ 15; right = a .left % 2 ^ 15 })) (status-cut (a .status) h)
+    ap (λ (s : ℕ). anchorWord (record { tag = a .tag % 2 ^ 32; status = s; left = a .right % 2 ^ 15; right = a .left % 2 ^ 15 }))
+    (status-cut (a .status) h)
     ∙ sym (ap (λ (b : Anchor). anchorWord (mirrorAnchor b)) (fields-word (cutAnchor a) (omega arith) (omega arith) (omega arith)))
 
 -- Words are equal just when their mirrors are.

@@ -13,8 +13,10 @@ returns c =
     let p8 = p4 .before .before .before .before in
     let q = p8 .before .before .args in
     let e : Extents = record { sound = true; low = q .low .now; high = q .high .now } in
-    nothing-waits (q .c .slots) (c .before .before .before .unpack .result) (q .listed .now) (q .lefts .now) (q .rights .now) (q .labels .now) e (c .if1 .taken)
-    ∙ ap (λ (a : Anchor). extents (q .c .slots) a (q .listed .now) (q .lefts .now) (q .rights .now) (q .labels .now) e) (c .before .before .before .unpack .ensures)
+    nothing-waits (q .c .slots) (c .before .before .before .unpack .result) (q .listed .now) (q .lefts .now) (q .rights .now)
+    (q .labels .now) e (c .if1 .taken)
+    ∙ ap (λ (a : Anchor). extents (q .c .slots) a (q .listed .now) (q .lefts .now) (q .rights .now) (q .labels .now) e)
+    (c .before .before .before .unpack .ensures)
 
 returns-2 : tie.Need-returns-2
 returns-2 c =

@@ -49,8 +49,14 @@ returns : tie.Need-returns Inv-loop μ-loop
 returns c =
     let p4 = c .before .before .before .before in
     let p8 = p4 .before .before .before .before in
-    no-slot (p8 .before .args .slots) (p8 .before .args .links .now) (p8 .before .args .labels .now) (p8 .before .args .listed .now) (p8 .before .args .up)
-    (p8 .before .args .last) (c .before .before .before .loop .left) (c .before .before .before .loop .x) (c .before .before .before .loop .at) (record { sound = true; low = c .before .before .before .loop .low; high = c .before .before .before .loop .high })
+    no-slot (p8 .before .args .slots) (p8 .before .args .links .now) (p8 .before .args .labels .now) (p8 .before .args .listed .now)
+    (p8 .before .args .up)
+    (p8 .before .args .last) (c .before .before .before .loop .left) (c .before .before .before .loop .x) (c .before .before .before .loop .at) (record {
+      sound =
+          true;
+      low = c .before .before .before .loop .low;
+      high = c .before .before .before .loop .high;
+    })
     (search needs) (sym (c .before .from1 .ensures) ∙ not-true _ (c .if1 .taken)) ∙ c .before .before .before .loop .inv .4
 
 label-at-requires : tie.Need-label-at-requires Inv-loop μ-loop
@@ -78,10 +84,16 @@ returns-2 c =
     let p12 = p8 .before .before .before .before in
     let p16 = p12 .before .before .before .before in
     let p20 = p16 .before .before .before .before in
-    noted-is _ (p8 .before .place-from .result) (p8 .before .before .label-at .result) _ (p12 .before .before .loop .at) (p12 .before .before .loop .low) (p12 .before .before .loop .high) _ _
-    (p8 .before .place-from .ensures) (p8 .before .before .label-at .ensures) (p4 .before .before .before .lower .ensures) (c .before .before .before .raise .ensures)
+    noted-is _ (p8 .before .place-from .result) (p8 .before .before .label-at .result) _ (p12 .before .before .loop .at)
+    (p12 .before .before .loop .low) (p12 .before .before .loop .high) _ _
+    (p8 .before .place-from .ensures) (p8 .before .before .label-at .ensures) (p4 .before .before .before .lower .ensures)
+    (c .before .before .before .raise .ensures)
     ∙ at-last (p20 .args .slots) (p20 .args .links .now) (p20 .args .labels .now) (p20 .args .listed .now) (p20 .args .up) (p20 .args .last)
-    (p12 .before .before .loop .left) (p12 .before .before .loop .x) (p12 .before .before .loop .at) (record { sound = true; low = p12 .before .before .loop .low; high = p12 .before .before .loop .high }) (search needs)
+    (p12 .before .before .loop .left) (p12 .before .before .loop .x) (p12 .before .before .loop .at) (record {
+      sound = true;
+      low = p12 .before .before .loop .low;
+      high = p12 .before .before .loop .high;
+    }) (search needs)
     (sym (p12 .from1 .ensures) ∙ not-false _ (p8 .before .before .before .if1 .left)) (c .if2 .taken) ∙ p12 .before .before .loop .inv .4
 
 word-at-requires : tie.Need-word-at-requires Inv-loop μ-loop
@@ -103,12 +115,20 @@ returns-3 c =
     let p12 = p8 .before .before .before .before in
     let p16 = p12 .before .before .before .before in
     let p20 = p16 .before .before .before .before in
-    ap lost (noted-is _ (p12 .place-from .result) (p12 .before .label-at .result) _ (p16 .before .loop .at) (p16 .before .loop .low) (p16 .before .loop .high) _ _
+    ap lost (noted-is _ (p12 .place-from .result) (p12 .before .label-at .result) _ (p16 .before .loop .at) (p16 .before .loop .low)
+    (p16 .before .loop .high) _ _
     (p12 .place-from .ensures) (p12 .before .label-at .ensures) (p8 .before .before .lower .ensures) (p4 .before .before .raise .ensures))
-    ∙ bad-link (p20 .before .before .before .args .slots) (p20 .before .before .before .args .links .now) (p20 .before .before .before .args .labels .now) (p20 .before .before .before .args .listed .now) (p20 .before .before .before .args .up)
-    (p20 .before .before .before .args .last) (p16 .before .loop .left) (p16 .before .loop .x) (p16 .before .loop .at) (record { sound = true; low = p16 .before .loop .low; high = p16 .before .loop .high })
-    (search needs) (sym (p12 .before .before .before .from1 .ensures) ∙ not-false _ (p12 .before .before .if1 .left)) (c .before .before .before .if2 .left)
-    (ap (linkSound _) (sym (c .before .before .word-at .ensures)) ∙ sym (c .before .link-sound .ensures) ∙ not-true _ (c .if3 .taken)) ∙ p16 .before .loop .inv .4
+    ∙ bad-link (p20 .before .before .before .args .slots) (p20 .before .before .before .args .links .now)
+    (p20 .before .before .before .args .labels .now) (p20 .before .before .before .args .listed .now) (p20 .before .before .before .args .up)
+    (p20 .before .before .before .args .last) (p16 .before .loop .left) (p16 .before .loop .x) (p16 .before .loop .at) (record {
+      sound = true;
+      low = p16 .before .loop .low;
+      high = p16 .before .loop .high;
+    })
+    (search needs) (sym (p12 .before .before .before .from1 .ensures) ∙ not-false _ (p12 .before .before .if1 .left))
+    (c .before .before .before .if2 .left)
+    (ap (linkSound _) (sym (c .before .before .word-at .ensures)) ∙ sym (c .before .link-sound .ensures) ∙ not-true _ (c .if3 .taken))
+    ∙ p16 .before .loop .inv .4
 
 unpack-requires : tie.Need-unpack-requires Inv-loop μ-loop
 unpack-requires c κs = search needs
@@ -176,7 +196,8 @@ returns-4 : tie.Need-returns-4 Inv-loop μ-loop
 returns-4 c =
     let p4 = c .before .before .before .before in
     none-left (p4 .before .before .before .args .slots) (p4 .before .before .before .args .links .now) (p4 .before .before .before .args .labels .now)
-    (p4 .before .before .before .args .listed .now) (p4 .before .before .before .args .up) (p4 .before .before .before .args .last) (c .before .loop .left)
+    (p4 .before .before .before .args .listed .now) (p4 .before .before .before .args .up) (p4 .before .before .before .args .last)
+    (c .before .loop .left)
     (c .before .loop .x) (c .before .loop .at) (record { sound = true; low = c .before .loop .low; high = c .before .loop .high }) (search needs)
     ∙ c .before .loop .inv .4
 

@@ -7,11 +7,17 @@ use Rattle.places.proofs.step.reads_link.Tie as tie
 
 returns : tie.Need-returns
 unfolding linkRead
-returns c = rw (sym (c .before .before .before .before .before .row-sound .ensures) ∙ c .before .before .before .before .if1 .taken, eq-eqb _ _ (rw (c .before .before .before .unpack .ensures) at (c .before .if2 .taken))) (c .settles .ensures)
+returns c = rw (
+  sym (c .before .before .before .before .before .row-sound .ensures) ∙ c .before .before .before .before .if1 .taken,
+  eq-eqb _ _ (rw (c .before .before .before .unpack .ensures) at (c .before .if2 .taken)),
+) (c .settles .ensures)
 
 returns-2 : tie.Need-returns-2
 unfolding linkRead
-returns-2 c = rw (sym (c .before .before .before .before .before .row-sound .ensures) ∙ c .before .before .before .before .if1 .taken, ne-eqb _ _ (rw (c .before .before .before .unpack .ensures) at (c .before .if2 .left))) (c .settles2 .ensures)
+returns-2 c = rw (
+  sym (c .before .before .before .before .before .row-sound .ensures) ∙ c .before .before .before .before .if1 .taken,
+  ne-eqb _ _ (rw (c .before .before .before .unpack .ensures) at (c .before .if2 .left)),
+) (c .settles2 .ensures)
 
 returns-3 : tie.Need-returns-3
 unfolding linkRead

@@ -15,7 +15,8 @@ seek-returns t c =
     let start1 = e .before .before .before .before in
     let start = start1 .before .before .before in
     let two = start .args .two in
-    ends-here _ (start .args .len) (start .args .free) _ (two .a) (two .b) _ (two .stopped) (start .args .left) _ (e .ending .ensures) (c .before .if1 .taken)
+    ends-here _ (start .args .len) (start .args .free) _ (two .a) (two .b) _ (two .stopped) (start .args .left) _ (e .ending .ensures)
+    (c .before .if1 .taken)
     (c .ended .ensures)
 
 -- Where it goes on: the arguments, and a step to go.
@@ -92,7 +93,8 @@ second-call t c =
     let at2 = at1 .before .before .before .before in
     at2 .before .before .before .before
 
-abbrev not-first : (t : ℕ) → seek-lts.After-slice-known18 (seek-callees t) (seek-at t) seek.Post → seek-lts.Else2 (seek-callees t) (seek-at t) seek.Post
+abbrev not-first : (t : ℕ) → seek-lts.After-slice-known18 (seek-callees t) (seek-at t) seek.Post
+    → seek-lts.Else2 (seek-callees t) (seek-at t) seek.Post
 not-first t c =
     let at1 = c .before .before .before .before in
     let at2 = at1 .before .before .before .before in
@@ -117,13 +119,16 @@ pub second-rights : (t : ℕ) → seek-lts.Need-same-length-9 (seek-callees t) (
 second-rights t c = second-call t c .through2 .kept .1 .1 .1 .1 .1 .1 .1 .0 ∙ first-made t (not-first t c) .through .kept .1 .1 .1 .1 .1 .1 .1 .0
 
 pub second-labels : (t : ℕ) → seek-lts.Need-same-length-10 (seek-callees t) (seek-at t) seek.Post
-second-labels t c = second-call t c .through2 .kept .1 .1 .1 .1 .1 .1 .1 .1 .0 ∙ first-made t (not-first t c) .through .kept .1 .1 .1 .1 .1 .1 .1 .1 .0
+second-labels t c = second-call t c .through2 .kept .1 .1 .1 .1 .1 .1 .1 .1 .0
+    ∙ first-made t (not-first t c) .through .kept .1 .1 .1 .1 .1 .1 .1 .1 .0
 
 pub second-marks : (t : ℕ) → seek-lts.Need-same-length-11 (seek-callees t) (seek-at t) seek.Post
-second-marks t c = second-call t c .through2 .kept .1 .1 .1 .1 .1 .1 .1 .1 .1 .0 ∙ first-made t (not-first t c) .through .kept .1 .1 .1 .1 .1 .1 .1 .1 .1 .0
+second-marks t c = second-call t c .through2 .kept .1 .1 .1 .1 .1 .1 .1 .1 .1 .0
+    ∙ first-made t (not-first t c) .through .kept .1 .1 .1 .1 .1 .1 .1 .1 .1 .0
 
 pub second-next : (t : ℕ) → seek-lts.Need-same-length-12 (seek-callees t) (seek-at t) seek.Post
-second-next t c = second-call t c .through2 .kept .1 .1 .1 .1 .1 .1 .1 .1 .1 .1 .0 ∙ first-made t (not-first t c) .through .kept .1 .1 .1 .1 .1 .1 .1 .1 .1 .1 .0
+second-next t c = second-call t c .through2 .kept .1 .1 .1 .1 .1 .1 .1 .1 .1 .1 .0
+    ∙ first-made t (not-first t c) .through .kept .1 .1 .1 .1 .1 .1 .1 .1 .1 .1 .0
 
 pub seek-returns-3 : (t : ℕ) → seek-lts.Need-returns-3 (seek-callees t) (seek-at t) seek.Post
 seek-returns-3 t c =

@@ -1,4 +1,4 @@
--- The clerk of the decoded machine: he keeps a deque, serves a call at each of its effects, and notes how many there were.
+-- The book beside the decoded machine: the sequential deque, which serves a call at each of its effects, and how many effects each call had.
 use mathlib.Core.Bool.{Bool, _&&_, _||_, cond, false, not, true}
 use mathlib.Core.List.{List, [], _∷_}
 use mathlib.Core.Path.{_≡_}
@@ -6,9 +6,10 @@ use Prim.Native.Nat.{suc, ℕ}
 use lib.Dec.{eqb}
 use Rattle.model.specs.declared.Entry.{Entry}
 use Rattle.model.proofs.lists.Deque.{put, seen, took}
-use Rattle.model.proofs.machine.Machine.{Anchor, Answer, Kind, State, Status, Touch, clear, empty, noSlot, none, pop, popped, push, pushed, pushing, putAnchor, putHead, putLink, putNext, running, stable, take, upd}
+use Rattle.model.proofs.machine.Machine.{Anchor, Answer, Kind, State, Status, Touch, clear, empty, noSlot, none, pop, popped, push}
+use Rattle.model.proofs.machine.Machine.{pushed, pushing, putAnchor, putHead, putLink, putNext, running, stable, take, upd}
 
--- A call: what its start named, the number of its effects so far, and what the clerk answered last.
+-- A call: what its start named, the number of its effects so far, and what the sequential deque replied last.
 pub record Call : Type 0 where
   pub kind : Kind
   pub side : Bool
@@ -43,7 +44,7 @@ abbrev pub given : List Entry → Answer
 given [] = empty
 given (e ∷ q) = popped (e .slot) (e .label)
 
--- The sequential clerk serves one call.
+-- The sequential deque serves one call.
 abbrev pub served : Kind → Call → List Entry → Noted
 served push c q = record { call = told c pushed; queue = put (c .side) (record { slot = c .slot; label = c .label }) q }
 served pop c q = record { call = told c (given (seen (c .side) q)); queue = took (c .side) q }
@@ -67,7 +68,7 @@ isNoSlot (popped x l) = false
 abbrev pub effect : Anchor → Anchor → Answer → Bool
 effect a b w = not (eqb (a .left) (b .left) && eqb (a .right) (b .right)) || unmoving w
 
--- To *no slot* the clerk replies the same, and his deque stays.
+-- To *no slot* the sequential deque replies the same, and stays as it is.
 unfoldable pub noted : Call → List Entry → Anchor → Anchor → Answer → Noted
 noted c q a b w =
     cond (effect a b w) (cond (isNoSlot w) (record { call = told c noSlot; queue = q }) (served (c .kind) c q)) (record { call = c; queue = q })

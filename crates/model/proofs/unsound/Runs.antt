@@ -121,16 +121,25 @@ module _ (n : ℕ) (q : Queue) (l : Ledger) (g : Matched n q l) (f : Safe q) (t 
   pub act-safe : (o : Op) → After (act q t o)
   unfolding act actOn pushStart putStart popStart step finish
   act-safe (Push side x y) = by-test Puts (eqb (pushRefusal G (among q t) r side x) 0)
-      (λ e. let p = push-accepted q t side x (eqb-true _ _ e) in
-      (moved _, start-safe q f t (p .starting .lies) (p .starting .early) (p .starting .free) _ _ (started 0 side x y) (push-begins (isPooled (G .control)) (G .control .slots) side x y (p .starting .side) (p .real) (p .within))))
+      (λ e. let p = push-accepted q t side x (eqb-true _ _ e) in (
+        moved _,
+        start-safe q f t (p .starting .lies) (p .starting .early) (p .starting .free) _ _ (started 0 side x y)
+            (push-begins (isPooled (G .control)) (G .control .slots) side x y (p .starting .side) (p .real) (p .within)),
+      ))
       (λ e. refused (pushRefusal G (among q t) r side x) (push-34 side x))
   act-safe (Pop side) = by-test Puts (eqb (popRefusal G (among q t) r side) 0)
-      (λ e. let p = pop-accepted q t side (eqb-true _ _ e) in
-      (moved _, start-safe q f t (p .lies) (p .early) (p .free) _ _ (started 1 side 0 0) (pop-begins (isPooled (G .control)) (G .control .slots) side (p .side))))
+      (λ e. let p = pop-accepted q t side (eqb-true _ _ e) in (
+        moved _,
+        start-safe q f t (p .lies) (p .early) (p .free) _ _ (started 1 side 0 0)
+            (pop-begins (isPooled (G .control)) (G .control .slots) side (p .side)),
+      ))
       (λ e. refused (popRefusal G (among q t) r side) (pop-34 side))
   act-safe (Put side y) = by-test Puts (eqb (putRefusal G (among q t) r side) 0)
-      (λ e. let p = put-accepted q t side (eqb-true _ _ e) in
-      (moved _, start-safe q f t (p .0 .lies) (p .0 .early) (p .0 .free) _ _ (asking side y) (put-begins (isPooled (G .control)) (G .control .slots) side y (p .1) (p .0 .side))))
+      (λ e. let p = put-accepted q t side (eqb-true _ _ e) in (
+        moved _,
+        start-safe q f t (p .0 .lies) (p .0 .early) (p .0 .free) _ _ (asking side y)
+            (put-begins (isPooled (G .control)) (G .control .slots) side y (p .1) (p .0 .side)),
+      ))
       (λ e. refused (putRefusal G (among q t) r side) (put-34 side))
   act-safe Step = by-test Puts (eqb (stepRefusal G (among q t) r) 0)
       (λ e. let s = step-accepted q t (eqb-true _ _ e) in (moved _, step-safe n q l g f t (s .lies) (s .busy)))

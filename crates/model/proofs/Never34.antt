@@ -22,7 +22,7 @@ use Rattle.model.proofs.invariant.Tags.{cost, owes, share, shares, spen
 use Rattle.model.proofs.bridge.View.{stateOf, view}
 use Rattle.model.proofs.ledger.Opened.{all-idle, empty-left, empty-right, empty-status, no-record, nobody, open-good, some-slots, zero-links}
 use Rattle.model.proofs.tags.Sum.{total-le}
-use Rattle.model.proofs.unsound.Never34.{run-safe}
+use Rattle.model.proofs.unsound.Runs.{run-safe}
 use Rattle.model.proofs.unsound.Safe.{Safe}
 use Rattle.model.proofs.unsound.Tests.{anchor-sound}
 use Rattle.model.proofs.Openings.{after-opening}
@@ -37,15 +37,25 @@ module _ (pooled : Bool) (q : Queue) (tasks slots tag : ℕ) where
     open-control =
         let z = cleared (openRules pooled q tasks slots) refl e in
         let a = anchor-sound slots (anchorOf (packAnchor (emptyAnchor tag)))
-        (record { status = omega arith; left = omega arith; right = omega arith; null = λ z. empty-right pooled q tasks slots tag; full = λ z. empty-left pooled q tasks slots tag; single = λ z. omega arith }) in
-        passes (controlTests (o .tables .control)) (not-false _ (z .0) and not-false _ (z .1 .0) and a and by-test (λ n. leb n 1 ≡ true) pooled (λ e. refl) (λ e. refl) and tt)
+        (record {
+          status = omega arith;
+          left = omega arith;
+          right = omega arith;
+          null = λ z. empty-right pooled q tasks slots tag;
+          full = λ z. empty-left pooled q tasks slots tag;
+          single = λ z. omega arith;
+        }) in
+        passes (controlTests (o .tables .control))
+        (not-false _ (z .0) and not-false _ (z .1 .0) and a and by-test (λ n. leb n 1 ≡ true) pooled (λ e. refl) (λ e. refl) and tt)
 
     -- Nobody owes a change.
     open-cost : (t : ℕ) → cost (stateOf o .task t) ≤ 0
-    open-cost t = let z = ap (λ (p : M.Place). cond (spent p (stateOf o .task t .finishing)) 0 (owes (stateOf o .task t .kind))) (all-idle pooled q tasks slots tag t) in omega arith
+    open-cost t = let z = ap (λ (p : M.Place). cond (spent p (stateOf o .task t .finishing)) 0 (owes (stateOf o .task t .kind)))
+        (all-idle pooled q tasks slots tag t) in omega arith
 
     open-share : (t : ℕ) → share (stateOf o .task t) ≤ 1
-    open-share t = let z = ap (λ (p : M.Place). shares p (stateOf o .task t .finishing) (stateOf o .task t .kind)) (all-idle pooled q tasks slots tag t) in omega arith
+    open-share t = let z = ap (λ (p : M.Place). shares p (stateOf o .task t .finishing) (stateOf o .task t .kind))
+        (all-idle pooled q tasks slots tag t) in omega arith
 
     pub open-safe : Safe o
     unfolding view opened
@@ -68,7 +78,7 @@ module _ (pooled : Bool) (q : Queue) (tasks slots tag : ℕ) where
           omega arith;
     }
 
-pub never-unsound : Never34
-never-unsound pooled = after-opening pooled NeverUnsound (λ q tasks slots tag e os.
+pub never-34 : Never34
+never-34 pooled = after-opening pooled NeverUnsound (λ q tasks slots tag e os.
     run-safe os 1 (opened pooled q tasks slots tag) nobody (open-good pooled q tasks slots tag (some-slots pooled q tasks slots e))
     (open-safe pooled q tasks slots tag e) .0)

@@ -1,0 +1,241 @@
+-- Refused by its number, or its place's contract and what is stored of it, by `at-its-place`.
+use mathlib.Core.Path.{_≡_, sym, subst, _∙_}
+use mathlib.Core.List.{List}
+use Prim.Native.Nat.{ℕ, _<_, _≤_}
+use native.Mathlib.Nat.{le-antisymm}
+use native.Mathlib.Omega.{arith}
+use borrow.Author.Needs.{needs}
+use borrow.Author.Tests.{not-true, not-false}
+use Rattle.model.specs.declared.Control.{Control}
+use Rattle.model.specs.declared.Record.{Record}
+use Rattle.model.specs.Tables.{isPooled}
+use Rattle.engine.specs.Parts.{recordRefusal}
+use Rattle.engine.proofs.Whole.{above}
+use Rattle.rows.specs.Rows.{controlOf, callOf}
+use Rattle.rows.proofs.InItsRow.{no-call, unsound, passes, refuses, at-its-place}
+use Rattle.rows.proofs.moving.early.Statement.{statement}
+use Rattle.rows.proofs.moving.early.Tie as tie
+
+-- Control and record, read from their rows.
+module _ (read : tie.After-control-of) where
+  abbrev c₀ : Control
+  c₀ = read .control-of .result
+
+  abbrev called : tie.After-call-of
+  called = read .before .before
+
+  abbrev r₀ : Record
+  r₀ = called .call-of .result
+
+  abbrev row₀ : List ℕ
+  row₀ = let s = called .before .before .before .before in s .args .row .now
+
+  low-place : callOf row₀ .place ≤ 10 → r₀ .place ≤ 10
+  low-place low = subst (λ (t : Record). t .place ≤ 10) (sym (called .call-of .ensures)) low
+
+some : {n : ℕ} → (n ≡ 0 → ⊥) → 0 < n
+some busy = omega arith
+
+returns : tie.Need-returns
+returns c low labels marks next =
+    let read = c .before .before .before in
+    refuses _ _ _ _ labels marks next _ _ (read .control-of .ensures) (called read .call-of .ensures) 31 _
+    (no-call _ _ _ (c .before .if1 .taken)) (λ (x : _≡_ {A = ℕ} 31 0). omega (arith, x)) (c .refuse .ensures)
+
+returns-2 : tie.Need-returns-2
+returns-2 c low labels marks next =
+    let told = c .before .before in
+    let busy = told .before in
+    let read = busy .before .before in
+    refuses _ _ _ _ labels marks next _ _ (read .control-of .ensures) (called read .call-of .ensures) 34 _
+    (unsound _ _ _
+    (sym (told .early-sound .ensures (isPooled (c₀ read)) (some (busy .if1 .left)) (low-place read low)) ∙ not-true _ (c .before .if2 .taken)))
+    (λ (x : _≡_ {A = ℕ} 34 0). omega (arith, x)) (c .refuse2 .ensures)
+
+-- Past the refusals.
+module _ (left : tie.Else2) where
+  abbrev busy : tie.Else1
+  busy = left .before .before
+
+  abbrev read₀ : tie.After-control-of
+  read₀ = busy .before .before
+
+  passed : callOf (row₀ read₀) .place ≤ 10 → recordRefusal (isPooled (c₀ read₀)) (c₀ read₀ .slots) (r₀ read₀) ≡ 0
+  passed low =
+      passes _ _ _ (busy .if1 .left)
+      (sym (left .before .early-sound .ensures (isPooled (c₀ read₀)) (some (busy .if1 .left)) (low-place read₀ low)) ∙ not-false _ (left .if2 .left))
+
+returns-3 : tie.Need-returns-3
+returns-3 c low labels marks next =
+    let made = c .before in
+    let place = made .before .before .before in
+    let left = place .before in
+    let read = read₀ left in
+    let put = c .put-early .ensures in
+    at-its-place _ _ _ _ labels marks next _ _ (read .control-of .ensures) (called read .call-of .ensures) _ _ _ _ labels marks next _
+    (put .1 .1 .1) 1 _
+    (passed left low) (place .match .keys1) (low-place read low) (λ k. made .at1 .ensures _ _ labels marks next k) (put .1 .0) (put .1 .1 .0) (put .0)
+
+returns-4 : tie.Need-returns-4
+returns-4 c low labels marks next =
+    let made = c .before in
+    let place = made .before .before .before in
+    let left = place .before in
+    let read = read₀ left in
+    let put = c .put-early2 .ensures in
+    at-its-place _ _ _ _ labels marks next _ _ (read .control-of .ensures) (called read .call-of .ensures) _ _ _ _ labels marks next _
+    (put .1 .1 .1) 2 _
+    (passed left low) (place .match .keys2) (low-place read low) (λ k. made .tries2 .ensures _ _ labels marks next k) (put .1 .0)
+    (put .1 .1 .0) (put .0)
+
+returns-5 : tie.Need-returns-5
+returns-5 c low labels marks next =
+    let made0 = c .before .before .before .before in
+    let made = made0 .before in
+    let place0 = made .before .before .before .before in
+    let place = place0 .before in
+    let left = place .before in
+    let read = read₀ left in
+    let put = c .put-early3 .ensures in
+    at-its-place _ _ _ _ labels marks next _ _ (read .control-of .ensures) (called read .call-of .ensures) _ _ _ _ labels marks next _
+    (put .1 .1 .1) 3 _
+    (passed left low) (place .match .keys3) (low-place read low) (λ k. made .at3 .ensures labels marks next k) (put .1 .0) (put .1 .1 .0) (put .0)
+
+returns-6 : tie.Need-returns-6
+returns-6 c low labels marks next =
+    let made = c .before in
+    let place = made .before .before .before in
+    let left = place .before in
+    let read = read₀ left in
+    let put = c .put-early4 .ensures in
+    at-its-place _ _ _ _ labels marks next _ _ (read .control-of .ensures) (called read .call-of .ensures) _ _ _ _ labels marks next _
+    (put .1 .1 .1) 4 _
+    (passed left low) (place .match .keys4) (low-place read low) (λ k. made .tries4 .ensures _ _ labels marks next k) (put .1 .0)
+    (put .1 .1 .0) (put .0)
+
+returns-7 : tie.Need-returns-7
+returns-7 c low labels marks next =
+    let made = c .before in
+    let place0 = made .before .before .before .before in
+    let place = place0 .before in
+    let left = place .before in
+    let read = read₀ left in
+    let put = c .put-early5 .ensures in
+    at-its-place _ _ _ _ labels marks next _ _ (read .control-of .ensures) (called read .call-of .ensures) _ _ _ _ labels marks next _
+    (put .1 .1 .1) 5 _
+    (passed left low) (place .match .keys5) (low-place read low) (λ k. made .at5 .ensures labels marks next k) (put .1 .0) (put .1 .1 .0) (put .0)
+
+returns-8 : tie.Need-returns-8
+returns-8 c low labels marks next =
+    let made = c .before in
+    let place = made .before .before .before in
+    let left = place .before in
+    let read = read₀ left in
+    let put = c .put-early6 .ensures in
+    at-its-place _ _ _ _ labels marks next _ _ (read .control-of .ensures) (called read .call-of .ensures) _ _ _ _ labels marks next _
+    (put .1 .1 .1) 6 _
+    (passed left low) (place .match .keys6) (low-place read low) (λ k. made .at6 .ensures _ _ labels marks next k) (put .1 .0) (put .1 .1 .0) (put .0)
+
+returns-9 : tie.Need-returns-9
+returns-9 c low labels marks next =
+    let made = c .before in
+    let place0 = made .before .before .before .before in
+    let place = place0 .before in
+    let left = place .before in
+    let read = read₀ left in
+    let put = c .put-early7 .ensures in
+    at-its-place _ _ _ _ labels marks next _ _ (read .control-of .ensures) (called read .call-of .ensures) _ _ _ _ labels marks next _
+    (put .1 .1 .1) 7 _
+    (passed left low) (place .match .keys7) (low-place read low) (λ k. made .at7 .ensures labels marks next k) (put .1 .0) (put .1 .1 .0) (put .0)
+
+returns-10 : tie.Need-returns-10
+returns-10 c low labels marks next =
+    let made = c .before in
+    let place = made .before .before .before in
+    let left = place .before in
+    let read = read₀ left in
+    let put = c .put-early8 .ensures in
+    at-its-place _ _ _ _ labels marks next _ _ (read .control-of .ensures) (called read .call-of .ensures) _ _ _ _ labels marks next _
+    (put .1 .1 .1) 8 _
+    (passed left low) (place .match .keys8) (low-place read low) (λ k. made .at8 .ensures _ _ labels marks next k) (put .1 .0) (put .1 .1 .0) (put .0)
+
+returns-11 : tie.Need-returns-11
+returns-11 c low labels marks next =
+    let made0 = c .before .before .before .before in
+    let made = made0 .before in
+    let place0 = made .before .before .before .before in
+    let place = place0 .before in
+    let left = place .before in
+    let read = read₀ left in
+    let put = c .put-early9 .ensures in
+    at-its-place _ _ _ _ labels marks next _ _ (read .control-of .ensures) (called read .call-of .ensures) _ _ _ _ labels marks next _
+    (put .1 .1 .1) 9 _
+    (passed left low) (place .match .keys9) (low-place read low) (λ k. made .at9 .ensures labels marks next k) (put .1 .0) (put .1 .1 .0) (put .0)
+
+-- None of these, so 10.
+returns-12 : tie.Need-returns-12
+returns-12 c low labels marks next =
+    let made = c .before in
+    let place = made .before .before .before in
+    let left = place .before in
+    let read = read₀ left in
+    let put = c .put-early10 .ensures in
+    let h = place .match .rest in
+    let g = h .0 .0 .0 .0 in
+    let two = above (some (busy left .if1 .left)) (g .0 .0 .0 .0 .1) in
+    let six = above (above (above (above two (g .0 .0 .0 .1)) (g .0 .0 .1)) (g .0 .1)) (g .1) in
+    let ten = above (above (above (above six (h .0 .0 .0 .1)) (h .0 .0 .1)) (h .0 .1)) (h .1) in
+    at-its-place _ _ _ _ labels marks next _ _ (read .control-of .ensures) (called read .call-of .ensures) _ _ _ _ labels marks next _
+    (put .1 .1 .1) 10 _
+    (passed left low) (le-antisymm (low-place read low) ten) (low-place read low) (λ k. made .at10 .ensures _ _ labels marks next k) (put .1 .0)
+    (put .1 .1 .0) (put .0)
+
+pub early-spec : {M : Type 1} → statement M
+early-spec =
+    tie.close
+    (tie.spec
+    (λ c κs. search needs)
+    (λ c κs. search needs)
+    (λ c κs. search needs)
+    returns
+    (λ c κs. search needs)
+    (λ c κs. search needs)
+    returns-2
+    (λ c κs. search needs)
+    (λ c κs. search needs)
+    (λ c κs. search needs)
+    (λ c κs. search needs)
+    (λ c κs. search needs)
+    (λ c κs. search needs)
+    (λ c κs. search needs)
+    (λ c κs. search needs)
+    (λ c κs. search needs)
+    (λ c κs. search needs)
+    (λ c κs. search needs)
+    (λ c κs. search needs)
+    (λ c κs. search needs)
+    (λ c κs. search needs)
+    (λ c κs. search needs)
+    (λ c κs. search needs)
+    (λ c κs. search needs)
+    (λ c κs. search needs)
+    (λ c κs. search needs)
+    (λ c κs. search needs)
+    returns-3
+    returns-4
+    (λ c. search needs)
+    (λ c. search needs)
+    returns-5
+    returns-6
+    (λ c. search needs)
+    (λ c. search needs)
+    returns-7
+    returns-8
+    (λ c. search needs)
+    (λ c. search needs)
+    returns-9
+    returns-10
+    (λ c. search needs)
+    (λ c. search needs)
+    returns-11
+    returns-12)
