@@ -6,8 +6,8 @@
 #
 # The tests are .ci/run and tests/README.md's commands.
 
-# The crates that export calls. Each is compiled for itself (`rt staticlib NAME`); the library holds them
-# all, and a program takes in only those whose calls it makes.
+# The crates that export calls. All are proved first; then each is compiled for itself (`rt staticlib NAME`),
+# two at a time. The library holds them all, and a program takes in only those whose calls it makes.
 EXPORTS = capi capi_record capi_run history audit find waiting sheet shelf schedule join
 
 PREFIX ?= /usr/local
@@ -30,7 +30,8 @@ exports:
 
 target/lib/libzeppolecape.a: crates.txt $(shell find crates -name '*.rt' -o -name '*.antt')
 	@command -v rt >/dev/null || { echo "make: the Rattle toolchain (rt) is not on the PATH; see README.md, Requirements" >&2; exit 1; }
-	for name in $(EXPORTS); do rt staticlib $$name || exit 1; done
+	rt check $(EXPORTS)
+	printf '%s\n' $(EXPORTS) | xargs -P 2 -n 1 rt staticlib
 	rm -rf target/lib && mkdir -p target/lib/members
 	cd target/lib/members && for name in $(EXPORTS); do ar x ../../staticlib/lib$$name.a || exit 1; done
 	ar rcsD $@ target/lib/members/*.o

@@ -64,16 +64,16 @@
  *                  stack,   instructions at most, by tasks and slots
  *                  bytes      1, 3     5, 12  16, 1023
  *   zc_open            88        78        78        78
- *   zc_open_pooled     88       111       167      6241
- *   zc_push           352       300       300       300
- *   zc_push_pooled    344       272       272       272
- *   zc_pop            336       268       268       268
- *   zc_step           576       350       348       348
- *   zc_step_record    592       343       338       338
- *   zc_run            608      2461      4083      4712
- *   zc_report         368       284       515     20331
+ *   zc_open_pooled     88       117       173      6247
+ *   zc_push           336       293       293       293
+ *   zc_push_pooled    320       265       265       265
+ *   zc_pop            320       261       261       261
+ *   zc_step           496       309       301       301
+ *   zc_step_record    512       305       299       299
+ *   zc_run            544      1811      3015      3501
+ *   zc_report         368       273       475     17257
  *   table bytes         -       240       816     30120
- *   code bytes: audit 1804, capi 10379, capi_record 5813, capi_run 6089, find 3517, history 9145, join 3567, schedule 10341, sheet 3512, shelf 3744, waiting 831
+ *   code bytes: audit 1804, capi 10315, capi_record 5838, capi_run 6080, find 3227, history 9508, join 3443, schedule 9581, sheet 3587, shelf 3874, waiting 797
  * As to the machine: x86-64, System V calling convention. The code uses the red zone (128 bytes
  * below the stack pointer) and SSE registers, no AVX: an interrupt handler that makes a call saves
  * the SSE state first, and an interrupt that is not masked during a call leaves the red zone alone.
