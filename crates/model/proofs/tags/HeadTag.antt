@@ -105,7 +105,8 @@ module _ (s : Shared) (h : ℕ → Owner) (t : ℕ) (r : Rec) (c : Call) where
   fair at4 e w = fair4 (r .kind) refl (w .0 .early) (share-at at4 e)
   fair at5 e w = let z = share-at at5 e in record { even = omega arith }
   fair at6 e w = let g = share-at at6 e in
-      by-test (Even s r) (same (r .read) (s .anchor)) (λ z. record { even = omega arith }) (λ z. fair-leave none refl (omega arith) g)
+      by-test (Even s r) (same (r .read) (s .anchor)) (λ z. record { even = omega arith })
+      (λ z. fair-leave none refl (omega arith) g)
   fair at7 e w = let g = share-at at7 e in
       by-test (Even s r) (eqb (s .link (way (r .read)) (r .near) .slot) (tip (r .read) (way (r .read)))) (λ z. record { even = omega arith })
       (λ z. record { even = omega arith })
