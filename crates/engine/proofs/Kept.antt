@@ -13,8 +13,8 @@ use Rattle.model.specs.declared.Record.{Record}
 use Rattle.model.specs.declared.TaskRecord.{TaskRecord}
 use Rattle.model.specs.declared.Entry.{Entry}
 use Rattle.model.specs.declared.Outcome.the-variants.{Refused, Moved}
-use Rattle.model.specs.Tables.{Tables, isPooled, idle}
-use Rattle.model.specs.Places.{Touch, nothing, setAnchor, setLink, clearMark, takeSlot, setNext, setHead, Move, linkMet, withSeen, withOwn, new4, row}
+use Rattle.model.specs.Tables.{Tables, isPooled, idle, withSeen, withOwn}
+use Rattle.model.specs.Places.{Touch, nothing, setAnchor, setLink, clearMark, takeSlot, setNext, setHead, Move, wordFound, new4, row}
 use Rattle.model.specs.Places.{at1, at2, at3, at4, at5, at6, at7, at9, at10, at11, at12, at13, at14, at15, at16, at17, move, apply}
 use Rattle.model.specs.Sound.{isPush}
 use Rattle.model.specs.Route.{pushRoute, popRoute, route, onward, answer, goes}
@@ -320,8 +320,8 @@ module _ (q : Tables) (r : TaskRecord) where
   at-its-place none =
       let range = placed q r none in
       subst (λ (a : Acted). Kept q r a) (sym (here q r))
-      (whichever (eqb (cond (stepSound (q .control) (r .call) (linkMet q (r .call))) 0 34) 0) _ _
-      (λ _. finishes _ (moves (q .control) (r .call) (linkMet q (r .call)) (range .0)))
+      (whichever (eqb (cond (stepSound (q .control) (r .call) (wordFound q (r .call))) 0 34) 0) _ _
+      (λ _. finishes _ (moves (q .control) (r .call) (wordFound q (r .call)) (range .0)))
       (same _))
 
   pub moved-on : Kept q r (moveOn q r)

@@ -9,7 +9,7 @@ use Rattle.model.specs.declared.TaskRecord.{TaskRecord}
 use Rattle.model.specs.declared.Outcome.the-variants.{Refused}
 use Rattle.model.specs.Tables.{Tables, isPooled}
 use Rattle.model.specs.Sound.{controlSound, recordSound, rowsFit}
-use Rattle.model.specs.Places.{linkMet, move}
+use Rattle.model.specs.Places.{wordFound, move}
 use Rattle.model.specs.Refusals.{Lent, stepSound, stepRefusal}
 use Rattle.model.specs.Calls.{decide, finish, step}
 use Rattle.places.specs.Arm.{stepAt}
@@ -28,7 +28,7 @@ below high other = omega arith
 -- The step at a record's own place.
 pub here : (q : Tables) (r : TaskRecord)
     → (let t = r .call in
-    stepAt (t .place) q t (r .retries) ≡ decide (cond (stepSound (q .control) t (linkMet q t)) 0 34) q r (finish q r (move (q .control) t (linkMet q t))))
+    stepAt (t .place) q t (r .retries) ≡ decide (cond (stepSound (q .control) t (wordFound q t)) 0 34) q r (finish q r (move (q .control) t (wordFound q t))))
 unfolding stepAt
 here q r = refl
 
@@ -45,7 +45,7 @@ module _ (q : Tables) (p : Lent) (r : TaskRecord) where
       (λ k. split (recordSound (isPooled (q .control)) (q .control .slots) (r .call))
       (λ s. split (eqb (r .call .place) 0)
       (λ z. simp (a, b, k, s, z))
-      (λ z. split (stepSound (q .control) (r .call) (linkMet q (r .call))) (λ t. simp (a, b, k, s, z, here, t)) (λ t. simp (a, b, k, s, z, here, t))))
+      (λ z. split (stepSound (q .control) (r .call) (wordFound q (r .call))) (λ t. simp (a, b, k, s, z, here, t)) (λ t. simp (a, b, k, s, z, here, t))))
       (λ s. simp (a, b, k, s)))
       (λ k. simp (a, b, k)))
       (λ b. simp (a, b)))

@@ -12,9 +12,9 @@ use Rattle.word.specs.Link.{linkOf, packLink}
 use Rattle.model.specs.declared.TaskRecord.{TaskRecord}
 use Rattle.model.specs.declared.Answer.the-variants.{Running, Pushed}
 use Rattle.model.specs.declared.Outcome.the-variants.{Moved}
-use Rattle.model.specs.Tables.{Tables, isPooled, idle}
+use Rattle.model.specs.Tables.{Tables, isPooled, idle, withAnchor}
 use Rattle.model.specs.Sound.{from1, anchorSound, linkSound, controlSound, recordSound, rowsFit}
-use Rattle.model.specs.Places.{sideOf, row, linkSide, move, reading, at1, at2, at3, new4, at4, at5, at6, at7, at9, at10, setLink, apply, withAnchor}
+use Rattle.model.specs.Places.{sideOf, row, linkSide, move, reading, at1, at2, at3, new4, at4, at5, at6, at7, at9, at10, setLink, apply}
 use Rattle.model.specs.Route.{pushRoute, route, onward, answer, goes, counted}
 use Rattle.model.specs.Refusals.{stepRefusal, stepSound}
 use Rattle.model.specs.Calls.{Acted, step, finish, stepLent}

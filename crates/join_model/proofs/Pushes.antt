@@ -13,10 +13,8 @@ use Rattle.word.specs.Anchor.{packAnchor}
 use Rattle.word.proofs.Laws.{unpack-pack}
 use Rattle.model.specs.declared.TaskRecord.{TaskRecord}
 use Rattle.model.specs.declared.Op.the-variants.{Push, Step}
-use Rattle.model.specs.Tables.{Queue, idle, unused, withCall, taskAt}
+use Rattle.model.specs.Tables.{Queue, idle, unused, withCall, taskAt, withAnchor, taken}
 use Rattle.model.specs.Sound.{anchorSound, rowTests, rowsFit}
-use Rattle.model.specs.Places.{withAnchor}
-use Rattle.model.specs.Calls.{taken}
 use Rattle.model.specs.History.{Request}
 use Rattle.model.proofs.laws.Lengths.{lengths}
 use Rattle.model.proofs.tests.Rules.{tests}

@@ -6,8 +6,7 @@ use lib.Dec.{ltb, eqb}
 use lib.ListN.{length, getD, set}
 use Rattle.word.specs.Anchor.{packAnchor}
 use Rattle.word.specs.Link.{packLink}
-use Rattle.model.specs.Tables.{Queue, withMark, idle, withCall, taskAt}
-use Rattle.model.specs.Places.{withAnchor}
+use Rattle.model.specs.Tables.{Queue, withMark, idle, withCall, taskAt, withAnchor}
 use Rattle.model.specs.Refusals.{first}
 use Rattle.join_model.specs.Join.{anchorIn, lanes, joinRules, Joined, joined}
 

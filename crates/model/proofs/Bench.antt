@@ -17,7 +17,7 @@ use Rattle.model.specs.Tables.{Queue, unused}
 use Rattle.model.specs.Sound.{anchorSound, linkSound, controlSound, recordSound, rowsFit}
 use Rattle.model.specs.Places.{sideOf, row, linkSide, reading, at1, at2, at3, new4, at4, at5, at6, at7, at9, at10, at11, move}
 use Rattle.model.specs.Route.{pushRoute, popRoute, route, onward, answer, goes, counted}
-use Rattle.model.specs.Refusals.{openRefusal, pushRefusal, popRefusal, stepSound, stepRefusal, reportRefusal}
+use Rattle.model.specs.Refusals.{openRefusal, pushRefusal, popRefusal, stepSound, stepRefusal, reportRefusal, startRefusal}
 use Rattle.model.specs.Calls.{opened, openAs, openQueue, pushStart, popStart, finish, step, actOn, act, openingCode, replyOf}
 use Rattle.model.specs.Walk.{entries, along, contents}
 use Rattle.model.specs.Report.{count, busy, waiting, takenSlots, tell, report, reportCode, listed, retryCounts}
@@ -136,7 +136,7 @@ pub record Table : Type 0 where
   pub ceiling-kept : counted 4294967295 true ≡ 4294967295
 
 pub bench : Table
-unfolding openAs opened openRefusal run final act actOn pushStart popStart step finish pushRefusal popRefusal stepRefusal stepSound move at1 at2 at3 new4 at4 at5 at6 at7 at9 at10 at11 reading sideOf row linkSide anchorSound linkSound controlSound recordSound rowsFit pushRoute popRoute route onward answer goes counted along contents report tell reportRefusal busy count waiting takenSlots retryCounts listed
+unfolding openAs opened openRefusal run final act actOn pushStart popStart step finish startRefusal stepRefusal stepSound move at1 at2 at3 new4 at4 at5 at6 at7 at9 at10 at11 reading sideOf row linkSide anchorSound linkSound controlSound recordSound rowsFit pushRoute popRoute route onward answer goes counted along contents report tell reportRefusal busy count waiting takenSlots retryCounts listed
 bench = record {
   packs-stable = refl;
   packs-pushing = refl;

@@ -8,9 +8,9 @@ use borrow.Author.Tests.{eq-eqb, ne-eqb}
 use Rattle.word.specs.Anchor.{anchorOf, packAnchor}
 use Rattle.model.specs.declared.Control.{Control}
 use Rattle.model.specs.declared.Record.{Record}
-use Rattle.model.specs.Tables.{atPlace, far, facing, pushing, tablesOf}
+use Rattle.model.specs.Tables.{atPlace, far, facing, pushing, tablesOf, withSeen}
 use Rattle.model.specs.Sound.{isPop, anchorSound}
-use Rattle.model.specs.Places.{reading, withSeen, row, sideOf, nothing, setAnchor, Move, compares, at1, at2, new4, at4, at6, at10, move}
+use Rattle.model.specs.Places.{reading, row, sideOf, nothing, setAnchor, Move, compares, at1, at2, new4, at4, at6, at10, move}
 use Rattle.model.specs.Refusals.{needsRow, meetsLink, meetsHead, stepSound}
 use Rattle.model.specs.Route.{route, pushRoute, popRoute, goes, counted}
 use Rattle.model.specs.Calls.{entryOf, finish}

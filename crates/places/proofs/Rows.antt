@@ -9,9 +9,9 @@ use Rattle.word.specs.Anchor.{anchorOf}
 use Rattle.word.specs.Link.{linkOf, packLink}
 use Rattle.model.specs.declared.Control.{Control}
 use Rattle.model.specs.declared.Record.{Record}
-use Rattle.model.specs.Tables.{Tables, isPooled, withMark, tablesOf}
+use Rattle.model.specs.Tables.{Tables, isPooled, withMark, tablesOf, withNeighbour, withLink, withOwn}
 use Rattle.model.specs.Sound.{from1, linkSound}
-use Rattle.model.specs.Places.{withNeighbour, withLink, withOwn, row, sideOf, linkSide, at3, at5, at7, at9, at11, move}
+use Rattle.model.specs.Places.{row, sideOf, linkSide, at3, at5, at7, at9, at11, move}
 use Rattle.model.specs.Refusals.{stepSound}
 use Rattle.model.specs.Route.{route, pushRoute, popRoute, goes, counted}
 use Rattle.model.specs.Calls.{Acted, finish}

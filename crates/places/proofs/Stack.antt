@@ -8,9 +8,9 @@ use lib.ListN.{getD, set}
 use Rattle.word.specs.Link.{linkOf, packLink}
 use Rattle.model.specs.declared.Control.{Control}
 use Rattle.model.specs.declared.Record.{Record}
-use Rattle.model.specs.Tables.{Tables, atPlace, withMark, tablesOf}
+use Rattle.model.specs.Tables.{Tables, atPlace, withMark, tablesOf, withNeighbour, withLink, withOwn}
 use Rattle.model.specs.Sound.{linkSound}
-use Rattle.model.specs.Places.{withNeighbour, withLink, withOwn, row, at12, at13, at14, at15, at16, at17, move}
+use Rattle.model.specs.Places.{row, at12, at13, at14, at15, at16, at17, move}
 use Rattle.model.specs.Refusals.{stepSound}
 use Rattle.model.specs.Route.{route, pushRoute, popRoute, goes, counted}
 use Rattle.model.specs.Calls.{Acted, entryOf, finish}

@@ -6,7 +6,7 @@ use Prim.Native.Nat.{ℕ}
 use Rattle.model.specs.declared.Control.{Control}
 use Rattle.model.specs.declared.Record.{Record}
 use Rattle.model.specs.Tables.{Tables, atPlace, tablesOf}
-use Rattle.model.specs.Places.{linkMet, move}
+use Rattle.model.specs.Places.{wordFound, move}
 use Rattle.model.specs.Refusals.{stepSound}
 use Rattle.model.specs.Calls.{Acted, decide, finish}
 use Rattle.table.specs.declared.Acted as made
@@ -16,7 +16,7 @@ use Rattle.table.specs.Lent.{withTables}
 unfoldable pub stepAt : ℕ → Tables → Record → ℕ → Acted
 stepAt n q r retries =
     let s = atPlace r n in
-    let w = linkMet q s in
+    let w = wordFound q s in
     decide (cond (stepSound (q .control) s w) 0 34) q (record { call = r; retries = retries })
     (finish q (record { call = s; retries = retries }) (move (q .control) s w))
 

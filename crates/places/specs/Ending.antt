@@ -9,8 +9,9 @@ use Rattle.model.specs.declared.Record.{Record}
 use Rattle.model.specs.declared.Entry.{Entry}
 use Rattle.model.specs.declared.Outcome.the-variants.{Refused, Moved}
 use Rattle.model.specs.Sound.{from1, isPop, anchorSound, linkSound}
-use Rattle.model.specs.Places.{withSeen, withNeighbour, withLink, reading}
+use Rattle.model.specs.Places.{reading}
 use Rattle.model.specs.Route.{route, onward, goes, answer}
+use Rattle.model.specs.Tables.{withSeen, withNeighbour, withLink}
 use Rattle.table.specs.declared.Acted as made
 
 abbrev pub refused : Control → Record → made.Acted

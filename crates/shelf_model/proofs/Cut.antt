@@ -10,10 +10,10 @@ use lib.ListN.{getD, length, set, take}
 use borrow.Author.Tests.{eqb-false, eqb-true, not-false}
 use Rattle.model.specs.declared.Record.{Record}
 use Rattle.model.specs.declared.TaskRecord.{TaskRecord}
-use Rattle.model.specs.Tables.{Tables, bit, isPooled, links, marked, putBit, withMark}
+use Rattle.model.specs.Tables.{Tables, bit, isPooled, links, marked, putBit, withMark, withHead}
 use Rattle.model.specs.Sound.{recordSound, rowsFit}
 use Rattle.model.specs.Places.{Touch, nothing, setAnchor, setLink, clearMark, takeSlot, setNext, setHead}
-use Rattle.model.specs.Places.{Move, apply, withHead, linkMet, linkSide, move, row}
+use Rattle.model.specs.Places.{Move, apply, wordFound, linkSide, move, row}
 use Rattle.model.specs.declared.Outcome.the-variants.{Moved, Refused}
 use Rattle.model.specs.Sound.{controlSound}
 use Rattle.model.specs.Route.{answer, onward, route}
@@ -100,7 +100,7 @@ apply-cut (setHead w) q h = refl
 column-cut : (n : ℕ) (l : List ℕ) (x : ℕ) → x ≤ n → getD (take (suc n) l) x 0 ≡ getD l x 0
 column-cut n l x h = get-take (suc n) l x 0 (omega arith)
 
-met-cut : (q : Tables) (r : Record) → RecordFine (isPooled (q .control)) (q .control .slots) r → linkMet (cutTables q) r ≡ linkMet q r
+met-cut : (q : Tables) (r : Record) → RecordFine (isPooled (q .control)) (q .control .slots) r → wordFound (cutTables q) r ≡ wordFound q r
 met-cut q r h = go (eqb (r .place) 11) (eqb (r .place) 13) refl
   where
     n : ℕ
@@ -164,15 +164,15 @@ module _ (q : Tables) (r : TaskRecord) (h : RecordFine (isPooled (q .control)) (
   c = r .call
 
   abbrev m : Move
-  m = move (q .control) c (linkMet q c)
+  m = move (q .control) c (wordFound q c)
 
   touch-within : Within (q .control .slots) (m .touch)
-  touch-within = within _ _ (m .touch) (move-fine (isPooled (q .control)) (q .control .slots) c h low (q .control) (linkMet q c) busy)
+  touch-within = within _ _ (m .touch) (move-fine (isPooled (q .control)) (q .control .slots) c h low (q .control) (wordFound q c) busy)
 
   label-cut : getD (cutTables q .labels) (row c) 0 ≡ getD (q .labels) (row c) 0
   label-cut = column-cut (q .control .slots) (q .labels) (row c) (row-fine (isPooled (q .control)) (q .control .slots) c h)
 
-  finish-cut : finish (cutTables q) r (move (q .control) c (linkMet (cutTables q) c)) ≡ cutActed (finish q r m)
+  finish-cut : finish (cutTables q) r (move (q .control) c (wordFound (cutTables q) c)) ≡ cutActed (finish q r m)
   unfolding finish
   finish-cut =
       ap (λ (w : ℕ). finish (cutTables q) r (move (q .control) c w)) (met-cut q c h)
@@ -196,11 +196,11 @@ pub step-cut : (q : Tables) (p : Lent) (r : TaskRecord) → step (cutTables q) p
 unfolding step stepRefusal
 step-cut q p r =
     ap (λ (why : ℕ). decide why (cutTables q) r
-    (finish (cutTables q) r (move (q .control) (r .call) (linkMet (cutTables q) (r .call))))) (step-refusal-cut q p (r .call))
-    ∙ decide-cut (stepRefusal q p (r .call)) q r (finish q r (move (q .control) (r .call) (linkMet q (r .call)))) _ go
+    (finish (cutTables q) r (move (q .control) (r .call) (wordFound (cutTables q) (r .call))))) (step-refusal-cut q p (r .call))
+    ∙ decide-cut (stepRefusal q p (r .call)) q r (finish q r (move (q .control) (r .call) (wordFound q (r .call)))) _ go
   where
-    go : stepRefusal q p (r .call) ≡ 0 → finish (cutTables q) r (move (q .control) (r .call) (linkMet (cutTables q) (r .call)))
-        ≡ cutActed (finish q r (move (q .control) (r .call) (linkMet q (r .call))))
+    go : stepRefusal q p (r .call) ≡ 0 → finish (cutTables q) r (move (q .control) (r .call) (wordFound (cutTables q) (r .call)))
+        ≡ cutActed (finish q r (move (q .control) (r .call) (wordFound q (r .call))))
     go e =
         let z = cleared (stepRules q p (r .call)) refl e in
         let busy = eqb-false _ _ (z .1 .1 .1 .1 .0) in

@@ -16,10 +16,9 @@ use Rattle.model.specs.declared.Op.the-variants.{Push, Pop, Put, Step}
 use Rattle.model.specs.declared.Outcome.the-variants.{Moved, Refused}
 use Rattle.model.specs.declared.Record.{Record}
 use Rattle.model.specs.declared.TaskRecord.{TaskRecord}
-use Rattle.model.specs.Tables.{Queue, Tables, asking, far, isEmpty, isPooled, links, near, opposite, started, taskAt, unused, withCall}
+use Rattle.model.specs.Tables.{Queue, Tables, asking, far, isEmpty, isPooled, links, near, opposite, started, taskAt, unused, withCall, taken}
 use Rattle.model.specs.Sound.{controlSound, from1, linkSound, recordSound, rowsFit}
-use Rattle.model.specs.Places.{taken}
-use Rattle.model.specs.Refusals.{Lent, among, first, isBusy, late, popRefusal, pushRefusal, pushRules, putRefusal, rule, stepRefusal}
+use Rattle.model.specs.Refusals.{Lent, among, first, isBusy, late, popRefusal, pushRefusal, pushRules, putRefusal, rule, stepRefusal, startRefusal}
 use Rattle.model.specs.Calls.{Acted, Done, act, actOn, back, decide, popStart, pushStart, putStart, step}
 use Rattle.model.specs.Walk.{Walk, along, andThen, broken, contents, entries, walkFrom, whence}
 use Rattle.model.specs.History.{Event, Request, final, run}
@@ -40,7 +39,7 @@ same-from true b c d e x y k h = ap (λ (z : Bool). first (rule 34 b ∷ rule 30
 
 push-refusal-cut : (q : Tables) (p : Lent) (r : Record) (side slot : ℕ)
     → pushRefusal (cutTables q) p r side slot ≡ pushRefusal q p r side slot
-unfolding pushRefusal
+unfolding startRefusal
 push-refusal-cut q p r side slot =
     let pooled = isPooled (q .control) in
     rw (fits-cut q)
@@ -55,17 +54,17 @@ taken-cut q x l h = λ i. columns q (cutTables q .lefts) (cutTables q .rights)
     (set-take (suc (q .control .slots)) (q .labels) x l i) (mark-cut (q .control .slots) (q .marks) x 1 h i) (cutTables q .next)
 
 push-within : (q : Tables) (p : Lent) (r : Record) (side slot : ℕ) → pushRefusal q p r side slot ≡ 0 → slot ≤ q .control .slots
-unfolding pushRefusal
+unfolding startRefusal
 push-within q p r side slot e =
     let z = cleared (pushRules q p r side slot) refl e in
     from1-true (q .control .slots) slot (not-false _ (z .1 .1 .1 .1 .1 .0)) .1
 
 put-refusal-cut : (q : Tables) (p : Lent) (r : Record) (side : ℕ) → putRefusal (cutTables q) p r side ≡ putRefusal q p r side
-unfolding putRefusal
+unfolding startRefusal
 put-refusal-cut q p r side = rw (fits-cut q)
 
 pop-refusal-cut : (q : Tables) (p : Lent) (r : Record) (side : ℕ) → popRefusal (cutTables q) p r side ≡ popRefusal q p r side
-unfolding popRefusal
+unfolding startRefusal
 pop-refusal-cut q p r side = rw (fits-cut q)
 
 act-on-cut : (q : Tables) (p : Lent) (r : TaskRecord) (o : Op) → actOn (cutTables q) p r o ≡ cutActed (actOn q p r o)
@@ -97,7 +96,7 @@ not-zero false false = refl
 
 unknown : (q : Tables) (p : Lent) (r : TaskRecord) (o : Op) → p .known ≡ false
     → actOn q p r o ≡ record { tables = q; task = r; outcome = Refused (unknownBy q p) }
-unfolding actOn pushStart putStart popStart step pushRefusal putRefusal popRefusal stepRefusal
+unfolding actOn pushStart putStart popStart step startRefusal stepRefusal
 unknown q p r (Push side slot label) e = rw
     (e, not-zero (not (controlSound (q .control))) (not (rowsFit (isPooled (q .control)) (q .control .slots) q && p .enough)))
 unknown q p r (Pop side) e = rw

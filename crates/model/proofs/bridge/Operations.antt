@@ -8,9 +8,9 @@ use lib.Dec.{eqb, ltb}
 use lib.ListN.{getD, set}
 use borrow.Author.Tests.{lt-ltb}
 use Rattle.model.specs.Calls.{entryOf, finish}
-use Rattle.model.specs.Places.{Move, Touch, clearMark, linkMet, move, nothing, setAnchor, setHead, setLink, setNext, takeSlot, taken}
+use Rattle.model.specs.Places.{Move, Touch, clearMark, wordFound, move, nothing, setAnchor, setHead, setLink, setNext, takeSlot}
 use Rattle.model.specs.Route.{answer, counted, goes}
-use Rattle.model.specs.Tables.{Queue, Tables, asking, isPooled, marked, recordAt, started, taskAt, unused, withCall}
+use Rattle.model.specs.Tables.{Queue, Tables, asking, isPooled, marked, recordAt, started, taskAt, unused, withCall, taken}
 use Rattle.model.specs.declared.Answer as answered
 use Rattle.model.specs.declared.Record.{Record}
 use Rattle.model.specs.declared.TaskRecord.{TaskRecord}
@@ -60,7 +60,7 @@ module _ (q : Queue) (b : B.Book) (i : Inv (record { state = stateOf q; book = b
   -- An accepted step.
   module _ (s : Stepping q t) where
     abbrev m : Move
-    m = move (g .control) r (linkMet g r)
+    m = move (g .control) r (wordFound g r)
 
     abbrev seenAfter : M.Move → Type 0
     seenAfter m = Inv (record {
@@ -99,7 +99,7 @@ module _ (q : Queue) (b : B.Book) (i : Inv (record { state = stateOf q; book = b
         })
         ∙ (λ j. record {
           shared = view-touched g (s .lies .rows) (m .touch)
-              (move-fine (isPooled (g .control)) (g .control .slots) r (s .fine) (s .control .slots) (g .control) (linkMet g r) (s .busy)) j;
+              (move-fine (isPooled (g .control)) (g .control .slots) r (s .fine) (s .control .slots) (g .control) (wordFound g r) (s .busy)) j;
           task = task-set (g .control .tasks) (q .records) t r′ (omega (arith, s .lies .length, s .lies .known)) (s .lies .known) j;
         })
 
@@ -126,7 +126,7 @@ module _ (q : Queue) (b : B.Book) (i : Inv (record { state = stateOf q; book = b
         subst After (sym state-is) step-seen-keeps
 
     touch-fine : TouchFine (isPooled (g .control)) (g .control .slots) (m .touch)
-    touch-fine = move-fine (isPooled (g .control)) (g .control .slots) r (s .fine) (s .control .slots) (g .control) (linkMet g r) (s .busy)
+    touch-fine = move-fine (isPooled (g .control)) (g .control .slots) r (s .fine) (s .control .slots) (g .control) (wordFound g r) (s .busy)
 
     -- In a named queue no slot is drawn.
     pub step-grants : (c : B.Call) → isPooled (g .control) ≡ false → B.granted (touchSeen (m .touch)) c ≡ c
@@ -182,7 +182,7 @@ module _ (q : Queue) (b : B.Book) (i : Inv (record { state = stateOf q; book = b
     pub step-links : LinksFine (stepped .tables)
     unfolding finish
     step-links = links-touched g (s .lies .rows) k (m .touch)
-        (move-fine (isPooled (g .control)) (g .control .slots) r (s .fine) (s .control .slots) (g .control) (linkMet g r) (s .busy))
+        (move-fine (isPooled (g .control)) (g .control .slots) r (s .fine) (s .control .slots) (g .control) (wordFound g r) (s .busy))
 
   -- Accepted starts.
   module _ (z : Lies q t) (free : recordAt q t .place ≡ 0) where

@@ -12,7 +12,7 @@ use Rattle.model.specs.declared.Op.{Op}
 use Rattle.model.specs.declared.Op.the-variants.{Push, Pop, Put, Step}
 use Rattle.model.specs.Tables.{Tables, Queue, zeroed, unused, taskAt}
 use Rattle.model.specs.Sound.{rowTests, rowsFit}
-use Rattle.model.specs.Places.{Touch, nothing, setAnchor, setLink, clearMark, takeSlot, setNext, setHead, linkMet, move, apply}
+use Rattle.model.specs.Places.{Touch, nothing, setAnchor, setLink, clearMark, takeSlot, setNext, setHead, wordFound, move, apply}
 use Rattle.model.specs.Refusals.{Lent, among, alone, openRules, stepRefusal, pushRefusal, putRefusal, popRefusal}
 use Rattle.model.specs.Calls.{stacked, opened, OpenDone, openAs, Acted, decide, pushStart, putStart, popStart, finish, step, actOn, act, stepLent}
 use Rattle.model.proofs.lists.Range.{length-climb}
@@ -63,7 +63,7 @@ unfolding actOn pushStart putStart popStart step finish
 act-on q p r (Push side slot label) = settled (pushRefusal q p (r .call) side slot) q r _ (simp length-set)
 act-on q p r (Pop side) = settled (popRefusal q p (r .call) side) q r _ refl
 act-on q p r (Put side label) = settled (putRefusal q p (r .call) side) q r _ refl
-act-on q p r Step = settled (stepRefusal q p (r .call)) q r _ (touched (move (q .control) (r .call) (linkMet q (r .call)) .touch) _)
+act-on q p r Step = settled (stepRefusal q p (r .call)) q r _ (touched (move (q .control) (r .call) (wordFound q (r .call)) .touch) _)
 
 -- The laws.
 pub lent-lengths : (q : Tables) (r : TaskRecord) → lengths (stepLent q r .tables) ≡ lengths q

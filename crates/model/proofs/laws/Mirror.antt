@@ -20,14 +20,13 @@ use Rattle.model.specs.declared.Outcome.the-variants.{Moved}
 use Rattle.model.specs.declared.Opening.the-variants as opening
 use Rattle.model.specs.declared.Op.{Op}
 use Rattle.model.specs.declared.Op.the-variants.{Push, Pop, Put, Step}
-use Rattle.model.specs.Tables.{Tables, Queue, asking, started, taskAt, unused, withCall, zeroed}
-use Rattle.model.specs.Places.{taken}
-use Rattle.model.specs.Refusals.{openRefusal, Lent, among, alone, pushRefusal, putRefusal, popRefusal}
+use Rattle.model.specs.Tables.{Tables, Queue, asking, started, taskAt, unused, withCall, zeroed, taken}
+use Rattle.model.specs.Refusals.{openRefusal, Lent, among, alone, pushRefusal, putRefusal, popRefusal, namedPush, pooledPush, nothingAsked}
 use Rattle.model.specs.Calls.{stacked, opened, OpenDone, openAs, Acted, decide, pushStart, putStart, popStart, actOn, back, act, stepLent}
 use Rattle.model.specs.Mirror.{mirrorSide, mirrorStatus, mirrorWord, mirrorTables, mirrorRecord, mirrorTask, mirrorQueue, mirrorOp}
 use Rattle.model.specs.Mirror.{mirrorActed, mirrorOpened, mirrorDone}
 use Rattle.model.proofs.laws.Mirror.Words.{mirror-pack}
-use Rattle.model.proofs.laws.Mirror.Sound.{rows-fit-mirror, push-refusal-mirror, put-refusal-mirror, pop-refusal-mirror}
+use Rattle.model.proofs.laws.Mirror.Sound.{rows-fit-mirror, start-refusal-mirror}
 use Rattle.model.proofs.laws.Mirror.Steps.{decide-mirror, step-mirror}
 
 -- A start or step of one record.
@@ -45,7 +44,7 @@ act-on-mirror q p r (Push side slot label) =
     let begun : (Tables → ℕ → Acted) = λ q side. record
     { tables = taken q slot label; task = withCall r (started 0 side slot label); outcome = Moved (Running 1) } in
     ap (λ (why : ℕ). decide why (mirrorTables q) (mirrorTask r) (begun (mirrorTables q) (mirrorSide side)))
-    (push-refusal-mirror q p (r .call) side slot)
+    (start-refusal-mirror q p (r .call) side (namedPush q slot))
     ∙ decide-mirror (pushRefusal q p (r .call) side slot) q r (begun q side) (begun (mirrorTables q) (mirrorSide side))
     (λ e i. record {
       tables = mirrorTables (taken q slot label);
@@ -54,12 +53,12 @@ act-on-mirror q p r (Push side slot label) =
     })
 act-on-mirror q p r (Pop side) =
     let begun : (Tables → ℕ → Acted) = λ q side. record { tables = q; task = withCall r (started 1 side 0 0); outcome = Moved (Running 1) } in
-    ap (λ (why : ℕ). decide why (mirrorTables q) (mirrorTask r) (begun (mirrorTables q) (mirrorSide side))) (pop-refusal-mirror q p (r .call) side)
+    ap (λ (why : ℕ). decide why (mirrorTables q) (mirrorTask r) (begun (mirrorTables q) (mirrorSide side))) (start-refusal-mirror q p (r .call) side nothingAsked)
     ∙ decide-mirror (popRefusal q p (r .call) side) q r (begun q side) (begun (mirrorTables q) (mirrorSide side))
     (λ e i. record { tables = mirrorTables q; task = withCall r (started-mirror 1 side 0 0 i); outcome = Moved (Running 1) })
 act-on-mirror q p r (Put side label) =
     let begun : (Tables → ℕ → Acted) = λ q side. record { tables = q; task = withCall r (asking side label); outcome = Moved (Running 12) } in
-    ap (λ (why : ℕ). decide why (mirrorTables q) (mirrorTask r) (begun (mirrorTables q) (mirrorSide side))) (put-refusal-mirror q p (r .call) side)
+    ap (λ (why : ℕ). decide why (mirrorTables q) (mirrorTask r) (begun (mirrorTables q) (mirrorSide side))) (start-refusal-mirror q p (r .call) side (pooledPush q))
     ∙ decide-mirror (putRefusal q p (r .call) side) q r (begun q side) (begun (mirrorTables q) (mirrorSide side))
     (λ e i. record { tables = mirrorTables q; task = withCall r (asking-mirror side label i); outcome = Moved (Running 12) })
 act-on-mirror q p r Step = step-mirror q p r

@@ -55,9 +55,9 @@ reads-on kind o =
 
 -- A move from place p leads on; kept shut, so that a chain of tests is gone through test by test.
 data From (kind p : ℕ) (m : Move) : Type 0 where
-  from : Leads p kind (m .outcome) → From kind p m
+  from : Leads p kind (m .branch) → From kind p m
 
-leads-from : {kind p : ℕ} {m : Move} → From kind p m → Leads p kind (m .outcome)
+leads-from : {kind p : ℕ} {m : Move} → From kind p m → Leads p kind (m .branch)
 leads-from (from h) = h
 
 module _ (c : Control) (r : Record) (w : ℕ) (kind : leb (r .kind) 1 ≡ true) where
@@ -182,7 +182,7 @@ module _ (c : Control) (r : Record) (w : ℕ) (kind : leb (r .kind) 1 ≡ true) 
 
 -- The law.
 pub leads-on : (pooled : Bool) (slots : ℕ) (c : Control) (r : Record) (w : ℕ) → recordSound pooled slots r ≡ true → eqb (r .place) 0 ≡ false
-    → let m = move c r w in eqb (onward (route (r .place) (r .kind) (m .outcome)) (m .task .finishing)) 0 ≡ false
+    → let m = move c r w in eqb (onward (route (r .place) (r .kind) (m .branch)) (m .task .finishing)) 0 ≡ false
 leads-on pooled slots c r w sound busy =
     let facts = sound-record pooled slots r sound busy in
     onward-leads _ _ (leads-from (leads c r w (facts .kind) facts busy))

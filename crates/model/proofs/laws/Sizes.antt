@@ -12,7 +12,7 @@ use Rattle.model.specs.declared.Op.{Op}
 use Rattle.model.specs.declared.Op.the-variants.{Push, Pop, Put, Step}
 use Rattle.model.specs.Tables.{Tables, Queue, isPooled, taskAt, unused, zeroed}
 use Rattle.model.specs.Sound.{every, rowsFit}
-use Rattle.model.specs.Places.{Touch, nothing, setAnchor, setLink, clearMark, takeSlot, setNext, setHead, linkMet, move, apply}
+use Rattle.model.specs.Places.{Touch, nothing, setAnchor, setLink, clearMark, takeSlot, setNext, setHead, wordFound, move, apply}
 use Rattle.model.specs.Refusals.{Lent, among, recordsFit, stepRefusal, pushRefusal, popRefusal, putRefusal}
 use Rattle.model.specs.Calls.{Acted, decide, pushStart, popStart, putStart, finish, step, actOn, act, opened, stacked}
 use Rattle.model.proofs.laws.Tests.{either}
@@ -44,7 +44,7 @@ unfolding actOn pushStart popStart putStart step finish
 act-on q p r (Push side slot label) = settled (pushRefusal q p (r .call) side slot) q r _ refl
 act-on q p r (Pop side) = settled (popRefusal q p (r .call) side) q r _ refl
 act-on q p r (Put side label) = settled (putRefusal q p (r .call) side) q r _ refl
-act-on q p r Step = settled (stepRefusal q p (r .call)) q r _ (touched (move (q .control) (r .call) (linkMet q (r .call)) .touch) _)
+act-on q p r Step = settled (stepRefusal q p (r .call)) q r _ (touched (move (q .control) (r .call) (wordFound q (r .call)) .touch) _)
 
 pub act-sizes : (q : Queue) (t : ℕ) (o : Op) → sizes (act q t o .queue .tables) ≡ sizes (q .tables)
 unfolding act

@@ -11,9 +11,9 @@ use borrow.Author.Tests.{eq-eqb, eqb-false, eqb-true, ne-eqb}
 use Rattle.word.specs.Anchor.{anchorOf}
 use Rattle.model.specs.Calls.{Acted, Done, act, actOn, back, finish, popStart, pushStart, putStart, step}
 use Rattle.model.specs.History.{All, Call, Event, Ledger, Request, accept, attend, begins, final, ledgerFrom, note, over, run}
-use Rattle.model.specs.Places.{linkMet, move, taken}
+use Rattle.model.specs.Places.{wordFound, move}
 use Rattle.model.specs.Refusals.{among, popRefusal, pushRefusal, putRefusal, stepRefusal}
-use Rattle.model.specs.Tables.{Queue, asking, isPooled, recordAt, started, taskAt, unused, withCall}
+use Rattle.model.specs.Tables.{Queue, asking, isPooled, recordAt, started, taskAt, unused, withCall, taken}
 use Rattle.model.specs.declared.Answer.the-variants.{Empty, NoSlot, Popped, Pushed, Running}
 use Rattle.model.specs.declared.Answer.{Answer}
 use Rattle.model.specs.declared.Entry.{Entry}
@@ -126,7 +126,7 @@ module _ (n : ℕ) (q : Queue) (l : Ledger) (g : Matched n q l) (t : ℕ) where
 
     -- The call, with its slot if that is drawn now.
     abbrev k : B.Call
-    k = B.granted (touchSeen (move (q .tables .control) r (linkMet (q .tables) r) .touch)) (b .calls t)
+    k = B.granted (touchSeen (move (q .tables .control) r (wordFound (q .tables) r) .touch)) (b .calls t)
 
     kept : Inv (record { state = stateOf q′; book = bookAfter b t k ev a })
     unfolding view
@@ -141,7 +141,7 @@ module _ (n : ℕ) (q : Queue) (l : Ledger) (g : Matched n q l) (t : ℕ) where
     unfolding view
     ready c m =
         let m′ = matches-granted (isPooled (q .tables .control)) n c (b .calls t)
-        (touchSeen (move (q .tables .control) r (linkMet (q .tables) r) .touch)) (step-grants q b (g .inv) (g .links) t s (b .calls t)) m in
+        (touchSeen (move (q .tables .control) r (wordFound (q .tables) r) .touch)) (step-grants q b (g .inv) (g .links) t s (b .calls t)) m in
         (m′, told-end c k ev a (isPooled (q .tables .control)) (m′ .side) (m′ .slot) (step-told q b (g .inv) (g .links) t s))
 
     attended : Attended (isPooled (q .tables .control)) n b t k ev a (l .calls) (attend n ev a (l .deque) (l .calls))
@@ -149,7 +149,7 @@ module _ (n : ℕ) (q : Queue) (l : Ledger) (g : Matched n q l) (t : ℕ) where
         (attend-keeps (isPooled (q .tables .control)) n b k ev a ready (kept-head b t _ a (kept .kept)) (l .calls)
         (g .busy t ∙ ap busyNo was-busy) (g .tracks))
 
-    step-good : Puts Step (finish (q .tables) (taskAt q t) (move (q .tables .control) r (linkMet (q .tables) r)))
+    step-good : Puts Step (finish (q .tables) (taskAt q t) (move (q .tables .control) r (wordFound (q .tables) r)))
     unfolding note accept finish
     step-good = record {
       book = bookAfter b t k ev a;

@@ -8,13 +8,13 @@ use native.Mathlib.Omega.{arith}
 use lib.Dec.{eqb}
 use lib.ListN.{set}
 use borrow.Author.Tests.{eqb-true}
-use Rattle.model.specs.Calls.{Acted, Done, act, actOn, back, finish, popStart, pushStart, putStart, step, taken}
+use Rattle.model.specs.Calls.{Acted, Done, act, actOn, back, finish, popStart, pushStart, putStart, step}
 use Rattle.model.specs.History.{Event, Ledger, Request, isEffect, run}
-use Rattle.model.specs.Places.{linkMet, move}
+use Rattle.model.specs.Places.{wordFound, move}
 use Rattle.model.specs.Ends.{answerEnds}
 use Rattle.model.specs.Progress.{any, stepping, steps, stretchLimit, tells, tellsBy}
 use Rattle.model.specs.Refusals.{among, popRefusal, pushRefusal, putRefusal, stepRefusal}
-use Rattle.model.specs.Tables.{Queue, Tables, idle, isPooled, recordAt, started, taskAt, unused, withCall}
+use Rattle.model.specs.Tables.{Queue, Tables, idle, isPooled, recordAt, started, taskAt, unused, withCall, taken}
 use Rattle.model.specs.declared.Answer.the-variants.{Empty, NoSlot, Popped, Pushed, Running}
 use Rattle.model.specs.declared.Answer.{Answer}
 use Rattle.model.specs.declared.Op.the-variants.{Pop, Push, Put, Step}
@@ -168,7 +168,7 @@ module _ (n : ℕ) (q : Queue) (l : Ledger) (g : Matched n q l) (named : isPoole
   })
   pop-put side z free _ = omega (arith, start-all z free (G .labels) (G .marks) 1 side 0 0)
 
-  step-put : Stepping q t → Puts Step (finish G (taskAt q t) (move (G .control) r (linkMet G r)))
+  step-put : Stepping q t → Puts Step (finish G (taskAt q t) (move (G .control) r (wordFound G r)))
   unfolding finish
   step-put s z = omega (arith, step-all s z)
 

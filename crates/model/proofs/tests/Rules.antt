@@ -25,7 +25,7 @@ passes (b ∷ []) z = z .0
 passes (b ∷ c ∷ l) z = rw (z .0) (passes (c ∷ l) (z .1))
 
 -- A refusal has a number, so with 0 for an answer no rule applies.
-abbrev numbered : List Rule → Bool
+abbrev pub numbered : List Rule → Bool
 numbered [] = true
 numbered (r ∷ l) = not (eqb (r .number) 0) && numbered l
 

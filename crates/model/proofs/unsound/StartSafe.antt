@@ -92,7 +92,7 @@ pub put-begins : (pooled : Bool) (slots side y : ℕ) → pooled ≡ true → si
 unfolding recOf
 put-begins pooled slots side y p hs = record { fine = asking-fine pooled slots side y p hs; extra = refl; share = omega arith }
 
-module _ (q : Queue) (f : Safe q) (t : ℕ) (z : Lies q t) (early : late (q .tables) ≡ false) (free : recordAt q t .place ≡ 0)
+module _ (q : Queue) (f : Safe q) (t : ℕ) (z : Lies q t) (early : late (q .tables .control) ≡ false) (free : recordAt q t .place ≡ 0)
     (labels marks : List ℕ) (new : Record)
     (h : Begins (isPooled (q .tables .control)) (q .tables .control .slots) new) where
   abbrev G : Tables
