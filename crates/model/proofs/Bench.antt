@@ -13,7 +13,7 @@ use Rattle.model.specs.declared.Report.{Report}
 use Rattle.model.specs.declared.Reported.the-variants as reported
 use Rattle.model.specs.declared.Reply.{Reply}
 use Rattle.model.specs.declared.Op.the-variants.{Push, Pop, Step}
-use Rattle.model.specs.Tables.{Queue, unused}
+use Rattle.model.specs.Tables.{Queue, queueOf, unopened, unused}
 use Rattle.model.specs.Sound.{anchorSound, linkSound, controlSound, recordSound, rowsFit}
 use Rattle.model.specs.Places.{sideOf, row, linkSide, reading, at1, at2, at3, new4, at4, at5, at6, at7, at9, at10, at11, move}
 use Rattle.model.specs.Route.{pushRoute, popRoute, route, onward, answer, goes, counted}
@@ -25,17 +25,7 @@ use Rattle.model.specs.History.{Request, Event, run, final}
 
 -- Tables of zeros for 2 tasks and 3 slots, and the queue opened in them with a first tag.
 abbrev zeros : Queue
-zeros = record {
-  tables = record {
-    control = record { tasks = 0; slots = 0; anchor = 0; pooled = 0; head = 0 };
-    lefts = replicate 4 0;
-    rights = replicate 4 0;
-    labels = replicate 4 0;
-    marks = replicate 1 0;
-    next = [];
-  };
-  records = replicate 2 unused;
-}
+zeros = queueOf unopened (replicate 2 unused) (replicate 4 0) (replicate 4 0) (replicate 4 0) (replicate 1 0) []
 
 abbrev fresh : ℕ → Queue
 fresh tag = openQueue zeros 2 3 tag .queue

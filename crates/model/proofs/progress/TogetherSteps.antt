@@ -14,7 +14,7 @@ use Rattle.model.specs.Places.{wordFound, move}
 use Rattle.model.specs.Ends.{answerEnds}
 use Rattle.model.specs.Progress.{any, stepping, steps, stretchLimit, tells, tellsBy}
 use Rattle.model.specs.Refusals.{among, popRefusal, pushRefusal, putRefusal, stepRefusal}
-use Rattle.model.specs.Tables.{Queue, Tables, idle, isPooled, recordAt, started, taskAt, unused, withCall, taken}
+use Rattle.model.specs.Tables.{Queue, Tables, idle, isPooled, recordAt, started, tablesOf, taskAt, unused, withCall, taken}
 use Rattle.model.specs.declared.Answer.the-variants.{Empty, NoSlot, Popped, Pushed, Running}
 use Rattle.model.specs.declared.Answer.{Answer}
 use Rattle.model.specs.declared.Op.the-variants.{Pop, Push, Put, Step}
@@ -113,7 +113,7 @@ module _ (n : ℕ) (q : Queue) (l : Ledger) (g : Matched n q l) (named : isPoole
 
     abbrev begun : Queue
     begun = record {
-      tables = record { control = G .control; lefts = G .lefts; rights = G .rights; labels = labels; marks = marks; next = G .next };
+      tables = tablesOf (G .control) (G .lefts) (G .rights) labels marks (G .next);
       records = set (q .records) t (withCall (taskAt q t) new);
     }
 
