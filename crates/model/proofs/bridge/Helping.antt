@@ -49,7 +49,7 @@ module _ (q : Tables) (r : Record) where
       (λ g. rw (z, e, g, route-shared 7 (r .kind) 1 refl, e)))
 
   -- The link word as read is compared with the word as it is.
-  module _ (read-spare : spareOf r .link ≡ 0) (now-spare : (b : Bool) → spareOf (linkAt q b (r .neighbour)) ≡ 0) where
+  module _ (read-spare : spareOf (r .link) ≡ 0) (now-spare : (b : Bool) → spareOf (linkAt q b (r .neighbour)) ≡ 0) where
     link-equal : (b : Bool) → M.sameLink (linkSeen (r .link)) (linkSeen (linkAt q b (r .neighbour))) ≡ eqb (linkAt q b (r .neighbour)) (r .link)
     link-equal b = same-link-word (r .link) (linkAt q b (r .neighbour)) read-spare (now-spare b)
 
@@ -95,7 +95,7 @@ module _ (q : Tables) (r : Record) where
 
     -- A change of Anchor raises its tag, which has room.
     module _ (room : AnchorRoom q (at 0)) where
-      settled-back : eqb now r .seen ≡ true
+      settled-back : eqb now (r .seen) ≡ true
           → M.putAnchor (M.settled (anchorSeen (r .seen))) ≡ M.putAnchor (anchorSeen (packAnchor (record {
             tag = a .tag + 1;
             status = 0;

@@ -47,7 +47,7 @@ module _ (q : Tables) (r : Record) where
   place16-pop = refl
 
   -- The head as read is compared with the head as it is; a change raises its tag, which has room.
-  module _ (read-spare : spareOf r .link ≡ 0) (now-spare : spareOf head ≡ 0) where
+  module _ (read-spare : spareOf (r .link) ≡ 0) (now-spare : spareOf head ≡ 0) where
     equal : M.sameLink (linkSeen (r .link)) (linkSeen head) ≡ eqb head (r .link)
     equal = same-link-word (r .link) head read-spare now-spare
 

@@ -73,7 +73,7 @@ module _ (q : Tables) (r : Record) where
       equal : M.same (anchorSeen (r .seen)) (anchorSeen now) ≡ eqb now (r .seen)
       equal = same-word (r .seen) now read-status now-status
 
-      both-back : (y : ℕ) → y < 2 ^ 15 → eqb now r .seen ≡ true
+      both-back : (y : ℕ) → y < 2 ^ 15 → eqb now (r .seen) ≡ true
           → M.putAnchor (M.both (anchorSeen (r .seen)) y) ≡ M.putAnchor (anchorSeen (packAnchor (facing (r .side) (a .tag + 1) (a .status) y y)))
       both-back y h e =
           let z = ap M.putAnchor (sym (anchor-back (a .tag) (a .status) y y (room (eqb-true _ _ e)) read-status h h)) in
@@ -92,14 +92,14 @@ module _ (q : Tables) (r : Record) where
           (λ e. pop-reads null (λ z. rw (equal, e, z, none-right null z)) (λ z g. rw (equal, e, z, g))
           (λ g z y. rw (equal, e, z, g, stable null, y)) (λ g z y. rw (equal, e, z, g, stable null, y)))
 
-      push-back : r .own < 2 ^ 15 → eqb now r .seen ≡ true
+      push-back : r .own < 2 ^ 15 → eqb now (r .seen) ≡ true
           → M.aimed (anchorSeen (r .seen)) (eqb (r .side) 1) (r .own) (M.pushing (eqb (r .side) 1)) ≡ anchorSeen (new4 (at 4 0))
       unfolding new4 sideOf
       push-back h e = split (eqb (r .side) 1)
           (λ g. rw g (sym (anchor-back (a .tag) 1 (a .left) (r .own) (room (eqb-true _ _ e)) (omega arith) (omega arith) h)))
           (λ g. rw g (sym (anchor-back (a .tag) 2 (r .own) (a .right) (room (eqb-true _ _ e)) (omega arith) h (omega arith))))
 
-      pop-back : r .neighbour < 2 ^ 15 → eqb now r .seen ≡ true
+      pop-back : r .neighbour < 2 ^ 15 → eqb now (r .seen) ≡ true
           → M.aimed (anchorSeen (r .seen)) (eqb (r .side) 1) (r .neighbour) (statusOf (a .status)) ≡ anchorSeen (new4 (at 4 1))
       unfolding new4 sideOf
       pop-back h e = split (eqb (r .side) 1)

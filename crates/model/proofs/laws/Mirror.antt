@@ -31,26 +31,25 @@ use Rattle.model.proofs.laws.Mirror.Sound.{rows-fit-mirror, start-refus
 use Rattle.model.proofs.laws.Mirror.Steps.{decide-mirror, step-mirror}
 
 -- A start or step of one record.
-starts : (q : Tables) (r : TaskRecord) (call : Record) → Acted
-starts q r call = record { tables = q; task = withCall r call; outcome = Moved (Running (call .place)) }
+abbrev starts : Tables → TaskRecord → ℕ → Record → Acted
+starts q r first call = record { tables = q; task = withCall r call; outcome = Moved (Running first) }
 
 -- A start that is carried out leaves the mirror, where its call is the mirror.
-start-mirror : (q t : Tables) (p : Lent) (r : TaskRecord) (side : ℕ) (a : Asked) (call mirrored : Record) → mirrored ≡ mirrorRecord call
+start-mirror : (q t : Tables) (p : Lent) (r : TaskRecord) (side first : ℕ) (a : Asked) (call mirrored : Record) → mirrored ≡ mirrorRecord call
     → decide (startRefusal (mirrorControl (q .control)) (fits (mirrorTables q)) p (mirrorRecord (r .call)) (mirrorSide side) a)
-    (mirrorTables q) (mirrorTask r) (starts (mirrorTables t) r mirrored)
-    ≡ mirrorActed (decide (startRefusal (q .control) (fits q) p (r .call) side a) q r (starts t r call))
-unfolding starts
-start-mirror q t p r side a call mirrored e =
-    ap (λ (why : ℕ). decide why (mirrorTables q) (mirrorTask r) (starts (mirrorTables t) r mirrored)) (start-refusal-mirror q p (r .call) side a)
-    ∙ decide-mirror (startRefusal (q .control) (fits q) p (r .call) side a) q r (starts t r call) (starts (mirrorTables t) r mirrored)
-    (λ _. ap (starts (mirrorTables t) r) e)
+    (mirrorTables q) (mirrorTask r) (starts (mirrorTables t) r first mirrored)
+    ≡ mirrorActed (decide (startRefusal (q .control) (fits q) p (r .call) side a) q r (starts t r first call))
+start-mirror q t p r side first a call mirrored e =
+    let done = starts (mirrorTables t) r first in
+    ap (λ (why : ℕ). decide why (mirrorTables q) (mirrorTask r) (done mirrored)) (start-refusal-mirror q p (r .call) side a)
+    ∙ decide-mirror (startRefusal (q .control) (fits q) p (r .call) side a) q r (starts t r first call) (done mirrored) (λ _. ap done e)
 
 act-on-mirror : (q : Tables) (p : Lent) (r : TaskRecord) (o : Op) → actOn (mirrorTables q) p (mirrorTask r) (mirrorOp o) ≡ mirrorActed (actOn q p r o)
-unfolding actOn pushStart putStart popStart starts mirrorRecord mirrorWord mirrorStatus
+unfolding actOn pushStart putStart popStart mirrorRecord mirrorWord mirrorStatus
 act-on-mirror q p r (Push side slot label) =
-    start-mirror q (taken q slot label) p r side (namedPush q slot) (started 0 side slot label) (started 0 (mirrorSide side) slot label) refl
-act-on-mirror q p r (Pop side) = start-mirror q q p r side nothingAsked (started 1 side 0 0) (started 1 (mirrorSide side) 0 0) refl
-act-on-mirror q p r (Put side label) = start-mirror q q p r side (pooledPush q) (asking side label) (asking (mirrorSide side) label) refl
+    start-mirror q (taken q slot label) p r side 1 (namedPush q slot) (started 0 side slot label) (started 0 (mirrorSide side) slot label) refl
+act-on-mirror q p r (Pop side) = start-mirror q q p r side 1 nothingAsked (started 1 side 0 0) (started 1 (mirrorSide side) 0 0) refl
+act-on-mirror q p r (Put side label) = start-mirror q q p r side 12 (pooledPush q) (asking side label) (asking (mirrorSide side) label) refl
 act-on-mirror q p r Step = step-mirror q p r
 
 pub lent-mirror : (q : Tables) (r : TaskRecord) → stepLent (mirrorTables q) (mirrorTask r) ≡ mirrorActed (stepLent q r)
