@@ -14,7 +14,7 @@ use Rattle.model.specs.Ends.{endsCall}
 use Rattle.model.specs.Sound.{recordSound}
 use Rattle.table.specs.declared.Acted.{Acted as Moved}
 use Rattle.table.specs.Lent.{withTables}
-use Rattle.sound.specs.Parts.{idle-sound}
+use Rattle.sound.specs.Records.{idle-sound}
 use Rattle.places.specs.Arm.{stepAt}
 use Rattle.engine.specs.Parts.{recordRefusal, moveOn}
 use Rattle.engine.specs.Stored.{controlAfter, recordAfter, anchorAfter, callAfter}

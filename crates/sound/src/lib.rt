@@ -9,7 +9,7 @@ ghost use Prim.Native.Nat.{_<_, _≤_};
 ghost use Rattle.word.specs.Anchor.{anchorOf};
 ghost use Rattle.model.specs.Sound.{from1, anchorSound, linkSound, controlSound, recordSound};
 ghost use Rattle.sound.specs.Lengths.{lengthsFit};
-ghost use Rattle.sound.specs.Parts.{callSound, readsSound, earlyCall, earlySeen};
+ghost use Rattle.sound.specs.Records.{callSound, readsSound, earlyCall, earlySeen};
 
 /// Whether x is 1 to n.
 pub fn from1(n: u64, x: u64) -> bool
