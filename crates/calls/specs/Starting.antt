@@ -6,7 +6,7 @@ use Rattle.model.specs.declared.Control.{Control}
 use Rattle.model.specs.declared.Record.{Record}
 use Rattle.model.specs.declared.Answer.the-variants.{Running}
 use Rattle.model.specs.declared.Outcome.the-variants.{Refused, Moved}
-use Rattle.table.specs.declared.Acted.{Acted}
+use Rattle.model.specs.declared.Transition.{Transition}
 
 abbrev pub begun : ℕ → ℕ → ℕ → ℕ → ℕ → Record
 begun place kind side own label = record {
@@ -22,7 +22,7 @@ begun place kind side own label = record {
 }
 
 -- Refused: the number alone. Accepted: the record at its first place.
-abbrev pub decided : Control → Record → ℕ → Record → Acted
+abbrev pub decided : Control → Record → ℕ → Record → Transition
 decided c r why task =
     cond (eqb why 0) (record { control = c; task = task; outcome = Moved (Running (task .place)); failed = false })
     (record { control = c; task = r; outcome = Refused why; failed = false })

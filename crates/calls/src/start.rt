@@ -4,7 +4,7 @@ use model::Answer;
 use model::Control;
 use model::Outcome;
 use model::Record;
-use table::Acted;
+use model::Transition;
 ghost use mathlib.Core.Path.{_≡_};
 ghost use Prim.Native.Nat.{ℕ};
 ghost use lib.Dec.{ltb, leb};
@@ -31,19 +31,19 @@ fn begun(place: u64, kind: u64, side: u64, own: u64, label: u32) -> Record
 }
 
 /// A start that writes nothing but its record.
-fn decided(c: Control, r: Record, why: u32, task: Record) -> Acted
+fn decided(c: Control, r: Record, why: u32, task: Record) -> Transition
     ensures { λ m. ⌜ m ≡ decided c r why task ⌝ }
 {
     if why == 0 {
         let answer = Answer::Running(task.place);
-        Acted {
+        Transition {
             control: c,
             task,
             outcome: Outcome::Moved(answer),
             failed: false,
         }
     } else {
-        Acted {
+        Transition {
             control: c,
             task: r,
             outcome: Outcome::Refused(why),
@@ -63,7 +63,7 @@ pub fn pop_start(
     labels: &[u32],
     marks: &[u64],
     next: &[u64],
-) -> Acted
+) -> Transition
     ensures { λ m.
         ⌜ ((retries : ℕ) → withTables m (now (lefts .entry)) (now (rights .entry)) (now (labels .entry)) (now (marks .entry)) (now (next .entry)) retries
         ≡ popStart
@@ -102,7 +102,7 @@ pub fn put_start(
     labels: &[u32],
     marks: &[u64],
     next: &[u64],
-) -> Acted
+) -> Transition
     ensures { λ m.
         ⌜ ((retries : ℕ) → withTables m (now (lefts .entry)) (now (rights .entry)) (now (labels .entry)) (now (marks .entry)) (now (next .entry)) retries
         ≡ putStart
@@ -141,7 +141,7 @@ pub fn push_start(
     labels: &mut [u32],
     marks: &mut [u64],
     next: &[u64],
-) -> Acted
+) -> Transition
     ensures { λ m.
         ⌜ ((retries : ℕ) → withTables m (now (lefts .entry)) (now (rights .entry)) (now (labels .exit)) (now (marks .exit)) (now (next .entry)) retries
         ≡ pushStart

@@ -23,7 +23,7 @@ use Rattle.model.specs.Report.{report, retryCounts, tell}
 use Rattle.model.specs.Route.{counted}
 use Rattle.model.specs.Calls.{Acted, Done, OpenDone, opened as openedQueue, openAs, pushStart, putStart, popStart, back, act, actOn, openingCode, replyOf}
 use Rattle.model.proofs.tests.Truth.{split, not-both}
-use Rattle.table.specs.declared.Acted.{Acted as Moved}
+use Rattle.model.specs.declared.Transition.{Transition}
 use Rattle.table.specs.Lent.{withTables}
 use Rattle.sound.specs.Lengths.{lengthsFit}
 use Rattle.model.specs.Ends.{endsCall, isMoved}
@@ -114,7 +114,7 @@ module _ (ws : List ℕ) (rows : List (List ℕ)) (lefts rights labels marks nex
     kept false r x y _ h = h
 
     module _ (o : Op) (starts : (p : Lent) (r : TaskRecord) → Starts r (actOn entry p r o)) (rows′ : List (List ℕ)) (labels′ marks′ : List ℕ) where
-      abbrev leaving : Moved → Control → Replied
+      abbrev leaving : Transition → Control → Replied
       leaving m c = record {
         queue = queueOf c (set (recordsOf rows) task
             (record { call = m .task; retries = counted (r₀ .retries) (m .failed) })) lefts rights labels′ marks′ next;
@@ -122,7 +122,7 @@ module _ (ws : List ℕ) (rows : List (List ℕ)) (lefts rights labels marks nex
         reply = replyOf (m .outcome);
       }
 
-      pub started : (c : Control) (n : ℕ) (r : Record) (m : Moved) (u : Reply) → c ≡ controlOf ws → n ≡ length rows → r ≡ r₀ .call
+      pub started : (c : Control) (n : ℕ) (r : Record) (m : Transition) (u : Reply) → c ≡ controlOf ws → n ≡ length rows → r ≡ r₀ .call
           → ((k : ℕ) → withTables m lefts rights labels′ marks′ next k
           ≡ actOn (tablesOf c lefts rights labels marks next) (lent ws rows lefts rights labels marks next task c n) (record {
             call = r;

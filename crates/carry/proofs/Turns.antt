@@ -16,7 +16,7 @@ use Rattle.model.specs.Refusals.{Lent, among, openRefusal}
 use Rattle.model.specs.Calls.{Acted, OpenDone, act, actOn, openAs}
 use Rattle.model.specs.Calls as calls
 use Rattle.model.specs.History.{run, final}
-use Rattle.table.specs.declared.Acted.{Acted as Moved}
+use Rattle.model.specs.declared.Transition.{Transition}
 use Rattle.table.specs.Lent.{withTables}
 use Rattle.rows.specs.Rows.{recordsOf}
 use Rattle.rows.proofs.Rows.{length-records}
@@ -44,7 +44,7 @@ answered-one p task op = rw append-nil
 
 -- The same for the code's values: r is the task's record, n the number of rows, m what was done, x the page afterwards.
 module _ (s : RunState) (out : List ℕ) (rows : List (List ℕ)) (ls rs bs ms ns ls′ rs′ bs′ ms′ ns′ : List ℕ) (n task : ℕ) (op : Op)
-    (r : Record) (m : Moved) (x : Page) where
+    (r : Record) (m : Transition) (x : Page) where
   abbrev before : Page
   before = pageOf s out rows ls rs bs ms ns
 

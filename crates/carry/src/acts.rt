@@ -4,7 +4,7 @@ use calls::opening;
 use lines::Line;
 use model::Op;
 use model::Opening;
-use table::Acted;
+use model::Transition;
 ghost use mathlib.Core.Path.{_≡_};
 ghost use mathlib.Core.List.{List, [], _∷_};
 ghost use Prim.Native.Nat.{ℕ, _+_, _*_, _-_, _≤_};
@@ -19,7 +19,7 @@ ghost use Rattle.carry.specs.Page.{pageOf, answered, operates, opens};
 // An operation that was done: its record stored, its line written.
 fn answer(
     s: RunState,
-    m: Acted,
+    m: Transition,
     task: usize,
     op: Op,
     out: &mut [u8],

@@ -3,7 +3,7 @@
 use model::Control;
 use model::Outcome;
 use model::TaskRecord;
-use table::Acted;
+use model::Transition;
 ghost use mathlib.Core.Path.{_≡_};
 ghost use Rattle.model.specs.declared.Op.the-variants.{Step};
 ghost use Rattle.model.specs.Tables.{tablesOf, queueOf};
@@ -20,7 +20,7 @@ struct Stepped {
 }
 
 /// The same of a step by value: a failed change is counted in the record.
-fn counting(t: TaskRecord, m: Acted) -> Stepped
+fn counting(t: TaskRecord, m: Transition) -> Stepped
     ensures { λ s.
         ⌜ s
         ≡ record { control = m .control; task = record { call = m .task; retries = counted (t .retries) (m .failed) }; outcome = m .outcome } ⌝ }

@@ -13,7 +13,7 @@ use Rattle.model.specs.Route.{counted}
 use Rattle.model.specs.Refusals.{Lent}
 use Rattle.model.specs.Calls.{Acted, step}
 use Rattle.model.proofs.tests.Truth.{split, not-both}
-use Rattle.table.specs.declared.Acted.{Acted as Moved}
+use Rattle.model.specs.declared.Transition.{Transition}
 use Rattle.model.specs.Ends.{endsCall, isMoved}
 use Rattle.engine.specs.Parts.{moveOn}
 use Rattle.engine.specs.Stored.{controlMoved, recordMoved, controlAfter, recordAfter, anchorMoved, callMoved, anchorAfter, callAfter}
@@ -25,7 +25,7 @@ refused-goes (outcome.Refused n) h = refl
 refused-goes (outcome.Moved a) h = absurd (not-both (sym h) refl)
 
 -- By the outcome: what is stored.
-module _ (c : Control) (r : TaskRecord) (m : Moved) where
+module _ (c : Control) (r : TaskRecord) (m : Transition) where
   -- The record with another call, and its failed change counted.
   abbrev pub goneOn : Record → TaskRecord
   goneOn t = record { call = t; retries = counted (r .retries) (m .failed) }
@@ -118,7 +118,7 @@ same-call r old e1 e2 = ap (λ (n : ℕ). of n (old .label)) (sym e1) ∙ ap (of
       finishing = r .finishing;
     }
 
-module _ (q : Tables) (r : TaskRecord) (m : Moved) (lefts rights labels marks next : List ℕ) where
+module _ (q : Tables) (r : TaskRecord) (m : Transition) (lefts rights labels marks next : List ℕ) where
   abbrev pub leaves : Control → TaskRecord → Acted
   leaves c t = record { tables = tablesOf c lefts rights labels marks next; task = t; outcome = m .outcome }
 

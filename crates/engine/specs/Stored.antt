@@ -5,7 +5,7 @@ use Rattle.model.specs.declared.Record.{Record}
 use Rattle.model.specs.declared.TaskRecord.{TaskRecord}
 use Rattle.model.specs.Tables.{idle}
 use Rattle.model.specs.Route.{counted}
-use Rattle.table.specs.declared.Acted.{Acted}
+use Rattle.model.specs.declared.Transition.{Transition}
 use Rattle.model.specs.Ends.{endsCall, isMoved}
 
 -- A control that takes Anchor and head of another.
@@ -56,19 +56,19 @@ callMoved old r = record {
 }
 
 -- Nothing where the step was refused; a call all zero where it ended. A failed change is counted.
-unfoldable pub controlAfter : Control → Acted → Control
+unfoldable pub controlAfter : Control → Transition → Control
 controlAfter c m = cond (isMoved (m .outcome)) (controlMoved c (m .control)) c
 
-unfoldable pub recordAfter : TaskRecord → Acted → TaskRecord
+unfoldable pub recordAfter : TaskRecord → Transition → TaskRecord
 recordAfter r m =
     let call : Record = cond (endsCall (m .outcome)) idle (recordMoved (r .call) (m .task)) in
     cond (isMoved (m .outcome)) (record { call = call; retries = counted (r .retries) (m .failed) }) r
 
 -- The same at places 1 to 10.
-unfoldable pub anchorAfter : Control → Acted → Control
+unfoldable pub anchorAfter : Control → Transition → Control
 anchorAfter c m = cond (isMoved (m .outcome)) (anchorMoved c (m .control)) c
 
-unfoldable pub callAfter : TaskRecord → Acted → TaskRecord
+unfoldable pub callAfter : TaskRecord → Transition → TaskRecord
 callAfter r m =
     let call : Record = cond (endsCall (m .outcome)) idle (callMoved (r .call) (m .task)) in
     cond (isMoved (m .outcome)) (record { call = call; retries = counted (r .retries) (m .failed) }) r

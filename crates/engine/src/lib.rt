@@ -3,83 +3,18 @@ use model::Answer;
 use model::Control;
 use model::Outcome;
 use model::Record;
-use table::Acted;
+use model::Transition;
+use sound::admission;
 ghost use mathlib.Core.Path.{_≡_};
 ghost use mathlib.Core.Bool.{false};
 ghost use Prim.Native.Nat.{ℕ};
 ghost use lib.Dec.{leb, ltb};
 ghost use Rattle.model.specs.Calls.{step, stepLent};
-ghost use Rattle.model.specs.Refusals.{alone};
-ghost use Rattle.model.specs.Tables.{isPooled, tablesOf};
+ghost use Rattle.model.specs.Refusals.{recordRefusal};
+ghost use Rattle.model.specs.Tables.{tablesOf};
 ghost use Rattle.table.specs.Lent.{withTables};
-ghost use Rattle.sound.specs.Lengths.{lengthsFit};
-ghost use Rattle.engine.specs.Parts.{admission, recordRefusal, moveOn};
+ghost use Rattle.engine.specs.MoveOn.{moveOn};
 ghost use Rattle.model.specs.Ends.{answerEnds, endsCall, isMoved, isRunning};
-
-/// Why a step is refused whatever its record holds, or 0: document 01's order. The tables are given
-/// by their lengths.
-fn admission(
-    c: Control,
-    enough: bool,
-    known: bool,
-    lefts: usize,
-    rights: usize,
-    labels: usize,
-    marks: usize,
-    next: usize,
-) -> u32
-    ensures { λ why.
-        ⌜ why
-        ≡ admission c (lengthsFit (isPooled c) (c .slots) lefts rights labels marks next) (record { enough = enough; known = known }) ⌝ }
-{
-    if !sound::control_sound(c) {
-        return 34;
-    }
-    let pooled = c.pooled == 1;
-    if !sound::rows_fit(pooled, c.slots, lefts, rights, labels, marks, next) {
-        return 12;
-    }
-    if !enough {
-        return 12;
-    }
-    if known { 0 } else { 13 }
-}
-
-/// The same for task `task` among `records` lent records.
-pub fn admit(
-    c: Control,
-    records: usize,
-    task: usize,
-    lefts: usize,
-    rights: usize,
-    labels: usize,
-    marks: usize,
-    next: usize,
-) -> u32
-    ensures { λ why.
-        ⌜ why
-        ≡ admission c (lengthsFit (isPooled c) (c .slots) lefts rights labels marks next)
-        (record { enough = leb (c .tasks) records; known = ltb task (c .tasks) }) ⌝ }
-{
-    let enough = c.tasks <= records as u64;
-    let known = (task as u64) < c.tasks;
-    admission(c, enough, known, lefts, rights, labels, marks, next)
-}
-
-/// The same for a record lent alone: none is wanting, and the task is known by it.
-pub fn admit_alone(
-    c: Control,
-    lefts: usize,
-    rights: usize,
-    labels: usize,
-    marks: usize,
-    next: usize,
-) -> u32
-    ensures { λ why. ⌜ why ≡ admission c (lengthsFit (isPooled c) (c .slots) lefts rights labels marks next) alone ⌝ }
-{
-    let lent = true;
-    admission(c, lent, lent, lefts, rights, labels, marks, next)
-}
 
 /// Why an admitted step is refused before its place is looked at, or 0. An idle record is sound
 /// whatever it holds.
@@ -99,10 +34,10 @@ fn refusal(pooled: bool, slots: u64, r: Record) -> u32
 }
 
 /// A refusal is its number alone.
-fn refused(c: Control, r: Record, why: u32) -> Acted
+fn refused(c: Control, r: Record, why: u32) -> Transition
     ensures { λ m. ⌜ m ≡ record { control = c; task = r; outcome = Outcome.Refused why; failed = false } ⌝ }
 {
-    Acted {
+    Transition {
         control: c,
         task: r,
         outcome: Outcome::Refused(why),
@@ -121,14 +56,14 @@ pub fn step(
     labels: &mut [u32],
     marks: &mut [u64],
     next: &mut [u64],
-) -> Acted
+) -> Transition
     ensures { λ m.
         ⌜ ((retries : ℕ) → withTables m (now (lefts .exit)) (now (rights .exit)) (now (labels .exit)) (now (marks .exit)) (now (next .exit)) retries
         ≡ step (tablesOf c (now (lefts .entry)) (now (rights .entry)) (now (labels .entry)) (now (marks .entry)) (now (next .entry)))
         (record { enough = leb (c .tasks) records; known = ltb task (c .tasks) })
         (record { call = r; retries = retries })) ⌝ }
 {
-    let why = admit(
+    let why = admission::admit(
         c,
         records,
         task,
@@ -153,13 +88,13 @@ pub fn step_alone(
     labels: &mut [u32],
     marks: &mut [u64],
     next: &mut [u64],
-) -> Acted
+) -> Transition
     ensures { λ m.
         ⌜ ((retries : ℕ) → withTables m (now (lefts .exit)) (now (rights .exit)) (now (labels .exit)) (now (marks .exit)) (now (next .exit)) retries
         ≡ stepLent (tablesOf c (now (lefts .entry)) (now (rights .entry)) (now (labels .entry)) (now (marks .entry)) (now (next .entry)))
         (record { call = r; retries = retries })) ⌝ }
 {
-    let why = admit_alone(
+    let why = admission::admit_alone(
         c,
         lefts.len(),
         rights.len(),
@@ -182,7 +117,7 @@ pub fn move_on(
     labels: &mut [u32],
     marks: &mut [u64],
     next: &mut [u64],
-) -> Acted
+) -> Transition
     ensures { λ m.
         ⌜ ((retries : ℕ) → withTables m (now (lefts .exit)) (now (rights .exit)) (now (labels .exit)) (now (marks .exit)) (now (next .exit)) retries
         ≡ moveOn (tablesOf c (now (lefts .entry)) (now (rights .entry)) (now (labels .entry)) (now (marks .entry)) (now (next .entry)))

@@ -8,6 +8,7 @@ use Rattle.word.specs.Anchor.{anchorOf}
 use Rattle.word.specs.Link.{linkOf}
 use Rattle.model.specs.declared.Control.{Control}
 use Rattle.model.specs.declared.Record.{Record}
+use Rattle.model.specs.declared.Asked.{Asked}
 use Rattle.model.specs.Tables.{Tables, Queue, isPooled, marked}
 use Rattle.model.specs.Sound.{every, from1, anchorSound, linkSound, controlSound, recordSound, rowsFit}
 use Rattle.model.specs.Walk.{contents, isBroken}
@@ -34,13 +35,13 @@ malformed = 16
 abbrev pub recordsFit : ℕ → Queue → Bool
 recordsFit tasks q = leb tasks (length (q .records))
 
--- When opening, a pooled queue or a named one: 10, 11, 12.
+-- When opening: 10, 11, 12. Fit: every table is long enough.
+abbrev pub openingRules : ℕ → ℕ → Bool → List Rule
+openingRules tasks slots fit = rule 10 (not (from1 16 tasks)) ∷ rule 11 (not (from1 1023 slots)) ∷ rule 12 (not fit) ∷ []
+
+-- A pooled queue, or a named one.
 abbrev pub openRules : Bool → Queue → ℕ → ℕ → List Rule
-openRules pooled q tasks slots =
-    rule 10 (not (from1 16 tasks))
-    ∷ rule 11 (not (from1 1023 slots))
-    ∷ rule 12 (not (rowsFit pooled slots (q .tables) && recordsFit tasks q))
-    ∷ []
+openRules pooled q tasks slots = openingRules tasks slots (rowsFit pooled slots (q .tables) && recordsFit tasks q)
 
 unfoldable pub openRefusal : Bool → Queue → ℕ → ℕ → ℕ
 openRefusal pooled q tasks slots = first (openRules pooled q tasks slots)
@@ -65,7 +66,7 @@ isBusy r = not (eqb (r .place) 0)
 abbrev pub late : Control → Bool
 late c = ltb 4294967262 (anchorOf (c .anchor) .tag)
 
--- What is looked at first in every call: 34 for control and Anchor, 12. Fit: the rows are long enough; enough: there are as many records as tasks.
+-- What is looked at first in every call: 34 for control and Anchor, 12. Fit: the tables are long enough.
 abbrev pub tableRules : Control → Bool → List Rule
 tableRules c fit = rule 34 (not (controlSound c)) ∷ rule 12 (not fit) ∷ []
 
@@ -73,16 +74,13 @@ tableRules c fit = rule 34 (not (controlSound c)) ∷ rule 12 (not fit) ∷ []
 abbrev pub admissionRules : Control → Bool → Lent → List Rule
 admissionRules c fit p = tableRules c (fit && p .enough) ++ (rule 13 (not (p .known)) ∷ [])
 
+unfoldable pub admission : Control → Bool → Lent → ℕ
+admission c fit p = first (admissionRules c fit p)
+
 abbrev pub fits : Tables → Bool
 fits q = rowsFit (isPooled (q .control)) (q .control .slots) q
 
--- What a push alone is asked, 41, 15 and 32: it names a slot in a pooled queue, or none in a named one; a slot outside 1 to slots; a marked one.
-pub record Asked : Type 0 where
-  pub wrong : Bool
-  pub outside : Bool
-  pub taken : Bool
-
--- A start's rules in the document's order.
+-- A start's rules in the document's order; 41, 15 and 32 are what a push alone is asked (`Asked`).
 abbrev pub startRules : Control → Bool → Lent → Record → ℕ → Asked → List Rule
 startRules c fit p r side a =
     admissionRules c fit p
@@ -165,6 +163,9 @@ stepSound c r w = every (stepTests c r w)
 -- A step's: 34 and 31 for the record, then 34 for what it touches.
 abbrev pub recordRules : Bool → ℕ → Record → List Rule
 recordRules pooled slots r = rule 34 (not (recordSound pooled slots r)) ∷ rule 31 (eqb (r .place) 0) ∷ []
+
+unfoldable pub recordRefusal : Bool → ℕ → Record → ℕ
+recordRefusal pooled slots r = first (recordRules pooled slots r)
 
 abbrev pub stepRules : Tables → Lent → Record → List Rule
 stepRules q p r =

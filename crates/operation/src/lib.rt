@@ -6,7 +6,7 @@ use model::Op;
 use model::Outcome;
 use model::Record;
 use model::Reply;
-use table::Acted;
+use model::Transition;
 ghost use mathlib.Core.Path.{_≡_};
 ghost use Prim.Native.Nat.{ℕ};
 ghost use lib.Dec.{leb, ltb};
@@ -44,7 +44,7 @@ pub fn act(
     labels: &mut [u32],
     marks: &mut [u64],
     next: &mut [u64],
-) -> Acted
+) -> Transition
     ensures { λ m.
         ⌜ ((retries : ℕ) → withTables m (now (lefts .exit)) (now (rights .exit)) (now (labels .exit)) (now (marks .exit)) (now (next .exit)) retries
         ≡ calls.actOn

@@ -15,17 +15,17 @@ use Rattle.model.specs.Refusals.{needsRow, meetsLink, meetsHead, stepSound}
 use Rattle.model.specs.Route.{route, pushRoute, popRoute, goes, counted}
 use Rattle.model.specs.Calls.{entryOf, finish}
 use Rattle.model.proofs.laws.Onward.{reads-on}
-use Rattle.table.specs.declared.Acted as made
+use Rattle.model.specs.declared.Transition.{Transition}
 use Rattle.table.specs.Lent.{withTables}
 use Rattle.places.specs.Arm.{stepAt, Steps, StepsOnAnchor}
 use Rattle.places.specs.Ending.{refused, settled, noEntry, failing, withFailed, withAnchor, anchorRead, mayChange, remembered, compared, changed}
 use Rattle.places.proofs.Routes.{split, kinds, readings, Quiet, quietly}
 
 -- The step at place n tries to change Anchor: the change fails, is denied or is made.
-pub record Tries (n : ℕ) (c : Control) (r : Record) (new : ℕ) (t : Record) (done : ℕ) (failed : made.Acted) : Type 0 where
+pub record Tries (n : ℕ) (c : Control) (r : Record) (new : ℕ) (t : Record) (done : ℕ) (failed : Transition) : Type 0 where
   pub steps : Steps n c r (changed c r new t done failed)
 
-module _ {n : ℕ} {c : Control} {r : Record} {new : ℕ} {t : Record} {done : ℕ} {failed : made.Acted} (tried : Tries n c r new t done failed) where
+module _ {n : ℕ} {c : Control} {r : Record} {new : ℕ} {t : Record} {done : ℕ} {failed : Transition} (tried : Tries n c r new t done failed) where
   pub fails : (c .anchor ≡ r .seen → ⊥) → Steps n c r failed
   unfolding changed
   fails h = rw (ne-eqb _ _ h) at (tried .steps)

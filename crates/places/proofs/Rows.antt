@@ -15,7 +15,7 @@ use Rattle.model.specs.Places.{row, sideOf, linkSide, at3, at5, at7, at9, at11,
 use Rattle.model.specs.Refusals.{stepSound}
 use Rattle.model.specs.Route.{route, pushRoute, popRoute, goes, counted}
 use Rattle.model.specs.Calls.{Acted, finish}
-use Rattle.table.specs.declared.Acted as made
+use Rattle.model.specs.declared.Transition.{Transition}
 use Rattle.table.specs.Lent.{withTables}
 use Rattle.places.specs.Arm.{stepAt}
 use Rattle.places.specs.Ending.{refused, settled, noEntry, failing, rowSound, neighbourRead, linkRead}
@@ -42,14 +42,14 @@ module _ (c : Control) (r : Record) where
   named = eqb (anchorOf (r .seen) .status) 1
 
   module _ (ls rs ns ms xs : List ℕ) (k : ℕ) where
-    abbrev lent : made.Acted → Acted
+    abbrev lent : Transition → Acted
     lent m = withTables m ls rs ns ms xs k
 
     abbrev q : Tables
     q = tablesOf c ls rs ns ms xs
 
     -- Slot x's link word stored at a side.
-    abbrev pub linked : made.Acted → Bool → ℕ → ℕ → Acted
+    abbrev pub linked : Transition → Bool → ℕ → ℕ → Acted
     linked m right x w = withTables m (cond right ls (set ls x w)) (cond right (set rs x w) rs) ns ms xs k
 
     pub push3 :

@@ -14,14 +14,14 @@ use Rattle.model.specs.Places.{row, at12, at13, at14, at15, at16, at17, move}
 use Rattle.model.specs.Refusals.{stepSound}
 use Rattle.model.specs.Route.{route, pushRoute, popRoute, goes, counted}
 use Rattle.model.specs.Calls.{Acted, entryOf, finish}
-use Rattle.table.specs.declared.Acted as made
+use Rattle.model.specs.declared.Transition.{Transition}
 use Rattle.table.specs.Lent.{withTables}
 use Rattle.places.specs.Arm.{stepAt}
 use Rattle.places.specs.Ending.{refused, settled, noEntry, failing, withHead, headRead}
 use Rattle.places.proofs.Routes.{split, kinds, Quiet, quietly}
 
 module _ (c : Control) (r : Record) (ls rs ns ms xs : List ℕ) (k : ℕ) where
-  abbrev lent : made.Acted → Acted
+  abbrev lent : Transition → Acted
   lent m = withTables m ls rs ns ms xs k
 
   abbrev q : Tables
@@ -57,7 +57,7 @@ module _ (c : Control) (r : Record) (ls rs ns ms xs : List ℕ) (k : ℕ) where
       (λ l. simp l)
 
   -- The tables once slot `top` is drawn.
-  abbrev pub drawn : made.Acted → Acted
+  abbrev pub drawn : Transition → Acted
   drawn m = withTables m ls rs (set ns top (r .label)) (withMark ms top 1) xs k
 
   pub step14 :

@@ -5,7 +5,7 @@ pub mod moving;
 use model::Control;
 use model::Outcome;
 use model::Record;
-use table::Acted;
+use model::Transition;
 ghost use mathlib.Core.Path.{_≡_};
 ghost use mathlib.Core.Bool.{cond};
 ghost use Prim.Native.Nat.{_/_, _%_, _^_, _≤_};
@@ -175,7 +175,7 @@ pub fn put_call(rows: &mut [[u64; RECORD_WORDS]], task: usize, r: Record)
 
 /// What a start or step leaves of its task's record, where there is such a task: its call, and its
 /// failed change counted.
-pub fn put_acted(rows: &mut [[u64; RECORD_WORDS]], task: usize, m: Acted)
+pub fn put_acted(rows: &mut [[u64; RECORD_WORDS]], task: usize, m: Transition)
     ensures { λ _. ⌜ recordsOf (now (rows .exit)) ≡ withActedAt (recordsOf (now (rows .entry))) task m ⌝ }
     ensures { λ _. ⌜ uppersOf (now (rows .exit)) ≡ set (uppersOf (now (rows .entry))) task 0 ⌝ }
 {
@@ -189,7 +189,7 @@ pub fn put_acted(rows: &mut [[u64; RECORD_WORDS]], task: usize, m: Acted)
 }
 
 /// What a start wrote of its record, stored: nothing if it was refused.
-pub fn store_start(rows: &mut [[u64; RECORD_WORDS]], task: usize, m: Acted)
+pub fn store_start(rows: &mut [[u64; RECORD_WORDS]], task: usize, m: Transition)
     ensures { λ _.
         ⌜ recordsOf (now (rows .exit))
         ≡ cond (isMoved (m .outcome)) (withCallAt (recordsOf (now (rows .entry))) task (m .task)) (recordsOf (now (rows .entry))) ⌝ }
@@ -219,7 +219,7 @@ pub fn clear(rows: &mut [[u64; RECORD_WORDS]], n: usize)
 
 /// What a step may change, stored: nothing if it was refused, a row all zero but for the count if it
 /// ended the call.
-pub fn store(control: &mut [u64; CONTROL_WORDS], row: &mut [u64; RECORD_WORDS], m: Acted)
+pub fn store(control: &mut [u64; CONTROL_WORDS], row: &mut [u64; RECORD_WORDS], m: Transition)
     ensures { λ _. ⌜ controlOf (now (control .exit)) ≡ controlAfter (controlOf (now (control .entry))) m ⌝ }
     ensures { λ _. ⌜ recordOf (now (row .exit)) ≡ recordAfter (recordOf (now (row .entry))) m ⌝ }
     ensures { λ _. ⌜ upperOf (now (row .exit)) ≡ cond (endsCall (m .outcome)) 0 (upperOf (now (row .entry))) ⌝ }

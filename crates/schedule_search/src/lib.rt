@@ -1,7 +1,7 @@
 //! The search for a schedule: a step, what comes after it, and back.
 use model::Control;
 use model::Record;
-use table::Acted;
+use model::Transition;
 ghost use mathlib.Core.Path.{_≡_};
 ghost use mathlib.Core.Bool.{_&&_, not, cond, false};
 ghost use Prim.Native.Nat.{_≤_, _<_, _-_};
@@ -84,7 +84,7 @@ fn pick(t: u64, two: Two) -> Record
 }
 
 /// The two after a step of task t.
-fn after(t: u64, two: Two, m: Acted) -> Two
+fn after(t: u64, two: Two, m: Transition) -> Two
     ensures { λ n.
         ⌜ n ≡ record {
           control = m .control;

@@ -6,7 +6,8 @@ use Prim.Native.Nat.{_<_, _≤_, ℕ}
 use lib.ListN.{length}
 use borrow.Author.Tests.{eqb-false, eqb-true, leb-true, ltb-true, not-false}
 use Rattle.model.specs.Places.{wordFound}
-use Rattle.model.specs.Refusals.{Rule, Asked, among, fits, late, startRules, startRefusal, namedPush, pooledPush, nothingAsked}
+use Rattle.model.specs.declared.Asked.{Asked}
+use Rattle.model.specs.Refusals.{Rule, among, fits, late, startRules, startRefusal, namedPush, pooledPush, nothingAsked}
 use Rattle.model.specs.Refusals.{popRefusal, pushRefusal, putRefusal, stepRefusal}
 use Rattle.model.specs.History.{All}
 use Rattle.model.specs.Refusals.{stepRules, stepSound, stepTests}

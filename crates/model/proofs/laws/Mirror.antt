@@ -22,7 +22,8 @@ use Rattle.model.specs.declared.Opening.the-variants as opening
 use Rattle.model.specs.declared.Op.{Op}
 use Rattle.model.specs.declared.Op.the-variants.{Push, Pop, Put, Step}
 use Rattle.model.specs.Tables.{Tables, Queue, asking, started, taskAt, unused, withAnchor, withCall, zeroed, taken}
-use Rattle.model.specs.Refusals.{openRefusal, Lent, Asked, among, alone, fits, startRefusal, namedPush, pooledPush, nothingAsked}
+use Rattle.model.specs.declared.Asked.{Asked}
+use Rattle.model.specs.Refusals.{openRefusal, Lent, among, alone, fits, startRefusal, namedPush, pooledPush, nothingAsked}
 use Rattle.model.specs.Calls.{stacked, opened, OpenDone, openAs, Acted, decide, pushStart, putStart, popStart, actOn, back, act, stepLent}
 use Rattle.model.specs.Mirror.{mirrorSide, mirrorStatus, mirrorWord, mirrorControl, mirrorTables, mirrorRecord, mirrorTask, mirrorQueue, mirrorOp}
 use Rattle.model.specs.Mirror.{mirrorActed, mirrorOpened, mirrorDone}

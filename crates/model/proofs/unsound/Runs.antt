@@ -10,7 +10,9 @@ use borrow.Author.Tests.{eq-eqb, eqb-false, eqb-true, not-false}
 use Rattle.model.specs.Calls.{Acted, Done, act, actOn, back, finish, popStart, pushStart, putStart, step}
 use Rattle.model.specs.History.{Ledger, NeverUnsound, Request, final, run}
 use Rattle.model.specs.Places.{wordFound}
-use Rattle.model.specs.Refusals.{Asked, among, fits, late, namedPush, nothingAsked, pooledPush, popRefusal, pushRefusal, putRefusal, startRefusal, stepRefusal, stepSound}
+use Rattle.model.specs.declared.Asked.{Asked}
+use Rattle.model.specs.Refusals.{among, fits, late, namedPush, nothingAsked, pooledPush}
+use Rattle.model.specs.Refusals.{popRefusal, pushRefusal, putRefusal, startRefusal, stepRefusal, stepSound}
 use Rattle.model.specs.Sound.{controlSound, from1, recordSound, rowsFit}
 use Rattle.model.specs.Tables.{Queue, Tables, asking, isPooled, marked, recordAt, started, taskAt, unused}
 use Rattle.model.specs.declared.Answer.{Answer}

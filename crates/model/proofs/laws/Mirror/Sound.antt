@@ -12,7 +12,8 @@ use Rattle.model.specs.declared.Control.{Control}
 use Rattle.model.specs.declared.Record.{Record}
 use Rattle.model.specs.Tables.{Tables, isPooled}
 use Rattle.model.specs.Sound.{from1, anchorSound, controlSound, recordSound, rowsFit}
-use Rattle.model.specs.Refusals.{Lent, Asked, fits, startRefusal}
+use Rattle.model.specs.declared.Asked.{Asked}
+use Rattle.model.specs.Refusals.{Lent, fits, startRefusal}
 use Rattle.model.specs.Mirror.{mirrorSide, mirrorAnchor, mirrorWord, mirrorControl, mirrorTables, mirrorBusy, mirrorRecord}
 use Rattle.model.proofs.laws.Mirror.Words.{status-stable, status-range, mirror-fields}
 

@@ -1,6 +1,6 @@
 -- The contract of `admission` for a record that is there and known.
-use Rattle.engine.proofs.admit_alone.Statement.{statement}
-use Rattle.engine.proofs.admit_alone.Tie as tie
+use Rattle.sound.proofs.admission.admit_alone.Statement.{statement}
+use Rattle.sound.proofs.admission.admit_alone.Tie as tie
 
 returns : tie.Need-returns
 returns c = c .admission .ensures

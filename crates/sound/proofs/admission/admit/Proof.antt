@@ -1,6 +1,6 @@
 -- The contract of `admission` at the two tests made here.
-use Rattle.engine.proofs.admit.Statement.{statement}
-use Rattle.engine.proofs.admit.Tie as tie
+use Rattle.sound.proofs.admission.admit.Statement.{statement}
+use Rattle.sound.proofs.admission.admit.Tie as tie
 
 returns : tie.Need-returns
 returns c = c .admission .ensures
