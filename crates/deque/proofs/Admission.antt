@@ -31,7 +31,7 @@ use Rattle.model.specs.declared.Outcome.{Outcome}
 use Rattle.model.specs.declared.Outcome.the-variants.{Refused}
 use Rattle.model.specs.Tables.{isPooled}
 use Rattle.sound.specs.Lengths.{lengthsFit}
-use Rattle.engine.specs.Parts.{admission}
+use Rattle.model.specs.Refusals.{admission}
 use Rattle.deque.proofs.Walk.{control-value}
 use Rattle.deque.proofs.Engine.{Five}
 use Rattle.model.proofs.Control as K

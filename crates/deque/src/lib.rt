@@ -10,7 +10,7 @@ ghost use Rattle.model.specs.Tables.{tablesOf, queueOf};
 ghost use Rattle.model.specs.Calls as calls;
 ghost use Rattle.model.specs.Calls.{Done, act, stepLent};
 ghost use Rattle.model.specs.Route.{counted};
-ghost use Rattle.engine.specs.Parts.{moveOn};
+ghost use Rattle.engine.specs.MoveOn.{moveOn};
 
 /// What a step leaves of control and its task's record, and its outcome.
 struct Stepped {

@@ -1,6 +1,5 @@
 -- One touch at a time: how far the shared tables may differ after a step. (Document 01: "moved one touch at a time".)
 use mathlib.Core.Path.{_≡_}
-use mathlib.Core.List.{List}
 use Prim.Native.Nat.{ℕ}
 use lib.ListN.{set}
 use Rattle.model.specs.Tables.{Tables, withAnchor, withHead, linked, withMarks, withNext, taken}

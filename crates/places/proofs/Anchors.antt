@@ -18,7 +18,7 @@ use Rattle.model.proofs.laws.Onward.{reads-on}
 use Rattle.model.specs.declared.Transition.{Transition}
 use Rattle.table.specs.Lent.{withTables}
 use Rattle.places.specs.Arm.{stepAt, Steps, StepsOnAnchor}
-use Rattle.places.specs.Ending.{refused, settled, noEntry, failing, withFailed, withAnchor, anchorRead, mayChange, remembered, compared, changed}
+use Rattle.places.specs.Ending.{refused, settled, noEntry, failing, withFailed, anchored, anchorRead, mayChange, remembered, compared, changed}
 use Rattle.places.proofs.Routes.{split, kinds, readings, Quiet, quietly}
 
 -- The step at place n tries to change Anchor: the change fails, is denied or is made.
@@ -34,7 +34,7 @@ module _ {n : ℕ} {c : Control} {r : Record} {new : ℕ} {t : Record} {done : �
   unfolding changed mayChange
   denies h s = rw (eq-eqb _ _ h, s) at (tried .steps)
 
-  pub makes : c .anchor ≡ r .seen → mayChange (c .slots) (r .seen) new ≡ true → Steps n c r (settled (withAnchor c new) t done noEntry)
+  pub makes : c .anchor ≡ r .seen → mayChange (c .slots) (r .seen) new ≡ true → Steps n c r (settled (anchored c new) t done noEntry)
   unfolding changed mayChange
   makes h s = rw (eq-eqb _ _ h, s) at (tried .steps)
 
@@ -85,11 +85,11 @@ module _ (c : Control) (r : Record) where
         (λ h. rw (moves, p .needs, p .meets, p .heads, p .nexts, h) (ap (λ m. withTables m ls rs ns ms xs k) (quietly c r (leads 0) e first)))
         (λ h. rw (moves, p .needs, p .meets, p .heads, p .nexts, h) (ap (λ m. withTables m ls rs ns ms xs k) (quietly c r (leads 1) e second)))
 
-    -- A change of Anchor, places 2, 4 and 10: done, with the record t; failed, with the record u and the outcome o.
+    -- A change of Anchor, places 2, 4 and 10: done, with the record t; failed, with the record u and the branch o.
     abbrev trying : ℕ → Record → Record → ℕ → Move
     trying new t u o =
-        cond (eqb (c .anchor) (r .seen)) (record { touch = setAnchor new; task = atPlace t n; outcome = 0; failed = false })
-        (record { touch = nothing; task = atPlace u n; outcome = o; failed = true })
+        cond (eqb (c .anchor) (r .seen)) (record { touch = setAnchor new; task = atPlace t n; branch = 0; failed = false })
+        (record { touch = nothing; task = atPlace u n; branch = o; failed = true })
 
     changing :
         (new : ℕ) (t u : Record) (o : ℕ)
@@ -105,7 +105,7 @@ module _ (c : Control) (r : Record) where
           (λ h. split (anchorSound (c .slots) (anchorOf new))
           (λ s. split (ltb (anchorOf (r .seen) .tag) 4294967295)
           (λ l. rw (moves, p .needs, p .meets, p .heads, p .nexts, h, s, l)
-          (ap (λ m. withTables m ls rs ns ms xs k) (quietly (withAnchor c new) t (leads 0) e first)))
+          (ap (λ m. withTables m ls rs ns ms xs k) (quietly (anchored c new) t (leads 0) e first)))
           (λ l. rw (moves, p .needs, p .meets, p .heads, p .nexts, h, s, l)))
           (λ s. rw (moves, p .needs, p .meets, p .heads, p .nexts, h, s)))
           (λ h. rw (moves, p .needs, p .meets, p .heads, p .nexts, h) (ap (λ m. withTables (failing m) ls rs ns ms xs k) (quietly c u (leads o) e second)));

@@ -17,7 +17,7 @@ use Rattle.model.specs.Calls.{Acted, entryOf, finish}
 use Rattle.model.specs.declared.Transition.{Transition}
 use Rattle.table.specs.Lent.{withTables}
 use Rattle.places.specs.Arm.{stepAt}
-use Rattle.places.specs.Ending.{refused, settled, noEntry, failing, withHead, headRead}
+use Rattle.places.specs.Ending.{refused, settled, noEntry, failing, headed, headRead}
 use Rattle.places.proofs.Routes.{split, kinds, Quiet, quietly}
 
 module _ (c : Control) (r : Record) (ls rs ns ms xs : List ℕ) (k : ℕ) where
@@ -63,7 +63,7 @@ module _ (c : Control) (r : Record) (ls rs ns ms xs : List ℕ) (k : ℕ) where
   pub step14 :
       cond (eqb (c .head) (r .link))
       (cond (ltb (linkOf (r .link) .tag) 4294967295)
-      (drawn (settled (withHead c (raised (r .neighbour))) (withOwn r top (r .label)) (route 14 (r .kind) 0) noEntry))
+      (drawn (settled (headed c (raised (r .neighbour))) (withOwn r top (r .label)) (route 14 (r .kind) 0) noEntry))
       (lent (refused c r)))
       (lent (failing (settled c r (route 14 (r .kind) 1) noEntry)))
       ≡ stepAt 14 q r k
@@ -73,7 +73,7 @@ module _ (c : Control) (r : Record) (ls rs ns ms xs : List ℕ) (k : ℕ) where
       split (eqb (c .head) (r .link))
       (λ s. split (ltb (linkOf (r .link) .tag) 4294967295)
       (λ t. simp (s, t)
-      (ap drawn (quietly (withHead c (raised (r .neighbour))) (withOwn r top (r .label)) (route 14 (r .kind) 0) e (kinds Quiet 14 (r .kind) 0 refl refl))))
+      (ap drawn (quietly (headed c (raised (r .neighbour))) (withOwn r top (r .label)) (route 14 (r .kind) 0) e (kinds Quiet 14 (r .kind) 0 refl refl))))
       (λ t. simp (s, t)))
       (λ s. simp s (ap (λ m. lent (failing m)) (quietly c r (route 14 (r .kind) 1) e (kinds Quiet 14 (r .kind) 1 refl refl))))
 
@@ -96,7 +96,7 @@ module _ (c : Control) (r : Record) (ls rs ns ms xs : List ℕ) (k : ℕ) where
   pub step17 :
       cond (eqb (c .head) (r .link))
       (cond (ltb (linkOf (r .link) .tag) 4294967295)
-      (lent (settled (withHead c (raised (r .own))) r (route 17 (r .kind) 0) (record { slot = r .own; label = r .label })))
+      (lent (settled (headed c (raised (r .own))) r (route 17 (r .kind) 0) (record { slot = r .own; label = r .label })))
       (lent (refused c r)))
       (lent (failing (settled c r (route 17 (r .kind) 1) noEntry)))
       ≡ stepAt 17 q r k

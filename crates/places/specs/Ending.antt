@@ -11,7 +11,7 @@ use Rattle.model.specs.declared.Outcome.the-variants.{Refused, Moved}
 use Rattle.model.specs.Sound.{from1, isPop, anchorSound, linkSound}
 use Rattle.model.specs.Places.{reading}
 use Rattle.model.specs.Route.{route, onward, goes, answer}
-use Rattle.model.specs.Tables.{withSeen, withNeighbour, withLink}
+use Rattle.model.specs.Tables.{withSeen, withNeighbour, withLink, withWords}
 use Rattle.model.specs.declared.Transition.{Transition}
 
 abbrev pub refused : Control → Record → Transition
@@ -30,13 +30,12 @@ withFailed m b = record { control = m .control; task = m .task; outcome = m .out
 abbrev pub failing : Transition → Transition
 failing m = withFailed m true
 
-abbrev pub withAnchor : Control → ℕ → Control
-withAnchor c w =
-    record { tasks = c .tasks; slots = c .slots; anchor = w; pooled = c .pooled; head = c .head }
+-- Control with another Anchor, and with another head.
+abbrev pub anchored : Control → ℕ → Control
+anchored c w = withWords c w (c .head)
 
-abbrev pub withHead : Control → ℕ → Control
-withHead c w =
-    record { tasks = c .tasks; slots = c .slots; anchor = c .anchor; pooled = c .pooled; head = w }
+abbrev pub headed : Control → ℕ → Control
+headed c w = withWords c (c .anchor) w
 
 abbrev pub noEntry : Entry
 noEntry = record { slot = 0; label = 0 }
@@ -55,7 +54,7 @@ unfoldable pub changed : Control → Record → ℕ → Record → ℕ → Trans
 changed c r new t done failed =
     let sound = anchorSound (c .slots) (anchorOf new) && ltb (anchorOf (r .seen) .tag) 4294967295 in
     cond (eqb (c .anchor) (r .seen))
-    (cond sound (settled (withAnchor c new) t done noEntry) (refused c r))
+    (cond sound (settled (anchored c new) t done noEntry) (refused c r))
     failed
 
 -- A push whose change of Anchor at place 4 is done remembers the new word, and is finishing.

@@ -14,7 +14,7 @@ ghost use Prim.Native.Nat.{_+_, _/_, _^_};
 ghost use Rattle.word.specs.Link.{packLink};
 ghost use Rattle.model.specs.Tables.{idle};
 ghost use Rattle.model.specs.Route.{goes};
-ghost use Rattle.places.specs.Ending.{refused, settled, anchorRead, failing, mayChange, withAnchor, withHead, remembered};
+ghost use Rattle.places.specs.Ending.{refused, settled, anchorRead, failing, mayChange, anchored, headed, remembered};
 ghost use Rattle.places.specs.Ending.{compared, rowSound, neighbourRead, linkRead, headRead};
 
 /// For a step that pops nothing.
@@ -133,7 +133,7 @@ pub fn may_change(slots: u64, seen: u64, new: u64) -> bool
 
 /// The control with another Anchor.
 pub fn with_anchor(c: Control, new: u64) -> Control
-    ensures { λ d. ⌜ d ≡ withAnchor c new ⌝ }
+    ensures { λ d. ⌜ d ≡ anchored c new ⌝ }
 {
     let mut d = c;
     d.anchor = new;
@@ -142,7 +142,7 @@ pub fn with_anchor(c: Control, new: u64) -> Control
 
 /// The control with another head.
 pub fn with_head(c: Control, new: u64) -> Control
-    ensures { λ d. ⌜ d ≡ withHead c new ⌝ }
+    ensures { λ d. ⌜ d ≡ headed c new ⌝ }
 {
     let mut d = c;
     d.head = new;

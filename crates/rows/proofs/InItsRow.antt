@@ -16,10 +16,11 @@ use Rattle.model.specs.declared.Transition.{Transition}
 use Rattle.table.specs.Lent.{withTables}
 use Rattle.sound.specs.Records.{idle-sound}
 use Rattle.places.specs.Arm.{stepAt}
-use Rattle.engine.specs.Parts.{recordRefusal, moveOn}
+use Rattle.engine.specs.MoveOn.{moveOn}
+use Rattle.model.specs.Refusals.{recordRefusal}
 use Rattle.engine.specs.Stored.{controlAfter, recordAfter, anchorAfter, callAfter}
 use Rattle.engine.proofs.Stored.{moved-stored, early-stored}
-use Rattle.engine.proofs.Whole.{stopped, at-place}
+use Rattle.engine.proofs.InParts.{stopped, at-place}
 use Rattle.rows.specs.Rows.{controlOf, callOf, recordOf, upperOf}
 use Rattle.rows.specs.Moved.{RowMoved}
 use Rattle.rows.proofs.Rows.{counting}

@@ -12,8 +12,9 @@ use Rattle.model.specs.Tables.{Tables, isPooled, tablesOf}
 use Rattle.model.specs.declared.Transition.{Transition}
 use Rattle.table.specs.Lent.{withTables}
 use Rattle.places.specs.Arm.{stepAt, Steps}
-use Rattle.engine.specs.Parts.{recordRefusal, moveOn}
-use Rattle.engine.proofs.Whole.{split, above, below, stopped, at-place, placed, below-18}
+use Rattle.engine.specs.MoveOn.{moveOn}
+use Rattle.model.specs.Refusals.{recordRefusal}
+use Rattle.engine.proofs.InParts.{split, above, below, stopped, at-place, placed, below-18}
 use Rattle.engine.proofs.move_on.Statement.{statement}
 use Rattle.engine.proofs.move_on.Tie as tie
 

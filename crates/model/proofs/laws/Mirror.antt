@@ -9,7 +9,7 @@ pub mod Twice
 use mathlib.Core.Path.{_≡_, refl, ap, ap₂, _∙_}
 use mathlib.Core.Bool.{Bool, true, false, cond}
 use mathlib.Core.List.{List, [], _∷_, _++_, map}
-use Prim.Native.Nat.{ℕ, zero, suc, _+_, _/_}
+use Prim.Native.Nat.{ℕ, zero, suc, _+_}
 use native.Mathlib.Omega.{arith}
 use lib.Dec.{eqb, leb, ltb}
 use lib.ListN.{set, drop, replicate, length-map, List·getD-map}
@@ -24,7 +24,7 @@ use Rattle.model.specs.declared.Op.the-variants.{Push, Pop, Put, Step}
 use Rattle.model.specs.Tables.{Tables, Queue, asking, started, taskAt, unused, withAnchor, withCall, zeroed, taken}
 use Rattle.model.specs.declared.Asked.{Asked}
 use Rattle.model.specs.Refusals.{openRefusal, Lent, among, alone, fits, startRefusal, namedPush, pooledPush, nothingAsked}
-use Rattle.model.specs.Calls.{stacked, opened, OpenDone, openAs, Acted, decide, pushStart, putStart, popStart, actOn, back, act, stepLent}
+use Rattle.model.specs.Calls.{opened, OpenDone, openAs, Acted, decide, pushStart, putStart, popStart, actOn, back, act, stepLent}
 use Rattle.model.specs.Mirror.{mirrorSide, mirrorStatus, mirrorWord, mirrorControl, mirrorTables, mirrorRecord, mirrorTask, mirrorQueue, mirrorOp}
 use Rattle.model.specs.Mirror.{mirrorActed, mirrorOpened, mirrorDone}
 use Rattle.model.proofs.laws.Mirror.Words.{mirror-pack}

@@ -1,6 +1,6 @@
 -- The machine of document 003, figures 3 to 5, over decoded words (`Records`).
 -- A place does one touch of what the tasks share (14 done: the head with its slot's label and mark).
-use mathlib.Core.Bool.{Bool, _&&_, cond, false, not, true}
+use mathlib.Core.Bool.{Bool, cond, false, not, true}
 use Prim.Native.Nat.{suc, ℕ}
 use lib.Dec.{eqb}
 pub use Rattle.model.proofs.machine.Records.{Status, code, towards, Anchor, Link, tip, aimed, both, settled, isStable, Draw, Give, Place, Kind}

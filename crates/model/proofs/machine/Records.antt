@@ -1,5 +1,5 @@
 -- Words, a task's record and what the tasks share, decoded: places, kinds and statuses are data, tables are functions. Side true is right.
-use mathlib.Core.Bool.{Bool, _&&_, cond, false, not, true}
+use mathlib.Core.Bool.{Bool, _&&_, cond, false, true}
 use Prim.Native.Nat.{suc, ℕ}
 use lib.Dec.{eqb}
 

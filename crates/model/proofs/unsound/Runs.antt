@@ -13,8 +13,8 @@ use Rattle.model.specs.Places.{wordFound}
 use Rattle.model.specs.declared.Asked.{Asked}
 use Rattle.model.specs.Refusals.{among, fits, late, namedPush, nothingAsked, pooledPush}
 use Rattle.model.specs.Refusals.{popRefusal, pushRefusal, putRefusal, startRefusal, stepRefusal, stepSound}
-use Rattle.model.specs.Sound.{controlSound, from1, recordSound, rowsFit}
-use Rattle.model.specs.Tables.{Queue, Tables, asking, isPooled, marked, recordAt, started, taskAt, unused}
+use Rattle.model.specs.Sound.{controlSound, recordSound}
+use Rattle.model.specs.Tables.{Queue, Tables, asking, isPooled, recordAt, started, taskAt, unused}
 use Rattle.model.specs.declared.Answer.{Answer}
 use Rattle.model.specs.declared.Op.the-variants.{Pop, Push, Put, Step}
 use Rattle.model.specs.declared.Op.{Op}

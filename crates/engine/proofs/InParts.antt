@@ -13,7 +13,8 @@ use Rattle.model.specs.Places.{wordFound, move}
 use Rattle.model.specs.Refusals.{Lent, stepSound, stepRefusal}
 use Rattle.model.specs.Calls.{decide, finish, step}
 use Rattle.places.specs.Arm.{stepAt}
-use Rattle.engine.specs.Parts.{admission, recordRefusal, moveOn}
+use Rattle.engine.specs.MoveOn.{moveOn}
+use Rattle.model.specs.Refusals.{admission, recordRefusal}
 
 pub split : {A : Type 0} (b : Bool) → (b ≡ true → A) → (b ≡ false → A) → A
 split true f g = f refl

@@ -8,174 +8,24 @@ use native.Mathlib.Omega.{arith}
 use lib.Dec.{eqb, leb}
 use lib.ListN.{getD}
 use borrow.Author.Tests.{leb-true, eqb-true, eqb-false, ne-eqb}
-use Rattle.model.specs.declared.Control.{Control}
 use Rattle.model.specs.declared.Record.{Record}
 use Rattle.model.specs.declared.TaskRecord.{TaskRecord}
 use Rattle.model.specs.declared.Entry.{Entry}
 use Rattle.model.specs.declared.Outcome.the-variants.{Refused, Moved}
-use Rattle.model.specs.Tables.{Tables, isPooled, idle, withSeen, withOwn}
-use Rattle.model.specs.Places.{Touch, nothing, setAnchor, setLink, clearMark, takeSlot, setNext, setHead, Move, wordFound, new4, row}
-use Rattle.model.specs.Places.{at1, at2, at3, at4, at5, at6, at7, at9, at10, at11, at12, at13, at14, at15, at16, at17, move, apply}
-use Rattle.model.specs.Sound.{isPush}
+use Rattle.model.specs.Tables.{Tables, idle}
+use Rattle.model.specs.Places.{Touch, nothing, setAnchor, setLink, clearMark, takeSlot, setNext, setHead, Move, wordFound}
+use Rattle.model.specs.Places.{apply}
 use Rattle.model.specs.Route.{pushRoute, popRoute, route, onward, answer, goes}
 use Rattle.model.specs.Refusals.{Lent, stepSound}
 use Rattle.model.specs.Calls.{Acted, finish, step}
 use Rattle.places.specs.Arm.{stepAt}
-use Rattle.engine.specs.Parts.{moveOn}
+use Rattle.engine.specs.MoveOn.{moveOn}
 use Rattle.model.specs.Ends.{endsCall, isMoved}
-use Rattle.engine.proofs.Whole.{split, above, here, why, fault, placed, in-parts}
+use Rattle.engine.proofs.ByPlace.{Keeps, Moves, heads, itself, moves}
+use Rattle.engine.proofs.InParts.{split, here, why, fault, placed, in-parts}
 
 clash : false ≡ true → ⊥
 clash h = let z : _≡_ {A = ℕ} 0 1 = cc in omega arith
-
--- ---- places keep what the call started with
--- What a step leaves of a record; at an `early` place slot and label too.
-pub record Keeps (early : Type 0) (r t : Record) : Type 0 where
-  pub kind : t .kind ≡ r .kind
-  pub side : t .side ≡ r .side
-  pub own : early → t .own ≡ r .own
-  pub label : early → t .label ≡ r .label
-
--- A touch of the head.
-heads : Touch → Bool
-heads nothing = false
-heads (setAnchor w) = false
-heads (setLink side x w) = false
-heads (clearMark x) = false
-heads (takeSlot w x l) = true
-heads (setNext x v) = false
-heads (setHead w) = true
-
-module _ (c : Control) (r : Record) where
-  abbrev early : Type 0
-  early = r .place ≤ 10
-
-  abbrev Moves : Move → Type 0
-  Moves m = Keeps early r (m .task) × (early → heads (m .touch) ≡ false)
-
-  itself : Keeps early r r
-  itself = record { kind = refl; side = refl; own = λ _. refl; label = λ _. refl }
-
-  -- of two moves, whichever is made
-  when : (b : Bool) (m n : Move) → (b ≡ true → Moves m) → (b ≡ false → Moves n) → Moves (cond b m n)
-  when true m n p q = p refl
-  when false m n p q = q refl
-
-  either : (b : Bool) (m n : Move) → Moves m → Moves n → Moves (cond b m n)
-  either b m n p q = when b m n (λ _. p) (λ _. q)
-
-  pushing : (b : Bool) (t : Record) → Keeps early r t → Keeps early r (cond b t r)
-  pushing true t k = k
-  pushing false t k = itself
-
-  -- A slot is drawn, and kept for the answer, beyond place 10 alone.
-  owned : (x l : ℕ) → (early → ⊥) → Keeps early r (withOwn r x l)
-  owned x l never = record { kind = refl; side = refl; own = λ n. absurd (never n); label = λ n. absurd (never n) }
-
-  module _ (w : ℕ) where
-    moves1 : Moves (at1 c r)
-    unfolding at1 heads
-    moves1 = (record { kind = refl; side = refl; own = λ _. refl; label = λ _. refl }, λ _. refl)
-
-    moves2 : Moves (at2 c r)
-    unfolding at1 at2 heads
-    moves2 = either (eqb (c .anchor) (r .seen)) _ _ (itself, λ _. refl) moves1
-
-    moves3 : Moves (at3 r w)
-    unfolding at3 heads
-    moves3 =
-        either (isPush r) _ _ (itself, λ _. refl)
-        (record { kind = refl; side = refl; own = λ _. refl; label = λ _. refl }, λ _. refl)
-
-    moves4 : Moves (at4 c r)
-    unfolding at1 at4 heads
-    moves4 =
-        either (eqb (c .anchor) (r .seen)) _ _
-        (pushing (isPush r) (withSeen r (new4 r) 1) (record { kind = refl; side = refl; own = λ _. refl; label = λ _. refl }), λ _. refl)
-        moves1
-
-    moves5 : Moves (at5 r w)
-    unfolding at5 heads
-    moves5 = (record { kind = refl; side = refl; own = λ _. refl; label = λ _. refl }, λ _. refl)
-
-    moves6 : Moves (at6 c r)
-    unfolding at6 heads
-    moves6 = (itself, λ _. refl)
-
-    moves7 : Moves (at7 r w)
-    unfolding at7 heads
-    moves7 = (record { kind = refl; side = refl; own = λ _. refl; label = λ _. refl }, λ _. refl)
-
-    moves9 : Moves (at9 r w)
-    unfolding at9 heads
-    moves9 = either (eqb w (r .link)) _ _ (itself, λ _. refl) (itself, λ _. refl)
-
-    moves10 : Moves (at10 c r)
-    unfolding at10 heads
-    moves10 = either (eqb (c .anchor) (r .seen)) _ _ (itself, λ _. refl) (itself, λ _. refl)
-
-    moves11 : (early → ⊥) → Moves (at11 c r w)
-    unfolding at11 heads
-    moves11 never = either (isPooled c) _ _ (owned (row r) w never, λ _. refl) (itself, λ _. refl)
-
-    moves12 : Moves (at12 c r)
-    unfolding at12 heads
-    moves12 = (record { kind = refl; side = refl; own = λ _. refl; label = λ _. refl }, λ _. refl)
-
-    moves13 : Moves (at13 r w)
-    unfolding at13 heads
-    moves13 = (record { kind = refl; side = refl; own = λ _. refl; label = λ _. refl }, λ _. refl)
-
-    moves14 : (early → ⊥) → Moves (at14 c r)
-    unfolding at14 heads
-    moves14 never =
-        either (eqb (c .head) (r .link)) _ _ (owned (row r) (r .label) never, λ n. absurd (never n)) (itself, λ _. refl)
-
-    moves15 : Moves (at15 c r)
-    unfolding at15 heads
-    moves15 = (record { kind = refl; side = refl; own = λ _. refl; label = λ _. refl }, λ _. refl)
-
-    moves16 : Moves (at16 r)
-    unfolding at16 heads
-    moves16 = (itself, λ _. refl)
-
-    moves17 : (early → ⊥) → Moves (at17 c r)
-    unfolding at17 heads
-    moves17 never = either (eqb (c .head) (r .link)) _ _ (itself, λ n. absurd (never n)) (itself, λ _. refl)
-
-    -- The place is i, or above it.
-    turn : (i : ℕ) (x y : Move) → i ≤ r .place → (r .place ≡ i → Moves x) → (suc i ≤ r .place → Moves y) → Moves (cond (eqb (r .place) i) x y)
-    turn i x y h here later = when (eqb (r .place) i) x y (λ e. here (eqb-true _ _ e)) (λ e. later (above h (eqb-false _ _ e)))
-
-    moves : 1 ≤ r .place → Moves (move c r w)
-    unfolding move
-    moves busy =
-        turn 1 _ _ busy (λ _. moves1)
-        (λ h. turn 2 _ _ h (λ _. moves2)
-        (λ h. turn 3 _ _ h (λ _. moves3)
-        (λ h. turn 4 _ _ h (λ _. moves4)
-        (λ h. turn 5 _ _ h (λ _. moves5)
-        (λ h. turn 6 _ _ h (λ _. moves6)
-        (λ h. turn 7 _ _ h (λ _. moves7)
-        (λ h. turn 8 _ _ h (λ _. moves6)
-        (λ h. turn 9 _ _ h (λ _. moves9)
-        (λ h. turn 10 _ _ h (λ _. moves10)
-        (λ h. turn 11 _ _ h (λ _. moves11 (λ n. beyond h n))
-        (λ h. turn 12 _ _ h (λ _. moves12)
-        (λ h. turn 13 _ _ h (λ _. moves13)
-        (λ h. turn 14 _ _ h (λ _. moves14 (λ n. beyond (fourteen h) n))
-        (λ h. turn 15 _ _ h (λ _. moves15)
-        (λ h. turn 16 _ _ h (λ _. moves16)
-        (λ h. moves17 (λ n. beyond (seventeen h) n)))))))))))))))))
-      where
-        beyond : 11 ≤ r .place → r .place ≤ 10 → ⊥
-        beyond h l = omega arith
-
-        fourteen : 14 ≤ r .place → 11 ≤ r .place
-        fourteen h = omega arith
-
-        seventeen : 17 ≤ r .place → 11 ≤ r .place
-        seventeen h = omega arith
 
 -- ---- a route leads to a place or to an answer
 known : ℕ → Bool
@@ -213,7 +63,7 @@ route-known place kind outcome =
     (λ k. rw k (some-known (getD popRoute place []) outcome (some-line popRoute place refl)))
 
 -- ---- the step
-pub record Kept (q : Tables) (r : TaskRecord) (a : Acted) : Type 0 where
+pub record Unchanged (q : Tables) (r : TaskRecord) (a : Acted) : Type 0 where
   pub tasks : a .tables .control .tasks ≡ q .control .tasks
   pub slots : a .tables .control .slots ≡ q .control .slots
   pub pooled : a .tables .control .pooled ≡ q .control .pooled
@@ -284,28 +134,28 @@ onward-live n finishing h =
     (λ a. eqb-false n 20 a (simp a at h))
 
 module _ (q : Tables) (r : TaskRecord) where
-  finishes : (m : Move) → Moves (q .control) (r .call) m → Kept q r (finish q r m)
+  finishes : (m : Move) → Moves (q .control) (r .call) m → Unchanged q r (finish q r m)
   unfolding finish
   finishes m k =
       let t = touches (m .touch) q in
-      let n = route (r .call .place) (r .call .kind) (m .outcome) in
+      let n = route (r .call .place) (r .call .kind) (m .branch) in
       let f = m .task .finishing in
       record {
         tasks = t .tasks;
         slots = t .slots;
         pooled = t .pooled;
         head = λ early. t .head (k .1 early);
-        keeps = λ h. stays _ _ _ (r .call) (m .task) (k .0) (onward-known n f (route-known (r .call .place) (r .call .kind) (m .outcome))) (onward-live n f) h;
+        keeps = λ h. stays _ _ _ (r .call) (m .task) (k .0) (onward-known n f (route-known (r .call .place) (r .call .kind) (m .branch))) (onward-live n f) h;
         zero = λ h. leaves _ _ (m .task) h;
         still = λ h. absurd (clash (sym h));
       }
 
-  whichever : (b : Bool) (x y : Acted) → (b ≡ true → Kept q r x) → Kept q r y → Kept q r (cond b x y)
+  whichever : (b : Bool) (x y : Acted) → (b ≡ true → Unchanged q r x) → Unchanged q r y → Unchanged q r (cond b x y)
   whichever true x y p _ = p refl
   whichever false x y _ p = p
 
   -- A refusal keeps all.
-  same : (n : ℕ) → Kept q r (record { tables = q; task = r; outcome = Refused n })
+  same : (n : ℕ) → Unchanged q r (record { tables = q; task = r; outcome = Refused n })
   same n = record {
     tasks = refl;
     slots = refl;
@@ -316,19 +166,19 @@ module _ (q : Tables) (r : TaskRecord) where
     still = λ _. (refl, refl);
   }
 
-  at-its-place : fault q r ≡ 0 → Kept q r (stepAt (r .call .place) q (r .call) (r .retries))
+  at-its-place : fault q r ≡ 0 → Unchanged q r (stepAt (r .call .place) q (r .call) (r .retries))
   at-its-place none =
       let range = placed q r none in
-      subst (λ (a : Acted). Kept q r a) (sym (here q r))
+      subst (λ (a : Acted). Unchanged q r a) (sym (here q r))
       (whichever (eqb (cond (stepSound (q .control) (r .call) (wordFound q (r .call))) 0 34) 0) _ _
       (λ _. finishes _ (moves (q .control) (r .call) (wordFound q (r .call)) (range .0)))
       (same _))
 
-  pub moved-on : Kept q r (moveOn q r)
+  pub moved-on : Unchanged q r (moveOn q r)
   unfolding moveOn
   moved-on = whichever (eqb (fault q r) 0) _ _ (λ e. at-its-place (eqb-true _ _ e)) (same _)
 
-  pub step-kept : (p : Lent) → Kept q r (step q p r)
+  pub step-kept : (p : Lent) → Unchanged q r (step q p r)
   step-kept p =
-      subst (λ (a : Acted). Kept q r a) (sym (in-parts q p r))
+      subst (λ (a : Acted). Unchanged q r a) (sym (in-parts q p r))
       (whichever (eqb (why q p r) 0) _ _ (λ _. moved-on) (same _))
