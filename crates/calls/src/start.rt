@@ -8,10 +8,10 @@ use model::Transition;
 ghost use mathlib.Core.Path.{_≡_};
 ghost use Prim.Native.Nat.{ℕ};
 ghost use lib.Dec.{ltb, leb};
-ghost use Rattle.model.specs.Tables.{tablesOf};
+ghost use Rattle.model.specs.Tables.{tablesOf, begun};
 ghost use Rattle.model.specs.Calls.{pushStart, putStart, popStart};
 ghost use Rattle.table.specs.Lent.{withTables};
-ghost use Rattle.calls.specs.Starting.{begun, decided};
+ghost use Rattle.calls.specs.Starting.{decided};
 
 /// The whole record of a call at its first place.
 fn begun(place: u64, kind: u64, side: u64, own: u64, label: u32) -> Record

@@ -29,7 +29,7 @@ use Rattle.sound.specs.Lengths.{lengthsFit}
 use Rattle.model.specs.Ends.{endsCall, isMoved}
 use Rattle.calls.specs.declared.opening.OpenedTables.{OpenedTables}
 use Rattle.calls.specs.Opening.{counting, OpenedParts, openTables, whole}
-use Rattle.calls.proofs.Parts.{clear-fits, open-parts}
+use Rattle.calls.proofs.Openings.{clear-fits, open-parts}
 use Rattle.calls.specs.Telling.{countable}
 use Rattle.calls.proofs.Counts.{countable-fits}
 use Rattle.calls.proofs.Tells.{all-looked-at, report-parts}

@@ -33,7 +33,7 @@ pub extern "C" fn zc_step_record(
 {
     let words = *control;
     let c = rows::control_of(words);
-    let why = engine::admit_alone(
+    let why = admission::admit_alone(
         c,
         lefts.len(),
         rights.len(),

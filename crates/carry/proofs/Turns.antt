@@ -21,7 +21,7 @@ use Rattle.table.specs.Lent.{withTables}
 use Rattle.rows.specs.Rows.{recordsOf}
 use Rattle.rows.proofs.Rows.{length-records}
 use Rattle.calls.specs.Opening.{OpenedParts, counting, openTables, whole}
-use Rattle.calls.proofs.Parts.{open-parts}
+use Rattle.calls.proofs.Openings.{open-parts}
 use Rattle.lines.specs.Line.{Put, fitting, room, lineOf}
 use Rattle.lines.specs.declared.Line.the-variants.{Open, File}
 use Rattle.carry.specs.Run.{next, anchorIn, linesOf, numberOf, operated, isOpened, opened, malformed}

@@ -106,7 +106,7 @@ pub fn step(
 {
     let n = records.len();
     let c = *control;
-    let why = engine::admit(
+    let why = admission::admit(
         c,
         n,
         task,

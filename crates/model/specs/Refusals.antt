@@ -80,18 +80,20 @@ admission c fit p = first (admissionRules c fit p)
 abbrev pub fits : Tables → Bool
 fits q = rowsFit (isPooled (q .control)) (q .control .slots) q
 
--- A start's rules in the document's order; 41, 15 and 32 are what a push alone is asked (`Asked`).
-abbrev pub startRules : Control → Bool → Lent → Record → ℕ → Asked → List Rule
-startRules c fit p r side a =
-    admissionRules c fit p
-    ++ (rule 14 (not (leb side 1))
+-- Then a start's, in the document's order; 41, 15 and 32 are what a push alone is asked (`Asked`).
+abbrev pub askedRules : Control → Record → ℕ → Asked → List Rule
+askedRules c r side a =
+    rule 14 (not (leb side 1))
     ∷ rule 41 (a .wrong)
     ∷ rule 15 (a .outside)
     ∷ rule 34 (not (recordSound (isPooled c) (c .slots) r))
     ∷ rule 30 (isBusy r)
     ∷ rule 32 (a .taken)
     ∷ rule 33 (late c)
-    ∷ [])
+    ∷ []
+
+abbrev pub startRules : Control → Bool → Lent → Record → ℕ → Asked → List Rule
+startRules c fit p r side a = admissionRules c fit p ++ askedRules c r side a
 
 unfoldable pub startRefusal : Control → Bool → Lent → Record → ℕ → Asked → ℕ
 startRefusal c fit p r side a = first (startRules c fit p r side a)

@@ -267,7 +267,7 @@ pub fn step(
     let words = *control;
     let c = control_of(words);
     let n = records.len();
-    let why = engine::admit(
+    let why = admission::admit(
         c,
         n,
         task,

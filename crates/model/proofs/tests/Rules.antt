@@ -59,3 +59,14 @@ first-refused (r ∷ l) m h = go (r .applies) refl (λ z. first-refused l m z)
     go : (b : Bool) → r .applies ≡ b → (first l ≢ 0 → first (l ++ m) ≡ first l) → first ((r ∷ l) ++ m) ≡ first (r ∷ l)
     go true e f = same true e (first (l ++ m)) ∙ sym (same true e (first l))
     go false e f = same false e (first (l ++ m)) ∙ f (λ z. h (same false e (first l) ∙ z)) ∙ sym (same false e (first l))
+
+-- The rules of a list up to one that applies, or all of them: tests made one after the other give the first one's number.
+pub data Tried : List Rule → ℕ → Type 0 where
+  none : Tried [] 0
+  stop : {r : Rule} {l : List Rule} → r .applies ≡ true → Tried (r ∷ l) (r .number)
+  pass : {r : Rule} {l : List Rule} {n : ℕ} → r .applies ≡ false → Tried l n → Tried (r ∷ l) n
+
+pub tried : {l : List Rule} {n : ℕ} → Tried l n → n ≡ first l
+tried none = refl
+tried (stop e) = rw e
+tried (pass e t) = rw e (tried t)

@@ -4,7 +4,7 @@ use lib.ListN.{length}
 use Prim.Native.Nat.{_≤_}
 use borrow.Author.Needs.{needs}
 use Rattle.calls.specs.Opening.{OpenedParts}
-use Rattle.calls.proofs.Parts.{clear-fits}
+use Rattle.calls.proofs.Openings.{clear-fits}
 use Rattle.rows.proofs.Rows.{length-records}
 use Rattle.carry.proofs.Turns.{put-fits, open-page}
 use Rattle.carry.proofs.acts.open_queue.Statement.{statement}

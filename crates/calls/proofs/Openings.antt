@@ -6,36 +6,30 @@ use Prim.Native.Nat.{ℕ, _+_, _/_, _≤_}
 use native.Mathlib.Omega.{arith}
 use lib.Dec.{eqb, ltb, leb}
 use lib.ListN.{length, length-replicate}
-use borrow.Author.Tests.{ltb-true, leb-true, eqb-true, le-leb, eq-eqb, ne-eqb}
+use borrow.Author.Tests.{ltb-true, leb-true, eqb-true, le-leb, eq-eqb, ne-eqb, not-false}
 use Rattle.model.specs.declared.Opening.the-variants as opening
-use Rattle.model.specs.Tables.{Tables, Queue, unused, zeroed}
+use Rattle.model.specs.Tables.{Tables, Queue, tablesOf, openedControl, unused, zeroed}
 use Rattle.model.specs.Sound.{rowsFit}
-use Rattle.model.specs.Refusals.{rule, first, openRefusal}
+use Rattle.model.specs.Refusals.{openingRules, openRefusal}
 use Rattle.model.specs.Calls.{stacked, opened, openAs, OpenDone}
 use Rattle.table.specs.Zeroing.{zeroing}
 use Rattle.table.specs.Stacking.{stacking}
-use Rattle.calls.specs.Rules.{openingRefusal}
-use Rattle.calls.specs.Opening.{openedControl, counting, OpenedParts, openTables, whole}
-use Rattle.calls.proofs.Rules.{both}
+use Rattle.calls.specs.Opening.{openingRefusal, counting, OpenedParts, openTables, whole}
+use Rattle.model.proofs.tests.Rules.{cleared}
+use Rattle.model.proofs.tests.Truth.{and-true}
 
 -- No rule applies: the slots are few, and the tables fit.
 pub record Accepted (slots : ℕ) (fits : Bool) : Type 0 where
   pub slots-most : slots ≤ 1023
   pub fit : fits ≡ true
 
-none-applies : (a b c : Bool) → first (rule 10 (not a) ∷ rule 11 (not b) ∷ rule 12 (not c) ∷ []) ≡ 0 → (a ≡ true) × (b ≡ true) × (c ≡ true)
-none-applies true true true e = (refl, refl, refl)
-none-applies true true false e = let z : ⊥ = omega arith in absurd z
-none-applies true false c e = let z : ⊥ = omega arith in absurd z
-none-applies false b c e = let z : ⊥ = omega arith in absurd z
-
 pub accepted : (tasks slots : ℕ) (fits : Bool) → openingRefusal tasks slots fits ≡ 0 → Accepted slots fits
 unfolding openingRefusal
 accepted tasks slots fits e =
-    let h = none-applies (leb 1 tasks && leb tasks 16) (leb 1 slots && leb slots 1023) fits e in
+    let h = cleared (openingRules tasks slots fits) refl e in
     record {
-      slots-most = leb-true slots 1023 (both (leb 1 slots) (leb slots 1023) (h .1) .1);
-      fit = h .2;
+      slots-most = leb-true slots 1023 (and-true (leb 1 slots) (leb slots 1023) (not-false _ (h .1 .0)) .1);
+      fit = not-false _ (h .1 .1 .0);
     }
 
 -- A table with more than n entries has its first n + 1 zeroed.
@@ -67,25 +61,21 @@ module _ (pooled : Bool) (q : Tables) (records tasks slots : ℕ) where
   refused-parts tag h = rw (counted, ne-eqb why 0 h)
 
   abbrev openedTables : ℕ → Tables
-  openedTables tag = record {
-    control = openedControl pooled tasks slots tag;
-    lefts = zeroing (slots + 1) (q .lefts);
-    rights = zeroing (slots + 1) (q .rights);
-    labels = zeroing (slots + 1) (q .labels);
-    marks = zeroing (slots / 64 + 1) (q .marks);
-    next = stacking pooled slots (q .next);
-  }
+  openedTables tag =
+      tablesOf (openedControl pooled tasks slots tag)
+      (zeroing (slots + 1) (q .lefts)) (zeroing (slots + 1) (q .rights)) (zeroing (slots + 1) (q .labels))
+      (zeroing (slots / 64 + 1) (q .marks)) (stacking pooled slots (q .next))
 
   pub opened-parts : (tag : ℕ) → why ≡ 0
       → _≡_ {A = OpenedParts} (record { tables = openedTables tag; clear = tasks; outcome = opening.Opened })
       (openTables pooled q records tasks slots tag)
   unfolding openTables openAs opened rowsFit
   opened-parts tag h =
-      let f = both (rowsFit pooled slots q) (leb tasks records) (accepted tasks slots fits h .fit) .0 in
-      let l = both (ltb slots (length (q .lefts))) _ f in
-      let r = both (ltb slots (length (q .rights))) _ (l .1) in
-      let b = both (ltb slots (length (q .labels))) _ (r .1) in
-      let m = both (ltb (slots / 64) (length (q .marks))) _ (b .1) in
+      let f = and-true (rowsFit pooled slots q) (leb tasks records) (accepted tasks slots fits h .fit) .0 in
+      let l = and-true (ltb slots (length (q .lefts))) _ f in
+      let r = and-true (ltb slots (length (q .rights))) _ (l .1) in
+      let b = and-true (ltb slots (length (q .labels))) _ (r .1) in
+      let m = and-true (ltb (slots / 64) (length (q .marks))) _ (b .1) in
       rw (
         counted,
         eq-eqb why 0 h,
@@ -105,7 +95,7 @@ module _ (pooled : Bool) (q : Tables) (records tasks slots : ℕ) where
   unfolding openTables
   clear-fits tag =
       let enough : eqb why 0 ≡ true → leb tasks records ≡ true =
-      λ e. both (rowsFit pooled slots q) _ (accepted tasks slots fits (eqb-true why 0 e) .fit) .1 in
+      λ e. and-true (rowsFit pooled slots q) _ (accepted tasks slots fits (eqb-true why 0 e) .fit) .1 in
       rw counted (at-most (eqb why 0) (λ e. leb-true tasks records (enough e)))
 
 -- The opening of a queue is its parts.
