@@ -4,7 +4,7 @@ use mathlib.Core.List.{List, [], _∷_, _++_, map}
 use Prim.Native.Nat.{ℕ}
 use lib.ListN.{replicate}
 use Rattle.model.specs.declared.Op.the-variants.{Push, Pop, Put, Step}
-use Rattle.model.specs.Tables.{Queue, unused}
+use Rattle.model.specs.Tables.{Queue, unused, tablesOf, unopened}
 use Rattle.model.specs.Sound.{anchorSound, linkSound, controlSound, recordSound, rowsFit}
 use Rattle.model.specs.Places.{sideOf, row, linkSide, reading, at1, at2, at3, new4, at4, at5, at6, at7, at9, at10, at11, at12, at13, at14, move}
 use Rattle.model.specs.Route.{pushRoute, popRoute, route, onward, answer, goes, counted}
@@ -19,14 +19,12 @@ use Rattle.audit_model.specs.Written.{effectOrder, finished, insert}
 
 abbrev zeros : Queue
 zeros = record {
-  tables = record {
-    control = record { tasks = 0; slots = 0; anchor = 0; pooled = 0; head = 0 };
-    lefts = replicate 4 0;
-    rights = replicate 4 0;
-    labels = replicate 4 0;
-    marks = replicate 1 0;
-    next = replicate 4 0;
-  };
+  tables = tablesOf unopened
+      (replicate 4 0)
+      (replicate 4 0)
+      (replicate 4 0)
+      (replicate 1 0)
+      (replicate 4 0);
   records = replicate 2 unused;
 }
 

@@ -22,7 +22,6 @@ use Rattle.walk.specs.Counted.{counted}
 use Rattle.walk.proofs.Counting.{none-counted, all-counted}
 use Rattle.calls.specs.Telling.{countable}
 
-
 module _ (q : Tables) (enough : Bool) (busy : ℕ) where
   abbrev pub why : ℕ
   why = first (tableRules (q .control) (fits q && enough))

@@ -111,7 +111,7 @@ pub extern "C" fn zc_push(
     );
     rows::store_start(records, task, m);
     let o = m.outcome;
-    operation::reply(o)
+    engine::reply(o)
 }
 
 /// Starts a push that names no slot: it draws one from the stack.
@@ -158,7 +158,7 @@ pub extern "C" fn zc_push_pooled(
     );
     rows::store_start(records, task, m);
     let o = m.outcome;
-    operation::reply(o)
+    engine::reply(o)
 }
 
 /// Starts a pop for a task.
@@ -192,7 +192,7 @@ pub extern "C" fn zc_pop(
     let m = start::pop_start(c, r, n, task, side, lefts, rights, labels, marks, next);
     rows::store_start(records, task, m);
     let o = m.outcome;
-    operation::reply(o)
+    engine::reply(o)
 }
 
 /// Moves a task by one step.
@@ -219,7 +219,7 @@ pub extern "C" fn zc_step(
         task Step)) ⌝ }
 {
     let o = rows::step(control, records, task, lefts, rights, labels, marks, next);
-    operation::reply(o)
+    engine::reply(o)
 }
 
 // How many of the first n records are busy tasks'.

@@ -1,6 +1,7 @@
 //! The step of one lent record for C and Rust. It has an archive of its own: a step that two calls
 //! of one archive share is compiled once and not into either, which makes both slower.
 use model::Reply;
+use sound::admission;
 ghost use mathlib.Core.Path.{_≡_};
 ghost use Rattle.model.specs.Tables.{tablesOf};
 ghost use Rattle.model.specs.Calls.{stepLent};
@@ -43,8 +44,8 @@ pub extern "C" fn zc_step_record(
     );
     if why != 0 {
         let o = engine::refuse(why);
-        return operation::reply(o);
+        return engine::reply(o);
     }
     let o = rows::moving::move_row(control, task, lefts, rights, labels, marks, next);
-    operation::reply(o)
+    engine::reply(o)
 }

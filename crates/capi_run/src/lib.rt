@@ -27,7 +27,7 @@ pub struct RunReply {
 fn run_reply(o: Outcome, steps: u64) -> RunReply
     ensures { λ r. ⌜ r ≡ runReplyOf o steps ⌝ }
 {
-    let r = operation::reply(o);
+    let r = engine::reply(o);
     RunReply {
         code: r.code,
         label: r.label,

@@ -4,6 +4,7 @@ use model::Control;
 use model::Outcome;
 use model::TaskRecord;
 use model::Transition;
+use sound::admission;
 ghost use mathlib.Core.Path.{_≡_};
 ghost use Rattle.model.specs.declared.Op.the-variants.{Step};
 ghost use Rattle.model.specs.Tables.{tablesOf, queueOf};

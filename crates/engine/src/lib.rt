@@ -1,15 +1,16 @@
-//! One step of one task, by value over lent tables.
+//! One step of one task, by value over lent tables; and an outcome in numbers.
 use model::Answer;
 use model::Control;
 use model::Outcome;
 use model::Record;
+use model::Reply;
 use model::Transition;
 use sound::admission;
 ghost use mathlib.Core.Path.{_≡_};
 ghost use mathlib.Core.Bool.{false};
 ghost use Prim.Native.Nat.{ℕ};
 ghost use lib.Dec.{leb, ltb};
-ghost use Rattle.model.specs.Calls.{step, stepLent};
+ghost use Rattle.model.specs.Calls.{step, stepLent, replyOf};
 ghost use Rattle.model.specs.Refusals.{recordRefusal};
 ghost use Rattle.model.specs.Tables.{tablesOf};
 ghost use Rattle.table.specs.Lent.{withTables};
@@ -197,4 +198,50 @@ pub fn refuse(why: u32) -> Outcome
     ensures { λ o. ⌜ o ≡ Outcome.Refused why ⌝ }
 {
     Outcome::Refused(why)
+}
+
+fn answer_reply(a: Answer) -> Reply
+    ensures { λ r. ⌜ r ≡ replyOf (Outcome.Moved a) ⌝ }
+{
+    match a {
+        Answer::Running(place) => Reply {
+            code: 1,
+            label: 0,
+            value: place,
+        },
+        Answer::Pushed => Reply {
+            code: 2,
+            label: 0,
+            value: 0,
+        },
+        Answer::Empty => Reply {
+            code: 3,
+            label: 0,
+            value: 0,
+        },
+        Answer::Popped(entry) => Reply {
+            code: 4,
+            label: entry.label,
+            value: entry.slot,
+        },
+        Answer::NoSlot => Reply {
+            code: 5,
+            label: 0,
+            value: 0,
+        },
+    }
+}
+
+/// An outcome in numbers.
+pub fn reply(o: Outcome) -> Reply
+    ensures { λ r. ⌜ r ≡ replyOf o ⌝ }
+{
+    match o {
+        Outcome::Refused(number) => Reply {
+            code: number,
+            label: 0,
+            value: 0,
+        },
+        Outcome::Moved(answer) => answer_reply(answer),
+    }
 }

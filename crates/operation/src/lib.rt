@@ -1,36 +1,15 @@
-//! One operation of one task, whichever it is, by value over lent tables; and an outcome in numbers.
+//! One operation of one task, whichever it is, by value over lent tables.
 use calls::start;
-use model::Answer;
 use model::Control;
 use model::Op;
-use model::Outcome;
 use model::Record;
-use model::Reply;
 use model::Transition;
 ghost use mathlib.Core.Path.{_≡_};
 ghost use Prim.Native.Nat.{ℕ};
 ghost use lib.Dec.{leb, ltb};
-ghost use Rattle.model.specs.declared.Outcome.the-variants.{Moved};
-ghost use Rattle.model.specs.Tables.{tablesOf, idle};
+ghost use Rattle.model.specs.Tables.{tablesOf};
 ghost use Rattle.model.specs.Calls as calls;
 ghost use Rattle.table.specs.Lent.{withTables};
-
-/// The record of a task that has no call.
-pub fn idle() -> Record
-    ensures { λ r. ⌜ r ≡ idle ⌝ }
-{
-    Record {
-        place: 0,
-        kind: 0,
-        side: 0,
-        own: 0,
-        label: 0,
-        seen: 0,
-        neighbour: 0,
-        link: 0,
-        finishing: 0,
-    }
-}
 
 /// A start or step of task `task` among `records` lent records, where `r` is its record.
 pub fn act(
@@ -93,51 +72,5 @@ pub fn act(
             next,
         ),
         Op::Step => engine::step(c, r, records, task, lefts, rights, labels, marks, next),
-    }
-}
-
-fn answer_reply(a: Answer) -> Reply
-    ensures { λ r. ⌜ r ≡ calls.replyOf (Moved a) ⌝ }
-{
-    match a {
-        Answer::Running(place) => Reply {
-            code: 1,
-            label: 0,
-            value: place,
-        },
-        Answer::Pushed => Reply {
-            code: 2,
-            label: 0,
-            value: 0,
-        },
-        Answer::Empty => Reply {
-            code: 3,
-            label: 0,
-            value: 0,
-        },
-        Answer::Popped(entry) => Reply {
-            code: 4,
-            label: entry.label,
-            value: entry.slot,
-        },
-        Answer::NoSlot => Reply {
-            code: 5,
-            label: 0,
-            value: 0,
-        },
-    }
-}
-
-/// An outcome in numbers.
-pub fn reply(o: Outcome) -> Reply
-    ensures { λ r. ⌜ r ≡ calls.replyOf o ⌝ }
-{
-    match o {
-        Outcome::Refused(number) => Reply {
-            code: number,
-            label: 0,
-            value: 0,
-        },
-        Outcome::Moved(answer) => answer_reply(answer),
     }
 }

@@ -6,6 +6,7 @@ use model::Control;
 use model::Outcome;
 use model::Record;
 use model::Transition;
+use sound::admission;
 ghost use mathlib.Core.Path.{_≡_};
 ghost use mathlib.Core.Bool.{cond};
 ghost use Prim.Native.Nat.{_/_, _%_, _^_, _≤_};

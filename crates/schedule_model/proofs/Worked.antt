@@ -7,7 +7,7 @@ use lib.Dec.{eqb}
 use lib.ListN.{replicate}
 use Rattle.word.specs.Anchor.{packAnchor}
 use Rattle.model.specs.declared.TaskRecord.{TaskRecord}
-use Rattle.model.specs.Tables.{Queue, queueOf, unused, withCall, started}
+use Rattle.model.specs.Tables.{Queue, queueOf, unused, withCall, started, openedControl, withWords}
 use Rattle.model.specs.Sound.{anchorSound, linkSound, controlSound, recordSound, rowsFit}
 use Rattle.model.specs.Places.{sideOf, row, linkSide, reading, at1, at2, move}
 use Rattle.model.specs.Route.{pushRoute, popRoute, route, onward, answer, goes, counted}
@@ -22,7 +22,7 @@ use Rattle.schedule_model.specs.Next.{scheduleRefusal}
 abbrev lane : ℕ → ℕ → List ℕ → ℕ → List TaskRecord → Queue
 lane tasks last lefts marks records =
     let anchor = packAnchor (record { tag = 1; status = 0; left = cond (eqb last 0) 0 1; right = last }) in
-    queueOf (record { tasks = tasks; slots = 7; anchor = anchor; pooled = 0; head = 0 })
+    queueOf (withWords (openedControl false tasks 7 0) anchor 0)
     records lefts (replicate 8 0) (replicate 8 0) (marks ∷ []) []
 
 abbrev memory : List ℕ

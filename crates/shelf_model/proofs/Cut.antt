@@ -10,7 +10,7 @@ use lib.ListN.{getD, length, set, take}
 use borrow.Author.Tests.{eqb-false, eqb-true, not-false}
 use Rattle.model.specs.declared.Record.{Record}
 use Rattle.model.specs.declared.TaskRecord.{TaskRecord}
-use Rattle.model.specs.Tables.{Tables, bit, isPooled, links, marked, putBit, withMark, withHead}
+use Rattle.model.specs.Tables.{Tables, bit, isPooled, links, marked, putBit, withMark, withHead, tablesOf}
 use Rattle.model.specs.Sound.{recordSound, rowsFit}
 use Rattle.model.specs.Places.{Touch, nothing, setAnchor, setLink, clearMark, takeSlot, setNext, setHead}
 use Rattle.model.specs.Places.{Move, apply, wordFound, linkSide, move, row}
@@ -78,7 +78,7 @@ other-cut false n l x w = refl
 
 -- The cut tables, with other columns.
 abbrev pub columns : Tables → List ℕ → List ℕ → List ℕ → List ℕ → List ℕ → Tables
-columns q l r a m n = record { control = q .control; lefts = l; rights = r; labels = a; marks = m; next = n }
+columns q l r a m n = tablesOf (q .control) l r a m n
 
 pub apply-cut : (t : Touch) (q : Tables) → Within (q .control .slots) t → apply t (cutTables q) ≡ cutTables (apply t q)
 apply-cut nothing q h = refl

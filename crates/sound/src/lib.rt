@@ -1,5 +1,6 @@
 //! What is sound, and which tables are long enough: refusals 34 and 12; and with 13 what every call is asked first.
 pub mod admission;
+
 use model::Control;
 use model::Record;
 use word::Anchor;

@@ -10,7 +10,7 @@ use borrow.Author.Tests.{leb-true, ltb-true, not-false}
 use Rattle.model.specs.declared.TaskRecord.{TaskRecord}
 use Rattle.model.specs.declared.Op.{Op}
 use Rattle.model.specs.declared.Op.the-variants.{Push, Pop, Put, Step}
-use Rattle.model.specs.Tables.{Tables, Queue, zeroed, unused, taskAt}
+use Rattle.model.specs.Tables.{tablesOf, Tables, Queue, zeroed, unused, taskAt}
 use Rattle.model.specs.Sound.{rowTests, rowsFit}
 use Rattle.model.specs.Places.{Touch, nothing, setAnchor, setLink, clearMark, takeSlot, setNext, setHead, wordFound, move, apply}
 use Rattle.model.specs.Refusals.{Lent, among, alone, openRules, stepRefusal, pushRefusal, putRefusal, popRefusal}
@@ -39,14 +39,12 @@ touched nothing q = refl
 touched (setAnchor w) q = refl
 touched (setLink side x w) q = go (eqb side 1)
   where
-    go : (right : Bool) → lengths (record {
-      control = q .control;
-      lefts = cond right (q .lefts) (set (q .lefts) x w);
-      rights = cond right (set (q .rights) x w) (q .rights);
-      labels = q .labels;
-      marks = q .marks;
-      next = q .next;
-    }) ≡ lengths q
+    go : (right : Bool) → lengths (tablesOf (q .control)
+        (cond right (q .lefts) (set (q .lefts) x w))
+        (cond right (set (q .rights) x w) (q .rights))
+        (q .labels)
+        (q .marks)
+        (q .next)) ≡ lengths q
     go true = rw length-set
     go false = rw length-set
 touched (clearMark x) q = simp length-set

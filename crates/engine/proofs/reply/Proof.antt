@@ -2,8 +2,8 @@
 use mathlib.Core.Path.{sym, ap}
 use borrow.Author.Needs.{needs}
 use Rattle.model.specs.Calls.{replyOf}
-use Rattle.operation.proofs.reply.Statement.{statement}
-use Rattle.operation.proofs.reply.Tie as tie
+use Rattle.engine.proofs.reply.Statement.{statement}
+use Rattle.engine.proofs.reply.Tie as tie
 
 returns : tie.Need-returns
 returns c = sym (ap replyOf (c .before .o .given .1))

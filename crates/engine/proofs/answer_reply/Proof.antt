@@ -5,8 +5,8 @@ use Rattle.model.specs.declared.Answer.{Answer}
 use Rattle.model.specs.declared.Outcome.the-variants.{Moved}
 use Rattle.model.specs.declared.Reply.{Reply}
 use Rattle.model.specs.Calls.{replyOf}
-use Rattle.operation.proofs.answer_reply.Statement.{statement}
-use Rattle.operation.proofs.answer_reply.Tie as tie
+use Rattle.engine.proofs.answer_reply.Statement.{statement}
+use Rattle.engine.proofs.answer_reply.Tie as tie
 
 abbrev moved : Answer → Reply
 moved a = replyOf (Moved a)
