@@ -1,6 +1,6 @@
 -- What lies beyond the lengths matters to nobody: a start or step of the queue cut to its lengths is the start or step of the queue, cut.
 use mathlib.Core.Bool.{Bool, true, false, _&&_, _||_, cond, not}
-use mathlib.Core.List.{List, [], _∷_}
+use mathlib.Core.List.{List, [], _∷_, _++_}
 use mathlib.Core.Logic.{_≢_}
 use mathlib.Core.Path.{_≡_, _∙_, ap, refl}
 use Prim.Native.Nat.{ℕ, suc, _≤_, _/_, _%_}
@@ -17,7 +17,7 @@ use Rattle.model.specs.Places.{Move, apply, wordFound, linkSide, move, row}
 use Rattle.model.specs.declared.Outcome.the-variants.{Moved, Refused}
 use Rattle.model.specs.Sound.{controlSound}
 use Rattle.model.specs.Route.{answer, onward, route}
-use Rattle.model.specs.Refusals.{Lent, first, rule, stepRefusal, stepRules, stepSound}
+use Rattle.model.specs.Refusals.{Lent, admissionRules, first, fits, rule, stepRefusal, stepRules, stepSound}
 use Rattle.model.specs.Calls.{Acted, decide, finish, step}
 use Rattle.model.proofs.tests.Rules.{cleared}
 use Rattle.model.proofs.bridge.Facts.{RecordFine, control-fine, record-fine}
@@ -140,8 +140,7 @@ step-refusal-cut q p r =
     let pooled = isPooled (q .control) in
     let n = q .control .slots in
     rw (fits-cut q)
-    (ap (λ (n : ℕ). first (rule 34 (not (controlSound (q .control)))
-    ∷ rule 12 (not (rowsFit pooled (q .control .slots) q && p .enough)) ∷ rule 13 (not (p .known)) ∷ rule n true ∷ []))
+    (ap (λ (n : ℕ). first (admissionRules (q .control) (fits q) p ++ (rule n true ∷ [])))
     (last-three (recordSound pooled n r) (eqb (r .place) 0) _ _
     (λ s b. ap (stepSound (q .control) r) (met-cut q r (record-fine pooled n r s (eqb-false _ _ b))))))
 
@@ -179,7 +178,7 @@ module _ (q : Tables) (r : TaskRecord) (h : RecordFine (isPooled (q .control)) (
       ∙ (λ i. record {
         tables = apply-cut (m .touch) q touch-within i;
         task = finish q r m .task;
-        outcome = Moved (answer (onward (route (c .place) (c .kind) (m .outcome)) (m .task .finishing))
+        outcome = Moved (answer (onward (route (c .place) (c .kind) (m .branch)) (m .task .finishing))
             (record { slot = row c; label = cond (eqb (c .place) 17) (c .label) (label-cut i) }));
       })
 
