@@ -24,7 +24,7 @@ use Rattle.model.proofs.tests.Truth.{by-test}
 use Rattle.model.proofs.bridge.Accepted.{pop-accepted, push-accepted, put-accepted}
 use Rattle.model.proofs.machine.Machine as M
 use Rattle.model.proofs.bridge.View.{stateOf}
-use Rattle.model.proofs.ledger.Kept.{act-good}
+use Rattle.model.proofs.ledger.EveryOperation.{act-good}
 use Rattle.model.proofs.ledger.Matched.{Matched, busyNo}
 use Rattle.model.proofs.ledger.Matches.{opens}
 use Rattle.audit_model.proofs.Lists.{Pairs, all-map, all-both}

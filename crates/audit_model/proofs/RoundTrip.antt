@@ -11,7 +11,7 @@ use Rattle.model.specs.Tables.{Queue}
 use Rattle.audit_model.specs.declared.Verdict.the-variants.{Passed}
 use Rattle.audit_model.specs.Audit.{verdict}
 use Rattle.audit_model.specs.Written.{IsAnswered, effectOrder, finished}
-use Rattle.audit_model.specs.Words.{callAt, callsFrom, callsIn, wordsOf}
+use Rattle.audit_model.specs.LentHistory.{callAt, callsFrom, callsIn, wordsOf}
 use Rattle.audit_model.proofs.HistoriesPass.{histories-pass}
 
 words-length : (cs : List Finished) → length (wordsOf cs) ≡ 7 * length cs

@@ -8,14 +8,14 @@ use model::Transition;
 ghost use mathlib.Core.Path.{_≡_};
 ghost use Prim.Native.Nat.{ℕ};
 ghost use lib.Dec.{ltb, leb};
-ghost use Rattle.model.specs.Tables.{tablesOf, begun};
+ghost use Rattle.model.specs.Tables.{tablesOf, newCall};
 ghost use Rattle.model.specs.Calls.{pushStart, putStart, popStart};
 ghost use Rattle.table.specs.Lent.{withTables};
 ghost use Rattle.calls.specs.Starting.{decided};
 
 /// The whole record of a call at its first place.
-fn begun(place: u64, kind: u64, side: u64, own: u64, label: u32) -> Record
-    ensures { λ r. ⌜ r ≡ begun place kind side own label ⌝ }
+fn new_call(place: u64, kind: u64, side: u64, own: u64, label: u32) -> Record
+    ensures { λ r. ⌜ r ≡ newCall place kind side own label ⌝ }
 {
     Record {
         place,
@@ -85,7 +85,7 @@ pub fn pop_start(
         marks,
         next,
     );
-    let pop = begun(1, 1, side, 0, 0);
+    let pop = new_call(1, 1, side, 0, 0);
     decided(c, r, why, pop)
 }
 
@@ -124,7 +124,7 @@ pub fn put_start(
         marks,
         next,
     );
-    let push = begun(12, 0, side, 0, label);
+    let push = new_call(12, 0, side, 0, label);
     decided(c, r, why, push)
 }
 
@@ -164,7 +164,7 @@ pub fn push_start(
         marks,
         next,
     );
-    let push = begun(1, 0, side, slot, label);
+    let push = new_call(1, 0, side, slot, label);
     if why != 0 {
         return decided(c, r, why, push);
     }

@@ -6,7 +6,7 @@ ghost use mathlib.Core.Path.{_≡_};
 ghost use Prim.Native.Nat.{_≤_, _<_};
 ghost use lib.ListN.{length, getD, take, drop};
 ghost use Rattle.audit_model.specs.Audit.{verdict};
-ghost use Rattle.audit_model.specs.Words.{callsIn};
+ghost use Rattle.audit_model.specs.LentHistory.{callsIn};
 ghost use Rattle.historyfile.specs.Buffer.{Within, reading};
 ghost use Rattle.historyfile.specs.Reading.{callsThen, judged, kept, taken, whole};
 ghost use Rattle.historyfile.specs.Text.{atStart, stepped};

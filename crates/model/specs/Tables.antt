@@ -52,20 +52,20 @@ abbrev pub withWords : Control → ℕ → ℕ → Control
 withWords c anchor head = record { tasks = c .tasks; slots = c .slots; anchor = anchor; pooled = c .pooled; head = head }
 
 -- A call at its first place: kind, side, own slot and label, the rest zero.
-abbrev pub begun : ℕ → ℕ → ℕ → ℕ → ℕ → Record
-begun place kind side own label =
+abbrev pub newCall : ℕ → ℕ → ℕ → ℕ → ℕ → Record
+newCall place kind side own label =
     record { place = place; kind = kind; side = side; own = own; label = label; seen = 0; neighbour = 0; link = 0; finishing = 0 }
 
 -- No call: all zero.
 abbrev pub idle : Record
-idle = begun 0 0 0 0 0
+idle = newCall 0 0 0 0 0
 
 -- A start writes the whole call: place 1, kind, side, own slot and label; a push start that names no slot place 12, side and label.
 abbrev pub started : ℕ → ℕ → ℕ → ℕ → Record
-started kind side own label = begun 1 kind side own label
+started kind side own label = newCall 1 kind side own label
 
 abbrev pub asking : ℕ → ℕ → Record
-asking side label = begun 12 0 side 0 label
+asking side label = newCall 12 0 side 0 label
 
 -- A call with another place; kind and side; own slot and label; what it has read: Anchor, with finishing, the neighbour, a link word.
 -- A place keeps the fields it doesn't name.

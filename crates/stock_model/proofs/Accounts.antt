@@ -10,7 +10,7 @@ use Rattle.model.specs.Walk.{met}
 use Rattle.model.specs.Refusals.{openRefusal}
 use Rattle.model.specs.Calls.{opened}
 use Rattle.model.specs.History.{AfterOpening, All, Call, Ending, Lawful, Request, answered, final, ledger, pending, run}
-use Rattle.model.proofs.ledger.Kept.{run-good}
+use Rattle.model.proofs.ledger.EveryOperation.{run-good}
 use Rattle.model.proofs.ledger.Opened.{nobody, open-good, some-slots}
 use Rattle.model.proofs.Linearizable.{linearized}
 use Rattle.model.proofs.Openings.{after-opening}

@@ -4,7 +4,7 @@ use Prim.Native.Nat.{_/_, _≤_}
 use native.Mathlib.Omega.{arith}
 use borrow.Author.Needs.{needs}
 use lib.ListN.{length}
-use Rattle.audit_model.specs.Words.{callsIn}
+use Rattle.audit_model.specs.LentHistory.{callsIn}
 use Rattle.audit.proofs.Whole.{in-order-length, out-of-order, refused, replayed-so, too-many}
 use Rattle.audit.proofs.WordsRead.{count-is}
 use Rattle.audit.proofs.audit_words.Statement.{statement}

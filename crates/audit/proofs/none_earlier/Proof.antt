@@ -7,7 +7,7 @@ use borrow.Author.Needs.{needs}
 use lib.ListN.{length}
 use lib.Seq.{slice}
 use Rattle.audit_model.specs.Audit.{allOf, inOrder, notEarlier}
-use Rattle.audit_model.specs.Words.{callsIn}
+use Rattle.audit_model.specs.LentHistory.{callsIn}
 use Rattle.audit.proofs.Loops.{all-done, all-next}
 use Rattle.audit.proofs.WordsRead.{ordered-is, ordered-length}
 use Rattle.audit.proofs.none_earlier.Statement.{statement}

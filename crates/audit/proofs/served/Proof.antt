@@ -7,7 +7,7 @@ use borrow.Author.Needs.{needs}
 use lib.ListN.{length, take}
 use lib.Seq.{slice, take-length}
 use Rattle.audit_model.specs.Audit.{inOrder, nobody, replay}
-use Rattle.audit_model.specs.Words.{callsIn}
+use Rattle.audit_model.specs.LentHistory.{callsIn}
 use Rattle.audit.proofs.Turn.{all-served, fails, goes-on}
 use Rattle.audit.proofs.WordsRead.{ordered-is, ordered-length}
 use Rattle.audit.proofs.served.Statement.{statement}

@@ -201,28 +201,28 @@ module _ (q : Queue) (b : B.Book) (i : Inv (record { state = stateOf q; book = b
 
     pub pop-keeps : (side : ℕ) → Inv (record {
       state = stateOf (record { tables = g; records = set (q .records) t (put (started 1 side 0 0)) });
-      book = B.begun b t (B.opened M.pop (eqb side 1) 0 0);
+      book = B.begun b t (B.bookedCall M.pop (eqb side 1) 0 0);
     })
     unfolding stateOf
-    pop-keeps side = subst (λ (s : M.State). Inv (record { state = s; book = B.begun b t (B.opened M.pop (eqb side 1) 0 0) }))
+    pop-keeps side = subst (λ (s : M.State). Inv (record { state = s; book = B.begun b t (B.bookedCall M.pop (eqb side 1) 0 0) }))
         (sym (λ j. record { shared = view g; task = tasks-are 1 side 0 0 j }))
         (pop-inv (record { state = stateOf q; book = b }) i t (eqb side 1) ready)
 
     pub put-keeps : (side l : ℕ) → isPooled (g .control) ≡ true → Inv (record {
       state = stateOf (record { tables = g; records = set (q .records) t (put (asking side l)) });
-      book = B.begun b t (B.opened M.push (eqb side 1) 0 l);
+      book = B.begun b t (B.bookedCall M.push (eqb side 1) 0 l);
     })
     unfolding stateOf recOf view
-    put-keeps side l pooled = subst (λ (s : M.State). Inv (record { state = s; book = B.begun b t (B.opened M.push (eqb side 1) 0 l) }))
+    put-keeps side l pooled = subst (λ (s : M.State). Inv (record { state = s; book = B.begun b t (B.bookedCall M.push (eqb side 1) 0 l) }))
         (sym (λ j. record { shared = view g; task = put-back q t z (put (asking side l)) j }))
         (ask-inv (record { state = stateOf q; book = b }) i t (eqb side 1) l ready pooled)
 
     pub push-keeps : (side x l : ℕ) → 1 ≤ x → x ≤ g .control .slots → isPooled (g .control) ≡ false → marked (g .marks) x ≡ false → Inv (record {
       state = stateOf (record { tables = taken g x l; records = set (q .records) t (put (started 0 side x l)) });
-      book = B.begun b t (B.opened M.push (eqb side 1) x l);
+      book = B.begun b t (B.bookedCall M.push (eqb side 1) x l);
     })
     unfolding stateOf view
     push-keeps side x l real low named clear = subst
-        (λ (s : M.State). Inv (record { state = s; book = B.begun b t (B.opened M.push (eqb side 1) x l) }))
+        (λ (s : M.State). Inv (record { state = s; book = B.begun b t (B.bookedCall M.push (eqb side 1) x l) }))
         (sym (λ j. record { shared = view-taken g (z .rows) x l low j; task = tasks-are 0 side x l j }))
         (push-inv (record { state = stateOf q; book = b }) i t (eqb side 1) x l ready (λ e. omega arith) low named clear)

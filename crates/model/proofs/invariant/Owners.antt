@@ -44,7 +44,7 @@ Spare false n m f top h = Marks n m h
 Spare true n m f top h = Pool n f top h
 
 -- The queue part of the invariant: q is the sequential deque.
-pub record Whole (s : Shared) (h : ℕ → Owner) (q : List Entry) : Type 0 where
+pub record Intact (s : Shared) (h : ℕ → Owner) (q : List Entry) : Type 0 where
   pub shape : Shape (s .link) (s .anchor) (slots q)
   pub owned : All (λ x. h x ≡ queued) (slots q)
   pub listed : (x : ℕ) → h x ≡ queued → In x (slots q)

@@ -1,6 +1,6 @@
 -- Left is the mirror of right: every call on the mirrored queue, with its side mirrored, answers the same and leaves the mirror of what it leaves; for all
 -- tables and all arguments, refused ones among them.
-pub mod Words
+pub mod Packed
 pub mod Sides
 pub mod Sound
 pub mod Moves
@@ -27,7 +27,7 @@ use Rattle.model.specs.Refusals.{openRefusal, Lent, among, alone, fits, 
 use Rattle.model.specs.Calls.{opened, OpenDone, openAs, Acted, decide, pushStart, putStart, popStart, actOn, back, act, stepLent}
 use Rattle.model.specs.Mirror.{mirrorSide, mirrorStatus, mirrorWord, mirrorControl, mirrorTables, mirrorRecord, mirrorTask, mirrorQueue, mirrorOp}
 use Rattle.model.specs.Mirror.{mirrorActed, mirrorOpened, mirrorDone}
-use Rattle.model.proofs.laws.Mirror.Words.{mirror-pack}
+use Rattle.model.proofs.laws.Mirror.Packed.{mirror-pack}
 use Rattle.model.proofs.laws.Mirror.Sound.{rows-fit-mirror, start-refusal-mirror}
 use Rattle.model.proofs.laws.Mirror.Steps.{decide-mirror, step-mirror}
 

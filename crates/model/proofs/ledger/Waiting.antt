@@ -24,7 +24,7 @@ use Rattle.model.proofs.lists.Pigeonhole.{pigeon}
 use Rattle.model.proofs.lists.Slots.{map-seen, slots, slots-nil}
 use Rattle.model.proofs.machine.Book.{whence}
 use Rattle.model.proofs.machine.Machine.{Anchor, Link, Status, pushing, stable, tip}
-use Rattle.model.proofs.invariant.Owners.{Owner, Whole, queued}
+use Rattle.model.proofs.invariant.Owners.{Owner, Intact, queued}
 use Rattle.model.proofs.invariant.Shape.{Joint, Linked, Rough}
 use Rattle.model.proofs.chain.Ends.{no-entry}
 use Rattle.model.proofs.chain.Sides.{far as far-end, near as near-end, turn}
@@ -106,7 +106,7 @@ opposite-is : (d : Bool) → eqb (cond d 0 1) 1 ≡ not d
 opposite-is false = refl
 opposite-is true = refl
 
-module _ (q : Tables) (fine : LinksFine q) (h : ℕ → Owner) (l : List Entry) (w : Whole (view q) h l) where
+module _ (q : Tables) (fine : LinksFine q) (h : ℕ → Owner) (l : List Entry) (w : Intact (view q) h l) where
   abbrev A : Anchor
   A = anchorSeen (q .control .anchor)
 

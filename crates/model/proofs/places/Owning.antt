@@ -12,19 +12,19 @@ use Rattle.model.proofs.lists.All.{all-both, all-map}
 use Rattle.model.proofs.lists.Slots.{all-slots, slots}
 use Rattle.model.proofs.machine.Laws.{upd-other, upd-same}
 use Rattle.model.proofs.machine.Machine.{Link, Shared, upd, withHead, withLabel}
-use Rattle.model.proofs.invariant.Owners.{Owner, Spare, Whole, free, held, queued}
+use Rattle.model.proofs.invariant.Owners.{Owner, Spare, Intact, free, held, queued}
 use Rattle.model.proofs.invariant.Rely.{Rely, Stacked}
 use Rattle.model.proofs.invariant.Tasks.{Bare, Sole}
 use Rattle.model.proofs.places.Owned.{held-free, held-inj, owner-back, owner-kept, queued-free, queued-held}
 use Rattle.model.proofs.places.Shown.{marking}
 
 -- A free slot x gets an owner, t, and a label; the head is w then.
-module _ {s : Shared} {h : ℕ → Owner} {q : List Entry} (all : Whole s h q) (t x l : ℕ) (unowned : h x ≡ free) (w : Link) where
+module _ {s : Shared} {h : ℕ → Owner} {q : List Entry} (all : Intact s h q) (t x l : ℕ) (unowned : h x ≡ free) (w : Link) where
   not-queued : (y : ℕ) → h y ≡ queued → y ≢ x
   not-queued y e z = queued-free (sym e ∙ ap h z ∙ unowned)
 
   pub gets-whole : x ≢ 0 → x ≤ s .slots → Spare (s .pooled) (s .slots) (upd (s .mark) x true) (s .next) (w .slot) (upd h x (held t))
-      → Whole (withLabel (withHead s w) x l) (upd h x (held t)) q
+      → Intact (withLabel (withHead s w) x l) (upd h x (held t)) q
   gets-whole nz low spare = record {
     shape = all .shape;
     owned = all-map (λ y. h y ≡ queued) _ (λ y e. upd-other h x (held t) y (not-queued y e) ∙ e) (slots q) (all .owned);
@@ -59,8 +59,8 @@ module _ {s : Shared} {h : ℕ → Owner} {q : List Entry} (all : Whole s h q) (
   }
 
 -- A slot x that task t has becomes free; the marks are m and the head w then.
-module _ {s : Shared} {h : ℕ → Owner} {q : List Entry} (all : Whole s h q) (t x : ℕ) (holds : h x ≡ held t) (m : ℕ → Bool) (w : Link) where
-  pub frees-whole : Spare (s .pooled) (s .slots) m (s .next) (w .slot) (upd h x free) → Whole (withHead (marking s m) w) (upd h x free) q
+module _ {s : Shared} {h : ℕ → Owner} {q : List Entry} (all : Intact s h q) (t x : ℕ) (holds : h x ≡ held t) (m : ℕ → Bool) (w : Link) where
+  pub frees-whole : Spare (s .pooled) (s .slots) m (s .next) (w .slot) (upd h x free) → Intact (withHead (marking s m) w) (upd h x free) q
   frees-whole spare = record {
     shape = all .shape;
     owned = all-map (λ y. h y ≡ queued) _ (λ y e. upd-other h x free y (λ z. queued-held (sym e ∙ ap h z ∙ holds)) ∙ e) (slots q) (all .owned);

@@ -13,7 +13,7 @@ use Rattle.model.proofs.lists.Slots.{slots, slots-nil}
 use Rattle.model.proofs.machine.Book.{Call, given, told}
 use Rattle.model.proofs.machine.Machine.{Kind, Rec, Shared, Status, at1, at5, empty, ends, isStable, none, one, pop, push, pushing}
 use Rattle.model.proofs.machine.Machine.{reads, runs, stable, towards}
-use Rattle.model.proofs.invariant.Owners.{Owner, Whole}
+use Rattle.model.proofs.invariant.Owners.{Owner, Intact}
 use Rattle.model.proofs.invariant.Tasks.{Before, Own, Stage, Task, Three, Tries, Two}
 use Rattle.model.proofs.chain.Ends.{no-entry}
 use Rattle.model.proofs.places.Effects.{empty-effect, noted-pop}
@@ -29,7 +29,7 @@ steady : (st : Status) → isStable st ≡ true → st ≡ stable
 steady stable e = refl
 steady (pushing d) e = cc
 
-module _ (t : ℕ) (s : Shared) (h : ℕ → Owner) (q : List Entry) (c : Call) (all : Whole s h q) (r : Rec) where
+module _ (t : ℕ) (s : Shared) (h : ℕ → Owner) (q : List Entry) (c : Call) (all : Intact s h q) (r : Rec) where
   none-left : s .anchor .left ≡ 0 → q ≡ []
   none-left e = slots-nil q (no-entry (s .link) (s .anchor) (slots q) (all .shape) e)
 
@@ -56,7 +56,7 @@ module _ (t : ℕ) (s : Shared) (h : ℕ → Owner) (q : List Entry) (c : Call) 
       (λ e. let n = none-left (eqb-true (s .anchor .left) 0 e) in
       effective (ends none empty) h (told c (given (seen (r .side) q))) (took (r .side) q)
       (noted-pop c (w .1 .agrees) q (s .anchor) (s .anchor) empty (empty-effect (s .anchor) (s .anchor)) refl k)
-      (subst (λ z. Whole s h z) (sym (ap (λ (z : List Entry). took (r .side) z) n ∙ took-nil (r .side) ∙ sym n)) all) (λ u z. rely-refl u) (
+      (subst (λ z. Intact s h z) (sym (ap (λ (z : List Entry). took (r .side) z) n ∙ took-nil (r .side) ∙ sym n)) all) (λ u z. rely-refl u) (
         refl,
         record {
           once = ap suc (w .1 .none);

@@ -9,13 +9,13 @@ use Rattle.model.proofs.tests.Truth.{by-test, decide-eq, not-both}
 use Rattle.model.proofs.machine.Book.{Call}
 use Rattle.model.proofs.machine.Laws.{upd-other, upd-same}
 use Rattle.model.proofs.machine.Machine.{Rec, Shared, act, at11, at15, clear, ends, give, owns, popped, running, runs, tip, upd}
-use Rattle.model.proofs.invariant.Owners.{Marks, Owner, Spare, Whole, free}
+use Rattle.model.proofs.invariant.Owners.{Marks, Owner, Spare, Intact, free}
 use Rattle.model.proofs.invariant.Tasks.{Task}
 use Rattle.model.proofs.places.Effects.{no-effect}
 use Rattle.model.proofs.places.Owning.{frees-bare, frees-rely, frees-whole}
 use Rattle.model.proofs.places.Shown.{Shown, plain, rely-marks, stack-same}
 
-module _ (t : ℕ) (s : Shared) (h : ℕ → Owner) (q : List Entry) (c : Call) (all : Whole s h q) (r : Rec) where
+module _ (t : ℕ) (s : Shared) (h : ℕ → Owner) (q : List Entry) (c : Call) (all : Intact s h q) (r : Rec) where
   pub place11 : Task at11 s h t r c → Shown t s h q c (act at11 s r)
   place11 w = by-test (Shown t s h q c) (s .pooled) keeps frees
     where

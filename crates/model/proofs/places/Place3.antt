@@ -13,7 +13,7 @@ use Rattle.model.proofs.machine.Book.{Call}
 use Rattle.model.proofs.machine.Laws.{relink-other, relink-same}
 use Rattle.model.proofs.machine.LinkTags.{relink-keeps}
 use Rattle.model.proofs.machine.Machine.{Kind, Link, Rec, Shared, at3, inner, ownLink, pop, push, relink, running, three, tip, withLink}
-use Rattle.model.proofs.invariant.Owners.{Owner, Whole, held, queued}
+use Rattle.model.proofs.invariant.Owners.{Owner, Intact, held, queued}
 use Rattle.model.proofs.invariant.Rely.{Rely}
 use Rattle.model.proofs.invariant.Tasks.{Four, Own, Task}
 use Rattle.model.proofs.chain.Links.{frame-shape, inner-in}
@@ -21,7 +21,7 @@ use Rattle.model.proofs.places.Effects.{no-effect}
 use Rattle.model.proofs.places.Owned.{held-inj, queued-held}
 use Rattle.model.proofs.places.Shown.{Shown, plain, stack-same, still}
 
-module _ (t : ℕ) (s : Shared) (h : ℕ → Owner) (q : List Entry) (c : Call) (all : Whole s h q) (r : Rec) where
+module _ (t : ℕ) (s : Shared) (h : ℕ → Owner) (q : List Entry) (c : Call) (all : Intact s h q) (r : Rec) where
   module _ (x : ℕ) (o : (x ≢ 0) × (h x ≡ held t)) (d : Bool) (v : Link) (g : v .tag ≡ s .link d x .tag) where
     not-own : (y : ℕ) → h y ≡ queued → y ≢ x
     not-own y e z = queued-held (sym e ∙ ap h z ∙ o .1)
@@ -30,7 +30,7 @@ module _ (t : ℕ) (s : Shared) (h : ℕ → Owner) (q : List Entry) (c : Call) 
     own-tip e = subst (λ z. z ≢ x) (sym (all .shape .tips e)) (all-front (λ z. z ≢ x) (seen e (slots q)) 0
         (all-seen (λ z. z ≢ x) e (slots q) (all-map (λ z. h z ≡ queued) (λ z. z ≢ x) not-own (slots q) (all .owned))) (λ z. o .0 (sym z)))
 
-    own-whole : Whole (withLink s d x v) h q
+    own-whole : Intact (withLink s d x v) h q
     own-whole = record {
       shape = frame-shape (s .link) (s .anchor) (slots q) (all .shape) d (relink (s .link) d x v)
           (all-map (λ y. h y ≡ queued) _ (λ y n e. relink-other (s .link) d x v e y (not-own y n)) (slots q) (all .owned));

@@ -10,7 +10,7 @@ use Rattle.model.proofs.machine.Book.{Call}
 use Rattle.model.proofs.machine.Laws.{sameLink-true, upd-other, upd-same}
 use Rattle.model.proofs.machine.Machine.{Give, Link, Rec, Shared, at15, at16, at17, ends, give, gives, goes, popped, putHead}
 use Rattle.model.proofs.machine.Machine.{putNext, running, runs, sameLink, upd, withNext}
-use Rattle.model.proofs.invariant.Owners.{Owner, Pool, Spare, Whole, free, held}
+use Rattle.model.proofs.invariant.Owners.{Owner, Pool, Spare, Intact, free, held}
 use Rattle.model.proofs.invariant.Rely.{Rely}
 use Rattle.model.proofs.invariant.Tasks.{Task}
 use Rattle.model.proofs.places.Effects.{no-effect}
@@ -20,7 +20,7 @@ use Rattle.model.proofs.places.Places12to14.{pool}
 use Rattle.model.proofs.places.Shown.{Shown, plain, still}
 use Rattle.model.proofs.places.Stack.{given, linked, top-apart}
 
-module _ (t : ℕ) (s : Shared) (h : ℕ → Owner) (q : List Entry) (c : Call) (all : Whole s h q) (r : Rec) where
+module _ (t : ℕ) (s : Shared) (h : ℕ → Owner) (q : List Entry) (c : Call) (all : Intact s h q) (r : Rec) where
   abbrev x : ℕ
   x = r .own
 

@@ -11,11 +11,11 @@ use Rattle.model.proofs.tests.Truth.{by-test}
 use Rattle.model.proofs.machine.Book.{Call}
 use Rattle.model.proofs.machine.Laws.{same-true}
 use Rattle.model.proofs.machine.Machine.{Rec, Shared, act, at5, at6, at7, at8, leave, none, same, tip}
-use Rattle.model.proofs.invariant.Owners.{Owner, Whole}
+use Rattle.model.proofs.invariant.Owners.{Owner, Intact}
 use Rattle.model.proofs.invariant.Tasks.{Eighth, Helps, Ninth, Task, way}
 use Rattle.model.proofs.places.Shown.{Shown, leaves, rely-refl, still}
 
-module _ (t : ℕ) (s : Shared) (h : ℕ → Owner) (q : List Entry) (c : Call) (all : Whole s h q) (r : Rec) where
+module _ (t : ℕ) (s : Shared) (h : ℕ → Owner) (q : List Entry) (c : Call) (all : Intact s h q) (r : Rec) where
   pub away : Helps (s .label) (s .anchor) h t (r .finishing) (r .kind) (r .side) (r .own) (r .label) (r .read) c → Shown t s h q c (leave none r)
   away w = leaves none r h refl refl all (λ u n. rely-refl u) (w .stage)
 

@@ -7,10 +7,10 @@ use Prim.Native.Nat.{_<_, ℕ}
 use native.Mathlib.Omega.{arith}
 use Rattle.model.specs.declared.Entry.{Entry}
 use Rattle.model.proofs.tests.Truth.{by-test, not-both}
-use Rattle.model.proofs.machine.Book.{Call, Kept, effect, granted, isNoSlot, noted}
+use Rattle.model.proofs.machine.Book.{Call, Honoured, effect, granted, isNoSlot, noted}
 use Rattle.model.proofs.machine.Machine.{Anchor, Answer, Move, Rec, Shared, Touch, apply, at1, blank, empty, ends, goes, leave}
 use Rattle.model.proofs.machine.Machine.{noSlot, none, popped, push, pushed, pushing, running, runs, tip, withAnchor}
-use Rattle.model.proofs.invariant.Owners.{Owner, Whole, held}
+use Rattle.model.proofs.invariant.Owners.{Owner, Intact, held}
 use Rattle.model.proofs.invariant.Rely.{Rely, Stacked}
 use Rattle.model.proofs.invariant.Shape.{Made}
 use Rattle.model.proofs.invariant.Tasks.{Bare, Read, Stage, Task}
@@ -19,10 +19,10 @@ use Rattle.model.proofs.places.Effects.{no-effect, noted-false}
 -- The record and the call after an answer.
 abbrev pub Finish : Answer → Shared → (ℕ → Owner) → ℕ → Rec → Call → Type 0
 Finish running s h t r c = Task (r .place) s h t r c
-Finish pushed s h t r c = (r ≡ blank) × Kept (record { call = c; answer = pushed }) × Bare h t
-Finish empty s h t r c = (r ≡ blank) × Kept (record { call = c; answer = empty }) × Bare h t
-Finish noSlot s h t r c = (r ≡ blank) × Kept (record { call = c; answer = noSlot }) × Bare h t
-Finish (popped x l) s h t r c = (r ≡ blank) × Kept (record { call = c; answer = popped x l }) × Bare h t
+Finish pushed s h t r c = (r ≡ blank) × Honoured (record { call = c; answer = pushed }) × Bare h t
+Finish empty s h t r c = (r ≡ blank) × Honoured (record { call = c; answer = empty }) × Bare h t
+Finish noSlot s h t r c = (r ≡ blank) × Honoured (record { call = c; answer = noSlot }) × Bare h t
+Finish (popped x l) s h t r c = (r ≡ blank) × Honoured (record { call = c; answer = popped x l }) × Bare h t
 
 -- A push that has its effect stands at the end of its side.
 abbrev pub Stands : Shared → Call → Move → Type 0
@@ -31,7 +31,7 @@ Stands s c m = effect (s .anchor) (apply s (m .touch) .anchor) (m .answer) ≡ t
 
 pub record Shown (t : ℕ) (s : Shared) (h : ℕ → Owner) (q : List Entry) (c : Call) (m : Move) : Type 0 where
   pub owner : ℕ → Owner
-  pub whole : Whole (apply s (m .touch)) owner (noted (granted (m .touch) c) q (s .anchor) (apply s (m .touch) .anchor) (m .answer) .queue)
+  pub whole : Intact (apply s (m .touch)) owner (noted (granted (m .touch) c) q (s .anchor) (apply s (m .touch) .anchor) (m .answer) .queue)
   pub rely : (u : ℕ) → u ≢ t → Rely u s h (apply s (m .touch)) owner
   pub finish : Finish (m .answer) (apply s (m .touch)) owner t (m .rec)
       (noted (granted (m .touch) c) q (s .anchor) (apply s (m .touch) .anchor) (m .answer) .call)
@@ -85,7 +85,7 @@ rely-turn a h′ later closed kept back u n =
 
 module _ {t : ℕ} {s : Shared} {h : ℕ → Owner} {q : List Entry} {c : Call} where
   -- A step with no effect.
-  pub plain : (m : Move) (h′ : ℕ → Owner) → effect (s .anchor) (apply s (m .touch) .anchor) (m .answer) ≡ false → Whole (apply s (m .touch)) h′ q
+  pub plain : (m : Move) (h′ : ℕ → Owner) → effect (s .anchor) (apply s (m .touch) .anchor) (m .answer) ≡ false → Intact (apply s (m .touch)) h′ q
       → ((u : ℕ) → u ≢ t → Rely u s h (apply s (m .touch)) h′) → Finish (m .answer) (apply s (m .touch)) h′ t (m .rec) (granted (m .touch) c)
       → Shown t s h q c m
   plain m h′ e w y f =
@@ -99,16 +99,16 @@ module _ {t : ℕ} {s : Shared} {h : ℕ → Owner} {q : List Entry} {c : Call} 
             c′;
         queue = q′;
       }
-      → Whole (apply s (m .touch)) h′ q′ → ((u : ℕ) → u ≢ t → Rely u s h (apply s (m .touch)) h′)
+      → Intact (apply s (m .touch)) h′ q′ → ((u : ℕ) → u ≢ t → Rely u s h (apply s (m .touch)) h′)
       → Finish (m .answer) (apply s (m .touch)) h′ t (m .rec) c′ → Stands s c m → Shown t s h q c m
   effective m h′ c′ q′ n w y f z = record { owner = h′; whole = rw n w; rely = y; finish = rw n f; stands = z }
 
   -- The tables stay as they are.
-  pub still : {r : Rec} → Whole s h q → Task (r .place) s h t r c → Shown t s h q c (runs none r)
+  pub still : {r : Rec} → Intact s h q → Task (r .place) s h t r c → Shown t s h q c (runs none r)
   still {r} w f = plain (runs none r) h (no-effect (s .anchor) (s .anchor) running refl refl refl) w (λ u n. rely-refl u) f
 
   pub leaves : (g : Touch) (r : Rec) (h′ : ℕ → Owner) → s .anchor .left ≡ apply s g .anchor .left → s .anchor .right ≡ apply s g .anchor .right
-      → Whole (apply s g) h′ q
+      → Intact (apply s g) h′ q
       → ((u : ℕ) → u ≢ t → Rely u s h (apply s g) h′)
       → Stage (r .finishing) (apply s g .label) h′ t (r .kind) (r .side) (r .own) (r .label) (granted g c) → Shown t s h q c (leave g r)
   leaves g r h′ el er w y f = by-test (Shown t s h q c) (r .finishing)

@@ -4,7 +4,7 @@ use mathlib.Core.Logic.{_≢_, _⊎_, inl, inr}
 use mathlib.Core.Path.{_∙_, _≡_, ap, refl, subst, sym}
 use Prim.Native.Nat.{_≤_, ℕ}
 use Rattle.model.proofs.tests.Truth.{decide-eq, not-both}
-use Rattle.model.proofs.machine.Book.{Both, begun, opened}
+use Rattle.model.proofs.machine.Book.{Both, begun, bookedCall}
 use Rattle.model.proofs.machine.Laws.{upd-other, upd-same}
 use Rattle.model.proofs.machine.Machine.{Shared, asking, idle, moved, pop, push, started, upd, withLabel}
 use Rattle.model.proofs.invariant.Invariant.{Inv}
@@ -29,14 +29,14 @@ module _ (p : Both) (i : Inv p) where
   -- An accepted start of a pop.
   pub pop-inv : (t : ℕ) (d : Bool) → p .state .task t .place ≡ idle → Inv (record {
     state = moved (p .state) t s (started pop d 0 0);
-    book = begun (p .book) t (opened pop d 0 0);
+    book = begun (p .book) t (bookedCall pop d 0 0);
   })
   pop-inv t d ready =
       record {
         owner = h;
         whole = i .whole;
         kept = i .kept;
-        tasks = tasks-upd s h (p .state .task) (p .book .calls) t (started pop d 0 0) (opened pop d 0 0) (λ u n. i .tasks u)
+        tasks = tasks-upd s h (p .state .task) (p .book .calls) t (started pop d 0 0) (bookedCall pop d 0 0) (λ u n. i .tasks u)
             (refl, record { agrees = record { kind = refl; side = refl; slot = refl; label = refl }; none = refl; own = bare t ready });
       }
 
@@ -44,14 +44,14 @@ module _ (p : Both) (i : Inv p) where
   pub ask-inv : (t : ℕ) (d : Bool) (l : ℕ) → p .state .task t .place ≡ idle → s .pooled ≡ true → Inv (record {
     state = moved (p .state) t s
         (asking d l);
-    book = begun (p .book) t (opened push d 0 l);
+    book = begun (p .book) t (bookedCall push d 0 l);
   })
   ask-inv t d l ready e =
       record {
         owner = h;
         whole = i .whole;
         kept = i .kept;
-        tasks = tasks-upd s h (p .state .task) (p .book .calls) t (asking d l) (opened push d 0 l) (λ u n. i .tasks u) (
+        tasks = tasks-upd s h (p .state .task) (p .book .calls) t (asking d l) (bookedCall push d 0 l) (λ u n. i .tasks u) (
           e,
           record {
             early = refl;
@@ -89,14 +89,14 @@ module _ (p : Both) (i : Inv p) where
     marked : Marks (s .slots) (upd (s .mark) x true) (upd h x (held t))
     marked = record { set = λ y. marked-set y (decide-eq y x); owed = λ y. marked-owed y (decide-eq y x) }
 
-    pub push-inv : Inv (record { state = moved (p .state) t (withLabel s x l) (started push d x l); book = begun (p .book) t (opened push d x l) })
+    pub push-inv : Inv (record { state = moved (p .state) t (withLabel s x l) (started push d x l); book = begun (p .book) t (bookedCall push d x l) })
     push-inv =
         record {
           owner = upd h x (held t);
           whole = gets-whole (i .whole) t x l unowned (s .head) nz low
               (subst (λ b. Spare b (s .slots) (upd (s .mark) x true) (s .next) (s .head .slot) (upd h x (held t))) (sym named) marked);
           kept = i .kept;
-          tasks = tasks-upd (withLabel s x l) (upd h x (held t)) (p .state .task) (p .book .calls) t (started push d x l) (opened push d x l)
+          tasks = tasks-upd (withLabel s x l) (upd h x (held t)) (p .state .task) (p .book .calls) t (started push d x l) (bookedCall push d x l)
               (others p i t (withLabel s x l) (upd h x (held t)) (gets-rely (i .whole) t x l unowned (s .head) (stack-same refl refl refl))) (
                 refl,
                 record {

@@ -6,12 +6,12 @@ use mathlib.Core.Path.{_≡_, refl, subst, subst₂, sym}
 use Prim.Native.Nat.{ℕ}
 use Rattle.model.specs.declared.Entry.{Entry}
 use Rattle.model.proofs.tests.Truth.{decide-eq, not-both}
-use Rattle.model.proofs.machine.Book.{Both, Call, Kept, Noted, closes, granted, noCall, noted, stepped}
+use Rattle.model.proofs.machine.Book.{Both, Call, Honoured, Noted, closes, granted, noCall, noted, stepped}
 use Rattle.model.proofs.machine.Laws.{upd-other, upd-same}
 use Rattle.model.proofs.machine.Machine.{Answer, Place, Rec, Shared, act, apply, at1, at10, at11, at2, at3, at4, at5, at6, at7, at8}
 use Rattle.model.proofs.machine.Machine.{at9, blank, draw, empty, give, idle, isIdle, moved, noSlot, popped, pushed, running, upd}
 use Rattle.model.proofs.invariant.Invariant.{Inv}
-use Rattle.model.proofs.invariant.Owners.{Owner, Whole}
+use Rattle.model.proofs.invariant.Owners.{Owner, Intact}
 use Rattle.model.proofs.invariant.Rely.{Rely}
 use Rattle.model.proofs.invariant.Tasks.{Bare, Task}
 use Rattle.model.proofs.places.Others.{keep}
@@ -28,7 +28,7 @@ use Rattle.model.proofs.places.Places15to17.{place15to17}
 use Rattle.model.proofs.places.Shown.{Finish, Shown, Stands}
 
 -- One step, by places.
-places : (t : ℕ) (s : Shared) (h : ℕ → Owner) (q : List Entry) (c : Call) → Whole s h q → (r : Rec) (p : Place) → isIdle p ≡ false → Task p s h t r c
+places : (t : ℕ) (s : Shared) (h : ℕ → Owner) (q : List Entry) (c : Call) → Intact s h q → (r : Rec) (p : Place) → isIdle p ≡ false → Task p s h t r c
     → Shown t s h q c (act p s r)
 places t s h q c all r idle i w = absurd (not-both refl i)
 places t s h q c all r at1 i w = place1 t s h q c all r (r .kind) refl w
@@ -63,9 +63,9 @@ module _ (p : Both) (i : Inv p) where
       (p .book .calls u) (i .tasks u)
 
   -- An accepted step that answers, and one that may.
-  answer : (t : ℕ) (s : Shared) (r : Rec) (h : ℕ → Owner) (n : Noted) (w : Answer) → Whole s h (n .queue)
+  answer : (t : ℕ) (s : Shared) (r : Rec) (h : ℕ → Owner) (n : Noted) (w : Answer) → Intact s h (n .queue)
       → ((u : ℕ) → u ≢ t → Rely u (p .state .shared) (i .owner) s h)
-      → (r ≡ blank) × Kept (record { call = n .call; answer = w }) × Bare h t
+      → (r ≡ blank) × Honoured (record { call = n .call; answer = w }) × Bare h t
       → Inv (record { state = record { shared = s; task = upd (p .state .task) t r }; book = closes (p .book) t n w })
   answer t s r h n w a y f =
       record {
@@ -76,7 +76,7 @@ module _ (p : Both) (i : Inv p) where
             (subst (λ (x : Rec). Task (x .place) s h t x noCall) (sym (f .0)) (refl, f .2));
       }
 
-  absorb : (t : ℕ) (s : Shared) (r : Rec) (h : ℕ → Owner) (n : Noted) (w : Answer) → Whole s h (n .queue)
+  absorb : (t : ℕ) (s : Shared) (r : Rec) (h : ℕ → Owner) (n : Noted) (w : Answer) → Intact s h (n .queue)
       → ((u : ℕ) → u ≢ t → Rely u (p .state .shared) (i .owner) s h)
       → Finish w s h t r (n .call) → Inv (record { state = record { shared = s; task = upd (p .state .task) t r }; book = stepped (p .book) t n w })
   absorb t s r h n running a y f =

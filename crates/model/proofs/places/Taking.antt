@@ -16,7 +16,7 @@ use Rattle.model.proofs.machine.Book.{Call, effect, given, granted, isN
 use Rattle.model.proofs.machine.Laws.{stable-pushing, upd-other, upd-same}
 use Rattle.model.proofs.machine.Machine.{Anchor, Move, Rec, Shared, Touch, apply, at1, at11, goes, none, pop, popped, push, pushed}
 use Rattle.model.proofs.machine.Machine.{pushing, putAnchor, running, runs, stable, tip, upd, withAnchor}
-use Rattle.model.proofs.invariant.Owners.{Owner, Whole, free, held, queued}
+use Rattle.model.proofs.invariant.Owners.{Owner, Intact, free, held, queued}
 use Rattle.model.proofs.invariant.Rely.{Rely}
 use Rattle.model.proofs.invariant.Shape.{Made, Shape}
 use Rattle.model.proofs.invariant.Tasks.{Bare, Before, Own, Sole}
@@ -24,7 +24,7 @@ use Rattle.model.proofs.places.Effects.{noted-pop, noted-push}
 use Rattle.model.proofs.places.Owned.{held-free, held-inj, owner-back, owner-bounds, owner-kept, owner-spare, push-pop, queued-free, queued-held}
 use Rattle.model.proofs.places.Shown.{Finish, Shown, effective, rely-turn, still}
 
-module _ {s : Shared} {h : ℕ → Owner} {q : List Entry} (all : Whole s h q) where
+module _ {s : Shared} {h : ℕ → Owner} {q : List Entry} (all : Intact s h q) where
   calm : s .anchor .status ≡ stable → (e : Bool) → s .anchor .status ≡ pushing e → Made (s .link) (s .anchor) e
   calm st e g = absurd (stable-pushing (sym st ∙ g))
 
@@ -33,7 +33,7 @@ module _ {s : Shared} {h : ℕ → Owner} {q : List Entry} (all : Whole s h q) w
   not-in e = all-map (λ y. h y ≡ queued) (λ y. y ≢ _) (λ y g z. queued-held (sym g ∙ ap h z ∙ e)) (slots q) (all .owned)
 
   pushed-whole : (t : ℕ) (a : Anchor) (d : Bool) (x l : ℕ) → Own push (s .label) h t x l → Shape (s .link) a (put d x (slots q))
-      → Whole (withAnchor s a) (upd h x queued) (put d (record { slot = x; label = l }) q)
+      → Intact (withAnchor s a) (upd h x queued) (put d (record { slot = x; label = l }) q)
   unfolding put
   pushed-whole t a d x l o shape =
       let e : slots (put d (record { slot = x; label = l }) q) ≡ put d x (slots q) = slots-put d (record { slot = x; label = l }) q in
@@ -74,7 +74,7 @@ module _ {s : Shared} {h : ℕ → Owner} {q : List Entry} (all : Whole s h q) w
           (ap given g ∙ cc, ap h f ∙ o .0)
 
   popped-whole : (t : ℕ) (a : Anchor) (d : Bool) (y : ℕ) → y ≡ tip (s .anchor) d → y ≢ 0 → Shape (s .link) a (took d (slots q))
-      → Whole (withAnchor s a) (upd h y (held t)) (took d q)
+      → Intact (withAnchor s a) (upd h y (held t)) (took d q)
   unfolding took
   popped-whole t a d y e n shape =
       let g : slots (took d q) ≡ took d (slots q) = slots-took d q in
@@ -101,7 +101,7 @@ module _ {s : Shared} {h : ℕ → Owner} {q : List Entry} (all : Whole s h q) w
 pub put-bare : (h : ℕ → Owner) (t x : ℕ) → Sole h t x → Bare (upd h x queued) t
 put-bare h t x o y f = let b = owner-back h x queued (held t) queued-held y f in b .0 (o y (b .1))
 
-module _ {t : ℕ} {s : Shared} {h : ℕ → Owner} {q : List Entry} {c : Call} (all : Whole s h q) (r : Rec) where
+module _ {t : ℕ} {s : Shared} {h : ℕ → Owner} {q : List Entry} {c : Call} (all : Intact s h q) (r : Rec) where
   -- A push has its effect.
   pub push-good : (m : Move) → r .kind ≡ push → Before (s .label) h t (r .kind) (r .side) (r .own) (r .label) c
       → effect (s .anchor) (apply s (m .touch) .anchor) (m .answer) ≡ true
@@ -113,7 +113,7 @@ module _ {t : ℕ} {s : Shared} {h : ℕ → Owner} {q : List Entry} {c : Call} 
       effective m (upd h (r .own) queued) (told c pushed) (put (r .side) (record { slot = r .own; label = r .label }) q)
       (ap (λ (z : Touch). noted (granted z c) q (s .anchor) (apply s (m .touch) .anchor) (m .answer)) ms
       ∙ noted-push c (b .agrees) q (s .anchor) (apply s (m .touch) .anchor) (m .answer) eff ans k)
-      (subst (λ z. Whole (apply s z) (upd h (r .own) queued) (put (r .side) (record { slot = r .own; label = r .label }) q)) (sym ms)
+      (subst (λ z. Intact (apply s z) (upd h (r .own) queued) (put (r .side) (record { slot = r .own; label = r .label }) q)) (sym ms)
       (pushed-whole all t a (r .side) (r .own) (r .label) o shape))
       (λ u n. subst (λ z. Rely u s h (apply s z) (upd h (r .own) queued)) (sym ms) (rely-turn a (upd h (r .own) queued) lt (calm all st)
       (λ u x n g. owner-kept h (r .own) queued t (inl (o .1)) u x n g) (λ u x n g. owner-back h (r .own) queued (held u) queued-held x g .1) u n))

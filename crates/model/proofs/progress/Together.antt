@@ -15,7 +15,7 @@ use Rattle.model.proofs.machine.Machine.{Anchor, Kind, Link, Move, Plac
 use Rattle.model.proofs.machine.Machine.{at4, at5, at6, at7, at8, at9, both, draw, finishes, four, give, goes, idle, isIdle, isStable, leave, none, one}
 use Rattle.model.proofs.machine.Machine.{ownLink, pop, push, pushing, putAnchor, putLink, running, runs, same, sameLink, settled, three, tip}
 use Rattle.model.proofs.machine.Machine.{towards, two, withLink}
-use Rattle.model.proofs.invariant.Owners.{Owner, Whole}
+use Rattle.model.proofs.invariant.Owners.{Owner, Intact}
 use Rattle.model.proofs.invariant.Rely.{Quiet, Turned}
 use Rattle.model.proofs.invariant.Shape.{Made}
 use Rattle.model.proofs.invariant.Tasks.{Grown, Live, Task, way}
@@ -69,7 +69,7 @@ module _ (s : Shared) (r : Rec) where
   one-none pop = either Untouched (eqb (s .anchor .left) 0) refl
       (either Untouched (eqb (s .anchor .left) (s .anchor .right)) refl (either Untouched (isStable (s .anchor .status)) refl refl))
 
-  module _ (t : ℕ) (h : ℕ → Owner) (q : List Entry) (b : Call) (all : Whole s h q) where
+  module _ (t : ℕ) (h : ℕ → Owner) (q : List Entry) (b : Call) (all : Intact s h q) where
     abbrev after : Move → Noted
     after m = noted b q (s .anchor) (apply s (m .touch) .anchor) (m .answer)
 

@@ -24,7 +24,7 @@ use Rattle.model.specs.declared.TaskRecord.{TaskRecord}
 use Rattle.model.proofs.tests.Truth.{by-test, decide-eq, not-both}
 use Rattle.model.proofs.lists.Store.{set-back}
 use Rattle.model.proofs.bridge.Accepted.{Lies, lies, pop-accepted, push-accepted, put-accepted, step-accepted}
-use Rattle.model.proofs.ledger.Kept.{act-good}
+use Rattle.model.proofs.ledger.EveryOperation.{act-good}
 use Rattle.model.proofs.ledger.Matched.{Matched}
 use Rattle.model.proofs.unsound.Safe.{Safe}
 use Rattle.model.proofs.unsound.StartSafe.{pop-begins, push-begins, put-begins, start-safe}

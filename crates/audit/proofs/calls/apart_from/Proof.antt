@@ -7,7 +7,7 @@ use borrow.Author.Needs.{needs}
 use lib.ListN.{length}
 use lib.Seq.{slice}
 use Rattle.audit_model.specs.Audit.{allOf, apart}
-use Rattle.audit_model.specs.Words.{callsIn}
+use Rattle.audit_model.specs.LentHistory.{callsIn}
 use Rattle.audit.proofs.Loops.{all-done, all-next}
 use Rattle.audit.proofs.WordsRead.{count-is}
 use Rattle.audit.proofs.calls.apart_from.Statement.{statement}

@@ -2,7 +2,7 @@
 use mathlib.Core.Path.{sym, _∙_}
 use lib.Seq.{length-take-le, take-take}
 use Rattle.audit_model.specs.Audit.{verdict}
-use Rattle.audit_model.specs.Words.{callsIn}
+use Rattle.audit_model.specs.LentHistory.{callsIn}
 use Rattle.historyfile.proofs.Keeping.{part-is}
 use borrow.Author.Needs.{needs}
 use Rattle.historyfile.proofs.judge.verdict_on.Statement.{statement}

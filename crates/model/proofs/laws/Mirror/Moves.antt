@@ -17,7 +17,7 @@ use Rattle.model.specs.Places.{reads, changes, reading, replaces}
 use Rattle.model.specs.Places.{at1, at2, at3, new4, at4, at5, at6, at7, at9, at10, at11, at12, at13, at14, at15, at16, at17, move, apply}
 use Rattle.model.specs.Places as placed
 use Rattle.model.specs.Mirror.{mirrorStatus, mirrorAnchor, mirrorWord, mirrorControl, mirrorTables, mirrorBusy}
-use Rattle.model.proofs.laws.Mirror.Words.{status-stable, mirror-fields, mirror-pack, mirror-equal}
+use Rattle.model.proofs.laws.Mirror.Packed.{status-stable, mirror-fields, mirror-pack, mirror-equal}
 use Rattle.model.proofs.laws.Mirror.Sides.{far-mirror, facing-mirror, pushing-mirror, pushing-small, end-mirror, row-mirror, link-side-mirror}
 use Rattle.model.proofs.laws.Mirror.Sound.{eqb-sym}
 

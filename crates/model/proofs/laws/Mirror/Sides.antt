@@ -15,7 +15,7 @@ use Rattle.model.specs.Tables.{Tables, opposite, near, far, facing, link
 use Rattle.model.specs.Sound.{drawing, giving, helping, isPush}
 use Rattle.model.specs.Places.{sideOf, endSeen, row, linkSide, wordFound}
 use Rattle.model.specs.Mirror.{mirrorSide, mirrorStatus, mirrorAnchor, mirrorTables, mirrorBusy}
-use Rattle.model.proofs.laws.Mirror.Words.{mirror-fields}
+use Rattle.model.proofs.laws.Mirror.Packed.{mirror-fields}
 
 -- A side enters by one test alone.
 module _ (d : ℕ) where

@@ -15,7 +15,7 @@ use Rattle.model.specs.Sound.{from1, anchorSound, controlSound, recordSo
 use Rattle.model.specs.declared.Asked.{Asked}
 use Rattle.model.specs.Refusals.{Lent, fits, startRefusal}
 use Rattle.model.specs.Mirror.{mirrorSide, mirrorAnchor, mirrorWord, mirrorControl, mirrorTables, mirrorBusy, mirrorRecord}
-use Rattle.model.proofs.laws.Mirror.Words.{status-stable, status-range, mirror-fields}
+use Rattle.model.proofs.laws.Mirror.Packed.{status-stable, status-range, mirror-fields}
 
 pub eqb-sym : (m n : ℕ) → eqb m n ≡ eqb n m
 eqb-sym m n = go (eqb n m) refl

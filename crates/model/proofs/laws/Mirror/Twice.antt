@@ -10,7 +10,7 @@ use Rattle.model.specs.declared.Record.{Record}
 use Rattle.model.specs.declared.TaskRecord.{TaskRecord}
 use Rattle.model.specs.Tables.{Queue, ofKind, withAnchor, withCall, withSeen}
 use Rattle.model.specs.Mirror.{mirrorSide, mirrorBusy, mirrorRecord, mirrorTask, mirrorQueue}
-use Rattle.model.proofs.laws.Mirror.Words.{mirror-involutive}
+use Rattle.model.proofs.laws.Mirror.Packed.{mirror-involutive}
 use Rattle.model.proofs.laws.Mirror.Steps.{busy-record}
 
 side-twice : (side : ℕ) → mirrorSide (mirrorSide side) ≡ side

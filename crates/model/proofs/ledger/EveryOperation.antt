@@ -48,7 +48,7 @@ goes-on Empty b e = rw e
 goes-on (Popped x) b e = rw e
 goes-on NoSlot b e = rw e
 
-kept-head : (b : B.Book) (t : ℕ) (w : B.Noted) (a : Answer) → All B.Kept (B.stepped b t w (answerSeen a) .closed) → Final a → B.Kept (record {
+kept-head : (b : B.Book) (t : ℕ) (w : B.Noted) (a : Answer) → All B.Honoured (B.stepped b t w (answerSeen a) .closed) → Final a → B.Honoured (record {
   call =
       w .call;
   answer = answerSeen a;
@@ -182,12 +182,12 @@ module _ (n : ℕ) (q : Queue) (l : Ledger) (g : Matched n q l) (t : ℕ) where
     begun : (q′ : Queue) (new : Record) (kind side : ℕ) (e : Entry) → M.isIdle (recOf new .place) ≡ false
         → isPooled (q′ .tables .control) ≡ isPooled (q .tables .control)
         → ((u : ℕ) → stateOf q′ .task u ≡ upd (stateOf q .task) t (recOf new) u) → Names (isPooled (q .tables .control)) (e .slot) (e .slot)
-        → Inv (record { state = stateOf q′; book = B.begun (g .book) t (B.opened (kindOf kind) (eqb side 1) (e .slot) (e .label)) })
+        → Inv (record { state = stateOf q′; book = B.begun (g .book) t (B.bookedCall (kindOf kind) (eqb side 1) (e .slot) (e .label)) })
         → LinksFine (q′ .tables)
         → Matched (suc n) q′ (over (begins n t kind side e) l)
     unfolding recOf
     begun q′ new kind side e up p is names i k =
-        let c = B.opened (kindOf kind) (eqb side 1) (e .slot) (e .label) in
+        let c = B.bookedCall (kindOf kind) (eqb side 1) (e .slot) (e .label) in
         let w = isPooled (q .tables .control) in
         record {
           book = B.begun (g .book) t c;
