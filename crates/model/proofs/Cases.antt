@@ -1,5 +1,5 @@
--- Cases worked beside those of `Bench`: each refusal of an opening and of a start, what a step may not touch, what a report leaves out, and a task
--- stepped until it answers. Each line holds by computing the meanings.
+-- Cases worked beside those of `Bench`: each refusal of an opening and of a start, what a step may not touch, which changes count as failed, walks that
+-- lead astray, what a report leaves out, and a task stepped until it answers. Each line holds by computing the meanings.
 use mathlib.Core.Path.{_≡_, refl}
 use mathlib.Core.Bool.{true, false}
 use mathlib.Core.List.{List, [], _∷_, _++_, map}
@@ -15,7 +15,7 @@ use Rattle.model.specs.Places.{sideOf, row, linkSide, reading, at1, at2,
 use Rattle.model.specs.Route.{pushRoute, popRoute, route, onward, answer, goes, counted}
 use Rattle.model.specs.Refusals.{openRefusal, pushRefusal, putRefusal, popRefusal, stepSound, stepRefusal, alone, reportRefusal}
 use Rattle.model.specs.Calls.{opened, openAs, openPooled, pushStart, putStart, popStart, finish, step, actOn, act}
-use Rattle.model.specs.Walk.{along, contents}
+use Rattle.model.specs.Walk.{Walk, entries, broken, along, contents}
 use Rattle.model.specs.Report.{count, busy, waiting, takenSlots, tell, report, listed, retryCounts}
 use Rattle.model.specs.History.{Request, run, final}
 use Rattle.model.specs.OneTouch.{withMarks}
@@ -69,6 +69,20 @@ doing place kind own seen neighbour link =
 abbrev why : Tables → Record → ℕ
 why q r = stepRefusal q alone r
 
+-- The count that a step leaves, 5 before it.
+abbrev counts : Tables → Record → ℕ
+counts q r = step q alone (record { call = r; retries = 5 }) .task .retries
+
+-- The walk from the right end 2 to the left end 1, where Left of 2 and of 3 are these; under LPUSH from 1 to 2, where Right of 1 is this.
+abbrev walked : ℕ → ℕ → Walk
+walked left2 left3 = contents (links stable left2 left3 spare)
+
+abbrev walkedBack : ℕ → Walk
+walkedBack right1 = contents (links 0x0000000280008002 spare spare right1)
+
+abbrev met : List ℕ → Walk
+met slots = entries (map (λ x. record { slot = x; label = 0 }) slots)
+
 -- What lies beyond is full: a busy record, marks of slots 0 and 4.
 abbrev crowded : Queue
 crowded = record {
@@ -119,6 +133,15 @@ pub record Cases : Type 0 where
   pub next-met : map (λ n. why (pool 1 n) (doing 13 0 0 0 0 1)) (3 ∷ 4 ∷ []) ≡ 0 ∷ 34 ∷ []
   pub head-worn : map (λ h. why (pool h 0) (doing 14 0 0 0 0 0xffffffff00000001)) (0xffffffff00000001 ∷ 0 ∷ []) ≡ 34 ∷ 0 ∷ []
   pub head-worn-again : map (λ h. why (pool h 0) (doing 17 1 1 0 0 last)) (last ∷ 0 ∷ []) ≡ 34 ∷ 0 ∷ []
+  -- failed changes count, at 2, 4, 9, 10, 14 and 17; changes made do not, nor does a comparison that fails, at 6 and 8
+  pub failed-counted : map (λ p. counts (links 0 0 0 0) (doing p 1 0 pushing 1 0)) (2 ∷ 4 ∷ 10 ∷ 6 ∷ 8 ∷ []) ≡ 6 ∷ 6 ∷ 6 ∷ 5 ∷ 5 ∷ []
+  pub failed-link-counted : map (λ w. counts (links pushing 0 0 w) (doing 9 1 0 pushing 1 3)) (2 ∷ 3 ∷ []) ≡ 6 ∷ 5 ∷ []
+  pub failed-head-counted : map (λ h. counts (pool h 0) (doing 14 0 0 0 0 3)) (2 ∷ 3 ∷ []) ≡ 6 ∷ 5 ∷ []
+  pub failed-head-counted-again : map (λ h. counts (pool h 0) (doing 17 1 1 0 0 3)) (2 ∷ 3 ∷ []) ≡ 6 ∷ 5 ∷ []
+  -- a walk is broken where before the other end it meets a set bit in 31–15, slot 0, a slot above slots, or more slots than exist
+  pub walks : map (λ w. walked w spare) (1 ∷ spare ∷ 0 ∷ 4 ∷ 2 ∷ []) ≡ met (1 ∷ 2 ∷ []) ∷ broken ∷ broken ∷ broken ∷ broken ∷ []
+  pub walks-round : map (λ w. walked 3 w) (1 ∷ 2 ∷ []) ≡ met (1 ∷ 3 ∷ 2 ∷ []) ∷ broken ∷ []
+  pub walks-back : map walkedBack (2 ∷ spare ∷ 0 ∷ 1 ∷ []) ≡ met (1 ∷ 2 ∷ []) ∷ broken ∷ broken ∷ broken ∷ []
   -- a report counts no record beyond the tasks and no mark but those of slots 1 to slots
   pub no-more-told : report crowded ≡ report halfway
   pub no-more-counts : retryCounts crowded ≡ replicate 16 0
@@ -158,6 +181,13 @@ cases = record {
   next-met = refl;
   head-worn = refl;
   head-worn-again = refl;
+  failed-counted = refl;
+  failed-link-counted = refl;
+  failed-head-counted = refl;
+  failed-head-counted-again = refl;
+  walks = refl;
+  walks-round = refl;
+  walks-back = refl;
   no-more-told = refl;
   no-more-counts = refl;
   none-made = (refl, refl);
