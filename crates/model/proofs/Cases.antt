@@ -37,6 +37,16 @@ abbrev single : Queue
 single = openPooled (record { tables = tablesOf (zeros .tables .control) (0 ∷ 0 ∷ []) (0 ∷ 0 ∷ []) (0 ∷ 0 ∷ []) (0 ∷ []) (9 ∷ 9 ∷ []); records = unused ∷ unused ∷ [] })
     2 1 0 .queue
 
+-- The same once its slot waits.
+abbrev filled : Queue
+filled = final single (put 0 1 5 ∷ steps (replicate 5 0))
+
+abbrev drawing : ℕ → Tables
+drawing n = final single (put 0 1 5 ∷ steps (replicate n 0)) .tables
+
+abbrev giving : ℕ → Tables
+giving n = final filled (pop 1 0 ∷ steps (replicate n 1)) .tables
+
 -- Anchors: 1 and 2, STABLE and RPUSH. A set bit in 31–15; a word whose tag is the last.
 abbrev stable : ℕ
 stable = 0x0000000100008002
@@ -114,6 +124,12 @@ pub record Cases : Type 0 where
   -- the first push draws the one slot, the second finds none
   pub drawn : outcomes single (put 0 1 5 ∷ steps (replicate 3 0) ++ put 1 1 6 ∷ steps (1 ∷ []))
       ≡ at 12 ∷ at 13 ∷ at 14 ∷ at 1 ∷ at 12 ∷ Moved NoSlot ∷ []
+  -- 14 marks and labels the slot drawn; a pop clears the mark at 11, before it gives the slot back; each change of the head raises its tag
+  pub marked-at-14 : map (λ n. drawing n .marks) (2 ∷ 3 ∷ 5 ∷ []) ≡ (0 ∷ []) ∷ (2 ∷ []) ∷ (2 ∷ []) ∷ []
+  pub labelled-at-14 : map (λ n. drawing n .labels) (2 ∷ 3 ∷ []) ≡ (0 ∷ 0 ∷ []) ∷ (0 ∷ 5 ∷ []) ∷ []
+  pub given-back : outcomes filled (pop 1 0 ∷ steps (replicate 6 1)) ≡ at 1 ∷ at 2 ∷ at 11 ∷ at 15 ∷ at 16 ∷ at 17 ∷ got 1 5 ∷ []
+  pub cleared-at-11 : map (λ n. giving n .marks) (2 ∷ 3 ∷ 6 ∷ []) ≡ (2 ∷ []) ∷ (0 ∷ []) ∷ (0 ∷ []) ∷ []
+  pub heads : drawing 2 .control .head ∷ map (λ n. giving n .control .head) (5 ∷ 6 ∷ []) ≡ 1 ∷ 0x0000000100000000 ∷ 0x0000000200000001 ∷ []
   -- no such task, an idle one
   pub steps-refused : outcomes (fresh 0) (steps (2 ∷ 0 ∷ [])) ≡ Refused 13 ∷ Refused 31 ∷ []
   -- 34 for what a step touches. At 3 a pop reads the end's link, a push its own; at 5 and 7 link words are read, at 7, 9 and 11 a row is needed
@@ -166,6 +182,11 @@ cases = record {
   starts-refused = refl;
   pooled-starts = refl;
   drawn = refl;
+  marked-at-14 = refl;
+  labelled-at-14 = refl;
+  given-back = refl;
+  cleared-at-11 = refl;
+  heads = refl;
   steps-refused = refl;
   at-3-pop = refl;
   at-3-push = refl;
