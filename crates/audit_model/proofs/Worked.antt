@@ -14,7 +14,9 @@ use Rattle.model.specs.Deque.{serve, serveFor, servePop, servePush}
 use Rattle.model.specs.History.{Call, Request, accept, attend, isEffect, ledger, ledgerFrom, note, run, stepOf}
 use Rattle.audit_model.specs.declared.Finished.{Finished}
 use Rattle.audit_model.specs.declared.Verdict.the-variants.{Failed, Passed, Refused}
+use Rattle.audit_model.specs.declared.VerdictReply.{VerdictReply}
 use Rattle.audit_model.specs.Audit.{accepted, agrees, apart, notEarlier, rearranges, replay, serveLabel, verdict, wellFormed}
+use Rattle.audit_model.specs.Words.{verdictReply}
 use Rattle.audit_model.specs.Written.{effectOrder, finished, insert}
 
 abbrev zeros : Queue
@@ -61,6 +63,9 @@ empty = record { task = 0; kind = 1; side = 0; label = 0; answer = 3; start = 4;
 abbrev popped : ℕ → ℕ → Finished
 popped label start = record { task = 1; kind = 1; side = 1; label = label; answer = 4; start = start; end = 10 }
 
+abbrev told : ℕ → ℕ → VerdictReply
+told code position = record { code = code; position = position }
+
 abbrev history : List Finished
 history = push ∷ empty ∷ popped 700 5 ∷ []
 
@@ -88,6 +93,8 @@ pub record Table : Type 0 where
   -- a push that named no slot is a push of its label; *no slot* is an answer of its own, which no history knows
   pub pooled-so : finished pooledCalls ≡ drawn ∷ noSlot ∷ []
   pub no-slot : verdict (drawn ∷ noSlot ∷ []) (1 ∷ 2 ∷ []) ≡ Refused 40
+  -- the numbers of each verdict
+  pub numbers : map verdictReply (Passed ∷ Failed 0 ∷ Failed 3 ∷ Refused 40 ∷ []) ≡ told 0 0 ∷ told 1 0 ∷ told 1 3 ∷ told 40 0 ∷ []
 
 pub worked : Table
 unfolding openAs opened openRefusal run act actOn pushStart putStart popStart step finish startRefusal stepRefusal stepSound
@@ -110,4 +117,5 @@ worked = record {
   too-many = refl;
   pooled-so = refl;
   no-slot = refl;
+  numbers = refl;
 }

@@ -24,28 +24,28 @@ use Rattle.model.specs.Report.{count, busy, waiting, takenSlots, tell, r
 use Rattle.model.specs.History.{Request, Event, run, final}
 
 -- Tables of zeros for 2 tasks and 3 slots, and the queue opened in them with a first tag.
-abbrev zeros : Queue
+abbrev pub zeros : Queue
 zeros = queueOf unopened (replicate 2 unused) (replicate 4 0) (replicate 4 0) (replicate 4 0) (replicate 1 0) []
 
-abbrev fresh : ℕ → Queue
+abbrev pub fresh : ℕ → Queue
 fresh tag = openQueue zeros 2 3 tag .queue
 
-abbrev push : ℕ → ℕ → ℕ → ℕ → Request
+abbrev pub push : ℕ → ℕ → ℕ → ℕ → Request
 push t side slot label = record { task = t; op = Push side slot label }
 
-abbrev pop : ℕ → ℕ → Request
+abbrev pub pop : ℕ → ℕ → Request
 pop t side = record { task = t; op = Pop side }
 
-abbrev steps : List ℕ → List Request
+abbrev pub steps : List ℕ → List Request
 steps l = map (λ t. record { task = t; op = Step }) l
 
-abbrev outcomes : Queue → List Request → List Outcome
+abbrev pub outcomes : Queue → List Request → List Outcome
 outcomes q os = map (λ (e : Event). e .outcome) (run q os)
 
-abbrev at : ℕ → Outcome
+abbrev pub at : ℕ → Outcome
 at p = Moved (Running p)
 
-abbrev got : ℕ → ℕ → Outcome
+abbrev pub got : ℕ → ℕ → Outcome
 got slot label = Moved (Popped (record { slot = slot; label = label }))
 
 -- Slot 1 pushed right alone by task 0, then slot 2.
@@ -55,7 +55,7 @@ pushFirst = push 0 1 1 700 ∷ steps (replicate 2 0)
 abbrev pushSecond : List Request
 pushSecond = push 0 1 2 800 ∷ steps (replicate 9 0)
 
-abbrev one : Queue
+abbrev pub one : Queue
 one = final (fresh 0) pushFirst
 
 abbrev two : Queue
@@ -66,7 +66,7 @@ abbrev worn : Queue
 worn = final (fresh 4294967262) (push 0 1 1 700 ∷ pop 1 1 ∷ steps (replicate 2 0))
 
 -- Of two labels task 1 has taken the left one and is at 11; task 0, with a third, is at 4, before its effect.
-abbrev halfway : Queue
+abbrev pub halfway : Queue
 halfway = final two (pop 1 0 ∷ steps (replicate 3 1) ++ push 0 1 3 900 ∷ steps (replicate 2 0))
 
 -- After the race of two pops below.

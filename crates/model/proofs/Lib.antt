@@ -25,3 +25,4 @@ pub mod LinksBack
 -- Laws of single calls, and the worked cases of the document.
 pub mod laws
 pub mod Bench
+pub mod Cases
