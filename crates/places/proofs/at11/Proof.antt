@@ -4,7 +4,7 @@ use mathlib.Core.Bool.{true}
 use borrow.Author.Needs.{needs}
 use borrow.Author.Tests.{eq-eqb, ne-eqb}
 use Rattle.model.specs.Sound.{from1}
-use Rattle.places.proofs.Rows.{end, own, named11, pooled11, refused11}
+use Rattle.places.proofs.OnRows.{end, own, named11, pooled11, refused11}
 use Rattle.places.proofs.at11.Statement.{statement}
 use Rattle.places.proofs.at11.Tie as tie
 

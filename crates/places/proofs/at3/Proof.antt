@@ -2,7 +2,7 @@
 use mathlib.Core.Path.{sym, _∙_}
 use borrow.Author.Tests.{eq-eqb, ne-eqb}
 use borrow.Author.Needs.{needs}
-use Rattle.places.proofs.Rows.{push3, pop3}
+use Rattle.places.proofs.OnRows.{push3, pop3}
 use Rattle.places.proofs.at3.Statement.{statement}
 use Rattle.places.proofs.at3.Tie as tie
 

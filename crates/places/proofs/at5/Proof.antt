@@ -1,6 +1,6 @@
 -- `step5`, with what the calls answer put in.
 use borrow.Author.Needs.{needs}
-use Rattle.places.proofs.Rows.{step5}
+use Rattle.places.proofs.OnRows.{step5}
 use Rattle.places.proofs.at5.Statement.{statement}
 use Rattle.places.proofs.at5.Tie as tie
 

@@ -1,6 +1,6 @@
 -- `step7`, with what the calls answer put in.
 use borrow.Author.Needs.{needs}
-use Rattle.places.proofs.Rows.{step7}
+use Rattle.places.proofs.OnRows.{step7}
 use Rattle.places.proofs.at7.Statement.{statement}
 use Rattle.places.proofs.at7.Tie as tie
 

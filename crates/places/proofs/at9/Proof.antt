@@ -6,7 +6,7 @@ use lib.ListN.{getD}
 use borrow.Author.Tests.{eq-eqb, ne-eqb, lt-ltb, le-ltb, not-true, not-false}
 use borrow.Author.Needs.{needs}
 use Rattle.model.specs.Sound.{from1}
-use Rattle.places.proofs.Rows.{named, step9}
+use Rattle.places.proofs.OnRows.{named, step9}
 use Rattle.places.proofs.at9.Statement.{statement}
 use Rattle.places.proofs.at9.Tie as tie
 
