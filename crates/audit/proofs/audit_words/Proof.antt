@@ -5,7 +5,7 @@ use native.Mathlib.Omega.{arith}
 use borrow.Author.Needs.{needs}
 use lib.ListN.{length}
 use Rattle.audit_model.specs.Words.{callsIn}
-use Rattle.audit.proofs.Whole.{in-order-length, out-of-order, refused, replayed-so, too-many}
+use Rattle.audit.proofs.Verdicts.{in-order-length, out-of-order, refused, replayed-so, too-many}
 use Rattle.audit.proofs.WordsRead.{count-is}
 use Rattle.audit.proofs.audit_words.Statement.{statement}
 use Rattle.audit.proofs.audit_words.Tie as tie
