@@ -69,8 +69,8 @@ loop-again c =
 returns : tie.Need-returns Inv-loop μ-loop
 returns c =
     let lists = c .before .before .before .before in
-    let words = lists .before .before .before in
-    let first = words .before .before in
+    let replies = lists .before .before .before in
+    let first = replies .before .before in
     let e : c .before .loop .i ≡ first .args .count = omega arith in
     sym (served-none _ _ _ _ e) ∙ c .before .loop .inv .4
 
