@@ -83,12 +83,14 @@ pub extern "C" fn zc_push(
     ensures { λ r.
         ⌜ _≡_ {A = Replied}
         (record {
-          queue = queueIn (now (control .entry)) (now (records .exit)) (now (lefts .entry)) (now (rights .entry)) (now (labels .exit)) (now (marks .exit)) (now (next .entry));
+          queue = queueIn (now (control .entry)) (now (records .exit))
+              (now (lefts .entry)) (now (rights .entry)) (now (labels .exit)) (now (marks .exit)) (now (next .entry));
           uppers = uppersOf (now (records .exit));
           reply = r;
         })
         (replied isMoved task (uppersOf (now (records .entry)))
-        (act (queueIn (now (control .entry)) (now (records .entry)) (now (lefts .entry)) (now (rights .entry)) (now (labels .entry)) (now (marks .entry)) (now (next .entry)))
+        (act (queueIn (now (control .entry)) (now (records .entry))
+        (now (lefts .entry)) (now (rights .entry)) (now (labels .entry)) (now (marks .entry)) (now (next .entry)))
         task (Push side slot label))) ⌝ }
 {
     let row = *control;
@@ -131,12 +133,14 @@ pub extern "C" fn zc_push_pooled(
     ensures { λ r.
         ⌜ _≡_ {A = Replied}
         (record {
-          queue = queueIn (now (control .entry)) (now (records .exit)) (now (lefts .entry)) (now (rights .entry)) (now (labels .entry)) (now (marks .entry)) (now (next .entry));
+          queue = queueIn (now (control .entry)) (now (records .exit))
+              (now (lefts .entry)) (now (rights .entry)) (now (labels .entry)) (now (marks .entry)) (now (next .entry));
           uppers = uppersOf (now (records .exit));
           reply = r;
         })
         (replied isMoved task (uppersOf (now (records .entry)))
-        (act (queueIn (now (control .entry)) (now (records .entry)) (now (lefts .entry)) (now (rights .entry)) (now (labels .entry)) (now (marks .entry)) (now (next .entry)))
+        (act (queueIn (now (control .entry)) (now (records .entry))
+        (now (lefts .entry)) (now (rights .entry)) (now (labels .entry)) (now (marks .entry)) (now (next .entry)))
         task (Put side label))) ⌝ }
 {
     let row = *control;
@@ -177,12 +181,14 @@ pub extern "C" fn zc_pop(
     ensures { λ r.
         ⌜ _≡_ {A = Replied}
         (record {
-          queue = queueIn (now (control .entry)) (now (records .exit)) (now (lefts .entry)) (now (rights .entry)) (now (labels .entry)) (now (marks .entry)) (now (next .entry));
+          queue = queueIn (now (control .entry)) (now (records .exit))
+              (now (lefts .entry)) (now (rights .entry)) (now (labels .entry)) (now (marks .entry)) (now (next .entry));
           uppers = uppersOf (now (records .exit));
           reply = r;
         })
         (replied isMoved task (uppersOf (now (records .entry)))
-        (act (queueIn (now (control .entry)) (now (records .entry)) (now (lefts .entry)) (now (rights .entry)) (now (labels .entry)) (now (marks .entry)) (now (next .entry)))
+        (act (queueIn (now (control .entry)) (now (records .entry))
+        (now (lefts .entry)) (now (rights .entry)) (now (labels .entry)) (now (marks .entry)) (now (next .entry)))
         task (Pop side))) ⌝ }
 {
     let row = *control;
@@ -210,12 +216,14 @@ pub extern "C" fn zc_step(
     ensures { λ r.
         ⌜ _≡_ {A = Replied}
         (record {
-          queue = queueIn (now (control .exit)) (now (records .exit)) (now (lefts .exit)) (now (rights .exit)) (now (labels .exit)) (now (marks .exit)) (now (next .exit));
+          queue = queueIn (now (control .exit)) (now (records .exit))
+              (now (lefts .exit)) (now (rights .exit)) (now (labels .exit)) (now (marks .exit)) (now (next .exit));
           uppers = uppersOf (now (records .exit));
           reply = r;
         })
         (replied endsCall task (uppersOf (now (records .entry)))
-        (act (queueIn (now (control .entry)) (now (records .entry)) (now (lefts .entry)) (now (rights .entry)) (now (labels .entry)) (now (marks .entry)) (now (next .entry)))
+        (act (queueIn (now (control .entry)) (now (records .entry))
+        (now (lefts .entry)) (now (rights .entry)) (now (labels .entry)) (now (marks .entry)) (now (next .entry)))
         task Step)) ⌝ }
 {
     let o = rows::step(control, records, task, lefts, rights, labels, marks, next);
@@ -265,7 +273,8 @@ pub extern "C" fn zc_report(
     next: &[u64],
 ) -> ReportReply
     ensures { λ r.
-        ⌜ (let q = queueIn (now (control .entry)) (now (records .entry)) (now (lefts .entry)) (now (rights .entry)) (now (labels .entry)) (now (marks .entry)) (now (next .entry)) in
+        ⌜ (let q = queueIn (now (control .entry)) (now (records .entry))
+        (now (lefts .entry)) (now (rights .entry)) (now (labels .entry)) (now (marks .entry)) (now (next .entry)) in
         r ≡ reportReplyOf (report q) (retryCounts q)) ⌝ }
 {
     let row = *control;

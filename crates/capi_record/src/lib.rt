@@ -22,7 +22,8 @@ pub extern "C" fn zc_step_record(
     ensures { λ r.
         ⌜ _≡_ {A = RepliedAlone}
         (record {
-          tables = tablesOf (controlOf (now (control .exit))) (now (lefts .exit)) (now (rights .exit)) (now (labels .exit)) (now (marks .exit)) (now (next .exit));
+          tables = tablesOf (controlOf (now (control .exit)))
+              (now (lefts .exit)) (now (rights .exit)) (now (labels .exit)) (now (marks .exit)) (now (next .exit));
           task = recordOf (now (task .exit));
           upper = upperOf (now (task .exit));
           reply = r;

@@ -56,6 +56,11 @@ tabled c ls = tablesOf c (ls .0) (ls .1 .0) (ls .1 .1 .0) (ls .1 .1 .1 .0) (ls .
 abbrev pub unwritten : Five (RefT (List ℕ)) → Five (List ℕ)
 unwritten xs = (xs .0 .now, (xs .1 .0 .now, (xs .1 .1 .0 .now, (xs .1 .1 .1 .0 .now, (xs .1 .1 .1 .1 .0 .now, tt)))))
 
+-- Their lengths.
+abbrev pub lengths : Five (RefT (List ℕ)) → Five ℕ
+lengths xs =
+    (length (xs .0 .now), (length (xs .1 .0 .now), (length (xs .1 .1 .0 .now), (length (xs .1 .1 .1 .0 .now), (length (xs .1 .1 .1 .1 .0 .now), tt)))))
+
 -- They keep their lengths.
 abbrev pub Lengths : Five (RefT (List ℕ)) → Five (List ℕ) → Type 0
 Lengths xs ls =

@@ -20,7 +20,7 @@ use Rattle.model.proofs.Retries.{retries-sum}
 use Rattle.model.proofs.tests.Truth.{split}
 use Rattle.stock_model.proofs.Accounts.{every-label, stock-taking}
 use Rattle.capi.specs.Replies.{uppersAt, Coded, coded}
-use Rattle.history.specs.Words.{requestsOf, requestsFrom, repliesOf}
+use Rattle.history.specs.Requests.{requestsOf, requestsFrom, repliesOf}
 use Rattle.history.specs.Serving.{State, uppersAfter, served, countAfter, FollowsOn, Serves}
 use Rattle.history.proofs.Uppers.{still-zero}
 

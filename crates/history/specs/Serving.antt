@@ -19,7 +19,7 @@ use Rattle.model.specs.Retries.{SumIsOld}
 use Rattle.stock_model.specs.Accounts.{Accounted, only, StockSum}
 use Rattle.rows.specs.Rows.{queueIn, uppersOf}
 use Rattle.history.specs.declared.ServeReply.{ServeReply}
-use Rattle.history.specs.Words.{requestsOf, repliesOf, room}
+use Rattle.history.specs.Requests.{requestsOf, repliesOf, room}
 
 -- All that is lent but the requests: the queue, the upper halves of the labels' words in the records, which are in no field, and
 -- the memory of the replies.

@@ -13,7 +13,7 @@ ghost use mathlib.Core.Bool.{not};
 ghost use Prim.Native.Nat.{_*_, _≤_};
 ghost use lib.Dec.{eqb};
 ghost use lib.ListN.{length};
-ghost use Rattle.history.specs.Words.{requestsOf};
+ghost use Rattle.history.specs.Requests.{requestsOf};
 ghost use Rattle.history.specs.Serving.{stateIn, served, countAfter, Serves};
 
 /// The words of a request, and of a reply.

@@ -25,7 +25,7 @@ use Rattle.join_model.specs.Join.{anchorIn, lane, lanes, sourceFits, thirdFits,
 use Rattle.join_model.specs.Closed.{lateFor, closedRefusal}
 use Rattle.join_model.proofs.Merged.{interleaved, length-merged}
 use Rattle.join.specs.declared.admit.Admission.{Admission}
-use Rattle.join.specs.Rules.{lengthsFit, testsRefusal, laterRefusal}
+use Rattle.join.specs.Stages.{lengthsFit, testsRefusal, laterRefusal}
 use Rattle.join.specs.Admits.{walked, Admits}
 
 -- Long enough by the lengths is long enough.

@@ -16,7 +16,7 @@ use Rattle.model.specs.Sound.{rowTests, rowsFit}
 use Rattle.model.specs.Walk.{Walk, entries, broken, along, contents, isBroken, met, walkFrom}
 use Rattle.model.proofs.tests.Rules.{tests}
 use Rattle.model.proofs.tests.Truth.{split, not-both}
-use Rattle.walk.proofs.Turns.{empty, from-right}
+use Rattle.walk.proofs.SlotBySlot.{empty, from-right}
 use Rattle.join_model.specs.Merge.{merge}
 use Rattle.join_model.specs.Join.{anchorIn, lane, lanes, joinRefusal, Joined, join, laid}
 use Rattle.join_model.specs.Closed.{filled, leftOf, labelOf, markedTo, held, holding, lateFor, closedRefusal, joinClosed}

@@ -16,7 +16,7 @@ use Rattle.model.specs.Report.{count}
 use Rattle.model.proofs.tests.Truth.{split, not-both}
 use Rattle.join_model.specs.Join.{blank}
 use Rattle.join_model.proofs.Fresh.{none-pass}
-use Rattle.join.specs.Rules.{least}
+use Rattle.join.specs.Stages.{least}
 
 -- Seven tests, made one after the other.
 pub seven : (a b c d e f g : Bool) → (((((a && b) && c) && d) && e) && f) && g ≡ every (a ∷ b ∷ c ∷ d ∷ e ∷ f ∷ g ∷ [])

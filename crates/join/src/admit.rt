@@ -15,7 +15,7 @@ ghost use Rattle.walk.specs.Counted.{counted};
 ghost use Rattle.rows.specs.Rows.{recordsOf};
 ghost use Rattle.join_model.specs.Join.{atRest, fresh};
 ghost use Rattle.join_model.specs.Closed.{lateFor};
-ghost use Rattle.join.specs.Rules.{lengthsFit, testsRefusal, laterRefusal};
+ghost use Rattle.join.specs.Stages.{lengthsFit, testsRefusal, laterRefusal};
 ghost use Rattle.join.specs.Admits.{walked, Admits};
 
 // The highest Anchor tag that a start is accepted at.

@@ -19,7 +19,8 @@ use Rattle.model.specs.declared.Transition.{Transition}
 use Rattle.table.specs.Lent.{withTables}
 use Rattle.places.specs.Arm.{stepAt, Steps, StepsOnAnchor}
 use Rattle.places.specs.Ending.{refused, settled, noEntry, failing, withFailed, anchored, anchorRead, mayChange, remembered, compared, changed}
-use Rattle.places.proofs.Routes.{split, kinds, readings, Quiet, quietly}
+use Rattle.places.proofs.Routes.{kinds, readings, Quiet, quietly}
+use Rattle.model.proofs.tests.Truth.{split}
 
 -- The step at place n tries to change Anchor: the change fails, is denied or is made.
 pub record Tries (n : ℕ) (c : Control) (r : Record) (new : ℕ) (t : Record) (done : ℕ) (failed : Transition) : Type 0 where

@@ -16,7 +16,7 @@ use Rattle.model.specs.Tables.{Tables, isEmpty}
 use Rattle.model.specs.Sound.{from1, linkSound}
 use Rattle.model.specs.Walk.{Walk, along, andThen, broken, contents, entries, isBroken, met, walkFrom}
 use Rattle.model.proofs.tests.Truth.{not-both, split}
-use Rattle.walk.proofs.Turns.{rest, entry, outside, ends, strays, goes, empty, from-left, from-right}
+use Rattle.walk.proofs.SlotBySlot.{rest, entry, outside, ends, strays, goes, empty, from-left, from-right}
 use Rattle.waiting.specs.Waiting.{onto}
 use Rattle.waiting.specs.Trail.{trail, downward, laid}
 

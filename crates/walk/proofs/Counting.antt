@@ -16,7 +16,7 @@ use Rattle.model.specs.Walk.{Walk, along, andThen, broken, contents, entries, i
 use Rattle.walk.specs.declared.Tally.{Tally}
 use Rattle.walk.specs.declared.Tally.the-variants.{Broken, Labels}
 use Rattle.walk.specs.Counted.{andCounted, counted}
-use Rattle.walk.proofs.Turns.{rest, entry, outside, ends, strays, goes, from-left, from-right}
+use Rattle.walk.proofs.SlotBySlot.{rest, entry, outside, ends, strays, goes, from-left, from-right}
 
 none-yet : (w : Walk) → andCounted 0 w ≡ counted w
 none-yet (entries l) = ap Labels (omega arith)

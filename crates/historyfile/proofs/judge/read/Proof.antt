@@ -62,18 +62,18 @@ take-byte-requires-2 c κs = (omega arith, c .before .before .loop .inv .3)
 
 same-length : tie.Need-same-length Inv-loop μ-loop
 same-length c =
-    let back4 = c .before .before .before .before in
-    let at = back4 .before .loop in
+    let test = c .before .before .before .before in
+    let at = test .before .loop in
     c .before .before .take-byte2 .kept .1 .1 .0 ∙ at .inv .2
 
 returns : tie.Need-returns Inv-loop μ-loop
 returns c =
     let call = c .before .before .take-byte2 in
-    let d = c .before .before .before .before in
-    let end = d .loop-test .left in
-    let at = d .before .loop in
-    let e = d .before .before .before .before in
-    let a = e .before .args in
+    let test = c .before .before .before .before in
+    let end = test .loop-test .left in
+    let at = test .before .loop in
+    let lists = test .before .before .before .before in
+    let a = lists .before .args in
     let v = at .values in
     let inv = at .inv in (
       fed-end (length v) (at .i) (a .text .now) (reading (at .s) v) _ (omega arith) (call .ensures .0) ∙ inv .4,

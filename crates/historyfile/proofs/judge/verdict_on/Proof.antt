@@ -11,18 +11,6 @@ use Rattle.historyfile.proofs.judge.verdict_on.Tie as tie
 slice-aggregate-audit-words : tie.Need-slice-aggregate-audit-words
 slice-aggregate-audit-words c = sym (length-take-le _ _ (search needs))
 
-mul-audit-words : tie.Need-mul-audit-words
-mul-audit-words c = search needs
-
-sub-audit-words : tie.Need-sub-audit-words
-sub-audit-words c = search needs
-
-part-audit-words-start : tie.Need-part-audit-words-start
-part-audit-words-start c = search needs
-
-part-audit-words-end : tie.Need-part-audit-words-end
-part-audit-words-end c = search needs
-
 returns : tie.Need-returns
 returns c =
     let start = c .before .before .before .before in
@@ -37,9 +25,9 @@ verdict-on-spec =
     tie.close
     (tie.spec
     slice-aggregate-audit-words
-    mul-audit-words
-    sub-audit-words
-    part-audit-words-start
-    part-audit-words-end
+    (λ c. search needs)
+    (λ c. search needs)
+    (λ c. search needs)
+    (λ c. search needs)
     (λ c κs. search needs)
     returns)

@@ -11,7 +11,7 @@ use Rattle.model.specs.Calls.{act}
 use Rattle.model.specs.History.{Request, run, final}
 use Rattle.capi.specs.Replies.{Replied, replied}
 use Rattle.history.specs.declared.request.Request.{Request as Asked}
-use Rattle.history.specs.Words.{opOf, requestAt, requestsFrom, replyWords, repliesOf}
+use Rattle.history.specs.Requests.{opOf, requestAt, requestsFrom, replyWords, repliesOf}
 use Rattle.history.specs.Serving.{State, writesRow, uppersAfter, served}
 
 -- An operation and then the rest.

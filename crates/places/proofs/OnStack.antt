@@ -18,7 +18,8 @@ use Rattle.model.specs.declared.Transition.{Transition}
 use Rattle.table.specs.Lent.{withTables}
 use Rattle.places.specs.Arm.{stepAt}
 use Rattle.places.specs.Ending.{refused, settled, noEntry, failing, headed, headRead}
-use Rattle.places.proofs.Routes.{split, kinds, Quiet, quietly}
+use Rattle.places.proofs.Routes.{kinds, Quiet, quietly}
+use Rattle.model.proofs.tests.Truth.{split}
 
 module _ (c : Control) (r : Record) (ls rs ns ms xs : List ℕ) (k : ℕ) where
   abbrev lent : Transition → Acted

@@ -19,7 +19,8 @@ use Rattle.model.specs.declared.Transition.{Transition}
 use Rattle.table.specs.Lent.{withTables}
 use Rattle.places.specs.Arm.{stepAt}
 use Rattle.places.specs.Ending.{refused, settled, noEntry, failing, rowSound, neighbourRead, linkRead}
-use Rattle.places.proofs.Routes.{split, kinds, Quiet, entry, quietly}
+use Rattle.places.proofs.Routes.{kinds, Quiet, entry, quietly}
+use Rattle.model.proofs.tests.Truth.{split}
 
 -- The side that a status names, and the opposite of a side.
 mirror : (b : Bool) → eqb (cond b 1 0) 1 ≡ b
