@@ -20,8 +20,8 @@ use Rattle.model.specs.Sound.{rowsFit}
 use Rattle.model.specs.Refusals.{among}
 use Rattle.model.specs.Calls.{Done, back, act, actOn}
 use Rattle.sound.specs.Lengths.{lengthsFit}
-use Rattle.engine.specs.Parts.{moveOn}
-use Rattle.engine.proofs.Whole.{turned-away, admitted, task-there}
+use Rattle.engine.specs.MoveOn.{moveOn}
+use Rattle.engine.proofs.InParts.{turned-away, admitted, task-there}
 use Rattle.deque.proofs.Walk.{fails}
 use Rattle.deque.proofs.Admission.{reason}
 use Rattle.deque.proofs.Engine.{Five, lengths, tabled, unwritten, Leaves}

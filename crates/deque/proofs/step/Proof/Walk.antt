@@ -43,8 +43,8 @@ use Rattle.model.specs.declared.TaskRecord.{TaskRecord}
 use Rattle.model.specs.declared.Outcome.{Outcome}
 use Rattle.model.specs.Tables.{unused}
 use Rattle.model.specs.Calls.{back}
-use Rattle.engine.specs.Parts.{moveOn}
-use Rattle.engine.proofs.Whole.{admitted}
+use Rattle.engine.specs.MoveOn.{moveOn}
+use Rattle.engine.proofs.InParts.{admitted}
 use Rattle.deque.proofs.Walk.{control-value, record-value, slice-value, kept, var, part, lets, receive, valued}
 use Rattle.deque.proofs.Walk.{fits-scaled, gives-up}
 use Rattle.deque.proofs.Admission.{Admit, Refuse, admits, refuses}
