@@ -16,7 +16,7 @@ use Rattle.audit_model.specs.declared.Finished.{Finished}
 use Rattle.audit_model.specs.declared.Verdict.the-variants.{Failed, Passed, Refused}
 use Rattle.audit_model.specs.declared.VerdictReply.{VerdictReply}
 use Rattle.audit_model.specs.Audit.{accepted, agrees, apart, notEarlier, rearranges, replay, serveLabel, verdict, wellFormed}
-use Rattle.audit_model.specs.Words.{verdictReply}
+use Rattle.audit_model.specs.LentHistory.{verdictReply}
 use Rattle.audit_model.specs.Written.{effectOrder, finished, insert}
 
 abbrev zeros : Queue
