@@ -31,7 +31,7 @@ use Rattle.deque.proofs.Engine.{Move}
 use Rattle.model.proofs.Control as K
 use Rattle.model.proofs.TaskRecord as T
 use Rattle.sound.proofs.admission.admit.Symbol as admit-def
-use Rattle.sound.proofs.admission.admit.Symbol.{name as #sound·admit}
+use Rattle.sound.proofs.admission.admit.Symbol.{name as #sound·admission·admit}
 use Rattle.sound.proofs.admission.admit.Met as admit-thm
 use Rattle.engine.proofs.refuse.Symbol as refuse-def
 use Rattle.engine.proofs.refuse.Symbol.{name as #engine·refuse}
@@ -47,7 +47,7 @@ use Rattle.deque.proofs.step.Proof.Leaving.{stayed}
 use Rattle.deque.proofs.step.Proof.Walk.{walk}
 
 module _ {M : Type 1} (𝓤 : URA M) (H : Heap 𝓤) (A : Atoms 𝓤) (W : Given 𝓤 H A) (mem : Memory → SProp 𝓤) (run : Routine → Fun 𝓤) where
-  self-walks : (C : Calls 𝓤 H) (Λ : Loops 𝓤 H) → FmC 𝓤 H (W .laws) C → Triple 𝓤 (C #sound·admit) (Admit 𝓤 H A mem run)
+  self-walks : (C : Calls 𝓤 H) (Λ : Loops 𝓤 H) → FmC 𝓤 H (W .laws) C → Triple 𝓤 (C #sound·admission·admit) (Admit 𝓤 H A mem run)
       → Triple 𝓤 (C #engine·refuse) (Refuse 𝓤 H A mem run)
       → Triple 𝓤 (C #deque·move-on) (Move 𝓤 H A moveOn)
       → Walks 𝓤 H A self.ended stayed (WpFn 𝓤 H C Λ code.function) (self.clauses 𝓤 H A mem run)
@@ -81,7 +81,7 @@ module _ {M : Type 1} (𝓤 : URA M) (H : Heap 𝓤) (A : Atoms 𝓤) (W : Given
       (are .1 .1 .1 .1 .1 .1 .0 .0 .1) (are .1 .1 .1 .1 .1 .1 .1 .0 .0 .1)))
 
 self-meets : {M : Type 1} (𝓤 : URA M) (H : Heap 𝓤) (A : Atoms 𝓤) → Given 𝓤 H A → (mem : Memory → SProp 𝓤) (run : Routine → Fun 𝓤) (𝓣 : Program 𝓤 H)
-    → Triple 𝓤 (𝓣 .C #sound·admit) (Admit 𝓤 H A mem run) → Triple 𝓤 (𝓣 .C #engine·refuse) (Refuse 𝓤 H A mem run)
+    → Triple 𝓤 (𝓣 .C #sound·admission·admit) (Admit 𝓤 H A mem run) → Triple 𝓤 (𝓣 .C #engine·refuse) (Refuse 𝓤 H A mem run)
     → Triple 𝓤 (𝓣 .C #deque·move-on) (Move 𝓤 H A moveOn)
     → Meets 𝓤 H A self.signature (WpFn 𝓤 H (𝓣 .C) (𝓣 .Λ) code.function) (self.spec 𝓤 H A mem run)
 self-meets 𝓤 H A W mem run 𝓣 known-admit known-refuse known =
@@ -114,7 +114,7 @@ step-spec 𝓤 H 𝓜 𝓖 𝓡 =
     entered 𝓤 H (tripleOf 𝓤 H (𝓖 .A) self.signature (self.spec 𝓤 H (𝓖 .A) (𝓜 .mem) (𝓡 .run)))
     (tables 𝓤 H 𝓜 𝓡 code.env .C) (tables 𝓤 H 𝓜 𝓡 code.env .Λ) #deque·step code.function (code.unfolded 𝓤 H 𝓜 𝓡)
     (self-meets 𝓤 H (𝓖 .A) (givenOf 𝓤 H 𝓜 𝓖) (𝓜 .mem) (𝓡 .run) (tablesOf 𝓤 H 𝓜 (tables 𝓤 H 𝓜 𝓡 code.env))
-    (cited 𝓤 H (Admit 𝓤 H (𝓖 .A) (𝓜 .mem) (𝓡 .run)) 𝓜 𝓡 code.env #sound·admit admit-def.routine code.calls-engine·admit (admit-thm.met 𝓤 H 𝓜 𝓖 𝓡))
+    (cited 𝓤 H (Admit 𝓤 H (𝓖 .A) (𝓜 .mem) (𝓡 .run)) 𝓜 𝓡 code.env #sound·admission·admit admit-def.routine code.calls-sound·admission·admit (admit-thm.met 𝓤 H 𝓜 𝓖 𝓡))
     (cited 𝓤 H (Refuse 𝓤 H (𝓖 .A) (𝓜 .mem) (𝓡 .run)) 𝓜 𝓡 code.env #engine·refuse refuse-def.routine code.calls-engine·refuse
     (refuse-thm.met 𝓤 H 𝓜 𝓖 𝓡))
     (cited 𝓤 H (Move 𝓤 H (𝓖 .A) moveOn) 𝓜 𝓡 code.env #deque·move-on callee-def.routine code.calls-deque·move-on (callee-thm.met 𝓤 H 𝓜 𝓖 𝓡)))
