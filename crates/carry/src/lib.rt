@@ -11,7 +11,7 @@ ghost use mathlib.Core.List.{List};
 ghost use Prim.Native.Nat.{ℕ, _+_, _≤_};
 ghost use lib.Dec.{leb};
 ghost use lib.ListN.{length, drop};
-ghost use Rattle.carry.specs.Page.{pageOf, breaks, carries, fieldRoom, takes, Whole};
+ghost use Rattle.carry.specs.Page.{pageOf, breaks, carries, fieldRoom, takes, BytesThere};
 
 /// Room in the buffer for the lines of any one field.
 pub const FIELD_ROOM: usize = 524288;
@@ -67,7 +67,7 @@ fn carry_out(
     next: &mut [u64],
 ) -> RunState
     requires { ⌜ s .to + 524288 ≤ length (now out) ⌝ }
-    requires { ⌜ Whole field at (length (now bytes)) ⌝ }
+    requires { ⌜ BytesThere field at (length (now bytes)) ⌝ }
     ensures { λ r.
         ⌜ pageOf r (now (out .exit)) (now (rows .exit))
         (now (lefts .exit)) (now (rights .exit)) (now (labels .exit)) (now (marks .exit)) (now (next .exit))

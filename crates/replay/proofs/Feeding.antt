@@ -15,9 +15,9 @@ use Rattle.runfile.specs.declared.Found.{Found}
 use Rattle.lines.specs.Line.{header}
 use Rattle.runfile.proofs.Prefix.{Seen, seen, ended, cut, wrong, whole, same-wrong, same-whole}
 use Rattle.carry.specs.Run.{Run, Told, malformed, carried}
-use Rattle.carry.specs.Page.{Whole}
+use Rattle.carry.specs.Page.{BytesThere}
 use Rattle.carry.proofs.Pages.{cond-true, cond-false}
-use Rattle.carry.proofs.Fields.{content-whole}
+use Rattle.carry.proofs.Fields.{content-there}
 use Rattle.replay.specs.Trace.{Fed, unmoved, after, feedIn, feed, finished, fresh, printed, printedPieces, traceOf}
 
 -- What a run makes of the field at the head of b.
@@ -37,7 +37,7 @@ module _ (r : Run) (b : List ℕ) {f : Found} (e : fieldOf (r .opened) b ≡ f) 
   told-of = ap (λ (x : Found). carried r (x .field) b) e
 
 -- A field does the same however many bytes follow.
-same-carried : (r : Run) (b c : List ℕ) (f : Field) → Whole f 0 (length b) → carried r f (b ++ c) ≡ carried r f b
+same-carried : (r : Run) (b c : List ℕ) (f : Field) → BytesThere f 0 (length b) → carried r f (b ++ c) ≡ carried r f b
 unfolding carried
 same-carried r b c (Open pooled tasks slots tag) w = refl
 same-carried r b c (Each op n) w =
@@ -62,7 +62,7 @@ next-of r b = go (fieldOf (r .opened) b) refl (seen (r .opened) b)
     go f e cut = waits (told-of r b e) (size-of r b e)
     go f e (wrong h w) = breaks (λ c. same-wrong (r .opened) b c h w) e
     go f e (whole w h) =
-        let there = content-whole (r .opened) (getD b 0 0) (twoAt b 1) 0 (length b) (drop 3 b) w (omega (arith, h)) in
+        let there = content-there (r .opened) (getD b 0 0) (twoAt b 1) 0 (length b) (drop 3 b) w (omega (arith, h)) in
         moves (let s = size-of r b e in omega arith) (let s = size-of r b e in omega arith)
         (λ c. same-whole (r .opened) b c w h ∙ sym e)
         (λ c. rw e (same-carried r b c (contentOf (getD b 0 0) (twoAt b 1) (drop 3 b)) there))

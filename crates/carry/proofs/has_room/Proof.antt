@@ -3,7 +3,7 @@ use Prim.Native.Nat.{_+_}
 use mathlib.Core.Path.{sym}
 use borrow.Author.Tests.{lt-leb}
 use native.Mathlib.Omega.{arith}
-use Rattle.carry.proofs.Turns.{moved-over}
+use Rattle.carry.proofs.AfterActs.{moved-over}
 use Rattle.carry.proofs.has_room.Statement.{statement}
 use Rattle.carry.proofs.has_room.Tie as tie
 

@@ -7,8 +7,8 @@ use borrow.Author.Needs.{needs}
 use borrow.Author.Tests.{leb-true}
 use lib.ListN.{length}
 use Rattle.runfile.specs.declared.Found.{Found}
-use Rattle.carry.specs.Page.{Whole}
-use Rattle.carry.proofs.Fields.{field-whole, next-fits, takes-page, takes-none}
+use Rattle.carry.specs.Page.{BytesThere}
+use Rattle.carry.proofs.Fields.{field-there, next-fits, takes-page, takes-none}
 use Rattle.carry.proofs.take.Statement.{statement}
 use Rattle.carry.proofs.take.Tie as tie
 
@@ -29,8 +29,8 @@ carry-out-requires c κs =
     let found = lent .before .before .before in
     let args = first found .args in (
       leb-true _ _ (fits found),
-      subst (λ (f : Found). Whole (f .field) (args .s .at) (length (args .bytes .now))) (sym (found .field-at .ensures .0))
-          (field-whole (args .s .opened) (args .bytes .now) (args .s .at)),
+      subst (λ (f : Found). BytesThere (f .field) (args .s .at) (length (args .bytes .now))) (sym (found .field-at .ensures .0))
+          (field-there (args .s .opened) (args .bytes .now) (args .s .at)),
     )
 
 -- The field carried out.

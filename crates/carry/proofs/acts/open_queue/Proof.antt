@@ -6,7 +6,7 @@ use borrow.Author.Needs.{needs}
 use Rattle.calls.specs.Opening.{OpenedParts}
 use Rattle.calls.proofs.Parts.{clear-fits}
 use Rattle.rows.proofs.Rows.{length-records}
-use Rattle.carry.proofs.Turns.{put-fits, open-page}
+use Rattle.carry.proofs.AfterActs.{put-fits, open-page}
 use Rattle.carry.proofs.acts.open_queue.Statement.{statement}
 use Rattle.carry.proofs.acts.open_queue.Tie as tie
 

@@ -1,4 +1,4 @@
--- What the code of an operation and of an opening leaves, as the definitions have it.
+-- The page after an operation, a malformed place and an opening: what their code leaves, as the definitions have it.
 use Prim.Native.Nat.{ℕ, _+_, _-_, _≤_}
 use mathlib.Core.Path.{_≡_, refl, sym, ap, _∙_}
 use mathlib.Core.Bool.{Bool, true, false, not, cond}
@@ -24,7 +24,7 @@ use Rattle.calls.specs.Opening.{OpenedParts, counting, openTables, whole}
 use Rattle.calls.proofs.Parts.{open-parts}
 use Rattle.lines.specs.Line.{Put, fitting, room, lineOf}
 use Rattle.lines.specs.declared.Line.the-variants.{Open, File}
-use Rattle.carry.specs.Run.{next, anchorIn, linesOf, numberOf, operated, isOpened, opened, malformed}
+use Rattle.carry.specs.Run.{next, anchorIn, linesOf, numberOf, operated, isOpened, openingTold, malformed}
 use Rattle.carry.specs.Page.{Page, pageOf, written, answered, emptied, cleared, operates, opens, breaks}
 use Rattle.carry.specs.declared.RunState.{RunState}
 use Rattle.carry.proofs.Pages.{breaks-fits}
@@ -123,7 +123,7 @@ module _ (pooled : Bool) (p : Page) (n tasks slots tag : ℕ) (o : OpenedParts) 
         at = p .at;
       })
       (opens p pooled tasks slots tag)
-  unfolding opened written cleared
+  unfolding openingTold written cleared
   open-page rs u good event out to en e er eu eg ev w =
       let d : openAs pooled (p .run .queue) tasks slots tag ≡ whole (p .run .queue .records) o =
       open-parts pooled (p .run .queue) tasks slots tag
