@@ -16,14 +16,6 @@ use Rattle.runfile.specs.declared.Field.the-variants.{Malformed}
 use Rattle.replay.specs.Feed.{feedPageIn, feedPage}
 use Rattle.replay.proofs.Feeding.{sizeAt, Next, waits, breaks, moves, next-of}
 
-pub negated : (a : Bool) → not a ≡ true → a ≡ false
-negated false e = refl
-negated true e = absurd (let z : _≡_ {A = ℕ} 0 1 = cc in omega arith)
-
-pub affirmed : (a : Bool) → not a ≡ false → a ≡ true
-affirmed true e = refl
-affirmed false e = absurd (let z : _≡_ {A = ℕ} 0 1 = cc in omega arith)
-
 module _ (bytes : List ℕ) where
   -- With room, the field at the reading position is carried out, and the position moves behind it.
   pub taken : (p : Page) → leb (p .to + fieldRoom) (length (p .out)) ≡ true
@@ -37,7 +29,7 @@ module _ (bytes : List ℕ) where
   size-within p = go (next-of (p .run) (drop (p .at) bytes))
     where
       go : Next (p .run) (drop (p .at) bytes) → sizeAt (p .run) (drop (p .at) bytes) ≤ length bytes - p .at
-      go (waits t s) = omega (arith, s)
+      go (waits t s less) = omega (arith, s)
       go (breaks f g) = let z : sizeAt (p .run) (drop (p .at) bytes) ≡ 0 = ap (λ (x : Found). x .size) g in omega (arith, z)
       go (moves s l f t) = omega (arith, l, length-drop (p .at) bytes)
 
