@@ -7,18 +7,20 @@ use native.Mathlib.Omega.{arith}
 use lib.Dec.{leb, ltb}
 use lib.ListN.{length, take, drop, take-append-drop}
 use lib.Seq.{slice, take-take, length-slice}
-use borrow.Author.Tests.{le-leb, lt-leb, ltb-true, lt-ltb, le-ltb}
-use Rattle.carry.specs.Page.{Page, pageOf}
+use borrow.Author.Tests.{le-leb, lt-leb, ltb-true, lt-ltb, le-ltb, not-true, not-false}
+use Rattle.model.proofs.tests.Truth.{not-both, and-true, or-right}
+use Rattle.runfile.specs.Field.{longestField}
+use Rattle.carry.specs.Page.{Page, pageOf, fieldRoom}
 use Rattle.carry.specs.declared.RunState.{RunState}
 use Rattle.carry.proofs.Pages.{cond-true, cond-false}
 use Rattle.replay.specs.Trace.{fresh}
 use Rattle.replay.specs.Feed.{Zeros, Begins}
 use Rattle.replay.specs.Pieces.{fromStart, pagesOf, begun, afterPieces, lastPage, roundPage, Stands, Gone}
-use Rattle.replay.proofs.Loop.{negated, affirmed}
 use Rattle.replay.proofs.PageLoop.{round-stands, round-gone}
+use Rattle.replay.proofs.Left.{stands-leaves}
 
 pub never : {P : Type 0} → _≡_ {A = Bool} true false → P
-never z = absurd (let y : _≡_ {A = ℕ} 0 1 = cc in omega arith)
+never z = absurd (not-both refl z)
 
 -- What was left stands before what was read: of `rest` bytes of the input that were left, and `full` with those that were read.
 module _ (b input : List ℕ) (rest full : ℕ) where
@@ -27,11 +29,11 @@ module _ (b input : List ℕ) (rest full : ℕ) where
       ap (λ (l : List ℕ). l ++ slice rest full input) (sym e ∙ sym (take-take rest full input h)) ∙ take-append-drop rest (take full input)
 
   module _ (p x : Page) where
-    pub end-round : (n : ℕ) → n ≡ rest → full ≡ n → full ≤ length input → length b ≡ rest → x ≡ lastPage n p
+    pub end-round : full ≡ rest → full ≤ length input → length b ≡ rest → x ≡ lastPage full p
         → x ≡ roundPage b (slice rest full input) p
     unfolding roundPage
-    end-round n e f within l h =
-        let none : length (slice rest full input) ≤ 0 = omega (arith, length-slice rest full input within, e, f) in
+    end-round e within l h =
+        let none : length (slice rest full input) ≤ 0 = omega (arith, length-slice rest full input within, e) in
         h ∙ ap (λ (k : ℕ). lastPage k p) (e ∙ sym l) ∙ sym (cond-true (leb (length (slice rest full input)) 0) _ _ (le-leb _ _ none))
 
     pub piece-round : rest ≤ full → full ≤ length input → (full ≡ rest → ⊥) → take rest input ≡ b
@@ -44,8 +46,8 @@ module _ (b input : List ℕ) (rest full : ℕ) where
 
 -- Whether bytes were read, as the code has it.
 module _ (rest full : ℕ) (over : Bool) where
-  pub none-read : (n : ℕ) → n ≡ rest → full ≡ n → false ≡ (ltb rest full && not over)
-  none-read n e f = rw (le-ltb rest full (omega (arith, e, f)))
+  pub none-read : full ≡ rest → false ≡ (ltb rest full && not over)
+  none-read e = rw (le-ltb rest full (omega (arith, e)))
 
   pub some-read : rest ≤ full → (full ≡ rest → ⊥) → not over ≡ (ltb rest full && not over)
   some-read order more = rw (lt-ltb rest full (omega (arith, order, more)))
@@ -69,39 +71,42 @@ module _ (out : List ℕ) (p p′ : Page) (b input : List ℕ) (rest full : ℕ)
   within = omega (arith, fits, same)
 
   both-false : (x y : Bool) → (x || not y) ≡ false → (x ≡ false) × (y ≡ true)
-  both-false false true h = (refl, refl)
-  both-false false false h = absurd (let z : _≡_ {A = ℕ} 0 1 = cc in omega arith)
-  both-false true y h = absurd (let z : _≡_ {A = ℕ} 0 1 = cc in omega arith)
+  both-false false y h = (refl, not-false y h)
+  both-false true y h = never h
 
-  first-true : (x y : Bool) → (x && y) ≡ true → x ≡ true
-  first-true true y h = refl
-  first-true false y h = h
-
-  second-false : (x y : Bool) → (x || y) ≡ true → x ≡ false → y ≡ true
-  second-false false y h k = h
-  second-false true y h k = absurd (let z : _≡_ {A = ℕ} 0 1 = cc in omega arith)
+  -- It goes on: bytes were read, and the run is not over.
+  going-on : (failed || not going) ≡ false → (rest < full) × (p′ .run .over ≡ false)
+  going-on h =
+      let k = both-false failed going h in
+      let both = and-true (ltb rest full) (not (p′ .run .over)) (sym (on (k .0)) ∙ k .1) in
+      (ltb-true _ _ (both .0), not-true _ (both .1))
 
   pub round-on : (failed || not going) ≡ false → Stands out p′ (slice (p′ .at) full input)
   round-on h =
-      let k = both-false failed going h in
-      let more : rest < full = ltb-true _ _ (first-true _ _ (sym (on (k .0)) ∙ k .1)) in
+      let more = going-on h .0 in
       let some : 0 < length c = omega (arith, length-slice rest full input within, more) in
-      let next = round-stands out p p′ b c s (page (k .0)) some in
+      let next = round-stands out p p′ b c s (page (both-false failed going h .0)) some in
       record {
         pieces = next .pieces;
         page = next .page;
         left = ap (drop (p′ .at)) (sym (all-read b input rest full order e)) ∙ next .left;
       }
 
+  -- Then less than a field is left, so the next read has room behind it.
+  pub round-leaves : fieldRoom ≤ length out → (failed || not going) ≡ false → full - p′ .at < longestField
+  round-leaves room h =
+      let less = stands-leaves out p′ (slice (p′ .at) full input) room (round-on h) (going-on h .1) in
+      omega (arith, less, length-slice (p′ .at) full input within)
+
   pub round-ends : (failed || not going) ≡ true → not failed ≡ true → Gone out p′
   round-ends h k =
-      let well = negated failed k in
-      let stays : (ltb rest full && not (p′ .run .over)) ≡ false = sym (on well) ∙ negated going (second-false failed (not going) h well) in
+      let well = not-true failed k in
+      let stays : (ltb rest full && not (p′ .run .over)) ≡ false = sym (on well) ∙ not-true going (or-right failed (not going) h well) in
       round-gone out p p′ b c s (page well) (λ some. over stays some)
     where
       under : (x : Bool) → (x && not (p′ .run .over)) ≡ false → x ≡ true → p′ .run .over ≡ true
-      under true m n = affirmed (p′ .run .over) m
-      under false m n = absurd (let z : _≡_ {A = ℕ} 0 1 = cc in omega arith)
+      under true m n = not-false (p′ .run .over) m
+      under false m n = absurd (not-both n refl)
 
       over : (ltb rest full && not (p′ .run .over)) ≡ false → 0 < length c → p′ .run .over ≡ true
       over m some = under (ltb rest full) m (lt-ltb rest full (omega (arith, length-slice rest full input within, some)))

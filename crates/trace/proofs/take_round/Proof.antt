@@ -7,29 +7,27 @@ use native.Mathlib.Omega.{arith}
 use lib.ListN.{length, take}
 use lib.Seq.{slice, length-take-le, length-slice}
 use borrow.Author.Needs.{needs}
-use Rattle.replay.proofs.Loop.{affirmed}
+use borrow.Author.Tests.{not-false}
 use Rattle.trace.proofs.Reading.{never, end-round, piece-round, none-read, some-read}
 use Rattle.trace.proofs.take_round.Statement.{statement}
 use Rattle.trace.proofs.take_round.Tie as tie
 
 -- After the read: the input when the function was called, what is in it now, and what of it was left.
-module _ (c : tie.After-read-more) where
-  abbrev slid : tie.After-slide
-  slid = c .before .before .before .before
-
+module _ (c : tie.After-refill) where
   abbrev first : tie.Start
   first =
-      let known = slid .before .before .before .before in
-      known .before .before .before .before .before
+      let lists = c .before .before .before .before in
+      let more = lists .before .before .before .before in
+      more .before
 
   abbrev old : List ℕ
   old = first .args .input .now
 
   abbrev new : List ℕ
-  new = c .read-more .last .0
+  new = c .refill .last .0
 
   abbrev full : ℕ
-  full = c .read-more .result .have
+  full = c .refill .result .have
 
   abbrev at : ℕ
   at = first .args .s .at
@@ -37,52 +35,58 @@ module _ (c : tie.After-read-more) where
   abbrev have : ℕ
   have = first .args .have
 
+  left : c .refill .result .left ≡ have - at
+  left = c .refill .ensures .0 .0
+
   same : length new ≡ length old
-  same = c .read-more .kept .0 ∙ slid .slide .kept .0
+  same = c .refill .kept .0
 
   order : have - at ≤ full
-  order = let e = slid .slide .ensures .0 in let h = c .read-more .ensures .0 .0 in omega (arith, e, h)
+  order = omega (arith, c .refill .ensures .0)
 
   within : full ≤ length old
-  within = let e = slid .slide .kept .0 in let h = c .read-more .ensures .0 .1 in omega (arith, e, h)
+  within = c .refill .ensures .0 .2
 
   within-new : full ≤ length new
   within-new = omega (arith, within, same)
 
   kept : take (have - at) new ≡ slice at have old
-  kept = ap (λ (n : ℕ). take n new) (sym (slid .slide .ensures .0)) ∙ c .read-more .ensures .1 ∙ slid .slide .ensures .1
+  kept = c .refill .ensures .1
 
   as-many : length (slice at have old) ≡ have - at
-  as-many = length-slice at have old (first .pre)
+  as-many = length-slice at have old (first .pre .0)
 
 slice-aggregate-take-piece : tie.Need-slice-aggregate-take-piece
 slice-aggregate-take-piece c =
-    let read = c .before .before .before .before .before in
+    let tests = c .before .before .before in
+    let read = tests .before .before .before in
     sym (length-take-le (full read) (new read) (within-new read))
 
 returns : tie.Need-returns
 returns c =
-    let read = c .before .before .before .before .before in
+    let test = c .before .before in
+    let read = test .before .before .before in
     ((order read, within read), (kept read, ((λ z. never z), (λ z. never z))))
 
 returns-2 : tie.Need-returns-2
 returns-2 c =
     let done = c .before .before .before .before in
-    let read = done .before .before .before .before .before .before in
-    let left = slid read .slide .ensures .0 in
-    let none = done .before .before .if2 .taken in (
+    let none = done .before .before in
+    let tests = none .before .before in
+    let read = tests .before .before .before in
+    let all : full read ≡ have read - at read = none .if2 .taken ∙ left read in (
       (order read, within read),
       (
         kept read,
         (
-          (λ w. end-round _ _ _ _ _ _ _ left none (within-new read) (as-many read) (done .end .ensures _ _ _ _ _ _)),
-          (λ w. none-read _ _ (done .end .result .state .over) _ left none),
+          (λ w. end-round _ _ _ _ _ _ all (within-new read) (as-many read) (done .end .ensures _ _ _ _ _ _)),
+          (λ w. none-read _ _ (done .end .result .state .over) all),
         ),
       ),
     )
 
 -- The call of `take_piece`, from the function's end.
-module _ (c : tie.After-struct-known3) where
+module _ (c : tie.After-struct-known4) where
   abbrev piece : tie.After-take-piece
   piece =
       let marks = c .before .before .before .before in
@@ -95,20 +99,19 @@ module _ (c : tie.After-struct-known3) where
       let more = piece .before .before .before .before in
       more .before .before .before .before
 
-  abbrev read : tie.After-read-more
-  read = let tests = lent .before .before .before in tests .before .before
+  abbrev read : tie.After-refill
+  read = let tests = lent .before .before .before in tests .before .before .before
 
 returns-3 : tie.Need-returns-3
 returns-3 c =
     let r = read c in
-    let left = slid r .slide .ensures .0 in
-    let some : full r ≡ have r - at r → ⊥ = λ k. lent c .before .if2 .left (k ∙ sym left) in
+    let some : full r ≡ have r - at r → ⊥ = λ k. lent c .before .if2 .left (k ∙ sym (left r)) in
     let done = piece c .take-piece in (
       (order r, within r),
       (
         kept r,
         (
-          (λ w. piece-round _ _ _ _ _ _ (order r) (within-new r) some (kept r) (done .ensures (affirmed _ w))),
+          (λ w. piece-round _ _ _ _ _ _ (order r) (within-new r) some (kept r) (done .ensures (not-false _ w))),
           (λ w. some-read _ _ (done .result .state .over) (order r) some),
         ),
       ),
@@ -118,7 +121,6 @@ pub take-round-spec : {M : Type 1} → statement M
 take-round-spec =
     tie.close
     (tie.spec
-    (λ c κs. search needs)
     (λ c κs. search needs)
     (λ c. search needs)
     (λ c κs. search needs)

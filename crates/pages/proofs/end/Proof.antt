@@ -4,8 +4,8 @@ use native.Mathlib.Omega.{arith}
 use borrow.Author.Needs.{needs}
 use Rattle.replay.specs.Pieces.{lastPage}
 use Rattle.replay.proofs.Bounds.{finished-within}
-use Rattle.trace.proofs.end.Statement.{statement}
-use Rattle.trace.proofs.end.Tie as tie
+use Rattle.pages.proofs.end.Statement.{statement}
+use Rattle.pages.proofs.end.Tie as tie
 
 flush-requires : tie.Need-flush-requires
 flush-requires c κs =

@@ -6,11 +6,11 @@ use borrow.Author.Needs.{needs}
 use lib.ListN.{length}
 use Rattle.carry.specs.Page.{Page, pageOf}
 use Rattle.replay.specs.Pieces.{pagesOf}
-use Rattle.replay.proofs.Loop.{negated, affirmed}
+use borrow.Author.Tests.{not-true, not-false}
 use Rattle.replay.proofs.PageLoop.{pages-rest, pages-last, pages-ended}
-use Rattle.trace.proofs.Turns.{still-when, moved-when, went-on}
-use Rattle.trace.proofs.take_piece.Statement.{statement}
-use Rattle.trace.proofs.take_piece.Tie as tie
+use Rattle.pages.proofs.PieceLoop.{still-when, moved-when, went-on}
+use Rattle.pages.proofs.take_piece.Statement.{statement}
+use Rattle.pages.proofs.take_piece.Tie as tie
 
 abbrev Inv-loop : tie.InvT-loop
 Inv-loop bytes out₀ rows₀ lefts₀ rights₀ labels₀ marks₀ next₀ q₀ out rows lefts rights labels marks next q =
@@ -47,7 +47,7 @@ returns c = λ written.
     let turn = done (c .before) in
     let took = turn .take-page .ensures in
     let still = still-when _ _ _ (c .if2 .taken) written in
-    took ∙ pages-last _ _ (negated _ (test (c .before) .if1 .taken)) (ap (λ (x : Page). x .at) (sym took) ∙ still)
+    took ∙ pages-last _ _ (not-true _ (test (c .before) .if1 .taken)) (ap (λ (x : Page). x .at) (sym took) ∙ still)
     ∙ test (c .before) .before .before .loop .inv .0
 
 loop-less : tie.Need-loop-less Inv-loop μ-loop
@@ -65,7 +65,7 @@ loop-again c =
     let bytes = first (c .before) .args .bytes .now in
     let moved = moved-when (turn .take-page .result .written) _ _ (c .if2 .left) in (
       ap (λ (x : Page). pagesOf bytes x .page) took
-          ∙ pages-rest _ _ (negated _ (test (c .before) .if1 .taken)) (λ k. moved (ap (λ (x : Page). x .at) took ∙ k))
+          ∙ pages-rest _ _ (not-true _ (test (c .before) .if1 .taken)) (λ k. moved (ap (λ (x : Page). x .at) took ∙ k))
           ∙ inv .0,
       kept .0 ∙ inv .1,
       kept .1 .0 ∙ inv .2,
@@ -77,7 +77,7 @@ loop-again c =
     )
 
 returns-2 : tie.Need-returns-2 Inv-loop μ-loop
-returns-2 c = λ written. pages-ended _ _ (affirmed _ (c .if1 .left)) ∙ c .before .before .loop .inv .0
+returns-2 c = λ written. pages-ended _ _ (not-false _ (c .if1 .left)) ∙ c .before .before .loop .inv .0
 
 pub take-piece-spec : {M : Type 1} → statement M
 take-piece-spec =
