@@ -8,9 +8,9 @@ use lib.ListN.{length, take}
 use lib.Seq.{slice, length-take-le, length-slice}
 use borrow.Author.Needs.{needs}
 use borrow.Author.Tests.{not-false}
-use Rattle.trace.proofs.Reading.{never, end-round, piece-round, none-read, some-read}
-use Rattle.trace.proofs.take_round.Statement.{statement}
-use Rattle.trace.proofs.take_round.Tie as tie
+use Rattle.stream.proofs.Reading.{never, end-round, piece-round, none-read, some-read}
+use Rattle.stream.proofs.take_round.Statement.{statement}
+use Rattle.stream.proofs.take_round.Tie as tie
 
 -- After the read: the input when the function was called, what is in it now, and what of it was left.
 module _ (c : tie.After-refill) where

@@ -9,9 +9,9 @@ use borrow.Author.Needs.{needs}
 use Rattle.runfile.specs.Field.{longestField}
 use Rattle.carry.specs.Page.{pageOf}
 use Rattle.replay.specs.Pieces.{Stands}
-use Rattle.trace.proofs.Reading.{never, first-stands, round-on, round-leaves, round-ends}
-use Rattle.trace.proofs.rounds.Statement.{statement}
-use Rattle.trace.proofs.rounds.Tie as tie
+use Rattle.stream.proofs.Reading.{never, first-stands, round-on, round-leaves, round-ends}
+use Rattle.stream.proofs.rounds.Statement.{statement}
+use Rattle.stream.proofs.rounds.Tie as tie
 
 abbrev Inv-loop : tie.InvT-loop
 Inv-loop input₀ out₀ rows₀ lefts₀ rights₀ labels₀ marks₀ next₀ s₀ have₀ _ input out rows lefts rights labels marks next s have _ =
