@@ -48,6 +48,7 @@ fn take_round(
     ensures { λ r. ⌜ (r .failed ≡ false → r .going ≡ (ltb (have - s .at) (r .have) && not (r .state .over))) ⌝ }
 {
     let more = refill::refill(input, s.at, have);
+    let left = more.left;
     let full = more.have;
     if more.failed {
         io::write_all(2, b"trace: cannot read\n");
@@ -58,7 +59,7 @@ fn take_round(
             failed: true,
         };
     }
-    if full == more.left {
+    if full == left {
         let t = pages::end(s, full, out);
         let q = t.state;
         return Round {

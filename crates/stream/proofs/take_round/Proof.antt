@@ -1,7 +1,6 @@
 -- What was left stands before what was read, and all of it is taken, or the end of the input.
 use Prim.Native.Nat.{ℕ, _-_, _≤_}
-use mathlib.Core.Path.{_≡_, sym, ap, _∙_}
-use mathlib.Core.Bool.{Bool, true, false}
+use mathlib.Core.Path.{_≡_, sym, _∙_}
 use mathlib.Core.List.{List}
 use native.Mathlib.Omega.{arith}
 use lib.ListN.{length, take}
@@ -58,7 +57,7 @@ module _ (c : tie.After-refill) where
 
 slice-aggregate-take-piece : tie.Need-slice-aggregate-take-piece
 slice-aggregate-take-piece c =
-    let tests = c .before .before .before in
+    let tests = c .before .before in
     let read = tests .before .before .before in
     sym (length-take-le (full read) (new read) (within-new read))
 
@@ -72,8 +71,7 @@ returns-2 : tie.Need-returns-2
 returns-2 c =
     let done = c .before .before .before .before in
     let none = done .before .before in
-    let tests = none .before .before in
-    let read = tests .before .before .before in
+    let read = none .before .before .before .before in
     let all : full read ≡ have read - at read = none .if2 .taken ∙ left read in (
       (order read, within read),
       (
@@ -86,7 +84,7 @@ returns-2 c =
     )
 
 -- The call of `take_piece`, from the function's end.
-module _ (c : tie.After-struct-known4) where
+module _ (c : tie.After-struct-known3) where
   abbrev piece : tie.After-take-piece
   piece =
       let marks = c .before .before .before .before in
@@ -100,7 +98,7 @@ module _ (c : tie.After-struct-known4) where
       more .before .before .before .before
 
   abbrev read : tie.After-refill
-  read = let tests = lent .before .before .before in tests .before .before .before
+  read = let tests = lent .before .before in tests .before .before .before
 
 returns-3 : tie.Need-returns-3
 returns-3 c =
