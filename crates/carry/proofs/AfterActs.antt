@@ -1,12 +1,11 @@
 -- The page after an operation, a malformed place and an opening: what their code leaves, as the definitions have it.
-use Prim.Native.Nat.{ℕ, _+_, _-_, _≤_}
+use Prim.Native.Nat.{ℕ, _+_, _≤_}
 use mathlib.Core.Path.{_≡_, refl, sym, ap, _∙_}
 use mathlib.Core.Bool.{Bool, true, false, not, cond}
 use mathlib.Core.List.{List, [], _∷_, append-nil}
 use lib.Dec.{leb, ltb, eqb}
 use lib.ListN.{length, getD}
-use native.Mathlib.Omega.{arith}
-use borrow.Author.Tests.{leb-true, leb-false, le-leb, lt-leb}
+use borrow.Author.Tests.{leb-true, le-leb}
 use Rattle.model.specs.declared.Record.{Record}
 use Rattle.model.specs.declared.TaskRecord.{TaskRecord}
 use Rattle.model.specs.declared.Op.{Op}
@@ -133,10 +132,3 @@ module _ (pooled : Bool) (p : Page) (n tasks slots tag : ℕ) (o : OpenedParts) 
       ap (λ (x : OpenedParts). x .clear) e ∙ clear-asked pooled (p .run .queue .tables) n tasks slots tag
       ∙ ap (λ (x : OpenedParts). cond (isOpened (x .outcome)) tasks 0) (sym e) in
       rw (d, w .stop, w .stored, er, eu, eg, ev, few)
-
-pub moved-over : (a n : ℕ) → 524288 ≤ n → leb a (n - 524288) ≡ leb (a + 524288) n
-moved-over a n h = go (leb a (n - 524288)) refl
-  where
-    go : (b : Bool) → leb a (n - 524288) ≡ b → b ≡ leb (a + 524288) n
-    go true e = sym (le-leb (a + 524288) n (omega (arith, leb-true a (n - 524288) e)))
-    go false e = sym (lt-leb (a + 524288) n (omega (arith, leb-false a (n - 524288) e)))

@@ -1,7 +1,7 @@
 -- The lines of one field fit into the room for a field, so a page never holds more than its buffer.
 use Prim.Native.Nat.{ℕ, suc, _+_, _*_, _≤_}
 use mathlib.Core.Path.{_≡_, refl, sym, ap, _∙_, subst}
-use mathlib.Core.Bool.{Bool, true, false, cond}
+use mathlib.Core.Bool.{Bool, true, false}
 use mathlib.Core.List.{List, [], _∷_}
 use native.Mathlib.Omega.{arith}
 use lib.Dec.{leb}
@@ -19,8 +19,8 @@ use Rattle.lines.specs.Line.{lineOf, room}
 use Rattle.lines.specs.declared.Line.the-variants as line
 use Rattle.lines.proofs.Lengths.{line-short}
 use Rattle.carry.specs.Run.{Run, linesOf, next, operated, openingTold, malformed, eachOf, carried}
-use Rattle.carry.specs.Page.{Page, written, breaks, carries, moved, fieldRoom, takes, BytesThere}
-use Rattle.carry.proofs.Pages.{cond-true, cond-false}
+use Rattle.carry.specs.Page.{Page, written, fieldRoom, takes, BytesThere}
+use Rattle.carry.proofs.Pages.{cond-true}
 use Rattle.carry.proofs.Fields.{field-there, takes-none}
 
 -- One line an event, one event an operation.

@@ -1,6 +1,6 @@
 -- A file fed at once: the first page, fed with room to spare and finished, holds its trace. (`Cutting.antt`: in pieces, and page by page.)
 use Prim.Native.Nat.{ℕ, _+_, _-_, _≤_}
-use mathlib.Core.Path.{_≡_, refl, sym, ap, _∙_}
+use mathlib.Core.Path.{_≡_, sym, ap, _∙_}
 use mathlib.Core.Bool.{Bool, true, false, _&&_, _||_, cond}
 use mathlib.Core.List.{List, [], _++_, append-nil, append-assoc}
 use native.Mathlib.Nat.{zero-add, add-zero}
@@ -13,9 +13,9 @@ use Rattle.lines.specs.Line.{header, fitting, room}
 use Rattle.lines.proofs.Puts.{sets-append}
 use Rattle.carry.specs.Run.{Told, malformed}
 use Rattle.carry.specs.Page.{Page, written, breaks, fieldRoom}
-use Rattle.carry.proofs.Pages.{cond-true, breaks-fits}
-use Rattle.replay.specs.Trace.{Fed, unmoved, after, feed, finished, fresh, printed, traceOf}
-use Rattle.replay.specs.Feed.{feedPage, finishPage, emptyPage, firstPage}
+use Rattle.carry.proofs.Pages.{breaks-fits}
+use Rattle.replay.specs.Trace.{Fed, after, feed, finished, fresh, printed, traceOf}
+use Rattle.replay.specs.Feed.{feedPage, finishPage, firstPage}
 use Rattle.replay.proofs.Pages.{fits, Reaches, page-reaches, page-done}
 
 -- Lines behind what stands at the front of a buffer.

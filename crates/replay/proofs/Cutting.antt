@@ -9,14 +9,14 @@ use lib.Dec.{leb, eqb}
 use lib.ListN.{length, take, drop}
 use lib.Seq.{sets, length-sets}
 use borrow.Author.Tests.{le-leb}
-use Rattle.lines.specs.Line.{header, fitting, room, lineOf}
+use Rattle.lines.specs.Line.{header, fitting, room}
 use Rattle.lines.proofs.Lengths.{line-short, header-short}
 use Rattle.carry.specs.Run.{Run, Told, malformed}
 use Rattle.carry.specs.Page.{Page, written, fieldRoom}
 use Rattle.carry.proofs.Pages.{cond-true}
 use Rattle.replay.specs.Trace.{Fed, feedIn, feed, finished, fresh, printed, traceOf}
 use Rattle.replay.specs.Feed.{finishPage, firstPage}
-use Rattle.replay.specs.Pieces.{held, atFront, fromStart, Written, pagesIn, pagesOf, Between, begun, afterPiece, afterPieces, lastPage, afterEnd}
+use Rattle.replay.specs.Pieces.{held, atFront, fromStart, Written, pagesOf, Between, begun, afterPiece, afterPieces, lastPage, afterEnd}
 use Rattle.replay.proofs.Feeding.{feed-pieces, joined}
 use Rattle.replay.proofs.AtOnce.{finish-writes}
 use Rattle.replay.proofs.PageEnds.{front-of, pages-told, pages-within, pages-over}

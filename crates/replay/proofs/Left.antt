@@ -10,7 +10,7 @@ use Rattle.runfile.specs.Field.{longestField}
 use Rattle.carry.specs.Run.{Run}
 use Rattle.carry.specs.Page.{Page, fieldRoom}
 use Rattle.replay.specs.Trace.{Fed, feedIn, feed, fresh}
-use Rattle.replay.specs.Pieces.{Between, begun, afterPieces, Stands}
+use Rattle.replay.specs.Pieces.{begun, afterPieces, Stands}
 use Rattle.replay.proofs.Feeding.{told, sizeAt, Next, waits, breaks, moves, next-of, feed-over, feed-waits, broken, feed-step}
 use Rattle.replay.proofs.Cutting.{Reached, first-reached, pieces-reached}
 

@@ -1,7 +1,7 @@
 -- The loop that feeds a page: a field, and then the rest; and it comes to its end.
 use Prim.Native.Nat.{ℕ, zero, suc, _+_, _-_, _<_, _≤_}
 use mathlib.Core.Path.{_≡_, refl, sym, ap, _∙_}
-use mathlib.Core.Bool.{Bool, true, false, not, cond}
+use mathlib.Core.Bool.{Bool, true, false}
 use mathlib.Core.List.{List}
 use native.Mathlib.Omega.{arith}
 use lib.Dec.{leb, eqb}
@@ -10,9 +10,8 @@ use borrow.Author.Tests.{eqb-false, eq-eqb, ne-eqb}
 use Rattle.carry.specs.Page.{Page, written, carries, moved, fieldRoom, takes}
 use Rattle.carry.proofs.Pages.{cond-true, cond-false}
 use Rattle.carry.proofs.Fields.{takes-none}
-use Rattle.runfile.specs.Field.{fieldOf, missing}
+use Rattle.runfile.specs.Field.{fieldOf}
 use Rattle.runfile.specs.declared.Found.{Found}
-use Rattle.runfile.specs.declared.Field.the-variants.{Malformed}
 use Rattle.replay.specs.Feed.{feedPageIn, feedPage}
 use Rattle.replay.proofs.Feeding.{sizeAt, Next, waits, breaks, moves, next-of}
 

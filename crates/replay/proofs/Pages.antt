@@ -1,5 +1,5 @@
 -- What a page holds after it was fed, and what is left to do then, is what was to do; with room for a field nothing is left.
-use Prim.Native.Nat.{ℕ, zero, suc, _+_, _-_, _<_, _≤_}
+use Prim.Native.Nat.{ℕ, zero, suc, _+_, _-_, _<_}
 use mathlib.Core.Path.{_≡_, refl, sym, ap, _∙_, subst}
 use mathlib.Core.Bool.{Bool, true, false}
 use mathlib.Core.List.{List, [], _++_, append-assoc}
@@ -11,8 +11,7 @@ use lib.Seq.{sets, drop-drop}
 use borrow.Author.Tests.{eqb-true, eqb-false, eq-eqb}
 use Rattle.model.proofs.tests.Truth.{not-both}
 use Rattle.lines.proofs.Puts.{sets-append}
-use Rattle.carry.specs.Run.{Run}
-use Rattle.carry.specs.Page.{Page, written, carries, fieldRoom, takes}
+use Rattle.carry.specs.Page.{Page, written, fieldRoom, takes}
 use Rattle.carry.proofs.Fields.{takes-none}
 use Rattle.replay.specs.Trace.{Fed, unmoved, after, feed}
 use Rattle.replay.specs.Feed.{feedPageIn, feedPage}

@@ -1,6 +1,6 @@
 -- A field that is there whole, or malformed, stays the same however many bytes follow: so a file may come in pieces. Bytes that hold less
 -- than a field are fewer than the longest has.
-use Prim.Native.Nat.{ℕ, _+_, _-_, _<_, _≤_}
+use Prim.Native.Nat.{ℕ, _+_, _<_, _≤_}
 use mathlib.Core.Path.{_≡_, refl, subst}
 use mathlib.Core.Bool.{Bool, true, false, _&&_, _||_, or-false}
 use mathlib.Core.List.{List, _++_}
