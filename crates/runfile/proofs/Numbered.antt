@@ -11,8 +11,8 @@ use Rattle.runfile.specs.declared.Field.the-variants.{Malformed}
 use Rattle.runfile.specs.Field.{Numbered, contentOf, fieldNumber, fieldOf, formed, twoAt}
 
 -- No other tag is well formed.
-unknown : (opened : Bool) (tag len : ℕ) → eqb tag 1 ≡ false → eqb tag 2 ≡ false → eqb tag 3 ≡ false → eqb tag 4 ≡ false → eqb tag 5 ≡ false
-    → eqb tag 6 ≡ false → formed opened tag len ≡ false
+unknown : (opened : Bool) (tag len : ℕ) → eqb tag 1 ≡ false → eqb tag 2 ≡ false → eqb tag 3 ≡ false → eqb tag 4 ≡ false
+    → eqb tag 5 ≡ false → eqb tag 6 ≡ false → formed opened tag len ≡ false
 unfolding formed
 unknown true tag len a b c d e f = rw (b, c, d, f)
 unknown false tag len a b c d e f = rw (a, e)
