@@ -1,6 +1,7 @@
 //! What each field does, with its lines.
 use crate::RunState;
 use calls::opening;
+use engine::op;
 use lines::Line;
 use model::Op;
 use model::Opening;
@@ -78,7 +79,7 @@ fn operate(
 {
     let c = s.control;
     let r = rows::call_at(rows, task);
-    let m = operation::act(
+    let m = op::act(
         c,
         r,
         rows.len(),

@@ -1,4 +1,6 @@
-//! One step of one task, by value over lent tables; and an outcome in numbers.
+//! One step of one task, or one operation, whichever it is (`op`), by value over lent tables; and an outcome in numbers.
+pub mod op;
+
 use model::Answer;
 use model::Control;
 use model::Outcome;

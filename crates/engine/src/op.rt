@@ -1,4 +1,4 @@
-//! One operation of one task, whichever it is, by value over lent tables.
+// One operation of one task, whichever it is, by value over lent tables.
 use calls::start;
 use model::Control;
 use model::Op;
@@ -71,6 +71,6 @@ pub fn act(
             marks,
             next,
         ),
-        Op::Step => engine::step(c, r, records, task, lefts, rights, labels, marks, next),
+        Op::Step => crate::step(c, r, records, task, lefts, rights, labels, marks, next),
     }
 }

@@ -1,8 +1,8 @@
 -- Each operation is the call that carries it out.
 use Rattle.model.specs.Calls.{actOn}
 use borrow.Author.Needs.{needs}
-use Rattle.operation.proofs.act.Statement.{statement}
-use Rattle.operation.proofs.act.Tie as tie
+use Rattle.engine.proofs.op.act.Statement.{statement}
+use Rattle.engine.proofs.op.act.Tie as tie
 
 returns : tie.Need-returns
 unfolding actOn
