@@ -25,7 +25,8 @@ use Rattle.shelf_model.proofs.Parts.{part-length}
 use Rattle.shelf_model.proofs.Copied.{Long, long}
 use Rattle.shelf.specs.declared.refusal.Extents.{Extents}
 use Rattle.shelf.specs.Pasting.{putBack, putOn}
-use Rattle.shelf.specs.Extents.{bothFit, extentsFit, returnNumber, returnTests, saveNumber, saveTests}
+use Rattle.shelf_model.specs.Shelves.{returnTests, saveTests}
+use Rattle.shelf.specs.Extents.{bothFit, extentsFit, returnNumber, saveNumber}
 use Rattle.shelf.specs.Lent.{Returned, Saved, controlsOf, returning, saving, shelvesIn}
 use Rattle.shelf.proofs.Pasting.{back-is, put-is}
 use Rattle.shelf.proofs.Controls.{back-records, back-uppers, length-controls, put-records, put-uppers}

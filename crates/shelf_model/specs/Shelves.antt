@@ -77,26 +77,24 @@ abbrev pub bothHold : Control → Queue → Shelves → ℕ → Bool
 bothHold c q s n = holds c q && holds c (shelfAt s n) && leb 8 (length (s .controls))
 
 -- A saving: 34 for the queue's control and Anchor, 43, 12.
+abbrev pub saveTests : Control → ℕ → Bool → List Rule
+saveTests c n fits = rule 34 (not (controlSound c)) ∷ rule 43 (not (leb n 7)) ∷ rule 12 (not fits) ∷ []
+
 abbrev pub saveRules : Queue → Shelves → ℕ → List Rule
-saveRules q s n =
-    rule 34 (not (controlSound (q .tables .control)))
-    ∷ rule 43 (not (leb n 7))
-    ∷ rule 12 (not (bothHold (q .tables .control) q s n))
-    ∷ []
+saveRules q s n = let c = q .tables .control in saveTests c n (bothHold c q s n)
 
 unfoldable pub saveRefusal : Queue → Shelves → ℕ → ℕ
 saveRefusal q s n = first (saveRules q s n)
 
 -- A return: 43, 44 where the shelf was never filled, 34 for the shelf's control and Anchor, 12. It does not look at the
 -- queue's own control.
+abbrev pub returnTests : Control → ℕ → Bool → List Rule
+returnTests c n fits = rule 43 (not (leb n 7)) ∷ rule 44 (eqb (c .tasks) 0) ∷ rule 34 (not (controlSound c)) ∷ rule 12 (not fits) ∷ []
+
 abbrev pub returnRules : Queue → Shelves → ℕ → List Rule
 returnRules q s n =
     let c = shelfAt s n .tables .control in
-    rule 43 (not (leb n 7))
-    ∷ rule 44 (eqb (c .tasks) 0)
-    ∷ rule 34 (not (controlSound c))
-    ∷ rule 12 (not (bothHold c q s n))
-    ∷ []
+    returnTests c n (bothHold c q s n)
 
 unfoldable pub returnRefusal : Queue → Shelves → ℕ → ℕ
 returnRefusal q s n = first (returnRules q s n)
