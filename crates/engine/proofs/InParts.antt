@@ -12,13 +12,10 @@ use Rattle.model.specs.Sound.{controlSound, recordSound, rowsFit}
 use Rattle.model.specs.Places.{wordFound, move}
 use Rattle.model.specs.Refusals.{Lent, stepSound, stepRefusal}
 use Rattle.model.specs.Calls.{decide, finish, step}
+use Rattle.model.proofs.tests.Truth.{split}
 use Rattle.places.specs.Arm.{stepAt}
 use Rattle.engine.specs.MoveOn.{moveOn}
 use Rattle.model.specs.Refusals.{admission, recordRefusal}
-
-pub split : {A : Type 0} (b : Bool) → (b ≡ true → A) → (b ≡ false → A) → A
-split true f g = f refl
-split false f g = g refl
 
 pub above : {n x : ℕ} → n ≤ x → (x ≡ n → ⊥) → suc n ≤ x
 above low other = omega arith

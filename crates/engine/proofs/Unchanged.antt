@@ -22,7 +22,8 @@ use Rattle.places.specs.Arm.{stepAt}
 use Rattle.engine.specs.MoveOn.{moveOn}
 use Rattle.model.specs.Ends.{endsCall, isMoved}
 use Rattle.engine.proofs.ByPlace.{Keeps, Moves, heads, itself, moves}
-use Rattle.engine.proofs.InParts.{split, here, why, fault, placed, in-parts}
+use Rattle.model.proofs.tests.Truth.{split}
+use Rattle.engine.proofs.InParts.{here, why, fault, placed, in-parts}
 
 clash : false ≡ true → ⊥
 clash h = let z : _≡_ {A = ℕ} 0 1 = cc in omega arith

@@ -127,8 +127,8 @@ pub record Table : Type 0 where
 
 pub bench : Table
 unfolding openAs opened openRefusal run final act actOn pushStart popStart step finish startRefusal stepRefusal stepSound move at1 at2 at3 new4 at4
-    at5 at6 at7 at9 at10 at11 reading sideOf row linkSide anchorSound linkSound controlSound recordSound rowsFit pushRoute popRoute route onward answer goes counted
-    along contents report tell reportRefusal busy count waiting takenSlots retryCounts listed
+    at5 at6 at7 at9 at10 at11 reading sideOf row linkSide anchorSound linkSound controlSound recordSound rowsFit pushRoute popRoute route onward
+    answer goes counted along contents report tell reportRefusal busy count waiting takenSlots retryCounts listed
 bench = record {
   packs-stable = refl;
   packs-pushing = refl;

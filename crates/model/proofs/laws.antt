@@ -1,5 +1,5 @@
 -- Laws of single calls, for all tables and all arguments.
-pub mod Tests
+pub mod SoundRecord
 pub mod Refusals
 pub mod Order
 pub mod Lengths

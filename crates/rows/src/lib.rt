@@ -257,10 +257,14 @@ pub fn step(
     ensures { λ o.
         ⌜ _≡_ {A = Done}
         (record {
-          queue = queueIn (now (control .exit)) (now (records .exit)) (now (lefts .exit)) (now (rights .exit)) (now (labels .exit)) (now (marks .exit)) (now (next .exit));
+          queue =
+              queueIn (now (control .exit)) (now (records .exit))
+              (now (lefts .exit)) (now (rights .exit)) (now (labels .exit)) (now (marks .exit)) (now (next .exit));
           outcome = o;
         })
-        (act (queueIn (now (control .entry)) (now (records .entry)) (now (lefts .entry)) (now (rights .entry)) (now (labels .entry)) (now (marks .entry)) (now (next .entry)))
+        (act
+        (queueIn (now (control .entry)) (now (records .entry))
+        (now (lefts .entry)) (now (rights .entry)) (now (labels .entry)) (now (marks .entry)) (now (next .entry)))
         task Step) ⌝ }
     ensures { λ o.
         ⌜ uppersOf (now (records .exit)) ≡ cond (endsCall o) (set (uppersOf (now (records .entry))) task 0) (uppersOf (now (records .entry))) ⌝ }

@@ -20,7 +20,7 @@ use Rattle.model.specs.Refusals.{Rule, Lent, among, isBusy, leavesSound, stepTe
 use Rattle.model.specs.Calls.{Acted, decide, finish, step, actOn, act}
 use Rattle.model.specs.History.{All, final}
 use Rattle.model.proofs.laws.Sizes.{fits, act-fits, act-tasks}
-use Rattle.model.proofs.laws.Tests.{by-test}
+use Rattle.model.proofs.tests.Truth.{by-test}
 use Rattle.model.proofs.tests.Rules.{tests, passes, cleared}
 use Rattle.schedule_model.specs.Schedules.{atWork}
 use Rattle.schedule_model.specs.Next.{scheduleRefusal}

@@ -74,7 +74,8 @@ pub record Cases : Type 0 where
   pub cut : schedules (lane 2 0 links 0 (damaged ∷ pop ∷ [])) 1 ≡ record { steps = 0 ∷ []; ending = 2 } ∷ record { steps = 1 ∷ []; ending = 1 } ∷ []
 
 pub cases : Cases
-unfolding nextSchedule storing scheduleRefusal contents along waiting anchorSound linkSound controlSound recordSound rowsFit schedules act actOn step stepRefusal stepSound finish move at1 at2 reading sideOf row linkSide route onward answer goes counted pushRoute popRoute
+unfolding nextSchedule storing scheduleRefusal contents along waiting anchorSound linkSound controlSound recordSound rowsFit schedules
+    act actOn step stepRefusal stepSound finish move at1 at2 reading sideOf row linkSide route onward answer goes counted pushRoute popRoute
 cases = record {
   four = refl;
   five = refl;

@@ -14,7 +14,8 @@ use Rattle.table.specs.Lent.{withTables}
 use Rattle.places.specs.Arm.{stepAt, Steps}
 use Rattle.engine.specs.MoveOn.{moveOn}
 use Rattle.model.specs.Refusals.{recordRefusal}
-use Rattle.engine.proofs.InParts.{split, above, below, stopped, at-place, placed, below-18}
+use Rattle.model.proofs.tests.Truth.{split}
+use Rattle.engine.proofs.InParts.{above, below, stopped, at-place, placed, below-18}
 use Rattle.engine.proofs.move_on.Statement.{statement}
 use Rattle.engine.proofs.move_on.Tie as tie
 

@@ -16,7 +16,8 @@ use Rattle.model.specs.Places.{Touch, nothing, setAnchor, setLink, clear
 use Rattle.model.specs.Refusals.{Lent, among, alone, openRules, stepRefusal, pushRefusal, putRefusal, popRefusal}
 use Rattle.model.specs.Calls.{stacked, opened, OpenDone, openAs, Acted, decide, pushStart, putStart, popStart, finish, step, actOn, act, stepLent}
 use Rattle.model.proofs.lists.Range.{length-climb}
-use Rattle.model.proofs.laws.Tests.{either, and-both, every-one}
+use Rattle.model.proofs.tests.Truth.{either, and-true}
+use Rattle.model.proofs.tests.Rules.{tests}
 use Rattle.model.proofs.laws.Refusals.{OpenDecided, accepted-opening, refused-opening, open-decided}
 
 pub record Lengths : Type 0 where
@@ -91,8 +92,8 @@ open-lengths pooled q tasks slots tag = go (open-decided pooled q tasks slots ta
     go : {done : OpenDone} → OpenDecided (openRules pooled q tasks slots) q (opened pooled q tasks slots tag) done → SameLengths q (done .queue)
     go (refused-opening n f) = record { tables = refl; records = refl }
     go (accepted-opening f) =
-        let long = and-both (rowsFit pooled slots (q .tables)) (leb tasks (length (q .records))) (not-false _ (f .1 .1 .0)) in
-        let rows = every-one (rowTests pooled slots (q .tables)) (long .0) in
+        let long = and-true (rowsFit pooled slots (q .tables)) (leb tasks (length (q .records))) (not-false _ (f .1 .1 .0)) in
+        let rows = tests (rowTests pooled slots (q .tables)) (long .0) in
         record {
           tables = λ i. record {
             lefts = row-zeroed slots (q .tables .lefts) (rows .0) i;

@@ -20,7 +20,7 @@ use Rattle.model.specs.Route.{counted}
 use Rattle.model.specs.Refusals.{Lent, among, alone, stepRefusal}
 use Rattle.model.specs.Calls.{Acted, finish, step, actOn, act, stepLent}
 use Rattle.model.specs.OneTouch.{OneTouch, untouched, anchor, link, mark, next, head, drawn}
-use Rattle.model.proofs.laws.Tests.{either, by-test}
+use Rattle.model.proofs.tests.Truth.{either, by-test}
 
 -- A slot is drawn at 14 alone.
 abbrev Draws14 : ℕ → Touch → Type 0

@@ -17,8 +17,8 @@ use Rattle.model.specs.Sound.{isPush, isPop, recordSound}
 use Rattle.model.specs.Places.{Move, endSeen, reading, at1, at2, at3, at4, at5, at6, at7, at9, at10, at11, at12, at13, at14, at15, at16, at17, move}
 use Rattle.model.specs.Places.{noneLeft}
 use Rattle.model.specs.Route.{leave, pushed, pushRoute, popRoute, route, onward}
-use Rattle.model.proofs.tests.Truth.{or-first, or-second}
-use Rattle.model.proofs.laws.Tests.{either, by-test, implied, Sound, sound-record}
+use Rattle.model.proofs.tests.Truth.{or-first, or-second, either, by-test}
+use Rattle.model.proofs.laws.SoundRecord.{implied, Sound, sound-record}
 
 abbrev Leads : ℕ → ℕ → ℕ → Type 0
 Leads place kind outcome = eqb (route place kind outcome) 0 ≡ false

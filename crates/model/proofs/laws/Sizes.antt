@@ -15,7 +15,7 @@ use Rattle.model.specs.Sound.{every, rowsFit}
 use Rattle.model.specs.Places.{Touch, nothing, setAnchor, setLink, clearMark, takeSlot, setNext, setHead, wordFound, move, apply}
 use Rattle.model.specs.Refusals.{Lent, among, recordsFit, stepRefusal, pushRefusal, popRefusal, putRefusal}
 use Rattle.model.specs.Calls.{Acted, decide, pushStart, popStart, putStart, finish, step, actOn, act, opened, stacked}
-use Rattle.model.proofs.laws.Tests.{either}
+use Rattle.model.proofs.tests.Truth.{either}
 use Rattle.model.proofs.laws.Lengths.{Lengths, act-lengths, lengths}
 use Rattle.model.proofs.lists.Range.{length-climb}
 

@@ -17,7 +17,7 @@ use Rattle.model.specs.Route.{route, onward, answer, goes, counted}
 use Rattle.model.specs.Refusals.{Lent, rule, first, needsRow, meetsLink, meetsHead, leavesSound, hasRoom, stepSound, stepRules, stepRefusal}
 use Rattle.model.specs.Calls.{Acted, decide, finish, step}
 use Rattle.model.specs.Mirror.{mirrorTask, mirrorControl, mirrorTables, mirrorBusy, mirrorRecord, mirrorActed}
-use Rattle.model.proofs.laws.Tests.{sound-record}
+use Rattle.model.proofs.laws.SoundRecord.{sound-record}
 use Rattle.model.proofs.tests.Rules.{cleared}
 use Rattle.model.proofs.laws.Onward.{leads-on}
 use Rattle.model.proofs.laws.Mirror.Sides.{side-mirror, row-mirror, link-met-mirror}
