@@ -231,7 +231,7 @@ NoSlotTrue q os = (t : ℕ) → act (final q os) t Step .outcome ≡ Moved NoSlo
 abbrev pub NoSlotRight : Type 0
 NoSlotRight = AfterOpeningAs true NoSlotTrue
 
--- A record has slot x marked: it holds it, and is no pop at 15 to 17, which cleared the mark at 11.
+-- A record has slot x marked: it holds it, and is no pop at 15 to 17, which has cleared the mark at 11. (Request #104.)
 unfoldable pub marksSlot : Record → ℕ → Bool
 marksSlot r x = holdsSlot r x && not (giving r)
 

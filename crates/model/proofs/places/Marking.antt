@@ -1,5 +1,5 @@
--- A step keeps line 21: the marks go with the owners.
-use mathlib.Core.Bool.{Bool, false, not, true}
+-- How a step keeps line 21: the marks go with the owners.
+use mathlib.Core.Bool.{Bool, false, not}
 use mathlib.Core.Logic.{_≢_, _⊎_, inl, inr}
 use mathlib.Core.Path.{_∙_, _≡_, ap, refl, subst, sym}
 use Prim.Native.Nat.{ℕ}
@@ -43,7 +43,7 @@ module _ (f : ℕ → Rec) (t : ℕ) (r : Rec) where
   pub shows-own : shows (upd f t r) (held t) ≡ not (isGiving (r .place))
   shows-own = ap (λ (y : Rec). not (isGiving (y .place))) (upd-same f t r)
 
--- A task that gives its slot back, or does not, makes a move: slots marked as their owners say are so then.
+-- Slots that are marked as their owners say are so after a move. b tells whether the task stands at 15 to 17.
 pub record Marked (b : Bool) (t : ℕ) (s : Shared) (h : ℕ → Owner) (m : Move) (h′ : ℕ → Owner) : Type 0 where
   pub goes-on : (f : ℕ → Rec) → isGiving (f t .place) ≡ b → (x : ℕ) → s .mark x ≡ shows f (h x)
       → apply s (m .touch) .mark x ≡ shows (upd f t (m .rec)) (h′ x)
@@ -53,7 +53,7 @@ module _ {b : Bool} {t : ℕ} {s : Shared} {h : ℕ → Owner} (m : Move) where
   pub marked-kept : isGiving (m .rec .place) ≡ b → ((x : ℕ) → apply s (m .touch) .mark x ≡ s .mark x) → Marked b t s h m h
   marked-kept e k = record { goes-on = λ f g x w. k x ∙ w ∙ sym (shows-same f t (m .rec) (h x) (λ _. e ∙ sym g)) }
 
-  -- None but those of slot y.
+  -- Those of slot y alone change.
   pub marked-at : (y : ℕ) (h′ : ℕ → Owner) → ((x : ℕ) → x ≢ y → apply s (m .touch) .mark x ≡ s .mark x) → ((x : ℕ) → x ≢ y → h′ x ≡ h x)
       → ((x : ℕ) → x ≢ y → h x ≡ held t → isGiving (m .rec .place) ≡ b)
       → ((f : ℕ → Rec) → isGiving (f t .place) ≡ b → s .mark y ≡ shows f (h y) → apply s (m .touch) .mark y ≡ shows (upd f t (m .rec)) (h′ y))

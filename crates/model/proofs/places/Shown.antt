@@ -30,7 +30,7 @@ abbrev pub Stands : Shared → Call → Move → Type 0
 Stands s c m = effect (s .anchor) (apply s (m .touch) .anchor) (m .answer) ≡ true → isNoSlot (m .answer) ≡ false → c .kind ≡ push
     → tip (apply s (m .touch) .anchor) (c .side) ≡ granted (m .touch) c .slot
 
--- The step of a task that gives its slot back, or does not.
+-- b tells whether the task stands at 15 to 17.
 pub record ShownAs (b : Bool) (t : ℕ) (s : Shared) (h : ℕ → Owner) (q : List Entry) (c : Call) (m : Move) : Type 0 where
   pub owner : ℕ → Owner
   pub whole : Intact (apply s (m .touch)) owner (noted (granted (m .touch) c) q (s .anchor) (apply s (m .touch) .anchor) (m .answer) .queue)
@@ -40,6 +40,7 @@ pub record ShownAs (b : Bool) (t : ℕ) (s : Shared) (h : ℕ → Owner) (q : Li
   pub stands : Stands s c m
   pub marks : Marked b t s h m owner
 
+-- At any other place.
 abbrev pub Shown : ℕ → Shared → (ℕ → Owner) → List Entry → Call → Move → Type 0
 Shown t s h q c m = ShownAs false t s h q c m
 

@@ -78,7 +78,9 @@ module _ (p : Both) (i : Inv p) where
         go : (o : Owner) → h x ≡ o → h x ≡ free
         go free e = e
         go queued e = absurd (not-both (i .marks x low ∙ ap (shows f) e) clear)
-        go (held u) e = absurd (not-both (i .marks x low ∙ ap (shows f) e ∙ ap not (none-giving s h u (f u) (p .book .calls u) named (f u .place) (i .tasks u))) clear)
+        go (held u) e =
+            let none = none-giving s h u (f u) (p .book .calls u) named (f u .place) (i .tasks u) in
+            absurd (not-both (i .marks x low ∙ ap (shows f) e ∙ ap not none) clear)
 
     pub push-inv : Inv (record { state = moved (p .state) t (withLabel s x l) (started push d x l); book = begun (p .book) t (bookedCall push d x l) })
     push-inv =
