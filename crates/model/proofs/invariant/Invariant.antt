@@ -1,8 +1,9 @@
 -- The invariant of the decoded machine and the book side by side.
-use Prim.Native.Nat.{ℕ}
+use mathlib.Core.Path.{_≡_}
+use Prim.Native.Nat.{_≤_, ℕ}
 use Rattle.model.specs.History.{All}
 use Rattle.model.proofs.machine.Book.{Both, Honoured}
-use Rattle.model.proofs.invariant.Owners.{Owner, Intact}
+use Rattle.model.proofs.invariant.Owners.{Owner, Intact, shows}
 use Rattle.model.proofs.invariant.Tasks.{Task}
 
 pub record Inv (p : Both) : Type 0 where
@@ -11,5 +12,7 @@ pub record Inv (p : Both) : Type 0 where
   pub whole : Intact (p .state .shared) owner (p .book .queue)
   -- Every task is where its place says,
   pub tasks : (t : ℕ) → Task (p .state .task t .place) (p .state .shared) owner t (p .state .task t) (p .book .calls t)
+  -- Every slot is marked as its owner says,
+  pub marks : (x : ℕ) → x ≤ p .state .shared .slots → p .state .shared .mark x ≡ shows (p .state .task) (owner x)
   -- And every call that was answered had one effect, with the sequential deque's reply for an answer.
   pub kept : All Honoured (p .book .closed)

@@ -152,5 +152,22 @@ isIdle at11 = false
 isIdle (draw p) = false
 isIdle (give p) = false
 
+-- A pop that gives its slot back.
+abbrev pub isGiving : Place → Bool
+isGiving idle = false
+isGiving at1 = false
+isGiving at2 = false
+isGiving at3 = false
+isGiving at4 = false
+isGiving at5 = false
+isGiving at6 = false
+isGiving at7 = false
+isGiving at8 = false
+isGiving at9 = false
+isGiving at10 = false
+isGiving at11 = false
+isGiving (draw p) = false
+isGiving (give p) = true
+
 abbrev pub moved : State → ℕ → Shared → Rec → State
 moved s t g r = record { shared = g; task = upd (s .task) t r }

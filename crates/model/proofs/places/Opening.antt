@@ -17,9 +17,9 @@ use Rattle.model.proofs.places.Owned.{held-free, queued-free}
 
 -- No entry, no call, an empty Anchor: whatever the links and the labels are.
 pub fresh : (s : Shared) (f : ℕ → Rec) → s .anchor .status ≡ stable → s .anchor .left ≡ 0 → s .anchor .right ≡ 0 → ((t : ℕ) → f t .place ≡ idle)
-    → Spare (s .pooled) (s .slots) (s .mark) (s .next) (s .head .slot) (λ x. free)
+    → Spare (s .pooled) (s .slots) (s .next) (s .head .slot) (λ x. free) → ((x : ℕ) → x ≤ s .slots → s .mark x ≡ false)
     → Inv (record { state = record { shared = s; task = f }; book = noBook })
-fresh s f st l r i spare = record {
+fresh s f st l r i spare unmarked = record {
   owner = λ x. free;
   whole = record {
     shape = record { linked = under (s .link) [] st tt; tips = elim [ false ↦ l | true ↦ r ]; distinct = tt; real = tt };
@@ -30,6 +30,7 @@ fresh s f st l r i spare = record {
     spare = spare;
   };
   tasks = λ t. subst (λ p. Task p s (λ x. free) t (f t) noCall) (sym (i t)) (refl, λ y e. held-free (sym e));
+  marks = unmarked;
   kept = tt;
 }
 

@@ -40,7 +40,7 @@ module _ (t : ℕ) (s : Shared) (h : ℕ → Owner) (q : List Entry) (c : Call) 
           (sym (ap (λ (z : List ℕ). put (r .side) (r .own) z) n ∙ put-nil (r .side) (r .own)))
           (subst (λ b. Shape (s .link) (both b (r .own)) (r .own ∷ [])) (sym p)
           (first-shape (s .link) (s .anchor) (slots q) (all .shape) (r .own) e (o .0))))
-          (refl, record { once = ap suc (w .0 .before .none); agrees = refl }, put-bare h t (r .own) (o .3))
+          (refl, record { once = ap suc (w .0 .before .none); agrees = refl }, put-bare h t (r .own) (o .3)) refl
   place2 pop k w = by-test (Shown t s h q c) (same (r .read) (s .anchor)) ok (λ e. place1 t s h q c all r pop k (w .0 .early, w .0 .before))
     where
       ok : same (r .read) (s .anchor) ≡ true → Shown t s h q c (runs (putAnchor (both (r .read) 0)) (goes r at11))

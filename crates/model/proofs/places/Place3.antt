@@ -18,6 +18,7 @@ use Rattle.model.proofs.invariant.Rely.{Rely}
 use Rattle.model.proofs.invariant.Tasks.{Four, Own, Task}
 use Rattle.model.proofs.chain.Links.{frame-shape, inner-in}
 use Rattle.model.proofs.places.Effects.{no-effect}
+use Rattle.model.proofs.places.Marking.{marked-kept}
 use Rattle.model.proofs.places.Owned.{held-inj, queued-held}
 use Rattle.model.proofs.places.Shown.{Shown, plain, stack-same, still}
 
@@ -68,14 +69,14 @@ module _ (t : ℕ) (s : Shared) (h : ℕ → Owner) (q : List Entry) (c : Call) 
       let o = subst (λ z. Own z (s .label) h t (r .own) (r .label)) k (w .0 .before .own) in
       let v = ownLink s r in
       let kept : v .tag ≡ s .link (not (r .side)) (r .own) .tag = refl in
-      plain _ h (no-effect (s .anchor) (s .anchor) running refl refl refl)
+      plain (three push s r) h (no-effect (s .anchor) (s .anchor) running refl refl refl)
       (own-whole (r .own) (o .0, o .1) (not (r .side)) v kept) (own-rely (r .own) (o .0, o .1) (not (r .side)) v kept) (
         w .0,
         w .1,
         subst (λ z. Four z (withLink s (not (r .side)) (r .own) v) (r .side) (r .own) (r .read) (r .near)) (sym k)
             (ap (λ (w : Link). w .slot) (relink-same (s .link) (not (r .side)) (r .own) v)),
-      )
-  place3 pop k w = still all (
+      ) (marked-kept (three push s r) refl (λ x. refl))
+  place3 pop k w = still refl all (
     w .0,
     w .1,
     subst (λ z. Four z s (r .side) (r .own) (r .read) (inner s (r .side) (tip (r .read) (r .side)))) (sym k) (λ e. refl),

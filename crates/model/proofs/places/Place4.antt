@@ -51,7 +51,7 @@ module _ (t : ℕ) (s : Shared) (h : ℕ → Owner) (q : List Entry) (c : Call) 
             stage = (record { once = ap suc (w .0 .before .none); told = refl }, put-bare h t (r .own) (o .3));
             read = read-now a;
             status = aimed-way (r .read) (r .side) (r .own);
-          })
+          }) refl
   place4 pop k w = by-test (Shown t s h q c) (same (r .read) (s .anchor)) ok (λ e. place1 t s h q c all r pop k (w .0 .early, w .0 .before))
     where
       a : Anchor

@@ -19,6 +19,7 @@ use Rattle.model.proofs.invariant.Shape.{Made}
 use Rattle.model.proofs.invariant.Tasks.{Live, Task, way}
 use Rattle.model.proofs.chain.Links.{back-shape, inner-in}
 use Rattle.model.proofs.places.Effects.{no-effect}
+use Rattle.model.proofs.places.Marking.{marked-kept}
 use Rattle.model.proofs.places.Owned.{queued-held}
 use Rattle.model.proofs.places.Places5to8.{away}
 use Rattle.model.proofs.places.Shown.{Shown, plain, stack-same}
@@ -95,4 +96,5 @@ module _ (t : ℕ) (s : Shared) (h : ℕ → Owner) (q : List Entry) (c : Call) 
           subst (λ y. Shown t s h q c (runs (putLink e y v) (goes r at10))) n
           (plain (runs (putLink e x v) (goes r at10)) h (no-effect (s .anchor) (s .anchor) running refl refl refl)
           (back-whole e st v names) (back-rely e st v names lt)
-          (w .0, λ _. subst (λ (b : Anchor). Made (relink (s .link) e x v) b e) (sym p) (back-made e st v names)))
+          (w .0, λ _. subst (λ (b : Anchor). Made (relink (s .link) e x v) b e) (sym p) (back-made e st v names))
+          (marked-kept (runs (putLink e x v) (goes r at10)) refl (λ x. refl)))

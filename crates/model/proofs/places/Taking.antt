@@ -1,5 +1,5 @@
 -- A change of Anchor that is an effect: a push puts its slot into the queue, a pop takes the slot at its end.
-use mathlib.Core.Bool.{Bool, false, true}
+use mathlib.Core.Bool.{Bool, false, not, true}
 use mathlib.Core.List.{List, [], _∷_}
 use mathlib.Core.Logic.{_≢_, _⊎_, inl, inr}
 use mathlib.Core.Path.{_∙_, _≡_, ap, refl, subst, sym}
@@ -14,13 +14,14 @@ use Rattle.model.proofs.lists.In.{In, in-put, in-took}
 use Rattle.model.proofs.lists.Slots.{map-seen, slots, slots-put, slots-took}
 use Rattle.model.proofs.machine.Book.{Call, effect, given, granted, isNoSlot, noted, told}
 use Rattle.model.proofs.machine.Laws.{stable-pushing, upd-other, upd-same}
-use Rattle.model.proofs.machine.Machine.{Anchor, Move, Rec, Shared, Touch, apply, at1, at11, goes, none, pop, popped, push, pushed}
+use Rattle.model.proofs.machine.Machine.{Anchor, Move, Rec, Shared, Touch, apply, at1, at11, goes, isGiving, none, pop, popped, push, pushed}
 use Rattle.model.proofs.machine.Machine.{pushing, putAnchor, running, runs, stable, tip, upd, withAnchor}
-use Rattle.model.proofs.invariant.Owners.{Owner, Intact, free, held, queued}
+use Rattle.model.proofs.invariant.Owners.{Owner, Intact, free, held, queued, shows}
 use Rattle.model.proofs.invariant.Rely.{Rely}
 use Rattle.model.proofs.invariant.Shape.{Made, Shape}
 use Rattle.model.proofs.invariant.Tasks.{Bare, Before, Own, Sole}
 use Rattle.model.proofs.places.Effects.{noted-pop, noted-push}
+use Rattle.model.proofs.places.Marking.{marked-at, shows-own}
 use Rattle.model.proofs.places.Owned.{held-free, held-inj, owner-back, owner-bounds, owner-kept, owner-spare, push-pop, queued-free, queued-held}
 use Rattle.model.proofs.places.Shown.{Finish, Shown, effective, rely-turn, still}
 
@@ -50,7 +51,7 @@ module _ {s : Shared} {h : ℕ → Owner} {q : List Entry} (all : Intact s h q) 
         labels = all-seen _ d (record { slot = x; label = l } ∷ seen d q) (o .2, all-seen _ d q (all .labels));
         bounds = owner-bounds h x queued _ owns (all .bounds);
         listed = λ y g. subst (In y) (sym e) (in-put d x y (slots q) (among y g (decide-eq y x)));
-        spare = owner-spare h x queued (s .pooled) _ _ _ _ owns queued-free (all .spare);
+        spare = owner-spare h x queued (s .pooled) _ _ _ owns queued-free (all .spare);
       }
     where
       among : (y : ℕ) → upd h x queued y ≡ queued → (y ≡ x) ⊎ (y ≢ x) → (y ≡ x) ⊎ In y (slots q)
@@ -90,7 +91,7 @@ module _ {s : Shared} {h : ℕ → Owner} {q : List Entry} (all : Intact s h q) 
         bounds = owner-bounds h y (held t) _ ends (all .bounds);
         listed = λ z f. let b = owner-back h y (held t) queued (λ w. queued-held (sym w)) z f in
             subst (In z) (sym g) (in-took d z (slots q) (λ w. b .0 (w ∙ sym (e ∙ all .shape .tips d))) (all .listed z (b .1)));
-        spare = owner-spare h y (held t) (s .pooled) _ _ _ _ ends held-free (all .spare);
+        spare = owner-spare h y (held t) (s .pooled) _ _ _ ends held-free (all .spare);
       }
     where
       apart : (l : List ℕ) → y ≡ front l 0 → Distinct l → All (λ z. z ≢ y) (rest l)
@@ -107,8 +108,9 @@ module _ {t : ℕ} {s : Shared} {h : ℕ → Owner} {q : List Entry} {c : Call} 
       → effect (s .anchor) (apply s (m .touch) .anchor) (m .answer) ≡ true
       → isNoSlot (m .answer) ≡ false → (a : Anchor) → m .touch ≡ putAnchor a → tip a (r .side) ≡ r .own → s .anchor .tag < a .tag
       → s .anchor .status ≡ stable → Shape (s .link) a (put (r .side) (r .own) (slots q))
-      → Finish (m .answer) (apply s (m .touch)) (upd h (r .own) queued) t (m .rec) (told c pushed) → Shown t s h q c m
-  push-good m k b eff ans a ms end lt st shape f =
+      → Finish (m .answer) (apply s (m .touch)) (upd h (r .own) queued) t (m .rec) (told c pushed) → isGiving (m .rec .place) ≡ false
+      → Shown t s h q c m
+  push-good m k b eff ans a ms end lt st shape f p =
       let o = subst (λ z. Own z (s .label) h t (r .own) (r .label)) k (b .own) in
       effective m (upd h (r .own) queued) (told c pushed) (put (r .side) (record { slot = r .own; label = r .label }) q)
       (ap (λ (z : Touch). noted (granted z c) q (s .anchor) (apply s (m .touch) .anchor) (m .answer)) ms
@@ -119,6 +121,11 @@ module _ {t : ℕ} {s : Shared} {h : ℕ → Owner} {q : List Entry} {c : Call} 
       (λ u x n g. owner-kept h (r .own) queued t (inl (o .1)) u x n g) (λ u x n g. owner-back h (r .own) queued (held u) queued-held x g .1) u n))
       f (λ _ _ _. subst (λ (z : Touch). tip (apply s z .anchor) (c .side) ≡ granted z c .slot) (sym ms)
       (ap (λ (d : Bool). tip a d) (b .agrees .side) ∙ end ∙ sym (b .agrees .slot)))
+      (marked-at m (r .own) (upd h (r .own) queued) (λ x n. same x) (λ x n. upd-other h (r .own) queued x n) (λ x n e. p)
+      (λ g e w. same (r .own) ∙ w ∙ ap (shows g) (o .1) ∙ ap not e ∙ ap (shows (upd g t (m .rec))) (sym (upd-same h (r .own) queued))))
+    where
+      same : (x : ℕ) → apply s (m .touch) .mark x ≡ s .mark x
+      same x = ap (λ (z : Touch). apply s z .mark x) ms
 
   -- A pop has its effect.
   pub pop-good : (a : Anchor) → r .kind ≡ pop → Before (s .label) h t (r .kind) (r .side) (r .own) (r .label) c → r .read ≡ s .anchor
@@ -136,6 +143,8 @@ module _ {t : ℕ} {s : Shared} {h : ℕ → Owner} {q : List Entry} {c : Call} 
       (λ u x n f. owner-back h y (held t) (held u) (λ z. n (sym (held-inj z))) x f .1))
       (record { after = record { once = ap suc (b .none); told = g .0 }; holds = upd-same h y (held t); sole = sole })
       (λ _ _ z. absurd (push-pop (sym z ∙ b .agrees .kind ∙ k)))
+      (marked-at (runs (putAnchor a) (goes r at11)) y (upd h y (held t)) (λ x n. refl) (λ x n. upd-other h y (held t) x n) (λ x n e. refl)
+      (λ f e w. w ∙ ap (shows f) (g .1) ∙ sym (ap (shows (upd f t (goes r at11))) (upd-same h y (held t)) ∙ shows-own f t (goes r at11))))
     where
       o : Own pop (s .label) h t (r .own) (r .label)
       o = subst (λ z. Own z (s .label) h t (r .own) (r .label)) k (b .own)
@@ -148,4 +157,4 @@ module _ {t : ℕ} {s : Shared} {h : ℕ → Owner} {q : List Entry} {c : Call} 
           go (inr z) = absurd (o y (sym (upd-other h (tip (r .read) (r .side)) (held t) y z) ∙ f))
 
   pub back : Before (s .label) h t (r .kind) (r .side) (r .own) (r .label) c → r .finishing ≡ false → Shown t s h q c (runs none (goes r at1))
-  back b e = still all (e, b)
+  back b e = still refl all (e, b)
