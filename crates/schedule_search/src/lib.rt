@@ -15,7 +15,7 @@ ghost use Rattle.schedule_model.specs.Schedules.{ends};
 ghost use Rattle.schedule_model.specs.Search.{ended, frees, stepped, tried, seekOf};
 ghost use Rattle.schedule_search.specs.Sought.{pairOf, foundOf, Sought, sought, endsHere, under};
 
-pub mod undo;
+mod undo;
 
 /// Whether a schedule was found, its length, and how it ends.
 pub struct Found {
