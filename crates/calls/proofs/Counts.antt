@@ -8,9 +8,9 @@ use lib.Dec.{eqb, leb}
 use borrow.Author.Tests.{lt-ltb, leb-true}
 use Rattle.model.specs.declared.Control.{Control}
 use Rattle.model.specs.declared.Record.{Record}
-use Rattle.model.specs.Report.{count}
 use Rattle.calls.specs.Telling.{countable, countBusy}
 use Rattle.model.proofs.tests.Truth.{and-true}
+use Rattle.model.specs.Lists.{count}
 
 -- One record's turn, as long as fewer than 16 were busy.
 pub count-turn : (n : ℕ) (r : Record) → n < 16 → countBusy n r ≡ n + cond (not (eqb (r .place) 0)) 1 0

@@ -8,7 +8,7 @@ use lib.Dec.{eqb, ltb, leb}
 use lib.ListN.{length, length-replicate}
 use borrow.Author.Tests.{ltb-true, leb-true, eqb-true, le-leb, eq-eqb, ne-eqb, not-false}
 use Rattle.model.specs.declared.Opening.the-variants as opening
-use Rattle.model.specs.Tables.{Tables, Queue, tablesOf, openedControl, unused, zeroed}
+use Rattle.model.specs.Tables.{Tables, Queue, tablesOf, openedControl, unused}
 use Rattle.model.specs.Sound.{rowsFit}
 use Rattle.model.specs.Refusals.{openingRules, openRefusal}
 use Rattle.model.specs.Calls.{stacked, opened, openAs, OpenDone}
@@ -17,6 +17,7 @@ use Rattle.table.specs.Stacking.{stacking}
 use Rattle.calls.specs.Opening.{openingRefusal, counting, OpenedParts, openTables, whole}
 use Rattle.model.proofs.tests.Rules.{cleared}
 use Rattle.model.proofs.tests.Truth.{and-true}
+use Rattle.model.specs.Lists.{zeroed}
 
 -- No rule applies: the slots are few, and the tables fit.
 pub record Accepted (slots : ℕ) (fits : Bool) : Type 0 where

@@ -14,9 +14,10 @@ use Rattle.model.specs.Tables.{Tables, Queue, isPooled, recordAt}
 use Rattle.model.specs.Sound.{controlSound, rowsFit}
 use Rattle.model.specs.Walk.{contents, isBroken}
 use Rattle.model.specs.Refusals.{rule, first, fits, tableRules, reportRules, reportRefusal}
-use Rattle.model.specs.Report.{busy, count, report, tell, told, waiting}
+use Rattle.model.specs.Report.{busy, report, tell, told, waiting}
 use Rattle.model.proofs.tests.Rules.{cleared, first-refused}
 use Rattle.model.proofs.tests.Truth.{and-true}
+use Rattle.model.specs.Lists.{count}
 use Rattle.walk.specs.declared.Tally.the-variants.{Broken, Labels}
 use Rattle.walk.specs.Counted.{counted}
 use Rattle.walk.proofs.Counting.{none-counted, all-counted}

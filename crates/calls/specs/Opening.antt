@@ -6,9 +6,10 @@ use lib.Dec.{eqb}
 use lib.ListN.{replicate}
 use Rattle.model.specs.declared.TaskRecord.{TaskRecord}
 use Rattle.model.specs.declared.Opening.{Opening}
-use Rattle.model.specs.Tables.{Tables, Queue, unused, zeroed}
+use Rattle.model.specs.Tables.{Tables, Queue, unused}
 use Rattle.model.specs.Refusals.{first, openingRules, openRefusal}
 use Rattle.model.specs.Calls.{OpenDone, openAs}
+use Rattle.model.specs.Lists.{zeroed}
 
 -- Why it is refused, where the tables are long enough or not.
 unfoldable pub openingRefusal : ℕ → ℕ → Bool → ℕ

@@ -16,7 +16,7 @@ use Rattle.model.specs.declared.Reported.{Reported}
 use Rattle.model.specs.declared.Op.{Op}
 use Rattle.model.specs.declared.Opening.the-variants as opening
 use Rattle.model.specs.declared.Op.the-variants.{Push, Pop, Put, Step}
-use Rattle.model.specs.Tables.{Tables, Queue, isPooled, tablesOf, queueOf, taskAt, unused, withCall, zeroed}
+use Rattle.model.specs.Tables.{Tables, Queue, isPooled, tablesOf, queueOf, taskAt, unused, withCall}
 use Rattle.model.specs.Sound.{rowsFit}
 use Rattle.model.specs.Refusals.{Lent, among, openRefusal, pushRefusal, putRefusal, popRefusal}
 use Rattle.model.specs.Report.{report, retryCounts, tell}
@@ -27,6 +27,7 @@ use Rattle.model.specs.declared.Transition.{Transition}
 use Rattle.table.specs.Lent.{withTables}
 use Rattle.sound.specs.Lengths.{lengthsFit}
 use Rattle.model.specs.Ends.{endsCall, isMoved}
+use Rattle.model.specs.Lists.{zeroed}
 use Rattle.calls.specs.declared.opening.OpenedTables.{OpenedTables}
 use Rattle.calls.specs.Opening.{counting, OpenedParts, openTables, whole}
 use Rattle.calls.proofs.Openings.{clear-fits, open-parts}

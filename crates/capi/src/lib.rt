@@ -15,8 +15,9 @@ ghost use lib.ListN.{length, getD};
 ghost use Rattle.model.specs.declared.Op.the-variants.{Push, Pop, Put, Step};
 ghost use Rattle.model.specs.Tables.{unused};
 ghost use Rattle.model.specs.Calls.{act};
-ghost use Rattle.model.specs.Report.{count, report, retryCounts};
+ghost use Rattle.model.specs.Report.{report, retryCounts};
 ghost use Rattle.model.specs.Ends.{endsCall, isMoved};
+ghost use Rattle.model.specs.Lists.{count};
 ghost use Rattle.rows.specs.Rows.{queueIn, recordsOf, uppersOf};
 ghost use Rattle.capi.specs.Replies.{reportReplyOf, countsIn, Replied, replied};
 

@@ -10,12 +10,13 @@ use Rattle.model.specs.declared.Record.{Record}
 use Rattle.model.specs.declared.TaskRecord.{TaskRecord}
 use Rattle.model.specs.declared.Op.{Op}
 use Rattle.model.specs.declared.Opening.the-variants as opening
-use Rattle.model.specs.Tables.{Tables, Queue, taskAt, unused, zeroed}
+use Rattle.model.specs.Tables.{Tables, Queue, taskAt, unused}
 use Rattle.model.specs.Refusals.{Lent, among, openRefusal}
 use Rattle.model.specs.Calls.{Acted, OpenDone, act, actOn, openAs}
 use Rattle.model.specs.Calls as calls
 use Rattle.model.specs.History.{run, final}
 use Rattle.model.specs.declared.Transition.{Transition}
+use Rattle.model.specs.Lists.{zeroed}
 use Rattle.table.specs.Lent.{withTables}
 use Rattle.rows.specs.Rows.{recordsOf}
 use Rattle.rows.proofs.Rows.{length-records}

@@ -6,9 +6,10 @@ use lib.Dec.{leb}
 use lib.ListN.{length, take, drop, set}
 use lib.Seq.{sets}
 use Rattle.model.specs.declared.Op.{Op}
-use Rattle.model.specs.Tables.{queueOf, zeroed}
+use Rattle.model.specs.Tables.{queueOf}
 use Rattle.model.specs.Calls.{Acted, back, openAs}
 use Rattle.model.specs.History.{Request}
+use Rattle.model.specs.Lists.{zeroed}
 use Rattle.rows.specs.Rows.{recordsOf, uppersOf}
 use Rattle.runfile.specs.Field.{fieldOf}
 use Rattle.runfile.specs.declared.Field.{Field}

@@ -10,7 +10,7 @@ use Rattle.model.specs.declared.Record.{Record}
 use Rattle.model.specs.Tables.{isPooled, withSeen, withOwn}
 use Rattle.model.specs.Places.{Touch, nothing, setAnchor, setLink, clearMark, takeSlot, setNext, setHead, Move, new4, row}
 use Rattle.model.specs.Places.{at1, at2, at3, at4, at5, at6, at7, at9, at10, at11, at12, at13, at14, at15, at16, at17, move}
-use Rattle.model.specs.Sound.{isPush}
+use Rattle.model.specs.Kinds.{isPush}
 use Rattle.engine.proofs.InParts.{above}
 
 -- What a step leaves of a record; at an `early` place slot and label too.

@@ -11,11 +11,12 @@ use borrow.Author.Tests.{eqb-false, ne-eqb, ltb-true}
 use Rattle.model.specs.declared.Control.{Control}
 use Rattle.model.specs.declared.Entry.{Entry}
 use Rattle.model.specs.declared.TaskRecord.{TaskRecord}
-use Rattle.model.specs.Tables.{Tables, Queue, queueOf, isEmpty, idle, withCall, taskAt, tablesOf}
+use Rattle.model.specs.Tables.{Tables, Queue, queueOf, idle, withCall, taskAt, tablesOf}
 use Rattle.model.specs.Sound.{rowTests, rowsFit}
 use Rattle.model.specs.Walk.{Walk, entries, broken, along, contents, isBroken, met, walkFrom}
 use Rattle.model.proofs.tests.Rules.{tests}
 use Rattle.model.proofs.tests.Truth.{split, not-both}
+use Rattle.model.specs.Sides.{isEmpty}
 use Rattle.walk.proofs.SlotBySlot.{empty, from-right}
 use Rattle.join_model.specs.Merge.{merge}
 use Rattle.join_model.specs.Join.{anchorIn, lane, lanes, joinRefusal, Joined, join, laid}

@@ -4,8 +4,8 @@ use mathlib.Core.List.{[], _∷_}
 use Prim.Native.Nat.{ℕ}
 use lib.Dec.{ltb, leb}
 use Rattle.model.specs.declared.Control.{Control}
-use Rattle.model.specs.Sound.{every}
 use Rattle.model.specs.Refusals.{rule, first}
+use Rattle.model.specs.Lists.{every}
 
 -- The smaller of two numbers.
 abbrev pub least : ℕ → ℕ → ℕ

@@ -13,12 +13,13 @@ use Rattle.model.specs.declared.Answer.the-variants.{Running, Pushed}
 use Rattle.model.specs.declared.Outcome.the-variants.{Moved, Refused}
 use Rattle.model.specs.declared.Op.the-variants.{Push, Step}
 use Rattle.model.specs.Tables.{Tables, Queue, isPooled, idle, withCall, marked, recordAt, taskAt, withAnchor, taken}
-use Rattle.model.specs.Sound.{every, anchorSound, controlTests, controlSound, recordSound, rowsFit}
+use Rattle.model.specs.Sound.{anchorSound, controlTests, controlSound, recordSound, rowsFit}
 use Rattle.model.specs.Refusals.{recordsFit, pushRefusal, startRefusal}
 use Rattle.model.specs.Calls.{pushStart, actOn, act}
 use Rattle.model.proofs.laws.Lengths.{Lengths, lengths}
 use Rattle.model.proofs.tests.Rules.{_and_, tests, passes}
 use Rattle.model.proofs.unsound.Tests.{anchor-sound}
+use Rattle.model.specs.Lists.{every}
 use Rattle.join_model.specs.Join.{anchorIn}
 use Rattle.join_model.proofs.Alone.{Able, at, step1-empty, step2}
 use Rattle.join_model.proofs.Ran.{Ran, ran-none, ran-more, stands, steps}

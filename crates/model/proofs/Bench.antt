@@ -20,8 +20,9 @@ use Rattle.model.specs.Route.{pushRoute, popRoute, route, onward, answer
 use Rattle.model.specs.Refusals.{openRefusal, pushRefusal, popRefusal, stepSound, stepRefusal, reportRefusal, startRefusal}
 use Rattle.model.specs.Calls.{opened, openAs, openQueue, pushStart, popStart, finish, step, actOn, act, openingCode, replyOf}
 use Rattle.model.specs.Walk.{entries, along, contents}
-use Rattle.model.specs.Report.{count, busy, waiting, takenSlots, tell, report, reportCode, listed, retryCounts}
+use Rattle.model.specs.Report.{busy, waiting, takenSlots, tell, report, reportCode, retryCounts}
 use Rattle.model.specs.History.{Request, Event, run, final}
+use Rattle.model.specs.Lists.{count, listed}
 
 -- Tables of zeros for 2 tasks and 3 slots, and the queue opened in them with a first tag.
 abbrev pub zeros : Queue

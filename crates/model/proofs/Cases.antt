@@ -18,10 +18,11 @@ use Rattle.model.specs.Route.{pushRoute, popRoute, route, onward, answer
 use Rattle.model.specs.Refusals.{openRefusal, startRefusal, stepSound, stepRefusal, alone, reportRefusal}
 use Rattle.model.specs.Calls.{opened, openAs, openPooled, pushStart, putStart, popStart, finish, step, actOn, act}
 use Rattle.model.specs.Walk.{Walk, entries, broken, along, contents}
-use Rattle.model.specs.Report.{count, busy, waiting, takenSlots, tell, report, listed, retryCounts}
+use Rattle.model.specs.Report.{busy, waiting, takenSlots, tell, report, retryCounts}
 use Rattle.model.specs.History.{Request, run, final}
 use Rattle.model.specs.Solo.{soloRun}
 use Rattle.model.proofs.Bench.{zeros, fresh, push, pop, steps, outcomes, at, got, one, halfway}
+use Rattle.model.specs.Lists.{count, listed}
 
 -- Tables for 16 tasks and 1,023 slots.
 abbrev largest : Queue

@@ -8,9 +8,8 @@ use native.Mathlib.Omega.{arith}
 use lib.Dec.{eqb, leb}
 use borrow.Author.Tests.{eqb-true, not-true}
 use Rattle.model.specs.Calls.{opened}
-use Rattle.model.specs.History.{All, Had, InUse, Ledger, MarksNamed, MarksRight, MarksTrue, Waits, final, here, holds, holdsSlot}
+use Rattle.model.specs.History.{Had, InUse, Ledger, MarksNamed, MarksRight, MarksTrue, Waits, final, here, holds, holdsSlot}
 use Rattle.model.specs.History.{later, marksSlot, waits}
-use Rattle.model.specs.Sound.{giving}
 use Rattle.model.specs.Tables.{atPlace, Queue, Tables, isPooled, marked, recordAt}
 use Rattle.model.specs.Walk.{entries}
 use Rattle.model.specs.declared.Entry.{Entry}
@@ -39,6 +38,8 @@ use Rattle.model.proofs.progress.Reached.{final-reached, open-reached}
 use Rattle.model.proofs.Never34.{open-safe}
 use Rattle.model.proofs.NoSlot.{tip-near, used-is}
 use Rattle.model.proofs.Openings.{after-opening}
+use Rattle.model.specs.Lists.{All}
+use Rattle.model.specs.Kinds.{giving}
 
 -- What waits is in the sequential deque.
 waits-in : (l : List Entry) (x : ℕ) → Waits x (entries l) → In x (slots l)

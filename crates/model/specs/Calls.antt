@@ -15,10 +15,11 @@ use Rattle.model.specs.declared.Opening.the-variants as opening
 use Rattle.model.specs.declared.Op.{Op}
 use Rattle.model.specs.declared.Op.the-variants.{Push, Pop, Put, Step}
 use Rattle.model.specs.declared.Reply.{Reply}
-use Rattle.model.specs.Tables.{Tables, Queue, tablesOf, openedControl, unused, counting, withCall, started, asking, taskAt, zeroed, climb, taken}
+use Rattle.model.specs.Tables.{Tables, Queue, tablesOf, openedControl, unused, counting, withCall, started, asking, taskAt, taken}
 use Rattle.model.specs.Places.{row, wordFound, Move, move, apply}
 use Rattle.model.specs.Route.{route, onward, answer, goes, counted}
 use Rattle.model.specs.Refusals.{openRefusal, Lent, among, alone, pushRefusal, putRefusal, popRefusal, stepRefusal}
+use Rattle.model.specs.Lists.{zeroed, climb}
 
 -- Opening: rows 0 to slots, the records, their counts and marks zeroed; control as `openedControl` has it.
 -- A pooled opening also stacks all slots: each slot's next is the one above, the last one's 0.

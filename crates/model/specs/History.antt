@@ -13,9 +13,8 @@ use Rattle.model.specs.declared.Outcome.{Outcome}
 use Rattle.model.specs.declared.Outcome.the-variants.{Refused, Moved}
 use Rattle.model.specs.declared.Op.{Op}
 use Rattle.model.specs.declared.Op.the-variants.{Push, Pop, Put, Step}
-use Rattle.model.specs.Tables.{Queue, marked, near, recordAt}
+use Rattle.model.specs.Tables.{Queue, marked, recordAt}
 use Rattle.model.specs.declared.Record.{Record}
-use Rattle.model.specs.Sound.{every, isPush, giving}
 use Rattle.model.specs.declared.Opening.the-variants.{Opened}
 use Rattle.model.specs.declared.Report.{Report}
 use Rattle.model.specs.declared.Reported.the-variants as reported
@@ -23,6 +22,9 @@ use Rattle.model.specs.Calls.{openAs, act}
 use Rattle.model.specs.Walk.{Walk, entries, contents}
 use Rattle.model.specs.Report.{report}
 use Rattle.model.specs.Deque.{serveFor}
+use Rattle.model.specs.Sides.{near}
+use Rattle.model.specs.Lists.{every, All}
+use Rattle.model.specs.Kinds.{isPush, giving}
 
 -- An operation of a task: an element of the list, with any numbers.
 pub record Request : Type 0 where
@@ -165,10 +167,6 @@ AtMostOnce c (e ∷ f ∷ l) = ⊥
 abbrev pub Lawful : Call → Ending → Type 0
 Lawful c pending = AtMostOnce c (c .effects)
 Lawful c (answered n a) = Once c n a
-
-abbrev pub All : {A : Type 0} → (A → Type 0) → List A → Type 0
-All P [] = Unit {0}
-All P (x ∷ l) = P x × All P l
 
 -- Every call is lawful, and the labels waiting are the sequential deque's queue.
 pub record Linearized (q : Queue) (os : List Request) : Type 0 where

@@ -8,9 +8,10 @@ use Rattle.word.specs.Anchor.{anchorOf, packAnchor}
 use Rattle.word.specs.Link.{linkOf, packLink}
 use Rattle.model.specs.declared.Control.{Control}
 use Rattle.model.specs.declared.Record.{Record}
-use Rattle.model.specs.Tables.{Tables, isPooled, opposite, near, far, facing, links, pushing, named, isEmpty, withMark}
+use Rattle.model.specs.Tables.{Tables, isPooled, withMark}
 use Rattle.model.specs.Tables.{withOwn, withSeen, withNeighbour, withLink, withAnchor, withHead, linked, withMarks, withNext, taken}
-use Rattle.model.specs.Sound.{isPush, isPop, helping, drawing, giving}
+use Rattle.model.specs.Sides.{opposite, near, far, facing, links, pushing, named, isEmpty}
+use Rattle.model.specs.Kinds.{isPush, isPop, helping, drawing, giving}
 
 -- The side: at 1 to 4 and 11 the task's, at 5 to 10 the one that the status as read names.
 unfoldable pub sideOf : Record → ℕ

@@ -10,9 +10,10 @@ use Rattle.model.specs.declared.Control.{Control}
 use Rattle.model.specs.declared.Record.{Record}
 use Rattle.model.specs.declared.Asked.{Asked}
 use Rattle.model.specs.Tables.{Tables, Queue, isPooled, marked}
-use Rattle.model.specs.Sound.{every, from1, anchorSound, linkSound, controlSound, recordSound, rowsFit}
+use Rattle.model.specs.Sound.{from1, anchorSound, linkSound, controlSound, recordSound, rowsFit}
 use Rattle.model.specs.Walk.{contents, isBroken}
 use Rattle.model.specs.Places.{row, wordFound, Touch, nothing, setAnchor, setLink, clearMark, takeSlot, setNext, setHead, move}
+use Rattle.model.specs.Lists.{every}
 
 -- A test with its number.
 pub record Rule : Type 0 where

@@ -10,38 +10,12 @@ use Rattle.word.specs.Link.{linkOf, spareOf}
 use Rattle.model.specs.declared.Control.{Control}
 use Rattle.model.specs.declared.Record.{Record}
 use Rattle.model.specs.Tables.{Tables}
-
--- All tests of a list hold.
-abbrev pub every : List Bool → Bool
-every [] = true
-every (b ∷ []) = b
-every (b ∷ c ∷ l) = b && every (c ∷ l)
+use Rattle.model.specs.Lists.{every}
+use Rattle.model.specs.Kinds.{isPush, isPop, helping, drawing, giving, owning}
 
 -- x is 1 to n.
 abbrev pub from1 : ℕ → ℕ → Bool
 from1 n x = leb 1 x && leb x n
-
--- Kind: 0 push, 1 pop.
-abbrev pub isPush : Record → Bool
-isPush r = eqb (r .kind) 0
-
-abbrev pub isPop : Record → Bool
-isPop r = eqb (r .kind) 1
-
--- At places 5 to 10 a task helps a push to its end.
-abbrev pub helping : Record → Bool
-helping r = leb 5 (r .place) && leb (r .place) 10
-
--- At 12 to 14 a push draws its slot, at 15 to 17 a pop gives it back: in a pooled queue alone.
-abbrev pub drawing : Record → Bool
-drawing r = leb 12 (r .place) && leb (r .place) 14
-
-abbrev pub giving : Record → Bool
-giving r = leb 15 (r .place)
-
--- A push has a slot of its own but at 12 to 14, a pop only at 15 to 17.
-abbrev pub owning : Record → Bool
-owning r = cond (isPush r) (not (drawing r)) (giving r)
 
 -- Anchor: no status 3, no end above slots, not just one end null, not unstable with equal ends.
 abbrev pub anchorTests : ℕ → Anchor → List Bool

@@ -171,37 +171,6 @@ taskAt q t = getD (q .records) t unused
 abbrev pub recordAt : Queue → ℕ → Record
 recordAt q t = taskAt q t .call
 
--- Side 0 is left, 1 is right. Left is the mirror of right through the definitions from here to `named`; no place is written twice.
-abbrev pub opposite : ℕ → ℕ
-opposite side = cond (eqb side 1) 0 1
-
--- The end of Anchor at a side, and its other end.
-abbrev pub near : ℕ → Anchor → ℕ
-near side a = cond (eqb side 1) (a .right) (a .left)
-
-abbrev pub far : ℕ → Anchor → ℕ
-far side a = cond (eqb side 1) (a .left) (a .right)
-
--- An Anchor made of its end at a side and its other end.
-abbrev pub facing : ℕ → ℕ → ℕ → ℕ → ℕ → Anchor
-facing side tag status n f =
-    record { tag = tag; status = status; left = cond (eqb side 1) f n; right = cond (eqb side 1) n f }
-
--- The link words that lead to a side: Right for the right.
-abbrev pub links : Tables → ℕ → List ℕ
-links q side = cond (eqb side 1) (q .rights) (q .lefts)
-
--- Status: 0 STABLE, 1 RPUSH, 2 LPUSH; the status that names a side, and the side that a status names.
-abbrev pub pushing : ℕ → ℕ
-pushing side = cond (eqb side 1) 1 2
-
-abbrev pub named : ℕ → ℕ
-named status = cond (eqb status 1) 1 0
-
--- An Anchor with null ends.
-abbrev pub isEmpty : Anchor → Bool
-isEmpty a = eqb (a .left) 0 && eqb (a .right) 0
-
 -- Marks: bit n mod 64 of word n div 64. A set bit means taken.
 abbrev pub bit : ℕ → ℕ → ℕ
 bit w i = w / 2 ^ i % 2
@@ -239,13 +208,3 @@ withNext q l = tablesOf (q .control) (q .lefts) (q .rights) (q .labels) (q .mark
 -- A label stored in a slot's row, and its mark set.
 abbrev pub taken : Tables → ℕ → ℕ → Tables
 taken q slot label = tablesOf (q .control) (q .lefts) (q .rights) (set (q .labels) slot label) (withMark (q .marks) slot 1) (q .next)
-
--- Numbers from k up that end with 0, n of them in all: where each slot from 1 leads to the next one, and the last to none.
-abbrev pub climb : ℕ → ℕ → List ℕ
-climb k zero = []
-climb k (suc zero) = 0 ∷ []
-climb k (suc (suc n)) = k ∷ climb (suc k) (suc n)
-
--- The first n entries zeroed; entries beyond keep their values.
-abbrev pub zeroed : {A : Type 0} → ℕ → A → List A → List A
-zeroed n z l = replicate n z ++ drop n l

@@ -8,8 +8,8 @@ use borrow.Author.Tests.{eq-eqb, ne-eqb}
 use Rattle.word.specs.Anchor.{anchorOf, packAnchor}
 use Rattle.model.specs.declared.Control.{Control}
 use Rattle.model.specs.declared.Record.{Record}
-use Rattle.model.specs.Tables.{atPlace, far, facing, pushing, tablesOf, withSeen}
-use Rattle.model.specs.Sound.{isPop, anchorSound}
+use Rattle.model.specs.Tables.{atPlace, tablesOf, withSeen}
+use Rattle.model.specs.Sound.{anchorSound}
 use Rattle.model.specs.Places.{reading, row, sideOf, nothing, setAnchor, Move, compares, at1, at2, new4, at4, at6, at10, move}
 use Rattle.model.specs.Refusals.{needsRow, meetsLink, meetsHead, stepSound}
 use Rattle.model.specs.Route.{route, pushRoute, popRoute, goes, counted}
@@ -21,6 +21,8 @@ use Rattle.places.specs.Arm.{stepAt, Steps, StepsOnAnchor}
 use Rattle.places.specs.Ending.{refused, settled, noEntry, failing, withFailed, anchored, anchorRead, mayChange, remembered, compared, changed}
 use Rattle.places.proofs.Routes.{kinds, readings, Quiet, quietly}
 use Rattle.model.proofs.tests.Truth.{split}
+use Rattle.model.specs.Sides.{far, facing, pushing}
+use Rattle.model.specs.Kinds.{isPop}
 
 -- The step at place n tries to change Anchor: the change fails, is denied or is made.
 pub record Tries (n : ℕ) (c : Control) (r : Record) (new : ℕ) (t : Record) (done : ℕ) (failed : Transition) : Type 0 where

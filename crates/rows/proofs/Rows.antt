@@ -7,7 +7,8 @@ use native.Mathlib.Omega.{arith}
 use lib.ListN.{length, getD, set}
 use Rattle.model.specs.declared.Record.{Record}
 use Rattle.model.specs.declared.TaskRecord.{TaskRecord}
-use Rattle.model.specs.Tables.{unused, zeroed, withOwn}
+use Rattle.model.specs.Tables.{unused, withOwn}
+use Rattle.model.specs.Lists.{zeroed}
 use Rattle.rows.specs.Rows.{callOf, recordOf, recordsOf, upperOf, uppersOf}
 
 pub length-records : (rows : List (List ℕ)) → length (recordsOf rows) ≡ length rows

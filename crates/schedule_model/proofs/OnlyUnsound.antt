@@ -18,10 +18,11 @@ use Rattle.model.specs.Sound.{controlTests, controlSound, recordSound, anchorSo
 use Rattle.model.specs.Places.{Touch, nothing, setAnchor, setLink, clearMark, takeSlot, setNext, setHead, wordFound, Move, move, apply}
 use Rattle.model.specs.Refusals.{Rule, Lent, among, isBusy, leavesSound, stepTests, stepSound, stepRules, stepRefusal}
 use Rattle.model.specs.Calls.{Acted, decide, finish, step, actOn, act}
-use Rattle.model.specs.History.{All, final}
+use Rattle.model.specs.History.{final}
 use Rattle.model.proofs.laws.Sizes.{fits, act-fits, act-tasks}
 use Rattle.model.proofs.tests.Truth.{by-test}
 use Rattle.model.proofs.tests.Rules.{tests, passes, cleared}
+use Rattle.model.specs.Lists.{All}
 use Rattle.schedule_model.specs.Schedules.{atWork}
 use Rattle.schedule_model.specs.Next.{scheduleRefusal}
 use Rattle.schedule_model.specs.Claims.{tries, OnlyUnsound}

@@ -10,7 +10,7 @@ use lib.ListN.{getD, length, set, take}
 use borrow.Author.Tests.{eqb-false, eqb-true, not-false}
 use Rattle.model.specs.declared.Record.{Record}
 use Rattle.model.specs.declared.TaskRecord.{TaskRecord}
-use Rattle.model.specs.Tables.{Tables, bit, isPooled, links, marked, putBit, withMark, withHead, tablesOf}
+use Rattle.model.specs.Tables.{Tables, bit, isPooled, marked, putBit, withMark, withHead, tablesOf}
 use Rattle.model.specs.Sound.{recordSound, rowsFit}
 use Rattle.model.specs.Places.{Touch, nothing, setAnchor, setLink, clearMark, takeSlot, setNext, setHead}
 use Rattle.model.specs.Places.{Move, apply, wordFound, linkSide, move, row}
@@ -23,6 +23,7 @@ use Rattle.model.proofs.tests.Rules.{cleared}
 use Rattle.model.proofs.bridge.Facts.{RecordFine, control-fine, record-fine}
 use Rattle.model.proofs.bridge.Stores.{TouchFine}
 use Rattle.model.proofs.bridge.Touches.{beyond, move-fine, row-fine}
+use Rattle.model.specs.Sides.{links}
 use Rattle.shelf_model.specs.Cut.{cut, cutTables}
 use Rattle.shelf_model.proofs.Lists.{get-take, longer-take, set-take}
 

@@ -16,7 +16,7 @@ use Rattle.model.specs.declared.Op.the-variants.{Push, Pop, Put, Step}
 use Rattle.model.specs.declared.Outcome.the-variants.{Moved, Refused}
 use Rattle.model.specs.declared.Record.{Record}
 use Rattle.model.specs.declared.TaskRecord.{TaskRecord}
-use Rattle.model.specs.Tables.{Queue, Tables, asking, far, isEmpty, isPooled, links, near, opposite, started, taskAt, unused, withCall, taken}
+use Rattle.model.specs.Tables.{Queue, Tables, asking, isPooled, started, taskAt, unused, withCall, taken}
 use Rattle.model.specs.Sound.{controlSound, from1, linkSound, recordSound, rowsFit}
 use Rattle.model.specs.declared.Asked.{Asked}
 use Rattle.model.specs.declared.Control.{Control}
@@ -29,6 +29,7 @@ use Rattle.model.proofs.tests.Rules.{cleared}
 use Rattle.model.proofs.tests.Truth.{split}
 use Rattle.model.proofs.bridge.Facts.{from1-true}
 use Rattle.model.proofs.laws.Sizes.{act-tasks}
+use Rattle.model.specs.Sides.{far, isEmpty, links, near, opposite}
 use Rattle.shelf_model.specs.Cut.{cut, cutTables}
 use Rattle.shelf_model.proofs.Lists.{enough-take, get-take, set-take}
 use Rattle.shelf_model.proofs.Cut.{columns, cutActed, decide-cut, fits-cut, mark-cut, marked-cut, step-cut}

@@ -5,7 +5,9 @@ use Prim.Native.Nat.{ℕ}
 use lib.Dec.{leb, eqb}
 use Rattle.word.specs.declared.Anchor.{Anchor}
 use Rattle.model.specs.declared.Record.{Record}
-use Rattle.model.specs.Sound.{every, from1, isPush, isPop, callTests, readTests, recordSound}
+use Rattle.model.specs.Sound.{from1, callTests, readTests, recordSound}
+use Rattle.model.specs.Lists.{every}
+use Rattle.model.specs.Kinds.{isPush, isPop}
 
 unfoldable pub callSound : Bool → ℕ → Record → Bool
 callSound pooled slots r = every (callTests pooled slots r)

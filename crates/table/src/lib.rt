@@ -4,9 +4,10 @@ ghost use mathlib.Core.Path.{_≡_};
 ghost use mathlib.Core.List.{_∷_};
 ghost use Prim.Native.Nat.{_<_, _≤_};
 ghost use lib.ListN.{length, getD, set};
-ghost use Rattle.model.specs.Tables.{marked, withMark, zeroed, climb};
+ghost use Rattle.model.specs.Tables.{marked, withMark};
 ghost use Rattle.model.specs.Calls.{stacked};
 ghost use Rattle.model.specs.Route.{counted};
+ghost use Rattle.model.specs.Lists.{zeroed, climb};
 ghost use Rattle.table.specs.Zeroing.{zeroing};
 ghost use Rattle.table.specs.Stacking.{stacking};
 

@@ -9,9 +9,10 @@ use Rattle.word.specs.declared.Anchor.{Anchor}
 use Rattle.word.specs.Anchor.{anchorOf}
 use Rattle.word.specs.Link.{linkOf}
 use Rattle.model.specs.declared.Entry.{Entry}
-use Rattle.model.specs.Tables.{Tables, isEmpty}
+use Rattle.model.specs.Tables.{Tables}
 use Rattle.model.specs.Sound.{from1, linkSound}
 use Rattle.model.specs.Walk.{Walk, along, andThen, broken, contents, entries, walkFrom}
+use Rattle.model.specs.Sides.{isEmpty}
 
 module _ (slots : ℕ) (links labels : List ℕ) (last : ℕ) where
   abbrev pub rest : ℕ → ℕ → Walk

@@ -9,7 +9,6 @@ use Rattle.model.specs.Places.{wordFound}
 use Rattle.model.specs.declared.Asked.{Asked}
 use Rattle.model.specs.Refusals.{Rule, among, fits, late, startRules, startRefusal, namedPush, pooledPush, nothingAsked}
 use Rattle.model.specs.Refusals.{popRefusal, pushRefusal, putRefusal, stepRefusal}
-use Rattle.model.specs.History.{All}
 use Rattle.model.specs.Refusals.{stepRules, stepSound, stepTests}
 use Rattle.model.specs.Tables.{Queue, isPooled, marked, recordAt}
 use Rattle.model.proofs.tests.Rules.{cleared, tests}
@@ -18,6 +17,7 @@ use Rattle.model.proofs.bridge.Decoded.{RoomAt}
 use Rattle.model.proofs.bridge.Facts.{ControlFine, RecordFine, RowsFine, control-fine, from1-true, record-fine, rows-fine}
 use Rattle.model.proofs.bridge.Room.{room-tested}
 use Rattle.model.proofs.bridge.View.{placeOf}
+use Rattle.model.specs.Lists.{All}
 
 module _ (q : Queue) (t : ℕ) where
   -- The tables are long enough, and the task is known.

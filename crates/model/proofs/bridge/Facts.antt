@@ -10,7 +10,7 @@ use borrow.Author.Tests.{eq-eqb, eqb-true, le-leb, leb-true, ltb-true, ne-eqb}
 use Rattle.word.specs.Anchor.{anchorOf}
 use Rattle.word.specs.Link.{linkOf, spareOf}
 use Rattle.word.specs.declared.Anchor.{Anchor}
-use Rattle.model.specs.Sound.{giving, owning, anchorSound, anchorTests, controlSound, controlTests, from1, linkSound, recordSound}
+use Rattle.model.specs.Sound.{anchorSound, anchorTests, controlSound, controlTests, from1, linkSound, recordSound}
 use Rattle.model.specs.Sound.{recordTests, rowTests, rowsFit}
 use Rattle.model.specs.Tables.{Tables, isPooled}
 use Rattle.model.specs.declared.Control.{Control}
@@ -18,6 +18,7 @@ use Rattle.model.specs.declared.Record.{Record}
 use Rattle.model.proofs.tests.Rules.{tests}
 use Rattle.model.proofs.tests.Truth.{and-of, and-true, beq-eq, not-both, or-first, or-left, or-right, or-second}
 use Rattle.model.proofs.bridge.View.{linkAt}
+use Rattle.model.specs.Kinds.{giving, owning}
 
 pub record AnchorFine (slots : ℕ) (a : Anchor) : Type 0 where
   pub status : a .status ≤ 2

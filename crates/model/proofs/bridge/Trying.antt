@@ -10,13 +10,14 @@ use Rattle.word.specs.Anchor.{anchorOf, packAnchor}
 use Rattle.word.specs.Link.{linkOf}
 use Rattle.model.specs.Places.{at1, at2, at3, at4, linkSide, move, new4, reading, row, sideOf}
 use Rattle.model.specs.Route.{answer, goes, onward, popRoute, pushRoute, route}
-use Rattle.model.specs.Tables.{Tables, atPlace, facing, ofKind}
+use Rattle.model.specs.Tables.{Tables, atPlace, ofKind}
 use Rattle.model.specs.declared.Record.{Record}
 use Rattle.model.proofs.tests.Truth.{split}
 use Rattle.model.proofs.machine.Machine as M
 use Rattle.model.proofs.bridge.Decoded.{AnchorRoom, Seen, same-touch}
 use Rattle.model.proofs.bridge.View.{anchorSeen, linkAt, recOf, statusOf, view}
 use Rattle.model.proofs.bridge.Words.{anchor-back, link-back, same-word, stable-status}
+use Rattle.model.specs.Sides.{facing}
 
 module _ (q : Tables) (r : Record) where
   -- At a place and of a kind: 0 push, 1 pop.

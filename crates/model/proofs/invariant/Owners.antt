@@ -4,13 +4,13 @@ use mathlib.Core.List.{List, [], _∷_}
 use mathlib.Core.Logic.{_≢_}
 use mathlib.Core.Path.{_≡_}
 use Prim.Native.Nat.{_≤_, ℕ}
-use Rattle.model.specs.History.{All}
 use Rattle.model.specs.declared.Entry.{Entry}
 use Rattle.model.proofs.lists.Deque.{Distinct}
 use Rattle.model.proofs.lists.In.{In}
 use Rattle.model.proofs.lists.Slots.{slots}
 use Rattle.model.proofs.machine.Machine.{Rec, Shared, isGiving}
 use Rattle.model.proofs.invariant.Shape.{Shape}
+use Rattle.model.specs.Lists.{All}
 
 -- Nobody, the queue, or a task: a push before its effect, a pop after it.
 pub data Owner : Type 0 where

@@ -10,7 +10,7 @@ use borrow.Author.Tests.{leb-true, ltb-true, not-false}
 use Rattle.model.specs.declared.TaskRecord.{TaskRecord}
 use Rattle.model.specs.declared.Op.{Op}
 use Rattle.model.specs.declared.Op.the-variants.{Push, Pop, Put, Step}
-use Rattle.model.specs.Tables.{tablesOf, Tables, Queue, zeroed, unused, taskAt}
+use Rattle.model.specs.Tables.{tablesOf, Tables, Queue, unused, taskAt}
 use Rattle.model.specs.Sound.{rowTests, rowsFit}
 use Rattle.model.specs.Places.{Touch, nothing, setAnchor, setLink, clearMark, takeSlot, setNext, setHead, wordFound, move, apply}
 use Rattle.model.specs.Refusals.{Lent, among, alone, openRules, stepRefusal, pushRefusal, putRefusal, popRefusal}
@@ -19,6 +19,7 @@ use Rattle.model.proofs.lists.Range.{length-climb}
 use Rattle.model.proofs.tests.Truth.{either, and-true}
 use Rattle.model.proofs.tests.Rules.{tests}
 use Rattle.model.proofs.laws.Refusals.{OpenDecided, accepted-opening, refused-opening, open-decided}
+use Rattle.model.specs.Lists.{zeroed}
 
 pub record Lengths : Type 0 where
   pub lefts : ℕ

@@ -21,7 +21,7 @@ use Rattle.model.specs.declared.Outcome.the-variants.{Moved}
 use Rattle.model.specs.declared.Opening.the-variants as opening
 use Rattle.model.specs.declared.Op.{Op}
 use Rattle.model.specs.declared.Op.the-variants.{Push, Pop, Put, Step}
-use Rattle.model.specs.Tables.{Tables, Queue, asking, started, taskAt, unused, withAnchor, withCall, zeroed, taken}
+use Rattle.model.specs.Tables.{Tables, Queue, asking, started, taskAt, unused, withAnchor, withCall, taken}
 use Rattle.model.specs.declared.Asked.{Asked}
 use Rattle.model.specs.Refusals.{openRefusal, Lent, among, alone, fits, startRefusal, namedPush, pooledPush, nothingAsked}
 use Rattle.model.specs.Calls.{opened, OpenDone, openAs, Acted, decide, pushStart, putStart, popStart, actOn, back, act, stepLent}
@@ -30,6 +30,7 @@ use Rattle.model.specs.Mirror.{mirrorActed, mirrorOpened, mirrorDone}
 use Rattle.model.proofs.laws.Mirror.Packed.{mirror-pack}
 use Rattle.model.proofs.laws.Mirror.Sound.{rows-fit-mirror, start-refusal-mirror}
 use Rattle.model.proofs.laws.Mirror.Steps.{decide-mirror, step-mirror}
+use Rattle.model.specs.Lists.{zeroed}
 
 -- A start or step of one record.
 abbrev starts : Tables → TaskRecord → ℕ → Record → Acted

@@ -15,12 +15,12 @@ use Rattle.model.specs.declared.Op.the-variants.{Step}
 use Rattle.model.specs.Tables.{Tables, Queue, isPooled, recordAt, taskAt, unused}
 use Rattle.model.specs.Places.{Touch, nothing, setAnchor, setLink, clearMark, takeSlot, setNext, setHead, Move, wordFound, move, apply}
 use Rattle.model.specs.Places.{at1, at2, at3, at4, at5, at6, at7, at9, at10, at11, at12, at13, at14, at15, at16, at17}
-use Rattle.model.specs.Sound.{isPush}
 use Rattle.model.specs.Route.{counted}
 use Rattle.model.specs.Refusals.{Lent, among, alone, stepRefusal}
 use Rattle.model.specs.Calls.{Acted, finish, step, actOn, act, stepLent}
 use Rattle.model.specs.OneTouch.{OneTouch, untouched, anchor, link, mark, next, head, drawn}
 use Rattle.model.proofs.tests.Truth.{either, by-test}
+use Rattle.model.specs.Kinds.{isPush}
 
 -- A slot is drawn at 14 alone.
 abbrev Draws14 : ℕ → Touch → Type 0

@@ -19,10 +19,10 @@ use Rattle.model.specs.declared.Op.the-variants.{Push, Pop, Put, Step}
 use Rattle.model.specs.Tables.{Tables, Queue, unused, taskAt}
 use Rattle.model.specs.Refusals.{Rule, rule, first, openRules, openRefusal, Lent, among, alone, fits, startRules, startRefusal}
 use Rattle.model.specs.Refusals.{namedPush, pooledPush, nothingAsked, stepRules, stepRefusal}
-use Rattle.model.specs.History.{All}
 use Rattle.model.specs.Calls.{opened, OpenDone, openAs, Acted, decide, pushStart, putStart, popStart, finish, step, actOn, back, act, stepLent}
 use Rattle.model.proofs.tests.Rules.{numbered}
 use Rattle.model.proofs.tests.Truth.{and-true}
+use Rattle.model.specs.Lists.{All}
 
 -- No rule of a list applies; and the first of a list to apply has number n.
 abbrev pub NoneApplies : List Rule → Type 0

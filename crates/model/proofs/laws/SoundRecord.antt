@@ -7,8 +7,10 @@ use lib.Dec.{eqb, leb}
 use borrow.Author.Tests.{le-leb, leb-true}
 use Rattle.word.specs.Anchor.{anchorOf}
 use Rattle.model.specs.declared.Record.{Record}
-use Rattle.model.specs.Sound.{every, isPop, isPush, drawing, giving, helping, anchorTests, anchorSound, recordTests, recordSound}
+use Rattle.model.specs.Sound.{anchorTests, anchorSound, recordTests, recordSound}
 use Rattle.model.proofs.tests.Rules.{tests}
+use Rattle.model.specs.Lists.{every}
+use Rattle.model.specs.Kinds.{isPop, isPush, drawing, giving, helping}
 
 pub implied : (a b : Bool) → not a || b ≡ true → a ≡ true → b ≡ true
 implied true b e h = e

@@ -10,7 +10,7 @@ use lib.ListN.{set}
 use borrow.Author.Tests.{eq-eqb, eqb-false, eqb-true, ne-eqb}
 use Rattle.word.specs.Anchor.{anchorOf}
 use Rattle.model.specs.Calls.{Acted, Done, act, actOn, back, finish, popStart, pushStart, putStart, step}
-use Rattle.model.specs.History.{All, Call, Event, Ledger, Request, accept, attend, begins, final, ledgerFrom, note, over, run}
+use Rattle.model.specs.History.{Call, Event, Ledger, Request, accept, attend, begins, final, ledgerFrom, note, over, run}
 use Rattle.model.specs.Places.{wordFound, move}
 use Rattle.model.specs.Refusals.{among, popRefusal, pushRefusal, putRefusal, stepRefusal}
 use Rattle.model.specs.Tables.{Queue, asking, isPooled, recordAt, started, taskAt, unused, withCall, taken}
@@ -40,6 +40,7 @@ use Rattle.model.proofs.ledger.Attended.{Attended, attend-keeps, bookAf
 use Rattle.model.proofs.ledger.Matched.{Matched, busyNo}
 use Rattle.model.proofs.ledger.Matches.{Final, Matches, Names, Tracks, matches-granted, opens, rest-keeps, tracks-mono}
 use Rattle.model.proofs.ledger.Served.{Told, effect-is, no-slot-is}
+use Rattle.model.specs.Lists.{All}
 
 goes-on : (a : Answer) (b : Bool) → EndsAt (answerSeen a) b → goingOn a ≡ busyNo b
 goes-on (Running p) b e = rw e

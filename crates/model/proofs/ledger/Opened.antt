@@ -14,7 +14,7 @@ use Rattle.word.specs.Link.{linkOf, spareOf}
 use Rattle.model.specs.Calls.{opened, stacked}
 use Rattle.model.specs.History.{Ledger}
 use Rattle.model.specs.Refusals.{openRefusal, openRules}
-use Rattle.model.specs.Tables.{Queue, idle, isPooled, marked, recordAt, zeroed, unused}
+use Rattle.model.specs.Tables.{Queue, idle, isPooled, marked, recordAt, unused}
 use Rattle.model.specs.declared.Record.{Record}
 use Rattle.model.specs.declared.TaskRecord.{TaskRecord}
 use Rattle.model.proofs.tests.Rules.{cleared}
@@ -27,6 +27,7 @@ use Rattle.model.proofs.places.Opening.{all-stacked, fresh}
 use Rattle.model.proofs.bridge.Facts.{from1-true}
 use Rattle.model.proofs.bridge.View.{anchorSeen, linkAt, placeOf, recOf, stateOf, statusOf, view}
 use Rattle.model.proofs.ledger.Matched.{Matched, busyNo}
+use Rattle.model.specs.Lists.{zeroed}
 
 abbrev pub nobody : Ledger
 nobody = record { deque = []; calls = [] }

@@ -4,7 +4,6 @@ use mathlib.Core.List.{[]}
 use mathlib.Core.Path.{_≡_, refl, subst, sym}
 use Prim.Native.Nat.{_+_, _<_, _≤_, suc, zero, ℕ}
 use native.Mathlib.Omega.{arith}
-use Rattle.model.specs.History.{All}
 use Rattle.model.proofs.lists.All.{all-map}
 use Rattle.model.proofs.lists.Range.{in-range, range, range-bounds, range-distinct}
 use Rattle.model.proofs.machine.Book.{noBook, noCall}
@@ -14,6 +13,7 @@ use Rattle.model.proofs.invariant.Owners.{Pool, Spare, Stack, free}
 use Rattle.model.proofs.invariant.Tasks.{Task}
 use Rattle.model.proofs.chain.Sides.{under}
 use Rattle.model.proofs.places.Owned.{held-free, queued-free}
+use Rattle.model.specs.Lists.{All}
 
 -- No entry, no call, an empty Anchor: whatever the links and the labels are.
 pub fresh : (s : Shared) (f : ℕ → Rec) → s .anchor .status ≡ stable → s .anchor .left ≡ 0 → s .anchor .right ≡ 0 → ((t : ℕ) → f t .place ≡ idle)

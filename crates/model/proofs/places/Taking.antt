@@ -4,7 +4,6 @@ use mathlib.Core.List.{List, [], _∷_}
 use mathlib.Core.Logic.{_≢_, _⊎_, inl, inr}
 use mathlib.Core.Path.{_∙_, _≡_, ap, refl, subst, sym}
 use Prim.Native.Nat.{_<_, suc, ℕ}
-use Rattle.model.specs.History.{All}
 use Rattle.model.specs.declared.Entry.{Entry}
 use Rattle.model.proofs.tests.Truth.{decide-eq}
 use Rattle.model.proofs.lists.All.{all-both, all-map, all-rest, all-seen}
@@ -24,6 +23,7 @@ use Rattle.model.proofs.places.Effects.{noted-pop, noted-push}
 use Rattle.model.proofs.places.Marking.{marked-at, shows-own}
 use Rattle.model.proofs.places.Owned.{held-free, held-inj, owner-back, owner-bounds, owner-kept, owner-spare, push-pop, queued-free, queued-held}
 use Rattle.model.proofs.places.Shown.{Finish, Shown, effective, rely-turn, still}
+use Rattle.model.specs.Lists.{All}
 
 module _ {s : Shared} {h : ℕ → Owner} {q : List Entry} (all : Intact s h q) where
   calm : s .anchor .status ≡ stable → (e : Bool) → s .anchor .status ≡ pushing e → Made (s .link) (s .anchor) e

@@ -6,10 +6,9 @@ use mathlib.Core.Path.{_∙_, _≡_, ap, refl, sym}
 use Prim.Native.Nat.{ℕ}
 use lib.Dec.{eqb}
 use borrow.Author.Tests.{eqb-false, not-true}
-use Rattle.model.specs.History.{All}
 use Rattle.model.specs.Refusals.{Rule, first}
-use Rattle.model.specs.Sound.{every}
 use Rattle.model.proofs.tests.Truth.{and-true}
+use Rattle.model.specs.Lists.{All, every}
 
 -- One fact after another: the facts of a list, which end with tt.
 infixr 4 _and_

@@ -13,7 +13,7 @@ use Rattle.model.specs.History.{Ledger}
 use Rattle.model.specs.Places.{Move, wordFound, linkSide, move, row, sideOf}
 use Rattle.model.specs.Refusals.{leavesSound, meetsHead, meetsLink, needsRow, stepSound, stepTests}
 use Rattle.model.specs.Sound.{from1, linkSound, recordSound}
-use Rattle.model.specs.Tables.{atPlace, Queue, Tables, isPooled, named, near, recordAt}
+use Rattle.model.specs.Tables.{atPlace, Queue, Tables, isPooled, recordAt}
 use Rattle.model.specs.declared.Record.{Record}
 use Rattle.model.proofs.tests.ByPlace.{by-place}
 use Rattle.model.proofs.tests.Rules.{_and_, passes}
@@ -41,6 +41,7 @@ use Rattle.model.proofs.unsound.AnchorFields.{touch-sound}
 use Rattle.model.proofs.unsound.Moves.{move-status}
 use Rattle.model.proofs.unsound.Safe.{Safe}
 use Rattle.model.proofs.unsound.Tests.{link-sound, record-sound, unstable}
+use Rattle.model.specs.Sides.{named, near}
 
 near-real : (n : ℕ) (a : word.Anchor) → AnchorFine n a → a .left ≢ a .right → (b : Bool) → cond b (a .right) (a .left) ≢ 0
 near-real n a h ne true z = ne (h .full z ∙ sym z)

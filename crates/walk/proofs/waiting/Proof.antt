@@ -7,8 +7,9 @@ use lib.Dec.{eqb}
 use borrow.Author.Tests.{eq-eqb, ne-eqb}
 use Rattle.word.specs.declared.Anchor.{Anchor}
 use Rattle.word.specs.Anchor.{anchorOf}
-use Rattle.model.specs.Tables.{Tables, isEmpty, tablesOf}
+use Rattle.model.specs.Tables.{Tables, tablesOf}
 use Rattle.model.specs.Walk.{along}
+use Rattle.model.specs.Sides.{isEmpty}
 use Rattle.walk.specs.declared.Tally.{Tally}
 use Rattle.walk.specs.Counted.{counted}
 use Rattle.walk.proofs.SlotBySlot.{empty}

@@ -4,7 +4,7 @@ use mathlib.Core.List.{[], _∷_}
 use Prim.Native.Nat.{_+_}
 use lib.Dec.{ltb}
 use borrow.Author.Needs.{needs}
-use Rattle.model.specs.Sound.{every}
+use Rattle.model.specs.Lists.{every}
 use Rattle.join_model.specs.Closed.{lateFor}
 use Rattle.join.specs.Stages.{laterRefusal}
 use Rattle.join.proofs.admit.final_rules.Statement.{statement}

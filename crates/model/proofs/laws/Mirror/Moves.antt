@@ -10,8 +10,7 @@ use Rattle.word.specs.Anchor.{anchorOf, packAnchor}
 use Rattle.word.specs.Link.{linkOf, packLink}
 use Rattle.model.specs.declared.Control.{Control}
 use Rattle.model.specs.declared.Record.{Record}
-use Rattle.model.specs.Tables.{tablesOf, Tables, isPooled, opposite, far, facing, pushing, withSeen, withLink, withOwn}
-use Rattle.model.specs.Sound.{isPush, isPop}
+use Rattle.model.specs.Tables.{tablesOf, Tables, isPooled, withSeen, withLink, withOwn}
 use Rattle.model.specs.Places.{sideOf, Touch, nothing, setAnchor, setLink, clearMark, takeSlot, setNext, setHead, Move}
 use Rattle.model.specs.Places.{reads, changes, reading, replaces}
 use Rattle.model.specs.Places.{at1, at2, at3, new4, at4, at5, at6, at7, at9, at10, at11, at12, at13, at14, at15, at16, at17, move, apply}
@@ -20,6 +19,8 @@ use Rattle.model.specs.Mirror.{mirrorStatus, mirrorAnchor, mirrorWord, m
 use Rattle.model.proofs.laws.Mirror.Packed.{status-stable, mirror-fields, mirror-pack, mirror-equal}
 use Rattle.model.proofs.laws.Mirror.Sides.{far-mirror, facing-mirror, pushing-mirror, pushing-small, end-mirror, row-mirror, link-side-mirror}
 use Rattle.model.proofs.laws.Mirror.Sound.{eqb-sym}
+use Rattle.model.specs.Sides.{opposite, far, facing, pushing}
+use Rattle.model.specs.Kinds.{isPush, isPop}
 
 abbrev pub mirrorTouch : Touch → Touch
 mirrorTouch nothing = nothing

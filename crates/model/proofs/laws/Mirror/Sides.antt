@@ -11,11 +11,12 @@ use Rattle.word.specs.declared.Anchor.{Anchor}
 use Rattle.word.specs.Anchor.{anchorOf}
 use Rattle.word.specs.Link.{linkOf}
 use Rattle.model.specs.declared.Record.{Record}
-use Rattle.model.specs.Tables.{Tables, opposite, near, far, facing, links, pushing, named}
-use Rattle.model.specs.Sound.{drawing, giving, helping, isPush}
+use Rattle.model.specs.Tables.{Tables}
 use Rattle.model.specs.Places.{sideOf, endSeen, row, linkSide, wordFound}
 use Rattle.model.specs.Mirror.{mirrorSide, mirrorStatus, mirrorAnchor, mirrorTables, mirrorBusy}
 use Rattle.model.proofs.laws.Mirror.Packed.{mirror-fields}
+use Rattle.model.specs.Sides.{opposite, near, far, facing, links, pushing, named}
+use Rattle.model.specs.Kinds.{drawing, giving, helping, isPush}
 
 -- A side enters by one test alone.
 module _ (d : ℕ) where

@@ -10,8 +10,8 @@ use Rattle.model.specs.declared.Control.{Control}
 use Rattle.model.specs.declared.Record.{Record}
 use Rattle.model.specs.declared.TaskRecord.{TaskRecord}
 use Rattle.model.specs.declared.Outcome.the-variants.{Refused, Moved}
-use Rattle.model.specs.Tables.{atPlace, Tables, isPooled, opposite, idle, withCall}
-use Rattle.model.specs.Sound.{from1, every, linkSound, controlSound, recordSound, rowsFit}
+use Rattle.model.specs.Tables.{atPlace, Tables, isPooled, idle, withCall}
+use Rattle.model.specs.Sound.{from1, linkSound, controlSound, recordSound, rowsFit}
 use Rattle.model.specs.Places.{sideOf, row, wordFound, Touch, nothing, setAnchor, setLink, clearMark, takeSlot, setNext, setHead, Move, move}
 use Rattle.model.specs.Route.{route, onward, answer, goes, counted}
 use Rattle.model.specs.Refusals.{Lent, rule, first, needsRow, meetsLink, meetsHead, leavesSound, hasRoom, stepSound, stepRules, stepRefusal}
@@ -23,6 +23,8 @@ use Rattle.model.proofs.laws.Onward.{leads-on}
 use Rattle.model.proofs.laws.Mirror.Sides.{side-mirror, row-mirror, link-met-mirror}
 use Rattle.model.proofs.laws.Mirror.Sound.{word-sound-mirror, tag-mirror, control-sound-mirror, record-sound-mirror, place-mirror, rows-fit-mirror}
 use Rattle.model.proofs.laws.Mirror.Moves.{mirrorTouch, mirrorMove, apply-mirror, move-mirror}
+use Rattle.model.specs.Sides.{opposite}
+use Rattle.model.specs.Lists.{every}
 
 pub busy-record : (r : Record) → eqb (r .place) 0 ≡ false → mirrorRecord r ≡ mirrorBusy r
 unfolding mirrorRecord
