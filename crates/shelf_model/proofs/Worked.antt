@@ -1,17 +1,15 @@
 -- The numbers of the refusals in their order, whatever the queue and the shelves; and shelves as they are first lent. (Document 02, #109.)
 use mathlib.Core.Path.{_≡_, refl}
-use mathlib.Core.List.{List, [], _∷_, map}
+use mathlib.Core.Bool.{false}
+use mathlib.Core.List.{List, [], _∷_}
 use Prim.Native.Nat.{ℕ, zero, suc}
 use lib.ListN.{getD, replicate}
 use Rattle.model.specs.declared.Control.{Control}
 use Rattle.model.specs.declared.TaskRecord.{TaskRecord}
-use Rattle.model.specs.Tables.{Queue}
-use Rattle.model.specs.Refusals.{Rule}
+use Rattle.model.specs.Tables.{Queue, openedControl, withWords}
+use Rattle.model.proofs.laws.Order.{numbers}
 use Rattle.shelf_model.specs.Shelves.{Shelves, unfilled, saveRules, returnRules, returnRefusal}
 use Rattle.shelf_model.specs.Changeovers.{Unfilled}
-
-abbrev numbers : List Rule → List ℕ
-numbers l = map (λ (r : Rule). r .number) l
 
 pub order-of-saving : (q : Queue) (s : Shelves) (n : ℕ) → numbers (saveRules q s n) ≡ 34 ∷ 43 ∷ 12 ∷ []
 order-of-saving q s n = refl
@@ -21,7 +19,7 @@ order-of-returning q s n = refl
 
 -- Shelves whose controls are so many of zeros.
 abbrev zero-control : Control
-zero-control = record { tasks = 0; slots = 0; anchor = 0; pooled = 0; head = 0 }
+zero-control = withWords (openedControl false 0 0 0) 0 0
 
 abbrev lent : ℕ → List TaskRecord → List ℕ → List ℕ → List ℕ → List ℕ → List ℕ → Shelves
 lent k rs ls ts bs ms ns =
