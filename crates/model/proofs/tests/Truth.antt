@@ -51,6 +51,10 @@ pub or-left : (a b : Bool) → a || b ≡ true → b ≡ false → a ≡ true
 or-left true b e f = refl
 or-left false b e f = absurd (not-both e f)
 
+pub or-false : (a b : Bool) → a || b ≡ false → (a ≡ false) × (b ≡ false)
+or-false true b e = absurd (not-both refl e)
+or-false false b e = (refl, e)
+
 pub or-cases : {P : Type 0} (a b : Bool) → a || b ≡ true → (a ≡ true → P) → (b ≡ true → P) → P
 or-cases true b e f g = f refl
 or-cases false b e f g = g e
