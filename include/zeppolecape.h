@@ -113,7 +113,7 @@ extern "C" {
  */
 #define ZC_VERSION_MAJOR 3
 #define ZC_VERSION_MINOR 0
-#define ZC_VERSION_PATCH 0
+#define ZC_VERSION_PATCH 1
 #define ZC_VERSION (ZC_VERSION_MAJOR * 10000 + ZC_VERSION_MINOR * 100 + ZC_VERSION_PATCH)
 
 /* ---- Limits and lengths ---------------------------------------------------------------- */
