@@ -10,6 +10,11 @@
 # two at a time. The library holds them all, and a program takes in only those whose calls it makes.
 EXPORTS = capi capi_record capi_run history audit find waiting sheet shelf schedule join
 
+# Two of `rt` in one folder overwrite each other's notes on what is proved, and one may then find a proved crate
+# unproved. So each has a folder, with links to the crates, to what is proved of them, and to where the archives go.
+ALONE = mkdir -p target/alone/$$0/target && cd target/alone/$$0 && ln -sfn ../../../crates ../../../crates.txt . && \
+	ln -sfn ../../../rlib ../../../stamp ../../../staticlib target && rt staticlib $$0
+
 PREFIX ?= /usr/local
 LIBRARY ?= target/lib/libzeppolecape.a
 
@@ -31,7 +36,8 @@ exports:
 target/lib/libzeppolecape.a: crates.txt $(shell find crates -name '*.rt' -o -name '*.antt')
 	@command -v rt >/dev/null || { echo "make: the Rattle toolchain (rt) is not on the PATH; see README.md, Requirements" >&2; exit 1; }
 	rt check $(EXPORTS)
-	printf '%s\n' $(EXPORTS) | xargs -P 2 -n 1 rt staticlib
+	mkdir -p target/staticlib
+	printf '%s\n' $(EXPORTS) | xargs -P 2 -n 1 sh -c '$(ALONE)'
 	rm -rf target/lib && mkdir -p target/lib/members
 	cd target/lib/members && for name in $(EXPORTS); do ar x ../../staticlib/lib$$name.a || exit 1; done
 	ar rcsD $@ target/lib/members/*.o

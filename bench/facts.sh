@@ -24,17 +24,24 @@ uses() { # NAME PATTERN: whether the machine code has it
     echo "uses.$1 $((lines > 0))"
 }
 
+figures() { # TASKS.SLOTS: lines of NAME NUMBER
+    ${CC:-gcc} -std=gnu11 -O1 -Wall -Wextra -mno-red-zone -maccumulate-outgoing-args -fno-tree-loop-distribute-patterns \
+        -I"$root/include" -DTASKS="${1%.*}" -DSLOTS="${1#*.}" "$root/bench/facts.c" "$archive" -static -o "$work/facts.$1"
+    "$work/facts.$1" | sed "/^stack/!s/ /.$1 /"
+}
+
 measure() { # lines of NAME NUMBER
-    local size
+    local size running=()
     uses red_zone '-0x[0-9a-f]+\(%rsp'
     uses sse '%xmm'
     uses avx '%[yz]mm'
     size "$archive" | awk 'NR > 1 { sub(/\.o$/, "", $6); print "code." $6, $1 }'
-    for size in $SIZES; do
-        ${CC:-gcc} -std=gnu11 -O1 -Wall -Wextra -mno-red-zone -maccumulate-outgoing-args -fno-tree-loop-distribute-patterns \
-            -I"$root/include" -DTASKS="${size%.*}" -DSLOTS="${size#*.}" "$root/bench/facts.c" "$archive" -static -o "$work/facts"
-        "$work/facts" | sed "/^stack/!s/ /.$size /"
-    done | sort -s -k 1,1 -k 2,2nr | awk '$1 != last { print } { last = $1 }'
+    for size in $SIZES; do # side by side: what is counted does not depend on the time
+        figures "$size" >"$work/$size" &
+        running+=($!)
+    done
+    for size in "${running[@]}"; do wait "$size"; done
+    (cd "$work" && cat $SIZES) | sort -s -k 1,1 -k 2,2nr | awk '$1 != last { print } { last = $1 }'
 }
 
 # The figures of a file, as rows: name, stack, and a number for each size.

@@ -77,9 +77,9 @@
  * As to the machine: x86-64, System V calling convention. The code uses the red zone (128 bytes
  * below the stack pointer) and SSE registers, no AVX: an interrupt handler that makes a call saves
  * the SSE state first, and an interrupt that is not masked during a call leaves the red zone alone.
- * A task stepped alone answers within 18 steps in a push and 13 in a pop, in a pooled queue 21 and
- * 16, wherever the others stopped (ZC_PUSH_STEPS); between other tasks' steps it may have to try
- * again and again.
+ * In a queue that these calls alone wrote to, a task stepped alone answers within 18 steps in a push
+ * and 13 in a pop, in a pooled queue 21 and 16, wherever the others stopped (ZC_PUSH_STEPS, which
+ * says what of it is proved); between other tasks' steps it may have to try again and again.
  *
  * A REFUSAL is its number alone: every table keeps its contents. If several
  * numbers apply, the first in the order that stands with the call is answered.
@@ -113,7 +113,7 @@ extern "C" {
  */
 #define ZC_VERSION_MAJOR 3
 #define ZC_VERSION_MINOR 0
-#define ZC_VERSION_PATCH 0
+#define ZC_VERSION_PATCH 1
 #define ZC_VERSION (ZC_VERSION_MAJOR * 10000 + ZC_VERSION_MINOR * 100 + ZC_VERSION_PATCH)
 
 /* ---- Limits and lengths ---------------------------------------------------------------- */
@@ -242,7 +242,8 @@ typedef struct zc_record {
     uint64_t link;      /* the link word as read; at 13 to 17 the head */
     uint64_t finishing; /* 1 once a push has taken effect and still has a link to mend */
     uint64_t retries;   /* this task's changes that failed because another was faster: each adds
-                           one below ZC_MOST_RETRIES; only an opening zeroes it */
+                           one below ZC_MOST_RETRIES; an opening zeroes it, a return to a shelf
+                           puts the saved count back, nothing else lowers it */
 } zc_record;
 
 /* What a start or a step answers. Label and value are 0 where the code gives them no meaning. */
@@ -413,8 +414,9 @@ zc_reply zc_step_record(zc_control *control, zc_record *one, uint64_t *lefts, si
 /*
  * Steps a task until a step does not answer running, `most` times at the most, and answers as the
  * last step did. With `most` steps made, or none to make, the answer is running at the task's place
- * (0: it is idle). ZC_PUSH_STEPS or ZC_POP_STEPS, pooled ZC_POOLED_PUSH_STEPS or
- * ZC_POOLED_POP_STEPS, are always enough.
+ * (0: it is idle). In a queue that these calls alone wrote to, ZC_PUSH_STEPS or ZC_POP_STEPS are
+ * enough, which is proved; pooled ZC_POOLED_PUSH_STEPS or ZC_POOLED_POP_STEPS, which is counted and
+ * tested.
  * Refuses as the step does, and nothing with `most` 0. In a queue that somebody else wrote to, a
  * later step may be refused too: the `steps` before it are made and stay.
  */
@@ -776,9 +778,10 @@ ZC_LAYOUT(offsetof(zc_verdict, code) == 0 && offsetof(zc_verdict, position) == 4
  * serves the calls in that order gives each its answer. Else the first position of the order is
  * told whose call has another answer or stands before a call answered before its start; 0 if the
  * order is not a rearrangement of the calls.
- * Every history of a queue of this library passes, its effects being the steps that move an end of
- * Anchor and those that answer empty. A push that was answered ZC_NO_FREE_SLOT is left out: here
- * that answer is unknown (40).
+ * Every history of a queue of this library with at most 64 calls, all answered and none of them
+ * ZC_NO_FREE_SLOT, passes, its effects being the steps that move an end of Anchor and those that
+ * answer empty. A push that was answered ZC_NO_FREE_SLOT is left out: here that answer is unknown
+ * (40).
  * Refuses: 40 (over 64 calls; an answer event not after its start; two events equal; a kind, side
  * or answer unknown). Nothing in the order is refused.
  *
@@ -1084,7 +1087,10 @@ static inline zc_schedule_reply zc_queue_next_schedule(const zc_queue *queue, ui
 
 /* ---- A list carried out -------------------------------------------------------------------
  * A queue opened, and a list of starts and steps carried out on it, in one call: what was asked of a
- * queue, carried out again from memory. What is proved of every such list is proved of this call.
+ * queue, carried out again from memory. Its contract states of that list: it is linearizable; 34 is
+ * never answered; ZC_NO_FREE_SLOT only where every slot is in use; the tasks' counts of retries add
+ * up to the failed changes; every label is accounted for, each by itself and all in one sum. What
+ * else is proved of such lists holds of it too, but is not in its contract.
  */
 
 /* Operations of a request. Any other number is a step. */

@@ -27,8 +27,9 @@ elif ! TRACE=$(cd "$from" && realpath -e "$1") || [ ! -x "$TRACE" ]; then
 fi
 export TRACE
 shift
-log=$(mktemp) || exit 2
-trap 'rm -f "$log"' EXIT
+work=$(mktemp -d) || exit 2
+log=$work/log
+trap 'rm -rf "$work"' EXIT
 passed=0
 failed=0
 
@@ -52,9 +53,18 @@ part() {
     fi
 }
 
+# The differential test runs beside the others, and is told after them.
+timeout 1800 "$release/differential" "$TRACE" "$@" >"$work/differential" 2>&1 &
+differential=$!
+ended() { # STATUS
+    cat "$work/differential"
+    return "$1"
+}
+
 part "second program, cases, examples, run files, streams" \
     cargo test --release --offline --locked --quiet --no-fail-fast -p reference -p suite -- "${skipped[@]}"
-part "differential" timeout 1800 "$release/differential" "$TRACE" "$@"
+wait $differential
+part "differential" ended $?
 
 echo "$passed passed, $failed failed"
 [ "$failed" -eq 0 ]

@@ -20,6 +20,8 @@ $cc $flags tests/library/join.c bench/reference.c bench/join_reference.c "$archi
 $cc $flags -c bench/reference.c -o "$work/reference.o"
 # shellcheck disable=SC2086
 $cc $flags -c bench/join_reference.c -o "$work/right.o"
+# shellcheck disable=SC2086
+$cc $flags -c tests/library/join.c -o "$work/join.o"
 planted=0
 while IFS='|' read -r what edit; do
     [ -n "$what" ] || continue
@@ -30,8 +32,7 @@ while IFS='|' read -r what edit; do
     fi
     # shellcheck disable=SC2086
     $cc $flags -DAS_LIBRARY -c "$work/wrong.c" -o "$work/wrong.o"
-    # shellcheck disable=SC2086
-    $cc $flags tests/library/join.c "$work/reference.o" "$work/right.o" "$work/wrong.o" -o "$work/planted"
+    $cc "$work/join.o" "$work/reference.o" "$work/right.o" "$work/wrong.o" -o "$work/planted"
     if "$work/planted" 20000 >/dev/null 2>&1; then
         echo "join.sh: not noticed: $what" >&2
         exit 1

@@ -6,14 +6,15 @@
 #                                       join_reference.c, serve.c and shelf_reference.c
 #
 # PARTS names what runs, all of it by default: header, a program NAME for each tests/library/NAME.c that has a main,
-# bindings examples projects bench audit sheet serve schedules joining shelves facts differential.
-# SEED and TIMES go to the differential test (1 and 1). BUILD keeps what is built there.
+# bindings examples projects bench audit sheet serve facts schedules joining shelves differential.
+# SEED and TIMES go to the differential test (1 and 1). BUILD keeps what is built there. JOBS parts run at a time,
+# by default as many as there are processors; each in a shell of its own, and what they say stays in order.
 set -u -o pipefail
 from=$PWD
 cd "$(dirname "$0")/../.."
 
 PROGRAMS=$(grep -l '^int main' tests/library/*.c | grep -v '/join.c$\|/shelf.c$' | xargs -n 1 basename -s .c | tr '\n' ' ')
-PARTS=${PARTS:-header $PROGRAMS bindings examples projects bench audit sheet serve schedules joining shelves facts differential}
+PARTS=${PARTS:-header $PROGRAMS bindings examples projects bench audit sheet serve facts schedules joining shelves differential}
 CC=${CC:-gcc}
 CXX=${CXX:-g++}
 WARNINGS="-Wall -Wextra -Wpedantic -Werror"
@@ -51,19 +52,19 @@ case ${1:-} in
     ;;
 esac
 
-passed=0
-failed=0
+# The same for every cargo of a run, so that what one part built is not built again for another.
+export RUSTFLAGS="-D warnings" RUSTDOCFLAGS="-D warnings"
 
 # One check: a command that must succeed.
 holds() { # WHAT COMMAND..
     local what=$1
     shift
-    if "$@" >"$work/log" 2>&1; then
+    if "$@" >"$log" 2>&1; then
         passed=$((passed + 1))
     else
         failed=$((failed + 1))
         echo "FAILED $what"
-        head -20 "$work/log"
+        head -20 "$log"
     fi
 }
 
@@ -72,19 +73,19 @@ holds() { # WHAT COMMAND..
 counts() { # WHAT COMMAND..
     local what=$1 status count=
     shift
-    "$@" >"$work/log" 2>&1
+    "$@" >"$log" 2>&1
     status=$?
-    [[ $(tail -1 "$work/log") =~ ^([0-9]+)\ passed,\ ([0-9]+)\ failed$ ]] && count=yes
+    [[ $(tail -1 "$log") =~ ^([0-9]+)\ passed,\ ([0-9]+)\ failed$ ]] && count=yes
     if [ -z "$count" ] || { [ $status -ne 0 ] && [ "${BASH_REMATCH[2]}" -eq 0 ]; }; then
         failed=$((failed + 1))
         echo "FAILED $what: stopped with $status"
-        tail -20 "$work/log"
+        tail -20 "$log"
         return
     fi
     passed=$((passed + BASH_REMATCH[1]))
     failed=$((failed + BASH_REMATCH[2]))
     echo "$what:"
-    sed 's/^/    /' "$work/log" | head -40
+    sed 's/^/    /' "$log" | head -40
 }
 
 part_header() {
@@ -122,7 +123,7 @@ program() { # NAME
 }
 
 in_cargo() { # COMMAND OPTIONS..: on one package, its warnings errors
-    RUSTFLAGS="-D warnings" RUSTDOCFLAGS="-D warnings" cargo "$1" --quiet --offline --locked --target-dir "$work/cargo" "${@:2}"
+    cargo "$1" --quiet --offline --locked --target-dir "$work/cargo" "${@:2}"
 }
 
 # libtest's summaries as ours.
@@ -150,7 +151,7 @@ part_bindings() {
 example() { # NAME LINE
     holds "C example $1 compiles" $CC $WARNINGS -Iinclude "examples/c/$1.c" "$archive" -o "$work/$1"
     holds "C example $1" "$work/$1"
-    cp "$work/log" "$work/said_by_$1"
+    cp "$log" "$work/said_by_$1"
     holds "C example $1: $2" grep -qxF "$2" "$work/said_by_$1"
 }
 
@@ -165,10 +166,10 @@ part_examples() {
     holds "Rust example compiles" in_cargo build --release -p executive
     for seed in 1 2 3 4 5 6 7 8 9 10 18446744073709551615; do
         holds "C example, seed $seed" "$work/executive_c" $seed
-        cp "$work/log" "$work/said_by_c"
+        cp "$log" "$work/said_by_c"
         holds "C example, seed $seed: no label lost" grep -qx 'no label lost' "$work/said_by_c"
         holds "Rust example, seed $seed" "$work/cargo/release/executive" $seed
-        cp "$work/log" "$work/said_by_rust"
+        cp "$log" "$work/said_by_rust"
         holds "examples say the same, seed $seed" cmp "$work/said_by_c" "$work/said_by_rust"
     done
 }
@@ -228,7 +229,7 @@ part_schedules() {
     holds "library and C hand out the same schedules" "$work/schedules_bench" 1
     holds "the test of schedules compiles" in_cargo build --release -p library-schedules -p schedules
     counts "schedules against the second program" "$work/cargo/release/library-schedules" "${SEED:-1}" "${TIMES:-1}"
-    counts "planted faults in schedules by hand" tests/library/schedule_faults.sh
+    counts "planted faults in schedules by hand" tests/library/schedule_faults.sh "$work/cargo"
     tools/runfile examples/the_last_label.txt | "$work/cargo/release/schedules" >"$work/orders"
     holds "every order of the example is printed" test "$(tail -n 1 "$work/orders")" = "18644 schedules: 18644 answered, 0 cut, 0 refused"
 }
@@ -248,8 +249,30 @@ part_differential() {
     counts "library against the second program" "$work/cargo/checked/library-differential" "${SEED:-1}" "${TIMES:-1}"
 }
 
+# One part: what it says and counts is kept for the end.
+run() { # PART
+    local passed=0 failed=0 log=$work/$1.log
+    if [[ " $PROGRAMS " == *" $1 "* ]]; then program "$1"; else "part_$1"; fi
+    echo "$passed $failed" >"$work/$1.count"
+}
+
 for part in $PARTS; do
-    if [[ " $PROGRAMS " == *" $part "* ]]; then program "$part"; else "part_$part"; fi
+    while [ "$(jobs -rp | wc -l)" -ge "${JOBS:-$(nproc)}" ]; do wait -n; done
+    rm -f "$work/$part.count"
+    run "$part" >"$work/$part.said" 2>&1 &
+done
+wait
+passed=0
+failed=0
+for part in $PARTS; do
+    cat "$work/$part.said"
+    if read -r well ill 2>/dev/null <"$work/$part.count"; then
+        passed=$((passed + well))
+        failed=$((failed + ill))
+    else
+        failed=$((failed + 1))
+        echo "FAILED $part: ended without a count"
+    fi
 done
 echo "$passed passed, $failed failed"
 [ $failed -eq 0 ] && [ $passed -gt 0 ]

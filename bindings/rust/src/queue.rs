@@ -102,8 +102,8 @@ impl Queue {
         self.lend().run(task, most)
     }
 
-    /// Steps one task, alone, to its answer: [`POOLED_PUSH_STEPS`] are always enough. Refuses as
-    /// [`step`](Queue::step) does.
+    /// Steps one task, alone, to its answer: [`POOLED_PUSH_STEPS`] are enough in a queue that these
+    /// calls alone wrote to. Refuses as [`step`](Queue::step) does.
     pub fn finish(&mut self, task: usize) -> Result<Answer, Refusal> {
         self.run(task, POOLED_PUSH_STEPS).outcome
     }

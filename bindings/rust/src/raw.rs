@@ -117,7 +117,8 @@ pub struct Record {
     /// 1 once a push has taken effect and still has a link to mend.
     pub finishing: u64,
     /// This task's changes that failed because another was faster: each adds one below
-    /// [`MOST_RETRIES`](crate::MOST_RETRIES); only an opening zeroes it.
+    /// [`MOST_RETRIES`](crate::MOST_RETRIES); an opening zeroes it, a return to a shelf
+    /// puts the saved count back.
     pub retries: u64,
 }
 

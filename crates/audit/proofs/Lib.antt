@@ -2,4 +2,4 @@ pub mod Loops
 pub mod WordsRead
 pub mod Buffer
 pub mod Turn
-pub mod Whole
+pub mod Verdicts

@@ -6,7 +6,7 @@ use native.Mathlib.Omega.{arith}
 use lib.ListN.{length, getD, length-map, List·getD-eq-default, List·getD-map}
 use Rattle.audit_model.specs.declared.Finished.{Finished}
 use Rattle.audit_model.specs.Audit.{inOrder, nobody, numbered}
-use Rattle.audit_model.specs.Words.{callAt, callsFrom, callsIn}
+use Rattle.audit_model.specs.LentHistory.{callAt, callsFrom, callsIn}
 
 calls-length : (j n : ℕ) (ws : List ℕ) → length (callsFrom j n ws) ≡ n
 unfolding callsFrom

@@ -6,7 +6,7 @@ ghost use lib.ListN.{length, getD};
 ghost use lib.Seq.{slice};
 ghost use Rattle.audit_model.specs.Audit as meaning;
 ghost use Rattle.audit_model.specs.Audit.{allOf, numbered, pairwise, wellFormed};
-ghost use Rattle.audit_model.specs.Words.{callsIn};
+ghost use Rattle.audit_model.specs.LentHistory.{callsIn};
 
 fn call_at(words: &[u64], i: usize) -> Finished
     requires { ⌜ i < length (now words) / 7 ⌝ }

@@ -18,7 +18,7 @@ ghost use lib.ListN.{length};
 ghost use lib.Seq.{slice};
 ghost use Rattle.audit_model.specs.Audit as meaning;
 ghost use Rattle.audit_model.specs.Audit.{allOf, inOrder, notEarlier, replay, verdict};
-ghost use Rattle.audit_model.specs.Words.{callsIn, verdictReply};
+ghost use Rattle.audit_model.specs.LentHistory.{callsIn, verdictReply};
 
 fn agrees(c: Finished, answer: u64, label: u64) -> bool
     ensures { λ r. ⌜ r ≡ meaning.agrees (c .answer) (c .label) answer label ⌝ }

@@ -15,18 +15,19 @@ use Rattle.model.specs.declared.Op.the-variants.{Push, Pop, Put, Step}
 use Rattle.model.specs.declared.Outcome.{Outcome}
 use Rattle.model.specs.declared.Outcome.the-variants.{Refused, Moved}
 use Rattle.model.specs.Calls.{Acted, Done, act, actOn, back, finish, popStart, pushStart, putStart, step}
-use Rattle.model.specs.Places.{linkMet, move}
+use Rattle.model.specs.Places.{wordFound, move}
 use Rattle.model.specs.Refusals.{among, popRefusal, pushRefusal, putRefusal, stepRefusal}
 use Rattle.model.specs.Tables.{Queue, recordAt}
-use Rattle.model.specs.History.{All, Call, Effect, Ending, Event, Ledger, Request, answered, pending}
+use Rattle.model.specs.History.{Call, Effect, Ending, Event, Ledger, Request, answered, pending}
 use Rattle.model.specs.History.{accept, attend, begins, continued, ended, isEffect, isOpen, ledgerFrom, note, over, run, stepOf}
 use Rattle.model.proofs.tests.Truth.{by-test}
 use Rattle.model.proofs.bridge.Accepted.{pop-accepted, push-accepted, put-accepted}
 use Rattle.model.proofs.machine.Machine as M
 use Rattle.model.proofs.bridge.View.{stateOf}
-use Rattle.model.proofs.ledger.Kept.{act-good}
+use Rattle.model.proofs.ledger.EveryOperation.{act-good}
 use Rattle.model.proofs.ledger.Matched.{Matched, busyNo}
 use Rattle.model.proofs.ledger.Matches.{opens}
+use Rattle.model.specs.Lists.{All}
 use Rattle.audit_model.proofs.Lists.{Pairs, all-map, all-both}
 use Rattle.audit_model.proofs.Replayed.{attend-all}
 

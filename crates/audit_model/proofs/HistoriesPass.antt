@@ -8,7 +8,7 @@ use lib.ListN.{length, length-map}
 use borrow.Author.Tests.{eq-eqb, le-leb, ne-eqb}
 use Rattle.model.specs.declared.Entry.{Entry}
 use Rattle.model.specs.Calls.{opened}
-use Rattle.model.specs.History.{All, Call, Lawful, Request, ledger, run}
+use Rattle.model.specs.History.{Call, Lawful, Request, ledger, run}
 use Rattle.model.specs.Refusals.{openRefusal}
 use Rattle.model.specs.Sound.{from1}
 use Rattle.model.specs.Tables.{Queue}
@@ -16,6 +16,7 @@ use Rattle.model.proofs.Linearizable.{linearized}
 use Rattle.model.proofs.Openings.{after-opening}
 use Rattle.model.proofs.tests.Truth.{and-of}
 use Rattle.model.proofs.ledger.Opened as start
+use Rattle.model.specs.Lists.{All}
 use Rattle.audit_model.specs.declared.Finished.{Finished}
 use Rattle.audit_model.specs.declared.Verdict.the-variants.{Passed}
 use Rattle.audit_model.specs.Audit.{accepted, allOf, apart, differ, notEarlier, numbered, rearranges, replay, verdict, wellFormed}

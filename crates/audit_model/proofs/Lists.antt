@@ -2,8 +2,8 @@
 use mathlib.Core.Bool.{Bool, true}
 use mathlib.Core.List.{List, [], _∷_, _++_, map}
 use mathlib.Core.Path.{_≡_, refl}
-use Rattle.model.specs.History.{All}
 use Rattle.model.proofs.tests.Truth.{and-of}
+use Rattle.model.specs.Lists.{All}
 use Rattle.audit_model.specs.Audit.{allOf, pairwise}
 
 -- A fact of each element and every later one.

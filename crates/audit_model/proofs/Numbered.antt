@@ -7,7 +7,8 @@ use Prim.Native.Nat.{ℕ, suc, _<_, _≤_}
 use native.Mathlib.Omega.{arith}
 use lib.ListN.{length, getD, length-reverse, length-map, List·getD-append}
 use lib.Seq.{getD-at}
-use Rattle.model.specs.History.{All, Call, Effect}
+use Rattle.model.specs.History.{Call, Effect}
+use Rattle.model.specs.Lists.{All}
 use Rattle.audit_model.specs.declared.Finished.{Finished}
 use Rattle.audit_model.specs.Audit.{nobody, numbered}
 use Rattle.audit_model.specs.Written.{Taken, effectsOf, finished, insert, insertAll, taken, written}

@@ -7,8 +7,8 @@ use native.Mathlib.Omega.{arith}
 use lib.Dec.{ltb}
 use lib.ListN.{length}
 use borrow.Author.Tests.{ltb-true, ltb-false, lt-ltb, le-ltb}
-use Rattle.model.specs.History.{All}
 use Rattle.model.proofs.tests.Truth.{by-test}
+use Rattle.model.specs.Lists.{All}
 use Rattle.audit_model.specs.Written.{Taken, insert}
 use Rattle.audit_model.proofs.Lists.{Pairs}
 

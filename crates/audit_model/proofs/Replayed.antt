@@ -13,9 +13,10 @@ use Rattle.model.specs.declared.Op.the-variants.{Push, Pop, Put, Step}
 use Rattle.model.specs.declared.Outcome.{Outcome}
 use Rattle.model.specs.declared.Outcome.the-variants.{Refused, Moved}
 use Rattle.model.specs.Deque.{Served, saysNoSlot, serve, serveFor, servePop, servePush, takeFirst, seenFrom}
-use Rattle.model.specs.History.{All, Call, Effect, Ending, Event, Ledger}
+use Rattle.model.specs.History.{Call, Effect, Ending, Event, Ledger}
 use Rattle.model.specs.History.{accept, attend, begins, continued, ended, isEffect, isOpen, ledgerFrom, note, over, stepOf, toldEntry}
 use Rattle.model.proofs.tests.Truth.{by-test}
+use Rattle.model.specs.Lists.{All}
 use Rattle.audit_model.specs.Written.{Taken, insert, insertAll, taken, effectsOf}
 use Rattle.audit_model.proofs.Lists.{all-append, all-map}
 use Rattle.audit_model.proofs.Order.{insert-all, insert-before, insert-last}

@@ -5,13 +5,14 @@ use Prim.Native.Nat.{ℕ, zero, suc, _+_, _*_, _/_, _≤_}
 use native.Mathlib.Omega.{arith}
 use lib.ListN.{length, getD}
 use Rattle.audit_model.specs.declared.Finished.{Finished}
-use Rattle.model.specs.History.{AfterOpening, All, Call, Request, ledger, run}
+use Rattle.model.specs.History.{AfterOpening, Call, Request, ledger, run}
 use Rattle.model.specs.Calls.{openAs}
 use Rattle.model.specs.Tables.{Queue}
+use Rattle.model.specs.Lists.{All}
 use Rattle.audit_model.specs.declared.Verdict.the-variants.{Passed}
 use Rattle.audit_model.specs.Audit.{verdict}
 use Rattle.audit_model.specs.Written.{IsAnswered, effectOrder, finished}
-use Rattle.audit_model.specs.Words.{callAt, callsFrom, callsIn, wordsOf}
+use Rattle.audit_model.specs.LentHistory.{callAt, callsFrom, callsIn, wordsOf}
 use Rattle.audit_model.proofs.HistoriesPass.{histories-pass}
 
 words-length : (cs : List Finished) → length (wordsOf cs) ≡ 7 * length cs

@@ -7,11 +7,11 @@ use native.Mathlib.Omega.{arith}
 use lib.Dec.{eqb, leb}
 use lib.ListN.{length}
 use borrow.Author.Tests.{eqb-false, eqb-true, leb-true, not-true}
-use Rattle.model.specs.History.{All}
 use Rattle.model.specs.Sound.{from1}
 use Rattle.model.proofs.lists.Deque.{Distinct}
 use Rattle.model.proofs.lists.Pigeonhole.{pigeon}
 use Rattle.model.proofs.tests.Truth.{and-of, and-true, by-test}
+use Rattle.model.specs.Lists.{All}
 use Rattle.audit_model.specs.declared.Finished.{Finished}
 use Rattle.audit_model.specs.declared.Verdict.{Verdict}
 use Rattle.audit_model.specs.declared.Verdict.the-variants.{Refused, Failed, Passed}

@@ -4,29 +4,29 @@ use mathlib.Core.List.{List, [], _∷_, _++_, map}
 use Prim.Native.Nat.{ℕ}
 use lib.ListN.{replicate}
 use Rattle.model.specs.declared.Op.the-variants.{Push, Pop, Put, Step}
-use Rattle.model.specs.Tables.{Queue, unused}
+use Rattle.model.specs.Tables.{Queue, unused, tablesOf, unopened}
 use Rattle.model.specs.Sound.{anchorSound, linkSound, controlSound, recordSound, rowsFit}
 use Rattle.model.specs.Places.{sideOf, row, linkSide, reading, at1, at2, at3, new4, at4, at5, at6, at7, at9, at10, at11, at12, at13, at14, move}
 use Rattle.model.specs.Route.{pushRoute, popRoute, route, onward, answer, goes, counted}
-use Rattle.model.specs.Refusals.{openRefusal, pushRefusal, putRefusal, popRefusal, stepSound, stepRefusal}
+use Rattle.model.specs.Refusals.{openRefusal, pushRefusal, putRefusal, popRefusal, stepSound, stepRefusal, startRefusal}
 use Rattle.model.specs.Calls.{opened, openAs, openPooled, openQueue, pushStart, putStart, popStart, finish, step, actOn, act}
 use Rattle.model.specs.Deque.{serve, serveFor, servePop, servePush}
 use Rattle.model.specs.History.{Call, Request, accept, attend, isEffect, ledger, ledgerFrom, note, run, stepOf}
 use Rattle.audit_model.specs.declared.Finished.{Finished}
 use Rattle.audit_model.specs.declared.Verdict.the-variants.{Failed, Passed, Refused}
+use Rattle.audit_model.specs.declared.VerdictReply.{VerdictReply}
 use Rattle.audit_model.specs.Audit.{accepted, agrees, apart, notEarlier, rearranges, replay, serveLabel, verdict, wellFormed}
+use Rattle.audit_model.specs.LentHistory.{verdictReply}
 use Rattle.audit_model.specs.Written.{effectOrder, finished, insert}
 
 abbrev zeros : Queue
 zeros = record {
-  tables = record {
-    control = record { tasks = 0; slots = 0; anchor = 0; pooled = 0; head = 0 };
-    lefts = replicate 4 0;
-    rights = replicate 4 0;
-    labels = replicate 4 0;
-    marks = replicate 1 0;
-    next = replicate 4 0;
-  };
+  tables = tablesOf unopened
+      (replicate 4 0)
+      (replicate 4 0)
+      (replicate 4 0)
+      (replicate 1 0)
+      (replicate 4 0);
   records = replicate 2 unused;
 }
 
@@ -63,6 +63,9 @@ empty = record { task = 0; kind = 1; side = 0; label = 0; answer = 3; start = 4;
 abbrev popped : ℕ → ℕ → Finished
 popped label start = record { task = 1; kind = 1; side = 1; label = label; answer = 4; start = start; end = 10 }
 
+abbrev told : ℕ → ℕ → VerdictReply
+told code position = record { code = code; position = position }
+
 abbrev history : List Finished
 history = push ∷ empty ∷ popped 700 5 ∷ []
 
@@ -90,9 +93,11 @@ pub record Table : Type 0 where
   -- a push that named no slot is a push of its label; *no slot* is an answer of its own, which no history knows
   pub pooled-so : finished pooledCalls ≡ drawn ∷ noSlot ∷ []
   pub no-slot : verdict (drawn ∷ noSlot ∷ []) (1 ∷ 2 ∷ []) ≡ Refused 40
+  -- the numbers of each verdict
+  pub numbers : map verdictReply (Passed ∷ Failed 0 ∷ Failed 3 ∷ Refused 40 ∷ []) ≡ told 0 0 ∷ told 1 0 ∷ told 1 3 ∷ told 40 0 ∷ []
 
 pub worked : Table
-unfolding openAs opened openRefusal run act actOn pushStart putStart popStart step finish pushRefusal putRefusal popRefusal stepRefusal stepSound
+unfolding openAs opened openRefusal run act actOn pushStart putStart popStart step finish startRefusal stepRefusal stepSound
     move at1 at2 at3 new4 at4 at5 at6 at7 at9 at10 at11 at12 at13 at14 reading sideOf row linkSide anchorSound linkSound controlSound recordSound rowsFit
     pushRoute popRoute route onward answer goes counted ledgerFrom note accept attend stepOf isEffect serveFor serve servePush servePop
     insert verdict accepted wellFormed apart rearranges replay serveLabel agrees notEarlier
@@ -112,4 +117,5 @@ worked = record {
   too-many = refl;
   pooled-so = refl;
   no-slot = refl;
+  numbers = refl;
 }

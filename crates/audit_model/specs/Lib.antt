@@ -1,4 +1,4 @@
 pub mod Audit
-pub mod Words
+pub mod LentHistory
 pub mod Written
 pub mod Laws

@@ -11,7 +11,8 @@ use Rattle.model.specs.declared.Entry.{Entry}
 use Rattle.model.specs.declared.Outcome.the-variants.{Moved}
 use Rattle.model.specs.Calls.{replyOf}
 use Rattle.model.specs.Tables.{Queue}
-use Rattle.model.specs.History.{All, AfterOpening, Call, Effect, Ending, Request, answered, ledger, pending, run}
+use Rattle.model.specs.History.{AfterOpening, Call, Effect, Ending, Request, answered, ledger, pending, run}
+use Rattle.model.specs.Lists.{All}
 use Rattle.audit_model.specs.declared.Finished.{Finished}
 use Rattle.audit_model.specs.declared.Verdict.the-variants.{Passed}
 use Rattle.audit_model.specs.Audit.{nobody, verdict}

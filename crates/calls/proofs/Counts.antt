@@ -8,9 +8,9 @@ use lib.Dec.{eqb, leb}
 use borrow.Author.Tests.{lt-ltb, leb-true}
 use Rattle.model.specs.declared.Control.{Control}
 use Rattle.model.specs.declared.Record.{Record}
-use Rattle.model.specs.Report.{count}
 use Rattle.calls.specs.Telling.{countable, countBusy}
-use Rattle.calls.proofs.Rules.{both}
+use Rattle.model.proofs.tests.Truth.{and-true}
+use Rattle.model.specs.Lists.{count}
 
 -- One record's turn, as long as fewer than 16 were busy.
 pub count-turn : (n : ℕ) (r : Record) → n < 16 → countBusy n r ≡ n + cond (not (eqb (r .place) 0)) 1 0
@@ -37,6 +37,6 @@ countable-fits c n = go (leb (c .tasks) 16 && leb (c .tasks) n) refl
   where
     go : (b : Bool) → (leb (c .tasks) 16 && leb (c .tasks) n) ≡ b → (cond b (c .tasks) 0 ≤ n) × (cond b (c .tasks) 0 ≤ 16)
     go true e =
-        let h = both (leb (c .tasks) 16) (leb (c .tasks) n) e in
+        let h = and-true (leb (c .tasks) 16) (leb (c .tasks) n) e in
         (leb-true (c .tasks) n (h .1), leb-true (c .tasks) 16 (h .0))
     go false e = (omega arith, omega arith)

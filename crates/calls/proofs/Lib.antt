@@ -1,5 +1,5 @@
-pub mod Rules
-pub mod Parts
+pub mod InOrder
+pub mod Openings
 pub mod Starts
 pub mod Counts
 pub mod Tells

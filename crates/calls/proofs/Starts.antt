@@ -13,7 +13,7 @@ use Rattle.model.specs.Calls as calls
 use Rattle.model.specs.Calls.{decide}
 use Rattle.model.specs.Route.{counted}
 use Rattle.model.specs.Tables.{Tables, tablesOf, withCall}
-use Rattle.table.specs.declared.Acted.{Acted}
+use Rattle.model.specs.declared.Transition.{Transition}
 use Rattle.table.specs.Lent.{withTables}
 use Rattle.calls.specs.Starting.{decided}
 
@@ -21,7 +21,7 @@ module _ (c : Control) (r : TaskRecord) (why : ℕ) (task : Record) (lefts right
   abbrev q : Tables
   q = tablesOf c lefts rights labels marks next
 
-  abbrev lent : Acted → calls.Acted
+  abbrev lent : Transition → calls.Acted
   lent m = withTables m lefts rights labels marks next (r .retries)
 
   pub on-tables : lent (decided c (r .call) why task)

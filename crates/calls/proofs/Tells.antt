@@ -13,44 +13,31 @@ use Rattle.model.specs.declared.Reported.the-variants as reported
 use Rattle.model.specs.Tables.{Tables, Queue, isPooled, recordAt}
 use Rattle.model.specs.Sound.{controlSound, rowsFit}
 use Rattle.model.specs.Walk.{contents, isBroken}
-use Rattle.model.specs.Refusals.{rule, first, reportRules, reportRefusal}
-use Rattle.model.specs.Report.{busy, count, report, tell, told, waiting}
-use Rattle.model.proofs.tests.Rules.{cleared}
+use Rattle.model.specs.Refusals.{rule, first, fits, tableRules, reportRules, reportRefusal}
+use Rattle.model.specs.Report.{busy, report, tell, told, waiting}
+use Rattle.model.proofs.tests.Rules.{cleared, first-refused}
+use Rattle.model.proofs.tests.Truth.{and-true}
+use Rattle.model.specs.Lists.{count}
 use Rattle.walk.specs.declared.Tally.the-variants.{Broken, Labels}
 use Rattle.walk.specs.Counted.{counted}
 use Rattle.walk.proofs.Counting.{none-counted, all-counted}
-use Rattle.calls.specs.Rules.{tellingRefusal}
 use Rattle.calls.specs.Telling.{countable}
-use Rattle.calls.proofs.Rules.{both}
-
-none-applies : (a b : Bool) → tellingRefusal a b ≡ 0 → (a ≡ true) × (b ≡ true)
-unfolding tellingRefusal
-none-applies true true e = (refl, refl)
-none-applies true false e = let z : ⊥ = omega arith in absurd z
-none-applies false b e = let z : ⊥ = omega arith in absurd z
-
--- One of the first two rules applies.
-one-applies : (a b c : Bool) → (tellingRefusal a b ≡ 0 → ⊥)
-    → first (rule 34 (not a) ∷ rule 12 (not b) ∷ rule 34 c ∷ []) ≡ tellingRefusal a b
-unfolding tellingRefusal
-one-applies true true c h = absurd (h refl)
-one-applies true false c h = refl
-one-applies false b c h = refl
 
 module _ (q : Tables) (enough : Bool) (busy : ℕ) where
   abbrev pub why : ℕ
-  why = tellingRefusal (controlSound (q .control)) (rowsFit (isPooled (q .control)) (q .control .slots) q && enough)
+  why = first (tableRules (q .control) (fits q && enough))
 
   pub refused : (n : ℕ) → n ≡ why → (n ≡ 0 → ⊥) → reported.Refused n ≡ tell q enough busy
   unfolding tell reportRefusal
   refused n e h =
-      let fits = rowsFit (isPooled (q .control)) (q .control .slots) q && enough in
-      let r = one-applies (controlSound (q .control)) fits (isBroken (contents q)) (λ z. h (e ∙ z)) ∙ sym e in
+      let r = first-refused (tableRules (q .control) (fits q && enough)) (rule 34 (isBroken (contents q)) ∷ []) (λ z. h (e ∙ z)) ∙ sym e in
       rw (r, ne-eqb n 0 h)
 
   module _ (n : ℕ) (e : n ≡ why) (z : n ≡ 0) where
-    passed : (controlSound (q .control) ≡ true) × (rowsFit (isPooled (q .control)) (q .control .slots) q && enough ≡ true)
-    passed = none-applies _ _ (sym e ∙ z)
+    passed : (controlSound (q .control) ≡ true) × (fits q && enough ≡ true)
+    passed =
+        let c = cleared (tableRules (q .control) (fits q && enough)) refl (sym e ∙ z) in
+        (not-false _ (c .0), not-false _ (c .1 .0))
 
     pub astray : Broken ≡ counted (contents q) → reported.Refused 34 ≡ tell q enough busy
     unfolding tell reportRefusal
@@ -90,9 +77,9 @@ module _ (q : Queue) where
   unfolding countable controlSound reportRefusal
   all-tasks e =
       let z = cleared (reportRules (q .tables) (leb (control .tasks) lent)) refl e in
-      let tasks = both (leb 1 (control .tasks) && leb (control .tasks) 16) _ (not-false _ (z .0)) .0 in
-      let few = both (leb 1 (control .tasks)) (leb (control .tasks) 16) tasks .1 in
-      let enough = both (rowsFit (isPooled control) (control .slots) (q .tables)) (leb (control .tasks) lent) (not-false _ (z .1 .0)) .1 in
+      let tasks = and-true (leb 1 (control .tasks) && leb (control .tasks) 16) _ (not-false _ (z .0)) .0 in
+      let few = and-true (leb 1 (control .tasks)) (leb (control .tasks) 16) tasks .1 in
+      let enough = and-true (rowsFit (isPooled control) (control .slots) (q .tables)) (leb (control .tasks) lent) (not-false _ (z .1 .0)) .1 in
       rw (few, enough)
 
   abbrev why-not : ℕ

@@ -1,4 +1,3 @@
-pub mod Rules
 pub mod Opening
 pub mod Starting
 pub mod Telling

@@ -4,22 +4,16 @@ use mathlib.Core.List.{List}
 use Prim.Native.Nat.{ℕ}
 use lib.Dec.{eqb}
 use lib.ListN.{replicate}
-use Rattle.word.specs.Anchor.{packAnchor, emptyAnchor}
-use Rattle.model.specs.declared.Control.{Control}
 use Rattle.model.specs.declared.TaskRecord.{TaskRecord}
 use Rattle.model.specs.declared.Opening.{Opening}
-use Rattle.model.specs.Tables.{Tables, Queue, unused, zeroed}
-use Rattle.model.specs.Refusals.{openRefusal}
+use Rattle.model.specs.Tables.{Tables, Queue, unused}
+use Rattle.model.specs.Refusals.{first, openingRules, openRefusal}
 use Rattle.model.specs.Calls.{OpenDone, openAs}
+use Rattle.model.specs.Lists.{zeroed}
 
-abbrev pub openedControl : Bool → ℕ → ℕ → ℕ → Control
-openedControl pooled tasks slots tag = record {
-  tasks = tasks;
-  slots = slots;
-  anchor = packAnchor (emptyAnchor tag);
-  pooled = cond pooled 1 0;
-  head = cond pooled 1 0;
-}
+-- Why it is refused, where the tables are long enough or not.
+unfoldable pub openingRefusal : ℕ → ℕ → Bool → ℕ
+openingRefusal tasks slots fit = first (openingRules tasks slots fit)
 
 -- A queue with n records, of which only the number counts.
 abbrev pub counting : Tables → ℕ → Queue

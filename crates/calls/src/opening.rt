@@ -5,10 +5,9 @@ use word::Anchor;
 ghost use mathlib.Core.Path.{_≡_};
 ghost use mathlib.Core.Bool.{_&&_, cond};
 ghost use lib.Dec.{leb};
-ghost use Rattle.model.specs.Tables.{tablesOf};
+ghost use Rattle.model.specs.Tables.{tablesOf, openedControl};
 ghost use Rattle.sound.specs.Lengths.{lengthsFit};
-ghost use Rattle.calls.specs.Rules.{openingRefusal};
-ghost use Rattle.calls.specs.Opening.{openedControl, OpenedParts, openTables};
+ghost use Rattle.calls.specs.Opening.{openingRefusal, OpenedParts, openTables};
 
 pub struct OpenedTables {
     /// The new one, or the old one where the opening is refused.

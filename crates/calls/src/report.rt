@@ -1,9 +1,9 @@
 // The report: all of it but the look at each record.
-use crate::refusal;
 use model::Control;
 use model::Record;
 use model::Report;
 use model::Reported;
+use sound::admission;
 use walk::Tally;
 use word::Anchor;
 ghost use mathlib.Core.Path.{_≡_};
@@ -49,7 +49,7 @@ pub fn told(
         busy ⌝ }
 {
     let enough = c.tasks <= records as u64;
-    let why = refusal::report_refusal(
+    let why = admission::table_refusal(
         c,
         enough,
         lefts.len(),

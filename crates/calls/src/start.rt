@@ -4,18 +4,18 @@ use model::Answer;
 use model::Control;
 use model::Outcome;
 use model::Record;
-use table::Acted;
+use model::Transition;
 ghost use mathlib.Core.Path.{_≡_};
 ghost use Prim.Native.Nat.{ℕ};
 ghost use lib.Dec.{ltb, leb};
-ghost use Rattle.model.specs.Tables.{tablesOf};
+ghost use Rattle.model.specs.Tables.{tablesOf, newCall};
 ghost use Rattle.model.specs.Calls.{pushStart, putStart, popStart};
 ghost use Rattle.table.specs.Lent.{withTables};
-ghost use Rattle.calls.specs.Starting.{begun, decided};
+ghost use Rattle.calls.specs.Starting.{decided};
 
 /// The whole record of a call at its first place.
-fn begun(place: u64, kind: u64, side: u64, own: u64, label: u32) -> Record
-    ensures { λ r. ⌜ r ≡ begun place kind side own label ⌝ }
+fn new_call(place: u64, kind: u64, side: u64, own: u64, label: u32) -> Record
+    ensures { λ r. ⌜ r ≡ newCall place kind side own label ⌝ }
 {
     Record {
         place,
@@ -31,19 +31,19 @@ fn begun(place: u64, kind: u64, side: u64, own: u64, label: u32) -> Record
 }
 
 /// A start that writes nothing but its record.
-fn decided(c: Control, r: Record, why: u32, task: Record) -> Acted
+fn decided(c: Control, r: Record, why: u32, task: Record) -> Transition
     ensures { λ m. ⌜ m ≡ decided c r why task ⌝ }
 {
     if why == 0 {
         let answer = Answer::Running(task.place);
-        Acted {
+        Transition {
             control: c,
             task,
             outcome: Outcome::Moved(answer),
             failed: false,
         }
     } else {
-        Acted {
+        Transition {
             control: c,
             task: r,
             outcome: Outcome::Refused(why),
@@ -63,7 +63,7 @@ pub fn pop_start(
     labels: &[u32],
     marks: &[u64],
     next: &[u64],
-) -> Acted
+) -> Transition
     ensures { λ m.
         ⌜ ((retries : ℕ) → withTables m (now (lefts .entry)) (now (rights .entry)) (now (labels .entry)) (now (marks .entry)) (now (next .entry)) retries
         ≡ popStart
@@ -85,7 +85,7 @@ pub fn pop_start(
         marks,
         next,
     );
-    let pop = begun(1, 1, side, 0, 0);
+    let pop = new_call(1, 1, side, 0, 0);
     decided(c, r, why, pop)
 }
 
@@ -102,7 +102,7 @@ pub fn put_start(
     labels: &[u32],
     marks: &[u64],
     next: &[u64],
-) -> Acted
+) -> Transition
     ensures { λ m.
         ⌜ ((retries : ℕ) → withTables m (now (lefts .entry)) (now (rights .entry)) (now (labels .entry)) (now (marks .entry)) (now (next .entry)) retries
         ≡ putStart
@@ -124,7 +124,7 @@ pub fn put_start(
         marks,
         next,
     );
-    let push = begun(12, 0, side, 0, label);
+    let push = new_call(12, 0, side, 0, label);
     decided(c, r, why, push)
 }
 
@@ -141,7 +141,7 @@ pub fn push_start(
     labels: &mut [u32],
     marks: &mut [u64],
     next: &[u64],
-) -> Acted
+) -> Transition
     ensures { λ m.
         ⌜ ((retries : ℕ) → withTables m (now (lefts .entry)) (now (rights .entry)) (now (labels .exit)) (now (marks .exit)) (now (next .entry)) retries
         ≡ pushStart
@@ -164,7 +164,7 @@ pub fn push_start(
         marks,
         next,
     );
-    let push = begun(1, 0, side, slot, label);
+    let push = new_call(1, 0, side, slot, label);
     if why != 0 {
         return decided(c, r, why, push);
     }

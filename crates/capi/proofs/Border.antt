@@ -16,20 +16,21 @@ use Rattle.model.specs.declared.Reported.{Reported}
 use Rattle.model.specs.declared.Op.{Op}
 use Rattle.model.specs.declared.Opening.the-variants as opening
 use Rattle.model.specs.declared.Op.the-variants.{Push, Pop, Put, Step}
-use Rattle.model.specs.Tables.{Tables, Queue, isPooled, tablesOf, queueOf, taskAt, unused, withCall, zeroed}
+use Rattle.model.specs.Tables.{Tables, Queue, isPooled, tablesOf, queueOf, taskAt, unused, withCall}
 use Rattle.model.specs.Sound.{rowsFit}
 use Rattle.model.specs.Refusals.{Lent, among, openRefusal, pushRefusal, putRefusal, popRefusal}
 use Rattle.model.specs.Report.{report, retryCounts, tell}
 use Rattle.model.specs.Route.{counted}
 use Rattle.model.specs.Calls.{Acted, Done, OpenDone, opened as openedQueue, openAs, pushStart, putStart, popStart, back, act, actOn, openingCode, replyOf}
 use Rattle.model.proofs.tests.Truth.{split, not-both}
-use Rattle.table.specs.declared.Acted.{Acted as Moved}
+use Rattle.model.specs.declared.Transition.{Transition}
 use Rattle.table.specs.Lent.{withTables}
 use Rattle.sound.specs.Lengths.{lengthsFit}
 use Rattle.model.specs.Ends.{endsCall, isMoved}
+use Rattle.model.specs.Lists.{zeroed}
 use Rattle.calls.specs.declared.opening.OpenedTables.{OpenedTables}
 use Rattle.calls.specs.Opening.{counting, OpenedParts, openTables, whole}
-use Rattle.calls.proofs.Parts.{clear-fits, open-parts}
+use Rattle.calls.proofs.Openings.{clear-fits, open-parts}
 use Rattle.calls.specs.Telling.{countable}
 use Rattle.calls.proofs.Counts.{countable-fits}
 use Rattle.calls.proofs.Tells.{all-looked-at, report-parts}
@@ -114,7 +115,7 @@ module _ (ws : List ℕ) (rows : List (List ℕ)) (lefts rights labels marks nex
     kept false r x y _ h = h
 
     module _ (o : Op) (starts : (p : Lent) (r : TaskRecord) → Starts r (actOn entry p r o)) (rows′ : List (List ℕ)) (labels′ marks′ : List ℕ) where
-      abbrev leaving : Moved → Control → Replied
+      abbrev leaving : Transition → Control → Replied
       leaving m c = record {
         queue = queueOf c (set (recordsOf rows) task
             (record { call = m .task; retries = counted (r₀ .retries) (m .failed) })) lefts rights labels′ marks′ next;
@@ -122,7 +123,7 @@ module _ (ws : List ℕ) (rows : List (List ℕ)) (lefts rights labels marks nex
         reply = replyOf (m .outcome);
       }
 
-      pub started : (c : Control) (n : ℕ) (r : Record) (m : Moved) (u : Reply) → c ≡ controlOf ws → n ≡ length rows → r ≡ r₀ .call
+      pub started : (c : Control) (n : ℕ) (r : Record) (m : Transition) (u : Reply) → c ≡ controlOf ws → n ≡ length rows → r ≡ r₀ .call
           → ((k : ℕ) → withTables m lefts rights labels′ marks′ next k
           ≡ actOn (tablesOf c lefts rights labels marks next) (lent ws rows lefts rights labels marks next task c n) (record {
             call = r;

@@ -8,7 +8,7 @@ use lib.Dec.{eqb}
 use lib.ListN.{getD}
 use Rattle.model.specs.declared.TaskRecord.{TaskRecord}
 use Rattle.model.specs.Tables.{unused}
-use Rattle.model.specs.Report.{count}
+use Rattle.model.specs.Lists.{count}
 use Rattle.calls.specs.Telling.{countBusy}
 use Rattle.calls.proofs.Counts.{count-turn}
 

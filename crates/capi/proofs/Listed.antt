@@ -9,8 +9,8 @@ use lib.ListN.{getD, set, length, replicate}
 use borrow.Author.Tests.{eq-eqb, eqb-true, eqb-false, ne-eqb, lt-ltb, le-ltb, ltb-true, ltb-false}
 use Rattle.model.specs.declared.TaskRecord.{TaskRecord}
 use Rattle.model.specs.Tables.{unused}
-use Rattle.model.specs.Report.{listed}
 use Rattle.model.proofs.tests.Truth.{split}
+use Rattle.model.specs.Lists.{listed}
 use Rattle.capi.specs.Replies.{countsIn}
 
 listed-same : (f g : ℕ → ℕ) (n : ℕ) → ((t : ℕ) → f t ≡ g t) → listed f n ≡ listed g n

@@ -11,9 +11,10 @@ use Rattle.model.specs.declared.Reply.{Reply}
 use Rattle.model.specs.declared.Reported.{Reported}
 use Rattle.model.specs.declared.Reported.the-variants as reported
 use Rattle.model.specs.declared.TaskRecord.{TaskRecord}
-use Rattle.model.specs.Tables.{Queue, unused, zeroed}
-use Rattle.model.specs.Report.{listed, reportCode}
+use Rattle.model.specs.Tables.{Queue, unused}
+use Rattle.model.specs.Report.{reportCode}
 use Rattle.model.specs.Calls.{OpenDone, Done, openingCode, replyOf}
+use Rattle.model.specs.Lists.{zeroed, listed}
 use Rattle.capi.specs.declared.ReportReply.{ReportReply}
 
 -- A report with the tasks' counts beside it; all 0 in a refusal.

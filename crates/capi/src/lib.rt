@@ -15,8 +15,9 @@ ghost use lib.ListN.{length, getD};
 ghost use Rattle.model.specs.declared.Op.the-variants.{Push, Pop, Put, Step};
 ghost use Rattle.model.specs.Tables.{unused};
 ghost use Rattle.model.specs.Calls.{act};
-ghost use Rattle.model.specs.Report.{count, report, retryCounts};
+ghost use Rattle.model.specs.Report.{report, retryCounts};
 ghost use Rattle.model.specs.Ends.{endsCall, isMoved};
+ghost use Rattle.model.specs.Lists.{count};
 ghost use Rattle.rows.specs.Rows.{queueIn, recordsOf, uppersOf};
 ghost use Rattle.capi.specs.Replies.{reportReplyOf, countsIn, Replied, replied};
 
@@ -83,12 +84,14 @@ pub extern "C" fn zc_push(
     ensures { λ r.
         ⌜ _≡_ {A = Replied}
         (record {
-          queue = queueIn (now (control .entry)) (now (records .exit)) (now (lefts .entry)) (now (rights .entry)) (now (labels .exit)) (now (marks .exit)) (now (next .entry));
+          queue = queueIn (now (control .entry)) (now (records .exit))
+              (now (lefts .entry)) (now (rights .entry)) (now (labels .exit)) (now (marks .exit)) (now (next .entry));
           uppers = uppersOf (now (records .exit));
           reply = r;
         })
         (replied isMoved task (uppersOf (now (records .entry)))
-        (act (queueIn (now (control .entry)) (now (records .entry)) (now (lefts .entry)) (now (rights .entry)) (now (labels .entry)) (now (marks .entry)) (now (next .entry)))
+        (act (queueIn (now (control .entry)) (now (records .entry))
+        (now (lefts .entry)) (now (rights .entry)) (now (labels .entry)) (now (marks .entry)) (now (next .entry)))
         task (Push side slot label))) ⌝ }
 {
     let row = *control;
@@ -111,7 +114,7 @@ pub extern "C" fn zc_push(
     );
     rows::store_start(records, task, m);
     let o = m.outcome;
-    operation::reply(o)
+    engine::reply(o)
 }
 
 /// Starts a push that names no slot: it draws one from the stack.
@@ -131,12 +134,14 @@ pub extern "C" fn zc_push_pooled(
     ensures { λ r.
         ⌜ _≡_ {A = Replied}
         (record {
-          queue = queueIn (now (control .entry)) (now (records .exit)) (now (lefts .entry)) (now (rights .entry)) (now (labels .entry)) (now (marks .entry)) (now (next .entry));
+          queue = queueIn (now (control .entry)) (now (records .exit))
+              (now (lefts .entry)) (now (rights .entry)) (now (labels .entry)) (now (marks .entry)) (now (next .entry));
           uppers = uppersOf (now (records .exit));
           reply = r;
         })
         (replied isMoved task (uppersOf (now (records .entry)))
-        (act (queueIn (now (control .entry)) (now (records .entry)) (now (lefts .entry)) (now (rights .entry)) (now (labels .entry)) (now (marks .entry)) (now (next .entry)))
+        (act (queueIn (now (control .entry)) (now (records .entry))
+        (now (lefts .entry)) (now (rights .entry)) (now (labels .entry)) (now (marks .entry)) (now (next .entry)))
         task (Put side label))) ⌝ }
 {
     let row = *control;
@@ -158,7 +163,7 @@ pub extern "C" fn zc_push_pooled(
     );
     rows::store_start(records, task, m);
     let o = m.outcome;
-    operation::reply(o)
+    engine::reply(o)
 }
 
 /// Starts a pop for a task.
@@ -177,12 +182,14 @@ pub extern "C" fn zc_pop(
     ensures { λ r.
         ⌜ _≡_ {A = Replied}
         (record {
-          queue = queueIn (now (control .entry)) (now (records .exit)) (now (lefts .entry)) (now (rights .entry)) (now (labels .entry)) (now (marks .entry)) (now (next .entry));
+          queue = queueIn (now (control .entry)) (now (records .exit))
+              (now (lefts .entry)) (now (rights .entry)) (now (labels .entry)) (now (marks .entry)) (now (next .entry));
           uppers = uppersOf (now (records .exit));
           reply = r;
         })
         (replied isMoved task (uppersOf (now (records .entry)))
-        (act (queueIn (now (control .entry)) (now (records .entry)) (now (lefts .entry)) (now (rights .entry)) (now (labels .entry)) (now (marks .entry)) (now (next .entry)))
+        (act (queueIn (now (control .entry)) (now (records .entry))
+        (now (lefts .entry)) (now (rights .entry)) (now (labels .entry)) (now (marks .entry)) (now (next .entry)))
         task (Pop side))) ⌝ }
 {
     let row = *control;
@@ -192,7 +199,7 @@ pub extern "C" fn zc_pop(
     let m = start::pop_start(c, r, n, task, side, lefts, rights, labels, marks, next);
     rows::store_start(records, task, m);
     let o = m.outcome;
-    operation::reply(o)
+    engine::reply(o)
 }
 
 /// Moves a task by one step.
@@ -210,16 +217,18 @@ pub extern "C" fn zc_step(
     ensures { λ r.
         ⌜ _≡_ {A = Replied}
         (record {
-          queue = queueIn (now (control .exit)) (now (records .exit)) (now (lefts .exit)) (now (rights .exit)) (now (labels .exit)) (now (marks .exit)) (now (next .exit));
+          queue = queueIn (now (control .exit)) (now (records .exit))
+              (now (lefts .exit)) (now (rights .exit)) (now (labels .exit)) (now (marks .exit)) (now (next .exit));
           uppers = uppersOf (now (records .exit));
           reply = r;
         })
         (replied endsCall task (uppersOf (now (records .entry)))
-        (act (queueIn (now (control .entry)) (now (records .entry)) (now (lefts .entry)) (now (rights .entry)) (now (labels .entry)) (now (marks .entry)) (now (next .entry)))
+        (act (queueIn (now (control .entry)) (now (records .entry))
+        (now (lefts .entry)) (now (rights .entry)) (now (labels .entry)) (now (marks .entry)) (now (next .entry)))
         task Step)) ⌝ }
 {
     let o = rows::step(control, records, task, lefts, rights, labels, marks, next);
-    operation::reply(o)
+    engine::reply(o)
 }
 
 // How many of the first n records are busy tasks'.
@@ -265,7 +274,8 @@ pub extern "C" fn zc_report(
     next: &[u64],
 ) -> ReportReply
     ensures { λ r.
-        ⌜ (let q = queueIn (now (control .entry)) (now (records .entry)) (now (lefts .entry)) (now (rights .entry)) (now (labels .entry)) (now (marks .entry)) (now (next .entry)) in
+        ⌜ (let q = queueIn (now (control .entry)) (now (records .entry))
+        (now (lefts .entry)) (now (rights .entry)) (now (labels .entry)) (now (marks .entry)) (now (next .entry)) in
         r ≡ reportReplyOf (report q) (retryCounts q)) ⌝ }
 {
     let row = *control;

@@ -38,7 +38,8 @@ pub extern "C" fn zc_open(
           code = r;
         })
         (coded tasks (uppersOf (now (records .entry)))
-        (openQueue (queueIn (now (control .entry)) (now (records .entry)) (now (lefts .entry)) (now (rights .entry)) (now (labels .entry)) (now (marks .entry)) next)
+        (openQueue (queueIn (now (control .entry)) (now (records .entry))
+        (now (lefts .entry)) (now (rights .entry)) (now (labels .entry)) (now (marks .entry)) next)
         tasks slots tag))) ⌝ }
 {
     let n = records.len();
@@ -83,12 +84,14 @@ pub extern "C" fn zc_open_pooled(
     ensures { λ r.
         ⌜ _≡_ {A = Coded}
         (record {
-          queue = queueIn (now (control .exit)) (now (records .exit)) (now (lefts .exit)) (now (rights .exit)) (now (labels .exit)) (now (marks .exit)) (now (next .exit));
+          queue = queueIn (now (control .exit)) (now (records .exit))
+              (now (lefts .exit)) (now (rights .exit)) (now (labels .exit)) (now (marks .exit)) (now (next .exit));
           uppers = uppersOf (now (records .exit));
           code = r;
         })
         (coded tasks (uppersOf (now (records .entry)))
-        (openPooled (queueIn (now (control .entry)) (now (records .entry)) (now (lefts .entry)) (now (rights .entry)) (now (labels .entry)) (now (marks .entry)) (now (next .entry)))
+        (openPooled (queueIn (now (control .entry)) (now (records .entry))
+        (now (lefts .entry)) (now (rights .entry)) (now (labels .entry)) (now (marks .entry)) (now (next .entry)))
         tasks slots tag)) ⌝ }
 {
     let n = records.len();

@@ -13,8 +13,8 @@ use Rattle.model.specs.Sound.{rowsFit}
 use Rattle.model.specs.Refusals.{alone}
 use Rattle.model.specs.Calls.{stepLent, replyOf}
 use Rattle.sound.specs.Lengths.{lengthsFit}
-use Rattle.engine.specs.Parts.{admission}
-use Rattle.engine.proofs.Whole.{turned-away, admitted}
+use Rattle.model.specs.Refusals.{admission}
+use Rattle.engine.proofs.InParts.{turned-away, admitted}
 use Rattle.rows.specs.Rows.{controlOf, recordOf, upperOf}
 use Rattle.rows.specs.Moved.{RowMoved}
 use Rattle.capi_record.specs.Replies.{RepliedAlone, repliedAlone}

@@ -1,6 +1,7 @@
 //! The step of one lent record for C and Rust. It has an archive of its own: a step that two calls
 //! of one archive share is compiled once and not into either, which makes both slower.
 use model::Reply;
+use sound::admission;
 ghost use mathlib.Core.Path.{_≡_};
 ghost use Rattle.model.specs.Tables.{tablesOf};
 ghost use Rattle.model.specs.Calls.{stepLent};
@@ -21,7 +22,8 @@ pub extern "C" fn zc_step_record(
     ensures { λ r.
         ⌜ _≡_ {A = RepliedAlone}
         (record {
-          tables = tablesOf (controlOf (now (control .exit))) (now (lefts .exit)) (now (rights .exit)) (now (labels .exit)) (now (marks .exit)) (now (next .exit));
+          tables = tablesOf (controlOf (now (control .exit)))
+              (now (lefts .exit)) (now (rights .exit)) (now (labels .exit)) (now (marks .exit)) (now (next .exit));
           task = recordOf (now (task .exit));
           upper = upperOf (now (task .exit));
           reply = r;
@@ -33,7 +35,7 @@ pub extern "C" fn zc_step_record(
 {
     let words = *control;
     let c = rows::control_of(words);
-    let why = engine::admit_alone(
+    let why = admission::admit_alone(
         c,
         lefts.len(),
         rights.len(),
@@ -43,8 +45,8 @@ pub extern "C" fn zc_step_record(
     );
     if why != 0 {
         let o = engine::refuse(why);
-        return operation::reply(o);
+        return engine::reply(o);
     }
     let o = rows::moving::move_row(control, task, lefts, rights, labels, marks, next);
-    operation::reply(o)
+    engine::reply(o)
 }

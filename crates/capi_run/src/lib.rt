@@ -27,7 +27,7 @@ pub struct RunReply {
 fn run_reply(o: Outcome, steps: u64) -> RunReply
     ensures { λ r. ⌜ r ≡ runReplyOf o steps ⌝ }
 {
-    let r = operation::reply(o);
+    let r = engine::reply(o);
     RunReply {
         code: r.code,
         label: r.label,
@@ -67,13 +67,15 @@ pub extern "C" fn zc_run(
     ensures { λ r.
         ⌜ _≡_ {A = Ran}
         (record {
-          queue = queueIn (now (control .exit)) (now (records .exit)) (now (lefts .exit)) (now (rights .exit)) (now (labels .exit)) (now (marks .exit)) (now (next .exit));
+          queue = queueIn (now (control .exit)) (now (records .exit))
+              (now (lefts .exit)) (now (rights .exit)) (now (labels .exit)) (now (marks .exit)) (now (next .exit));
           uppers = uppersOf (now (records .exit));
           reply = r;
         })
         (ran task (uppersOf (now (records .entry)))
         (soloRun most
-        (queueIn (now (control .entry)) (now (records .entry)) (now (lefts .entry)) (now (rights .entry)) (now (labels .entry)) (now (marks .entry)) (now (next .entry)))
+        (queueIn (now (control .entry)) (now (records .entry))
+        (now (lefts .entry)) (now (rights .entry)) (now (labels .entry)) (now (marks .entry)) (now (next .entry)))
         task)) ⌝ }
 {
     let mut steps: u64 = 0;

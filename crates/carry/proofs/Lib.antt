@@ -1,4 +1,4 @@
 pub mod Pages
-pub mod Turns
+pub mod AfterActs
 pub mod Fields
 pub mod Room

@@ -55,7 +55,8 @@ operated-more r o os = rw append-nil
 operates-more : (p : Page) (o : Request) (os : List Request) → operates (operates p (o ∷ [])) os ≡ operates p (o ∷ os)
 unfolding written emptied
 operates-more p o os =
-    written-more p (operated (p .run) (o ∷ [])) (operated (operated (p .run) (o ∷ []) .run) os) (emptied (o ∷ []) (p .uppers)) (emptied (o ∷ os) (p .uppers))
+    let one = operated (p .run) (o ∷ []) in
+    written-more p one (operated (one .run) os) (emptied (o ∷ []) (p .uppers)) (emptied (o ∷ os) (p .uppers))
     ∙ ap (λ (t : Told). written p t (emptied (o ∷ os) (p .uppers))) (operated-more (p .run) o os)
 
 -- An operation for each of some task bytes: the end of the list, and one more.

@@ -1,7 +1,7 @@
 -- The lines of one field fit into the room for a field, so a page never holds more than its buffer.
 use Prim.Native.Nat.{ℕ, suc, _+_, _*_, _≤_}
 use mathlib.Core.Path.{_≡_, refl, sym, ap, _∙_, subst}
-use mathlib.Core.Bool.{Bool, true, false, cond}
+use mathlib.Core.Bool.{Bool, true, false}
 use mathlib.Core.List.{List, [], _∷_}
 use native.Mathlib.Omega.{arith}
 use lib.Dec.{leb}
@@ -18,10 +18,10 @@ use Rattle.runfile.specs.declared.Field.the-variants.{Open, Each, Malformed, Cu
 use Rattle.lines.specs.Line.{lineOf, room}
 use Rattle.lines.specs.declared.Line.the-variants as line
 use Rattle.lines.proofs.Lengths.{line-short}
-use Rattle.carry.specs.Run.{Run, linesOf, next, operated, opened, malformed, eachOf, carried}
-use Rattle.carry.specs.Page.{Page, written, breaks, carries, moved, fieldRoom, takes, Whole}
-use Rattle.carry.proofs.Pages.{cond-true, cond-false}
-use Rattle.carry.proofs.Fields.{field-whole, takes-none}
+use Rattle.carry.specs.Run.{Run, linesOf, next, operated, openingTold, malformed, eachOf, carried}
+use Rattle.carry.specs.Page.{Page, written, fieldRoom, takes, BytesThere}
+use Rattle.carry.proofs.Pages.{cond-true}
+use Rattle.carry.proofs.Fields.{field-there, takes-none}
 
 -- One line an event, one event an operation.
 lines-most : (n : ℕ) (es : List Event) → length (linesOf n es) ≤ length es * room
@@ -47,10 +47,10 @@ each-most op n b =
     omega (arith, same, length-take n b)
 
 -- A field's lines.
-pub carried-most : (r : Run) (f : Field) (b : List ℕ) (at len : ℕ) → Whole f at len → length (carried r f b .lines) ≤ fieldRoom
-unfolding carried opened malformed
+pub carried-most : (r : Run) (f : Field) (b : List ℕ) (at len : ℕ) → BytesThere f at len → length (carried r f b .lines) ≤ fieldRoom
+unfolding carried openingTold malformed
 carried-most r (Open pooled tasks slots tag) b at len w =
-    let short : length (opened r pooled tasks slots tag .lines) ≤ room = line-short _ _ _ in
+    let short : length (openingTold r pooled tasks slots tag .lines) ≤ room = line-short _ _ _ in
     omega (arith, short)
 carried-most r (Each op n) b at len w =
     omega (arith, w .0, operated-most r (eachOf op (take n (drop 3 b))), each-most op n (drop 3 b))
@@ -74,7 +74,7 @@ takes-within bytes p n w = go (leb (p .to + fieldRoom) (length (p .out))) refl
         let f = fieldOf (p .run .opened) b in
         let l = carried (p .run) (f .field) b .lines in
         let short : length l ≤ fieldRoom =
-        carried-most (p .run) (f .field) b (p .at) (length bytes) (field-whole (p .run .opened) bytes (p .at)) in
+        carried-most (p .run) (f .field) b (p .at) (length bytes) (field-there (p .run .opened) bytes (p .at)) in
         let room : p .to + fieldRoom ≤ length (p .out) = leb-true _ _ e in
         subst (λ (x : Page). Within x n) (sym (cond-true (leb (p .to + fieldRoom) (length (p .out))) _ _ e))
         (omega (arith, short, room, w .1), length-sets (p .out) (p .to) l ∙ w .1)

@@ -6,16 +6,17 @@ use lib.Dec.{leb}
 use lib.ListN.{length, take, drop, set}
 use lib.Seq.{sets}
 use Rattle.model.specs.declared.Op.{Op}
-use Rattle.model.specs.Tables.{queueOf, zeroed}
+use Rattle.model.specs.Tables.{queueOf}
 use Rattle.model.specs.Calls.{Acted, back, openAs}
 use Rattle.model.specs.History.{Request}
+use Rattle.model.specs.Lists.{zeroed}
 use Rattle.rows.specs.Rows.{recordsOf, uppersOf}
 use Rattle.runfile.specs.Field.{fieldOf}
 use Rattle.runfile.specs.declared.Field.{Field}
 use Rattle.runfile.specs.declared.Field.the-variants.{Open, Each, Malformed, Cut, End}
 use Rattle.lines.specs.Line.{lineOf, room}
 use Rattle.lines.specs.declared.Line.the-variants.{Act}
-use Rattle.carry.specs.Run.{Run, Told, next, isOpened, operated, opened, malformed, eachOf, carried}
+use Rattle.carry.specs.Run.{Run, Told, next, isOpened, operated, openingTold, malformed, eachOf, carried}
 use Rattle.carry.specs.declared.RunState.{RunState}
 
 -- A run; the upper halves of its rows' label words, which are in no record; a buffer, and the position behind what is written there;
@@ -72,7 +73,7 @@ abbrev pub operates : Page → List Request → Page
 operates p os = written p (operated (p .run) os) (emptied os (p .uppers))
 
 abbrev pub opens : Page → Bool → ℕ → ℕ → ℕ → Page
-opens p pooled tasks slots tag = written p (opened (p .run) pooled tasks slots tag) (cleared (p .run) pooled tasks slots tag (p .uppers))
+opens p pooled tasks slots tag = written p (openingTold (p .run) pooled tasks slots tag) (cleared (p .run) pooled tasks slots tag (p .uppers))
 
 abbrev pub carries : Page → Field → List ℕ → Page
 carries p f b = written p (carried (p .run) f b) (uppersAfter (p .run) f b (p .uppers))
@@ -97,9 +98,9 @@ takes bytes p =
     cond (leb (p .to + fieldRoom) (length (p .out))) (moved (carries p (f .field) b) (f .size)) p
 
 -- The task bytes of a field are there.
-abbrev pub Whole : Field → ℕ → ℕ → Type 0
-Whole (Open pooled tasks slots tag) at len = Unit {0}
-Whole (Each op n) at len = (n ≤ 4096) × (at + 3 + n ≤ len)
-Whole Malformed at len = Unit {0}
-Whole Cut at len = Unit {0}
-Whole End at len = Unit {0}
+abbrev pub BytesThere : Field → ℕ → ℕ → Type 0
+BytesThere (Open pooled tasks slots tag) at len = Unit {0}
+BytesThere (Each op n) at len = (n ≤ 4096) × (at + 3 + n ≤ len)
+BytesThere Malformed at len = Unit {0}
+BytesThere Cut at len = Unit {0}
+BytesThere End at len = Unit {0}

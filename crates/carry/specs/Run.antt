@@ -54,8 +54,8 @@ abbrev pub isOpened : Opening → Bool
 isOpened (Refused n) = false
 isOpened Opened = true
 
-unfoldable pub opened : Run → Bool → ℕ → ℕ → ℕ → Told
-opened r pooled tasks slots tag =
+unfoldable pub openingTold : Run → Bool → ℕ → ℕ → ℕ → Told
+openingTold r pooled tasks slots tag =
     let d = openAs pooled (r .queue) tasks slots tag in
     let good = isOpened (d .outcome) in
     record {
@@ -76,7 +76,7 @@ eachOf op tasks = map (λ t. record { task = t; op = op }) tasks
 
 -- A field carried out; b are the bytes from it on. Where no whole field is, nothing is done.
 unfoldable pub carried : Run → Field → List ℕ → Told
-carried r (Open pooled tasks slots tag) b = opened r pooled tasks slots tag
+carried r (Open pooled tasks slots tag) b = openingTold r pooled tasks slots tag
 carried r (Each op n) b = operated r (eachOf op (take n (drop 3 b)))
 carried r Malformed b = malformed r
 carried r Cut b = record { run = r; lines = [] }

@@ -1,10 +1,11 @@
 //! What each field does, with its lines.
 use crate::RunState;
 use calls::opening;
+use engine::op;
 use lines::Line;
 use model::Op;
 use model::Opening;
-use table::Acted;
+use model::Transition;
 ghost use mathlib.Core.Path.{_≡_};
 ghost use mathlib.Core.List.{List, [], _∷_};
 ghost use Prim.Native.Nat.{ℕ, _+_, _*_, _-_, _≤_};
@@ -19,7 +20,7 @@ ghost use Rattle.carry.specs.Page.{pageOf, answered, operates, opens};
 // An operation that was done: its record stored, its line written.
 fn answer(
     s: RunState,
-    m: Acted,
+    m: Transition,
     task: usize,
     op: Op,
     out: &mut [u8],
@@ -78,7 +79,7 @@ fn operate(
 {
     let c = s.control;
     let r = rows::call_at(rows, task);
-    let m = operation::act(
+    let m = op::act(
         c,
         r,
         rows.len(),

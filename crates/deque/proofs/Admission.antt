@@ -1,4 +1,4 @@
--- The calls of the walk over a slice that are lent no table: whether the step is admitted (`engine::admit`), and the refusal (`engine::refuse`).
+-- The calls of the walk over a slice that are lent no table: whether the step is admitted (`sound::admission::admit`), and the refusal (`engine::refuse`).
 use mathlib.Core.Path.{_≡_, refl}
 use Prim.Native.Nat.{ℕ, _<_, _^_}
 use mathlib.Core.List.{[], _∷_, List}
@@ -31,13 +31,13 @@ use Rattle.model.specs.declared.Outcome.{Outcome}
 use Rattle.model.specs.declared.Outcome.the-variants.{Refused}
 use Rattle.model.specs.Tables.{isPooled}
 use Rattle.sound.specs.Lengths.{lengthsFit}
-use Rattle.engine.specs.Parts.{admission}
+use Rattle.model.specs.Refusals.{admission}
 use Rattle.deque.proofs.Walk.{control-value}
 use Rattle.deque.proofs.Engine.{Five}
 use Rattle.model.proofs.Control as K
 use Rattle.model.proofs.Control.Laws as K′
 use Rattle.model.proofs.Outcome as E
-use Rattle.engine.proofs.admit as admit
+use Rattle.sound.proofs.admission.admit as admit
 use Rattle.engine.proofs.refuse as refuse
 
 -- ---- whether it is admitted

@@ -29,7 +29,7 @@ use denote.Triple.Clauses.{Clauses, closing, ensured, lasts}
 use denote.Triple.Spec.{tripleOf}
 use Rattle.model.specs.declared.Control.{Control}
 use Rattle.model.specs.declared.TaskRecord.{TaskRecord}
-use Rattle.model.specs.Tables.{Tables}
+use Rattle.model.specs.Tables.{Tables, tablesOf}
 use Rattle.model.specs.Calls.{Acted}
 use Rattle.deque.specs.declared.Stepped.{Stepped}
 use Rattle.deque.proofs.Walk.{control-value, record-value, slice-value}
@@ -50,11 +50,16 @@ Lasts = Unit {0} × (Unit {0} × Five (List ℕ))
 
 -- The tables, with control and the lists as given.
 abbrev pub tabled : Control → Five (List ℕ) → Tables
-tabled c ls = record { control = c; lefts = ls .0; rights = ls .1 .0; labels = ls .1 .1 .0; marks = ls .1 .1 .1 .0; next = ls .1 .1 .1 .1 .0 }
+tabled c ls = tablesOf c (ls .0) (ls .1 .0) (ls .1 .1 .0) (ls .1 .1 .1 .0) (ls .1 .1 .1 .1 .0)
 
 -- The lists at entry.
 abbrev pub unwritten : Five (RefT (List ℕ)) → Five (List ℕ)
 unwritten xs = (xs .0 .now, (xs .1 .0 .now, (xs .1 .1 .0 .now, (xs .1 .1 .1 .0 .now, (xs .1 .1 .1 .1 .0 .now, tt)))))
+
+-- Their lengths.
+abbrev pub lengths : Five (RefT (List ℕ)) → Five ℕ
+lengths xs =
+    (length (xs .0 .now), (length (xs .1 .0 .now), (length (xs .1 .1 .0 .now), (length (xs .1 .1 .1 .0 .now), (length (xs .1 .1 .1 .1 .0 .now), tt)))))
 
 -- They keep their lengths.
 abbrev pub Lengths : Five (RefT (List ℕ)) → Five (List ℕ) → Type 0

@@ -3,14 +3,15 @@
 use model::Control;
 use model::Outcome;
 use model::TaskRecord;
-use table::Acted;
+use model::Transition;
+use sound::admission;
 ghost use mathlib.Core.Path.{_≡_};
 ghost use Rattle.model.specs.declared.Op.the-variants.{Step};
 ghost use Rattle.model.specs.Tables.{tablesOf, queueOf};
 ghost use Rattle.model.specs.Calls as calls;
 ghost use Rattle.model.specs.Calls.{Done, act, stepLent};
 ghost use Rattle.model.specs.Route.{counted};
-ghost use Rattle.engine.specs.Parts.{moveOn};
+ghost use Rattle.engine.specs.MoveOn.{moveOn};
 
 /// What a step leaves of control and its task's record, and its outcome.
 struct Stepped {
@@ -20,7 +21,7 @@ struct Stepped {
 }
 
 /// The same of a step by value: a failed change is counted in the record.
-fn counting(t: TaskRecord, m: Acted) -> Stepped
+fn counting(t: TaskRecord, m: Transition) -> Stepped
     ensures { λ s.
         ⌜ s
         ≡ record { control = m .control; task = record { call = m .task; retries = counted (t .retries) (m .failed) }; outcome = m .outcome } ⌝ }
@@ -98,15 +99,17 @@ pub fn step(
     ensures { λ r.
         ⌜ _≡_ {A = Done}
         (record {
-          queue = queueOf (now (control .exit)) (now (records .exit)) (now (lefts .exit)) (now (rights .exit)) (now (labels .exit)) (now (marks .exit)) (now (next .exit));
+          queue = queueOf (now (control .exit)) (now (records .exit))
+              (now (lefts .exit)) (now (rights .exit)) (now (labels .exit)) (now (marks .exit)) (now (next .exit));
           outcome = r;
         })
-        (act (queueOf (now (control .entry)) (now (records .entry)) (now (lefts .entry)) (now (rights .entry)) (now (labels .entry)) (now (marks .entry)) (now (next .entry)))
+        (act (queueOf (now (control .entry)) (now (records .entry))
+        (now (lefts .entry)) (now (rights .entry)) (now (labels .entry)) (now (marks .entry)) (now (next .entry)))
         task Step) ⌝ }
 {
     let n = records.len();
     let c = *control;
-    let why = engine::admit(
+    let why = admission::admit(
         c,
         n,
         task,

@@ -1,3 +1,4 @@
-pub mod Kept
+pub mod ByPlace
+pub mod Unchanged
 pub mod Stored
-pub mod Whole
+pub mod InParts

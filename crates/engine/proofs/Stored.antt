@@ -1,5 +1,5 @@
--- What is stored after a step is what the step leaves, since it changes nothing else (`Kept`).
-use mathlib.Core.Path.{_≡_, refl, sym, ap, subst, _∙_}
+-- What is stored after a step is what the step leaves, since it changes nothing else (`Unchanged`).
+use mathlib.Core.Path.{_≡_, refl, sym, ap, ap₂, subst, _∙_}
 use mathlib.Core.Bool.{true, false}
 use mathlib.Core.List.{List}
 use Prim.Native.Nat.{ℕ, _≤_}
@@ -8,16 +8,17 @@ use Rattle.model.specs.declared.Record.{Record}
 use Rattle.model.specs.declared.TaskRecord.{TaskRecord}
 use Rattle.model.specs.declared.Outcome.{Outcome}
 use Rattle.model.specs.declared.Outcome.the-variants as outcome
-use Rattle.model.specs.Tables.{Tables, tablesOf, idle}
+use Rattle.model.specs.Tables.{Tables, tablesOf, counting, idle, withOwn, withWords}
 use Rattle.model.specs.Route.{counted}
 use Rattle.model.specs.Refusals.{Lent}
 use Rattle.model.specs.Calls.{Acted, step}
 use Rattle.model.proofs.tests.Truth.{split, not-both}
-use Rattle.table.specs.declared.Acted.{Acted as Moved}
+use Rattle.model.specs.declared.Transition.{Transition}
 use Rattle.model.specs.Ends.{endsCall, isMoved}
-use Rattle.engine.specs.Parts.{moveOn}
+use Rattle.engine.specs.MoveOn.{moveOn}
 use Rattle.engine.specs.Stored.{controlMoved, recordMoved, controlAfter, recordAfter, anchorMoved, callMoved, anchorAfter, callAfter}
-use Rattle.engine.proofs.Kept.{Kept, Keeps, step-kept, moved-on}
+use Rattle.engine.proofs.ByPlace.{Keeps}
+use Rattle.engine.proofs.Unchanged.{Unchanged, step-kept, moved-on}
 
 -- A refused step ends no call.
 pub refused-goes : (o : Outcome) → isMoved o ≡ false → endsCall o ≡ false
@@ -25,10 +26,10 @@ refused-goes (outcome.Refused n) h = refl
 refused-goes (outcome.Moved a) h = absurd (not-both (sym h) refl)
 
 -- By the outcome: what is stored.
-module _ (c : Control) (r : TaskRecord) (m : Moved) where
+module _ (c : Control) (r : TaskRecord) (m : Transition) where
   -- The record with another call, and its failed change counted.
   abbrev pub goneOn : Record → TaskRecord
-  goneOn t = record { call = t; retries = counted (r .retries) (m .failed) }
+  goneOn t = counting t (counted (r .retries) (m .failed))
 
   pub stored-end : isMoved (m .outcome) ≡ true → endsCall (m .outcome) ≡ true
       → (controlMoved c (m .control) ≡ controlAfter c m) × (goneOn idle ≡ recordAfter r m)
@@ -61,73 +62,28 @@ module _ (c : Control) (r : TaskRecord) (m : Moved) where
 
 -- A control or record whose kept fields are its own.
 whole-control : (c old : Control) → c .tasks ≡ old .tasks → c .slots ≡ old .slots → c .pooled ≡ old .pooled → controlMoved old c ≡ c
-whole-control c old e1 e2 e3 =
-    ap (λ (n : ℕ). of n (old .slots) (old .pooled)) (sym e1) ∙ ap (λ (n : ℕ). of (c .tasks) n (old .pooled)) (sym e2) ∙ ap (of (c .tasks) (c .slots)) (sym e3)
-  where
-    of : ℕ → ℕ → ℕ → Control
-    of tasks slots pooled = record {
-      tasks = tasks;
-      slots = slots;
-      anchor = c .anchor;
-      pooled = pooled;
-      head = c .head;
-    }
+whole-control c old e1 e2 e3 = rw (← e1, ← e2, ← e3)
 
 whole-record : (named : Type 0) (r old : Record) → Keeps named old r → recordMoved old r ≡ r
-whole-record named r old k = ap (λ (n : ℕ). of n (old .side)) (sym (k .kind)) ∙ ap (of (r .kind)) (sym (k .side))
-  where
-    of : ℕ → ℕ → Record
-    of kind side = record {
-      place = r .place;
-      kind = kind;
-      side = side;
-      own = r .own;
-      label = r .label;
-      seen = r .seen;
-      neighbour = r .neighbour;
-      link = r .link;
-      finishing = r .finishing;
-    }
+whole-record named r old k = rw (← (k .kind), ← (k .side))
 
 -- At places 1 to 10 head, own slot and label are too.
 same-head : (c old : Control) → c .head ≡ old .head → anchorMoved old c ≡ controlMoved old c
-same-head c old e = ap of (sym e)
-  where
-    of : ℕ → Control
-    of head = record {
-      tasks = old .tasks;
-      slots = old .slots;
-      anchor = c .anchor;
-      pooled = old .pooled;
-      head = head;
-    }
+same-head c old e = ap (withWords old (c .anchor)) (sym e)
 
 same-call : (r old : Record) → r .own ≡ old .own → r .label ≡ old .label → callMoved old r ≡ recordMoved old r
-same-call r old e1 e2 = ap (λ (n : ℕ). of n (old .label)) (sym e1) ∙ ap (of (r .own)) (sym e2)
-  where
-    of : ℕ → ℕ → Record
-    of own label = record {
-      place = r .place;
-      kind = old .kind;
-      side = old .side;
-      own = own;
-      label = label;
-      seen = r .seen;
-      neighbour = r .neighbour;
-      link = r .link;
-      finishing = r .finishing;
-    }
+same-call r old e1 e2 = ap₂ (withOwn (recordMoved old r)) (sym e1) (sym e2)
 
-module _ (q : Tables) (r : TaskRecord) (m : Moved) (lefts rights labels marks next : List ℕ) where
+module _ (q : Tables) (r : TaskRecord) (m : Transition) (lefts rights labels marks next : List ℕ) where
   abbrev pub leaves : Control → TaskRecord → Acted
   leaves c t = record { tables = tablesOf c lefts rights labels marks next; task = t; outcome = m .outcome }
 
   abbrev pub gone : Record → TaskRecord
   gone = goneOn (q .control) r m
 
-  module _ (a : Acted) (keeps : Kept q r a) (e : leaves (m .control) (gone (m .task)) ≡ a) where
-    kept : Kept q r (leaves (m .control) (gone (m .task)))
-    kept = subst (Kept q r) (sym e) keeps
+  module _ (a : Acted) (keeps : Unchanged q r a) (e : leaves (m .control) (gone (m .task)) ≡ a) where
+    kept : Unchanged q r (leaves (m .control) (gone (m .task)))
+    kept = subst (Unchanged q r) (sym e) keeps
 
     same-control : controlMoved (q .control) (m .control) ≡ m .control
     same-control = whole-control (m .control) (q .control) (kept .tasks) (kept .slots) (kept .pooled)

@@ -3,72 +3,39 @@ use mathlib.Core.Bool.{cond}
 use Rattle.model.specs.declared.Control.{Control}
 use Rattle.model.specs.declared.Record.{Record}
 use Rattle.model.specs.declared.TaskRecord.{TaskRecord}
-use Rattle.model.specs.Tables.{idle}
+use Rattle.model.specs.Tables.{idle, counting, ofKind, withOwn, withWords}
 use Rattle.model.specs.Route.{counted}
-use Rattle.table.specs.declared.Acted.{Acted}
+use Rattle.model.specs.declared.Transition.{Transition}
 use Rattle.model.specs.Ends.{endsCall, isMoved}
 
--- A control that takes Anchor and head of another.
+-- Control takes Anchor and head of another; a call all but its kind and side.
 abbrev pub controlMoved : Control → Control → Control
-controlMoved old c = record {
-  tasks = old .tasks;
-  slots = old .slots;
-  anchor = c .anchor;
-  pooled = old .pooled;
-  head = c .head;
-}
+controlMoved old c = withWords old (c .anchor) (c .head)
 
--- A call that takes all of another but its kind and side.
 abbrev pub recordMoved : Record → Record → Record
-recordMoved old r = record {
-  place = r .place;
-  kind = old .kind;
-  side = old .side;
-  own = r .own;
-  label = r .label;
-  seen = r .seen;
-  neighbour = r .neighbour;
-  link = r .link;
-  finishing = r .finishing;
-}
+recordMoved old r = ofKind r (old .kind) (old .side)
 
--- The same at places 1 to 10: a control that takes Anchor of another, a call that takes all but kind, side, own slot and label.
+-- The same at places 1 to 10: control takes Anchor, a call all but kind, side, own slot and label.
 abbrev pub anchorMoved : Control → Control → Control
-anchorMoved old c = record {
-  tasks = old .tasks;
-  slots = old .slots;
-  anchor = c .anchor;
-  pooled = old .pooled;
-  head = old .head;
-}
+anchorMoved old c = withWords old (c .anchor) (old .head)
 
 abbrev pub callMoved : Record → Record → Record
-callMoved old r = record {
-  place = r .place;
-  kind = old .kind;
-  side = old .side;
-  own = old .own;
-  label = old .label;
-  seen = r .seen;
-  neighbour = r .neighbour;
-  link = r .link;
-  finishing = r .finishing;
-}
+callMoved old r = withOwn (recordMoved old r) (old .own) (old .label)
 
 -- Nothing where the step was refused; a call all zero where it ended. A failed change is counted.
-unfoldable pub controlAfter : Control → Acted → Control
+unfoldable pub controlAfter : Control → Transition → Control
 controlAfter c m = cond (isMoved (m .outcome)) (controlMoved c (m .control)) c
 
-unfoldable pub recordAfter : TaskRecord → Acted → TaskRecord
+unfoldable pub recordAfter : TaskRecord → Transition → TaskRecord
 recordAfter r m =
     let call : Record = cond (endsCall (m .outcome)) idle (recordMoved (r .call) (m .task)) in
-    cond (isMoved (m .outcome)) (record { call = call; retries = counted (r .retries) (m .failed) }) r
+    cond (isMoved (m .outcome)) (counting call (counted (r .retries) (m .failed))) r
 
 -- The same at places 1 to 10.
-unfoldable pub anchorAfter : Control → Acted → Control
+unfoldable pub anchorAfter : Control → Transition → Control
 anchorAfter c m = cond (isMoved (m .outcome)) (anchorMoved c (m .control)) c
 
-unfoldable pub callAfter : TaskRecord → Acted → TaskRecord
+unfoldable pub callAfter : TaskRecord → Transition → TaskRecord
 callAfter r m =
     let call : Record = cond (endsCall (m .outcome)) idle (callMoved (r .call) (m .task)) in
-    cond (isMoved (m .outcome)) (record { call = call; retries = counted (r .retries) (m .failed) }) r
+    cond (isMoved (m .outcome)) (counting call (counted (r .retries) (m .failed))) r

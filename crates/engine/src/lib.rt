@@ -1,85 +1,23 @@
-//! One step of one task, by value over lent tables.
+//! One step of one task, or one operation, whichever it is (`op`), by value over lent tables; and an outcome in numbers.
+pub mod op;
+
 use model::Answer;
 use model::Control;
 use model::Outcome;
 use model::Record;
-use table::Acted;
+use model::Reply;
+use model::Transition;
+use sound::admission;
 ghost use mathlib.Core.Path.{_≡_};
 ghost use mathlib.Core.Bool.{false};
 ghost use Prim.Native.Nat.{ℕ};
 ghost use lib.Dec.{leb, ltb};
-ghost use Rattle.model.specs.Calls.{step, stepLent};
-ghost use Rattle.model.specs.Refusals.{alone};
-ghost use Rattle.model.specs.Tables.{isPooled, tablesOf};
+ghost use Rattle.model.specs.Calls.{step, stepLent, replyOf};
+ghost use Rattle.model.specs.Refusals.{recordRefusal};
+ghost use Rattle.model.specs.Tables.{tablesOf};
 ghost use Rattle.table.specs.Lent.{withTables};
-ghost use Rattle.sound.specs.Lengths.{lengthsFit};
-ghost use Rattle.engine.specs.Parts.{admission, recordRefusal, moveOn};
+ghost use Rattle.engine.specs.MoveOn.{moveOn};
 ghost use Rattle.model.specs.Ends.{answerEnds, endsCall, isMoved, isRunning};
-
-/// Why a step is refused whatever its record holds, or 0: document 01's order. The tables are given
-/// by their lengths.
-fn admission(
-    c: Control,
-    enough: bool,
-    known: bool,
-    lefts: usize,
-    rights: usize,
-    labels: usize,
-    marks: usize,
-    next: usize,
-) -> u32
-    ensures { λ why.
-        ⌜ why
-        ≡ admission c (lengthsFit (isPooled c) (c .slots) lefts rights labels marks next) (record { enough = enough; known = known }) ⌝ }
-{
-    if !sound::control_sound(c) {
-        return 34;
-    }
-    let pooled = c.pooled == 1;
-    if !sound::rows_fit(pooled, c.slots, lefts, rights, labels, marks, next) {
-        return 12;
-    }
-    if !enough {
-        return 12;
-    }
-    if known { 0 } else { 13 }
-}
-
-/// The same for task `task` among `records` lent records.
-pub fn admit(
-    c: Control,
-    records: usize,
-    task: usize,
-    lefts: usize,
-    rights: usize,
-    labels: usize,
-    marks: usize,
-    next: usize,
-) -> u32
-    ensures { λ why.
-        ⌜ why
-        ≡ admission c (lengthsFit (isPooled c) (c .slots) lefts rights labels marks next)
-        (record { enough = leb (c .tasks) records; known = ltb task (c .tasks) }) ⌝ }
-{
-    let enough = c.tasks <= records as u64;
-    let known = (task as u64) < c.tasks;
-    admission(c, enough, known, lefts, rights, labels, marks, next)
-}
-
-/// The same for a record lent alone: none is wanting, and the task is known by it.
-pub fn admit_alone(
-    c: Control,
-    lefts: usize,
-    rights: usize,
-    labels: usize,
-    marks: usize,
-    next: usize,
-) -> u32
-    ensures { λ why. ⌜ why ≡ admission c (lengthsFit (isPooled c) (c .slots) lefts rights labels marks next) alone ⌝ }
-{
-    let lent = true;
-    admission(c, lent, lent, lefts, rights, labels, marks, next)
-}
 
 /// Why an admitted step is refused before its place is looked at, or 0. An idle record is sound
 /// whatever it holds.
@@ -99,10 +37,10 @@ fn refusal(pooled: bool, slots: u64, r: Record) -> u32
 }
 
 /// A refusal is its number alone.
-fn refused(c: Control, r: Record, why: u32) -> Acted
+fn refused(c: Control, r: Record, why: u32) -> Transition
     ensures { λ m. ⌜ m ≡ record { control = c; task = r; outcome = Outcome.Refused why; failed = false } ⌝ }
 {
-    Acted {
+    Transition {
         control: c,
         task: r,
         outcome: Outcome::Refused(why),
@@ -121,14 +59,14 @@ pub fn step(
     labels: &mut [u32],
     marks: &mut [u64],
     next: &mut [u64],
-) -> Acted
+) -> Transition
     ensures { λ m.
         ⌜ ((retries : ℕ) → withTables m (now (lefts .exit)) (now (rights .exit)) (now (labels .exit)) (now (marks .exit)) (now (next .exit)) retries
         ≡ step (tablesOf c (now (lefts .entry)) (now (rights .entry)) (now (labels .entry)) (now (marks .entry)) (now (next .entry)))
         (record { enough = leb (c .tasks) records; known = ltb task (c .tasks) })
         (record { call = r; retries = retries })) ⌝ }
 {
-    let why = admit(
+    let why = admission::admit(
         c,
         records,
         task,
@@ -153,13 +91,13 @@ pub fn step_alone(
     labels: &mut [u32],
     marks: &mut [u64],
     next: &mut [u64],
-) -> Acted
+) -> Transition
     ensures { λ m.
         ⌜ ((retries : ℕ) → withTables m (now (lefts .exit)) (now (rights .exit)) (now (labels .exit)) (now (marks .exit)) (now (next .exit)) retries
         ≡ stepLent (tablesOf c (now (lefts .entry)) (now (rights .entry)) (now (labels .entry)) (now (marks .entry)) (now (next .entry)))
         (record { call = r; retries = retries })) ⌝ }
 {
-    let why = admit_alone(
+    let why = admission::admit_alone(
         c,
         lefts.len(),
         rights.len(),
@@ -182,7 +120,7 @@ pub fn move_on(
     labels: &mut [u32],
     marks: &mut [u64],
     next: &mut [u64],
-) -> Acted
+) -> Transition
     ensures { λ m.
         ⌜ ((retries : ℕ) → withTables m (now (lefts .exit)) (now (rights .exit)) (now (labels .exit)) (now (marks .exit)) (now (next .exit)) retries
         ≡ moveOn (tablesOf c (now (lefts .entry)) (now (rights .entry)) (now (labels .entry)) (now (marks .entry)) (now (next .entry)))
@@ -262,4 +200,50 @@ pub fn refuse(why: u32) -> Outcome
     ensures { λ o. ⌜ o ≡ Outcome.Refused why ⌝ }
 {
     Outcome::Refused(why)
+}
+
+fn answer_reply(a: Answer) -> Reply
+    ensures { λ r. ⌜ r ≡ replyOf (Outcome.Moved a) ⌝ }
+{
+    match a {
+        Answer::Running(place) => Reply {
+            code: 1,
+            label: 0,
+            value: place,
+        },
+        Answer::Pushed => Reply {
+            code: 2,
+            label: 0,
+            value: 0,
+        },
+        Answer::Empty => Reply {
+            code: 3,
+            label: 0,
+            value: 0,
+        },
+        Answer::Popped(entry) => Reply {
+            code: 4,
+            label: entry.label,
+            value: entry.slot,
+        },
+        Answer::NoSlot => Reply {
+            code: 5,
+            label: 0,
+            value: 0,
+        },
+    }
+}
+
+/// An outcome in numbers.
+pub fn reply(o: Outcome) -> Reply
+    ensures { λ r. ⌜ r ≡ replyOf o ⌝ }
+{
+    match o {
+        Outcome::Refused(number) => Reply {
+            code: number,
+            label: 0,
+            value: 0,
+        },
+        Outcome::Moved(answer) => answer_reply(answer),
+    }
 }

@@ -13,7 +13,7 @@ use Rattle.model.specs.Walk.{Walk, along, andThen, broken, entries, isBroken}
 use Rattle.model.proofs.tests.Truth.{not-both}
 use Rattle.walk.specs.declared.Tally.the-variants.{Broken}
 use Rattle.walk.specs.Counted.{counted}
-use Rattle.walk.proofs.Turns.{rest, entry, ends, goes}
+use Rattle.walk.proofs.SlotBySlot.{rest, entry, ends, goes}
 use Rattle.walk.proofs.Counting.{none-counted}
 use Rattle.find_model.specs.Noting.{note, noting}
 

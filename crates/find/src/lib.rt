@@ -225,7 +225,7 @@ fn refused(number: u32) -> FindReply
 }
 
 /// Where the labels asked for wait, whatever the next rows.
-pub fn find(
+fn find(
     c: Control,
     asked: &[u32],
     lefts: &[u64],

@@ -1,3 +1,3 @@
-pub mod Turns
+pub mod Served
 pub mod Uppers
 pub mod Opening

@@ -9,7 +9,7 @@ use lib.ListN.{length}
 use borrow.Author.Tests.{eqb-false}
 use Rattle.model.specs.declared.Opening.{Opening}
 use Rattle.model.specs.declared.Opening.the-variants.{Refused, Opened}
-use Rattle.model.specs.Tables.{Queue, zeroed}
+use Rattle.model.specs.Tables.{Queue}
 use Rattle.model.specs.Refusals.{openRefusal}
 use Rattle.model.specs.Calls.{OpenDone, opened, openAs, openingCode}
 use Rattle.model.specs.History.{Request, run, final, NoSlotTrue}
@@ -18,9 +18,10 @@ use Rattle.model.proofs.Never34.{never-34}
 use Rattle.model.proofs.NoSlot.{no-slot-right}
 use Rattle.model.proofs.Retries.{retries-sum}
 use Rattle.model.proofs.tests.Truth.{split}
+use Rattle.model.specs.Lists.{zeroed}
 use Rattle.stock_model.proofs.Accounts.{every-label, stock-taking}
 use Rattle.capi.specs.Replies.{uppersAt, Coded, coded}
-use Rattle.history.specs.Words.{requestsOf, requestsFrom, repliesOf}
+use Rattle.history.specs.Requests.{requestsOf, requestsFrom, repliesOf}
 use Rattle.history.specs.Serving.{State, uppersAfter, served, countAfter, FollowsOn, Serves}
 use Rattle.history.proofs.Uppers.{still-zero}
 

@@ -12,7 +12,7 @@ use Rattle.model.specs.declared.Op.{Op}
 use Rattle.model.specs.declared.Op.the-variants.{Push, Pop, Put, Step}
 use Rattle.model.specs.declared.Outcome.{Outcome}
 use Rattle.model.specs.declared.Outcome.the-variants.{Refused, Moved}
-use Rattle.model.specs.Tables.{Tables, Queue, taskAt, recordAt, zeroed}
+use Rattle.model.specs.Tables.{Tables, Queue, taskAt, recordAt}
 use Rattle.model.specs.declared.TaskRecord.{TaskRecord}
 use Rattle.model.specs.Refusals.{among, pushRefusal, putRefusal, popRefusal, stepRefusal}
 use Rattle.model.specs.Calls.{Acted, decide, pushStart, putStart, popStart, step, actOn, act}
@@ -21,6 +21,7 @@ use Rattle.model.specs.History.{Request, run}
 use Rattle.model.proofs.tests.Truth.{split, not-both}
 use Rattle.model.proofs.laws.Sizes.{act-tasks}
 use Rattle.model.proofs.bridge.Accepted.{push-accepted, put-accepted, pop-accepted, step-accepted}
+use Rattle.model.specs.Lists.{zeroed}
 use Rattle.history.specs.Serving.{writesRow, uppersAfter}
 
 -- What is carried out is not refused.

@@ -11,15 +11,16 @@ use Rattle.model.specs.declared.Op.the-variants.{Push, Pop, Put, Step}
 use Rattle.model.specs.declared.Opening.{Opening}
 use Rattle.model.specs.declared.Opening.the-variants.{Refused, Opened}
 use Rattle.model.specs.declared.Outcome.{Outcome}
-use Rattle.model.specs.Tables.{Queue, zeroed}
+use Rattle.model.specs.Tables.{Queue}
 use Rattle.model.specs.Calls.{OpenDone, openAs, openingCode}
 use Rattle.model.specs.Ends.{isMoved, endsCall}
 use Rattle.model.specs.History.{Request, Event, run, final, Linearized, NeverUnsound, NoSlotTrue}
 use Rattle.model.specs.Retries.{SumIsOld}
+use Rattle.model.specs.Lists.{zeroed}
 use Rattle.stock_model.specs.Accounts.{Accounted, only, StockSum}
 use Rattle.rows.specs.Rows.{queueIn, uppersOf}
 use Rattle.history.specs.declared.ServeReply.{ServeReply}
-use Rattle.history.specs.Words.{requestsOf, repliesOf, room}
+use Rattle.history.specs.Requests.{requestsOf, repliesOf, room}
 
 -- All that is lent but the requests: the queue, the upper halves of the labels' words in the records, which are in no field, and
 -- the memory of the replies.

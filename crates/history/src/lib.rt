@@ -2,8 +2,8 @@
 //!
 //! It opens and acts by the exported calls themselves (`capi`), and what it answers and leaves is `run` and `final` of just
 //! that list (`specs/History.antt` of `model`). So its contract states the theorems on histories of what ships: demand 3,
-//! that 34 never occurs, that the tasks' counts add up to the failed changes, and that *no slot* is answered only where
-//! every slot is in use.
+//! that 34 never occurs, that the tasks' counts add up to the failed changes, that every label is accounted for, each by
+//! itself and all in one sum (#114), and that *no slot* is answered only where every slot is in use.
 mod reply;
 mod request;
 mod turn;
@@ -13,7 +13,7 @@ ghost use mathlib.Core.Bool.{not};
 ghost use Prim.Native.Nat.{_*_, _≤_};
 ghost use lib.Dec.{eqb};
 ghost use lib.ListN.{length};
-ghost use Rattle.history.specs.Words.{requestsOf};
+ghost use Rattle.history.specs.Requests.{requestsOf};
 ghost use Rattle.history.specs.Serving.{stateIn, served, countAfter, Serves};
 
 /// The words of a request, and of a reply.

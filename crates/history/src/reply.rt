@@ -4,7 +4,7 @@ ghost use mathlib.Core.Path.{_≡_};
 ghost use Prim.Native.Nat.{_+_, _*_, _≤_};
 ghost use lib.ListN.{length};
 ghost use lib.Seq.{sets};
-ghost use Rattle.history.specs.Words.{replyWords};
+ghost use Rattle.history.specs.Requests.{replyWords};
 
 /// Stores reply i.
 pub fn write_reply(words: &mut [u64], i: usize, r: Reply)

@@ -6,7 +6,7 @@ ghost use Prim.Native.Nat.{_≤_};
 ghost use Rattle.model.specs.Calls.{openAs, act};
 ghost use Rattle.rows.specs.Rows.{queueIn, uppersOf};
 ghost use Rattle.capi.specs.Replies.{Coded, coded, Replied, replied};
-ghost use Rattle.history.specs.Words.{opOf};
+ghost use Rattle.history.specs.Requests.{opOf};
 ghost use Rattle.history.specs.Serving.{writesRow};
 
 const PUSH: u64 = 0;

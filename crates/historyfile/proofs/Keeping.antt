@@ -6,12 +6,13 @@ use Prim.Native.Nat.{ℕ, _+_, _-_, _<_, _≤_}
 use native.Mathlib.Numerals.{add-one}
 use native.Mathlib.Omega.{arith}
 use lib.Dec.{ltb}
-use lib.ListN.{length, getD, set, take, drop, drop-of-length-le}
-use lib.Seq.{drop-at, drop-cons, length-take-le, take-add, take-suc-set}
+use lib.ListN.{length, getD, set, take, drop, drop-of-length-le, take-append-drop}
+use lib.Seq.{drop-at, drop-cons, drop-drop, drop-set-lt, length-take-le, take-add, take-suc-set}
 use borrow.Author.Tests.{le-ltb, lt-ltb, not-false, not-true}
 use Rattle.model.proofs.tests.Truth.{by-test}
 use Rattle.historyfile.specs.declared.scan.Scan.{Scan}
 use Rattle.historyfile.specs.declared.scan.Turn.{Turn}
+use Rattle.historyfile.specs.Buffer.{laid}
 use Rattle.historyfile.specs.Reading.{Reading, callsThen, fed, kept, taken}
 use Rattle.historyfile.specs.Text.{stepped}
 
@@ -66,3 +67,19 @@ part-is from to l h k =
     sym (drop-at (take from l) (take (to - from) (drop from l)) from (length-take-le from l (omega arith)))
     ∙ ap (drop from) (sym (take-add from (to - from) l))
     ∙ ap (λ (n : ℕ). drop from (take n l)) (sym e)
+
+-- Buffers that agree from one number on agree from any later one.
+pub rest-same : (from to : ℕ) (a b : List ℕ) → from ≤ to → drop from a ≡ drop from b → drop to a ≡ drop to b
+rest-same from to a b h e =
+    let k : to ≡ from + (to - from) = omega arith in
+    ap (λ (n : ℕ). drop n a) k
+    ∙ sym (drop-drop (to - from) from a)
+    ∙ ap (drop (to - from)) e
+    ∙ drop-drop (to - from) from b
+    ∙ ap (λ (n : ℕ). drop n b) (sym k)
+
+pub all-laid : (count : ℕ) (numbers before after : List ℕ) → count ≤ length after → take count after ≡ numbers
+    → drop count after ≡ drop count before → after ≡ laid numbers before
+all-laid count numbers before after h e k =
+    let n : count ≡ length numbers = sym (length-take-le count after h) ∙ ap length e in
+    sym (take-append-drop count after) ∙ (λ i. e i ++ k i) ∙ ap (λ (m : ℕ). numbers ++ drop m before) n

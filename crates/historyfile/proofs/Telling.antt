@@ -5,7 +5,7 @@ use lib.Dec.{eqb}
 use lib.ListN.{take, drop}
 use borrow.Author.Tests.{not-false, not-true}
 use Rattle.audit_model.specs.Audit.{verdict}
-use Rattle.audit_model.specs.Words.{callsIn}
+use Rattle.audit_model.specs.LentHistory.{callsIn}
 use Rattle.historyfile.specs.declared.judge.Judged.the-variants.{Told, Unread}
 use Rattle.historyfile.specs.Reading.{Reading, told}
 

@@ -5,7 +5,7 @@ use Prim.Native.Nat.{ℕ}
 use lib.Dec.{eqb, ltb}
 use lib.ListN.{length, take, drop}
 use Rattle.audit_model.specs.Audit.{verdict}
-use Rattle.audit_model.specs.Words.{callsIn}
+use Rattle.audit_model.specs.LentHistory.{callsIn}
 use Rattle.historyfile.specs.declared.scan.Scan.{Scan}
 use Rattle.historyfile.specs.declared.scan.Turn.{Turn}
 use Rattle.historyfile.specs.declared.judge.Judged.{Judged}

@@ -6,8 +6,8 @@ ghost use mathlib.Core.Path.{_≡_};
 ghost use Prim.Native.Nat.{_≤_, _<_};
 ghost use lib.ListN.{length, getD, take, drop};
 ghost use Rattle.audit_model.specs.Audit.{verdict};
-ghost use Rattle.audit_model.specs.Words.{callsIn};
-ghost use Rattle.historyfile.specs.Buffer.{Within, reading};
+ghost use Rattle.audit_model.specs.LentHistory.{callsIn};
+ghost use Rattle.historyfile.specs.Buffer.{Within, laid, reading};
 ghost use Rattle.historyfile.specs.Reading.{callsThen, judged, kept, taken, whole};
 ghost use Rattle.historyfile.specs.Text.{atStart, stepped};
 
@@ -30,6 +30,7 @@ fn keep(gives: bool, value: u64, count: usize, values: &mut [u64]) -> usize
     ensures { λ r.
         ⌜ take r (now (values .exit)) ≡ kept (length (now (values .entry))) gives value (take count (now (values .entry))) ⌝ }
     ensures { λ r. ⌜ (count ≤ r) × (r ≤ length (now (values .entry))) ⌝ }
+    ensures { λ r. ⌜ drop r (now (values .exit)) ≡ drop r (now (values .entry)) ⌝ }
 {
     if !gives {
         return count;
@@ -57,6 +58,7 @@ fn take_byte(s: State, b: u64, values: &mut [u64]) -> State
     ensures { λ r.
         ⌜ reading r (now (values .exit)) ≡ taken (length (now (values .entry))) (stepped (s .scan) b) (reading s (now (values .entry))) ⌝ }
     ensures { λ r. ⌜ Within r (length (now (values .entry))) ⌝ }
+    ensures { λ r. ⌜ (s .count ≤ r .count) × (drop (r .count) (now (values .exit)) ≡ drop (r .count) (now (values .entry))) ⌝ }
 {
     let now = s.scan;
     let t = scan::step(now, b);
@@ -99,6 +101,7 @@ fn byte_at(text: &[u8], i: usize) -> u64
 fn read(text: &[u8], values: &mut [u64]) -> State
     ensures { λ r. ⌜ reading r (now (values .exit)) ≡ whole (length (now (values .entry))) (now (text .entry)) ⌝ }
     ensures { λ r. ⌜ Within r (length (now (values .entry))) ⌝ }
+    ensures { λ r. ⌜ drop (r .count) (now (values .exit)) ≡ drop (r .count) (now (values .entry)) ⌝ }
 {
     let mut s = begin();
     for i in 0..text.len() {
@@ -117,9 +120,10 @@ fn verdict_on(values: &[u64], calls: usize, count: usize) -> Verdict
     audit::audit_words(&values[..calls], &values[calls..count])
 }
 
-/// The verdict on a text. `values` is room for its numbers: 513 are enough for any text.
+/// The verdict on a text. `values` is room for its numbers: 513 are enough for any text. They are left at its front, the rest as lent.
 pub fn judge(text: &[u8], values: &mut [u64]) -> Judged
     ensures { λ r. ⌜ r ≡ judged (length (now (values .entry))) (now (text .entry)) ⌝ }
+    ensures { λ r. ⌜ now (values .exit) ≡ laid (whole (length (now (values .entry))) (now (text .entry)) .values) (now (values .entry)) ⌝ }
 {
     let s = read(text, values);
     let end = s.scan;

@@ -270,7 +270,7 @@ fn begin_comment(t: Turn) -> Turn
 }
 
 /// The reading one byte on.
-pub fn step(s: Scan, b: u64) -> Turn
+pub(crate) fn step(s: Scan, b: u64) -> Turn
     requires { ⌜ b < 256 ⌝ }
     ensures { λ r. ⌜ r ≡ stepped s b ⌝ }
 {

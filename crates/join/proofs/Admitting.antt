@@ -10,11 +10,12 @@ use lib.ListN.{length, length-map}
 use Rattle.model.specs.declared.Control.{Control}
 use Rattle.model.specs.declared.Entry.{Entry}
 use Rattle.model.specs.Tables.{Queue, queueOf}
-use Rattle.model.specs.Sound.{every, controlTests, controlSound}
+use Rattle.model.specs.Sound.{controlTests, controlSound}
 use Rattle.model.specs.Walk.{contents, met}
 use Rattle.model.specs.Refusals.{first}
 use Rattle.model.proofs.tests.Rules.{tests}
 use Rattle.model.proofs.bridge.Facts.{from1-true}
+use Rattle.model.specs.Lists.{every}
 use Rattle.walk.specs.declared.Tally.{Tally}
 use Rattle.walk.specs.declared.Tally.the-variants.{Broken, Labels}
 use Rattle.walk.specs.Counted.{counted}
@@ -25,7 +26,7 @@ use Rattle.join_model.specs.Join.{anchorIn, lane, lanes, sourceFits, thirdFits,
 use Rattle.join_model.specs.Closed.{lateFor, closedRefusal}
 use Rattle.join_model.proofs.Merged.{interleaved, length-merged}
 use Rattle.join.specs.declared.admit.Admission.{Admission}
-use Rattle.join.specs.Rules.{lengthsFit, testsRefusal, laterRefusal}
+use Rattle.join.specs.Stages.{lengthsFit, testsRefusal, laterRefusal}
 use Rattle.join.specs.Admits.{walked, Admits}
 
 -- Long enough by the lengths is long enough.

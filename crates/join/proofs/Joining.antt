@@ -11,12 +11,13 @@ use borrow.Author.Tests.{eqb-false, ne-eqb, ltb-true}
 use Rattle.model.specs.declared.Control.{Control}
 use Rattle.model.specs.declared.Entry.{Entry}
 use Rattle.model.specs.declared.TaskRecord.{TaskRecord}
-use Rattle.model.specs.Tables.{Tables, Queue, queueOf, isEmpty, idle, withCall, taskAt}
+use Rattle.model.specs.Tables.{Tables, Queue, queueOf, idle, withCall, taskAt, tablesOf}
 use Rattle.model.specs.Sound.{rowTests, rowsFit}
 use Rattle.model.specs.Walk.{Walk, entries, broken, along, contents, isBroken, met, walkFrom}
 use Rattle.model.proofs.tests.Rules.{tests}
 use Rattle.model.proofs.tests.Truth.{split, not-both}
-use Rattle.walk.proofs.Turns.{empty, from-right}
+use Rattle.model.specs.Sides.{isEmpty}
+use Rattle.walk.proofs.SlotBySlot.{empty, from-right}
 use Rattle.join_model.specs.Merge.{merge}
 use Rattle.join_model.specs.Join.{anchorIn, lane, lanes, joinRefusal, Joined, join, laid}
 use Rattle.join_model.specs.Closed.{filled, leftOf, labelOf, markedTo, held, holding, lateFor, closedRefusal, joinClosed}
@@ -177,14 +178,12 @@ module _ (a b q : Queue) where
             (λ (r : List ℕ). filled (labelOf r) (suc k) (q .tables .labels)) z in
             let word = control ∙ ap (anchored (q .tables .control)) count in
             λ i. record {
-              tables = record {
-                control = word i;
-                lefts = left-rows i;
-                rights = right-rows i;
-                labels = label-rows i;
-                marks = (mark ∙ ap (λ (j : ℕ). markedTo j (q .tables .marks)) count) i;
-                next = q .tables .next;
-              };
+              tables = tablesOf (word i)
+                  (left-rows i)
+                  (right-rows i)
+                  (label-rows i)
+                  ((mark ∙ ap (λ (j : ℕ). markedTo j (q .tables .marks)) count) i)
+                  (q .tables .next);
               records = set (q .records) 0 (withCall (taskAt q 0) idle);
             }
 

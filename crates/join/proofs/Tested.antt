@@ -11,12 +11,11 @@ use lib.ListN.{length, getD, List·getD-eq-default}
 use borrow.Author.Tests.{ne-eqb, eqb-true, ltb-true, ltb-false}
 use Rattle.model.specs.declared.TaskRecord.{TaskRecord}
 use Rattle.model.specs.Tables.{unused}
-use Rattle.model.specs.Sound.{every}
-use Rattle.model.specs.Report.{count}
 use Rattle.model.proofs.tests.Truth.{split, not-both}
+use Rattle.model.specs.Lists.{every, count}
 use Rattle.join_model.specs.Join.{blank}
 use Rattle.join_model.proofs.Fresh.{none-pass}
-use Rattle.join.specs.Rules.{least}
+use Rattle.join.specs.Stages.{least}
 
 -- Seven tests, made one after the other.
 pub seven : (a b c d e f g : Bool) → (((((a && b) && c) && d) && e) && f) && g ≡ every (a ∷ b ∷ c ∷ d ∷ e ∷ f ∷ g ∷ [])

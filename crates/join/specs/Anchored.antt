@@ -6,8 +6,7 @@ use Prim.Native.Nat.{ℕ}
 use lib.ListN.{set}
 use Rattle.word.specs.Anchor.{anchorOf, packAnchor}
 use Rattle.model.specs.declared.Control.{Control}
-use Rattle.model.specs.Tables.{Queue, tablesOf, queueOf, idle, withCall, taskAt}
-use Rattle.model.specs.Places.{withAnchor}
+use Rattle.model.specs.Tables.{Queue, tablesOf, queueOf, idle, withCall, taskAt, withAnchor}
 use Rattle.join_model.specs.Join.{Joined, join, laid}
 use Rattle.join_model.specs.Closed.{tagAfter}
 use Rattle.join.specs.declared.Done.{Done}

@@ -1,4 +1,4 @@
-pub mod Rules
+pub mod Stages
 pub mod Admits
 pub mod Scratch
 pub mod Anchored

@@ -9,13 +9,14 @@ ghost use Prim.Native.Nat.{ℕ, _+_, _≤_};
 ghost use lib.Dec.{ltb};
 ghost use Rattle.word.specs.Anchor.{anchorOf};
 ghost use Rattle.model.specs.Tables.{tablesOf, queueOf};
-ghost use Rattle.model.specs.Sound.{every, controlSound};
+ghost use Rattle.model.specs.Sound.{controlSound};
 ghost use Rattle.model.specs.Walk.{contents};
+ghost use Rattle.model.specs.Lists.{every};
 ghost use Rattle.walk.specs.Counted.{counted};
 ghost use Rattle.rows.specs.Rows.{recordsOf};
 ghost use Rattle.join_model.specs.Join.{atRest, fresh};
 ghost use Rattle.join_model.specs.Closed.{lateFor};
-ghost use Rattle.join.specs.Rules.{lengthsFit, testsRefusal, laterRefusal};
+ghost use Rattle.join.specs.Stages.{lengthsFit, testsRefusal, laterRefusal};
 ghost use Rattle.join.specs.Admits.{walked, Admits};
 
 // The highest Anchor tag that a start is accepted at.

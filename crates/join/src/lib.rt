@@ -12,9 +12,9 @@ ghost use Rattle.rows.specs.Rows.{recordsOf, uppersOf, queueIn};
 ghost use Rattle.join_model.specs.Join.{Joined, join, laid};
 ghost use Rattle.join.specs.Anchored.{anchored, Joins};
 
-pub mod admit;
-pub mod fill;
-pub mod rest;
+mod admit;
+mod fill;
+mod rest;
 
 /// What the joining answers, and what it leaves of control.
 pub struct Done {
@@ -43,7 +43,7 @@ fn anchored(c: Control, n: u64) -> Control
 }
 
 /// Joins the first queue and the second in the third; all of it but the third's records.
-pub fn join(
+fn join(
     first: Control,
     second: Control,
     third: Control,

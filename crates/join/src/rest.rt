@@ -8,10 +8,10 @@ ghost use Prim.Native.Nat.{ℕ, _≤_};
 ghost use lib.Dec.{eqb};
 ghost use lib.ListN.{getD};
 ghost use Rattle.model.specs.Tables.{queueOf, unused};
-ghost use Rattle.model.specs.Report.{count};
+ghost use Rattle.model.specs.Lists.{count};
 ghost use Rattle.rows.specs.Rows.{recordsOf};
 ghost use Rattle.join_model.specs.Join.{atRest, blank, fresh};
-ghost use Rattle.join.specs.Rules.{least};
+ghost use Rattle.join.specs.Stages.{least};
 
 /// How many entries of a table are looked at, of n: beyond its end all is zero.
 fn least(n: u64, most: usize) -> usize

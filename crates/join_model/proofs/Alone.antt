@@ -12,19 +12,17 @@ use Rattle.word.specs.Link.{linkOf, packLink}
 use Rattle.model.specs.declared.TaskRecord.{TaskRecord}
 use Rattle.model.specs.declared.Answer.the-variants.{Running, Pushed}
 use Rattle.model.specs.declared.Outcome.the-variants.{Moved}
-use Rattle.model.specs.Tables.{Tables, isPooled, idle}
+use Rattle.model.specs.Tables.{Tables, isPooled, idle, withAnchor, withSeen, withNeighbour, newCall, counting}
 use Rattle.model.specs.Sound.{from1, anchorSound, linkSound, controlSound, recordSound, rowsFit}
-use Rattle.model.specs.Places.{sideOf, row, linkSide, move, reading, at1, at2, at3, new4, at4, at5, at6, at7, at9, at10, setLink, apply, withAnchor}
+use Rattle.model.specs.Places.{sideOf, row, linkSide, move, reading, at1, at2, at3, new4, at4, at5, at6, at7, at9, at10, setLink, apply}
 use Rattle.model.specs.Route.{pushRoute, route, onward, answer, goes, counted}
 use Rattle.model.specs.Refusals.{stepRefusal, stepSound}
 use Rattle.model.specs.Calls.{Acted, step, finish, stepLent}
 
 -- The record of a push at the right, with its task's count: no change of a task alone fails.
 abbrev pub at : ℕ → ℕ → ℕ → ℕ → ℕ → ℕ → ℕ → TaskRecord
-at retries place own label seen neighbour finishing = record {
-  call = record { place = place; kind = 0; side = 1; own = own; label = label; seen = seen; neighbour = neighbour; link = 0; finishing = finishing };
-  retries = retries;
-}
+at retries place own label seen neighbour finishing =
+    counting (withNeighbour (withSeen (newCall place 0 1 own label) seen finishing) neighbour) retries
 
 -- What every step of it relies on, with word as its Anchor as read.
 pub record Able (t : Tables) (own word : ℕ) : Type 0 where

@@ -11,7 +11,7 @@ use Rattle.word.specs.declared.Anchor.{Anchor}
 use Rattle.model.specs.declared.Outcome.{Outcome}
 use Rattle.model.specs.Tables.{Queue}
 use Rattle.model.specs.History.{Request, run, final}
-use Rattle.model.proofs.tests.Truth.{split, not-both}
+use Rattle.model.proofs.tests.Truth.{split, or-false}
 use Rattle.join_model.specs.Join.{anchorIn, pushAlone, pushes, outcomes, anyLate}
 use Rattle.join_model.specs.Laws.{answersOne, answersNext, answersMore, answers}
 use Rattle.join_model.specs.Closed.{labelOf, tagAfter, held, holding, lateFor}
@@ -37,10 +37,6 @@ own-labels l = follows (labelOf l) 1 l (λ i. let e : 1 + i ≡ suc i = omega ar
 -- What is said of a list of requests and of those after it.
 said-on : {q mid : Queue} (os ps : List Request) {l : List Outcome} → Ran q os mid l → outcomes (run q (os ++ ps)) ≡ l ++ outcomes (run mid ps)
 said-on {mid = mid} os ps r = ran-on {after = final mid ps} os ps {m = outcomes (run mid ps)} r (record { leaves = refl; says = refl }) .says
-
-or-false : (a b : Bool) → a || b ≡ false → (a ≡ false) × (b ≡ false)
-or-false true b e = absurd (not-both refl e)
-or-false false b e = (refl, e)
 
 or-nothing : (b : Bool) → b || false ≡ b
 or-nothing true = refl

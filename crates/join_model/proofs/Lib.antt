@@ -12,3 +12,4 @@ pub mod Closed
 pub mod Waits
 pub mod Laws
 pub mod Opened
+pub mod Order

@@ -15,9 +15,9 @@ use Rattle.word.proofs.Laws.{unpack-pack}
 use Rattle.model.specs.declared.Answer.the-variants.{Running, Pushed}
 use Rattle.model.specs.declared.Outcome.the-variants.{Moved}
 use Rattle.model.specs.declared.Op.the-variants.{Push, Step}
-use Rattle.model.specs.Tables.{Tables, Queue, idle, withCall, taskAt}
+use Rattle.model.specs.Tables.{Tables, Queue, idle, withCall, taskAt, withAnchor}
 use Rattle.model.specs.Sound.{anchorSound, rowTests, rowsFit}
-use Rattle.model.specs.Places.{setLink, apply, withAnchor}
+use Rattle.model.specs.Places.{setLink, apply}
 use Rattle.model.proofs.tests.Rules.{tests}
 use Rattle.model.proofs.tests.Truth.{and-of}
 use Rattle.model.proofs.unsound.Tests.{anchor-sound, link-sound}

@@ -9,12 +9,13 @@ use lib.ListN.{getD, replicate, drop, getD-replicate, length-replicate, List·ge
 use borrow.Author.Tests.{eq-eqb}
 use Rattle.word.specs.Anchor.{anchorOf, packAnchor, emptyAnchor}
 use Rattle.model.specs.declared.TaskRecord.{TaskRecord}
-use Rattle.model.specs.Tables.{Queue, zeroed, unused}
+use Rattle.model.specs.Tables.{Queue, unused}
 use Rattle.model.specs.Calls.{opened}
-use Rattle.model.specs.Report.{count, busy}
+use Rattle.model.specs.Report.{busy}
 use Rattle.model.proofs.Openings.{after-opening}
 use Rattle.model.proofs.tests.Rules.{_and_, passes}
 use Rattle.model.proofs.tests.Truth.{and-of}
+use Rattle.model.specs.Lists.{zeroed, count}
 use Rattle.join_model.specs.Join.{atRest, blank, freshTests, fresh}
 use Rattle.join_model.specs.Laws.{OpenedFresh}
 

@@ -12,14 +12,14 @@ use Rattle.word.proofs.Laws.{unpack-pack}
 use Rattle.model.specs.declared.Answer.the-variants.{Running, Pushed}
 use Rattle.model.specs.declared.Outcome.the-variants.{Moved, Refused}
 use Rattle.model.specs.declared.Op.the-variants.{Push, Step}
-use Rattle.model.specs.Tables.{Tables, Queue, isPooled, idle, withCall, marked, recordAt, taskAt}
-use Rattle.model.specs.Sound.{every, anchorSound, controlTests, controlSound, recordSound, rowsFit}
-use Rattle.model.specs.Places.{withAnchor}
-use Rattle.model.specs.Refusals.{recordsFit, pushRefusal}
-use Rattle.model.specs.Calls.{taken, pushStart, actOn, act}
+use Rattle.model.specs.Tables.{Tables, Queue, isPooled, idle, withCall, marked, recordAt, taskAt, withAnchor, taken}
+use Rattle.model.specs.Sound.{anchorSound, controlTests, controlSound, recordSound, rowsFit}
+use Rattle.model.specs.Refusals.{recordsFit, pushRefusal, startRefusal}
+use Rattle.model.specs.Calls.{pushStart, actOn, act}
 use Rattle.model.proofs.laws.Lengths.{Lengths, lengths}
 use Rattle.model.proofs.tests.Rules.{_and_, tests, passes}
 use Rattle.model.proofs.unsound.Tests.{anchor-sound}
+use Rattle.model.specs.Lists.{every}
 use Rattle.join_model.specs.Join.{anchorIn}
 use Rattle.join_model.proofs.Alone.{Able, at, step1-empty, step2}
 use Rattle.join_model.proofs.Ran.{Ran, ran-none, ran-more, stands, steps}
@@ -77,11 +77,11 @@ module _ (q : Queue) (k label : ℕ) (r : Ready q k) where
   -- The start, and where the tag has no room, its refusal.
   pub starts : ltb 4294967262 (anchorIn q .tag) ≡ false
       → act q 0 (Push 1 own label) ≡ record { queue = stands first (q .records) (at (tries q) 1 own label 0 0 0); outcome = Moved (Running 1) }
-  unfolding act actOn pushStart pushRefusal recordSound
+  unfolding act actOn pushStart startRefusal recordSound
   starts e = rw (r .control, r .named, r .rows, r .records, lt-ltb 0 _ (r .tasks), low, high, eq-eqb _ _ (r .rests), r .unmarked, e)
 
   pub turned-away : ltb 4294967262 (anchorIn q .tag) ≡ true → act q 0 (Push 1 own label) .outcome ≡ Refused 33
-  unfolding act actOn pushStart pushRefusal recordSound
+  unfolding act actOn pushStart startRefusal recordSound
   turned-away e = rw (r .control, r .named, r .rows, r .records, lt-ltb 0 _ (r .tasks), low, high, eq-eqb _ _ (r .rests), r .unmarked, e)
 
   -- The tables that the push goes through: what its steps rely on is in each of them.

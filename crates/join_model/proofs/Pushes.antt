@@ -13,10 +13,8 @@ use Rattle.word.specs.Anchor.{packAnchor}
 use Rattle.word.proofs.Laws.{unpack-pack}
 use Rattle.model.specs.declared.TaskRecord.{TaskRecord}
 use Rattle.model.specs.declared.Op.the-variants.{Push, Step}
-use Rattle.model.specs.Tables.{Queue, idle, unused, withCall, taskAt}
+use Rattle.model.specs.Tables.{Queue, idle, unused, withCall, taskAt, withAnchor, taken, tablesOf}
 use Rattle.model.specs.Sound.{anchorSound, rowTests, rowsFit}
-use Rattle.model.specs.Places.{withAnchor}
-use Rattle.model.specs.Calls.{taken}
 use Rattle.model.specs.History.{Request}
 use Rattle.model.proofs.laws.Lengths.{lengths}
 use Rattle.model.proofs.tests.Rules.{tests}
@@ -72,14 +70,12 @@ module _ (q : Queue) (fresh : Fresh q) (f : ℕ → ℕ) where
           (packAnchor (record { tag = tag + 1; status = anchorIn q .status; left = 1; right = 1 }))) (q .records) rested
           ≡ held q 0 f
       is-held = λ i. record {
-        tables = withAnchor (record {
-          control = q .tables .control;
-          lefts = same-lefts i;
-          rights = q .tables .rights;
-          labels = filled f 1 (q .tables .labels);
-          marks = markedTo 1 (q .tables .marks);
-          next = q .tables .next;
-        }) (packAnchor (record { tag = tags i; status = fresh .status i; left = 1; right = 1 }));
+        tables = withAnchor (tablesOf (q .tables .control)
+            (same-lefts i)
+            (q .tables .rights)
+            (filled f 1 (q .tables .labels))
+            (markedTo 1 (q .tables .marks))
+            (q .tables .next)) (packAnchor (record { tag = tags i; status = fresh .status i; left = 1; right = 1 }));
         records = set (q .records) 0 rested;
       }
 
@@ -179,14 +175,12 @@ module _ (q : Queue) (fresh : Fresh q) (f : ℕ → ℕ) where
           let left : count ≡ leftOf (suc count) = omega arith in
           let same = ap (λ (r : TaskRecord). set (before .records) 0 (withCall r idle)) rested-there ∙ set-set (q .records) 0 rested rested in
           λ i. record {
-            tables = withAnchor (record {
-              control = q .tables .control;
-              lefts = set (filled leftOf count (q .tables .lefts)) (suc count) (left i);
-              rights = filled rightOf count (q .tables .rights);
-              labels = filled f (suc count) (q .tables .labels);
-              marks = markedTo (suc count) (q .tables .marks);
-              next = q .tables .next;
-            }) (packAnchor (record { tag = next-tag i; status = 0; left = 1; right = suc count }));
+            tables = withAnchor (tablesOf (q .tables .control)
+                (set (filled leftOf count (q .tables .lefts)) (suc count) (left i))
+                (filled rightOf count (q .tables .rights))
+                (filled f (suc count) (q .tables .labels))
+                (markedTo (suc count) (q .tables .marks))
+                (q .tables .next)) (packAnchor (record { tag = next-tag i; status = 0; left = 1; right = suc count }));
             records = same i;
           }
 

@@ -9,11 +9,12 @@ use lib.Seq.{drop-cons, drop-length}
 use borrow.Author.Tests.{ne-eqb, le-leb, ltb-true}
 use Rattle.word.specs.declared.Anchor.{Anchor}
 use Rattle.model.specs.declared.Entry.{Entry}
-use Rattle.model.specs.Tables.{Tables, Queue, isEmpty, links, opposite, near, far}
+use Rattle.model.specs.Tables.{Tables, Queue}
 use Rattle.model.specs.Sound.{rowTests, rowsFit}
 use Rattle.model.specs.Walk.{Walk, entries, along, contents, walkFrom, whence}
 use Rattle.model.proofs.tests.Rules.{tests}
 use Rattle.model.proofs.unsound.Tests.{link-sound}
+use Rattle.model.specs.Sides.{isEmpty, links, opposite, near, far}
 use Rattle.join_model.specs.Join.{anchorIn}
 use Rattle.join_model.specs.Closed.{leftOf, labelOf, held, tagAfter}
 use Rattle.join_model.specs.Laws.{numbered}

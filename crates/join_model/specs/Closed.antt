@@ -6,8 +6,7 @@ use lib.Dec.{ltb, eqb}
 use lib.ListN.{length, getD, set}
 use Rattle.word.specs.Anchor.{packAnchor}
 use Rattle.word.specs.Link.{packLink}
-use Rattle.model.specs.Tables.{Queue, withMark, idle, withCall, taskAt}
-use Rattle.model.specs.Places.{withAnchor}
+use Rattle.model.specs.Tables.{Queue, withMark, idle, withCall, taskAt, withAnchor, tablesOf}
 use Rattle.model.specs.Refusals.{first}
 use Rattle.join_model.specs.Join.{anchorIn, lanes, joinRules, Joined, joined}
 
@@ -41,14 +40,12 @@ held q before label =
     let t = q .tables in
     let n = suc before in
     record {
-      tables = withAnchor (record {
-        control = t .control;
-        lefts = filled leftOf n (t .lefts);
-        rights = filled rightOf before (t .rights);
-        labels = filled label n (t .labels);
-        marks = markedTo n (t .marks);
-        next = t .next;
-      }) (packAnchor (record { tag = tagAfter (anchorIn q .tag) n; status = 0; left = 1; right = n }));
+      tables = withAnchor (tablesOf (t .control)
+          (filled leftOf n (t .lefts))
+          (filled rightOf before (t .rights))
+          (filled label n (t .labels))
+          (markedTo n (t .marks))
+          (t .next)) (packAnchor (record { tag = tagAfter (anchorIn q .tag) n; status = 0; left = 1; right = n }));
       records = set (q .records) 0 (withCall (taskAt q 0) idle);
     }
 

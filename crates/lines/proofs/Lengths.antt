@@ -1,6 +1,5 @@
 -- No line is longer than `room`, whatever its numbers.
 use Prim.Native.Nat.{ℕ, zero, suc, _+_, _/_, _%_, _≤_}
-use mathlib.Core.Path.{_≡_, refl}
 use mathlib.Core.Bool.{Bool, true, false, cond}
 use mathlib.Core.List.{List, [], _∷_, _++_}
 use native.Mathlib.Omega.{arith}
@@ -16,10 +15,11 @@ use Rattle.model.specs.declared.Opening.{Opening}
 use Rattle.model.specs.declared.Opening.the-variants as opening
 use Rattle.model.specs.declared.Op.{Op}
 use Rattle.model.specs.declared.Op.the-variants as op
+use Rattle.lines.specs.Ascii.{ascii}
 use Rattle.lines.specs.declared.Line.{Line}
 use Rattle.lines.specs.declared.Line.the-variants.{Open, Act, File}
 use Rattle.lines.specs.Line.{decimalIn, decimal, hexFour, hex, numbered, no, callWord, callOf, entryOf, answerOf, moved, outcomeOf}
-use Rattle.lines.specs.Line.{openingOf, told, anchorOf, lineOf, header, room}
+use Rattle.lines.specs.Line.{openingOf, told, anchorText, lineOf, header, room}
 
 -- A list of two parts is at most as long as both may be.
 both-most : (xs ys : List ℕ) (m n : ℕ) → length xs ≤ m → length ys ≤ n → length (xs ++ ys) ≤ m + n
@@ -51,17 +51,17 @@ word-most op.Step = omega arith
 
 call-most : (task : ℕ) (o : Op) → length (callOf task o) ≤ 27
 unfolding callOf
-call-most task o = both-most (numbered (32 ∷ []) task) (callWord o) 21 6 (numbered-most (32 ∷ []) task) (word-most o)
+call-most task o = both-most (numbered (ascii " ") task) (callWord o) 21 6 (numbered-most (ascii " ") task) (word-most o)
 
 entry-most : (e : Entry) → length (entryOf e) ≤ 45
 unfolding entryOf
 entry-most e =
-    both-most (numbered (103 ∷ 111 ∷ 116 ∷ 58 ∷ []) (e .slot)) (numbered (58 ∷ []) (e .label)) 24 21
-    (numbered-most (103 ∷ 111 ∷ 116 ∷ 58 ∷ []) (e .slot)) (numbered-most (58 ∷ []) (e .label))
+    both-most (numbered (ascii "got:") (e .slot)) (numbered (ascii ":") (e .label)) 24 21
+    (numbered-most (ascii "got:") (e .slot)) (numbered-most (ascii ":") (e .label))
 
 answer-most : (a : Answer) → length (answerOf a) ≤ 45
 unfolding answerOf
-answer-most (Running p) = omega (arith, numbered-most (97 ∷ 116 ∷ []) p)
+answer-most (Running p) = omega (arith, numbered-most (ascii "at") p)
 answer-most Pushed = omega arith
 answer-most Empty = omega arith
 answer-most (Popped e) = entry-most e
@@ -89,15 +89,15 @@ told-most (Open o) = omega (arith, opening-most o)
 told-most (Act task o x) = both-most (callOf task o) (outcomeOf o x) 27 45 (call-most task o) (outcome-most o x)
 told-most File = omega (arith, numbered-most no malformed)
 
-anchor-most : (w : ℕ) → length (anchorOf w) ≤ 18
-unfolding anchorOf hex hexFour
+anchor-most : (w : ℕ) → length (anchorText w) ≤ 18
+unfolding anchorText hex hexFour
 anchor-most w = omega arith
 
 pub line-short : (event : ℕ) (l : Line) (anchor : ℕ) → length (lineOf event l anchor) ≤ room
 unfolding lineOf
 line-short event l anchor =
     let front = both-most (decimal event) (told l) 20 72 (decimal-most event) (told-most l) in
-    omega (arith, both-most (decimal event ++ told l) (anchorOf anchor) 92 18 front (anchor-most anchor))
+    omega (arith, both-most (decimal event ++ told l) (anchorText anchor) 92 18 front (anchor-most anchor))
 
 pub header-short : length header ≤ room
 unfolding header

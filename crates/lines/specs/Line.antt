@@ -16,6 +16,7 @@ use Rattle.model.specs.declared.Opening.the-variants as opening
 use Rattle.model.specs.declared.Op.{Op}
 use Rattle.model.specs.declared.Op.the-variants as op
 use Rattle.model.specs.Refusals.{malformed}
+use Rattle.lines.specs.Ascii.{ascii}
 use Rattle.lines.specs.declared.Line.{Line}
 use Rattle.lines.specs.declared.Line.the-variants.{Open, Act, File}
 
@@ -51,41 +52,41 @@ unfoldable pub numbered : List ℕ → ℕ → List ℕ
 numbered word n = word ++ decimal n
 
 abbrev pub ok : List ℕ
-ok = 111 ∷ 107 ∷ []
+ok = ascii "ok"
 
 abbrev pub no : List ℕ
-no = 110 ∷ 111 ∷ []
+no = ascii "no"
 
--- Task as given, and the call: " TASK push ", with a slot or without, " TASK pop ", " TASK step ".
+-- Task as given, and the call. A push has the same word with a slot and without.
 abbrev pub callWord : Op → List ℕ
-callWord (op.Push side slot label) = 32 ∷ 112 ∷ 117 ∷ 115 ∷ 104 ∷ 32 ∷ []
-callWord (op.Pop side) = 32 ∷ 112 ∷ 111 ∷ 112 ∷ 32 ∷ []
-callWord (op.Put side label) = 32 ∷ 112 ∷ 117 ∷ 115 ∷ 104 ∷ 32 ∷ []
-callWord op.Step = 32 ∷ 115 ∷ 116 ∷ 101 ∷ 112 ∷ 32 ∷ []
+callWord (op.Push side slot label) = ascii " push "
+callWord (op.Pop side) = ascii " pop "
+callWord (op.Put side label) = ascii " push "
+callWord op.Step = ascii " step "
 
 unfoldable pub callOf : ℕ → Op → List ℕ
-callOf task op = numbered (32 ∷ []) task ++ callWord op
+callOf task op = numbered (ascii " ") task ++ callWord op
 
--- Popped: "got:SLOT:LABEL".
+-- Popped.
 unfoldable pub entryOf : Entry → List ℕ
-entryOf e = numbered (103 ∷ 111 ∷ 116 ∷ 58 ∷ []) (e .slot) ++ numbered (58 ∷ []) (e .label)
+entryOf e = numbered (ascii "got:") (e .slot) ++ numbered (ascii ":") (e .label)
 
--- Running: "atPLACE"; "pushed"; "empty"; "noslot".
+-- Running at a place, or the answer.
 unfoldable pub answerOf : Answer → List ℕ
-answerOf (Running p) = numbered (97 ∷ 116 ∷ []) p
-answerOf Pushed = 112 ∷ 117 ∷ 115 ∷ 104 ∷ 101 ∷ 100 ∷ []
-answerOf Empty = 101 ∷ 109 ∷ 112 ∷ 116 ∷ 121 ∷ []
+answerOf (Running p) = numbered (ascii "at") p
+answerOf Pushed = ascii "pushed"
+answerOf Empty = ascii "empty"
 answerOf (Popped e) = entryOf e
-answerOf NoSlot = 110 ∷ 111 ∷ 115 ∷ 108 ∷ 111 ∷ 116 ∷ []
+answerOf NoSlot = ascii "noslot"
 
--- A start carried out is "ok".
+-- A start carried out, or a step's answer.
 abbrev pub moved : Op → Answer → List ℕ
 moved (op.Push side slot label) a = ok
 moved (op.Pop side) a = ok
 moved (op.Put side label) a = ok
 moved op.Step a = answerOf a
 
--- A refusal: "no" and its number.
+-- A refusal has its number.
 unfoldable pub outcomeOf : Op → Outcome → List ℕ
 outcomeOf op (Refused n) = numbered no n
 outcomeOf op (Moved a) = moved op a
@@ -94,27 +95,22 @@ unfoldable pub openingOf : Opening → List ℕ
 openingOf (opening.Refused n) = numbered no n
 openingOf opening.Opened = ok
 
--- " TASK CALL ANSWER": the task is - for an opening, " - open ", and for a malformed place, " - file no16".
+-- Task, call and answer. An opening and a malformed place have no task.
 unfoldable pub told : Line → List ℕ
-told (Open o) = (32 ∷ 45 ∷ 32 ∷ 111 ∷ 112 ∷ 101 ∷ 110 ∷ 32 ∷ []) ++ openingOf o
+told (Open o) = ascii " - open " ++ openingOf o
 told (Act task op outcome) = callOf task op ++ outcomeOf op outcome
-told File = (32 ∷ 45 ∷ 32 ∷ 102 ∷ 105 ∷ 108 ∷ 101 ∷ 32 ∷ []) ++ numbered no malformed
+told File = ascii " - file " ++ numbered no malformed
 
--- " ANCHOR" and the line's end.
-unfoldable pub anchorOf : ℕ → List ℕ
-anchorOf w = (32 ∷ []) ++ hex w ++ (10 ∷ [])
+-- Anchor, and the line's end.
+unfoldable pub anchorText : ℕ → List ℕ
+anchorText w = ascii " " ++ hex w ++ ascii "\n"
 
 unfoldable pub lineOf : ℕ → Line → ℕ → List ℕ
-lineOf event line anchor = decimal event ++ told line ++ anchorOf anchor
+lineOf event line anchor = decimal event ++ told line ++ anchorText anchor
 
--- "event task call answer anchor"
+-- The first line.
 unfoldable pub header : List ℕ
-header =
-    (101 ∷ 118 ∷ 101 ∷ 110 ∷ 116 ∷ 32 ∷ [])
-    ++ (116 ∷ 97 ∷ 115 ∷ 107 ∷ 32 ∷ [])
-    ++ (99 ∷ 97 ∷ 108 ∷ 108 ∷ 32 ∷ [])
-    ++ (97 ∷ 110 ∷ 115 ∷ 119 ∷ 101 ∷ 114 ∷ 32 ∷ [])
-    ++ (97 ∷ 110 ∷ 99 ∷ 104 ∷ 111 ∷ 114 ∷ 10 ∷ [])
+header = ascii "event task call answer anchor\n"
 
 -- No line is longer.
 abbrev pub room : ℕ

@@ -2,11 +2,10 @@
 mod number;
 
 ghost use mathlib.Core.Path.{_≡_};
-ghost use mathlib.Core.List.{[], _∷_, _++_};
-ghost use Prim.Native.Nat.{_+_, _*_, _/_, _%_, _^_, _≤_, _<_};
+ghost use Prim.Native.Nat.{_+_, _≤_, _<_};
 ghost use lib.ListN.{length};
 ghost use lib.Dec.{leb};
-ghost use Rattle.lines.specs.Line.{callWord, callOf, entryOf, answerOf, moved, outcomeOf, openingOf, told, anchorOf, lineOf};
+ghost use Rattle.lines.specs.Line.{callWord, callOf, entryOf, answerOf, moved, outcomeOf, openingOf, told, anchorText, lineOf};
 ghost use Rattle.lines.specs.Line.{header, room, Put, fitting};
 ghost use Rattle.lines.specs.declared.Line;
 use model::Answer;
@@ -143,7 +142,7 @@ fn put_told(out: &mut [u8], at: usize, line: Line) -> usize
 // A space, the Anchor and the line's end.
 fn put_anchor(out: &mut [u8], at: usize, w: u64) -> usize
     requires { ⌜ at + 18 ≤ length (now out) ⌝ }
-    ensures { λ r. ⌜ Put (now (out .entry)) (now (out .exit)) at r (anchorOf w) ⌝ }
+    ensures { λ r. ⌜ Put (now (out .entry)) (now (out .exit)) at r (anchorText w) ⌝ }
     ensures { λ r. ⌜ r ≡ at + 18 ⌝ }
 {
     let a = number::put(out, at, b' ');

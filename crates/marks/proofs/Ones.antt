@@ -11,7 +11,7 @@ use lib.ListN.{getD}
 use lib.Pow.{pow-pos, mod-pow-add, field, shr-shr}
 use lib.Count.{ones, ones-cat}
 use Rattle.model.specs.Tables.{bit, marked}
-use Rattle.model.specs.Report.{count}
+use Rattle.model.specs.Lists.{count}
 use Rattle.marks.specs.Masked.{maskedWord}
 
 -- How many of the slots 1 to n are marked.

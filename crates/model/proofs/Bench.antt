@@ -13,49 +13,40 @@ use Rattle.model.specs.declared.Report.{Report}
 use Rattle.model.specs.declared.Reported.the-variants as reported
 use Rattle.model.specs.declared.Reply.{Reply}
 use Rattle.model.specs.declared.Op.the-variants.{Push, Pop, Step}
-use Rattle.model.specs.Tables.{Queue, unused}
+use Rattle.model.specs.Tables.{Queue, queueOf, unopened, unused}
 use Rattle.model.specs.Sound.{anchorSound, linkSound, controlSound, recordSound, rowsFit}
 use Rattle.model.specs.Places.{sideOf, row, linkSide, reading, at1, at2, at3, new4, at4, at5, at6, at7, at9, at10, at11, move}
 use Rattle.model.specs.Route.{pushRoute, popRoute, route, onward, answer, goes, counted}
-use Rattle.model.specs.Refusals.{openRefusal, pushRefusal, popRefusal, stepSound, stepRefusal, reportRefusal}
+use Rattle.model.specs.Refusals.{openRefusal, pushRefusal, popRefusal, stepSound, stepRefusal, reportRefusal, startRefusal}
 use Rattle.model.specs.Calls.{opened, openAs, openQueue, pushStart, popStart, finish, step, actOn, act, openingCode, replyOf}
 use Rattle.model.specs.Walk.{entries, along, contents}
-use Rattle.model.specs.Report.{count, busy, waiting, takenSlots, tell, report, reportCode, listed, retryCounts}
+use Rattle.model.specs.Report.{busy, waiting, takenSlots, tell, report, reportCode, retryCounts}
 use Rattle.model.specs.History.{Request, Event, run, final}
+use Rattle.model.specs.Lists.{count, listed}
 
 -- Tables of zeros for 2 tasks and 3 slots, and the queue opened in them with a first tag.
-abbrev zeros : Queue
-zeros = record {
-  tables = record {
-    control = record { tasks = 0; slots = 0; anchor = 0; pooled = 0; head = 0 };
-    lefts = replicate 4 0;
-    rights = replicate 4 0;
-    labels = replicate 4 0;
-    marks = replicate 1 0;
-    next = [];
-  };
-  records = replicate 2 unused;
-}
+abbrev pub zeros : Queue
+zeros = queueOf unopened (replicate 2 unused) (replicate 4 0) (replicate 4 0) (replicate 4 0) (replicate 1 0) []
 
-abbrev fresh : ℕ → Queue
+abbrev pub fresh : ℕ → Queue
 fresh tag = openQueue zeros 2 3 tag .queue
 
-abbrev push : ℕ → ℕ → ℕ → ℕ → Request
+abbrev pub push : ℕ → ℕ → ℕ → ℕ → Request
 push t side slot label = record { task = t; op = Push side slot label }
 
-abbrev pop : ℕ → ℕ → Request
+abbrev pub pop : ℕ → ℕ → Request
 pop t side = record { task = t; op = Pop side }
 
-abbrev steps : List ℕ → List Request
+abbrev pub steps : List ℕ → List Request
 steps l = map (λ t. record { task = t; op = Step }) l
 
-abbrev outcomes : Queue → List Request → List Outcome
+abbrev pub outcomes : Queue → List Request → List Outcome
 outcomes q os = map (λ (e : Event). e .outcome) (run q os)
 
-abbrev at : ℕ → Outcome
+abbrev pub at : ℕ → Outcome
 at p = Moved (Running p)
 
-abbrev got : ℕ → ℕ → Outcome
+abbrev pub got : ℕ → ℕ → Outcome
 got slot label = Moved (Popped (record { slot = slot; label = label }))
 
 -- Slot 1 pushed right alone by task 0, then slot 2.
@@ -65,7 +56,7 @@ pushFirst = push 0 1 1 700 ∷ steps (replicate 2 0)
 abbrev pushSecond : List Request
 pushSecond = push 0 1 2 800 ∷ steps (replicate 9 0)
 
-abbrev one : Queue
+abbrev pub one : Queue
 one = final (fresh 0) pushFirst
 
 abbrev two : Queue
@@ -76,7 +67,7 @@ abbrev worn : Queue
 worn = final (fresh 4294967262) (push 0 1 1 700 ∷ pop 1 1 ∷ steps (replicate 2 0))
 
 -- Of two labels task 1 has taken the left one and is at 11; task 0, with a third, is at 4, before its effect.
-abbrev halfway : Queue
+abbrev pub halfway : Queue
 halfway = final two (pop 1 0 ∷ steps (replicate 3 1) ++ push 0 1 3 900 ∷ steps (replicate 2 0))
 
 -- After the race of two pops below.
@@ -136,7 +127,9 @@ pub record Table : Type 0 where
   pub ceiling-kept : counted 4294967295 true ≡ 4294967295
 
 pub bench : Table
-unfolding openAs opened openRefusal run final act actOn pushStart popStart step finish pushRefusal popRefusal stepRefusal stepSound move at1 at2 at3 new4 at4 at5 at6 at7 at9 at10 at11 reading sideOf row linkSide anchorSound linkSound controlSound recordSound rowsFit pushRoute popRoute route onward answer goes counted along contents report tell reportRefusal busy count waiting takenSlots retryCounts listed
+unfolding openAs opened openRefusal run final act actOn pushStart popStart step finish startRefusal stepRefusal stepSound move at1 at2 at3 new4 at4
+    at5 at6 at7 at9 at10 at11 reading sideOf row linkSide anchorSound linkSound controlSound recordSound rowsFit pushRoute popRoute route onward
+    answer goes counted along contents report tell reportRefusal busy count waiting takenSlots retryCounts listed
 bench = record {
   packs-stable = refl;
   packs-pushing = refl;

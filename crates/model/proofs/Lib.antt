@@ -1,5 +1,5 @@
--- Three theorems over the meanings: Linearizable (demand 3) and Never34 (34 never occurs), for named and pooled queues alike, and NoSlot
--- (a pooled push is answered *no slot* only where every slot is in use).
+-- The theorems over the meanings: Linearizable (demand 3) first, then Never34 (34 never occurs), Standing (reports), Retries (#101's sum),
+-- NoSlot (a pooled push is answered *no slot* only where every slot is in use), StepBounds (#108), MarksRight and LinksBack.
 -- A step of the tables is a step of a decoded machine (bridge), which keeps an invariant (invariant, chain, places);
 -- a book of the sequential deque follows the machine and matches the ledger (ledger); bounds on tags and fields keep every table sound (tags, unsound).
 pub mod tests
@@ -25,3 +25,4 @@ pub mod LinksBack
 -- Laws of single calls, and the worked cases of the document.
 pub mod laws
 pub mod Bench
+pub mod Cases

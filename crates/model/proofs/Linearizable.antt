@@ -9,7 +9,7 @@ use Rattle.model.specs.Refusals.{openRefusal}
 use Rattle.model.specs.Walk.{entries}
 use Rattle.model.specs.Tables.{Queue}
 use Rattle.model.proofs.bridge.View.{stateOf}
-use Rattle.model.proofs.ledger.Kept.{run-good}
+use Rattle.model.proofs.ledger.EveryOperation.{run-good}
 use Rattle.model.proofs.ledger.Lawful.{all-lawful}
 use Rattle.model.proofs.ledger.Opened.{nobody, open-good, some-slots}
 use Rattle.model.proofs.ledger.Waiting.{waits}

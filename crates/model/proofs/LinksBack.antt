@@ -22,7 +22,7 @@ use Rattle.model.proofs.chain.Joints.{joined-at}
 use Rattle.model.proofs.bridge.View.{stateOf, statusOf, view}
 use Rattle.model.proofs.ledger.Matched.{Matched}
 use Rattle.model.proofs.ledger.Waiting.{waits}
-use Rattle.model.proofs.ledger.Kept.{run-good}
+use Rattle.model.proofs.ledger.EveryOperation.{run-good}
 use Rattle.model.proofs.ledger.Opened.{nobody, open-good, some-slots}
 use Rattle.model.proofs.Openings.{after-opening}
 

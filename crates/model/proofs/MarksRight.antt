@@ -1,4 +1,4 @@
--- The marks of a named queue are those of the slots in use. (Line 21.)
+-- A slot is marked exactly while it waits in the queue, or a record holds it that is not giving it back. (Line 21.)
 use mathlib.Core.Bool.{Bool, cond, false, not, true}
 use mathlib.Core.List.{List, [], _∷_}
 use mathlib.Core.Logic.{_≢_, _⊎_, inl, inr}
@@ -8,28 +8,38 @@ use native.Mathlib.Omega.{arith}
 use lib.Dec.{eqb, leb}
 use borrow.Author.Tests.{eqb-true, not-true}
 use Rattle.model.specs.Calls.{opened}
-use Rattle.model.specs.History.{All, InUse, MarksRight, MarksTrue, Waits, final, here, holds, holdsSlot, later, waits}
-use Rattle.model.specs.Tables.{atPlace, Queue, Tables, marked, recordAt}
+use Rattle.model.specs.History.{Had, InUse, Ledger, MarksNamed, MarksRight, MarksTrue, Waits, final, here, holds, holdsSlot}
+use Rattle.model.specs.History.{later, marksSlot, waits}
+use Rattle.model.specs.Tables.{atPlace, Queue, Tables, isPooled, marked, recordAt}
 use Rattle.model.specs.Walk.{entries}
 use Rattle.model.specs.declared.Entry.{Entry}
 use Rattle.model.specs.declared.Record.{Record}
 use Rattle.model.proofs.tests.ByPlace.{by-place}
 use Rattle.model.proofs.tests.Rules.{tests}
-use Rattle.model.proofs.tests.Truth.{decide-eq, not-both}
+use Rattle.model.proofs.tests.Truth.{and-of, and-true, decide-eq, not-both}
 use Rattle.model.proofs.lists.In.{In}
 use Rattle.model.proofs.lists.Slots.{slots}
 use Rattle.model.proofs.machine.Book.{Call}
 use Rattle.model.proofs.machine.Machine as M
-use Rattle.model.proofs.invariant.Owners.{Marks, Owner, Spare, free, held, queued}
+use Rattle.model.proofs.invariant.Owners.{Owner, held, queued, shows}
 use Rattle.model.proofs.invariant.Tasks.{Own, Stage, Task}
 use Rattle.model.proofs.places.NoSlot.{Holds, Pushes, used}
-use Rattle.model.proofs.places.Owned.{held-free, push-pop, queued-free}
+use Rattle.model.proofs.places.Marking.{none-giving}
+use Rattle.model.proofs.places.Owned.{push-pop}
 use Rattle.model.proofs.bridge.Operations.{task-of}
 use Rattle.model.proofs.bridge.View.{kindOf, placeOf, recOf, stateOf, view}
+use Rattle.model.proofs.ledger.EveryOperation.{run-good}
+use Rattle.model.proofs.ledger.Matched.{Matched}
+use Rattle.model.proofs.ledger.Opened.{nobody, open-good, some-slots}
 use Rattle.model.proofs.ledger.Waiting as waiting
-use Rattle.model.proofs.progress.Reached.{Reached, final-reached, open-reached}
+use Rattle.model.proofs.unsound.Runs.{run-safe}
+use Rattle.model.proofs.unsound.Safe.{Safe}
+use Rattle.model.proofs.progress.Reached.{final-reached, open-reached}
+use Rattle.model.proofs.Never34.{open-safe}
 use Rattle.model.proofs.NoSlot.{tip-near, used-is}
 use Rattle.model.proofs.Openings.{after-opening}
+use Rattle.model.specs.Lists.{All}
+use Rattle.model.specs.Kinds.{giving}
 
 -- What waits is in the sequential deque.
 waits-in : (l : List Entry) (x : ℕ) → Waits x (entries l) → In x (slots l)
@@ -103,44 +113,100 @@ module _ (r : Record) (x : ℕ) where
   unfolding holdsSlot
   busy z w = not-both (subst (λ p. holdsSlot (atPlace r p) x ≡ true) z w) refl
 
-module _ (tasks : ℕ) (q : Queue) (z : Reached tasks q) where
+-- The places 15 to 17.
+giving-is : (p : ℕ) → p ≤ 17 → M.isGiving (placeOf p) ≡ leb 15 p
+giving-is p l = go (decide-eq p 0)
+  where
+    go : (p ≡ 0) ⊎ (p ≢ 0) → M.isGiving (placeOf p) ≡ leb 15 p
+    go (inl z) = subst (λ p. M.isGiving (placeOf p) ≡ leb 15 p) (sym z) refl
+    go (inr z) = by-place (λ p. M.isGiving (placeOf p)
+        ≡ leb 15 p) refl refl refl refl refl refl refl refl refl refl refl refl refl refl refl refl refl p z l
+
+module _ (n : ℕ) (q : Queue) (l : Ledger) (g : Matched n q l) (f : Safe q) where
   abbrev G : Tables
   G = q .tables
 
   abbrev h : ℕ → Owner
-  h = z .matched .inv .owner
+  h = g .inv .owner
 
-  marks : Marks (G .control .slots) (λ x. marked (G .marks) x) h
-  unfolding view stateOf
-  marks = subst (λ b. Spare b (view G .slots) (view G .mark) (view G .next) (view G .head .slot) h) (z .roomy .named) (z .matched .inv .whole .spare)
+  low : (t : ℕ) → t < G .control .tasks → recordAt q t .place ≤ 17
+  low t lt = go (decide-eq (recordAt q t .place) 0)
+    where
+      go : (recordAt q t .place ≡ 0) ⊎ (recordAt q t .place ≢ 0) → recordAt q t .place ≤ 17
+      go (inl k) = omega arith
+      go (inr k) = f .fine t lt k .place
 
-  -- A marked slot is in use.
-  marked-used : (x : ℕ) → x ≤ G .control .slots → marked (G .marks) x ≡ true → InUse q x
-  marked-used x l m = used-is (z .position) q (z .ledger) (z .matched) x
-      (used (record { state = stateOf q; book = z .matched .book }) (z .matched .inv) x (marks .owed x l m))
+  task : (t : ℕ) → t < G .control .tasks → (let r = recOf (recordAt q t) in Task (r .place) (view G) h t r (g .book .calls t))
+  unfolding stateOf recOf
+  task t lt = subst (λ (r : M.Rec). Task (r .place) (view G) h t r (g .book .calls t)) (task-of q t lt) (g .inv .tasks t)
+
+  gives : (t : ℕ) → t < G .control .tasks → M.isGiving (stateOf q .task t .place) ≡ giving (recordAt q t)
+  unfolding recOf
+  gives t lt = ap (λ (r : M.Rec). M.isGiving (r .place)) (task-of q t lt) ∙ giving-is (recordAt q t .place) (low t lt)
 
   holder : (t : ℕ) → t < G .control .tasks → (x : ℕ) → holdsSlot (recordAt q t) x ≡ true → h x ≡ held t
-  unfolding stateOf recOf
+  unfolding recOf
   holder t lt x e = go (decide-eq (recordAt q t .place) 0)
     where
-      task : (let r = recOf (recordAt q t) in Task (r .place) (view G) h t r (z .matched .book .calls t))
-      task = subst (λ (r : M.Rec). Task (r .place) (view G) h t r (z .matched .book .calls t)) (task-of q t lt) (z .matched .inv .tasks t)
-
       go : (recordAt q t .place ≡ 0) ⊎ (recordAt q t .place ≢ 0) → h x ≡ held t
       go (inl k) = absurd (busy (recordAt q t) x k e)
-      go (inr k) = has (view G) h t (recOf (recordAt q t)) _ x (placeOf (recordAt q t .place)) task
-          (at-places (recordAt q t) x (recordAt q t .place) k (z .safe .fine t lt k .place) e)
+      go (inr k) = has (view G) h t (recOf (recordAt q t)) _ x (placeOf (recordAt q t .place)) (task t lt)
+          (at-places (recordAt q t) x (recordAt q t .place) k (low t lt) e)
 
-  -- A slot in use is marked.
-  used-marked : (x : ℕ) → InUse q x → marked (G .marks) x ≡ true
-  unfolding view stateOf
-  used-marked x (waits w) =
-      let m = z .matched in
-      let i = waits-in (m .book .queue) x (subst (Waits x) (waiting.waits G (m .links) h (m .book .queue) (m .inv .whole)) w) in
-      marks .set x (λ e. queued-free (sym (all-in (λ y. h y ≡ queued) (slots (m .book .queue)) x (m .inv .whole .owned) i) ∙ e))
-  used-marked x (holds t lt e) = marks .set x (λ f. held-free (sym (holder t lt x e) ∙ f))
+  shown : (x : ℕ) → x ≤ G .control .slots → marked (G .marks) x ≡ shows (stateOf q .task) (h x)
+  unfolding stateOf view
+  shown = g .inv .marks
+
+  -- The mark of a slot that a record holds.
+  held-shown : (x : ℕ) → x ≤ G .control .slots → (t : ℕ) → t < G .control .tasks → holdsSlot (recordAt q t) x ≡ true
+      → marked (G .marks) x ≡ not (giving (recordAt q t))
+  held-shown x le t lt e = shown x le ∙ ap (shows (stateOf q .task)) (holder t lt x e) ∙ ap not (gives t lt)
+
+  marked-had : (x : ℕ) → x ≤ G .control .slots → marked (G .marks) x ≡ true → Had marksSlot q x
+  unfolding marksSlot
+  marked-had x le m = go (used-is n q l g x (used (record { state = stateOf q; book = g .book }) (g .inv) x
+      (λ e. not-both m (shown x le ∙ ap (shows (stateOf q .task)) e))))
+    where
+      go : InUse q x → Had marksSlot q x
+      go (waits w) = waits w
+      go (holds t lt e) = holds t lt (and-of e (sym (held-shown x le t lt e) ∙ m))
+
+  had-marked : (x : ℕ) → x ≤ G .control .slots → Had marksSlot q x → marked (G .marks) x ≡ true
+  unfolding marksSlot stateOf
+  had-marked x le (waits w) =
+      let i = waits-in (g .book .queue) x (subst (Waits x) (waiting.waits G (g .links) h (g .book .queue) (g .inv .whole)) w) in
+      shown x le ∙ ap (shows (stateOf q .task)) (all-in (λ y. h y ≡ queued) (slots (g .book .queue)) x (g .inv .whole .owned) i)
+  had-marked x le (holds t lt e) = let z = and-true _ _ e in held-shown x le t lt (z .0) ∙ z .1
+
+  -- In a named queue every slot in use is marked.
+  module _ (named : isPooled (G .control) ≡ false) where
+    none : (t : ℕ) → t < G .control .tasks → giving (recordAt q t) ≡ false
+    unfolding view stateOf
+    none t lt = sym (gives t lt) ∙ none-giving (view G) h t (stateOf q .task t) (g .book .calls t) named (stateOf q .task t .place) (g .inv .tasks t)
+
+    used-had : (x : ℕ) → InUse q x → Had marksSlot q x
+    unfolding marksSlot
+    used-had x (waits w) = waits w
+    used-had x (holds t lt e) = holds t lt (and-of e (ap not (none t lt)))
+
+had-used : (q : Queue) (x : ℕ) → Had marksSlot q x → InUse q x
+unfolding marksSlot
+had-used q x (waits w) = waits w
+had-used q x (holds t lt e) = holds t lt (and-true _ _ e .0)
 
 pub marks-right : MarksRight
-marks-right = after-opening false MarksTrue (λ q tasks slots tag e os x some low.
-    let z = final-reached os tasks (opened false q tasks slots tag) (open-reached q tasks slots tag e) in
-    (marked-used tasks _ z x low, used-marked tasks _ z x))
+marks-right pooled = after-opening pooled (MarksTrue marksSlot) (λ q tasks slots tag e os x some le.
+    let o = opened pooled q tasks slots tag in
+    let new = open-good pooled q tasks slots tag (some-slots pooled q tasks slots e) in
+    let g = run-good os 1 o nobody new in
+    let f = run-safe os 1 o nobody new (open-safe pooled q tasks slots tag e) .1 in
+    (marked-had (g .0) (final o os) _ (g .1) f x le, had-marked (g .0) (final o os) _ (g .1) f x le))
+
+pub marks-named : MarksNamed
+marks-named = after-opening false (MarksTrue holdsSlot) (λ q tasks slots tag e os x some le.
+    let o = opened false q tasks slots tag in
+    let z = final-reached os tasks o (open-reached q tasks slots tag e) in (
+      λ m. had-used (final o os) x (marked-had (z .position) (final o os) (z .ledger) (z .matched) (z .safe) x le m),
+      λ w. had-marked (z .position) (final o os) (z .ledger) (z .matched) (z .safe) x le
+          (used-had (z .position) (final o os) (z .ledger) (z .matched) (z .safe) (z .roomy .named) x w),
+    ))

@@ -35,7 +35,7 @@ use Rattle.model.proofs.bridge.Accepted.{Stepping, step-accepted}
 use Rattle.model.proofs.bridge.EveryPlace.{step-seen}
 use Rattle.model.proofs.bridge.Operations.{reply, task-of}
 use Rattle.model.proofs.bridge.View.{anchorSeen, answerSeen, kindOf, placeList, placeOf, recOf, stateOf, view}
-use Rattle.model.proofs.ledger.Kept.{run-good}
+use Rattle.model.proofs.ledger.EveryOperation.{run-good}
 use Rattle.model.proofs.ledger.Matched.{Matched}
 use Rattle.model.proofs.ledger.Opened.{nobody, open-good, some-slots}
 use Rattle.model.proofs.ledger.Waiting as waiting

@@ -1,6 +1,7 @@
 -- Laws of single calls, for all tables and all arguments.
-pub mod Tests
+pub mod SoundRecord
 pub mod Refusals
+pub mod Order
 pub mod Lengths
 pub mod Sizes
 pub mod LentRecord

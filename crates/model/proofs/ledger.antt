@@ -3,7 +3,7 @@ pub mod Matches
 pub mod Served
 pub mod Attended
 pub mod Matched
-pub mod Kept
+pub mod EveryOperation
 pub mod Lawful
 pub mod Waiting
 pub mod Opened

@@ -1,5 +1,6 @@
 -- One step, place by place: the task's own next fact, and that the others' facts survive.
 pub mod Effects
+pub mod Marking
 pub mod Shown
 pub mod Owned
 pub mod Others

@@ -4,7 +4,6 @@ use mathlib.Core.List.{List, _∷_, _++_}
 use Prim.Native.Nat.{ℕ, _+_, _/_}
 use lib.Dec.{eqb}
 use lib.ListN.{getD, set, drop}
-use Rattle.word.specs.Anchor.{packAnchor, emptyAnchor}
 use Rattle.model.specs.declared.Record.{Record}
 use Rattle.model.specs.declared.TaskRecord.{TaskRecord}
 use Rattle.model.specs.declared.Entry.{Entry}
@@ -16,27 +15,26 @@ use Rattle.model.specs.declared.Opening.the-variants as opening
 use Rattle.model.specs.declared.Op.{Op}
 use Rattle.model.specs.declared.Op.the-variants.{Push, Pop, Put, Step}
 use Rattle.model.specs.declared.Reply.{Reply}
-use Rattle.model.specs.Tables.{Tables, Queue, unused, withCall, started, asking, taskAt, zeroed, climb}
-use Rattle.model.specs.Places.{row, linkMet, Move, move, apply}
-pub use Rattle.model.specs.Places.{taken}
+use Rattle.model.specs.Tables.{Tables, Queue, tablesOf, openedControl, unused, counting, withCall, started, asking, taskAt, taken}
+use Rattle.model.specs.Places.{row, wordFound, Move, move, apply}
 use Rattle.model.specs.Route.{route, onward, answer, goes, counted}
 use Rattle.model.specs.Refusals.{openRefusal, Lent, among, alone, pushRefusal, putRefusal, popRefusal, stepRefusal}
+use Rattle.model.specs.Lists.{zeroed, climb}
 
--- Opening: rows 0 to slots, the records, their counts and marks zeroed; Anchor empty and STABLE with the first tag.
--- A pooled opening also stacks all slots: the head is tag 0 and slot 1, each slot's next the one above, the last one's 0.
+-- Opening: rows 0 to slots, the records, their counts and marks zeroed; control as `openedControl` has it.
+-- A pooled opening also stacks all slots: each slot's next is the one above, the last one's 0.
 abbrev pub stacked : ℕ → List ℕ → List ℕ
 stacked slots l = 0 ∷ climb 2 slots ++ drop (slots + 1) l
 
 unfoldable pub opened : Bool → Queue → ℕ → ℕ → ℕ → Queue
 opened pooled q tasks slots tag = record {
-  tables = record {
-    control = record { tasks = tasks; slots = slots; anchor = packAnchor (emptyAnchor tag); pooled = cond pooled 1 0; head = cond pooled 1 0 };
-    lefts = zeroed (slots + 1) 0 (q .tables .lefts);
-    rights = zeroed (slots + 1) 0 (q .tables .rights);
-    labels = zeroed (slots + 1) 0 (q .tables .labels);
-    marks = zeroed (slots / 64 + 1) 0 (q .tables .marks);
-    next = cond pooled (stacked slots (q .tables .next)) (q .tables .next);
-  };
+  tables =
+      tablesOf (openedControl pooled tasks slots tag)
+      (zeroed (slots + 1) 0 (q .tables .lefts))
+      (zeroed (slots + 1) 0 (q .tables .rights))
+      (zeroed (slots + 1) 0 (q .tables .labels))
+      (zeroed (slots / 64 + 1) 0 (q .tables .marks))
+      (cond pooled (stacked slots (q .tables .next)) (q .tables .next));
   records = zeroed tasks unused (q .records);
 }
 
@@ -92,15 +90,15 @@ entryOf q r = record { slot = row r; label = cond (eqb (r .place) 17) (r .label)
 -- A place's move made: its touch, the call gone on, a failed change counted, the answer.
 unfoldable pub finish : Tables → TaskRecord → Move → Acted
 finish q r m =
-    let n = onward (route (r .call .place) (r .call .kind) (m .outcome)) (m .task .finishing) in
+    let n = onward (route (r .call .place) (r .call .kind) (m .branch)) (m .task .finishing) in
     record {
       tables = apply (m .touch) q;
-      task = record { call = goes (m .task) n; retries = counted (r .retries) (m .failed) };
+      task = counting (goes (m .task) n) (counted (r .retries) (m .failed));
       outcome = Moved (answer n (entryOf q (r .call)));
     }
 
 unfoldable pub step : Tables → Lent → TaskRecord → Acted
-step q p r = decide (stepRefusal q p (r .call)) q r (finish q r (move (q .control) (r .call) (linkMet q (r .call))))
+step q p r = decide (stepRefusal q p (r .call)) q r (finish q r (move (q .control) (r .call) (wordFound q (r .call))))
 
 -- A start or step of one record.
 unfoldable pub actOn : Tables → Lent → TaskRecord → Op → Acted

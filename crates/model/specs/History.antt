@@ -13,9 +13,8 @@ use Rattle.model.specs.declared.Outcome.{Outcome}
 use Rattle.model.specs.declared.Outcome.the-variants.{Refused, Moved}
 use Rattle.model.specs.declared.Op.{Op}
 use Rattle.model.specs.declared.Op.the-variants.{Push, Pop, Put, Step}
-use Rattle.model.specs.Tables.{Queue, marked, near, recordAt}
+use Rattle.model.specs.Tables.{Queue, marked, recordAt}
 use Rattle.model.specs.declared.Record.{Record}
-use Rattle.model.specs.Sound.{every, isPush, giving}
 use Rattle.model.specs.declared.Opening.the-variants.{Opened}
 use Rattle.model.specs.declared.Report.{Report}
 use Rattle.model.specs.declared.Reported.the-variants as reported
@@ -23,6 +22,9 @@ use Rattle.model.specs.Calls.{openAs, act}
 use Rattle.model.specs.Walk.{Walk, entries, contents}
 use Rattle.model.specs.Report.{report}
 use Rattle.model.specs.Deque.{serveFor}
+use Rattle.model.specs.Sides.{near}
+use Rattle.model.specs.Lists.{every, All}
+use Rattle.model.specs.Kinds.{isPush, giving}
 
 -- An operation of a task: an element of the list, with any numbers.
 pub record Request : Type 0 where
@@ -166,10 +168,6 @@ abbrev pub Lawful : Call → Ending → Type 0
 Lawful c pending = AtMostOnce c (c .effects)
 Lawful c (answered n a) = Once c n a
 
-abbrev pub All : {A : Type 0} → (A → Type 0) → List A → Type 0
-All P [] = Unit {0}
-All P (x ∷ l) = P x × All P l
-
 -- Every call is lawful, and the labels waiting are the sequential deque's queue.
 pub record Linearized (q : Queue) (os : List Request) : Type 0 where
   pub calls : All (λ (c : Call). Lawful c (c .ending)) (ledger (run q os) .calls)
@@ -214,10 +212,14 @@ pub data Waits (x : ℕ) : Walk → Type 0 where
   here : (e : Entry) (l : List Entry) → x ≡ e .slot → Waits x (entries (e ∷ l))
   later : (e : Entry) (l : List Entry) → Waits x (entries l) → Waits x (entries (e ∷ l))
 
--- Slot x is in use: it waits in the queue, or a task holds it.
-pub data InUse (q : Queue) (x : ℕ) : Type 0 where
-  waits : Waits x (contents (q .tables)) → InUse q x
-  holds : (t : ℕ) → t < q .tables .control .tasks → holdsSlot (recordAt q t) x ≡ true → InUse q x
+-- Slot x waits in the queue, or a record has it, as `has` tells.
+pub data Had (has : Record → ℕ → Bool) (q : Queue) (x : ℕ) : Type 0 where
+  waits : Waits x (contents (q .tables)) → Had has q x
+  holds : (t : ℕ) → t < q .tables .control .tasks → has (recordAt q t) x ≡ true → Had has q x
+
+-- Slot x is in use.
+abbrev pub InUse : Queue → ℕ → Type 0
+InUse q x = Had holdsSlot q x
 
 -- *No slot* is true: if a step after the list answers so, every slot was in use. (Request #104. Without it a program that loses slots passes.)
 abbrev pub NoSlotTrue : Queue → List Request → Type 0
@@ -227,13 +229,20 @@ NoSlotTrue q os = (t : ℕ) → act (final q os) t Step .outcome ≡ Moved NoSlo
 abbrev pub NoSlotRight : Type 0
 NoSlotRight = AfterOpeningAs true NoSlotTrue
 
--- In a named queue a mark says that its slot is in use, and says so of every slot that waits. (Without it a program whose pops leave their slots
--- marked, so that they are taken for ever, passes.)
-abbrev pub MarksTrue : Queue → List Request → Type 0
-MarksTrue q os =
+-- A record has slot x marked: it holds it, and is no pop at 15 to 17, which has cleared the mark at 11. (Request #104.)
+unfoldable pub marksSlot : Record → ℕ → Bool
+marksSlot r x = holdsSlot r x && not (giving r)
+
+-- A slot's mark is set exactly while it waits, or a record has it. (Without it a program whose pops leave their slots marked passes.)
+abbrev pub MarksTrue : (Record → ℕ → Bool) → Queue → List Request → Type 0
+MarksTrue has q os =
     let now = final q os .tables in
     (x : ℕ) → 1 ≤ x → x ≤ now .control .slots
-    → (marked (now .marks) x ≡ true → InUse (final q os) x) × (InUse (final q os) x → marked (now .marks) x ≡ true)
+    → (marked (now .marks) x ≡ true → Had has (final q os) x) × (Had has (final q os) x → marked (now .marks) x ≡ true)
 
 abbrev pub MarksRight : Type 0
-MarksRight = AfterOpeningAs false MarksTrue
+MarksRight = AfterOpening (MarksTrue marksSlot)
+
+-- In a named queue, where no pop is at 15 to 17, every slot in use is marked.
+abbrev pub MarksNamed : Type 0
+MarksNamed = AfterOpeningAs false (MarksTrue holdsSlot)

@@ -9,7 +9,8 @@ use Rattle.model.specs.declared.Outcome.the-variants.{Refused}
 use Rattle.model.specs.declared.Op.the-variants.{Step}
 use Rattle.model.specs.Tables.{Tables, Queue, taskAt}
 use Rattle.model.specs.Calls.{Done, back, act, stepLent}
-use Rattle.model.specs.History.{All, Request, Event, run, final}
+use Rattle.model.specs.History.{Request, Event, run, final}
+use Rattle.model.specs.Lists.{All}
 
 -- An operation of the list; or a task's record is lent, moved on by one step, and put back as the task's row.
 pub data Turn : Type 0 where

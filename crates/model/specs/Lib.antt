@@ -1,4 +1,7 @@
+pub mod Lists
 pub mod Tables
+pub mod Sides
+pub mod Kinds
 pub mod Sound
 pub mod Places
 pub mod Route

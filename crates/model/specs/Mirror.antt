@@ -10,7 +10,7 @@ use Rattle.model.specs.declared.Record.{Record}
 use Rattle.model.specs.declared.TaskRecord.{TaskRecord}
 use Rattle.model.specs.declared.Op.{Op}
 use Rattle.model.specs.declared.Op.the-variants.{Push, Pop, Put, Step}
-use Rattle.model.specs.Tables.{Tables, Queue, withCall}
+use Rattle.model.specs.Tables.{Tables, Queue, tablesOf, withWords, withSeen, ofKind, withCall}
 use Rattle.model.specs.Calls.{OpenDone, Acted, Done}
 
 -- Sides 0 and 1 exchanged, RPUSH and LPUSH exchanged; any other number is kept.
@@ -27,24 +27,14 @@ unfoldable pub mirrorWord : ℕ → ℕ
 mirrorWord w = anchorWord (mirrorAnchor (anchorOf w))
 
 abbrev pub mirrorControl : Control → Control
-mirrorControl c = record { tasks = c .tasks; slots = c .slots; anchor = mirrorWord (c .anchor); pooled = c .pooled; head = c .head }
+mirrorControl c = withWords c (mirrorWord (c .anchor)) (c .head)
 
 abbrev pub mirrorTables : Tables → Tables
-mirrorTables q = record { control = mirrorControl (q .control); lefts = q .rights; rights = q .lefts; labels = q .labels; marks = q .marks; next = q .next }
+mirrorTables q = tablesOf (mirrorControl (q .control)) (q .rights) (q .lefts) (q .labels) (q .marks) (q .next)
 
 -- A record's side and its Anchor as read. An idle record has no side.
 abbrev pub mirrorBusy : Record → Record
-mirrorBusy r = record {
-  place = r .place;
-  kind = r .kind;
-  side = mirrorSide (r .side);
-  own = r .own;
-  label = r .label;
-  seen = mirrorWord (r .seen);
-  neighbour = r .neighbour;
-  link = r .link;
-  finishing = r .finishing;
-}
+mirrorBusy r = ofKind (withSeen r (mirrorWord (r .seen)) (r .finishing)) (r .kind) (mirrorSide (r .side))
 
 unfoldable pub mirrorRecord : Record → Record
 mirrorRecord r = cond (eqb (r .place) 0) r (mirrorBusy r)

@@ -8,8 +8,10 @@ use Rattle.word.specs.Anchor.{anchorOf, packAnchor}
 use Rattle.word.specs.Link.{linkOf, packLink}
 use Rattle.model.specs.declared.Control.{Control}
 use Rattle.model.specs.declared.Record.{Record}
-use Rattle.model.specs.Tables.{Tables, isPooled, opposite, near, far, facing, links, pushing, named, isEmpty, withMark}
-use Rattle.model.specs.Sound.{isPush, isPop, helping, drawing, giving}
+use Rattle.model.specs.Tables.{Tables, isPooled, withMark}
+use Rattle.model.specs.Tables.{withOwn, withSeen, withNeighbour, withLink, withAnchor, withHead, linked, withMarks, withNext, taken}
+use Rattle.model.specs.Sides.{opposite, near, far, facing, links, pushing, named, isEmpty}
+use Rattle.model.specs.Kinds.{isPush, isPop, helping, drawing, giving}
 
 -- The side: at 1 to 4 and 11 the task's, at 5 to 10 the one that the status as read names.
 unfoldable pub sideOf : Record → ℕ
@@ -34,8 +36,8 @@ unfoldable pub linkSide : Record → ℕ
 linkSide r = cond (eqb (r .place) 3 || eqb (r .place) 5) (opposite (sideOf r)) (sideOf r)
 
 -- What a place finds in that row: the label at 11, the next slot at 13, else the link word.
-abbrev pub linkMet : Tables → Record → ℕ
-linkMet q r =
+abbrev pub wordFound : Tables → Record → ℕ
+wordFound q r =
     cond (eqb (r .place) 11) (getD (q .labels) (row r) 0)
     (cond (eqb (r .place) 13) (getD (q .next) (row r) 0)
     (getD (links q (linkSide r)) (row r) 0))
@@ -50,73 +52,16 @@ pub data Touch : Type 0 where
   setNext : (slot next : ℕ) → Touch
   setHead : (word : ℕ) → Touch
 
--- What a place does: its touch, the record with its new fields, the outcome that the route goes by, whether a change failed.
+-- What a place does: its touch, the call with its new fields, the branch of the route that it takes, whether a change failed.
 pub record Move : Type 0 where
   pub touch : Touch
   pub task : Record
-  pub outcome : ℕ
+  pub branch : ℕ
   pub failed : Bool
-
--- A place keeps the fields it doesn't name.
-abbrev pub withSeen : Record → ℕ → ℕ → Record
-withSeen r a f =
-    record {
-      place = r .place;
-      kind = r .kind;
-      side = r .side;
-      own = r .own;
-      label = r .label;
-      seen = a;
-      neighbour = r .neighbour;
-      link = r .link;
-      finishing = f;
-    }
-
-abbrev pub withNeighbour : Record → ℕ → Record
-withNeighbour r n =
-    record {
-      place = r .place;
-      kind = r .kind;
-      side = r .side;
-      own = r .own;
-      label = r .label;
-      seen = r .seen;
-      neighbour = n;
-      link = r .link;
-      finishing = r .finishing;
-    }
-
-abbrev pub withLink : Record → ℕ → Record
-withLink r w =
-    record {
-      place = r .place;
-      kind = r .kind;
-      side = r .side;
-      own = r .own;
-      label = r .label;
-      seen = r .seen;
-      neighbour = r .neighbour;
-      link = w;
-      finishing = r .finishing;
-    }
-
-abbrev pub withOwn : Record → ℕ → ℕ → Record
-withOwn r x l =
-    record {
-      place = r .place;
-      kind = r .kind;
-      side = r .side;
-      own = x;
-      label = l;
-      seen = r .seen;
-      neighbour = r .neighbour;
-      link = r .link;
-      finishing = r .finishing;
-    }
 
 -- A place that only reads.
 abbrev pub reads : Record → ℕ → Move
-reads r outcome = record { touch = nothing; task = r; outcome = outcome; failed = false }
+reads r branch = record { touch = nothing; task = r; branch = branch; failed = false }
 
 -- A comparison of the word as it is with the word as read: 0 equal, 1 not.
 abbrev pub compares : ℕ → ℕ → Record → Move
@@ -125,8 +70,8 @@ compares now read r = reads r (cond (eqb now read) 0 1)
 -- A change: the word is replaced only if it still equals the word as read. 0 done, with the record r′; 1 failed, with r.
 abbrev pub changes : ℕ → ℕ → Touch → Record → Record → Move
 changes now read touch r′ r =
-    cond (eqb now read) (record { touch = touch; task = r′; outcome = 0; failed = false })
-    (record { touch = nothing; task = r; outcome = 1; failed = true })
+    cond (eqb now read) (record { touch = touch; task = r′; branch = 0; failed = false })
+    (record { touch = nothing; task = r; branch = 1; failed = true })
 
 -- 1: read Anchor. 0 empty, 1 a pop with l = r, 2 STABLE, 3 else.
 unfoldable pub reading : Bool → Anchor → ℕ
@@ -143,8 +88,8 @@ at1 c r = reads (withSeen r (c .anchor) (r .finishing)) (reading (isPop r) (anch
 -- 1 empty, 2 a pop with l = r, 3 STABLE, 4 else. (Document 02: #106.)
 abbrev pub replaces : Control → ℕ → Record → Record → Move
 replaces c word r′ r =
-    cond (eqb (c .anchor) (r .seen)) (record { touch = setAnchor word; task = r′; outcome = 0; failed = false })
-    (record { touch = nothing; task = withSeen r (c .anchor) (r .finishing); outcome = reading (isPop r) (anchorOf (c .anchor)) + 1; failed = true })
+    cond (eqb (c .anchor) (r .seen)) (record { touch = setAnchor word; task = r′; branch = 0; failed = false })
+    (record { touch = nothing; task = withSeen r (c .anchor) (r .finishing); branch = reading (isPop r) (anchorOf (c .anchor)) + 1; failed = true })
 
 -- 2: change Anchor to own, own, s; a pop to null, null, s.
 unfoldable pub at2 : Control → Record → Move
@@ -160,7 +105,7 @@ at3 r w =
     (record {
       touch = setLink (linkSide r) (row r) (packLink (record { tag = linkOf w .tag; slot = endSeen r }));
       task = r;
-      outcome = 0;
+      branch = 0;
       failed = false;
     })
     (reads (withNeighbour r (linkOf w .slot)) 0)
@@ -204,8 +149,8 @@ at10 c r =
 unfoldable pub at11 : Control → Record → ℕ → Move
 at11 c r l =
     cond (isPooled c)
-    (record { touch = clearMark (row r); task = withOwn r (row r) l; outcome = 1; failed = false })
-    (record { touch = clearMark (row r); task = r; outcome = 0; failed = false })
+    (record { touch = clearMark (row r); task = withOwn r (row r) l; branch = 1; failed = false })
+    (record { touch = clearMark (row r); task = r; branch = 0; failed = false })
 
 -- The head as read with its tag raised, which names slot x.
 abbrev pub raised : Record → ℕ → ℕ
@@ -233,7 +178,7 @@ at15 c r = reads (withLink r (c .head)) 0
 
 -- 16: put its slot into the own slot's next.
 unfoldable pub at16 : Record → Move
-at16 r = record { touch = setNext (row r) (linkOf (r .link) .slot); task = r; outcome = 0; failed = false }
+at16 r = record { touch = setNext (row r) (linkOf (r .link) .slot); task = r; branch = 0; failed = false }
 
 -- 17: change the head to the own slot.
 unfoldable pub at17 : Control → Record → Move
@@ -261,63 +206,11 @@ move c r w =
     (at17 c r))))))))))))))))
 
 -- The tables after a touch.
-abbrev pub withAnchor : Tables → ℕ → Tables
-withAnchor q w = record {
-  control = record { tasks = q .control .tasks; slots = q .control .slots; anchor = w; pooled = q .control .pooled; head = q .control .head };
-  lefts = q .lefts;
-  rights = q .rights;
-  labels = q .labels;
-  marks = q .marks;
-  next = q .next;
-}
-
-abbrev pub withHead : Tables → ℕ → Tables
-withHead q w = record {
-  control = record { tasks = q .control .tasks; slots = q .control .slots; anchor = q .control .anchor; pooled = q .control .pooled; head = w };
-  lefts = q .lefts;
-  rights = q .rights;
-  labels = q .labels;
-  marks = q .marks;
-  next = q .next;
-}
-
--- A label stored in a slot's row, and its mark set.
-abbrev pub taken : Tables → ℕ → ℕ → Tables
-taken q slot label = record {
-  control = q .control;
-  lefts = q .lefts;
-  rights = q .rights;
-  labels = set (q .labels) slot label;
-  marks = withMark (q .marks) slot 1;
-  next = q .next;
-}
-
 abbrev pub apply : Touch → Tables → Tables
 apply nothing q = q
 apply (setAnchor w) q = withAnchor q w
-apply (setLink side x w) q = record {
-  control = q .control;
-  lefts = cond (eqb side 1) (q .lefts) (set (q .lefts) x w);
-  rights = cond (eqb side 1) (set (q .rights) x w) (q .rights);
-  labels = q .labels;
-  marks = q .marks;
-  next = q .next;
-}
-apply (clearMark x) q = record {
-  control = q .control;
-  lefts = q .lefts;
-  rights = q .rights;
-  labels = q .labels;
-  marks = withMark (q .marks) x 0;
-  next = q .next;
-}
+apply (setLink side x w) q = linked q side x w
+apply (clearMark x) q = withMarks q (withMark (q .marks) x 0)
 apply (takeSlot w x l) q = taken (withHead q w) x l
-apply (setNext x v) q = record {
-  control = q .control;
-  lefts = q .lefts;
-  rights = q .rights;
-  labels = q .labels;
-  marks = q .marks;
-  next = set (q .next) x v;
-}
+apply (setNext x v) q = withNext q (set (q .next) x v)
 apply (setHead w) q = withHead q w

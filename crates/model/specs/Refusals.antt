@@ -1,6 +1,6 @@
 -- Why a call is refused: the first number that applies. (Document 01: Refused .., and their order.)
-use mathlib.Core.Bool.{Bool, true, _&&_, _||_, not, cond}
-use mathlib.Core.List.{List, [], _∷_}
+use mathlib.Core.Bool.{Bool, true, false, _&&_, _||_, not, cond}
+use mathlib.Core.List.{List, [], _∷_, _++_}
 use Prim.Native.Nat.{ℕ}
 use lib.Dec.{ltb, leb, eqb}
 use lib.ListN.{length}
@@ -8,10 +8,12 @@ use Rattle.word.specs.Anchor.{anchorOf}
 use Rattle.word.specs.Link.{linkOf}
 use Rattle.model.specs.declared.Control.{Control}
 use Rattle.model.specs.declared.Record.{Record}
+use Rattle.model.specs.declared.Asked.{Asked}
 use Rattle.model.specs.Tables.{Tables, Queue, isPooled, marked}
-use Rattle.model.specs.Sound.{every, from1, anchorSound, linkSound, controlSound, recordSound, rowsFit}
+use Rattle.model.specs.Sound.{from1, anchorSound, linkSound, controlSound, recordSound, rowsFit}
 use Rattle.model.specs.Walk.{contents, isBroken}
-use Rattle.model.specs.Places.{row, linkMet, Touch, nothing, setAnchor, setLink, clearMark, takeSlot, setNext, setHead, move}
+use Rattle.model.specs.Places.{row, wordFound, Touch, nothing, setAnchor, setLink, clearMark, takeSlot, setNext, setHead, move}
+use Rattle.model.specs.Lists.{every}
 
 -- A test with its number.
 pub record Rule : Type 0 where
@@ -34,13 +36,13 @@ malformed = 16
 abbrev pub recordsFit : ℕ → Queue → Bool
 recordsFit tasks q = leb tasks (length (q .records))
 
--- When opening, a pooled queue or a named one: 10, 11, 12.
+-- When opening: 10, 11, 12. Fit: every table is long enough.
+abbrev pub openingRules : ℕ → ℕ → Bool → List Rule
+openingRules tasks slots fit = rule 10 (not (from1 16 tasks)) ∷ rule 11 (not (from1 1023 slots)) ∷ rule 12 (not fit) ∷ []
+
+-- A pooled queue, or a named one.
 abbrev pub openRules : Bool → Queue → ℕ → ℕ → List Rule
-openRules pooled q tasks slots =
-    rule 10 (not (from1 16 tasks))
-    ∷ rule 11 (not (from1 1023 slots))
-    ∷ rule 12 (not (rowsFit pooled slots (q .tables) && recordsFit tasks q))
-    ∷ []
+openRules pooled q tasks slots = openingRules tasks slots (rowsFit pooled slots (q .tables) && recordsFit tasks q)
 
 unfoldable pub openRefusal : Bool → Queue → ℕ → ℕ → ℕ
 openRefusal pooled q tasks slots = first (openRules pooled q tasks slots)
@@ -62,55 +64,60 @@ abbrev pub isBusy : Record → Bool
 isBusy r = not (eqb (r .place) 0)
 
 -- 33: the Anchor tag is above 4,294,967,262.
-abbrev pub late : Tables → Bool
-late q = ltb 4294967262 (anchorOf (q .control .anchor) .tag)
+abbrev pub late : Control → Bool
+late c = ltb 4294967262 (anchorOf (c .anchor) .tag)
 
-abbrev pub pushRules : Tables → Lent → Record → ℕ → ℕ → List Rule
-pushRules q p r side slot =
-    rule 34 (not (controlSound (q .control)))
-    ∷ rule 12 (not (rowsFit (isPooled (q .control)) (q .control .slots) q && p .enough))
-    ∷ rule 13 (not (p .known))
-    ∷ rule 14 (not (leb side 1))
-    ∷ rule 41 (isPooled (q .control))
-    ∷ rule 15 (not (from1 (q .control .slots) slot))
-    ∷ rule 34 (not (recordSound (isPooled (q .control)) (q .control .slots) r))
+-- What is looked at first in every call: 34 for control and Anchor, 12. Fit: the tables are long enough.
+abbrev pub tableRules : Control → Bool → List Rule
+tableRules c fit = rule 34 (not (controlSound c)) ∷ rule 12 (not fit) ∷ []
+
+-- Then 13: what is asked before the task's record is looked at.
+abbrev pub admissionRules : Control → Bool → Lent → List Rule
+admissionRules c fit p = tableRules c (fit && p .enough) ++ (rule 13 (not (p .known)) ∷ [])
+
+unfoldable pub admission : Control → Bool → Lent → ℕ
+admission c fit p = first (admissionRules c fit p)
+
+abbrev pub fits : Tables → Bool
+fits q = rowsFit (isPooled (q .control)) (q .control .slots) q
+
+-- Then a start's, in the document's order; 41, 15 and 32 are what a push alone is asked (`Asked`).
+abbrev pub askedRules : Control → Record → ℕ → Asked → List Rule
+askedRules c r side a =
+    rule 14 (not (leb side 1))
+    ∷ rule 41 (a .wrong)
+    ∷ rule 15 (a .outside)
+    ∷ rule 34 (not (recordSound (isPooled c) (c .slots) r))
     ∷ rule 30 (isBusy r)
-    ∷ rule 32 (marked (q .marks) slot)
-    ∷ rule 33 (late q)
+    ∷ rule 32 (a .taken)
+    ∷ rule 33 (late c)
     ∷ []
 
-unfoldable pub pushRefusal : Tables → Lent → Record → ℕ → ℕ → ℕ
-pushRefusal q p r side slot = first (pushRules q p r side slot)
+abbrev pub startRules : Control → Bool → Lent → Record → ℕ → Asked → List Rule
+startRules c fit p r side a = admissionRules c fit p ++ askedRules c r side a
 
--- A push that names no slot has neither 15 nor 32, and does not look at the head.
-abbrev pub putRules : Tables → Lent → Record → ℕ → List Rule
-putRules q p r side =
-    rule 34 (not (controlSound (q .control)))
-    ∷ rule 12 (not (rowsFit (isPooled (q .control)) (q .control .slots) q && p .enough))
-    ∷ rule 13 (not (p .known))
-    ∷ rule 14 (not (leb side 1))
-    ∷ rule 41 (not (isPooled (q .control)))
-    ∷ rule 34 (not (recordSound (isPooled (q .control)) (q .control .slots) r))
-    ∷ rule 30 (isBusy r)
-    ∷ rule 33 (late q)
-    ∷ []
+unfoldable pub startRefusal : Control → Bool → Lent → Record → ℕ → Asked → ℕ
+startRefusal c fit p r side a = first (startRules c fit p r side a)
 
-unfoldable pub putRefusal : Tables → Lent → Record → ℕ → ℕ
-putRefusal q p r side = first (putRules q p r side)
+-- A push that names a slot; one that names none, which has neither 15 nor 32 and does not look at the head; a pop.
+abbrev pub namedPush : Tables → ℕ → Asked
+namedPush q slot =
+    record { wrong = isPooled (q .control); outside = not (from1 (q .control .slots) slot); taken = marked (q .marks) slot }
 
-abbrev pub popRules : Tables → Lent → Record → ℕ → List Rule
-popRules q p r side =
-    rule 34 (not (controlSound (q .control)))
-    ∷ rule 12 (not (rowsFit (isPooled (q .control)) (q .control .slots) q && p .enough))
-    ∷ rule 13 (not (p .known))
-    ∷ rule 14 (not (leb side 1))
-    ∷ rule 34 (not (recordSound (isPooled (q .control)) (q .control .slots) r))
-    ∷ rule 30 (isBusy r)
-    ∷ rule 33 (late q)
-    ∷ []
+abbrev pub pooledPush : Tables → Asked
+pooledPush q = record { wrong = not (isPooled (q .control)); outside = false; taken = false }
 
-unfoldable pub popRefusal : Tables → Lent → Record → ℕ → ℕ
-popRefusal q p r side = first (popRules q p r side)
+abbrev pub nothingAsked : Asked
+nothingAsked = record { wrong = false; outside = false; taken = false }
+
+abbrev pub pushRefusal : Tables → Lent → Record → ℕ → ℕ → ℕ
+pushRefusal q p r side slot = startRefusal (q .control) (fits q) p r side (namedPush q slot)
+
+abbrev pub putRefusal : Tables → Lent → Record → ℕ → ℕ
+putRefusal q p r side = startRefusal (q .control) (fits q) p r side (pooledPush q)
+
+abbrev pub popRefusal : Tables → Lent → Record → ℕ → ℕ
+popRefusal q p r side = startRefusal (q .control) (fits q) p r side nothingAsked
 
 -- 34 for what the step touches. It needs a slot row at 3, 5, 7, 9 and 11, and looks at a link word's soundness at 3, 5 and 7.
 abbrev pub needsRow : Record → Bool
@@ -156,26 +163,24 @@ stepTests c r w =
 unfoldable pub stepSound : Control → Record → ℕ → Bool
 stepSound c r w = every (stepTests c r w)
 
+-- A step's: 34 and 31 for the record, then 34 for what it touches.
+abbrev pub recordRules : Bool → ℕ → Record → List Rule
+recordRules pooled slots r = rule 34 (not (recordSound pooled slots r)) ∷ rule 31 (eqb (r .place) 0) ∷ []
+
+unfoldable pub recordRefusal : Bool → ℕ → Record → ℕ
+recordRefusal pooled slots r = first (recordRules pooled slots r)
+
 abbrev pub stepRules : Tables → Lent → Record → List Rule
 stepRules q p r =
-    rule 34 (not (controlSound (q .control)))
-    ∷ rule 12 (not (rowsFit (isPooled (q .control)) (q .control .slots) q && p .enough))
-    ∷ rule 13 (not (p .known))
-    ∷ rule 34 (not (recordSound (isPooled (q .control)) (q .control .slots) r))
-    ∷ rule 31 (eqb (r .place) 0)
-    ∷ rule 34 (not (stepSound (q .control) r (linkMet q r)))
-    ∷ []
+    admissionRules (q .control) (fits q) p
+    ++ (recordRules (isPooled (q .control)) (q .control .slots) r ++ (rule 34 (not (stepSound (q .control) r (wordFound q r))) ∷ []))
 
 unfoldable pub stepRefusal : Tables → Lent → Record → ℕ
 stepRefusal q p r = first (stepRules q p r)
 
--- The report names no task and no slot; 34 for the walk comes last. Enough: there are as many records as tasks.
+-- The report names no task and no slot; 34 for the walk comes last.
 abbrev pub reportRules : Tables → Bool → List Rule
-reportRules q enough =
-    rule 34 (not (controlSound (q .control)))
-    ∷ rule 12 (not (rowsFit (isPooled (q .control)) (q .control .slots) q && enough))
-    ∷ rule 34 (isBroken (contents q))
-    ∷ []
+reportRules q enough = tableRules (q .control) (fits q && enough) ++ (rule 34 (isBroken (contents q)) ∷ [])
 
 unfoldable pub reportRefusal : Tables → Bool → ℕ
 reportRefusal q enough = first (reportRules q enough)

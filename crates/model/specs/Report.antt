@@ -11,11 +11,7 @@ use Rattle.model.specs.declared.Reported.the-variants as reported
 use Rattle.model.specs.Tables.{Tables, Queue, marked, recordAt, taskAt}
 use Rattle.model.specs.Walk.{contents, met}
 use Rattle.model.specs.Refusals.{recordsFit, reportRefusal}
-
--- How many of the numbers below n pass a test.
-unfoldable pub count : (ℕ → Bool) → ℕ → ℕ
-count p zero = 0
-count p (suc n) = count p n + cond (p n) 1 0
+use Rattle.model.specs.Lists.{count, listed}
 
 -- Busy: the tasks with a place other than 0.
 unfoldable pub busy : Queue → ℕ
@@ -50,11 +46,6 @@ report q = tell (q .tables) (recordsFit (q .tables .control .tasks) q) (busy q)
 abbrev pub reportCode : Reported → ℕ
 reportCode (reported.Told r) = 0
 reportCode (reported.Refused n) = n
-
--- The values of f at the numbers below n, in their order.
-unfoldable pub listed : (ℕ → ℕ) → ℕ → List ℕ
-listed f zero = []
-listed f (suc n) = f 0 ∷ listed (λ t. f (suc t)) n
 
 -- Retries: one count a task, in task order, with places for sixteen tasks: 0 beyond those opened. They stand beside the report.
 unfoldable pub retryCounts : Queue → List ℕ

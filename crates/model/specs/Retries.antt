@@ -7,7 +7,7 @@ use lib.Dec.{eqb}
 use Rattle.model.specs.declared.Op.{Op}
 use Rattle.model.specs.declared.Op.the-variants.{Push, Pop, Put, Step}
 use Rattle.model.specs.Tables.{Queue, taskAt, recordAt}
-use Rattle.model.specs.Places.{linkMet, move}
+use Rattle.model.specs.Places.{wordFound, move}
 use Rattle.model.specs.Route.{counted}
 use Rattle.model.specs.Refusals.{among, stepRefusal}
 use Rattle.model.specs.Calls.{act}
@@ -20,7 +20,7 @@ fails q t (Pop side) = false
 fails q t (Put side label) = false
 fails q t Step =
     let r = recordAt q t in
-    eqb (stepRefusal (q .tables) (among q t) r) 0 && move (q .tables .control) r (linkMet (q .tables) r) .failed
+    eqb (stepRefusal (q .tables) (among q t) r) 0 && move (q .tables .control) r (wordFound (q .tables) r) .failed
 
 -- The single count that control had: one for each of them, up to the ceiling.
 unfoldable pub oldCount : ℕ → Queue → List Request → ℕ

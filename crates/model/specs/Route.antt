@@ -26,7 +26,7 @@ popped = 23
 abbrev pub noSlot : ℕ
 noSlot = 24
 
--- The column next: a line for each place from 0, where no task steps, and an entry for each outcome from 0.
+-- The column next: a line for each place from 0, where no task steps, and an entry for each branch from 0.
 -- A push never reads a single label as such, so that entry is 0, no place.
 unfoldable pub pushRoute : List (List ℕ)
 pushRoute =
@@ -70,7 +70,7 @@ popRoute =
     ∷ []
 
 unfoldable pub route : ℕ → ℕ → ℕ → ℕ
-route place kind outcome = getD (getD (cond (eqb kind 0) pushRoute popRoute) place []) outcome 0
+route place kind branch = getD (getD (cond (eqb kind 0) pushRoute popRoute) place []) branch 0
 
 -- Leave: a finishing push answers pushed in that step; any other task goes to 1.
 unfoldable pub onward : ℕ → ℕ → ℕ

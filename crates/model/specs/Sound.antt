@@ -1,6 +1,6 @@
 -- What is sound, and which tables are long enough: refusals 34 and 12. (Document 01: Refused because of the input, .. of the state.)
 use mathlib.Core.Bool.{Bool, true, _&&_, _||_, not, cond, Bool·beq}
-use mathlib.Core.List.{List, [], _∷_}
+use mathlib.Core.List.{List, [], _∷_, _++_}
 use Prim.Native.Nat.{ℕ, _/_}
 use lib.Dec.{ltb, leb, eqb}
 use lib.ListN.{length}
@@ -10,38 +10,12 @@ use Rattle.word.specs.Link.{linkOf, spareOf}
 use Rattle.model.specs.declared.Control.{Control}
 use Rattle.model.specs.declared.Record.{Record}
 use Rattle.model.specs.Tables.{Tables}
-
--- All tests of a list hold.
-abbrev pub every : List Bool → Bool
-every [] = true
-every (b ∷ []) = b
-every (b ∷ c ∷ l) = b && every (c ∷ l)
+use Rattle.model.specs.Lists.{every}
+use Rattle.model.specs.Kinds.{isPush, isPop, helping, drawing, giving, owning}
 
 -- x is 1 to n.
 abbrev pub from1 : ℕ → ℕ → Bool
 from1 n x = leb 1 x && leb x n
-
--- Kind: 0 push, 1 pop.
-abbrev pub isPush : Record → Bool
-isPush r = eqb (r .kind) 0
-
-abbrev pub isPop : Record → Bool
-isPop r = eqb (r .kind) 1
-
--- At places 5 to 10 a task helps a push to its end.
-abbrev pub helping : Record → Bool
-helping r = leb 5 (r .place) && leb (r .place) 10
-
--- At 12 to 14 a push draws its slot, at 15 to 17 a pop gives it back: in a pooled queue alone.
-abbrev pub drawing : Record → Bool
-drawing r = leb 12 (r .place) && leb (r .place) 14
-
-abbrev pub giving : Record → Bool
-giving r = leb 15 (r .place)
-
--- A push has a slot of its own but at 12 to 14, a pop only at 15 to 17.
-abbrev pub owning : Record → Bool
-owning r = cond (isPush r) (not (drawing r)) (giving r)
 
 -- Anchor: no status 3, no end above slots, not just one end null, not unstable with equal ends.
 abbrev pub anchorTests : ℕ → Anchor → List Bool
@@ -72,9 +46,13 @@ controlTests c =
 unfoldable pub controlSound : Control → Bool
 controlSound c = every (controlTests c)
 
--- Record: idle, or each field within its meaning, in a pooled queue or in a named one.
-abbrev pub recordTests : Bool → ℕ → Record → List Bool
-recordTests pooled slots r =
+-- At 13 and 14 the head as read names a slot.
+abbrev pub headNamed : Record → Bool
+headNamed r = not (eqb (r .place) 13 || eqb (r .place) 14) || not (eqb (linkOf (r .link) .slot) 0)
+
+-- Record: idle, or each field within its meaning, in a pooled queue or in a named one: what the place asks of the call, and what was read.
+abbrev pub callTests : Bool → ℕ → Record → List Bool
+callTests pooled slots r =
     leb (r .place) (cond pooled 17 11)
     ∷ leb (r .kind) 1
     ∷ leb (r .side) 1
@@ -83,12 +61,19 @@ recordTests pooled slots r =
     ∷ (not (drawing r) || isPush r)
     ∷ (eqb (r .finishing) 0 || (isPush r && helping r))
     ∷ cond (owning r) (from1 slots (r .own)) (eqb (r .own) 0)
-    ∷ leb (r .neighbour) slots
+    ∷ headNamed r
+    ∷ []
+
+abbrev pub readTests : ℕ → Record → List Bool
+readTests slots r =
+    leb (r .neighbour) slots
     ∷ linkSound slots (r .link)
-    ∷ (not (eqb (r .place) 13 || eqb (r .place) 14) || not (eqb (linkOf (r .link) .slot) 0))
     ∷ anchorSound slots (anchorOf (r .seen))
     ∷ (not (helping r) || not (eqb (anchorOf (r .seen) .status) 0))
     ∷ []
+
+abbrev pub recordTests : Bool → ℕ → Record → List Bool
+recordTests pooled slots r = callTests pooled slots r ++ readTests slots r
 
 unfoldable pub recordSound : Bool → ℕ → Record → Bool
 recordSound pooled slots r = eqb (r .place) 0 || every (recordTests pooled slots r)

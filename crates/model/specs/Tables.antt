@@ -5,6 +5,7 @@ use Prim.Native.Nat.{ℕ, zero, suc, _+_, _*_, _/_, _%_, _^_}
 use lib.Dec.{eqb}
 use lib.ListN.{getD, set, replicate, drop}
 use Rattle.word.specs.declared.Anchor.{Anchor}
+use Rattle.word.specs.Anchor.{packAnchor, emptyAnchor}
 use Rattle.model.specs.declared.Control.{Control}
 use Rattle.model.specs.declared.Record.{Record}
 use Rattle.model.specs.declared.TaskRecord.{TaskRecord}
@@ -17,10 +18,6 @@ pub record Tables : Type 0 where
   pub labels : List ℕ
   pub marks : List ℕ
   pub next : List ℕ
-
--- Pooled, not named. (Request #104.)
-abbrev pub isPooled : Control → Bool
-isPooled c = eqb (c .pooled) 1
 
 -- The tables with the task records, one for each task.
 pub record Queue : Type 0 where
@@ -36,36 +33,143 @@ abbrev pub queueOf : Control → List TaskRecord → List ℕ → List ℕ → L
 queueOf control records lefts rights labels marks next =
     record { tables = tablesOf control lefts rights labels marks next; records = records }
 
--- Side 0 is left, 1 is right. Left is the mirror of right through the definitions from here to `named`; no place is written twice.
-abbrev pub opposite : ℕ → ℕ
-opposite side = cond (eqb side 1) 0 1
+-- Pooled, not named. (Request #104.)
+abbrev pub isPooled : Control → Bool
+isPooled c = eqb (c .pooled) 1
 
--- The end of Anchor at a side, and its other end.
-abbrev pub near : ℕ → Anchor → ℕ
-near side a = cond (eqb side 1) (a .right) (a .left)
+-- The fields of control, of a call and of the tables are listed in this file alone: elsewhere they are made by the functions from here to
+-- `taken`. Control as an opening leaves it: Anchor empty and STABLE with the first tag; in a pooled queue the head is tag 0, slot 1.
+abbrev pub openedControl : Bool → ℕ → ℕ → ℕ → Control
+openedControl pooled tasks slots tag =
+    record { tasks = tasks; slots = slots; anchor = packAnchor (emptyAnchor tag); pooled = cond pooled 1 0; head = cond pooled 1 0 }
 
-abbrev pub far : ℕ → Anchor → ℕ
-far side a = cond (eqb side 1) (a .left) (a .right)
+-- Control before any opening, all zero.
+abbrev pub unopened : Control
+unopened = record { tasks = 0; slots = 0; anchor = 0; pooled = 0; head = 0 }
 
--- An Anchor made of its end at a side and its other end.
-abbrev pub facing : ℕ → ℕ → ℕ → ℕ → ℕ → Anchor
-facing side tag status n f =
-    record { tag = tag; status = status; left = cond (eqb side 1) f n; right = cond (eqb side 1) n f }
+-- Control with another Anchor and head, the words that tasks change.
+abbrev pub withWords : Control → ℕ → ℕ → Control
+withWords c anchor head = record { tasks = c .tasks; slots = c .slots; anchor = anchor; pooled = c .pooled; head = head }
 
--- The link words that lead to a side: Right for the right.
-abbrev pub links : Tables → ℕ → List ℕ
-links q side = cond (eqb side 1) (q .rights) (q .lefts)
+-- A call at its first place: kind, side, own slot and label, the rest zero.
+abbrev pub newCall : ℕ → ℕ → ℕ → ℕ → ℕ → Record
+newCall place kind side own label =
+    record { place = place; kind = kind; side = side; own = own; label = label; seen = 0; neighbour = 0; link = 0; finishing = 0 }
 
--- Status: 0 STABLE, 1 RPUSH, 2 LPUSH; the status that names a side, and the side that a status names.
-abbrev pub pushing : ℕ → ℕ
-pushing side = cond (eqb side 1) 1 2
+-- No call: all zero.
+abbrev pub idle : Record
+idle = newCall 0 0 0 0 0
 
-abbrev pub named : ℕ → ℕ
-named status = cond (eqb status 1) 1 0
+-- A start writes the whole call: place 1, kind, side, own slot and label; a push start that names no slot place 12, side and label.
+abbrev pub started : ℕ → ℕ → ℕ → ℕ → Record
+started kind side own label = newCall 1 kind side own label
 
--- An Anchor with null ends.
-abbrev pub isEmpty : Anchor → Bool
-isEmpty a = eqb (a .left) 0 && eqb (a .right) 0
+abbrev pub asking : ℕ → ℕ → Record
+asking side label = newCall 12 0 side 0 label
+
+-- A call with another place; kind and side; own slot and label; what it has read: Anchor, with finishing, the neighbour, a link word.
+-- A place keeps the fields it doesn't name.
+abbrev pub atPlace : Record → ℕ → Record
+atPlace r p =
+    record {
+      place = p;
+      kind = r .kind;
+      side = r .side;
+      own = r .own;
+      label = r .label;
+      seen = r .seen;
+      neighbour = r .neighbour;
+      link = r .link;
+      finishing = r .finishing;
+    }
+
+abbrev pub ofKind : Record → ℕ → ℕ → Record
+ofKind r k d =
+    record {
+      place = r .place;
+      kind = k;
+      side = d;
+      own = r .own;
+      label = r .label;
+      seen = r .seen;
+      neighbour = r .neighbour;
+      link = r .link;
+      finishing = r .finishing;
+    }
+
+abbrev pub withOwn : Record → ℕ → ℕ → Record
+withOwn r x l =
+    record {
+      place = r .place;
+      kind = r .kind;
+      side = r .side;
+      own = x;
+      label = l;
+      seen = r .seen;
+      neighbour = r .neighbour;
+      link = r .link;
+      finishing = r .finishing;
+    }
+
+abbrev pub withSeen : Record → ℕ → ℕ → Record
+withSeen r a f =
+    record {
+      place = r .place;
+      kind = r .kind;
+      side = r .side;
+      own = r .own;
+      label = r .label;
+      seen = a;
+      neighbour = r .neighbour;
+      link = r .link;
+      finishing = f;
+    }
+
+abbrev pub withNeighbour : Record → ℕ → Record
+withNeighbour r n =
+    record {
+      place = r .place;
+      kind = r .kind;
+      side = r .side;
+      own = r .own;
+      label = r .label;
+      seen = r .seen;
+      neighbour = n;
+      link = r .link;
+      finishing = r .finishing;
+    }
+
+abbrev pub withLink : Record → ℕ → Record
+withLink r w =
+    record {
+      place = r .place;
+      kind = r .kind;
+      side = r .side;
+      own = r .own;
+      label = r .label;
+      seen = r .seen;
+      neighbour = r .neighbour;
+      link = w;
+      finishing = r .finishing;
+    }
+
+-- A task's record: its call and the count of its failed changes, which is 0 at opening. (Request #101.)
+abbrev pub counting : Record → ℕ → TaskRecord
+counting call retries = record { call = call; retries = retries }
+
+abbrev pub unused : TaskRecord
+unused = counting idle 0
+
+-- A record with another call; a start and an answer keep the count.
+abbrev pub withCall : TaskRecord → Record → TaskRecord
+withCall r c = counting c (r .retries)
+
+-- The record of task t, and its call.
+abbrev pub taskAt : Queue → ℕ → TaskRecord
+taskAt q t = getD (q .records) t unused
+
+abbrev pub recordAt : Queue → ℕ → Record
+recordAt q t = taskAt q t .call
 
 -- Marks: bit n mod 64 of word n div 64. A set bit means taken.
 abbrev pub bit : ℕ → ℕ → ℕ
@@ -81,55 +185,26 @@ marked ws n = eqb (bit (getD ws (n / 64) 0) (n % 64)) 1
 abbrev pub withMark : List ℕ → ℕ → ℕ → List ℕ
 withMark ws n b = set ws (n / 64) (putBit (getD ws (n / 64) 0) (n % 64) b)
 
--- A record that has no call: all zero but for the count, which is 0 at opening.
-abbrev pub idle : Record
-idle = record { place = 0; kind = 0; side = 0; own = 0; label = 0; seen = 0; neighbour = 0; link = 0; finishing = 0 }
+-- The tables with another Anchor or head; with another link word of slot x that leads to a side; with other marks, another next table.
+abbrev pub withAnchor : Tables → ℕ → Tables
+withAnchor q w = tablesOf (withWords (q .control) w (q .control .head)) (q .lefts) (q .rights) (q .labels) (q .marks) (q .next)
 
--- A start writes the whole record: place 1, kind, side, own slot and label, the rest zero.
-abbrev pub started : ℕ → ℕ → ℕ → ℕ → Record
-started kind side own label =
-    record { place = 1; kind = kind; side = side; own = own; label = label; seen = 0; neighbour = 0; link = 0; finishing = 0 }
+abbrev pub withHead : Tables → ℕ → Tables
+withHead q w = tablesOf (withWords (q .control) (q .control .anchor) w) (q .lefts) (q .rights) (q .labels) (q .marks) (q .next)
 
--- A push start that names no slot: place 12, side and label.
-abbrev pub asking : ℕ → ℕ → Record
-asking side label =
-    record { place = 12; kind = 0; side = side; own = 0; label = label; seen = 0; neighbour = 0; link = 0; finishing = 0 }
+abbrev pub linked : Tables → ℕ → ℕ → ℕ → Tables
+linked q side x w =
+    tablesOf (q .control)
+    (cond (eqb side 1) (q .lefts) (set (q .lefts) x w))
+    (cond (eqb side 1) (set (q .rights) x w) (q .rights))
+    (q .labels) (q .marks) (q .next)
 
--- A record at another place.
-abbrev pub atPlace : Record → ℕ → Record
-atPlace r p =
-    record {
-      place = p;
-      kind = r .kind;
-      side = r .side;
-      own = r .own;
-      label = r .label;
-      seen = r .seen;
-      neighbour = r .neighbour;
-      link = r .link;
-      finishing = r .finishing;
-    }
+abbrev pub withMarks : Tables → List ℕ → Tables
+withMarks q l = tablesOf (q .control) (q .lefts) (q .rights) (q .labels) l (q .next)
 
-abbrev pub unused : TaskRecord
-unused = record { call = idle; retries = 0 }
+abbrev pub withNext : Tables → List ℕ → Tables
+withNext q l = tablesOf (q .control) (q .lefts) (q .rights) (q .labels) (q .marks) l
 
--- A record with another call; a start and an answer keep the count. (Request #101.)
-abbrev pub withCall : TaskRecord → Record → TaskRecord
-withCall r c = record { call = c; retries = r .retries }
-
--- The record of task t, and its call.
-abbrev pub taskAt : Queue → ℕ → TaskRecord
-taskAt q t = getD (q .records) t unused
-
-abbrev pub recordAt : Queue → ℕ → Record
-recordAt q t = taskAt q t .call
-
--- Numbers from k up that end with 0, n of them in all: where each slot from 1 leads to the next one, and the last to none.
-abbrev pub climb : ℕ → ℕ → List ℕ
-climb k zero = []
-climb k (suc zero) = 0 ∷ []
-climb k (suc (suc n)) = k ∷ climb (suc k) (suc n)
-
--- The first n entries zeroed; entries beyond keep their values.
-abbrev pub zeroed : {A : Type 0} → ℕ → A → List A → List A
-zeroed n z l = replicate n z ++ drop n l
+-- A label stored in a slot's row, and its mark set.
+abbrev pub taken : Tables → ℕ → ℕ → Tables
+taken q slot label = tablesOf (q .control) (q .lefts) (q .rights) (set (q .labels) slot label) (withMark (q .marks) slot 1) (q .next)

@@ -7,9 +7,10 @@ use lib.ListN.{getD}
 use Rattle.word.specs.Anchor.{anchorOf}
 use Rattle.word.specs.Link.{linkOf}
 use Rattle.model.specs.declared.Entry.{Entry}
-use Rattle.model.specs.Tables.{Tables, opposite, near, far, links, isEmpty}
+use Rattle.model.specs.Tables.{Tables}
 use Rattle.model.specs.Sound.{from1, linkSound}
 use Rattle.model.specs.Deque.{seenFrom}
+use Rattle.model.specs.Sides.{opposite, near, far, links, isEmpty}
 
 -- A walk of the queue: its entries, or broken.
 pub data Walk : Type 0 where

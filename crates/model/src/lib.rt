@@ -69,6 +69,15 @@ pub enum Outcome {
     Moved(Answer),
 }
 
+/// What a start or step leaves of control and its task's call, its outcome, and whether a change failed,
+/// which the task's record counts.
+pub struct Transition {
+    pub control: Control,
+    pub task: Record,
+    pub outcome: Outcome,
+    pub failed: bool,
+}
+
 /// What an opening answers.
 pub enum Opening {
     Refused(u32),
@@ -108,4 +117,14 @@ pub struct Reply {
     pub label: u32,
     /// The next place, or the slot popped.
     pub value: u64,
+}
+
+/// What a push alone is asked before it starts. A start that is not asked passes.
+pub struct Asked {
+    /// It names a slot in a pooled queue, or none in a named one: 41.
+    pub wrong: bool,
+    /// The slot that it names is not 1 to slots: 15.
+    pub outside: bool,
+    /// That slot's mark is set: 32.
+    pub taken: bool,
 }

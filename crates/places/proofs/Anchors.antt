@@ -8,24 +8,27 @@ use borrow.Author.Tests.{eq-eqb, ne-eqb}
 use Rattle.word.specs.Anchor.{anchorOf, packAnchor}
 use Rattle.model.specs.declared.Control.{Control}
 use Rattle.model.specs.declared.Record.{Record}
-use Rattle.model.specs.Tables.{atPlace, far, facing, pushing, tablesOf}
-use Rattle.model.specs.Sound.{isPop, anchorSound}
-use Rattle.model.specs.Places.{reading, withSeen, row, sideOf, nothing, setAnchor, Move, compares, at1, at2, new4, at4, at6, at10, move}
+use Rattle.model.specs.Tables.{atPlace, tablesOf, withSeen}
+use Rattle.model.specs.Sound.{anchorSound}
+use Rattle.model.specs.Places.{reading, row, sideOf, nothing, setAnchor, Move, compares, at1, at2, new4, at4, at6, at10, move}
 use Rattle.model.specs.Refusals.{needsRow, meetsLink, meetsHead, stepSound}
 use Rattle.model.specs.Route.{route, pushRoute, popRoute, goes, counted}
 use Rattle.model.specs.Calls.{entryOf, finish}
 use Rattle.model.proofs.laws.Onward.{reads-on}
-use Rattle.table.specs.declared.Acted as made
+use Rattle.model.specs.declared.Transition.{Transition}
 use Rattle.table.specs.Lent.{withTables}
 use Rattle.places.specs.Arm.{stepAt, Steps, StepsOnAnchor}
-use Rattle.places.specs.Ending.{refused, settled, noEntry, failing, withFailed, withAnchor, anchorRead, mayChange, remembered, compared, changed}
-use Rattle.places.proofs.Routes.{split, kinds, readings, Quiet, quietly}
+use Rattle.places.specs.Ending.{refused, settled, noEntry, failing, withFailed, anchored, anchorRead, mayChange, remembered, compared, changed}
+use Rattle.places.proofs.Routes.{kinds, readings, Quiet, quietly}
+use Rattle.model.proofs.tests.Truth.{split}
+use Rattle.model.specs.Sides.{far, facing, pushing}
+use Rattle.model.specs.Kinds.{isPop}
 
 -- The step at place n tries to change Anchor: the change fails, is denied or is made.
-pub record Tries (n : ℕ) (c : Control) (r : Record) (new : ℕ) (t : Record) (done : ℕ) (failed : made.Acted) : Type 0 where
+pub record Tries (n : ℕ) (c : Control) (r : Record) (new : ℕ) (t : Record) (done : ℕ) (failed : Transition) : Type 0 where
   pub steps : Steps n c r (changed c r new t done failed)
 
-module _ {n : ℕ} {c : Control} {r : Record} {new : ℕ} {t : Record} {done : ℕ} {failed : made.Acted} (tried : Tries n c r new t done failed) where
+module _ {n : ℕ} {c : Control} {r : Record} {new : ℕ} {t : Record} {done : ℕ} {failed : Transition} (tried : Tries n c r new t done failed) where
   pub fails : (c .anchor ≡ r .seen → ⊥) → Steps n c r failed
   unfolding changed
   fails h = rw (ne-eqb _ _ h) at (tried .steps)
@@ -34,7 +37,7 @@ module _ {n : ℕ} {c : Control} {r : Record} {new : ℕ} {t : Record} {done : �
   unfolding changed mayChange
   denies h s = rw (eq-eqb _ _ h, s) at (tried .steps)
 
-  pub makes : c .anchor ≡ r .seen → mayChange (c .slots) (r .seen) new ≡ true → Steps n c r (settled (withAnchor c new) t done noEntry)
+  pub makes : c .anchor ≡ r .seen → mayChange (c .slots) (r .seen) new ≡ true → Steps n c r (settled (anchored c new) t done noEntry)
   unfolding changed mayChange
   makes h s = rw (eq-eqb _ _ h, s) at (tried .steps)
 
@@ -85,11 +88,11 @@ module _ (c : Control) (r : Record) where
         (λ h. rw (moves, p .needs, p .meets, p .heads, p .nexts, h) (ap (λ m. withTables m ls rs ns ms xs k) (quietly c r (leads 0) e first)))
         (λ h. rw (moves, p .needs, p .meets, p .heads, p .nexts, h) (ap (λ m. withTables m ls rs ns ms xs k) (quietly c r (leads 1) e second)))
 
-    -- A change of Anchor, places 2, 4 and 10: done, with the record t; failed, with the record u and the outcome o.
+    -- A change of Anchor, places 2, 4 and 10: done, with the record t; failed, with the record u and the branch o.
     abbrev trying : ℕ → Record → Record → ℕ → Move
     trying new t u o =
-        cond (eqb (c .anchor) (r .seen)) (record { touch = setAnchor new; task = atPlace t n; outcome = 0; failed = false })
-        (record { touch = nothing; task = atPlace u n; outcome = o; failed = true })
+        cond (eqb (c .anchor) (r .seen)) (record { touch = setAnchor new; task = atPlace t n; branch = 0; failed = false })
+        (record { touch = nothing; task = atPlace u n; branch = o; failed = true })
 
     changing :
         (new : ℕ) (t u : Record) (o : ℕ)
@@ -105,7 +108,7 @@ module _ (c : Control) (r : Record) where
           (λ h. split (anchorSound (c .slots) (anchorOf new))
           (λ s. split (ltb (anchorOf (r .seen) .tag) 4294967295)
           (λ l. rw (moves, p .needs, p .meets, p .heads, p .nexts, h, s, l)
-          (ap (λ m. withTables m ls rs ns ms xs k) (quietly (withAnchor c new) t (leads 0) e first)))
+          (ap (λ m. withTables m ls rs ns ms xs k) (quietly (anchored c new) t (leads 0) e first)))
           (λ l. rw (moves, p .needs, p .meets, p .heads, p .nexts, h, s, l)))
           (λ s. rw (moves, p .needs, p .meets, p .heads, p .nexts, h, s)))
           (λ h. rw (moves, p .needs, p .meets, p .heads, p .nexts, h) (ap (λ m. withTables (failing m) ls rs ns ms xs k) (quietly c u (leads o) e second)));

@@ -1,5 +1,5 @@
 pub mod Table
 pub mod Routes
 pub mod Anchors
-pub mod Rows
-pub mod Stack
+pub mod OnRows
+pub mod OnStack

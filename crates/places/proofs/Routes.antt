@@ -9,14 +9,11 @@ use Rattle.word.specs.declared.Anchor.{Anchor}
 use Rattle.model.specs.declared.Control.{Control}
 use Rattle.model.specs.declared.Record.{Record}
 use Rattle.model.specs.declared.Entry.{Entry}
-use Rattle.model.specs.Tables.{isEmpty}
 use Rattle.model.specs.Places.{reading}
 use Rattle.model.specs.Route.{route, popped, leave, onward, answer}
 use Rattle.places.specs.Ending.{settled, noEntry}
-
-pub split : {A : Type 0} (b : Bool) → (b ≡ true → A) → (b ≡ false → A) → A
-split true f g = f refl
-split false f g = g refl
+use Rattle.model.proofs.tests.Truth.{split}
+use Rattle.model.specs.Sides.{isEmpty}
 
 -- What holds of a route for a push and for a pop holds for every kind.
 pub kinds : (P : ℕ → Type 0) (place kind outcome : ℕ) → P (route place 0 outcome) → P (route place 1 outcome) → P (route place kind outcome)

@@ -6,41 +6,41 @@ use Prim.Native.Nat.{ℕ}
 use Rattle.model.specs.declared.Control.{Control}
 use Rattle.model.specs.declared.Record.{Record}
 use Rattle.model.specs.Tables.{Tables, atPlace, tablesOf}
-use Rattle.model.specs.Places.{linkMet, move}
+use Rattle.model.specs.Places.{wordFound, move}
 use Rattle.model.specs.Refusals.{stepSound}
 use Rattle.model.specs.Calls.{Acted, decide, finish}
-use Rattle.table.specs.declared.Acted as made
+use Rattle.model.specs.declared.Transition.{Transition}
 use Rattle.table.specs.Lent.{withTables}
 
 -- 34 for what place n touches, else what it does, for a task with so many retries.
 unfoldable pub stepAt : ℕ → Tables → Record → ℕ → Acted
 stepAt n q r retries =
     let s = atPlace r n in
-    let w = linkMet q s in
+    let w = wordFound q s in
     decide (cond (stepSound (q .control) s w) 0 34) q (record { call = r; retries = retries })
     (finish q (record { call = s; retries = retries }) (move (q .control) s w))
 
 -- A function carries out the step at place n, whatever the tables hold that it is not lent: none, the links, labels and marks, the next table.
-abbrev pub Steps : ℕ → Control → Record → made.Acted → Type 0
+abbrev pub Steps : ℕ → Control → Record → Transition → Type 0
 Steps n c r m =
     (lefts rights labels marks next : List ℕ) (retries : ℕ)
     → withTables m lefts rights labels marks next retries ≡ stepAt n (tablesOf c lefts rights labels marks next) r retries
 
 -- The step at the record's place, if that is 1, 2 or 4.
-abbrev pub StepsOnAnchor : Control → Record → made.Acted → Type 0
+abbrev pub StepsOnAnchor : Control → Record → Transition → Type 0
 StepsOnAnchor c r m = (r .place ≡ 1 → Steps 1 c r m) × (r .place ≡ 2 → Steps 2 c r m) × (r .place ≡ 4 → Steps 4 c r m)
 
-abbrev pub StepsOnLinks : ℕ → Control → Record → List ℕ → List ℕ → made.Acted → List ℕ → List ℕ → Type 0
+abbrev pub StepsOnLinks : ℕ → Control → Record → List ℕ → List ℕ → Transition → List ℕ → List ℕ → Type 0
 StepsOnLinks n c r lefts rights m lefts′ rights′ =
     (labels marks next : List ℕ) (retries : ℕ)
     → withTables m lefts′ rights′ labels marks next retries ≡ stepAt n (tablesOf c lefts rights labels marks next) r retries
 
-abbrev pub StepsOnMarks : ℕ → Control → Record → List ℕ → List ℕ → made.Acted → List ℕ → List ℕ → Type 0
+abbrev pub StepsOnMarks : ℕ → Control → Record → List ℕ → List ℕ → Transition → List ℕ → List ℕ → Type 0
 StepsOnMarks n c r labels marks m labels′ marks′ =
     (lefts rights next : List ℕ) (retries : ℕ)
     → withTables m lefts rights labels′ marks′ next retries ≡ stepAt n (tablesOf c lefts rights labels marks next) r retries
 
-abbrev pub StepsOnNext : ℕ → Control → Record → List ℕ → made.Acted → List ℕ → Type 0
+abbrev pub StepsOnNext : ℕ → Control → Record → List ℕ → Transition → List ℕ → Type 0
 StepsOnNext n c r next m next′ =
     (lefts rights labels marks : List ℕ) (retries : ℕ)
     → withTables m lefts rights labels marks next′ retries ≡ stepAt n (tablesOf c lefts rights labels marks next) r retries

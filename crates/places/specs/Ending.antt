@@ -8,40 +8,41 @@ use Rattle.model.specs.declared.Control.{Control}
 use Rattle.model.specs.declared.Record.{Record}
 use Rattle.model.specs.declared.Entry.{Entry}
 use Rattle.model.specs.declared.Outcome.the-variants.{Refused, Moved}
-use Rattle.model.specs.Sound.{from1, isPop, anchorSound, linkSound}
-use Rattle.model.specs.Places.{withSeen, withNeighbour, withLink, reading}
+use Rattle.model.specs.Sound.{from1, anchorSound, linkSound}
+use Rattle.model.specs.Places.{reading}
 use Rattle.model.specs.Route.{route, onward, goes, answer}
-use Rattle.table.specs.declared.Acted as made
+use Rattle.model.specs.Tables.{withSeen, withNeighbour, withLink, withWords}
+use Rattle.model.specs.declared.Transition.{Transition}
+use Rattle.model.specs.Kinds.{isPop}
 
-abbrev pub refused : Control → Record → made.Acted
+abbrev pub refused : Control → Record → Transition
 refused c r = record { control = c; task = r; outcome = Refused 34; failed = false }
 
 -- The record gone on by the route's n, and the answer, with e the entry popped.
-unfoldable pub settled : Control → Record → ℕ → Entry → made.Acted
+unfoldable pub settled : Control → Record → ℕ → Entry → Transition
 settled c t n e =
     let m = onward n (t .finishing) in
     record { control = c; task = goes t m; outcome = Moved (answer m e); failed = false }
 
 -- The same with a change that failed or none.
-abbrev pub withFailed : made.Acted → Bool → made.Acted
+abbrev pub withFailed : Transition → Bool → Transition
 withFailed m b = record { control = m .control; task = m .task; outcome = m .outcome; failed = b }
 
-abbrev pub failing : made.Acted → made.Acted
+abbrev pub failing : Transition → Transition
 failing m = withFailed m true
 
-abbrev pub withAnchor : Control → ℕ → Control
-withAnchor c w =
-    record { tasks = c .tasks; slots = c .slots; anchor = w; pooled = c .pooled; head = c .head }
+-- Control with another Anchor, and with another head.
+abbrev pub anchored : Control → ℕ → Control
+anchored c w = withWords c w (c .head)
 
-abbrev pub withHead : Control → ℕ → Control
-withHead c w =
-    record { tasks = c .tasks; slots = c .slots; anchor = c .anchor; pooled = c .pooled; head = w }
+abbrev pub headed : Control → ℕ → Control
+headed c w = withWords c (c .anchor) w
 
 abbrev pub noEntry : Entry
 noEntry = record { slot = 0; label = 0 }
 
 -- Anchor is taken for the word as read, and the record goes on by it as at place 1.
-unfoldable pub anchorRead : Control → Record → made.Acted
+unfoldable pub anchorRead : Control → Record → Transition
 anchorRead c r =
     settled c (withSeen r (c .anchor) (r .finishing)) (route 1 (r .kind) (reading (isPop r) (anchorOf (c .anchor)))) noEntry
 
@@ -50,11 +51,11 @@ unfoldable pub mayChange : ℕ → ℕ → ℕ → Bool
 mayChange slots seen new = anchorSound slots (anchorOf new) && ltb (anchorOf seen .tag) 4294967295
 
 -- A change of Anchor from the word as read to new: done leads the record t on; failed is what a failed one comes to.
-unfoldable pub changed : Control → Record → ℕ → Record → ℕ → made.Acted → made.Acted
+unfoldable pub changed : Control → Record → ℕ → Record → ℕ → Transition → Transition
 changed c r new t done failed =
     let sound = anchorSound (c .slots) (anchorOf new) && ltb (anchorOf (r .seen) .tag) 4294967295 in
     cond (eqb (c .anchor) (r .seen))
-    (cond sound (settled (withAnchor c new) t done noEntry) (refused c r))
+    (cond sound (settled (anchored c new) t done noEntry) (refused c r))
     failed
 
 -- A push whose change of Anchor at place 4 is done remembers the new word, and is finishing.
@@ -62,7 +63,7 @@ unfoldable pub remembered : Record → ℕ → Record
 remembered r new = cond (eqb (r .kind) 0) (withSeen r new 1) r
 
 -- Anchor compared with the word as read.
-unfoldable pub compared : Control → Record → ℕ → ℕ → made.Acted
+unfoldable pub compared : Control → Record → ℕ → ℕ → Transition
 compared c r same other = cond (eqb (c .anchor) (r .seen)) (settled c r same noEntry) (settled c r other noEntry)
 
 -- Slot x may be touched, and w, the link word met there, is sound.
@@ -70,19 +71,19 @@ unfoldable pub rowSound : ℕ → ℕ → ℕ → Bool
 rowSound slots x w = from1 slots x && linkSound slots w
 
 -- The slot that w, slot x's inward link, names is the neighbour.
-unfoldable pub neighbourRead : Control → Record → ℕ → ℕ → ℕ → made.Acted
+unfoldable pub neighbourRead : Control → Record → ℕ → ℕ → ℕ → Transition
 neighbourRead c r x w n =
     cond (rowSound (c .slots) x w) (settled c (withNeighbour r (linkOf w .slot)) n noEntry) (refused c r)
 
 -- The neighbour's outward link w is remembered; it may name the end.
-unfoldable pub linkRead : Control → Record → ℕ → ℕ → ℕ → ℕ → made.Acted
+unfoldable pub linkRead : Control → Record → ℕ → ℕ → ℕ → ℕ → Transition
 linkRead c r end w same other =
     cond (rowSound (c .slots) (r .neighbour) w)
     (cond (eqb (linkOf w .slot) end) (settled c (withLink r w) same noEntry) (settled c (withLink r w) other noEntry))
     (refused c r)
 
 -- The head is remembered; its slot may be 0.
-unfoldable pub headRead : Control → Record → ℕ → ℕ → made.Acted
+unfoldable pub headRead : Control → Record → ℕ → ℕ → Transition
 headRead c r none other =
     let t = withLink r (c .head) in
     cond (linkSound (c .slots) (c .head))

@@ -13,7 +13,7 @@ mod step;
 use model::Control;
 use model::Entry;
 use model::Record;
-use table::Acted;
+use model::Transition;
 use word::Anchor;
 use word::Link;
 ghost use mathlib.Core.Path.{_≡_};
@@ -21,7 +21,7 @@ ghost use Rattle.places.specs.Arm.{Steps, StepsOnAnchor, StepsOnLinks, S
 
 /// Places 1, 2 and 4: read Anchor (figure 3, line 1; figure 5, line 11), or change it where it is
 /// as read. A failed change is counted, takes the word found for its reading, and goes on as place 1.
-pub fn on_anchor(c: Control, r: Record) -> Acted
+pub fn on_anchor(c: Control, r: Record) -> Transition
     ensures { λ m. ⌜ StepsOnAnchor c r m ⌝ }
 {
     let mut failed = false;
@@ -37,14 +37,14 @@ pub fn on_anchor(c: Control, r: Record) -> Acted
 }
 
 /// Place 1 by itself. A step that stores at each place for itself has one function a place.
-pub fn at1(c: Control, r: Record) -> Acted
+pub fn at1(c: Control, r: Record) -> Transition
     ensures { λ m. ⌜ Steps 1 c r m ⌝ }
 {
     step::reads_anchor(c, r)
 }
 
 /// Place 2 by itself: the change, tried.
-pub fn tries2(c: Control, r: Record) -> Acted
+pub fn tries2(c: Control, r: Record) -> Transition
     ensures { λ m. ⌜ Steps 2 c r m ⌝ }
 {
     if c.anchor == r.seen {
@@ -55,7 +55,7 @@ pub fn tries2(c: Control, r: Record) -> Acted
 }
 
 /// Place 4 by itself: the change, tried.
-pub fn tries4(c: Control, r: Record) -> Acted
+pub fn tries4(c: Control, r: Record) -> Transition
     ensures { λ m. ⌜ Steps 4 c r m ⌝ }
 {
     if c.anchor == r.seen {
@@ -66,7 +66,7 @@ pub fn tries4(c: Control, r: Record) -> Acted
 }
 
 /// Place 2, Anchor as read: change it to own, own, s; a pop to null, null, s. (Figure 3, line 2; figure 5, line 12.)
-fn at2(c: Control, r: Record) -> Acted
+fn at2(c: Control, r: Record) -> Transition
     ensures { λ m. ⌜ (c .anchor ≡ r .seen → Steps 2 c r m) ⌝ }
 {
     let a = Anchor::unpack(r.seen);
@@ -81,7 +81,7 @@ fn at2(c: Control, r: Record) -> Acted
 
 /// Place 3: put the end into the own slot's inward link, its tag kept; a pop reads the end's
 /// inward link as neighbour. (Figure 3, line 3; figure 5, line 13.)
-pub fn at3(c: Control, r: Record, lefts: &mut [u64], rights: &mut [u64]) -> Acted
+pub fn at3(c: Control, r: Record, lefts: &mut [u64], rights: &mut [u64]) -> Transition
     ensures { λ m.
         ⌜ StepsOnLinks 3 c r (now (lefts .entry)) (now (rights .entry)) m (now (lefts .exit)) (now (rights .exit)) ⌝ }
 {
@@ -103,7 +103,7 @@ pub fn at3(c: Control, r: Record, lefts: &mut [u64], rights: &mut [u64]) -> Acte
 
 /// Place 4, Anchor as read: change it to l, own, RPUSH, and remember it, finishing; a pop to
 /// l, neighbour, s. (Figure 3, line 4; figure 5, line 14.)
-fn at4(c: Control, r: Record) -> Acted
+fn at4(c: Control, r: Record) -> Transition
     ensures { λ m. ⌜ (c .anchor ≡ r .seen → Steps 4 c r m) ⌝ }
 {
     let right = r.side == 1;
@@ -123,7 +123,7 @@ fn at4(c: Control, r: Record) -> Acted
 }
 
 /// Place 5: read the end's inward link as neighbour. (Figure 4, line 5.)
-pub fn at5(c: Control, r: Record, lefts: &[u64], rights: &[u64]) -> Acted
+pub fn at5(c: Control, r: Record, lefts: &[u64], rights: &[u64]) -> Transition
     ensures { λ m.
         ⌜ StepsOnLinks 5 c r (now (lefts .entry)) (now (rights .entry)) m (now (lefts .entry)) (now (rights .entry)) ⌝ }
 {
@@ -135,7 +135,7 @@ pub fn at5(c: Control, r: Record, lefts: &[u64], rights: &[u64]) -> Acted
 }
 
 /// Place 6: compare Anchor. (Figure 4, line 6.)
-pub fn at6(c: Control, r: Record) -> Acted
+pub fn at6(c: Control, r: Record) -> Transition
     ensures { λ m. ⌜ Steps 6 c r m ⌝ }
 {
     let same = next::next(6, r.kind, 0);
@@ -144,7 +144,7 @@ pub fn at6(c: Control, r: Record) -> Acted
 }
 
 /// Place 7: read the neighbour's outward link. (Figure 4, line 7.)
-pub fn at7(c: Control, r: Record, lefts: &[u64], rights: &[u64]) -> Acted
+pub fn at7(c: Control, r: Record, lefts: &[u64], rights: &[u64]) -> Transition
     ensures { λ m.
         ⌜ StepsOnLinks 7 c r (now (lefts .entry)) (now (rights .entry)) m (now (lefts .entry)) (now (rights .entry)) ⌝ }
 {
@@ -158,7 +158,7 @@ pub fn at7(c: Control, r: Record, lefts: &[u64], rights: &[u64]) -> Acted
 }
 
 /// Place 8: compare Anchor again. (Figure 4, line 8.)
-pub fn at8(c: Control, r: Record) -> Acted
+pub fn at8(c: Control, r: Record) -> Transition
     ensures { λ m. ⌜ Steps 8 c r m ⌝ }
 {
     let same = next::next(8, r.kind, 0);
@@ -167,7 +167,7 @@ pub fn at8(c: Control, r: Record) -> Acted
 }
 
 /// Place 9: change the neighbour's outward link to the end. (Figure 4, line 9.)
-pub fn at9(c: Control, r: Record, lefts: &mut [u64], rights: &mut [u64]) -> Acted
+pub fn at9(c: Control, r: Record, lefts: &mut [u64], rights: &mut [u64]) -> Transition
     ensures { λ m.
         ⌜ StepsOnLinks 9 c r (now (lefts .entry)) (now (rights .entry)) m (now (lefts .exit)) (now (rights .exit)) ⌝ }
 {
@@ -191,7 +191,7 @@ pub fn at9(c: Control, r: Record, lefts: &mut [u64], rights: &mut [u64]) -> Acte
 }
 
 /// Place 10: change Anchor to l, r, STABLE. (Figure 4, line 10.)
-pub fn at10(c: Control, r: Record) -> Acted
+pub fn at10(c: Control, r: Record) -> Transition
     ensures { λ m. ⌜ Steps 10 c r m ⌝ }
 {
     let a = Anchor::unpack(r.seen);
@@ -215,7 +215,7 @@ pub fn at10(c: Control, r: Record) -> Acted
 
 /// Place 11: read the label of the end taken and clear its mark. (Figure 5, after the loop.) In a
 /// pooled queue slot and label are kept in the record, and the slot is given back first.
-pub fn at11(c: Control, r: Record, labels: &[u32], marks: &mut [u64]) -> Acted
+pub fn at11(c: Control, r: Record, labels: &[u32], marks: &mut [u64]) -> Transition
     ensures { λ m.
         ⌜ StepsOnMarks 11 c r (now (labels .entry)) (now (marks .entry)) m (now (labels .entry)) (now (marks .exit)) ⌝ }
 {

@@ -6,12 +6,12 @@ use crate::step;
 use model::Control;
 use model::Entry;
 use model::Record;
-use table::Acted;
+use model::Transition;
 use word::Link;
 ghost use Rattle.places.specs.Arm.{Steps, StepsOnMarks, StepsOnNext};
 
 /// Place 12: read the head; an empty one is *no slot*.
-pub fn at12(c: Control, r: Record) -> Acted
+pub fn at12(c: Control, r: Record) -> Transition
     ensures { λ m. ⌜ Steps 12 c r m ⌝ }
 {
     let none = next::next(12, r.kind, 0);
@@ -20,7 +20,7 @@ pub fn at12(c: Control, r: Record) -> Acted
 }
 
 /// Place 13: read the next of the head's slot.
-pub fn at13(c: Control, r: Record, nexts: &[u64]) -> Acted
+pub fn at13(c: Control, r: Record, nexts: &[u64]) -> Transition
     ensures { λ m. ⌜ StepsOnNext 13 c r (now (nexts .entry)) m (now (nexts .entry)) ⌝ }
 {
     let head = Link::unpack(r.link);
@@ -34,7 +34,7 @@ pub fn at13(c: Control, r: Record, nexts: &[u64]) -> Acted
 }
 
 /// Place 14: change the head to that next. The slot is then the push's own, marked and with its label.
-pub fn at14(c: Control, r: Record, labels: &mut [u32], marks: &mut [u64]) -> Acted
+pub fn at14(c: Control, r: Record, labels: &mut [u32], marks: &mut [u64]) -> Transition
     ensures { λ m.
         ⌜ StepsOnMarks 14 c r (now (labels .entry)) (now (marks .entry)) m (now (labels .exit)) (now (marks .exit)) ⌝ }
 {
@@ -55,7 +55,7 @@ pub fn at14(c: Control, r: Record, labels: &mut [u32], marks: &mut [u64]) -> Act
 }
 
 /// Place 15: read the head.
-pub fn at15(c: Control, r: Record) -> Acted
+pub fn at15(c: Control, r: Record) -> Transition
     ensures { λ m. ⌜ Steps 15 c r m ⌝ }
 {
     let n = next::next(15, r.kind, 0);
@@ -63,7 +63,7 @@ pub fn at15(c: Control, r: Record) -> Acted
 }
 
 /// Place 16: put the head's slot into the own slot's next.
-pub fn at16(c: Control, r: Record, nexts: &mut [u64]) -> Acted
+pub fn at16(c: Control, r: Record, nexts: &mut [u64]) -> Transition
     ensures { λ m. ⌜ StepsOnNext 16 c r (now (nexts .entry)) m (now (nexts .exit)) ⌝ }
 {
     let head = Link::unpack(r.link);
@@ -72,7 +72,7 @@ pub fn at16(c: Control, r: Record, nexts: &mut [u64]) -> Acted
 }
 
 /// Place 17: change the head to the own slot, and answer with it and its label.
-pub fn at17(c: Control, r: Record) -> Acted
+pub fn at17(c: Control, r: Record) -> Transition
     ensures { λ m. ⌜ Steps 17 c r m ⌝ }
 {
     let head = Link::unpack(r.link);

@@ -5,7 +5,7 @@ use model::Control;
 use model::Entry;
 use model::Outcome;
 use model::Record;
-use table::Acted;
+use model::Transition;
 use word::Anchor;
 use word::Link;
 ghost use mathlib.Core.Path.{_≡_};
@@ -14,17 +14,17 @@ ghost use Prim.Native.Nat.{_+_, _/_, _^_};
 ghost use Rattle.word.specs.Link.{packLink};
 ghost use Rattle.model.specs.Tables.{idle};
 ghost use Rattle.model.specs.Route.{goes};
-ghost use Rattle.places.specs.Ending.{refused, settled, anchorRead, failing, mayChange, withAnchor, withHead, remembered};
+ghost use Rattle.places.specs.Ending.{refused, settled, anchorRead, failing, mayChange, anchored, headed, remembered};
 ghost use Rattle.places.specs.Ending.{compared, rowSound, neighbourRead, linkRead, headRead};
 
 /// For a step that pops nothing.
 pub const NO_ENTRY: Entry = Entry { slot: 0, label: 0 };
 
 /// 34: nothing is changed.
-pub fn refused(c: Control, r: Record) -> Acted
+pub fn refused(c: Control, r: Record) -> Transition
     ensures { λ m. ⌜ m ≡ refused c r ⌝ }
 {
-    Acted {
+    Transition {
         control: c,
         task: r,
         outcome: Outcome::Refused(34),
@@ -33,7 +33,7 @@ pub fn refused(c: Control, r: Record) -> Acted
 }
 
 /// The call goes on at place n.
-fn goes(c: Control, t: Record, n: u8) -> Acted
+fn goes(c: Control, t: Record, n: u8) -> Transition
     ensures { λ m. ⌜ m ≡ record { control = c; task = goes t n; outcome = Outcome.Moved (Answer.Running n); failed = false } ⌝ }
 {
     let place = n as u64;
@@ -42,7 +42,7 @@ fn goes(c: Control, t: Record, n: u8) -> Acted
     }
     let mut gone = t;
     gone.place = place;
-    Acted {
+    Transition {
         control: c,
         task: gone,
         outcome: Outcome::Moved(Answer::Running(place)),
@@ -51,10 +51,10 @@ fn goes(c: Control, t: Record, n: u8) -> Acted
 }
 
 /// The call is answered, and its record all zero.
-fn ends(c: Control, a: Answer) -> Acted
+fn ends(c: Control, a: Answer) -> Transition
     ensures { λ m. ⌜ m ≡ record { control = c; task = idle; outcome = Outcome.Moved a; failed = false } ⌝ }
 {
-    Acted {
+    Transition {
         control: c,
         task: Record {
             place: 0,
@@ -73,7 +73,7 @@ fn ends(c: Control, a: Answer) -> Acted
 }
 
 /// A step made: its record goes where the route leads, n; e is the entry popped.
-pub fn settles(c: Control, t: Record, n: u8, e: Entry) -> Acted
+pub fn settles(c: Control, t: Record, n: u8, e: Entry) -> Transition
     ensures { λ m. ⌜ m ≡ settled c t n e ⌝ }
 {
     if n == next::LEAVE {
@@ -96,7 +96,7 @@ pub fn settles(c: Control, t: Record, n: u8, e: Entry) -> Acted
 }
 
 /// Takes Anchor for the word as read and goes on by it: place 1, and a failed change at 2 or 4.
-pub fn reads_anchor(c: Control, r: Record) -> Acted
+pub fn reads_anchor(c: Control, r: Record) -> Transition
     ensures { λ m. ⌜ m ≡ anchorRead c r ⌝ }
 {
     let a = Anchor::unpack(c.anchor);
@@ -106,7 +106,7 @@ pub fn reads_anchor(c: Control, r: Record) -> Acted
 }
 
 /// A step whose change failed.
-pub fn fails(m: Acted) -> Acted
+pub fn fails(m: Transition) -> Transition
     ensures { λ d. ⌜ d ≡ failing m ⌝ }
 {
     let mut d = m;
@@ -133,7 +133,7 @@ pub fn may_change(slots: u64, seen: u64, new: u64) -> bool
 
 /// The control with another Anchor.
 pub fn with_anchor(c: Control, new: u64) -> Control
-    ensures { λ d. ⌜ d ≡ withAnchor c new ⌝ }
+    ensures { λ d. ⌜ d ≡ anchored c new ⌝ }
 {
     let mut d = c;
     d.anchor = new;
@@ -142,7 +142,7 @@ pub fn with_anchor(c: Control, new: u64) -> Control
 
 /// The control with another head.
 pub fn with_head(c: Control, new: u64) -> Control
-    ensures { λ d. ⌜ d ≡ withHead c new ⌝ }
+    ensures { λ d. ⌜ d ≡ headed c new ⌝ }
 {
     let mut d = c;
     d.head = new;
@@ -162,7 +162,7 @@ pub fn remembers(r: Record, new: u64) -> Record
 }
 
 /// Compares Anchor with the word as read.
-pub fn compares(c: Control, r: Record, same: u8, other: u8) -> Acted
+pub fn compares(c: Control, r: Record, same: u8, other: u8) -> Transition
     ensures { λ m. ⌜ m ≡ compared c r same other ⌝ }
 {
     if c.anchor == r.seen {
@@ -187,7 +187,7 @@ pub fn link_word(tag: u64, slot: u64) -> u64
 }
 
 /// Takes the slot that w, slot x's inward link, names for the neighbour.
-pub fn reads_neighbour(c: Control, r: Record, x: u64, w: u64, n: u8) -> Acted
+pub fn reads_neighbour(c: Control, r: Record, x: u64, w: u64, n: u8) -> Transition
     ensures { λ m. ⌜ m ≡ neighbourRead c r x w n ⌝ }
 {
     if row_sound(c.slots, x, w) {
@@ -200,7 +200,7 @@ pub fn reads_neighbour(c: Control, r: Record, x: u64, w: u64, n: u8) -> Acted
 }
 
 /// Remembers w, the neighbour's outward link, which may name the end.
-pub fn reads_link(c: Control, r: Record, end: u64, w: u64, same: u8, other: u8) -> Acted
+pub fn reads_link(c: Control, r: Record, end: u64, w: u64, same: u8, other: u8) -> Transition
     ensures { λ m. ⌜ m ≡ linkRead c r end w same other ⌝ }
 {
     if row_sound(c.slots, r.neighbour, w) {
@@ -216,7 +216,7 @@ pub fn reads_link(c: Control, r: Record, end: u64, w: u64, same: u8, other: u8) 
 }
 
 /// Remembers the head, whose slot may be 0.
-pub fn reads_head(c: Control, r: Record, none: u8, other: u8) -> Acted
+pub fn reads_head(c: Control, r: Record, none: u8, other: u8) -> Transition
     ensures { λ m. ⌜ m ≡ headRead c r none other ⌝ }
 {
     if sound::link_sound(c.slots, c.head) {

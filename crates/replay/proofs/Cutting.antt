@@ -9,16 +9,16 @@ use lib.Dec.{leb, eqb}
 use lib.ListN.{length, take, drop}
 use lib.Seq.{sets, length-sets}
 use borrow.Author.Tests.{le-leb}
-use Rattle.lines.specs.Line.{header, fitting, room, lineOf}
+use Rattle.lines.specs.Line.{header, fitting, room}
 use Rattle.lines.proofs.Lengths.{line-short, header-short}
 use Rattle.carry.specs.Run.{Run, Told, malformed}
 use Rattle.carry.specs.Page.{Page, written, fieldRoom}
 use Rattle.carry.proofs.Pages.{cond-true}
 use Rattle.replay.specs.Trace.{Fed, feedIn, feed, finished, fresh, printed, traceOf}
 use Rattle.replay.specs.Feed.{finishPage, firstPage}
-use Rattle.replay.specs.Pieces.{held, atFront, fromStart, Written, pagesIn, pagesOf, Between, begun, afterPiece, afterPieces, lastPage, afterEnd}
+use Rattle.replay.specs.Pieces.{held, atFront, fromStart, Written, pagesOf, Between, begun, afterPiece, afterPieces, lastPage, afterEnd}
 use Rattle.replay.proofs.Feeding.{feed-pieces, joined}
-use Rattle.replay.proofs.Whole.{finish-writes}
+use Rattle.replay.proofs.AtOnce.{finish-writes}
 use Rattle.replay.proofs.PageEnds.{front-of, pages-told, pages-within, pages-over}
 
 -- What was told from the front of a buffer, where it fits, is what the page holds.
@@ -47,7 +47,7 @@ pub record Reached (file : List ℕ) (s : Between) : Type 0 where
   pub told : s .bytes ≡ header ++ feed fresh file .lines
   pub room : fieldRoom ≤ length (s .page .out)
 
-first-reached : (out : List ℕ) → fieldRoom ≤ length out → Reached [] (begun out)
+pub first-reached : (out : List ℕ) → fieldRoom ≤ length out → Reached [] (begun out)
 unfolding begun firstPage feed feedIn written fitting held
 first-reached out h =
     let fits : leb (0 + room) (length out) ≡ true = le-leb (0 + room) (length out) (omega (arith, h)) in

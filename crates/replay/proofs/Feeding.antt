@@ -1,23 +1,23 @@
 -- Feeding a run: one field and then the rest; and a file in pieces is fed as in one.
-use Prim.Native.Nat.{ℕ, zero, suc, _+_, _-_, _≤_}
+use Prim.Native.Nat.{ℕ, zero, suc, _<_, _≤_}
 use mathlib.Core.Path.{_≡_, refl, sym, ap, _∙_}
-use mathlib.Core.Bool.{Bool, true, false, cond}
+use mathlib.Core.Bool.{Bool, true, false}
 use mathlib.Core.List.{List, [], _∷_, _++_, append-assoc, append-nil, flatten}
 use native.Mathlib.Omega.{arith}
-use lib.ListN.{length, getD, take, drop, length-drop, length-append}
+use lib.ListN.{length, getD, drop, length-drop, length-append}
 use lib.Dec.{leb}
 use borrow.Author.Tests.{leb-true, leb-false}
 use lib.Seq.{take-append-le, drop-append-le}
-use Rattle.runfile.specs.Field.{twoAt, contentOf, missing, fieldOf}
+use Rattle.runfile.specs.Field.{twoAt, longestField, contentOf, missing, fieldOf}
 use Rattle.runfile.specs.declared.Field.{Field}
 use Rattle.runfile.specs.declared.Field.the-variants.{Open, Each, Malformed, Cut, End}
 use Rattle.runfile.specs.declared.Found.{Found}
 use Rattle.lines.specs.Line.{header}
 use Rattle.runfile.proofs.Prefix.{Seen, seen, ended, cut, wrong, whole, same-wrong, same-whole}
 use Rattle.carry.specs.Run.{Run, Told, malformed, carried}
-use Rattle.carry.specs.Page.{Whole}
+use Rattle.carry.specs.Page.{BytesThere}
 use Rattle.carry.proofs.Pages.{cond-true, cond-false}
-use Rattle.carry.proofs.Fields.{content-whole}
+use Rattle.carry.proofs.Fields.{content-there}
 use Rattle.replay.specs.Trace.{Fed, unmoved, after, feedIn, feed, finished, fresh, printed, printedPieces, traceOf}
 
 -- What a run makes of the field at the head of b.
@@ -37,7 +37,7 @@ module _ (r : Run) (b : List ℕ) {f : Found} (e : fieldOf (r .opened) b ≡ f) 
   told-of = ap (λ (x : Found). carried r (x .field) b) e
 
 -- A field does the same however many bytes follow.
-same-carried : (r : Run) (b c : List ℕ) (f : Field) → Whole f 0 (length b) → carried r f (b ++ c) ≡ carried r f b
+same-carried : (r : Run) (b c : List ℕ) (f : Field) → BytesThere f 0 (length b) → carried r f (b ++ c) ≡ carried r f b
 unfolding carried
 same-carried r b c (Open pooled tasks slots tag) w = refl
 same-carried r b c (Each op n) w =
@@ -48,7 +48,7 @@ same-carried r b c End w = refl
 
 -- It waits, it ends the run, or it is carried out.
 pub data Next (r : Run) (b : List ℕ) : Type 0 where
-  waits : told r b ≡ record { run = r; lines = [] } → sizeAt r b ≡ 0 → Next r b
+  waits : told r b ≡ record { run = r; lines = [] } → sizeAt r b ≡ 0 → length b < longestField → Next r b
   breaks : ((c : List ℕ) → fieldOf (r .opened) (b ++ c) ≡ missing Malformed) → fieldOf (r .opened) b ≡ missing Malformed → Next r b
   moves : 3 ≤ sizeAt r b → sizeAt r b ≤ length b → ((c : List ℕ) → fieldOf (r .opened) (b ++ c) ≡ fieldOf (r .opened) b)
       → ((c : List ℕ) → carried r (fieldOf (r .opened) b .field) (b ++ c) ≡ told r b) → Next r b
@@ -58,11 +58,11 @@ unfolding carried told sizeAt
 next-of r b = go (fieldOf (r .opened) b) refl (seen (r .opened) b)
   where
     go : (f : Found) → fieldOf (r .opened) b ≡ f → Seen (r .opened) b f → Next r b
-    go f e (ended h) = waits (told-of r b e) (size-of r b e)
-    go f e cut = waits (told-of r b e) (size-of r b e)
+    go f e (ended h) = waits (told-of r b e) (size-of r b e) (omega (arith, h))
+    go f e (cut less) = waits (told-of r b e) (size-of r b e) less
     go f e (wrong h w) = breaks (λ c. same-wrong (r .opened) b c h w) e
     go f e (whole w h) =
-        let there = content-whole (r .opened) (getD b 0 0) (twoAt b 1) 0 (length b) (drop 3 b) w (omega (arith, h)) in
+        let there = content-there (r .opened) (getD b 0 0) (twoAt b 1) 0 (length b) (drop 3 b) w (omega (arith, h)) in
         moves (let s = size-of r b e in omega arith) (let s = size-of r b e in omega arith)
         (λ c. same-whole (r .opened) b c w h ∙ sym e)
         (λ c. rw e (same-carried r b c (contentOf (getD b 0 0) (twoAt b 1) (drop 3 b)) there))
@@ -105,7 +105,7 @@ feed-enough (suc n) r b h = go (r .over) refl (next-of r b) (feed-enough n)
     go : (o : Bool) → r .over ≡ o → Next r b → ((q : Run) (c : List ℕ) → length c ≤ n → feedIn (suc n) q c ≡ feedIn n q c)
         → feedIn (suc (suc n)) r b ≡ feedIn (suc n) r b
     go true e x ih = feed-over (suc (suc n)) r b e ∙ sym (feed-over (suc n) r b e)
-    go false e (waits t s) ih = feed-waits (suc (suc n)) r b t s ∙ sym (feed-waits (suc n) r b t s)
+    go false e (waits t s less) ih = feed-waits (suc (suc n)) r b t s ∙ sym (feed-waits (suc n) r b t s)
     go false e (breaks f g) ih = inside e (feed-over (suc n) _ _ (broken r b g) ∙ sym (feed-over n _ _ (broken r b g)))
     go false e (moves s l f t) ih = inside e (ih _ _ (omega (arith, length-drop (sizeAt r b) b)))
 
@@ -173,7 +173,7 @@ feed-joined (suc n) r b c h = go (r .over) refl (next-of r b) (feed-joined n)
         → ((q : Run) (d e : List ℕ) → length d ≤ n → feed q (d ++ e) ≡ joined (feedIn n q d) e)
         → feed r (b ++ c) ≡ joined (feedIn (suc n) r b) c
     go true e x ih = not-moved n r b c (feed-over (suc n) r b e)
-    go false e (waits t s) ih = not-moved n r b c (feed-waits (suc n) r b t s)
+    go false e (waits t s less) ih = not-moved n r b c (feed-waits (suc n) r b t s)
     go false e (breaks f g) ih = stops g (f c) e
     go false e (moves s l f t) ih = goes s l (f c) (t c) e (ih _ _ c (omega (arith, length-drop (sizeAt r b) b)))
 

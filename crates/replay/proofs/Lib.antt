@@ -4,5 +4,6 @@ pub mod Pages
 pub mod PageEnds
 pub mod PageLoop
 pub mod Bounds
-pub mod Whole
+pub mod AtOnce
 pub mod Cutting
+pub mod Left

@@ -1,7 +1,7 @@
 -- The loop that feeds a page: a field, and then the rest; and it comes to its end.
 use Prim.Native.Nat.{ℕ, zero, suc, _+_, _-_, _<_, _≤_}
 use mathlib.Core.Path.{_≡_, refl, sym, ap, _∙_}
-use mathlib.Core.Bool.{Bool, true, false, not, cond}
+use mathlib.Core.Bool.{Bool, true, false}
 use mathlib.Core.List.{List}
 use native.Mathlib.Omega.{arith}
 use lib.Dec.{leb, eqb}
@@ -10,19 +10,10 @@ use borrow.Author.Tests.{eqb-false, eq-eqb, ne-eqb}
 use Rattle.carry.specs.Page.{Page, written, carries, moved, fieldRoom, takes}
 use Rattle.carry.proofs.Pages.{cond-true, cond-false}
 use Rattle.carry.proofs.Fields.{takes-none}
-use Rattle.runfile.specs.Field.{fieldOf, missing}
+use Rattle.runfile.specs.Field.{fieldOf}
 use Rattle.runfile.specs.declared.Found.{Found}
-use Rattle.runfile.specs.declared.Field.the-variants.{Malformed}
 use Rattle.replay.specs.Feed.{feedPageIn, feedPage}
 use Rattle.replay.proofs.Feeding.{sizeAt, Next, waits, breaks, moves, next-of}
-
-pub negated : (a : Bool) → not a ≡ true → a ≡ false
-negated false e = refl
-negated true e = absurd (let z : _≡_ {A = ℕ} 0 1 = cc in omega arith)
-
-pub affirmed : (a : Bool) → not a ≡ false → a ≡ true
-affirmed true e = refl
-affirmed false e = absurd (let z : _≡_ {A = ℕ} 0 1 = cc in omega arith)
 
 module _ (bytes : List ℕ) where
   -- With room, the field at the reading position is carried out, and the position moves behind it.
@@ -37,7 +28,7 @@ module _ (bytes : List ℕ) where
   size-within p = go (next-of (p .run) (drop (p .at) bytes))
     where
       go : Next (p .run) (drop (p .at) bytes) → sizeAt (p .run) (drop (p .at) bytes) ≤ length bytes - p .at
-      go (waits t s) = omega (arith, s)
+      go (waits t s less) = omega (arith, s)
       go (breaks f g) = let z : sizeAt (p .run) (drop (p .at) bytes) ≡ 0 = ap (λ (x : Found). x .size) g in omega (arith, z)
       go (moves s l f t) = omega (arith, l, length-drop (p .at) bytes)
 

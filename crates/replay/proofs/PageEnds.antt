@@ -5,14 +5,14 @@ use mathlib.Core.Bool.{Bool, true, false, cond}
 use mathlib.Core.List.{List, [], _++_, append-nil}
 use native.Mathlib.Nat.{zero-add}
 use native.Mathlib.Omega.{arith}
-use lib.Dec.{leb, eqb}
+use lib.Dec.{eqb}
 use lib.ListN.{length, take, drop}
 use lib.Seq.{sets, sets-eq, take-append-seam}
 use borrow.Author.Tests.{le-leb, eqb-true, eqb-false, eq-eqb, ne-eqb}
 use Rattle.carry.specs.Page.{Page, fieldRoom, takes}
 use Rattle.carry.proofs.Pages.{cond-true, cond-false}
 use Rattle.carry.proofs.Room.{Within, takes-within}
-use Rattle.replay.specs.Trace.{Fed, unmoved, after}
+use Rattle.replay.specs.Trace.{Fed, after}
 use Rattle.replay.specs.Feed.{feedPageIn, feedPage}
 use Rattle.replay.specs.Pieces.{held, atFront, nextPage, Written, pagesIn, pagesOf}
 use Rattle.replay.proofs.Loop.{goes-on, feed-over, feed-still, feed-next}

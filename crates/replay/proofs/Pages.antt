@@ -1,5 +1,5 @@
 -- What a page holds after it was fed, and what is left to do then, is what was to do; with room for a field nothing is left.
-use Prim.Native.Nat.{ℕ, zero, suc, _+_, _-_, _<_, _≤_}
+use Prim.Native.Nat.{ℕ, zero, suc, _+_, _-_, _<_}
 use mathlib.Core.Path.{_≡_, refl, sym, ap, _∙_, subst}
 use mathlib.Core.Bool.{Bool, true, false}
 use mathlib.Core.List.{List, [], _++_, append-assoc}
@@ -9,9 +9,9 @@ use lib.Dec.{leb, eqb}
 use lib.ListN.{length, drop, length-append}
 use lib.Seq.{sets, drop-drop}
 use borrow.Author.Tests.{eqb-true, eqb-false, eq-eqb}
+use Rattle.model.proofs.tests.Truth.{not-both}
 use Rattle.lines.proofs.Puts.{sets-append}
-use Rattle.carry.specs.Run.{Run}
-use Rattle.carry.specs.Page.{Page, written, carries, fieldRoom, takes}
+use Rattle.carry.specs.Page.{Page, written, fieldRoom, takes}
 use Rattle.carry.proofs.Fields.{takes-none}
 use Rattle.replay.specs.Trace.{Fed, unmoved, after, feed}
 use Rattle.replay.specs.Feed.{feedPageIn, feedPage}
@@ -32,9 +32,6 @@ pub record Reaches (bytes : List ℕ) (p p′ : Page) : Type 0 where
   pub out : p′ .out ≡ sets (p .out) (p .to) lines
   pub to : p′ .to ≡ p .to + length lines
   pub rest : ahead bytes p ≡ after (record { run = p′ .run; lines = lines }) (ahead bytes p′)
-
-clash : {P : Type 0} → _≡_ {A = Bool} false true → P
-clash z = absurd (let y : _≡_ {A = ℕ} 0 1 = cc in omega arith)
 
 module _ (bytes : List ℕ) where
   reaches-none : (p : Page) → Reaches bytes p p
@@ -77,7 +74,7 @@ module _ (bytes : List ℕ) where
     still s = go (next-of (p .run) b)
       where
         go : Next (p .run) b → feed (told (p .run) b .run) b ≡ unmoved (told (p .run) b .run) b
-        go (waits t z) = rw t (feed-waits (length b) (p .run) b t z)
+        go (waits t z less) = rw t (feed-waits (length b) (p .run) b t z)
         go (breaks f g) = run.feed-over (length b) (told (p .run) b .run) b (broken (p .run) b g)
         go (moves l k f g) = absurd (omega arith)
 
@@ -127,7 +124,7 @@ module _ (bytes : List ℕ) where
       go false e false f s g ih =
           let same = takes-none bytes p f in
           let at : eqb (takes bytes p .at) (p .at) ≡ true = eq-eqb _ _ (ap (λ (x : Page). x .at) same) in
-          subst Ends (sym (feed-still bytes p n e at ∙ same)) (λ k. clash (sym f ∙ k))
+          subst Ends (sym (feed-still bytes p n e at ∙ same)) (λ k. absurd (not-both k f))
       go false e true f true g ih = subst Ends (sym (feed-still bytes p n e g)) (λ k. still-done p f (eqb-true _ _ g))
       go false e true f false g ih =
           let m = goes-on bytes p (eqb-false _ _ g) in

@@ -4,7 +4,7 @@ use mathlib.Core.List.{List, [], _∷_, _++_}
 use Prim.Native.Nat.{ℕ, zero, suc}
 use lib.Dec.{eqb}
 use lib.ListN.{length, drop, replicate}
-use Rattle.model.specs.Tables.{unused}
+use Rattle.model.specs.Tables.{unused, tablesOf, unopened}
 use Rattle.runfile.specs.Field.{fieldOf}
 use Rattle.lines.specs.Line.{header}
 use Rattle.carry.specs.Run.{Run, Told, malformed, carried}
@@ -44,14 +44,12 @@ finished r left = cond (r .over || (r .opened && eqb left 0)) (record { run = r;
 unfoldable pub fresh : Run
 fresh = record {
   queue = record {
-    tables = record {
-      control = record { tasks = 0; slots = 0; anchor = 0; pooled = 0; head = 0 };
-      lefts = replicate 1024 0;
-      rights = replicate 1024 0;
-      labels = replicate 1024 0;
-      marks = replicate 16 0;
-      next = replicate 1024 0;
-    };
+    tables = tablesOf unopened
+        (replicate 1024 0)
+        (replicate 1024 0)
+        (replicate 1024 0)
+        (replicate 16 0)
+        (replicate 1024 0);
     records = replicate 16 unused;
   };
   opened = false;

@@ -12,14 +12,15 @@ use Rattle.model.specs.declared.Outcome.the-variants.{Refused}
 use Rattle.model.specs.Tables.{Tables, isPooled, tablesOf}
 use Rattle.model.specs.Ends.{endsCall}
 use Rattle.model.specs.Sound.{recordSound}
-use Rattle.table.specs.declared.Acted.{Acted as Moved}
+use Rattle.model.specs.declared.Transition.{Transition}
 use Rattle.table.specs.Lent.{withTables}
-use Rattle.sound.specs.Parts.{idle-sound}
+use Rattle.sound.specs.Records.{idle-sound}
 use Rattle.places.specs.Arm.{stepAt}
-use Rattle.engine.specs.Parts.{recordRefusal, moveOn}
+use Rattle.engine.specs.MoveOn.{moveOn}
+use Rattle.model.specs.Refusals.{recordRefusal}
 use Rattle.engine.specs.Stored.{controlAfter, recordAfter, anchorAfter, callAfter}
 use Rattle.engine.proofs.Stored.{moved-stored, early-stored}
-use Rattle.engine.proofs.Whole.{stopped, at-place}
+use Rattle.engine.proofs.InParts.{stopped, at-place}
 use Rattle.rows.specs.Rows.{controlOf, callOf, recordOf, upperOf}
 use Rattle.rows.specs.Moved.{RowMoved}
 use Rattle.rows.proofs.Rows.{counting}
@@ -55,7 +56,7 @@ module _ (ws row lefts rights labels marks next : List ℕ) (c : Control) (r : R
         rw eo,
       )
 
-  module _ (ws′ row′ lefts′ rights′ labels′ marks′ next′ : List ℕ) (m : Moved)
+  module _ (ws′ row′ lefts′ rights′ labels′ marks′ next′ : List ℕ) (m : Transition)
       (up : upperOf row′ ≡ cond (endsCall (m .outcome)) 0 (upperOf row)) where
     abbrev q′ : Control → Tables
     q′ d = tablesOf d lefts′ rights′ labels′ marks′ next′

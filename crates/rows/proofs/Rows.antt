@@ -7,7 +7,8 @@ use native.Mathlib.Omega.{arith}
 use lib.ListN.{length, getD, set}
 use Rattle.model.specs.declared.Record.{Record}
 use Rattle.model.specs.declared.TaskRecord.{TaskRecord}
-use Rattle.model.specs.Tables.{unused, zeroed}
+use Rattle.model.specs.Tables.{unused, withOwn}
+use Rattle.model.specs.Lists.{zeroed}
 use Rattle.rows.specs.Rows.{callOf, recordOf, recordsOf, upperOf, uppersOf}
 
 pub length-records : (rows : List (List ℕ)) → length (recordsOf rows) ≡ length rows
@@ -50,17 +51,7 @@ counting r n = record { call = r; retries = n }
 
 -- A call with another label.
 abbrev pub labelled : Record → ℕ → Record
-labelled r n = record {
-  place = r .place;
-  kind = r .kind;
-  side = r .side;
-  own = r .own;
-  label = n;
-  seen = r .seen;
-  neighbour = r .neighbour;
-  link = r .link;
-  finishing = r .finishing;
-}
+labelled r n = withOwn r (r .own) n
 
 -- One more entry zeroed.
 zero-suc : {A : Type 0} (n : ℕ) (z : A) (l : List A) → n < length l → set (zeroed n z l) n z ≡ zeroed (suc n) z l

@@ -8,7 +8,7 @@ use Rattle.model.specs.declared.Outcome.{Outcome}
 use Rattle.model.specs.Tables.{Tables}
 use Rattle.model.specs.Ends.{endsCall}
 use Rattle.model.specs.Calls.{Acted}
-use Rattle.engine.specs.Parts.{moveOn}
+use Rattle.engine.specs.MoveOn.{moveOn}
 use Rattle.rows.specs.Rows.{recordOf, upperOf}
 
 abbrev pub RowMoved : Tables → List ℕ → Tables → List ℕ → Outcome → Type 0

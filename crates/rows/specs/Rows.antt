@@ -6,7 +6,7 @@ use Rattle.model.specs.declared.Control.{Control}
 use Rattle.model.specs.declared.Record.{Record}
 use Rattle.model.specs.declared.TaskRecord.{TaskRecord}
 use Rattle.model.specs.Route.{counted}
-use Rattle.table.specs.declared.Acted.{Acted}
+use Rattle.model.specs.declared.Transition.{Transition}
 use Rattle.model.specs.Tables.{Queue, queueOf, unused, withCall}
 
 unfoldable pub controlOf : List ℕ → Control
@@ -58,5 +58,5 @@ abbrev pub withCallAt : List TaskRecord → ℕ → Record → List TaskRecord
 withCallAt rs t r = set rs t (withCall (getD rs t unused) r)
 
 -- Records in which a task has what a start or step leaves of its own.
-abbrev pub withActedAt : List TaskRecord → ℕ → Acted → List TaskRecord
+abbrev pub withActedAt : List TaskRecord → ℕ → Transition → List TaskRecord
 withActedAt rs t m = set rs t (record { call = m .task; retries = counted (getD rs t unused .retries) (m .failed) })

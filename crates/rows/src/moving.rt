@@ -3,7 +3,7 @@
 use crate::CONTROL_WORDS;
 use crate::RECORD_WORDS;
 use model::Outcome;
-use table::Acted;
+use model::Transition;
 ghost use mathlib.Core.Path.{_≡_};
 ghost use mathlib.Core.Bool.{cond};
 ghost use mathlib.Core.List.{List};
@@ -15,7 +15,11 @@ ghost use Rattle.rows.specs.Rows.{controlOf, callOf, recordOf, upperOf};
 ghost use Rattle.rows.specs.Moved.{RowMoved};
 
 /// What a step at 1 to 10 may change, stored: as `store`, but for head, own slot and label.
-fn put_early(control: &mut [u64; CONTROL_WORDS], row: &mut [u64; RECORD_WORDS], m: Acted) -> Outcome
+fn put_early(
+    control: &mut [u64; CONTROL_WORDS],
+    row: &mut [u64; RECORD_WORDS],
+    m: Transition,
+) -> Outcome
     ensures { λ o. ⌜ o ≡ m .outcome ⌝ }
     ensures { λ _. ⌜ controlOf (now (control .exit)) ≡ anchorAfter (controlOf (now (control .entry))) m ⌝ }
     ensures { λ _. ⌜ recordOf (now (row .exit)) ≡ callAfter (recordOf (now (row .entry))) m ⌝ }

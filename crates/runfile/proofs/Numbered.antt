@@ -7,11 +7,12 @@ use lib.Dec.{eqb, leb, ltb}
 use lib.ListN.{drop, getD, length}
 use borrow.Author.Tests.{eqb-true}
 use Rattle.model.proofs.tests.Truth.{not-both, split}
+use Rattle.runfile.specs.declared.Field.the-variants.{Malformed}
 use Rattle.runfile.specs.Field.{Numbered, contentOf, fieldNumber, fieldOf, formed, twoAt}
 
 -- No other tag is well formed.
-unknown : (opened : Bool) (tag len : ℕ) → eqb tag 1 ≡ false → eqb tag 2 ≡ false → eqb tag 3 ≡ false → eqb tag 4 ≡ false → eqb tag 5 ≡ false
-    → eqb tag 6 ≡ false → formed opened tag len ≡ false
+unknown : (opened : Bool) (tag len : ℕ) → eqb tag 1 ≡ false → eqb tag 2 ≡ false → eqb tag 3 ≡ false → eqb tag 4 ≡ false
+    → eqb tag 5 ≡ false → eqb tag 6 ≡ false → formed opened tag len ≡ false
 unfolding formed
 unknown true tag len a b c d e f = rw (b, c, d, f)
 unknown false tag len a b c d e f = rw (a, e)
@@ -41,3 +42,7 @@ numbered opened b whole =
     (λ f. split (formed opened tag len)
     (λ g. split (ltb (length b) (3 + len)) (λ h. absurd (whole (rw (e, f, g, h) refl))) (λ h. rw (e, f, g, h) (tagged opened tag len (drop 3 b) g)))
     (λ g. absurd (whole (rw (e, f, g) refl)))))
+
+-- A malformed place has the number of its refusal.
+pub malformed-numbered : fieldNumber Malformed ≡ 16
+malformed-numbered = refl

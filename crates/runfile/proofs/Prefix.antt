@@ -1,24 +1,42 @@
--- A field that is there whole, or malformed, stays the same however many bytes follow: so a file may come in pieces.
-use Prim.Native.Nat.{ℕ, _+_, _-_, _<_, _≤_}
+-- A field that is there whole, or malformed, stays the same however many bytes follow: so a file may come in pieces. Bytes that hold less
+-- than a field are fewer than the longest has.
+use Prim.Native.Nat.{ℕ, _+_, _<_, _≤_}
 use mathlib.Core.Path.{_≡_, refl, subst}
-use mathlib.Core.Bool.{Bool, true, false, _||_, or-false}
+use mathlib.Core.Bool.{Bool, true, false, _&&_, _||_, or-false}
 use mathlib.Core.List.{List, _++_}
 use native.Mathlib.Omega.{arith}
 use lib.ListN.{length, getD, drop, length-append, length-drop, List·getD-append}
 use lib.Seq.{drop-append-le}
 use lib.Dec.{ltb, leb, eqb}
-use borrow.Author.Tests.{leb-true, ltb-false, eqb-true, lt-leb, le-ltb}
-use Rattle.runfile.specs.Field.{twoAt, fourAt, formed, contentOf, missing, fieldOf}
+use borrow.Author.Tests.{leb-true, ltb-true, ltb-false, eqb-true, lt-leb, le-ltb}
+use Rattle.model.proofs.tests.Truth.{and-true, or-cases}
+use Rattle.runfile.specs.Field.{twoAt, fourAt, formed, longestField, contentOf, missing, fieldOf}
 use Rattle.runfile.specs.declared.Field.the-variants.{Malformed, Cut, End}
 use Rattle.runfile.specs.declared.Found.{Found}
 
 clash : {P : Type 0} → _≡_ {A = Bool} false true → P
 clash z = absurd (let y : _≡_ {A = ℕ} 0 1 = cc in omega arith)
 
+pub formed-most : (o : Bool) (tag len : ℕ) → formed o tag len ≡ true → len ≤ 4096
+unfolding formed
+formed-most false tag len e = omega (arith, eqb-true len 7 (and-true (eqb tag 1 || eqb tag 5) (eqb len 7) e .1))
+formed-most true tag len e =
+    let push = eqb tag 2 && eqb len 8 in
+    let pop = eqb tag 3 && eqb len 2 in
+    let steps = eqb tag 4 && leb len 4096 in
+    let put = eqb tag 6 && eqb len 6 in
+    or-cases (push || pop || steps) put e
+    (λ f. or-cases (push || pop) steps f
+    (λ g. or-cases push pop g
+    (λ h. omega (arith, eqb-true len 8 (and-true (eqb tag 2) (eqb len 8) h .1)))
+    (λ h. omega (arith, eqb-true len 2 (and-true (eqb tag 3) (eqb len 2) h .1))))
+    (λ g. leb-true len 4096 (and-true (eqb tag 4) (leb len 4096) g .1)))
+    (λ f. omega (arith, eqb-true len 6 (and-true (eqb tag 6) (eqb len 6) f .1)))
+
 -- What stands at the head of b.
 pub data Seen (o : Bool) (b : List ℕ) : Found → Type 0 where
   ended : length b ≤ 0 → Seen o b (missing End)
-  cut : Seen o b (missing Cut)
+  cut : length b < longestField → Seen o b (missing Cut)
   wrong : 3 ≤ length b → formed o (getD b 0 0) (twoAt b 1) ≡ false → Seen o b (missing Malformed)
   whole : formed o (getD b 0 0) (twoAt b 1) ≡ true → 3 + twoAt b 1 ≤ length b
       → Seen o b (record { field = contentOf (getD b 0 0) (twoAt b 1) (drop 3 b); size = 3 + twoAt b 1 })
@@ -31,9 +49,11 @@ seen o b = go (leb (length b) 0) refl (ltb (length b) 3) refl (formed o (getD b 
         → (f : Bool) → formed o (getD b 0 0) (twoAt b 1) ≡ f → (k : Bool) → ltb (length b) (3 + twoAt b 1) ≡ k
         → Seen o b (fieldOf o b)
     go true p s q f r k t = rw p (ended (leb-true (length b) 0 p))
-    go false p true q f r k t = rw (p, q) cut
+    go false p true q f r k t = rw (p, q) (cut (omega (arith, ltb-true (length b) 3 q)))
     go false p false q false r k t = rw (p, q, r) (wrong (ltb-false (length b) 3 q) r)
-    go false p false q true r true t = rw (p, q, r, t) cut
+    go false p false q true r true t =
+        let most : twoAt b 1 ≤ 4096 = formed-most o (getD b 0 0) (twoAt b 1) r in
+        rw (p, q, r, t) (cut (omega (arith, most, ltb-true (length b) (3 + twoAt b 1) t)))
     go false p false q true r false t = rw (p, q, r, t) (whole r (ltb-false (length b) (3 + twoAt b 1) t))
 
 -- How long a well-formed field's content is.
@@ -73,7 +93,8 @@ module _ (b c : List ℕ) where
   unfolding fourAt
   same-four i h = rw (same-two i (omega arith), same-two (i + 2) (omega arith))
 
-  same-content : (tag len : ℕ) (o : Bool) → formed o tag len ≡ true → len ≤ length b → contentOf tag len (b ++ c) ≡ contentOf tag len b
+  same-content : (tag len : ℕ) (o : Bool) → formed o tag len ≡ true → len ≤ length b
+      → contentOf tag len (b ++ c) ≡ contentOf tag len b
   unfolding contentOf
   same-content tag len o e h = go (eqb tag 1 || eqb tag 5) refl (eqb tag 2) refl (eqb tag 3) refl (eqb tag 6) refl
     where

@@ -25,6 +25,10 @@ formed opened tag len =
     ((eqb tag 2 && eqb len 8) || (eqb tag 3 && eqb len 2) || (eqb tag 4 && leb len 4096) || (eqb tag 6 && eqb len 6))
     ((eqb tag 1 || eqb tag 5) && eqb len 7)
 
+-- No field is longer: a head, and steps of 4,096 tasks.
+abbrev pub longestField : ℕ
+longestField = 3 + 4096
+
 -- 01 open: tasks, slots, first tag; 05 the same, pooled. 02 push: task, side, slot, label; 06 without the slot. 03 pop: task, side.
 -- 04 steps: tasks. Of an operation the tasks are the first bytes of the content, one or all.
 unfoldable pub contentOf : ℕ → ℕ → List ℕ → Field

@@ -128,7 +128,7 @@ fn hand_out(
 }
 
 /// One call: a and b are the calls of the first two of so many records.
-pub fn next_schedule(
+fn next_schedule(
     c: Control,
     a: Record,
     b: Record,

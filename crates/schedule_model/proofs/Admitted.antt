@@ -9,10 +9,10 @@ use borrow.Author.Tests.{leb-true, eqb-true, not-false}
 use Rattle.model.specs.Tables.{Queue}
 use Rattle.model.specs.Sound.{controlSound}
 use Rattle.model.specs.Refusals.{Rule}
-use Rattle.model.specs.History.{All}
 use Rattle.model.proofs.tests.Rules.{cleared}
 use Rattle.model.proofs.tests.Truth.{and-true}
 use Rattle.model.proofs.laws.Sizes.{fits}
+use Rattle.model.specs.Lists.{All}
 use Rattle.schedule_model.specs.Schedules.{atWork, bothAnswered}
 use Rattle.schedule_model.specs.Next.{twoAtWork, scheduleRules, scheduleRefusal}
 

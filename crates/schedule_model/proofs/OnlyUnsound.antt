@@ -15,13 +15,14 @@ use Rattle.model.specs.declared.Outcome.the-variants.{Refused, Moved}
 use Rattle.model.specs.declared.Op.the-variants.{Step}
 use Rattle.model.specs.Tables.{Tables, Queue, isPooled, taskAt, recordAt}
 use Rattle.model.specs.Sound.{controlTests, controlSound, recordSound, anchorSound}
-use Rattle.model.specs.Places.{Touch, nothing, setAnchor, setLink, clearMark, takeSlot, setNext, setHead, linkMet, Move, move, apply}
+use Rattle.model.specs.Places.{Touch, nothing, setAnchor, setLink, clearMark, takeSlot, setNext, setHead, wordFound, Move, move, apply}
 use Rattle.model.specs.Refusals.{Rule, Lent, among, isBusy, leavesSound, stepTests, stepSound, stepRules, stepRefusal}
 use Rattle.model.specs.Calls.{Acted, decide, finish, step, actOn, act}
-use Rattle.model.specs.History.{All, final}
+use Rattle.model.specs.History.{final}
 use Rattle.model.proofs.laws.Sizes.{fits, act-fits, act-tasks}
-use Rattle.model.proofs.laws.Tests.{by-test}
+use Rattle.model.proofs.tests.Truth.{by-test}
 use Rattle.model.proofs.tests.Rules.{tests, passes, cleared}
+use Rattle.model.specs.Lists.{All}
 use Rattle.schedule_model.specs.Schedules.{atWork}
 use Rattle.schedule_model.specs.Next.{scheduleRefusal}
 use Rattle.schedule_model.specs.Claims.{tries, OnlyUnsound}
@@ -43,17 +44,17 @@ touched (setHead w) q h s = h
 
 -- The move of a step that is not refused leaves Anchor sound.
 lawful : (q : Tables) (p : Lent) (r : Record) → stepRefusal q p r ≡ 0
-    → leavesSound (q .control .slots) (move (q .control) r (linkMet q r) .touch) ≡ true
+    → leavesSound (q .control .slots) (move (q .control) r (wordFound q r) .touch) ≡ true
 unfolding stepRefusal stepSound
 lawful q p r e =
     let rules = cleared (stepRules q p r) refl e in
-    tests (stepTests (q .control) r (linkMet q r)) (not-false _ (rules .1 .1 .1 .1 .1 .0)) .1 .1 .0
+    tests (stepTests (q .control) r (wordFound q r)) (not-false _ (rules .1 .1 .1 .1 .1 .0)) .1 .1 .0
 
 sound-after : (q : Tables) (p : Lent) (r : TaskRecord) → controlSound (q .control) ≡ true → controlSound (step q p r .tables .control) ≡ true
 unfolding step finish controlSound
 sound-after q p r h =
     by-test (λ (a : Acted). controlSound (a .tables .control) ≡ true) (eqb (stepRefusal q p (r .call)) 0)
-    (λ e. touched (move (q .control) (r .call) (linkMet q (r .call)) .touch) q h (lawful q p (r .call) (eqb-true _ _ e)))
+    (λ e. touched (move (q .control) (r .call) (wordFound q (r .call)) .touch) q h (lawful q p (r .call) (eqb-true _ _ e)))
     (λ _. h)
 
 -- A queue whose control is sound, with tables long enough for its two tasks.
@@ -80,7 +81,7 @@ busy-refusal : (q : Queue) (t : ℕ) → Ready q → t < 2 → atWork q t ≡ tr
     → let r = recordAt q t in
     let c = q .tables .control in
     stepRefusal (q .tables) (among q t) r
-    ≡ cond (not (recordSound (isPooled c) (c .slots) r)) 34 (cond (not (stepSound c r (linkMet (q .tables) r))) 34 0)
+    ≡ cond (not (recordSound (isPooled c) (c .slots) r)) 34 (cond (not (stepSound c r (wordFound (q .tables) r))) 34 0)
 unfolding stepRefusal
 busy-refusal q t h low busy = rw (h .sound, h .enough, h .tasks, lt-ltb t 2 low, not-true (eqb (recordAt q t .place) 0) busy) refl
 
@@ -100,7 +101,7 @@ by34 q t n h low busy e =
     let r = recordAt q t in
     let whole = taskAt q t in
     let c = q .tables .control in
-    let w = linkMet (q .tables) r in
+    let w = wordFound (q .tables) r in
     let done = finish (q .tables) whole (move c r w) in
     refused-by (not (recordSound (isPooled c) (c .slots) r)) (not (stepSound c r w)) (q .tables) whole done n (moved (q .tables) whole _ n)
     (ap (λ (why : ℕ). decide why (q .tables) whole done .outcome) (sym (busy-refusal q t h low busy)) ∙ e)

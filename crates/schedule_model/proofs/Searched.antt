@@ -14,7 +14,7 @@ use Rattle.model.specs.declared.Outcome.the-variants.{Refused, Moved}
 use Rattle.model.specs.declared.Op.the-variants.{Step}
 use Rattle.model.specs.Tables.{Queue}
 use Rattle.model.specs.Calls.{act}
-use Rattle.model.proofs.laws.Tests.{by-test}
+use Rattle.model.proofs.tests.Truth.{by-test}
 use Rattle.schedule_model.specs.Schedules.{Schedule, ends, begun, atWork, bothAnswered, onwards, through, schedules, allSchedules}
 use Rattle.schedule_model.specs.Next.{Next, given, noMore, precedes, firstAfter, memoryLength, remembered}
 use Rattle.schedule_model.specs.Search.{ended, orElse, prefixed, stepped, least, frees, tried, seekOf}

@@ -10,7 +10,7 @@ use Rattle.model.specs.declared.Outcome.{Outcome}
 use Rattle.model.specs.declared.Outcome.the-variants.{Refused}
 use Rattle.model.specs.declared.Op.the-variants.{Step}
 use Rattle.model.specs.Tables.{Tables, Queue}
-use Rattle.model.specs.Places.{linkMet, move}
+use Rattle.model.specs.Places.{wordFound, move}
 use Rattle.model.specs.Refusals.{Lent, among, stepRefusal}
 use Rattle.model.specs.Calls.{Acted, finish, step, actOn, act}
 use Rattle.schedule_model.specs.Schedules.{ends}
@@ -35,7 +35,7 @@ unfolding step finish
 step-alike q p c m n = go (eqb (stepRefusal q p c) 0)
   where
     made : ℕ → Acted
-    made k = finish q (counting c k) (move (q .control) c (linkMet q c))
+    made k = finish q (counting c k) (move (q .control) c (wordFound q c))
 
     kept : ℕ → Acted
     kept k = record { tables = q; task = counting c k; outcome = Refused (stepRefusal q p c) }

@@ -10,12 +10,12 @@ use Rattle.model.specs.declared.Control.{Control}
 use Rattle.model.specs.declared.Record.{Record}
 use Rattle.model.specs.declared.TaskRecord.{TaskRecord}
 use Rattle.model.specs.Tables.{Tables, isPooled, tablesOf}
-use Rattle.model.specs.Sound.{isPush}
-use Rattle.model.specs.Places.{Touch, nothing, setAnchor, setLink, clearMark, takeSlot, setNext, setHead, Move, row, linkMet, apply}
+use Rattle.model.specs.Places.{Touch, nothing, setAnchor, setLink, clearMark, takeSlot, setNext, setHead, Move, row, wordFound, apply}
 use Rattle.model.specs.Places.{at1, at2, at3, at4, at5, at6, at7, at9, at10, at11, at12, at13, at14, at15, at16, at17, move}
 use Rattle.model.specs.Refusals.{Lent, stepRefusal}
 use Rattle.model.specs.Calls.{Acted, finish, step}
-use Rattle.model.proofs.laws.Tests.{either}
+use Rattle.model.proofs.tests.Truth.{either}
+use Rattle.model.specs.Kinds.{isPush}
 use Rattle.schedule_model.specs.Undo.{saved, putBack, Undoes}
 
 -- A touch of slot x's row, or of none.
@@ -101,7 +101,7 @@ pub undoes : Undoes
 unfolding step finish
 undoes q p r =
     let c = r .call in
-    let m = move (q .control) c (linkMet q c) in
+    let m = move (q .control) c (wordFound q c) in
     either (λ (a : Acted). back q (row c) (a .tables) ≡ q) (eqb (stepRefusal q p c) 0)
-    (applied q (row c) (m .touch) (there (q .control) c (linkMet q c)))
+    (applied q (row c) (m .touch) (there (q .control) c (wordFound q c)))
     (applied q (row c) nothing none)

@@ -1,15 +1,14 @@
 -- One call: the schedule after the one that the lent memory holds. (Document 02, #107.)
 use mathlib.Core.Bool.{Bool, true, false, _&&_, _||_, not, cond}
-use mathlib.Core.List.{List, [], _∷_}
+use mathlib.Core.List.{List, [], _∷_, _++_}
 use Prim.Native.Nat.{ℕ}
 use lib.Dec.{ltb, leb, eqb}
 use lib.ListN.{length, getD, take, drop}
 use lib.Seq.{sets}
-use Rattle.model.specs.Tables.{Queue, isPooled}
-use Rattle.model.specs.Sound.{controlSound, rowsFit}
+use Rattle.model.specs.Tables.{Queue}
 use Rattle.model.specs.Walk.{contents, isBroken}
 use Rattle.model.specs.Report.{waiting}
-use Rattle.model.specs.Refusals.{Rule, rule, first, recordsFit}
+use Rattle.model.specs.Refusals.{Rule, rule, first, fits, recordsFit, tableRules}
 use Rattle.schedule_model.specs.declared.ScheduleReply.{ScheduleReply}
 use Rattle.schedule_model.specs.Schedules.{Schedule, atWork, allSchedules}
 
@@ -46,11 +45,10 @@ twoAtWork q = eqb (q .tables .control .tasks) 2 && atWork q 0 && atWork q 1
 abbrev pub scheduleRules : Queue → List ℕ → List Rule
 scheduleRules q ws =
     let c = q .tables .control in
-    rule 34 (not (controlSound c))
-    ∷ rule 12 (not (rowsFit (isPooled c) (c .slots) (q .tables) && recordsFit (c .tasks) q && leb 49 (length ws)))
-    ∷ rule 34 (isBroken (contents (q .tables)))
+    tableRules c (fits (q .tables) && recordsFit (c .tasks) q && leb 49 (length ws))
+    ++ (rule 34 (isBroken (contents (q .tables)))
     ∷ rule 42 (not (twoAtWork q && leb (waiting (q .tables)) 4))
-    ∷ []
+    ∷ [])
 
 unfoldable pub scheduleRefusal : Queue → List ℕ → ℕ
 scheduleRefusal q ws = first (scheduleRules q ws)

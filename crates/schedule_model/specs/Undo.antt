@@ -4,7 +4,7 @@ use Prim.Native.Nat.{ℕ, _/_}
 use lib.ListN.{getD, set}
 use Rattle.model.specs.declared.Control.{Control}
 use Rattle.model.specs.declared.TaskRecord.{TaskRecord}
-use Rattle.model.specs.Tables.{Tables}
+use Rattle.model.specs.Tables.{Tables, tablesOf}
 use Rattle.model.specs.Places.{row}
 use Rattle.model.specs.Refusals.{Lent}
 use Rattle.model.specs.Calls.{step}
@@ -23,14 +23,12 @@ saved x q = record {
 
 -- Put back, with the control c of before.
 abbrev pub putBack : Control → Saved → Tables → Tables
-putBack c s q = record {
-  control = c;
-  lefts = set (q .lefts) (s .slot) (s .left);
-  rights = set (q .rights) (s .slot) (s .right);
-  labels = set (q .labels) (s .slot) (s .label);
-  marks = set (q .marks) (s .slot / 64) (s .mark);
-  next = set (q .next) (s .slot) (s .next);
-}
+putBack c s q = tablesOf c
+    (set (q .lefts) (s .slot) (s .left))
+    (set (q .rights) (s .slot) (s .right))
+    (set (q .labels) (s .slot) (s .label))
+    (set (q .marks) (s .slot / 64) (s .mark))
+    (set (q .next) (s .slot) (s .next))
 
 abbrev pub Undoes : Type 0
 Undoes = (q : Tables) (p : Lent) (r : TaskRecord) → putBack (q .control) (saved (row (r .call)) q) (step q p r .tables) ≡ q

@@ -9,7 +9,7 @@ use lib.Dec.{eqb, leb, ltb}
 use lib.ListN.{length, getD}
 use borrow.Author.Tests.{eq-eqb, ne-eqb, ltb-false}
 use Rattle.model.specs.declared.Entry.{Entry}
-use Rattle.model.proofs.tests.Truth.{decide-eq}
+use Rattle.model.proofs.tests.Truth.{decide-eq, or-false}
 use Rattle.sheet_model.specs.declared.SheetReply.{SheetReply}
 use Rattle.sheet_model.specs.Sheet.{Sheet, any, outside, twice, malformed, chained, waits, leftOf, labelAt, breaks}
 use Rattle.sheet_model.specs.Squares.{Row, linked, crossed}
@@ -18,7 +18,6 @@ use Rattle.sheet_model.specs.Verdict.{brokenBy, inRow, inRows, verdict}
 use Rattle.sheet_model.proofs.Square.{Shows, marks, row-at}
 use Rattle.sheet_model.proofs.Crossing.{meets, lowest, highest, crosses-up, crosses-down, meets-reverse, meets-left, meets-self}
 use Rattle.sheet_model.proofs.Noted.{label-place, low-noted, high-noted}
-use Rattle.sheet_model.proofs.Turns.{or-false}
 
 -- What the form gives.
 pub record Formed (s : Sheet) : Type 0 where

@@ -9,10 +9,10 @@ use lib.ListN.{length, getD, set}
 use borrow.Author.Tests.{eq-eqb, ne-eqb}
 use Rattle.word.specs.declared.Anchor.{Anchor}
 use Rattle.word.specs.Link.{linkOf}
-use Rattle.model.specs.Tables.{isEmpty}
 use Rattle.model.specs.declared.Entry.{Entry}
 use Rattle.model.specs.Sound.{from1, linkSound}
 use Rattle.model.specs.Walk.{Walk, entries, broken, andThen, along}
+use Rattle.model.specs.Sides.{isEmpty}
 use Rattle.sheet_model.specs.Extents.{Extents, placeOf, lower, higher, lost, noted, nextAt, notedAll, gather, extents}
 
 module _ (slots : ℕ) (links labels listed : List ℕ) (up : Bool) (last : ℕ) where

@@ -11,11 +11,12 @@ use Rattle.word.specs.declared.Anchor.{Anchor}
 use Rattle.word.specs.Anchor.{anchorOf}
 use Rattle.model.specs.declared.Control.{Control}
 use Rattle.model.specs.declared.Entry.{Entry}
-use Rattle.model.specs.Tables.{Tables, isEmpty}
+use Rattle.model.specs.Tables.{Tables}
 use Rattle.model.specs.Sound.{controlTests, controlSound, rowsFit}
 use Rattle.model.specs.Walk.{Walk, entries, broken, along, walkFrom, contents, isBroken, met}
 use Rattle.model.proofs.tests.Truth.{split, and-true, not-both}
 use Rattle.model.proofs.tests.Rules.{tests}
+use Rattle.model.specs.Sides.{isEmpty}
 use Rattle.sheet_model.specs.declared.SheetReply.{SheetReply}
 use Rattle.sheet_model.specs.Sheet.{Sheet, malformed}
 use Rattle.sheet_model.specs.Squares.{Row, byteRow, linked, crossed}

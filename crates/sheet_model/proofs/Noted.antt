@@ -10,11 +10,10 @@ use lib.ListN.{length, getD, set, replicate, length-set, getD-replicate}
 use lib.Seq.{getD-set-same, getD-set-other}
 use borrow.Author.Tests.{eqb-true, eqb-false, eq-eqb, ne-eqb}
 use Rattle.model.specs.declared.Entry.{Entry}
-use Rattle.model.proofs.tests.Truth.{decide-eq, split}
+use Rattle.model.proofs.tests.Truth.{decide-eq, split, or-false}
 use Rattle.sheet_model.specs.Sheet.{any, twice}
 use Rattle.sheet_model.specs.Extents.{Extents, placeOf, lower, higher, unseen, noted, nextAt, notedAll}
 use Rattle.sheet_model.proofs.Crossing.{lowest, highest, low-bound, lower-is, lower-min, higher-max}
-use Rattle.sheet_model.proofs.Turns.{or-false}
 
 any-at : (p : ℕ → Bool) (l : List ℕ) (i : ℕ) → any p l ≡ false → i < length l → p (getD l i 0) ≡ false
 any-at p [] i e h = absurd (omega arith)

@@ -1,11 +1,14 @@
 -- Worked sheets, by computation.
-use mathlib.Core.Bool.{true, false}
-use mathlib.Core.List.{List, [], _∷_}
+use mathlib.Core.Bool.{Bool, true, false}
+use mathlib.Core.List.{List, [], _∷_, map}
 use mathlib.Core.Path.{_≡_, refl}
 use Prim.Native.Nat.{ℕ, _+_, _*_, _^_}
 use Rattle.model.specs.declared.Entry.{Entry}
+use Rattle.model.specs.Tables.{Tables}
+use Rattle.model.specs.Refusals.{Rule}
+use Rattle.sheet_model.specs.declared.SheetReply.{SheetReply}
 use Rattle.sheet_model.specs.Sheet.{Sheet, through, chained, breaks, malformed}
-use Rattle.sheet_model.specs.Verdict.{brokenBy, kept, inRow, inRows, verdict}
+use Rattle.sheet_model.specs.Verdict.{brokenBy, kept, refused, sheetRules, inRow, inRows, verdict}
 
 -- A rule on two places, labels 10, 20 and 30 listed, and labels waiting in slots that don't matter.
 abbrev rule : ℕ → ℕ → ℕ
@@ -53,3 +56,13 @@ beyond-the-list = refl
 listed-twice : malformed (record { listed = 10 ∷ 20 ∷ 10 ∷ []; rules = [] }) ≡ true
 unfolding malformed
 listed-twice = refl
+
+-- The answers in numbers, and the refusals in their order, whatever the tables and the sheet.
+abbrev answered : ℕ → ℕ → ℕ → SheetReply
+answered code first second = record { code = code; first = first; second = second }
+
+numbers : kept ∷ brokenBy 2 3 ∷ refused 46 ∷ [] ≡ answered 0 0 0 ∷ answered 0 2 3 ∷ answered 46 0 0 ∷ []
+numbers = refl
+
+order : (q : Tables) (s : Sheet) (enough : Bool) → map (λ (r : Rule). r .number) (sheetRules q s enough) ≡ 34 ∷ 46 ∷ 12 ∷ 34 ∷ []
+order q s enough = refl

@@ -7,8 +7,8 @@ use lib.ListN.{getD, set, replicate}
 use Rattle.model.specs.declared.Entry.{Entry}
 use Rattle.word.specs.declared.Anchor.{Anchor}
 use Rattle.word.specs.Link.{linkOf}
-use Rattle.model.specs.Tables.{isEmpty}
 use Rattle.model.specs.Sound.{from1, linkSound}
+use Rattle.model.specs.Sides.{isEmpty}
 
 -- Whether the walk met no unsound link, and each listed label's lowest and highest position, 1 to 1,023 from the left;
 -- 1,024 and 0 where it doesn't wait.

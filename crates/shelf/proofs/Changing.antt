@@ -10,7 +10,7 @@ use lib.Dec.{leb}
 use lib.ListN.{length, set}
 use borrow.Author.Tests.{leb-true, ne-eqb, not-false}
 use Rattle.model.specs.declared.Control.{Control}
-use Rattle.model.specs.Tables.{Queue, isPooled}
+use Rattle.model.specs.Tables.{Queue, isPooled, tablesOf}
 use Rattle.model.specs.Sound.{rowsFit}
 use Rattle.model.specs.Refusals.{first}
 use Rattle.model.proofs.bridge.Facts.{control-fine}
@@ -25,7 +25,8 @@ use Rattle.shelf_model.proofs.Parts.{part-length}
 use Rattle.shelf_model.proofs.Copied.{Long, long}
 use Rattle.shelf.specs.declared.refusal.Extents.{Extents}
 use Rattle.shelf.specs.Pasting.{putBack, putOn}
-use Rattle.shelf.specs.Extents.{bothFit, extentsFit, returnNumber, returnTests, saveNumber, saveTests}
+use Rattle.shelf_model.specs.Shelves.{returnTests, saveTests}
+use Rattle.shelf.specs.Extents.{bothFit, extentsFit, returnNumber, saveNumber}
 use Rattle.shelf.specs.Lent.{Returned, Saved, controlsOf, returning, saving, shelvesIn}
 use Rattle.shelf.proofs.Pasting.{back-is, put-is}
 use Rattle.shelf.proofs.Controls.{back-records, back-uppers, length-controls, put-records, put-uppers}
@@ -234,14 +235,12 @@ module _ (row : List ℕ) (rs : List (List ℕ)) (l r b m x : List ℕ) (cs8 rs8
       rw none (λ i. record {
         code = 0;
         queue = record {
-          tables = record {
-            control = k i;
-            lefts = row-back h l l8 (on .slots) (f .lefts) (g .lefts) i;
-            rights = row-back h r r8 (on .slots) (f .rights) (g .rights) i;
-            labels = row-back h b b8 (on .slots) (f .labels) (g .labels) i;
-            marks = row-back h m m8 (on .slots / 64) (f .marks) (g .marks) i;
-            next = next-back h (isPooled on) (on .slots) (f .next) (g .next) i;
-          };
+          tables = tablesOf (k i)
+              (row-back h l l8 (on .slots) (f .lefts) (g .lefts) i)
+              (row-back h r r8 (on .slots) (f .rights) (g .rights) i)
+              (row-back h b b8 (on .slots) (f .labels) (g .labels) i)
+              (row-back h m m8 (on .slots / 64) (f .marks) (g .marks) i)
+              (next-back h (isPooled on) (on .slots) (f .next) (g .next) i);
           records = records-back h on f g i;
         };
         uppers = uppers-back h on f g i;

@@ -1,12 +1,11 @@
 -- The refusals of a saving and a return, by the lengths of the tables.
-use mathlib.Core.Bool.{Bool, _&&_, not}
-use mathlib.Core.List.{List, [], _∷_}
+use mathlib.Core.Bool.{Bool, _&&_}
 use Prim.Native.Nat.{ℕ, _/_}
-use lib.Dec.{eqb, leb}
+use lib.Dec.{leb}
 use Rattle.model.specs.declared.Control.{Control}
 use Rattle.model.specs.Tables.{isPooled}
-use Rattle.model.specs.Sound.{controlSound}
-use Rattle.model.specs.Refusals.{Rule, first, rule}
+use Rattle.model.specs.Refusals.{first}
+use Rattle.shelf_model.specs.Shelves.{saveTests, returnTests}
 use Rattle.sound.specs.Lengths.{lengthsFit}
 use Rattle.shelf.specs.declared.refusal.Extents.{Extents}
 
@@ -28,13 +27,7 @@ extentsFit c t = lengthsFit (isPooled c) (c .slots) (t .lefts) (t .rights) (t .l
 unfoldable pub bothFit : Control → Extents → Extents → ℕ → Bool
 bothFit c queue shelves controls = extentsFit c queue && extentsFit c (eighth shelves) && leb 8 controls
 
--- The rules over tests already made.
-abbrev pub saveTests : Control → ℕ → Bool → List Rule
-saveTests c n fits = rule 34 (not (controlSound c)) ∷ rule 43 (not (leb n 7)) ∷ rule 12 (not fits) ∷ []
-
-abbrev pub returnTests : Control → ℕ → Bool → List Rule
-returnTests c n fits = rule 43 (not (leb n 7)) ∷ rule 44 (eqb (c .tasks) 0) ∷ rule 34 (not (controlSound c)) ∷ rule 12 (not fits) ∷ []
-
+-- The number of a refusal, by the lengths.
 unfoldable pub saveNumber : Control → ℕ → Extents → Extents → ℕ → ℕ
 saveNumber c n queue shelves controls = first (saveTests c n (bothFit c queue shelves controls))
 

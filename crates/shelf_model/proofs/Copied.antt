@@ -10,7 +10,7 @@ use lib.ListN.{length, take}
 use lib.Seq.{getD-set-other, getD-set-same}
 use borrow.Author.Tests.{leb-true, ltb-true}
 use Rattle.model.specs.declared.Control.{Control}
-use Rattle.model.specs.Tables.{Queue, isPooled}
+use Rattle.model.specs.Tables.{Queue, isPooled, tablesOf}
 use Rattle.model.specs.Sound.{rowTests, rowsFit}
 use Rattle.model.specs.Refusals.{recordsFit}
 use Rattle.model.proofs.tests.Rules.{tests}
@@ -58,14 +58,12 @@ cut-copied from to h =
     let f = from .tables in
     let t = to .tables in
     λ i. record {
-      tables = record {
-        control = c;
-        lefts = take-over (suc (c .slots)) (f .lefts) (t .lefts) (h .lefts) i;
-        rights = take-over (suc (c .slots)) (f .rights) (t .rights) (h .rights) i;
-        labels = take-over (suc (c .slots)) (f .labels) (t .labels) (h .labels) i;
-        marks = take-over (suc (c .slots / 64)) (f .marks) (t .marks) (h .marks) i;
-        next = cut-next (isPooled c) (c .slots) (f .next) (t .next) (h .next) i;
-      };
+      tables = tablesOf c
+          (take-over (suc (c .slots)) (f .lefts) (t .lefts) (h .lefts) i)
+          (take-over (suc (c .slots)) (f .rights) (t .rights) (h .rights) i)
+          (take-over (suc (c .slots)) (f .labels) (t .labels) (h .labels) i)
+          (take-over (suc (c .slots / 64)) (f .marks) (t .marks) (h .marks) i)
+          (cut-next (isPooled c) (c .slots) (f .next) (t .next) (h .next) i);
       records = take-over (c .tasks) (from .records) (to .records) (h .records) i;
     }
 
@@ -114,27 +112,23 @@ module _ (q : Queue) (s : Shelves) (n : ℕ) (h : n ≤ 7) (from : Long (q .tabl
   pub shelf-same : shelfAt (withShelf s n new) n ≡ new
   unfolding copied
   shelf-same = λ i. record {
-    tables = record {
-      control = getD-set-same (s .controls) n c unfilled (omega arith) i;
-      lefts = part-same n (s .lefts) (new .tables .lefts) h fit-lefts i;
-      rights = part-same n (s .rights) (new .tables .rights) h fit-rights i;
-      labels = part-same n (s .labels) (new .tables .labels) h fit-labels i;
-      marks = part-same n (s .marks) (new .tables .marks) h fit-marks i;
-      next = part-same n (s .next) (new .tables .next) h fit-next i;
-    };
+    tables = tablesOf (getD-set-same (s .controls) n c unfilled (omega arith) i)
+        (part-same n (s .lefts) (new .tables .lefts) h fit-lefts i)
+        (part-same n (s .rights) (new .tables .rights) h fit-rights i)
+        (part-same n (s .labels) (new .tables .labels) h fit-labels i)
+        (part-same n (s .marks) (new .tables .marks) h fit-marks i)
+        (part-same n (s .next) (new .tables .next) h fit-next i);
     records = part-same n (s .records) (new .records) h fit-records i;
   }
 
   pub shelf-other : (m : ℕ) → m ≤ 7 → m ≢ n → shelfAt (withShelf s n new) m ≡ shelfAt s m
   unfolding copied
   shelf-other m g d = λ i. record {
-    tables = record {
-      control = getD-set-other (s .controls) n m c unfilled d i;
-      lefts = part-other n (s .lefts) (new .tables .lefts) h fit-lefts m g d i;
-      rights = part-other n (s .rights) (new .tables .rights) h fit-rights m g d i;
-      labels = part-other n (s .labels) (new .tables .labels) h fit-labels m g d i;
-      marks = part-other n (s .marks) (new .tables .marks) h fit-marks m g d i;
-      next = part-other n (s .next) (new .tables .next) h fit-next m g d i;
-    };
+    tables = tablesOf (getD-set-other (s .controls) n m c unfilled d i)
+        (part-other n (s .lefts) (new .tables .lefts) h fit-lefts m g d i)
+        (part-other n (s .rights) (new .tables .rights) h fit-rights m g d i)
+        (part-other n (s .labels) (new .tables .labels) h fit-labels m g d i)
+        (part-other n (s .marks) (new .tables .marks) h fit-marks m g d i)
+        (part-other n (s .next) (new .tables .next) h fit-next m g d i);
     records = part-other n (s .records) (new .records) h fit-records m g d i;
   }

@@ -1,6 +1,6 @@
 -- What lies beyond the lengths matters to nobody: a start or step of the queue cut to its lengths is the start or step of the queue, cut.
 use mathlib.Core.Bool.{Bool, true, false, _&&_, _||_, cond, not}
-use mathlib.Core.List.{List, [], _∷_}
+use mathlib.Core.List.{List, [], _∷_, _++_}
 use mathlib.Core.Logic.{_≢_}
 use mathlib.Core.Path.{_≡_, _∙_, ap, refl}
 use Prim.Native.Nat.{ℕ, suc, _≤_, _/_, _%_}
@@ -10,19 +10,20 @@ use lib.ListN.{getD, length, set, take}
 use borrow.Author.Tests.{eqb-false, eqb-true, not-false}
 use Rattle.model.specs.declared.Record.{Record}
 use Rattle.model.specs.declared.TaskRecord.{TaskRecord}
-use Rattle.model.specs.Tables.{Tables, bit, isPooled, links, marked, putBit, withMark}
+use Rattle.model.specs.Tables.{Tables, bit, isPooled, marked, putBit, withMark, withHead, tablesOf}
 use Rattle.model.specs.Sound.{recordSound, rowsFit}
 use Rattle.model.specs.Places.{Touch, nothing, setAnchor, setLink, clearMark, takeSlot, setNext, setHead}
-use Rattle.model.specs.Places.{Move, apply, withHead, linkMet, linkSide, move, row}
+use Rattle.model.specs.Places.{Move, apply, wordFound, linkSide, move, row}
 use Rattle.model.specs.declared.Outcome.the-variants.{Moved, Refused}
 use Rattle.model.specs.Sound.{controlSound}
 use Rattle.model.specs.Route.{answer, onward, route}
-use Rattle.model.specs.Refusals.{Lent, first, rule, stepRefusal, stepRules, stepSound}
+use Rattle.model.specs.Refusals.{Lent, admissionRules, first, fits, rule, stepRefusal, stepRules, stepSound}
 use Rattle.model.specs.Calls.{Acted, decide, finish, step}
 use Rattle.model.proofs.tests.Rules.{cleared}
 use Rattle.model.proofs.bridge.Facts.{RecordFine, control-fine, record-fine}
 use Rattle.model.proofs.bridge.Stores.{TouchFine}
 use Rattle.model.proofs.bridge.Touches.{beyond, move-fine, row-fine}
+use Rattle.model.specs.Sides.{links}
 use Rattle.shelf_model.specs.Cut.{cut, cutTables}
 use Rattle.shelf_model.proofs.Lists.{get-take, longer-take, set-take}
 
@@ -78,7 +79,7 @@ other-cut false n l x w = refl
 
 -- The cut tables, with other columns.
 abbrev pub columns : Tables → List ℕ → List ℕ → List ℕ → List ℕ → List ℕ → Tables
-columns q l r a m n = record { control = q .control; lefts = l; rights = r; labels = a; marks = m; next = n }
+columns q l r a m n = tablesOf (q .control) l r a m n
 
 pub apply-cut : (t : Touch) (q : Tables) → Within (q .control .slots) t → apply t (cutTables q) ≡ cutTables (apply t q)
 apply-cut nothing q h = refl
@@ -100,7 +101,7 @@ apply-cut (setHead w) q h = refl
 column-cut : (n : ℕ) (l : List ℕ) (x : ℕ) → x ≤ n → getD (take (suc n) l) x 0 ≡ getD l x 0
 column-cut n l x h = get-take (suc n) l x 0 (omega arith)
 
-met-cut : (q : Tables) (r : Record) → RecordFine (isPooled (q .control)) (q .control .slots) r → linkMet (cutTables q) r ≡ linkMet q r
+met-cut : (q : Tables) (r : Record) → RecordFine (isPooled (q .control)) (q .control .slots) r → wordFound (cutTables q) r ≡ wordFound q r
 met-cut q r h = go (eqb (r .place) 11) (eqb (r .place) 13) refl
   where
     n : ℕ
@@ -140,8 +141,7 @@ step-refusal-cut q p r =
     let pooled = isPooled (q .control) in
     let n = q .control .slots in
     rw (fits-cut q)
-    (ap (λ (n : ℕ). first (rule 34 (not (controlSound (q .control)))
-    ∷ rule 12 (not (rowsFit pooled (q .control .slots) q && p .enough)) ∷ rule 13 (not (p .known)) ∷ rule n true ∷ []))
+    (ap (λ (n : ℕ). first (admissionRules (q .control) (fits q) p ++ (rule n true ∷ [])))
     (last-three (recordSound pooled n r) (eqb (r .place) 0) _ _
     (λ s b. ap (stepSound (q .control) r) (met-cut q r (record-fine pooled n r s (eqb-false _ _ b))))))
 
@@ -164,22 +164,22 @@ module _ (q : Tables) (r : TaskRecord) (h : RecordFine (isPooled (q .control)) (
   c = r .call
 
   abbrev m : Move
-  m = move (q .control) c (linkMet q c)
+  m = move (q .control) c (wordFound q c)
 
   touch-within : Within (q .control .slots) (m .touch)
-  touch-within = within _ _ (m .touch) (move-fine (isPooled (q .control)) (q .control .slots) c h low (q .control) (linkMet q c) busy)
+  touch-within = within _ _ (m .touch) (move-fine (isPooled (q .control)) (q .control .slots) c h low (q .control) (wordFound q c) busy)
 
   label-cut : getD (cutTables q .labels) (row c) 0 ≡ getD (q .labels) (row c) 0
   label-cut = column-cut (q .control .slots) (q .labels) (row c) (row-fine (isPooled (q .control)) (q .control .slots) c h)
 
-  finish-cut : finish (cutTables q) r (move (q .control) c (linkMet (cutTables q) c)) ≡ cutActed (finish q r m)
+  finish-cut : finish (cutTables q) r (move (q .control) c (wordFound (cutTables q) c)) ≡ cutActed (finish q r m)
   unfolding finish
   finish-cut =
       ap (λ (w : ℕ). finish (cutTables q) r (move (q .control) c w)) (met-cut q c h)
       ∙ (λ i. record {
         tables = apply-cut (m .touch) q touch-within i;
         task = finish q r m .task;
-        outcome = Moved (answer (onward (route (c .place) (c .kind) (m .outcome)) (m .task .finishing))
+        outcome = Moved (answer (onward (route (c .place) (c .kind) (m .branch)) (m .task .finishing))
             (record { slot = row c; label = cond (eqb (c .place) 17) (c .label) (label-cut i) }));
       })
 
@@ -196,11 +196,11 @@ pub step-cut : (q : Tables) (p : Lent) (r : TaskRecord) → step (cutTables q) p
 unfolding step stepRefusal
 step-cut q p r =
     ap (λ (why : ℕ). decide why (cutTables q) r
-    (finish (cutTables q) r (move (q .control) (r .call) (linkMet (cutTables q) (r .call))))) (step-refusal-cut q p (r .call))
-    ∙ decide-cut (stepRefusal q p (r .call)) q r (finish q r (move (q .control) (r .call) (linkMet q (r .call)))) _ go
+    (finish (cutTables q) r (move (q .control) (r .call) (wordFound (cutTables q) (r .call))))) (step-refusal-cut q p (r .call))
+    ∙ decide-cut (stepRefusal q p (r .call)) q r (finish q r (move (q .control) (r .call) (wordFound q (r .call)))) _ go
   where
-    go : stepRefusal q p (r .call) ≡ 0 → finish (cutTables q) r (move (q .control) (r .call) (linkMet (cutTables q) (r .call)))
-        ≡ cutActed (finish q r (move (q .control) (r .call) (linkMet q (r .call))))
+    go : stepRefusal q p (r .call) ≡ 0 → finish (cutTables q) r (move (q .control) (r .call) (wordFound (cutTables q) (r .call)))
+        ≡ cutActed (finish q r (move (q .control) (r .call) (wordFound q (r .call))))
     go e =
         let z = cleared (stepRules q p (r .call)) refl e in
         let busy = eqb-false _ _ (z .1 .1 .1 .1 .0) in

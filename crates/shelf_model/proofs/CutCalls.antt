@@ -16,10 +16,12 @@ use Rattle.model.specs.declared.Op.the-variants.{Push, Pop, Put, Step}
 use Rattle.model.specs.declared.Outcome.the-variants.{Moved, Refused}
 use Rattle.model.specs.declared.Record.{Record}
 use Rattle.model.specs.declared.TaskRecord.{TaskRecord}
-use Rattle.model.specs.Tables.{Queue, Tables, asking, far, isEmpty, isPooled, links, near, opposite, started, taskAt, unused, withCall}
+use Rattle.model.specs.Tables.{Queue, Tables, asking, isPooled, started, taskAt, unused, withCall, taken}
 use Rattle.model.specs.Sound.{controlSound, from1, linkSound, recordSound, rowsFit}
-use Rattle.model.specs.Places.{taken}
-use Rattle.model.specs.Refusals.{Lent, among, first, isBusy, late, popRefusal, pushRefusal, pushRules, putRefusal, rule, stepRefusal}
+use Rattle.model.specs.declared.Asked.{Asked}
+use Rattle.model.specs.declared.Control.{Control}
+use Rattle.model.specs.Refusals.{Lent, admissionRules, among, first, fits, namedPush, nothingAsked, pooledPush, popRefusal, pushRefusal, putRefusal}
+use Rattle.model.specs.Refusals.{rule, startRules, startRefusal, stepRefusal}
 use Rattle.model.specs.Calls.{Acted, Done, act, actOn, back, decide, popStart, pushStart, putStart, step}
 use Rattle.model.specs.Walk.{Walk, along, andThen, broken, contents, entries, walkFrom, whence}
 use Rattle.model.specs.History.{Event, Request, final, run}
@@ -27,46 +29,41 @@ use Rattle.model.proofs.tests.Rules.{cleared}
 use Rattle.model.proofs.tests.Truth.{split}
 use Rattle.model.proofs.bridge.Facts.{from1-true}
 use Rattle.model.proofs.laws.Sizes.{act-tasks}
+use Rattle.model.specs.Sides.{far, isEmpty, links, near, opposite}
 use Rattle.shelf_model.specs.Cut.{cut, cutTables}
 use Rattle.shelf_model.proofs.Lists.{enough-take, get-take, set-take}
 use Rattle.shelf_model.proofs.Cut.{columns, cutActed, decide-cut, fits-cut, mark-cut, marked-cut, step-cut}
 
--- A push looks at its slot's mark, which lies within the lengths once 15 has passed.
-same-from : (a b c d e x y : Bool) (k : ℕ) → (a ≡ true → x ≡ y)
-    → first (rule 15 (not a) ∷ rule 34 b ∷ rule 30 c ∷ rule 32 x ∷ rule 33 d ∷ [])
-    ≡ first (rule 15 (not a) ∷ rule 34 b ∷ rule 30 c ∷ rule 32 y ∷ rule 33 d ∷ [])
-same-from false b c d e x y k h = refl
-same-from true b c d e x y k h = ap (λ (z : Bool). first (rule 34 b ∷ rule 30 c ∷ rule 32 z ∷ rule 33 d ∷ [])) (h refl)
+-- A start looks at the lengths, which the cut keeps; a push also at its slot's mark, which lies within them once 15 has passed.
+start-refusal-cut : (q : Tables) (p : Lent) (r : Record) (side : ℕ) (a : Asked)
+    → startRefusal (q .control) (fits (cutTables q)) p r side a ≡ startRefusal (q .control) (fits q) p r side a
+start-refusal-cut q p r side a = ap (λ (b : Bool). startRefusal (q .control) b p r side a) (fits-cut q)
+
+same-mark : (c : Control) (fit : Bool) (p : Lent) (r : Record) (side : ℕ) (wrong outside x y : Bool) → (outside ≡ false → x ≡ y)
+    → startRefusal c fit p r side (record { wrong = wrong; outside = outside; taken = x })
+    ≡ startRefusal c fit p r side (record { wrong = wrong; outside = outside; taken = y })
+unfolding startRefusal
+same-mark c fit p r side wrong true x y h = refl
+same-mark c fit p r side wrong false x y h =
+    ap (λ (b : Bool). startRefusal c fit p r side (record { wrong = wrong; outside = false; taken = b })) (h refl)
 
 push-refusal-cut : (q : Tables) (p : Lent) (r : Record) (side slot : ℕ)
     → pushRefusal (cutTables q) p r side slot ≡ pushRefusal q p r side slot
-unfolding pushRefusal
 push-refusal-cut q p r side slot =
-    let pooled = isPooled (q .control) in
-    rw (fits-cut q)
-    (ap (λ (n : ℕ). first (rule 34 (not (controlSound (q .control)))
-    ∷ rule 12 (not (rowsFit pooled (q .control .slots) q && p .enough)) ∷ rule 13 (not (p .known))
-    ∷ rule 14 (not (leb side 1)) ∷ rule 41 pooled ∷ rule n true ∷ []))
-    (same-from (from1 (q .control .slots) slot) (not (recordSound pooled (q .control .slots) r)) (isBusy r) (late q) true _ _ 0
-    (λ e. marked-cut (q .control .slots) (q .marks) slot (from1-true (q .control .slots) slot e .1))))
+    let inside = from1 (q .control .slots) slot in
+    start-refusal-cut q p r side (namedPush (cutTables q) slot)
+    ∙ same-mark (q .control) (fits q) p r side (isPooled (q .control)) (not inside) _ _
+    (λ e. marked-cut (q .control .slots) (q .marks) slot (from1-true (q .control .slots) slot (not-false inside e) .1))
 
 taken-cut : (q : Tables) (x l : ℕ) → x ≤ q .control .slots → taken (cutTables q) x l ≡ cutTables (taken q x l)
 taken-cut q x l h = λ i. columns q (cutTables q .lefts) (cutTables q .rights)
     (set-take (suc (q .control .slots)) (q .labels) x l i) (mark-cut (q .control .slots) (q .marks) x 1 h i) (cutTables q .next)
 
 push-within : (q : Tables) (p : Lent) (r : Record) (side slot : ℕ) → pushRefusal q p r side slot ≡ 0 → slot ≤ q .control .slots
-unfolding pushRefusal
+unfolding startRefusal
 push-within q p r side slot e =
-    let z = cleared (pushRules q p r side slot) refl e in
+    let z = cleared (startRules (q .control) (fits q) p r side (namedPush q slot)) refl e in
     from1-true (q .control .slots) slot (not-false _ (z .1 .1 .1 .1 .1 .0)) .1
-
-put-refusal-cut : (q : Tables) (p : Lent) (r : Record) (side : ℕ) → putRefusal (cutTables q) p r side ≡ putRefusal q p r side
-unfolding putRefusal
-put-refusal-cut q p r side = rw (fits-cut q)
-
-pop-refusal-cut : (q : Tables) (p : Lent) (r : Record) (side : ℕ) → popRefusal (cutTables q) p r side ≡ popRefusal q p r side
-unfolding popRefusal
-pop-refusal-cut q p r side = rw (fits-cut q)
 
 act-on-cut : (q : Tables) (p : Lent) (r : TaskRecord) (o : Op) → actOn (cutTables q) p r o ≡ cutActed (actOn q p r o)
 unfolding actOn pushStart putStart popStart
@@ -77,18 +74,17 @@ act-on-cut q p r (Push side slot label) =
     (λ e. ap begun (taken-cut q slot label (push-within q p (r .call) side slot e)))
 act-on-cut q p r (Pop side) =
     let begun : (Tables → Acted) = λ t. record { tables = t; task = withCall r (started 1 side 0 0); outcome = Moved (Running 1) } in
-    ap (λ (why : ℕ). decide why (cutTables q) r (begun (cutTables q))) (pop-refusal-cut q p (r .call) side)
+    ap (λ (why : ℕ). decide why (cutTables q) r (begun (cutTables q))) (start-refusal-cut q p (r .call) side nothingAsked)
     ∙ decide-cut (popRefusal q p (r .call) side) q r (begun q) (begun (cutTables q)) (λ e. refl)
 act-on-cut q p r (Put side label) =
     let begun : (Tables → Acted) = λ t. record { tables = t; task = withCall r (asking side label); outcome = Moved (Running 12) } in
-    ap (λ (why : ℕ). decide why (cutTables q) r (begun (cutTables q))) (put-refusal-cut q p (r .call) side)
+    ap (λ (why : ℕ). decide why (cutTables q) r (begun (cutTables q))) (start-refusal-cut q p (r .call) side (pooledPush q))
     ∙ decide-cut (putRefusal q p (r .call) side) q r (begun q) (begun (cutTables q)) (λ e. refl)
 act-on-cut q p r Step = step-cut q p r
 
 -- A task that there is not: refused by 34, 12 or 13, whatever its record.
 abbrev unknownBy : Tables → Lent → ℕ
-unknownBy q p = first (rule 34 (not (controlSound (q .control)))
-    ∷ rule 12 (not (rowsFit (isPooled (q .control)) (q .control .slots) q && p .enough)) ∷ rule 13 true ∷ [])
+unknownBy q p = first (admissionRules (q .control) (fits q) (record { enough = p .enough; known = false }))
 
 not-zero : (a b : Bool) → eqb (first (rule 34 a ∷ rule 12 b ∷ rule 13 true ∷ [])) 0 ≡ false
 not-zero true b = refl
@@ -97,18 +93,11 @@ not-zero false false = refl
 
 unknown : (q : Tables) (p : Lent) (r : TaskRecord) (o : Op) → p .known ≡ false
     → actOn q p r o ≡ record { tables = q; task = r; outcome = Refused (unknownBy q p) }
-unfolding actOn pushStart putStart popStart step pushRefusal putRefusal popRefusal stepRefusal
-unknown q p r (Push side slot label) e = rw
-    (e, not-zero (not (controlSound (q .control))) (not (rowsFit (isPooled (q .control)) (q .control .slots) q && p .enough)))
-unknown q p r (Pop side) e = rw
-    (e, not-zero (not (controlSound (q .control))) (not (rowsFit (isPooled (q .control)) (q .control .slots) q && p .enough)))
-unknown q p r (Put side label) e = rw
-    (e, not-zero (not (controlSound (q .control))) (not (rowsFit (isPooled (q .control)) (q .control .slots) q && p .enough)))
-unknown q p r Step e = rw (
-  e,
-  not-zero (not (controlSound (q .control)))
-      (not (rowsFit (isPooled (q .control)) (q .control .slots) q && p .enough)),
-)
+unfolding actOn pushStart putStart popStart step startRefusal stepRefusal
+unknown q p r (Push side slot label) e = rw (e, not-zero (not (controlSound (q .control))) (not (fits q && p .enough)))
+unknown q p r (Pop side) e = rw (e, not-zero (not (controlSound (q .control))) (not (fits q && p .enough)))
+unknown q p r (Put side label) e = rw (e, not-zero (not (controlSound (q .control))) (not (fits q && p .enough)))
+unknown q p r Step e = rw (e, not-zero (not (controlSound (q .control))) (not (fits q && p .enough)))
 
 among-cut : (q : Queue) (t : ℕ) → among (cut q) t ≡ among q t
 among-cut q t = λ i. record { enough = enough-take (q .tables .control .tasks) (q .records) i; known = ltb t (q .tables .control .tasks) }

@@ -9,3 +9,4 @@ pub mod Stretches
 pub mod Changeovers
 pub mod Pasts
 pub mod Promises
+pub mod Worked

@@ -12,7 +12,7 @@ use Rattle.model.specs.Tables.{Queue, isPooled, taskAt}
 use Rattle.model.specs.Sound.{controlSound}
 use Rattle.model.specs.Calls.{act, opened}
 use Rattle.model.specs.Walk.{contents, entries}
-use Rattle.model.specs.History.{AfterOpeningAs, All, Call, Event, Lawful, Linearized, NeverUnsound, Request, final, ledger, run}
+use Rattle.model.specs.History.{AfterOpeningAs, Call, Event, Lawful, Linearized, NeverUnsound, Request, final, ledger, run}
 use Rattle.model.specs.Retries.{retriesBelow}
 use Rattle.model.proofs.tests.Truth.{not-both}
 use Rattle.model.proofs.laws.Sizes.{act-pooled, act-tasks, fits}
@@ -20,6 +20,7 @@ use Rattle.model.proofs.Openings.{after-opening}
 use Rattle.model.proofs.Linearizable.{linearizable}
 use Rattle.model.proofs.Never34.{never-34}
 use Rattle.model.proofs.Standing.{Standing, standing}
+use Rattle.model.specs.Lists.{All}
 use Rattle.shelf_model.specs.Cut.{cut}
 use Rattle.shelf_model.specs.Changeovers.{Explained, Past, True}
 use Rattle.shelf_model.proofs.Lists.{enough-take}

@@ -3,18 +3,16 @@ use mathlib.Core.Bool.{cond}
 use mathlib.Core.List.{[]}
 use Prim.Native.Nat.{suc, _/_}
 use lib.ListN.{take}
-use Rattle.model.specs.Tables.{Tables, Queue, isPooled}
+use Rattle.model.specs.Tables.{Tables, Queue, isPooled, tablesOf}
 
 -- Rows 0 to slots, mark words 0 to slots div 64; the next table counts only in a pooled queue.
 abbrev pub cutTables : Tables → Tables
-cutTables q = record {
-  control = q .control;
-  lefts = take (suc (q .control .slots)) (q .lefts);
-  rights = take (suc (q .control .slots)) (q .rights);
-  labels = take (suc (q .control .slots)) (q .labels);
-  marks = take (suc (q .control .slots / 64)) (q .marks);
-  next = cond (isPooled (q .control)) (take (suc (q .control .slots)) (q .next)) [];
-}
+cutTables q = tablesOf (q .control)
+    (take (suc (q .control .slots)) (q .lefts))
+    (take (suc (q .control .slots)) (q .rights))
+    (take (suc (q .control .slots)) (q .labels))
+    (take (suc (q .control .slots / 64)) (q .marks))
+    (cond (isPooled (q .control)) (take (suc (q .control .slots)) (q .next)) [])
 
 -- As many records as tasks.
 abbrev pub cut : Queue → Queue

@@ -11,10 +11,11 @@ use Rattle.model.specs.declared.Reported.the-variants as reported
 use Rattle.model.specs.Tables.{isPooled, recordAt}
 use Rattle.model.specs.Walk.{contents, entries}
 use Rattle.model.specs.Report.{report}
-use Rattle.model.specs.History.{All, Call, Event, Lawful, ledger}
+use Rattle.model.specs.History.{Call, Event, Lawful, ledger}
 use Rattle.model.specs.Solo.{soloRun}
 use Rattle.model.specs.Progress.{AnsweredWithin, Busy, any, limit, steps, stretchLimit, tells}
 use Rattle.model.specs.Retries.{oldCount, retriesBelow}
+use Rattle.model.specs.Lists.{All}
 use Rattle.stock_model.specs.Accounts.{Accounted}
 use Rattle.shelf_model.specs.Shelves.{returnRefusal, saveRefusal}
 use Rattle.shelf_model.specs.Changeovers.{Action, AfterOpening, World, shows, unbroken}

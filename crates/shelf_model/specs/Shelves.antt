@@ -6,7 +6,7 @@ use lib.Dec.{eqb, leb}
 use lib.ListN.{getD, length, set, take, drop}
 use Rattle.model.specs.declared.Control.{Control}
 use Rattle.model.specs.declared.TaskRecord.{TaskRecord}
-use Rattle.model.specs.Tables.{Queue, isPooled}
+use Rattle.model.specs.Tables.{Queue, isPooled, tablesOf, queueOf, unopened}
 use Rattle.model.specs.Sound.{controlSound, rowsFit}
 use Rattle.model.specs.Refusals.{Rule, first, recordsFit, rule}
 
@@ -32,20 +32,12 @@ withPart n l p = take (n * share l) l ++ (p ++ drop (n * share l + share l) l)
 
 -- A control that is not lent reads as zero, as one that was never filled.
 abbrev pub unfilled : Control
-unfilled = record { tasks = 0; slots = 0; anchor = 0; pooled = 0; head = 0 }
+unfilled = unopened
 
 abbrev pub shelfAt : Shelves → ℕ → Queue
-shelfAt s n = record {
-  tables = record {
-    control = getD (s .controls) n unfilled;
-    lefts = part n (s .lefts);
-    rights = part n (s .rights);
-    labels = part n (s .labels);
-    marks = part n (s .marks);
-    next = part n (s .next);
-  };
-  records = part n (s .records);
-}
+shelfAt s n =
+    queueOf (getD (s .controls) n unfilled) (part n (s .records))
+    (part n (s .lefts)) (part n (s .rights)) (part n (s .labels)) (part n (s .marks)) (part n (s .next))
 
 abbrev pub withShelf : Shelves → ℕ → Queue → Shelves
 withShelf s n q = record {
@@ -68,14 +60,12 @@ unfoldable pub copied : Queue → Queue → Queue
 copied from to =
     let c = from .tables .control in
     record {
-      tables = record {
-        control = c;
-        lefts = over (suc (c .slots)) (from .tables .lefts) (to .tables .lefts);
-        rights = over (suc (c .slots)) (from .tables .rights) (to .tables .rights);
-        labels = over (suc (c .slots)) (from .tables .labels) (to .tables .labels);
-        marks = over (suc (c .slots / 64)) (from .tables .marks) (to .tables .marks);
-        next = cond (isPooled c) (over (suc (c .slots)) (from .tables .next) (to .tables .next)) (to .tables .next);
-      };
+      tables = tablesOf c
+          (over (suc (c .slots)) (from .tables .lefts) (to .tables .lefts))
+          (over (suc (c .slots)) (from .tables .rights) (to .tables .rights))
+          (over (suc (c .slots)) (from .tables .labels) (to .tables .labels))
+          (over (suc (c .slots / 64)) (from .tables .marks) (to .tables .marks))
+          (cond (isPooled c) (over (suc (c .slots)) (from .tables .next) (to .tables .next)) (to .tables .next));
       records = over (c .tasks) (from .records) (to .records);
     }
 
@@ -87,26 +77,24 @@ abbrev pub bothHold : Control → Queue → Shelves → ℕ → Bool
 bothHold c q s n = holds c q && holds c (shelfAt s n) && leb 8 (length (s .controls))
 
 -- A saving: 34 for the queue's control and Anchor, 43, 12.
+abbrev pub saveTests : Control → ℕ → Bool → List Rule
+saveTests c n fits = rule 34 (not (controlSound c)) ∷ rule 43 (not (leb n 7)) ∷ rule 12 (not fits) ∷ []
+
 abbrev pub saveRules : Queue → Shelves → ℕ → List Rule
-saveRules q s n =
-    rule 34 (not (controlSound (q .tables .control)))
-    ∷ rule 43 (not (leb n 7))
-    ∷ rule 12 (not (bothHold (q .tables .control) q s n))
-    ∷ []
+saveRules q s n = let c = q .tables .control in saveTests c n (bothHold c q s n)
 
 unfoldable pub saveRefusal : Queue → Shelves → ℕ → ℕ
 saveRefusal q s n = first (saveRules q s n)
 
 -- A return: 43, 44 where the shelf was never filled, 34 for the shelf's control and Anchor, 12. It does not look at the
 -- queue's own control.
+abbrev pub returnTests : Control → ℕ → Bool → List Rule
+returnTests c n fits = rule 43 (not (leb n 7)) ∷ rule 44 (eqb (c .tasks) 0) ∷ rule 34 (not (controlSound c)) ∷ rule 12 (not fits) ∷ []
+
 abbrev pub returnRules : Queue → Shelves → ℕ → List Rule
 returnRules q s n =
     let c = shelfAt s n .tables .control in
-    rule 43 (not (leb n 7))
-    ∷ rule 44 (eqb (c .tasks) 0)
-    ∷ rule 34 (not (controlSound c))
-    ∷ rule 12 (not (bothHold c q s n))
-    ∷ []
+    returnTests c n (bothHold c q s n)
 
 unfoldable pub returnRefusal : Queue → Shelves → ℕ → ℕ
 returnRefusal q s n = first (returnRules q s n)

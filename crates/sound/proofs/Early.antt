@@ -9,7 +9,7 @@ use Rattle.word.specs.declared.Anchor.{Anchor}
 use Rattle.word.specs.Anchor.{anchorOf}
 use Rattle.model.specs.declared.Record.{Record}
 use Rattle.model.specs.Sound.{from1, linkSound, anchorSound, recordSound}
-use Rattle.sound.specs.Parts.{callSound, readsSound, earlyCall, earlySeen, busy-sound}
+use Rattle.sound.specs.Records.{callSound, readsSound, earlyCall, earlySeen, busy-sound}
 use Rattle.sound.proofs.Places.{at-push, at-other}
 use Rattle.sound.proofs.Ends.{equal, apart}
 

@@ -7,7 +7,8 @@ use native.Mathlib.Omega.{arith}
 use lib.Dec.{leb, eqb}
 use borrow.Author.Tests.{eq-eqb, ne-eqb, eqb-true, eqb-false, le-leb, lt-leb}
 use Rattle.word.specs.declared.Anchor.{Anchor}
-use Rattle.model.specs.Sound.{every, from1, anchorSound}
+use Rattle.model.specs.Sound.{from1, anchorSound}
+use Rattle.model.specs.Lists.{every}
 
 twice : (b c : Bool) → b ≡ (b && (b && (Bool·beq c c && true)))
 twice true true = refl

@@ -1,3 +1,4 @@
+pub mod Thirteen
 pub mod Ends
 pub mod Places
 pub mod Early

@@ -8,8 +8,9 @@ use borrow.Author.Tests.{eq-eqb, ne-eqb, eqb-true, eqb-false, le-leb, lt-leb}
 use Rattle.word.specs.Anchor.{anchorOf}
 use Rattle.word.specs.Link.{linkOf}
 use Rattle.model.specs.declared.Record.{Record}
-use Rattle.model.specs.Sound.{from1, helping, linkSound, anchorSound, recordSound}
-use Rattle.sound.specs.Parts.{callSound, readsSound, busy-sound}
+use Rattle.model.specs.Sound.{from1, linkSound, anchorSound, recordSound}
+use Rattle.model.specs.Kinds.{helping}
+use Rattle.sound.specs.Records.{callSound, readsSound, busy-sound}
 
 -- 0 is at most 1, and so is 1.
 zero-most : (n : ℕ) (b : Bool) → (leb n 1 && (eqb n 0 && b)) ≡ (eqb n 0 && b)

@@ -6,7 +6,8 @@ use Prim.Native.Nat.{ℕ, _/_}
 use lib.Dec.{ltb}
 use lib.ListN.{length}
 use Rattle.model.specs.Tables.{Tables}
-use Rattle.model.specs.Sound.{every, rowsFit}
+use Rattle.model.specs.Sound.{rowsFit}
+use Rattle.model.specs.Lists.{every}
 
 unfoldable pub lengthsFit : Bool → ℕ → ℕ → ℕ → ℕ → ℕ → ℕ → Bool
 lengthsFit pooled slots lefts rights labels marks next =

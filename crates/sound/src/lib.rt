@@ -1,4 +1,6 @@
-//! What is sound, and which tables are long enough: refusals 34 and 12.
+//! What is sound, and which tables are long enough: refusals 34 and 12; and with 13 what every call is asked first.
+pub mod admission;
+
 use model::Control;
 use model::Record;
 use word::Anchor;
@@ -9,7 +11,7 @@ ghost use Prim.Native.Nat.{_<_, _≤_};
 ghost use Rattle.word.specs.Anchor.{anchorOf};
 ghost use Rattle.model.specs.Sound.{from1, anchorSound, linkSound, controlSound, recordSound};
 ghost use Rattle.sound.specs.Lengths.{lengthsFit};
-ghost use Rattle.sound.specs.Parts.{callSound, readsSound, earlyCall, earlySeen};
+ghost use Rattle.sound.specs.Records.{callSound, readsSound, earlyCall, earlySeen};
 
 /// Whether x is 1 to n.
 pub fn from1(n: u64, x: u64) -> bool

@@ -9,11 +9,12 @@ use Rattle.model.specs.Tables.{Queue}
 use Rattle.model.specs.Walk.{met}
 use Rattle.model.specs.Refusals.{openRefusal}
 use Rattle.model.specs.Calls.{opened}
-use Rattle.model.specs.History.{AfterOpening, All, Call, Ending, Lawful, Request, answered, final, ledger, pending, run}
-use Rattle.model.proofs.ledger.Kept.{run-good}
+use Rattle.model.specs.History.{AfterOpening, Call, Ending, Lawful, Request, answered, final, ledger, pending, run}
+use Rattle.model.proofs.ledger.EveryOperation.{run-good}
 use Rattle.model.proofs.ledger.Opened.{nobody, open-good, some-slots}
 use Rattle.model.proofs.Linearizable.{linearized}
 use Rattle.model.proofs.Openings.{after-opening}
+use Rattle.model.specs.Lists.{All}
 use Rattle.stock_model.specs.Accounts.{Accounted, EveryLabel, StockTaking, answeredBy, answeredIn, heldBy, heldIn}
 use Rattle.stock_model.specs.Accounts.{only, pushedIn, sumOf, takenBy, takenIn}
 use Rattle.stock_model.proofs.Balance.{all-fit, balanced}

@@ -14,9 +14,10 @@ use Rattle.model.specs.declared.Op.the-variants.{Push, Pop, Put, Step}
 use Rattle.model.specs.declared.Outcome.{Outcome}
 use Rattle.model.specs.declared.Outcome.the-variants.{Refused, Moved}
 use Rattle.model.specs.Deque.{Served, saysNoSlot, seenFrom, serve, serveFor, servePop, servePush, takeFirst}
-use Rattle.model.specs.History.{All, Call, Effect, Event, Ledger, accept, attend, isEffect, isOpen, ledgerFrom, note, stepOf, toldEntry}
+use Rattle.model.specs.History.{Call, Effect, Event, Ledger, accept, attend, isEffect, isOpen, ledgerFrom, note, stepOf, toldEntry}
 use Rattle.stock_model.specs.Accounts.{poppedAs, pushedAs, pushedIn, sumOf, takenIn}
 use Rattle.model.proofs.tests.Truth.{by-test}
+use Rattle.model.specs.Lists.{All}
 
 module _ (w : ℕ → ℕ) where
   -- The labels of a deque, however it is seen.

@@ -12,7 +12,7 @@ use borrow.Author.Tests.{eq-eqb}
 use Rattle.model.specs.declared.Answer.the-variants.{Pushed}
 use Rattle.model.specs.declared.Record.{Record}
 use Rattle.model.specs.Tables.{Queue, atPlace, isPooled, recordAt}
-use Rattle.model.specs.History.{All, Call, Effect, Ending, Ledger, answered, isOpen, pending}
+use Rattle.model.specs.History.{Call, Effect, Ending, Ledger, answered, isOpen, pending}
 use Rattle.model.proofs.tests.ByPlace.{by-place}
 use Rattle.model.proofs.tests.Truth.{by-test, decide-eq, not-both, split}
 use Rattle.model.proofs.machine.Book as B
@@ -22,6 +22,7 @@ use Rattle.model.proofs.invariant.Tasks.{Stage, Task}
 use Rattle.model.proofs.bridge.View.{placeList, placeOf, recOf, stateOf}
 use Rattle.model.proofs.ledger.Matched.{Matched}
 use Rattle.model.proofs.ledger.Matches.{Last, Tracked, Tracks, opens, same-answer}
+use Rattle.model.specs.Lists.{All}
 use Rattle.stock_model.specs.Accounts.{Stands, hasTaken}
 use Rattle.stock_model.proofs.Balance.{AllFit}
 

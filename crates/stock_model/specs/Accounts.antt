@@ -10,9 +10,10 @@ use Rattle.model.specs.declared.Entry.{Entry}
 use Rattle.model.specs.declared.Answer.{Answer}
 use Rattle.model.specs.declared.Answer.the-variants.{Running, Pushed, Empty, Popped, NoSlot}
 use Rattle.model.specs.Tables.{Tables, Queue, recordAt}
-use Rattle.model.specs.Sound.{giving}
 use Rattle.model.specs.Walk.{contents, met}
-use Rattle.model.specs.History.{All, Request, run, final, Effect, Ending, pending, answered, Call, ledger, AfterOpening}
+use Rattle.model.specs.History.{Request, run, final, Effect, Ending, pending, answered, Call, ledger, AfterOpening}
+use Rattle.model.specs.Kinds.{giving}
+use Rattle.model.specs.Lists.{All}
 
 unfoldable pub sumOf : {A : Type 0} → (A → ℕ) → List A → ℕ
 sumOf f [] = 0

@@ -5,7 +5,7 @@ use Prim.Native.Nat.{ℕ, _+_, _<_, _≤_}
 use native.Mathlib.Omega.{arith}
 use borrow.Author.Fill.{fill-more}
 use lib.ListN.{length, set, length-set}
-use Rattle.model.specs.Tables.{zeroed}
+use Rattle.model.specs.Lists.{zeroed}
 
 -- Of table t₀ the first i of n entries are zeroed in t.
 abbrev pub Filled : List ℕ → ℕ → List ℕ → ℕ → Type 0

@@ -9,9 +9,9 @@ use lib.Dec.{ltb}
 use lib.ListN.{length, getD, set, take, drop, length-set, List·getD-append}
 use lib.Seq.{take-all}
 use borrow.Author.Tests.{ltb-true}
-use Rattle.model.specs.Tables.{climb}
 use Rattle.model.specs.Calls.{stacked}
 use Rattle.model.proofs.lists.Range.{length-climb, climb-step, climb-out}
+use Rattle.model.specs.Lists.{climb}
 
 -- What the test of a pooled table's length tells.
 pub long : (pooled : Bool) (n m : ℕ) → pooled && ltb n m ≡ true → n < m

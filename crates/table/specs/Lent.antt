@@ -4,9 +4,9 @@ use Prim.Native.Nat.{ℕ}
 use Rattle.model.specs.Tables.{tablesOf}
 use Rattle.model.specs.Calls as calls
 use Rattle.model.specs.Route.{counted}
-use Rattle.table.specs.declared.Acted.{Acted}
+use Rattle.model.specs.declared.Transition.{Transition}
 
-abbrev pub withTables : Acted → List ℕ → List ℕ → List ℕ → List ℕ → List ℕ → ℕ → calls.Acted
+abbrev pub withTables : Transition → List ℕ → List ℕ → List ℕ → List ℕ → List ℕ → ℕ → calls.Acted
 withTables m lefts rights labels marks next retries =
     record {
       tables = tablesOf (m .control) lefts rights labels marks next;

@@ -4,7 +4,7 @@ use mathlib.Core.List.{List}
 use Prim.Native.Nat.{ℕ}
 use lib.Dec.{leb}
 use lib.ListN.{length}
-use Rattle.model.specs.Tables.{zeroed}
+use Rattle.model.specs.Lists.{zeroed}
 
 unfoldable pub zeroing : ℕ → List ℕ → List ℕ
 zeroing n l = cond (leb n (length l)) (zeroed n 0 l) l

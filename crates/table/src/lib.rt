@@ -1,26 +1,15 @@
 //! Reads and stores on lent tables, defined for every index: past the end a
 //! read gives 0 and a store does nothing.
-use model::Control;
-use model::Outcome;
-use model::Record;
 ghost use mathlib.Core.Path.{_≡_};
 ghost use mathlib.Core.List.{_∷_};
 ghost use Prim.Native.Nat.{_<_, _≤_};
 ghost use lib.ListN.{length, getD, set};
-ghost use Rattle.model.specs.Tables.{marked, withMark, zeroed, climb};
+ghost use Rattle.model.specs.Tables.{marked, withMark};
 ghost use Rattle.model.specs.Calls.{stacked};
 ghost use Rattle.model.specs.Route.{counted};
+ghost use Rattle.model.specs.Lists.{zeroed, climb};
 ghost use Rattle.table.specs.Zeroing.{zeroing};
 ghost use Rattle.table.specs.Stacking.{stacking};
-
-/// What a start or step leaves of control and its task's call, its outcome, and whether a change failed,
-/// which the task's record counts.
-pub struct Acted {
-    pub control: Control,
-    pub task: Record,
-    pub outcome: Outcome,
-    pub failed: bool,
-}
 
 /// A task's failed changes, with one more or not; the count stays at the ceiling.
 pub fn counted(retries: u64, failed: bool) -> u64

@@ -12,11 +12,12 @@ use Rattle.word.specs.declared.Anchor.{Anchor}
 use Rattle.word.specs.Anchor.{anchorOf}
 use Rattle.word.specs.Link.{linkOf}
 use Rattle.model.specs.declared.Entry.{Entry}
-use Rattle.model.specs.Tables.{Tables, isEmpty}
+use Rattle.model.specs.Tables.{Tables}
 use Rattle.model.specs.Sound.{from1, linkSound}
 use Rattle.model.specs.Walk.{Walk, along, andThen, broken, contents, entries, isBroken, met, walkFrom}
 use Rattle.model.proofs.tests.Truth.{not-both, split}
-use Rattle.walk.proofs.Turns.{rest, entry, outside, ends, strays, goes, empty, from-left, from-right}
+use Rattle.model.specs.Sides.{isEmpty}
+use Rattle.walk.proofs.SlotBySlot.{rest, entry, outside, ends, strays, goes, empty, from-left, from-right}
 use Rattle.waiting.specs.Waiting.{onto}
 use Rattle.waiting.specs.Trail.{trail, downward, laid}
 

@@ -1,4 +1,4 @@
-pub mod Turns
+pub mod Storing
 pub mod Laid
 pub mod ReadingOut
 pub mod Standing

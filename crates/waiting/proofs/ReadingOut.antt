@@ -1,6 +1,6 @@
 -- The answer: refused before the walk, by the walk, for want of room, or written.
 use mathlib.Core.Path.{_≡_, refl, sym, ap, _∙_}
-use mathlib.Core.Bool.{Bool, true, false, _||_, not}
+use mathlib.Core.Bool.{Bool, true, false, not}
 use mathlib.Core.List.{List, [], _∷_}
 use Prim.Native.Nat.{ℕ, _≤_}
 use native.Mathlib.Omega.{arith}
@@ -13,7 +13,7 @@ use Rattle.model.specs.Sound.{controlSound, rowsFit}
 use Rattle.model.specs.Walk.{contents, isBroken}
 use Rattle.model.specs.Refusals.{rule, first}
 use Rattle.model.specs.Report.{waiting}
-use Rattle.model.proofs.tests.Truth.{not-both}
+use Rattle.model.proofs.tests.Truth.{or-false}
 use Rattle.walk.specs.declared.Tally.the-variants.{Broken, Labels}
 use Rattle.walk.specs.Counted.{counted}
 use Rattle.walk.proofs.Counting.{all-counted, none-counted}
@@ -37,12 +37,8 @@ one-applies false b c d h = refl
 -- Both tables have room.
 room : (n : ℕ) (slots labels : List ℕ) → tooShort n slots labels ≡ false → (n ≤ length slots) × (n ≤ length labels)
 room n slots labels e =
-    let z = neither (ltb (length slots) n) (ltb (length labels) n) e in
+    let z = or-false (ltb (length slots) n) (ltb (length labels) n) e in
     (ltb-false _ _ (z .0), ltb-false _ _ (z .1))
-  where
-    neither : (a b : Bool) → a || b ≡ false → (a ≡ false) × (b ≡ false)
-    neither true b e = absurd (not-both refl e)
-    neither false b e = (refl, e)
 
 module _ (q : Tables) (slots labels : List ℕ) where
   abbrev pub why : ℕ

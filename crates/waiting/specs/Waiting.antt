@@ -1,15 +1,15 @@
 -- The labels waiting and their slots, from left to right, in two lent tables. (Document 01: Labels waiting, in order; document 02, #102.)
 use mathlib.Core.Path.{_≡_}
-use mathlib.Core.Bool.{Bool, false, _||_, not, cond}
+use mathlib.Core.Bool.{Bool, false, _||_, cond}
 use mathlib.Core.List.{List, [], _∷_, _++_, map}
 use Prim.Native.Nat.{ℕ}
 use lib.Dec.{ltb, eqb}
 use lib.ListN.{length, drop}
 use Rattle.model.specs.declared.Entry.{Entry}
 use Rattle.model.specs.Tables.{Tables}
-use Rattle.model.specs.Sound.{controlSound, rowsFit}
+use Rattle.model.specs.Sound.{rowsFit}
 use Rattle.model.specs.Walk.{contents, isBroken, met}
-use Rattle.model.specs.Refusals.{Rule, rule, first}
+use Rattle.model.specs.Refusals.{Rule, rule, first, tableRules}
 use Rattle.model.specs.Report.{waiting}
 use Rattle.model.specs.History.{AfterOpening, final, ledger, run}
 use Rattle.waiting.specs.declared.WaitingReply.{WaitingReply}
@@ -53,11 +53,8 @@ tooShort n slots labels = ltb (length slots) n || ltb (length labels) n
 -- No records and no next table are lent, so 12 looks at neither.
 abbrev pub waitingRules : Tables → List ℕ → List ℕ → List Rule
 waitingRules q slots labels =
-    rule 34 (not (controlSound (q .control)))
-    ∷ rule 12 (not (rowsFit false (q .control .slots) q))
-    ∷ rule 34 (isBroken (contents q))
-    ∷ rule 12 (tooShort (waiting q) slots labels)
-    ∷ []
+    tableRules (q .control) (rowsFit false (q .control .slots) q)
+    ++ (rule 34 (isBroken (contents q)) ∷ rule 12 (tooShort (waiting q) slots labels) ∷ [])
 
 unfoldable pub waitingRefusal : Tables → List ℕ → List ℕ → ℕ
 waitingRefusal q slots labels = first (waitingRules q slots labels)

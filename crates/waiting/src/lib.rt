@@ -126,7 +126,7 @@ fn refused(number: u32) -> WaitingReply
 }
 
 /// Counted and checked in one walk, then written in a second: a refusal writes nothing.
-pub fn read_out(
+fn read_out(
     c: Control,
     slots: &mut [u64],
     copies: &mut [u32],

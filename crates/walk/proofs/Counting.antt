@@ -10,13 +10,14 @@ use Rattle.word.specs.declared.Anchor.{Anchor}
 use Rattle.word.specs.Anchor.{anchorOf}
 use Rattle.word.specs.Link.{linkOf}
 use Rattle.model.specs.declared.Entry.{Entry}
-use Rattle.model.specs.Tables.{Tables, isEmpty}
+use Rattle.model.specs.Tables.{Tables}
 use Rattle.model.specs.Sound.{from1, linkSound}
 use Rattle.model.specs.Walk.{Walk, along, andThen, broken, contents, entries, isBroken, met, walkFrom}
+use Rattle.model.specs.Sides.{isEmpty}
 use Rattle.walk.specs.declared.Tally.{Tally}
 use Rattle.walk.specs.declared.Tally.the-variants.{Broken, Labels}
 use Rattle.walk.specs.Counted.{andCounted, counted}
-use Rattle.walk.proofs.Turns.{rest, entry, outside, ends, strays, goes, from-left, from-right}
+use Rattle.walk.proofs.SlotBySlot.{rest, entry, outside, ends, strays, goes, from-left, from-right}
 
 none-yet : (w : Walk) → andCounted 0 w ≡ counted w
 none-yet (entries l) = ap Labels (omega arith)

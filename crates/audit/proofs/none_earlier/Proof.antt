@@ -7,7 +7,7 @@ use borrow.Author.Needs.{needs}
 use lib.ListN.{length}
 use lib.Seq.{slice}
 use Rattle.audit_model.specs.Audit.{allOf, inOrder, notEarlier}
-use Rattle.audit_model.specs.Words.{callsIn}
+use Rattle.audit_model.specs.LentHistory.{callsIn}
 use Rattle.audit.proofs.Loops.{all-done, all-next}
 use Rattle.audit.proofs.WordsRead.{ordered-is, ordered-length}
 use Rattle.audit.proofs.none_earlier.Statement.{statement}
@@ -24,10 +24,10 @@ abbrev μ-loop : tie.MeasureT-loop
 
 loop-again : tie.Need-loop-again Inv-loop μ-loop
 loop-again k =
-    let back4 = k .before .before .before .before in
-    let at = back4 .loop in
+    let turn = k .before .before .before .before in
+    let at = turn .loop in
     let less = k .before .before .before .loop-test .taken in
-    let args = back4 .before .before .before .args in
+    let args = turn .before .before .before .args in
     let ws = args .words .now in
     let ks = args .order .now in
     let cs = inOrder (callsIn ws) ks in

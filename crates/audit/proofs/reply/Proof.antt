@@ -1,7 +1,7 @@
 -- A verdict in numbers: each arm is given that the verdict is its variant.
 use mathlib.Core.Path.{sym, ap}
 use borrow.Author.Needs.{needs}
-use Rattle.audit_model.specs.Words.{verdictReply}
+use Rattle.audit_model.specs.LentHistory.{verdictReply}
 use Rattle.audit.proofs.reply.Statement.{statement}
 use Rattle.audit.proofs.reply.Tie as tie
 

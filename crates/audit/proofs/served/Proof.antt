@@ -7,7 +7,7 @@ use borrow.Author.Needs.{needs}
 use lib.ListN.{length, take}
 use lib.Seq.{slice, take-length}
 use Rattle.audit_model.specs.Audit.{inOrder, nobody, replay}
-use Rattle.audit_model.specs.Words.{callsIn}
+use Rattle.audit_model.specs.LentHistory.{callsIn}
 use Rattle.audit.proofs.Turn.{all-served, fails, goes-on}
 use Rattle.audit.proofs.WordsRead.{ordered-is, ordered-length}
 use Rattle.audit.proofs.served.Statement.{statement}
@@ -37,51 +37,51 @@ loop-holds c =
       ap (λ l. replay 1 l []) (ap (λ m. take m (inOrder (callsIn ws) ks)) (sym len) ∙ take-length (inOrder (callsIn ws) ks)),
     )
 
+-- A turn: from the label served back to its test, and to the beginning.
+module _ (done : tie.After-serve-label Inv-loop μ-loop) where
+  abbrev test : tie.In-loop Inv-loop μ-loop
+  test = done .before .before .before .before
+
+  abbrev start : tie.Start Inv-loop μ-loop
+  start = test .before .before .before .before
+
 returns : tie.Need-returns Inv-loop μ-loop
 returns c =
-    let back4 = c .before .before .before .before in
-    let back8 = back4 .before .before .before .before in
-    let early = c .before .none-earlier in
-    let same = c .before .before .agrees in
-    let s = c .before .before .before .serve-label in
-    let one = back4 .before .call-of in
-    let less = back4 .before .before .before .loop-test .taken in
-    let at = back8 .loop in
-    let args = back8 .before .before .before .args in
-    let ws = args .words .now in
-    let ks = args .order .now in
+    let done = c .before .before .before in
+    let one = done .before .before .call-of in
+    let s = done .serve-label .ensures in
+    let less = test done .loop-test .taken in
+    let at = test done .before .loop in
+    let ws = start done .args .words .now in
+    let ks = start done .args .order .now in
     let len = ordered-length ws ks in
     let inv = at .inv in
     fails (inOrder (callsIn ws) ks) (length ks) (at .i) nobody (one .result) (one .ensures ∙ ordered-is ws ks (at .i))
     (slice (at .low) (at .high) (at .buffer)) less (omega arith)
-    _ _ _ _ (s .ensures .answer-is) (s .ensures .label-is) (same .ensures) (early .ensures) (c .if1 .taken) ∙ inv .7
+    _ _ _ _ (s .answer-is) (s .label-is) (c .before .before .agrees .ensures) (c .before .none-earlier .ensures) (c .if1 .taken) ∙ inv .7
 
 loop-again : tie.Need-loop-again Inv-loop μ-loop
 loop-again c =
-    let back4 = c .before .before .before .before in
-    let back8 = back4 .before .before .before .before in
-    let early = c .before .none-earlier in
-    let same = c .before .before .agrees in
-    let s = c .before .before .before .serve-label in
-    let one = back4 .before .call-of in
-    let less = back4 .before .before .before .loop-test .taken in
-    let at = back8 .loop in
-    let args = back8 .before .before .before .args in
-    let ws = args .words .now in
-    let ks = args .order .now in
+    let done = c .before .before .before in
+    let one = done .before .before .call-of in
+    let s = done .serve-label .ensures in
+    let less = test done .loop-test .taken in
+    let at = test done .before .loop in
+    let ws = start done .args .words .now in
+    let ks = start done .args .order .now in
     let len = ordered-length ws ks in
-    let inv = at .inv in
-    let moved = s .ensures .moved in (
+    let inv = at .inv in (
       omega arith,
       inv .1,
       inv .2,
-      moved .ends,
-      omega (arith, moved .left),
-      omega (arith, moved .right),
-      s .ensures .size,
+      s .moved .ends,
+      omega (arith, s .moved .left),
+      omega (arith, s .moved .right),
+      s .size,
       goes-on (inOrder (callsIn ws) ks) (length ks) (at .i) nobody (one .result) (one .ensures ∙ ordered-is ws ks (at .i))
           (slice (at .low) (at .high) (at .buffer)) less (omega arith)
-          _ _ _ _ (s .ensures .answer-is) (s .ensures .label-is) (same .ensures) (early .ensures) _ (c .if1 .left) (s .ensures .queue-is) ∙ inv .7,
+          _ _ _ _ (s .answer-is) (s .label-is) (c .before .before .agrees .ensures) (c .before .none-earlier .ensures) _ (c .if1 .left) (s .queue-is)
+          ∙ inv .7,
     )
 
 returns-2 : tie.Need-returns-2 Inv-loop μ-loop

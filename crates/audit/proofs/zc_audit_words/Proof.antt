@@ -1,7 +1,7 @@
 -- The verdict, in numbers.
 use mathlib.Core.Path.{ap, _∙_}
 use borrow.Author.Needs.{needs}
-use Rattle.audit_model.specs.Words.{verdictReply}
+use Rattle.audit_model.specs.LentHistory.{verdictReply}
 use Rattle.audit.proofs.zc_audit_words.Statement.{statement}
 use Rattle.audit.proofs.zc_audit_words.Tie as tie
 

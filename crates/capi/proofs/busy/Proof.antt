@@ -21,10 +21,12 @@ abbrev μ-loop : tie.MeasureT-loop
 loop-again : tie.Need-loop-again Inv-loop μ-loop
 unfolding recordOf
 loop-again c =
-    let turn = c .before .before .before .before .loop in
-    let few = c .before .before .before .before .before .pre .1 in
-    let less = c .before .before .before .loop-test .taken in
-    let rs = recordsOf (c .before .before .before .before .before .args .records .now) in (
+    let test = c .before .before .before in
+    let turn = test .before .loop in
+    let first = test .before .before in
+    let few = first .pre .1 in
+    let less = test .loop-test .taken in
+    let rs = recordsOf (first .args .records .now) in (
       omega arith,
       c .count-busy .ensures
           ∙ ap (λ (k : ℕ). countBusy k (c .before .call-of .result)) (turn .inv .1)

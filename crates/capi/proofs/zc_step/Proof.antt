@@ -12,7 +12,8 @@ returns c =
     let did = lists .before .before .before .before in
     let lent = did .before .before .before .before in
     let known = lent .before .before .before .before in
-    let first = known .before .before .before .before .before in
+    let links = known .before .before .before in
+    let first = links .before .before in
     stepped _ _ _ (uppersOf (first .args .records .now)) _ _ _ (did .step .ensures .0) (did .step .ensures .1) (c .reply .ensures)
 
 pub zc-step-spec : {M : Type 1} → statement M

@@ -8,7 +8,7 @@ use borrow.Author.Needs.{needs}
 use borrow.Author.Tests.{not-true, not-false}
 use Rattle.model.specs.Solo.{soloRun}
 use Rattle.rows.specs.Rows.{queueIn, uppersOf}
-use Rattle.capi_run.proofs.Turns.{left, left-all, left-more, ended, cut, goes-on}
+use Rattle.capi_run.proofs.StepsLeft.{left, left-all, left-more, ended, cut, goes-on}
 use Rattle.capi_run.proofs.zc_run.Statement.{statement}
 use Rattle.capi_run.proofs.zc_run.Tie as tie
 

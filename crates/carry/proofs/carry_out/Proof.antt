@@ -7,7 +7,7 @@ use borrow.Author.Needs.{needs}
 use Rattle.carry.specs.Run.{carried}
 use Rattle.carry.specs.Page.{uppersAfter}
 use Rattle.carry.proofs.Pages.{written-none, breaks-roomy}
-use Rattle.carry.proofs.Fields.{each-whole, task-bytes}
+use Rattle.carry.proofs.Fields.{each-there, task-bytes}
 use Rattle.carry.proofs.carry_out.Statement.{statement}
 use Rattle.carry.proofs.carry_out.Tie as tie
 
@@ -20,19 +20,19 @@ module _ (told : tie.After-known-told2) where
       more .before .before
 
 add-each : tie.Need-add-each
-add-each c = let h = each-whole _ _ _ _ _ (c .before .field2 .given .1) (first c .pre .1) in omega arith
+add-each c = let h = each-there _ _ _ _ _ (c .before .field2 .given .1) (first c .pre .1) in omega arith
 
 add-each-2 : tie.Need-add-each-2
-add-each-2 c = let h = each-whole _ _ _ _ _ (c .before .field2 .given .1) (first c .pre .1) in omega arith
+add-each-2 c = let h = each-there _ _ _ _ _ (c .before .field2 .given .1) (first c .pre .1) in omega arith
 
 add-each-3 : tie.Need-add-each-3
-add-each-3 c = let h = each-whole _ _ _ _ _ (c .before .field2 .given .1) (first c .pre .1) in omega arith
+add-each-3 c = let h = each-there _ _ _ _ _ (c .before .field2 .given .1) (first c .pre .1) in omega arith
 
 each-requires : tie.Need-each-requires
 each-requires c κs =
     let lent = c .before .before .before .before in
     let told = lent .before .before .before in
-    let h = each-whole _ _ _ _ _ (told .before .field2 .given .1) (first told .pre .1) in
+    let h = each-there _ _ _ _ _ (told .before .field2 .given .1) (first told .pre .1) in
     let fits = first told .pre .0 in
     (omega arith, omega arith, omega arith)
 
@@ -66,7 +66,7 @@ returns-2 c =
     let lent = operated c .before .before .before .before in
     let told = lent .before .before .before .before in
     let args = first told .args in
-    let h = each-whole _ _ _ _ _ (told .before .field2 .given .1) (first told .pre .1) in
+    let h = each-there _ _ _ _ _ (told .before .field2 .given .1) (first told .pre .1) in
     let from : args .at + 3 ≤ length (args .bytes .now) = omega arith in
     rw (told .before .field2 .given .1, ← task-bytes (args .at) _ (args .bytes .now) from) (operated c .each .ensures)
 

@@ -2,7 +2,7 @@
 use mathlib.Core.Path.{sym, _∙_}
 use borrow.Author.Needs.{needs}
 use Rattle.carry.proofs.Pages.{breaks-short}
-use Rattle.carry.proofs.Turns.{break-page}
+use Rattle.carry.proofs.AfterActs.{break-page}
 use Rattle.carry.proofs.malformed.Statement.{statement}
 use Rattle.carry.proofs.malformed.Tie as tie
 

@@ -39,13 +39,12 @@ use denote.Triple.Walked.{says, Stays, walkOf, Walks, ends-at, walked, walk-meet
 use Rattle.model.specs.declared.Control.{Control}
 use Rattle.model.specs.declared.TaskRecord.{TaskRecord}
 use Rattle.model.specs.declared.Outcome.{Outcome}
-use Rattle.deque.specs.declared.Stepped.{Stepped}
 use Rattle.model.specs.Tables.{Tables}
 use Rattle.model.specs.Calls.{Acted, stepLent}
-use Rattle.deque.proofs.Walk.{control-value, record-value, outcome-value, slice-value, kept, var, part, lets, receive}
+use Rattle.deque.proofs.Walk.{control-value, record-value, slice-value, kept, var, part, lets, receive}
 use Rattle.deque.proofs.Engine.{Five, tabled, unwritten, Move, slices, moves}
 use Rattle.deque.proofs.Stored.{control-of, task-of, outcome-of}
-use Rattle.deque.proofs.Frame.{Cell, full, allocates, frees-all}
+use Rattle.deque.proofs.Frame.{full, allocates, frees-all}
 use Rattle.model.proofs.Control as K
 use Rattle.model.proofs.Control.Laws as K′
 use Rattle.model.proofs.TaskRecord as T
@@ -126,17 +125,6 @@ module _ {M : Type 1} (𝓤 : URA M) (H : Heap 𝓤) (A : Atoms 𝓤) (W : Given
       ∷ MutSlice (named 4) κ3 u32 ∷ MutSlice (named 5) κ4 u64 ∷ MutSlice (named 6) κ5 u64 ∷ []) a vals)
       ∷ []
 
-  -- the locals' cells once all is stored
-  abbrev held : Stepped → List Cell
-  held m =
-      full (outcome-value (m .outcome)) ∷ full pc ∷ full pr ∷ full (slice-value x1) ∷ full (slice-value x2) ∷ full (slice-value x3) ∷ full
-      (slice-value x4) ∷ full (slice-value x5)
-      ∷ full (control-value c) ∷ full (record-value r) ∷ full (LL.val N.the-type N′.the-laws m) ∷ full (vptr (x1 .ptr .0) (x1 .ptr .1)) ∷ full
-      (slice-value x1) ∷ full (vptr (x2 .ptr .0) (x2 .ptr .1)) ∷ full (slice-value x2)
-      ∷ full (vptr (x3 .ptr .0) (x3 .ptr .1)) ∷ full (slice-value x3) ∷ full (vptr (x4 .ptr .0) (x4 .ptr .1)) ∷ full (slice-value x4) ∷ full
-      (vptr (x5 .ptr .0) (x5 .ptr .1)) ∷ full (slice-value x5)
-      ∷ []
-
   module _ (C : Calls 𝓤 H) (Λ : Loops 𝓤 H) where
     module _ (fm : FmC 𝓤 H (W .laws) C) (known : Triple 𝓤 (C #deque·step-alone) (Move 𝓤 H A stepLent)) where
       walk : Room u64 (length (x1 .now)) → Room u64 (length (x2 .now)) → Room u32 (length (x3 .now)) → Room u64 (length (x4 .now))
@@ -211,7 +199,9 @@ module _ {M : Type 1} (𝓤 : URA M) (H : Heap 𝓤) (A : Atoms 𝓤) (W : Given
           move ! (7 ∷ 0 ∷ 8 ∷ 9 ∷ 10 ∷ []) $ closes ! tt T.the-row (m .task) (record-value (m .task) ∷ []) (xr .ptr .0) (xr .ptr .1) $
           owned ! K.the-row (Is K.the-row) (LL.makes K.the-type K′.the-plain 𝓤 H A) (m .control) _ (control-of m is) $
           move ! (10 ∷ 0 ∷ 11 ∷ 12 ∷ 13 ∷ []) $ closes ! tt K.the-row (m .control) (control-value (m .control) ∷ []) (xc .ptr .0) (xc .ptr .1) $
-          returns ! (look ! 12 refl) $ frees-all ! 12 (held m) refl $
+          returns ! (look ! 12 refl) $
+          frees-all ! 12 (full _ ∷ full _ ∷ full _ ∷ full _ ∷ full _ ∷ full _ ∷ full _ ∷ full _ ∷ full _ ∷ full _ ∷ full _ ∷ full _
+          ∷ full _ ∷ full _ ∷ full _ ∷ full _ ∷ full _ ∷ full _ ∷ full _ ∷ full _ ∷ full _ ∷ []) refl $
           move ! (3 ∷ 4 ∷ []) $ feqI ! (List Val) (pr ∷ []) (pr ∷ []) refl $ fjoin3 ! $
           move ! (1 ∷ 2 ∷ []) $ feqI ! (List Val) (pc ∷ []) (pc ∷ []) refl $ fjoin3 ! $
           -- [control; record; lftc; lftr; toks1; fin5 to fin1]

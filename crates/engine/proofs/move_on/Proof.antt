@@ -9,11 +9,13 @@ use Rattle.model.specs.declared.Record.{Record}
 use Rattle.model.specs.declared.TaskRecord.{TaskRecord}
 use Rattle.model.specs.Route.{counted}
 use Rattle.model.specs.Tables.{Tables, isPooled, tablesOf}
-use Rattle.table.specs.declared.Acted as made
+use Rattle.model.specs.declared.Transition.{Transition}
 use Rattle.table.specs.Lent.{withTables}
 use Rattle.places.specs.Arm.{stepAt, Steps}
-use Rattle.engine.specs.Parts.{recordRefusal, moveOn}
-use Rattle.engine.proofs.Whole.{split, above, below, stopped, at-place, placed, below-18}
+use Rattle.engine.specs.MoveOn.{moveOn}
+use Rattle.model.specs.Refusals.{recordRefusal}
+use Rattle.model.proofs.tests.Truth.{split}
+use Rattle.engine.proofs.InParts.{above, below, stopped, at-place, placed, below-18}
 use Rattle.engine.proofs.move_on.Statement.{statement}
 use Rattle.engine.proofs.move_on.Tie as tie
 
@@ -52,7 +54,7 @@ module _ (e : tie.Else1) where
   arrives n at k = at-place now (r start k) n passed at
 
   -- A place that is lent no table.
-  alone : (n : ℕ) (m : made.Acted) → Steps n (now .control) call m → call .place ≡ n
+  alone : (n : ℕ) (m : Transition) → Steps n (now .control) call m → call .place ≡ n
       → (k : ℕ) → withTables m (now .lefts) (now .rights) (now .labels) (now .marks) (now .next) k ≡ moveOn now (r start k)
   alone n m steps at k = steps (now .lefts) (now .rights) (now .labels) (now .marks) (now .next) k ∙ arrives n at k
 

@@ -1,8 +1,8 @@
 -- Each return is the first rule that applies, by the tests passed before it.
 use mathlib.Core.Path.{sym, _∙_}
 use borrow.Author.Tests.{eq-eqb, ne-eqb, not-true, not-false}
-use Rattle.sound.specs.Parts.{idle-sound, busy-sound}
-use Rattle.engine.specs.Parts.{recordRefusal}
+use Rattle.sound.specs.Records.{idle-sound, busy-sound}
+use Rattle.model.specs.Refusals.{recordRefusal}
 use Rattle.engine.proofs.refusal.Statement.{statement}
 use Rattle.engine.proofs.refusal.Tie as tie
 

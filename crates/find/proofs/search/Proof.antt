@@ -10,11 +10,12 @@ use borrow.Author.Needs.{needs}
 use borrow.Author.Tests.{eq-eqb, ne-eqb}
 use Rattle.word.specs.declared.Anchor.{Anchor}
 use Rattle.word.specs.Anchor.{anchorOf}
-use Rattle.model.specs.Tables.{Tables, isEmpty, tablesOf}
+use Rattle.model.specs.Tables.{Tables, tablesOf}
 use Rattle.model.specs.Walk.{Walk, along}
+use Rattle.model.specs.Sides.{isEmpty}
 use Rattle.walk.specs.declared.Tally.{Tally}
 use Rattle.walk.specs.declared.Tally.the-variants.{Labels}
-use Rattle.walk.proofs.Turns.{empty, from-left, from-right}
+use Rattle.walk.proofs.SlotBySlot.{empty, from-left, from-right}
 use Rattle.find_model.specs.Noting.{turned}
 use Rattle.find.specs.Sieve.{Sifted}
 use Rattle.find.specs.Looked.{Looked, Searched}

@@ -4,9 +4,9 @@ use Prim.Native.Nat.{_-_, _*_, _<_, _≤_}
 use native.Mathlib.Omega.{arith}
 use borrow.Author.Needs.{needs}
 use lib.ListN.{length}
-use Rattle.history.specs.Words.{requestsFrom}
+use Rattle.history.specs.Requests.{requestsFrom}
 use Rattle.history.specs.Serving.{stateIn, served}
-use Rattle.history.proofs.Turns.{asked, served-all, served-none, served-next}
+use Rattle.history.proofs.Served.{asked, served-all, served-none, served-next}
 use Rattle.history.proofs.carry_out.Statement.{statement}
 use Rattle.history.proofs.carry_out.Tie as tie
 
@@ -68,8 +68,9 @@ loop-again c =
 
 returns : tie.Need-returns Inv-loop μ-loop
 returns c =
-    let known = c .before .before .before .before in
-    let first = known .before .before .before .before .before in
+    let lists = c .before .before .before .before in
+    let replies = lists .before .before .before in
+    let first = replies .before .before in
     let e : c .before .loop .i ≡ first .args .count = omega arith in
     sym (served-none _ _ _ _ e) ∙ c .before .loop .inv .4
 

@@ -6,8 +6,7 @@ use native.Mathlib.Omega.{arith}
 use borrow.Author.Needs.{needs}
 use Rattle.word.specs.declared.Anchor.{Anchor}
 use Rattle.word.specs.Anchor.{packAnchor}
-use Rattle.model.specs.Tables.{tablesOf}
-use Rattle.model.specs.Places.{withAnchor}
+use Rattle.model.specs.Tables.{tablesOf, withAnchor}
 use Rattle.join.specs.Anchored.{anchored}
 use Rattle.join.proofs.anchored.Statement.{statement}
 use Rattle.join.proofs.anchored.Tie as tie

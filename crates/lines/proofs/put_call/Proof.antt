@@ -7,7 +7,10 @@ use Rattle.lines.proofs.put_call.Tie as tie
 
 returns : tie.Need-returns
 unfolding callOf
-returns c = (put-more (c .before .before .before .before .before .before .put-numbered .ensures .0) (c .before .before .put-word .ensures .0), search needs)
+returns c =
+    let word = c .before .before in
+    let task = word .before .before .before .before in
+    (put-more (task .put-numbered .ensures .0) (word .put-word .ensures .0), search needs)
 
 pub put-call-spec : {M : Type 1} → statement M
 put-call-spec =

@@ -8,8 +8,10 @@ use Rattle.lines.proofs.put_entry.Tie as tie
 returns : tie.Need-returns
 unfolding entryOf
 returns c =
-    let slot = c .before .before .before .before .before .before .before .before in
-    (put-more (slot .put-numbered .ensures .0) (c .before .before .put-numbered2 .ensures .0), search needs)
+    let label = c .before .before in
+    let known = label .before .before .before in
+    let slot = known .before .before .before in
+    (put-more (slot .put-numbered .ensures .0) (label .put-numbered2 .ensures .0), search needs)
 
 pub put-entry-spec : {M : Type 1} → statement M
 put-entry-spec =

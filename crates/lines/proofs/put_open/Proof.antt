@@ -7,7 +7,10 @@ use Rattle.lines.proofs.put_open.Tie as tie
 
 returns : tie.Need-returns
 unfolding told
-returns c = (put-more (c .before .before .before .before .before .before .put-text .ensures) (c .before .before .put-opening .ensures .0), search needs)
+returns c =
+    let outcome = c .before .before in
+    let call = outcome .before .before .before .before in
+    (put-more (call .put-text .ensures) (outcome .put-opening .ensures .0), search needs)
 
 pub put-open-spec : {M : Type 1} → statement M
 put-open-spec =

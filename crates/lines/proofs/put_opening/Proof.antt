@@ -6,11 +6,15 @@ use Rattle.lines.proofs.put_opening.Tie as tie
 
 returns : tie.Need-returns
 unfolding openingOf
-returns c = (rw (c .before .before .before .before .before .before .opening .given .1) (c .before .before .put-numbered .ensures .0), search needs)
+returns c =
+    let text = c .before .before in
+    (rw (text .before .before .before .before .opening .given .1) (text .put-numbered .ensures .0), search needs)
 
 returns-2 : tie.Need-returns-2
 unfolding openingOf
-returns-2 c = (rw (c .before .before .before .before .before .enum-told .given .1) (c .before .before .put-text .ensures), search needs)
+returns-2 c =
+    let text = c .before .before in
+    (rw (text .before .before .before .enum-told .given .1) (text .put-text .ensures), search needs)
 
 pub put-opening-spec : {M : Type 1} → statement M
 put-opening-spec =

@@ -6,11 +6,15 @@ use Rattle.lines.proofs.put_outcome.Tie as tie
 
 returns : tie.Need-returns
 unfolding outcomeOf
-returns c = (rw (c .before .before .before .before .before .before .outcome .given .1) (c .before .before .put-numbered .ensures .0), search needs)
+returns c =
+    let text = c .before .before in
+    (rw (text .before .before .before .before .outcome .given .1) (text .put-numbered .ensures .0), search needs)
 
 returns-2 : tie.Need-returns-2
 unfolding outcomeOf
-returns-2 c = (rw (c .before .before .before .before .before .outcome2 .given .1) (c .before .before .put-moved .ensures .0), search needs)
+returns-2 c =
+    let text = c .before .before in
+    (rw (text .before .before .before .outcome2 .given .1) (text .put-moved .ensures .0), search needs)
 
 pub put-outcome-spec : {M : Type 1} → statement M
 put-outcome-spec =

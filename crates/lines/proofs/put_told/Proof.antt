@@ -5,14 +5,20 @@ use Rattle.lines.proofs.put_told.Statement.{statement}
 use Rattle.lines.proofs.put_told.Tie as tie
 
 returns : tie.Need-returns
-returns c = (rw (c .before .before .before .before .before .line .given .1) (c .before .before .put-open .ensures .0), search needs)
+returns c =
+    let text = c .before .before in
+    (rw (text .before .before .before .line .given .1) (text .put-open .ensures .0), search needs)
 
 returns-2 : tie.Need-returns-2
-returns-2 c = (rw (c .before .before .before .before .before .line2 .given .1) (c .before .before .put-act .ensures .0), search needs)
+returns-2 c =
+    let text = c .before .before in
+    (rw (text .before .before .before .line2 .given .1) (text .put-act .ensures .0), search needs)
 
 returns-3 : tie.Need-returns-3
 unfolding told numbered decimal decimalIn
-returns-3 c = (rw (c .before .before .before .before .before .enum-told .given .1) (c .before .before .put-text .ensures), search needs)
+returns-3 c =
+    let text = c .before .before in
+    (rw (text .before .before .before .enum-told .given .1) (text .put-text .ensures), search needs)
 
 pub put-told-spec : {M : Type 1} → statement M
 put-told-spec =

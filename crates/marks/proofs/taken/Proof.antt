@@ -5,7 +5,8 @@ use native.Mathlib.Nat.{zero-min}
 use native.Mathlib.Omega.{arith}
 use lib.Count.{ones}
 use borrow.Author.Needs.{needs}
-use Rattle.model.specs.Report.{count, takenSlots}
+use Rattle.model.specs.Report.{takenSlots}
+use Rattle.model.specs.Lists.{count}
 use Rattle.marks.specs.Masked.{maskedWord}
 use Rattle.marks.proofs.Ones.{marks, word-step, marks-le}
 use Rattle.marks.proofs.taken.Statement.{statement}

@@ -9,13 +9,14 @@ use Rattle.word.specs.Anchor.{anchorOf, packAnchor}
 use Rattle.word.specs.Link.{linkOf, packLink}
 use Rattle.model.specs.Places.{Move, Touch, at1, at10, at11, at12, at13, at14, at15, at16, at17, at2, at3, at4, at5, at6, at7, at9}
 use Rattle.model.specs.Places.{clearMark, endSeen, linkSide, move, new4, nothing, raised, row, setAnchor, setHead, setLink, setNext}
-use Rattle.model.specs.Places.{sideOf, takeSlot, withLink, withNeighbour, withOwn, withSeen}
-use Rattle.model.specs.Sound.{isPush}
-use Rattle.model.specs.Tables.{atPlace, facing, isPooled}
+use Rattle.model.specs.Places.{sideOf, takeSlot}
+use Rattle.model.specs.Tables.{atPlace, isPooled, withLink, withNeighbour, withOwn, withSeen}
 use Rattle.model.specs.declared.Control.{Control}
 use Rattle.model.specs.declared.Record.{Record}
 use Rattle.model.proofs.tests.ByPlace.{by-place}
 use Rattle.model.proofs.tests.Truth.{by-test}
+use Rattle.model.specs.Kinds.{isPush}
+use Rattle.model.specs.Sides.{facing}
 
 -- The touches of a change of Anchor at 2 and 10, and of a link at 3 and 9.
 abbrev pub both : Record → ℕ

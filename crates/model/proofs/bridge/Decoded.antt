@@ -7,7 +7,7 @@ use lib.ListN.{getD}
 use Rattle.word.specs.Anchor.{anchorOf}
 use Rattle.word.specs.Link.{linkOf}
 use Rattle.model.specs.Calls.{entryOf}
-use Rattle.model.specs.Places.{Move, linkMet, move}
+use Rattle.model.specs.Places.{Move, wordFound, move}
 use Rattle.model.specs.Route.{answer, goes, onward, popRoute, pushRoute, route}
 use Rattle.model.specs.Tables.{Tables}
 use Rattle.model.specs.declared.Record.{Record}
@@ -17,11 +17,11 @@ use Rattle.model.proofs.bridge.View.{answerSeen, linkAt, placeOf, recOf
 
 -- Where a record goes with a place's move.
 abbrev pub next : Record → Move → ℕ
-next r m = onward (route (r .place) (r .kind) (m .outcome)) (m .task .finishing)
+next r m = onward (route (r .place) (r .kind) (m .branch)) (m .task .finishing)
 
 abbrev pub seenMove : Tables → Record → M.Move
 seenMove q r =
-    let m = move (q .control) r (linkMet q r) in
+    let m = move (q .control) r (wordFound q r) in
     record {
       touch = touchSeen (m .touch);
       rec = recOf (goes (m .task) (next r m));

@@ -3,7 +3,7 @@ use mathlib.Core.Logic.{_≢_, _⊎_, inl, inr}
 use mathlib.Core.Path.{_≡_, refl, subst, sym}
 use Prim.Native.Nat.{_<_, _^_, _≤_, ℕ}
 use native.Mathlib.Omega.{arith}
-use Rattle.model.specs.Tables.{Tables, isPooled}
+use Rattle.model.specs.Tables.{Tables, atPlace, isPooled, ofKind}
 use Rattle.model.specs.declared.Record.{Record}
 use Rattle.model.proofs.tests.ByPlace.{by-place}
 use Rattle.model.proofs.tests.Truth.{decide-eq}
@@ -24,17 +24,7 @@ by-kind P k h f g = go (decide-eq k 0)
 module _ (q : Tables) (c : ControlFine (q .control)) (k : LinksFine q) (r : Record)
     (h : RecordFine (isPooled (q .control)) (q .control .slots) r) where
   abbrev at : ℕ → ℕ → Record
-  at p j = record {
-    place = p;
-    kind = j;
-    side = r .side;
-    own = r .own;
-    label = r .label;
-    seen = r .seen;
-    neighbour = r .neighbour;
-    link = r .link;
-    finishing = r .finishing;
-  }
+  at p j = atPlace (ofKind r j (r .side)) p
 
   abbrev Here : ℕ → Type 0
   Here p = (p ≡ 11 → r .kind ≡ 1) → (12 ≤ p → p ≤ 14 → r .kind ≡ 0) → (15 ≤ p → r .kind ≡ 1) → RoomAt q (at p (r .kind)) (placeOf p)
@@ -57,34 +47,27 @@ module _ (q : Tables) (c : ControlFine (q .control)) (k : LinksFine q) (r : Reco
 
   pub step-seen : r .place ≢ 0 → RoomAt q r (placeOf (r .place)) → Seen q r
   step-seen busy room =
-      let d = r .side in
-      let x = r .own in
-      let l = r .label in
-      let a = r .seen in
-      let n = r .neighbour in
-      let w = r .link in
-      let f = r .finishing in
       let now = c .anchor .status in
       let read = h .seen .status in
       let null = c .anchor .null in
       by-place Here
-      (λ _ _ _ m. kinds 1 (λ e. place1-push q d x l a n w f now null) (λ e. place1-pop q d x l a n w f now null))
-      (λ _ _ _ m. kinds 2 (λ e. place2-push q d x l a n w f now null read m (own-small)) (λ e. place2-pop q d x l a n w f now null read m))
-      (λ _ _ _ m. kinds 3 (λ e. place3-push q d x l a n w f (λ b. k .tag b x (h .own))) (λ e. place3-pop q d x l a n w f))
+      (λ _ _ _ m. kinds 1 (λ e. place1-push q r now null) (λ e. place1-pop q r now null))
+      (λ _ _ _ m. kinds 2 (λ e. place2-push q r now null read m (own-small)) (λ e. place2-pop q r now null read m))
+      (λ _ _ _ m. kinds 3 (λ e. place3-push q r (λ b. k .tag b (r .own) (h .own))) (λ e. place3-pop q r))
       (λ _ _ _ m. kinds 4
-      (λ e. place4-push q d x l a n w f now null read m (own-small))
-      (λ e. place4-pop q d x l a n w f now null read m near-small))
-      (λ _ _ _ m. place5 q (r .kind) d x l a n w f)
-      (λ _ _ _ m. place6 q (r .kind) d x l a n w f now read)
-      (λ _ _ _ m. place7 q (r .kind) d x l a n w f)
-      (λ _ _ _ m. place8 q (r .kind) d x l a n w f now read)
-      (λ _ _ _ m. place9 q (r .kind) d x l a n w f (h .spare) (λ b. k .spare b n (h .neighbour)) m)
-      (λ _ _ _ m. place10 q (r .kind) d x l a n w f now read m)
-      (λ pop _ _ m. pops 11 (pop refl) (place11-pop q d x l a n w f))
-      (λ _ push _ m. pushes 12 (push (omega arith) (omega arith)) (place12-push q d x l a n w f))
-      (λ _ push _ m. pushes 13 (push (omega arith) (omega arith)) (place13-push q d x l a n w f))
-      (λ _ push _ m. pushes 14 (push (omega arith) (omega arith)) (place14-push q d x l a n w f (h .spare) (k .head .0) m near-small))
-      (λ _ _ pop m. pops 15 (pop (omega arith)) (place15-pop q d x l a n w f))
-      (λ _ _ pop m. pops 16 (pop (omega arith)) (place16-pop q d x l a n w f))
-      (λ _ _ pop m. pops 17 (pop (omega arith)) (place17-pop q d x l a n w f (h .spare) (k .head .0) m own-small))
+      (λ e. place4-push q r now null read m (own-small))
+      (λ e. place4-pop q r now null read m near-small))
+      (λ _ _ _ m. place5 q r)
+      (λ _ _ _ m. place6 q r now read)
+      (λ _ _ _ m. place7 q r)
+      (λ _ _ _ m. place8 q r now read)
+      (λ _ _ _ m. place9 q r (h .spare) (λ b. k .spare b (r .neighbour) (h .neighbour)) m)
+      (λ _ _ _ m. place10 q r now read m)
+      (λ pop _ _ m. pops 11 (pop refl) (place11-pop q r))
+      (λ _ push _ m. pushes 12 (push (omega arith) (omega arith)) (place12-push q r))
+      (λ _ push _ m. pushes 13 (push (omega arith) (omega arith)) (place13-push q r))
+      (λ _ push _ m. pushes 14 (push (omega arith) (omega arith)) (place14-push q r (h .spare) (k .head .0) m near-small))
+      (λ _ _ pop m. pops 15 (pop (omega arith)) (place15-pop q r))
+      (λ _ _ pop m. pops 16 (pop (omega arith)) (place16-pop q r))
+      (λ _ _ pop m. pops 17 (pop (omega arith)) (place17-pop q r (h .spare) (k .head .0) m own-small))
       (r .place) busy (h .place) (h .last) (h .draws) (h .gives) room

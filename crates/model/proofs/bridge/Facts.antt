@@ -10,7 +10,7 @@ use borrow.Author.Tests.{eq-eqb, eqb-true, le-leb, leb-true, ltb-true, ne-eqb}
 use Rattle.word.specs.Anchor.{anchorOf}
 use Rattle.word.specs.Link.{linkOf, spareOf}
 use Rattle.word.specs.declared.Anchor.{Anchor}
-use Rattle.model.specs.Sound.{giving, owning, anchorSound, anchorTests, controlSound, controlTests, from1, linkSound, recordSound}
+use Rattle.model.specs.Sound.{anchorSound, anchorTests, controlSound, controlTests, from1, linkSound, recordSound}
 use Rattle.model.specs.Sound.{recordTests, rowTests, rowsFit}
 use Rattle.model.specs.Tables.{Tables, isPooled}
 use Rattle.model.specs.declared.Control.{Control}
@@ -18,6 +18,7 @@ use Rattle.model.specs.declared.Record.{Record}
 use Rattle.model.proofs.tests.Rules.{tests}
 use Rattle.model.proofs.tests.Truth.{and-of, and-true, beq-eq, not-both, or-first, or-left, or-right, or-second}
 use Rattle.model.proofs.bridge.View.{linkAt}
+use Rattle.model.specs.Kinds.{giving, owning}
 
 pub record AnchorFine (slots : ℕ) (a : Anchor) : Type 0 where
   pub status : a .status ≤ 2
@@ -78,7 +79,8 @@ record-fine pooled slots r e n =
     let z = tests (recordTests pooled slots r) (or-right _ _ e (ne-eqb _ _ n)) in
     let place = place-fine pooled (r .place) (z .0) in
     let rest = z .1 .1 .1 .1 .1 .1 .1 in
-    let lk = link-fine slots (r .link) (rest .1 .1 .0) in
+    let read = rest .1 .1 in
+    let lk = link-fine slots (r .link) (read .1 .0) in
     record {
       place = place .0;
       named = place .1;
@@ -89,10 +91,10 @@ record-fine pooled slots r e n =
       gives = λ p. eqb-true _ _ (or-right _ _ (z .1 .1 .1 .1 .0) (ap not (or-second (eqb (r .place) 11) (le-leb _ _ p))));
       draws = λ p l. eqb-true _ _ (or-right _ _ (z .1 .1 .1 .1 .1 .0) (ap not (and-of (le-leb _ _ p) (le-leb _ _ l))));
       own = own-fine slots (r .own) (owning r) (rest .0);
-      neighbour = leb-true _ _ (rest .1 .0);
+      neighbour = leb-true _ _ (read .0);
       spare = lk .0;
       link = lk .1;
-      seen = anchor-fine slots _ (rest .1 .1 .1 .1 .0);
+      seen = anchor-fine slots _ (read .1 .1 .0);
     }
 
 pub record ControlFine (c : Control) : Type 0 where

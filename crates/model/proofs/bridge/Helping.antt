@@ -5,11 +5,12 @@ use Prim.Native.Nat.{_+_, _<_, _^_, _≤_, suc, ℕ}
 use native.Mathlib.Omega.{arith}
 use lib.Dec.{eqb}
 use borrow.Author.Tests.{eqb-true}
+use Rattle.word.specs.declared.Anchor.{Anchor}
 use Rattle.word.specs.Anchor.{anchorOf, packAnchor}
 use Rattle.word.specs.Link.{linkOf, packLink, spareOf}
 use Rattle.model.specs.Places.{at10, at5, at6, at7, at9, linkSide, move, row, sideOf}
 use Rattle.model.specs.Route.{answer, goes, onward, popRoute, pushRoute}
-use Rattle.model.specs.Tables.{Tables}
+use Rattle.model.specs.Tables.{Tables, atPlace}
 use Rattle.model.specs.declared.Record.{Record}
 use Rattle.model.proofs.tests.Truth.{split}
 use Rattle.model.proofs.machine.Machine as M
@@ -17,90 +18,98 @@ use Rattle.model.proofs.bridge.Decoded.{AnchorRoom, LinkRoom, Seen, rou
 use Rattle.model.proofs.bridge.View.{anchorSeen, linkAt, linkSeen, recOf, view}
 use Rattle.model.proofs.bridge.Words.{anchor-back, link-back, same-link-word, same-word, towards-status}
 
-module _ (q : Tables) (k d x l a n w f : ℕ) where
+module _ (q : Tables) (r : Record) where
   abbrev at : ℕ → Record
-  at p = record { place = p; kind = k; side = d; own = x; label = l; seen = a; neighbour = n; link = w; finishing = f }
+  at p = atPlace r p
 
   abbrev now : ℕ
   now = q .control .anchor
 
+  -- Anchor as it is, and as read.
+  abbrev current : Anchor
+  current = anchorOf now
+
+  abbrev a : Anchor
+  a = anchorOf (r .seen)
+
   pub place5 : Seen q (at 5)
   unfolding recOf view move at5 row linkSide sideOf onward pushRoute popRoute goes answer
   place5 =
-      let z = towards-status (anchorOf a .status) in
-      split (eqb (anchorOf a .status) 1) (λ e. rw (z, e, route-shared 5 k 0 refl, e)) (λ e. rw (z, e, route-shared 5 k 0 refl, e))
+      let z = towards-status (a .status) in
+      split (eqb (a .status) 1) (λ e. rw (z, e, route-shared 5 (r .kind) 0 refl, e)) (λ e. rw (z, e, route-shared 5 (r .kind) 0 refl, e))
 
   pub place7 : Seen q (at 7)
   unfolding recOf view move at7 row linkSide sideOf onward pushRoute popRoute goes answer
   place7 =
-      let z = towards-status (anchorOf a .status) in
-      split (eqb (anchorOf a .status) 1)
-      (λ e. split (eqb (linkOf (linkAt q true n) .slot) (anchorOf a .right)) (λ g. rw (z, e, g, route-shared 7 k 0 refl, e))
-      (λ g. rw (z, e, g, route-shared 7 k 1 refl, e)))
-      (λ e. split (eqb (linkOf (linkAt q false n) .slot) (anchorOf a .left)) (λ g. rw (z, e, g, route-shared 7 k 0 refl, e))
-      (λ g. rw (z, e, g, route-shared 7 k 1 refl, e)))
+      let z = towards-status (a .status) in
+      split (eqb (a .status) 1)
+      (λ e. split (eqb (linkOf (linkAt q true (r .neighbour)) .slot) (a .right)) (λ g. rw (z, e, g, route-shared 7 (r .kind) 0 refl, e))
+      (λ g. rw (z, e, g, route-shared 7 (r .kind) 1 refl, e)))
+      (λ e. split (eqb (linkOf (linkAt q false (r .neighbour)) .slot) (a .left)) (λ g. rw (z, e, g, route-shared 7 (r .kind) 0 refl, e))
+      (λ g. rw (z, e, g, route-shared 7 (r .kind) 1 refl, e)))
 
   -- The link word as read is compared with the word as it is.
-  module _ (read-spare : spareOf w ≡ 0) (now-spare : (b : Bool) → spareOf (linkAt q b n) ≡ 0) where
-    link-equal : (b : Bool) → M.sameLink (linkSeen w) (linkSeen (linkAt q b n)) ≡ eqb (linkAt q b n) w
-    link-equal b = same-link-word w (linkAt q b n) read-spare (now-spare b)
+  module _ (read-spare : spareOf (r .link) ≡ 0) (now-spare : (b : Bool) → spareOf (linkAt q b (r .neighbour)) ≡ 0) where
+    link-equal : (b : Bool) → M.sameLink (linkSeen (r .link)) (linkSeen (linkAt q b (r .neighbour))) ≡ eqb (linkAt q b (r .neighbour)) (r .link)
+    link-equal b = same-link-word (r .link) (linkAt q b (r .neighbour)) read-spare (now-spare b)
 
-    raised : (b : Bool) (s : ℕ) → linkOf w .tag < 4294967295 → s < 2 ^ 15
-        → M.putLink b n (record { tag = suc (linkOf w .tag); slot = s })
-        ≡ M.putLink b n (linkSeen (packLink (record { tag = linkOf w .tag + 1; slot = s })))
-    raised b s h g = ap (M.putLink b n)
-        (sym (link-back (linkOf w .tag + 1) s (omega arith) g ∙ (let e : linkOf w .tag + 1 ≡ suc (linkOf w .tag) = omega arith in
+    raised : (b : Bool) (s : ℕ) → linkOf (r .link) .tag < 4294967295 → s < 2 ^ 15
+        → M.putLink b (r .neighbour) (record { tag = suc (linkOf (r .link) .tag); slot = s })
+        ≡ M.putLink b (r .neighbour) (linkSeen (packLink (record { tag = linkOf (r .link) .tag + 1; slot = s })))
+    raised b s h g = ap (M.putLink b (r .neighbour))
+        (sym (link-back (linkOf (r .link) .tag + 1) s (omega arith) g ∙ (let e : linkOf (r .link) .tag + 1 ≡ suc (linkOf (r .link) .tag) = omega arith in
         λ i. record { tag = e i; slot = s })))
 
     pub place9 : LinkRoom q (at 9) → Seen q (at 9)
     unfolding recOf view move at9 row linkSide sideOf onward pushRoute popRoute goes answer
     place9 room =
-        let z = towards-status (anchorOf a .status) in
-        split (eqb (anchorOf a .status) 1)
-        (λ e. split (eqb (linkAt q true n) w)
-        (λ g. rw (z, e, link-equal true, g, route-shared 9 k 0 refl, e)
-        (same-touch (raised true (anchorOf a .right) (room (ap (λ (b : Bool). linkAt q b n) e ∙ eqb-true _ _ g)) (omega arith))))
-        (λ g. split (eqb f 1) (λ j. rw (z, e, link-equal true, g, route-shared 9 k 1 refl, j))
-        (λ j. rw (z, e, link-equal true, g, route-shared 9 k 1 refl, j, e, j))))
-        (λ e. split (eqb (linkAt q false n) w)
-        (λ g. rw (z, e, link-equal false, g, route-shared 9 k 0 refl, e)
-        (same-touch (raised false (anchorOf a .left) (room (ap (λ (b : Bool). linkAt q b n) e ∙ eqb-true _ _ g)) (omega arith))))
-        (λ g. split (eqb f 1) (λ j. rw (z, e, link-equal false, g, route-shared 9 k 1 refl, j))
-        (λ j. rw (z, e, link-equal false, g, route-shared 9 k 1 refl, j, e, j))))
+        let z = towards-status (a .status) in
+        split (eqb (a .status) 1)
+        (λ e. split (eqb (linkAt q true (r .neighbour)) (r .link))
+        (λ g. rw (z, e, link-equal true, g, route-shared 9 (r .kind) 0 refl, e)
+        (same-touch (raised true (a .right) (room (ap (λ (b : Bool). linkAt q b (r .neighbour)) e ∙ eqb-true _ _ g)) (omega arith))))
+        (λ g. split (eqb (r .finishing) 1) (λ j. rw (z, e, link-equal true, g, route-shared 9 (r .kind) 1 refl, j))
+        (λ j. rw (z, e, link-equal true, g, route-shared 9 (r .kind) 1 refl, j, e, j))))
+        (λ e. split (eqb (linkAt q false (r .neighbour)) (r .link))
+        (λ g. rw (z, e, link-equal false, g, route-shared 9 (r .kind) 0 refl, e)
+        (same-touch (raised false (a .left) (room (ap (λ (b : Bool). linkAt q b (r .neighbour)) e ∙ eqb-true _ _ g)) (omega arith))))
+        (λ g. split (eqb (r .finishing) 1) (λ j. rw (z, e, link-equal false, g, route-shared 9 (r .kind) 1 refl, j))
+        (λ j. rw (z, e, link-equal false, g, route-shared 9 (r .kind) 1 refl, j, e, j))))
 
   -- The Anchor as read is compared with Anchor as it is.
-  module _ (now-status : anchorOf now .status ≤ 2) (read-status : anchorOf a .status ≤ 2) where
-    equal : M.same (anchorSeen a) (anchorSeen now) ≡ eqb now a
-    equal = same-word a now read-status now-status
+  module _ (now-status : current .status ≤ 2) (read-status : a .status ≤ 2) where
+    equal : M.same (anchorSeen (r .seen)) (anchorSeen now) ≡ eqb now (r .seen)
+    equal = same-word (r .seen) now read-status now-status
 
     pub place6 : Seen q (at 6)
     unfolding recOf view move at6 row linkSide sideOf onward pushRoute popRoute goes answer
-    place6 = split (eqb now a)
-        (λ e. rw (equal, e, route-shared 6 k 0 refl))
-        (λ e. split (eqb f 1) (λ g. rw (equal, e, route-shared 6 k 1 refl, g)) (λ g. rw (equal, e, route-shared 6 k 1 refl, g, g)))
+    place6 = split (eqb now (r .seen))
+        (λ e. rw (equal, e, route-shared 6 (r .kind) 0 refl))
+        (λ e. split (eqb (r .finishing) 1) (λ g. rw (equal, e, route-shared 6 (r .kind) 1 refl, g)) (λ g. rw (equal, e, route-shared 6 (r .kind) 1 refl, g, g)))
 
     pub place8 : Seen q (at 8)
     unfolding recOf view move at6 row linkSide sideOf onward pushRoute popRoute goes answer
-    place8 = split (eqb now a)
-        (λ e. rw (equal, e, route-shared 8 k 0 refl))
-        (λ e. split (eqb f 1) (λ g. rw (equal, e, route-shared 8 k 1 refl, g)) (λ g. rw (equal, e, route-shared 8 k 1 refl, g, g)))
+    place8 = split (eqb now (r .seen))
+        (λ e. rw (equal, e, route-shared 8 (r .kind) 0 refl))
+        (λ e. split (eqb (r .finishing) 1) (λ g. rw (equal, e, route-shared 8 (r .kind) 1 refl, g)) (λ g. rw (equal, e, route-shared 8 (r .kind) 1 refl, g, g)))
 
     -- A change of Anchor raises its tag, which has room.
     module _ (room : AnchorRoom q (at 0)) where
-      settled-back : eqb now a ≡ true
-          → M.putAnchor (M.settled (anchorSeen a)) ≡ M.putAnchor (anchorSeen (packAnchor (record {
-            tag = anchorOf a .tag + 1;
+      settled-back : eqb now (r .seen) ≡ true
+          → M.putAnchor (M.settled (anchorSeen (r .seen))) ≡ M.putAnchor (anchorSeen (packAnchor (record {
+            tag = a .tag + 1;
             status = 0;
-            left = anchorOf a .left;
-            right = anchorOf a .right;
+            left = a .left;
+            right = a .right;
           })))
       settled-back e = ap M.putAnchor
-          (sym (anchor-back (anchorOf a .tag) 0 (anchorOf a .left) (anchorOf a .right) (room (eqb-true _ _ e)) (omega arith)
+          (sym (anchor-back (a .tag) 0 (a .left) (a .right) (room (eqb-true _ _ e)) (omega arith)
           (omega arith) (omega arith)))
 
       pub place10 : Seen q (at 10)
       unfolding recOf view move at10 row linkSide sideOf onward pushRoute popRoute goes answer
-      place10 = split (eqb now a)
-          (λ e. split (eqb f 1) (λ g. rw (equal, e, route-shared 10 k 0 refl, g) (same-touch (settled-back e)))
-          (λ g. rw (equal, e, route-shared 10 k 0 refl, g, g) (same-touch (settled-back e))))
-          (λ e. split (eqb f 1) (λ g. rw (equal, e, route-shared 10 k 1 refl, g)) (λ g. rw (equal, e, route-shared 10 k 1 refl, g, g)))
+      place10 = split (eqb now (r .seen))
+          (λ e. split (eqb (r .finishing) 1) (λ g. rw (equal, e, route-shared 10 (r .kind) 0 refl, g) (same-touch (settled-back e)))
+          (λ g. rw (equal, e, route-shared 10 (r .kind) 0 refl, g, g) (same-touch (settled-back e))))
+          (λ e. split (eqb (r .finishing) 1) (λ g. rw (equal, e, route-shared 10 (r .kind) 1 refl, g))
+          (λ g. rw (equal, e, route-shared 10 (r .kind) 1 refl, g, g)))

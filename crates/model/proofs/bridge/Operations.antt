@@ -8,9 +8,9 @@ use lib.Dec.{eqb, ltb}
 use lib.ListN.{getD, set}
 use borrow.Author.Tests.{lt-ltb}
 use Rattle.model.specs.Calls.{entryOf, finish}
-use Rattle.model.specs.Places.{Move, Touch, clearMark, linkMet, move, nothing, setAnchor, setHead, setLink, setNext, takeSlot, taken}
+use Rattle.model.specs.Places.{Move, Touch, clearMark, wordFound, move, nothing, setAnchor, setHead, setLink, setNext, takeSlot}
 use Rattle.model.specs.Route.{answer, counted, goes}
-use Rattle.model.specs.Tables.{Queue, Tables, asking, isPooled, marked, recordAt, started, taskAt, unused, withCall}
+use Rattle.model.specs.Tables.{Queue, Tables, asking, isPooled, marked, recordAt, started, taskAt, unused, withCall, taken}
 use Rattle.model.specs.declared.Answer as answered
 use Rattle.model.specs.declared.Record.{Record}
 use Rattle.model.specs.declared.TaskRecord.{TaskRecord}
@@ -60,7 +60,7 @@ module _ (q : Queue) (b : B.Book) (i : Inv (record { state = stateOf q; book = b
   -- An accepted step.
   module _ (s : Stepping q t) where
     abbrev m : Move
-    m = move (g .control) r (linkMet g r)
+    m = move (g .control) r (wordFound g r)
 
     abbrev seenAfter : M.Move → Type 0
     seenAfter m = Inv (record {
@@ -99,7 +99,7 @@ module _ (q : Queue) (b : B.Book) (i : Inv (record { state = stateOf q; book = b
         })
         ∙ (λ j. record {
           shared = view-touched g (s .lies .rows) (m .touch)
-              (move-fine (isPooled (g .control)) (g .control .slots) r (s .fine) (s .control .slots) (g .control) (linkMet g r) (s .busy)) j;
+              (move-fine (isPooled (g .control)) (g .control .slots) r (s .fine) (s .control .slots) (g .control) (wordFound g r) (s .busy)) j;
           task = task-set (g .control .tasks) (q .records) t r′ (omega (arith, s .lies .length, s .lies .known)) (s .lies .known) j;
         })
 
@@ -126,7 +126,7 @@ module _ (q : Queue) (b : B.Book) (i : Inv (record { state = stateOf q; book = b
         subst After (sym state-is) step-seen-keeps
 
     touch-fine : TouchFine (isPooled (g .control)) (g .control .slots) (m .touch)
-    touch-fine = move-fine (isPooled (g .control)) (g .control .slots) r (s .fine) (s .control .slots) (g .control) (linkMet g r) (s .busy)
+    touch-fine = move-fine (isPooled (g .control)) (g .control .slots) r (s .fine) (s .control .slots) (g .control) (wordFound g r) (s .busy)
 
     -- In a named queue no slot is drawn.
     pub step-grants : (c : B.Call) → isPooled (g .control) ≡ false → B.granted (touchSeen (m .touch)) c ≡ c
@@ -182,7 +182,7 @@ module _ (q : Queue) (b : B.Book) (i : Inv (record { state = stateOf q; book = b
     pub step-links : LinksFine (stepped .tables)
     unfolding finish
     step-links = links-touched g (s .lies .rows) k (m .touch)
-        (move-fine (isPooled (g .control)) (g .control .slots) r (s .fine) (s .control .slots) (g .control) (linkMet g r) (s .busy))
+        (move-fine (isPooled (g .control)) (g .control .slots) r (s .fine) (s .control .slots) (g .control) (wordFound g r) (s .busy))
 
   -- Accepted starts.
   module _ (z : Lies q t) (free : recordAt q t .place ≡ 0) where
@@ -201,28 +201,28 @@ module _ (q : Queue) (b : B.Book) (i : Inv (record { state = stateOf q; book = b
 
     pub pop-keeps : (side : ℕ) → Inv (record {
       state = stateOf (record { tables = g; records = set (q .records) t (put (started 1 side 0 0)) });
-      book = B.begun b t (B.opened M.pop (eqb side 1) 0 0);
+      book = B.begun b t (B.bookedCall M.pop (eqb side 1) 0 0);
     })
     unfolding stateOf
-    pop-keeps side = subst (λ (s : M.State). Inv (record { state = s; book = B.begun b t (B.opened M.pop (eqb side 1) 0 0) }))
+    pop-keeps side = subst (λ (s : M.State). Inv (record { state = s; book = B.begun b t (B.bookedCall M.pop (eqb side 1) 0 0) }))
         (sym (λ j. record { shared = view g; task = tasks-are 1 side 0 0 j }))
         (pop-inv (record { state = stateOf q; book = b }) i t (eqb side 1) ready)
 
     pub put-keeps : (side l : ℕ) → isPooled (g .control) ≡ true → Inv (record {
       state = stateOf (record { tables = g; records = set (q .records) t (put (asking side l)) });
-      book = B.begun b t (B.opened M.push (eqb side 1) 0 l);
+      book = B.begun b t (B.bookedCall M.push (eqb side 1) 0 l);
     })
     unfolding stateOf recOf view
-    put-keeps side l pooled = subst (λ (s : M.State). Inv (record { state = s; book = B.begun b t (B.opened M.push (eqb side 1) 0 l) }))
+    put-keeps side l pooled = subst (λ (s : M.State). Inv (record { state = s; book = B.begun b t (B.bookedCall M.push (eqb side 1) 0 l) }))
         (sym (λ j. record { shared = view g; task = put-back q t z (put (asking side l)) j }))
         (ask-inv (record { state = stateOf q; book = b }) i t (eqb side 1) l ready pooled)
 
     pub push-keeps : (side x l : ℕ) → 1 ≤ x → x ≤ g .control .slots → isPooled (g .control) ≡ false → marked (g .marks) x ≡ false → Inv (record {
       state = stateOf (record { tables = taken g x l; records = set (q .records) t (put (started 0 side x l)) });
-      book = B.begun b t (B.opened M.push (eqb side 1) x l);
+      book = B.begun b t (B.bookedCall M.push (eqb side 1) x l);
     })
     unfolding stateOf view
     push-keeps side x l real low named clear = subst
-        (λ (s : M.State). Inv (record { state = s; book = B.begun b t (B.opened M.push (eqb side 1) x l) }))
+        (λ (s : M.State). Inv (record { state = s; book = B.begun b t (B.bookedCall M.push (eqb side 1) x l) }))
         (sym (λ j. record { shared = view-taken g (z .rows) x l low j; task = tasks-are 0 side x l j }))
         (push-inv (record { state = stateOf q; book = b }) i t (eqb side 1) x l ready (λ e. omega arith) low named clear)

@@ -7,7 +7,7 @@ use lib.Dec.{eqb, ltb}
 use borrow.Author.Tests.{eq-eqb, eqb-true, lt-ltb, ltb-true}
 use Rattle.word.specs.Anchor.{anchorOf}
 use Rattle.word.specs.Link.{linkOf}
-use Rattle.model.specs.Places.{at1, at10, at11, at12, at13, at14, at15, at16, at17, at2, at3, at4, at5, at6, at7, at9, linkMet}
+use Rattle.model.specs.Places.{at1, at10, at11, at12, at13, at14, at15, at16, at17, at2, at3, at4, at5, at6, at7, at9, wordFound}
 use Rattle.model.specs.Places.{linkSide, move, row, sideOf}
 use Rattle.model.specs.Refusals.{hasRoom}
 use Rattle.model.specs.Tables.{atPlace, Tables, isPooled}
@@ -22,7 +22,7 @@ module _ (q : Tables) (r : Record) where
   at p = atPlace r p
 
   abbrev Test : ℕ → Type 0
-  Test p = hasRoom (at p) (move (q .control) (at p) (linkMet q (at p)) .touch) ≡ true
+  Test p = hasRoom (at p) (move (q .control) (at p) (wordFound q (at p)) .touch) ≡ true
 
   abbrev now : ℕ
   now = q .control .anchor
@@ -38,7 +38,7 @@ module _ (q : Tables) (r : Record) where
 
   -- From the test.
   module _ (busy : r .place ≢ 0) (h : r .place ≤ 17) where
-    pub room-tested : hasRoom r (move (q .control) r (linkMet q r) .touch) ≡ true → RoomAt q r (placeOf (r .place))
+    pub room-tested : hasRoom r (move (q .control) r (wordFound q r) .touch) ≡ true → RoomAt q r (placeOf (r .place))
     unfolding move at2 at4 at9 at10 at14 at17 row linkSide sideOf
     room-tested = by-place (λ p. Test p → RoomAt q (at p) (placeOf p))
         (λ e. tt)
@@ -66,7 +66,7 @@ module _ (q : Tables) (r : Record) where
     anchor-test : (now ≡ a → anchorOf a .tag < 4294967295) → eqb now a ≡ true → ltb (anchorOf a .tag) 4294967295 ≡ true
     anchor-test m e = lt-ltb _ _ (m (eqb-true _ _ e))
 
-    pub room-testing : RoomAt q r (placeOf (r .place)) → hasRoom r (move (q .control) r (linkMet q r) .touch) ≡ true
+    pub room-testing : RoomAt q r (placeOf (r .place)) → hasRoom r (move (q .control) r (wordFound q r) .touch) ≡ true
     unfolding move at1 at2 at3 at4 at5 at6 at7 at9 at10 at11 at12 at13 at14 at15 at16 at17 row linkSide sideOf
     room-testing = by-place (λ p. RoomAt q (at p) (placeOf p) → Test p)
         (λ m. refl)

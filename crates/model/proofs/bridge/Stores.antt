@@ -10,8 +10,8 @@ use lib.ListN.{getD, length, set}
 use lib.Seq.{getD-set-other, getD-set-same}
 use borrow.Author.Tests.{eqb-false, eqb-true, lt-ltb}
 use Rattle.word.specs.Link.{linkOf, spareOf}
-use Rattle.model.specs.Places.{Touch, apply, clearMark, nothing, setAnchor, setHead, setLink, setNext, takeSlot, taken}
-use Rattle.model.specs.Tables.{Tables, isPooled, marked, withMark, unused}
+use Rattle.model.specs.Places.{Touch, apply, clearMark, nothing, setAnchor, setHead, setLink, setNext, takeSlot}
+use Rattle.model.specs.Tables.{Tables, isPooled, marked, withMark, unused, taken}
 use Rattle.model.specs.declared.TaskRecord.{TaskRecord}
 use Rattle.model.proofs.tests.Truth.{by-test, decide-eq, split}
 use Rattle.model.proofs.machine.Machine as M

@@ -7,13 +7,13 @@ use native.Mathlib.Omega.{arith}
 use lib.Dec.{eqb}
 use Rattle.word.specs.Link.{linkOf, packLink}
 use Rattle.model.specs.Places.{endSeen, linkSide, move, row, setLink, sideOf}
-use Rattle.model.specs.Sound.{drawing, giving}
 use Rattle.model.specs.declared.Control.{Control}
 use Rattle.model.specs.declared.Record.{Record}
 use Rattle.model.proofs.tests.Truth.{by-test, split}
 use Rattle.model.proofs.bridge.ByMove.{by-move}
 use Rattle.model.proofs.bridge.Facts.{RecordFine}
 use Rattle.model.proofs.bridge.Stores.{TouchFine, WordFine}
+use Rattle.model.specs.Kinds.{drawing, giving}
 
 -- A packed link word is sound.
 pub word-fine : (slots t n : ℕ) → n ≤ slots → n < 2 ^ 15 → WordFine slots (packLink (record { tag = t; slot = n }))

@@ -4,7 +4,6 @@ use mathlib.Core.List.{List, [], _∷_}
 use mathlib.Core.Logic.{_≢_}
 use mathlib.Core.Path.{_∙_, _≡_, ap, refl}
 use Prim.Native.Nat.{ℕ}
-use Rattle.model.specs.History.{All}
 use Rattle.model.proofs.lists.All.{all-seen}
 use Rattle.model.proofs.lists.Deque.{put, rest, seen, took}
 use Rattle.model.proofs.lists.Ends.{far-cons, seen-seen}
@@ -13,6 +12,7 @@ use Rattle.model.proofs.machine.Machine.{Anchor, Link, aimed, both, pus
 use Rattle.model.proofs.invariant.Shape.{Shape}
 use Rattle.model.proofs.chain.Ends.{no-entry, single, small}
 use Rattle.model.proofs.chain.Sides.{apart, chain, far, make, near, nonzero, under, unturn}
+use Rattle.model.specs.Lists.{All}
 
 module _ (k : Bool → ℕ → Link) (a : Anchor) (q : List ℕ) (s : Shape k a q) (d : Bool) where
   -- Place 4 of a push.

@@ -4,7 +4,6 @@ use mathlib.Core.List.{List, [], _∷_}
 use mathlib.Core.Logic.{_≢_}
 use mathlib.Core.Path.{_∙_, _≡_, ap, refl}
 use Prim.Native.Nat.{ℕ}
-use Rattle.model.specs.History.{All}
 use Rattle.model.proofs.lists.All.{all-seen}
 use Rattle.model.proofs.lists.Chain.{chain-map, from-map, from-next}
 use Rattle.model.proofs.lists.Deque.{Chain, seen}
@@ -12,6 +11,7 @@ use Rattle.model.proofs.machine.Laws.{relink-across, relink-other}
 use Rattle.model.proofs.machine.Machine.{Anchor, Link, Status, pushing, relink, settled, stable, tip}
 use Rattle.model.proofs.invariant.Shape.{Joint, Linked, Rough, Shape}
 use Rattle.model.proofs.chain.Sides.{apart, near, rough, under, unturn}
+use Rattle.model.specs.Lists.{All}
 
 module _ (k : Bool → ℕ → Link) (a : Anchor) (q : List ℕ) (s : Shape k a q) (d : Bool) where
   -- Place 9: the link back is made.

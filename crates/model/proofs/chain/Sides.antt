@@ -4,13 +4,13 @@ use mathlib.Core.List.{List, reverse, reverse-reverse}
 use mathlib.Core.Logic.{_≢_}
 use mathlib.Core.Path.{_≡_}
 use Prim.Native.Nat.{ℕ}
-use Rattle.model.specs.History.{All}
 use Rattle.model.proofs.lists.All.{all-seen}
 use Rattle.model.proofs.lists.Chain.{chain-reverse, distinct-seen}
 use Rattle.model.proofs.lists.Deque.{Chain, Distinct, front, seen}
 use Rattle.model.proofs.lists.Ends.{seen-not}
 use Rattle.model.proofs.machine.Machine.{Anchor, Link, Status, pushing, stable, tip}
 use Rattle.model.proofs.invariant.Shape.{Joint, Linked, Rough, Shape}
+use Rattle.model.specs.Lists.{All}
 
 pub turn : (k : Bool → ℕ → Link) (d : Bool) (q : List ℕ) → Chain (Joint k false) q → Chain (Joint k d) (seen d q)
 turn k false q c = c

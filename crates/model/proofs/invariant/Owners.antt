@@ -1,16 +1,16 @@
 -- Who has a slot. One owner a slot says at once that no two tasks have the same one, and that none of theirs is queued.
-use mathlib.Core.Bool.{Bool, false, true}
+use mathlib.Core.Bool.{Bool, false, not, true}
 use mathlib.Core.List.{List, [], _∷_}
 use mathlib.Core.Logic.{_≢_}
 use mathlib.Core.Path.{_≡_}
 use Prim.Native.Nat.{_≤_, ℕ}
-use Rattle.model.specs.History.{All}
 use Rattle.model.specs.declared.Entry.{Entry}
 use Rattle.model.proofs.lists.Deque.{Distinct}
 use Rattle.model.proofs.lists.In.{In}
 use Rattle.model.proofs.lists.Slots.{slots}
-use Rattle.model.proofs.machine.Machine.{Shared}
+use Rattle.model.proofs.machine.Machine.{Rec, Shared, isGiving}
 use Rattle.model.proofs.invariant.Shape.{Shape}
+use Rattle.model.specs.Lists.{All}
 
 -- Nobody, the queue, or a task: a push before its effect, a pop after it.
 pub data Owner : Type 0 where
@@ -32,19 +32,20 @@ pub record Pool (n : ℕ) (f : ℕ → ℕ) (top : ℕ) (h : ℕ → Owner) : Ty
   -- (15) Nothing is lost: every free slot is there.
   pub full : (x : ℕ) → x ≢ 0 → x ≤ n → h x ≡ free → In x stack
 
--- The marks of a named queue: (1, 7, 8) a slot that somebody has is marked, and (21) no other of 0 to slots.
-pub record Marks (n : ℕ) (m : ℕ → Bool) (h : ℕ → Owner) : Type 0 where
-  pub set : (x : ℕ) → h x ≢ free → m x ≡ true
-  pub owed : (x : ℕ) → x ≤ n → m x ≡ true → h x ≢ free
+-- How a push of a pooled queue learns that a slot is nobody's: by the stack. In a named queue the mark tells.
+-- (It names the fields that it speaks of, so that it stands where another changes.)
+abbrev pub Spare : Bool → ℕ → (ℕ → ℕ) → ℕ → (ℕ → Owner) → Type 0
+Spare false n f top h = Unit {0}
+Spare true n f top h = Pool n f top h
 
--- How a push learns that a slot is nobody's. In a named queue by its mark.
--- In a pooled queue, where marks tell nothing, by the stack. (It names the fields that it speaks of, so that it stands where another changes.)
-abbrev pub Spare : Bool → ℕ → (ℕ → Bool) → (ℕ → ℕ) → ℕ → (ℕ → Owner) → Type 0
-Spare false n m f top h = Marks n m h
-Spare true n m f top h = Pool n f top h
+-- (21) The mark of a slot, by its owner: set while the queue has it, or a task that is not giving it back.
+abbrev pub shows : (ℕ → Rec) → Owner → Bool
+shows f free = false
+shows f queued = true
+shows f (held t) = not (isGiving (f t .place))
 
 -- The queue part of the invariant: q is the sequential deque.
-pub record Whole (s : Shared) (h : ℕ → Owner) (q : List Entry) : Type 0 where
+pub record Intact (s : Shared) (h : ℕ → Owner) (q : List Entry) : Type 0 where
   pub shape : Shape (s .link) (s .anchor) (slots q)
   pub owned : All (λ x. h x ≡ queued) (slots q)
   pub listed : (x : ℕ) → h x ≡ queued → In x (slots q)
@@ -52,4 +53,4 @@ pub record Whole (s : Shared) (h : ℕ → Owner) (q : List Entry) : Type 0 wher
   pub labels : All (λ (e : Entry). s .label (e .slot) ≡ e .label) q
   -- (1, 7, 8) A slot that somebody has is one of 1 to slots.
   pub bounds : (x : ℕ) → h x ≢ free → (x ≢ 0) × (x ≤ s .slots)
-  pub spare : Spare (s .pooled) (s .slots) (s .mark) (s .next) (s .head .slot) h
+  pub spare : Spare (s .pooled) (s .slots) (s .next) (s .head .slot) h

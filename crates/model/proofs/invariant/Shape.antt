@@ -4,9 +4,9 @@ use mathlib.Core.List.{List, [], _∷_}
 use mathlib.Core.Logic.{_≢_}
 use mathlib.Core.Path.{_≡_}
 use Prim.Native.Nat.{ℕ}
-use Rattle.model.specs.History.{All}
 use Rattle.model.proofs.lists.Deque.{Chain, Distinct, From, front, seen}
 use Rattle.model.proofs.machine.Machine.{Anchor, Link, Status, pushing, stable, tip}
+use Rattle.model.specs.Lists.{All}
 
 -- x stands next to y, nearer to side d: each names the other.
 abbrev pub Joint : (Bool → ℕ → Link) → Bool → ℕ → ℕ → Type 0

@@ -8,13 +8,14 @@ use Rattle.word.specs.Anchor.{anchorOf}
 use Rattle.model.specs.declared.Record.{Record}
 use Rattle.model.specs.declared.TaskRecord.{TaskRecord}
 use Rattle.model.specs.Tables.{Tables, isPooled, atPlace, withCall}
-use Rattle.model.specs.Sound.{isPop, controlSound, recordSound, rowsFit}
+use Rattle.model.specs.Sound.{controlSound, recordSound, rowsFit}
 use Rattle.model.specs.Places.{sideOf, row, reading, at1, at2, at4, move}
 use Rattle.model.specs.Route.{counted, goes}
 use Rattle.model.specs.Refusals.{Lent, stepSound, stepRefusal}
 use Rattle.model.specs.Calls.{finish, step}
 use Rattle.model.proofs.tests.Truth.{split}
 use Rattle.model.proofs.laws.Onward.{reads-on}
+use Rattle.model.specs.Kinds.{isPop}
 
 module _ (q : Tables) (p : Lent) (t : TaskRecord) where
   abbrev r : Record

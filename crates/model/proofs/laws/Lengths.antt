@@ -10,14 +10,16 @@ use borrow.Author.Tests.{leb-true, ltb-true, not-false}
 use Rattle.model.specs.declared.TaskRecord.{TaskRecord}
 use Rattle.model.specs.declared.Op.{Op}
 use Rattle.model.specs.declared.Op.the-variants.{Push, Pop, Put, Step}
-use Rattle.model.specs.Tables.{Tables, Queue, zeroed, unused, taskAt}
+use Rattle.model.specs.Tables.{tablesOf, Tables, Queue, unused, taskAt}
 use Rattle.model.specs.Sound.{rowTests, rowsFit}
-use Rattle.model.specs.Places.{Touch, nothing, setAnchor, setLink, clearMark, takeSlot, setNext, setHead, linkMet, move, apply}
+use Rattle.model.specs.Places.{Touch, nothing, setAnchor, setLink, clearMark, takeSlot, setNext, setHead, wordFound, move, apply}
 use Rattle.model.specs.Refusals.{Lent, among, alone, openRules, stepRefusal, pushRefusal, putRefusal, popRefusal}
 use Rattle.model.specs.Calls.{stacked, opened, OpenDone, openAs, Acted, decide, pushStart, putStart, popStart, finish, step, actOn, act, stepLent}
 use Rattle.model.proofs.lists.Range.{length-climb}
-use Rattle.model.proofs.laws.Tests.{either, and-both, every-one}
+use Rattle.model.proofs.tests.Truth.{either, and-true}
+use Rattle.model.proofs.tests.Rules.{tests}
 use Rattle.model.proofs.laws.Refusals.{OpenDecided, accepted-opening, refused-opening, open-decided}
+use Rattle.model.specs.Lists.{zeroed}
 
 pub record Lengths : Type 0 where
   pub lefts : ℕ
@@ -39,14 +41,12 @@ touched nothing q = refl
 touched (setAnchor w) q = refl
 touched (setLink side x w) q = go (eqb side 1)
   where
-    go : (right : Bool) → lengths (record {
-      control = q .control;
-      lefts = cond right (q .lefts) (set (q .lefts) x w);
-      rights = cond right (set (q .rights) x w) (q .rights);
-      labels = q .labels;
-      marks = q .marks;
-      next = q .next;
-    }) ≡ lengths q
+    go : (right : Bool) → lengths (tablesOf (q .control)
+        (cond right (q .lefts) (set (q .lefts) x w))
+        (cond right (set (q .rights) x w) (q .rights))
+        (q .labels)
+        (q .marks)
+        (q .next)) ≡ lengths q
     go true = rw length-set
     go false = rw length-set
 touched (clearMark x) q = simp length-set
@@ -63,7 +63,7 @@ unfolding actOn pushStart putStart popStart step finish
 act-on q p r (Push side slot label) = settled (pushRefusal q p (r .call) side slot) q r _ (simp length-set)
 act-on q p r (Pop side) = settled (popRefusal q p (r .call) side) q r _ refl
 act-on q p r (Put side label) = settled (putRefusal q p (r .call) side) q r _ refl
-act-on q p r Step = settled (stepRefusal q p (r .call)) q r _ (touched (move (q .control) (r .call) (linkMet q (r .call)) .touch) _)
+act-on q p r Step = settled (stepRefusal q p (r .call)) q r _ (touched (move (q .control) (r .call) (wordFound q (r .call)) .touch) _)
 
 -- The laws.
 pub lent-lengths : (q : Tables) (r : TaskRecord) → lengths (stepLent q r .tables) ≡ lengths q
@@ -93,8 +93,8 @@ open-lengths pooled q tasks slots tag = go (open-decided pooled q tasks slots ta
     go : {done : OpenDone} → OpenDecided (openRules pooled q tasks slots) q (opened pooled q tasks slots tag) done → SameLengths q (done .queue)
     go (refused-opening n f) = record { tables = refl; records = refl }
     go (accepted-opening f) =
-        let long = and-both (rowsFit pooled slots (q .tables)) (leb tasks (length (q .records))) (not-false _ (f .1 .1 .0)) in
-        let rows = every-one (rowTests pooled slots (q .tables)) (long .0) in
+        let long = and-true (rowsFit pooled slots (q .tables)) (leb tasks (length (q .records))) (not-false _ (f .1 .1 .0)) in
+        let rows = tests (rowTests pooled slots (q .tables)) (long .0) in
         record {
           tables = λ i. record {
             lefts = row-zeroed slots (q .tables .lefts) (rows .0) i;

@@ -13,12 +13,13 @@ use Rattle.model.specs.declared.Op.the-variants.{Step}
 use Rattle.model.specs.Tables.{Queue, taskAt, unused}
 use Rattle.model.specs.Refusals.{Rule, alone, first, stepRefusal, stepRules}
 use Rattle.model.specs.Calls.{Acted, Done, act, finish, step, stepLent}
-use Rattle.model.specs.History.{All, Event, Request, final, run}
+use Rattle.model.specs.History.{Event, Request, final, run}
 use Rattle.model.specs.LentSteps.{LentKnown, LentStand, Lendable, Turn, asked, finalTurns, lent, requestOf, runTurns, takeTurn}
 use Rattle.model.proofs.tests.Truth.{by-test, not-both}
 use Rattle.model.proofs.laws.Lengths.{act-lengths}
 use Rattle.model.proofs.laws.LentRecord.{lent-record, withRow}
 use Rattle.model.proofs.laws.Sizes.{act-tasks}
+use Rattle.model.specs.Lists.{All}
 
 -- A task's own record, put where it lies.
 own-row : (q : Queue) (t : ℕ) → withRow q t (taskAt q t) ≡ q

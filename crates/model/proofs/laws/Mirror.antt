@@ -1,6 +1,6 @@
 -- Left is the mirror of right: every call on the mirrored queue, with its side mirrored, answers the same and leaves the mirror of what it leaves; for all
 -- tables and all arguments, refused ones among them.
-pub mod Words
+pub mod Packed
 pub mod Sides
 pub mod Sound
 pub mod Moves
@@ -9,59 +9,49 @@ pub mod Twice
 use mathlib.Core.Path.{_≡_, refl, ap, ap₂, _∙_}
 use mathlib.Core.Bool.{Bool, true, false, cond}
 use mathlib.Core.List.{List, [], _∷_, _++_, map}
-use Prim.Native.Nat.{ℕ, zero, suc, _+_, _/_}
+use Prim.Native.Nat.{ℕ, zero, suc, _+_}
 use native.Mathlib.Omega.{arith}
 use lib.Dec.{eqb, leb, ltb}
 use lib.ListN.{set, drop, replicate, length-map, List·getD-map}
 use Rattle.word.specs.Anchor.{emptyAnchor}
+use Rattle.model.specs.declared.Record.{Record}
 use Rattle.model.specs.declared.TaskRecord.{TaskRecord}
 use Rattle.model.specs.declared.Answer.the-variants.{Running}
 use Rattle.model.specs.declared.Outcome.the-variants.{Moved}
 use Rattle.model.specs.declared.Opening.the-variants as opening
 use Rattle.model.specs.declared.Op.{Op}
 use Rattle.model.specs.declared.Op.the-variants.{Push, Pop, Put, Step}
-use Rattle.model.specs.Tables.{Tables, Queue, asking, started, taskAt, unused, withCall, zeroed}
-use Rattle.model.specs.Places.{taken}
-use Rattle.model.specs.Refusals.{openRefusal, Lent, among, alone, pushRefusal, putRefusal, popRefusal}
-use Rattle.model.specs.Calls.{stacked, opened, OpenDone, openAs, Acted, decide, pushStart, putStart, popStart, actOn, back, act, stepLent}
-use Rattle.model.specs.Mirror.{mirrorSide, mirrorStatus, mirrorWord, mirrorTables, mirrorRecord, mirrorTask, mirrorQueue, mirrorOp}
+use Rattle.model.specs.Tables.{Tables, Queue, asking, started, taskAt, unused, withAnchor, withCall, taken}
+use Rattle.model.specs.declared.Asked.{Asked}
+use Rattle.model.specs.Refusals.{openRefusal, Lent, among, alone, fits, startRefusal, namedPush, pooledPush, nothingAsked}
+use Rattle.model.specs.Calls.{opened, OpenDone, openAs, Acted, decide, pushStart, putStart, popStart, actOn, back, act, stepLent}
+use Rattle.model.specs.Mirror.{mirrorSide, mirrorStatus, mirrorWord, mirrorControl, mirrorTables, mirrorRecord, mirrorTask, mirrorQueue, mirrorOp}
 use Rattle.model.specs.Mirror.{mirrorActed, mirrorOpened, mirrorDone}
-use Rattle.model.proofs.laws.Mirror.Words.{mirror-pack}
-use Rattle.model.proofs.laws.Mirror.Sound.{rows-fit-mirror, push-refusal-mirror, put-refusal-mirror, pop-refusal-mirror}
+use Rattle.model.proofs.laws.Mirror.Packed.{mirror-pack}
+use Rattle.model.proofs.laws.Mirror.Sound.{rows-fit-mirror, start-refusal-mirror}
 use Rattle.model.proofs.laws.Mirror.Steps.{decide-mirror, step-mirror}
+use Rattle.model.specs.Lists.{zeroed}
 
 -- A start or step of one record.
-started-mirror : (kind side own label : ℕ) → started kind (mirrorSide side) own label ≡ mirrorRecord (started kind side own label)
-unfolding mirrorRecord mirrorWord mirrorStatus
-started-mirror kind side own label = refl
+abbrev starts : Tables → TaskRecord → ℕ → Record → Acted
+starts q r first call = record { tables = q; task = withCall r call; outcome = Moved (Running first) }
 
-asking-mirror : (side label : ℕ) → asking (mirrorSide side) label ≡ mirrorRecord (asking side label)
-unfolding mirrorRecord mirrorWord mirrorStatus
-asking-mirror side label = refl
+-- A start that is carried out leaves the mirror, where its call is the mirror.
+start-mirror : (q t : Tables) (p : Lent) (r : TaskRecord) (side first : ℕ) (a : Asked) (call mirrored : Record) → mirrored ≡ mirrorRecord call
+    → decide (startRefusal (mirrorControl (q .control)) (fits (mirrorTables q)) p (mirrorRecord (r .call)) (mirrorSide side) a)
+    (mirrorTables q) (mirrorTask r) (starts (mirrorTables t) r first mirrored)
+    ≡ mirrorActed (decide (startRefusal (q .control) (fits q) p (r .call) side a) q r (starts t r first call))
+start-mirror q t p r side first a call mirrored e =
+    let done = starts (mirrorTables t) r first in
+    ap (λ (why : ℕ). decide why (mirrorTables q) (mirrorTask r) (done mirrored)) (start-refusal-mirror q p (r .call) side a)
+    ∙ decide-mirror (startRefusal (q .control) (fits q) p (r .call) side a) q r (starts t r first call) (done mirrored) (λ _. ap done e)
 
 act-on-mirror : (q : Tables) (p : Lent) (r : TaskRecord) (o : Op) → actOn (mirrorTables q) p (mirrorTask r) (mirrorOp o) ≡ mirrorActed (actOn q p r o)
-unfolding actOn pushStart putStart popStart
+unfolding actOn pushStart putStart popStart mirrorRecord mirrorWord mirrorStatus
 act-on-mirror q p r (Push side slot label) =
-    let begun : (Tables → ℕ → Acted) = λ q side. record
-    { tables = taken q slot label; task = withCall r (started 0 side slot label); outcome = Moved (Running 1) } in
-    ap (λ (why : ℕ). decide why (mirrorTables q) (mirrorTask r) (begun (mirrorTables q) (mirrorSide side)))
-    (push-refusal-mirror q p (r .call) side slot)
-    ∙ decide-mirror (pushRefusal q p (r .call) side slot) q r (begun q side) (begun (mirrorTables q) (mirrorSide side))
-    (λ e i. record {
-      tables = mirrorTables (taken q slot label);
-      task = withCall r (started-mirror 0 side slot label i);
-      outcome = Moved (Running 1);
-    })
-act-on-mirror q p r (Pop side) =
-    let begun : (Tables → ℕ → Acted) = λ q side. record { tables = q; task = withCall r (started 1 side 0 0); outcome = Moved (Running 1) } in
-    ap (λ (why : ℕ). decide why (mirrorTables q) (mirrorTask r) (begun (mirrorTables q) (mirrorSide side))) (pop-refusal-mirror q p (r .call) side)
-    ∙ decide-mirror (popRefusal q p (r .call) side) q r (begun q side) (begun (mirrorTables q) (mirrorSide side))
-    (λ e i. record { tables = mirrorTables q; task = withCall r (started-mirror 1 side 0 0 i); outcome = Moved (Running 1) })
-act-on-mirror q p r (Put side label) =
-    let begun : (Tables → ℕ → Acted) = λ q side. record { tables = q; task = withCall r (asking side label); outcome = Moved (Running 12) } in
-    ap (λ (why : ℕ). decide why (mirrorTables q) (mirrorTask r) (begun (mirrorTables q) (mirrorSide side))) (put-refusal-mirror q p (r .call) side)
-    ∙ decide-mirror (putRefusal q p (r .call) side) q r (begun q side) (begun (mirrorTables q) (mirrorSide side))
-    (λ e i. record { tables = mirrorTables q; task = withCall r (asking-mirror side label i); outcome = Moved (Running 12) })
+    start-mirror q (taken q slot label) p r side 1 (namedPush q slot) (started 0 side slot label) (started 0 (mirrorSide side) slot label) refl
+act-on-mirror q p r (Pop side) = start-mirror q q p r side 1 nothingAsked (started 1 side 0 0) (started 1 (mirrorSide side) 0 0) refl
+act-on-mirror q p r (Put side label) = start-mirror q q p r side 12 (pooledPush q) (asking side label) (asking (mirrorSide side) label) refl
 act-on-mirror q p r Step = step-mirror q p r
 
 pub lent-mirror : (q : Tables) (r : TaskRecord) → stepLent (mirrorTables q) (mirrorTask r) ≡ mirrorActed (stepLent q r)
@@ -119,20 +109,7 @@ opened-mirror : (pooled : Bool) (q : Queue) (tasks slots tag : ℕ)
     → opened pooled (mirrorQueue q) tasks slots tag ≡ mirrorQueue (opened pooled q tasks slots tag)
 unfolding opened mirrorRecord mirrorStatus
 opened-mirror pooled q tasks slots tag = λ i. record {
-  tables = record {
-    control = record {
-      tasks = tasks;
-      slots = slots;
-      anchor = mirror-pack (emptyAnchor tag) (omega arith) i;
-      pooled = cond pooled 1 0;
-      head = cond pooled 1 0;
-    };
-    lefts = zeroed (slots + 1) 0 (q .tables .rights);
-    rights = zeroed (slots + 1) 0 (q .tables .lefts);
-    labels = zeroed (slots + 1) 0 (q .tables .labels);
-    marks = zeroed (slots / 64 + 1) 0 (q .tables .marks);
-    next = cond pooled (stacked slots (q .tables .next)) (q .tables .next);
-  };
+  tables = withAnchor (mirrorTables (opened pooled q tasks slots tag .tables)) (mirror-pack (emptyAnchor tag) (omega arith) i);
   records = map-zeroed mirrorTask tasks unused (q .records) i;
 }
 

@@ -2,10 +2,9 @@
 -- The one exception is 14 done, which sets the head, the slot's label and its mark.
 use mathlib.Core.Logic.{_⊎_, inl, inr}
 use mathlib.Core.Path.{_≡_, refl, subst, sym}
-use mathlib.Core.Bool.{Bool, true, false, cond}
+use mathlib.Core.Bool.{false}
 use Prim.Native.Nat.{ℕ}
 use lib.Dec.{eqb}
-use lib.ListN.{set}
 use lib.Seq.{getD-set-other}
 use borrow.Author.Tests.{eqb-true}
 use Rattle.model.specs.declared.Control.{Control}
@@ -14,14 +13,14 @@ use Rattle.model.specs.declared.TaskRecord.{TaskRecord}
 use Rattle.model.specs.declared.Op.{Op}
 use Rattle.model.specs.declared.Op.the-variants.{Step}
 use Rattle.model.specs.Tables.{Tables, Queue, isPooled, recordAt, taskAt, unused}
-use Rattle.model.specs.Places.{Touch, nothing, setAnchor, setLink, clearMark, takeSlot, setNext, setHead, Move, linkMet, move, apply}
+use Rattle.model.specs.Places.{Touch, nothing, setAnchor, setLink, clearMark, takeSlot, setNext, setHead, Move, wordFound, move, apply}
 use Rattle.model.specs.Places.{at1, at2, at3, at4, at5, at6, at7, at9, at10, at11, at12, at13, at14, at15, at16, at17}
-use Rattle.model.specs.Sound.{isPush}
 use Rattle.model.specs.Route.{counted}
 use Rattle.model.specs.Refusals.{Lent, among, alone, stepRefusal}
 use Rattle.model.specs.Calls.{Acted, finish, step, actOn, act, stepLent}
-use Rattle.model.specs.OneTouch.{OneTouch, untouched, anchor, left, right, mark, next, head, drawn, withLefts, withRights}
-use Rattle.model.proofs.laws.Tests.{either, by-test}
+use Rattle.model.specs.OneTouch.{OneTouch, untouched, anchor, link, mark, next, head, drawn}
+use Rattle.model.proofs.tests.Truth.{either, by-test}
+use Rattle.model.specs.Kinds.{isPush}
 
 -- A slot is drawn at 14 alone.
 abbrev Draws14 : ℕ → Touch → Type 0
@@ -127,18 +126,14 @@ module _ (c : Control) (r : Record) (w : ℕ) where
 applied : (place : ℕ) (t : Touch) (q : Tables) → Draws14 place t → OneTouch place q (apply t q)
 applied place nothing q d = untouched
 applied place (setAnchor w) q d = anchor w
-applied place (setLink side x w) q d = go (eqb side 1)
-  where
-    go : (b : Bool) → OneTouch place q (withRights (withLefts q (cond b (q .lefts) (set (q .lefts) x w))) (cond b (set (q .rights) x w) (q .rights)))
-    go true = right x w
-    go false = left x w
+applied place (setLink side x w) q d = link side x w
 applied place (clearMark x) q d = mark _ _
 applied place (takeSlot w x l) q d = drawn w x l d
 applied place (setNext x v) q d = next x v
 applied place (setHead w) q d = head w
 
 abbrev moved : Tables → TaskRecord → Move
-moved q r = move (q .control) (r .call) (linkMet q (r .call))
+moved q r = move (q .control) (r .call) (wordFound q (r .call))
 
 -- What a single move touches is drawn at 14 alone, if at all.
 drawn14 : (place : ℕ) (m : Move) → Single place m → Draws14 place (m .touch)
@@ -149,7 +144,7 @@ step-touch : (q : Tables) (p : Lent) (r : TaskRecord) → OneTouch (r .call .pla
 unfolding step finish
 step-touch q p r =
     either (λ (a : Acted). OneTouch (r .call .place) q (a .tables)) (eqb (stepRefusal q p (r .call)) 0)
-    (applied (r .call .place) (moved q r .touch) q (drawn14 (r .call .place) (moved q r) (single (q .control) (r .call) (linkMet q (r .call))))) untouched
+    (applied (r .call .place) (moved q r .touch) q (drawn14 (r .call .place) (moved q r) (single (q .control) (r .call) (wordFound q (r .call))))) untouched
 
 -- Where a failed change is counted no shared word is touched.
 abbrev Uncounted : Tables → TaskRecord → Acted → Type 0
@@ -164,7 +159,7 @@ step-uncounted : (q : Tables) (p : Lent) (r : TaskRecord) → Uncounted q r (ste
 unfolding step
 step-uncounted q p r =
     either (Uncounted q r) (eqb (stepRefusal q p (r .call)) 0)
-    (uncounted q r (moved q r) (single (q .control) (r .call) (linkMet q (r .call)))) (inl refl)
+    (uncounted q r (moved q r) (single (q .control) (r .call) (wordFound q (r .call)))) (inl refl)
 
 -- The laws, for all arguments.
 pub lent-touch : (q : Tables) (r : TaskRecord) → OneTouch (r .call .place) q (stepLent q r .tables)

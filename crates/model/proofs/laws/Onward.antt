@@ -12,13 +12,15 @@ use Rattle.word.specs.Anchor.{anchorOf}
 use Rattle.word.specs.Link.{linkOf}
 use Rattle.model.specs.declared.Control.{Control}
 use Rattle.model.specs.declared.Record.{Record}
-use Rattle.model.specs.Tables.{isEmpty, isPooled}
-use Rattle.model.specs.Sound.{isPush, isPop, recordSound}
+use Rattle.model.specs.Tables.{isPooled}
+use Rattle.model.specs.Sound.{recordSound}
 use Rattle.model.specs.Places.{Move, endSeen, reading, at1, at2, at3, at4, at5, at6, at7, at9, at10, at11, at12, at13, at14, at15, at16, at17, move}
 use Rattle.model.specs.Places.{noneLeft}
 use Rattle.model.specs.Route.{leave, pushed, pushRoute, popRoute, route, onward}
-use Rattle.model.proofs.tests.Truth.{or-first, or-second}
-use Rattle.model.proofs.laws.Tests.{either, by-test, implied, Sound, sound-record}
+use Rattle.model.proofs.tests.Truth.{or-first, or-second, either, by-test}
+use Rattle.model.proofs.laws.SoundRecord.{implied, Sound, sound-record}
+use Rattle.model.specs.Sides.{isEmpty}
+use Rattle.model.specs.Kinds.{isPush, isPop}
 
 abbrev Leads : ℕ → ℕ → ℕ → Type 0
 Leads place kind outcome = eqb (route place kind outcome) 0 ≡ false
@@ -55,9 +57,9 @@ reads-on kind o =
 
 -- A move from place p leads on; kept shut, so that a chain of tests is gone through test by test.
 data From (kind p : ℕ) (m : Move) : Type 0 where
-  from : Leads p kind (m .outcome) → From kind p m
+  from : Leads p kind (m .branch) → From kind p m
 
-leads-from : {kind p : ℕ} {m : Move} → From kind p m → Leads p kind (m .outcome)
+leads-from : {kind p : ℕ} {m : Move} → From kind p m → Leads p kind (m .branch)
 leads-from (from h) = h
 
 module _ (c : Control) (r : Record) (w : ℕ) (kind : leb (r .kind) 1 ≡ true) where
@@ -182,7 +184,7 @@ module _ (c : Control) (r : Record) (w : ℕ) (kind : leb (r .kind) 1 ≡ true) 
 
 -- The law.
 pub leads-on : (pooled : Bool) (slots : ℕ) (c : Control) (r : Record) (w : ℕ) → recordSound pooled slots r ≡ true → eqb (r .place) 0 ≡ false
-    → let m = move c r w in eqb (onward (route (r .place) (r .kind) (m .outcome)) (m .task .finishing)) 0 ≡ false
+    → let m = move c r w in eqb (onward (route (r .place) (r .kind) (m .branch)) (m .task .finishing)) 0 ≡ false
 leads-on pooled slots c r w sound busy =
     let facts = sound-record pooled slots r sound busy in
     onward-leads _ _ (leads-from (leads c r w (facts .kind) facts busy))

@@ -1,12 +1,13 @@
 -- A refusal is its number alone, that of the first rule that applies; every table keeps its contents.
 use mathlib.Core.Path.{_≡_, refl, ap, _∙_}
-use mathlib.Core.Bool.{Bool, true, false, _&&_, cond}
+use mathlib.Core.Bool.{Bool, true, false, not, cond}
+use mathlib.Core.Logic.{_≢_}
 use mathlib.Core.List.{List, [], _∷_}
-use Prim.Native.Nat.{ℕ, _<_}
+use Prim.Native.Nat.{ℕ}
 use native.Mathlib.Omega.{arith}
-use lib.Dec.{ltb, eqb}
+use lib.Dec.{eqb}
 use lib.Seq.{set-getD}
-use borrow.Author.Tests.{ltb-true, ne-eqb}
+use borrow.Author.Tests.{eqb-false, ne-eqb, not-true}
 use Rattle.model.specs.declared.Record.{Record}
 use Rattle.model.specs.declared.TaskRecord.{TaskRecord}
 use Rattle.model.specs.declared.Answer.{Answer}
@@ -16,11 +17,12 @@ use Rattle.model.specs.declared.Opening.the-variants as opening
 use Rattle.model.specs.declared.Op.{Op}
 use Rattle.model.specs.declared.Op.the-variants.{Push, Pop, Put, Step}
 use Rattle.model.specs.Tables.{Tables, Queue, unused, taskAt}
-use Rattle.model.specs.Refusals.{Rule, rule, first, openRules, openRefusal, Lent, among, alone, pushRules, pushRefusal, putRules}
-use Rattle.model.specs.Refusals.{putRefusal, popRules, popRefusal, stepRules, stepRefusal}
-use Rattle.model.specs.History.{All}
+use Rattle.model.specs.Refusals.{Rule, rule, first, openRules, openRefusal, Lent, among, alone, fits, startRules, startRefusal}
+use Rattle.model.specs.Refusals.{namedPush, pooledPush, nothingAsked, stepRules, stepRefusal}
 use Rattle.model.specs.Calls.{opened, OpenDone, openAs, Acted, decide, pushStart, putStart, popStart, finish, step, actOn, back, act, stepLent}
-use Rattle.model.proofs.laws.Tests.{and-both}
+use Rattle.model.proofs.tests.Rules.{numbered}
+use Rattle.model.proofs.tests.Truth.{and-true}
+use Rattle.model.specs.Lists.{All}
 
 -- No rule of a list applies; and the first of a list to apply has number n.
 abbrev pub NoneApplies : List Rule → Type 0
@@ -33,14 +35,9 @@ pub data FirstApplies (n : ℕ) : List Rule → Type 0 where
 -- What `first` finds: 0 if none applies, else the number of the first that does.
 data Found (l : List Rule) : ℕ → Type 0 where
   none : NoneApplies l → Found l 0
-  some : (n : ℕ) → 0 < n → FirstApplies n l → Found l n
+  some : (n : ℕ) → n ≢ 0 → FirstApplies n l → Found l n
 
--- Every number is positive, so 0 is none of them.
-abbrev pub numbered : List Rule → Bool
-numbered [] = true
-numbered (r ∷ l) = ltb 0 (r .number) && numbered l
-
-find-from : (b : Bool) (m : ℕ) {l : List Rule} {n : ℕ} → 0 < m → Found l n → Found (rule m b ∷ l) (cond b m n)
+find-from : (b : Bool) (m : ℕ) {l : List Rule} {n : ℕ} → m ≢ 0 → Found l n → Found (rule m b ∷ l) (cond b m n)
 find-from true m h f = some m h here
 find-from false m h (none a) = none (refl, a)
 find-from false m h (some n g a) = some n g (later a)
@@ -48,15 +45,8 @@ find-from false m h (some n g a) = some n g (later a)
 find : (l : List Rule) → numbered l ≡ true → Found l (first l)
 find [] h = none tt
 find (r ∷ l) h =
-    let both = and-both (ltb 0 (r .number)) (numbered l) h in
-    find-from (r .applies) (r .number) (ltb-true 0 (r .number) (both .0)) (find l (both .1))
-
-pub none-applies : (l : List Rule) → numbered l ≡ true → first l ≡ 0 → NoneApplies l
-none-applies l h e = go (find l h) e
-  where
-    go : {n : ℕ} → Found l n → n ≡ 0 → NoneApplies l
-    go (none f) e = f
-    go (some n h f) e = absurd (omega arith)
+    let z = and-true (not (eqb (r .number) 0)) (numbered l) h in
+    find-from (r .applies) (r .number) (eqb-false _ _ (not-true _ (z .0))) (find l (z .1))
 
 -- A start or step is carried out if no rule applies; else it answers the first one's number, and record and tables are as they were.
 pub data Decided (rules : List Rule) (q : Tables) (r : TaskRecord) : Acted → Type 0 where
@@ -69,20 +59,20 @@ decided-by rules h q r done a e = go (first rules) (find rules h)
   where
     go : (n : ℕ) → Found rules n → Decided rules q r (decide n q r done)
     go _ (none n) = accepted a n e
-    go _ (some n h f) = rw (ne-eqb n 0 (λ e. omega arith)) (refused n f)
+    go _ (some n h f) = rw (ne-eqb n 0 h) (refused n f)
 
 -- The rules of a start or step, in order.
 abbrev pub rulesOf : Tables → Lent → Record → Op → List Rule
-rulesOf q p r (Push side slot label) = pushRules q p r side slot
-rulesOf q p r (Pop side) = popRules q p r side
-rulesOf q p r (Put side label) = putRules q p r side
+rulesOf q p r (Push side slot label) = startRules (q .control) (fits q) p r side (namedPush q slot)
+rulesOf q p r (Pop side) = startRules (q .control) (fits q) p r side nothingAsked
+rulesOf q p r (Put side label) = startRules (q .control) (fits q) p r side (pooledPush q)
 rulesOf q p r Step = stepRules q p r
 
 pub decided : (q : Tables) (p : Lent) (r : TaskRecord) (o : Op) → Decided (rulesOf q p (r .call) o) q r (actOn q p r o)
-unfolding actOn pushStart putStart popStart step finish pushRefusal putRefusal popRefusal stepRefusal
-decided q p r (Push side slot label) = decided-by (pushRules q p (r .call) side slot) refl q r _ (Running 1) refl
-decided q p r (Pop side) = decided-by (popRules q p (r .call) side) refl q r _ (Running 1) refl
-decided q p r (Put side label) = decided-by (putRules q p (r .call) side) refl q r _ (Running 12) refl
+unfolding actOn pushStart putStart popStart step finish startRefusal stepRefusal
+decided q p r (Push side slot label) = decided-by (rulesOf q p (r .call) (Push side slot label)) refl q r _ (Running 1) refl
+decided q p r (Pop side) = decided-by (rulesOf q p (r .call) (Pop side)) refl q r _ (Running 1) refl
+decided q p r (Put side label) = decided-by (rulesOf q p (r .call) (Put side label)) refl q r _ (Running 12) refl
 decided q p r Step = decided-by (stepRules q p (r .call)) refl q r _ _ refl
 
 -- What a refused start or step of a record leaves.
@@ -120,7 +110,7 @@ open-decided pooled q tasks slots tag = go (find (openRules pooled q tasks slots
         (cond (eqb n 0) (record { queue = opened pooled q tasks slots tag; outcome = opening.Opened })
         (record { queue = q; outcome = opening.Refused n }))
     go (none f) = accepted-opening f
-    go (some n h f) = rw (ne-eqb n 0 (λ e. omega arith)) (refused-opening n f)
+    go (some n h f) = rw (ne-eqb n 0 h) (refused-opening n f)
 
 pub open-refused : (pooled : Bool) (q : Queue) (tasks slots tag n : ℕ) → openAs pooled q tasks slots tag .outcome ≡ opening.Refused n
     → openAs pooled q tasks slots tag .queue ≡ q

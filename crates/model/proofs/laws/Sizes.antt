@@ -10,14 +10,15 @@ use borrow.Author.Tests.{le-leb, lt-ltb}
 use Rattle.model.specs.declared.TaskRecord.{TaskRecord}
 use Rattle.model.specs.declared.Op.{Op}
 use Rattle.model.specs.declared.Op.the-variants.{Push, Pop, Put, Step}
-use Rattle.model.specs.Tables.{Tables, Queue, isPooled, taskAt, unused, zeroed}
-use Rattle.model.specs.Sound.{every, rowsFit}
-use Rattle.model.specs.Places.{Touch, nothing, setAnchor, setLink, clearMark, takeSlot, setNext, setHead, linkMet, move, apply}
+use Rattle.model.specs.Tables.{Tables, Queue, isPooled, taskAt, unused}
+use Rattle.model.specs.Sound.{rowsFit}
+use Rattle.model.specs.Places.{Touch, nothing, setAnchor, setLink, clearMark, takeSlot, setNext, setHead, wordFound, move, apply}
 use Rattle.model.specs.Refusals.{Lent, among, recordsFit, stepRefusal, pushRefusal, popRefusal, putRefusal}
 use Rattle.model.specs.Calls.{Acted, decide, pushStart, popStart, putStart, finish, step, actOn, act, opened, stacked}
-use Rattle.model.proofs.laws.Tests.{either}
+use Rattle.model.proofs.tests.Truth.{either}
 use Rattle.model.proofs.laws.Lengths.{Lengths, act-lengths, lengths}
 use Rattle.model.proofs.lists.Range.{length-climb}
+use Rattle.model.specs.Lists.{zeroed, every}
 
 pub record Sizes : Type 0 where
   pub tasks : ℕ
@@ -44,7 +45,7 @@ unfolding actOn pushStart popStart putStart step finish
 act-on q p r (Push side slot label) = settled (pushRefusal q p (r .call) side slot) q r _ refl
 act-on q p r (Pop side) = settled (popRefusal q p (r .call) side) q r _ refl
 act-on q p r (Put side label) = settled (putRefusal q p (r .call) side) q r _ refl
-act-on q p r Step = settled (stepRefusal q p (r .call)) q r _ (touched (move (q .control) (r .call) (linkMet q (r .call)) .touch) _)
+act-on q p r Step = settled (stepRefusal q p (r .call)) q r _ (touched (move (q .control) (r .call) (wordFound q (r .call)) .touch) _)
 
 pub act-sizes : (q : Queue) (t : ℕ) (o : Op) → sizes (act q t o .queue .tables) ≡ sizes (q .tables)
 unfolding act

@@ -26,7 +26,7 @@ abbrev pub bookAfter : B.Book → ℕ → B.Call → Event → Answer → B.Book
 bookAfter b t k ev a = B.stepped b t (B.noted k (b .queue) (anchorSeen (ev .before)) (anchorSeen (ev .after)) (answerSeen a)) (answerSeen a)
 
 abbrev KeptHead : ℕ → B.Book → B.Call → Answer → Type 0
-KeptHead n b k a = Final a → B.Kept (record { call = k; answer = answerSeen a })
+KeptHead n b k a = Final a → B.Honoured (record { call = k; answer = answerSeen a })
 
 abbrev pub goingOn : Answer → ℕ
 goingOn (Running p) = 1
@@ -36,7 +36,7 @@ goingOn (Popped e) = 0
 goingOn NoSlot = 0
 
 -- A call that its one effect closes.
-once : (p : Bool) (n : ℕ) (c : Call) (k : B.Call) (a : Answer) → Matches p (suc n) c k → B.Kept (record {
+once : (p : Bool) (n : ℕ) (c : Call) (k : B.Call) (a : Answer) → Matches p (suc n) c k → B.Honoured (record {
   call = k;
   answer = answerSeen a;
 }) → Once c n a

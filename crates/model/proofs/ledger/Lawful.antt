@@ -4,11 +4,12 @@ use mathlib.Core.Path.{_≡_}
 use Prim.Native.Nat.{_≤_, ℕ}
 use native.Mathlib.Omega.{arith}
 use lib.ListN.{length}
-use Rattle.model.specs.History.{All, AtMostOnce, Call, Effect, Ending, Lawful, Ledger, answered, pending}
+use Rattle.model.specs.History.{AtMostOnce, Call, Effect, Ending, Lawful, Ledger, answered, pending}
 use Rattle.model.specs.Tables.{Queue, isPooled}
 use Rattle.model.proofs.places.AtMostOnce.{few-effects}
 use Rattle.model.proofs.ledger.Matched.{Matched}
 use Rattle.model.proofs.ledger.Matches.{Last, Tracked, Tracks}
+use Rattle.model.specs.Lists.{All}
 
 module _ (n : ℕ) (q : Queue) (l : Ledger) (g : Matched n q l) where
   lawful : (c : Call) (e : Ending) → Tracked (isPooled (q .tables .control)) n (g .book .calls) c e → Lawful c e

@@ -8,13 +8,14 @@ use native.Mathlib.Omega.{arith}
 use lib.Dec.{eqb}
 use lib.ListN.{length}
 use borrow.Author.Tests.{eq-eqb}
-use Rattle.model.specs.History.{All, Call, Effect, Ending, Once, answered, isOpen, pending}
+use Rattle.model.specs.History.{Call, Effect, Ending, Once, answered, isOpen, pending}
 use Rattle.model.specs.declared.Answer.the-variants.{Empty, NoSlot, Popped, Pushed, Running}
 use Rattle.model.specs.declared.Answer.{Answer}
 use Rattle.model.proofs.tests.Truth.{not-both}
 use Rattle.model.proofs.machine.Book as B
 use Rattle.model.proofs.machine.Machine.{Touch, clear, none, putAnchor, putHead, putLink, putNext, take}
 use Rattle.model.proofs.bridge.View.{answerSeen, kindOf}
+use Rattle.model.specs.Lists.{All}
 
 -- An answer that ends a call.
 abbrev pub Final : Answer → Type 0

@@ -14,11 +14,11 @@ use Rattle.word.specs.Link.{linkOf, spareOf}
 use Rattle.model.specs.Calls.{opened, stacked}
 use Rattle.model.specs.History.{Ledger}
 use Rattle.model.specs.Refusals.{openRefusal, openRules}
-use Rattle.model.specs.Tables.{Queue, idle, isPooled, marked, recordAt, zeroed, unused}
+use Rattle.model.specs.Tables.{Queue, idle, isPooled, marked, recordAt, unused}
 use Rattle.model.specs.declared.Record.{Record}
 use Rattle.model.specs.declared.TaskRecord.{TaskRecord}
 use Rattle.model.proofs.tests.Rules.{cleared}
-use Rattle.model.proofs.tests.Truth.{by-test, decide-eq, not-both}
+use Rattle.model.proofs.tests.Truth.{by-test, decide-eq}
 use Rattle.model.proofs.lists.Range.{climb-last, climb-step}
 use Rattle.model.proofs.machine.Book as B
 use Rattle.model.proofs.machine.Machine as M
@@ -27,6 +27,7 @@ use Rattle.model.proofs.places.Opening.{all-stacked, fresh}
 use Rattle.model.proofs.bridge.Facts.{from1-true}
 use Rattle.model.proofs.bridge.View.{anchorSeen, linkAt, placeOf, recOf, stateOf, statusOf, view}
 use Rattle.model.proofs.ledger.Matched.{Matched, busyNo}
+use Rattle.model.specs.Lists.{zeroed}
 
 abbrev pub nobody : Ledger
 nobody = record { deque = []; calls = [] }
@@ -113,13 +114,13 @@ module _ (pooled : Bool) (q : Queue) (tasks slots tag : ℕ) where
       (omega arith) in
       ap (λ w. eqb (w / 2 ^ (x % 64) % 2) 1) e ∙ ap (λ v. eqb (v % 2) 1) (zero-div (2 ^ (x % 64)))
 
-  -- Every slot is free: unmarked in a named queue, stacked in a pooled one.
-  all-spare : 1 ≤ slots → let s = view (o .tables) in Spare (s .pooled) (s .slots) (s .mark) (s .next) (s .head .slot) (λ x. free)
+  -- Every slot of a pooled queue is stacked.
+  all-spare : 1 ≤ slots → let s = view (o .tables) in Spare (s .pooled) (s .slots) (s .next) (s .head .slot) (λ x. free)
   unfolding view opened
   all-spare some = go pooled refl
     where
-      go : (b : Bool) → pooled ≡ b → let s = view (o .tables) in Spare (s .pooled) (s .slots) (s .mark) (s .next) (s .head .slot) (λ x. free)
-      go false e = rw (flag ∙ e) (record { set = λ x n. absurd (n refl); owed = λ x l m. absurd (not-both m (no-mark x l)) })
+      go : (b : Bool) → pooled ≡ b → let s = view (o .tables) in Spare (s .pooled) (s .slots) (s .next) (s .head .slot) (λ x. free)
+      go false e = rw (flag ∙ e) tt
       go true e =
           let top : linkOf (o .tables .control .head) .slot ≡ 1 = ap (λ (b : Bool). linkOf (cond b 1 0) .slot) e in
           rw (flag ∙ e) (subst (λ y. Pool slots (λ x. getD (o .tables .next) x 0) y (λ x. free)) (sym top)
@@ -135,7 +136,7 @@ module _ (pooled : Bool) (q : Queue) (tasks slots tag : ℕ) where
   unfolding opened stateOf view
   open-good some = record {
     book = B.noBook;
-    inv = fresh (view (o .tables)) (stateOf o .task) empty-status empty-left empty-right all-idle (all-spare some);
+    inv = fresh (view (o .tables)) (stateOf o .task) empty-status empty-left empty-right all-idle (all-spare some) no-mark;
     links = record {
       spare = zero-links (λ w. spareOf w ≡ 0) refl;
       tag = zero-links (λ w. linkOf w .tag < 2 ^ 32) (omega arith);

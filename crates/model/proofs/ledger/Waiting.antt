@@ -10,10 +10,9 @@ use lib.ListN.{getD, length, length-map, length-reverse}
 use borrow.Author.Tests.{eq-eqb, eqb-false, eqb-true, le-leb, ne-eqb}
 use Rattle.word.specs.Anchor.{anchorOf}
 use Rattle.word.specs.Link.{linkOf}
-use Rattle.model.specs.History.{All}
 use Rattle.model.specs.Walk.{Walk, along, andThen, broken, contents, entries, walkFrom, whence as side-of}
 use Rattle.model.specs.Sound.{from1, linkSound}
-use Rattle.model.specs.Tables.{Tables, far, isEmpty, links, near, opposite}
+use Rattle.model.specs.Tables.{Tables}
 use Rattle.model.specs.declared.Entry.{Entry}
 use Rattle.model.proofs.tests.Truth.{and-of, and-true, by-test, not-both, split}
 use Rattle.model.proofs.lists.All.{all-far, all-map, all-seen}
@@ -24,7 +23,7 @@ use Rattle.model.proofs.lists.Pigeonhole.{pigeon}
 use Rattle.model.proofs.lists.Slots.{map-seen, slots, slots-nil}
 use Rattle.model.proofs.machine.Book.{whence}
 use Rattle.model.proofs.machine.Machine.{Anchor, Link, Status, pushing, stable, tip}
-use Rattle.model.proofs.invariant.Owners.{Owner, Whole, queued}
+use Rattle.model.proofs.invariant.Owners.{Owner, Intact, queued}
 use Rattle.model.proofs.invariant.Shape.{Joint, Linked, Rough}
 use Rattle.model.proofs.chain.Ends.{no-entry}
 use Rattle.model.proofs.chain.Sides.{far as far-end, near as near-end, turn}
@@ -32,6 +31,8 @@ use Rattle.model.proofs.places.Owned.{queued-free}
 use Rattle.model.proofs.bridge.Facts.{LinksFine}
 use Rattle.model.proofs.unsound.Tests.{link-sound}
 use Rattle.model.proofs.bridge.View.{anchorSeen, linkAt, statusOf, view}
+use Rattle.model.specs.Lists.{All}
+use Rattle.model.specs.Sides.{far, isEmpty, links, near, opposite}
 
 abbrev Real : Tables → Entry → Type 0
 Real q e = (e .slot ≢ 0) × (e .slot ≤ q .control .slots)
@@ -106,7 +107,7 @@ opposite-is : (d : Bool) → eqb (cond d 0 1) 1 ≡ not d
 opposite-is false = refl
 opposite-is true = refl
 
-module _ (q : Tables) (fine : LinksFine q) (h : ℕ → Owner) (l : List Entry) (w : Whole (view q) h l) where
+module _ (q : Tables) (fine : LinksFine q) (h : ℕ → Owner) (l : List Entry) (w : Intact (view q) h l) where
   abbrev A : Anchor
   A = anchorSeen (q .control .anchor)
 

@@ -1,8 +1,8 @@
 -- What holds of all entries of a deque, seen from a side.
 use mathlib.Core.Bool.{Bool, false, true}
 use mathlib.Core.List.{List, [], _++_, _∷_, reverse, reverse-cons}
-use Rattle.model.specs.History.{All}
 use Rattle.model.proofs.lists.Deque.{front, rest, seen}
+use Rattle.model.specs.Lists.{All}
 
 module _ {A : Type 0} where
   pub all-map : (P R : A → Type 0) → ((a : A) → P a → R a) → (q : List A) → All P q → All R q

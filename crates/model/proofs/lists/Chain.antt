@@ -3,9 +3,9 @@ use mathlib.Core.Bool.{Bool, false, true}
 use mathlib.Core.List.{List, [], _++_, _∷_, reverse, reverse-cons}
 use mathlib.Core.Logic.{_≢_}
 use mathlib.Core.Path.{sym}
-use Rattle.model.specs.History.{All}
 use Rattle.model.proofs.lists.All.{all-append, all-reverse}
 use Rattle.model.proofs.lists.Deque.{Chain, Distinct, From, seen}
+use Rattle.model.specs.Lists.{All}
 
 module _ {A : Type 0} where
   distinct-snoc : (q : List A) (x : A) → Distinct q → All (λ y. y ≢ x) q → Distinct (q ++ (x ∷ []))

@@ -2,7 +2,7 @@
 use mathlib.Core.Bool.{Bool, cond}
 use mathlib.Core.List.{List, [], _∷_, reverse}
 use mathlib.Core.Logic.{_≢_}
-pub use Rattle.model.specs.History.{All}
+pub use Rattle.model.specs.Lists.{All}
 
 -- Seen from a side (true: right), that side's end comes first.
 abbrev pub seen : {A : Type 0} → Bool → List A → List A

@@ -8,10 +8,10 @@ use native.Mathlib.Omega.{arith}
 use lib.Dec.{eqb}
 use lib.ListN.{length}
 use borrow.Author.Tests.{eqb-false, eqb-true}
-use Rattle.model.specs.History.{All}
 use Rattle.model.proofs.tests.Truth.{by-test}
 use Rattle.model.proofs.lists.All.{all-both, all-map}
 use Rattle.model.proofs.lists.Deque.{Distinct}
+use Rattle.model.specs.Lists.{All}
 
 remove : ℕ → List ℕ → List ℕ
 remove v [] = []

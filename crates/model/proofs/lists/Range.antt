@@ -5,12 +5,11 @@ use mathlib.Core.Path.{_≡_, refl, ap}
 use Prim.Native.Nat.{_+_, _<_, _≤_, suc, zero, ℕ}
 use native.Mathlib.Omega.{arith}
 use lib.ListN.{length, getD}
-use Rattle.model.specs.History.{All}
-use Rattle.model.specs.Tables.{climb}
 use Rattle.model.proofs.tests.Truth.{decide-eq}
 use Rattle.model.proofs.lists.All.{all-map}
 use Rattle.model.proofs.lists.Deque.{Distinct}
 use Rattle.model.proofs.lists.In.{In}
+use Rattle.model.specs.Lists.{All, climb}
 
 abbrev pub range : ℕ → ℕ → List ℕ
 range k zero = []

@@ -3,9 +3,9 @@ use mathlib.Core.Bool.{Bool, false, true}
 use mathlib.Core.List.{List, [], _∷_, map, reverseAux}
 use mathlib.Core.Path.{_∙_, _≡_, ap, refl}
 use Prim.Native.Nat.{ℕ}
-use Rattle.model.specs.History.{All}
 use Rattle.model.specs.declared.Entry.{Entry}
 use Rattle.model.proofs.lists.Deque.{put, rest, seen, took}
+use Rattle.model.specs.Lists.{All}
 
 abbrev pub slots : List Entry → List ℕ
 slots q = map (λ (e : Entry). e .slot) q

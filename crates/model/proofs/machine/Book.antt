@@ -27,11 +27,11 @@ pub record Book : Type 0 where
   pub calls : ℕ → Call
   pub closed : List Closed
 
-abbrev pub opened : Kind → Bool → ℕ → ℕ → Call
-opened k d x l = record { kind = k; side = d; slot = x; label = l; effects = 0; told = running }
+abbrev pub bookedCall : Kind → Bool → ℕ → ℕ → Call
+bookedCall k d x l = record { kind = k; side = d; slot = x; label = l; effects = 0; told = running }
 
 abbrev pub noCall : Call
-noCall = opened push false 0 0
+noCall = bookedCall push false 0 0
 
 pub record Noted : Type 0 where
   pub call : Call
@@ -111,7 +111,7 @@ whence stable = true
 whence (pushing d) = d
 
 -- What is promised of the book.
-pub record Kept (c : Closed) : Type 0 where
+pub record Honoured (c : Closed) : Type 0 where
   pub once : c .call .effects ≡ 1
   pub agrees : c .answer ≡ c .call .told
 

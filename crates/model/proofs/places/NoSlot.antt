@@ -86,7 +86,7 @@ no-slot p i e z x nz le = used p i x (λ g. none-free pool z x nz le g)
     s = p .state .shared
 
     pool : Pool (s .slots) (s .next) (s .head .slot) (i .owner)
-    pool = subst (λ b. Spare b (s .slots) (s .mark) (s .next) (s .head .slot) (i .owner)) e (i .whole .spare)
+    pool = subst (λ b. Spare b (s .slots) (s .next) (s .head .slot) (i .owner)) e (i .whole .spare)
 
 -- Who answers *no slot* has just read a head that names none.
 pub record Lacks (s : Shared) (m : Move) : Type 0 where

@@ -4,7 +4,6 @@ use mathlib.Core.List.{[]}
 use mathlib.Core.Path.{_≡_, refl, subst, sym}
 use Prim.Native.Nat.{_+_, _<_, _≤_, suc, zero, ℕ}
 use native.Mathlib.Omega.{arith}
-use Rattle.model.specs.History.{All}
 use Rattle.model.proofs.lists.All.{all-map}
 use Rattle.model.proofs.lists.Range.{in-range, range, range-bounds, range-distinct}
 use Rattle.model.proofs.machine.Book.{noBook, noCall}
@@ -14,12 +13,13 @@ use Rattle.model.proofs.invariant.Owners.{Pool, Spare, Stack, free}
 use Rattle.model.proofs.invariant.Tasks.{Task}
 use Rattle.model.proofs.chain.Sides.{under}
 use Rattle.model.proofs.places.Owned.{held-free, queued-free}
+use Rattle.model.specs.Lists.{All}
 
 -- No entry, no call, an empty Anchor: whatever the links and the labels are.
 pub fresh : (s : Shared) (f : ℕ → Rec) → s .anchor .status ≡ stable → s .anchor .left ≡ 0 → s .anchor .right ≡ 0 → ((t : ℕ) → f t .place ≡ idle)
-    → Spare (s .pooled) (s .slots) (s .mark) (s .next) (s .head .slot) (λ x. free)
+    → Spare (s .pooled) (s .slots) (s .next) (s .head .slot) (λ x. free) → ((x : ℕ) → x ≤ s .slots → s .mark x ≡ false)
     → Inv (record { state = record { shared = s; task = f }; book = noBook })
-fresh s f st l r i spare = record {
+fresh s f st l r i spare unmarked = record {
   owner = λ x. free;
   whole = record {
     shape = record { linked = under (s .link) [] st tt; tips = elim [ false ↦ l | true ↦ r ]; distinct = tt; real = tt };
@@ -30,6 +30,7 @@ fresh s f st l r i spare = record {
     spare = spare;
   };
   tasks = λ t. subst (λ p. Task p s (λ x. free) t (f t) noCall) (sym (i t)) (refl, λ y e. held-free (sym e));
+  marks = unmarked;
   kept = tt;
 }
 

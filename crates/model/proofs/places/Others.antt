@@ -11,7 +11,7 @@ use Rattle.model.proofs.machine.Book.{Call}
 use Rattle.model.proofs.machine.Machine.{Anchor, Draw, Give, Kind, Link, Place, Rec, Shared, at1, at10, at11, at12, at13, at14, at15}
 use Rattle.model.proofs.machine.Machine.{at16, at17, at2, at3, at4, at5, at6, at7, at8, at9, draw, give, idle, inner, pop, push}
 use Rattle.model.proofs.machine.Machine.{pushing, tip}
-use Rattle.model.proofs.invariant.Owners.{Owner, Whole, held, queued}
+use Rattle.model.proofs.invariant.Owners.{Owner, Intact, held, queued}
 use Rattle.model.proofs.invariant.Rely.{Faces, Quiet, Rely, Turned}
 use Rattle.model.proofs.invariant.Shape.{Made}
 use Rattle.model.proofs.invariant.Tasks.{Bare, Before, Drawing, Eighth, Four, Fourteenth, Fresh, Giving, Grown, Helps, Live, Near}
@@ -75,7 +75,7 @@ module _ (u : ℕ) (s : Shared) (h : ℕ → Owner) (s′ : Shared) (h′ : ℕ 
         subst (λ (b : Anchor). b .status ≡ pushing (way a) → Made (s .link) b (way a) → Made (s′ .link) b (way a)) (sym (q .0))
         (q .1 .made (way a)) st (f (q .0))
 
-    module _ (q : List Entry) (all : Whole s h q) (n : ℕ) where
+    module _ (q : List Entry) (all : Intact s h q) (n : ℕ) where
       near-queued : a ≡ s .anchor → a .status ≡ pushing (way a) → Near s a n → h n ≡ queued
       near-queued p st e =
           let i = inner-in (s .link) (s .anchor) (slots q) (all .shape) (way a) (λ x. h x ≡ queued)
@@ -170,7 +170,7 @@ module _ (u : ℕ) (s : Shared) (h : ℕ → Owner) (s′ : Shared) (h′ : ℕ 
   keep-giving at16 r e w = tt
   keep-giving at17 r e w = y .spared (r .own) e .next ∙ w
 
-  pub keep : (q : List Entry) → Whole s h q → (p : Place) (r : Rec) (c : Call) → Task p s h u r c → Task p s′ h′ u r c
+  pub keep : (q : List Entry) → Intact s h q → (p : Place) (r : Rec) (c : Call) → Task p s h u r c → Task p s′ h′ u r c
   keep q all idle r c w = (w .0, keep-bare (w .1))
   keep q all at1 r c w = (w .0, keep-before (w .1))
   keep q all at2 r c w = (keep-tries (r .read) (w .0), w .1)

@@ -47,9 +47,9 @@ module _ (h : ℕ → Owner) (x : ℕ) (o : Owner) where
       go (inr z) = f y (λ w. n (upd-other h x o y z ∙ w))
 
   -- As many slots are free as before: what tells of free slots goes on to.
-  pub owner-spare : (p : Bool) (n : ℕ) (m : ℕ → Bool) (f : ℕ → ℕ) (top : ℕ) → h x ≢ free → o ≢ free → Spare p n m f top h → Spare p n m f top (upd h x o)
-  owner-spare false n m f top e g w = record { set = owner-bounds (λ y. m y ≡ true) e (w .set); owed = λ y l z v. w .owed y l z (owner-back free g y v .1) }
-  owner-spare true n m f top e g w = record {
+  pub owner-spare : (p : Bool) (n : ℕ) (f : ℕ → ℕ) (top : ℕ) → h x ≢ free → o ≢ free → Spare p n f top h → Spare p n f top (upd h x o)
+  owner-spare false n f top e g w = tt
+  owner-spare true n f top e g w = record {
     stack = w .stack;
     chain = w .chain;
     distinct = w .distinct;

@@ -1,6 +1,6 @@
 -- A slot changes hands outside the queue: a push gets a free one (a named start, place 14), a pop gives one up (11 named, 17).
 -- How either learns or tells that it is free (`Spare`), and what becomes of the head, is for these places to say.
-use mathlib.Core.Bool.{Bool, true}
+use mathlib.Core.Bool.{Bool, false, not, true}
 use mathlib.Core.List.{List}
 use mathlib.Core.Logic.{_≢_, _⊎_, inl, inr}
 use mathlib.Core.Path.{_∙_, _≡_, ap, refl, sym}
@@ -11,20 +11,21 @@ use Rattle.model.proofs.tests.Truth.{decide-eq}
 use Rattle.model.proofs.lists.All.{all-both, all-map}
 use Rattle.model.proofs.lists.Slots.{all-slots, slots}
 use Rattle.model.proofs.machine.Laws.{upd-other, upd-same}
-use Rattle.model.proofs.machine.Machine.{Link, Shared, upd, withHead, withLabel}
-use Rattle.model.proofs.invariant.Owners.{Owner, Spare, Whole, free, held, queued}
+use Rattle.model.proofs.machine.Machine.{Link, Rec, Shared, isGiving, runs, take, upd, withHead, withLabel}
+use Rattle.model.proofs.invariant.Owners.{Owner, Spare, Intact, free, held, queued, shows}
 use Rattle.model.proofs.invariant.Rely.{Rely, Stacked}
 use Rattle.model.proofs.invariant.Tasks.{Bare, Sole}
+use Rattle.model.proofs.places.Marking.{Marked, marked-at, shows-own}
 use Rattle.model.proofs.places.Owned.{held-free, held-inj, owner-back, owner-kept, queued-free, queued-held}
 use Rattle.model.proofs.places.Shown.{marking}
 
 -- A free slot x gets an owner, t, and a label; the head is w then.
-module _ {s : Shared} {h : ℕ → Owner} {q : List Entry} (all : Whole s h q) (t x l : ℕ) (unowned : h x ≡ free) (w : Link) where
+module _ {s : Shared} {h : ℕ → Owner} {q : List Entry} (all : Intact s h q) (t x l : ℕ) (unowned : h x ≡ free) (w : Link) where
   not-queued : (y : ℕ) → h y ≡ queued → y ≢ x
   not-queued y e z = queued-free (sym e ∙ ap h z ∙ unowned)
 
-  pub gets-whole : x ≢ 0 → x ≤ s .slots → Spare (s .pooled) (s .slots) (upd (s .mark) x true) (s .next) (w .slot) (upd h x (held t))
-      → Whole (withLabel (withHead s w) x l) (upd h x (held t)) q
+  pub gets-whole : x ≢ 0 → x ≤ s .slots → Spare (s .pooled) (s .slots) (s .next) (w .slot) (upd h x (held t))
+      → Intact (withLabel (withHead s w) x l) (upd h x (held t)) q
   gets-whole nz low spare = record {
     shape = all .shape;
     owned = all-map (λ y. h y ≡ queued) _ (λ y e. upd-other h x (held t) y (not-queued y e) ∙ e) (slots q) (all .owned);
@@ -58,9 +59,15 @@ module _ {s : Shared} {h : ℕ → Owner} {q : List Entry} (all : Whole s h q) (
     stack = k;
   }
 
+  -- It is marked for its owner.
+  pub gets-marks : {b : Bool} (r : Rec) → isGiving (r .place) ≡ false → Bare h t → Marked b t s h (runs (take w x l) r) (upd h x (held t))
+  gets-marks r e none = marked-at (runs (take w x l) r) x (upd h x (held t)) (λ y n. upd-other (s .mark) x true y n)
+      (λ y n. upd-other h x (held t) y n) (λ y n o. absurd (none y o))
+      (λ f g o. upd-same (s .mark) x true ∙ sym (ap (shows (upd f t r)) (upd-same h x (held t)) ∙ shows-own f t r ∙ ap not e))
+
 -- A slot x that task t has becomes free; the marks are m and the head w then.
-module _ {s : Shared} {h : ℕ → Owner} {q : List Entry} (all : Whole s h q) (t x : ℕ) (holds : h x ≡ held t) (m : ℕ → Bool) (w : Link) where
-  pub frees-whole : Spare (s .pooled) (s .slots) m (s .next) (w .slot) (upd h x free) → Whole (withHead (marking s m) w) (upd h x free) q
+module _ {s : Shared} {h : ℕ → Owner} {q : List Entry} (all : Intact s h q) (t x : ℕ) (holds : h x ≡ held t) (m : ℕ → Bool) (w : Link) where
+  pub frees-whole : Spare (s .pooled) (s .slots) (s .next) (w .slot) (upd h x free) → Intact (withHead (marking s m) w) (upd h x free) q
   frees-whole spare = record {
     shape = all .shape;
     owned = all-map (λ y. h y ≡ queued) _ (λ y e. upd-other h x free y (λ z. queued-held (sym e ∙ ap h z ∙ holds)) ∙ e) (slots q) (all .owned);

@@ -1,7 +1,7 @@
 -- Place 10: with the link back made the queue is STABLE.
 use mathlib.Core.Bool.{true}
 use mathlib.Core.List.{List}
-use mathlib.Core.Path.{_∙_, _≡_, ap, subst, sym}
+use mathlib.Core.Path.{_∙_, _≡_, ap, refl, subst, sym}
 use Prim.Native.Nat.{ℕ}
 use native.Mathlib.Omega.{arith}
 use Rattle.model.specs.declared.Entry.{Entry}
@@ -10,14 +10,14 @@ use Rattle.model.proofs.lists.Slots.{slots}
 use Rattle.model.proofs.machine.Book.{Call}
 use Rattle.model.proofs.machine.Laws.{same-side, same-true}
 use Rattle.model.proofs.machine.Machine.{Anchor, Rec, Shared, act, at10, leave, pushing, putAnchor, same, settled}
-use Rattle.model.proofs.invariant.Owners.{Owner, Whole}
+use Rattle.model.proofs.invariant.Owners.{Owner, Intact}
 use Rattle.model.proofs.invariant.Shape.{Made, Shape}
 use Rattle.model.proofs.invariant.Tasks.{Task, way}
 use Rattle.model.proofs.chain.Links.{settled-shape}
 use Rattle.model.proofs.places.Places5to8.{away}
 use Rattle.model.proofs.places.Shown.{Shown, leaves, rely-turn}
 
-module _ (t : ℕ) (s : Shared) (h : ℕ → Owner) (q : List Entry) (c : Call) (all : Whole s h q) (r : Rec) where
+module _ (t : ℕ) (s : Shared) (h : ℕ → Owner) (q : List Entry) (c : Call) (all : Intact s h q) (r : Rec) where
   pub place10 : Task at10 s h t r c → Shown t s h q c (act at10 s r)
   place10 w = by-test (Shown t s h q c) (same (r .read) (s .anchor)) ok (λ e. away t s h q c all r (w .0))
     where
@@ -27,7 +27,7 @@ module _ (t : ℕ) (s : Shared) (h : ℕ → Owner) (q : List Entry) (c : Call) 
           let e = way (r .read) in
           let st : s .anchor .status ≡ pushing e = ap (λ (b : Anchor). b .status) (sym p) ∙ w .0 .status in
           let made : Made (s .link) (s .anchor) e = subst (λ (b : Anchor). Made (s .link) b e) p (w .1 p) in
-          leaves (putAnchor (settled (r .read))) r h (ap (λ (b : Anchor). b .left) (sym p)) (ap (λ (b : Anchor). b .right) (sym p))
+          leaves (putAnchor (settled (r .read))) r (ap (λ (b : Anchor). b .left) (sym p)) (ap (λ (b : Anchor). b .right) (sym p)) (λ x. refl)
           (record {
             shape = subst (λ (b : Anchor). Shape (s .link) (settled b) (slots q)) (sym p)
                 (settled-shape (s .link) (s .anchor) (slots q) (all .shape) e st made);

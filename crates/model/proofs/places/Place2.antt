@@ -12,7 +12,7 @@ use Rattle.model.proofs.lists.Slots.{slots}
 use Rattle.model.proofs.machine.Book.{Call}
 use Rattle.model.proofs.machine.Laws.{both-tip, later, same-true}
 use Rattle.model.proofs.machine.Machine.{Anchor, Kind, Rec, Shared, at11, at2, both, ends, goes, pop, push, pushed, putAnchor, running, runs, same, two}
-use Rattle.model.proofs.invariant.Owners.{Owner, Whole}
+use Rattle.model.proofs.invariant.Owners.{Owner, Intact}
 use Rattle.model.proofs.invariant.Shape.{Shape}
 use Rattle.model.proofs.invariant.Tasks.{Own, Task, Two}
 use Rattle.model.proofs.chain.Changes.{first-shape, last-shape}
@@ -22,7 +22,7 @@ use Rattle.model.proofs.places.Place1.{place1}
 use Rattle.model.proofs.places.Shown.{Shown}
 use Rattle.model.proofs.places.Taking.{pop-good, push-good, put-bare}
 
-module _ (t : ℕ) (s : Shared) (h : ℕ → Owner) (q : List Entry) (c : Call) (all : Whole s h q) (r : Rec) where
+module _ (t : ℕ) (s : Shared) (h : ℕ → Owner) (q : List Entry) (c : Call) (all : Intact s h q) (r : Rec) where
   pub place2 : (k : Kind) → r .kind ≡ k → Task at2 s h t r c → Shown t s h q c (two k s r)
   place2 push k w = by-test (Shown t s h q c) (same (r .read) (s .anchor)) ok (λ e. place1 t s h q c all r push k (w .0 .early, w .0 .before))
     where
@@ -40,7 +40,7 @@ module _ (t : ℕ) (s : Shared) (h : ℕ → Owner) (q : List Entry) (c : Call) 
           (sym (ap (λ (z : List ℕ). put (r .side) (r .own) z) n ∙ put-nil (r .side) (r .own)))
           (subst (λ b. Shape (s .link) (both b (r .own)) (r .own ∷ [])) (sym p)
           (first-shape (s .link) (s .anchor) (slots q) (all .shape) (r .own) e (o .0))))
-          (refl, record { once = ap suc (w .0 .before .none); agrees = refl }, put-bare h t (r .own) (o .3))
+          (refl, record { once = ap suc (w .0 .before .none); agrees = refl }, put-bare h t (r .own) (o .3)) refl
   place2 pop k w = by-test (Shown t s h q c) (same (r .read) (s .anchor)) ok (λ e. place1 t s h q c all r pop k (w .0 .early, w .0 .before))
     where
       ok : same (r .read) (s .anchor) ≡ true → Shown t s h q c (runs (putAnchor (both (r .read) 0)) (goes r at11))

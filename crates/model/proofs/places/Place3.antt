@@ -13,15 +13,16 @@ use Rattle.model.proofs.machine.Book.{Call}
 use Rattle.model.proofs.machine.Laws.{relink-other, relink-same}
 use Rattle.model.proofs.machine.LinkTags.{relink-keeps}
 use Rattle.model.proofs.machine.Machine.{Kind, Link, Rec, Shared, at3, inner, ownLink, pop, push, relink, running, three, tip, withLink}
-use Rattle.model.proofs.invariant.Owners.{Owner, Whole, held, queued}
+use Rattle.model.proofs.invariant.Owners.{Owner, Intact, held, queued}
 use Rattle.model.proofs.invariant.Rely.{Rely}
 use Rattle.model.proofs.invariant.Tasks.{Four, Own, Task}
 use Rattle.model.proofs.chain.Links.{frame-shape, inner-in}
 use Rattle.model.proofs.places.Effects.{no-effect}
+use Rattle.model.proofs.places.Marking.{marked-kept}
 use Rattle.model.proofs.places.Owned.{held-inj, queued-held}
 use Rattle.model.proofs.places.Shown.{Shown, plain, stack-same, still}
 
-module _ (t : ℕ) (s : Shared) (h : ℕ → Owner) (q : List Entry) (c : Call) (all : Whole s h q) (r : Rec) where
+module _ (t : ℕ) (s : Shared) (h : ℕ → Owner) (q : List Entry) (c : Call) (all : Intact s h q) (r : Rec) where
   module _ (x : ℕ) (o : (x ≢ 0) × (h x ≡ held t)) (d : Bool) (v : Link) (g : v .tag ≡ s .link d x .tag) where
     not-own : (y : ℕ) → h y ≡ queued → y ≢ x
     not-own y e z = queued-held (sym e ∙ ap h z ∙ o .1)
@@ -30,7 +31,7 @@ module _ (t : ℕ) (s : Shared) (h : ℕ → Owner) (q : List Entry) (c : Call) 
     own-tip e = subst (λ z. z ≢ x) (sym (all .shape .tips e)) (all-front (λ z. z ≢ x) (seen e (slots q)) 0
         (all-seen (λ z. z ≢ x) e (slots q) (all-map (λ z. h z ≡ queued) (λ z. z ≢ x) not-own (slots q) (all .owned))) (λ z. o .0 (sym z)))
 
-    own-whole : Whole (withLink s d x v) h q
+    own-whole : Intact (withLink s d x v) h q
     own-whole = record {
       shape = frame-shape (s .link) (s .anchor) (slots q) (all .shape) d (relink (s .link) d x v)
           (all-map (λ y. h y ≡ queued) _ (λ y n e. relink-other (s .link) d x v e y (not-own y n)) (slots q) (all .owned));
@@ -68,14 +69,14 @@ module _ (t : ℕ) (s : Shared) (h : ℕ → Owner) (q : List Entry) (c : Call) 
       let o = subst (λ z. Own z (s .label) h t (r .own) (r .label)) k (w .0 .before .own) in
       let v = ownLink s r in
       let kept : v .tag ≡ s .link (not (r .side)) (r .own) .tag = refl in
-      plain _ h (no-effect (s .anchor) (s .anchor) running refl refl refl)
+      plain (three push s r) h (no-effect (s .anchor) (s .anchor) running refl refl refl)
       (own-whole (r .own) (o .0, o .1) (not (r .side)) v kept) (own-rely (r .own) (o .0, o .1) (not (r .side)) v kept) (
         w .0,
         w .1,
         subst (λ z. Four z (withLink s (not (r .side)) (r .own) v) (r .side) (r .own) (r .read) (r .near)) (sym k)
             (ap (λ (w : Link). w .slot) (relink-same (s .link) (not (r .side)) (r .own) v)),
-      )
-  place3 pop k w = still all (
+      ) (marked-kept (three push s r) refl (λ x. refl))
+  place3 pop k w = still refl all (
     w .0,
     w .1,
     subst (λ z. Four z s (r .side) (r .own) (r .read) (inner s (r .side) (tip (r .read) (r .side)))) (sym k) (λ e. refl),

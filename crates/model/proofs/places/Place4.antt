@@ -12,7 +12,7 @@ use Rattle.model.proofs.machine.Book.{Call, effect}
 use Rattle.model.proofs.machine.Laws.{aimed-near, aimed-tag, aimed-way, later, same-true}
 use Rattle.model.proofs.machine.Machine.{Anchor, Kind, Rec, Shared, aimed, at11, at4, finishes, four, goes, inner, pop, push}
 use Rattle.model.proofs.machine.Machine.{pushing, putAnchor, running, runs, same, stable, tip}
-use Rattle.model.proofs.invariant.Owners.{Owner, Whole}
+use Rattle.model.proofs.invariant.Owners.{Owner, Intact}
 use Rattle.model.proofs.invariant.Shape.{Shape}
 use Rattle.model.proofs.invariant.Tasks.{Four, Own, Task, Three}
 use Rattle.model.proofs.chain.Changes.{inner-apart, pop-shape, push-shape}
@@ -23,7 +23,7 @@ use Rattle.model.proofs.places.Owned.{queued-held}
 use Rattle.model.proofs.places.Shown.{Shown, read-now}
 use Rattle.model.proofs.places.Taking.{end-entry, not-in, pop-good, push-good, put-bare}
 
-module _ (t : ℕ) (s : Shared) (h : ℕ → Owner) (q : List Entry) (c : Call) (all : Whole s h q) (r : Rec) where
+module _ (t : ℕ) (s : Shared) (h : ℕ → Owner) (q : List Entry) (c : Call) (all : Intact s h q) (r : Rec) where
   pub place4 : (k : Kind) → r .kind ≡ k → Task at4 s h t r c → Shown t s h q c (four k s r)
   place4 push k w = by-test (Shown t s h q c) (same (r .read) (s .anchor)) ok (λ e. place1 t s h q c all r push k (w .0 .early, w .0 .before))
     where
@@ -51,7 +51,7 @@ module _ (t : ℕ) (s : Shared) (h : ℕ → Owner) (q : List Entry) (c : Call) 
             stage = (record { once = ap suc (w .0 .before .none); told = refl }, put-bare h t (r .own) (o .3));
             read = read-now a;
             status = aimed-way (r .read) (r .side) (r .own);
-          })
+          }) refl
   place4 pop k w = by-test (Shown t s h q c) (same (r .read) (s .anchor)) ok (λ e. place1 t s h q c all r pop k (w .0 .early, w .0 .before))
     where
       a : Anchor

@@ -13,17 +13,18 @@ use Rattle.model.proofs.machine.Laws.{relink-across, relink-other, reli
 use Rattle.model.proofs.machine.LinkTags.{grows-le, relink-grows}
 use Rattle.model.proofs.machine.Machine.{Anchor, Link, Rec, Shared, act, at10, at9, goes, inner, pushing, putLink, relink, running}
 use Rattle.model.proofs.machine.Machine.{runs, sameLink, stable, tip, withLink}
-use Rattle.model.proofs.invariant.Owners.{Owner, Whole, queued}
+use Rattle.model.proofs.invariant.Owners.{Owner, Intact, queued}
 use Rattle.model.proofs.invariant.Rely.{Rely}
 use Rattle.model.proofs.invariant.Shape.{Made}
 use Rattle.model.proofs.invariant.Tasks.{Live, Task, way}
 use Rattle.model.proofs.chain.Links.{back-shape, inner-in}
 use Rattle.model.proofs.places.Effects.{no-effect}
+use Rattle.model.proofs.places.Marking.{marked-kept}
 use Rattle.model.proofs.places.Owned.{queued-held}
 use Rattle.model.proofs.places.Places5to8.{away}
 use Rattle.model.proofs.places.Shown.{Shown, plain, stack-same}
 
-module _ (t : ℕ) (s : Shared) (h : ℕ → Owner) (q : List Entry) (c : Call) (all : Whole s h q) (r : Rec) where
+module _ (t : ℕ) (s : Shared) (h : ℕ → Owner) (q : List Entry) (c : Call) (all : Intact s h q) (r : Rec) where
   module _ (e : Bool) (st : s .anchor .status ≡ pushing e) (v : Link) (names : v .slot ≡ tip (s .anchor) e) where
     abbrev back-at : ℕ
     back-at = s .link (not e) (tip (s .anchor) e) .slot
@@ -35,7 +36,7 @@ module _ (t : ℕ) (s : Shared) (h : ℕ → Owner) (q : List Entry) (c : Call) 
     back-made = ap (λ (w : Link). relink (s .link) e back-at v e (w .slot) .slot) (relink-across (s .link) e back-at v (tip (s .anchor) e))
         ∙ ap (λ (w : Link). w .slot) (relink-same (s .link) e back-at v) ∙ names
 
-    back-whole : Whole (withLink s e back-at v) h q
+    back-whole : Intact (withLink s e back-at v) h q
     back-whole = record {
       shape = back-shape (s .link) (s .anchor) (slots q) (all .shape) e v st names;
       owned = all .owned;
@@ -95,4 +96,5 @@ module _ (t : ℕ) (s : Shared) (h : ℕ → Owner) (q : List Entry) (c : Call) 
           subst (λ y. Shown t s h q c (runs (putLink e y v) (goes r at10))) n
           (plain (runs (putLink e x v) (goes r at10)) h (no-effect (s .anchor) (s .anchor) running refl refl refl)
           (back-whole e st v names) (back-rely e st v names lt)
-          (w .0, λ _. subst (λ (b : Anchor). Made (relink (s .link) e x v) b e) (sym p) (back-made e st v names)))
+          (w .0, λ _. subst (λ (b : Anchor). Made (relink (s .link) e x v) b e) (sym p) (back-made e st v names))
+          (marked-kept (runs (putLink e x v) (goes r at10)) refl (λ x. refl)))

@@ -12,14 +12,15 @@ use Rattle.model.proofs.machine.Laws.{exhausted-false, sameLink-true, u
 use Rattle.model.proofs.machine.Machine.{Draw, Link, Rec, Shared, at1, at12, at13, at14, draw, draws, ends, noSlot, none, owns, push}
 use Rattle.model.proofs.machine.Machine.{running, runs, sameLink, take, upd}
 use Rattle.model.proofs.machine.Machine.{exhausted}
-use Rattle.model.proofs.invariant.Owners.{Owner, Pool, Spare, Whole, held}
+use Rattle.model.proofs.invariant.Owners.{Owner, Pool, Spare, Intact, held}
 use Rattle.model.proofs.invariant.Tasks.{Fourteenth, Own, Task, Thirteenth}
 use Rattle.model.proofs.places.Effects.{no-effect, noted-none}
-use Rattle.model.proofs.places.Owning.{gets-rely, gets-sole, gets-whole}
+use Rattle.model.proofs.places.Marking.{marked-kept}
+use Rattle.model.proofs.places.Owning.{gets-marks, gets-rely, gets-sole, gets-whole}
 use Rattle.model.proofs.places.Shown.{Shown, effective, plain, rely-refl, still}
 use Rattle.model.proofs.places.Stack.{drawn, top-free}
 
-module _ (t : ℕ) (s : Shared) (h : ℕ → Owner) (q : List Entry) (c : Call) (all : Whole s h q) (r : Rec) where
+module _ (t : ℕ) (s : Shared) (h : ℕ → Owner) (q : List Entry) (c : Call) (all : Intact s h q) (r : Rec) where
   -- The next is read from the head's slot, or from one that is past.
   reads-next : Thirteenth (s .head) (r .link) → Fourteenth (s .next) (s .head) (r .link) (s .next (r .link .slot))
   reads-next (inl e) = inl (e, refl)
@@ -27,7 +28,7 @@ module _ (t : ℕ) (s : Shared) (h : ℕ → Owner) (q : List Entry) (c : Call) 
 
   -- The stack, where the queue is pooled.
   pub pool : s .pooled ≡ true → Pool (s .slots) (s .next) (s .head .slot) h
-  pool e = subst (λ b. Spare b (s .slots) (s .mark) (s .next) (s .head .slot) h) e (all .spare)
+  pool e = subst (λ b. Spare b (s .slots) (s .next) (s .head .slot) h) e (all .spare)
 
   -- 14: the head moves on to what comes after its slot, with a higher tag; its slot is the push's.
   drawing : {v : Link} → Task (draw at14) s h t r c → r .link ≡ s .head → s .next (r .link .slot) ≡ v .slot → s .head .tag < v .tag
@@ -41,7 +42,7 @@ module _ (t : ℕ) (s : Shared) (h : ℕ → Owner) (q : List Entry) (c : Call) 
       (w .2 .0, upd-same h x (held t), upd-same (s .label) x (r .label), gets-sole all t x (r .label) (top .0) v (w .1 .bare)) in
       plain (runs (take v x (r .label)) (owns r x (r .label) at1)) (upd h x (held t)) (no-effect (s .anchor) (s .anchor) running refl refl refl)
       (gets-whole all t x (r .label) (top .0) v (w .2 .0) (top .1)
-      (subst (λ b. Spare b (s .slots) (upd (s .mark) x true) (s .next) (v .slot) (upd h x (held t))) (sym (w .0))
+      (subst (λ b. Spare b (s .slots) (s .next) (v .slot) (upd h x (held t))) (sym (w .0))
       (subst (λ y. Pool (s .slots) (s .next) y (upd h x (held t))) n (drawn k t (w .2 .0)))))
       (gets-rely all t x (r .label) (top .0) v (record { pooled = refl; head = inr later })) (
         w .1 .early,
@@ -51,16 +52,18 @@ module _ (t : ℕ) (s : Shared) (h : ℕ → Owner) (q : List Entry) (c : Call) 
           own = subst (λ z. Own z (upd (s .label) x (r .label)) (upd h x (held t)) t x (r .label)) (sym (w .1 .kind)) own;
         },
       )
+      (gets-marks all t x (r .label) (top .0) v (owns r x (r .label) at1) refl (w .1 .bare))
 
   pub place12to14 : (p : Draw) → Task (draw p) s h t r c → Shown t s h q c (draws p s r)
   place12to14 at12 w = by-test (Shown t s h q c) (exhausted (s .head))
       (λ e. effective (ends none noSlot) h (told c noSlot) q (noted-none c q (s .anchor) (s .anchor)) all (λ u z. rely-refl u)
-      (refl, record { once = ap suc (w .1 .none); agrees = refl }, w .1 .bare) (λ _ z. absurd (not-both refl z)))
-      (λ e. still all (w .0, w .1, (exhausted-false (s .head) e, inl refl)))
-  place12to14 at13 w = still all (w .0, w .1, (w .2 .0, reads-next (w .2 .1)))
+      (refl, record { once = ap suc (w .1 .none); agrees = refl }, w .1 .bare) (λ _ z. absurd (not-both refl z))
+      (marked-kept (ends none noSlot) refl (λ x. refl)))
+      (λ e. still refl all (w .0, w .1, (exhausted-false (s .head) e, inl refl)))
+  place12to14 at13 w = still refl all (w .0, w .1, (w .2 .0, reads-next (w .2 .1)))
   place12to14 at14 w = by-test (Shown t s h q c) (sameLink (r .link) (s .head))
       (λ z. let e = sameLink-true (r .link) (s .head) z in drawing w e (current e (w .2 .1)) (let g = tags e in omega arith))
-      (λ z. still all (w .0, w .1, tt))
+      (λ z. still refl all (w .0, w .1, tt))
     where
       tags : r .link ≡ s .head → r .link .tag ≡ s .head .tag
       tags e = ap (λ (v : Link). v .tag) e

@@ -3,7 +3,6 @@ use mathlib.Core.List.{List, [], _∷_}
 use mathlib.Core.Logic.{_≢_, _⊎_, inl, inr}
 use mathlib.Core.Path.{_∙_, _≡_, ap, refl, subst, sym}
 use Prim.Native.Nat.{_≤_, ℕ}
-use Rattle.model.specs.History.{All}
 use Rattle.model.proofs.tests.Truth.{decide-eq}
 use Rattle.model.proofs.lists.All.{all-both, all-map}
 use Rattle.model.proofs.lists.Deque.{Distinct}
@@ -12,6 +11,7 @@ use Rattle.model.proofs.machine.Laws.{upd-other, upd-same}
 use Rattle.model.proofs.machine.Machine.{upd}
 use Rattle.model.proofs.invariant.Owners.{Owner, Pool, Stack, free, held}
 use Rattle.model.proofs.places.Owned.{held-free, owner-back}
+use Rattle.model.specs.Lists.{All}
 
 -- The next of a slot outside the stack does not matter.
 frame : (f g : ℕ → ℕ) (x : ℕ) (k : List ℕ) → All (λ y. g y ≡ f y) k → Stack f x k → Stack g x k

@@ -1,10 +1,9 @@
 -- A change of Anchor that is an effect: a push puts its slot into the queue, a pop takes the slot at its end.
-use mathlib.Core.Bool.{Bool, false, true}
+use mathlib.Core.Bool.{Bool, false, not, true}
 use mathlib.Core.List.{List, [], _∷_}
 use mathlib.Core.Logic.{_≢_, _⊎_, inl, inr}
 use mathlib.Core.Path.{_∙_, _≡_, ap, refl, subst, sym}
 use Prim.Native.Nat.{_<_, suc, ℕ}
-use Rattle.model.specs.History.{All}
 use Rattle.model.specs.declared.Entry.{Entry}
 use Rattle.model.proofs.tests.Truth.{decide-eq}
 use Rattle.model.proofs.lists.All.{all-both, all-map, all-rest, all-seen}
@@ -14,17 +13,19 @@ use Rattle.model.proofs.lists.In.{In, in-put, in-took}
 use Rattle.model.proofs.lists.Slots.{map-seen, slots, slots-put, slots-took}
 use Rattle.model.proofs.machine.Book.{Call, effect, given, granted, isNoSlot, noted, told}
 use Rattle.model.proofs.machine.Laws.{stable-pushing, upd-other, upd-same}
-use Rattle.model.proofs.machine.Machine.{Anchor, Move, Rec, Shared, Touch, apply, at1, at11, goes, none, pop, popped, push, pushed}
+use Rattle.model.proofs.machine.Machine.{Anchor, Move, Rec, Shared, Touch, apply, at1, at11, goes, isGiving, none, pop, popped, push, pushed}
 use Rattle.model.proofs.machine.Machine.{pushing, putAnchor, running, runs, stable, tip, upd, withAnchor}
-use Rattle.model.proofs.invariant.Owners.{Owner, Whole, free, held, queued}
+use Rattle.model.proofs.invariant.Owners.{Owner, Intact, free, held, queued, shows}
 use Rattle.model.proofs.invariant.Rely.{Rely}
 use Rattle.model.proofs.invariant.Shape.{Made, Shape}
 use Rattle.model.proofs.invariant.Tasks.{Bare, Before, Own, Sole}
 use Rattle.model.proofs.places.Effects.{noted-pop, noted-push}
+use Rattle.model.proofs.places.Marking.{marked-at, shows-own}
 use Rattle.model.proofs.places.Owned.{held-free, held-inj, owner-back, owner-bounds, owner-kept, owner-spare, push-pop, queued-free, queued-held}
 use Rattle.model.proofs.places.Shown.{Finish, Shown, effective, rely-turn, still}
+use Rattle.model.specs.Lists.{All}
 
-module _ {s : Shared} {h : ℕ → Owner} {q : List Entry} (all : Whole s h q) where
+module _ {s : Shared} {h : ℕ → Owner} {q : List Entry} (all : Intact s h q) where
   calm : s .anchor .status ≡ stable → (e : Bool) → s .anchor .status ≡ pushing e → Made (s .link) (s .anchor) e
   calm st e g = absurd (stable-pushing (sym st ∙ g))
 
@@ -33,7 +34,7 @@ module _ {s : Shared} {h : ℕ → Owner} {q : List Entry} (all : Whole s h q) w
   not-in e = all-map (λ y. h y ≡ queued) (λ y. y ≢ _) (λ y g z. queued-held (sym g ∙ ap h z ∙ e)) (slots q) (all .owned)
 
   pushed-whole : (t : ℕ) (a : Anchor) (d : Bool) (x l : ℕ) → Own push (s .label) h t x l → Shape (s .link) a (put d x (slots q))
-      → Whole (withAnchor s a) (upd h x queued) (put d (record { slot = x; label = l }) q)
+      → Intact (withAnchor s a) (upd h x queued) (put d (record { slot = x; label = l }) q)
   unfolding put
   pushed-whole t a d x l o shape =
       let e : slots (put d (record { slot = x; label = l }) q) ≡ put d x (slots q) = slots-put d (record { slot = x; label = l }) q in
@@ -50,7 +51,7 @@ module _ {s : Shared} {h : ℕ → Owner} {q : List Entry} (all : Whole s h q) w
         labels = all-seen _ d (record { slot = x; label = l } ∷ seen d q) (o .2, all-seen _ d q (all .labels));
         bounds = owner-bounds h x queued _ owns (all .bounds);
         listed = λ y g. subst (In y) (sym e) (in-put d x y (slots q) (among y g (decide-eq y x)));
-        spare = owner-spare h x queued (s .pooled) _ _ _ _ owns queued-free (all .spare);
+        spare = owner-spare h x queued (s .pooled) _ _ _ owns queued-free (all .spare);
       }
     where
       among : (y : ℕ) → upd h x queued y ≡ queued → (y ≡ x) ⊎ (y ≢ x) → (y ≡ x) ⊎ In y (slots q)
@@ -74,7 +75,7 @@ module _ {s : Shared} {h : ℕ → Owner} {q : List Entry} (all : Whole s h q) w
           (ap given g ∙ cc, ap h f ∙ o .0)
 
   popped-whole : (t : ℕ) (a : Anchor) (d : Bool) (y : ℕ) → y ≡ tip (s .anchor) d → y ≢ 0 → Shape (s .link) a (took d (slots q))
-      → Whole (withAnchor s a) (upd h y (held t)) (took d q)
+      → Intact (withAnchor s a) (upd h y (held t)) (took d q)
   unfolding took
   popped-whole t a d y e n shape =
       let g : slots (took d q) ≡ took d (slots q) = slots-took d q in
@@ -90,7 +91,7 @@ module _ {s : Shared} {h : ℕ → Owner} {q : List Entry} (all : Whole s h q) w
         bounds = owner-bounds h y (held t) _ ends (all .bounds);
         listed = λ z f. let b = owner-back h y (held t) queued (λ w. queued-held (sym w)) z f in
             subst (In z) (sym g) (in-took d z (slots q) (λ w. b .0 (w ∙ sym (e ∙ all .shape .tips d))) (all .listed z (b .1)));
-        spare = owner-spare h y (held t) (s .pooled) _ _ _ _ ends held-free (all .spare);
+        spare = owner-spare h y (held t) (s .pooled) _ _ _ ends held-free (all .spare);
       }
     where
       apart : (l : List ℕ) → y ≡ front l 0 → Distinct l → All (λ z. z ≢ y) (rest l)
@@ -101,24 +102,30 @@ module _ {s : Shared} {h : ℕ → Owner} {q : List Entry} (all : Whole s h q) w
 pub put-bare : (h : ℕ → Owner) (t x : ℕ) → Sole h t x → Bare (upd h x queued) t
 put-bare h t x o y f = let b = owner-back h x queued (held t) queued-held y f in b .0 (o y (b .1))
 
-module _ {t : ℕ} {s : Shared} {h : ℕ → Owner} {q : List Entry} {c : Call} (all : Whole s h q) (r : Rec) where
+module _ {t : ℕ} {s : Shared} {h : ℕ → Owner} {q : List Entry} {c : Call} (all : Intact s h q) (r : Rec) where
   -- A push has its effect.
   pub push-good : (m : Move) → r .kind ≡ push → Before (s .label) h t (r .kind) (r .side) (r .own) (r .label) c
       → effect (s .anchor) (apply s (m .touch) .anchor) (m .answer) ≡ true
       → isNoSlot (m .answer) ≡ false → (a : Anchor) → m .touch ≡ putAnchor a → tip a (r .side) ≡ r .own → s .anchor .tag < a .tag
       → s .anchor .status ≡ stable → Shape (s .link) a (put (r .side) (r .own) (slots q))
-      → Finish (m .answer) (apply s (m .touch)) (upd h (r .own) queued) t (m .rec) (told c pushed) → Shown t s h q c m
-  push-good m k b eff ans a ms end lt st shape f =
+      → Finish (m .answer) (apply s (m .touch)) (upd h (r .own) queued) t (m .rec) (told c pushed) → isGiving (m .rec .place) ≡ false
+      → Shown t s h q c m
+  push-good m k b eff ans a ms end lt st shape f p =
       let o = subst (λ z. Own z (s .label) h t (r .own) (r .label)) k (b .own) in
       effective m (upd h (r .own) queued) (told c pushed) (put (r .side) (record { slot = r .own; label = r .label }) q)
       (ap (λ (z : Touch). noted (granted z c) q (s .anchor) (apply s (m .touch) .anchor) (m .answer)) ms
       ∙ noted-push c (b .agrees) q (s .anchor) (apply s (m .touch) .anchor) (m .answer) eff ans k)
-      (subst (λ z. Whole (apply s z) (upd h (r .own) queued) (put (r .side) (record { slot = r .own; label = r .label }) q)) (sym ms)
+      (subst (λ z. Intact (apply s z) (upd h (r .own) queued) (put (r .side) (record { slot = r .own; label = r .label }) q)) (sym ms)
       (pushed-whole all t a (r .side) (r .own) (r .label) o shape))
       (λ u n. subst (λ z. Rely u s h (apply s z) (upd h (r .own) queued)) (sym ms) (rely-turn a (upd h (r .own) queued) lt (calm all st)
       (λ u x n g. owner-kept h (r .own) queued t (inl (o .1)) u x n g) (λ u x n g. owner-back h (r .own) queued (held u) queued-held x g .1) u n))
       f (λ _ _ _. subst (λ (z : Touch). tip (apply s z .anchor) (c .side) ≡ granted z c .slot) (sym ms)
       (ap (λ (d : Bool). tip a d) (b .agrees .side) ∙ end ∙ sym (b .agrees .slot)))
+      (marked-at m (r .own) (upd h (r .own) queued) (λ x n. same x) (λ x n. upd-other h (r .own) queued x n) (λ x n e. p)
+      (λ g e w. same (r .own) ∙ w ∙ ap (shows g) (o .1) ∙ ap not e ∙ ap (shows (upd g t (m .rec))) (sym (upd-same h (r .own) queued))))
+    where
+      same : (x : ℕ) → apply s (m .touch) .mark x ≡ s .mark x
+      same x = ap (λ (z : Touch). apply s z .mark x) ms
 
   -- A pop has its effect.
   pub pop-good : (a : Anchor) → r .kind ≡ pop → Before (s .label) h t (r .kind) (r .side) (r .own) (r .label) c → r .read ≡ s .anchor
@@ -136,6 +143,8 @@ module _ {t : ℕ} {s : Shared} {h : ℕ → Owner} {q : List Entry} {c : Call} 
       (λ u x n f. owner-back h y (held t) (held u) (λ z. n (sym (held-inj z))) x f .1))
       (record { after = record { once = ap suc (b .none); told = g .0 }; holds = upd-same h y (held t); sole = sole })
       (λ _ _ z. absurd (push-pop (sym z ∙ b .agrees .kind ∙ k)))
+      (marked-at (runs (putAnchor a) (goes r at11)) y (upd h y (held t)) (λ x n. refl) (λ x n. upd-other h y (held t) x n) (λ x n e. refl)
+      (λ f e w. w ∙ ap (shows f) (g .1) ∙ sym (ap (shows (upd f t (goes r at11))) (upd-same h y (held t)) ∙ shows-own f t (goes r at11))))
     where
       o : Own pop (s .label) h t (r .own) (r .label)
       o = subst (λ z. Own z (s .label) h t (r .own) (r .label)) k (b .own)
@@ -148,4 +157,4 @@ module _ {t : ℕ} {s : Shared} {h : ℕ → Owner} {q : List Entry} {c : Call} 
           go (inr z) = absurd (o y (sym (upd-other h (tip (r .read) (r .side)) (held t) y z) ∙ f))
 
   pub back : Before (s .label) h t (r .kind) (r .side) (r .own) (r .label) c → r .finishing ≡ false → Shown t s h q c (runs none (goes r at1))
-  back b e = still all (e, b)
+  back b e = still refl all (e, b)

@@ -11,7 +11,7 @@ use Rattle.model.proofs.machine.Book.{Call}
 use Rattle.model.proofs.machine.Laws.{sameLink-true}
 use Rattle.model.proofs.machine.Machine.{Kind, Link, Move, Place, Rec, Shared, act, at1, at10, at11, at2, at3, at4, at5, at6, at7, at8, at9}
 use Rattle.model.proofs.machine.Machine.{draw, four, give, goes, idle, isIdle, isStable, pop, push, putLink, runs, same, sameLink, tip, two}
-use Rattle.model.proofs.invariant.Owners.{Owner, Whole}
+use Rattle.model.proofs.invariant.Owners.{Owner, Intact}
 use Rattle.model.proofs.invariant.Tasks.{Grown, Live, Task, way}
 use Rattle.model.proofs.progress.Bounds.{owed-within}
 use Rattle.model.proofs.progress.Falls.{Falls, drop, fall1, fall10-done, fall10-failed, fall11, fall2-failed, fall3, fall4-failed, fall5}
@@ -44,7 +44,7 @@ module _ (s : Shared) (r : Rec) where
   above : (c x : ℕ) → x < c → x < cond (steady && now) c (home c (c + 4) steady + 1)
   above c x lt = by-test (λ v. x < v) (steady && now) (λ _. lt) (λ _. by-test (λ v. x < v + 1) steady (λ _. omega arith) (λ _. omega arith))
 
-  module _ (h : ℕ → Owner) (t : ℕ) (q : List Entry) (b : Call) (all : Whole s h q) where
+  module _ (h : ℕ → Owner) (t : ℕ) (q : List Entry) (b : Call) (all : Intact s h q) where
     alone2 : (k : Kind) → r .finishing ≡ false → Own k at2 (two k s r)
     alone2 push f = by-test (Own push at2) now (λ e. record { less = λ z. absurd (pushed-running z) }) (λ e. fall2-failed 7 11 (gap push) s r h q all f e push)
     alone2 pop f = by-test (Own pop at2) now

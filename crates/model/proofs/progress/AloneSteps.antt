@@ -8,7 +8,7 @@ use lib.Seq.{getD-set-same}
 use borrow.Author.Tests.{eq-eqb}
 use Rattle.model.specs.Calls.{Acted, Done, act, actOn, back, finish, step}
 use Rattle.model.specs.History.{Ledger}
-use Rattle.model.specs.Places.{Move, linkMet, move}
+use Rattle.model.specs.Places.{Move, wordFound, move}
 use Rattle.model.specs.Progress.{AnsweredWithin, Busy, limit}
 use Rattle.model.specs.Solo.{soloRun}
 use Rattle.model.specs.Refusals.{among, stepRefusal}
@@ -60,7 +60,7 @@ module _ (n : ℕ) (q : Queue) (l : Ledger) (g : Matched n q l) (f : Safe q) (ta
   k = kindOf (r .kind)
 
   abbrev m : Move
-  m = move (G .control) r (linkMet G r)
+  m = move (G .control) r (wordFound G r)
 
   abbrev r′ : Record
   r′ = goes (m .task) (next r m)

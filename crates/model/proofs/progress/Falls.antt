@@ -15,7 +15,7 @@ use Rattle.model.proofs.machine.Laws.{same-refl, sameLink-refl}
 use Rattle.model.proofs.machine.Machine.{Anchor, Kind, Link, Move, Place, Rec, Shared, act, apply, at1, at10, at11, at2, at3, at4, at5, at6}
 use Rattle.model.proofs.machine.Machine.{at7, at8, at9, empty, goes, isIdle, isStable, leave, none, one, pop, popped, push, pushed, putAnchor}
 use Rattle.model.proofs.machine.Machine.{putLink, reads, running, runs, same, sameLink, settled, three, tip, towards}
-use Rattle.model.proofs.invariant.Owners.{Owner, Whole}
+use Rattle.model.proofs.invariant.Owners.{Owner, Intact}
 use Rattle.model.proofs.invariant.Tasks.{Fresh, Grown, Live, Ninth, way}
 use Rattle.model.proofs.chain.Ends.{alike-stable, both-null}
 use Rattle.model.proofs.progress.Measure.{due, ending, home, outgrown, owed, owedAt, rest}
@@ -141,7 +141,7 @@ module _ (c g : ℕ) (gap : c + 2 ≤ g) (s : Shared) (r : Rec) where
   }
 
   -- 1: what is read is current. (With #106 a change that fails at 2 or 4 goes on so too: see `fall2-failed`.)
-  module _ (h : ℕ → Owner) (q : List Entry) (all : Whole s h q) (f : r .finishing ≡ false) where
+  module _ (h : ℕ → Owner) (q : List Entry) (all : Intact s h q) (f : r .finishing ≡ false) where
     reads-at : (p : Place) → due c g steady (same (s .anchor) (s .anchor)) (outgrown s (reads r (s .anchor) p)) p < here
         → Falls c g here s (runs none (reads r (s .anchor) p))
     reads-at p lt = record {

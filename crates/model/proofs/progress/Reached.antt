@@ -8,7 +8,7 @@ use Rattle.model.specs.History.{Ledger, Request, final}
 use Rattle.model.specs.Refusals.{openRefusal}
 use Rattle.model.specs.Tables.{Queue}
 use Rattle.model.specs.declared.Op.{Op}
-use Rattle.model.proofs.ledger.Kept.{act-good}
+use Rattle.model.proofs.ledger.EveryOperation.{act-good}
 use Rattle.model.proofs.ledger.Matched.{Matched}
 use Rattle.model.proofs.ledger.Opened.{nobody, open-good, some-slots}
 use Rattle.model.proofs.unsound.Runs.{act-safe}

@@ -5,8 +5,7 @@ use Prim.Native.Nat.{_≤_, ℕ}
 use native.Mathlib.Omega.{arith}
 use lib.Dec.{eqb, ltb}
 use borrow.Author.Tests.{eq-eqb, eqb-true, ne-eqb}
-use Rattle.model.proofs.tests.Truth.{by-test, not-both}
-use Rattle.model.proofs.laws.Tests.{either}
+use Rattle.model.proofs.tests.Truth.{by-test, not-both, either}
 use Rattle.model.proofs.machine.LinkTags.{relink-keeps}
 use Rattle.model.proofs.machine.Machine.{Anchor, Link, Rec, Shared, Status, isStable, pushing, same, settled, stable, tip, towards, withAnchor, withLink}
 use Rattle.model.proofs.invariant.Shape.{Made}

@@ -1,5 +1,5 @@
 -- The same of the tables: an operation with no effect and no answer lets the sum of what all tasks owe fall by one at a step, and never rise.
-use mathlib.Core.Bool.{Bool, _||_, false, true}
+use mathlib.Core.Bool.{false, true}
 use mathlib.Core.List.{List, [], _∷_}
 use mathlib.Core.Logic.{_≢_, _⊎_, inl, inr}
 use mathlib.Core.Path.{_∙_, _≡_, ap, refl, subst, sym}
@@ -8,13 +8,13 @@ use native.Mathlib.Omega.{arith}
 use lib.Dec.{eqb}
 use lib.ListN.{set}
 use borrow.Author.Tests.{eqb-true}
-use Rattle.model.specs.Calls.{Acted, Done, act, actOn, back, finish, popStart, pushStart, putStart, step, taken}
+use Rattle.model.specs.Calls.{Acted, Done, act, actOn, back, finish, popStart, pushStart, putStart, step}
 use Rattle.model.specs.History.{Event, Ledger, Request, isEffect, run}
-use Rattle.model.specs.Places.{linkMet, move}
+use Rattle.model.specs.Places.{wordFound, move}
 use Rattle.model.specs.Ends.{answerEnds}
 use Rattle.model.specs.Progress.{any, stepping, steps, stretchLimit, tells, tellsBy}
 use Rattle.model.specs.Refusals.{among, popRefusal, pushRefusal, putRefusal, stepRefusal}
-use Rattle.model.specs.Tables.{Queue, Tables, idle, isPooled, recordAt, started, taskAt, unused, withCall}
+use Rattle.model.specs.Tables.{Queue, Tables, idle, isPooled, recordAt, started, tablesOf, taskAt, unused, withCall, taken}
 use Rattle.model.specs.declared.Answer.the-variants.{Empty, NoSlot, Popped, Pushed, Running}
 use Rattle.model.specs.declared.Answer.{Answer}
 use Rattle.model.specs.declared.Op.the-variants.{Pop, Push, Put, Step}
@@ -22,7 +22,7 @@ use Rattle.model.specs.declared.Op.{Op}
 use Rattle.model.specs.declared.Outcome.the-variants.{Moved, Refused}
 use Rattle.model.specs.declared.Record.{Record}
 use Rattle.model.specs.declared.TaskRecord.{TaskRecord}
-use Rattle.model.proofs.tests.Truth.{by-test, decide-eq, not-both, split}
+use Rattle.model.proofs.tests.Truth.{by-test, decide-eq, not-both, or-false, split}
 use Rattle.model.proofs.lists.Store.{set-back}
 use Rattle.model.proofs.machine.Book.{effect}
 use Rattle.model.proofs.machine.Laws.{upd-other, upd-same}
@@ -65,10 +65,6 @@ module _ (s : M.Shared) (f : ℕ → M.Rec) (t : ℕ) (s′ : M.Shared) (r′ : 
   all-drop n lt own = total-drop _ _ t n lt (each (omega arith)) (subst (λ (x : M.Rec). together s′ x < together s (f t)) (sym (upd-same f t r′)) own)
 
 -- A step that tells nothing is silent.
-neither : (a b : Bool) → a || b ≡ false → (a ≡ false) × (b ≡ false)
-neither true b e = absurd (not-both refl e)
-neither false b e = (refl, e)
-
 runs-on : (a : Answer) → answerEnds a ≡ false → answerSeen a ≡ M.running
 runs-on (Running p) e = refl
 runs-on Pushed e = absurd (not-both refl e)
@@ -113,7 +109,7 @@ module _ (n : ℕ) (q : Queue) (l : Ledger) (g : Matched n q l) (named : isPoole
 
     abbrev begun : Queue
     begun = record {
-      tables = record { control = G .control; lefts = G .lefts; rights = G .rights; labels = labels; marks = marks; next = G .next };
+      tables = tablesOf (G .control) (G .lefts) (G .rights) labels marks (G .next);
       records = set (q .records) t (withCall (taskAt q t) new);
     }
 
@@ -148,7 +144,7 @@ module _ (n : ℕ) (q : Queue) (l : Ledger) (g : Matched n q l) (named : isPoole
     step-all : tellsBy ev Step (Moved a) ≡ false → suc (all tasks (stateOf q′)) ≤ all tasks (stateOf q)
     unfolding stateOf view
     step-all z =
-        let w = neither (isEffect ev a) (answerEnds a) z in
+        let w = or-false (isEffect ev a) (answerEnds a) z in
         let is = state-is q (g .book) (g .inv) (g .links) t s in
         let silent : Silent (view G) (seenMove G r) =
         (runs-on a (w .1), ap (λ (x : M.State). effect (view G .anchor) (x .shared .anchor) (answerSeen a)) (sym is) ∙ effect-is ev a ∙ w .0) in
@@ -168,7 +164,7 @@ module _ (n : ℕ) (q : Queue) (l : Ledger) (g : Matched n q l) (named : isPoole
   })
   pop-put side z free _ = omega (arith, start-all z free (G .labels) (G .marks) 1 side 0 0)
 
-  step-put : Stepping q t → Puts Step (finish G (taskAt q t) (move (G .control) r (linkMet G r)))
+  step-put : Stepping q t → Puts Step (finish G (taskAt q t) (move (G .control) r (wordFound G r)))
   unfolding finish
   step-put s z = omega (arith, step-all s z)
 
@@ -192,7 +188,7 @@ unfolding run any steps
 run-all [] tasks q z e = omega arith
 run-all (o ∷ os) tasks q z e =
     let d = act q (o .task) (o .op) in
-    let w = neither _ (any tells (run (d .queue) os)) e in
+    let w = or-false _ (any tells (run (d .queue) os)) e in
     let a : stepping (o .op) (d .outcome) + all tasks (stateOf (d .queue)) ≤ all tasks (stateOf q) =
     subst (λ n. stepping (o .op) (d .outcome) + all n (stateOf (d .queue)) ≤ all n (stateOf q)) (z .roomy .tasks-are)
     (act-all (z .position) q (z .ledger) (z .matched) (z .roomy .named) (o .task) (o .op) (w .0)) in

@@ -18,7 +18,7 @@ use Rattle.model.proofs.machine.Machine.{at11, at12, at13, at14, at15, 
 use Rattle.model.proofs.machine.Machine.{draw, four, give, idle, inner, isStable, leave, none, one, pop, push, pushing, putAnchor}
 use Rattle.model.proofs.machine.Machine.{relink, same, sameLink, settled, three, tip, two, withAnchor, withLink}
 use Rattle.model.proofs.machine.Machine.{exhausted}
-use Rattle.model.proofs.invariant.Owners.{Owner, Whole, held, queued}
+use Rattle.model.proofs.invariant.Owners.{Owner, Intact, held, queued}
 use Rattle.model.proofs.invariant.Rely.{Quiet, Turned}
 use Rattle.model.proofs.invariant.Shape.{Made}
 use Rattle.model.proofs.invariant.Tags.{Tags}
@@ -61,7 +61,7 @@ module _ (s : Shared) (g : Tags s) where
   aimed-tags a false x st p = turned (aimed a false x st) (later a (s .anchor) p)
   aimed-tags a true x st p = turned (aimed a true x st) (later a (s .anchor) p)
 
-  module _ (h : ℕ → Owner) (t : ℕ) (r : Rec) (c : Call) (q : List Entry) (all : Whole s h q) where
+  module _ (h : ℕ → Owner) (t : ℕ) (r : Rec) (c : Call) (q : List Entry) (all : Intact s h q) where
     tags1 : (k : Kind) → Tagged s (one k s r)
     tags1 push = by-test (Tagged s) (eqb (s .anchor .left) 0) (λ e. keeps _ _)
         (λ e. by-test (Tagged s) (isStable (s .anchor .status)) (λ f. keeps _ _) (λ f. keeps _ _))

@@ -1,13 +1,14 @@
 -- Lists of tests and of rules: all tests hold, no rule applies.
 use mathlib.Core.Bool.{Bool, _&&_, cond, false, not, true}
-use mathlib.Core.List.{List, [], _∷_}
+use mathlib.Core.List.{List, [], _∷_, _++_}
+use mathlib.Core.Logic.{_≢_}
 use mathlib.Core.Path.{_∙_, _≡_, ap, refl, sym}
+use Prim.Native.Nat.{ℕ}
 use lib.Dec.{eqb}
 use borrow.Author.Tests.{eqb-false, not-true}
-use Rattle.model.specs.History.{All}
 use Rattle.model.specs.Refusals.{Rule, first}
-use Rattle.model.specs.Sound.{every}
 use Rattle.model.proofs.tests.Truth.{and-true}
+use Rattle.model.specs.Lists.{All, every}
 
 -- One fact after another: the facts of a list, which end with tt.
 infixr 4 _and_
@@ -25,7 +26,7 @@ passes (b ∷ []) z = z .0
 passes (b ∷ c ∷ l) z = rw (z .0) (passes (c ∷ l) (z .1))
 
 -- A refusal has a number, so with 0 for an answer no rule applies.
-abbrev numbered : List Rule → Bool
+abbrev pub numbered : List Rule → Bool
 numbered [] = true
 numbered (r ∷ l) = not (eqb (r .number) 0) && numbered l
 
@@ -37,3 +38,34 @@ cleared (r ∷ l) n e = let z = and-true (not (eqb (r .number) 0)) (numbered l) 
         → (r .applies ≡ false) × All (λ (r : Rule). r .applies ≡ false) l
     go true a z f = absurd (eqb-false _ _ (not-true _ z) (ap (λ (b : Bool). cond b (r .number) (first l)) (sym a) ∙ e))
     go false a z f = (a, f (ap (λ (b : Bool). cond b (r .number) (first l)) (sym a) ∙ e))
+
+-- Of two lists of rules the first one's number counts, unless none of its rules applies.
+pub first-passed : (l m : List Rule) → numbered l ≡ true → first l ≡ 0 → first (l ++ m) ≡ first m
+first-passed [] m n e = refl
+first-passed (r ∷ l) m n e =
+    let z = and-true (not (eqb (r .number) 0)) (numbered l) n in
+    let c = cleared (r ∷ l) n e in
+    ap (λ (b : Bool). cond b (r .number) (first (l ++ m))) (c .0)
+    ∙ first-passed l m (z .1) (ap (λ (b : Bool). cond b (r .number) (first l)) (sym (c .0)) ∙ e)
+
+pub first-refused : (l m : List Rule) → first l ≢ 0 → first (l ++ m) ≡ first l
+first-refused [] m h = absurd (h refl)
+first-refused (r ∷ l) m h = go (r .applies) refl (λ z. first-refused l m z)
+  where
+    same : (b : Bool) → r .applies ≡ b → (n : ℕ) → cond (r .applies) (r .number) n ≡ cond b (r .number) n
+    same b e n = ap (λ (b : Bool). cond b (r .number) n) e
+
+    go : (b : Bool) → r .applies ≡ b → (first l ≢ 0 → first (l ++ m) ≡ first l) → first ((r ∷ l) ++ m) ≡ first (r ∷ l)
+    go true e f = same true e (first (l ++ m)) ∙ sym (same true e (first l))
+    go false e f = same false e (first (l ++ m)) ∙ f (λ z. h (same false e (first l) ∙ z)) ∙ sym (same false e (first l))
+
+-- The rules of a list up to one that applies, or all of them: tests made one after the other give the first one's number.
+pub data Tried : List Rule → ℕ → Type 0 where
+  none : Tried [] 0
+  stop : {r : Rule} {l : List Rule} → r .applies ≡ true → Tried (r ∷ l) (r .number)
+  pass : {r : Rule} {l : List Rule} {n : ℕ} → r .applies ≡ false → Tried l n → Tried (r ∷ l) n
+
+pub tried : {l : List Rule} {n : ℕ} → Tried l n → n ≡ first l
+tried none = refl
+tried (stop e) = rw e
+tried (pass e t) = rw e (tried t)

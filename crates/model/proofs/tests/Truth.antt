@@ -7,7 +7,11 @@ use native.Mathlib.Omega.{arith}
 use lib.Dec.{eqb}
 use borrow.Author.Tests.{eqb-false, eqb-true}
 
--- A branch on a test: each arm has the test's value as an equation.
+-- What holds of both branches of a test; below, each branch has the test's value as an equation.
+pub either : {A : Type 0} (P : A → Type 0) (b : Bool) {x y : A} → P x → P y → P (cond b x y)
+either P true h k = h
+either P false h k = k
+
 pub by-test : {A : Type 0} (P : A → Type 0) (b : Bool) {x y : A} → (b ≡ true → P x) → (b ≡ false → P y) → P (cond b x y)
 by-test P true f g = f refl
 by-test P false f g = g refl
@@ -46,6 +50,10 @@ or-right false b e f = e
 pub or-left : (a b : Bool) → a || b ≡ true → b ≡ false → a ≡ true
 or-left true b e f = refl
 or-left false b e f = absurd (not-both e f)
+
+pub or-false : (a b : Bool) → a || b ≡ false → (a ≡ false) × (b ≡ false)
+or-false true b e = absurd (not-both refl e)
+or-false false b e = (refl, e)
 
 pub or-cases : {P : Type 0} (a b : Bool) → a || b ≡ true → (a ≡ true → P) → (b ≡ true → P) → P
 or-cases true b e f g = f refl

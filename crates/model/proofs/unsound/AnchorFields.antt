@@ -14,7 +14,7 @@ use Rattle.model.proofs.lists.Deque.{seen}
 use Rattle.model.proofs.lists.Slots.{slots}
 use Rattle.model.proofs.machine.Machine as M
 use Rattle.model.proofs.machine.Machine.{Shared, tip}
-use Rattle.model.proofs.invariant.Owners.{Owner, Whole, queued}
+use Rattle.model.proofs.invariant.Owners.{Owner, Intact, queued}
 use Rattle.model.proofs.invariant.Shape.{Shape}
 use Rattle.model.proofs.chain.Ends.{alike-stable, both-null}
 use Rattle.model.proofs.places.Owned.{queued-free}
@@ -23,7 +23,7 @@ use Rattle.model.proofs.bridge.View.{anchorSeen, statusOf, touchSeen, v
 use Rattle.model.proofs.unsound.Moves.{StatusFine}
 use Rattle.model.proofs.unsound.Tests.{anchor-sound}
 
-tip-low : (s : Shared) (h : ℕ → Owner) (q : List Entry) → Whole s h q → (d : Bool) → tip (s .anchor) d ≤ s .slots
+tip-low : (s : Shared) (h : ℕ → Owner) (q : List Entry) → Intact s h q → (d : Bool) → tip (s .anchor) d ≤ s .slots
 tip-low s h q w d = subst (λ x. x ≤ s .slots) (sym (w .shape .tips d)) (all-front (λ x. x ≤ s .slots) (seen d (slots q)) 0
     (all-seen (λ x. x ≤ s .slots) d (slots q)
     (all-map (λ x. h x ≡ queued) _ (λ x e. w .bounds x (λ f. queued-free (sym e ∙ f)) .1) (slots q) (w .owned))) (omega arith))
@@ -36,7 +36,7 @@ stable-zero (suc (suc (suc n))) h e = absurd (omega arith)
 
 -- An Anchor word over a whole queue is sound.
 module _ (q : Tables) where
-  whole-fine : (a : ℕ) (s : M.Shared) (h : ℕ → Owner) (l : List Entry) → s .anchor ≡ anchorSeen a → s .slots ≡ q .control .slots → Whole s h l
+  whole-fine : (a : ℕ) (s : M.Shared) (h : ℕ → Owner) (l : List Entry) → s .anchor ≡ anchorSeen a → s .slots ≡ q .control .slots → Intact s h l
       → anchorOf a .status ≤ 2
       → AnchorFine (q .control .slots) (anchorOf a)
   whole-fine a s h l e g w st =
@@ -52,7 +52,7 @@ module _ (q : Tables) where
         single = λ z. stable-zero (anchorOf a .status) st (alike-stable (s .link) (anchorSeen a) (slots l) sh z);
       }
 
-  pub touch-sound : (t : Touch) (h : ℕ → Owner) (l : List Entry) → Whole (M.apply (view q) (touchSeen t)) h l → StatusFine t
+  pub touch-sound : (t : Touch) (h : ℕ → Owner) (l : List Entry) → Intact (M.apply (view q) (touchSeen t)) h l → StatusFine t
       → leavesSound (q .control .slots) t ≡ true
   unfolding view
   touch-sound nothing h l w st = refl

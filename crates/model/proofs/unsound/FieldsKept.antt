@@ -16,7 +16,7 @@ use Rattle.model.proofs.machine.Machine.{isStable, leave, none, one, po
 use Rattle.model.proofs.machine.Machine.{tip, towards, two}
 use Rattle.model.proofs.machine.Machine.{exhausted}
 use Rattle.model.proofs.invariant.Fields.{Extra, Only}
-use Rattle.model.proofs.invariant.Owners.{Owner, Whole}
+use Rattle.model.proofs.invariant.Owners.{Owner, Intact}
 use Rattle.model.proofs.invariant.Tasks.{Task, Three, Two, way}
 use Rattle.model.proofs.chain.Ends.{ends-real}
 use Rattle.model.proofs.chain.Links.{inner-in}
@@ -29,7 +29,7 @@ both-tip : (a : Anchor) (d : Bool) → a .left ≡ a .right → a .left ≢ 0 �
 both-tip a false e n z = n z
 both-tip a true e n z = n (e ∙ z)
 
-module _ (t : ℕ) (s : Shared) (h : ℕ → Owner) (q : List Entry) (c : Call) (w : Whole s h q) (r : Rec) where
+module _ (t : ℕ) (s : Shared) (h : ℕ → Owner) (q : List Entry) (c : Call) (w : Intact s h q) (r : Rec) where
   leaves : (g : Touch) → Only r → Extras (leave g r)
   leaves g o = by-test Extras (r .finishing) (λ e. record { extra = tt }) (λ e. record { extra = o })
 

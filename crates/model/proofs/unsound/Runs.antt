@@ -9,10 +9,12 @@ use lib.Dec.{eqb, leb}
 use borrow.Author.Tests.{eq-eqb, eqb-false, eqb-true, not-false}
 use Rattle.model.specs.Calls.{Acted, Done, act, actOn, back, finish, popStart, pushStart, putStart, step}
 use Rattle.model.specs.History.{Ledger, NeverUnsound, Request, final, run}
-use Rattle.model.specs.Places.{linkMet}
-use Rattle.model.specs.Refusals.{among, late, popRefusal, pushRefusal, putRefusal, stepRefusal, stepSound}
-use Rattle.model.specs.Sound.{controlSound, from1, recordSound, rowsFit}
-use Rattle.model.specs.Tables.{Queue, Tables, asking, isPooled, marked, recordAt, started, taskAt, unused}
+use Rattle.model.specs.Places.{wordFound}
+use Rattle.model.specs.declared.Asked.{Asked}
+use Rattle.model.specs.Refusals.{among, fits, late, namedPush, nothingAsked, pooledPush}
+use Rattle.model.specs.Refusals.{popRefusal, pushRefusal, putRefusal, startRefusal, stepRefusal, stepSound}
+use Rattle.model.specs.Sound.{controlSound, recordSound}
+use Rattle.model.specs.Tables.{Queue, Tables, asking, isPooled, recordAt, started, taskAt, unused}
 use Rattle.model.specs.declared.Answer.{Answer}
 use Rattle.model.specs.declared.Op.the-variants.{Pop, Push, Put, Step}
 use Rattle.model.specs.declared.Op.{Op}
@@ -22,7 +24,7 @@ use Rattle.model.specs.declared.TaskRecord.{TaskRecord}
 use Rattle.model.proofs.tests.Truth.{by-test, decide-eq, not-both}
 use Rattle.model.proofs.lists.Store.{set-back}
 use Rattle.model.proofs.bridge.Accepted.{Lies, lies, pop-accepted, push-accepted, put-accepted, step-accepted}
-use Rattle.model.proofs.ledger.Kept.{act-good}
+use Rattle.model.proofs.ledger.EveryOperation.{act-good}
 use Rattle.model.proofs.ledger.Matched.{Matched}
 use Rattle.model.proofs.unsound.Safe.{Safe}
 use Rattle.model.proofs.unsound.StartSafe.{pop-begins, push-begins, put-begins, start-safe}
@@ -51,58 +53,35 @@ module _ (n : ℕ) (q : Queue) (l : Ledger) (g : Matched n q l) (f : Safe q) (t 
   abbrev Not34 : ℕ → Type 0
   Not34 v = v ≢ 34
 
-  abbrev fits : Bool
-  fits = rowsFit (isPooled (G .control)) (G .control .slots) G && among q t .enough
+  abbrev enough : Bool
+  enough = fits G && among q t .enough
 
-  found : not fits ≡ false → not (among q t .known) ≡ false → Lies q t
+  found : not enough ≡ false → not (among q t .known) ≡ false → Lies q t
   found e k = lies q t (not-false _ e) (not-false _ k)
 
-  push-34 : (side x : ℕ) → Not34 (pushRefusal G (among q t) r side x)
-  unfolding pushRefusal
-  push-34 side x =
+  start-34 : (side : ℕ) (a : Asked) → Not34 (startRefusal (G .control) (fits G) (among q t) r side a)
+  unfolding startRefusal
+  start-34 side a =
       by-test Not34 (not (controlSound (G .control))) (λ e. absurd (never (f .control) e))
-      (λ e. by-test Not34 (not fits) (λ e. omega arith)
+      (λ e. by-test Not34 (not enough) (λ e. omega arith)
       (λ z. by-test Not34 (not (among q t .known)) (λ e. omega arith)
       (λ k. by-test Not34 (not (leb side 1)) (λ e. omega arith)
-      (λ e. by-test Not34 (isPooled (G .control)) (λ e. omega arith)
-      (λ e. by-test Not34 (not (from1 (G .control .slots) x)) (λ e. omega arith)
+      (λ e. by-test Not34 (a .wrong) (λ e. omega arith)
+      (λ e. by-test Not34 (a .outside) (λ e. omega arith)
       (λ e. by-test Not34 (not (recordSound (isPooled (G .control)) (G .control .slots) r)) (λ e. absurd (never (record-passes (found z k)) e))
       (λ e. by-test Not34 (not (eqb (r .place) 0)) (λ e. omega arith)
-      (λ e. by-test Not34 (marked (G .marks) x) (λ e. omega arith)
-      (λ e. by-test Not34 (late G) (λ e. omega arith) (λ e. omega arith))))))))))
-
-  put-34 : (side : ℕ) → Not34 (putRefusal G (among q t) r side)
-  unfolding putRefusal
-  put-34 side =
-      by-test Not34 (not (controlSound (G .control))) (λ e. absurd (never (f .control) e))
-      (λ e. by-test Not34 (not fits) (λ e. omega arith)
-      (λ z. by-test Not34 (not (among q t .known)) (λ e. omega arith)
-      (λ k. by-test Not34 (not (leb side 1)) (λ e. omega arith)
-      (λ e. by-test Not34 (not (isPooled (G .control))) (λ e. omega arith)
-      (λ e. by-test Not34 (not (recordSound (isPooled (G .control)) (G .control .slots) r)) (λ e. absurd (never (record-passes (found z k)) e))
-      (λ e. by-test Not34 (not (eqb (r .place) 0)) (λ e. omega arith)
-      (λ e. by-test Not34 (late G) (λ e. omega arith) (λ e. omega arith))))))))
-
-  pop-34 : (side : ℕ) → Not34 (popRefusal G (among q t) r side)
-  unfolding popRefusal
-  pop-34 side =
-      by-test Not34 (not (controlSound (G .control))) (λ e. absurd (never (f .control) e))
-      (λ e. by-test Not34 (not fits) (λ e. omega arith)
-      (λ z. by-test Not34 (not (among q t .known)) (λ e. omega arith)
-      (λ k. by-test Not34 (not (leb side 1)) (λ e. omega arith)
-      (λ e. by-test Not34 (not (recordSound (isPooled (G .control)) (G .control .slots) r)) (λ e. absurd (never (record-passes (found z k)) e))
-      (λ e. by-test Not34 (not (eqb (r .place) 0)) (λ e. omega arith)
-      (λ e. by-test Not34 (late G) (λ e. omega arith) (λ e. omega arith)))))))
+      (λ e. by-test Not34 (a .taken) (λ e. omega arith)
+      (λ e. by-test Not34 (late (G .control)) (λ e. omega arith) (λ e. omega arith))))))))))
 
   step-34 : Not34 (stepRefusal G (among q t) r)
   unfolding stepRefusal
   step-34 =
       by-test Not34 (not (controlSound (G .control))) (λ e. absurd (never (f .control) e))
-      (λ e. by-test Not34 (not fits) (λ e. omega arith)
+      (λ e. by-test Not34 (not enough) (λ e. omega arith)
       (λ z. by-test Not34 (not (among q t .known)) (λ e. omega arith)
       (λ k. by-test Not34 (not (recordSound (isPooled (G .control)) (G .control .slots) r)) (λ e. absurd (never (record-passes (found z k)) e))
       (λ e. by-test Not34 (eqb (r .place) 0) (λ e. omega arith)
-      (λ b. by-test Not34 (not (stepSound (G .control) r (linkMet G r)))
+      (λ b. by-test Not34 (not (stepSound (G .control) r (wordFound G r)))
       (λ e. absurd (never (step-sound n q l g f t (found z k) (eqb-false _ _ b)) e)) (λ e. omega arith))))))
 
   -- The outcome, and what it leaves.
@@ -126,21 +105,21 @@ module _ (n : ℕ) (q : Queue) (l : Ledger) (g : Matched n q l) (f : Safe q) (t 
         start-safe q f t (p .starting .lies) (p .starting .early) (p .starting .free) _ _ (started 0 side x y)
             (push-begins (isPooled (G .control)) (G .control .slots) side x y (p .starting .side) (p .real) (p .within)),
       ))
-      (λ e. refused (pushRefusal G (among q t) r side x) (push-34 side x))
+      (λ e. refused (pushRefusal G (among q t) r side x) (start-34 side (namedPush G x)))
   act-safe (Pop side) = by-test Puts (eqb (popRefusal G (among q t) r side) 0)
       (λ e. let p = pop-accepted q t side (eqb-true _ _ e) in (
         moved _,
         start-safe q f t (p .lies) (p .early) (p .free) _ _ (started 1 side 0 0)
             (pop-begins (isPooled (G .control)) (G .control .slots) side (p .side)),
       ))
-      (λ e. refused (popRefusal G (among q t) r side) (pop-34 side))
+      (λ e. refused (popRefusal G (among q t) r side) (start-34 side nothingAsked))
   act-safe (Put side y) = by-test Puts (eqb (putRefusal G (among q t) r side) 0)
       (λ e. let p = put-accepted q t side (eqb-true _ _ e) in (
         moved _,
         start-safe q f t (p .0 .lies) (p .0 .early) (p .0 .free) _ _ (asking side y)
             (put-begins (isPooled (G .control)) (G .control .slots) side y (p .1) (p .0 .side)),
       ))
-      (λ e. refused (putRefusal G (among q t) r side) (put-34 side))
+      (λ e. refused (putRefusal G (among q t) r side) (start-34 side (pooledPush G)))
   act-safe Step = by-test Puts (eqb (stepRefusal G (among q t) r) 0)
       (λ e. let s = step-accepted q t (eqb-true _ _ e) in (moved _, step-safe n q l g f t (s .lies) (s .busy)))
       (λ e. refused (stepRefusal G (among q t) r) step-34)

@@ -10,7 +10,7 @@ use lib.Seq.{getD-set-other, getD-set-same}
 use borrow.Author.Tests.{ltb-false}
 use Rattle.word.specs.Anchor.{anchorOf}
 use Rattle.model.specs.Refusals.{late}
-use Rattle.model.specs.Tables.{Queue, Tables, asking, isPooled, recordAt, started, taskAt, unused, withCall}
+use Rattle.model.specs.Tables.{Queue, Tables, asking, isPooled, recordAt, started, tablesOf, taskAt, unused, withCall}
 use Rattle.model.specs.declared.Record.{Record}
 use Rattle.model.specs.declared.TaskRecord.{TaskRecord}
 use Rattle.model.proofs.tests.Truth.{decide-eq, not-both}
@@ -92,7 +92,7 @@ pub put-begins : (pooled : Bool) (slots side y : ℕ) → pooled ≡ true → si
 unfolding recOf
 put-begins pooled slots side y p hs = record { fine = asking-fine pooled slots side y p hs; extra = refl; share = omega arith }
 
-module _ (q : Queue) (f : Safe q) (t : ℕ) (z : Lies q t) (early : late (q .tables) ≡ false) (free : recordAt q t .place ≡ 0)
+module _ (q : Queue) (f : Safe q) (t : ℕ) (z : Lies q t) (early : late (q .tables .control) ≡ false) (free : recordAt q t .place ≡ 0)
     (labels marks : List ℕ) (new : Record)
     (h : Begins (isPooled (q .tables .control)) (q .tables .control .slots) new) where
   abbrev G : Tables
@@ -100,7 +100,7 @@ module _ (q : Queue) (f : Safe q) (t : ℕ) (z : Lies q t) (early : late (q .tab
 
   abbrev q′ : Queue
   q′ = record {
-    tables = record { control = G .control; lefts = G .lefts; rights = G .rights; labels = labels; marks = marks; next = G .next };
+    tables = tablesOf (G .control) (G .lefts) (G .rights) labels marks (G .next);
     records = set (q .records) t (withCall (taskAt q t) new);
   }
 

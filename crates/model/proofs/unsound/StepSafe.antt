@@ -10,7 +10,7 @@ use lib.Seq.{getD-set-other, getD-set-same}
 use borrow.Author.Tests.{le-leb}
 use Rattle.model.specs.Calls.{finish}
 use Rattle.model.specs.History.{Ledger}
-use Rattle.model.specs.Places.{Move, Touch, apply, clearMark, linkMet, move, nothing, setAnchor, setHead, setLink, setNext, takeSlot}
+use Rattle.model.specs.Places.{Move, Touch, apply, clearMark, wordFound, move, nothing, setAnchor, setHead, setLink, setNext, takeSlot}
 use Rattle.model.specs.Refusals.{leavesSound}
 use Rattle.model.specs.Route.{counted, goes}
 use Rattle.model.specs.Sound.{controlSound, controlTests}
@@ -74,7 +74,7 @@ module _ (n : ℕ) (q : Queue) (l : Ledger) (g : Matched n q l) (f : Safe q) (t 
   G = q .tables
 
   abbrev m : Move
-  m = move (G .control) r (linkMet G r)
+  m = move (G .control) r (wordFound G r)
 
   abbrev moved : TaskRecord
   moved = record { call = goes (m .task) (next r m); retries = counted (taskAt q t .retries) (m .failed) }
@@ -92,7 +92,7 @@ module _ (n : ℕ) (q : Queue) (l : Ledger) (g : Matched n q l) (f : Safe q) (t 
       (not-idle (r .place) busy (fine .place)) (own-task n q l g f t z busy) (own-extra n q l g f t z busy))
 
   pub keeps : Keeps (G .control .slots) r (m .task)
-  keeps = move-keeps (isPooled (G .control)) (G .control) r (linkMet G r) fine (control-is n q l g f t .anchor) (met-link n q l g f t z busy)
+  keeps = move-keeps (isPooled (G .control)) (G .control) r (wordFound G r) fine (control-is n q l g f t .anchor) (met-link n q l g f t z busy)
       (met-next n q l g f t z busy)
       (g .links .head .0, g .links .head .1) busy (new-sound n q l g f t z busy)
 

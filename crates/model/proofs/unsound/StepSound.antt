@@ -10,10 +10,10 @@ use Rattle.word.specs.Anchor.{anchorOf}
 use Rattle.word.specs.Link.{linkOf, spareOf}
 use Rattle.word.specs.declared.Anchor as word
 use Rattle.model.specs.History.{Ledger}
-use Rattle.model.specs.Places.{Move, linkMet, linkSide, move, row, sideOf}
+use Rattle.model.specs.Places.{Move, wordFound, linkSide, move, row, sideOf}
 use Rattle.model.specs.Refusals.{leavesSound, meetsHead, meetsLink, needsRow, stepSound, stepTests}
 use Rattle.model.specs.Sound.{from1, linkSound, recordSound}
-use Rattle.model.specs.Tables.{atPlace, Queue, Tables, isPooled, named, near, recordAt}
+use Rattle.model.specs.Tables.{atPlace, Queue, Tables, isPooled, recordAt}
 use Rattle.model.specs.declared.Record.{Record}
 use Rattle.model.proofs.tests.ByPlace.{by-place}
 use Rattle.model.proofs.tests.Rules.{_and_, passes}
@@ -41,6 +41,7 @@ use Rattle.model.proofs.unsound.AnchorFields.{touch-sound}
 use Rattle.model.proofs.unsound.Moves.{move-status}
 use Rattle.model.proofs.unsound.Safe.{Safe}
 use Rattle.model.proofs.unsound.Tests.{link-sound, record-sound, unstable}
+use Rattle.model.specs.Sides.{named, near}
 
 near-real : (n : ℕ) (a : word.Anchor) → AnchorFine n a → a .left ≢ a .right → (b : Bool) → cond b (a .right) (a .left) ≢ 0
 near-real n a h ne true z = ne (h .full z ∙ sym z)
@@ -167,22 +168,22 @@ module _ (n : ℕ) (q : Queue) (l : Ledger) (g : Matched n q l) (f : Safe q) (t 
         (r .place) busy (h .place) own-task own-extra
 
     -- What it finds there: a link word up to 10, a next at 13.
-    pub met-link : r .place ≤ 10 → (spareOf (linkMet G r) ≡ 0) × (linkOf (linkMet G r) .slot ≤ G .control .slots)
+    pub met-link : r .place ≤ 10 → (spareOf (wordFound G r) ≡ 0) × (linkOf (wordFound G r) .slot ≤ G .control .slots)
     met-link le =
         let e = row-fine (isPooled (G .control)) (G .control .slots) r h in
         let d = eqb (linkSide r) 1 in
         rw (ne-eqb (r .place) 11 (λ z. omega arith), ne-eqb (r .place) 13 (λ z. omega arith))
         (g .links .spare d (row r) e, g .links .slot d (row r) e)
 
-    pub met-next : r .place ≡ 13 → linkMet G r ≤ G .control .slots
+    pub met-next : r .place ≡ 13 → wordFound G r ≤ G .control .slots
     met-next e =
         let p : isPooled (G .control) ≡ true = beyond (isPooled (G .control)) (G .control .slots) r h (omega arith) in
         rw (ne-eqb (r .place) 11 (λ z. omega arith), eq-eqb (r .place) 13 e)
         (g .links .next p (row r) (row-fine (isPooled (G .control)) (G .control .slots) r h))
 
-    link-test : not (meetsLink r) || linkSound (G .control .slots) (linkMet G r) ≡ true
+    link-test : not (meetsLink r) || linkSound (G .control .slots) (wordFound G r) ≡ true
     link-test = split (meetsLink r)
-        (λ e. let m = met-link (met-low e) in or-second (not (meetsLink r)) (link-sound (G .control .slots) (linkMet G r) (m .0) (m .1)))
+        (λ e. let m = met-link (met-low e) in or-second (not (meetsLink r)) (link-sound (G .control .slots) (wordFound G r) (m .0) (m .1)))
         (λ e. or-first _ (ap not e))
       where
         met-low : meetsLink r ≡ true → r .place ≤ 10
@@ -191,20 +192,20 @@ module _ (n : ℕ) (q : Queue) (l : Ledger) (g : Matched n q l) (f : Safe q) (t 
             (λ x. omega (arith, eqb-true (r .place) 5 x)))
             (λ y. omega (arith, eqb-true (r .place) 7 y))
 
-    next-test : not (eqb (r .place) 13) || leb (linkMet G r) (G .control .slots) ≡ true
+    next-test : not (eqb (r .place) 13) || leb (wordFound G r) (G .control .slots) ≡ true
     next-test = split (eqb (r .place) 13)
         (λ e. or-second (not (eqb (r .place) 13)) (le-leb _ _ (met-next (eqb-true _ _ e)))) (λ e. or-first _ (ap not e))
 
     abbrev m : Move
-    m = move (G .control) r (linkMet G r)
+    m = move (G .control) r (wordFound G r)
 
     pub new-sound : leavesSound (G .control .slots) (m .touch) ≡ true
     new-sound = let a = step-seen-keeps q b (g .inv) (g .links) t stepping in
-        touch-sound G (m .touch) (a .owner) _ (a .whole) (move-status (isPooled (G .control)) (G .control) r (linkMet G r) h busy)
+        touch-sound G (m .touch) (a .owner) _ (a .whole) (move-status (isPooled (G .control)) (G .control) r (wordFound G r) h busy)
 
-    pub step-sound : stepSound (G .control) r (linkMet G r) ≡ true
+    pub step-sound : stepSound (G .control) r (wordFound G r) ≡ true
     unfolding stepSound
-    step-sound = passes (stepTests (G .control) r (linkMet G r))
+    step-sound = passes (stepTests (G .control) r (wordFound G r))
         (row-sound and link-test and new-sound and room-testing G r busy (h .place) room
         and or-second (not (meetsHead r))
         (link-sound (G .control .slots) (G .control .head) (g .links .head .0) (g .links .head .1)) and next-test and tt)

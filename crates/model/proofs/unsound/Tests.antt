@@ -150,9 +150,9 @@ module _ (pooled : Bool) (slots : ℕ) (r : Record) (h : RecordFine pooled slots
         and push-test
         and p .0 .0
         and p .1
+        and p .2
         and le-leb _ _ (h .neighbour)
         and link-sound slots (r .link) (h .spare) (h .link)
-        and p .2
         and anchor-sound slots (anchorOf (r .seen)) (h .seen)
         and p .0 .1
         and tt))

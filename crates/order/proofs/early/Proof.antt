@@ -16,19 +16,19 @@ returns-2 c =
 
 returns-3 : tie.Need-returns-3
 returns-3 c =
-    let p4 = c .before .before .before .before in
-    let p8 = p4 .before .before .before .before in
-    early-12 _ _ _ (sym (p4 .before .control-sound .ensures) ∙ not-false _ (p4 .if1 .left))
+    let sound = c .before .before .before .before in
+    let start = sound .before .before .before .before in
+    early-12 _ _ _ (sym (sound .before .control-sound .ensures) ∙ not-false _ (sound .if1 .left))
     (sym (c .before .before .before .malformed .ensures) ∙ c .before .before .if2 .left)
-    (ap (λ b. b && p8 .args .enough) (sym (c .before .rows-fit .ensures)) ∙ not-true _ (c .if3 .taken))
+    (ap (λ b. b && start .args .enough) (sym (c .before .rows-fit .ensures)) ∙ not-true _ (c .if3 .taken))
 
 returns-4 : tie.Need-returns-4
 returns-4 c =
-    let p4 = c .before .before .before .before in
-    let p8 = p4 .before .before .before .before in
-    early-0 _ _ _ (sym (p4 .before .control-sound .ensures) ∙ not-false _ (p4 .if1 .left))
+    let sound = c .before .before .before .before in
+    let start = sound .before .before .before .before in
+    early-0 _ _ _ (sym (sound .before .control-sound .ensures) ∙ not-false _ (sound .if1 .left))
     (sym (c .before .before .before .malformed .ensures) ∙ c .before .before .if2 .left)
-    (ap (λ b. b && p8 .args .enough) (sym (c .before .rows-fit .ensures)) ∙ not-false _ (c .if3 .left))
+    (ap (λ b. b && start .args .enough) (sym (c .before .rows-fit .ensures)) ∙ not-false _ (c .if3 .left))
 
 pub early-spec : {M : Type 1} → statement M
 early-spec =

@@ -2,52 +2,67 @@
 use mathlib.Core.Path.{sym, _∙_}
 use borrow.Author.Tests.{eq-eqb, ne-eqb}
 use borrow.Author.Needs.{needs}
-use Rattle.places.proofs.Rows.{push3, pop3}
+use Rattle.places.proofs.OnRows.{push3, pop3}
 use Rattle.places.proofs.at3.Statement.{statement}
 use Rattle.places.proofs.at3.Tie as tie
 
+-- The end as read, Anchor as read, and the beginning.
+module _ (end : tie.After-near) where
+  abbrev anchor : tie.After-unpack
+  anchor = end .before
+
+  abbrev start : tie.Start
+  start = anchor .before .before .before .before
+
 returns : tie.Need-returns
 returns c =
-    let b = c .before .before .before .before .before .before in
-    let d = b .before .before .before .before .before .before in
-    let f = d .before .before .before .before in
-    let a = f .before .before .before .before .before .before .before .args in
-    let passed = rw (d .before .link-at .ensures) at (sym (d .row-sound .ensures) ∙ b .before .before .before .before .before .if2 .taken) in
+    let back = c .before .before .before in
+    let stored = back .before .before .before in
+    let link = stored .before .before .before .before in
+    let tested = link .before .before in
+    let push = tested .before .before .before .before in
+    let end = push .before .before in
+    let a = start end .args in
+    let passed = rw (tested .before .link-at .ensures) at (sym (tested .row-sound .ensures) ∙ link .before .if2 .taken) in
     λ ns ms xs k.
     rw (
       c .settles .ensures,
       c .before .next .ensures,
-      b .put-link .ensures .0,
-      b .put-link .ensures .1,
-      b .before .before .before .link-word .ensures,
-      b .before .before .before .before .unpack2 .ensures,
-      d .before .link-at .ensures,
-      f .before .before .near .ensures,
-      f .before .before .before .unpack .ensures,
+      stored .put-link .ensures .0,
+      stored .put-link .ensures .1,
+      stored .before .before .before .link-word .ensures,
+      link .unpack2 .ensures,
+      tested .before .link-at .ensures,
+      end .near .ensures,
+      anchor end .unpack .ensures,
     )
-    (rw passed at (push3 (a .c) (a .r) (a .lefts .now) (a .rights .now) ns ms xs k (eq-eqb _ _ (f .if1 .taken))))
+    (rw passed at (push3 (a .c) (a .r) (a .lefts .now) (a .rights .now) ns ms xs k (eq-eqb _ _ (push .if1 .taken))))
 
 returns-2 : tie.Need-returns-2
 returns-2 c =
-    let d = c .before .before in
-    let f = d .before .before .before .before in
-    let a = f .before .before .before .before .before .before .before .args in
-    let left = rw (d .before .link-at .ensures) at (sym (d .row-sound .ensures) ∙ c .before .if2 .left) in
-    λ ns ms xs k. rw (c .refused .ensures) (rw left at (push3 (a .c) (a .r) (a .lefts .now) (a .rights .now) ns ms xs k (eq-eqb _ _ (f .if1 .taken))))
+    let tested = c .before .before in
+    let push = tested .before .before .before .before in
+    let a = start (push .before .before) .args in
+    let left = rw (tested .before .link-at .ensures) at (sym (tested .row-sound .ensures) ∙ c .before .if2 .left) in
+    λ ns ms xs k.
+    rw (c .refused .ensures)
+    (rw left at (push3 (a .c) (a .r) (a .lefts .now) (a .rights .now) ns ms xs k (eq-eqb _ _ (push .if1 .taken))))
 
 returns-3 : tie.Need-returns-3
 returns-3 c =
-    let f = c .before .before .before .before .before in
-    let a = f .before .before .before .before .before .before .before .args in
+    let link = c .before .before in
+    let pop = link .before .before .before in
+    let end = pop .before .before in
+    let a = start end .args in
     λ ns ms xs k.
     rw (
       c .reads-neighbour .ensures,
       c .before .next2 .ensures,
-      c .before .before .link-at2 .ensures,
-      f .before .before .near .ensures,
-      f .before .before .before .unpack .ensures,
+      link .link-at2 .ensures,
+      end .near .ensures,
+      anchor end .unpack .ensures,
     )
-    (pop3 (a .c) (a .r) (a .lefts .now) (a .rights .now) ns ms xs k (ne-eqb _ _ (f .if1 .left)))
+    (pop3 (a .c) (a .r) (a .lefts .now) (a .rights .now) ns ms xs k (ne-eqb _ _ (pop .if1 .left)))
 
 pub at3-spec : {M : Type 1} → statement M
 at3-spec =

@@ -1,20 +1,21 @@
 -- `step7`, with what the calls answer put in.
 use borrow.Author.Needs.{needs}
-use Rattle.places.proofs.Rows.{step7}
+use Rattle.places.proofs.OnRows.{step7}
 use Rattle.places.proofs.at7.Statement.{statement}
 use Rattle.places.proofs.at7.Tie as tie
 
 returns : tie.Need-returns
 returns c =
-    let b = c .before .before .before .before in
-    let a = b .before .before .before .before .before .args in
+    let end = c .before .before .before .before in
+    let anchor = end .before .before in
+    let a = anchor .before .before .before .args in
     rw (
       c .reads-link .ensures,
       c .before .next2 .ensures,
       c .before .before .next .ensures,
       c .before .before .before .link-at .ensures,
-      b .near .ensures,
-      b .before .before .unpack .ensures,
+      end .near .ensures,
+      anchor .unpack .ensures,
     )
     (step7 (a .c) (a .r) (a .lefts .now) (a .rights .now))
 

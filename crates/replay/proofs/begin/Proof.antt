@@ -1,5 +1,4 @@
 -- The header, and a fresh run.
-use mathlib.Core.Path.{refl}
 use borrow.Author.Needs.{needs}
 use Rattle.rows.specs.Rows.{callOf, recordOf, recordsOf, upperOf, uppersOf}
 use Rattle.carry.specs.Page.{written}

@@ -3,10 +3,11 @@ use mathlib.Core.Path.{_≡_, refl, sym, ap, _∙_}
 use Prim.Native.Nat.{_-_}
 use native.Mathlib.Omega.{arith}
 use borrow.Author.Needs.{needs}
+use borrow.Author.Tests.{not-true, not-false}
 use lib.ListN.{length}
 use Rattle.carry.specs.Page.{Page, pageOf}
 use Rattle.replay.specs.Feed.{feedPage}
-use Rattle.replay.proofs.Loop.{negated, affirmed, goes-on, feed-rest, feed-last, feed-ended}
+use Rattle.replay.proofs.Loop.{goes-on, feed-rest, feed-last, feed-ended}
 use Rattle.replay.proofs.feed.Statement.{statement}
 use Rattle.replay.proofs.feed.Tie as tie
 
@@ -45,7 +46,7 @@ returns c =
     let turn = done (c .before) in
     let took = turn .take .ensures in
     took
-    ∙ feed-last _ _ (negated _ (test (c .before) .if1 .taken)) (ap (λ (x : Page). x .at) (sym took) ∙ c .if2 .taken)
+    ∙ feed-last _ _ (not-true _ (test (c .before) .if1 .taken)) (ap (λ (x : Page). x .at) (sym took) ∙ c .if2 .taken)
     ∙ test (c .before) .before .before .loop .inv .0
 
 loop-less : tie.Need-loop-less Inv-loop μ-loop
@@ -63,7 +64,7 @@ loop-again c =
     let inv = test (c .before) .before .before .loop .inv in
     let bytes = first (c .before) .args .bytes .now in (
       ap (feedPage bytes) took
-          ∙ feed-rest _ _ (negated _ (test (c .before) .if1 .taken)) (λ k. c .if2 .left (ap (λ (x : Page). x .at) took ∙ k))
+          ∙ feed-rest _ _ (not-true _ (test (c .before) .if1 .taken)) (λ k. c .if2 .left (ap (λ (x : Page). x .at) took ∙ k))
           ∙ inv .0,
       kept .0 ∙ inv .1,
       kept .1 .0 ∙ inv .2,
@@ -75,7 +76,7 @@ loop-again c =
     )
 
 returns-2 : tie.Need-returns-2 Inv-loop μ-loop
-returns-2 c = feed-ended _ _ (affirmed _ (c .if1 .left)) ∙ c .before .before .loop .inv .0
+returns-2 c = feed-ended _ _ (not-false _ (c .if1 .left)) ∙ c .before .before .loop .inv .0
 
 pub feed-spec : {M : Type 1} → statement M
 feed-spec =

@@ -5,7 +5,8 @@ use Prim.Native.Nat.{ℕ, _-_, _<_, _≤_}
 use native.Mathlib.Omega.{arith}
 use lib.ListN.{length, set, length-set}
 use Rattle.model.specs.declared.TaskRecord.{TaskRecord}
-use Rattle.model.specs.Tables.{zeroed, unused}
+use Rattle.model.specs.Tables.{unused}
+use Rattle.model.specs.Lists.{zeroed}
 use Rattle.rows.specs.Rows.{callOf, recordOf, recordsOf, upperOf, uppersOf}
 use Rattle.rows.proofs.Rows.{length-records, length-uppers, record-put, upper-put, one-more}
 use borrow.Author.Needs.{needs}

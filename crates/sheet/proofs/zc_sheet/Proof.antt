@@ -9,11 +9,12 @@ use Rattle.sheet.proofs.zc_sheet.Tie as tie
 
 returns : tie.Need-returns
 returns c next =
-    let p4 = c .before .before .before .before in
-    let p8 = p4 .before .before .before .before in
-    let s : Sheet = record { listed = p8 .before .args .listed .now; rules = p8 .before .args .rules .now } in
+    let lists = c .before .before .before .before in
+    let control = lists .before .before .before in
+    let a = control .before .before .args in
+    let s : Sheet = record { listed = a .listed .now; rules = a .rules .now } in
     c .sheet .ensures next ∙ ap (λ (k : Control). sheet
-    (tablesOf k (p8 .before .args .lefts .now) (p8 .before .args .rights .now) (p8 .before .args .labels .now) (p8 .before .args .marks .now) next) s)
+    (tablesOf k (a .lefts .now) (a .rights .now) (a .labels .now) (a .marks .now) next) s)
     (c .before .control-of .ensures)
 
 pub zc-sheet-spec : {M : Type 1} → statement M

@@ -1,7 +1,7 @@
 -- The first test that fails, or all of a push or of a pop.
 use mathlib.Core.Path.{sym, _∙_}
 use borrow.Author.Tests.{eq-eqb, ne-eqb, not-true, not-false}
-use Rattle.sound.specs.Parts.{earlyCall}
+use Rattle.sound.specs.Records.{earlyCall}
 use Rattle.sound.proofs.Early.{pops}
 use Rattle.sound.proofs.early_call.Statement.{statement}
 use Rattle.sound.proofs.early_call.Tie as tie

@@ -3,7 +3,7 @@ use mathlib.Core.Path.{_≡_, sym, ap, _∙_}
 use mathlib.Core.Bool.{Bool, true}
 use borrow.Author.Tests.{not-true, not-false}
 use Rattle.word.specs.Anchor.{anchorOf}
-use Rattle.sound.specs.Parts.{earlySeen}
+use Rattle.sound.specs.Records.{earlySeen}
 use Rattle.sound.proofs.Early.{equal-late, equal-soon, left-out, right-out, apart-late, apart-soon}
 use Rattle.sound.proofs.early_seen.Statement.{statement}
 use Rattle.sound.proofs.early_seen.Tie as tie

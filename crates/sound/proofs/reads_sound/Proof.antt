@@ -1,6 +1,6 @@
 -- The tests are the definition's, in its order.
 use mathlib.Core.Bool.{and-assoc}
-use Rattle.sound.specs.Parts.{readsSound}
+use Rattle.sound.specs.Records.{readsSound}
 use Rattle.sound.proofs.reads_sound.Statement.{statement}
 use Rattle.sound.proofs.reads_sound.Tie as tie
 

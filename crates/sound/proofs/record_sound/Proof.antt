@@ -1,5 +1,5 @@
 -- The two parts are the definition's tests.
-use Rattle.sound.specs.Parts.{parts}
+use Rattle.sound.specs.Records.{parts}
 use Rattle.sound.proofs.record_sound.Statement.{statement}
 use Rattle.sound.proofs.record_sound.Tie as tie
 

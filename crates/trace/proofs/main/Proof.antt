@@ -1,20 +1,23 @@
--- The tables are all zero, and the output has room for a field.
+-- The tables are all zero; the input is as long as the longest field, and the output has room for the lines of one.
 use Prim.Native.Nat.{ℕ, _≤_}
 use mathlib.Core.Path.{_≡_, refl}
-use mathlib.Core.List.{List}
+use mathlib.Core.Bool.{true}
 use native.Mathlib.Omega.{arith}
+use lib.Dec.{leb}
 use lib.ListN.{length, replicate, length-replicate}
 use borrow.Author.Needs.{needs}
+use borrow.Author.Tests.{leb-true}
+use Rattle.runfile.specs.Field.{longestField}
 use Rattle.carry.specs.Page.{fieldRoom}
 use Rattle.trace.proofs.main.Statement.{statement}
 use Rattle.trace.proofs.main.Tie as tie
 
-roomy : (l : List ℕ) (n : ℕ) → length l ≡ n → fieldRoom ≤ n → fieldRoom ≤ length l
-roomy l n e h = omega (arith, e, h)
+roomy : (m n : ℕ) → leb m n ≡ true → m ≤ length (replicate {A = ℕ} n 0)
+roomy m n e = omega (arith, length-replicate {A = ℕ} n 0, leb-true m n e)
 
 rounds-requires : tie.Need-rounds-requires
 rounds-requires c κs =
-    (roomy (replicate 589824 0) 589824 (length-replicate {A = ℕ} 589824 0) (omega arith), (refl, refl, refl, refl, refl, refl))
+    (roomy longestField 65536 refl, (roomy fieldRoom 589824 refl, (refl, refl, refl, refl, refl, refl)))
 
 pub main-spec : {M : Type 1} → statement M
 main-spec =

@@ -1,18 +1,13 @@
 -- What was read stands within the buffer, which keeps its length; what is left of it falls.
-use mathlib.Core.Bool.{Bool, true, false, _||_}
 use mathlib.Core.Path.{_≡_, refl, _∙_}
 use Prim.Native.Nat.{_-_, _≤_}
 use native.Mathlib.Omega.{arith}
 use lib.ListN.{length}
 use borrow.Author.Needs.{needs}
 use borrow.Author.Tests.{leb-false}
-use Rattle.model.proofs.tests.Truth.{not-both}
+use Rattle.model.proofs.tests.Truth.{or-false}
 use Rattle.verdict.proofs.read_all.Statement.{statement}
 use Rattle.verdict.proofs.read_all.Tie as tie
-
-second-false : (a b : Bool) → a || b ≡ false → b ≡ false
-second-false true b e = absurd (not-both refl e)
-second-false false b e = e
 
 abbrev Inv-loop : tie.InvT-loop
 Inv-loop input₀ have₀ input have = (have ≤ length input) × (length input ≡ length input₀)
@@ -43,7 +38,7 @@ loop-less c =
     let d = c .before .before .before .before in
     let more = d .read-more in
     let at = d .before .before .before .loop in
-    let grown = leb-false (more .result .have) (at .have) (second-false (more .result .failed) _ (c .if1 .left)) in
+    let grown = leb-false (more .result .have) (at .have) (or-false (more .result .failed) _ (c .if1 .left) .1) in
     let same = at .inv .1 in
     omega (arith, more .ensures)
 

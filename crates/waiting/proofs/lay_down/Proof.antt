@@ -9,7 +9,7 @@ use Rattle.word.specs.Link.{linkOf}
 use Rattle.model.specs.declared.Entry.{Entry}
 use Rattle.waiting.specs.Waiting.{slotsOf, labelsOf}
 use Rattle.waiting.specs.Trail.{trail, downward}
-use Rattle.waiting.proofs.Turns.{down-more, down-last}
+use Rattle.waiting.proofs.Storing.{down-more, down-last}
 use Rattle.waiting.proofs.lay_down.Statement.{statement}
 use Rattle.waiting.proofs.lay_down.Tie as tie
 

@@ -10,7 +10,7 @@ use Rattle.word.specs.Link.{linkOf}
 use Rattle.model.specs.declared.Entry.{Entry}
 use Rattle.waiting.specs.Waiting.{slotsOf, labelsOf}
 use Rattle.waiting.specs.Trail.{trail}
-use Rattle.waiting.proofs.Turns.{up-first, up-more, up-last}
+use Rattle.waiting.proofs.Storing.{up-first, up-more, up-last}
 use Rattle.waiting.proofs.lay_up.Statement.{statement}
 use Rattle.waiting.proofs.lay_up.Tie as tie
 

@@ -7,31 +7,34 @@ use lib.Dec.{eqb}
 use borrow.Author.Tests.{eq-eqb, ne-eqb}
 use Rattle.word.specs.declared.Anchor.{Anchor}
 use Rattle.word.specs.Anchor.{anchorOf}
-use Rattle.model.specs.Tables.{Tables, isEmpty, tablesOf}
+use Rattle.model.specs.Tables.{Tables, tablesOf}
 use Rattle.model.specs.Walk.{along}
+use Rattle.model.specs.Sides.{isEmpty}
 use Rattle.walk.specs.declared.Tally.{Tally}
 use Rattle.walk.specs.Counted.{counted}
-use Rattle.walk.proofs.Turns.{empty}
+use Rattle.walk.proofs.SlotBySlot.{empty}
 use Rattle.walk.proofs.Counting.{count-left, count-right}
 use Rattle.walk.proofs.waiting.Statement.{statement}
 use Rattle.walk.proofs.waiting.Tie as tie
 
--- The tables, whatever their labels, marks and next rows.
-abbrev tables : tie.After-unpack → List ℕ → List ℕ → List ℕ → Tables
-tables u labels marks next =
-    let a = u .before .before .before .args in
-    tablesOf (a .c) (a .lefts .now) (a .rights .now) labels marks next
+module _ (u : tie.After-unpack) where
+  abbrev start : tie.Start
+  start = u .before .before .before
 
--- The walk along some links of them, with the Anchor as unpacked.
-abbrev found : tie.After-unpack → List ℕ → List ℕ → (Anchor → ℕ) → (Anchor → ℕ) → Anchor → Tally
-found u links labels last first a = let slots = u .before .before .before .args .c .slots in counted (along slots links labels (last a) slots (first a))
+  -- The tables, whatever their labels, marks and next rows.
+  abbrev tables : List ℕ → List ℕ → List ℕ → Tables
+  tables labels marks next = let a = start .args in tablesOf (a .c) (a .lefts .now) (a .rights .now) labels marks next
+
+  -- The walk along some links of them, with the Anchor as unpacked.
+  abbrev found : List ℕ → List ℕ → (Anchor → ℕ) → (Anchor → ℕ) → Anchor → Tally
+  found links labels last first a = let slots = start .args .c .slots in counted (along slots links labels (last a) slots (first a))
+
+  status : eqb (u .unpack .result .status) 2 ≡ eqb (anchorOf (start .args .c .anchor) .status) 2
+  status = ap (λ (a : Anchor). eqb (a .status) 2) (u .unpack .ensures)
 
 -- Not empty, as unpacked and so as it is.
-filled : (c : tie.Else1) → isEmpty (anchorOf (c .before .before .before .before .before .before .args .c .anchor)) ≡ false
-filled c = sym (ap isEmpty (c .before .before .before .unpack .ensures)) ∙ c .if1 .left
-
-status : (u : tie.After-unpack) → eqb (u .unpack .result .status) 2 ≡ eqb (anchorOf (u .before .before .before .args .c .anchor) .status) 2
-status u = ap (λ (a : Anchor). eqb (a .status) 2) (u .unpack .ensures)
+filled : (e : tie.Else1) → (let u = e .before .before .before in isEmpty (anchorOf (start u .args .c .anchor)) ≡ false)
+filled e = sym (ap isEmpty (e .before .before .before .unpack .ensures)) ∙ e .if1 .left
 
 returns : tie.Need-returns
 returns c labels marks next =

@@ -7,7 +7,7 @@ use borrow.Author.Needs.{needs}
 use lib.ListN.{length}
 use lib.Seq.{slice}
 use Rattle.audit_model.specs.Audit.{allOf, apart}
-use Rattle.audit_model.specs.Words.{callsIn}
+use Rattle.audit_model.specs.LentHistory.{callsIn}
 use Rattle.audit.proofs.Loops.{all-done, all-next}
 use Rattle.audit.proofs.WordsRead.{count-is}
 use Rattle.audit.proofs.calls.apart_from.Statement.{statement}
@@ -22,10 +22,10 @@ abbrev μ-loop : tie.MeasureT-loop
 
 loop-again : tie.Need-loop-again Inv-loop μ-loop
 loop-again k =
-    let back4 = k .before .before .before .before in
-    let at = k .before .before .before .loop in
+    let turn = k .before .before .before in
+    let at = turn .loop in
     let less = k .before .before .loop-test .taken in
-    let args = back4 .before .args in
+    let args = turn .before .before .args in
     let ws = args .words .now in
     let len = count-is ws in
     let inv = at .inv in (

@@ -7,8 +7,9 @@ use Rattle.audit.proofs.calls.call_at.Tie as tie
 
 returns : tie.Need-returns
 returns c =
-    let back4 = c .before .before .before .before in
-    let start = back4 .before .before .before in read-is (start .args .words .now) (start .args .i) (start .pre)
+    let half = c .before .before .before .before in
+    let start = half .before .before .before in
+    read-is (start .args .words .now) (start .args .i) (start .pre)
 
 pub call-at-spec : {M : Type 1} → statement M
 call-at-spec =

@@ -1,6 +1,6 @@
 -- As many numbers as calls, each of a call, none twice.
 use borrow.Author.Needs.{needs}
-use Rattle.audit.proofs.Whole.{another-length, same-length}
+use Rattle.audit.proofs.Verdicts.{another-length, same-length}
 use Rattle.audit.proofs.order.is_rearranged.Statement.{statement}
 use Rattle.audit.proofs.order.is_rearranged.Tie as tie
 

@@ -19,10 +19,10 @@ abbrev μ-loop : tie.MeasureT-loop
 
 loop-again : tie.Need-loop-again Inv-loop μ-loop
 loop-again c =
-    let back4 = c .before .before .before .before in
-    let at = c .before .before .before .loop in
+    let turn = c .before .before .before in
+    let at = turn .loop in
     let less = c .before .before .loop-test .taken in
-    let l = back4 .before .args .order .now in
+    let l = turn .before .before .args .order .now in
     let inv = at .inv in (
       omega arith,
       inv .1,

@@ -3,7 +3,7 @@ use mathlib.Core.Path.{sym, _∙_}
 use borrow.Author.Needs.{needs}
 use Rattle.model.specs.Sound.{rowsFit}
 use Rattle.sound.specs.Lengths.{lengthsFit}
-use Rattle.calls.proofs.Parts.{accepted, refused-parts, opened-parts}
+use Rattle.calls.proofs.Openings.{accepted, refused-parts, opened-parts}
 use Rattle.calls.proofs.opening.open_tables.Statement.{statement}
 use Rattle.calls.proofs.opening.open_tables.Tie as tie
 

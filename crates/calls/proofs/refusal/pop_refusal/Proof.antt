@@ -1,13 +1,11 @@
 -- The tests that only a push is asked pass.
 use Rattle.model.specs.Sound.{rowsFit}
 use Rattle.sound.specs.Lengths.{lengthsFit}
-use Rattle.model.specs.Refusals.{popRefusal}
-use Rattle.calls.specs.Rules.{testsRefusal, startRefusal}
 use Rattle.calls.proofs.refusal.pop_refusal.Statement.{statement}
 use Rattle.calls.proofs.refusal.pop_refusal.Tie as tie
 
 returns : tie.Need-returns
-unfolding popRefusal startRefusal testsRefusal rowsFit lengthsFit
+unfolding rowsFit lengthsFit
 returns c = c .start-refusal .ensures
 
 pub pop-refusal-spec : {M : Type 1} → statement M

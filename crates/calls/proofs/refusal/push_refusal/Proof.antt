@@ -1,13 +1,11 @@
 -- The tests that only a push is asked are what each call ensures of them.
 use Rattle.model.specs.Sound.{rowsFit}
 use Rattle.sound.specs.Lengths.{lengthsFit}
-use Rattle.model.specs.Refusals.{pushRefusal}
-use Rattle.calls.specs.Rules.{testsRefusal, startRefusal}
 use Rattle.calls.proofs.refusal.push_refusal.Statement.{statement}
 use Rattle.calls.proofs.refusal.push_refusal.Tie as tie
 
 returns : tie.Need-returns
-unfolding pushRefusal startRefusal testsRefusal rowsFit lengthsFit
+unfolding rowsFit lengthsFit
 returns c = rw (c .start-refusal .ensures, c .before .before .marked .ensures, c .before .before .before .from1 .ensures)
 
 pub push-refusal-spec : {M : Type 1} → statement M

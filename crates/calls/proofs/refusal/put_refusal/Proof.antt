@@ -1,13 +1,11 @@
 -- The tests that only a push is asked pass, or tell the two sorts of queue apart.
 use Rattle.model.specs.Sound.{rowsFit}
 use Rattle.sound.specs.Lengths.{lengthsFit}
-use Rattle.model.specs.Refusals.{putRefusal}
-use Rattle.calls.specs.Rules.{testsRefusal, startRefusal}
 use Rattle.calls.proofs.refusal.put_refusal.Statement.{statement}
 use Rattle.calls.proofs.refusal.put_refusal.Tie as tie
 
 returns : tie.Need-returns
-unfolding putRefusal startRefusal testsRefusal rowsFit lengthsFit
+unfolding rowsFit lengthsFit
 returns c = c .start-refusal .ensures
 
 pub put-refusal-spec : {M : Type 1} → statement M

@@ -1,19 +1,15 @@
--- Each test is what its call ensures.
-use Rattle.calls.specs.Rules.{startRefusal}
+-- What every call is asked first, then what a start is asked.
+use Rattle.calls.proofs.InOrder.{turned-away, then-asked}
 use Rattle.calls.proofs.refusal.start_refusal.Statement.{statement}
 use Rattle.calls.proofs.refusal.start_refusal.Tie as tie
 
 returns : tie.Need-returns
-unfolding startRefusal
-returns c =
-    let calls = c .before .before in
-    rw (
-      c .tests-refusal .ensures,
-      calls .late .ensures,
-      calls .before .record-sound .ensures,
-      calls .before .before .rows-fit .ensures,
-      calls .before .before .before .control-sound .ensures,
-    )
+returns c = turned-away _ _ _ _ _ _ _ (c .before .admission .ensures) (c .if1 .taken)
+
+returns-2 : tie.Need-returns-2
+returns-2 c =
+    let admitted = c .before in
+    then-asked _ _ _ _ _ _ _ (admitted .before .admission .ensures) (admitted .if1 .left) _ (c .asked-refusal .ensures)
 
 pub start-refusal-spec : {M : Type 1} → statement M
-start-refusal-spec = tie.close (tie.spec (λ _ _. tt) (λ _ _. tt) (λ _ _. tt) (λ _ _. tt) (λ _ _. tt) returns)
+start-refusal-spec = tie.close (tie.spec (λ _ _. tt) returns (λ _ _. tt) returns-2)

@@ -13,19 +13,19 @@ use Rattle.calls.proofs.report.told.Statement.{statement}
 use Rattle.calls.proofs.report.told.Tie as tie
 
 -- What the call was given, where the first two rules have been tried.
-abbrev start : tie.After-report-refusal → tie.Start
+abbrev start : tie.After-table-refusal → tie.Start
 start r = let lists = r .before .before .before in lists .before .before .before .before
 
-abbrev tables : tie.After-report-refusal → Tables
+abbrev tables : tie.After-table-refusal → Tables
 tables r = let a = start r .args in tablesOf (a .c) (a .lefts .now) (a .rights .now) (a .labels .now) (a .marks .now) (a .next .now)
 
-abbrev enough : tie.After-report-refusal → Bool
+abbrev enough : tie.After-table-refusal → Bool
 enough r = leb (start r .args .c .tasks) (start r .args .records)
 
 -- The number found is the first two rules'.
-found : (r : tie.After-report-refusal) → r .report-refusal .result ≡ why (tables r) (enough r) (start r .args .busy)
+found : (r : tie.After-table-refusal) → r .table-refusal .result ≡ why (tables r) (enough r) (start r .args .busy)
 unfolding lengthsFit rowsFit
-found r = r .report-refusal .ensures
+found r = r .table-refusal .ensures
 
 returns : tie.Need-returns
 returns c = let r = c .before in refused (tables r) (enough r) (start r .args .busy) _ (found r) (c .if1 .taken)

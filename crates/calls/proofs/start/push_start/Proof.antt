@@ -23,7 +23,7 @@ returns-2 c =
       c .decided2 .ensures,
       marked .set-mark .ensures,
       stored .put-label .ensures,
-      test .before .begun .ensures,
+      test .before .new-call .ensures,
       ← why .ensures,
       eq-eqb (why .result) 0 (test .if1 .left),
     )

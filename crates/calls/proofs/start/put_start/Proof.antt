@@ -1,6 +1,6 @@
 -- What each call ensures; the number decides.
 use Rattle.model.specs.Calls.{putStart}
-use Rattle.calls.specs.Starting.{begun}
+use Rattle.model.specs.Tables.{newCall}
 use Rattle.calls.proofs.Starts.{on-tables}
 use Rattle.calls.proofs.start.put_start.Statement.{statement}
 use Rattle.calls.proofs.start.put_start.Tie as tie
@@ -10,10 +10,11 @@ unfolding putStart
 returns c =
     let why = c .before .before .put-refusal in
     let lent = c .before .before .before .before in
-    let a = lent .before .before .before .before .before .before .args in
+    let asked = lent .before .before .before in
+    let a = asked .before .before .before .args in
     λ n.
-    rw (c .decided .ensures, c .before .begun .ensures, ← why .ensures)
-    (on-tables (a .c) (record { call = a .r; retries = n }) (why .result) (begun 12 0 (a .side) 0 (a .label)) (a .lefts .now) (a .rights .now)
+    rw (c .decided .ensures, c .before .new-call .ensures, ← why .ensures)
+    (on-tables (a .c) (record { call = a .r; retries = n }) (why .result) (newCall 12 0 (a .side) 0 (a .label)) (a .lefts .now) (a .rights .now)
     (a .labels .now) (a .marks .now) (a .next .now))
 
 pub put-start-spec : {M : Type 1} → statement M

@@ -2,7 +2,7 @@
 use native.Mathlib.Omega.{arith}
 use borrow.Author.Needs.{needs}
 use Rattle.carry.specs.Page.{written, answered}
-use Rattle.carry.proofs.Turns.{put-fits}
+use Rattle.carry.proofs.AfterActs.{put-fits}
 use Rattle.carry.proofs.acts.answer.Statement.{statement}
 use Rattle.carry.proofs.acts.answer.Tie as tie
 

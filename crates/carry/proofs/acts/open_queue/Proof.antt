@@ -1,12 +1,12 @@
 -- The opening's parts with the records cleared are the opening; then its line.
-use mathlib.Core.Path.{refl, sym, subst}
+use mathlib.Core.Path.{sym, subst}
 use lib.ListN.{length}
 use Prim.Native.Nat.{_≤_}
 use borrow.Author.Needs.{needs}
 use Rattle.calls.specs.Opening.{OpenedParts}
-use Rattle.calls.proofs.Parts.{clear-fits}
+use Rattle.calls.proofs.Openings.{clear-fits}
 use Rattle.rows.proofs.Rows.{length-records}
-use Rattle.carry.proofs.Turns.{put-fits, open-page}
+use Rattle.carry.proofs.AfterActs.{put-fits, open-page}
 use Rattle.carry.proofs.acts.open_queue.Statement.{statement}
 use Rattle.carry.proofs.acts.open_queue.Tie as tie
 

@@ -1,7 +1,7 @@
 -- An operation of the task's record, or of an idle one where there is no such task, answered.
 use mathlib.Core.Path.{refl}
 use borrow.Author.Needs.{needs}
-use Rattle.carry.proofs.Turns.{operate-page}
+use Rattle.carry.proofs.AfterActs.{operate-page}
 use Rattle.carry.proofs.acts.operate.Statement.{statement}
 use Rattle.carry.proofs.acts.operate.Tie as tie
 

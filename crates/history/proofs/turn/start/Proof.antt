@@ -7,7 +7,7 @@ use Rattle.model.specs.Calls.{act}
 use Rattle.rows.specs.Rows.{queueIn, uppersOf}
 use Rattle.capi.specs.Replies.{Replied, replied}
 use Rattle.history.specs.Serving.{writesRow}
-use Rattle.history.proofs.Turns.{a-push, a-pop, a-put}
+use Rattle.history.proofs.Served.{a-push, a-pop, a-put}
 use Rattle.history.proofs.turn.start.Statement.{statement}
 use Rattle.history.proofs.turn.start.Tie as tie
 
@@ -25,7 +25,8 @@ module _ (test : tie.After-struct-known2) where
 
 returns : tie.Need-returns
 returns c =
-    let done = c .before .before .before .before .before in
+    let back = c .before .before in
+    let done = back .before .before .before in
     let test = done .before .before .before .before in
     done .zc-push .ensures ∙ ap (answer (test .before)) (sym (a-push _ _ _ _ (test .if1 .taken)))
 

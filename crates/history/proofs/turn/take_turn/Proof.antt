@@ -6,7 +6,7 @@ use Rattle.model.specs.Calls.{act}
 use Rattle.rows.specs.Rows.{queueIn, uppersOf}
 use Rattle.capi.specs.Replies.{Replied, replied}
 use Rattle.history.specs.Serving.{writesRow}
-use Rattle.history.proofs.Turns.{a-step}
+use Rattle.history.proofs.Served.{a-step}
 use Rattle.history.proofs.turn.take_turn.Statement.{statement}
 use Rattle.history.proofs.turn.take_turn.Tie as tie
 

@@ -1,6 +1,9 @@
 -- No number, no room, or one number more.
 use borrow.Author.Needs.{needs}
+use mathlib.Core.Path.{refl}
+use Prim.Native.Nat.{_+_}
 use native.Mathlib.Omega.{arith}
+use lib.Seq.{drop-set-lt}
 use Rattle.historyfile.proofs.Keeping.{none-fits, none-given, one-more}
 use Rattle.historyfile.proofs.judge.keep.Statement.{statement}
 use Rattle.historyfile.proofs.judge.keep.Tie as tie
@@ -9,20 +12,22 @@ returns : tie.Need-returns
 returns c =
     let start = c .before in
     let a = start .args in
-    (none-given (a .values .now) (a .count) (a .value) (a .gives) (start .pre) (c .if1 .taken), search needs)
+    (none-given (a .values .now) (a .count) (a .value) (a .gives) (start .pre) (c .if1 .taken), (search needs, refl))
 
 returns-2 : tie.Need-returns-2
 returns-2 c =
     let start = c .before .before in
     let a = start .args in
-    (none-fits (a .values .now) (a .count) (a .value) (a .gives) (start .pre) (c .before .if1 .left) (c .if2 .taken), search needs)
+    (none-fits (a .values .now) (a .count) (a .value) (a .gives) (start .pre) (c .before .if1 .left) (c .if2 .taken), (search needs, refl))
 
 returns-3 : tie.Need-returns-3
 returns-3 c =
     let start = c .before .before in
     let a = start .args in
-    let fits = c .if2 .left in
-    (one-more (a .values .now) (a .count) (a .value) (a .gives) (start .pre) (c .before .if1 .left) (omega arith), search needs)
+    let fits = c .if2 .left in (
+      one-more (a .values .now) (a .count) (a .value) (a .gives) (start .pre) (c .before .if1 .left) (omega arith),
+      (search needs, drop-set-lt (a .count + 1) (a .values .now) (a .count) (a .value) (omega arith)),
+    )
 
 pub keep-spec : {M : Type 1} → statement M
 keep-spec =

@@ -21,12 +21,16 @@ returns c =
     let v = a .values .now in
     let v′ = keep .last .1 .1 .1 .0 in
     let count = keep .result in
-    let more = keep .ensures .1 .0 in
-    let fits : count ≤ length v′ = let same = keep .kept .1 .1 .1 .0 in let h = keep .ensures .1 .1 in omega arith in
+    let within = keep .ensures .1 .0 in
+    let more = within .0 in
+    let fits : count ≤ length v′ = let same = keep .kept .1 .1 .1 .0 in let h = within .1 in omega arith in
     let part = calls-part (step .result .scan .column) count (a .s .calls) (let h = start .pre .1 .part in omega arith) in (
       one-on (length v) count (a .s .calls) (then .result) (step .result) _ (a .s .scan) (take (a .s .count) v) (take count v′)
           (step .ensures) (keep .ensures .0) (length-take-le count v′ fits) (then .ensures),
-      record { fits = keep .ensures .1 .1; part = subst (λ (n : ℕ). n ≤ count) (sym (then .ensures)) part },
+      (
+        record { fits = within .1; part = subst (λ (n : ℕ). n ≤ count) (sym (then .ensures)) part },
+        (more, keep .ensures .1 .1),
+      ),
     )
 
 pub take-byte-spec : {M : Type 1} → statement M

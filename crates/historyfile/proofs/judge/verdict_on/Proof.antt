@@ -2,7 +2,7 @@
 use mathlib.Core.Path.{sym, _∙_}
 use lib.Seq.{length-take-le, take-take}
 use Rattle.audit_model.specs.Audit.{verdict}
-use Rattle.audit_model.specs.Words.{callsIn}
+use Rattle.audit_model.specs.LentHistory.{callsIn}
 use Rattle.historyfile.proofs.Keeping.{part-is}
 use borrow.Author.Needs.{needs}
 use Rattle.historyfile.proofs.judge.verdict_on.Statement.{statement}
@@ -10,18 +10,6 @@ use Rattle.historyfile.proofs.judge.verdict_on.Tie as tie
 
 slice-aggregate-audit-words : tie.Need-slice-aggregate-audit-words
 slice-aggregate-audit-words c = sym (length-take-le _ _ (search needs))
-
-mul-audit-words : tie.Need-mul-audit-words
-mul-audit-words c = search needs
-
-sub-audit-words : tie.Need-sub-audit-words
-sub-audit-words c = search needs
-
-part-audit-words-start : tie.Need-part-audit-words-start
-part-audit-words-start c = search needs
-
-part-audit-words-end : tie.Need-part-audit-words-end
-part-audit-words-end c = search needs
 
 returns : tie.Need-returns
 returns c =
@@ -37,9 +25,9 @@ verdict-on-spec =
     tie.close
     (tie.spec
     slice-aggregate-audit-words
-    mul-audit-words
-    sub-audit-words
-    part-audit-words-start
-    part-audit-words-end
+    (λ c. search needs)
+    (λ c. search needs)
+    (λ c. search needs)
+    (λ c. search needs)
     (λ c κs. search needs)
     returns)

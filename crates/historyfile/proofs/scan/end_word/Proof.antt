@@ -17,63 +17,68 @@ returns-2 c = rw (c .before .before .before .if1 .left, eq-eqb _ 2 (c .before .i
 returns-3 : tie.Need-returns-3
 unfolding ended
 returns-3 c =
-    let back4 = c .before .before .before .before in
-    rw (back4 .before .if1 .left, ne-eqb _ 2 (c .before .before .before .if2 .left), eq-eqb _ 7 (c .before .if3 .taken)) (c .fails2 .ensures)
+    let small = c .before .before .before in
+    rw (small .before .before .if1 .left, ne-eqb _ 2 (small .if2 .left), eq-eqb _ 7 (c .before .if3 .taken)) (c .fails2 .ensures)
 
 returns-4 : tie.Need-returns-4
 unfolding ended
 returns-4 c =
-    let back4 = c .before .before .before .before in
+    let within = c .before .before .before in
+    let small = within .before .before in
     rw (
-      back4 .before .before .before .if1 .left,
-      ne-eqb _ 2 (back4 .before .if2 .left),
-      ne-eqb _ 7 (c .before .before .before .if3 .left),
+      small .before .before .if1 .left,
+      ne-eqb _ 2 (small .if2 .left),
+      ne-eqb _ 7 (within .if3 .left),
       eq-eqb _ 1 (c .before .if4 .taken),
     ) (c .gives .ensures)
 
 returns-5 : tie.Need-returns-5
 unfolding ended
 returns-5 c =
-    let back4 = c .before .before .before .before in
-    let back8 = back4 .before .before .before .before in
+    let text = c .before .before .before .before in
+    let within = text .before .before in
+    let small = within .before .before in
     rw (
-      back8 .before .before .if1 .left,
-      ne-eqb _ 2 (back8 .if2 .left),
-      ne-eqb _ 7 (back4 .before .before .if3 .left),
-      ne-eqb _ 1 (back4 .if4 .left),
+      small .before .before .if1 .left,
+      ne-eqb _ 2 (small .if2 .left),
+      ne-eqb _ 7 (within .if3 .left),
+      ne-eqb _ 1 (text .if4 .left),
       c .before .if5 .taken,
     ) (c .passes2 .ensures)
 
 returns-6 : tie.Need-returns-6
 unfolding ended
 returns-6 c =
-    let back4 = c .before .before .before .before in
-    let back8 = back4 .before .before .before .before in
-    let back12 = back8 .before .before .before .before in
+    let value = c .before .before in
+    let text = value .before .before .before .before in
+    let within = text .before .before in
+    let small = within .before .before in
     rw (
-      back12 .if1 .left,
-      ne-eqb _ 2 (back8 .before .before .if2 .left),
-      ne-eqb _ 7 (back8 .if3 .left),
-      ne-eqb _ 1 (back4 .before .before .if4 .left),
-      c .before .before .before .if5 .left,
-      eq-eqb _ 9 (sym (c .before .before .value-of .ensures) ∙ c .before .if6 .taken),
+      small .before .before .if1 .left,
+      ne-eqb _ 2 (small .if2 .left),
+      ne-eqb _ 7 (within .if3 .left),
+      ne-eqb _ 1 (text .if4 .left),
+      value .before .if5 .left,
+      eq-eqb _ 9 (sym (value .value-of .ensures) ∙ c .before .if6 .taken),
     ) (c .fails3 .ensures)
 
 returns-7 : tie.Need-returns-7
 unfolding ended
 returns-7 c =
-    let back4 = c .before .before .before .before in
-    let back8 = back4 .before .before .before .before in
-    let back12 = back8 .before .before .before .before in
+    let value = c .before .before in
+    let text = value .before .before .before .before in
+    let within = text .before .before in
+    let small = within .before .before in
+    let some = small .before .before in
     rw (
-      back12 .if1 .left,
-      ne-eqb _ 2 (back8 .before .before .if2 .left),
-      ne-eqb _ 7 (back8 .if3 .left),
-      ne-eqb _ 1 (back4 .before .before .if4 .left),
-      c .before .before .before .if5 .left,
-      ne-eqb _ 9 (λ z. c .before .if6 .left (c .before .before .value-of .ensures ∙ z)),
+      some .if1 .left,
+      ne-eqb _ 2 (small .if2 .left),
+      ne-eqb _ 7 (within .if3 .left),
+      ne-eqb _ 1 (text .if4 .left),
+      value .before .if5 .left,
+      ne-eqb _ 9 (λ z. c .before .if6 .left (value .value-of .ensures ∙ z)),
     )
-    (c .gives2 .ensures ∙ ap (given (back12 .before .before .before .args .s)) (c .before .before .value-of .ensures))
+    (c .gives2 .ensures ∙ ap (given (some .before .before .before .args .s)) (value .value-of .ensures))
 
 pub end-word-spec : {M : Type 1} → statement M
 end-word-spec =

@@ -1,19 +1,30 @@
 -- Each return is one case of `grown`: the tests that led there rewrite it.
-use mathlib.Core.Path.{sym, _∙_}
-use Prim.Native.Nat.{_-_, _≤_}
+use mathlib.Core.Bool.{true}
+use mathlib.Core.Path.{_≡_, sym, _∙_}
+use Prim.Native.Nat.{_+_, _-_, _*_, _<_}
 use native.Mathlib.Omega.{arith}
 use borrow.Author.Tests.{le-ltb, lt-ltb, not-false, not-true}
-use Rattle.historyfile.specs.Text.{grown}
+use Rattle.historyfile.specs.Text.{isDigit, grown}
 use Rattle.historyfile.proofs.Digits.{digit-from, digit-to, room}
 use borrow.Author.Needs.{needs}
 use Rattle.historyfile.proofs.scan.grow.Statement.{statement}
 use Rattle.historyfile.proofs.scan.grow.Tie as tie
 
-mul-text : tie.Need-mul-text
-mul-text c = search needs
+module _ (digit : tie.Else1) where
+  abbrev start : tie.Start
+  start = digit .before .before .before
 
-add-text : tie.Need-add-text
-add-text c = search needs
+  a-digit : isDigit (start .args .b) ≡ true
+  a-digit = sym (digit .before .is-digit .ensures) ∙ not-false _ (digit .if1 .left)
+
+-- The number with the digit stays below 2 ^ 64.
+below : (fits : tie.Else3)
+    → (let a = start (fits .before .before .before .before) .args in a .s .number * 10 + (a .b - 48) < 18446744073709551616)
+below fits =
+    let digit = fits .before .before .before .before in
+    let a = start digit .args in
+    let to = digit-to (a .b) (a-digit digit) in
+    room (a .s .number) (a .b - 48) (omega arith) (sym (fits .before .has-room .ensures) ∙ not-false _ (fits .if3 .left))
 
 returns : tie.Need-returns
 unfolding grown
@@ -21,65 +32,44 @@ returns c = rw (sym (c .before .before .is-digit .ensures) ∙ not-true _ (c .be
 
 returns-2 : tie.Need-returns-2
 unfolding grown
-returns-2 c = rw (
-  sym (c .before .before .before .before .is-digit .ensures) ∙ not-false _ (c .before .before .before .if1 .left),
-  lt-ltb 1 _ (c .before .if2 .taken),
-) (c .under-way2 .ensures)
+returns-2 c = rw (a-digit (c .before .before .before), lt-ltb 1 _ (c .before .if2 .taken)) (c .under-way2 .ensures)
 
 sub-digit : tie.Need-sub-digit
-sub-digit c =
-    let back4 = c .before .before .before .before in
-    let e = sym (c .before .before .before .is-digit .ensures) ∙ not-false _ (c .before .before .if1 .left) in
-    omega (arith, digit-from (back4 .before .args .b) e)
+sub-digit c = let digit = c .before .before in omega (arith, digit-from (start digit .args .b) (a-digit digit))
 
 returns-3 : tie.Need-returns-3
 unfolding grown
 returns-3 c =
-    let back4 = c .before .before .before .before in
+    let short = c .before .before .before in
     rw (
-      sym (back4 .before .before .is-digit .ensures) ∙ not-false _ (back4 .before .if1 .left),
-      le-ltb 1 _ (c .before .before .before .if2 .left),
+      a-digit (short .before .before),
+      le-ltb 1 _ (short .if2 .left),
       sym (c .before .before .has-room .ensures) ∙ not-true _ (c .before .if3 .taken),
     ) (c .under-way3 .ensures)
 
 mul-number : tie.Need-mul-number
-mul-number c =
-    let back4 = c .before .before .before .before in
-    let back8 = back4 .before .before .before .before in
-    let args = back8 .args in
-    let e = sym (back4 .before .before .is-digit .ensures) ∙ not-false _ (back4 .before .if1 .left) in
-    let to = digit-to (args .b) e in
-    let digit : args .b - 48 ≤ 9 = omega arith in
-    let fine = room (args .s .number) (args .b - 48) digit (sym (c .before .before .has-room .ensures) ∙ not-false _ (c .before .if3 .left)) in
-    omega arith
+mul-number c = omega (arith, below (c .before))
 
 add-number : tie.Need-add-number
-add-number c =
-    let back4 = c .before .before .before .before in
-    let back8 = back4 .before .before .before .before in
-    let args = back8 .args in
-    let e = sym (back4 .before .before .is-digit .ensures) ∙ not-false _ (back4 .before .if1 .left) in
-    let to = digit-to (args .b) e in
-    let digit : args .b - 48 ≤ 9 = omega arith in
-    let fine = room (args .s .number) (args .b - 48) digit (sym (c .before .before .has-room .ensures) ∙ not-false _ (c .before .if3 .left)) in
-    omega arith
+add-number c = omega (arith, below (c .before))
 
 returns-4 : tie.Need-returns-4
 unfolding grown
 returns-4 c =
-    let back4 = c .before .before .before .before in
+    let fits = c .before .before in
+    let short = fits .before .before in
     rw (
-      sym (back4 .before .before .before .is-digit .ensures) ∙ not-false _ (back4 .before .before .if1 .left),
-      le-ltb 1 _ (back4 .if2 .left),
-      sym (c .before .before .before .has-room .ensures) ∙ not-false _ (c .before .before .if3 .left),
+      a-digit (short .before .before),
+      le-ltb 1 _ (short .if2 .left),
+      sym (fits .before .has-room .ensures) ∙ not-false _ (fits .if3 .left),
     ) (c .under-way4 .ensures)
 
 pub grow-spec : {M : Type 1} → statement M
 grow-spec =
     tie.close
     (tie.spec
-    mul-text
-    add-text
+    (λ c. search needs)
+    (λ c. search needs)
     (λ c κs. search needs)
     (λ c κs. search needs)
     returns

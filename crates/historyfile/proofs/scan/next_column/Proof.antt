@@ -5,9 +5,6 @@ use borrow.Author.Needs.{needs}
 use Rattle.historyfile.proofs.scan.next_column.Statement.{statement}
 use Rattle.historyfile.proofs.scan.next_column.Tie as tie
 
-add-result : tie.Need-add-result
-add-result c = search needs
-
 returns : tie.Need-returns
 unfolding nextColumn
 returns c = rw (lt-ltb _ 8 (c .if1 .taken))
@@ -17,4 +14,4 @@ unfolding nextColumn
 returns-2 c = rw (le-ltb _ 8 (c .if1 .left))
 
 pub next-column-spec : {M : Type 1} → statement M
-next-column-spec = tie.close (tie.spec add-result returns returns-2)
+next-column-spec = tie.close (tie.spec (λ c. search needs) returns returns-2)

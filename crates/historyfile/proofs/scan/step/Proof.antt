@@ -26,22 +26,22 @@ returns-3 c = rw (
 returns-4 : tie.Need-returns-4
 unfolding stepped
 returns-4 c =
-    let back4 = c .before .before .before .before in
+    let word = c .before .before .before in
     rw (
-      eq-eqb _ 0 (back4 .before .before .if1 .left),
-      ne-eqb _ 10 (back4 .before .if2 .left),
-      ne-eqb _ 4 (c .before .before .before .if3 .left),
+      eq-eqb _ 0 (word .before .before .before .if1 .left),
+      ne-eqb _ 10 (word .before .before .if2 .left),
+      ne-eqb _ 4 (word .if3 .left),
       eq-eqb _ 35 (c .before .before .if4 .taken),
     ) (c .begin-comment .ensures ∙ ap comment (c .before .end-word2 .ensures))
 
 returns-5 : tie.Need-returns-5
 unfolding stepped
 returns-5 c =
-    let back4 = c .before .before .before .before in
+    let word = c .before .before .before .before in
     rw (
-      eq-eqb _ 0 (back4 .before .before .before .if1 .left),
-      ne-eqb _ 10 (back4 .before .before .if2 .left),
-      ne-eqb _ 4 (back4 .if3 .left),
+      eq-eqb _ 0 (word .before .before .before .if1 .left),
+      ne-eqb _ 10 (word .before .before .if2 .left),
+      ne-eqb _ 4 (word .if3 .left),
       ne-eqb _ 35 (c .before .before .before .if4 .left),
       sym (c .before .before .is-blank .ensures) ∙ c .before .if5 .taken,
     ) (c .end-word3 .ensures)
@@ -49,13 +49,13 @@ returns-5 c =
 returns-6 : tie.Need-returns-6
 unfolding stepped
 returns-6 c =
-    let back4 = c .before .before .before .before in
-    let back8 = back4 .before .before .before .before in
+    let plain = c .before .before .before .before in
+    let word = plain .before in
     rw (
-      eq-eqb _ 0 (back8 .if1 .left),
-      ne-eqb _ 10 (back4 .before .before .before .if2 .left),
-      ne-eqb _ 4 (back4 .before .if3 .left),
-      ne-eqb _ 35 (back4 .if4 .left),
+      eq-eqb _ 0 (word .before .before .before .if1 .left),
+      ne-eqb _ 10 (word .before .before .if2 .left),
+      ne-eqb _ 4 (word .if3 .left),
+      ne-eqb _ 35 (plain .if4 .left),
       sym (c .before .before .before .is-blank .ensures) ∙ c .before .before .if5 .left,
     )
     (c .goes-on3 .ensures ∙ ap stays (c .before .grow .ensures))

@@ -1,4 +1,4 @@
--- Each return is one word of the list.
+-- Each return is one word of the list; `right` is where it is none of push, pop, left and right.
 use Rattle.historyfile.specs.Text.{valueOf}
 use Rattle.historyfile.proofs.scan.value_of.Statement.{statement}
 use Rattle.historyfile.proofs.scan.value_of.Tie as tie
@@ -21,29 +21,38 @@ returns-4 c = rw (c .before .before .before .if1 .left, c .before .before .if2 .
 
 returns-5 : tie.Need-returns-5
 unfolding valueOf
-returns-5 c = rw (
-  c .before .before .before .before .if1 .left,
-  c .before .before .before .if2 .left,
-  c .before .before .if3 .left,
-  c .before .if4 .left,
-  c .if5 .taken,
-)
+returns-5 c =
+    let right = c .before in
+    rw (
+      right .before .before .before .if1 .left,
+      right .before .before .if2 .left,
+      right .before .if3 .left,
+      right .if4 .left,
+      c .if5 .taken,
+    )
 
 returns-6 : tie.Need-returns-6
 unfolding valueOf
 returns-6 c =
-    let back4 = c .before .before .before .before in
-    rw (back4 .before .if1 .left, back4 .if2 .left, c .before .before .before .if3 .left, c .before .before .if4 .left, c .before .if5 .left, c .if6 .taken)
+    let right = c .before .before in
+    rw (
+      right .before .before .before .if1 .left,
+      right .before .before .if2 .left,
+      right .before .if3 .left,
+      right .if4 .left,
+      c .before .if5 .left,
+      c .if6 .taken,
+    )
 
 returns-7 : tie.Need-returns-7
 unfolding valueOf
 returns-7 c =
-    let back4 = c .before .before .before .before in
+    let right = c .before .before .before in
     rw (
-      back4 .before .before .if1 .left,
-      back4 .before .if2 .left,
-      back4 .if3 .left,
-      c .before .before .before .if4 .left,
+      right .before .before .before .if1 .left,
+      right .before .before .if2 .left,
+      right .before .if3 .left,
+      right .if4 .left,
       c .before .before .if5 .left,
       c .before .if6 .left,
       c .if7 .taken,
@@ -52,12 +61,12 @@ returns-7 c =
 returns-8 : tie.Need-returns-8
 unfolding valueOf
 returns-8 c =
-    let back4 = c .before .before .before .before in
+    let right = c .before .before .before .before in
     rw (
-      back4 .before .before .before .if1 .left,
-      back4 .before .before .if2 .left,
-      back4 .before .if3 .left,
-      back4 .if4 .left,
+      right .before .before .before .if1 .left,
+      right .before .before .if2 .left,
+      right .before .if3 .left,
+      right .if4 .left,
       c .before .before .before .if5 .left,
       c .before .before .if6 .left,
       c .before .if7 .left,
@@ -67,12 +76,12 @@ returns-8 c =
 returns-9 : tie.Need-returns-9
 unfolding valueOf
 returns-9 c =
-    let back4 = c .before .before .before .before in
+    let right = c .before .before .before .before in
     rw (
-      back4 .before .before .before .if1 .left,
-      back4 .before .before .if2 .left,
-      back4 .before .if3 .left,
-      back4 .if4 .left,
+      right .before .before .before .if1 .left,
+      right .before .before .if2 .left,
+      right .before .if3 .left,
+      right .if4 .left,
       c .before .before .before .if5 .left,
       c .before .before .if6 .left,
       c .before .if7 .left,

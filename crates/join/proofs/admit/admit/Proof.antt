@@ -7,12 +7,13 @@ use lib.Dec.{ltb}
 use lib.ListN.{length}
 use borrow.Author.Needs.{needs}
 use Rattle.model.specs.Tables.{Queue, queueOf}
-use Rattle.model.specs.Sound.{every, controlSound}
+use Rattle.model.specs.Sound.{controlSound}
 use Rattle.model.specs.Walk.{contents}
+use Rattle.model.specs.Lists.{every}
 use Rattle.walk.specs.Counted.{counted}
 use Rattle.rows.specs.Rows.{recordsOf}
 use Rattle.join_model.specs.Join.{thirdFits}
-use Rattle.join.specs.Rules.{testsRefusal}
+use Rattle.join.specs.Stages.{testsRefusal}
 use Rattle.join.specs.Admits.{walked, Admits}
 use Rattle.join.proofs.Admitting.{fits-is, why, turned-away, small, lost, met-all, decided}
 use Rattle.join.proofs.admit.admit.Statement.{statement}

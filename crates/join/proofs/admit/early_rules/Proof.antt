@@ -1,8 +1,8 @@
 -- The tests of the controls.
 use mathlib.Core.Path.{_∙_}
 use mathlib.Core.List.{[], _∷_}
-use Rattle.model.specs.Sound.{every}
-use Rattle.join.specs.Rules.{testsRefusal}
+use Rattle.model.specs.Lists.{every}
+use Rattle.join.specs.Stages.{testsRefusal}
 use Rattle.join.proofs.admit.early_rules.Statement.{statement}
 use Rattle.join.proofs.admit.early_rules.Tie as tie
 

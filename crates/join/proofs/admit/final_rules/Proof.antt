@@ -4,9 +4,9 @@ use mathlib.Core.List.{[], _∷_}
 use Prim.Native.Nat.{_+_}
 use lib.Dec.{ltb}
 use borrow.Author.Needs.{needs}
-use Rattle.model.specs.Sound.{every}
+use Rattle.model.specs.Lists.{every}
 use Rattle.join_model.specs.Closed.{lateFor}
-use Rattle.join.specs.Rules.{laterRefusal}
+use Rattle.join.specs.Stages.{laterRefusal}
 use Rattle.join.proofs.admit.final_rules.Statement.{statement}
 use Rattle.join.proofs.admit.final_rules.Tie as tie
 
@@ -16,7 +16,8 @@ returns c a b d e f g h i j k l =
     let third = anchor .before in
     let second = third .before in
     let first = second .before in
-    let given = first .before .before .before .before .before .args in
+    let lists = first .before in
+    let given = lists .before .before .before .before .args in
     c .later-refusal .ensures
     ∙ (λ z. laterRefusal
     (every (first .at-rest .ensures a b d e f z ∷ second .at-rest2 .ensures g h i j k z ∷ third .is-fresh .ensures l z ∷ []))

@@ -3,7 +3,7 @@ use mathlib.Core.Path.{_≡_, sym, _∙_}
 use mathlib.Core.Bool.{false}
 use Prim.Native.Nat.{_+_}
 use lib.Dec.{ltb}
-use Rattle.join.specs.Rules.{laterRefusal}
+use Rattle.join.specs.Stages.{laterRefusal}
 use native.Mathlib.Omega.{arith}
 use borrow.Author.Needs.{needs}
 use borrow.Author.Tests.{lt-ltb, le-ltb}

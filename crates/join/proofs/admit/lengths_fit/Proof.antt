@@ -1,6 +1,6 @@
 -- The tests as they stand.
 use mathlib.Core.Bool.{and-assoc}
-use Rattle.join.specs.Rules.{lengthsFit}
+use Rattle.join.specs.Stages.{lengthsFit}
 use Rattle.join.proofs.admit.lengths_fit.Statement.{statement}
 use Rattle.join.proofs.admit.lengths_fit.Tie as tie
 

@@ -1,5 +1,5 @@
 -- The first test that fails.
-use Rattle.join.specs.Rules.{testsRefusal}
+use Rattle.join.specs.Stages.{testsRefusal}
 use Rattle.join.proofs.admit.tests_refusal.Statement.{statement}
 use Rattle.join.proofs.admit.tests_refusal.Tie as tie
 

@@ -2,8 +2,9 @@
 use mathlib.Core.Path.{_∙_}
 use mathlib.Core.Bool.{not}
 use mathlib.Core.List.{[], _∷_}
-use Rattle.model.specs.Tables.{isPooled, isEmpty}
-use Rattle.model.specs.Sound.{every}
+use Rattle.model.specs.Tables.{isPooled}
+use Rattle.model.specs.Sides.{isEmpty}
+use Rattle.model.specs.Lists.{every}
 use Rattle.join_model.specs.Join.{fresh}
 use borrow.Author.Needs.{needs}
 use Rattle.join.proofs.Tested.{seven}

@@ -10,7 +10,10 @@ same-length c = search needs
 
 returns : tie.Need-returns
 unfolding numbered
-returns c = (put-more (c .before .before .before .before .before .before .put-text .ensures) (c .before .before .put-decimal .ensures .0), search needs)
+returns c =
+    let number = c .before .before in
+    let word = number .before .before .before .before in
+    (put-more (word .put-text .ensures) (number .put-decimal .ensures .0), search needs)
 
 pub put-numbered-spec : {M : Type 1} → statement M
 put-numbered-spec = tie.close (tie.spec (λ c κs. search needs) (λ c κs. search needs) same-length returns)

@@ -10,16 +10,17 @@ use Rattle.word.specs.Anchor.{anchorOf, packAnchor}
 use Rattle.word.specs.Link.{linkOf, packLink}
 use Rattle.model.specs.declared.Control.{Control}
 use Rattle.model.specs.declared.Record.{Record}
-use Rattle.model.specs.Tables.{Tables, isPooled, opposite, far, facing, pushing}
-use Rattle.model.specs.Sound.{isPush, isPop}
-use Rattle.model.specs.Places.{sideOf, Touch, nothing, setAnchor, setLink, clearMark, takeSlot, setNext, setHead, Move, withSeen}
-use Rattle.model.specs.Places.{withLink, withOwn, reads, changes, reading, replaces}
+use Rattle.model.specs.Tables.{tablesOf, Tables, isPooled, withSeen, withLink, withOwn}
+use Rattle.model.specs.Places.{sideOf, Touch, nothing, setAnchor, setLink, clearMark, takeSlot, setNext, setHead, Move}
+use Rattle.model.specs.Places.{reads, changes, reading, replaces}
 use Rattle.model.specs.Places.{at1, at2, at3, new4, at4, at5, at6, at7, at9, at10, at11, at12, at13, at14, at15, at16, at17, move, apply}
 use Rattle.model.specs.Places as placed
 use Rattle.model.specs.Mirror.{mirrorStatus, mirrorAnchor, mirrorWord, mirrorControl, mirrorTables, mirrorBusy}
-use Rattle.model.proofs.laws.Mirror.Words.{status-stable, mirror-fields, mirror-pack, mirror-equal}
+use Rattle.model.proofs.laws.Mirror.Packed.{status-stable, mirror-fields, mirror-pack, mirror-equal}
 use Rattle.model.proofs.laws.Mirror.Sides.{far-mirror, facing-mirror, pushing-mirror, pushing-small, end-mirror, row-mirror, link-side-mirror}
 use Rattle.model.proofs.laws.Mirror.Sound.{eqb-sym}
+use Rattle.model.specs.Sides.{opposite, far, facing, pushing}
+use Rattle.model.specs.Kinds.{isPush, isPop}
 
 abbrev pub mirrorTouch : Touch → Touch
 mirrorTouch nothing = nothing
@@ -31,7 +32,7 @@ mirrorTouch (setNext x v) = setNext x v
 mirrorTouch (setHead w) = setHead w
 
 abbrev pub mirrorMove : Move → Move
-mirrorMove m = record { touch = mirrorTouch (m .touch); task = mirrorBusy (m .task); outcome = m .outcome; failed = m .failed }
+mirrorMove m = record { touch = mirrorTouch (m .touch); task = mirrorBusy (m .task); branch = m .branch; failed = m .failed }
 
 pub apply-mirror : (t : Touch) (q : Tables) → apply (mirrorTouch t) (mirrorTables q) ≡ mirrorTables (apply t q)
 apply-mirror nothing q = refl
@@ -39,14 +40,8 @@ apply-mirror (setAnchor w) q = refl
 apply-mirror (setLink side x w) q = go (eqb side 1)
   where
     go : (b : Bool) → apply (setLink (cond b 0 1) x w) (mirrorTables q)
-        ≡ record {
-          control = mirrorControl (q .control);
-          lefts = cond b (set (q .rights) x w) (q .rights);
-          rights = cond b (q .lefts) (set (q .lefts) x w);
-          labels = q .labels;
-          marks = q .marks;
-          next = q .next;
-        }
+        ≡ tablesOf (mirrorControl (q .control)) (cond b (set (q .rights) x w) (q .rights)) (cond b (q .lefts) (set (q .lefts) x w))
+        (q .labels) (q .marks) (q .next)
     go true = refl
     go false = refl
 apply-mirror (clearMark x) q = refl
@@ -111,7 +106,7 @@ module _ (c : Control) (r : Record) (w : ℕ) (turned : sideOf (mirrorBusy r) �
       (ap (λ (o : ℕ). record {
         touch = nothing;
         task = withSeen (mirrorBusy r) (mirrorWord (c .anchor)) (r .finishing);
-        outcome = o + 1;
+        branch = o + 1;
         failed = true;
       })
       (ap (reading (isPop r)) (mirror-fields (c .anchor)) ∙ reading-mirror (isPop r) (anchorOf (c .anchor)))))
@@ -136,7 +131,7 @@ module _ (c : Control) (r : Record) (w : ℕ) (turned : sideOf (mirrorBusy r) �
         touch = setLink (link-side-mirror r turned i) (row-mirror r turned i)
             (packLink (record { tag = linkOf w .tag; slot = end-mirror r turned i }));
         task = mirrorBusy r;
-        outcome = 0;
+        branch = 0;
         failed = false;
       })
       refl
@@ -174,7 +169,7 @@ module _ (c : Control) (r : Record) (w : ℕ) (turned : sideOf (mirrorBusy r) �
         touch = setLink (link-side-mirror r turned i) (row-mirror r turned i)
             (packLink (record { tag = linkOf (r .link) .tag + 1; slot = end-mirror r turned i }));
         task = mirrorBusy r;
-        outcome = 0;
+        branch = 0;
         failed = false;
       })
       refl
@@ -194,10 +189,10 @@ module _ (c : Control) (r : Record) (w : ℕ) (turned : sideOf (mirrorBusy r) �
       (λ i. record {
         touch = clearMark (row-mirror r turned i);
         task = withOwn (mirrorBusy r) (row-mirror r turned i) w;
-        outcome = 1;
+        branch = 1;
         failed = false;
       })
-      (λ i. record { touch = clearMark (row-mirror r turned i); task = mirrorBusy r; outcome = 0; failed = false })
+      (λ i. record { touch = clearMark (row-mirror r turned i); task = mirrorBusy r; branch = 0; failed = false })
 
   mirror12 : at12 (mirrorControl c) (mirrorBusy r) ≡ mirrorMove (at12 c r)
   unfolding at12
@@ -213,7 +208,7 @@ module _ (c : Control) (r : Record) (w : ℕ) (turned : sideOf (mirrorBusy r) �
       (λ i. record {
         touch = takeSlot (placed.raised r (r .neighbour)) (row-mirror r turned i) (r .label);
         task = withOwn (mirrorBusy r) (row-mirror r turned i) (r .label);
-        outcome = 0;
+        branch = 0;
         failed = false;
       })
       refl
@@ -224,7 +219,7 @@ module _ (c : Control) (r : Record) (w : ℕ) (turned : sideOf (mirrorBusy r) �
 
   mirror16 : at16 (mirrorBusy r) ≡ mirrorMove (at16 r)
   unfolding at16
-  mirror16 = λ i. record { touch = setNext (row-mirror r turned i) (linkOf (r .link) .slot); task = mirrorBusy r; outcome = 0; failed = false }
+  mirror16 = λ i. record { touch = setNext (row-mirror r turned i) (linkOf (r .link) .slot); task = mirrorBusy r; branch = 0; failed = false }
 
   mirror17 : at17 (mirrorControl c) (mirrorBusy r) ≡ mirrorMove (at17 c r)
   unfolding at17

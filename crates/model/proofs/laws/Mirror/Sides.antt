@@ -11,11 +11,12 @@ use Rattle.word.specs.declared.Anchor.{Anchor}
 use Rattle.word.specs.Anchor.{anchorOf}
 use Rattle.word.specs.Link.{linkOf}
 use Rattle.model.specs.declared.Record.{Record}
-use Rattle.model.specs.Tables.{Tables, opposite, near, far, facing, links, pushing, named}
-use Rattle.model.specs.Sound.{drawing, giving, helping, isPush}
-use Rattle.model.specs.Places.{sideOf, endSeen, row, linkSide, linkMet}
+use Rattle.model.specs.Tables.{Tables}
+use Rattle.model.specs.Places.{sideOf, endSeen, row, linkSide, wordFound}
 use Rattle.model.specs.Mirror.{mirrorSide, mirrorStatus, mirrorAnchor, mirrorTables, mirrorBusy}
-use Rattle.model.proofs.laws.Mirror.Words.{mirror-fields}
+use Rattle.model.proofs.laws.Mirror.Packed.{mirror-fields}
+use Rattle.model.specs.Sides.{opposite, near, far, facing, links, pushing, named}
+use Rattle.model.specs.Kinds.{drawing, giving, helping, isPush}
 
 -- A side enters by one test alone.
 module _ (d : ℕ) where
@@ -105,7 +106,7 @@ module _ (r : Record) where
         go true = refl
         go false = refl
 
-    pub link-met-mirror : (q : Tables) → linkMet (mirrorTables q) (mirrorBusy r) ≡ linkMet q r
+    pub link-met-mirror : (q : Tables) → wordFound (mirrorTables q) (mirrorBusy r) ≡ wordFound q r
     link-met-mirror q =
         ap₂ (λ (d x : ℕ). cond (eqb (r .place) 11) (getD (q .labels) x 0)
         (cond (eqb (r .place) 13) (getD (q .next) x 0) (getD (links (mirrorTables q) d) x 0))) link-side-mirror row-mirror

@@ -12,9 +12,10 @@ use Rattle.model.specs.declared.Control.{Control}
 use Rattle.model.specs.declared.Record.{Record}
 use Rattle.model.specs.Tables.{Tables, isPooled}
 use Rattle.model.specs.Sound.{from1, anchorSound, controlSound, recordSound, rowsFit}
-use Rattle.model.specs.Refusals.{Lent, pushRefusal, putRefusal, popRefusal}
+use Rattle.model.specs.declared.Asked.{Asked}
+use Rattle.model.specs.Refusals.{Lent, fits, startRefusal}
 use Rattle.model.specs.Mirror.{mirrorSide, mirrorAnchor, mirrorWord, mirrorControl, mirrorTables, mirrorBusy, mirrorRecord}
-use Rattle.model.proofs.laws.Mirror.Words.{status-stable, status-range, mirror-fields}
+use Rattle.model.proofs.laws.Mirror.Packed.{status-stable, status-range, mirror-fields}
 
 pub eqb-sym : (m n : ℕ) → eqb m n ≡ eqb n m
 eqb-sym m n = go (eqb n m) refl
@@ -92,39 +93,16 @@ rows-fit-mirror pooled slots q = go (ltb slots (length (q .lefts))) (ltb slots (
     go false true rest = refl
     go false false rest = refl
 
-module _ (q : Tables) (p : Lent) (r : Record) (side : ℕ) where
-  pub push-refusal-mirror : (slot : ℕ) → pushRefusal (mirrorTables q) p (mirrorRecord r) (mirrorSide side) slot ≡ pushRefusal q p r side slot
-  unfolding pushRefusal
-  push-refusal-mirror slot =
-      rw (
-        control-sound-mirror (q .control),
-        rows-fit-mirror (isPooled (q .control)) (q .control .slots) q,
-        side-range side,
-        record-sound-mirror (isPooled (q .control)) (q .control .slots) r,
-        place-mirror r,
-        tag-mirror (q .control .anchor),
-      ) refl
-
-  pub pop-refusal-mirror : popRefusal (mirrorTables q) p (mirrorRecord r) (mirrorSide side) ≡ popRefusal q p r side
-  unfolding popRefusal
-  pop-refusal-mirror =
-      rw (
-        control-sound-mirror (q .control),
-        rows-fit-mirror (isPooled (q .control)) (q .control .slots) q,
-        side-range side,
-        record-sound-mirror (isPooled (q .control)) (q .control .slots) r,
-        place-mirror r,
-        tag-mirror (q .control .anchor),
-      ) refl
-
-  pub put-refusal-mirror : putRefusal (mirrorTables q) p (mirrorRecord r) (mirrorSide side) ≡ putRefusal q p r side
-  unfolding putRefusal
-  put-refusal-mirror =
-      rw (
-        control-sound-mirror (q .control),
-        rows-fit-mirror (isPooled (q .control)) (q .control .slots) q,
-        side-range side,
-        record-sound-mirror (isPooled (q .control)) (q .control .slots) r,
-        place-mirror r,
-        tag-mirror (q .control .anchor),
-      ) refl
+pub start-refusal-mirror : (q : Tables) (p : Lent) (r : Record) (side : ℕ) (a : Asked)
+    → startRefusal (mirrorControl (q .control)) (fits (mirrorTables q)) p (mirrorRecord r) (mirrorSide side) a
+    ≡ startRefusal (q .control) (fits q) p r side a
+unfolding startRefusal
+start-refusal-mirror q p r side a =
+    rw (
+      control-sound-mirror (q .control),
+      rows-fit-mirror (isPooled (q .control)) (q .control .slots) q,
+      side-range side,
+      record-sound-mirror (isPooled (q .control)) (q .control .slots) r,
+      place-mirror r,
+      tag-mirror (q .control .anchor),
+    ) refl

@@ -10,19 +10,21 @@ use Rattle.model.specs.declared.Control.{Control}
 use Rattle.model.specs.declared.Record.{Record}
 use Rattle.model.specs.declared.TaskRecord.{TaskRecord}
 use Rattle.model.specs.declared.Outcome.the-variants.{Refused, Moved}
-use Rattle.model.specs.Tables.{atPlace, Tables, isPooled, opposite, idle, withCall}
-use Rattle.model.specs.Sound.{from1, every, linkSound, controlSound, recordSound, rowsFit}
-use Rattle.model.specs.Places.{sideOf, row, linkMet, Touch, nothing, setAnchor, setLink, clearMark, takeSlot, setNext, setHead, Move, move}
+use Rattle.model.specs.Tables.{atPlace, Tables, isPooled, idle, withCall}
+use Rattle.model.specs.Sound.{from1, linkSound, controlSound, recordSound, rowsFit}
+use Rattle.model.specs.Places.{sideOf, row, wordFound, Touch, nothing, setAnchor, setLink, clearMark, takeSlot, setNext, setHead, Move, move}
 use Rattle.model.specs.Route.{route, onward, answer, goes, counted}
 use Rattle.model.specs.Refusals.{Lent, rule, first, needsRow, meetsLink, meetsHead, leavesSound, hasRoom, stepSound, stepRules, stepRefusal}
 use Rattle.model.specs.Calls.{Acted, decide, finish, step}
 use Rattle.model.specs.Mirror.{mirrorTask, mirrorControl, mirrorTables, mirrorBusy, mirrorRecord, mirrorActed}
-use Rattle.model.proofs.laws.Tests.{sound-record}
-use Rattle.model.proofs.laws.Refusals.{none-applies}
+use Rattle.model.proofs.laws.SoundRecord.{sound-record}
+use Rattle.model.proofs.tests.Rules.{cleared}
 use Rattle.model.proofs.laws.Onward.{leads-on}
 use Rattle.model.proofs.laws.Mirror.Sides.{side-mirror, row-mirror, link-met-mirror}
 use Rattle.model.proofs.laws.Mirror.Sound.{word-sound-mirror, tag-mirror, control-sound-mirror, record-sound-mirror, place-mirror, rows-fit-mirror}
 use Rattle.model.proofs.laws.Mirror.Moves.{mirrorTouch, mirrorMove, apply-mirror, move-mirror}
+use Rattle.model.specs.Sides.{opposite}
+use Rattle.model.specs.Lists.{every}
 
 pub busy-record : (r : Record) → eqb (r .place) 0 ≡ false → mirrorRecord r ≡ mirrorBusy r
 unfolding mirrorRecord
@@ -71,12 +73,12 @@ step-sound-mirror c r w side =
 module _ (q : Tables) (r : Record) where
   -- The last rule is asked of busy, sound records alone.
   last-rule : recordSound (isPooled (q .control)) (q .control .slots) r ≡ true → eqb (r .place) 0 ≡ false
-      → stepSound (mirrorControl (q .control)) (mirrorRecord r) (linkMet (mirrorTables q) (mirrorRecord r)) ≡ stepSound (q .control) r (linkMet q r)
+      → stepSound (mirrorControl (q .control)) (mirrorRecord r) (wordFound (mirrorTables q) (mirrorRecord r)) ≡ stepSound (q .control) r (wordFound q r)
   last-rule sound busy =
       let side = turned (isPooled (q .control)) (q .control .slots) r sound busy in
-      ap (λ (x : Record). stepSound (mirrorControl (q .control)) x (linkMet (mirrorTables q) x)) (busy-record r busy)
+      ap (λ (x : Record). stepSound (mirrorControl (q .control)) x (wordFound (mirrorTables q) x)) (busy-record r busy)
       ∙ ap (stepSound (mirrorControl (q .control)) (mirrorBusy r)) (link-met-mirror r side q)
-      ∙ step-sound-mirror (q .control) r (linkMet q r) side
+      ∙ step-sound-mirror (q .control) r (wordFound q r) side
 
   last-three : (sound idles x y : Bool) → (sound ≡ true → idles ≡ false → x ≡ y)
       → first (rule 34 (not sound) ∷ rule 31 idles ∷ rule 34 (not x) ∷ []) ≡ first (rule 34 (not sound) ∷ rule 31 idles ∷ rule 34 (not y) ∷ [])
@@ -107,12 +109,12 @@ goes-mirror r n h = go (leb n 17)
     go false = refl
 
 finish-mirror : (q : Tables) (r : TaskRecord) (m : Move) → row (mirrorBusy (r .call)) ≡ row (r .call)
-    → eqb (onward (route (r .call .place) (r .call .kind) (m .outcome)) (m .task .finishing)) 0 ≡ false
+    → eqb (onward (route (r .call .place) (r .call .kind) (m .branch)) (m .task .finishing)) 0 ≡ false
     → finish (mirrorTables q) (withCall r (mirrorBusy (r .call))) (mirrorMove m) ≡ mirrorActed (finish q r m)
 unfolding finish
 finish-mirror q r m same on =
     let c = r .call in
-    let n = onward (route (c .place) (c .kind) (m .outcome)) (m .task .finishing) in
+    let n = onward (route (c .place) (c .kind) (m .branch)) (m .task .finishing) in
     λ i. record {
       tables = apply-mirror (m .touch) q i;
       task = record { call = goes-mirror (m .task) n on i; retries = counted (r .retries) (m .failed) };
@@ -130,7 +132,7 @@ decide-mirror why q r done done′ h = go (eqb why 0) refl
     go false e = refl
 
 abbrev carried : Tables → TaskRecord → Acted
-carried q r = finish q r (move (q .control) (r .call) (linkMet q (r .call)))
+carried q r = finish q r (move (q .control) (r .call) (wordFound q (r .call)))
 
 carried-mirror : (q : Tables) (r : TaskRecord) → recordSound (isPooled (q .control)) (q .control .slots) (r .call) ≡ true
     → eqb (r .call .place) 0 ≡ false
@@ -141,9 +143,9 @@ carried-mirror q r sound busy =
     ap (λ (x : Record). carried (mirrorTables q) (withCall r x)) (busy-record c busy)
     ∙ ap (λ (w : ℕ). finish (mirrorTables q) (withCall r (mirrorBusy c)) (move (mirrorControl (q .control)) (mirrorBusy c) w))
     (link-met-mirror c side q)
-    ∙ ap (finish (mirrorTables q) (withCall r (mirrorBusy c))) (move-mirror (q .control) c (linkMet q c) side)
-    ∙ finish-mirror q r (move (q .control) c (linkMet q c)) (row-mirror c side)
-    (leads-on (isPooled (q .control)) (q .control .slots) (q .control) c (linkMet q c) sound busy)
+    ∙ ap (finish (mirrorTables q) (withCall r (mirrorBusy c))) (move-mirror (q .control) c (wordFound q c) side)
+    ∙ finish-mirror q r (move (q .control) c (wordFound q c)) (row-mirror c side)
+    (leads-on (isPooled (q .control)) (q .control .slots) (q .control) c (wordFound q c) sound busy)
 
 pub step-mirror : (q : Tables) (p : Lent) (r : TaskRecord) → step (mirrorTables q) p (mirrorTask r) ≡ mirrorActed (step q p r)
 unfolding step stepRefusal
@@ -152,4 +154,4 @@ step-mirror q p r =
     ∙ decide-mirror (stepRefusal q p (r .call)) q r (carried q r) (carried (mirrorTables q) (mirrorTask r)) go
   where
     go : stepRefusal q p (r .call) ≡ 0 → carried (mirrorTables q) (mirrorTask r) ≡ mirrorActed (carried q r)
-    go e = let passed = none-applies (stepRules q p (r .call)) refl e in carried-mirror q r (not-false _ (passed .1 .1 .1 .0)) (passed .1 .1 .1 .1 .0)
+    go e = let passed = cleared (stepRules q p (r .call)) refl e in carried-mirror q r (not-false _ (passed .1 .1 .1 .0)) (passed .1 .1 .1 .1 .0)

@@ -6,21 +6,6 @@ use Rattle.order.proofs.extents.raise.Tie as tie
 returns : tie.Need-returns
 returns c = higher-out (c .before .args .t .now) (c .before .args .k) (c .before .args .at) (c .if1 .taken)
 
-mul-if2 : tie.Need-mul-if2
-mul-if2 c = search needs
-
-slice-read-if2 : tie.Need-slice-read-if2
-slice-read-if2 c = search needs
-
-mul-t : tie.Need-mul-t
-mul-t c = search needs
-
-slice-write-t : tie.Need-slice-write-t
-slice-write-t c = search needs
-
-same-length : tie.Need-same-length
-same-length c = search needs
-
 returns-2 : tie.Need-returns-2
 returns-2 c =
     higher-put (c .before .before .before .args .t .now) (c .before .before .before .args .k) (c .before .before .before .args .at) (c .if2 .taken)
@@ -32,4 +17,4 @@ returns-3 c =
 pub raise-spec : {M : Type 1} → statement M
 raise-spec =
     tie.close
-    (tie.spec returns mul-if2 slice-read-if2 mul-t slice-write-t same-length returns-2 returns-3)
+    (tie.spec returns (λ c. search needs) (λ c. search needs) (λ c. search needs) (λ c. search needs) (λ c. search needs) returns-2 returns-3)

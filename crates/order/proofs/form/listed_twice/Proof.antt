@@ -1,6 +1,6 @@
-use Prim.Native.Nat.{ℕ, _≤_, _-_, _+_, _<_}
-use mathlib.Core.Path.{_≡_, refl, sym, ap, _∙_}
-use lib.ListN.{length, drop, getD}
+use Prim.Native.Nat.{_≤_, _-_}
+use mathlib.Core.Path.{_≡_, refl}
+use lib.ListN.{length, drop}
 use borrow.Author.Needs.{needs}
 use Rattle.sheet_model.specs.Sheet.{twice}
 use Rattle.sheet_model.proofs.Turns.{twice-here, twice-on, twice-end}
@@ -17,28 +17,10 @@ abbrev μ-loop : tie.MeasureT-loop
 loop-holds : tie.Need-loop-holds Inv-loop μ-loop
 loop-holds c = (search needs, refl)
 
-add-place-from : tie.Need-add-place-from Inv-loop μ-loop
-add-place-from c = search needs
-
-mul-place-from : tie.Need-mul-place-from Inv-loop μ-loop
-mul-place-from c = search needs
-
-shared-slice-read-place-from : tie.Need-shared-slice-read-place-from Inv-loop μ-loop
-shared-slice-read-place-from c = search needs
-
-place-from-requires : tie.Need-place-from-requires Inv-loop μ-loop
-place-from-requires c κs = search needs
-
 returns : tie.Need-returns Inv-loop μ-loop
 returns c =
     twice-here _ (c .before .before .before .before .loop .i) (c .before .place-from .result) (search needs)
     (c .before .before .before .before .loop .inv .1) (c .before .place-from .ensures) (search needs)
-
-add-i : tie.Need-add-i Inv-loop μ-loop
-add-i c = search needs
-
-loop-less : tie.Need-loop-less Inv-loop μ-loop
-loop-less c = search needs
 
 loop-again : tie.Need-loop-again Inv-loop μ-loop
 loop-again c = (
@@ -57,12 +39,12 @@ listed-twice-spec =
     Inv-loop
     μ-loop
     loop-holds
-    add-place-from
-    mul-place-from
-    shared-slice-read-place-from
-    place-from-requires
+    (λ c. search needs)
+    (λ c. search needs)
+    (λ c. search needs)
+    (λ c κs. search needs)
     returns
-    add-i
-    loop-less
+    (λ c. search needs)
+    (λ c. search needs)
     loop-again
     returns-2)

@@ -1,37 +1,35 @@
 use lib.ListN.{length}
 use mathlib.Core.Bool.{_||_}
 use mathlib.Core.Path.{sym, ap, _∙_}
-use Rattle.sheet_model.specs.Sheet.{any, outside}
+use Rattle.sheet_model.specs.Sheet.{Sheet, any, outside}
 use Rattle.sheet_model.proofs.Turns.{many-listed, many-rules, others}
 use borrow.Author.Needs.{needs}
 use Rattle.order.proofs.form.malformed.Statement.{statement}
 use Rattle.order.proofs.form.malformed.Tie as tie
 
+abbrev asked : tie.Start → Sheet
+asked start = record { listed = start .args .listed .now; rules = start .args .rules .now }
+
 returns : tie.Need-returns
-returns c =
-    many-listed (record { listed = c .before .before .before .args .listed .now; rules = c .before .before .before .args .rules .now })
-    (c .if1 .taken)
+returns c = many-listed (asked (c .before .before .before)) (c .if1 .taken)
 
 returns-2 : tie.Need-returns-2
-returns-2 c =
-    many-rules (record { listed = c .before .before .before .before .args .listed .now; rules = c .before .before .before .before .args .rules .now })
-    (c .before .if1 .left) (c .if2 .taken)
+returns-2 c = let few = c .before in many-rules (asked (few .before .before .before)) (few .if1 .left) (c .if2 .taken)
 
 returns-3 : tie.Need-returns-3
 returns-3 c =
-    let p4 = c .before .before .before .before in
-    sym (others (record { listed = p4 .before .before .args .listed .now; rules = p4 .before .before .args .rules .now })
-    (c .before .before .before .if1 .left) (c .before .before .if2 .left)
-    ∙ ap (λ b. b || any (outside (length (p4 .before .before .args .listed .now))) (p4 .before .before .args .rules .now))
-    (sym (c .before .listed-twice .ensures) ∙ c .if3 .taken))
+    let few = c .before .before .before in
+    let s = asked (few .before .before .before) in
+    sym (others s (few .if1 .left) (c .before .before .if2 .left)
+    ∙ ap (λ b. b || any (outside (length (s .listed))) (s .rules)) (sym (c .before .listed-twice .ensures) ∙ c .if3 .taken))
 
 returns-4 : tie.Need-returns-4
 returns-4 c =
-    let p4 = c .before .before .before .before in
-    sym (others (record { listed = p4 .before .before .before .args .listed .now; rules = p4 .before .before .before .args .rules .now })
-    (c .before .before .before .before .if1 .left) (c .before .before .before .if2 .left)
-    ∙ ap (λ b. b || any (outside (length (p4 .before .before .before .args .listed .now))) (p4 .before .before .before .args .rules .now))
-    (sym (c .before .before .listed-twice .ensures) ∙ c .before .if3 .left) ∙ sym (c .points-outside .ensures))
+    let few = c .before .before .before .before in
+    let s = asked (few .before .before .before) in
+    sym (others s (few .if1 .left) (c .before .before .before .if2 .left)
+    ∙ ap (λ b. b || any (outside (length (s .listed))) (s .rules)) (sym (c .before .before .listed-twice .ensures) ∙ c .before .if3 .left)
+    ∙ sym (c .points-outside .ensures))
 
 pub malformed-spec : {M : Type 1} → statement M
 malformed-spec =

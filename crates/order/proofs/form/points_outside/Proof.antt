@@ -1,6 +1,6 @@
-use Prim.Native.Nat.{ℕ, _≤_, _-_, _+_, _<_}
+use Prim.Native.Nat.{_≤_, _-_}
 use mathlib.Core.Path.{_≡_, refl, ap, _∙_}
-use lib.ListN.{length, drop, getD}
+use lib.ListN.{length, drop}
 use borrow.Author.Needs.{needs}
 use Rattle.model.specs.Sound.{from1}
 use Rattle.sheet_model.specs.Sheet.{any, outside}
@@ -18,55 +18,25 @@ abbrev μ-loop : tie.MeasureT-loop
 loop-holds : tie.Need-loop-holds Inv-loop μ-loop
 loop-holds c = (search needs, refl)
 
-mul-before : tie.Need-mul-before Inv-loop μ-loop
-mul-before c = search needs
-
-shared-slice-read-before : tie.Need-shared-slice-read-before Inv-loop μ-loop
-shared-slice-read-before c = search needs
-
-before-requires : tie.Need-before-requires Inv-loop μ-loop
-before-requires c κs = search needs
-
-from1-requires : tie.Need-from1-requires Inv-loop μ-loop
-from1-requires c κs = search needs
-
-mul-after : tie.Need-mul-after Inv-loop μ-loop
-mul-after c = search needs
-
-shared-slice-read-after : tie.Need-shared-slice-read-after Inv-loop μ-loop
-shared-slice-read-after c = search needs
-
-after-requires : tie.Need-after-requires Inv-loop μ-loop
-after-requires c κs = search needs
-
-from1-requires-2 : tie.Need-from1-requires-2 Inv-loop μ-loop
-from1-requires-2 c κs = search needs
-
 returns : tie.Need-returns Inv-loop μ-loop
 returns c =
-    let p4 = c .before .before .before .before in
-    let p8 = p4 .before .before .before .before in
-    any-here _ (p8 .loop .i) (outside _) (search needs) (p8 .loop .inv .1)
+    let first = c .before .before .before .before in
+    let turn = first .before .before .before .before in
+    any-here _ (turn .loop .i) (outside _) (search needs) (turn .loop .inv .1)
     (rw (
-      ← c .before .before .before .before .from1 .ensures ∙ ap (from1 _) (p4 .before .before2 .ensures),
+      ← first .from1 .ensures ∙ ap (from1 _) (first .before .before2 .ensures),
       ← c .before .from12 .ensures
           ∙ ap (from1 _) (c .before .before .after .ensures),
     ) (c .if1 .taken))
 
-add-i : tie.Need-add-i Inv-loop μ-loop
-add-i c = search needs
-
-loop-less : tie.Need-loop-less Inv-loop μ-loop
-loop-less c = search needs
-
 loop-again : tie.Need-loop-again Inv-loop μ-loop
 loop-again c =
-    let p4 = c .before .before .before .before in
-    let p8 = p4 .before .before .before .before in (
+    let first = c .before .before .before .before in
+    let turn = first .before .before .before .before in (
       search needs,
-      any-on _ (p8 .loop .i) (outside _) (search needs) (p8 .loop .inv .1)
+      any-on _ (turn .loop .i) (outside _) (search needs) (turn .loop .inv .1)
           (rw (
-            ← c .before .before .before .before .from1 .ensures ∙ ap (from1 _) (p4 .before .before2 .ensures),
+            ← first .from1 .ensures ∙ ap (from1 _) (first .before .before2 .ensures),
             ← c .before .from12 .ensures
                 ∙ ap (from1 _) (c .before .before .after .ensures),
           ) (c .if1 .left)),
@@ -82,16 +52,16 @@ points-outside-spec =
     Inv-loop
     μ-loop
     loop-holds
-    mul-before
-    shared-slice-read-before
-    before-requires
-    from1-requires
-    mul-after
-    shared-slice-read-after
-    after-requires
-    from1-requires-2
+    (λ c. search needs)
+    (λ c. search needs)
+    (λ c κs. search needs)
+    (λ c κs. search needs)
+    (λ c. search needs)
+    (λ c. search needs)
+    (λ c κs. search needs)
+    (λ c κs. search needs)
     returns
-    add-i
-    loop-less
+    (λ c. search needs)
+    (λ c. search needs)
     loop-again
     returns-2)

@@ -15,20 +15,19 @@ mark-requires c κs =
 
 join-requires : tie.Need-join-requires
 join-requires c κs =
-    let p4 = c .before .before .before .before in
-    let h : 32 ≤ length (p4 .before .args .square .now) = subst (λ (l : List (List ℕ)). 32 ≤ length l) (sym (p4 .before .pre .0)) (omega arith) in
-    (search needs, p4 .before .pre .1)
-
-same-length : tie.Need-same-length
-same-length c = search needs
+    let marked = c .before .before in
+    let start = marked .before .before .before in
+    let h : 32 ≤ length (start .args .square .now) = subst (λ (l : List (List ℕ)). 32 ≤ length l) (sym (start .pre .0)) (omega arith) in
+    (search needs, start .pre .1)
 
 returns : tie.Need-returns
 returns c =
-    let p4 = c .before .before .before .before in
-    let l = p4 .before .before .before .args .rules .now in
-    let n = p4 .before .before .before .args .n in
-    c .before .join .ensures ∙ ap (rounds byteRow n 0 n) (p4 .mark .ensures ∙ ap (rulesMarked byteRow l) (p4 .before .before .before .pre .0))
-    ∙ square-chained l n (p4 .before .before .before .pre .1) (p4 .before .before .before .pre .2)
+    let marked = c .before .before .before .before in
+    let start = marked .before .before .before in
+    let l = start .args .rules .now in
+    let n = start .args .n in
+    c .before .join .ensures ∙ ap (rounds byteRow n 0 n) (marked .mark .ensures ∙ ap (rulesMarked byteRow l) (start .pre .0))
+    ∙ square-chained l n (start .pre .1) (start .pre .2)
 
 pub closure-spec : {M : Type 1} → statement M
-closure-spec = tie.close (tie.spec mark-requires join-requires same-length returns)
+closure-spec = tie.close (tie.spec mark-requires join-requires (λ c. search needs) returns)

@@ -1,6 +1,5 @@
-use Prim.Native.Nat.{ℕ, _≤_, _-_, _+_, _<_}
+use Prim.Native.Nat.{_≤_, _-_}
 use mathlib.Core.Path.{_≡_, refl, sym, _∙_}
-use lib.ListN.{length, drop, getD}
 use borrow.Author.Needs.{needs}
 use Rattle.sheet_model.specs.Squares.{sweep, ored, joinRow}
 use Rattle.sheet_model.proofs.Turns.{sweep-on, sweep-end}
@@ -18,21 +17,6 @@ loop-holds : tie.Need-loop-holds Inv-loop μ-loop
 unfolding joinRow
 loop-holds c = (search needs, refl)
 
-array-read-joined : tie.Need-array-read-joined Inv-loop μ-loop
-array-read-joined c = search needs
-
-array-read-joined-2 : tie.Need-array-read-joined-2 Inv-loop μ-loop
-array-read-joined-2 c = search needs
-
-array-write-joined : tie.Need-array-write-joined Inv-loop μ-loop
-array-write-joined c = search needs
-
-add-j : tie.Need-add-j Inv-loop μ-loop
-add-j c = search needs
-
-loop-less : tie.Need-loop-less Inv-loop μ-loop
-loop-less c = search needs
-
 loop-again : tie.Need-loop-again Inv-loop μ-loop
 loop-again c = (search needs, sym (sweep-on 32 (c .before .loop .j) 0 (ored (c .before .before .args .t1)) _ (search needs)) ∙ c .before .loop .inv .1)
 
@@ -46,10 +30,10 @@ join-row-spec =
     Inv-loop
     μ-loop
     loop-holds
-    array-read-joined
-    array-read-joined-2
-    array-write-joined
-    add-j
-    loop-less
+    (λ c. search needs)
+    (λ c. search needs)
+    (λ c. search needs)
+    (λ c. search needs)
+    (λ c. search needs)
     loop-again
     returns)

@@ -14,22 +14,19 @@ zeroed-all : (l : List ℕ) → 32 ≤ length l → zeroing 32 l ≡ replicate 3
 unfolding zeroing
 zeroed-all l h = rw (le-leb 32 (length l) h)
 
-same-length : tie.Need-same-length
-same-length c = search needs
-
 returns : tie.Need-returns
 returns c =
-    let p4 = c .before .before .before .before in
-    let p8 = p4 .before .before .before .before in
-    let p12 = p8 .before .before .before .before in
-    let w = p12 .before .before .args .words .now in
-    let l = p12 .before .before .args .rules .now in
-    let n = p12 .before .before .args .n in
-    c .before .before .join .ensures
-    ∙ ap (rounds bitRow n 0 n) (p4 .before .before .mark .ensures
-    ∙ ap (rulesMarked bitRow l) (p8 .before .before .zero-labels .ensures ∙ zeroed-all w (p12 .before .before .pre .0)))
-    ∙ words-chained l n (drop 32 w) (p12 .before .before .pre .1) (p12 .before .before .pre .2)
+    let joined = c .before .before in
+    let marked = joined .before .before .before .before in
+    let zeroed = marked .before .before .before .before in
+    let start = zeroed .before .before .before .before in
+    let w = start .args .words .now in
+    let l = start .args .rules .now in
+    let n = start .args .n in
+    joined .join .ensures
+    ∙ ap (rounds bitRow n 0 n) (marked .mark .ensures ∙ ap (rulesMarked bitRow l) (zeroed .zero-labels .ensures ∙ zeroed-all w (start .pre .0)))
+    ∙ words-chained l n (drop 32 w) (start .pre .1) (start .pre .2)
 
 pub closure-spec : {M : Type 1} → statement M
 closure-spec =
-    tie.close (tie.spec (λ c κs. search needs) (λ c κs. search needs) (λ c κs. search needs) same-length returns)
+    tie.close (tie.spec (λ c κs. search needs) (λ c κs. search needs) (λ c κs. search needs) (λ c. search needs) returns)

@@ -1,6 +1,5 @@
-use Prim.Native.Nat.{ℕ, _≤_, _-_, _+_, _<_}
-use mathlib.Core.Path.{_≡_, refl, sym, ap, _∙_}
-use lib.ListN.{length, drop, getD}
+use Prim.Native.Nat.{ℕ, _≤_, _-_, _+_}
+use mathlib.Core.Path.{_≡_, sym, ap, _∙_}
 use borrow.Author.Needs.{needs}
 use Rattle.sheet_model.specs.Squares.{bitRow, crossed}
 use Rattle.sheet_model.specs.Verdict.{inRow, inRows}
@@ -27,78 +26,39 @@ abbrev μ-pairs : tie.MeasureT-pairs
 pairs-holds : tie.Need-pairs-holds Inv-loop μ-loop Inv-pairs μ-pairs
 pairs-holds c = (search needs, ap (inRows _ (c .args .n) 1) (all-left (c .args .n)), search needs, search needs)
 
-mul-row : tie.Need-mul-row Inv-loop μ-loop Inv-pairs μ-pairs
-mul-row c = search needs
-
-shared-slice-read-row : tie.Need-shared-slice-read-row Inv-loop μ-loop Inv-pairs μ-pairs
-shared-slice-read-row c = search needs
-
-mul-top : tie.Need-mul-top Inv-loop μ-loop Inv-pairs μ-pairs
-mul-top c = search needs
-
-array-read-top : tie.Need-array-read-top Inv-loop μ-loop Inv-pairs μ-pairs
-array-read-top c = search needs
-
 loop-holds : tie.Need-loop-holds Inv-loop μ-loop Inv-pairs μ-pairs
 loop-holds c = (
   search needs,
-  (let n = c .before .before .before .args .n in let a = c .before .before .pairs .a in let p = crossed bitRow
-      (c .before .before .before .args .words .now) (c .before .before .before .args .t3) (c .before .before .before .args .t4) in ap
+  (let given = c .before .before .before .args in let n = given .n in let a = c .before .before .pairs .a in
+      let p = crossed bitRow (given .words .now) (given .t3) (given .t4) in ap
       (λ (k : ℕ). inRow p (a + 1) 1 k (inRows p n ((a + 1) + 1) (n - (a + 1)))) (all-left n) ∙ sym (rows-on n a p n (search needs))
       ∙ c .before .before .pairs .inv .1),
   search needs,
   search needs,
 )
 
-cast-if1 : tie.Need-cast-if1 Inv-loop μ-loop Inv-pairs μ-pairs
-cast-if1 c = search needs
-
-shr-if1 : tie.Need-shr-if1 Inv-loop μ-loop Inv-pairs μ-pairs
-shr-if1 c = search needs
-
-mul-if1 : tie.Need-mul-if1 Inv-loop μ-loop Inv-pairs μ-pairs
-mul-if1 c = search needs
-
-array-read-if1 : tie.Need-array-read-if1 Inv-loop μ-loop Inv-pairs μ-pairs
-array-read-if1 c = search needs
-
-add-first : tie.Need-add-first Inv-loop μ-loop Inv-pairs μ-pairs
-add-first c = search needs
-
-add-second : tie.Need-add-second Inv-loop μ-loop Inv-pairs μ-pairs
-add-second c = search needs
-
-add-b : tie.Need-add-b Inv-loop μ-loop Inv-pairs μ-pairs
-add-b c = search needs
-
-loop-less : tie.Need-loop-less Inv-loop μ-loop Inv-pairs μ-pairs
-loop-less c = search needs
-
 loop-again : tie.Need-loop-again Inv-loop μ-loop Inv-pairs μ-pairs
 loop-again c =
-    let p4 = c .before .before .before .before in
-    let a = p4 .before .pairs .a in
-    let b = c .before .before .loop .b in (
+    let turn = c .before .before in
+    let row = turn .before .before .before in
+    let given = row .before .args in
+    let a = row .pairs .a in
+    let b = turn .loop .b in (
       search needs,
-      row-on (p4 .before .before .args .n) b _ (a + 1) _ (search needs)
-          (crossed-at bitRow (p4 .before .before .args .words .now) (p4 .before .before .args .t3) (p4 .before .before .args .t4) a b ∙ c .if1 .left)
-          ∙ c .before .before .loop .inv .1,
+      row-on (given .n) b _ (a + 1) _ (search needs)
+          (crossed-at bitRow (given .words .now) (given .t3) (given .t4) a b ∙ c .if1 .left)
+          ∙ turn .loop .inv .1,
       search needs,
       search needs,
     )
 
-add-a : tie.Need-add-a Inv-loop μ-loop Inv-pairs μ-pairs
-add-a c = search needs
-
-pairs-less : tie.Need-pairs-less Inv-loop μ-loop Inv-pairs μ-pairs
-pairs-less c = search needs
-
 pairs-again : tie.Need-pairs-again Inv-loop μ-loop Inv-pairs μ-pairs
 pairs-again c =
-    let p4 = c .before .before .before .before in (
+    let turn = c .before in
+    let start = turn .before .before .before .before in (
       search needs,
-      sym (row-end (p4 .before .args .n) (c .before .loop .b) _ _ _ (search needs))
-          ∙ c .before .loop .inv .1,
+      sym (row-end (start .args .n) (turn .loop .b) _ _ _ (search needs))
+          ∙ turn .loop .inv .1,
       search needs,
       search needs,
     )
@@ -110,12 +70,14 @@ returns c =
 
 returns-2 : tie.Need-returns-2 Inv-loop μ-loop Inv-pairs μ-pairs
 returns-2 c =
-    let p4 = c .before .before .before .before in
-    let a = p4 .before .pairs .a in
-    let b = c .before .before .loop .b in
-    row-here (p4 .before .before .args .n) b _ (a + 1) _ (search needs)
-    (crossed-at bitRow (p4 .before .before .args .words .now) (p4 .before .before .args .t3) (p4 .before .before .args .t4) a b ∙ c .if1 .taken)
-    ∙ c .before .before .loop .inv .1
+    let turn = c .before .before in
+    let row = turn .before .before .before in
+    let given = row .before .args in
+    let a = row .pairs .a in
+    let b = turn .loop .b in
+    row-here (given .n) b _ (a + 1) _ (search needs)
+    (crossed-at bitRow (given .words .now) (given .t3) (given .t4) a b ∙ c .if1 .taken)
+    ∙ turn .loop .inv .1
 
 pub first-broken-spec : {M : Type 1} → statement M
 first-broken-spec =
@@ -126,22 +88,22 @@ first-broken-spec =
     Inv-pairs
     μ-pairs
     pairs-holds
-    mul-row
-    shared-slice-read-row
-    mul-top
-    array-read-top
+    (λ c. search needs)
+    (λ c. search needs)
+    (λ c. search needs)
+    (λ c. search needs)
     loop-holds
-    cast-if1
-    shr-if1
-    mul-if1
-    array-read-if1
-    add-first
-    add-second
-    add-b
-    loop-less
+    (λ c. search needs)
+    (λ c. search needs)
+    (λ c. search needs)
+    (λ c. search needs)
+    (λ c. search needs)
+    (λ c. search needs)
+    (λ c. search needs)
+    (λ c. search needs)
     loop-again
-    add-a
-    pairs-less
+    (λ c. search needs)
+    (λ c. search needs)
     pairs-again
     returns
     returns-2)

@@ -1,12 +1,13 @@
-use Prim.Native.Nat.{ℕ, _≤_, _-_, _+_, _<_}
-use mathlib.Core.Path.{_≡_, refl, sym, ap, _∙_}
+-- The first i rules are marked.
+use Prim.Native.Nat.{_≤_, _-_}
+use mathlib.Core.Path.{_≡_, refl, sym, _∙_}
 use lib.ListN.{length, drop, getD, length-set}
 use borrow.Author.Needs.{needs}
 use native.Mathlib.Omega.{arith}
 use Rattle.sheet_model.specs.Squares.{bitRow, rulesMarked}
 use Rattle.sheet_model.specs.Sheet.{after}
 use Rattle.sheet_model.proofs.BitRows.{shl-one}
-use Rattle.sheet_model.proofs.Turns.{rules-on, rules-end, inside}
+use Rattle.sheet_model.proofs.Turns.{Inside, rules-on, rules-end, inside}
 use Rattle.order.proofs.words.mark.Statement.{statement}
 use Rattle.order.proofs.words.mark.Tie as tie
 
@@ -20,118 +21,60 @@ abbrev μ-loop : tie.MeasureT-loop
 loop-holds : tie.Need-loop-holds Inv-loop μ-loop
 loop-holds c = (search needs, refl, refl)
 
-mul-before : tie.Need-mul-before Inv-loop μ-loop
-mul-before c = search needs
+-- The rule met points inside the list, and so into the words.
+module _ (met : tie.After-after Inv-loop μ-loop) where
+  abbrev test : tie.In-loop Inv-loop μ-loop
+  test = met .before .before .before .before
 
-shared-slice-read-before : tie.Need-shared-slice-read-before Inv-loop μ-loop
-shared-slice-read-before c = search needs
+  abbrev start : tie.Start Inv-loop μ-loop
+  start = test .before .before .before .before
 
-before-requires : tie.Need-before-requires Inv-loop μ-loop
-before-requires c κs = search needs
+  points : Inside (start .args .n) (getD (start .args .rules .now) (test .before .loop .i) 0)
+  points = inside (start .args .n) (test .before .loop .i) (start .args .rules .now) (start .pre .2) (test .loop-test .taken)
 
-mul-after : tie.Need-mul-after Inv-loop μ-loop
-mul-after c = search needs
+  few : start .args .n ≤ 32
+  few = start .pre .1
 
-shared-slice-read-after : tie.Need-shared-slice-read-after Inv-loop μ-loop
-shared-slice-read-after c = search needs
-
-after-requires : tie.Need-after-requires Inv-loop μ-loop
-after-requires c κs = search needs
+  enough : 32 ≤ length (test .before .loop .words)
+  enough = let long = start .pre .0 in let same = test .before .loop .inv .1 in omega arith
 
 sub-words : tie.Need-sub-words Inv-loop μ-loop
-sub-words c =
-    let p4 = c .before .before .before .before in
-    let p8 = p4 .before .before .before .before in
-    let f = inside (p8 .args .n) (p4 .before .loop .i) (p8 .args .rules .now) (p8 .pre .2) (search needs) in
-    let m = p8 .pre .1 in
-    omega arith
+sub-words c = omega (arith, points c, few c)
 
 mul-words : tie.Need-mul-words Inv-loop μ-loop
-mul-words c =
-    let p4 = c .before .before .before .before in
-    let p8 = p4 .before .before .before .before in
-    let f = inside (p8 .args .n) (p4 .before .loop .i) (p8 .args .rules .now) (p8 .pre .2) (search needs) in
-    let m = p8 .pre .1 in
-    omega arith
+mul-words c = omega (arith, points c, few c)
 
 slice-read-words : tie.Need-slice-read-words Inv-loop μ-loop
-slice-read-words c =
-    let p4 = c .before .before .before .before in
-    let p8 = p4 .before .before .before .before in
-    let f = inside (p8 .before .args .n) (p4 .before .before .loop .i) (p8 .before .args .rules .now) (p8 .before .pre .2) (search needs) in
-    let m = p8 .before .pre .1 in
-    let l = p8 .before .pre .0 in
-    let e = p4 .before .before .loop .inv .1 in
-    omega arith
+slice-read-words c = omega (arith, points (c .before), few (c .before), enough (c .before))
 
 sub-words-2 : tie.Need-sub-words-2 Inv-loop μ-loop
-sub-words-2 c =
-    let p4 = c .before .before .before .before in
-    let p8 = p4 .before .before .before .before in
-    let f = inside (p8 .before .args .n) (p4 .before .before .loop .i) (p8 .before .args .rules .now) (p8 .before .pre .2) (search needs) in
-    let m = p8 .before .pre .1 in
-    omega arith
+sub-words-2 c = omega (arith, points (c .before), few (c .before))
 
 cast-words : tie.Need-cast-words Inv-loop μ-loop
-cast-words c =
-    let p4 = c .before .before .before .before in
-    let p8 = p4 .before .before .before .before in
-    let f = inside (p8 .before .args .n) (p4 .before .before .loop .i) (p8 .before .args .rules .now) (p8 .before .pre .2) (search needs) in
-    let m = p8 .before .pre .1 in
-    omega arith
+cast-words c = omega (arith, points (c .before), few (c .before))
 
 shl-words : tie.Need-shl-words Inv-loop μ-loop
-shl-words c =
-    let p4 = c .before .before .before .before in
-    let p8 = p4 .before .before .before .before in
-    let f = inside (p8 .before .args .n) (p4 .before .before .loop .i) (p8 .before .args .rules .now) (p8 .before .pre .2) (search needs) in
-    let m = p8 .before .pre .1 in
-    omega arith
+shl-words c = omega (arith, points (c .before), few (c .before))
 
 sub-words-3 : tie.Need-sub-words-3 Inv-loop μ-loop
-sub-words-3 c =
-    let p4 = c .before .before .before .before in
-    let p8 = p4 .before .before .before .before in
-    let f = inside (p8 .before .args .n) (p4 .before .before .loop .i) (p8 .before .args .rules .now) (p8 .before .pre .2) (search needs) in
-    let m = p8 .before .pre .1 in
-    omega arith
+sub-words-3 c = omega (arith, points (c .before), few (c .before))
 
 mul-words-2 : tie.Need-mul-words-2 Inv-loop μ-loop
-mul-words-2 c =
-    let p4 = c .before .before .before .before in
-    let p8 = p4 .before .before .before .before in
-    let f = inside (p8 .before .args .n) (p4 .before .before .loop .i) (p8 .before .args .rules .now) (p8 .before .pre .2) (search needs) in
-    let m = p8 .before .pre .1 in
-    omega arith
+mul-words-2 c = omega (arith, points (c .before), few (c .before))
 
 slice-write-words : tie.Need-slice-write-words Inv-loop μ-loop
-slice-write-words c =
-    let p4 = c .before .before .before .before in
-    let p8 = p4 .before .before .before .before in
-    let f = inside (p8 .before .args .n) (p4 .before .before .loop .i) (p8 .before .args .rules .now) (p8 .before .pre .2) (search needs) in
-    let m = p8 .before .pre .1 in
-    let l = p8 .before .pre .0 in
-    let e = p4 .before .before .loop .inv .1 in
-    omega arith
-
-add-i : tie.Need-add-i Inv-loop μ-loop
-add-i c = search needs
-
-loop-less : tie.Need-loop-less Inv-loop μ-loop
-loop-less c = search needs
+slice-write-words c = omega (arith, points (c .before), few (c .before), enough (c .before))
 
 loop-again : tie.Need-loop-again Inv-loop μ-loop
 loop-again c =
-    let p4 = c .before .before .before .before in
-    let p8 = p4 .before .before .before .before in
-    let f = inside (p8 .before .args .n) (p4 .before .before .loop .i) (p8 .before .args .rules .now) (p8 .before .pre .2) (search needs) in
-    let m = p8 .before .pre .1 in
-    let w = getD (p8 .before .args .rules .now) (p4 .before .before .loop .i) 0 in (
+    let met = c .before in
+    let turn = test met .before .loop in
+    let w = getD (start met .args .rules .now) (turn .i) 0 in (
       search needs,
-      simp length-set (p4 .before .before .loop .inv .1),
+      simp length-set (turn .inv .1),
       rw
-          (c .before .before .before .before2 .ensures, c .before .after .ensures, shl-one (after w - 1) (omega arith))
-          (sym (rules-on _ (p4 .before .before .loop .i) bitRow _ (search needs)) ∙ p4 .before .before .loop .inv .2),
+          (met .before .before .before2 .ensures, met .after .ensures, shl-one (after w - 1) (omega (arith, points met, few met)))
+          (sym (rules-on _ (turn .i) bitRow _ (search needs)) ∙ turn .inv .2),
     )
 
 same-length : tie.Need-same-length Inv-loop μ-loop
@@ -147,12 +90,12 @@ mark-spec =
     Inv-loop
     μ-loop
     loop-holds
-    mul-before
-    shared-slice-read-before
-    before-requires
-    mul-after
-    shared-slice-read-after
-    after-requires
+    (λ c. search needs)
+    (λ c. search needs)
+    (λ c κs. search needs)
+    (λ c. search needs)
+    (λ c. search needs)
+    (λ c κs. search needs)
     sub-words
     mul-words
     slice-read-words
@@ -162,8 +105,8 @@ mark-spec =
     sub-words-3
     mul-words-2
     slice-write-words
-    add-i
-    loop-less
+    (λ c. search needs)
+    (λ c. search needs)
     loop-again
     same-length
     returns)

@@ -15,13 +15,15 @@ returns-2 c = simp (c .before .if2 .taken, c .before .before .before .if1 .left)
 
 returns-3 : tie.Need-returns-3
 unfolding reading
-returns-3 c = simp (eq-eqb _ _ (c .before .if3 .taken), c .before .before .before .if2 .left, c .before .before .before .before .before .if1 .left)
-    (c .next3 .ensures)
+returns-3 c =
+    let several = c .before .before .before in
+    simp (eq-eqb _ _ (c .before .if3 .taken), several .if2 .left, several .before .before .if1 .left) (c .next3 .ensures)
 
 returns-4 : tie.Need-returns-4
 unfolding reading
-returns-4 c = simp (ne-eqb _ _ (c .before .if3 .left), c .before .before .before .if2 .left, c .before .before .before .before .before .if1 .left)
-    (c .next4 .ensures)
+returns-4 c =
+    let several = c .before .before .before in
+    simp (ne-eqb _ _ (c .before .if3 .left), several .if2 .left, several .before .before .if1 .left) (c .next4 .ensures)
 
 pub after-reading-spec : {M : Type 1} → statement M
 after-reading-spec =

@@ -1,7 +1,7 @@
 -- `step13`, with what the calls answer put in; each return is one of its cases.
 use borrow.Author.Needs.{needs}
 use borrow.Author.Tests.{le-leb, lt-leb}
-use Rattle.places.proofs.Stack.{step13}
+use Rattle.places.proofs.OnStack.{step13}
 use Rattle.places.proofs.pool.at13.Statement.{statement}
 use Rattle.places.proofs.pool.at13.Tie as tie
 

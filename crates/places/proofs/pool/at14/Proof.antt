@@ -1,7 +1,7 @@
 -- `step14`, with what the calls answer put in; each return is one of its cases.
 use borrow.Author.Needs.{needs}
 use borrow.Author.Tests.{eq-eqb, ne-eqb, lt-ltb, le-ltb}
-use Rattle.places.proofs.Stack.{step14}
+use Rattle.places.proofs.OnStack.{step14}
 use Rattle.places.proofs.pool.at14.Statement.{statement}
 use Rattle.places.proofs.pool.at14.Tie as tie
 

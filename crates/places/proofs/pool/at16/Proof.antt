@@ -1,6 +1,6 @@
 -- `step16`, with what the calls answer put in.
 use borrow.Author.Needs.{needs}
-use Rattle.places.proofs.Stack.{step16}
+use Rattle.places.proofs.OnStack.{step16}
 use Rattle.places.proofs.pool.at16.Statement.{statement}
 use Rattle.places.proofs.pool.at16.Tie as tie
 

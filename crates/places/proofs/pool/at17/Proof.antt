@@ -1,7 +1,7 @@
 -- `step17`, with what the calls answer put in; each return is one of its cases.
 use borrow.Author.Needs.{needs}
 use borrow.Author.Tests.{eq-eqb, ne-eqb, lt-ltb, le-ltb}
-use Rattle.places.proofs.Stack.{step17}
+use Rattle.places.proofs.OnStack.{step17}
 use Rattle.places.proofs.pool.at17.Statement.{statement}
 use Rattle.places.proofs.pool.at17.Tie as tie
 

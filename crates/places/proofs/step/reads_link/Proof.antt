@@ -1,23 +1,25 @@
 -- Each return is a case of `linkRead`.
-use mathlib.Core.Path.{sym, _∙_}
+use mathlib.Core.Path.{_≡_, sym, _∙_}
+use mathlib.Core.Bool.{true}
 use borrow.Author.Tests.{eq-eqb, ne-eqb}
-use Rattle.places.specs.Ending.{linkRead}
+use Rattle.places.specs.Ending.{rowSound, linkRead}
 use Rattle.places.proofs.step.reads_link.Statement.{statement}
 use Rattle.places.proofs.step.reads_link.Tie as tie
 
+is-sound : (s : tie.Then1) → (let a = s .before .before .args in rowSound (a .c .slots) (a .r .neighbour) (a .w) ≡ true)
+is-sound s = sym (s .before .row-sound .ensures) ∙ s .if1 .taken
+
 returns : tie.Need-returns
 unfolding linkRead
-returns c = rw (
-  sym (c .before .before .before .before .before .row-sound .ensures) ∙ c .before .before .before .before .if1 .taken,
-  eq-eqb _ _ (rw (c .before .before .before .unpack .ensures) at (c .before .if2 .taken)),
-) (c .settles .ensures)
+returns c =
+    let link = c .before .before .before in
+    rw (is-sound (link .before), eq-eqb _ _ (rw (link .unpack .ensures) at (c .before .if2 .taken))) (c .settles .ensures)
 
 returns-2 : tie.Need-returns-2
 unfolding linkRead
-returns-2 c = rw (
-  sym (c .before .before .before .before .before .row-sound .ensures) ∙ c .before .before .before .before .if1 .taken,
-  ne-eqb _ _ (rw (c .before .before .before .unpack .ensures) at (c .before .if2 .left)),
-) (c .settles2 .ensures)
+returns-2 c =
+    let link = c .before .before .before in
+    rw (is-sound (link .before), ne-eqb _ _ (rw (link .unpack .ensures) at (c .before .if2 .left))) (c .settles2 .ensures)
 
 returns-3 : tie.Need-returns-3
 unfolding linkRead

@@ -9,8 +9,8 @@ use borrow.Author.Tests.{not-true, not-false}
 use Rattle.model.specs.declared.Control.{Control}
 use Rattle.model.specs.declared.Record.{Record}
 use Rattle.model.specs.Tables.{isPooled}
-use Rattle.engine.specs.Parts.{recordRefusal}
-use Rattle.engine.proofs.Whole.{above}
+use Rattle.model.specs.Refusals.{recordRefusal}
+use Rattle.engine.proofs.InParts.{above}
 use Rattle.rows.specs.Rows.{controlOf, callOf}
 use Rattle.rows.proofs.InItsRow.{no-call, unsound, passes, refuses, at-its-place}
 use Rattle.rows.proofs.moving.early.Statement.{statement}

@@ -6,9 +6,9 @@ use lib.Dec.{eqb}
 use Rattle.word.specs.declared.Anchor.{Anchor}
 use Rattle.word.specs.Anchor.{anchorOf}
 use Rattle.model.specs.declared.Record.{Record}
-use Rattle.model.specs.Tables.{near}
-use Rattle.model.specs.Sound.{helping}
 use Rattle.model.specs.Places.{sideOf}
+use Rattle.model.specs.Sides.{near}
+use Rattle.model.specs.Kinds.{helping}
 use Rattle.schedule_search.proofs.undo.end_seen.Statement.{statement}
 use Rattle.schedule_search.proofs.undo.end_seen.Tie as tie
 

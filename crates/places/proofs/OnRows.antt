@@ -1,0 +1,155 @@
+-- The model's step at the places that touch a slot row or a mark, in the terms of this crate: 3, 5, 7, 9 and 11.
+use mathlib.Core.Path.{_≡_, refl, ap}
+use mathlib.Core.Bool.{Bool, true, false, not, cond}
+use mathlib.Core.List.{List}
+use Prim.Native.Nat.{ℕ, _+_, _/_, _^_}
+use lib.Dec.{eqb, ltb}
+use lib.ListN.{getD, set}
+use Rattle.word.specs.Anchor.{anchorOf}
+use Rattle.word.specs.Link.{linkOf, packLink}
+use Rattle.model.specs.declared.Control.{Control}
+use Rattle.model.specs.declared.Record.{Record}
+use Rattle.model.specs.Tables.{Tables, isPooled, withMark, tablesOf, withNeighbour, withLink, withOwn}
+use Rattle.model.specs.Sound.{from1, linkSound}
+use Rattle.model.specs.Places.{row, sideOf, linkSide, at3, at5, at7, at9, at11, move}
+use Rattle.model.specs.Refusals.{stepSound}
+use Rattle.model.specs.Route.{route, pushRoute, popRoute, goes, counted}
+use Rattle.model.specs.Calls.{Acted, finish}
+use Rattle.model.specs.declared.Transition.{Transition}
+use Rattle.table.specs.Lent.{withTables}
+use Rattle.places.specs.Arm.{stepAt}
+use Rattle.places.specs.Ending.{refused, settled, noEntry, failing, rowSound, neighbourRead, linkRead}
+use Rattle.places.proofs.Routes.{kinds, Quiet, entry, quietly}
+use Rattle.model.proofs.tests.Truth.{split}
+
+-- The side that a status names, and the opposite of a side.
+mirror : (b : Bool) → eqb (cond b 1 0) 1 ≡ b
+mirror true = refl
+mirror false = refl
+
+turn : (b : Bool) → eqb (cond b 0 1) 1 ≡ not b
+turn true = refl
+turn false = refl
+
+module _ (c : Control) (r : Record) where
+  -- The end as read at a side, and the side: the task's, and at places 5 to 10 the one that the status names.
+  abbrev pub end : Bool → ℕ
+  end right = cond right (anchorOf (r .seen) .right) (anchorOf (r .seen) .left)
+
+  abbrev pub own : Bool
+  own = eqb (r .side) 1
+
+  abbrev pub named : Bool
+  named = eqb (anchorOf (r .seen) .status) 1
+
+  module _ (ls rs ns ms xs : List ℕ) (k : ℕ) where
+    abbrev lent : Transition → Acted
+    lent m = withTables m ls rs ns ms xs k
+
+    abbrev q : Tables
+    q = tablesOf c ls rs ns ms xs
+
+    -- Slot x's link word stored at a side.
+    abbrev pub linked : Transition → Bool → ℕ → ℕ → Acted
+    linked m right x w = withTables m (cond right ls (set ls x w)) (cond right (set rs x w) rs) ns ms xs k
+
+    pub push3 :
+        eqb (r .kind) 0 ≡ true
+        → (let w = getD (cond (not own) rs ls) (r .own) 0 in
+        cond (rowSound (c .slots) (r .own) w)
+        (linked (settled c r (route 3 (r .kind) 0) noEntry) (not own) (r .own) (packLink (record { tag = linkOf w .tag; slot = end own })))
+        (lent (refused c r))
+        ≡ stepAt 3 q r k)
+    unfolding stepAt stepSound move row sideOf linkSide at3 finish rowSound settled goes counted route pushRoute popRoute
+    push3 k =
+        let w = getD (cond (not own) rs ls) (r .own) 0 in
+        split (from1 (c .slots) (r .own))
+        (λ f. split (linkSound (c .slots) w)
+        (λ l. simp (k, turn, f, l) (ap (λ m. linked m (not own) (r .own) (packLink (record { tag = linkOf w .tag; slot = end own })))
+        (quietly c r (route 3 0 0) (entry (r .own) ns) refl)))
+        (λ l. simp (k, turn, f, l)))
+        (λ f. simp (k, turn, f))
+
+    pub pop3 :
+        eqb (r .kind) 0 ≡ false
+        → lent (neighbourRead c r (end own) (getD (cond (not own) rs ls) (end own) 0) (route 3 (r .kind) 0)) ≡ stepAt 3 q r k
+    unfolding stepAt stepSound move row sideOf linkSide at3 finish neighbourRead rowSound settled goes counted route pushRoute popRoute
+    pop3 k =
+        let w = getD (cond (not own) rs ls) (end own) 0 in
+        split (from1 (c .slots) (end own))
+        (λ f. split (linkSound (c .slots) w)
+        (λ l. simp (k, turn, f, l) (ap lent (quietly c (withNeighbour r (linkOf w .slot)) (route 3 1 0) (entry (end own) ns) refl)))
+        (λ l. simp (k, turn, f, l)))
+        (λ f. simp (k, turn, f))
+
+    pub step5 : lent (neighbourRead c r (end named) (getD (cond (not named) rs ls) (end named) 0) (route 5 (r .kind) 0)) ≡ stepAt 5 q r k
+    unfolding stepAt stepSound move row sideOf linkSide at5 finish neighbourRead rowSound settled goes counted route pushRoute popRoute
+    step5 =
+        let w = getD (cond (not named) rs ls) (end named) 0 in
+        split (from1 (c .slots) (end named))
+        (λ f. split (linkSound (c .slots) w)
+        (λ l. simp (mirror, turn, f, l)
+        (ap lent (quietly c (withNeighbour r (linkOf w .slot)) (route 5 (r .kind) 0) (entry (end named) ns) (kinds Quiet 5 (r .kind) 0 refl refl))))
+        (λ l. simp (mirror, turn, f, l)))
+        (λ f. simp (mirror, turn, f))
+
+    pub step7 : lent (linkRead c r (end named) (getD (cond named rs ls) (r .neighbour) 0) (route 7 (r .kind) 0) (route 7 (r .kind) 1))
+        ≡ stepAt 7 q r k
+    unfolding stepAt stepSound move row sideOf linkSide at7 finish linkRead rowSound settled goes counted route pushRoute popRoute
+    step7 =
+        let w = getD (cond named rs ls) (r .neighbour) 0 in
+        split (from1 (c .slots) (r .neighbour))
+        (λ f. split (linkSound (c .slots) w)
+        (λ l. split (eqb (linkOf w .slot) (end named))
+        (λ s. simp (mirror, f, l, s) (ap lent
+        (quietly c (withLink r w) (route 7 (r .kind) 0) (entry (r .neighbour) ns) (kinds Quiet 7 (r .kind) 0 refl refl))))
+        (λ s. simp (mirror, f, l, s) (ap lent
+        (quietly c (withLink r w) (route 7 (r .kind) 1) (entry (r .neighbour) ns) (kinds Quiet 7 (r .kind) 1 refl refl)))))
+        (λ l. simp (mirror, f, l)))
+        (λ f. simp (mirror, f))
+
+    pub step9 :
+        cond (from1 (c .slots) (r .neighbour))
+        (cond (eqb (getD (cond named rs ls) (r .neighbour) 0) (r .link))
+        (cond (ltb (linkOf (r .link) .tag) 4294967295)
+        (linked (settled c r (route 9 (r .kind) 0) noEntry) named (r .neighbour) (packLink (record { tag = r .link / 2 ^ 32 + 1; slot = end named })))
+        (lent (refused c r)))
+        (lent (failing (settled c r (route 9 (r .kind) 1) noEntry))))
+        (lent (refused c r))
+        ≡ stepAt 9 q r k
+    unfolding stepAt stepSound move row sideOf linkSide at9 finish settled goes counted route pushRoute popRoute
+    step9 =
+        split (from1 (c .slots) (r .neighbour))
+        (λ f. split (eqb (getD (cond named rs ls) (r .neighbour) 0) (r .link))
+        (λ s. split (ltb (linkOf (r .link) .tag) 4294967295)
+        (λ t. simp (mirror, f, s, t) (ap (λ m. linked m named (r .neighbour) (packLink (record { tag = r .link / 2 ^ 32 + 1; slot = end named })))
+        (quietly c r (route 9 (r .kind) 0) (entry (r .neighbour) ns) (kinds Quiet 9 (r .kind) 0 refl refl))))
+        (λ t. simp (mirror, f, s, t)))
+        (λ s. simp (mirror, f, s) (ap (λ m. lent (failing m))
+        (quietly c r (route 9 (r .kind) 1) (entry (r .neighbour) ns) (kinds Quiet 9 (r .kind) 1 refl refl)))))
+        (λ f. simp (mirror, f))
+
+    -- The label of the end taken is the answer's, or in a pooled queue the record's.
+    pub named11 : isPooled c ≡ false →
+        cond (from1 (c .slots) (end own))
+        (withTables (settled c r (route 11 (r .kind) 0) (entry (end own) ns)) ls rs ns (withMark ms (end own) 0) xs k)
+        (lent (refused c r))
+        ≡ stepAt 11 q r k
+    unfolding stepAt stepSound move row sideOf at11 finish settled goes counted
+    named11 p = split (from1 (c .slots) (end own)) (λ f. simp (p, f)) (λ f. simp (p, f))
+
+    pub pooled11 : isPooled c ≡ true →
+        cond (from1 (c .slots) (end own))
+        (withTables (settled c (withOwn r (end own) (getD ns (end own) 0)) (route 11 (r .kind) 1) noEntry) ls rs ns (withMark ms (end own) 0) xs k)
+        (lent (refused c r))
+        ≡ stepAt 11 q r k
+    unfolding stepAt stepSound move row sideOf at11 finish settled goes counted route pushRoute popRoute
+    pooled11 p = split (from1 (c .slots) (end own))
+        (λ f. simp (p, f)
+        (ap (λ m. withTables m ls rs ns (withMark ms (end own) 0) xs k)
+        (quietly c (withOwn r (end own) (getD ns (end own) 0)) (route 11 (r .kind) 1) (entry (end own) ns) (kinds Quiet 11 (r .kind) 1 refl refl))))
+        (λ f. simp (p, f))
+
+    pub refused11 : from1 (c .slots) (end own) ≡ false → lent (refused c r) ≡ stepAt 11 q r k
+    unfolding stepAt stepSound move row sideOf at11 finish counted
+    refused11 f = split (isPooled c) (λ p. simp (p, f)) (λ p. simp (p, f))
