@@ -1,4 +1,3 @@
-pub mod Thirteen
 pub mod Ends
 pub mod Places
 pub mod Early

@@ -8,29 +8,8 @@ ghost use Rattle.model.specs.Tables.{isPooled};
 ghost use Rattle.model.specs.Refusals.{first, tableRules, admission, alone};
 ghost use Rattle.sound.specs.Lengths.{lengthsFit};
 
-/// 34 for control and Anchor, and 12; `enough`: there are as many records as tasks.
-pub fn table_refusal(
-    c: Control,
-    enough: bool,
-    lefts: usize,
-    rights: usize,
-    labels: usize,
-    marks: usize,
-    next: usize,
-) -> u32
-    ensures { λ why. ⌜ why ≡ first (tableRules c (lengthsFit (isPooled c) (c .slots) lefts rights labels marks next && enough)) ⌝ }
-{
-    if !crate::control_sound(c) {
-        return 34;
-    }
-    let pooled = c.pooled == 1;
-    if !crate::rows_fit(pooled, c.slots, lefts, rights, labels, marks, next) {
-        return 12;
-    }
-    if enough { 0 } else { 12 }
-}
-
-/// The same and 13; `known`: the task is one of the tasks.
+/// 34 for control and Anchor, 12 and 13; `enough`: there are as many records as tasks, `known`: the task is one of
+/// them.
 pub fn admission(
     c: Control,
     enough: bool,
@@ -45,11 +24,33 @@ pub fn admission(
         ⌜ why
         ≡ admission c (lengthsFit (isPooled c) (c .slots) lefts rights labels marks next) (record { enough = enough; known = known }) ⌝ }
 {
-    let why = table_refusal(c, enough, lefts, rights, labels, marks, next);
-    if why != 0 {
-        return why;
+    if !crate::control_sound(c) {
+        return 34;
+    }
+    let pooled = c.pooled == 1;
+    if !crate::rows_fit(pooled, c.slots, lefts, rights, labels, marks, next) {
+        return 12;
+    }
+    if !enough {
+        return 12;
     }
     if known { 0 } else { 13 }
+}
+
+/// The same where no task is named: 34 and 12.
+pub fn table_refusal(
+    c: Control,
+    enough: bool,
+    lefts: usize,
+    rights: usize,
+    labels: usize,
+    marks: usize,
+    next: usize,
+) -> u32
+    ensures { λ why. ⌜ why ≡ first (tableRules c (lengthsFit (isPooled c) (c .slots) lefts rights labels marks next && enough)) ⌝ }
+{
+    let known = true;
+    admission(c, enough, known, lefts, rights, labels, marks, next)
 }
 
 /// The same for task `task` among `records` lent records.

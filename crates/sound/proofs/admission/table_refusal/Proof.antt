@@ -1,39 +1,11 @@
--- Each return is the first rule that applies, by the tests passed before it.
-use mathlib.Core.Path.{sym, _∙_}
-use borrow.Author.Tests.{not-true, not-false}
+-- Where the task is known, 13 does not apply.
+use Rattle.model.specs.Refusals.{admission}
 use Rattle.sound.proofs.admission.table_refusal.Statement.{statement}
 use Rattle.sound.proofs.admission.table_refusal.Tie as tie
 
 returns : tie.Need-returns
-returns c = simp (sym (c .before .control-sound .ensures) ∙ not-true _ (c .if1 .taken))
-
-returns-2 : tie.Need-returns-2
-returns-2 c =
-    let sound = c .before .before .before in
-    simp (
-      sym (sound .before .control-sound .ensures) ∙ not-false _ (sound .if1 .left),
-      sym (c .before .rows-fit .ensures) ∙ not-true _ (c .if2 .taken),
-    )
-
-returns-3 : tie.Need-returns-3
-returns-3 c =
-    let fit = c .before in
-    let sound = fit .before .before .before in
-    simp (
-      sym (sound .before .control-sound .ensures) ∙ not-false _ (sound .if1 .left),
-      sym (fit .before .rows-fit .ensures) ∙ not-false _ (fit .if2 .left),
-      c .if3 .taken,
-    )
-
-returns-4 : tie.Need-returns-4
-returns-4 c =
-    let fit = c .before in
-    let sound = fit .before .before .before in
-    simp (
-      sym (sound .before .control-sound .ensures) ∙ not-false _ (sound .if1 .left),
-      sym (fit .before .rows-fit .ensures) ∙ not-false _ (fit .if2 .left),
-      c .if3 .left,
-    )
+unfolding admission
+returns c = c .admission .ensures
 
 pub table-refusal-spec : {M : Type 1} → statement M
-table-refusal-spec = tie.close (tie.spec (λ _ _. tt) returns (λ _ _. tt) returns-2 returns-3 returns-4)
+table-refusal-spec = tie.close (tie.spec (λ _ _. tt) returns)
