@@ -20,12 +20,12 @@ use Rattle.stock_model.specs.Accounts.{Accounted}
 use Rattle.shelf_model.specs.Shelves.{returnRefusal, saveRefusal}
 use Rattle.shelf_model.specs.Changeovers.{Action, AfterOpening, World, shows, unbroken}
 
--- Demand 3: the clerk has served what was done up to the saving and what follows the return.
+-- Demand 3: the sequential deque has served what was done up to the saving and what follows the return.
 pub record Served (w : World) : Type 0 where
   pub calls : All (λ (c : Call). Lawful c (c .ending)) (ledger (w .past .events) .calls)
   pub waits : contents (w .queue .tables) ≡ entries (ledger (w .past .events) .deque)
 
--- 34 never occurs: not at a start or step, not at a report, which tells the length of the clerk's queue, not at a saving or a return.
+-- 34 never occurs: not at a start or step, not at a report, which tells the length of its queue, not at a saving or a return.
 pub record NeverUnsound (w : World) : Type 0 where
   pub operations : All (λ (e : Event). e .outcome ≡ Refused 34 → ⊥) (w .past .events)
   pub told : Report

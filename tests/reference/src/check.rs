@@ -1,8 +1,8 @@
-//! The judge of a run: no 34, the clerk content, the labels waiting his, *no slot* only when
+//! The judge of a run: no 34, the sequential deque content, the labels waiting its, *no slot* only when
 //! there is none, the tasks' retries adding up, the invariant kept.
 
-use crate::clerk::Clerk;
 use crate::contents;
+use crate::deque::SequentialDeque;
 use crate::invariant;
 use crate::machine::Moved;
 use crate::pool;
@@ -13,7 +13,7 @@ use crate::tables::Tables;
 
 #[derive(Clone, Default, PartialEq, Eq, Hash)]
 pub struct Judge {
-    clerk: Clerk,
+    deque: SequentialDeque,
     /// Anchor before the event that comes next.
     anchor: u64,
     /// A slot that nobody used when a push without a slot was about to step.
@@ -37,14 +37,14 @@ impl Watcher for Judge {
             (_, Reply::Refused(Refusal::Unsound)) => return Err("34 occurs".into()),
             (Call::File, _) | (Call::Open { .. }, Reply::Refused(_)) => return Ok(()),
             (Call::Open { .. }, _) => {}
-            _ => self.clerk.follow(event, self.anchor, tables.shared.control.anchor)?,
+            _ => self.deque.follow(event, self.anchor, tables.shared.control.anchor)?,
         }
         if let (Reply::Moved(Moved::NoSlot), Some(slot)) = (event.reply, self.idle_slot) {
             return Err(format!("no slot is answered, and nobody uses slot {slot}"));
         }
         self.ledger.after(tables, event)?;
         self.queue_agrees(tables)?;
-        invariant::check(tables, self.clerk.queue())
+        invariant::check(tables, self.deque.queue())
     }
 }
 
@@ -53,10 +53,10 @@ impl Judge {
         let Some(entries) = contents::waiting(&tables.shared) else {
             return Err("waiting: the walk from end to end is broken".into());
         };
-        if entries.iter().eq(self.clerk.queue()) {
+        if entries.iter().eq(self.deque.queue()) {
             return Ok(());
         }
-        let queue = self.clerk.queue();
-        Err(format!("waiting: the tables hold {entries:?}, the clerk {queue:?}"))
+        let queue = self.deque.queue();
+        Err(format!("waiting: the tables hold {entries:?}, the deque {queue:?}"))
     }
 }

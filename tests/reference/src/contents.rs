@@ -1,6 +1,6 @@
 //! The labels waiting, in order: document 01, "Places", last paragraph, and document 02, #102.
 
-use crate::clerk::Entry;
+use crate::deque::Entry;
 use crate::tables::Shared;
 use crate::word::{Anchor, Link, Side, LPUSH};
 

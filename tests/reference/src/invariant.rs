@@ -1,14 +1,14 @@
 //! What holds between any two steps, in numbered lines: 1 to 13 of every queue, 14 to 20 of
 //! a pooled one; 0 and 21 frame them.
 //!
-//! Q is the clerk's queue. For a busy task, `seen` is its Anchor as read; it is *current*
+//! Q is the sequential deque's queue. For a busy task, `seen` is its Anchor as read; it is *current*
 //! if it equals Anchor. `side` is the one that the status as read names at 5 to 10, and the
 //! task's elsewhere; `end` is the end of `seen` at that side. A link is *inward* from an end
 //! if it leads to the other end, *outward* if it leads away from it.
 
 mod stack;
 
-use crate::clerk::Entry;
+use crate::deque::Entry;
 use crate::pool;
 use crate::refusal;
 use crate::tables::{Record, Shared, Tables, POP, PUSH};

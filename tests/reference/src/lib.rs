@@ -5,7 +5,7 @@
 //! The program: `runfile` (fields in), `run` (events), `trace` (lines out).
 //! Over the tables: `sheet` (document 02, #111 and #112), `schedules` (#107), `join` (#113),
 //! `shelf` (#109).
-//! The judge: `clerk` (a sequential deque), `contents` (labels waiting), `pool` (free
+//! The judge: `deque` (sequential, document 01's clerk), `contents` (labels waiting), `pool` (free
 //! slots), `invariant` (what holds between any two steps), `retries` (the counts' sum), `check`
 //! (all of them at once).
 //! The differential test: `dice`, `script`, `shift`, `scenario`, `malformed`, `coverage`, `ways`.
@@ -13,10 +13,10 @@
 
 pub mod audit;
 pub mod check;
-pub mod clerk;
 pub mod contents;
 pub mod coverage;
 pub mod damage;
+pub mod deque;
 pub mod dice;
 pub mod find;
 pub mod invariant;

@@ -62,7 +62,7 @@ fn content_with_the_machine() {
 #[test]
 fn objects_to_another_label() {
     let objection = pop_left(Moved::Popped { slot: 1, label: 11 }, |_| {}).unwrap_err();
-    assert!(objection.starts_with("clerk: task 0 answers"), "{objection}");
+    assert!(objection.starts_with("deque: task 0 answers"), "{objection}");
 }
 
 #[test]
@@ -165,10 +165,10 @@ fn objects_to_no_slot_for_a_pop() {
     storage.lend().pop(0, 0).expect("starts");
     follow(&mut judge, &mut storage, Call::Pop { side: 0 }, Reply::Done).expect("no objection");
     let objection = step(&mut judge, &mut storage, 0, |_| Moved::NoSlot).unwrap_err();
-    assert!(objection.starts_with("clerk: task 0 answers"), "{objection}");
+    assert!(objection.starts_with("deque: task 0 answers"), "{objection}");
 }
 
-/// The clerk is told the end that the effect sets, so a label in another slot is seen.
+/// The sequential deque is told the end that the effect sets, so a label in another slot is seen.
 #[test]
 fn objects_to_a_pooled_push_elsewhere() {
     let mut storage = Storage::default();

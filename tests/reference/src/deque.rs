@@ -1,4 +1,4 @@
-//! The clerk of document 01: a sequential deque, served effect by effect.
+//! The sequential deque, document 01's clerk, served effect by effect.
 //!
 //! It sees the starts, the answers and Anchor's ends, and nothing else of the program. Of a
 //! push that names no slot it is told the end that the effect sets on its side (#104).
@@ -33,12 +33,12 @@ struct OpenCall {
 }
 
 #[derive(Clone, Default, PartialEq, Eq, Hash)]
-pub struct Clerk {
+pub struct SequentialDeque {
     queue: VecDeque<Entry>,
     calls: [Option<OpenCall>; MOST_TASKS as usize],
 }
 
-impl Clerk {
+impl SequentialDeque {
     /// The entries from left to right.
     pub fn queue(&self) -> &VecDeque<Entry> {
         &self.queue
@@ -59,13 +59,13 @@ impl Clerk {
             }
             (Call::Pop { side }, Reply::Done) => self.begin(task, side, Wish::Pop),
             (Call::Step, Reply::Moved(moved)) => self.step(task, moved, before, after),
-            _ => Err(format!("clerk: no such event {event:?}")),
+            _ => Err(format!("deque: no such event {event:?}")),
         }
     }
 
     fn begin(&mut self, task: usize, side: u8, wish: Wish) -> Result<(), String> {
         if self.calls[task].is_some() {
-            return Err(format!("clerk: task {task} starts a call within a call"));
+            return Err(format!("deque: task {task} starts a call within a call"));
         }
         let side = Side::numbered(side.into());
         self.calls[task] = Some(OpenCall { side, wish, served: None });
@@ -74,12 +74,12 @@ impl Clerk {
 
     fn step(&mut self, task: usize, moved: Moved, before: u64, after: u64) -> Result<(), String> {
         let Some(mut call) = self.calls[task] else {
-            return Err(format!("clerk: task {task} steps outside any call"));
+            return Err(format!("deque: task {task} steps outside any call"));
         };
         let spoken = matches!(moved, Moved::Empty | Moved::NoSlot);
         if ends(before) != ends(after) || spoken {
             if call.served.is_some() {
-                return Err(format!("clerk: task {task}'s call has a second effect"));
+                return Err(format!("deque: task {task}'s call has a second effect"));
             }
             call.served = Some(self.serve(&call, moved, after));
         }
@@ -91,9 +91,9 @@ impl Clerk {
         match call.served {
             Some(reply) if reply == moved => Ok(()),
             Some(reply) => {
-                Err(format!("clerk: task {task} answers {moved:?}, the clerk {reply:?}"))
+                Err(format!("deque: task {task} answers {moved:?}, the deque {reply:?}"))
             }
-            None => Err(format!("clerk: task {task} answers {moved:?} without an effect")),
+            None => Err(format!("deque: task {task} answers {moved:?} without an effect")),
         }
     }
 
