@@ -1,13 +1,13 @@
 -- The numbers of the refusals in their order, and what a refusal tells, whatever the tables and the labels asked for. (Document 02, #110.)
 use mathlib.Core.Path.{_≡_, refl}
-use mathlib.Core.List.{List, [], _∷_, map}
+use mathlib.Core.List.{List, [], _∷_}
 use Prim.Native.Nat.{ℕ}
 use lib.ListN.{replicate}
 use Rattle.model.specs.Tables.{Tables}
-use Rattle.model.specs.Refusals.{Rule}
+use Rattle.model.proofs.laws.Order.{numbers}
 use Rattle.find_model.specs.Find.{findRules, refused}
 
-pub order : (q : Tables) (asked : List ℕ) → map (λ (r : Rule). r .number) (findRules q asked) ≡ 34 ∷ 45 ∷ 12 ∷ 34 ∷ []
+pub order : (q : Tables) (asked : List ℕ) → numbers (findRules q asked) ≡ 34 ∷ 45 ∷ 12 ∷ 34 ∷ []
 order q asked = refl
 
 -- A refusal is its number alone.

@@ -67,7 +67,7 @@ isBusy r = not (eqb (r .place) 0)
 abbrev pub late : Control → Bool
 late c = ltb 4294967262 (anchorOf (c .anchor) .tag)
 
--- What is looked at first in every call: 34 for control and Anchor, 12. Fit: the tables are long enough.
+-- What the starts, the steps and the report are asked first: 34 for control and Anchor, 12. Fit: the tables are long enough.
 abbrev pub tableRules : Control → Bool → List Rule
 tableRules c fit = rule 34 (not (controlSound c)) ∷ rule 12 (not fit) ∷ []
 
@@ -78,6 +78,7 @@ admissionRules c fit p = tableRules c (fit && p .enough) ++ (rule 13 (not (p .kn
 unfoldable pub admission : Control → Bool → Lent → ℕ
 admission c fit p = first (admissionRules c fit p)
 
+-- The rows are long enough for the queue's own slots.
 abbrev pub fits : Tables → Bool
 fits q = rowsFit (isPooled (q .control)) (q .control .slots) q
 

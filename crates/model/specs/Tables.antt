@@ -37,8 +37,8 @@ queueOf control records lefts rights labels marks next =
 abbrev pub isPooled : Control → Bool
 isPooled c = eqb (c .pooled) 1
 
--- The fields of control, of a call and of the tables are listed in this file alone: elsewhere they are made by the functions from here to
--- `taken`. Control as an opening leaves it: Anchor empty and STABLE with the first tag; in a pooled queue the head is tag 0, slot 1.
+-- The fields of control, of a call and of the tables are listed here alone, and in crate `rows`, which says which word is which field:
+-- elsewhere they are made by the functions of this file. Control as an opening leaves it: Anchor empty and STABLE with the first tag; in a pooled queue the head is tag 0, slot 1.
 abbrev pub openedControl : Bool → ℕ → ℕ → ℕ → Control
 openedControl pooled tasks slots tag =
     record { tasks = tasks; slots = slots; anchor = packAnchor (emptyAnchor tag); pooled = cond pooled 1 0; head = cond pooled 1 0 }

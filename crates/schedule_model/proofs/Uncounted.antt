@@ -9,7 +9,7 @@ use Rattle.model.specs.declared.TaskRecord.{TaskRecord}
 use Rattle.model.specs.declared.Outcome.{Outcome}
 use Rattle.model.specs.declared.Outcome.the-variants.{Refused}
 use Rattle.model.specs.declared.Op.the-variants.{Step}
-use Rattle.model.specs.Tables.{Tables, Queue}
+use Rattle.model.specs.Tables.{Tables, Queue, counting}
 use Rattle.model.specs.Places.{wordFound, move}
 use Rattle.model.specs.Refusals.{Lent, among, stepRefusal}
 use Rattle.model.specs.Calls.{Acted, finish, step, actOn, act}
@@ -17,10 +17,7 @@ use Rattle.schedule_model.specs.Schedules.{ends}
 use Rattle.schedule_model.specs.Next.{Next, noMore}
 use Rattle.schedule_model.specs.Search.{ended, orElse, stepped, skips, frees, seekOf}
 
--- A call with a count, and two of them with the tables.
-abbrev counting : Record → ℕ → TaskRecord
-counting c n = record { call = c; retries = n }
-
+-- Two records with the tables.
 abbrev pair : Tables → TaskRecord → TaskRecord → Queue
 pair q a b = record { tables = q; records = a ∷ b ∷ [] }
 

@@ -1,11 +1,11 @@
 -- Worked sheets, by computation.
 use mathlib.Core.Bool.{Bool, true, false}
-use mathlib.Core.List.{List, [], _∷_, map}
+use mathlib.Core.List.{List, [], _∷_}
 use mathlib.Core.Path.{_≡_, refl}
 use Prim.Native.Nat.{ℕ, _+_, _*_, _^_}
 use Rattle.model.specs.declared.Entry.{Entry}
 use Rattle.model.specs.Tables.{Tables}
-use Rattle.model.specs.Refusals.{Rule}
+use Rattle.model.proofs.laws.Order.{numbers}
 use Rattle.sheet_model.specs.declared.SheetReply.{SheetReply}
 use Rattle.sheet_model.specs.Sheet.{Sheet, through, chained, breaks, malformed}
 use Rattle.sheet_model.specs.Verdict.{brokenBy, kept, refused, sheetRules, inRow, inRows, verdict}
@@ -61,8 +61,8 @@ listed-twice = refl
 abbrev answered : ℕ → ℕ → ℕ → SheetReply
 answered code first second = record { code = code; first = first; second = second }
 
-numbers : kept ∷ brokenBy 2 3 ∷ refused 46 ∷ [] ≡ answered 0 0 0 ∷ answered 0 2 3 ∷ answered 46 0 0 ∷ []
-numbers = refl
+answers : kept ∷ brokenBy 2 3 ∷ refused 46 ∷ [] ≡ answered 0 0 0 ∷ answered 0 2 3 ∷ answered 46 0 0 ∷ []
+answers = refl
 
-order : (q : Tables) (s : Sheet) (enough : Bool) → map (λ (r : Rule). r .number) (sheetRules q s enough) ≡ 34 ∷ 46 ∷ 12 ∷ 34 ∷ []
+order : (q : Tables) (s : Sheet) (enough : Bool) → numbers (sheetRules q s enough) ≡ 34 ∷ 46 ∷ 12 ∷ 34 ∷ []
 order q s enough = refl
