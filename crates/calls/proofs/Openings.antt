@@ -14,7 +14,7 @@ use Rattle.model.specs.Refusals.{openingRules, openRefusal}
 use Rattle.model.specs.Calls.{stacked, opened, openAs, OpenDone}
 use Rattle.table.specs.Zeroing.{zeroing}
 use Rattle.table.specs.Stacking.{stacking}
-use Rattle.calls.specs.Opening.{openingRefusal, counting, OpenedParts, openTables, whole}
+use Rattle.calls.specs.Opening.{openingRefusal, manyRecords, OpenedParts, openTables, whole}
 use Rattle.model.proofs.tests.Rules.{cleared}
 use Rattle.model.proofs.tests.Truth.{and-true}
 use Rattle.model.specs.Lists.{zeroed}
@@ -52,7 +52,7 @@ module _ (pooled : Bool) (q : Tables) (records tasks slots : ℕ) where
   abbrev why : ℕ
   why = openingRefusal tasks slots fits
 
-  counted : openRefusal pooled (counting q records) tasks slots ≡ why
+  counted : openRefusal pooled (manyRecords q records) tasks slots ≡ why
   unfolding openRefusal openingRefusal
   counted = rw (length-replicate records unused)
 
@@ -102,7 +102,7 @@ module _ (pooled : Bool) (q : Tables) (records tasks slots : ℕ) where
 -- The opening of a queue is its parts.
 module _ (pooled : Bool) (q : Queue) (tasks slots tag : ℕ) where
   abbrev few : Queue
-  few = counting (q .tables) (length (q .records))
+  few = manyRecords (q .tables) (length (q .records))
 
   same-why : openRefusal pooled few tasks slots ≡ openRefusal pooled q tasks slots
   unfolding openRefusal

@@ -16,8 +16,8 @@ unfoldable pub openingRefusal : ℕ → ℕ → Bool → ℕ
 openingRefusal tasks slots fit = first (openingRules tasks slots fit)
 
 -- A queue with n records, of which only the number counts.
-abbrev pub counting : Tables → ℕ → Queue
-counting q n = record { tables = q; records = replicate n unused }
+abbrev pub manyRecords : Tables → ℕ → Queue
+manyRecords q n = record { tables = q; records = replicate n unused }
 
 pub record OpenedParts : Type 0 where
   pub tables : Tables
@@ -26,8 +26,8 @@ pub record OpenedParts : Type 0 where
 
 unfoldable pub openTables : Bool → Tables → ℕ → ℕ → ℕ → ℕ → OpenedParts
 openTables pooled q records tasks slots tag =
-    let done = openAs pooled (counting q records) tasks slots tag in
-    let clear : ℕ = cond (eqb (openRefusal pooled (counting q records) tasks slots) 0) tasks 0 in
+    let done = openAs pooled (manyRecords q records) tasks slots tag in
+    let clear : ℕ = cond (eqb (openRefusal pooled (manyRecords q records) tasks slots) 0) tasks 0 in
     record { tables = done .queue .tables; clear = clear; outcome = done .outcome }
 
 -- The parts with the lent records make the whole.

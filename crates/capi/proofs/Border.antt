@@ -29,7 +29,7 @@ use Rattle.sound.specs.Lengths.{lengthsFit}
 use Rattle.model.specs.Ends.{endsCall, isMoved}
 use Rattle.model.specs.Lists.{zeroed}
 use Rattle.calls.specs.declared.opening.OpenedTables.{OpenedTables}
-use Rattle.calls.specs.Opening.{counting, OpenedParts, openTables, whole}
+use Rattle.calls.specs.Opening.{manyRecords, OpenedParts, openTables, whole}
 use Rattle.calls.proofs.Openings.{clear-fits, open-parts}
 use Rattle.calls.specs.Telling.{countable}
 use Rattle.calls.proofs.Counts.{countable-fits}
@@ -57,7 +57,7 @@ nexts l o = record {
 
 module _ (c : Control) (lefts rights labels marks none next : List ℕ) (n tasks slots tag : ℕ) where
   abbrev lending : List ℕ → Queue
-  lending l = counting (tablesOf c lefts rights labels marks l) n
+  lending l = manyRecords (tablesOf c lefts rights labels marks l) n
 
   abbrev done : Bool → ℕ → List ℕ → OpenDone
   done b why l =
@@ -85,7 +85,7 @@ clear-uppers : (pooled : Bool) (q : Tables) (n tasks slots tag : ℕ) (us : List
     → zeroed (openTables pooled q n tasks slots tag .clear) 0 us ≡ uppersAt tasks us (openTables pooled q n tasks slots tag .outcome)
 unfolding openTables openAs
 clear-uppers pooled q n tasks slots tag us =
-    split (eqb (openRefusal pooled (counting q n) tasks slots) 0) (λ a. rw a) (λ a. rw a)
+    split (eqb (openRefusal pooled (manyRecords q n) tasks slots) 0) (λ a. rw a) (λ a. rw a)
 
 -- No more records are looked at than are lent, and 16 at the most.
 pub few : (rows : List (List ℕ)) (c : Control) (n k : ℕ) → n ≡ length rows → k ≡ countable c n → (k ≤ length rows) × (k ≤ 16)

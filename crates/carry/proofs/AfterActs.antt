@@ -20,7 +20,7 @@ use Rattle.model.specs.Lists.{zeroed}
 use Rattle.table.specs.Lent.{withTables}
 use Rattle.rows.specs.Rows.{recordsOf}
 use Rattle.rows.proofs.Rows.{length-records}
-use Rattle.calls.specs.Opening.{OpenedParts, counting, openTables, whole}
+use Rattle.calls.specs.Opening.{OpenedParts, manyRecords, openTables, whole}
 use Rattle.calls.proofs.Openings.{open-parts}
 use Rattle.lines.specs.Line.{Put, fitting, room, lineOf}
 use Rattle.lines.specs.declared.Line.the-variants.{Open, File}
@@ -93,12 +93,12 @@ unfolding openTables openAs
 clear-asked pooled q n tasks slots tag = go (eqb why 0)
   where
     why : ℕ
-    why = openRefusal pooled (counting q n) tasks slots
+    why = openRefusal pooled (manyRecords q n) tasks slots
 
     done : Bool → OpenDone
     done b =
-        cond b (record { queue = calls.opened pooled (counting q n) tasks slots tag; outcome = opening.Opened })
-        (record { queue = counting q n; outcome = opening.Refused why })
+        cond b (record { queue = calls.opened pooled (manyRecords q n) tasks slots tag; outcome = opening.Opened })
+        (record { queue = manyRecords q n; outcome = opening.Refused why })
 
     go : (b : Bool) → cond b tasks 0 ≡ cond (isOpened (done b .outcome)) tasks 0
     go true = refl
