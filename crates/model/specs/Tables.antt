@@ -38,7 +38,8 @@ abbrev pub isPooled : Control → Bool
 isPooled c = eqb (c .pooled) 1
 
 -- The fields of control, of a call and of the tables are listed here alone, and in crate `rows`, which says which word is which field:
--- elsewhere they are made by the functions of this file. Control as an opening leaves it: Anchor empty and STABLE with the first tag; in a pooled queue the head is tag 0, slot 1.
+-- elsewhere they are made by the functions of this file. Control as an opening leaves it: Anchor empty and STABLE with the first tag;
+-- in a pooled queue the head is tag 0, slot 1.
 abbrev pub openedControl : Bool → ℕ → ℕ → ℕ → Control
 openedControl pooled tasks slots tag =
     record { tasks = tasks; slots = slots; anchor = packAnchor (emptyAnchor tag); pooled = cond pooled 1 0; head = cond pooled 1 0 }
