@@ -1,5 +1,5 @@
 -- For every list of events: its effects, in the order of their places, are what the sequential deque served, with its replies.
-use mathlib.Core.Bool.{false, _&&_}
+use mathlib.Core.Bool.{Bool, false, true, _&&_}
 use mathlib.Core.List.{List, [], _∷_, _++_, append-assoc}
 use mathlib.Core.Path.{_≡_, refl, sym, ap, _∙_, subst}
 use Prim.Native.Nat.{ℕ, suc, _<_, _≤_}
@@ -14,7 +14,7 @@ use Rattle.model.specs.declared.Outcome.{Outcome}
 use Rattle.model.specs.declared.Outcome.the-variants.{Refused, Moved}
 use Rattle.model.specs.Deque.{Served, saysNoSlot, serve, serveFor, servePop, servePush, takeFirst, seenFrom}
 use Rattle.model.specs.History.{Call, Effect, Ending, Event, Ledger}
-use Rattle.model.specs.History.{accept, attend, begins, continued, ended, isEffect, isOpen, ledgerFrom, note, over, stepOf, toldEntry}
+use Rattle.model.specs.History.{accept, attend, begins, continued, ended, isEffect, isOpen, lacksSlot, ledgerFrom, note, over, stepOf, toldEntry}
 use Rattle.model.proofs.tests.Truth.{by-test}
 use Rattle.model.specs.Lists.{All}
 use Rattle.audit_model.specs.Written.{Taken, insert, insertAll, taken, effectsOf}
@@ -23,7 +23,7 @@ use Rattle.audit_model.proofs.Order.{insert-all, insert-before, insert-
 
 -- An effect served from deque d: the call gets its reply, a push with its label in some slot.
 abbrev pub servedIn : ℕ → Taken → List Entry → Served
-servedIn slot t d = serveFor (t .reply) (t .kind) (t .side) (record { slot = slot; label = t .entry .label }) d
+servedIn slot t d = serveFor (saysNoSlot (t .reply)) (t .kind) (t .side) (record { slot = slot; label = t .entry .label }) d
 
 -- Served one after another from deque d, these effects have these replies and leave deque d′.
 abbrev pub Replays : List Taken → List Entry → List Entry → Type 0
@@ -43,10 +43,10 @@ never-no-slot kind side e d = by-test (λ (s : Served). saysNoSlot (s .reply) �
     go [] = refl
     go (x ∷ l) = refl
 
-reply-tells : (a : Answer) (kind side : ℕ) (e : Entry) (d : List Entry)
-    → let s = serveFor a kind side e d in serveFor (s .reply) kind side e d ≡ s
+reply-tells : (lacks : Bool) (kind side : ℕ) (e : Entry) (d : List Entry)
+    → let s = serveFor lacks kind side e d in serveFor (saysNoSlot (s .reply)) kind side e d ≡ s
 unfolding serveFor
-reply-tells a kind side e d = by-test (λ (s : Served). serveFor (s .reply) kind side e d ≡ s) (saysNoSlot a)
+reply-tells lacks kind side e d = by-test (λ (s : Served). serveFor (saysNoSlot (s .reply)) kind side e d ≡ s) lacks
     (λ _. refl)
     (λ _. rw (never-no-slot kind side e d))
 
@@ -101,13 +101,13 @@ module _ (n : ℕ) (ev : Event) (a : Answer) (d : List Entry) where
 
   -- It takes effect behind them.
   takes : (c : Call) (cs : List Call) (l : Ledger) → EffectsBefore n c → All (EffectsBefore n) cs → Adds cs l
-      → let s = serveFor a (c .kind) (c .side) (toldEntry c ev) (l .deque) in
+      → let s = serveFor (lacksSlot c a) (c .kind) (c .side) (toldEntry c ev) (l .deque) in
       Adds (c ∷ cs) (record { deque = s .deque; calls = continued c (record { at = n; reply = s .reply } ∷ c .effects) (ended n a) ∷ l .calls })
   takes c cs l h hs g =
-      let s = serveFor a (c .kind) (c .side) (toldEntry c ev) (l .deque) in
+      let s = serveFor (lacksSlot c a) (c .kind) (c .side) (toldEntry c ev) (l .deque) in
       let e : Effect = record { at = n; reply = s .reply } in
       let t = taken (length (c ∷ cs)) (c .kind) (c .side) (c .entry) e in
-      let same = reply-tells a (c .kind) (c .side) (toldEntry c ev) (l .deque) in
+      let same = reply-tells (lacksSlot c a) (c .kind) (c .side) (toldEntry c ev) (l .deque) in
       record {
         new = g .new ++ (t ∷ []);
         count = ap suc (g .count);
@@ -155,14 +155,14 @@ pub record Replayed (n : ℕ) (l : Ledger) : Type 0 where
 later : (n : ℕ) (c : Call) → EffectsBefore n c → EffectsBefore (suc n) c
 later n c h = all-map (λ (e : Effect) w. omega arith) (c .effects) h
 
-begun : (n t kind side : ℕ) (e : Entry) (l : Ledger) → Replayed n l → Replayed (suc n) (over (begins n t kind side e) l)
-begun n t kind side e l g = record { before = (tt, all-map (later n) (l .calls) (g .before)); replays = g .replays }
+begun : (n t kind side : ℕ) (named : Bool) (e : Entry) (l : Ledger) → Replayed n l → Replayed (suc n) (over (begins n t kind side named e) l)
+begun n t kind side named e l g = record { before = (tt, all-map (later n) (l .calls) (g .before)); replays = g .replays }
 
 accepted : (n : ℕ) (ev : Event) (o : Op) (a : Answer) (l : Ledger) → Replayed n l → Replayed (suc n) (accept n ev o a l)
 unfolding accept
-accepted n ev (Push side slot label) a l g = begun n (ev .task) 0 side _ l g
-accepted n ev (Pop side) a l g = begun n (ev .task) 1 side _ l g
-accepted n ev (Put side label) a l g = begun n (ev .task) 0 side _ l g
+accepted n ev (Push side slot label) a l g = begun n (ev .task) 0 side true _ l g
+accepted n ev (Pop side) a l g = begun n (ev .task) 1 side false _ l g
+accepted n ev (Put side label) a l g = begun n (ev .task) 0 side false _ l g
 accepted n ev Step a l g =
     let z = attend-adds n ev a (l .deque) (l .calls) (g .before) in
     record {

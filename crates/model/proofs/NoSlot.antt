@@ -29,11 +29,9 @@ use Rattle.model.proofs.lists.In.{In}
 use Rattle.model.proofs.lists.Slots.{slots}
 use Rattle.model.proofs.machine.Book as B
 use Rattle.model.proofs.machine.Machine as M
-use Rattle.model.proofs.invariant.Tasks.{Task}
-use Rattle.model.proofs.places.NoSlot.{Holds, Lacks, Used, act-lacks, no-slot}
+use Rattle.model.proofs.places.NoSlot.{Holds, Used, no-slot}
 use Rattle.model.proofs.bridge.Accepted.{Stepping, step-accepted}
-use Rattle.model.proofs.bridge.EveryPlace.{step-seen}
-use Rattle.model.proofs.bridge.Operations.{reply, task-of}
+use Rattle.model.proofs.bridge.Operations.{reply, step-lacks}
 use Rattle.model.proofs.bridge.View.{anchorSeen, answerSeen, kindOf, placeList, placeOf, recOf, stateOf, view}
 use Rattle.model.proofs.ledger.EveryOperation.{run-good}
 use Rattle.model.proofs.ledger.Matched.{Matched}
@@ -121,19 +119,11 @@ module _ (n : ℕ) (q : Queue) (l : _) (g : Matched n q l) (t : ℕ) where
 
   -- The step that answers so has read an empty head.
   module _ (s : Stepping q t) (e : reply q (g .book) (g .inv) (g .links) t s ≡ NoSlot) where
-    empty-head : (view G .pooled ≡ true) × (view G .head .slot ≡ 0)
-    unfolding stateOf recOf
-    empty-head =
-        let w = subst (λ (x : M.Rec). Task (x .place) (view G) (g .inv .owner) t x (g .book .calls t)) (task-of q t (s .lies .known))
-        (g .inv .tasks t) in
-        let k = subst (Lacks (view G)) (step-seen G (s .control) (g .links) r (s .fine) (s .busy) (s .room))
-        (act-lacks (view G) (recOf r) (g .inv .owner) t (g .book .calls t) (placeOf (r .place)) w) in
-        k .lacks (ap (λ (a : Answer). B.isNoSlot (answerSeen a)) e)
-
     all-used : (x : ℕ) → 1 ≤ x → x ≤ G .control .slots → InUse q x
     unfolding stateOf view
-    all-used x some low = used-is n q l g x
-        (no-slot (record { state = stateOf q; book = g .book }) (g .inv) (empty-head .0) (empty-head .1) x (λ z. omega arith) low)
+    all-used x some low =
+        let z = step-lacks q (g .book) (g .inv) (g .links) t s (ap (λ (a : Answer). B.isNoSlot (answerSeen a)) e) in
+        used-is n q l g x (no-slot (record { state = stateOf q; book = g .book }) (g .inv) (z .0) (z .1) x (λ z. omega arith) low)
 
   pub told-truly : act q t Step .outcome ≡ Moved NoSlot → (x : ℕ) → 1 ≤ x → x ≤ G .control .slots → InUse q x
   unfolding act actOn step finish

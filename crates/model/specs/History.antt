@@ -21,7 +21,7 @@ use Rattle.model.specs.declared.Reported.the-variants as reported
 use Rattle.model.specs.Calls.{openAs, act}
 use Rattle.model.specs.Walk.{Walk, entries, contents}
 use Rattle.model.specs.Report.{report}
-use Rattle.model.specs.Deque.{serveFor}
+use Rattle.model.specs.Deque.{saysNoSlot, serveFor}
 use Rattle.model.specs.Sides.{near}
 use Rattle.model.specs.Lists.{every, All}
 use Rattle.model.specs.Kinds.{isPush, giving}
@@ -60,11 +60,13 @@ pub data Ending : Type 0 where
   pending : Ending
   answered : (at : ℕ) (answer : Answer) → Ending
 
--- A call begins with an accepted start; kind, side, slot and label are as its start named them. Its latest effect comes first.
+-- A call begins with an accepted start; kind, side, slot and label are as its start named them; `named` says whether it named a slot.
+-- Its latest effect comes first.
 pub record Call : Type 0 where
   pub task : ℕ
   pub kind : ℕ
   pub side : ℕ
+  pub named : Bool
   pub entry : Entry
   pub start : ℕ
   pub effects : List Effect
@@ -75,11 +77,20 @@ pub record Ledger : Type 0 where
   pub deque : List Entry
   pub calls : List Call
 
-abbrev pub begins : ℕ → ℕ → ℕ → ℕ → Entry → Call
-begins n t kind side e = record { task = t; kind = kind; side = side; entry = e; start = n; effects = []; ending = pending }
+abbrev pub begins : ℕ → ℕ → ℕ → ℕ → Bool → Entry → Call
+begins n t kind side named e = record { task = t; kind = kind; side = side; named = named; entry = e; start = n; effects = []; ending = pending }
 
 abbrev pub continued : Call → List Effect → Ending → Call
-continued c es e = record { task = c .task; kind = c .kind; side = c .side; entry = c .entry; start = c .start; effects = es; ending = e }
+continued c es e = record {
+  task = c .task;
+  kind = c .kind;
+  side = c .side;
+  named = c .named;
+  entry = c .entry;
+  start = c .start;
+  effects = es;
+  ending = e;
+}
 
 abbrev pub over : Call → Ledger → Ledger
 over c l = record { deque = l .deque; calls = c ∷ l .calls }
@@ -111,14 +122,18 @@ isEffect e a =
     let c = anchorOf (e .after) in
     not (eqb (b .left) (c .left) && eqb (b .right) (c .right)) || saysNone a
 
--- A push that named no slot (its entry has slot 0) is told, at its effect, with the end at its side of Anchor after that step.
+-- A push that named no slot is told, at its effect, with the end at its side of Anchor after that step.
 abbrev pub toldEntry : Call → Event → Entry
-toldEntry c e = record { slot = cond (eqb (c .entry .slot) 0) (near (c .side) (anchorOf (e .after))) (c .entry .slot); label = c .entry .label }
+toldEntry c e = record { slot = cond (c .named) (c .entry .slot) (near (c .side) (anchorOf (e .after))); label = c .entry .label }
+
+-- *No slot* is for pushes that named none. To any other call so answered the deque replies as ever: the answer is then not its reply.
+abbrev pub lacksSlot : Call → Answer → Bool
+lacksSlot c a = saysNoSlot a && (eqb (c .kind) 0 && not (c .named))
 
 -- The step at position n of call c: at an effect the sequential deque serves the call.
 unfoldable pub stepOf : ℕ → Event → Answer → List Entry → Call → List Call → Ledger
 stepOf n e a d c cs =
-    let s = serveFor a (c .kind) (c .side) (toldEntry c e) d in
+    let s = serveFor (lacksSlot c a) (c .kind) (c .side) (toldEntry c e) d in
     cond (isEffect e a)
     (record { deque = s .deque; calls = continued c (record { at = n; reply = s .reply } ∷ c .effects) (ended n a) ∷ cs })
     (record { deque = d; calls = continued c (c .effects) (ended n a) ∷ cs })
@@ -132,9 +147,9 @@ attend n e a d (c ∷ cs) =
 
 -- An accepted start adds a call, an accepted step is attended to; at a refusal nothing is done.
 unfoldable pub accept : ℕ → Event → Op → Answer → Ledger → Ledger
-accept n e (Push side slot label) a l = over (begins n (e .task) 0 side (record { slot = slot; label = label })) l
-accept n e (Pop side) a l = over (begins n (e .task) 1 side (record { slot = 0; label = 0 })) l
-accept n e (Put side label) a l = over (begins n (e .task) 0 side (record { slot = 0; label = label })) l
+accept n e (Push side slot label) a l = over (begins n (e .task) 0 side true (record { slot = slot; label = label })) l
+accept n e (Pop side) a l = over (begins n (e .task) 1 side false (record { slot = 0; label = 0 })) l
+accept n e (Put side label) a l = over (begins n (e .task) 0 side false (record { slot = 0; label = label })) l
 accept n e Step a l = attend n e a (l .deque) (l .calls)
 
 unfoldable pub note : ℕ → Event → Outcome → Ledger → Ledger

@@ -1,5 +1,5 @@
 -- What the effects in a ledger add up to, whatever its events: labels pushed are labels taken and labels in the deque.
-use mathlib.Core.Bool.{_&&_}
+use mathlib.Core.Bool.{Bool, _&&_}
 use mathlib.Core.List.{List, [], _∷_, _++_, reverse, reverse-cons}
 use mathlib.Core.Path.{_≡_, _∙_, ap, refl, sym}
 use Prim.Native.Nat.{ℕ, _+_}
@@ -13,8 +13,8 @@ use Rattle.model.specs.declared.Op.{Op}
 use Rattle.model.specs.declared.Op.the-variants.{Push, Pop, Put, Step}
 use Rattle.model.specs.declared.Outcome.{Outcome}
 use Rattle.model.specs.declared.Outcome.the-variants.{Refused, Moved}
-use Rattle.model.specs.Deque.{Served, saysNoSlot, seenFrom, serve, serveFor, servePop, servePush, takeFirst}
-use Rattle.model.specs.History.{Call, Effect, Event, Ledger, accept, attend, isEffect, isOpen, ledgerFrom, note, stepOf, toldEntry}
+use Rattle.model.specs.Deque.{Served, seenFrom, serve, serveFor, servePop, servePush, takeFirst}
+use Rattle.model.specs.History.{Call, Effect, Event, Ledger, accept, attend, isEffect, isOpen, lacksSlot, ledgerFrom, note, stepOf, toldEntry}
 use Rattle.stock_model.specs.Accounts.{poppedAs, pushedAs, pushedIn, sumOf, takenIn}
 use Rattle.model.proofs.tests.Truth.{by-test}
 use Rattle.model.specs.Lists.{All}
@@ -48,10 +48,10 @@ module _ (w : ℕ → ℕ) where
       let z : load d ≡ w (f .label) + load l = sym (load-seen side d) ∙ ap (λ (l : List Entry). load l) e in
       omega (arith, load-seen side l)
 
-  serve-fair : (a : Answer) (kind side : ℕ) (e : Entry) (d : List Entry) → Fair (e .label) d (serveFor a kind side e d)
+  serve-fair : (lacks : Bool) (kind side : ℕ) (e : Entry) (d : List Entry) → Fair (e .label) d (serveFor lacks kind side e d)
   unfolding serveFor serve servePush servePop sumOf
-  serve-fair a kind side e d =
-      by-test (Fair (e .label) d) (saysNoSlot a) (λ z. refl)
+  serve-fair lacks kind side e d =
+      by-test (Fair (e .label) d) lacks (λ z. refl)
       (λ z. by-test (Fair (e .label) d) (eqb kind 0)
       (λ z. let f = load-seen side (e ∷ seenFrom side d) in let g = load-seen side d in omega arith)
       (λ z. pop-fair (e .label) side d (seenFrom side d) refl))
@@ -64,7 +64,7 @@ module _ (w : ℕ → ℕ) where
       → Level (c ∷ cs) d (stepOf n e a (l .deque) c (l .calls))
   unfolding stepOf sumOf
   step-level n e a c cs d l h =
-      let f = serve-fair a (c .kind) (c .side) (toldEntry c e) (l .deque) in
+      let f = serve-fair (lacksSlot c a) (c .kind) (c .side) (toldEntry c e) (l .deque) in
       by-test (Level (c ∷ cs) d) (isEffect e a) (λ z. omega (arith, f, h)) (λ z. omega (arith, h))
 
   attend-level : (n : ℕ) (e : Event) (a : Answer) (d : List Entry) (cs : List Call) → Level cs d (attend n e a d cs)
@@ -102,10 +102,10 @@ Fits c e = e .reply ≡ Pushed → c .kind ≡ 0
 abbrev pub AllFit : List Call → Type 0
 AllFit cs = All (λ (c : Call). All (Fits c) (c .effects)) cs
 
-serve-fits : (a : Answer) (kind side : ℕ) (e : Entry) (d : List Entry) → serveFor a kind side e d .reply ≡ Pushed → kind ≡ 0
+serve-fits : (lacks : Bool) (kind side : ℕ) (e : Entry) (d : List Entry) → serveFor lacks kind side e d .reply ≡ Pushed → kind ≡ 0
 unfolding serveFor serve servePush servePop
-serve-fits a kind side e d =
-    by-test Says (saysNoSlot a) (λ z p. absurd (let w : _≡_ {A = ℕ} 0 1 = cc in omega arith))
+serve-fits lacks kind side e d =
+    by-test Says lacks (λ z p. absurd (let w : _≡_ {A = ℕ} 0 1 = cc in omega arith))
     (λ z. by-test Says (eqb kind 0) (λ k p. eqb-true kind 0 k) (λ k. first (seenFrom side d)))
   where
     Says : Served → Type 0
@@ -123,7 +123,7 @@ attend-fits n e a d (c ∷ cs) h =
     let ih = attend-fits n e a d cs (h .1) in
     by-test (λ (l : Ledger). AllFit (l .calls)) (eqb (c .task) (e .task) && isOpen (c .ending))
     (λ z. by-test (λ (l : Ledger). AllFit (l .calls)) (isEffect e a)
-    (λ y. ((serve-fits a (c .kind) (c .side) (toldEntry c e) (l .deque), h .0), ih)) (λ y. (h .0, ih)))
+    (λ y. ((serve-fits (lacksSlot c a) (c .kind) (c .side) (toldEntry c e) (l .deque), h .0), ih)) (λ y. (h .0, ih)))
     (λ z. (h .0, ih))
 
 note-fits : (n : ℕ) (e : Event) (o : Outcome) (l : Ledger) → AllFit (l .calls) → AllFit (note n e o l .calls)
