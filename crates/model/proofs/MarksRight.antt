@@ -35,7 +35,7 @@ use Rattle.model.proofs.progress.Reached.{final-reached, open-reached}
 use Rattle.model.proofs.NoSlot.{tip-near, used-is}
 use Rattle.model.proofs.Openings.{after-opening}
 use Rattle.model.specs.Lists.{All}
-use Rattle.model.specs.Kinds.{giving}
+use Rattle.model.specs.Kinds.{giving, isPop}
 
 -- What waits is in the sequential deque.
 waits-in : (l : List Entry) (x : ℕ) → Waits x (entries l) → In x (slots l)
@@ -97,13 +97,13 @@ module _ (r : Record) (x : ℕ) where
       (pushes 8 refl)
       (pushes 9 refl)
       (pushes 10 refl)
-      (λ w. tip-near r x (eqb (r .side) 1) ∙ eqb-true _ _ w)
-      (λ w. absurd (not-both w refl))
-      (λ w. absurd (not-both w refl))
-      (λ w. absurd (not-both w refl))
-      (λ w. eqb-true _ _ w)
-      (λ w. eqb-true _ _ w)
-      (λ w. eqb-true _ _ w)
+      (λ w. tip-near r x (eqb (r .side) 1) ∙ eqb-true _ _ (and-true (isPop r) _ w .1))
+      (λ w. absurd (not-both (and-true (isPop r) _ w .1) refl))
+      (λ w. absurd (not-both (and-true (isPop r) _ w .1) refl))
+      (λ w. absurd (not-both (and-true (isPop r) _ w .1) refl))
+      (λ w. eqb-true _ _ (and-true (isPop r) _ w .1))
+      (λ w. eqb-true _ _ (and-true (isPop r) _ w .1))
+      (λ w. eqb-true _ _ (and-true (isPop r) _ w .1))
 
   busy : r .place ≡ 0 → holdsSlot r x ≡ true → ⊥
   unfolding holdsSlot
@@ -160,7 +160,7 @@ module _ (n : ℕ) (q : Queue) (l : Ledger) (g : Matched n q l) (f : Safe q) whe
 
   marked-had : (x : ℕ) → x ≤ G .control .slots → marked (G .marks) x ≡ true → Had marksSlot q x
   unfolding marksSlot
-  marked-had x le m = go (used-is n q l g x (used (record { state = stateOf q; book = g .book }) (g .inv) x
+  marked-had x le m = go (used-is n q l g f x (used (record { state = stateOf q; book = g .book }) (g .inv) x
       (λ e. not-both m (shown x le ∙ ap (shows (stateOf q .task)) e))))
     where
       go : InUse q x → Had marksSlot q x

@@ -11,7 +11,7 @@ use lib.ListN.{List·getD-eq-default}
 use borrow.Author.Tests.{eq-eqb, eqb-true, ltb-true}
 use Rattle.word.specs.Anchor.{anchorOf}
 use Rattle.model.specs.Calls.{Acted, act, actOn, finish, opened, step}
-use Rattle.model.specs.History.{InUse, NoSlotRight, NoSlotTrue, Waits, final, here, holds, holdsSlot, later, ledger, run, waits}
+use Rattle.model.specs.History.{InUse, NoSlotRight, NoSlotTrue, Waits, final, here, holds, holdsSlot, later, waits}
 use Rattle.model.specs.Refusals.{among, stepRefusal}
 use Rattle.model.specs.Walk.{entries}
 use Rattle.model.specs.Tables.{atPlace, Queue, Tables, recordAt}
@@ -24,20 +24,21 @@ use Rattle.model.specs.declared.Outcome.the-variants.{Moved}
 use Rattle.model.specs.declared.Record.{Record}
 use Rattle.model.proofs.tests.ByPlace.{by-place}
 use Rattle.model.proofs.tests.Rules.{_and_, passes}
-use Rattle.model.proofs.tests.Truth.{by-test, decide-eq}
+use Rattle.model.proofs.tests.Truth.{and-of, by-test, decide-eq}
 use Rattle.model.proofs.lists.In.{In}
 use Rattle.model.proofs.lists.Slots.{slots}
 use Rattle.model.proofs.machine.Book as B
 use Rattle.model.proofs.machine.Machine as M
 use Rattle.model.proofs.places.NoSlot.{Holds, Used, no-slot}
 use Rattle.model.proofs.bridge.Accepted.{Stepping, step-accepted}
+use Rattle.model.proofs.bridge.Facts.{RecordFine}
 use Rattle.model.proofs.bridge.Operations.{reply, step-lacks}
 use Rattle.model.proofs.bridge.View.{anchorSeen, answerSeen, kindOf, placeList, placeOf, recOf, stateOf, view}
-use Rattle.model.proofs.ledger.EveryOperation.{run-good}
 use Rattle.model.proofs.ledger.Matched.{Matched}
-use Rattle.model.proofs.ledger.Opened.{nobody, open-good, some-slots}
 use Rattle.model.proofs.ledger.Waiting as waiting
+use Rattle.model.proofs.unsound.Safe.{Safe}
 use Rattle.model.proofs.unsound.Suits.{kind-push}
+use Rattle.model.proofs.progress.Reached.{final-reached, open-reached}
 use Rattle.model.proofs.Openings.{after-opening}
 
 -- A slot of the sequential deque waits.
@@ -52,7 +53,7 @@ module _ (r : Record) (x : ℕ) where
   at p = atPlace r p
 
   abbrev Here : ℕ → Type 0
-  Here p = Holds (placeOf p) (recOf r) x → holdsSlot (at p) x ≡ true
+  Here p = (p ≡ 11 → r .kind ≡ 1) → (15 ≤ p → r .kind ≡ 1) → Holds (placeOf p) (recOf r) x → holdsSlot (at p) x ≡ true
 
   pushing : (p : ℕ) → leb p 10 ≡ true → leb 1 p ≡ true → (kindOf (r .kind) ≡ M.push) × (eqb (r .finishing) 1 ≡ false) × (r .own ≡ x)
       → holdsSlot (at p) x ≡ true
@@ -67,42 +68,43 @@ module _ (r : Record) (x : ℕ) where
   holds-place : (p : ℕ) → p ≢ 0 → p ≤ 17 → Here p
   unfolding recOf holdsSlot
   holds-place = by-place Here
-      (λ w. pushing 1 refl refl w)
-      (λ w. pushing 2 refl refl w)
-      (λ w. pushing 3 refl refl w)
-      (λ w. pushing 4 refl refl w)
-      (λ w. pushing 5 refl refl w)
-      (λ w. pushing 6 refl refl w)
-      (λ w. pushing 7 refl refl w)
-      (λ w. pushing 8 refl refl w)
-      (λ w. pushing 9 refl refl w)
-      (λ w. pushing 10 refl refl w)
-      (λ w. eq-eqb _ _ (sym (tip-near (eqb (r .side) 1)) ∙ w))
-      (λ w. absurd w)
-      (λ w. absurd w)
-      (λ w. absurd w)
-      (λ w. eq-eqb _ _ w)
-      (λ w. eq-eqb _ _ w)
-      (λ w. eq-eqb _ _ w)
+      (λ f g w. pushing 1 refl refl w)
+      (λ f g w. pushing 2 refl refl w)
+      (λ f g w. pushing 3 refl refl w)
+      (λ f g w. pushing 4 refl refl w)
+      (λ f g w. pushing 5 refl refl w)
+      (λ f g w. pushing 6 refl refl w)
+      (λ f g w. pushing 7 refl refl w)
+      (λ f g w. pushing 8 refl refl w)
+      (λ f g w. pushing 9 refl refl w)
+      (λ f g w. pushing 10 refl refl w)
+      (λ f g w. and-of (eq-eqb _ _ (f refl)) (eq-eqb _ _ (sym (tip-near (eqb (r .side) 1)) ∙ w)))
+      (λ f g w. absurd w)
+      (λ f g w. absurd w)
+      (λ f g w. absurd w)
+      (λ f g w. and-of (eq-eqb _ _ (g (omega arith))) (eq-eqb _ _ w))
+      (λ f g w. and-of (eq-eqb _ _ (g (omega arith))) (eq-eqb _ _ w))
+      (λ f g w. and-of (eq-eqb _ _ (g (omega arith))) (eq-eqb _ _ w))
 
-  pub holds-is : Holds (recOf r .place) (recOf r) x → holdsSlot r x ≡ true
+  pub holds-is : {pooled : Bool} {slots : ℕ} → (r .place ≢ 0 → RecordFine pooled slots r) → Holds (recOf r .place) (recOf r) x
+      → holdsSlot r x ≡ true
   unfolding recOf
-  holds-is w = go (decide-eq (r .place) 0) (decLt 17 (r .place))
+  holds-is f w = go (decide-eq (r .place) 0) (decLt 17 (r .place))
     where
       go : (r .place ≡ 0) ⊎ (r .place ≢ 0) → Dec (17 < r .place) → holdsSlot r x ≡ true
       go (inl z) d = absurd (subst (λ p. Holds (placeOf p) (recOf r) x) z w)
       go (inr z) (yes l) = absurd (subst (λ (p : M.Place). Holds p (recOf r) x)
           (List·getD-eq-default placeList M.idle {n = r .place} (omega arith)) w)
-      go (inr z) (no l) = holds-place (r .place) z (omega arith) w
+      go (inr z) (no l) = holds-place (r .place) z (omega arith) (f z .last) (f z .gives) w
 
 -- What is used in the decoded state is in use in the tables.
-pub used-is : (n : ℕ) (q : Queue) (l : _) (g : Matched n q l) (x : ℕ) → Used (record { state = stateOf q; book = g .book }) x → InUse q x
+pub used-is : (n : ℕ) (q : Queue) (l : _) (g : Matched n q l) → Safe q → (x : ℕ) → Used (record { state = stateOf q; book = g .book }) x → InUse q x
 unfolding stateOf view
-used-is n q l g x = go
+used-is n q l g f x = go
   where
     held : (u : ℕ) (b : Bool) → ltb u (q .tables .control .tasks) ≡ b → (let y = cond b (recOf (recordAt q u)) M.blank in
         Holds (y .place) y x) → InUse q x
-    held u true z w = holds u (ltb-true _ _ z) (holds-is (recordAt q u) x w)
+    held u true z w = holds u (ltb-true _ _ z) (holds-is (recordAt q u) x (f .fine u (ltb-true _ _ z)) w)
     held u false z w = absurd w
 
     go : Used (record { state = stateOf q; book = g .book }) x → InUse q x
@@ -110,7 +112,7 @@ used-is n q l g x = go
         (in-waits (g .book .queue) x i))
     go (inr w) = held (w .0) (ltb (w .0) (q .tables .control .tasks)) refl (w .1)
 
-module _ (n : ℕ) (q : Queue) (l : _) (g : Matched n q l) (t : ℕ) where
+module _ (n : ℕ) (q : Queue) (l : _) (g : Matched n q l) (f : Safe q) (t : ℕ) where
   abbrev G : Tables
   G = q .tables
 
@@ -123,7 +125,7 @@ module _ (n : ℕ) (q : Queue) (l : _) (g : Matched n q l) (t : ℕ) where
     unfolding stateOf view
     all-used x some low =
         let z = step-lacks q (g .book) (g .inv) (g .links) t s (ap (λ (a : Answer). B.isNoSlot (answerSeen a)) e) in
-        used-is n q l g x (no-slot (record { state = stateOf q; book = g .book }) (g .inv) (z .0) (z .1) x (λ z. omega arith) low)
+        used-is n q l g f x (no-slot (record { state = stateOf q; book = g .book }) (g .inv) (z .0) (z .1) x (λ z. omega arith) low)
 
   pub told-truly : act q t Step .outcome ≡ Moved NoSlot → (x : ℕ) → 1 ≤ x → x ≤ G .control .slots → InUse q x
   unfolding act actOn step finish
@@ -135,5 +137,5 @@ module _ (n : ℕ) (q : Queue) (l : _) (g : Matched n q l) (t : ℕ) where
 pub no-slot-right : NoSlotRight
 no-slot-right = after-opening true NoSlotTrue (λ q tasks slots tag e os t.
     let o = opened true q tasks slots tag in
-    let g = run-good os 1 o nobody (open-good true q tasks slots tag (some-slots true q tasks slots e)) in
-    told-truly (g .0) (final o os) (ledger (run o os)) (g .1) t)
+    let z = final-reached true tasks os o (open-reached true tasks q slots tag e) in
+    told-truly (z .position) (final o os) (z .ledger) (z .matched) (z .safe) t)

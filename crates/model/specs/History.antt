@@ -24,7 +24,7 @@ use Rattle.model.specs.Report.{report}
 use Rattle.model.specs.Deque.{saysNoSlot, serveFor}
 use Rattle.model.specs.Sides.{near}
 use Rattle.model.specs.Lists.{every, All}
-use Rattle.model.specs.Kinds.{isPush, giving}
+use Rattle.model.specs.Kinds.{isPush, isPop, giving}
 
 -- An operation of a task: an element of the list, with any numbers.
 pub record Request : Type 0 where
@@ -220,7 +220,7 @@ Reports = AfterOpening Told
 unfoldable pub holdsSlot : Record → ℕ → Bool
 holdsSlot r x =
     cond (leb (r .place) 10) (every (leb 1 (r .place) ∷ isPush r ∷ not (eqb (r .finishing) 1) ∷ eqb (r .own) x ∷ []))
-    (cond (eqb (r .place) 11) (eqb (near (r .side) (anchorOf (r .seen))) x)
+    (isPop r && cond (eqb (r .place) 11) (eqb (near (r .side) (anchorOf (r .seen))) x)
     (giving r && eqb (r .own) x))
 
 pub data Waits (x : ℕ) : Walk → Type 0 where
