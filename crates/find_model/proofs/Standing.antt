@@ -13,7 +13,8 @@ use Rattle.model.specs.Report.{waiting}
 use Rattle.model.specs.Refusals.{recordsFit}
 use Rattle.model.proofs.tests.Truth.{and-true}
 use Rattle.model.proofs.tests.Rules.{tests}
-use Rattle.model.proofs.Standing.{Standing, standing}
+use Rattle.model.specs.Standing.{Standing}
+use Rattle.model.proofs.Standing.{standing}
 use Rattle.find_model.specs.declared.FindReply.{FindReply}
 use Rattle.find_model.specs.Find.{Finds, find, findRefusal, found, refused}
 

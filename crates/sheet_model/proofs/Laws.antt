@@ -15,7 +15,8 @@ use Rattle.model.specs.Calls.{openAs}
 use Rattle.model.specs.History.{final, ledger, run}
 use Rattle.model.proofs.tests.Truth.{split, and-true}
 use Rattle.model.proofs.tests.Rules.{tests}
-use Rattle.model.proofs.Standing.{Standing, standing}
+use Rattle.model.specs.Standing.{Standing}
+use Rattle.model.proofs.Standing.{standing}
 use Rattle.sheet_model.specs.Sheet.{Sheet, malformed, chained}
 use Rattle.sheet_model.specs.Squares.{listOf, bitsOf, linked, wordsOf}
 use Rattle.sheet_model.specs.Verdict.{refused, verdict, judge, sheet, sheetWords}

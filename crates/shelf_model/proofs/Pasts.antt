@@ -1,24 +1,29 @@
 -- A queue, and a past that leaves it: what holds after every accepted opening holds of both.
-use mathlib.Core.Bool.{true, _&&_}
+use mathlib.Core.Bool.{true, _&&_, cond}
 use mathlib.Core.List.{List, [], _∷_}
 use mathlib.Core.Path.{_≡_, _∙_, ap, ap₂, refl, subst, sym}
 use Prim.Native.Nat.{ℕ, zero, suc, _+_, _<_, _≤_}
 use native.Mathlib.Omega.{arith}
 use lib.Dec.{eqb}
 use Rattle.model.specs.declared.Control.{Control}
+use Rattle.model.specs.declared.Entry.{Entry}
 use Rattle.model.specs.declared.Outcome.the-variants.{Refused}
 use Rattle.model.specs.declared.TaskRecord.{TaskRecord}
 use Rattle.model.specs.Tables.{Queue, isPooled, taskAt}
 use Rattle.model.specs.Sound.{controlSound}
 use Rattle.model.specs.Calls.{act}
-use Rattle.model.specs.Walk.{contents, entries}
-use Rattle.model.specs.History.{AfterOpeningAs, Call, Event, Lawful, Linearized, NeverUnsound, Request, final, ledger, run}
+use Rattle.model.specs.Walk.{Walk, contents, entries, met}
+use Rattle.model.specs.History.{AfterOpeningAs, Call, Ending, Event, Lawful, Linearized, NeverUnsound, Request}
+use Rattle.model.specs.History.{answered, final, isOpen, ledger, pending, run}
 use Rattle.model.specs.Retries.{retriesBelow}
 use Rattle.model.proofs.laws.Sizes.{act-pooled, act-tasks, fits}
 use Rattle.model.proofs.Linearizable.{linearizable}
 use Rattle.model.proofs.Never34.{never-34}
-use Rattle.model.proofs.Standing.{Standing, standing}
+use Rattle.model.specs.Standing.{Standing}
+use Rattle.model.proofs.Standing.{standing}
 use Rattle.model.specs.Lists.{All}
+use Rattle.stock_model.specs.Accounts.{Accounted, AccountedBy, Stands, hasTaken, pushedIn, sumOf, takenIn}
+use Rattle.stock_model.proofs.Accounts.{OpenKnown, accounted, open-known}
 use Rattle.shelf_model.specs.Cut.{cut}
 use Rattle.shelf_model.specs.Changeovers.{Explained, Past, True}
 use Rattle.shelf_model.proofs.Lists.{enough-take}
@@ -93,6 +98,28 @@ module _ (p : Past) (q : Queue) (h : Explained p q) where
   operations-sound =
       subst (λ (es : List Event). All (λ (e : Event). e .outcome ≡ Refused 34 → ⊥) es) (sym (t .events))
       (past-has NeverUnsound (never-34 (t .pooled)) .operations)
+
+  -- An open call stands in the queue where it stands after the past.
+  stands-alike : (c : Call) (e : Ending) → (isOpen e ≡ true → c .task < now .tables .control .tasks) → Stands now c e → Stands q c e
+  stands-alike c pending k s = λ kind. s kind ∙ ap (λ (r : TaskRecord). cond (hasTaken (r .call)) 1 0)
+      (sym (same-task (c .task) (subst (λ n. c .task < n) (sym same-tasks) (k refl))))
+  stands-alike c (answered n a) k s = tt
+
+  all-alike : (cs : List Call) → All (λ (c : Call). isOpen (c .ending) ≡ true → c .task < now .tables .control .tasks) cs
+      → All (λ (c : Call). Stands now c (c .ending)) cs → All (λ (c : Call). Stands q c (c .ending)) cs
+  all-alike [] k s = tt
+  all-alike (c ∷ cs) k s = (stands-alike c (c .ending) (k .0) (s .0), all-alike cs (k .1) (s .1))
+
+  pub accounts : (count : ℕ → ℕ) → AccountedBy count (p .events) q
+  accounts count =
+      let a = past-has (Accounted count) (accounted count (t .pooled)) in
+      let k = past-has OpenKnown (open-known (t .pooled)) in
+      subst (λ (es : List Event). AccountedBy count es q) (sym (t .events)) (record {
+        pushed = subst (λ (v : Walk). pushedIn count (ledger (run (p .opened) (p .since)) .calls)
+            ≡ takenIn count (ledger (run (p .opened) (p .since)) .calls) + sumOf (λ (e : Entry). count (e .label)) (met v)) (sym same-walk) (a .pushed);
+        taken = a .taken;
+        stands = all-alike (ledger (run (p .opened) (p .since)) .calls) k (a .stands);
+      })
 
   pub counts : retriesBelow q (q .tables .control .tasks) ≡ retriesBelow now (now .tables .control .tasks)
   counts =

@@ -18,19 +18,17 @@ use Rattle.model.specs.History.{Event, final}
 use Rattle.model.specs.Solo.{soloRun}
 use Rattle.model.specs.Progress.{AnsweredWithin, Busy, SoloWithin, StretchTells, any, limit, steps, stretchLimit, tells}
 use Rattle.model.specs.Retries.{SumIsOld}
-use Rattle.stock_model.specs.Accounts.{Accounted}
 use Rattle.model.proofs.tests.Truth.{not-both}
 use Rattle.model.proofs.Retries.{retries-sum}
-use Rattle.model.proofs.Standing.{Standing}
+use Rattle.model.specs.Standing.{Standing}
 use Rattle.model.proofs.StepBounds.{solo-bound, stretch-bound}
-use Rattle.stock_model.proofs.Accounts.{accounted}
 use Rattle.shelf_model.specs.Shelves.{bothHold, returnRefusal, saveRefusal, shelfAt}
 use Rattle.shelf_model.specs.Changeovers.{Holds, Past, World, shows}
 use Rattle.shelf_model.specs.Promises as stated
 use Rattle.shelf_model.specs.Promises.{Progresses, Promised, Promises}
 use Rattle.shelf_model.proofs.Stretches.{asked, shows-run, solo-alike}
 use Rattle.shelf_model.proofs.Changeovers.{changeovers}
-use Rattle.shelf_model.proofs.Pasts.{all-served, counts, final-tasks, operations-sound, past-has, same-pooled}
+use Rattle.shelf_model.proofs.Pasts.{accounts, all-served, counts, final-tasks, operations-sound, past-has, same-pooled}
 use Rattle.shelf_model.proofs.Pasts.{same-run, same-task, same-tasks, stands}
 
 -- A report where control is sound, the tables are long enough and the walk meets what waits.
@@ -106,6 +104,7 @@ module _ (w : World) (h : Holds w) where
       let s = stands (w .past) (w .queue) (h .now) in
       record {
         operations = operations-sound (w .past) (w .queue) (h .now);
+        walks = s;
         told = told (w .queue .tables) (busy (w .queue));
         is = report-told (w .queue) _ s;
         waiting = rw (s .walk);
@@ -120,7 +119,7 @@ module _ (w : World) (h : Holds w) where
     retries = λ low. counts (w .past) (w .queue) (h .now)
         ∙ past-has (w .past) (w .queue) (h .now) SumIsOld (retries-sum (h .now .true .pooled)) low;
     progress = progresses;
-    accounted = λ count. past-has (w .past) (w .queue) (h .now) (Accounted count) (accounted count (h .now .true .pooled));
+    accounted = accounts (w .past) (w .queue) (h .now);
   }
 
 pub promises : Promises

@@ -10,13 +10,14 @@ use Rattle.model.specs.declared.Report.{Report}
 use Rattle.model.specs.declared.Reported.the-variants as reported
 use Rattle.model.specs.Tables.{isPooled, recordAt}
 use Rattle.model.specs.Walk.{contents, entries}
+use Rattle.model.specs.Standing.{Standing}
 use Rattle.model.specs.Report.{report}
 use Rattle.model.specs.History.{Call, Event, Lawful, ledger}
 use Rattle.model.specs.Solo.{soloRun}
 use Rattle.model.specs.Progress.{AnsweredWithin, Busy, any, limit, steps, stretchLimit, tells}
 use Rattle.model.specs.Retries.{oldCount, retriesBelow}
 use Rattle.model.specs.Lists.{All}
-use Rattle.stock_model.specs.Accounts.{Accounted}
+use Rattle.stock_model.specs.Accounts.{AccountedBy}
 use Rattle.shelf_model.specs.Shelves.{returnRefusal, saveRefusal}
 use Rattle.shelf_model.specs.Changeovers.{Action, AfterOpening, World, shows, unbroken}
 
@@ -25,9 +26,11 @@ pub record Served (w : World) : Type 0 where
   pub calls : All (λ (c : Call). Lawful c (c .ending)) (ledger (w .past .events) .calls)
   pub waits : contents (w .queue .tables) ≡ entries (ledger (w .past .events) .deque)
 
--- 34 never occurs: not at a start or step, not at a report, which tells the length of its queue, not at a saving or a return.
+-- 34 never occurs: not at a start or step, not at a call that walks, not at a report, which tells the length of its queue, not at a saving or
+-- a return.
 pub record NeverUnsound (w : World) : Type 0 where
   pub operations : All (λ (e : Event). e .outcome ≡ Refused 34 → ⊥) (w .past .events)
+  pub walks : Standing (w .queue) (ledger (w .past .events) .deque)
   pub told : Report
   pub is : report (w .queue) ≡ reported.Told told
   pub waiting : told .waiting ≡ length (ledger (w .past .events) .deque)
@@ -48,8 +51,8 @@ pub record Promised (w : World) : Type 0 where
   pub retries : oldCount 0 (w .past .opened) (w .past .since) < 4294967295
       → retriesBelow (w .queue) (w .queue .tables .control .tasks) ≡ oldCount 0 (w .past .opened) (w .past .since)
   pub progress : Progresses w
-  -- #114: every label of that past is accounted for, however labels are counted.
-  pub accounted : (count : ℕ → ℕ) → Accounted count (w .past .opened) (w .past .since)
+  -- #114: every label of that history is accounted for in the queue as it stands, however labels are counted.
+  pub accounted : (count : ℕ → ℕ) → AccountedBy count (w .past .events) (w .queue)
 
 abbrev pub Promises : Type 0
 Promises = AfterOpening Promised

@@ -11,7 +11,7 @@ use Rattle.model.specs.declared.Answer.{Answer}
 use Rattle.model.specs.declared.Answer.the-variants.{Running, Pushed, Empty, Popped, NoSlot}
 use Rattle.model.specs.Tables.{Tables, Queue, recordAt}
 use Rattle.model.specs.Walk.{contents, met}
-use Rattle.model.specs.History.{Request, run, final, Effect, Ending, pending, answered, Call, ledger, AfterOpening}
+use Rattle.model.specs.History.{Event, Request, run, final, Effect, Ending, pending, answered, Call, ledger, AfterOpening}
 use Rattle.model.specs.Kinds.{giving}
 use Rattle.model.specs.Lists.{All}
 
@@ -76,12 +76,16 @@ abbrev pub Stands : Queue → Call → Ending → Type 0
 Stands q c pending = c .kind ≡ 1 → length (c .effects) ≡ cond (hasTaken (recordAt q (c .task))) 1 0
 Stands q c (answered n a) = Unit {0}
 
--- After the list: a label pushed, and no other, has been taken by one pop's effect or is waiting; the pops answered and those that took effect
--- but haven't answered yet make up those taken; and these stand where document 02 says.
-pub record Accounted (w : ℕ → ℕ) (q : Queue) (os : List Request) : Type 0 where
-  pub pushed : let cs = ledger (run q os) .calls in pushedIn w cs ≡ takenIn w cs + waitingIn w (final q os .tables)
-  pub taken : let cs = ledger (run q os) .calls in takenIn w cs ≡ answeredIn w cs + heldIn w cs
-  pub stands : All (λ (c : Call). Stands (final q os) c (c .ending)) (ledger (run q os) .calls)
+-- Of a history and the queue that stands after it: a label pushed, and no other, has been taken by one pop's effect or is waiting; the pops
+-- answered and those that took effect but haven't answered yet make up those taken; and these stand where document 02 says.
+pub record AccountedBy (w : ℕ → ℕ) (es : List Event) (q : Queue) : Type 0 where
+  pub pushed : let cs = ledger es .calls in pushedIn w cs ≡ takenIn w cs + waitingIn w (q .tables)
+  pub taken : let cs = ledger es .calls in takenIn w cs ≡ answeredIn w cs + heldIn w cs
+  pub stands : All (λ (c : Call). Stands q c (c .ending)) (ledger es .calls)
+
+-- After the list.
+abbrev pub Accounted : (ℕ → ℕ) → Queue → List Request → Type 0
+Accounted w q os = AccountedBy w (run q os) (final q os)
 
 -- For one label its copies count.
 abbrev pub only : ℕ → ℕ → ℕ
