@@ -13,6 +13,7 @@ use Rattle.model.specs.declared.Outcome.the-variants.{Moved}
 use Rattle.model.specs.Tables.{Tables, Queue}
 use Rattle.model.specs.Calls.{openQueue}
 use Rattle.model.specs.Walk.{contents, entries}
+use Rattle.model.specs.Standing.{Standing}
 use Rattle.model.specs.History.{Request, run, final, ledger, Linearized, NeverUnsound, AfterOpening}
 use Rattle.stock_model.specs.Accounts.{Accounted, only}
 use Rattle.join_model.specs.Merge.{merge, Interleaved, Ascending, copies}
@@ -95,3 +96,10 @@ abbrev pub Continues : Type 0
 Continues =
     AfterOpening (λ q os. (a b : Queue) → joinRefusal a b (final q os) ≡ 0 → (later : List Request)
     → Continued q os (pushes 1 (lanes a b)) later (join a b (final q os) .third) (lanes a b))
+
+-- 34 never occurs: of three queues on which a call that walks may rely, and so of three that were each made by an opening and a list.
+abbrev pub StandingNever34 : Type 0
+StandingNever34 = (a b q : Queue) (d e f : List Entry) → Standing a d → Standing b e → Standing q f → joinRefusal a b q ≢ 34
+
+abbrev pub JoinNever34 : Type 0
+JoinNever34 = AfterOpening (λ a ks. AfterOpening (λ b ls. AfterOpening (λ q os. joinRefusal (final a ks) (final b ls) (final q os) ≢ 34)))

@@ -5,6 +5,7 @@ pub mod Admitted
 pub mod Pairs
 pub mod Enumerated
 pub mod OnlyUnsound
+pub mod Unrefused
 pub mod Worked
 pub mod TwoRecords
 pub mod Uncounted

@@ -2,14 +2,17 @@
 use mathlib.Core.Path.{_≡_}
 use mathlib.Core.Bool.{Bool, true, false, _&&_, cond}
 use mathlib.Core.List.{List, [], _∷_, _++_, map}
+use mathlib.Core.Logic.{_≢_}
 use Prim.Native.Nat.{ℕ, zero, suc, _+_, _<_}
 use lib.Dec.{eqb}
 use lib.ListN.{length, getD, take, drop, replicate}
+use Rattle.model.specs.declared.Entry.{Entry}
 use Rattle.model.specs.declared.Outcome.the-variants.{Refused}
 use Rattle.model.specs.declared.Op.the-variants.{Step}
 use Rattle.model.specs.Tables.{Queue}
 use Rattle.model.specs.Calls.{act}
-use Rattle.model.specs.History.{Request, final}
+use Rattle.model.specs.Standing.{Standing}
+use Rattle.model.specs.History.{AfterOpening, Request, final}
 use Rattle.model.specs.Lists.{All}
 use Rattle.schedule_model.specs.Schedules.{Schedule, atWork, schedules, allSchedules}
 use Rattle.schedule_model.specs.Next.{Next, given, noMore, precedes, Handed, scheduleRefusal, nextSchedule}
@@ -58,3 +61,16 @@ abbrev pub OnlyUnsound : Type 0
 OnlyUnsound =
     (q : Queue) (ws ts : List ℕ) (t n : ℕ) → scheduleRefusal q ws ≡ 0 → t < 2
     → let now = final q (tries ts) in atWork now t ≡ true → act now t Step .outcome ≡ Refused n → n ≡ 34
+
+-- Of a queue on which a call that walks may rely no call is refused 34.
+abbrev pub StandingNever34 : Type 0
+StandingNever34 = (q : Queue) (d : List Entry) → Standing q d → (ws : List ℕ) → scheduleRefusal q ws ≢ 34
+
+-- After any accepted opening and any list: no call is refused 34, and no schedule that is handed out is marked refused.
+pub record Unrefused (q : Queue) (os : List Request) : Type 0 where
+  pub code : (ws : List ℕ) → nextSchedule (final q os) ws .reply .code ≢ 34
+  pub ending : (ws : List ℕ) → nextSchedule (final q os) ws .reply .ending ≢ 2
+  pub schedules : (ws : List ℕ) → scheduleRefusal (final q os) ws ≡ 0 → All (λ (s : Schedule). s .ending ≢ 2) (allSchedules (final q os))
+
+abbrev pub NeverRefused : Type 0
+NeverRefused = AfterOpening Unrefused
