@@ -4,7 +4,7 @@ use mathlib.Core.List.{List, [], _∷_}
 use mathlib.Core.Path.{_≡_, _∙_, ap, refl, subst, sym}
 use Prim.Native.Nat.{ℕ, zero, suc, _<_}
 use lib.Dec.{eqb}
-use borrow.Author.Tests.{not-true}
+use borrow.Author.Tests.{eq-eqb, eqb-true, not-true}
 use Rattle.model.specs.declared.Answer.the-variants.{Running}
 use Rattle.model.specs.declared.Op.the-variants.{Step}
 use Rattle.model.specs.declared.Outcome.the-variants.{Moved}
@@ -16,11 +16,12 @@ use Rattle.model.specs.Ends.{isRunning}
 use Rattle.model.specs.History.{Event, Request, run}
 use Rattle.model.specs.Solo.{SoloDone, oneMore, soloEnd, soloRun}
 use Rattle.model.specs.Progress.{AnsweredWithin}
-use Rattle.model.proofs.tests.Truth.{and-true}
+use Rattle.model.proofs.tests.Truth.{and-true, split}
 use Rattle.model.proofs.laws.Sizes.{act-tasks}
 use Rattle.shelf_model.specs.Cut.{cut}
-use Rattle.shelf_model.specs.Shelves.{returnRefusal, returned, saved}
-use Rattle.shelf_model.specs.Changeovers.{Action, World, asks, breaks, does, opens, returns, saves, shown, shows, unbroken}
+use Rattle.shelf_model.specs.Shelves.{Shelves, returnRefusal, returned}
+use Rattle.shelf_model.specs.Changeovers.{Action, Turn, World, asks, breaks, does, opens, returns, saves, shown}
+use Rattle.shelf_model.specs.Changeovers.{shows, station, turned, unbroken}
 use Rattle.shelf_model.proofs.Lists.{get-take}
 use Rattle.shelf_model.proofs.CutCalls.{act-cut, cutDone}
 
@@ -57,16 +58,16 @@ solo-alike n most q p t h g e a =
     let z = subst (AnsweredWithin most) same (record { answered = a .answered; within = a .within }) in
     record { answered = z .answered; within = z .within }
 
--- The starts and steps of a stretch.
+-- The starts and steps of queue i in a stretch.
 abbrev asking : Action → List Request → List Request
 asking (opens pooled tasks slots tag) os = os
 asking (asks o) os = o ∷ os
 asking (saves n) os = os
 asking (returns n) os = os
 
-unfoldable pub asked : List Action → List Request
-asked [] = []
-asked (a ∷ l) = asking a (asked l)
+unfoldable pub asked : ℕ → List Turn → List Request
+asked i [] = []
+asked i (t ∷ l) = cond (eqb i (t .queue)) (asking (t .action) (asked i l)) (asked i l)
 
 -- An opening or a return that is refused leaves the queue.
 open-refused : (q : Queue) (pooled : Bool) (tasks slots tag : ℕ) → eqb (openRefusal pooled q tasks slots) 0 ≡ false
@@ -74,21 +75,55 @@ open-refused : (q : Queue) (pooled : Bool) (tasks slots tag : ℕ) → eqb (open
 unfolding openAs
 open-refused q pooled tasks slots tag e = rw e
 
-return-refused : (w : World) (n : ℕ) → eqb (returnRefusal (w .queue) (w .shelves) n) 0 ≡ false
-    → returned (w .queue) (w .shelves) n ≡ w .queue
+return-refused : (q : Queue) (s : Shelves) (n : ℕ) → eqb (returnRefusal q s n) 0 ≡ false → returned q s n ≡ q
 unfolding returned
-return-refused w n e = rw e
+return-refused q s n e = rw e
+
+-- A turn of queue i, and one of another.
+abbrev turn : ℕ → Action → Turn
+turn i a = record { queue = i; action = a }
+
+turned-own : (w : World) (i : ℕ) (a : Action) → turned w (turn i a) .queues i ≡ does (station w i) a .queue
+unfolding turned
+turned-own w i a = rw (eq-eqb i i refl)
+
+turned-other : (w : World) (i : ℕ) (t : Turn) → eqb i (t .queue) ≡ false → turned w t .queues i ≡ w .queues i
+unfolding turned
+turned-other w i t e = rw e
 
 -- They show what they show one after the other.
-pub shows-run : (l : List Action) (w : World) → unbroken w l ≡ true → shows w l ≡ run (w .queue) (asked l)
-unfolding shows unbroken asked run does
-shows-run [] w e = refl
-shows-run (opens pooled tasks slots tag ∷ l) w e =
-    let z = and-true (not (breaks w (opens pooled tasks slots tag))) (unbroken (does w (opens pooled tasks slots tag)) l) e in
-    shows-run l (does w (opens pooled tasks slots tag)) (z .1)
-    ∙ ap (λ (q : Queue). run q (asked l)) (open-refused (w .queue) pooled tasks slots tag (not-true _ (z .0)))
-shows-run (asks o ∷ l) w e = ap (λ (es : List Event). shown (w .queue) o ∷ es) (shows-run l (does w (asks o)) e)
-shows-run (saves n ∷ l) w e = shows-run l (does w (saves n)) e
-shows-run (returns n ∷ l) w e =
-    let z = and-true (not (breaks w (returns n))) (unbroken (does w (returns n)) l) e in
-    shows-run l (does w (returns n)) (z .1) ∙ ap (λ (q : Queue). run q (asked l)) (return-refused w n (not-true _ (z .0)))
+abbrev Shown : ℕ → List Turn → World → Type 0
+Shown i l w = unbroken i w l ≡ true → shows i w l ≡ run (w .queues i) (asked i l)
+
+module _ (i : ℕ) (l : List Turn) (w : World) (ih : (v : World) → Shown i l v) where
+  -- A queue that an action leaves as it was, or moves on.
+  on : (a : Action) (q : Queue) → does (station w i) a .queue ≡ q → unbroken i (turned w (turn i a)) l ≡ true
+      → shows i (turned w (turn i a)) l ≡ run q (asked i l)
+  on a q e u = ih (turned w (turn i a)) u ∙ ap (λ (q : Queue). run q (asked i l)) (turned-own w i a ∙ e)
+
+  whole : (a : Action) → unbroken i w (turn i a ∷ l) ≡ true → (not (breaks (station w i) a) ≡ true) × (unbroken i (turned w (turn i a)) l ≡ true)
+  unfolding unbroken
+  whole a u = and-true (not (breaks (station w i) a)) (unbroken i (turned w (turn i a)) l) (rw (eq-eqb i i refl) at u)
+
+  own : (a : Action) → Shown i (turn i a ∷ l) w
+  unfolding shows asked run does
+  own (opens pooled tasks slots tag) u =
+      let z = whole (opens pooled tasks slots tag) u in
+      rw (eq-eqb i i refl) (on (opens pooled tasks slots tag) (w .queues i) (open-refused (w .queues i) pooled tasks slots tag (not-true _ (z .0))) (z .1))
+  own (asks o) u = rw (eq-eqb i i refl)
+      (ap (λ (es : List Event). shown (w .queues i) o ∷ es) (on (asks o) (act (w .queues i) (o .task) (o .op) .queue) refl (whole (asks o) u .1)))
+  own (saves n) u = rw (eq-eqb i i refl) (on (saves n) (w .queues i) refl (whole (saves n) u .1))
+  own (returns n) u =
+      let z = whole (returns n) u in
+      rw (eq-eqb i i refl) (on (returns n) (w .queues i) (return-refused (w .queues i) (w .shelves) n (not-true _ (z .0))) (z .1))
+
+  others : (t : Turn) → eqb i (t .queue) ≡ false → Shown i (t ∷ l) w
+  unfolding shows asked unbroken
+  others t e u = rw e (ih (turned w t) (rw e at u) ∙ ap (λ (q : Queue). run q (asked i l)) (turned-other w i t e))
+
+pub shows-run : (i : ℕ) (l : List Turn) (w : World) → Shown i l w
+unfolding shows asked run
+shows-run i [] w = λ u. refl
+shows-run i (t ∷ l) w = split (eqb i (t .queue))
+    (λ e. subst (λ j. Shown i (turn j (t .action) ∷ l) w) (eqb-true _ _ e) (own i l w (shows-run i l) (t .action)))
+    (λ e. others i l w (shows-run i l) t e)
