@@ -7,6 +7,7 @@ pub mod BitRows
 pub mod Crossing
 pub mod Noted
 pub mod Broken
+pub mod Pairs
 pub mod Gather
 pub mod Judged
 pub mod Printed

@@ -2,4 +2,5 @@ pub mod Sheet
 pub mod Verdict
 pub mod Squares
 pub mod Extents
+pub mod Pairs
 pub mod Laws
