@@ -11,11 +11,10 @@ use Rattle.model.specs.declared.Entry.{Entry}
 use Rattle.model.specs.declared.Outcome.{Outcome}
 use Rattle.model.specs.declared.Outcome.the-variants.{Refused, Moved}
 use Rattle.model.specs.declared.Op.the-variants.{Step}
-use Rattle.model.specs.declared.Opening.the-variants.{Opened}
 use Rattle.model.specs.Tables.{Queue}
 use Rattle.model.specs.Walk.{isBroken}
 use Rattle.model.specs.Calls.{act, openAs}
-use Rattle.model.specs.History.{Event, Request, final, run}
+use Rattle.model.specs.History.{Event, NeverUnsound, Request, final, run}
 use Rattle.model.specs.Standing.{Standing}
 use Rattle.model.specs.Lists.{All}
 use Rattle.model.proofs.tests.Rules.{_and_, never}
@@ -24,7 +23,7 @@ use Rattle.model.proofs.Never34.{never-34}
 use Rattle.model.proofs.Standing.{standing}
 use Rattle.schedule_model.specs.Schedules.{Schedule, allSchedules, atWork, begun, bothAnswered, ends, onwards, schedules, through}
 use Rattle.schedule_model.specs.Next.{Handed, Next, firstAfter, given, handing, nextSchedule, noMore, precedes, remembered, scheduleRefusal, scheduleRules}
-use Rattle.schedule_model.specs.Claims.{NeverRefused, StandingNever34, Unrefused, tries}
+use Rattle.schedule_model.specs.Claims.{NeverRefused, StandingNever34, StandingUnrefused, Unrefused, tries}
 use Rattle.schedule_model.proofs.OnlyUnsound.{only-unsound}
 
 pub standing-never-34 : StandingNever34
@@ -78,11 +77,10 @@ unfolding run final
 fine-last [] q o h = h .0
 fine-last (p ∷ os) q o h = fine-last os (act q (p .task) (p .op) .queue) o (h .1)
 
-fine-after : (os ps : List Request) (q : Queue) (o : Request) → Fine (run q (os ++ (ps ++ (o ∷ []))))
-    → act (final (final q os) ps) (o .task) (o .op) .outcome ≡ Refused 34 → ⊥
+fine-on : (os ps : List Request) (q : Queue) → Fine (run q (os ++ ps)) → Fine (run (final q os) ps)
 unfolding run final
-fine-after [] ps q o h = fine-last ps q o h
-fine-after (p ∷ os) ps q o h = fine-after os ps (act q (p .task) (p .op) .queue) o (h .1)
+fine-on [] ps q h = h
+fine-on (p ∷ os) ps q h = fine-on os ps (act q (p .task) (p .op) .queue) (h .1)
 
 first-unmarked : (ws g : List ℕ) (l : List Schedule) → Unmarked l → handing ws (firstAfter g l) .reply .ending ≢ 2
 unfolding firstAfter
@@ -94,28 +92,27 @@ no-code : (ws : List ℕ) (n : Next) → handing ws n .reply .code ≢ 34
 no-code ws (given s) = λ e. omega arith
 no-code ws noMore = λ e. omega arith
 
-module _ (pooled : Bool) (q : Queue) (tasks slots tag : ℕ) (e : openAs pooled q tasks slots tag .outcome ≡ Opened) (os : List Request) where
-  abbrev o : Queue
-  o = openAs pooled q tasks slots tag .queue
-
-  abbrev now : Queue
-  now = final o os
-
-  steady : (ws : List ℕ) → scheduleRefusal now ws ≡ 0 → Steady now
+module _ (q : Queue) (d : List Entry) (s : Standing q d) (sound : (os : List Request) → NeverUnsound q os) where
+  steady : (ws : List ℕ) → scheduleRefusal q ws ≡ 0 → Steady q
   steady ws ok = λ ts t n low busy r.
-      fine-after os (tries ts) o (record { task = t; op = Step })
-      (never-34 pooled q tasks slots tag e (os ++ (tries ts ++ (record { task = t; op = Step } ∷ []))) .operations)
-      (subst (λ n. act (final now (tries ts)) t Step .outcome ≡ Refused n) (only-unsound now ws ts t n ok low busy r) r)
+      fine-last (tries ts) q (record { task = t; op = Step }) (sound (tries ts ++ (record { task = t; op = Step } ∷ [])) .operations)
+      (subst (λ n. act (final q (tries ts)) t Step .outcome ≡ Refused n) (only-unsound q ws ts t n ok low busy r) r)
 
-  unrefused : Unrefused o os
+  unrefused : Unrefused q
   unfolding nextSchedule
   unrefused = record {
-    code = λ ws. by-test (λ (h : Handed). h .reply .code ≢ 34) (eqb (scheduleRefusal now ws) 0)
-        (λ _. no-code ws (firstAfter (remembered ws) (allSchedules now))) (λ _. standing-never-34 now _ (standing pooled q tasks slots tag e os) ws);
-    ending = λ ws. by-test (λ (h : Handed). h .reply .ending ≢ 2) (eqb (scheduleRefusal now ws) 0)
-        (λ z. first-unmarked ws _ (allSchedules now) (all-unmarked 48 now (steady ws (eqb-true _ _ z)))) (λ _ e. omega arith);
-    schedules = λ ws ok. all-unmarked 48 now (steady ws ok);
+    code = λ ws. by-test (λ (h : Handed). h .reply .code ≢ 34) (eqb (scheduleRefusal q ws) 0)
+        (λ _. no-code ws (firstAfter (remembered ws) (allSchedules q))) (λ _. standing-never-34 q d s ws);
+    ending = λ ws. by-test (λ (h : Handed). h .reply .ending ≢ 2) (eqb (scheduleRefusal q ws) 0)
+        (λ z. first-unmarked ws _ (allSchedules q) (all-unmarked 48 q (steady ws (eqb-true _ _ z)))) (λ _ e. omega arith);
+    schedules = λ ws ok. all-unmarked 48 q (steady ws ok);
   }
 
+pub standing-unrefused : StandingUnrefused
+standing-unrefused = unrefused
+
 pub never-refused : NeverRefused
-never-refused = unrefused
+never-refused pooled q tasks slots tag e os =
+    let o = openAs pooled q tasks slots tag .queue in
+    unrefused (final o os) _ (standing pooled q tasks slots tag e os)
+    (λ ps. record { operations = fine-on os ps o (never-34 pooled q tasks slots tag e (os ++ ps) .operations) })

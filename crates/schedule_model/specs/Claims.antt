@@ -12,7 +12,7 @@ use Rattle.model.specs.declared.Op.the-variants.{Step}
 use Rattle.model.specs.Tables.{Queue}
 use Rattle.model.specs.Calls.{act}
 use Rattle.model.specs.Standing.{Standing}
-use Rattle.model.specs.History.{AfterOpening, Request, final}
+use Rattle.model.specs.History.{AfterOpening, NeverUnsound, Request, final}
 use Rattle.model.specs.Lists.{All}
 use Rattle.schedule_model.specs.Schedules.{Schedule, atWork, schedules, allSchedules}
 use Rattle.schedule_model.specs.Next.{Next, given, noMore, precedes, Handed, scheduleRefusal, nextSchedule}
@@ -66,11 +66,15 @@ OnlyUnsound =
 abbrev pub StandingNever34 : Type 0
 StandingNever34 = (q : Queue) (d : List Entry) → Standing q d → (ws : List ℕ) → scheduleRefusal q ws ≢ 34
 
--- After any accepted opening and any list: no call is refused 34, and no schedule that is handed out is marked refused.
-pub record Unrefused (q : Queue) (os : List Request) : Type 0 where
-  pub code : (ws : List ℕ) → nextSchedule (final q os) ws .reply .code ≢ 34
-  pub ending : (ws : List ℕ) → nextSchedule (final q os) ws .reply .ending ≢ 2
-  pub schedules : (ws : List ℕ) → scheduleRefusal (final q os) ws ≡ 0 → All (λ (s : Schedule). s .ending ≢ 2) (allSchedules (final q os))
+-- No call is refused 34, and no schedule that is handed out is marked refused: of a queue on which a call that walks may rely and of which no
+-- start or step is ever refused 34, as after any accepted opening and any list.
+pub record Unrefused (q : Queue) : Type 0 where
+  pub code : (ws : List ℕ) → nextSchedule q ws .reply .code ≢ 34
+  pub ending : (ws : List ℕ) → nextSchedule q ws .reply .ending ≢ 2
+  pub schedules : (ws : List ℕ) → scheduleRefusal q ws ≡ 0 → All (λ (s : Schedule). s .ending ≢ 2) (allSchedules q)
+
+abbrev pub StandingUnrefused : Type 0
+StandingUnrefused = (q : Queue) (d : List Entry) → Standing q d → ((os : List Request) → NeverUnsound q os) → Unrefused q
 
 abbrev pub NeverRefused : Type 0
-NeverRefused = AfterOpening Unrefused
+NeverRefused = AfterOpening (λ q os. Unrefused (final q os))

@@ -1,6 +1,6 @@
 -- A queue, and a past that leaves it: what holds after every accepted opening holds of both.
 use mathlib.Core.Bool.{true, _&&_, cond}
-use mathlib.Core.List.{List, [], _∷_}
+use mathlib.Core.List.{List, [], _∷_, _++_}
 use mathlib.Core.Path.{_≡_, _∙_, ap, ap₂, refl, subst, sym}
 use Prim.Native.Nat.{ℕ, zero, suc, _+_, _<_, _≤_}
 use native.Mathlib.Omega.{arith}
@@ -51,6 +51,12 @@ unfolding final
 final-pooled [] q = refl
 final-pooled (o ∷ os) q = final-pooled os (act q (o .task) (o .op) .queue) ∙ act-pooled q (o .task) (o .op)
 
+-- The events of a list's end.
+run-end : (P : Event → Type 0) (os ps : List Request) (q : Queue) → All P (run q (os ++ ps)) → All P (run (final q os) ps)
+unfolding run final
+run-end P [] ps q h = h
+run-end P (o ∷ os) ps q h = run-end P os ps (act q (o .task) (o .op) .queue) (h .1)
+
 -- A queue, and a past that leaves it.
 module _ (p : Past) (q : Queue) (h : Explained p q) where
   abbrev t : True p
@@ -98,6 +104,14 @@ module _ (p : Past) (q : Queue) (h : Explained p q) where
   operations-sound =
       subst (λ (es : List Event). All (λ (e : Event). e .outcome ≡ Refused 34 → ⊥) es) (sym (t .events))
       (past-has NeverUnsound (never-34 (t .pooled)) .operations)
+
+  -- After the past any list may follow.
+  pub following-sound : (os : List Request) → All (λ (e : Event). e .outcome ≡ Refused 34 → ⊥) (run q os)
+  following-sound os =
+      let sound = never-34 (t .pooled) (t .before) (t .tasks) (t .slots) (t .tag) (t .accepted) (p .since ++ os) .operations in
+      subst (λ (es : List Event). All (λ (e : Event). e .outcome ≡ Refused 34 → ⊥) es) (sym (same-run os))
+      (run-end (λ (e : Event). e .outcome ≡ Refused 34 → ⊥) (p .since) os (p .opened)
+      (subst (λ (o : Queue). All (λ (e : Event). e .outcome ≡ Refused 34 → ⊥) (run o (p .since ++ os))) (sym (t .opened)) sound))
 
   -- An open call stands in the queue where it stands after the past.
   stands-alike : (c : Call) (e : Ending) → (isOpen e ≡ true → c .task < now .tables .control .tasks) → Stands now c e → Stands q c e

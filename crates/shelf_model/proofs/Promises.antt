@@ -29,7 +29,7 @@ use Rattle.shelf_model.specs.Promises as stated
 use Rattle.shelf_model.specs.Promises.{Progresses, Promised, Promises}
 use Rattle.shelf_model.proofs.Stretches.{asked, shows-run, solo-alike}
 use Rattle.shelf_model.proofs.Changeovers.{changeovers}
-use Rattle.shelf_model.proofs.Pasts.{accounts, all-served, counts, final-tasks, operations-sound, past-has, same-pooled}
+use Rattle.shelf_model.proofs.Pasts.{accounts, all-served, counts, final-tasks, following-sound, operations-sound, past-has, same-pooled}
 use Rattle.shelf_model.proofs.Pasts.{same-run, same-task, same-tasks, stands}
 
 -- A report where control is sound, the tables are long enough and the walk meets what waits.
@@ -84,6 +84,7 @@ module _ (w : World) (h : Holds w) (i : ℕ) (made : w .pasts i .made ≡ true) 
       let s = stands p q told-by in
       record {
         operations = operations-sound p q told-by;
+        following = following-sound p q told-by;
         walks = s;
         told = told (q .tables) (busy q);
         is = report-told q _ s;

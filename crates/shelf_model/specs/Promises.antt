@@ -12,7 +12,7 @@ use Rattle.model.specs.Tables.{Queue, isPooled, recordAt}
 use Rattle.model.specs.Walk.{contents, entries}
 use Rattle.model.specs.Standing.{Standing}
 use Rattle.model.specs.Report.{report}
-use Rattle.model.specs.History.{Call, Event, Lawful, ledger}
+use Rattle.model.specs.History.{Call, Event, Lawful, Request, ledger, run}
 use Rattle.model.specs.Solo.{soloRun}
 use Rattle.model.specs.Progress.{AnsweredWithin, Busy, any, limit, steps, stretchLimit, tells}
 use Rattle.model.specs.Retries.{oldCount, retriesBelow}
@@ -26,10 +26,11 @@ pub record Served (w : World) (i : ℕ) : Type 0 where
   pub calls : All (λ (c : Call). Lawful c (c .ending)) (ledger (w .pasts i .events) .calls)
   pub waits : contents (w .queues i .tables) ≡ entries (ledger (w .pasts i .events) .deque)
 
--- 34 never occurs: not at a start or step, not at a call that walks, not at a report, which tells the length of its queue, not at a saving or
--- a return.
+-- 34 never occurs: not at a start or step, not at those that may follow, not at a call that walks, not at a report, which tells the length of
+-- its queue, not at a saving.
 pub record NeverUnsound (w : World) (i : ℕ) : Type 0 where
   pub operations : All (λ (e : Event). e .outcome ≡ Refused 34 → ⊥) (w .pasts i .events)
+  pub following : (os : List Request) → All (λ (e : Event). e .outcome ≡ Refused 34 → ⊥) (run (w .queues i) os)
   pub walks : Standing (w .queues i) (ledger (w .pasts i .events) .deque)
   pub told : Report
   pub is : report (w .queues i) ≡ reported.Told told
