@@ -28,14 +28,10 @@ use Rattle.model.proofs.places.Marking.{none-giving}
 use Rattle.model.proofs.places.Owned.{push-pop}
 use Rattle.model.proofs.bridge.Operations.{task-of}
 use Rattle.model.proofs.bridge.View.{kindOf, placeOf, recOf, stateOf, view}
-use Rattle.model.proofs.ledger.EveryOperation.{run-good}
 use Rattle.model.proofs.ledger.Matched.{Matched}
-use Rattle.model.proofs.ledger.Opened.{nobody, open-good, some-slots}
 use Rattle.model.proofs.ledger.Waiting as waiting
-use Rattle.model.proofs.unsound.Runs.{run-safe}
 use Rattle.model.proofs.unsound.Safe.{Safe}
 use Rattle.model.proofs.progress.Reached.{final-reached, open-reached}
-use Rattle.model.proofs.Never34.{open-safe}
 use Rattle.model.proofs.NoSlot.{tip-near, used-is}
 use Rattle.model.proofs.Openings.{after-opening}
 use Rattle.model.specs.Lists.{All}
@@ -197,16 +193,16 @@ had-used q x (holds t lt e) = holds t lt (and-true _ _ e .0)
 pub marks-right : MarksRight
 marks-right pooled = after-opening pooled (MarksTrue marksSlot) (λ q tasks slots tag e os x some le.
     let o = opened pooled q tasks slots tag in
-    let new = open-good pooled q tasks slots tag (some-slots pooled q tasks slots e) in
-    let g = run-good os 1 o nobody new in
-    let f = run-safe os 1 o nobody new (open-safe pooled q tasks slots tag e) .1 in
-    (marked-had (g .0) (final o os) _ (g .1) f x le, had-marked (g .0) (final o os) _ (g .1) f x le))
+    let z = final-reached pooled tasks os o (open-reached pooled tasks q slots tag e) in (
+      marked-had (z .position) (final o os) (z .ledger) (z .matched) (z .safe) x le,
+      had-marked (z .position) (final o os) (z .ledger) (z .matched) (z .safe) x le,
+    ))
 
 pub marks-named : MarksNamed
 marks-named = after-opening false (MarksTrue holdsSlot) (λ q tasks slots tag e os x some le.
     let o = opened false q tasks slots tag in
-    let z = final-reached os tasks o (open-reached q tasks slots tag e) in (
+    let z = final-reached false tasks os o (open-reached false tasks q slots tag e) in (
       λ m. had-used (final o os) x (marked-had (z .position) (final o os) (z .ledger) (z .matched) (z .safe) x le m),
       λ w. had-marked (z .position) (final o os) (z .ledger) (z .matched) (z .safe) x le
-          (used-had (z .position) (final o os) (z .ledger) (z .matched) (z .safe) (z .roomy .named) x w),
+          (used-had (z .position) (final o os) (z .ledger) (z .matched) (z .safe) (z .roomy .way) x w),
     ))

@@ -1,26 +1,31 @@
 -- Request #108: how long a call may hold up.
-use mathlib.Core.Bool.{false}
+use mathlib.Core.Bool.{Bool}
 use mathlib.Core.List.{List}
-use mathlib.Core.Path.{subst}
+use mathlib.Core.Path.{subst, subst₂, sym}
 use Prim.Native.Nat.{_≤_, ℕ}
 use Rattle.model.specs.Calls.{opened}
-use Rattle.model.specs.History.{AfterOpeningAs, Request, final, run}
-use Rattle.model.specs.Progress.{SoloBound, SoloWithin, StretchBound, StretchTells, steps, stretchLimit}
-use Rattle.model.specs.Tables.{Queue}
+use Rattle.model.specs.History.{AfterOpening, Request, final, run}
+use Rattle.model.specs.Progress.{AnsweredWithin, SoloBound, SoloWithin, StretchBound, StretchTells, limit, steps, stretchLimit}
+use Rattle.model.specs.Solo.{soloRun}
+use Rattle.model.specs.Tables.{Queue, recordAt}
 use Rattle.model.proofs.progress.AloneSteps.{solo-within}
 use Rattle.model.proofs.progress.Reached.{Reached, final-reached, open-reached}
 use Rattle.model.proofs.progress.TogetherSteps.{stretch-tells}
 use Rattle.model.proofs.Openings.{after-opening}
 
 -- What holds of every reached queue.
-named-opening : (P : Queue → List Request → Type 0) → ((q : Queue) (tasks : ℕ) → Reached tasks q → (os : List Request) → P q os)
-    → AfterOpeningAs false P
-named-opening P h = after-opening false P (λ q tasks slots tag e os. h (opened false q tasks slots tag) tasks (open-reached q tasks slots tag e) os)
+opening : (P : Queue → List Request → Type 0) → ((pooled : Bool) (tasks : ℕ) (q : Queue) → Reached pooled tasks q → (os : List Request) → P q os)
+    → AfterOpening P
+opening P h pooled = after-opening pooled P (λ q tasks slots tag e os.
+    h pooled tasks (opened pooled q tasks slots tag) (open-reached pooled tasks q slots tag e) os)
 
 pub solo-bound : SoloBound
-solo-bound = named-opening SoloWithin (λ q tasks z os t n b more. solo-within tasks (final q os) (final-reached os tasks q z) t n b more)
+solo-bound = opening SoloWithin (λ pooled tasks q z os t n b.
+    let now = final q os in
+    subst (λ way. limit way (recordAt now t .kind) ≤ n → AnsweredWithin (limit way (recordAt now t .kind)) (soloRun n now t)) (sym (z .roomy .way))
+    (solo-within pooled tasks now (final-reached pooled tasks os q z) t n b))
 
 pub stretch-bound : StretchBound
-stretch-bound = named-opening StretchTells (λ q tasks z os stretch le.
-    stretch-tells tasks (final q os) (final-reached os tasks q z) stretch
-    (subst (λ n. stretchLimit n ≤ steps (run (final q os) stretch)) (z .roomy .tasks-are) le))
+stretch-bound = opening StretchTells (λ pooled tasks q z os stretch le.
+    stretch-tells pooled tasks (final q os) (final-reached pooled tasks os q z) stretch
+    (subst₂ (λ way n. stretchLimit way n ≤ steps (run (final q os) stretch)) (z .roomy .way) (z .roomy .tasks-are) le))

@@ -1,5 +1,5 @@
 -- A queue, and a past that leaves it: what holds after every accepted opening holds of both.
-use mathlib.Core.Bool.{Bool, true, false, _&&_, cond}
+use mathlib.Core.Bool.{true, _&&_}
 use mathlib.Core.List.{List, [], _∷_}
 use mathlib.Core.Path.{_≡_, _∙_, ap, ap₂, refl, subst, sym}
 use Prim.Native.Nat.{ℕ, zero, suc, _+_, _<_, _≤_}
@@ -10,13 +10,11 @@ use Rattle.model.specs.declared.Outcome.the-variants.{Refused}
 use Rattle.model.specs.declared.TaskRecord.{TaskRecord}
 use Rattle.model.specs.Tables.{Queue, isPooled, taskAt}
 use Rattle.model.specs.Sound.{controlSound}
-use Rattle.model.specs.Calls.{act, opened}
+use Rattle.model.specs.Calls.{act}
 use Rattle.model.specs.Walk.{contents, entries}
 use Rattle.model.specs.History.{AfterOpeningAs, Call, Event, Lawful, Linearized, NeverUnsound, Request, final, ledger, run}
 use Rattle.model.specs.Retries.{retriesBelow}
-use Rattle.model.proofs.tests.Truth.{not-both}
 use Rattle.model.proofs.laws.Sizes.{act-pooled, act-tasks, fits}
-use Rattle.model.proofs.Openings.{after-opening}
 use Rattle.model.proofs.Linearizable.{linearizable}
 use Rattle.model.proofs.Never34.{never-34}
 use Rattle.model.proofs.Standing.{Standing, standing}
@@ -47,19 +45,6 @@ final-pooled : (os : List Request) (q : Queue) → final q os .tables .control .
 unfolding final
 final-pooled [] q = refl
 final-pooled (o ∷ os) q = final-pooled os (act q (o .task) (o .op) .queue) ∙ act-pooled q (o .task) (o .op)
-
-open-pooled : (pooled : Bool) → AfterOpeningAs pooled (λ q os. isPooled (q .tables .control) ≡ pooled)
-unfolding opened
-open-pooled pooled = after-opening pooled (λ q os. isPooled (q .tables .control) ≡ pooled) (λ q tasks slots tag e os. way pooled)
-  where
-    way : (b : Bool) → eqb (cond b 1 0) 1 ≡ b
-    way true = refl
-    way false = refl
-
--- What holds after every named opening.
-if-named : (P : Queue → List Request → Type 0) → AfterOpeningAs false P → (pooled : Bool) → pooled ≡ false → AfterOpeningAs pooled P
-if-named P h true e = absurd (not-both refl e)
-if-named P h false e = h
 
 -- A queue, and a past that leaves it.
 module _ (p : Past) (q : Queue) (h : Explained p q) where
@@ -115,12 +100,5 @@ module _ (p : Past) (q : Queue) (h : Explained p q) where
       ∙ ap (λ (x : Queue). retriesBelow x (x .tables .control .tasks)) (h .left)
       ∙ below-cut now (now .tables .control .tasks) (omega arith)
 
-  is-named : isPooled (q .tables .control) ≡ false → t .pooled ≡ false
-  is-named e =
-      sym (past-has (λ q os. isPooled (q .tables .control) ≡ t .pooled) (open-pooled (t .pooled)))
-      ∙ ap (λ (n : ℕ). eqb n 1) (sym (final-pooled (p .since) (p .opened)) ∙ ap (λ (c : Control). c .pooled) (sym same-control))
-      ∙ e
-
-  pub has-named : (P : Queue → List Request → Type 0) → AfterOpeningAs false P
-      → isPooled (q .tables .control) ≡ false → P (p .opened) (p .since)
-  has-named P x e = past-has P (if-named P x (t .pooled) (is-named e))
+  pub same-pooled : isPooled (q .tables .control) ≡ isPooled (p .opened .tables .control)
+  same-pooled = ap (λ (n : ℕ). eqb n 1) (ap (λ (c : Control). c .pooled) same-control ∙ final-pooled (p .since) (p .opened))

@@ -25,12 +25,12 @@ use Rattle.model.proofs.Standing.{Standing}
 use Rattle.model.proofs.StepBounds.{solo-bound, stretch-bound}
 use Rattle.stock_model.proofs.Accounts.{accounted}
 use Rattle.shelf_model.specs.Shelves.{bothHold, returnRefusal, saveRefusal, shelfAt}
-use Rattle.shelf_model.specs.Changeovers.{Holds, Past, World}
+use Rattle.shelf_model.specs.Changeovers.{Holds, Past, World, shows}
 use Rattle.shelf_model.specs.Promises as stated
 use Rattle.shelf_model.specs.Promises.{Progresses, Promised, Promises}
 use Rattle.shelf_model.proofs.Stretches.{asked, shows-run, solo-alike}
 use Rattle.shelf_model.proofs.Changeovers.{changeovers}
-use Rattle.shelf_model.proofs.Pasts.{all-served, counts, final-tasks, has-named, operations-sound, past-has}
+use Rattle.shelf_model.proofs.Pasts.{all-served, counts, final-tasks, operations-sound, past-has, same-pooled}
 use Rattle.shelf_model.proofs.Pasts.{same-run, same-task, same-tasks, stands}
 
 -- A report where control is sound, the tables are long enough and the walk meets what waits.
@@ -57,12 +57,15 @@ return-sound false false true true h = λ z. let y : _≡_ {A = ℕ} 12 34 = z i
 return-sound false false true false h = λ z. let y : _≡_ {A = ℕ} 0 34 = z in omega arith
 
 -- #108.
-module _ (w : World) (h : Holds w) (named : isPooled (w .queue .tables .control) ≡ false) where
+module _ (w : World) (h : Holds w) where
   abbrev p : Past
   p = w .past
 
   abbrev then : Queue
   then = final (p .opened) (p .since)
+
+  pooled : isPooled (w .queue .tables .control) ≡ isPooled (p .opened .tables .control)
+  pooled = same-pooled p (w .queue) (h .now)
 
   progresses : Progresses w
   progresses = record {
@@ -70,19 +73,19 @@ module _ (w : World) (h : Holds w) (named : isPooled (w .queue .tables .control)
         let same = same-task p (w .queue) (h .now) i (b .known) in
         let known = subst (λ k. i < k) (same-tasks p (w .queue) (h .now)) (b .known) in
         let busy : Busy then i = record { known = known; place = subst (λ (r : TaskRecord). r .call .place ≢ 0) same (b .place) } in
-        let less = subst (λ (r : TaskRecord). limit (r .call .kind) ≤ n) same more in
-        let z = has-named p (w .queue) (h .now) SoloWithin solo-bound named i n busy less in
+        let less = subst₂ (λ way (r : TaskRecord). limit way (r .call .kind) ≤ n) pooled same more in
+        let z = past-has p (w .queue) (h .now) SoloWithin (solo-bound (h .now .true .pooled)) i n busy less in
         solo-alike n _ (w .queue) then i (b .known) known (h .now .left)
-        (subst (λ (r : TaskRecord). AnsweredWithin (limit (r .call .kind)) (soloRun n then i)) (sym same) z);
+        (subst₂ (λ way (r : TaskRecord). AnsweredWithin (limit way (r .call .kind)) (soloRun n then i)) (sym pooled) (sym same) z);
     stretch = λ l u enough.
         let same = shows-run l w u ∙ same-run p (w .queue) (h .now) (asked l) in
         let tasks = same-tasks p (w .queue) (h .now) ∙ final-tasks (p .since) (p .opened) in
+        let long = subst₂ (λ way n. stretchLimit way n ≤ steps (shows w l)) pooled tasks enough in
         subst (λ (es : List Event). any tells es ≡ true) (sym same)
-        (has-named p (w .queue) (h .now) StretchTells stretch-bound named (asked l)
-        (subst₂ (λ n (es : List Event). stretchLimit n ≤ steps es) tasks same enough));
+        (past-has p (w .queue) (h .now) StretchTells (stretch-bound (h .now .true .pooled)) (asked l)
+        (subst (λ (es : List Event). stretchLimit (isPooled (p .opened .tables .control)) (p .opened .tables .control .tasks) ≤ steps es) same long));
   }
 
-module _ (w : World) (h : Holds w) where
   save-never : (n : ℕ) → saveRefusal (w .queue) (w .shelves) n ≢ 34
   unfolding saveRefusal
   save-never n =
@@ -116,7 +119,7 @@ module _ (w : World) (h : Holds w) where
     sound = sound;
     retries = λ low. counts (w .past) (w .queue) (h .now)
         ∙ past-has (w .past) (w .queue) (h .now) SumIsOld (retries-sum (h .now .true .pooled)) low;
-    progress = progresses w h;
+    progress = progresses;
     accounted = λ count. past-has (w .past) (w .queue) (h .now) (Accounted count) (accounted count (h .now .true .pooled));
   }
 

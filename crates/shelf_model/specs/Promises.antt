@@ -1,6 +1,6 @@
 -- What is promised of a queue that was saved and returned to: what is promised of its past. (Document 02, #109.)
 use mathlib.Core.Path.{_≡_}
-use mathlib.Core.Bool.{Bool, true, false}
+use mathlib.Core.Bool.{true}
 use mathlib.Core.List.{List}
 use mathlib.Core.Logic.{_≢_}
 use Prim.Native.Nat.{ℕ, _<_, _≤_}
@@ -34,13 +34,12 @@ pub record NeverUnsound (w : World) : Type 0 where
   pub saving : (n : ℕ) → saveRefusal (w .queue) (w .shelves) n ≢ 34
   pub returning : (n : ℕ) → returnRefusal (w .queue) (w .shelves) n ≢ 34
 
--- #108, for a queue with named slots: a busy task alone answers within its limit; a stretch of 26 times its tasks holds
--- an effect or an answer.
+-- #108: a busy task alone answers within its limit; a stretch as long as its limit holds an effect or an answer.
 pub record Progresses (w : World) : Type 0 where
-  pub solo : (t n : ℕ) → Busy (w .queue) t → let most = limit (recordAt (w .queue) t .kind) in
+  pub solo : (t n : ℕ) → Busy (w .queue) t → let most = limit (isPooled (w .queue .tables .control)) (recordAt (w .queue) t .kind) in
       most ≤ n → AnsweredWithin most (soloRun n (w .queue) t)
-  pub stretch : (l : List Action) → unbroken w l ≡ true
-      → stretchLimit (w .queue .tables .control .tasks) ≤ steps (shows w l) → any tells (shows w l) ≡ true
+  pub stretch : let c = w .queue .tables .control in (l : List Action) → unbroken w l ≡ true
+      → stretchLimit (isPooled c) (c .tasks) ≤ steps (shows w l) → any tells (shows w l) ≡ true
 
 pub record Promised (w : World) : Type 0 where
   pub served : Served w
@@ -48,7 +47,7 @@ pub record Promised (w : World) : Type 0 where
   -- #101: the counts of the tasks add up to the old count.
   pub retries : oldCount 0 (w .past .opened) (w .past .since) < 4294967295
       → retriesBelow (w .queue) (w .queue .tables .control .tasks) ≡ oldCount 0 (w .past .opened) (w .past .since)
-  pub progress : isPooled (w .queue .tables .control) ≡ false → Progresses w
+  pub progress : Progresses w
   -- #114: every label of that past is accounted for, however labels are counted.
   pub accounted : (count : ℕ → ℕ) → Accounted count (w .past .opened) (w .past .since)
 

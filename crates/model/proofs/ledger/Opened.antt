@@ -99,7 +99,7 @@ module _ (pooled : Bool) (q : Queue) (tasks slots tag : ℕ) where
       go (inr n) (inl e) = let z = ap (λ (v : ℕ). getD (o .tables .next) v 0) e ∙ next-end p some in omega arith
       go (inr n) (inr e) = omega (arith, next-up p x (omega arith) (omega arith))
 
-  flag : isPooled (o .tables .control) ≡ pooled
+  pub flag : isPooled (o .tables .control) ≡ pooled
   unfolding opened
   flag = go pooled
     where

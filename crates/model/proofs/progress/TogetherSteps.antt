@@ -1,9 +1,10 @@
 -- The same of the tables: an operation with no effect and no answer lets the sum of what all tasks owe fall by one at a step, and never rise.
-use mathlib.Core.Bool.{false, true}
+-- A task that draws its slot may send each other task at the head back, which is paid for pair by pair.
+use mathlib.Core.Bool.{Bool, cond, false, true}
 use mathlib.Core.List.{List, [], _∷_}
 use mathlib.Core.Logic.{_≢_, _⊎_, inl, inr}
 use mathlib.Core.Path.{_∙_, _≡_, ap, refl, subst, sym}
-use Prim.Native.Nat.{_*_, _+_, _<_, _≤_, suc, ℕ}
+use Prim.Native.Nat.{_*_, _+_, _<_, _≤_, suc, zero, ℕ}
 use native.Mathlib.Omega.{arith}
 use lib.Dec.{eqb}
 use lib.ListN.{set}
@@ -12,9 +13,9 @@ use Rattle.model.specs.Calls.{Acted, Done, act, actOn, back, finish, pop
 use Rattle.model.specs.History.{Event, Ledger, Request, isEffect, run}
 use Rattle.model.specs.Places.{wordFound, move}
 use Rattle.model.specs.Ends.{answerEnds}
-use Rattle.model.specs.Progress.{any, stepping, steps, stretchLimit, tells, tellsBy}
+use Rattle.model.specs.Progress.{any, pairs, stepping, steps, stretchLimit, tells, tellsBy}
 use Rattle.model.specs.Refusals.{among, popRefusal, pushRefusal, putRefusal, stepRefusal}
-use Rattle.model.specs.Tables.{Queue, Tables, idle, isPooled, recordAt, started, tablesOf, taskAt, unused, withCall, taken}
+use Rattle.model.specs.Tables.{Queue, Tables, asking, isPooled, recordAt, started, tablesOf, taskAt, unused, withCall, taken}
 use Rattle.model.specs.declared.Answer.the-variants.{Empty, NoSlot, Popped, Pushed, Running}
 use Rattle.model.specs.declared.Answer.{Answer}
 use Rattle.model.specs.declared.Op.the-variants.{Pop, Push, Put, Step}
@@ -22,7 +23,7 @@ use Rattle.model.specs.declared.Op.{Op}
 use Rattle.model.specs.declared.Outcome.the-variants.{Moved, Refused}
 use Rattle.model.specs.declared.Record.{Record}
 use Rattle.model.specs.declared.TaskRecord.{TaskRecord}
-use Rattle.model.proofs.tests.Truth.{by-test, decide-eq, not-both, or-false, split}
+use Rattle.model.proofs.tests.Truth.{by-test, decide-eq, either, not-both, or-false, split}
 use Rattle.model.proofs.lists.Store.{set-back}
 use Rattle.model.proofs.machine.Book.{effect}
 use Rattle.model.proofs.machine.Laws.{upd-other, upd-same}
@@ -36,33 +37,81 @@ use Rattle.model.proofs.bridge.Operations.{not-idle, put-back, reply, s
 use Rattle.model.proofs.bridge.View.{answerSeen, placeOf, recOf, stateOf, view}
 use Rattle.model.proofs.ledger.Matched.{Matched}
 use Rattle.model.proofs.ledger.Served.{effect-is}
-use Rattle.model.proofs.tags.Sum.{total, total-drop, total-keep, total-le}
+use Rattle.model.proofs.tags.Sum.{total, total-at, total-drop, total-keep, total-le}
 use Rattle.model.proofs.progress.Bounds.{owed-within}
 use Rattle.model.proofs.progress.Measure.{owedAt}
+use Rattle.model.proofs.progress.Others.{heads, heads-most, keep}
 use Rattle.model.proofs.progress.Reached.{Reached, act-reached}
 use Rattle.model.proofs.progress.Scale.{scale, scale-most, scale-some, together}
-use Rattle.model.proofs.progress.Together.{Calmer, Silent, calmer}
+use Rattle.model.proofs.progress.Together.{Calmer, Drawn, Silent, calmer}
 
--- What the first n tasks owe.
-abbrev pub all : ℕ → M.State → ℕ
-all n s = total (λ u. together (s .shared) (s .task u)) n
+-- How many of the first n tasks may find the head changed.
+abbrev atHead : ℕ → (ℕ → M.Rec) → ℕ
+atHead n f = total (λ u. heads (f u .place)) n
 
-module _ (s : M.Shared) (f : ℕ → M.Rec) (t : ℕ) (s′ : M.Shared) (r′ : M.Rec) (others : (u : M.Rec) → together s′ u ≤ together s u) where
-  each : together s′ r′ ≤ together s (f t) → (u : ℕ) → together s′ (upd f t r′ u) ≤ together s (f u)
-  each own u = go (decide-eq u t)
+-- What the first n tasks owe; in a pooled queue 3 more for each pair of those that may find the head changed.
+abbrev pub all : Bool → ℕ → M.State → ℕ
+all pooled n s = total (λ u. together (s .shared) (s .task u)) n + cond pooled (3 * pairs (atHead n (s .task))) 0
+
+pairs-up : (a b : ℕ) → a ≤ b → pairs a ≤ pairs b
+unfolding pairs
+pairs-up zero b le = omega arith
+pairs-up (suc a) zero le = absurd (omega arith)
+pairs-up (suc a) (suc b) le = omega (arith, pairs-up a b (omega arith))
+
+thrice : (f g : ℕ → ℕ) (n : ℕ) → total (λ u. f u + 3 * g u) n ≡ total f n + 3 * total g n
+unfolding total
+thrice f g zero = refl
+thrice f g (suc n) = omega (arith, thrice f g n)
+
+module _ (s : M.Shared) (f : ℕ → M.Rec) (t : ℕ) (s′ : M.Shared) (r′ : M.Rec) (n : ℕ) where
+  abbrev f′ : ℕ → M.Rec
+  f′ = upd f t r′
+
+  -- Term by term: what holds of the task's new record, and of any other record.
+  each : (P : ℕ → M.Rec → Type 0) → P t r′ → ((u : ℕ) → P u (f u)) → (u : ℕ) → P u (f′ u)
+  each P own others u = go (decide-eq u t)
     where
-      go : (u ≡ t) ⊎ (u ≢ t) → together s′ (upd f t r′ u) ≤ together s (f u)
-      go (inl e) = subst (λ v. together s′ (upd f t r′ v) ≤ together s (f v)) (sym e)
-          (subst (λ (x : M.Rec). together s′ x ≤ together s (f t)) (sym (upd-same f t r′)) own)
-      go (inr e) = subst (λ (x : M.Rec). together s′ x ≤ together s (f u)) (sym (upd-other f t r′ u e)) (others (f u))
+      go : (u ≡ t) ⊎ (u ≢ t) → P u (f′ u)
+      go (inl e) = subst (λ v. P v (f′ v)) (sym e) (subst (P t) (sym (upd-same f t r′)) own)
+      go (inr e) = subst (P u) (sym (upd-other f t r′ u e)) (others u)
 
-  pub all-keep : (n : ℕ) → together s′ r′ ≤ together s (f t) → all n (record { shared = s′; task = upd f t r′ }) ≤ all n
-      (record { shared = s; task = f })
-  all-keep n own = total-keep _ _ n (each own)
+  -- Nobody owes more, and no more find the head changed.
+  module _ (lt : t < n) (fewer : heads (r′ .place) ≤ heads (f t .place)) (others : (u : M.Rec) → together s′ u ≤ together s u) where
+    sums : together s′ r′ ≤ together s (f t) → (u : ℕ) → together s′ (f′ u) ≤ together s (f u)
+    sums own = each (λ u x. together s′ x ≤ together s (f u)) own (λ u. others (f u))
 
-  pub all-drop : (n : ℕ) → t < n → together s′ r′ < together s (f t)
-      → all n (record { shared = s′; task = upd f t r′ }) < all n (record { shared = s; task = f })
-  all-drop n lt own = total-drop _ _ t n lt (each (omega arith)) (subst (λ (x : M.Rec). together s′ x < together s (f t)) (sym (upd-same f t r′)) own)
+    heads-keep : (pooled : Bool) → cond pooled (3 * pairs (atHead n f′)) 0 ≤ cond pooled (3 * pairs (atHead n f)) 0
+    heads-keep pooled =
+        let e = total-at (λ (x : M.Rec). heads (x .place)) f t r′ n lt in
+        let p = pairs-up (atHead n f′) (atHead n f) (omega (arith, fewer)) in
+        keep pooled (omega arith) (omega arith)
+
+    pub all-keep : (pooled : Bool) → together s′ r′ ≤ together s (f t)
+        → all pooled n (record { shared = s′; task = f′ }) ≤ all pooled n (record { shared = s; task = f })
+    all-keep pooled own = omega (arith, total-keep _ _ n (sums own), heads-keep pooled)
+
+    pub all-drop : (pooled : Bool) → together s′ r′ < together s (f t)
+        → all pooled n (record { shared = s′; task = f′ }) < all pooled n (record { shared = s; task = f })
+    all-drop pooled own = omega (
+      arith,
+      total-drop _ _ t n lt (sums (omega arith)) (subst (λ (x : M.Rec). together s′ x < together s (f t)) (sym (upd-same f t r′)) own),
+      heads-keep pooled,
+    )
+
+  -- The task draws its slot: one fewer may find the head changed, and each of them owes 3 more at the most.
+  pub all-drawn : t < n → heads (f t .place) ≡ 1 → heads (r′ .place) ≡ 0 → ((u : M.Rec) → together s′ u ≤ together s u + 3 * heads (u .place))
+      → together s′ r′ < together s (f t) → all true n (record { shared = s′; task = f′ }) < all true n (record { shared = s; task = f })
+  unfolding pairs
+  all-drawn lt before after others own =
+      let one = total-at (λ (x : M.Rec). heads (x .place)) f t r′ n lt in
+      let fewer : atHead n f ≡ suc (atHead n f′) = omega arith in
+      let drop = total-drop _ (λ u. together s (f u) + 3 * heads (f′ u .place)) t n lt
+      (each (λ u x. together s′ x ≤ together s (f u) + 3 * heads (x .place)) (omega arith) (λ u. others (f u)))
+      (subst (λ (x : M.Rec). together s′ x < together s (f t) + 3 * heads (x .place)) (sym (upd-same f t r′)) (omega arith)) in
+      let sum = thrice (λ u. together s (f u)) (λ u. heads (f′ u .place)) n in
+      let p : pairs (atHead n f) ≡ atHead n f′ + pairs (atHead n f′) = ap pairs fewer in
+      omega arith
 
 -- A step that tells nothing is silent.
 runs-on : (a : Answer) → answerEnds a ≡ false → answerSeen a ≡ M.running
@@ -72,7 +121,7 @@ runs-on Empty e = absurd (not-both refl e)
 runs-on (Popped v) e = absurd (not-both refl e)
 runs-on NoSlot e = absurd (not-both refl e)
 
-module _ (n : ℕ) (q : Queue) (l : Ledger) (g : Matched n q l) (named : isPooled (q .tables .control) ≡ false) (t : ℕ) where
+module _ (n : ℕ) (q : Queue) (l : Ledger) (g : Matched n q l) (pooled : Bool) (way : isPooled (q .tables .control) ≡ pooled) (t : ℕ) where
   abbrev r : Record
   r = recordAt q t
 
@@ -86,42 +135,48 @@ module _ (n : ℕ) (q : Queue) (l : Ledger) (g : Matched n q l) (named : isPoole
   abbrev Hushed : Op → Done → Type 0
   Hushed o d = tellsBy (record { task = t; op = o; outcome = d .outcome; before = G .control .anchor; after = d .queue .tables .control .anchor }) o
       (d .outcome) ≡ false
-      → stepping o (d .outcome) + all tasks (stateOf (d .queue)) ≤ all tasks (stateOf q)
+      → stepping o (d .outcome) + all pooled tasks (stateOf (d .queue)) ≤ all pooled tasks (stateOf q)
 
   abbrev Puts : Op → Acted → Type 0
   Puts o a = Hushed o (back q t a)
 
   refused : (o : Op) (why : ℕ) → Puts o (record { tables = G; task = taskAt q t; outcome = Refused why })
-  refused o why z = subst (λ (x : List TaskRecord). stepping o (Refused why) + all tasks
-      (stateOf (record { tables = G; records = x })) ≤ all tasks (stateOf q))
+  refused o why z = subst (λ (x : List TaskRecord). stepping o (Refused why) + all pooled tasks
+      (stateOf (record { tables = G; records = x })) ≤ all pooled tasks (stateOf q))
       (sym (set-back (q .records) t unused)) (go o)
     where
-      go : (o : Op) → stepping o (Refused why) + all tasks (stateOf q) ≤ all tasks (stateOf q)
+      go : (o : Op) → stepping o (Refused why) + all pooled tasks (stateOf q) ≤ all pooled tasks (stateOf q)
       go (Push side x y) = omega arith
       go (Pop side) = omega arith
       go (Put side label) = omega arith
       go Step = omega arith
 
-  -- A start: an idle task owes as much as one at place 1.
-  module _ (z : Lies q t) (free : r .place ≡ 0) (labels marks : List ℕ) (kind side x y : ℕ) where
-    abbrev new : Record
-    new = started kind side x y
-
+  -- A start: an idle task owes as much as one at place 1, in a pooled queue as one at 12.
+  module _ (z : Lies q t) (free : r .place ≡ 0) (labels marks : List ℕ) (new : Record) where
     abbrev begun : Queue
     begun = record {
       tables = tablesOf (G .control) (G .lefts) (G .rights) labels marks (G .next);
       records = set (q .records) t (withCall (taskAt q t) new);
     }
 
-    owes-same : together (view G) (recOf new) ≡ together (view G) (stateOf q .task t)
-    unfolding recOf
-    owes-same = sym (ap (together (view G)) (task-of q t (z .known)) ∙ ap (λ (p : ℕ). owedAt 1 (scale (view G)) (placeOf p) (view G) (recOf r)) free)
+    abbrev unstarted : ℕ
+    unstarted = owedAt 1 (scale (view G)) (view G .pooled) M.idle (view G) (recOf r)
 
-    start-all : all tasks (stateOf begun) ≤ all tasks (stateOf q)
+    was-idle : unstarted ≡ together (view G) (stateOf q .task t)
+    unfolding recOf
+    was-idle = sym (ap (together (view G)) (task-of q t (z .known))
+        ∙ ap (λ (p : ℕ). owedAt 1 (scale (view G)) (view G .pooled) (placeOf p) (view G) (recOf r)) free)
+
+    at-head : heads (stateOf q .task t .place) ≡ 1
+    unfolding recOf
+    at-head = ap (λ (x : M.Rec). heads (x .place)) (task-of q t (z .known)) ∙ ap (λ (p : ℕ). heads (placeOf p)) free
+
+    start-all : together (view G) (recOf new) ≤ unstarted → all pooled tasks (stateOf begun) ≤ all pooled tasks (stateOf q)
     unfolding view stateOf
-    start-all = subst (λ (k : ℕ → M.Rec). total (λ u. together (view G) (k u)) tasks ≤ all tasks (stateOf q))
+    start-all le = subst (λ (k : ℕ → M.Rec). all pooled tasks (record { shared = view G; task = k }) ≤ all pooled tasks (stateOf q))
         (sym (put-back q t z (withCall (taskAt q t) new)))
-        (all-keep (view G) (stateOf q .task) t (view G) (recOf new) (λ u. omega arith) tasks (omega (arith, owes-same)))
+        (all-keep (view G) (stateOf q .task) t (view G) (recOf new) tasks (z .known) (omega (arith, at-head, heads-most (recOf new .place)))
+        (λ u. omega arith) pooled (omega (arith, le, was-idle)))
 
   -- An accepted step.
   module _ (s : Stepping q t) where
@@ -134,35 +189,66 @@ module _ (n : ℕ) (q : Queue) (l : Ledger) (g : Matched n q l) (named : isPoole
     abbrev ev : Event
     ev = record { task = t; op = Step; outcome = Moved a; before = G .control .anchor; after = q′ .tables .control .anchor }
 
-    calm : Calmer (together (view G) (recOf r)) (view G) (seenMove G r)
+    abbrev owes : ℕ
+    owes = together (view G) (recOf r)
+
+    abbrev Calms : M.Move → Type 0
+    Calms m = Calmer owes (placeOf (r .place)) (view G) m ⊎ Drawn owes (placeOf (r .place)) (view G) m
+
+    calm : Calms (seenMove G r)
     unfolding recOf stateOf view
-    calm = subst (Calmer (together (view G) (recOf r)) (view G)) (step-seen G (s .control) (g .links) r (s .fine) (s .busy) (s .room))
-        (calmer (view G) (recOf r) t (g .inv .owner) (g .book .queue) (g .book .calls t) (g .inv .whole) named (placeOf (r .place))
+    calm = subst Calms (step-seen G (s .control) (g .links) r (s .fine) (s .busy) (s .room))
+        (calmer (view G) (recOf r) t (g .inv .owner) (g .book .queue) (g .book .calls t) (g .inv .whole) (placeOf (r .place))
         (not-idle (r .place) (s .busy) (s .fine .place))
         (subst (λ (x : M.Rec). Task (x .place) (view G) (g .inv .owner) t x (g .book .calls t)) (task-of q t (s .lies .known)) (g .inv .tasks t)))
 
-    step-all : tellsBy ev Step (Moved a) ≡ false → suc (all tasks (stateOf q′)) ≤ all tasks (stateOf q)
+    abbrev next : M.State
+    next = record { shared = M.apply (view G) (seenMove G r .touch); task = upd (stateOf q .task) t (seenMove G r .rec) }
+
+    same : together (view G) (stateOf q .task t) ≡ owes
+    same = ap (together (view G)) (task-of q t (s .lies .known))
+
+    place : heads (stateOf q .task t .place) ≡ heads (placeOf (r .place))
+    unfolding recOf
+    place = ap (λ (x : M.Rec). heads (x .place)) (task-of q t (s .lies .known))
+
+    calms : Silent (view G) (seenMove G r) → Calms (seenMove G r) → all pooled tasks next < all pooled tasks (stateOf q)
+    unfolding stateOf view
+    calms silent (inl c) = all-drop (view G) (stateOf q .task) t (next .shared) (seenMove G r .rec) tasks (s .lies .known)
+        (omega (arith, c .fewer silent, place)) (c .others silent) pooled (omega (arith, c .own silent, same))
+    calms silent (inr c) = subst (λ w. all w tasks next < all w tasks (stateOf q)) (sym (c .pooled) ∙ way)
+        (all-drawn (view G) (stateOf q .task) t (next .shared) (seenMove G r .rec) tasks (s .lies .known) (place ∙ c .before) (c .after) (c .others)
+        (omega (arith, c .own, same)))
+
+    step-all : tellsBy ev Step (Moved a) ≡ false → suc (all pooled tasks (stateOf q′)) ≤ all pooled tasks (stateOf q)
     unfolding stateOf view
     step-all z =
         let w = or-false (isEffect ev a) (answerEnds a) z in
         let is = state-is q (g .book) (g .inv) (g .links) t s in
         let silent : Silent (view G) (seenMove G r) =
         (runs-on a (w .1), ap (λ (x : M.State). effect (view G .anchor) (x .shared .anchor) (answerSeen a)) (sym is) ∙ effect-is ev a ∙ w .0) in
-        subst (λ (x : M.State). suc (all tasks x) ≤ all tasks (stateOf q)) (sym is)
-        (all-drop (view G) (stateOf q .task) t (M.apply (view G) (seenMove G r .touch)) (seenMove G r .rec) (calm .others silent) tasks
-        (s .lies .known)
-        (omega (arith, calm .own silent, ap (together (view G)) (task-of q t (s .lies .known)))))
+        subst (λ (x : M.State). suc (all pooled tasks x) ≤ all pooled tasks (stateOf q)) (sym is) (omega (arith, calms silent calm))
 
   push-put : (side x y : ℕ) → Lies q t → r .place ≡ 0
       → Puts (Push side x y) (record { tables = taken G x y; task = withCall (taskAt q t) (started 0 side x y); outcome = Moved (Running 1) })
-  push-put side x y z free _ = omega (arith, start-all z free (taken G x y .labels) (taken G x y .marks) 0 side x y)
+  unfolding recOf
+  push-put side x y z free _ = omega (arith, start-all z free (taken G x y .labels) (taken G x y .marks) (started 0 side x y) (omega arith))
 
   pop-put : (side : ℕ) → Lies q t → r .place ≡ 0 → Puts (Pop side) (record {
     tables = G;
     task = withCall (taskAt q t) (started 1 side 0 0);
     outcome = Moved (Running 1);
   })
-  pop-put side z free _ = omega (arith, start-all z free (G .labels) (G .marks) 1 side 0 0)
+  unfolding recOf
+  pop-put side z free _ = omega (arith, start-all z free (G .labels) (G .marks) (started 1 side 0 0) (omega arith))
+
+  put-put : (side y : ℕ) → Lies q t → r .place ≡ 0 → Puts (Put side y) (record {
+    tables = G;
+    task = withCall (taskAt q t) (asking side y);
+    outcome = Moved (Running 12);
+  })
+  unfolding recOf
+  put-put side y z free _ = omega (arith, start-all z free (G .labels) (G .marks) (asking side y) (omega arith))
 
   step-put : Stepping q t → Puts Step (finish G (taskAt q t) (move (G .control) r (wordFound G r)))
   unfolding finish
@@ -177,35 +263,45 @@ module _ (n : ℕ) (q : Queue) (l : Ledger) (g : Matched n q l) (named : isPoole
       (λ e. let p = pop-accepted q t side (eqb-true _ _ e) in pop-put side (p .lies) (p .free))
       (λ e. refused (Pop side) (popRefusal G (among q t) r side))
   act-all (Put side y) = by-test (Puts (Put side y)) (eqb (putRefusal G (among q t) r side) 0)
-      (λ e. absurd (not-both (put-accepted q t side (eqb-true _ _ e) .1) named))
+      (λ e. let p = put-accepted q t side (eqb-true _ _ e) .0 in put-put side y (p .lies) (p .free))
       (λ e. refused (Put side y) (putRefusal G (among q t) r side))
   act-all Step = by-test (Puts Step) (eqb (stepRefusal G (among q t) r) 0)
       (λ e. step-put (step-accepted q t (eqb-true _ _ e))) (λ e. refused Step (stepRefusal G (among q t) r))
 
--- A list of operations that tells nothing has no more accepted steps than the tasks owe at its beginning.
-pub run-all : (os : List Request) (tasks : ℕ) (q : Queue) → Reached tasks q → any tells (run q os) ≡ false → steps (run q os) ≤ all tasks (stateOf q)
-unfolding run any steps
-run-all [] tasks q z e = omega arith
-run-all (o ∷ os) tasks q z e =
-    let d = act q (o .task) (o .op) in
-    let w = or-false _ (any tells (run (d .queue) os)) e in
-    let a : stepping (o .op) (d .outcome) + all tasks (stateOf (d .queue)) ≤ all tasks (stateOf q) =
-    subst (λ n. stepping (o .op) (d .outcome) + all n (stateOf (d .queue)) ≤ all n (stateOf q)) (z .roomy .tasks-are)
-    (act-all (z .position) q (z .ledger) (z .matched) (z .roomy .named) (o .task) (o .op) (w .0)) in
-    let b = run-all os tasks (d .queue) (act-reached tasks q (o .task) (o .op) z) (w .1) in
-    omega arith
+-- More than all tasks owe.
+enough : (pooled : Bool) (tasks : ℕ) → 1 ≤ tasks → 19 * tasks + cond pooled (3 * pairs tasks) 0 < stretchLimit pooled tasks
+enough true tasks some = omega arith
+enough false tasks some = omega arith
 
--- They owe 16 each at the most. (The longest stretch that occurs has 15 steps a task, less 10.)
-pub all-bound : (tasks : ℕ) (q : Queue) → all tasks (stateOf q) ≤ 16 * tasks
-all-bound tasks q = total-le _ 16 tasks
-    (λ t. omega (
-      arith,
-      owed-within 1 (scale (stateOf q .shared)) (omega arith) (scale-some (stateOf q .shared)) (stateOf q .shared)
-          (stateOf q .task t) .1,
-      scale-most (stateOf q .shared),
-    ))
+module _ (pooled : Bool) (tasks : ℕ) where
+  -- A list of operations that tells nothing has no more accepted steps than the tasks owe at its beginning.
+  pub run-all : (os : List Request) (q : Queue) → Reached pooled tasks q → any tells (run q os) ≡ false
+      → steps (run q os) ≤ all pooled tasks (stateOf q)
+  unfolding run any steps
+  run-all [] q z e = omega arith
+  run-all (o ∷ os) q z e =
+      let d = act q (o .task) (o .op) in
+      let w = or-false _ (any tells (run (d .queue) os)) e in
+      let a : stepping (o .op) (d .outcome) + all pooled tasks (stateOf (d .queue)) ≤ all pooled tasks (stateOf q) =
+      subst (λ n. stepping (o .op) (d .outcome) + all pooled n (stateOf (d .queue)) ≤ all pooled n (stateOf q)) (z .roomy .tasks-are)
+      (act-all (z .position) q (z .ledger) (z .matched) pooled (z .roomy .way) (o .task) (o .op) (w .0)) in
+      let b = run-all os (d .queue) (act-reached pooled tasks q (o .task) (o .op) z) (w .1) in
+      omega arith
 
-pub stretch-tells : (tasks : ℕ) (q : Queue) → Reached tasks q → (os : List Request) → stretchLimit tasks ≤ steps (run q os)
-    → any tells (run q os) ≡ true
-stretch-tells tasks q z os le = split (any tells (run q os)) (λ e. e)
-    (λ e. absurd (omega (arith, le, run-all os tasks q z e, all-bound tasks q, z .roomy .some)))
+  -- They owe 16 each at the most, in a pooled queue 19, and 3 for each pair. (In a named queue the longest stretch that occurs has 15 steps
+  -- a task, less 10.)
+  pub all-bound : (q : Queue) → all pooled tasks (stateOf q) ≤ 19 * tasks + cond pooled (3 * pairs tasks) 0
+  all-bound q =
+      let s = stateOf q in
+      let one : (t : ℕ) → together (s .shared) (s .task t) ≤ 19 = λ t.
+      let w = owed-within 1 (scale (s .shared)) (s .shared .pooled) (omega arith) (scale-some (s .shared)) (s .shared) (s .task t) .1 in
+      let m : cond (s .shared .pooled) 3 0 ≤ 3 = either (λ z. z ≤ 3) (s .shared .pooled) (omega arith) (omega arith) in
+      omega (arith, scale-most (s .shared)) in
+      let p = pairs-up (atHead tasks (s .task)) tasks (omega (arith, total-le (λ u. heads (s .task u .place)) 1 tasks (λ t. heads-most (s .task t .place)))) in
+      let k : cond pooled (3 * pairs (atHead tasks (s .task))) 0 ≤ cond pooled (3 * pairs tasks) 0 = keep pooled (omega arith) (omega arith) in
+      omega (arith, total-le _ 19 tasks one)
+
+  pub stretch-tells : (q : Queue) → Reached pooled tasks q → (os : List Request) → stretchLimit pooled tasks ≤ steps (run q os)
+      → any tells (run q os) ≡ true
+  stretch-tells q z os le = split (any tells (run q os)) (λ e. e)
+      (λ e. absurd (omega (arith, le, run-all os q z e, all-bound q, enough pooled tasks (z .roomy .some))))
