@@ -78,8 +78,8 @@
  * below the stack pointer) and SSE registers, no AVX: an interrupt handler that makes a call saves
  * the SSE state first, and an interrupt that is not masked during a call leaves the red zone alone.
  * In a queue that these calls alone wrote to, a task stepped alone answers within 18 steps in a push
- * and 13 in a pop, in a pooled queue 21 and 16, wherever the others stopped (ZC_PUSH_STEPS, which
- * says what of it is proved); between other tasks' steps it may have to try again and again.
+ * and 13 in a pop, in a pooled queue 21 and 16, wherever the others stopped; between other tasks'
+ * steps it may have to try again and again (ZC_PUSH_STEPS: the bounds, and a watchdog's recipe).
  *
  * A REFUSAL is its number alone: every table keeps its contents. If several
  * numbers apply, the first in the order that stands with the call is answered.
@@ -112,8 +112,8 @@ extern "C" {
  * again. Minor: something was added. Patch: neither.
  */
 #define ZC_VERSION_MAJOR 3
-#define ZC_VERSION_MINOR 0
-#define ZC_VERSION_PATCH 1
+#define ZC_VERSION_MINOR 1
+#define ZC_VERSION_PATCH 0
 #define ZC_VERSION (ZC_VERSION_MAJOR * 10000 + ZC_VERSION_MINOR * 100 + ZC_VERSION_PATCH)
 
 /* ---- Limits and lengths ---------------------------------------------------------------- */
@@ -125,21 +125,30 @@ extern "C" {
 #define ZC_MOST_RETRIES UINT64_C(4294967295)   /* where a task's count of retries stays */
 
 /*
- * How long a call may hold up, in a queue that was opened and moved by these calls alone. Figures
- * for a watchdog; a refused step does not count. Proved, where the caller names the slots:
- *  - a busy task stepped alone answers within ZC_PUSH_STEPS steps for a push and ZC_POP_STEPS for a
- *    pop, wherever all the others stopped. Both are reached;
- *  - any ZC_STRETCH(tasks) steps, of whatever tasks, hold one with which a call takes effect or
- *    answers.
- * Counted and tested, in a pooled queue: at 13 a push may hold a head of long ago, and alone makes
- * 13, 14, 12, 13, 14 and then the 16 steps that it needs at most from place 1; a pop makes the three
- * steps 15 to 17 more. Both are reached.
+ * How long a call may hold up, in a queue that was opened and moved by these calls alone (saved and
+ * returned to, too). All four are proved; a refused step does not count.
+ *  - A busy task stepped alone answers within ZC_PUSH_STEPS steps for a push and ZC_POP_STEPS for a
+ *    pop, in a pooled queue ZC_POOLED_PUSH_STEPS and ZC_POOLED_POP_STEPS, wherever all the others
+ *    stopped. All four are reached.
+ *  - Any ZC_STRETCH(tasks) steps, of whatever tasks, hold one with which a call takes effect or
+ *    answers; in a pooled queue any ZC_POOLED_STRETCH(tasks), since there a task that draws its slot
+ *    may send each other one back. With 16 tasks that is 416 and 680.
+ *
+ * A watchdog's recipe:
+ *  1. Count the steps that are not refused since the last answer, or since an end of Anchor moved.
+ *  2. Past ZC_STRETCH(tasks), pooled ZC_POOLED_STRETCH(tasks), a table was written by somebody else.
+ *  3. To bring one busy task to its answer, step it and no other: zc_run with ZC_PUSH_STEPS or
+ *     ZC_POP_STEPS, pooled ZC_POOLED_PUSH_STEPS or ZC_POOLED_POP_STEPS.
+ *  4. If it still answers running, or 34, the tables are damaged: stop the tasks, and
+ *  5. report: zc_report tells what can be told, and the queue is opened again.
  */
 #define ZC_PUSH_STEPS 18
 #define ZC_POP_STEPS 13
 #define ZC_POOLED_PUSH_STEPS 21
 #define ZC_POOLED_POP_STEPS 16
 #define ZC_STRETCH(tasks) (26 * (uint64_t)(tasks))
+#define ZC_POOLED_STRETCH(tasks) \
+    (20 * (uint64_t)(tasks) + 3 * ((uint64_t)(tasks) * ((uint64_t)(tasks) - 1) / 2))
 
 /* Entries of lefts, rights, labels and next: rows 0 to slots (row 0 is null's, and unused). */
 #define ZC_ROWS(slots) ((size_t)(slots) + 1)
@@ -415,8 +424,7 @@ zc_reply zc_step_record(zc_control *control, zc_record *one, uint64_t *lefts, si
  * Steps a task until a step does not answer running, `most` times at the most, and answers as the
  * last step did. With `most` steps made, or none to make, the answer is running at the task's place
  * (0: it is idle). In a queue that these calls alone wrote to, ZC_PUSH_STEPS or ZC_POP_STEPS are
- * enough, which is proved; pooled ZC_POOLED_PUSH_STEPS or ZC_POOLED_POP_STEPS, which is counted and
- * tested.
+ * enough, pooled ZC_POOLED_PUSH_STEPS or ZC_POOLED_POP_STEPS, which is proved.
  * Refuses as the step does, and nothing with `most` 0. In a queue that somebody else wrote to, a
  * later step may be refused too: the `steps` before it are made and stay.
  */
@@ -902,7 +910,7 @@ uint32_t zc_save(const zc_control *control, const zc_record *records, size_t rec
  * entries, the other way. What the queue's tables held before does not matter, nor does its control:
  * it need not be open. The shelf keeps its copy. Calls that were half done at the saving are so again;
  * what was answered between the saving and the return is then no part of the queue's history, nor
- * does a stretch of ZC_STRETCH span a return.
+ * does a stretch of ZC_STRETCH or ZC_POOLED_STRETCH span a return.
  *
  * Answers 0, or refuses: 43, 44, 34 for the shelf's control, 12 (by the shelf's control; fewer than
  * eight controls, of which one that is not lent reads as zero: 44). A refusal changes nothing.

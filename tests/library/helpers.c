@@ -188,6 +188,16 @@ static void longest(void)
     is("its 16th", zc_queue_step(&queue, 1).code, ZC_POPPED);
 }
 
+/* Document 02, #108, and the pairs of a pooled queue: 1, 3 and 120 of 2, 3 and 16 tasks. */
+static void stretches(void)
+{
+    is("a stretch of 16 tasks", ZC_STRETCH(16), 416);
+    is("of one task, pooled", ZC_POOLED_STRETCH(1), 20);
+    is("of 2", ZC_POOLED_STRETCH(2), 40 + 3);
+    is("of 3", ZC_POOLED_STRETCH(1 + 2), 60 + 9);
+    is("of 16", ZC_POOLED_STRETCH(16), 320 + 360);
+}
+
 int main(void)
 {
     storage();
@@ -198,5 +208,6 @@ int main(void)
     refill();
     pooled();
     longest();
+    stretches();
     return told();
 }

@@ -19,16 +19,22 @@ pub const MOST_RETRIES: u64 = 4_294_967_295;
 pub const PUSH_STEPS: u64 = 18;
 /// The same of a pop.
 pub const POP_STEPS: u64 = 13;
-/// The same of a push in a pooled queue, counted and tested: 13, 14, 12, 13, 14 where its head is of
-/// long ago, and the 16 steps that a push needs at most from place 1.
+/// The same of a push in a pooled queue, proved too: 13, 14, 12, 13, 14 where its head is of long ago,
+/// and the 16 steps that a push needs at most from place 1.
 pub const POOLED_PUSH_STEPS: u64 = 21;
 /// The same of a pop in a pooled queue: 15 to 17 are three steps more.
 pub const POOLED_POP_STEPS: u64 = 16;
 
 /// So many steps, of whatever tasks, hold one with which a call takes effect or answers, in a queue
-/// with named slots.
+/// with named slots; a refused step does not count. This is proved.
 pub const fn stretch(tasks: u64) -> u64 {
     26 * tasks
+}
+
+/// The same in a pooled queue: 20 for each task, and 3 for each pair of them, since a task that draws
+/// its slot may send each other one back.
+pub const fn pooled_stretch(tasks: u64) -> u64 {
+    20 * tasks + 3 * (tasks * tasks.saturating_sub(1) / 2)
 }
 
 /// Entries of `lefts`, `rights`, `labels` and `next`.

@@ -69,6 +69,13 @@ fn the_longest_push() {
     assert_eq!(queue.waiting(), [(1, 11), (2, 12), (3, 21)]);
 }
 
+/// Document 02, #108, and 3 steps for each pair of tasks: there are 1, 3 and 120.
+#[test]
+fn stretches() {
+    assert_eq!(zeppolecape::stretch(16), 416);
+    assert_eq!([0, 1, 2, 3, 16].map(zeppolecape::pooled_stretch), [0, 20, 43, 69, 680]);
+}
+
 /// `tests/cases/solo_pooled_pop_takes_16`.
 #[test]
 fn the_longest_pop() {

@@ -52,10 +52,10 @@ unfoldable pub pairs : ℕ → ℕ
 pairs zero = 0
 pairs (suc n) = n + pairs n
 
--- 26 steps for each task opened; in a pooled queue 3 more for each pair of them: a task that draws its slot, which is no effect, may
--- send each other one back to 12 or 15. (Request #108 asks for the first.)
+-- 26 steps for each task opened. In a pooled queue 20 for each, and 3 for each pair of them: a task that draws its slot, which is no
+-- effect, may send each other one back to 12 or 15. (Request #108 asks for the first.)
 abbrev pub stretchLimit : Bool → ℕ → ℕ
-stretchLimit pooled tasks = 26 * tasks + cond pooled (3 * pairs tasks) 0
+stretchLimit pooled tasks = cond pooled (20 * tasks + 3 * pairs tasks) (26 * tasks)
 
 pub record Busy (q : Queue) (t : ℕ) : Type 0 where
   pub known : t < q .tables .control .tasks

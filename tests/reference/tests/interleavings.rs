@@ -4,7 +4,8 @@ use reference::check::Judge;
 use reference::machine::Moved;
 use reference::run::{Call, Event, Reply, Watcher};
 use reference::tables::Storage;
-use std::collections::HashSet;
+use reference::word::Anchor;
+use std::collections::{HashMap, HashSet};
 
 const SLOTS: u64 = 3;
 
@@ -120,6 +121,46 @@ fn longest_alone(worlds: &HashSet<World>) -> [u64; 2] {
     longest
 }
 
+impl World {
+    /// The accepted steps of an event of the task that leads here from `before`, 0 for a start;
+    /// nothing where a call takes effect or answers by it.
+    fn silent_steps(&self, before: &World, task: u8) -> Option<u64> {
+        let ends = |world: &World| {
+            let anchor = Anchor::unpack(world.storage.control.anchor);
+            (anchor.left, anchor.right)
+        };
+        let place = |world: &World| world.storage.records[usize::from(task)].place;
+        match (place(before), place(self)) {
+            (0, _) => Some(0),
+            (_, 0) => None,
+            _ => (ends(before) == ends(self)).then_some(1),
+        }
+    }
+}
+
+/// The most steps that can follow one another from this world on with no effect and no answer.
+fn silent_from(world: &World, known: &mut HashMap<World, u64>) -> u64 {
+    if let Some(&steps) = known.get(world) {
+        return steps;
+    }
+    let tasks = world.wishes.len() as u8;
+    let mut longest = 0;
+    for task in 0..tasks {
+        let Some(next) = world.after(task) else { continue };
+        if let Some(steps) = next.silent_steps(world, task) {
+            longest = longest.max(steps + silent_from(&next, known));
+        }
+    }
+    known.insert(world.clone(), longest);
+    longest
+}
+
+/// The longest stretch without effect or answer that any of the worlds begins.
+fn longest_stretch(worlds: &HashSet<World>) -> u64 {
+    let mut known = HashMap::new();
+    worlds.iter().map(|world| silent_from(world, &mut known)).max().unwrap_or(0)
+}
+
 /// A world with one label waiting, slot 1.
 fn one_waiting(wishes: Vec<Vec<Wish>>) -> World {
     let mut world = World::new(wishes);
@@ -200,4 +241,23 @@ fn the_longest_ways_alone() {
     };
     assert_eq!(longest(|wishes| World::named(4, wishes)), Some([18, 13]));
     assert_eq!(longest(|wishes| World::pooled(4, wishes)), Some([21, 16]));
+}
+
+/// Document 02, #108: 26 steps for each task always hold an effect or an answer. In a pool it is 20 for
+/// each and 3 for each pair; there 26 alone would not be enough with many tasks. The longest of two tasks
+/// are the cases `stretch_of_20` and `pooled_stretch_of_23`.
+#[test]
+fn the_longest_stretches() {
+    let push = vec![Wish::Push(1)];
+    let crews = [
+        (vec![vec![Wish::Push(1); 3], push.clone()], [20, 23]),
+        (vec![vec![Wish::Push(1); 3], vec![Wish::Pop(1)]], [20, 23]),
+        (vec![push.clone(), push.clone(), push], [26 * 3, 20 * 3 + 3 * 3]),
+    ];
+    for (crew, most) in crews {
+        let worlds = [World::named(5, crew.clone()), World::pooled(5, crew.clone())];
+        let longest = worlds.map(|world| longest_stretch(&explored(world)));
+        println!("{crew:?}: silent steps in a row, named and pooled: {longest:?}");
+        assert!(longest[0] <= most[0] && longest[1] <= most[1], "{longest:?} of {crew:?}");
+    }
 }
