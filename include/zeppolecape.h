@@ -70,10 +70,10 @@
  *   zc_pop            320       261       261       261
  *   zc_step           496       309       301       301
  *   zc_step_record    512       305       299       299
- *   zc_run            544      1811      3015      3501
+ *   zc_run            544      1780      2981      3462
  *   zc_report         368       273       475     17257
  *   table bytes         -       240       816     30120
- *   code bytes: audit 1804, capi 10315, capi_record 5838, capi_run 6080, find 3227, history 9508, join 3443, schedule 9581, sheet 3587, shelf 3874, waiting 797
+ *   code bytes: audit 1804, capi 10315, capi_record 5838, capi_run 8099, find 3227, history 9508, join 3443, schedule 9581, sheet 3587, shelf 3874, waiting 797
  * As to the machine: x86-64, System V calling convention. The code uses the red zone (128 bytes
  * below the stack pointer) and SSE registers, no AVX: an interrupt handler that makes a call saves
  * the SSE state first, and an interrupt that is not masked during a call leaves the red zone alone.
@@ -266,7 +266,7 @@ typedef struct zc_reply {
 typedef struct zc_run_reply {
     uint32_t code, label;
     uint64_t value;
-    uint64_t steps; /* a refused step is none */
+    uint64_t steps; /* with a refusal 0 */
 } zc_run_reply;
 
 /* What the report tells. With a refusal every field but code is 0. */
@@ -422,11 +422,12 @@ zc_reply zc_step_record(zc_control *control, zc_record *one, uint64_t *lefts, si
 
 /*
  * Steps a task until a step does not answer running, `most` times at the most, and answers as the
- * last step did. With `most` steps made, or none to make, the answer is running at the task's place
- * (0: it is idle). In a queue that these calls alone wrote to, ZC_PUSH_STEPS or ZC_POP_STEPS are
- * enough, pooled ZC_POOLED_PUSH_STEPS or ZC_POOLED_POP_STEPS, which is proved.
- * Refuses as the step does, and nothing with `most` 0. In a queue that somebody else wrote to, a
- * later step may be refused too: the `steps` before it are made and stay.
+ * last step did. With `most` steps made the answer is running at the task's place. In a queue that
+ * these calls alone wrote to, ZC_PUSH_STEPS or ZC_POP_STEPS are enough, in a pooled one
+ * ZC_POOLED_PUSH_STEPS or ZC_POOLED_POP_STEPS, which is proved.
+ * Refuses what the first step is refused by, or would be with `most` 0, and then changes nothing. In
+ * a queue that somebody else wrote to, a later step may be refused: it is not made, and the answer is
+ * running at the task's place, with fewer `steps` than `most`.
  */
 zc_run_reply zc_run(zc_control *control, zc_record *records, size_t record_count, size_t task,
                     uint64_t most, uint64_t *lefts, size_t left_count, uint64_t *rights,

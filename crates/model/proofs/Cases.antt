@@ -20,7 +20,7 @@ use Rattle.model.specs.Calls.{opened, openAs, openPooled, pushStart, put
 use Rattle.model.specs.Walk.{Walk, entries, broken, along, contents}
 use Rattle.model.specs.Report.{busy, waiting, takenSlots, tell, report, retryCounts}
 use Rattle.model.specs.History.{Request, run, final}
-use Rattle.model.specs.Solo.{soloRun}
+use Rattle.model.specs.Solo.{soloRun, soloSteps}
 use Rattle.model.proofs.Bench.{zeros, fresh, push, pop, steps, outcomes, at, got, one, halfway}
 use Rattle.model.specs.Lists.{count, listed}
 
@@ -102,6 +102,10 @@ crowded = record {
 abbrev popping : Queue
 popping = final one (pop 0 1 ∷ [])
 
+-- Task 0 pops at the right, where Left of 2 has a set bit in 31–15.
+abbrev astray : Queue
+astray = record { tables = links stable spare 0 0; records = counting (started 1 1 0 0) 0 ∷ unused ∷ [] }
+
 pub record Cases : Type 0 where
   -- 1 to 16 tasks, 1 to 1,023 slots, and tables long enough; 10 before 11 before 12
   pub largest-opens : openRefusal false largest 16 1023 ≡ 0
@@ -161,17 +165,20 @@ pub record Cases : Type 0 where
   -- a report counts no record beyond the tasks and no mark but those of slots 1 to slots
   pub no-more-told : report crowded ≡ report halfway
   pub no-more-counts : retryCounts crowded ≡ replicate 16 0
-  -- a task stepped until it answers: no step to make, too few, enough; a refused step is none
+  -- a task stepped until it answers: no step to make, too few, enough; refused where its first step is, one to make or none;
+  -- a later step that is refused is not made
   pub none-made : (soloRun 0 popping 0 .outcome ≡ at 1) × (soloRun 0 popping 0 .steps ≡ 0)
   pub two-made : (soloRun 2 popping 0 .outcome ≡ at 11) × (soloRun 2 popping 0 .steps ≡ 2)
   pub enough-made : (soloRun 9 popping 0 .outcome ≡ got 1 700) × (soloRun 9 popping 0 .steps ≡ 3)
   pub none-accepted : (soloRun 9 popping 1 .outcome ≡ Refused 31) × (soloRun 9 popping 1 .steps ≡ 0)
+  pub none-asked : (soloRun 0 popping 1 .outcome ≡ Refused 31) × (soloRun 0 popping 2 .outcome ≡ Refused 13)
+  pub one-made : (soloRun 9 astray 0 .outcome ≡ at 3) × (soloRun 9 astray 0 .steps ≡ 1)
 
 pub cases : Cases
 unfolding openAs opened openRefusal run final act actOn pushStart putStart popStart step finish startRefusal stepRefusal stepSound move at1 at2 at3
     new4 at4 at5 at6 at7 at9 at10 at11 at12 at13 at14 at15 at16 at17 reading sideOf row linkSide anchorSound linkSound controlSound recordSound
     rowsFit pushRoute popRoute route onward answer goes counted along contents report tell reportRefusal busy count waiting takenSlots retryCounts
-    listed soloRun
+    listed soloSteps soloRun
 cases = record {
   largest-opens = refl;
   smallest-opens = refl;
@@ -218,4 +225,6 @@ cases = record {
   two-made = (refl, refl);
   enough-made = (refl, refl);
   none-accepted = (refl, refl);
+  none-asked = (refl, refl);
+  one-made = (refl, refl);
 }

@@ -93,9 +93,7 @@ pub fn sheet(
         return refused(34);
     }
     let n = listed.len();
-    let mut square = [[0u8; 32]; 32];
-    square::closure(&mut square, rules, n);
-    search::first_broken(&square, n, low, high)
+    square::first_broken(rules, n, low, high)
 }
 
 /// The sheet on a smaller printer: the same answer, with 32 lent words for the chained rules in the

@@ -12,9 +12,9 @@ use Rattle.model.specs.declared.TaskRecord.{TaskRecord}
 use Rattle.model.specs.Tables.{Queue, recordAt, taskAt, unused}
 use Rattle.model.specs.Refusals.{openRefusal}
 use Rattle.model.specs.Calls.{Done, act, openAs}
-use Rattle.model.specs.Ends.{isRunning}
+use Rattle.model.specs.Ends.{isMoved, isRunning}
 use Rattle.model.specs.History.{Event, Request, run}
-use Rattle.model.specs.Solo.{SoloDone, oneMore, soloEnd, soloRun}
+use Rattle.model.specs.Solo.{SoloDone, lastStep, oneMore, resting, soloRun, soloSteps}
 use Rattle.model.specs.Progress.{AnsweredWithin}
 use Rattle.model.proofs.tests.Truth.{and-true, split}
 use Rattle.model.proofs.laws.Sizes.{act-tasks}
@@ -32,23 +32,38 @@ task-cut q t h = get-take (q .tables .control .tasks) (q .records) t unused h
 abbrev cutSolo : SoloDone → SoloDone
 cutSolo d = record { queue = cut (d .queue); outcome = d .outcome; steps = d .steps }
 
-abbrev onceMore : ℕ → ℕ → Done → SoloDone
-onceMore n t d = cond (isRunning (d .outcome)) (oneMore (soloRun n (d .queue) t)) (soloEnd d)
-
 either : (b : Bool) (d e : SoloDone) → cond b (cutSolo d) (cutSolo e) ≡ cutSolo (cond b d e)
 either true d e = refl
 either false d e = refl
 
-solo-cut : (n : ℕ) (q : Queue) (t : ℕ) → t < q .tables .control .tasks → soloRun n (cut q) t ≡ cutSolo (soloRun n q t)
-unfolding soloRun
-solo-cut zero q t h =
+rests-cut : (q : Queue) (t : ℕ) → t < q .tables .control .tasks → resting (cut q) t ≡ cutSolo (resting q t)
+rests-cut q t h =
     ap (λ (r : TaskRecord). record { queue = cut q; outcome = Moved (Running (r .call .place)); steps = 0 }) (task-cut q t h)
-solo-cut (suc n) q t h =
+
+-- What a step d comes to, where `more` comes after it and `none` in place of it.
+abbrev onceMore : SoloDone → SoloDone → Done → SoloDone
+onceMore more none d = cond (isRunning (d .outcome)) (oneMore more) (cond (isMoved (d .outcome)) (lastStep d) none)
+
+steps-cut : (n : ℕ) (q : Queue) (t : ℕ) → t < q .tables .control .tasks → soloSteps n (cut q) t ≡ cutSolo (soloSteps n q t)
+unfolding soloSteps
+steps-cut zero q t h = rests-cut q t h
+steps-cut (suc n) q t h =
     let d = act q t Step in
     let known = subst (λ k. t < k) (sym (act-tasks q t Step)) h in
-    ap (onceMore n t) (act-cut q t Step)
-    ∙ ap (λ (s : SoloDone). cond (isRunning (d .outcome)) (oneMore s) (soloEnd (cutDone d))) (solo-cut n (d .queue) t known)
-    ∙ either (isRunning (d .outcome)) (oneMore (soloRun n (d .queue) t)) (soloEnd d)
+    ap (λ (e : Done). onceMore (soloSteps n (e .queue) t) (resting (cut q) t) e) (act-cut q t Step)
+    ∙ ap (λ (s : SoloDone). onceMore s (resting (cut q) t) (cutDone d)) (steps-cut n (d .queue) t known)
+    ∙ ap (λ (s : SoloDone). onceMore (cutSolo (soloSteps n (d .queue) t)) s (cutDone d)) (rests-cut q t h)
+    ∙ ap (λ (s : SoloDone). cond (isRunning (d .outcome)) (cutSolo (oneMore (soloSteps n (d .queue) t))) s)
+    (either (isMoved (d .outcome)) (lastStep d) (resting q t))
+    ∙ either (isRunning (d .outcome)) (oneMore (soloSteps n (d .queue) t)) (cond (isMoved (d .outcome)) (lastStep d) (resting q t))
+
+solo-cut : (n : ℕ) (q : Queue) (t : ℕ) → t < q .tables .control .tasks → soloRun n (cut q) t ≡ cutSolo (soloRun n q t)
+unfolding soloRun
+solo-cut n q t h =
+    let d = act q t Step in
+    ap (λ (e : Done). cond (isMoved (e .outcome)) (soloSteps n (cut q) t) (record { queue = cut q; outcome = e .outcome; steps = 0 })) (act-cut q t Step)
+    ∙ ap (λ (s : SoloDone). cond (isMoved (d .outcome)) s (record { queue = cut q; outcome = d .outcome; steps = 0 })) (steps-cut n q t h)
+    ∙ either (isMoved (d .outcome)) (soloSteps n q t) (record { queue = q; outcome = d .outcome; steps = 0 })
 
 pub solo-alike : (n most : ℕ) (q p : Queue) (t : ℕ) → t < q .tables .control .tasks → t < p .tables .control .tasks → cut q ≡ cut p
     → AnsweredWithin most (soloRun n p t) → AnsweredWithin most (soloRun n q t)

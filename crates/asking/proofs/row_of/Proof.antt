@@ -3,8 +3,8 @@ use mathlib.Core.Path.{refl, ap}
 use borrow.Author.Tests.{le-leb, lt-leb}
 use Rattle.word.specs.declared.Link.{Link}
 use Rattle.model.specs.Places.{row}
-use Rattle.schedule_search.proofs.undo.row_of.Statement.{statement}
-use Rattle.schedule_search.proofs.undo.row_of.Tie as tie
+use Rattle.asking.proofs.row_of.Statement.{statement}
+use Rattle.asking.proofs.row_of.Tie as tie
 
 returns : tie.Need-returns
 unfolding row
