@@ -111,8 +111,8 @@ extern "C" {
  * Major: a layout, a code, or what a call takes or does has changed: read CHANGELOG.md and compile
  * again. Minor: something was added. Patch: neither.
  */
-#define ZC_VERSION_MAJOR 3
-#define ZC_VERSION_MINOR 1
+#define ZC_VERSION_MAJOR 4
+#define ZC_VERSION_MINOR 0
 #define ZC_VERSION_PATCH 0
 #define ZC_VERSION (ZC_VERSION_MAJOR * 10000 + ZC_VERSION_MINOR * 100 + ZC_VERSION_PATCH)
 

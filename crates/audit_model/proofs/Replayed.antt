@@ -17,7 +17,7 @@ use Rattle.model.specs.History.{Call, Effect, Ending, Event, Ledger}
 use Rattle.model.specs.History.{accept, attend, begins, continued, ended, isEffect, isOpen, lacksSlot, ledgerFrom, note, over, stepOf, toldEntry}
 use Rattle.model.proofs.tests.Truth.{by-test}
 use Rattle.model.specs.Lists.{All}
-use Rattle.audit_model.specs.Written.{Taken, insert, insertAll, taken, effectsOf}
+use Rattle.audit_model.proofs.Taken.{Taken, put, putAll, taken, takenOf}
 use Rattle.audit_model.proofs.Lists.{all-append, all-map}
 use Rattle.audit_model.proofs.Order.{insert-all, insert-before, insert-last}
 
@@ -63,22 +63,22 @@ Now n t = t .at ≡ n
 -- Earlier effects come before the new ones.
 insert-earlier : (n : ℕ) (f : Effect → Taken) → ((e : Effect) → f e .at ≡ e .at)
     → (es : List Effect) (l m : List Taken) → All (λ (e : Effect). e .at < n) es → All (Now n) m
-    → insertAll f es (l ++ m) ≡ insertAll f es l ++ m
+    → putAll f es (l ++ m) ≡ putAll f es l ++ m
 insert-earlier n f p [] l m h z = refl
 insert-earlier n f p (e ∷ es) l m h z =
-    ap (insert (f e)) (insert-earlier n f p es l m (h .1) z)
-    ∙ insert-before (f e) (insertAll f es l) m (all-map (λ (u : Taken) w. omega (arith, h .0, p e)) m z)
+    ap (put (f e)) (insert-earlier n f p es l m (h .1) z)
+    ∙ insert-before (f e) (putAll f es l) m (all-map (λ (u : Taken) w. omega (arith, h .0, p e)) m z)
 
 all-inserted : (n : ℕ) (f : Effect → Taken) → ((e : Effect) → f e .at ≡ e .at)
     → (es : List Effect) (l : List Taken) → All (λ (e : Effect). e .at < n) es
-    → All (AtOrBefore n) l → All (AtOrBefore n) (insertAll f es l)
+    → All (AtOrBefore n) l → All (AtOrBefore n) (putAll f es l)
 all-inserted n f p [] l h z = z
-all-inserted n f p (e ∷ es) l h z = insert-all (AtOrBefore n) (f e) (insertAll f es l) (omega (arith, h .0, p e)) (all-inserted n f p es l (h .1) z)
+all-inserted n f p (e ∷ es) l h z = insert-all (AtOrBefore n) (f e) (putAll f es l) (omega (arith, h .0, p e)) (all-inserted n f p es l (h .1) z)
 
-pub effects-before : (n : ℕ) (cs : List Call) → All (EffectsBefore n) cs → All (AtOrBefore n) (effectsOf cs)
+pub effects-before : (n : ℕ) (cs : List Call) → All (EffectsBefore n) cs → All (AtOrBefore n) (takenOf cs)
 effects-before n [] h = tt
 effects-before n (c ∷ cs) h =
-    all-inserted n (taken (length (c ∷ cs)) (c .kind) (c .side) (c .entry)) (λ e. refl) (c .effects) (effectsOf cs)
+    all-inserted n (taken (length (c ∷ cs)) (c .kind) (c .side) (c .entry)) (λ e. refl) (c .effects) (takenOf cs)
     (h .0) (effects-before n cs (h .1))
 
 module _ (n : ℕ) (ev : Event) (a : Answer) (d : List Entry) where
@@ -86,15 +86,15 @@ module _ (n : ℕ) (ev : Event) (a : Answer) (d : List Entry) where
   pub record Adds (cs : List Call) (l : Ledger) : Type 0 where
     pub new : List Taken
     pub count : length (l .calls) ≡ length cs
-    pub effects : effectsOf (l .calls) ≡ effectsOf cs ++ new
+    pub effects : takenOf (l .calls) ≡ takenOf cs ++ new
     pub here : All (Now n) new
     pub replays : Replays new d (l .deque)
 
   -- A call before others that were attended to keeps its effects where they were.
   keeps : (c : Call) (cs : List Call) (l : Ledger) → EffectsBefore n c → (g : Adds cs l)
-      → insertAll (taken (suc (length (l .calls))) (c .kind) (c .side) (c .entry)) (c .effects) (effectsOf (l .calls)) ≡ effectsOf (c ∷ cs) ++ g .new
-  keeps c cs l h g = (λ i. insertAll (taken (suc (g .count i)) (c .kind) (c .side) (c .entry)) (c .effects) (g .effects i))
-      ∙ insert-earlier n (taken (length (c ∷ cs)) (c .kind) (c .side) (c .entry)) (λ e. refl) (c .effects) (effectsOf cs) (g .new) h (g .here)
+      → putAll (taken (suc (length (l .calls))) (c .kind) (c .side) (c .entry)) (c .effects) (takenOf (l .calls)) ≡ takenOf (c ∷ cs) ++ g .new
+  keeps c cs l h g = (λ i. putAll (taken (suc (g .count i)) (c .kind) (c .side) (c .entry)) (c .effects) (g .effects i))
+      ∙ insert-earlier n (taken (length (c ∷ cs)) (c .kind) (c .side) (c .entry)) (λ e. refl) (c .effects) (takenOf cs) (g .new) h (g .here)
 
   skips : (c : Call) (e : Ending) (cs : List Call) (l : Ledger) → EffectsBefore n c → Adds cs l → Adds (c ∷ cs) (over (continued c (c .effects) e) l)
   skips c e cs l h g = record { new = g .new; count = ap suc (g .count); effects = keeps c cs l h g; here = g .here; replays = g .replays }
@@ -112,11 +112,11 @@ module _ (n : ℕ) (ev : Event) (a : Answer) (d : List Entry) where
         new = g .new ++ (t ∷ []);
         count = ap suc (g .count);
         effects =
-            (λ i. insert (taken (suc (g .count i)) (c .kind) (c .side) (c .entry) e) (keeps c cs l h g i))
-            ∙ insert-last t (effectsOf (c ∷ cs) ++ g .new)
-            (all-append (AtOrBefore n) (effectsOf (c ∷ cs)) (g .new)
+            (λ i. put (taken (suc (g .count i)) (c .kind) (c .side) (c .entry) e) (keeps c cs l h g i))
+            ∙ insert-last t (takenOf (c ∷ cs) ++ g .new)
+            (all-append (AtOrBefore n) (takenOf (c ∷ cs)) (g .new)
             (effects-before n (c ∷ cs) (h, hs)) (all-map (λ (u : Taken) w. omega arith) (g .new) (g .here)))
-            ∙ append-assoc (effectsOf (c ∷ cs)) (g .new) (t ∷ []);
+            ∙ append-assoc (takenOf (c ∷ cs)) (g .new) (t ∷ []);
         here = all-append (Now n) (g .new) (t ∷ []) (g .here) (refl, tt);
         replays = replays-append (g .new) (t ∷ []) d (l .deque) (s .deque) (g .replays)
             (toldEntry c ev .slot, (ap (λ (s : Served). s .reply) same, ap (λ (s : Served). s .deque) same));
@@ -150,7 +150,7 @@ attend-all n ev a P Q f g k d (c ∷ cs) h =
 -- Before position n.
 pub record Replayed (n : ℕ) (l : Ledger) : Type 0 where
   pub before : All (EffectsBefore n) (l .calls)
-  pub replays : Replays (effectsOf (l .calls)) [] (l .deque)
+  pub replays : Replays (takenOf (l .calls)) [] (l .deque)
 
 later : (n : ℕ) (c : Call) → EffectsBefore n c → EffectsBefore (suc n) c
 later n c h = all-map (λ (e : Effect) w. omega arith) (c .effects) h
@@ -169,7 +169,7 @@ accepted n ev Step a l g =
       before = attend-all n ev a (EffectsBefore n) (EffectsBefore (suc n)) (later n) (later n) (λ c r h. (omega arith, later n c h))
           (l .deque) (l .calls) (g .before);
       replays = subst (λ (k : List Taken). Replays k [] (attend n ev a (l .deque) (l .calls) .deque)) (sym (z .effects))
-          (replays-append (effectsOf (l .calls)) (z .new) [] (l .deque) _ (g .replays) (z .replays));
+          (replays-append (takenOf (l .calls)) (z .new) [] (l .deque) _ (g .replays) (z .replays));
     }
 
 noted : (n : ℕ) (ev : Event) (o : Outcome) (l : Ledger) → Replayed n l → Replayed (suc n) (note n ev o l)

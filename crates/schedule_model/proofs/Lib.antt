@@ -3,6 +3,7 @@ pub mod Undone
 pub mod Searched
 pub mod Admitted
 pub mod Pairs
+pub mod Allowed
 pub mod Enumerated
 pub mod OnlyUnsound
 pub mod Unrefused

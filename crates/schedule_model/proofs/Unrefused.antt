@@ -23,7 +23,8 @@ use Rattle.model.proofs.Never34.{never-34}
 use Rattle.model.proofs.Standing.{standing}
 use Rattle.schedule_model.specs.Schedules.{Schedule, allSchedules, atWork, begun, bothAnswered, ends, onwards, schedules, through}
 use Rattle.schedule_model.specs.Next.{Handed, Next, firstAfter, given, handing, nextSchedule, noMore, precedes, remembered, scheduleRefusal, scheduleRules}
-use Rattle.schedule_model.specs.Claims.{NeverRefused, StandingNever34, StandingUnrefused, Unrefused, tries}
+use Rattle.schedule_model.specs.Allowed.{tries}
+use Rattle.schedule_model.specs.Claims.{NeverRefused, StandingNever34, StandingUnrefused, Unrefused}
 use Rattle.schedule_model.proofs.OnlyUnsound.{only-unsound}
 
 pub standing-never-34 : StandingNever34

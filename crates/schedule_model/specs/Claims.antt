@@ -15,6 +15,7 @@ use Rattle.model.specs.Standing.{Standing}
 use Rattle.model.specs.History.{AfterOpening, NeverUnsound, Request, final}
 use Rattle.model.specs.Lists.{All}
 use Rattle.schedule_model.specs.Schedules.{Schedule, atWork, schedules, allSchedules}
+use Rattle.schedule_model.specs.Allowed.{after}
 use Rattle.schedule_model.specs.Next.{Next, given, noMore, precedes, Handed, scheduleRefusal, nextSchedule}
 
 -- What the caller reads of an answer: the words 1 to length of the memory, and the ending.
@@ -53,14 +54,10 @@ abbrev pub Apart : Type 0
 Apart = (q : Queue) (n : ℕ) → Pairwise (λ s x. (begins (s .steps) (x .steps) ≡ false) × (begins (x .steps) (s .steps) ≡ false)) (schedules q n)
 
 -- Of two busy tasks no step is refused by another number than 34, however many steps were tried before.
-abbrev pub tries : List ℕ → List Request
-tries [] = []
-tries (t ∷ ts) = record { task = t; op = Step } ∷ tries ts
-
 abbrev pub OnlyUnsound : Type 0
 OnlyUnsound =
     (q : Queue) (ws ts : List ℕ) (t n : ℕ) → scheduleRefusal q ws ≡ 0 → t < 2
-    → let now = final q (tries ts) in atWork now t ≡ true → act now t Step .outcome ≡ Refused n → n ≡ 34
+    → let now = after q ts in atWork now t ≡ true → act now t Step .outcome ≡ Refused n → n ≡ 34
 
 -- Of a queue on which a call that walks may rely no call is refused 34.
 abbrev pub StandingNever34 : Type 0

@@ -17,16 +17,16 @@ use Rattle.shelf_model.specs.Cut.{cut}
 use Rattle.shelf_model.specs.Shelves.{Shelves, copied, returnRefusal, returned, saveRefusal, saved, shelfAt, withShelf}
 use Rattle.shelf_model.specs.Changeovers.{Action, asks, opens, returns, saves}
 use Rattle.shelf_model.specs.Changeovers.{Changeovers, Explained, Holds, Makings, Past, Station, Turn, World, after, begins, continues}
-use Rattle.shelf_model.specs.Changeovers.{does, shown, station, turned}
+use Rattle.shelf_model.specs.Changeovers.{does, eventOf, station, turned}
 use Rattle.shelf_model.proofs.CutCalls.{act-cut}
 use Rattle.shelf_model.proofs.Copied.{cut-copied, shelf-other, shelf-same}
 use Rattle.shelf_model.proofs.Accepted.{Fits, return-filled, return-fits, save-fits, save-sound}
 
 -- One request more.
-run-more : (os : List Request) (q : Queue) (o : Request) → run q (os ++ (o ∷ [])) ≡ run q os ++ (shown (final q os) o ∷ [])
+run-more : (os : List Request) (q : Queue) (o : Request) → run q (os ++ (o ∷ [])) ≡ run q os ++ (eventOf (final q os) o ∷ [])
 unfolding run final
 run-more [] q o = refl
-run-more (p ∷ os) q o = ap (λ (es : List Event). shown q p ∷ es) (run-more os (act q (p .task) (p .op) .queue) o)
+run-more (p ∷ os) q o = ap (λ (es : List Event). eventOf q p ∷ es) (run-more os (act q (p .task) (p .op) .queue) o)
 
 final-more : (os : List Request) (q : Queue) (o : Request) → final q (os ++ (o ∷ [])) ≡ act (final q os) (o .task) (o .op) .queue
 unfolding final
@@ -40,8 +40,8 @@ act-alike q p o e =
     ∙ ap (λ (x : Queue). act x (o .task) (o .op) .queue) e
     ∙ ap (λ (d : Done). d .queue) (act-cut p (o .task) (o .op))
 
-shown-cut : (q : Queue) (o : Request) → shown (cut q) o ≡ shown q o
-shown-cut q o = ap told (act-cut q (o .task) (o .op))
+event-cut : (q : Queue) (o : Request) → eventOf (cut q) o ≡ eventOf q o
+event-cut q o = ap told (act-cut q (o .task) (o .op))
   where
     told : Done → Event
     told d = record {
@@ -52,23 +52,23 @@ shown-cut q o = ap told (act-cut q (o .task) (o .op))
       after = d .queue .tables .control .anchor;
     }
 
-shown-alike : (q p : Queue) (o : Request) → cut q ≡ cut p → shown q o ≡ shown p o
-shown-alike q p o e = sym (shown-cut q o) ∙ ap (λ (x : Queue). shown x o) e ∙ shown-cut p o
+event-alike : (q p : Queue) (o : Request) → cut q ≡ cut p → eventOf q o ≡ eventOf p o
+event-alike q p o e = sym (event-cut q o) ∙ ap (λ (x : Queue). eventOf x o) e ∙ event-cut p o
 
 opening-told : (pooled : Bool) (q : Queue) (tasks slots tag : ℕ) → openAs pooled q tasks slots tag .outcome ≡ Opened
     → Explained (begins (openAs pooled q tasks slots tag .queue)) (openAs pooled q tasks slots tag .queue)
 unfolding run final
 opening-told pooled q tasks slots tag e = record {
-  true = record { pooled = pooled; before = q; tasks = tasks; slots = slots; tag = tag; accepted = e; opened = refl; events = refl };
-  left = refl;
+  begun = record { pooled = pooled; before = q; tasks = tasks; slots = slots; tag = tag; accepted = e; opened = refl; events = refl };
+  leaves = refl;
 }
 
 request-told : (p : Past) (q : Queue) (o : Request) → Explained p q → Explained (continues p q o) (act q (o .task) (o .op) .queue)
 request-told p q o h =
-    let t = h .true in
+    let t = h .begun in
     let f = final (p .opened) (p .since) in
     record {
-      true = record {
+      begun = record {
         pooled = t .pooled;
         before = t .before;
         tasks = t .tasks;
@@ -77,11 +77,11 @@ request-told p q o h =
         accepted = t .accepted;
         opened = t .opened;
         events =
-            ap (λ (es : List Event). es ++ (shown q o ∷ [])) (t .events)
-            ∙ ap (λ (e : Event). run (p .opened) (p .since) ++ (e ∷ [])) (shown-alike q f o (h .left))
+            ap (λ (es : List Event). es ++ (eventOf q o ∷ [])) (t .events)
+            ∙ ap (λ (e : Event). run (p .opened) (p .since) ++ (e ∷ [])) (event-alike q f o (h .leaves))
             ∙ sym (run-more (p .since) (p .opened) o);
       };
-      left = act-alike q f o (h .left) ∙ ap cut (sym (final-more (p .since) (p .opened) o));
+      leaves = act-alike q f o (h .leaves) ∙ ap cut (sym (final-more (p .since) (p .opened) o));
     }
 
 -- What holds of a queue and the shelves.
@@ -106,7 +106,7 @@ module _ (w : Station) (k : Holding w) (n : ℕ) (e : saveRefusal (w .queue) (w 
   passed = save-fits q s n e
 
   new-told : w .past .made ≡ true → Explained (w .past) new
-  new-told m = record { true = k .now m .true; left = cut-copied q (shelfAt s n) (passed .here) ∙ k .now m .left }
+  new-told m = record { begun = k .now m .begun; leaves = cut-copied q (shelfAt s n) (passed .here) ∙ k .now m .leaves }
 
   new-sound : controlSound (new .tables .control) ≡ true
   unfolding copied
@@ -146,7 +146,7 @@ module _ (w : Station) (k : Holding w) (n : ℕ) (e : returnRefusal (w .queue) (
   back-told made =
       let f = return-fits (w .queue) (w .shelves) n e in
       let t = k .shelved n (f .low) (return-filled (w .queue) (w .shelves) n e) made in
-      record { true = t .true; left = cut-copied (shelfAt (w .shelves) n) (w .queue) (f .there) ∙ t .left }
+      record { begun = t .begun; leaves = cut-copied (shelfAt (w .shelves) n) (w .queue) (f .there) ∙ t .leaves }
 
 does-kept : (a : Action) (w : Station) → Holding w → Holding (does w a)
 unfolding does openAs saved returned

@@ -25,7 +25,7 @@ use Rattle.model.specs.Lists.{All}
 use Rattle.stock_model.specs.Accounts.{Accounted, AccountedBy, Stands, hasTaken, pushedIn, sumOf, takenIn}
 use Rattle.stock_model.proofs.Accounts.{OpenKnown, accounted, open-known}
 use Rattle.shelf_model.specs.Cut.{cut}
-use Rattle.shelf_model.specs.Changeovers.{Explained, Past, True}
+use Rattle.shelf_model.specs.Changeovers.{Explained, FromOpening, Past}
 use Rattle.shelf_model.proofs.Lists.{enough-take}
 use Rattle.shelf_model.proofs.Cut.{fits-cut}
 use Rattle.shelf_model.proofs.CutCalls.{contents-cut, run-cut}
@@ -59,8 +59,8 @@ run-end P (o ∷ os) ps q h = run-end P os ps (act q (o .task) (o .op) .queue) (
 
 -- A queue, and a past that leaves it.
 module _ (p : Past) (q : Queue) (h : Explained p q) where
-  abbrev t : True p
-  t = h .true
+  abbrev t : FromOpening p
+  t = h .begun
 
   abbrev now : Queue
   now = final (p .opened) (p .since)
@@ -71,27 +71,27 @@ module _ (p : Past) (q : Queue) (h : Explained p q) where
       subst (λ (o : Queue). P o (p .since)) (sym (t .opened)) (x (t .before) (t .tasks) (t .slots) (t .tag) (t .accepted) (p .since))
 
   same-control : q .tables .control ≡ now .tables .control
-  same-control = ap (λ (x : Queue). x .tables .control) (h .left)
+  same-control = ap (λ (x : Queue). x .tables .control) (h .leaves)
 
   pub same-tasks : q .tables .control .tasks ≡ now .tables .control .tasks
   same-tasks = ap (λ (c : Control). c .tasks) same-control
 
   same-walk : contents (q .tables) ≡ contents (now .tables)
-  same-walk = sym (contents-cut (q .tables)) ∙ ap (λ (x : Queue). contents (x .tables)) (h .left) ∙ contents-cut (now .tables)
+  same-walk = sym (contents-cut (q .tables)) ∙ ap (λ (x : Queue). contents (x .tables)) (h .leaves) ∙ contents-cut (now .tables)
 
   pub same-run : (l : List Request) → run q l ≡ run now l
-  same-run l = sym (run-cut l q) ∙ ap (λ (x : Queue). run x l) (h .left) ∙ run-cut l now
+  same-run l = sym (run-cut l q) ∙ ap (λ (x : Queue). run x l) (h .leaves) ∙ run-cut l now
 
   pub same-task : (i : ℕ) → i < q .tables .control .tasks → taskAt q i ≡ taskAt now i
   same-task i k =
-      sym (task-cut q i k) ∙ ap (λ (x : Queue). taskAt x i) (h .left) ∙ task-cut now i (subst (λ n. i < n) same-tasks k)
+      sym (task-cut q i k) ∙ ap (λ (x : Queue). taskAt x i) (h .leaves) ∙ task-cut now i (subst (λ n. i < n) same-tasks k)
 
   pub stands : Standing q (ledger (p .events) .deque)
   stands =
       let s = past-has (λ q os. Standing (final q os) (ledger (run q os) .deque)) (standing (t .pooled)) in
       record {
         control = subst (λ (c : Control). controlSound c ≡ true) (sym same-control) (s .control);
-        long = sym (long-cut q) ∙ ap fits (h .left) ∙ long-cut now ∙ s .long;
+        long = sym (long-cut q) ∙ ap fits (h .leaves) ∙ long-cut now ∙ s .long;
         walk = same-walk ∙ s .walk ∙ ap (λ (es : List Event). entries (ledger es .deque)) (sym (t .events));
       }
 
@@ -138,7 +138,7 @@ module _ (p : Past) (q : Queue) (h : Explained p q) where
   pub counts : retriesBelow q (q .tables .control .tasks) ≡ retriesBelow now (now .tables .control .tasks)
   counts =
       sym (below-cut q (q .tables .control .tasks) (omega arith))
-      ∙ ap (λ (x : Queue). retriesBelow x (x .tables .control .tasks)) (h .left)
+      ∙ ap (λ (x : Queue). retriesBelow x (x .tables .control .tasks)) (h .leaves)
       ∙ below-cut now (now .tables .control .tasks) (omega arith)
 
   pub same-pooled : isPooled (q .tables .control) ≡ isPooled (p .opened .tables .control)

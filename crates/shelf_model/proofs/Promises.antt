@@ -24,10 +24,10 @@ use Rattle.model.proofs.Retries.{retries-sum}
 use Rattle.model.specs.Standing.{Standing}
 use Rattle.model.proofs.StepBounds.{solo-bound, stretch-bound}
 use Rattle.shelf_model.specs.Shelves.{bothHold, returnRefusal, saveRefusal, saveRules, shelfAt}
-use Rattle.shelf_model.specs.Changeovers.{Explained, Holds, Past, World, shows}
+use Rattle.shelf_model.specs.Changeovers.{Explained, Holds, Past, World, eventsOf}
 use Rattle.shelf_model.specs.Promises as stated
 use Rattle.shelf_model.specs.Promises.{Progresses, Promised, Promises}
-use Rattle.shelf_model.proofs.Stretches.{asked, shows-run, solo-alike}
+use Rattle.shelf_model.proofs.Stretches.{asked, events-are, solo-alike}
 use Rattle.shelf_model.proofs.Changeovers.{changeovers}
 use Rattle.shelf_model.proofs.Pasts.{accounts, all-served, counts, final-tasks, following-sound, operations-sound, past-has, same-pooled}
 use Rattle.shelf_model.proofs.Pasts.{same-run, same-task, same-tasks, stands}
@@ -66,15 +66,15 @@ module _ (w : World) (h : Holds w) (i : ℕ) (made : w .pasts i .made ≡ true) 
         let known = subst (λ k. t < k) (same-tasks p q told-by) (b .known) in
         let busy : Busy then t = record { known = known; place = subst (λ (r : TaskRecord). r .call .place ≢ 0) same (b .place) } in
         let less = subst₂ (λ way (r : TaskRecord). limit way (r .call .kind) ≤ n) pooled same more in
-        let z = past-has p q told-by SoloWithin (solo-bound (told-by .true .pooled)) t n busy less in
-        solo-alike n _ q then t (b .known) known (told-by .left)
+        let z = past-has p q told-by SoloWithin (solo-bound (told-by .begun .pooled)) t n busy less in
+        solo-alike n _ q then t (b .known) known (told-by .leaves)
         (subst₂ (λ way (r : TaskRecord). AnsweredWithin (limit way (r .call .kind)) (soloRun n then t)) (sym pooled) (sym same) z);
     stretch = λ l u enough.
-        let same = shows-run i l w u ∙ same-run p q told-by (asked i l) in
+        let same = events-are i l w u ∙ same-run p q told-by (asked i l) in
         let tasks = same-tasks p q told-by ∙ final-tasks (p .since) (p .opened) in
-        let long = subst₂ (λ way n. stretchLimit way n ≤ steps (shows i w l)) pooled tasks enough in
+        let long = subst₂ (λ way n. stretchLimit way n ≤ steps (eventsOf i w l)) pooled tasks enough in
         subst (λ (es : List Event). any tells es ≡ true) (sym same)
-        (past-has p q told-by StretchTells (stretch-bound (told-by .true .pooled)) (asked i l)
+        (past-has p q told-by StretchTells (stretch-bound (told-by .begun .pooled)) (asked i l)
         (subst (λ (es : List Event). stretchLimit (isPooled (p .opened .tables .control)) (p .opened .tables .control .tasks) ≤ steps es) same long));
   }
 
@@ -96,7 +96,7 @@ module _ (w : World) (h : Holds w) (i : ℕ) (made : w .pasts i .made ≡ true) 
   promised = record {
     served = record { calls = all-served p q told-by; waits = stands p q told-by .walk };
     sound = sound;
-    retries = λ low. counts p q told-by ∙ past-has p q told-by SumIsOld (retries-sum (told-by .true .pooled)) low;
+    retries = λ low. counts p q told-by ∙ past-has p q told-by SumIsOld (retries-sum (told-by .begun .pooled)) low;
     progress = progresses;
     accounted = accounts p q told-by;
   }

@@ -20,8 +20,8 @@ use Rattle.model.proofs.tests.Truth.{and-true, split}
 use Rattle.model.proofs.laws.Sizes.{act-tasks}
 use Rattle.shelf_model.specs.Cut.{cut}
 use Rattle.shelf_model.specs.Shelves.{Shelves, returnRefusal, returned}
-use Rattle.shelf_model.specs.Changeovers.{Action, Turn, World, asks, breaks, does, opens, returns, saves, shown}
-use Rattle.shelf_model.specs.Changeovers.{shows, station, turned, unbroken}
+use Rattle.shelf_model.specs.Changeovers.{Action, Turn, World, asks, breaks, does, opens, returns, saves, eventOf}
+use Rattle.shelf_model.specs.Changeovers.{eventsOf, station, turned, unbroken}
 use Rattle.shelf_model.proofs.Lists.{get-take}
 use Rattle.shelf_model.proofs.CutCalls.{act-cut, cutDone}
 
@@ -107,38 +107,38 @@ unfolding turned
 turned-other w i t e = rw e
 
 -- They show what they show one after the other.
-abbrev Shown : ℕ → List Turn → World → Type 0
-Shown i l w = unbroken i w l ≡ true → shows i w l ≡ run (w .queues i) (asked i l)
+abbrev EventsAre : ℕ → List Turn → World → Type 0
+EventsAre i l w = unbroken i w l ≡ true → eventsOf i w l ≡ run (w .queues i) (asked i l)
 
-module _ (i : ℕ) (l : List Turn) (w : World) (ih : (v : World) → Shown i l v) where
+module _ (i : ℕ) (l : List Turn) (w : World) (ih : (v : World) → EventsAre i l v) where
   -- A queue that an action leaves as it was, or moves on.
   on : (a : Action) (q : Queue) → does (station w i) a .queue ≡ q → unbroken i (turned w (turn i a)) l ≡ true
-      → shows i (turned w (turn i a)) l ≡ run q (asked i l)
+      → eventsOf i (turned w (turn i a)) l ≡ run q (asked i l)
   on a q e u = ih (turned w (turn i a)) u ∙ ap (λ (q : Queue). run q (asked i l)) (turned-own w i a ∙ e)
 
   whole : (a : Action) → unbroken i w (turn i a ∷ l) ≡ true → (not (breaks (station w i) a) ≡ true) × (unbroken i (turned w (turn i a)) l ≡ true)
   unfolding unbroken
   whole a u = and-true (not (breaks (station w i) a)) (unbroken i (turned w (turn i a)) l) (rw (eq-eqb i i refl) at u)
 
-  own : (a : Action) → Shown i (turn i a ∷ l) w
-  unfolding shows asked run does
+  own : (a : Action) → EventsAre i (turn i a ∷ l) w
+  unfolding eventsOf asked run does
   own (opens pooled tasks slots tag) u =
       let z = whole (opens pooled tasks slots tag) u in
       rw (eq-eqb i i refl) (on (opens pooled tasks slots tag) (w .queues i) (open-refused (w .queues i) pooled tasks slots tag (not-true _ (z .0))) (z .1))
   own (asks o) u = rw (eq-eqb i i refl)
-      (ap (λ (es : List Event). shown (w .queues i) o ∷ es) (on (asks o) (act (w .queues i) (o .task) (o .op) .queue) refl (whole (asks o) u .1)))
+      (ap (λ (es : List Event). eventOf (w .queues i) o ∷ es) (on (asks o) (act (w .queues i) (o .task) (o .op) .queue) refl (whole (asks o) u .1)))
   own (saves n) u = rw (eq-eqb i i refl) (on (saves n) (w .queues i) refl (whole (saves n) u .1))
   own (returns n) u =
       let z = whole (returns n) u in
       rw (eq-eqb i i refl) (on (returns n) (w .queues i) (return-refused (w .queues i) (w .shelves) n (not-true _ (z .0))) (z .1))
 
-  others : (t : Turn) → eqb i (t .queue) ≡ false → Shown i (t ∷ l) w
-  unfolding shows asked unbroken
+  others : (t : Turn) → eqb i (t .queue) ≡ false → EventsAre i (t ∷ l) w
+  unfolding eventsOf asked unbroken
   others t e u = rw e (ih (turned w t) (rw e at u) ∙ ap (λ (q : Queue). run q (asked i l)) (turned-other w i t e))
 
-pub shows-run : (i : ℕ) (l : List Turn) (w : World) → Shown i l w
-unfolding shows asked run
-shows-run i [] w = λ u. refl
-shows-run i (t ∷ l) w = split (eqb i (t .queue))
-    (λ e. subst (λ j. Shown i (turn j (t .action) ∷ l) w) (eqb-true _ _ e) (own i l w (shows-run i l) (t .action)))
-    (λ e. others i l w (shows-run i l) t e)
+pub events-are : (i : ℕ) (l : List Turn) (w : World) → EventsAre i l w
+unfolding eventsOf asked run
+events-are i [] w = λ u. refl
+events-are i (t ∷ l) w = split (eqb i (t .queue))
+    (λ e. subst (λ j. EventsAre i (turn j (t .action) ∷ l) w) (eqb-true _ _ e) (own i l w (events-are i l) (t .action)))
+    (λ e. others i l w (events-are i l) t e)

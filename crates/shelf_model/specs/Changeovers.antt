@@ -40,9 +40,9 @@ pub record Station : Type 0 where
 abbrev pub begins : Queue → Past
 begins q = record { made = true; opened = q; since = []; events = [] }
 
--- What can be seen of a request, as `run` tells it.
-abbrev pub shown : Queue → Request → Event
-shown q o =
+-- The event of a request, as `run` tells it.
+abbrev pub eventOf : Queue → Request → Event
+eventOf q o =
     let d = act q (o .task) (o .op) in
     record {
       task = o .task;
@@ -54,7 +54,7 @@ shown q o =
 
 -- A start or step, refused or not, belongs to the past.
 abbrev pub continues : Past → Queue → Request → Past
-continues p q o = record { made = p .made; opened = p .opened; since = p .since ++ (o ∷ []); events = p .events ++ (shown q o ∷ []) }
+continues p q o = record { made = p .made; opened = p .opened; since = p .since ++ (o ∷ []); events = p .events ++ (eventOf q o ∷ []) }
 
 -- A saving stores the past with the shelf, and a return takes the stored one back: answers given between belong to no history.
 unfoldable pub does : Station → Action → Station
@@ -127,19 +127,19 @@ unfoldable pub unbroken : ℕ → World → List Turn → Bool
 unbroken i w [] = true
 unbroken i w (t ∷ l) = not (eqb i (t .queue) && breaks (station w i) (t .action)) && unbroken i (turned w t) l
 
--- What the starts and steps of queue i show in it.
-abbrev pub showing : Queue → Action → List Event → List Event
-showing q (opens pooled tasks slots tag) es = es
-showing q (asks o) es = shown q o ∷ es
-showing q (saves n) es = es
-showing q (returns n) es = es
+-- The events of queue i's starts and steps in it.
+abbrev pub withEvent : Queue → Action → List Event → List Event
+withEvent q (opens pooled tasks slots tag) es = es
+withEvent q (asks o) es = eventOf q o ∷ es
+withEvent q (saves n) es = es
+withEvent q (returns n) es = es
 
-unfoldable pub shows : ℕ → World → List Turn → List Event
-shows i w [] = []
-shows i w (t ∷ l) = let es = shows i (turned w t) l in cond (eqb i (t .queue)) (showing (w .queues i) (t .action) es) es
+unfoldable pub eventsOf : ℕ → World → List Turn → List Event
+eventsOf i w [] = []
+eventsOf i w (t ∷ l) = let es = eventsOf i (turned w t) l in cond (eqb i (t .queue)) (withEvent (w .queues i) (t .action) es) es
 
 -- A past that begins with an accepted opening and whose requests were answered as they are after it alone.
-pub record True (p : Past) : Type 0 where
+pub record FromOpening (p : Past) : Type 0 where
   pub pooled : Bool
   pub before : Queue
   pub tasks : ℕ
@@ -150,13 +150,13 @@ pub record True (p : Past) : Type 0 where
   pub events : p .events ≡ run (p .opened) (p .since)
 
 -- A queue is, within its lengths, what its past leaves.
-abbrev pub Left : Past → Queue → Type 0
-Left p q = cut q ≡ cut (final (p .opened) (p .since))
+abbrev pub LeftBy : Past → Queue → Type 0
+LeftBy p q = cut q ≡ cut (final (p .opened) (p .since))
 
 -- A queue has a past that begins with an accepted opening and that leaves it.
 pub record Explained (p : Past) (q : Queue) : Type 0 where
-  pub true : True p
-  pub left : Left p q
+  pub begun : FromOpening p
+  pub leaves : LeftBy p q
 
 -- Every queue that is made has one, and so has every queue on a filled shelf that was made when it was saved. A filled shelf is sound.
 pub record Holds (w : World) : Type 0 where

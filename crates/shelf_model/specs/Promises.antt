@@ -19,7 +19,7 @@ use Rattle.model.specs.Retries.{oldCount, retriesBelow}
 use Rattle.model.specs.Lists.{All}
 use Rattle.stock_model.specs.Accounts.{AccountedBy}
 use Rattle.shelf_model.specs.Shelves.{returnRefusal, saveRefusal}
-use Rattle.shelf_model.specs.Changeovers.{AfterTurns, Turn, World, shows, unbroken}
+use Rattle.shelf_model.specs.Changeovers.{AfterTurns, Turn, World, eventsOf, unbroken}
 
 -- Demand 3: the sequential deque has served what was done up to the saving and what follows the return.
 pub record Served (w : World) (i : ℕ) : Type 0 where
@@ -42,7 +42,7 @@ pub record Progresses (w : World) (i : ℕ) : Type 0 where
   pub solo : let q = w .queues i in (t n : ℕ) → Busy q t → let most = limit (isPooled (q .tables .control)) (recordAt q t .kind) in
       most ≤ n → AnsweredWithin most (soloRun n q t)
   pub stretch : let c = w .queues i .tables .control in (l : List Turn) → unbroken i w l ≡ true
-      → stretchLimit (isPooled c) (c .tasks) ≤ steps (shows i w l) → any tells (shows i w l) ≡ true
+      → stretchLimit (isPooled c) (c .tasks) ≤ steps (eventsOf i w l) → any tells (eventsOf i w l) ≡ true
 
 pub record Promised (w : World) (i : ℕ) : Type 0 where
   pub served : Served w i
