@@ -84,7 +84,7 @@ module _ (pooled : Bool) (tasks slots tag : ℕ) (words : List ℕ) (before afte
       linearized = linearizable pooled (before .queue) tasks slots tag e (requestsOf count words);
       sound = never-34 pooled (before .queue) tasks slots tag e (requestsOf count words);
       counts = retries-sum pooled (before .queue) tasks slots tag e (requestsOf count words);
-      accounts = λ label. every-label label pooled (before .queue) tasks slots tag e (requestsOf count words);
+      accounts = every-label pooled (before .queue) tasks slots tag e (requestsOf count words);
       stock = stock-taking pooled (before .queue) tasks slots tag e (requestsOf count words);
       truthful = λ p os left h. truthful pooled (before .queue) tasks slots tag os e p;
     },

@@ -89,7 +89,7 @@ continues pooled q tasks slots tag o os a b e later = record {
       (final-on os joining begun ∙ sym (third-is a b (final begun os) e)) ∙ waits a b (final begun os) e);
   linearized = linearizable pooled q tasks slots tag o (os ++ joining ++ later);
   sound = never-34 pooled q tasks slots tag o (os ++ joining ++ later);
-  accounted = λ x. every-label x pooled q tasks slots tag o (os ++ joining ++ later);
+  accounted = every-label pooled q tasks slots tag o (os ++ joining ++ later);
 }
   where
     joining : List Request

@@ -15,8 +15,9 @@ use Rattle.model.specs.Calls.{openQueue}
 use Rattle.model.specs.Walk.{contents, entries}
 use Rattle.model.specs.Standing.{Standing}
 use Rattle.model.specs.History.{Request, run, final, ledger, Linearized, NeverUnsound, AfterOpening}
-use Rattle.stock_model.specs.Accounts.{Accounted, only}
-use Rattle.join_model.specs.Merge.{merge, Interleaved, Ascending, copies}
+use Rattle.stock_model.specs.Accounts.{Accounted}
+use Rattle.model.specs.Lists.{copies}
+use Rattle.join_model.specs.Merge.{merge, Interleaved, Ascending}
 use Rattle.join_model.specs.Join.{fresh, lane, lanes, pushes, outcomes, joinRefusal, join}
 use Rattle.join_model.specs.Closed.{joinClosed}
 
@@ -90,7 +91,7 @@ pub record Continued (q : Queue) (os joining later : List Request) (third : Queu
   pub joins : ledger (run q (os ++ joining)) .deque ≡ numbered 1 labels
   pub linearized : Linearized q (os ++ joining ++ later)
   pub sound : NeverUnsound q (os ++ joining ++ later)
-  pub accounted : (x : ℕ) → Accounted (only x) q (os ++ joining ++ later)
+  pub accounted : Accounted q (os ++ joining ++ later)
 
 abbrev pub Continues : Type 0
 Continues =
