@@ -4,6 +4,7 @@ use schedule_model::Saved;
 use word::Anchor;
 use word::Link;
 ghost use mathlib.Core.Path.{_≡_};
+ghost use Rattle.word.specs.Link.{linkOf};
 ghost use Rattle.model.specs.Places.{endSeen, row};
 ghost use Rattle.model.specs.Tables.{tablesOf};
 ghost use Rattle.model.specs.declared.Control.{Control};
@@ -19,24 +20,31 @@ fn end_seen(r: Record) -> u64
     if right { a.right } else { a.left }
 }
 
-/// The slot whose row or mark the record's place touches.
+/// The slot of the head as read.
+fn slot_read(r: Record) -> u64
+    ensures { λ x. ⌜ x ≡ linkOf (r .link) .slot ⌝ }
+{
+    let head = Link::unpack(r.link);
+    head.slot
+}
+
+/// The slot whose row or mark the record's place touches, at 17 the one that it gives back; 0: none.
 fn row_of(r: Record) -> u64
     ensures { λ x. ⌜ x ≡ row r ⌝ }
 {
-    if (r.place == 7) | (r.place == 9) {
-        return r.neighbour;
+    let place = r.place;
+    match place {
+        3 => if r.kind == 0 { r.own } else { end_seen(r) },
+        5 => end_seen(r),
+        7 => r.neighbour,
+        9 => r.neighbour,
+        11 => end_seen(r),
+        13 => slot_read(r),
+        14 => slot_read(r),
+        16 => r.own,
+        17 => r.own,
+        _ => 0,
     }
-    if (r.place == 3) & (r.kind == 0) {
-        return r.own;
-    }
-    if (12 <= r.place) & (r.place <= 14) {
-        let head = Link::unpack(r.link);
-        return head.slot;
-    }
-    if 15 <= r.place {
-        return r.own;
-    }
-    end_seen(r)
 }
 
 /// The words of the row that the next step of the record can write.
