@@ -4,7 +4,6 @@ use Prim.Native.Nat.{ℕ, _≤_, _+_, _-_, _*_, _/_, min}
 use native.Mathlib.Nat.{zero-min}
 use native.Mathlib.Omega.{arith}
 use lib.Count.{ones}
-use borrow.Author.Needs.{needs}
 use Rattle.model.specs.Report.{takenSlots}
 use Rattle.model.specs.Lists.{count}
 use Rattle.marks.specs.Masked.{maskedWord}
