@@ -1,6 +1,6 @@
 -- What is kept of a word is a remainder, and bit 0 is dropped by halving.
 use mathlib.Core.Path.{_≡_, ap, _∙_, sym}
-use mathlib.Core.Logic.{⊎-elim}
+use mathlib.Core.Logic.{_≢_, ⊎-elim}
 use Prim.Native.Nat.{ℕ, _+_, _-_, _*_, _/_, _%_, _^_}
 use native.Mathlib.Nat.{mod-eq-of-lt}
 use native.Mathlib.Omega.{arith}
@@ -33,11 +33,14 @@ upper c =
 returns : tie.Need-returns
 returns c =
     let m = c .before .before .if1 .m in
-    rw (eq-eqb _ _ (c .before .if2 .taken))
+    let first : c .before .before .before .args .k ≡ 0 = omega arith in
+    rw (eq-eqb _ 0 first)
     (and-high m 63 1 ∙ ap (λ (x : ℕ). x * 2) (mod-eq-of-lt (omega arith)) ∙ ap (λ (x : ℕ). x / 2 * 2) (upper (c .before .before)))
 
 returns-2 : tie.Need-returns-2
-returns-2 c = rw (ne-eqb _ _ (c .if2 .left)) (upper (c .before))
+returns-2 c =
+    let later : c .before .before .args .k ≢ 0 = λ z. omega arith in
+    rw (ne-eqb _ 0 later) (upper (c .before))
 
 pub masked-spec : {M : Type 1} → statement M
 masked-spec = tie.close (tie.spec (λ c. search needs) (λ c. search needs) returns returns-2)
