@@ -33,18 +33,19 @@ fn row_of(r: Record) -> u64
     ensures { λ x. ⌜ x ≡ row r ⌝ }
 {
     let place = r.place;
-    match place {
-        3 => if r.kind == 0 { r.own } else { end_seen(r) },
-        5 => end_seen(r),
-        7 => r.neighbour,
-        9 => r.neighbour,
-        11 => end_seen(r),
-        13 => slot_read(r),
-        14 => slot_read(r),
-        16 => r.own,
-        17 => r.own,
-        _ => 0,
+    if (place == 7) | (place == 9) {
+        return r.neighbour;
     }
+    if (place == 3) & (r.kind == 0) {
+        return r.own;
+    }
+    if (place == 3) | (place == 5) | (place == 11) {
+        return end_seen(r);
+    }
+    if (place == 13) | (place == 14) {
+        return slot_read(r);
+    }
+    if (place == 16) | (place == 17) { r.own } else { 0 }
 }
 
 /// The words of the row that the next step of the record can write.

@@ -1,97 +1,80 @@
--- The slot that the place touches, place by place.
-use mathlib.Core.Path.{_≡_, _∙_, refl}
-use mathlib.Core.Bool.{false}
+-- The slot that the place touches, test by test.
+use mathlib.Core.Path.{_≡_, _∙_}
+use mathlib.Core.Bool.{Bool, true, false, _&&_, _||_}
+use Prim.Native.Nat.{ℕ}
 use lib.Dec.{eqb}
-use borrow.Author.Tests.{eq-eqb, ne-eqb}
+use borrow.Author.Tests.{eqb-true}
+use Rattle.word.specs.Link.{linkOf}
 use Rattle.model.specs.declared.Record.{Record}
+use Rattle.model.specs.Kinds.{isPush}
 use Rattle.model.specs.Places.{endSeen, row}
+use Rattle.model.proofs.tests.Truth.{and-of, and-true, not-both, or-cases, or-false, split}
 use Rattle.schedule_search.proofs.undo.row_of.Statement.{statement}
 use Rattle.schedule_search.proofs.undo.row_of.Tie as tie
 
--- The end as read.
-at3 : (r : Record) → r .place ≡ 3 → eqb (r .kind) 0 ≡ false → endSeen r ≡ row r
-unfolding row
-at3 r e k = rw (e, k)
+module _ (r : Record) where
+  abbrev at : ℕ → Bool
+  at n = eqb (r .place) n
 
-at5 : (r : Record) → r .place ≡ 5 → endSeen r ≡ row r
-unfolding row
-at5 r e = rw e
+  neighbours : at 7 || at 9 ≡ true → r .neighbour ≡ row r
+  unfolding row
+  neighbours e = or-cases (at 7) (at 9) e
+      (λ x. let z : r .place ≡ 7 = eqb-true _ _ x in rw z)
+      (λ x. let z : r .place ≡ 9 = eqb-true _ _ x in rw z)
 
-at11 : (r : Record) → r .place ≡ 11 → endSeen r ≡ row r
-unfolding row
-at11 r e = rw e
+  owns : at 3 && isPush r ≡ true → r .own ≡ row r
+  unfolding row
+  owns e = let z = and-true (at 3) (isPush r) e in let p : r .place ≡ 3 = eqb-true _ _ (z .0) in rw (p, z .1)
+
+  ends : at 3 && isPush r ≡ false → (at 3 || at 5) || at 11 ≡ true → endSeen r ≡ row r
+  unfolding row
+  ends n e = or-cases (at 3 || at 5) (at 11) e
+      (λ x. or-cases (at 3) (at 5) x
+      (λ y. let z : r .place ≡ 3 = eqb-true _ _ y in split (isPush r) (λ k. absurd (not-both (and-of y k) n)) (λ k. rw (z, k)))
+      (λ y. let z : r .place ≡ 5 = eqb-true _ _ y in rw z))
+      (λ x. let z : r .place ≡ 11 = eqb-true _ _ x in rw z)
+
+  heads : at 13 || at 14 ≡ true → linkOf (r .link) .slot ≡ row r
+  unfolding row
+  heads e = or-cases (at 13) (at 14) e
+      (λ x. let z : r .place ≡ 13 = eqb-true _ _ x in rw z)
+      (λ x. let z : r .place ≡ 14 = eqb-true _ _ x in rw z)
+
+  gives : at 16 || at 17 ≡ true → r .own ≡ row r
+  unfolding row
+  gives e = or-cases (at 16) (at 17) e
+      (λ x. let z : r .place ≡ 16 = eqb-true _ _ x in rw z)
+      (λ x. let z : r .place ≡ 17 = eqb-true _ _ x in rw z)
+
+  none : at 7 || at 9 ≡ false → (at 3 || at 5) || at 11 ≡ false → at 13 || at 14 ≡ false → at 16 || at 17 ≡ false → 0 ≡ row r
+  unfolding row
+  none a b c d =
+      let x = or-false (at 7) (at 9) a in
+      let y = or-false (at 3 || at 5) (at 11) b in
+      let z = or-false (at 3) (at 5) (y .0) in
+      let v = or-false (at 13) (at 14) c in
+      let w = or-false (at 16) (at 17) d in
+      rw (z .0, z .1, x .0, x .1, y .1, v .0, v .1, w .0, w .1)
 
 returns : tie.Need-returns
-unfolding row
-returns c = rw (c .before .before .match .keys1, eq-eqb _ _ (c .if1 .taken)) refl
+returns c = neighbours _ (c .if1 .taken)
 
 returns-2 : tie.Need-returns-2
-returns-2 c = c .end-seen .ensures ∙ at3 _ (c .before .before .before .match .keys1) (ne-eqb _ _ (c .before .if1 .left))
+returns-2 c = owns _ (c .if2 .taken)
 
 returns-3 : tie.Need-returns-3
-returns-3 c = c .end-seen2 .ensures ∙ at5 _ (c .before .match .keys2)
+returns-3 c = c .end-seen .ensures ∙ ends _ (c .before .before .if2 .left) (c .before .if3 .taken)
 
 returns-4 : tie.Need-returns-4
-unfolding row
-returns-4 c = rw (c .match .keys3) refl
+returns-4 c = c .slot-read .ensures ∙ heads _ (c .before .if4 .taken)
 
 returns-5 : tie.Need-returns-5
-unfolding row
-returns-5 c = rw (c .match .keys4) refl
+returns-5 c = gives _ (c .if5 .taken)
 
 returns-6 : tie.Need-returns-6
-returns-6 c = c .end-seen3 .ensures ∙ at11 _ (c .before .match .keys5)
-
-returns-7 : tie.Need-returns-7
-unfolding row
-returns-7 c = rw (c .before .match .keys6) (c .slot-read .ensures)
-
-returns-8 : tie.Need-returns-8
-unfolding row
-returns-8 c = rw (c .before .match .keys7) (c .slot-read2 .ensures)
-
-returns-9 : tie.Need-returns-9
-unfolding row
-returns-9 c = rw (c .match .keys8) refl
-
-returns-10 : tie.Need-returns-10
-unfolding row
-returns-10 c = rw (c .match .keys9) refl
-
-returns-11 : tie.Need-returns-11
-unfolding row
-returns-11 c =
-    let h = c .match .rest in
-    rw (
-      ne-eqb _ 3 (h .0 .0 .0 .0 .0 .0 .0 .0 .1),
-      ne-eqb _ 5 (h .0 .0 .0 .0 .0 .0 .0 .1),
-      ne-eqb _ 7 (h .0 .0 .0 .0 .0 .0 .1),
-      ne-eqb _ 9 (h .0 .0 .0 .0 .0 .1),
-      ne-eqb _ 11 (h .0 .0 .0 .0 .1),
-      ne-eqb _ 13 (h .0 .0 .0 .1),
-      ne-eqb _ 14 (h .0 .0 .1),
-      ne-eqb _ 16 (h .0 .1),
-      ne-eqb _ 17 (h .1),
-    )
-    refl
+returns-6 c =
+    let three = c .before .before in
+    none _ (three .before .before .before .if1 .left) (three .if3 .left) (c .before .if4 .left) (c .if5 .left)
 
 pub row-of-spec : {M : Type 1} → statement M
-row-of-spec =
-    tie.close
-    (tie.spec
-    (λ _ _. tt)
-    (λ _ _. tt)
-    (λ _ _. tt)
-    (λ _ _. tt)
-    (λ _ _. tt)
-    returns
-    returns-2
-    returns-3
-    returns-4
-    returns-5
-    returns-6
-    returns-7
-    returns-8
-    returns-9
-    returns-10
-    returns-11)
+row-of-spec = tie.close (tie.spec returns returns-2 (λ _ _. tt) returns-3 (λ _ _. tt) returns-4 returns-5 returns-6)
