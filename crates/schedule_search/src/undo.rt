@@ -45,7 +45,11 @@ fn row_of(r: Record) -> u64
     if (place == 13) | (place == 14) {
         return slot_read(r);
     }
-    if (place == 16) | (place == 17) { r.own } else { 0 }
+    if (place == 16) | (place == 17) {
+        r.own
+    } else {
+        0
+    }
 }
 
 /// The words of the row that the next step of the record can write.
