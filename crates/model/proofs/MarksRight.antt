@@ -9,7 +9,7 @@ use lib.Dec.{eqb, leb}
 use borrow.Author.Tests.{eqb-true, leb-true, lt-leb}
 use Rattle.word.specs.Anchor.{anchorOf}
 use Rattle.model.specs.Calls.{opened}
-use Rattle.model.specs.History.{InUse, Ledger, MarksNamed, MarksRight, MarksTrue, Taken, UseIsTaken, Waits, final, here}
+use Rattle.model.specs.History.{InUse, Ledger, MarkedWhile, MarksNamed, MarksRight, Taken, Waits, final, here}
 use Rattle.model.specs.History.{is-taken, later, pop-gives, pop-holds, popGives, popHolds, push-holds, pushHolds, waits}
 use Rattle.model.specs.Tables.{atPlace, Queue, Tables, isPooled, marked, recordAt}
 use Rattle.model.specs.Walk.{entries}
@@ -231,7 +231,7 @@ module _ (n : ℕ) (q : Queue) (l : Ledger) (g : Matched n q l) (f : Safe q) whe
       absurd (not-both (gives-late (recordAt q t) x e) none)
 
 pub marks-right : MarksRight
-marks-right pooled = after-opening pooled MarksTrue (λ q tasks slots tag e os x some le.
+marks-right pooled = after-opening pooled (MarkedWhile Taken) (λ q tasks slots tag e os x some le.
     let o = opened pooled q tasks slots tag in
     let z = final-reached pooled tasks os o (open-reached pooled tasks q slots tag e) in (
       marked-taken (z .position) (final o os) (z .ledger) (z .matched) (z .safe) x le,
@@ -239,7 +239,10 @@ marks-right pooled = after-opening pooled MarksTrue (λ q tasks slots tag e os x
     ))
 
 pub marks-named : MarksNamed
-marks-named = after-opening false UseIsTaken (λ q tasks slots tag e os.
+marks-named = after-opening false (MarkedWhile InUse) (λ q tasks slots tag e os x some le.
     let o = opened false q tasks slots tag in
-    let z = final-reached false tasks os o (open-reached false tasks q slots tag e) in
-    use-is-taken (z .position) (final o os) (z .ledger) (z .matched) (z .safe) (z .roomy .way))
+    let z = final-reached false tasks os o (open-reached false tasks q slots tag e) in (
+      λ m. is-taken (marked-taken (z .position) (final o os) (z .ledger) (z .matched) (z .safe) x le m),
+      λ u. taken-marked (z .position) (final o os) (z .ledger) (z .matched) (z .safe) x le
+          (use-is-taken (z .position) (final o os) (z .ledger) (z .matched) (z .safe) (z .roomy .way) x u),
+    ))

@@ -251,19 +251,17 @@ NoSlotTrue q os = (t : ℕ) → act (final q os) t Step .outcome ≡ Moved NoSlo
 abbrev pub NoSlotRight : Type 0
 NoSlotRight = AfterOpeningAs true NoSlotTrue
 
--- A slot's mark is set exactly while it is taken. (Without it a program whose pops leave their slots marked passes.)
-abbrev pub MarksTrue : Queue → List Request → Type 0
-MarksTrue q os =
+-- A slot's mark is set exactly while P holds of the slot.
+abbrev pub MarkedWhile : (Queue → ℕ → Type 0) → Queue → List Request → Type 0
+MarkedWhile P q os =
     let now = final q os in
     (x : ℕ) → 1 ≤ x → x ≤ now .tables .control .slots
-    → (marked (now .tables .marks) x ≡ true → Taken now x) × (Taken now x → marked (now .tables .marks) x ≡ true)
+    → (marked (now .tables .marks) x ≡ true → P now x) × (P now x → marked (now .tables .marks) x ≡ true)
 
+-- It is set exactly while the slot is taken. (Without it a program whose pops leave their slots marked passes.)
 abbrev pub MarksRight : Type 0
-MarksRight = AfterOpening MarksTrue
+MarksRight = AfterOpening (MarkedWhile Taken)
 
--- In a named queue, where no pop is at 15 to 17, every slot in use is taken.
-abbrev pub UseIsTaken : Queue → List Request → Type 0
-UseIsTaken q os = (x : ℕ) → InUse (final q os) x → Taken (final q os) x
-
+-- In a named queue, where no pop is at 15 to 17, that is while the slot is in use.
 abbrev pub MarksNamed : Type 0
-MarksNamed = AfterOpeningAs false UseIsTaken
+MarksNamed = AfterOpeningAs false (MarkedWhile InUse)
