@@ -13,6 +13,7 @@ ghost use Prim.Native.Nat.{ℕ, _<_, _≤_};
 ghost use lib.Dec.{eqb, leb, ltb};
 ghost use lib.ListN.{length};
 ghost use Rattle.word.specs.Anchor.{anchorOf};
+ghost use Rattle.word.specs.Link.{linkOf};
 ghost use Rattle.model.specs.Tables.{tablesOf};
 ghost use Rattle.model.specs.Places.{sideOf, endSeen, row, wordFound, new4};
 ghost use Rattle.model.specs.Refusals.{stepSound, stepRefusal};
@@ -35,27 +36,39 @@ fn end_seen(r: Record) -> u64
     if on_right(r) { a.right } else { a.left }
 }
 
-/// The slot whose row or mark the record's place touches.
+/// The slot of the head as read.
+fn slot_read(r: Record) -> u64
+    ensures { λ x. ⌜ x ≡ linkOf (r .link) .slot ⌝ }
+{
+    let head = Link::unpack(r.link);
+    head.slot
+}
+
+/// The slot whose row or mark the record's place touches, at 17 the one that it gives back; 0: none.
 pub fn row_of(r: Record) -> u64
     ensures { λ x. ⌜ x ≡ row r ⌝ }
 {
-    if (r.place == 7) | (r.place == 9) {
+    let place = r.place;
+    if (place == 7) | (place == 9) {
         return r.neighbour;
     }
-    if (r.place == 3) & (r.kind == 0) {
+    if (place == 3) & (r.kind == 0) {
         return r.own;
     }
-    if (12 <= r.place) & (r.place <= 14) {
-        let head = Link::unpack(r.link);
-        return head.slot;
+    if (place == 3) | (place == 5) | (place == 11) {
+        return end_seen(r);
     }
-    if 15 <= r.place {
-        return r.own;
+    if (place == 13) | (place == 14) {
+        return slot_read(r);
     }
-    end_seen(r)
+    if (place == 16) | (place == 17) {
+        r.own
+    } else {
+        0
+    }
 }
 
-/// What the place finds in that row: the label at 11, the next slot at 13, else a link word.
+/// What the place finds in that row: the label at 11, the next slot at 13, a link word at 3, 5, 7 and 9; else 0.
 fn found(r: Record, lefts: &[u64], rights: &[u64], labels: &[u32], next: &[u64]) -> u64
     ensures { λ w.
         ⌜ ((c : Control) (marks : List ℕ)
@@ -69,6 +82,9 @@ fn found(r: Record, lefts: &[u64], rights: &[u64], labels: &[u32], next: &[u64])
         return table::word_at(next, x);
     }
     let inward = (r.place == 3) | (r.place == 5);
+    if !inward & !((r.place == 7) | (r.place == 9)) {
+        return 0;
+    }
     let right = on_right(r);
     if (right & !inward) | (!right & inward) {
         return table::word_at(rights, x);

@@ -12,10 +12,7 @@ use Rattle.model.specs.declared.Answer.the-variants.{Running, Pushed, Empty, Po
 use Rattle.model.specs.declared.Entry.{Entry}
 use Rattle.model.specs.declared.Op.{Op}
 use Rattle.model.specs.declared.Op.the-variants.{Push, Pop, Put, Step}
-use Rattle.model.specs.declared.Outcome.{Outcome}
-use Rattle.model.specs.declared.Outcome.the-variants.{Refused, Moved}
 use Rattle.model.specs.Calls.{Acted, Done, act, actOn, back, finish, popStart, pushStart, putStart, step}
-use Rattle.model.specs.Places.{wordFound, move}
 use Rattle.model.specs.Refusals.{among, popRefusal, pushRefusal, putRefusal, stepRefusal}
 use Rattle.model.specs.Tables.{Queue, recordAt}
 use Rattle.model.specs.History.{Call, Effect, Ending, Event, Ledger, Request, answered, pending}

@@ -8,7 +8,7 @@ use Rattle.model.specs.Tables.{Queue, unused, tablesOf, unopened}
 use Rattle.model.specs.Sound.{anchorSound, linkSound, controlSound, recordSound, rowsFit}
 use Rattle.model.specs.Places.{sideOf, row, linkSide, reading, at1, at2, at3, new4, at4, at5, at6, at7, at9, at10, at11, at12, at13, at14, move}
 use Rattle.model.specs.Route.{pushRoute, popRoute, route, onward, answer, goes, counted}
-use Rattle.model.specs.Refusals.{openRefusal, pushRefusal, putRefusal, popRefusal, stepSound, stepRefusal, startRefusal}
+use Rattle.model.specs.Refusals.{openRefusal, stepSound, stepRefusal, startRefusal}
 use Rattle.model.specs.Calls.{opened, openAs, openPooled, openQueue, pushStart, putStart, popStart, finish, step, actOn, act}
 use Rattle.model.specs.Deque.{serve, serveFor, servePop, servePush}
 use Rattle.model.specs.History.{Call, Request, accept, attend, isEffect, ledger, ledgerFrom, note, run, stepOf}

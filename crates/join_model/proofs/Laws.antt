@@ -2,7 +2,7 @@
 use mathlib.Core.Path.{_≡_, refl, sym, ap, _∙_}
 use mathlib.Core.Bool.{false, not}
 use mathlib.Core.List.{List, [], _∷_, _++_}
-use Prim.Native.Nat.{ℕ, zero, suc, _+_, _-_, _≤_}
+use Prim.Native.Nat.{ℕ, zero, suc, _-_, _≤_}
 use native.Mathlib.Omega.{arith}
 use lib.Dec.{ltb}
 use lib.ListN.{length}
@@ -15,7 +15,7 @@ use Rattle.model.proofs.tests.Rules.{_and_, never}
 use Rattle.model.proofs.Standing.{standing}
 use Rattle.model.proofs.Linearizable.{linearizable}
 use Rattle.model.proofs.Never34.{never-34}
-use Rattle.stock_model.proofs.Accounts.{every-label}
+use Rattle.stock_model.proofs.Accounts.{every-label, stock-taking}
 use Rattle.join_model.specs.Join.{anchorIn, anyLate, lane, lanes, outcomes, pushes, joinRefusal, joinRules, join}
 use Rattle.join_model.specs.Closed.{tagAfter, lateFor, holding, closedRefusal}
 use Rattle.join_model.specs.Laws.{OwnOrder, StaysAscending, TieToFirst, SameCopies, RefusalKeeps, Zeros, OnlyFresh, JoinedWait, numbered, Continues}
@@ -89,7 +89,8 @@ continues pooled q tasks slots tag o os a b e later = record {
       (final-on os joining begun ∙ sym (third-is a b (final begun os) e)) ∙ waits a b (final begun os) e);
   linearized = linearizable pooled q tasks slots tag o (os ++ joining ++ later);
   sound = never-34 pooled q tasks slots tag o (os ++ joining ++ later);
-  accounted = λ x. every-label x pooled q tasks slots tag o (os ++ joining ++ later);
+  accounted = every-label pooled q tasks slots tag o (os ++ joining ++ later);
+  stock = stock-taking pooled q tasks slots tag o (os ++ joining ++ later);
 }
   where
     joining : List Request

@@ -216,25 +216,32 @@ Never34 = AfterOpening NeverUnsound
 abbrev pub Reports : Type 0
 Reports = AfterOpening Told
 
--- A record holds slot x: a push at 1 to 10 that is not finishing its own; a pop at 11 the end that it took, at 15 to 17 its own.
-unfoldable pub holdsSlot : Record → ℕ → Bool
-holdsSlot r x =
-    cond (leb (r .place) 10) (every (leb 1 (r .place) ∷ isPush r ∷ not (eqb (r .finishing) 1) ∷ eqb (r .own) x ∷ []))
-    (isPop r && cond (eqb (r .place) 11) (eqb (near (r .side) (anchorOf (r .seen))) x)
-    (giving r && eqb (r .own) x))
-
+-- Slot x waits in the queue.
 pub data Waits (x : ℕ) : Walk → Type 0 where
   here : (e : Entry) (l : List Entry) → x ≡ e .slot → Waits x (entries (e ∷ l))
   later : (e : Entry) (l : List Entry) → Waits x (entries l) → Waits x (entries (e ∷ l))
 
--- Slot x waits in the queue, or a record has it, as `has` tells.
-pub data Had (has : Record → ℕ → Bool) (q : Queue) (x : ℕ) : Type 0 where
-  waits : Waits x (contents (q .tables)) → Had has q x
-  holds : (t : ℕ) → t < q .tables .control .tasks → has (recordAt q t) x ≡ true → Had has q x
+-- A push holds its own slot between 14, or a start that names it, and its effect: at 1 to 10, and not finishing.
+unfoldable pub pushHolds : Record → ℕ → Bool
+pushHolds r x = every (leb 1 (r .place) ∷ leb (r .place) 10 ∷ isPush r ∷ eqb (r .finishing) 0 ∷ eqb (r .own) x ∷ [])
 
--- Slot x is in use.
-abbrev pub InUse : Queue → ℕ → Type 0
-InUse q x = Had holdsSlot q x
+-- A pop holds the end that it took between its effect and 17: at 11, where its mark is cleared, and, as its own slot, at 15 to 17.
+unfoldable pub popHolds : Record → ℕ → Bool
+popHolds r x = every (eqb (r .place) 11 ∷ isPop r ∷ eqb (near (r .side) (anchorOf (r .seen))) x ∷ [])
+
+unfoldable pub popGives : Record → ℕ → Bool
+popGives r x = every (giving r ∷ isPop r ∷ eqb (r .own) x ∷ [])
+
+-- Slot x is taken: it waits, a push holds it, or a pop at 11 does.
+pub data Taken (q : Queue) (x : ℕ) : Type 0 where
+  waits : Waits x (contents (q .tables)) → Taken q x
+  push-holds : (t : ℕ) → t < q .tables .control .tasks → pushHolds (recordAt q t) x ≡ true → Taken q x
+  pop-holds : (t : ℕ) → t < q .tables .control .tasks → popHolds (recordAt q t) x ≡ true → Taken q x
+
+-- Slot x is in use: it is taken, or a pop at 15 to 17 gives it back.
+pub data InUse (q : Queue) (x : ℕ) : Type 0 where
+  is-taken : Taken q x → InUse q x
+  pop-gives : (t : ℕ) → t < q .tables .control .tasks → popGives (recordAt q t) x ≡ true → InUse q x
 
 -- *No slot* is true: if a step after the list answers so, every slot was in use. (Request #104. Without it a program that loses slots passes.)
 abbrev pub NoSlotTrue : Queue → List Request → Type 0
@@ -244,20 +251,17 @@ NoSlotTrue q os = (t : ℕ) → act (final q os) t Step .outcome ≡ Moved NoSlo
 abbrev pub NoSlotRight : Type 0
 NoSlotRight = AfterOpeningAs true NoSlotTrue
 
--- A record has slot x marked: it holds it, and is no pop at 15 to 17, which has cleared the mark at 11. (Request #104.)
-unfoldable pub marksSlot : Record → ℕ → Bool
-marksSlot r x = holdsSlot r x && not (giving r)
+-- A slot's mark is set exactly while P holds of the slot.
+abbrev pub MarkedWhile : (Queue → ℕ → Type 0) → Queue → List Request → Type 0
+MarkedWhile P q os =
+    let now = final q os in
+    (x : ℕ) → 1 ≤ x → x ≤ now .tables .control .slots
+    → (marked (now .tables .marks) x ≡ true → P now x) × (P now x → marked (now .tables .marks) x ≡ true)
 
--- A slot's mark is set exactly while it waits, or a record has it. (Without it a program whose pops leave their slots marked passes.)
-abbrev pub MarksTrue : (Record → ℕ → Bool) → Queue → List Request → Type 0
-MarksTrue has q os =
-    let now = final q os .tables in
-    (x : ℕ) → 1 ≤ x → x ≤ now .control .slots
-    → (marked (now .marks) x ≡ true → Had has (final q os) x) × (Had has (final q os) x → marked (now .marks) x ≡ true)
-
+-- It is set exactly while the slot is taken. (Without it a program whose pops leave their slots marked passes.)
 abbrev pub MarksRight : Type 0
-MarksRight = AfterOpening (MarksTrue marksSlot)
+MarksRight = AfterOpening (MarkedWhile Taken)
 
--- In a named queue, where no pop is at 15 to 17, every slot in use is marked.
+-- In a named queue, where no pop is at 15 to 17, that is while the slot is in use.
 abbrev pub MarksNamed : Type 0
-MarksNamed = AfterOpeningAs false (MarksTrue holdsSlot)
+MarksNamed = AfterOpeningAs false (MarkedWhile InUse)

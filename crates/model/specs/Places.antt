@@ -11,7 +11,7 @@ use Rattle.model.specs.declared.Record.{Record}
 use Rattle.model.specs.Tables.{Tables, isPooled, withMark}
 use Rattle.model.specs.Tables.{withOwn, withSeen, withNeighbour, withLink, withAnchor, withHead, linked, withMarks, withNext, taken}
 use Rattle.model.specs.Sides.{opposite, near, far, facing, links, pushing, named, isEmpty}
-use Rattle.model.specs.Kinds.{isPush, isPop, helping, drawing, giving}
+use Rattle.model.specs.Kinds.{isPush, isPop, helping}
 
 -- The side: at 1 to 4 and 11 the task's, at 5 to 10 the one that the status as read names.
 unfoldable pub sideOf : Record → ℕ
@@ -21,26 +21,35 @@ sideOf r = cond (helping r) (named (anchorOf (r .seen) .status)) (r .side)
 abbrev pub endSeen : Record → ℕ
 endSeen r = near (sideOf r) (anchorOf (r .seen))
 
--- The slot whose row or mark a place touches: the neighbour at 7 and 9, a push's own slot at 3, the slot of the head as read at 13 and 14,
--- a pop's own slot at 16 and 17, else the end as read.
+-- The slot whose row or mark a place touches, and at 17 the one that it gives back, a line a place; 0: none.
 unfoldable pub row : Record → ℕ
 row r =
-    cond (eqb (r .place) 7 || eqb (r .place) 9) (r .neighbour)
-    (cond (eqb (r .place) 3 && isPush r) (r .own)
-    (cond (drawing r) (linkOf (r .link) .slot)
-    (cond (giving r) (r .own)
-    (endSeen r))))
+    cond (eqb (r .place) 3) (cond (isPush r) (r .own) (endSeen r))
+    (cond (eqb (r .place) 5) (endSeen r)
+    (cond (eqb (r .place) 7) (r .neighbour)
+    (cond (eqb (r .place) 9) (r .neighbour)
+    (cond (eqb (r .place) 11) (endSeen r)
+    (cond (eqb (r .place) 13) (linkOf (r .link) .slot)
+    (cond (eqb (r .place) 14) (linkOf (r .link) .slot)
+    (cond (eqb (r .place) 16) (r .own)
+    (cond (eqb (r .place) 17) (r .own)
+    0))))))))
 
 -- The link word of that row: Left at 3 and 5, Right at 7 and 9.
 unfoldable pub linkSide : Record → ℕ
 linkSide r = cond (eqb (r .place) 3 || eqb (r .place) 5) (opposite (sideOf r)) (sideOf r)
 
--- What a place finds in that row: the label at 11, the next slot at 13, else the link word.
+-- What a place finds in that row, a line a place: a link word, the label, the next slot; 0: it reads none.
 abbrev pub wordFound : Tables → Record → ℕ
 wordFound q r =
-    cond (eqb (r .place) 11) (getD (q .labels) (row r) 0)
+    let link = getD (links q (linkSide r)) (row r) 0 in
+    cond (eqb (r .place) 3) link
+    (cond (eqb (r .place) 5) link
+    (cond (eqb (r .place) 7) link
+    (cond (eqb (r .place) 9) link
+    (cond (eqb (r .place) 11) (getD (q .labels) (row r) 0)
     (cond (eqb (r .place) 13) (getD (q .next) (row r) 0)
-    (getD (links q (linkSide r)) (row r) 0))
+    0)))))
 
 -- A touch of the shared tables: at most one word is written, but where a slot is drawn, which sets the head, the slot's label and its mark.
 pub data Touch : Type 0 where

@@ -1,5 +1,5 @@
 -- A step, what is found below it, and back: the tables are as before, and the step stands in the memory.
-use mathlib.Core.Path.{_≡_, refl, sym, ap, subst, _∙_}
+use mathlib.Core.Path.{_≡_, refl, sym, ap, _∙_}
 use mathlib.Core.Bool.{Bool, true, false, not, cond}
 use mathlib.Core.List.{List, [], _∷_}
 use Prim.Native.Nat.{ℕ, zero, suc, _+_, _-_, _<_, _≤_}
@@ -7,7 +7,6 @@ use native.Mathlib.Omega.{arith}
 use lib.Dec.{eqb, leb, ltb}
 use lib.ListN.{length, set}
 use lib.Seq.{sets, set-comm}
-use Rattle.model.specs.declared.Control.{Control}
 use Rattle.model.specs.declared.Record.{Record}
 use Rattle.model.specs.declared.Outcome.{Outcome}
 use Rattle.model.specs.declared.Outcome.the-variants.{Refused, Moved}
@@ -17,7 +16,6 @@ use Rattle.model.specs.Ends.{isMoved}
 use Rattle.model.specs.Places.{row}
 use Rattle.model.specs.Calls.{Acted, step, actOn, Done, back, act}
 use Rattle.schedule_model.specs.declared.Saved.{Saved}
-use Rattle.schedule_model.specs.Schedules.{Schedule, begun}
 use Rattle.schedule_model.specs.Next.{Next, given, noMore}
 use Rattle.schedule_model.specs.Search.{prefixed, stepped, seekOf}
 use Rattle.schedule_model.specs.Undo.{saved, putBack}

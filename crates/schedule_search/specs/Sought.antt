@@ -5,7 +5,6 @@ use Prim.Native.Nat.{ℕ, _+_, _-_}
 use lib.Dec.{eqb}
 use lib.ListN.{length}
 use lib.Seq.{sets}
-use Rattle.model.specs.declared.Control.{Control}
 use Rattle.model.specs.declared.Record.{Record}
 use Rattle.model.specs.Tables.{Tables, Queue, unused, withCall}
 use Rattle.schedule_model.specs.Schedules.{ends}

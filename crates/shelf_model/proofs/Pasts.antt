@@ -1,10 +1,11 @@
 -- A queue, and a past that leaves it: what holds after every accepted opening holds of both.
 use mathlib.Core.Bool.{true, _&&_, cond}
-use mathlib.Core.List.{List, [], _∷_, _++_}
+use mathlib.Core.List.{List, [], _∷_, _++_, map}
 use mathlib.Core.Path.{_≡_, _∙_, ap, ap₂, refl, subst, sym}
 use Prim.Native.Nat.{ℕ, zero, suc, _+_, _<_, _≤_}
 use native.Mathlib.Omega.{arith}
 use lib.Dec.{eqb}
+use lib.ListN.{length}
 use Rattle.model.specs.declared.Control.{Control}
 use Rattle.model.specs.declared.Entry.{Entry}
 use Rattle.model.specs.declared.Outcome.the-variants.{Refused}
@@ -21,9 +22,10 @@ use Rattle.model.proofs.Linearizable.{linearizable}
 use Rattle.model.proofs.Never34.{never-34}
 use Rattle.model.specs.Standing.{Standing}
 use Rattle.model.proofs.Standing.{standing}
-use Rattle.model.specs.Lists.{All}
-use Rattle.stock_model.specs.Accounts.{Accounted, AccountedBy, Stands, hasTaken, pushedIn, sumOf, takenIn}
-use Rattle.stock_model.proofs.Accounts.{OpenKnown, accounted, open-known}
+use Rattle.model.specs.Lists.{All, copies}
+use Rattle.stock_model.specs.Accounts.{Accounted, AccountedIn, AddedUp, Stands, StockSum, answeredLabels, hasTaken, heldLabels, pushedLabels, takenLabels}
+use Rattle.stock_model.specs.Accounts.{waitingLabels}
+use Rattle.stock_model.proofs.Accounts.{OpenKnown, every-label, open-known, stock-taking}
 use Rattle.shelf_model.specs.Cut.{cut}
 use Rattle.shelf_model.specs.Changeovers.{Explained, FromOpening, Past}
 use Rattle.shelf_model.proofs.Lists.{enough-take}
@@ -124,16 +126,26 @@ module _ (p : Past) (q : Queue) (h : Explained p q) where
   all-alike [] k s = tt
   all-alike (c ∷ cs) k s = (stands-alike c (c .ending) (k .0) (s .0), all-alike cs (k .1) (s .1))
 
-  pub accounts : (count : ℕ → ℕ) → AccountedBy count (p .events) q
-  accounts count =
-      let a = past-has (Accounted count) (accounted count (t .pooled)) in
+  same-waiting : waitingLabels (now .tables) ≡ waitingLabels (q .tables)
+  same-waiting = ap (λ (v : Walk). map (λ (e : Entry). e .label) (met v)) (sym same-walk)
+
+  pub accounts : AccountedIn (p .events) q
+  accounts =
+      let a = past-has Accounted (every-label (t .pooled)) in
       let k = past-has OpenKnown (open-known (t .pooled)) in
-      subst (λ (es : List Event). AccountedBy count es q) (sym (t .events)) (record {
-        pushed = subst (λ (v : Walk). pushedIn count (ledger (run (p .opened) (p .since)) .calls)
-            ≡ takenIn count (ledger (run (p .opened) (p .since)) .calls) + sumOf (λ (e : Entry). count (e .label)) (met v)) (sym same-walk) (a .pushed);
-        taken = a .taken;
-        stands = all-alike (ledger (run (p .opened) (p .since)) .calls) k (a .stands);
+      let cs = ledger (run (p .opened) (p .since)) .calls in
+      subst (λ (es : List Event). AccountedIn es q) (sym (t .events)) (record {
+        every-push = λ x. subst (λ (l : List ℕ). copies x (pushedLabels cs) ≡ copies x (takenLabels cs) + copies x l) same-waiting (a .every-push x);
+        every-pop = a .every-pop;
+        stands = all-alike cs k (a .stands);
       })
+
+  pub adds-up : AddedUp (p .events) q
+  adds-up =
+      let cs = ledger (run (p .opened) (p .since)) .calls in
+      subst (λ (es : List Event). AddedUp es q) (sym (t .events))
+      (subst (λ (l : List ℕ). length (pushedLabels cs) ≡ length (answeredLabels cs) + length (heldLabels cs) + length l) same-waiting
+      (past-has StockSum (stock-taking (t .pooled))))
 
   pub counts : retriesBelow q (q .tables .control .tasks) ≡ retriesBelow now (now .tables .control .tasks)
   counts =

@@ -17,7 +17,7 @@ use Rattle.model.specs.Solo.{soloRun}
 use Rattle.model.specs.Progress.{AnsweredWithin, Busy, any, limit, steps, stretchLimit, tells}
 use Rattle.model.specs.Retries.{oldCount, retriesBelow}
 use Rattle.model.specs.Lists.{All}
-use Rattle.stock_model.specs.Accounts.{AccountedBy}
+use Rattle.stock_model.specs.Accounts.{AccountedIn, AddedUp}
 use Rattle.shelf_model.specs.Shelves.{returnRefusal, saveRefusal}
 use Rattle.shelf_model.specs.Changeovers.{AfterTurns, Turn, World, eventsOf, unbroken}
 
@@ -51,8 +51,9 @@ pub record Promised (w : World) (i : ℕ) : Type 0 where
   pub retries : let p = w .pasts i in oldCount 0 (p .opened) (p .since) < 4294967295
       → retriesBelow (w .queues i) (w .queues i .tables .control .tasks) ≡ oldCount 0 (p .opened) (p .since)
   pub progress : Progresses w i
-  -- #114: every label of that history is accounted for in the queue as it stands, however labels are counted.
-  pub accounted : (count : ℕ → ℕ) → AccountedBy count (w .pasts i .events) (w .queues i)
+  -- #114: every label of that history is accounted for in the queue as it stands, and all of them add up.
+  pub accounted : AccountedIn (w .pasts i .events) (w .queues i)
+  pub stock : AddedUp (w .pasts i .events) (w .queues i)
 
 -- Every queue that is made keeps them; and no return is refused 34, into whatever tables.
 pub record Kept (w : World) : Type 0 where

@@ -1,5 +1,5 @@
 -- What falls from call to call: three times the steps to go, by where the search stands; and what each function calls.
-use Prim.Native.Nat.{ℕ, _+_, _-_, _*_, _<_}
+use Prim.Native.Nat.{ℕ, _-_, _*_, _<_}
 use borrow.Fn.Kinds.{In}
 use borrow.Fn.PlainCycle.{Measures, is, falls, and}
 use Rattle.schedule_search.proofs.pick.Reads as pick-reads
