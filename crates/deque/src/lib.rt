@@ -3,14 +3,12 @@
 use model::Control;
 use model::Outcome;
 use model::TaskRecord;
-use model::Transition;
 use sound::admission;
 ghost use mathlib.Core.Path.{_≡_};
 ghost use Rattle.model.specs.declared.Op.the-variants.{Step};
 ghost use Rattle.model.specs.Tables.{tablesOf, queueOf};
 ghost use Rattle.model.specs.Calls as calls;
 ghost use Rattle.model.specs.Calls.{Done, act, stepLent};
-ghost use Rattle.model.specs.Route.{counted};
 ghost use Rattle.engine.specs.MoveOn.{moveOn};
 
 /// What a step leaves of control and its task's record, and its outcome.
@@ -18,23 +16,6 @@ struct Stepped {
     control: Control,
     task: TaskRecord,
     outcome: Outcome,
-}
-
-/// The same of a step by value: a failed change is counted in the record.
-fn counting(t: TaskRecord, m: Transition) -> Stepped
-    ensures { λ s.
-        ⌜ s
-        ≡ record { control = m .control; task = record { call = m .task; retries = counted (t .retries) (m .failed) }; outcome = m .outcome } ⌝ }
-{
-    let retries = table::counted(t.retries, m.failed);
-    let control = m.control;
-    let call = m.task;
-    let outcome = m.outcome;
-    Stepped {
-        control: control,
-        task: TaskRecord { call, retries },
-        outcome: outcome,
-    }
 }
 
 /// The step of a record once it is admitted.
@@ -56,9 +37,26 @@ fn move_on(
         })
         (moveOn (tablesOf c (now (lefts .entry)) (now (rights .entry)) (now (labels .entry)) (now (marks .entry)) (now (next .entry))) t) ⌝ }
 {
+    let mut words = rows::control_row(c);
     let r = t.call;
-    let m = engine::move_on(c, r, lefts, rights, labels, marks, next);
-    counting(t, m)
+    let mut row = rows::record_row(r, t.retries);
+    let outcome = rows::moving::move_row(
+        &mut words,
+        &mut row,
+        lefts,
+        rights,
+        labels,
+        marks,
+        next,
+    );
+    let control = rows::control_of(words);
+    let call = rows::call_of(row);
+    let retries = rows::retries_of(row);
+    Stepped {
+        control,
+        task: TaskRecord { call, retries },
+        outcome,
+    }
 }
 
 /// The step of a record lent alone.
@@ -80,9 +78,23 @@ fn step_alone(
         })
         (stepLent (tablesOf c (now (lefts .entry)) (now (rights .entry)) (now (labels .entry)) (now (marks .entry)) (now (next .entry))) t) ⌝ }
 {
-    let r = t.call;
-    let m = engine::step_alone(c, r, lefts, rights, labels, marks, next);
-    counting(t, m)
+    let why = admission::admit_alone(
+        c,
+        lefts.len(),
+        rights.len(),
+        labels.len(),
+        marks.len(),
+        next.len(),
+    );
+    if why != 0 {
+        let outcome = engine::refuse(why);
+        return Stepped {
+            control: c,
+            task: t,
+            outcome,
+        };
+    }
+    move_on(c, t, lefts, rights, labels, marks, next)
 }
 
 /// Moves a task by one step.

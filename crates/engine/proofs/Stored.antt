@@ -1,14 +1,14 @@
 -- What is stored after a step is what the step leaves, since it changes nothing else (`Unchanged`).
-use mathlib.Core.Path.{_≡_, refl, sym, ap, ap₂, subst, _∙_}
+use mathlib.Core.Path.{_≡_, refl, sym, ap, subst, _∙_}
 use mathlib.Core.Bool.{true, false}
 use mathlib.Core.List.{List}
-use Prim.Native.Nat.{ℕ, _≤_}
+use Prim.Native.Nat.{ℕ}
 use Rattle.model.specs.declared.Control.{Control}
 use Rattle.model.specs.declared.Record.{Record}
 use Rattle.model.specs.declared.TaskRecord.{TaskRecord}
 use Rattle.model.specs.declared.Outcome.{Outcome}
 use Rattle.model.specs.declared.Outcome.the-variants as outcome
-use Rattle.model.specs.Tables.{Tables, tablesOf, counting, idle, withOwn, withWords}
+use Rattle.model.specs.Tables.{Tables, tablesOf, counting, idle}
 use Rattle.model.specs.Route.{counted}
 use Rattle.model.specs.Refusals.{Lent}
 use Rattle.model.specs.Calls.{Acted, step}
@@ -16,7 +16,7 @@ use Rattle.model.proofs.tests.Truth.{split, not-both}
 use Rattle.model.specs.declared.Transition.{Transition}
 use Rattle.model.specs.Ends.{endsCall, isMoved}
 use Rattle.engine.specs.MoveOn.{moveOn}
-use Rattle.engine.specs.Stored.{controlMoved, recordMoved, controlAfter, recordAfter, anchorMoved, callMoved, anchorAfter, callAfter}
+use Rattle.engine.specs.Stored.{controlMoved, recordMoved, controlAfter, recordAfter}
 use Rattle.engine.proofs.ByPlace.{Keeps}
 use Rattle.engine.proofs.Unchanged.{Unchanged, step-kept, moved-on}
 
@@ -45,34 +45,12 @@ module _ (c : Control) (r : TaskRecord) (m : Transition) where
   unfolding controlAfter recordAfter
   stored-nothing a = (rw a, rw a)
 
-  -- The same at places 1 to 10.
-  pub early-end : isMoved (m .outcome) ≡ true → endsCall (m .outcome) ≡ true
-      → (anchorMoved c (m .control) ≡ anchorAfter c m) × (goneOn idle ≡ callAfter r m)
-  unfolding anchorAfter callAfter
-  early-end a b = (rw a, rw (a, b))
-
-  pub early-going : isMoved (m .outcome) ≡ true → endsCall (m .outcome) ≡ false
-      → (anchorMoved c (m .control) ≡ anchorAfter c m) × (goneOn (callMoved (r .call) (m .task)) ≡ callAfter r m)
-  unfolding anchorAfter callAfter
-  early-going a b = (rw a, rw (a, b))
-
-  pub early-nothing : isMoved (m .outcome) ≡ false → (c ≡ anchorAfter c m) × (r ≡ callAfter r m)
-  unfolding anchorAfter callAfter
-  early-nothing a = (rw a, rw a)
-
 -- A control or record whose kept fields are its own.
 whole-control : (c old : Control) → c .tasks ≡ old .tasks → c .slots ≡ old .slots → c .pooled ≡ old .pooled → controlMoved old c ≡ c
 whole-control c old e1 e2 e3 = rw (← e1, ← e2, ← e3)
 
 whole-record : (named : Type 0) (r old : Record) → Keeps named old r → recordMoved old r ≡ r
 whole-record named r old k = rw (← (k .kind), ← (k .side))
-
--- At places 1 to 10 head, own slot and label are too.
-same-head : (c old : Control) → c .head ≡ old .head → anchorMoved old c ≡ controlMoved old c
-same-head c old e = ap (withWords old (c .anchor)) (sym e)
-
-same-call : (r old : Record) → r .own ≡ old .own → r .label ≡ old .label → callMoved old r ≡ recordMoved old r
-same-call r old e1 e2 = ap₂ (withOwn (recordMoved old r)) (sym e1) (sym e2)
 
 module _ (q : Tables) (r : TaskRecord) (m : Transition) (lefts rights labels marks next : List ℕ) where
   abbrev pub leaves : Control → TaskRecord → Acted
@@ -109,22 +87,8 @@ module _ (q : Tables) (r : TaskRecord) (m : Transition) (lefts rights labels mar
         (λ a. split (endsCall (m .outcome)) (λ b. rw (a, b) (over b)) (λ b. rw (a, b) (going b)))
         (λ a. rw a (unmoved a))
 
-    kept-early : r .call .place ≤ 10 → leaves (anchorAfter (q .control) m) (callAfter r m) ≡ a
-    unfolding anchorAfter callAfter
-    kept-early early =
-        let head = same-head (m .control) (q .control) (kept .head early) in
-        split (isMoved (m .outcome))
-        (λ a. split (endsCall (m .outcome))
-        (λ b. rw (a, b, head) (over b))
-        (λ b. let k = kept .keeps b in rw (a, b, head, same-call (m .task) (r .call) (k .own early) (k .label early)) (going b)))
-        (λ a. rw a (unmoved a))
-
   pub stored : (p : Lent) → leaves (m .control) (gone (m .task)) ≡ step q p r → leaves (controlAfter (q .control) m) (recordAfter r m) ≡ step q p r
   stored p e = kept-stored (step q p r) (step-kept q r p) e
 
   pub moved-stored : leaves (m .control) (gone (m .task)) ≡ moveOn q r → leaves (controlAfter (q .control) m) (recordAfter r m) ≡ moveOn q r
   moved-stored e = kept-stored (moveOn q r) (moved-on q r) e
-
-  pub early-stored : leaves (m .control) (gone (m .task)) ≡ moveOn q r → r .call .place ≤ 10
-      → leaves (anchorAfter (q .control) m) (callAfter r m) ≡ moveOn q r
-  early-stored e = kept-early (moveOn q r) (moved-on q r) e

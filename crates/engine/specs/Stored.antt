@@ -3,7 +3,7 @@ use mathlib.Core.Bool.{cond}
 use Rattle.model.specs.declared.Control.{Control}
 use Rattle.model.specs.declared.Record.{Record}
 use Rattle.model.specs.declared.TaskRecord.{TaskRecord}
-use Rattle.model.specs.Tables.{idle, counting, ofKind, withOwn, withWords}
+use Rattle.model.specs.Tables.{idle, counting, ofKind, withWords}
 use Rattle.model.specs.Route.{counted}
 use Rattle.model.specs.declared.Transition.{Transition}
 use Rattle.model.specs.Ends.{endsCall, isMoved}
@@ -15,13 +15,6 @@ controlMoved old c = withWords old (c .anchor) (c .head)
 abbrev pub recordMoved : Record → Record → Record
 recordMoved old r = ofKind r (old .kind) (old .side)
 
--- The same at places 1 to 10: control takes Anchor, a call all but kind, side, own slot and label.
-abbrev pub anchorMoved : Control → Control → Control
-anchorMoved old c = withWords old (c .anchor) (old .head)
-
-abbrev pub callMoved : Record → Record → Record
-callMoved old r = withOwn (recordMoved old r) (old .own) (old .label)
-
 -- Nothing where the step was refused; a call all zero where it ended. A failed change is counted.
 unfoldable pub controlAfter : Control → Transition → Control
 controlAfter c m = cond (isMoved (m .outcome)) (controlMoved c (m .control)) c
@@ -29,13 +22,4 @@ controlAfter c m = cond (isMoved (m .outcome)) (controlMoved c (m .control)) c
 unfoldable pub recordAfter : TaskRecord → Transition → TaskRecord
 recordAfter r m =
     let call : Record = cond (endsCall (m .outcome)) idle (recordMoved (r .call) (m .task)) in
-    cond (isMoved (m .outcome)) (counting call (counted (r .retries) (m .failed))) r
-
--- The same at places 1 to 10.
-unfoldable pub anchorAfter : Control → Transition → Control
-anchorAfter c m = cond (isMoved (m .outcome)) (anchorMoved c (m .control)) c
-
-unfoldable pub callAfter : TaskRecord → Transition → TaskRecord
-callAfter r m =
-    let call : Record = cond (endsCall (m .outcome)) idle (callMoved (r .call) (m .task)) in
     cond (isMoved (m .outcome)) (counting call (counted (r .retries) (m .failed))) r

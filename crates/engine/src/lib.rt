@@ -1,6 +1,4 @@
-//! One step of one task, or one operation, whichever it is (`op`), by value over lent tables; and an outcome in numbers.
-pub mod op;
-
+//! One step of one task by value over lent tables; and an outcome in numbers.
 use model::Answer;
 use model::Control;
 use model::Outcome;
@@ -12,7 +10,7 @@ ghost use mathlib.Core.Path.{_≡_};
 ghost use mathlib.Core.Bool.{false};
 ghost use Prim.Native.Nat.{ℕ};
 ghost use lib.Dec.{leb, ltb};
-ghost use Rattle.model.specs.Calls.{step, stepLent, replyOf};
+ghost use Rattle.model.specs.Calls.{step, replyOf};
 ghost use Rattle.model.specs.Refusals.{recordRefusal};
 ghost use Rattle.model.specs.Tables.{tablesOf};
 ghost use Rattle.table.specs.Lent.{withTables};
@@ -70,35 +68,6 @@ pub fn step(
         c,
         records,
         task,
-        lefts.len(),
-        rights.len(),
-        labels.len(),
-        marks.len(),
-        next.len(),
-    );
-    if why != 0 {
-        return refused(c, r, why);
-    }
-    move_on(c, r, lefts, rights, labels, marks, next)
-}
-
-/// A step of a record lent alone: 13 can't occur and 12 looks at no records.
-pub fn step_alone(
-    c: Control,
-    r: Record,
-    lefts: &mut [u64],
-    rights: &mut [u64],
-    labels: &mut [u32],
-    marks: &mut [u64],
-    next: &mut [u64],
-) -> Transition
-    ensures { λ m.
-        ⌜ ((retries : ℕ) → withTables m (now (lefts .exit)) (now (rights .exit)) (now (labels .exit)) (now (marks .exit)) (now (next .exit)) retries
-        ≡ stepLent (tablesOf c (now (lefts .entry)) (now (rights .entry)) (now (labels .entry)) (now (marks .entry)) (now (next .entry)))
-        (record { call = r; retries = retries })) ⌝ }
-{
-    let why = admission::admit_alone(
-        c,
         lefts.len(),
         rights.len(),
         labels.len(),

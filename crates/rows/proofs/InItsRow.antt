@@ -18,14 +18,14 @@ use Rattle.sound.specs.Records.{idle-sound}
 use Rattle.places.specs.Arm.{stepAt}
 use Rattle.engine.specs.MoveOn.{moveOn}
 use Rattle.model.specs.Refusals.{recordRefusal}
-use Rattle.engine.specs.Stored.{controlAfter, recordAfter, anchorAfter, callAfter}
-use Rattle.engine.proofs.Stored.{moved-stored, early-stored}
+use Rattle.engine.specs.Stored.{controlAfter, recordAfter}
+use Rattle.engine.proofs.Stored.{moved-stored}
 use Rattle.engine.proofs.InParts.{stopped, at-place}
 use Rattle.rows.specs.Rows.{controlOf, callOf, recordOf, upperOf}
 use Rattle.rows.specs.Moved.{RowMoved}
 use Rattle.rows.proofs.Rows.{counting}
 
--- Why a record at 1 to 10 is refused before its place is looked at, or not.
+-- Why a record is refused before its place is looked at, or not.
 module _ (pooled : Bool) (slots : ℕ) (r : Record) where
   pub no-call : r .place ≡ 0 → 31 ≡ recordRefusal pooled slots r
   unfolding recordRefusal
@@ -74,19 +74,11 @@ module _ (ws row lefts rights labels marks next : List ℕ) (c : Control) (r : R
           → RowMoved (q (controlOf ws)) row (q′ (controlOf ws′)) row′ (m .outcome)
       stores e1 e2 = (rw (e1, e2) (moved-stored (q (controlOf ws)) (recordOf row) m lefts′ rights′ labels′ marks′ next′ of-row), up)
 
-      -- All that a step at 1 to 10 may change is stored.
-      stores-early : r .place ≤ 10 → controlOf ws′ ≡ anchorAfter (controlOf ws) m → recordOf row′ ≡ callAfter (recordOf row) m
-          → RowMoved (q (controlOf ws)) row (q′ (controlOf ws′)) row′ (m .outcome)
-      unfolding recordOf
-      stores-early low e1 e2 =
-          let early : callOf row .place ≤ 10 = subst (λ (t : Record). t .place ≤ 10) er low in
-          (rw (e1, e2) (early-stored (q (controlOf ws)) (recordOf row) m lefts′ rights′ labels′ marks′ next′ of-row early), up)
-
     -- The step at place n, which is the record's.
-    pub at-its-place : (n : ℕ) (o : Outcome) → recordRefusal (isPooled c) (c .slots) r ≡ 0 → r .place ≡ n → r .place ≤ 10
+    pub at-its-place : (n : ℕ) (o : Outcome) → recordRefusal (isPooled c) (c .slots) r ≡ 0 → r .place ≡ n
         → ((k : ℕ) → withTables m lefts′ rights′ labels′ marks′ next′ k ≡ stepAt n (q c) r k)
-        → controlOf ws′ ≡ anchorAfter (controlOf ws) m → recordOf row′ ≡ callAfter (recordOf row) m → o ≡ m .outcome
+        → controlOf ws′ ≡ controlAfter (controlOf ws) m → recordOf row′ ≡ recordAfter (recordOf row) m → o ≡ m .outcome
         → RowMoved (q (controlOf ws)) row (q′ (controlOf ws′)) row′ o
-    at-its-place n o none at low steps e1 e2 eo =
+    at-its-place n o none at steps e1 e2 eo =
         subst (λ (u : Outcome). RowMoved (q (controlOf ws)) row (q′ (controlOf ws′)) row′ u) (sym eo)
-        (stores-early (λ k. steps k ∙ at-place (q c) (counting r k) n none at) low e1 e2)
+        (stores (λ k. steps k ∙ at-place (q c) (counting r k) n none at) e1 e2)

@@ -4,6 +4,7 @@ use mathlib.Core.Bool.{Bool, true, false, _&&_, _||_, not, cond, and-assoc}
 use Prim.Native.Nat.{ℕ}
 use lib.Dec.{leb, eqb}
 use Rattle.word.specs.declared.Anchor.{Anchor}
+use Rattle.word.specs.Link.{linkOf}
 use Rattle.model.specs.declared.Record.{Record}
 use Rattle.model.specs.Sound.{from1, callTests, readTests, recordSound}
 use Rattle.model.specs.Lists.{every}
@@ -27,6 +28,15 @@ earlySeen slots place a =
     cond (eqb (a .left) (a .right))
     (not (leb 5 place) && (eqb (a .status) 0 && leb (a .left) slots))
     (from1 slots (a .left) && (from1 slots (a .right) && cond (leb 5 place) (from1 2 (a .status)) (leb (a .status) 2)))
+
+-- The tests of a record beyond 10 of its kind and own slot, and of the head that it has read.
+unfoldable pub lateCall : Bool → ℕ → Record → Bool
+lateCall pooled slots r =
+    cond (eqb (r .place) 11) (eqb (r .kind) 1 && eqb (r .own) 0)
+    (pooled
+    && cond (leb (r .place) 14)
+    (eqb (r .kind) 0 && (eqb (r .own) 0 && (eqb (r .place) 12 || not (eqb (linkOf (r .link) .slot) 0))))
+    (eqb (r .kind) 1 && (leb (r .place) 17 && from1 slots (r .own))))
 
 -- A record is sound if it is idle, or both parts are.
 pub parts : (pooled : Bool) (slots : ℕ) (r : Record)
