@@ -3,61 +3,14 @@
 use model::Control;
 use model::Outcome;
 use model::TaskRecord;
+use rows::value;
+use rows::value::Stepped;
 use sound::admission;
 ghost use mathlib.Core.Path.{_≡_};
 ghost use Rattle.model.specs.declared.Op.the-variants.{Step};
 ghost use Rattle.model.specs.Tables.{tablesOf, queueOf};
 ghost use Rattle.model.specs.Calls as calls;
 ghost use Rattle.model.specs.Calls.{Done, act, stepLent};
-ghost use Rattle.engine.specs.MoveOn.{moveOn};
-
-/// What a step leaves of control and its task's record, and its outcome.
-struct Stepped {
-    control: Control,
-    task: TaskRecord,
-    outcome: Outcome,
-}
-
-/// The step of a record once it is admitted.
-fn move_on(
-    c: Control,
-    t: TaskRecord,
-    lefts: &mut [u64],
-    rights: &mut [u64],
-    labels: &mut [u32],
-    marks: &mut [u64],
-    next: &mut [u64],
-) -> Stepped
-    ensures { λ s.
-        ⌜ _≡_ {A = calls.Acted}
-        (record {
-          tables = tablesOf (s .control) (now (lefts .exit)) (now (rights .exit)) (now (labels .exit)) (now (marks .exit)) (now (next .exit));
-          task = s .task;
-          outcome = s .outcome;
-        })
-        (moveOn (tablesOf c (now (lefts .entry)) (now (rights .entry)) (now (labels .entry)) (now (marks .entry)) (now (next .entry))) t) ⌝ }
-{
-    let mut words = rows::control_row(c);
-    let r = t.call;
-    let mut row = rows::record_row(r, t.retries);
-    let outcome = rows::moving::move_row(
-        &mut words,
-        &mut row,
-        lefts,
-        rights,
-        labels,
-        marks,
-        next,
-    );
-    let control = rows::control_of(words);
-    let call = rows::call_of(row);
-    let retries = rows::retries_of(row);
-    Stepped {
-        control,
-        task: TaskRecord { call, retries },
-        outcome,
-    }
-}
 
 /// The step of a record lent alone.
 fn step_alone(
@@ -94,7 +47,7 @@ fn step_alone(
             outcome,
         };
     }
-    move_on(c, t, lefts, rights, labels, marks, next)
+    value::move_on(c, t, lefts, rights, labels, marks, next)
 }
 
 /// Moves a task by one step.
@@ -136,7 +89,7 @@ pub fn step(
     }
     let record = &mut records[task];
     let t = *record;
-    let m = move_on(c, t, lefts, rights, labels, marks, next);
+    let m = value::move_on(c, t, lefts, rights, labels, marks, next);
     *control = m.control;
     *record = m.task;
     m.outcome

@@ -1,24 +1,23 @@
 -- What is stored after a step is what the step leaves, since it changes nothing else (`Unchanged`).
-use mathlib.Core.Path.{_≡_, refl, sym, ap, subst, _∙_}
+use mathlib.Core.Path.{_≡_, refl, sym, ap, ap₂, subst, _∙_}
 use mathlib.Core.Bool.{true, false}
 use mathlib.Core.List.{List}
-use Prim.Native.Nat.{ℕ}
+use Prim.Native.Nat.{ℕ, _≤_}
 use Rattle.model.specs.declared.Control.{Control}
 use Rattle.model.specs.declared.Record.{Record}
 use Rattle.model.specs.declared.TaskRecord.{TaskRecord}
 use Rattle.model.specs.declared.Outcome.{Outcome}
 use Rattle.model.specs.declared.Outcome.the-variants as outcome
-use Rattle.model.specs.Tables.{Tables, tablesOf, counting, idle}
+use Rattle.model.specs.Tables.{Tables, tablesOf, counting, idle, ofKind, withCall, withOwn, withWords}
 use Rattle.model.specs.Route.{counted}
-use Rattle.model.specs.Refusals.{Lent}
-use Rattle.model.specs.Calls.{Acted, step}
+use Rattle.model.specs.Calls.{Acted}
 use Rattle.model.proofs.tests.Truth.{split, not-both}
 use Rattle.model.specs.declared.Transition.{Transition}
 use Rattle.model.specs.Ends.{endsCall, isMoved}
 use Rattle.engine.specs.MoveOn.{moveOn}
-use Rattle.engine.specs.Stored.{controlMoved, recordMoved, controlAfter, recordAfter}
+use Rattle.engine.specs.Stored.{anchorMoved, callMoved, headMoved, ownMoved, anchorAfter, callAfter, headAfter, ownAfter}
 use Rattle.engine.proofs.ByPlace.{Keeps}
-use Rattle.engine.proofs.Unchanged.{Unchanged, step-kept, moved-on}
+use Rattle.engine.proofs.Unchanged.{Unchanged, moved-on}
 
 -- A refused step ends no call.
 pub refused-goes : (o : Outcome) → isMoved o ≡ false → endsCall o ≡ false
@@ -31,19 +30,41 @@ module _ (c : Control) (r : TaskRecord) (m : Transition) where
   abbrev pub goneOn : Record → TaskRecord
   goneOn t = counting t (counted (r .retries) (m .failed))
 
-  pub stored-end : isMoved (m .outcome) ≡ true → endsCall (m .outcome) ≡ true
-      → (controlMoved c (m .control) ≡ controlAfter c m) × (goneOn idle ≡ recordAfter r m)
-  unfolding controlAfter recordAfter
-  stored-end a b = (rw a, rw (a, b))
+  pub early-end : isMoved (m .outcome) ≡ true → endsCall (m .outcome) ≡ true
+      → (anchorMoved c (m .control) ≡ anchorAfter c m) × (goneOn idle ≡ callAfter r m)
+  unfolding anchorAfter callAfter
+  early-end a b = (rw a, rw (a, b))
 
-  pub stored-going : isMoved (m .outcome) ≡ true → endsCall (m .outcome) ≡ false
-      → (controlMoved c (m .control) ≡ controlAfter c m) × (goneOn (recordMoved (r .call) (m .task)) ≡ recordAfter r m)
-  unfolding controlAfter recordAfter
-  stored-going a b = (rw a, rw (a, b))
+  pub early-going : isMoved (m .outcome) ≡ true → endsCall (m .outcome) ≡ false
+      → (anchorMoved c (m .control) ≡ anchorAfter c m) × (goneOn (callMoved (r .call) (m .task)) ≡ callAfter r m)
+  unfolding anchorAfter callAfter
+  early-going a b = (rw a, rw (a, b))
 
-  pub stored-nothing : isMoved (m .outcome) ≡ false → (c ≡ controlAfter c m) × (r ≡ recordAfter r m)
-  unfolding controlAfter recordAfter
-  stored-nothing a = (rw a, rw a)
+  pub early-nothing : isMoved (m .outcome) ≡ false → (c ≡ anchorAfter c m) × (r ≡ callAfter r m)
+  unfolding anchorAfter callAfter
+  early-nothing a = (rw a, rw a)
+
+  -- Beyond 10, besides.
+  pub rest-end : isMoved (m .outcome) ≡ true → endsCall (m .outcome) ≡ true
+      → (headMoved c (m .control) ≡ headAfter c m) × (r ≡ ownAfter r m)
+  unfolding headAfter ownAfter
+  rest-end a b = (rw a, rw (a, b))
+
+  pub rest-going : isMoved (m .outcome) ≡ true → endsCall (m .outcome) ≡ false
+      → (headMoved c (m .control) ≡ headAfter c m) × (withCall r (ownMoved (r .call) (m .task)) ≡ ownAfter r m)
+  unfolding headAfter ownAfter
+  rest-going a b = (rw a, rw (a, b))
+
+  pub rest-nothing : isMoved (m .outcome) ≡ false → (c ≡ headAfter c m) × (r ≡ ownAfter r m)
+  unfolding headAfter ownAfter
+  rest-nothing a = (rw a, rw a)
+
+-- Control and call with all that a step may change of another.
+abbrev controlMoved : Control → Control → Control
+controlMoved old c = withWords old (c .anchor) (c .head)
+
+abbrev recordMoved : Record → Record → Record
+recordMoved old r = ofKind r (old .kind) (old .side)
 
 -- A control or record whose kept fields are its own.
 whole-control : (c old : Control) → c .tasks ≡ old .tasks → c .slots ≡ old .slots → c .pooled ≡ old .pooled → controlMoved old c ≡ c
@@ -51,6 +72,13 @@ whole-control c old e1 e2 e3 = rw (← e1, ← e2, ← e3)
 
 whole-record : (named : Type 0) (r old : Record) → Keeps named old r → recordMoved old r ≡ r
 whole-record named r old k = rw (← (k .kind), ← (k .side))
+
+-- At places 1 to 10 head, own slot and label are too.
+same-head : (c old : Control) → c .head ≡ old .head → anchorMoved old c ≡ controlMoved old c
+same-head c old e = ap (withWords old (c .anchor)) (sym e)
+
+same-call : (r old : Record) → r .own ≡ old .own → r .label ≡ old .label → callMoved old r ≡ recordMoved old r
+same-call r old e1 e2 = ap₂ (withOwn (recordMoved old r)) (sym e1) (sym e2)
 
 module _ (q : Tables) (r : TaskRecord) (m : Transition) (lefts rights labels marks next : List ℕ) where
   abbrev pub leaves : Control → TaskRecord → Acted
@@ -80,15 +108,27 @@ module _ (q : Tables) (r : TaskRecord) (m : Transition) (lefts rights labels mar
         ap (λ (c : Control). leaves c r) (sym (ap (λ (t : Tables). t .control) (k .0)))
         ∙ ap (leaves (m .control)) (sym (k .1)) ∙ e
 
-    kept-stored : leaves (controlAfter (q .control) m) (recordAfter r m) ≡ a
-    unfolding controlAfter recordAfter
+    kept-stored : leaves (headAfter (anchorAfter (q .control) m) m) (ownAfter (callAfter r m) m) ≡ a
+    unfolding anchorAfter callAfter headAfter ownAfter
     kept-stored =
         split (isMoved (m .outcome))
         (λ a. split (endsCall (m .outcome)) (λ b. rw (a, b) (over b)) (λ b. rw (a, b) (going b)))
         (λ a. rw a (unmoved a))
 
-  pub stored : (p : Lent) → leaves (m .control) (gone (m .task)) ≡ step q p r → leaves (controlAfter (q .control) m) (recordAfter r m) ≡ step q p r
-  stored p e = kept-stored (step q p r) (step-kept q r p) e
+    kept-early : r .call .place ≤ 10 → leaves (anchorAfter (q .control) m) (callAfter r m) ≡ a
+    unfolding anchorAfter callAfter
+    kept-early early =
+        let head = same-head (m .control) (q .control) (kept .head early) in
+        split (isMoved (m .outcome))
+        (λ a. split (endsCall (m .outcome))
+        (λ b. rw (a, b, head) (over b))
+        (λ b. let k = kept .keeps b in rw (a, b, head, same-call (m .task) (r .call) (k .own early) (k .label early)) (going b)))
+        (λ a. rw a (unmoved a))
 
-  pub moved-stored : leaves (m .control) (gone (m .task)) ≡ moveOn q r → leaves (controlAfter (q .control) m) (recordAfter r m) ≡ moveOn q r
+  pub moved-stored : leaves (m .control) (gone (m .task)) ≡ moveOn q r
+      → leaves (headAfter (anchorAfter (q .control) m) m) (ownAfter (callAfter r m) m) ≡ moveOn q r
   moved-stored e = kept-stored (moveOn q r) (moved-on q r) e
+
+  pub early-stored : leaves (m .control) (gone (m .task)) ≡ moveOn q r → r .call .place ≤ 10
+      → leaves (anchorAfter (q .control) m) (callAfter r m) ≡ moveOn q r
+  early-stored e = kept-early (moveOn q r) (moved-on q r) e

@@ -2,7 +2,6 @@
 use mathlib.Core.Path.{_≡_, refl, ap}
 use mathlib.Core.Bool.{true, false, cond}
 use Prim.Native.Nat.{ℕ, _+_, _/_, _^_}
-use native.Mathlib.Omega.{arith}
 use lib.Dec.{eqb, ltb}
 use borrow.Author.Tests.{eq-eqb, ne-eqb}
 use Rattle.word.specs.Anchor.{anchorOf, packAnchor}
@@ -17,8 +16,8 @@ use Rattle.model.specs.Calls.{entryOf, finish}
 use Rattle.model.proofs.laws.Onward.{reads-on}
 use Rattle.model.specs.declared.Transition.{Transition}
 use Rattle.table.specs.Lent.{withTables}
-use Rattle.places.specs.Arm.{stepAt, Steps, StepsOnAnchor}
-use Rattle.places.specs.Ending.{refused, settled, noEntry, failing, withFailed, anchored, anchorRead, mayChange, remembered, compared, changed}
+use Rattle.places.specs.Arm.{stepAt, Steps}
+use Rattle.places.specs.Ending.{refused, settled, noEntry, failing, anchored, anchorRead, mayChange, remembered, compared, changed}
 use Rattle.places.proofs.Routes.{kinds, readings, Quiet, quietly}
 use Rattle.model.proofs.tests.Truth.{split}
 use Rattle.model.specs.Sides.{far, facing, pushing}
@@ -172,14 +171,6 @@ module _ (c : Control) (r : Record) where
 
   pub failed4 : (c .anchor ≡ r .seen → ⊥) → Steps 4 c r (failing (anchorRead c r))
   failed4 h = split (eqb (r .kind) 0) (λ k. fails (push4 k) h) (λ k. fails (pop4 k) h)
-
-  -- By the record's place: 1, or a failed change.
-  pub reads-first : r .place ≡ 1 → StepsOnAnchor c r (withFailed (anchorRead c r) false)
-  unfolding anchorRead settled
-  reads-first at = (λ _. step1, λ two. absurd (omega arith), λ four. absurd (omega arith))
-
-  pub reads-failed : (r .place ≡ 1 → ⊥) → (c .anchor ≡ r .seen → ⊥) → StepsOnAnchor c r (failing (anchorRead c r))
-  reads-failed later moved = (λ one. absurd (later one), λ _. failed2 moved, λ _. failed4 moved)
 
   pub step6 : Steps 6 c r (compared c r (route 6 (r .kind) 0) (route 6 (r .kind) 1))
   unfolding move at6 route pushRoute popRoute

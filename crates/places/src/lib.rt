@@ -1,4 +1,4 @@
-//! What each place does with the tables lent to it, one function a place; 1, 2 and 4 meet in one, and
+//! What each place does with the tables lent to it, one function a place;
 //! 12 to 17, where a pooled queue draws its slots and gets them back, are in `pool`.
 //!
 //! Every function carries out the step at its place, whatever its arguments:
@@ -17,56 +17,28 @@ use model::Transition;
 use word::Anchor;
 use word::Link;
 ghost use mathlib.Core.Path.{_≡_};
-ghost use Rattle.places.specs.Arm.{Steps, StepsOnAnchor, StepsOnLinks, StepsOnMarks};
+ghost use Rattle.places.specs.Arm.{Steps, StepsOnLinks, StepsOnMarks};
 
-/// Places 1, 2 and 4: read Anchor (figure 3, line 1; figure 5, line 11), or change it where it is
-/// as read. A failed change is counted, takes the word found for its reading, and goes on as place 1.
-pub fn on_anchor(c: Control, r: Record) -> Transition
-    ensures { λ m. ⌜ StepsOnAnchor c r m ⌝ }
-{
-    let mut failed = false;
-    if r.place != 1 {
-        if c.anchor == r.seen {
-            return if r.place == 2 { at2(c, r) } else { at4(c, r) };
-        }
-        failed = true;
-    }
-    let mut m = step::reads_anchor(c, r);
-    m.failed = failed;
-    m
-}
-
-/// Place 1 by itself. A step that stores at each place for itself has one function a place.
+/// Place 1: read Anchor. (Figure 3, line 1; figure 5, line 11.)
 pub fn at1(c: Control, r: Record) -> Transition
     ensures { λ m. ⌜ Steps 1 c r m ⌝ }
 {
     step::reads_anchor(c, r)
 }
 
-/// Place 2 by itself: the change, tried.
-pub fn tries2(c: Control, r: Record) -> Transition
+/// Place 2: the change, tried. A failed one is counted, takes the word found for its reading, and goes on as place 1.
+pub fn at2(c: Control, r: Record) -> Transition
     ensures { λ m. ⌜ Steps 2 c r m ⌝ }
 {
     if c.anchor == r.seen {
-        return at2(c, r);
-    }
-    let m = step::reads_anchor(c, r);
-    step::fails(m)
-}
-
-/// Place 4 by itself: the change, tried.
-pub fn tries4(c: Control, r: Record) -> Transition
-    ensures { λ m. ⌜ Steps 4 c r m ⌝ }
-{
-    if c.anchor == r.seen {
-        return at4(c, r);
+        return change2(c, r);
     }
     let m = step::reads_anchor(c, r);
     step::fails(m)
 }
 
 /// Place 2, Anchor as read: change it to own, own, s; a pop to null, null, s. (Figure 3, line 2; figure 5, line 12.)
-fn at2(c: Control, r: Record) -> Transition
+fn change2(c: Control, r: Record) -> Transition
     ensures { λ m. ⌜ (c .anchor ≡ r .seen → Steps 2 c r m) ⌝ }
 {
     let a = Anchor::unpack(r.seen);
@@ -101,9 +73,20 @@ pub fn at3(c: Control, r: Record, lefts: &mut [u64], rights: &mut [u64]) -> Tran
     step::reads_neighbour(c, r, end, w, next::next(3, r.kind, 0))
 }
 
+/// Place 4: the change, tried, as at 2.
+pub fn at4(c: Control, r: Record) -> Transition
+    ensures { λ m. ⌜ Steps 4 c r m ⌝ }
+{
+    if c.anchor == r.seen {
+        return change4(c, r);
+    }
+    let m = step::reads_anchor(c, r);
+    step::fails(m)
+}
+
 /// Place 4, Anchor as read: change it to l, own, RPUSH, and remember it, finishing; a pop to
 /// l, neighbour, s. (Figure 3, line 4; figure 5, line 14.)
-fn at4(c: Control, r: Record) -> Transition
+fn change4(c: Control, r: Record) -> Transition
     ensures { λ m. ⌜ (c .anchor ≡ r .seen → Steps 4 c r m) ⌝ }
 {
     let right = r.side == 1;

@@ -10,7 +10,9 @@ use Rattle.word.specs.Link.{linkOf}
 use Rattle.model.specs.declared.Record.{Record}
 use Rattle.model.specs.Sound.{from1, linkSound, anchorSound, recordSound}
 use Rattle.model.specs.Kinds.{helping}
-use Rattle.sound.specs.Records.{callSound, readsSound, lateCall, busy-sound}
+use Rattle.sound.specs.Records.{lateCall, lateSound}
+use Rattle.sound.proofs.Parts.{callSound, readsSound, busy-sound}
+use Rattle.sound.proofs.Early.{zero-low}
 use Rattle.sound.proofs.Places.{at-draw, at-give, at-push, at-other, beyond}
 
 -- Tests in another order.
@@ -51,13 +53,6 @@ pub gives : (pooled : Bool) (slots : ℕ) (r : Record) → (r .place ≡ 11 → 
     → from1 slots (r .own) ≡ lateCall pooled slots r
 unfolding lateCall
 gives pooled slots r other pool far pop high = rw (ne-eqb _ _ other, pool, lt-leb _ _ far, eq-eqb _ _ pop, le-leb _ _ high)
-
-zero-low : (n : ℕ) → (leb n 1 && eqb n 0) ≡ eqb n 0
-zero-low n = go (eqb n 0) refl
-  where
-    go : (t : Bool) → eqb n 0 ≡ t → (leb n 1 && t) ≡ t
-    go true e = let zero : n ≡ 0 = eqb-true n 0 e in rw (le-leb n 1 (omega arith))
-    go false e = simp and-false
 
 all-order : (s n l z a c : Bool) → (s && (n && (l && (z && (a && c))))) ≡ ((s && (z && c)) && (n && (l && (a && true))))
 all-order false n l z a c = refl
@@ -111,10 +106,8 @@ module _ (pooled : Bool) (slots : ℕ) (r : Record) (low : 10 < r .place) where
       by-place false e = let other : r .place ≡ 11 → ⊥ = eqb-false _ _ e in by-early (omega arith) (leb (r .place) 14) refl
 
   -- All of them.
-  pub late : (leb (r .side) 1 && (leb (r .neighbour) slots && (linkSound slots (r .link)
-      && (eqb (r .finishing) 0 && (anchorSound slots (anchorOf (r .seen)) && lateCall pooled slots r)))))
-      ≡ recordSound pooled slots r
-  unfolding readsSound
+  pub late : lateSound pooled slots r ≡ recordSound pooled slots r
+  unfolding readsSound lateSound
   late =
       all-order (leb (r .side) 1) (leb (r .neighbour) slots) (linkSound slots (r .link)) (eqb (r .finishing) 0) (anchorSound slots (anchorOf (r .seen)))
       (lateCall pooled slots r)

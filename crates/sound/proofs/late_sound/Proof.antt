@@ -1,68 +1,68 @@
--- The first test that fails, or all, by `late`.
+-- The first test that fails, or all.
 use mathlib.Core.Path.{sym, _∙_}
 use borrow.Author.Tests.{eq-eqb, ne-eqb, le-leb, lt-leb, not-true, not-false}
-use Rattle.sound.proofs.Late.{late}
+use Rattle.sound.specs.Records.{lateSound}
 use Rattle.sound.proofs.late_sound.Statement.{statement}
 use Rattle.sound.proofs.late_sound.Tie as tie
 
 returns : tie.Need-returns
-returns c low =
-    let a = c .before .before .args in
-    rw (lt-leb _ _ (c .if1 .taken)) at (late (a .pooled) (a .slots) (a .r) low)
+unfolding lateSound
+returns c =
+    rw (lt-leb _ _ (c .if1 .taken))
 
 returns-2 : tie.Need-returns-2
-returns-2 c low =
+unfolding lateSound
+returns-2 c =
     let side = c .before .before in
-    let a = side .before .before .args in
-    rw (le-leb _ _ (side .if1 .left), lt-leb _ _ (c .if2 .taken)) at (late (a .pooled) (a .slots) (a .r) low)
+    rw (le-leb _ _ (side .if1 .left), lt-leb _ _ (c .if2 .taken))
 
 returns-3 : tie.Need-returns-3
-returns-3 c low =
+unfolding lateSound
+returns-3 c =
     let near = c .before .before in
     let side = near .before .before in
-    let a = side .before .before .args in
     rw (
       le-leb _ _ (side .if1 .left),
       le-leb _ _ (near .if2 .left),
       sym (c .before .link-sound .ensures) ∙ not-true _ (c .if3 .taken),
-    ) at (late (a .pooled) (a .slots) (a .r) low)
+    )
 
 returns-4 : tie.Need-returns-4
-returns-4 c low =
+unfolding lateSound
+returns-4 c =
     let link = c .before .before in
     let near = link .before .before in
     let side = near .before .before in
-    let a = side .before .before .args in
     rw (
       le-leb _ _ (side .if1 .left),
       le-leb _ _ (near .if2 .left),
       sym (link .before .link-sound .ensures) ∙ not-false _ (link .if3 .left),
       ne-eqb _ _ (c .if4 .taken),
-    ) at (late (a .pooled) (a .slots) (a .r) low)
+    )
 
 returns-5 : tie.Need-returns-5
-returns-5 c low =
+unfolding lateSound
+returns-5 c =
     let finishing = c .before .before in
     let link = finishing .before .before in
     let near = link .before .before in
     let side = near .before .before in
-    let a = side .before .before .args in
     rw (
       le-leb _ _ (side .if1 .left),
       le-leb _ _ (near .if2 .left),
       sym (link .before .link-sound .ensures) ∙ not-false _ (link .if3 .left),
       eq-eqb _ _ (finishing .if4 .left),
       sym (c .before .anchor-sound .ensures) ∙ not-true _ (c .if5 .taken),
-    ) at (late (a .pooled) (a .slots) (a .r) low)
+    )
 
 returns-6 : tie.Need-returns-6
-returns-6 c low =
+unfolding lateSound
+returns-6 c =
     let seen = c .before in
     let finishing = seen .before .before in
     let link = finishing .before .before in
     let near = link .before .before in
     let side = near .before .before in
-    let a = side .before .before .args in
     c .late-call .ensures
     ∙ (rw (
       le-leb _ _ (side .if1 .left),
@@ -70,7 +70,7 @@ returns-6 c low =
       sym (link .before .link-sound .ensures) ∙ not-false _ (link .if3 .left),
       eq-eqb _ _ (finishing .if4 .left),
       sym (seen .before .anchor-sound .ensures) ∙ not-false _ (seen .if5 .left),
-    ) at (late (a .pooled) (a .slots) (a .r) low))
+    ))
 
 pub late-sound-spec : {M : Type 1} → statement M
 late-sound-spec =

@@ -10,10 +10,10 @@ use Rattle.model.specs.declared.Outcome.{Outcome}
 use Rattle.model.specs.Tables.{tablesOf}
 use Rattle.model.specs.Calls.{Acted}
 use Rattle.engine.specs.MoveOn.{moveOn}
 use Rattle.rows.specs.Rows.{controlOf, callOf, recordOf}
 use Rattle.rows.specs.Moved.{RowMoved}
-use Rattle.deque.proofs.move_on.Statement.{statement}
-use Rattle.deque.proofs.move_on.Tie as tie
+use Rattle.rows.proofs.value.move_on.Statement.{statement}
+use Rattle.rows.proofs.value.move_on.Tie as tie
 
 -- Control and record made rows, the rows moved on, and control and record made of them again.
 in-rows : (c d : Control) (t : TaskRecord) (call : Record) (retries : ℕ) (ws row ws′ row′ ls rs bs ms ns ls′ rs′ bs′ ms′ ns′ : List ℕ) (o : Outcome)

@@ -1,12 +1,12 @@
--- Nothing, a row all zero, or what a step that goes on may change.
-use mathlib.Core.Path.{ap, sym, _∙_}
+-- Nothing, a row all zero, or what a step at 1 to 10 that goes on may change.
+use mathlib.Core.Path.{refl, ap, sym, _∙_}
 use Rattle.rows.specs.Rows.{callOf, recordOf, upperOf}
 use Rattle.rows.proofs.Rows.{counting}
 use Rattle.model.specs.Tables.{idle}
-use Rattle.engine.proofs.Stored.{stored-end, stored-going, stored-nothing, refused-goes}
+use Rattle.engine.proofs.Stored.{early-end, early-going, early-nothing, refused-goes}
 use borrow.Author.Needs.{needs}
-use Rattle.rows.proofs.store.Statement.{statement}
-use Rattle.rows.proofs.store.Tie as tie
+use Rattle.rows.proofs.moving.put_early.Statement.{statement}
+use Rattle.rows.proofs.moving.put_early.Tie as tie
 
 returns : tie.Need-returns
 unfolding callOf recordOf upperOf
@@ -17,8 +17,8 @@ returns c =
     let moved = after-control .before .before .before in
     let m = moved .before .before .args .m in
     let ends = sym (ended .before .ends .ensures) ∙ ended .if2 .taken in
-    let after = stored-end _ _ m (sym (moved .before .moves .ensures) ∙ moved .if1 .taken) ends in
-    (after-control .control-moved .ensures ∙ after .0, (ap (counting idle) (counted .counted .ensures) ∙ after .1, rw ends))
+    let after = early-end _ _ m (sym (moved .before .moves .ensures) ∙ moved .if1 .taken) ends in
+    (refl, (after-control .anchor-moved .ensures ∙ after .0, (ap (counting idle) (counted .counted .ensures) ∙ after .1, rw ends)))
 
 returns-2 : tie.Need-returns-2
 unfolding recordOf
@@ -29,19 +29,19 @@ returns-2 c =
     let moved = after-control .before .before .before in
     let m = moved .before .before .args .m in
     let goes = sym (ended .before .ends .ensures) ∙ ended .if2 .left in
-    let after = stored-going _ _ m (sym (moved .before .moves .ensures) ∙ moved .if1 .taken) goes in
-    let next = c .record-moved .ensures in
-    (after-control .control-moved .ensures ∙ after .0, (next .0 ∙ ap (counting _) (counted .counted .ensures) ∙ after .1, rw goes (next .1)))
+    let after = early-going _ _ m (sym (moved .before .moves .ensures) ∙ moved .if1 .taken) goes in
+    let next = c .call-moved .ensures in
+    (refl, (after-control .anchor-moved .ensures ∙ after .0, (next .0 ∙ ap (counting _) (counted .counted .ensures) ∙ after .1, rw goes (next .1))))
 
 returns-3 : tie.Need-returns-3
 returns-3 c =
     let m = c .before .before .args .m in
     let stays = sym (c .before .moves .ensures) ∙ c .if1 .left in
-    let after = stored-nothing _ _ m stays in
-    (after .0, (after .1, rw (refused-goes (m .outcome) stays)))
+    let after = early-nothing _ _ m stays in
+    (refl, (after .0, (after .1, rw (refused-goes (m .outcome) stays))))
 
-pub store-spec : {M : Type 1} → statement M
-store-spec =
+pub put-early-spec : {M : Type 1} → statement M
+put-early-spec =
     tie.close
     (tie.spec
     (λ c κs. search needs)
@@ -49,7 +49,7 @@ store-spec =
     (λ c. search needs)
     (λ c κs. search needs)
     (λ c κs. search needs)
-    (λ c κs. search needs)
     returns
+    (λ c κs. search needs)
     returns-2
     returns-3)
