@@ -137,18 +137,7 @@ pub fn pop(
     let c = crate::control_of(row);
     let n = records.len();
     let r = crate::call_at(records, task);
-    let m = start::pop_start(
-        c,
-        r,
-        n,
-        task,
-        side,
-        lefts,
-        rights,
-        labels,
-        marks,
-        next,
-    );
+    let m = start::pop_start(c, r, n, task, side, lefts, rights, labels, marks, next);
     crate::store_start(records, task, m);
     m.outcome
 }
@@ -194,10 +183,27 @@ pub fn operate(
             next,
         ),
         Op::Pop { side } => pop(
-            control, records, task, side, lefts, rights, labels, marks, next,
+            control,
+            records,
+            task,
+            side,
+            lefts,
+            rights,
+            labels,
+            marks,
+            next,
         ),
         Op::Put { side, label } => put(
-            control, records, task, side, label, lefts, rights, labels, marks, next,
+            control,
+            records,
+            task,
+            side,
+            label,
+            lefts,
+            rights,
+            labels,
+            marks,
+            next,
         ),
         Op::Step => crate::step(control, records, task, lefts, rights, labels, marks, next),
     }

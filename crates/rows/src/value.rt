@@ -36,15 +36,7 @@ pub fn move_on(
     let mut words = crate::control_row(c);
     let r = t.call;
     let mut row = crate::record_row(r, t.retries);
-    let outcome = crate::moving::move_row(
-        &mut words,
-        &mut row,
-        lefts,
-        rights,
-        labels,
-        marks,
-        next,
-    );
+    let outcome = crate::moving::move_row(&mut words, &mut row, lefts, rights, labels, marks, next);
     let control = crate::control_of(words);
     let call = crate::call_of(row);
     let retries = crate::retries_of(row);

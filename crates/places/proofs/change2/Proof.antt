@@ -1,4 +1,4 @@
--- `step2`, with what the calls answer put in; the change is denied or made.
+-- `step2`, with the new word put in; the change is denied or made.
 use mathlib.Core.Path.{sym, _∙_}
 use borrow.Author.Tests.{not-true, not-false}
 use borrow.Author.Needs.{needs}
@@ -8,15 +8,12 @@ use Rattle.places.proofs.Anchors.{Tries, denies, makes, step2}
 use Rattle.places.proofs.change2.Statement.{statement}
 use Rattle.places.proofs.change2.Tie as tie
 
-module _ (b : tie.After-facing) where
+module _ (b : tie.After-new2) where
   abbrev a : tie.Start
-  a = let d = b .before .before .before in d .before .before .before
+  a = b .before
 
-  tried : Tries 2 (a .args .c) (a .args .r) (b .facing .result) (a .args .r) (route 2 (a .args .r .kind) 0) (failing (anchorRead (a .args .c) (a .args .r)))
-  tried =
-      let d = b .before .before .before in
-      step2 (a .args .c) (a .args .r) (d .choose .result) (b .facing .result) (d .choose .ensures)
-      (rw (d .before .before .unpack .ensures, b .before .raised .ensures) at (b .facing .ensures))
+  tried : Tries 2 (a .args .c) (a .args .r) (b .new2 .result) (a .args .r) (route 2 (a .args .r .kind) 0) (failing (anchorRead (a .args .c) (a .args .r)))
+  tried = step2 (a .args .c) (a .args .r) (b .new2 .result) (b .new2 .ensures)
 
 returns : tie.Need-returns
 returns c same =
@@ -33,9 +30,6 @@ pub change2-spec : {M : Type 1} → statement M
 change2-spec =
     tie.close
     (tie.spec
-    (λ _ _. tt)
-    (λ _ _. tt)
-    (λ _ _. tt)
     (λ _ _. tt)
     (λ _ _. tt)
     (λ _ _. tt)

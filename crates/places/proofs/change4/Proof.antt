@@ -1,4 +1,4 @@
--- `step4`, with what the calls answer put in; the change is denied or made.
+-- `step4`, with the new word put in; the change is denied or made.
 use mathlib.Core.Path.{sym, _∙_}
 use borrow.Author.Tests.{not-true, not-false}
 use borrow.Author.Needs.{needs}
@@ -8,23 +8,14 @@ use Rattle.places.proofs.Anchors.{Tries, denies, makes, step4}
 use Rattle.places.proofs.change4.Statement.{statement}
 use Rattle.places.proofs.change4.Tie as tie
 
-module _ (b : tie.After-facing) where
+module _ (b : tie.After-new4) where
   abbrev a : tie.Start
-  a =
-      let p = b .before .before .before in
-      let d = p .before .before in
-      d .before .before .before .before
+  a = b .before
 
   tried :
-      (let new = b .facing .result in
+      (let new = b .new4 .result in
       Tries 4 (a .args .c) (a .args .r) new (remembered (a .args .r) new) (route 4 (a .args .r .kind) 0) (failing (anchorRead (a .args .c) (a .args .r))))
-  tried =
-      let p = b .before .before .before in
-      let d = p .before .before in
-      step4 (a .args .c) (a .args .r) (b .before .before .choose .result) (b .before .choose2 .result) (b .facing .result)
-      (rw (p .pushing .ensures, d .before .before .unpack .ensures) at (b .before .before .choose .ensures))
-      (b .before .choose2 .ensures)
-      (rw (d .raised .ensures, d .before .far .ensures, d .before .before .unpack .ensures) at (b .facing .ensures))
+  tried = step4 (a .args .c) (a .args .r) (b .new4 .result) (b .new4 .ensures)
 
 returns : tie.Need-returns
 returns c same =
@@ -42,12 +33,6 @@ pub change4-spec : {M : Type 1} → statement M
 change4-spec =
     tie.close
     (tie.spec
-    (λ _ _. tt)
-    (λ _ _. tt)
-    (λ _ _. tt)
-    (λ _ _. tt)
-    (λ _ _. tt)
-    (λ _ _. tt)
     (λ _ _. tt)
     (λ _ _. tt)
     (λ _ _. tt)

@@ -12,13 +12,12 @@ returns c =
     let before = c .before .before .before in
     let m = let start = before .before .before .before in start .args .m in
     let first = before .put-early .ensures in
-    let rest = c .put-rest .ensures in
-    (
+    let rest = c .put-rest .ensures in (
       first .0,
       (
         rest .0 ∙ ap (λ (d : Control). headAfter d m) (first .1 .0),
-        (rest .1 .0 ∙ ap (λ (t : TaskRecord). ownAfter t m) (first .1 .1 .0), rest .1 .1 ∙ first .1 .1 .1)
-      )
+        (rest .1 .0 ∙ ap (λ (t : TaskRecord). ownAfter t m) (first .1 .1 .0), rest .1 .1 ∙ first .1 .1 .1),
+      ),
     )
 
 pub put-spec : {M : Type 1} → statement M
