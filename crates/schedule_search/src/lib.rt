@@ -28,12 +28,12 @@ pub struct Found {
 }
 
 /// Control and the calls of two tasks, as the steps so far left them.
-pub struct Two {
-    pub control: Control,
-    pub a: Record,
-    pub b: Record,
+struct Two {
+    control: Control,
+    a: Record,
+    b: Record,
     /// The last step was refused.
-    pub stopped: bool,
+    stopped: bool,
 }
 
 /// A schedule that ends here, after so many steps, if any schedule will do.
@@ -172,9 +172,54 @@ fn note(f: Found, given: &mut [u64], at: u64, t: u64)
     }
 }
 
+/// The first schedule of the calls a and b after the given list of length `len`. Its steps are stored in the list's place.
+pub fn search(
+    c: Control,
+    a: Record,
+    b: Record,
+    len: u64,
+    given: &mut [u64],
+    lefts: &mut [u64],
+    rights: &mut [u64],
+    labels: &mut [u32],
+    marks: &mut [u64],
+    next: &mut [u64],
+) -> Found
+    ensures { λ f.
+        ⌜ _≡_ {A = Sought}
+        (record {
+          found = f;
+          memory = now (given .exit);
+          tables = tablesOf c (now (lefts .exit)) (now (rights .exit)) (now (labels .exit)) (now (marks .exit)) (now (next .exit));
+        })
+        (let q = tablesOf c (now (lefts .entry)) (now (rights .entry)) (now (labels .entry)) (now (marks .entry)) (now (next .entry)) in
+        let ws = now (given .entry) in
+        sought 48 ws (seekOf ws len 48 false (pairOf q a b)) q) ⌝ }
+{
+    let two = Two {
+        control: c,
+        a,
+        b,
+        stopped: false,
+    };
+    let free = false;
+    seek(
+        two,
+        48,
+        free,
+        len,
+        given,
+        lefts,
+        rights,
+        labels,
+        marks,
+        next,
+    )
+}
+
 /// The first schedule from here on, with `left` steps to go. free: any will do, else one after the given
 /// list of length `len`, which the steps so far follow.
-pub fn seek(
+fn seek(
     two: Two,
     left: u64,
     free: bool,

@@ -7,10 +7,10 @@ use borrow.Author.Needs.{needs}
 use borrow.Author.Tests.{leb-true}
 use lib.ListN.{length}
 use Rattle.runfile.specs.declared.Found.{Found}
 use Rattle.carry.specs.Page.{BytesThere}
 use Rattle.carry.proofs.Fields.{field-there, next-fits, takes-page, takes-none}
-use Rattle.replay.proofs.take.Statement.{statement}
-use Rattle.replay.proofs.take.Tie as tie
+use Rattle.carry.proofs.take.Statement.{statement}
+use Rattle.carry.proofs.take.Tie as tie
 
 -- The field found, whether there was room for it, and the beginning.
 module _ (found : tie.After-field-at) where

@@ -5,8 +5,8 @@ use native.Mathlib.Omega.{arith}
 use lib.ListN.{length}
 use borrow.Rule.Slice.PartMut.{take-put}
 use borrow.Author.Needs.{needs}
-use Rattle.refill.proofs.read_more.Statement.{statement}
-use Rattle.refill.proofs.read_more.Tie as tie
+use Rattle.stream.proofs.refill.read_more.Statement.{statement}
+use Rattle.stream.proofs.refill.read_more.Tie as tie
 
 returns : tie.Need-returns
 returns c =

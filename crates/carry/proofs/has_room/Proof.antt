@@ -5,8 +5,8 @@ use mathlib.Core.Bool.{Bool, true, false}
 use native.Mathlib.Omega.{arith}
 use lib.Dec.{leb}
 use borrow.Author.Tests.{leb-true, leb-false, le-leb, lt-leb}
-use Rattle.replay.proofs.has_room.Statement.{statement}
-use Rattle.replay.proofs.has_room.Tie as tie
+use Rattle.carry.proofs.has_room.Statement.{statement}
+use Rattle.carry.proofs.has_room.Tie as tie
 
 moved-over : (a n : ℕ) → 524288 ≤ n → leb a (n - 524288) ≡ leb (a + 524288) n
 moved-over a n h = go (leb a (n - 524288)) refl

@@ -4,8 +4,8 @@ use mathlib.Core.Path.{sym, ap, _∙_}
 use native.Mathlib.Omega.{arith}
 use lib.ListN.{take}
 use borrow.Author.Needs.{needs}
-use Rattle.refill.proofs.refill.Statement.{statement}
-use Rattle.refill.proofs.refill.Tie as tie
+use Rattle.stream.proofs.refill.refill.Statement.{statement}
+use Rattle.stream.proofs.refill.refill.Tie as tie
 
 returns : tie.Need-returns
 returns c =

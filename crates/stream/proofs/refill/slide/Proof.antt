@@ -7,8 +7,8 @@ use native.Mathlib.Omega.{arith}
 use lib.ListN.{length, take, drop, getD, set, length-set, length-drop, drop-of-length-le}
 use lib.Seq.{slice, take-suc, take-suc-set, drop-set-lt, drop-drop, getD-drop, take-add, drop-at, length-take-le}
 use borrow.Author.Needs.{needs}
-use Rattle.refill.proofs.slide.Statement.{statement}
-use Rattle.refill.proofs.slide.Tie as tie
+use Rattle.stream.proofs.refill.slide.Statement.{statement}
+use Rattle.stream.proofs.refill.slide.Tie as tie
 
 pub record Moved (before after : List ℕ) (from i : ℕ) : Type 0 where
   pub front : take i after ≡ take i (drop from before)

@@ -9,8 +9,8 @@ use borrow.Author.Needs.{needs}
 use borrow.Author.Tests.{leb-true}
 use Rattle.runfile.specs.Field.{longestField}
 use Rattle.carry.specs.Page.{fieldRoom}
-use Rattle.trace.proofs.main.Statement.{statement}
-use Rattle.trace.proofs.main.Tie as tie
+use Rattle.stream.proofs.trace.Statement.{statement}
+use Rattle.stream.proofs.trace.Tie as tie
 
 roomy : (m n : ℕ) → leb m n ≡ true → m ≤ length (replicate {A = ℕ} n 0)
 roomy m n e = omega (arith, length-replicate {A = ℕ} n 0, leb-true m n e)
@@ -19,13 +19,10 @@ rounds-requires : tie.Need-rounds-requires
 rounds-requires c κs =
     (roomy longestField 65536 refl, (roomy fieldRoom 589824 refl, (refl, refl, refl, refl, refl, refl)))
 
-pub main-spec : {M : Type 1} → statement M
-main-spec =
+pub trace-spec : {M : Type 1} → statement M
+trace-spec =
     tie.close
     (tie.spec
-    (λ c. search needs)
-    (λ c κs. search needs)
-    (λ c. search needs)
     (λ c. search needs)
     (λ c. search needs)
     (λ c. search needs)
