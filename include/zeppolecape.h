@@ -73,7 +73,7 @@
  *   zc_run            544      1780      2981      3462
  *   zc_report         368       273       475     17257
  *   table bytes         -       240       816     30120
- *   code bytes: audit 1804, capi 10315, capi_record 5838, capi_run 8099, find 3227, history 9508, join 3443, schedule 9581, sheet 3587, shelf 3874, waiting 797
+ *   code bytes: audit 1804, capi 10315, capi_record 5838, capi_run 8099, find 3227, history 9508, join 3397, schedule 9580, sheet 3587, shelf 3874, waiting 797
  * As to the machine: x86-64, System V calling convention. The code uses the red zone (128 bytes
  * below the stack pointer) and SSE registers, no AVX: an interrupt handler that makes a call saves
  * the SSE state first, and an interrupt that is not masked during a call leaves the red zone alone.
