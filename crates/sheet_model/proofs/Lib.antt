@@ -6,6 +6,7 @@ pub mod ByteRows
 pub mod BitRows
 pub mod Crossing
 pub mod Noted
+pub mod Searched
 pub mod Broken
 pub mod Pairs
 pub mod Gather

@@ -12,9 +12,11 @@ use Rattle.model.specs.declared.Entry.{Entry}
 use Rattle.model.proofs.tests.Truth.{and-of, and-true, by-test, decide-eq, not-both, or-cases, or-first, or-second, split}
 use Rattle.sheet_model.specs.declared.SheetReply.{SheetReply}
 use Rattle.sheet_model.specs.Sheet.{Sheet, Chained, breaks, chained, labelAt, leftOf, malformed, waits}
-use Rattle.sheet_model.specs.Verdict.{brokenBy, inRow, inRows, kept, verdict}
+use Rattle.sheet_model.specs.Verdict.{brokenBy, kept, verdict}
+use Rattle.sheet_model.specs.Search.{inRow, inRows}
 use Rattle.sheet_model.specs.Pairs.{Broken, Copy, CopyAt, Earlier, LeftCopy, NoneBroken, Rightly, crossed, itself, keeps, tells}
 use Rattle.sheet_model.specs.Laws.{VerdictRight}
+use Rattle.sheet_model.proofs.Searched.{verdict-is}
 use Rattle.sheet_model.proofs.Broken.{formed}
 use Rattle.sheet_model.proofs.Chained.{chained-in, chained-of, chained-within}
 
@@ -170,5 +172,5 @@ module _ (s : Sheet) (l : List Entry) (form : malformed s ≡ false) where
   kept-told _ (tells a b k f) h = absurd (h a b k)
 
 pub verdict-right : VerdictRight
-unfolding verdict
-verdict-right s l form = rightly s l form _ (in-rows (breaks s l) (length (s .listed)) 1 (length (s .listed)))
+verdict-right s l form =
+    subst (Rightly s l) (sym (verdict-is s l)) (rightly s l form _ (in-rows (breaks s l) (length (s .listed)) 1 (length (s .listed))))

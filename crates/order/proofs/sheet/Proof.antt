@@ -10,7 +10,8 @@ use Rattle.sound.specs.Lengths.{lengthsFit}
 use Rattle.sheet_model.specs.Extents.{Extents}
 use Rattle.sheet_model.specs.Sheet.{Sheet}
 use Rattle.sheet_model.specs.Squares.{linked, byteRow, crossed}
-use Rattle.sheet_model.specs.Verdict.{refused, inRows, sheet}
+use Rattle.sheet_model.specs.Verdict.{refused, sheet}
+use Rattle.sheet_model.specs.Search.{inRows}
 use Rattle.sheet_model.proofs.ByteRows.{bytes, bytes-show, square-marks}
 use Rattle.sheet_model.proofs.Broken.{formed}
 use Rattle.sheet_model.proofs.Judged.{Accepted, slots-few, accepted, judge-early, judge-lost, judge-told}
