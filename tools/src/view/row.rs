@@ -1,0 +1,61 @@
+//! One touch as every form shows it.
+
+use super::options::Options;
+use super::{tasks, text};
+use crate::play::{Reply, Touch};
+use crate::queue::{Entry, Machine};
+use crate::words::{self, refused};
+use zeppolecape::{Anchor, Record, Refusal};
+
+/// The labels that a task is said to see at the most.
+const MOST_SEEN: usize = 4;
+
+pub struct Row<'a> {
+    pub touch: &'a Touch,
+    /// Of the task, or `-`.
+    pub task: String,
+    pub what: String,
+    pub anchor: Anchor,
+    /// Of every task, in order.
+    pub records: Vec<Record>,
+    pub waiting: Result<Vec<Entry>, Refusal>,
+    /// The labels waiting from left to right, in words.
+    pub queue: String,
+    /// The slots, where they are wanted.
+    pub slots: Option<String>,
+}
+
+impl<'a> Row<'a> {
+    pub fn of(touch: &'a Touch, queue: &mut impl Machine, options: &Options) -> Row<'a> {
+        let waiting = queue.waiting();
+        let drawn = |most| match &waiting {
+            Ok(entries) => words::chain(queue, entries, most),
+            Err(refusal) => refused(*refusal),
+        };
+        let sees = match drawn(MOST_SEEN) {
+            seen if seen == "empty" => String::new(),
+            seen => seen,
+        };
+        Row {
+            task: touch.task.map_or("-".into(), |task| options.names.task(task)),
+            what: words::touch(touch, &sees),
+            anchor: queue.anchor(),
+            records: tasks(queue).filter_map(|task| queue.record(task)).collect(),
+            queue: if is_open(touch) { drawn(text::most_labels(options.width)) } else { "".into() },
+            slots: (options.slots && is_open(touch)).then(|| text::slots(queue)),
+            touch,
+            waiting,
+        }
+    }
+}
+
+/// Whether there is a queue to be shown.
+fn is_open(touch: &Touch) -> bool {
+    touch.after.0.tasks != 0
+}
+
+impl Touch {
+    pub(super) fn is_well_formed(&self) -> bool {
+        self.reply != Reply::Malformed
+    }
+}
