@@ -1,6 +1,7 @@
 //! A run shown touch by touch: in a terminal, for a spreadsheet, as a page for a browser.
 
 mod csv;
+mod html;
 mod options;
 mod row;
 mod sums;
@@ -16,6 +17,7 @@ use crate::say::Stop;
 use options::{Form, Options};
 use row::Row;
 use std::io::{self, BufWriter, Write};
+use std::ops::Range;
 use table::Table;
 
 /// Carries out what the command line asks for: 0, or 1 where the run is malformed.
@@ -26,6 +28,7 @@ pub fn work(arguments: Vec<String>) -> Result<u8, Stop> {
     let whole = match options.form {
         Form::Table => in_rows(run, &options, &mut Table::of(&options), &mut out),
         Form::Csv => in_rows(run, &options, &mut csv::Csv::of(&options), &mut out),
+        Form::Html => html::page(run, &options, &mut out),
     };
     out.flush()?;
     Ok(if whole? { 0 } else { 1 })
@@ -58,6 +61,6 @@ fn in_rows(
 }
 
 /// The tasks that were opened.
-fn tasks(queue: &impl Machine) -> impl Iterator<Item = u8> {
+fn tasks(queue: &impl Machine) -> Range<u8> {
     0..queue.control().tasks as u8
 }

@@ -114,7 +114,7 @@ pub fn linked(queue: &impl Machine, left: u64, right: u64) -> bool {
 /// The labels from left to right, `-` for a link and `~` for one that is not made yet; of a long queue
 /// `most` labels, the middle left out.
 pub fn chain(queue: &impl Machine, entries: &[Entry], most: usize) -> String {
-    let Some((first, rest)) = entries.split_first() else { return "empty".into() };
+    let Some((first, rest)) = entries.split_first() else { return String::new() };
     let left_out = entries.len().saturating_sub(most.max(2));
     let from = 1 + (most.max(2) - 1) / 2;
     let mut text = first.1.to_string();

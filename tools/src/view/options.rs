@@ -19,6 +19,7 @@ where it is not named, or -.
   --from N, --to M         only the touches N to M; the sums at the end are of the whole run
   --width N                so many columns wide; otherwise as wide as the terminal
   --csv                    the same rows for a spreadsheet
+  --html                   one page for a browser, of at most 4,000 touches: the queue drawn at each
 
 Status 0; 1 where the run cannot be read or is malformed; 2 for a wrong command line.";
 
@@ -27,6 +28,7 @@ Status 0; 1 where the run cannot be read or is malformed; 2 for a wrong command 
 pub enum Form {
     Table,
     Csv,
+    Html,
 }
 
 #[derive(Clone, Debug)]
@@ -77,6 +79,7 @@ impl Options {
             "--to" => self.to = number(word, &value()?)?,
             "--width" => self.width = number(word, &value()?)?.clamp(40, 1_000) as usize,
             "--csv" => self.form = Form::Csv,
+            "--html" => self.form = Form::Html,
             _ if word.starts_with('-') && word != "-" => {
                 return Err(Stop::usage(format!("unknown option {}", printable(word.as_bytes()))));
             }

@@ -19,7 +19,8 @@ pub struct Row<'a> {
     /// Of every task, in order.
     pub records: Vec<Record>,
     pub waiting: Result<Vec<Entry>, Refusal>,
-    /// The labels waiting from left to right, in words.
+    /// The labels waiting from left to right, drawn: all, and as many as find room.
+    pub all_labels: String,
     pub queue: String,
     /// The slots, where they are wanted.
     pub slots: Option<String>,
@@ -32,16 +33,18 @@ impl<'a> Row<'a> {
             Ok(entries) => words::chain(queue, entries, most),
             Err(refusal) => refused(*refusal),
         };
-        let sees = match drawn(MOST_SEEN) {
-            seen if seen == "empty" => String::new(),
-            seen => seen,
+        let room = match drawn(text::most_labels(options.width)) {
+            _ if !is_open(touch) => String::new(),
+            none if none.is_empty() => "empty".into(),
+            some => some,
         };
         Row {
             task: touch.task.map_or("-".into(), |task| options.names.task(task)),
-            what: words::touch(touch, &sees),
+            what: words::touch(touch, &drawn(MOST_SEEN)),
             anchor: queue.anchor(),
             records: tasks(queue).filter_map(|task| queue.record(task)).collect(),
-            queue: if is_open(touch) { drawn(text::most_labels(options.width)) } else { "".into() },
+            all_labels: drawn(usize::MAX),
+            queue: room,
             slots: (options.slots && is_open(touch)).then(|| text::slots(queue)),
             touch,
             waiting,
