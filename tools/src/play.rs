@@ -162,7 +162,7 @@ impl<M: Machine> Play<M> {
                     || matches!(answer, Answer::Empty | Answer::NoFreeSlot);
                 let mut call = self.calls[task];
                 if let (Some(call), true) = (&mut call, touch.effect) {
-                    call.effect = Some(touch.event);
+                    call.effect.get_or_insert(touch.event); // a wrong queue may do it twice
                 }
                 touch.call = call;
                 let answered = !matches!(answer, Answer::Running(_));

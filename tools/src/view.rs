@@ -1,5 +1,6 @@
 //! A run shown touch by touch: in a terminal, for a spreadsheet, as a page for a browser.
 
+mod beside;
 mod csv;
 mod html;
 mod options;
@@ -26,9 +27,12 @@ pub fn work(arguments: Vec<String>) -> Result<u8, Stop> {
     let run = Run::open(options.run.as_deref())?;
     let mut out = BufWriter::new(io::stdout().lock());
     let whole = match options.form {
-        Form::Table => in_rows(run, &options, &mut Table::of(&options), &mut out),
-        Form::Csv => in_rows(run, &options, &mut csv::Csv::of(&options), &mut out),
         Form::Html => html::page(run, &options, &mut out),
+        Form::Csv => in_rows(run, &options, &mut csv::Csv::of(&options), &mut out),
+        Form::Table => match options.without {
+            Some(fault) => beside::rows(run, &options, fault, &mut out),
+            None => in_rows(run, &options, &mut Table::of(&options), &mut out),
+        },
     };
     out.flush()?;
     Ok(if whole? { 0 } else { 1 })

@@ -131,3 +131,25 @@ pub fn chain(queue: &impl Machine, entries: &[Entry], most: usize) -> String {
     }
     text
 }
+
+/// The labels as far as they can be told where the walk from end to end is broken, which it never is in
+/// the library's queue: from the end that it begins at, up to null, a slot met before, or too many.
+pub fn broken(queue: &impl Machine) -> String {
+    let anchor = queue.anchor();
+    let (start, along) = match anchor.status {
+        raw::LPUSH => (anchor.left, Side::Right),
+        _ => (anchor.right, Side::Left),
+    };
+    let (mut met, mut slot) = (Vec::new(), start);
+    while (1..=queue.control().slots).contains(&slot) && !met.contains(&slot) && met.len() < 4 {
+        met.push(slot);
+        slot = link_slot(queue.link(along, slot));
+    }
+    let labels = met.iter().map(|&slot| queue.label(slot).to_string());
+    let mut labels: Vec<String> = labels.collect();
+    if along == Side::Left {
+        labels.reverse();
+        return format!("BROKEN: ? {}", labels.join(" - "));
+    }
+    format!("BROKEN: {} ?", labels.join(" - "))
+}

@@ -21,8 +21,8 @@ pub struct Accounts {
     balance: BTreeMap<u32, i64>,
 }
 
-/// A label that is not where it should be: so many copies too many (or, below 0, too few) were pushed
-/// for those that were popped, are on the way out and wait.
+/// A label that does not add up: so many copies more (or, below 0, fewer) were pushed than were popped,
+/// are on the way out and wait.
 #[derive(Clone, Copy, Debug, PartialEq, Eq)]
 pub struct Missing {
     pub label: u32,
@@ -41,7 +41,7 @@ impl Accounts {
     }
 
     fn moved(&mut self, touch: &Touch, answer: Answer) {
-        if let (Some(call), true) = (touch.call, touch.effect) {
+        if let Some(call) = touch.call.filter(|call| call.effect == Some(touch.event)) {
             match call.asked {
                 Asked::Push { label, .. } => {
                     self.pushed += 1;

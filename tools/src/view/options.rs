@@ -2,6 +2,8 @@
 
 use crate::say::{printable, Stop};
 use crate::words::Names;
+use crate::wrong;
+use reference::wrong::Fault;
 use std::env;
 use std::fs::File;
 use std::io::{self, IsTerminal};
@@ -20,6 +22,13 @@ where it is not named, or -.
   --width N                so many columns wide; otherwise as wide as the terminal
   --csv                    the same rows for a spreadsheet
   --html                   one page for a browser, of at most 4,000 touches: the queue drawn at each
+  --without FAULT          beside it a wrong queue, which is not the product, by the second program of the
+                           tests. FAULT is what document 01 lists under faults that pass a spreadsheet:
+                             8      place 8 is dropped, since place 6 looked already
+                             tags   a link's tag is reset when its slot is pushed again
+                             marks  a pop clears the mark at its Anchor change
+                             ends   a pop tests the status before it asks whether l = r
+                             once   a failed place 9 is taken for a failed push, which pushes twice
 
 Status 0; 1 where the run cannot be read or is malformed; 2 for a wrong command line.";
 
@@ -41,6 +50,8 @@ pub struct Options {
     pub width: usize,
     pub colours: bool,
     pub form: Form,
+    /// The fault of the wrong queue that is shown beside the right one, in words too.
+    pub without: Option<(Fault, &'static str)>,
 }
 
 /// Columns where there is no terminal.
@@ -57,10 +68,14 @@ impl Options {
             width: 0,
             colours: io::stdout().is_terminal() && env::var_os("NO_COLOR").is_none(),
             form: Form::Table,
+            without: None,
         };
         let mut words = arguments.into_iter();
         while let Some(word) = words.next() {
             options.take(&word, &mut words)?;
+        }
+        if options.without.is_some() && options.form == Form::Csv {
+            return Err(Stop::usage("--without has no form for a spreadsheet"));
         }
         if options.width == 0 {
             options.width = terminal_width().unwrap_or(PLAIN_WIDTH);
@@ -78,6 +93,7 @@ impl Options {
             "--from" => self.from = number(word, &value()?)?,
             "--to" => self.to = number(word, &value()?)?,
             "--width" => self.width = number(word, &value()?)?.clamp(40, 1_000) as usize,
+            "--without" => self.without = Some(fault(&value()?)?),
             "--csv" => self.form = Form::Csv,
             "--html" => self.form = Form::Html,
             _ if word.starts_with('-') && word != "-" => {
@@ -96,6 +112,13 @@ impl Options {
     pub fn shows(&self, event: u64) -> bool {
         (self.from..=self.to).contains(&event)
     }
+}
+
+fn fault(name: &str) -> Result<(Fault, &'static str), Stop> {
+    wrong::fault(name).ok_or_else(|| {
+        let (name, names) = (printable(name.as_bytes()), wrong::names());
+        Stop::usage(format!("--without takes one of {names}, and not {name}"))
+    })
 }
 
 fn number(option: &str, word: &str) -> Result<u64, Stop> {

@@ -4,7 +4,7 @@ use super::options::Options;
 use super::{tasks, text};
 use crate::play::{Reply, Touch};
 use crate::queue::{Entry, Machine};
-use crate::words::{self, refused};
+use crate::words;
 use zeppolecape::{Anchor, Record, Refusal};
 
 /// The labels that a task is said to see at the most.
@@ -31,7 +31,7 @@ impl<'a> Row<'a> {
         let waiting = queue.waiting();
         let drawn = |most| match &waiting {
             Ok(entries) => words::chain(queue, entries, most),
-            Err(refusal) => refused(*refusal),
+            Err(_) => words::broken(queue),
         };
         let room = match drawn(text::most_labels(options.width)) {
             _ if !is_open(touch) => String::new(),

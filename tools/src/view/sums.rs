@@ -3,7 +3,7 @@
 use super::tasks;
 use crate::play::{on_the_way, Missing, Play};
 use crate::queue::Machine;
-use crate::words::{refused, Names};
+use crate::words::Names;
 
 /// One line of sums, one about the labels, and one about calls that are half done.
 pub fn lines<M: Machine>(play: &mut Play<M>, names: &Names) -> Vec<String> {
@@ -24,7 +24,10 @@ pub fn lines<M: Machine>(play: &mut Play<M>, names: &Names) -> Vec<String> {
         retries(&play.queue, names)
     )];
     lines.push(match waiting {
-        Err(refusal) => format!("The labels waiting cannot be told: {}.", refused(refusal)),
+        Err(_) => {
+            let missing = accounts.missing(&on_the_way, &[]);
+            format!("LABELS ARE NOT ACCOUNTED FOR: the walk from end to end is broken; {}.", wrong(&missing, "not popped"))
+        }
         Ok(entries) => match accounts.missing(&on_the_way, &entries)[..] {
             [] => format!(
                 "All labels are accounted for: pushed {} = popped {} + on the way out {} + waiting {}.",
@@ -33,19 +36,20 @@ pub fn lines<M: Machine>(play: &mut Play<M>, names: &Names) -> Vec<String> {
                 on_the_way.len(),
                 entries.len()
             ),
-            ref missing => format!("LABELS ARE NOT ACCOUNTED FOR: {}.", wrong(missing)),
+            ref missing => format!("LABELS ARE NOT ACCOUNTED FOR: {}.", wrong(missing, "lost")),
         },
     });
     lines.extend(half_done(&play.queue, names));
     lines
 }
 
-fn wrong(missing: &[Missing]) -> String {
+/// What became of labels that were pushed more often than they are found, and of the others.
+fn wrong(missing: &[Missing], gone: &str) -> String {
     let told: Vec<String> = missing
         .iter()
         .map(|Missing { label, copies }| match copies {
-            1 => format!("{label} is lost"),
-            2.. => format!("{copies} copies of {label} are lost"),
+            1 => format!("{label} is {gone}"),
+            2.. => format!("{copies} copies of {label} are {gone}"),
             -1 => format!("{label} is there once more than it was pushed"),
             _ => format!("{label} is there {} times more than it was pushed", -copies),
         })

@@ -30,7 +30,7 @@ struct Told {
 
 pub struct Recorder<M> {
     play: Play<M>,
-    title: &'static str,
+    title: String,
     product: bool,
     whole: bool,
     touches: Vec<String>,
@@ -39,7 +39,7 @@ pub struct Recorder<M> {
 }
 
 impl<M: Machine> Recorder<M> {
-    pub fn of(play: Play<M>, title: &'static str, product: bool) -> Recorder<M> {
+    pub fn of(play: Play<M>, title: String, product: bool) -> Recorder<M> {
         let (touches, spans, told) = (Vec::new(), Vec::new(), Told::default());
         Recorder { play, title, product, whole: true, touches, spans, told }
     }
@@ -129,7 +129,7 @@ impl<M: Machine> Recorder<M> {
         let spans = array(spans);
         let sums = sums::lines(&mut self.play, &options.names);
         object(&[
-            ("title", text(self.title)),
+            ("title", text(&self.title)),
             ("product", self.product.to_string()),
             ("slots", control.slots.to_string()),
             ("pooled", (control.pooled == 1).to_string()),
@@ -186,7 +186,7 @@ impl Told {
     /// The labels waiting, each with whether the link to the next is made.
     fn queue(&mut self, row: &Row<'_>, queue: &impl Machine) -> Option<(&'static str, String)> {
         let told = match &row.waiting {
-            Err(refusal) => text(&words::refused(*refusal)),
+            Err(_) => text(&row.all_labels),
             Ok(entries) => array(entries.iter().enumerate().map(|(at, &(slot, label))| {
                 let next = entries.get(at + 1);
                 let made = next.is_none_or(|&(next, _)| linked(queue, slot, next));
