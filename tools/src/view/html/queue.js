@@ -89,7 +89,7 @@ function anchorBox(id, state, before, middle, positions) {
 
 // Slots that no label waits in and a call holds: its own, or the end that a pop has taken.
 function heldSlots(state) {
-  const waiting = new Set(state.queue.broken ? [] : state.queue.map((entry) => entry.slot));
+  const waiting = new Set((state.queue.broken ? brokenEntries(state) : state.queue).map((entry) => entry.slot));
   const held = [];
   for (const row of state.rows) {
     if (!row || !row.taken || waiting.has(row.slot)) continue;
@@ -105,29 +105,41 @@ function taken(record) {
   return record.side === 0 ? record.seen[2] : record.seen[3];
 }
 
+// Where the walk from end to end is broken, as in a wrong queue: as far as it goes, and the other end.
+function brokenEntries(state) {
+  const { left, right, status } = state.anchor;
+  const [start, other, along] = status === 'LPUSH' ? [left, right, 'right'] : [right, left, 'left'];
+  const met = [];
+  for (let slot = start; slot && !met.includes(slot) && met.length < 6; slot = state.rows[slot][along]) met.push(slot);
+  const walk = met.map((slot) => ({ slot }));
+  const rest = met.includes(other) || !other ? [{ broken: true }] : [{ broken: true }, { slot: other }];
+  return along === 'right' ? [...walk, ...rest] : [...rest.reverse(), ...walk.reverse()];
+}
+
 function drawQueue(id, state, before) {
-  const entries = state.queue.broken ? [] : shownEntries(state.queue);
+  const entries = state.queue.broken ? brokenEntries(state) : shownEntries(state.queue);
   const held = heldSlots(state);
   const wide = Math.max(entries.length, held.length, 3);
   const width = 2 * BOX.margin + wide * BOX.width + (wide - 1) * BOX.gap;
   const height = BOX.top + BOX.height + (held.length ? BOX.height + 62 : 20);
   const svg = make('svg', { viewBox: `0 0 ${width} ${height}`, width, height, role: 'img', 'aria-label': 'the queue: ' + chain(state.queue) }, arrowheads(id));
+  if (wide <= 8) svg.setAttribute('style', 'max-width: 100%; height: auto');
   const start = (width - (entries.length * BOX.width + Math.max(entries.length - 1, 0) * BOX.gap)) / 2;
   const positions = new Map();
   entries.forEach((entry, at) => {
     const x = start + at * (BOX.width + BOX.gap);
-    if (entry.leftOut) {
-      svg.append(make('text', { x: x + BOX.width / 2, y: BOX.top + 50, 'text-anchor': 'middle' }, `${entry.leftOut} more`));
+    if (!entry.slot) {
+      const [said, kind] = entry.broken ? ['broken', 'unmade'] : [`${entry.leftOut} more`, ''];
+      svg.append(make('text', { x: x + BOX.width / 2, y: BOX.top + 50, 'text-anchor': 'middle', class: kind }, said));
       return;
     }
     positions.set(entry.slot, x);
     svg.append(box(state, before, entry.slot, x, BOX.top));
     const next = entries[at + 1];
-    if (next && !next.leftOut) svg.append(links(id, state, before, entry.slot, next.slot, x));
+    if (next && next.slot) svg.append(links(id, state, before, entry.slot, next.slot, x));
   });
   if (entries.length === 0) {
-    const said = state.queue.broken || 'no label waits';
-    svg.append(make('text', { x: width / 2, y: BOX.top + 40, 'text-anchor': 'middle', class: state.queue.broken ? 'unmade' : 'soft' }, said));
+    svg.append(make('text', { x: width / 2, y: BOX.top + 40, 'text-anchor': 'middle', class: 'soft' }, 'no label waits'));
   }
   svg.append(anchorBox(id, state, before, width / 2, positions));
   const below = BOX.top + BOX.height + 34;

@@ -4,7 +4,7 @@ function drawTimeline(machine) {
   const touches = machine.touches;
   const [from, to] = [touches[0].event, touches[touches.length - 1].event];
   const count = to - from + 1;
-  const scale = Math.min(26, Math.max(7, 1040 / count));
+  const scale = Math.min(26, Math.max(7, (machines.length > 1 ? 480 : 1040) / count));
   const names = 110;
   const row = 34;
   const bottom = 24 + row * run.names.length;
