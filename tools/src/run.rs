@@ -1,6 +1,6 @@
 //! Reads a run, in its text form (that of `tools/runfile`) or as a run file, operation by operation and
-//! in constant memory. Which of the two it is, its first byte tells: a run file begins with a byte
-//! that cannot be printed.
+//! in constant memory. Which of the two it is, its start tells: a text begins with a byte-order mark or a
+//! byte that can be printed, a run file with neither.
 
 mod fields;
 mod text;
@@ -119,7 +119,8 @@ impl Run {
         let mut input = BufReader::with_capacity(1 << 16, bytes);
         let start = first_bytes(&mut input)
             .map_err(|error| Stop::failed(format!("cannot read {name}: {error}")))?;
-        let is_text = start.first().is_none_or(|byte| matches!(byte, b'\t'..=b'\r' | b' '..));
+        let is_text = start.starts_with(MARK)
+            || start.first().is_none_or(|byte| matches!(byte, b'\t'..=b'\r' | b' '..=b'~'));
         let after_mark = if start.starts_with(MARK) { &start[MARK.len()..] } else { &start[..] };
         let input: Box<dyn BufRead> = match is_text {
             true => Box::new(io::Cursor::new(after_mark.to_vec()).chain(input)),

@@ -67,7 +67,7 @@ pub fn rows(
 
 fn heading(layout: &Layout, said: &str, out: &mut dyn Write) -> io::Result<()> {
     let before = EVENT + 2 + layout.task + 2;
-    let half = layout.half("", "", "").len();
+    let half = layout.half(" ", "", "").len();
     let right = "THE PRODUCT";
     writeln!(out, "{:before$}{right:<half$}  | NOT THE PRODUCT: {said}", "")?;
     let half = layout.half("*", "what it did", "waiting");

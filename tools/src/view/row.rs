@@ -30,12 +30,12 @@ impl<'a> Row<'a> {
     pub fn of(touch: &'a Touch, queue: &mut impl Machine, options: &Options) -> Row<'a> {
         let waiting = queue.waiting();
         let drawn = |most| match &waiting {
+            _ if !is_open(touch) => String::new(),
             Ok(entries) => words::chain(queue, entries, most),
             Err(_) => words::broken(queue),
         };
         let room = match drawn(text::most_labels(options.width)) {
-            _ if !is_open(touch) => String::new(),
-            none if none.is_empty() => "empty".into(),
+            none if is_open(touch) && none.is_empty() => "empty".into(),
             some => some,
         };
         Row {

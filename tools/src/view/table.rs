@@ -51,8 +51,8 @@ impl Layout {
             }
             _ => (Cells::Below, 0, width.saturating_sub(fixed)),
         };
-        let what = (left * 2 / 3).clamp(16, MOST_WHAT);
-        let queue = left.saturating_sub(what + 2).max(10);
+        let what = (left * 2 / 3).min(MOST_WHAT);
+        let queue = left.saturating_sub(what + 2).max(6);
         Layout { event: EVENT, task, what, cell, queue, cells }
     }
 }
@@ -93,20 +93,37 @@ impl Table {
         let longest = tasks.clone().map(|task| self.names.task(task).len()).max().unwrap_or(0);
         let layout = Layout::of(self.width, row.records.len(), longest.clamp(4, 12));
         self.layout = Some(layout);
+        self.legend(layout, row.slots.is_some(), out)?;
         let mut heading = vec![
             (cut("event", layout.event), layout.event),
             ("task".to_string(), layout.task),
-            ("* what it did".to_string(), layout.what + 2),
+            (cut("* what it did", layout.what + 2), layout.what + 2),
         ];
         if layout.cells != Cells::Below {
             let name = |task| (cut(&self.names.task(task), layout.cell), layout.cell);
             heading.extend(tasks.map(name));
         }
-        heading.push(("waiting, left to right".to_string(), layout.queue));
+        let waiting = ["waiting, left to right", "waiting"];
+        let waiting = waiting.into_iter().find(|text| text.len() <= layout.queue);
+        heading.push((waiting.unwrap_or("queue").to_string(), layout.queue));
         let line: Vec<String> =
             heading.iter().map(|(text, width)| format!("{text:<width$}")).collect();
         writeln!(out, "{}", self.paint(line.join("  ").trim_end(), BOLD))?;
         Ok(layout)
+    }
+
+    /// How to read what is written short.
+    fn legend(&self, layout: Layout, slots: bool, out: &mut dyn Write) -> io::Result<()> {
+        let short = "+L5: push left, at place 5; -R11: pop right, at place 11; a dot: idle";
+        let links =
+            "1=700 <2/3 >0/0: slot 1 holds 700, its Left names slot 2 with tag 3, its Right none";
+        let told = [(layout.cells == Cells::Short, short), (slots, links)];
+        for (_, text) in told.into_iter().filter(|(wanted, _)| *wanted) {
+            for line in wrapped(text, self.width) {
+                writeln!(out, "{}", self.paint(&line, DIM))?;
+            }
+        }
+        Ok(())
     }
 
     /// Each task's column, padded, the touched one's brought out.

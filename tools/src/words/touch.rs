@@ -75,10 +75,14 @@ fn done(touch: &Touch, before: &Record, after: &Record, told: Answer) -> String 
         4 => format!("right end moved to {}", slot(anchor.right)),
         6 | 8 if touch.before.0.anchor == before.seen => "Anchor is as read".into(),
         6 | 8 => "Anchor has changed".into(),
-        7 if told == Answer::Running(10) => {
-            format!("{}'s {this} names {} already", slot(before.neighbour), slot(end))
+        7 => {
+            let named = slot(link_slot(after.link));
+            let wanted = match told {
+                Answer::Running(10) => " already".to_string(),
+                _ => format!(", not {}", slot(end)),
+            };
+            format!("reads {}'s {this}: {named}{wanted}", slot(before.neighbour))
         }
-        7 => format!("{}'s {this} does not name {} yet", slot(before.neighbour), slot(end)),
         9 => format!("mends the link of {}", slot(before.neighbour)),
         10 => "Anchor made STABLE".into(),
         _ => format!("reads the label of {}", slot(taken(before))),
@@ -101,9 +105,9 @@ fn pool(before: &Record, after: &Record, told: Answer) -> String {
     match before.place {
         12 if told == Answer::NoFreeSlot => "reads the pool's head: null".into(),
         12 | 15 => format!("reads the pool's head: {}", slot(link_slot(after.link))),
-        13 => format!("reads what lies below {top}: {}", slot(after.neighbour)),
+        13 => format!("reads {top}'s next: {}", slot(after.neighbour)),
         14 => format!("takes {top} from the pool"),
-        16 => format!("puts {} above {top}", slot(before.own)),
+        16 => format!("points {}'s next to {top}", slot(before.own)),
         _ => format!("gives {} back to the pool", slot(before.own)),
     }
 }
