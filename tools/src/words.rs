@@ -118,15 +118,14 @@ pub fn chain(queue: &impl Machine, entries: &[Entry], most: usize) -> String {
     let left_out = entries.len().saturating_sub(most.max(2));
     let from = 1 + (most.max(2) - 1) / 2;
     let mut text = first.1.to_string();
-    let mut before = first.0;
     for (at, &(slot, label)) in (1..).zip(rest) {
-        let link = if linked(queue, before, slot) { " - " } else { " ~ " };
-        before = slot;
         if left_out > 0 && at == from {
             text += &format!(" - ({left_out} more)");
         }
         if left_out == 0 || at < from || at >= from + left_out {
-            text += &format!("{link}{label}");
+            let link = if linked(queue, entries[at - 1].0, slot) { " - " } else { " ~ " };
+            text += link;
+            text += &label.to_string();
         }
     }
     text

@@ -167,7 +167,7 @@ fn long_runs(checks: &mut Checks) {
             &[("RUN", run)],
         )
     };
-    for words in ["", "--csv", "--slots --from 999990"] {
+    for words in ["", "--csv", "--slots --from 1038000"] {
         checks.add(&format!("a million touches in 32 MB {words}"), move || {
             let scratch = Scratch::make();
             let run = scratch.file("run", &scenario::load(&mut Dice::new(1), 1_000_000));

@@ -72,7 +72,7 @@ impl Sheet for Csv {
         ];
         fields.extend(row.records.iter().map(|record| quoted(&words::standing(record))));
         let retries: u64 = row.records.iter().map(|record| record.retries).sum();
-        fields.push(quoted(&format!("[{}]", row.all_labels)));
+        fields.push(quoted(&format!("[{}]", row.queue)));
         fields.push(quoted(if touch.effect { "effect" } else { "" }));
         fields.push(retries.to_string());
         fields.push(quoted(&row.what));

@@ -1,6 +1,6 @@
 //! One touch as every form shows it.
 
-use super::options::Options;
+use super::options::{Form, Options};
 use super::{tasks, text};
 use crate::play::{Reply, Touch};
 use crate::queue::{Entry, Machine};
@@ -19,8 +19,7 @@ pub struct Row<'a> {
     /// Of every task, in order.
     pub records: Vec<Record>,
     pub waiting: Result<Vec<Entry>, Refusal>,
-    /// The labels waiting from left to right, drawn: all, and as many as find room.
-    pub all_labels: String,
+    /// The labels waiting from left to right, drawn; in a terminal as many as find room.
     pub queue: String,
     /// The slots, where they are wanted.
     pub slots: Option<String>,
@@ -34,17 +33,17 @@ impl<'a> Row<'a> {
             Ok(entries) => words::chain(queue, entries, most),
             Err(_) => words::broken(queue),
         };
-        let room = match drawn(text::most_labels(options.width)) {
-            none if is_open(touch) && none.is_empty() => "empty".into(),
-            some => some,
+        let labels = match options.form {
+            Form::Table => drawn(text::most_labels(options.width)),
+            _ => drawn(usize::MAX),
         };
+        let is_empty = options.form == Form::Table && is_open(touch) && labels.is_empty();
         Row {
             task: touch.task.map_or("-".into(), |task| options.names.task(task)),
-            what: words::touch(touch, &drawn(MOST_SEEN)),
+            what: words::touch(touch, &|| drawn(MOST_SEEN)),
             anchor: queue.anchor(),
             records: tasks(queue).filter_map(|task| queue.record(task)).collect(),
-            all_labels: drawn(usize::MAX),
-            queue: room,
+            queue: if is_empty { "empty".into() } else { labels },
             slots: (options.slots && is_open(touch)).then(|| text::slots(queue)),
             touch,
             waiting,

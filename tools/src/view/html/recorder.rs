@@ -186,7 +186,7 @@ impl Told {
     /// The labels waiting, each with whether the link to the next is made.
     fn queue(&mut self, row: &Row<'_>, queue: &impl Machine) -> Option<(&'static str, String)> {
         let told = match &row.waiting {
-            Err(_) => text(&row.all_labels),
+            Err(_) => text(&row.queue),
             Ok(entries) => array(entries.iter().enumerate().map(|(at, &(slot, label))| {
                 let next = entries.get(at + 1);
                 let made = next.is_none_or(|&(next, _)| linked(queue, slot, next));
