@@ -96,7 +96,8 @@ fn tables(checks: &mut Checks) {
     for (text, message, before) in REFUSES {
         checks.add(&format!("refuses: {}", text.escape_debug()), move || {
             let said = made_of(text, None);
-            let expected = (1, format!("{before}{BAD_LINE}"), format!("standard input:{message}\n"));
+            let expected =
+                (1, format!("{before}{BAD_LINE}"), format!("standard input:{message}\n"));
             same(expected, (said.status, hex(&said.out), said.noise))
         });
     }

@@ -10,7 +10,7 @@ use std::process::{Child, Command};
 use std::time::{Duration, Instant};
 use suite::Scratch;
 
-/// Its program, if one is on this machine: `BROWSER`, or Debian's chromium.
+/// Its program, if one is on this machine: what `BROWSER` names, which may be no file, or Debian's chromium.
 pub fn program() -> Option<PathBuf> {
     let named = env::var_os("BROWSER").map(PathBuf::from);
     let folders: Vec<PathBuf> =
@@ -22,7 +22,10 @@ pub fn program() -> Option<PathBuf> {
             .flat_map(|name| folders.iter().map(move |folder| folder.join(name)))
             .find(|path| path.is_file())
     };
-    named.or_else(found)
+    match named {
+        Some(path) => Some(path).filter(|path| path.is_file()),
+        None => found(),
+    }
 }
 
 pub struct Browser {
