@@ -144,7 +144,8 @@ impl Run {
         &self.name
     }
 
-    /// The next operation and where it stands; nothing at the end.
+    /// The next operation and where it stands; nothing at the end. No iterator: reading may fail.
+    #[allow(clippy::should_implement_trait)]
     pub fn next(&mut self) -> Result<Option<(Place, Operation)>, Stop> {
         while self.ready.is_empty() {
             if let Some(at) = self.decoder.take(&mut self.ready) {

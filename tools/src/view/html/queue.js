@@ -5,7 +5,7 @@ const MOST_BOXES = 60;
 
 function arrowheads(id) {
   const head = (name, colour) => make('marker', {
-    id: id + name, viewBox: '0 0 8 8', refX: 7, refY: 4, markerWidth: 7, markerHeight: 7, orient: 'auto-start-reverse', style: `fill: ${colour}`,
+    id: id + name, viewBox: '0 0 8 8', refX: 7, refY: 4, markerWidth: 11, markerHeight: 11, markerUnits: 'userSpaceOnUse', orient: 'auto-start-reverse', style: `fill: ${colour}`,
   }, make('path', { d: 'M0 0 L8 4 L0 8 z' }));
   return make('defs', {}, head('link', 'var(--link)'), head('end', 'var(--ink)'), head('unmade', 'var(--unmade)'), head('changed', 'var(--changed)'));
 }
