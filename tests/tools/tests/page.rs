@@ -4,7 +4,7 @@
 
 use std::path::{Path, PathBuf};
 use std::process::ExitCode;
-use suite::{root, same, Checks, Scratch, Verdict};
+use suite::{root, same, Checks, Said, Scratch, Verdict};
 use toolsuite::browser::{program, Browser};
 use toolsuite::csv::{self, field};
 use toolsuite::{content, view};
@@ -34,7 +34,7 @@ fn expected(row: &[(String, String)], last: &str, tasks: usize) -> String {
         format!("left end {}, right end {}", end("left end"), end("right end")),
         queue.clone(),
         standings.join(", "),
-        format!("{event} / {what} / {} / {written}", standings.join(" / ")),
+        [&[event, what], &standings[..], &[written]].concat().join(" / "),
         event.to_string(),
     ];
     lines.join("\n")
@@ -51,9 +51,9 @@ struct Trial {
 impl Trial {
     fn of(run: &Path, program: &Path, words: &str) -> Result<Trial, String> {
         let scratch = Scratch::make();
-        let html = content(view(&format!("--html {words} \"$RUN\""), run))?;
+        let html = shown(view(&format!("--html {words} \"$RUN\""), run))?;
         let page = scratch.file("page.html", html.as_bytes());
-        let rows = csv::rows(&content(view("--csv \"$RUN\"", run))?);
+        let rows = csv::rows(&shown(view("--csv \"$RUN\"", run))?);
         let tasks = rows[0].iter().filter(|(name, _)| name.starts_with("task ")).count();
         let mut browser = Browser::start(program)?;
         browser.load(&page)?;
@@ -108,25 +108,55 @@ impl Trial {
     }
 }
 
-fn trial(name: &str, program: &Path, words: &str) -> Verdict {
-    let mut trial = Trial::of(&root().join(format!("examples/{name}.txt")), program, words)?;
+/// What `view` wrote; it ends with status 1 where the run is malformed.
+fn shown(said: Said) -> Result<String, String> {
+    match (said.status, said.noise.as_str()) {
+        (0 | 1, "") => String::from_utf8(said.out).map_err(|error| format!("  {error}")),
+        (status, noise) => Err(format!("  status {status}, {noise}")),
+    }
+}
+
+fn trial(run: &Path, program: &Path, words: &str) -> Verdict {
+    let mut trial = Trial::of(run, program, words)?;
     trial.every_touch()?;
     trial.asks_nobody()
+}
+
+/// Runs that are no example: nothing opened, everything at its most, names of letters that a page could
+/// take for its own.
+const ODD: [(&str, &str, &str); 4] = [
+    ("malformed at once", "pop 0 left\n", ""),
+    ("an opening refused", "open 17 1 0\n", ""),
+    ("malformed on the way", "open 1 1 0\npush 0 left 1 4294967295\nraw ff\n", ""),
+    (
+        "16 tasks and 1,023 slots",
+        "open 16 1023 4294967262 pooled\npush 15 right 0\nstep 15*5\npop 0 left\nstep 0*3 16\n",
+        "--names '3=<b>&\"x\"</script>'",
+    ),
+];
+
+fn in_a_browser(checks: &mut Checks, program: PathBuf) {
+    for (name, run) in suite::texts("examples") {
+        let program = program.clone();
+        checks.add(&format!("in a browser: {name}"), move || trial(&run, &program, ""));
+    }
+    for (name, text, words) in ODD {
+        let program = program.clone();
+        checks.add(&format!("in a browser: {name}"), move || {
+            let scratch = Scratch::make();
+            trial(&scratch.file("run.txt", text.as_bytes()), &program, words)
+        });
+    }
+    checks.add("in a browser: a wrong queue beside it", move || {
+        trial(&root().join("examples/without_8.txt"), &program, "--without 8")
+    });
 }
 
 fn main() -> ExitCode {
     let mut checks = Checks::of("page");
     match program() {
         None => println!("NOT TRIED: the page in a browser; there is no chromium on the PATH"),
-        Some(program) => {
-            for (name, _) in suite::texts("examples") {
-                let program = program.clone();
-                checks.add(&format!("in a browser: {name}"), move || trial(&name, &program, ""));
-            }
-            checks.add("in a browser: a wrong queue beside it", move || {
-                trial("without_8", &program, "--without 8")
-            });
-        }
+        Some(program) => in_a_browser(&mut checks, program),
     }
     checks.add("nothing in it names another place", || {
         let run = root().join("examples/a_helping_hand.txt");

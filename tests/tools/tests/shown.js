@@ -17,7 +17,8 @@
     return hit ? 'box ' + one('.soft', hit).textContent.replace('slot ', '') : 'null';
   };
   const made = (from, to) => {
-    const paths = all('.drawing .link', machine).filter((path) => (path.dataset.from === from && path.dataset.to === to) || (path.dataset.from === to && path.dataset.to === from));
+    const ends = [`${from} ${to}`, `${to} ${from}`];
+    const paths = all('.drawing .link', machine).filter((path) => ends.includes(`${path.dataset.from} ${path.dataset.to}`));
     return paths.length === 2 && paths.every((path) => getComputedStyle(path).strokeDasharray === 'none');
   };
   let queue = '';

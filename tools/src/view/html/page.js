@@ -43,7 +43,7 @@ function section(machine, at) {
   const frame = make('section', { class: 'machine' + (machine.product ? '' : ' wrong') });
   const parts = { what: make('p', {}), queue: make('div', { class: 'scroll drawing' }), free: make('div', {}), tasks: make('div', { class: 'tasks' }) };
   const line = drawTimeline(machine);
-  const sums = make('div', { class: 'sums' }, ...machine.sums.map((text) => make('div', { class: /^(LABELS|The labels waiting cannot)/.test(text) ? 'bad' : '' }, text)));
+  const sums = make('div', { class: 'sums' }, ...machine.sums.map((text) => make('div', { class: text.startsWith('LABELS') ? 'bad' : '' }, text)));
   const heading = machines.length > 1 || !machine.product ? [make('h2', {}, machine.title)] : [];
   frame.append(...heading, parts.what, parts.queue, parts.free, parts.tasks,
     make('h2', {}, 'Calls from start to answer, and where they take effect'), make('div', { class: 'scroll' }, line.svg), sums);
@@ -124,7 +124,9 @@ function theme() {
 const sections = machines.map(section);
 document.getElementById('machines').append(...sections.map((part) => part.frame));
 document.getElementById('machines').classList.toggle('two', machines.length > 1);
-document.getElementById('about').textContent = `${run.names.length} tasks, ${first.slots} slots${first.pooled ? ' in a pool' : ''}, touches ${first.touches[0].event} to ${first.touches[last].event}`;
+const slots = `${first.slots} slots${first.pooled ? ' in a pool' : ''}`;
+const touches = `touches ${first.touches[0].event} to ${first.touches[last].event}`;
+document.getElementById('about').textContent = `${run.names.length} tasks, ${slots}, ${touches}`;
 slider.max = last;
 fillTable();
 theme();

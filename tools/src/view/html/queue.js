@@ -5,7 +5,8 @@ const MOST_BOXES = 60;
 
 function arrowheads(id) {
   const head = (name, colour) => make('marker', {
-    id: id + name, viewBox: '0 0 8 8', refX: 7, refY: 4, markerWidth: 11, markerHeight: 11, markerUnits: 'userSpaceOnUse', orient: 'auto-start-reverse', style: `fill: ${colour}`,
+    id: id + name, viewBox: '0 0 8 8', refX: 7, refY: 4, markerWidth: 11, markerHeight: 11, markerUnits: 'userSpaceOnUse',
+    orient: 'auto-start-reverse', style: `fill: ${colour}`,
   }, make('path', { d: 'M0 0 L8 4 L0 8 z' }));
   return make('defs', {}, head('link', 'var(--link)'), head('end', 'var(--ink)'), head('unmade', 'var(--unmade)'), head('changed', 'var(--changed)'));
 }
@@ -39,7 +40,8 @@ function links(id, state, before, first, second, x) {
   const arrow = (names, wanted, changed, y, start, end) => {
     const kind = names === wanted ? (changed ? 'changed' : 'link') : 'unmade';
     const line = make('path', {
-      d: `M${start} ${y} L${end} ${y}`, class: kind === 'link' ? 'link' : 'link ' + kind, 'marker-end': `url(#${id}${kind})`, 'data-from': start < end ? first : second, 'data-to': wanted,
+      d: `M${start} ${y} L${end} ${y}`, class: kind === 'link' ? 'link' : 'link ' + kind, 'marker-end': `url(#${id}${kind})`,
+      'data-from': start < end ? first : second, 'data-to': wanted,
     });
     const told = make('text', { x: (from + to) / 2, y: y - 6, 'text-anchor': 'middle', class: 'unmade' }, kind === 'unmade' ? 'not made' : '');
     return [line, told];
@@ -141,7 +143,7 @@ function drawQueue(id, state, before) {
   if (entries.length === 0) {
     svg.append(make('text', { x: width / 2, y: BOX.top + 40, 'text-anchor': 'middle', class: 'soft' }, 'no label waits'));
   }
-  svg.append(anchorBox(id, state, before, width / 2, positions));
+  svg.append(anchorBox(id, state, before, Math.min(width / 2, 560), positions));
   const below = BOX.top + BOX.height + 34;
   const from = (width - (held.length * BOX.width + Math.max(held.length - 1, 0) * BOX.gap)) / 2;
   held.forEach(({ slot, caption }, at) => svg.append(box(state, before, slot, from + at * (BOX.width + BOX.gap), below, caption)));

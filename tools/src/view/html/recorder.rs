@@ -186,6 +186,7 @@ impl Told {
     /// The labels waiting, each with whether the link to the next is made.
     fn queue(&mut self, row: &Row<'_>, queue: &impl Machine) -> Option<(&'static str, String)> {
         let told = match &row.waiting {
+            Err(_) if row.records.is_empty() => array([]), // nothing is open
             Err(_) => text(&row.queue),
             Ok(entries) => array(entries.iter().enumerate().map(|(at, &(slot, label))| {
                 let next = entries.get(at + 1);
