@@ -4,13 +4,24 @@
 use std::fs::{read_dir, read_to_string};
 use std::path::Path;
 use std::process::ExitCode;
-use suite::{root, same, texts, Checks, Verdict};
+use suite::{root, same, shell, texts, Checks, Verdict};
 use toolsuite::{content, same_lines, view};
 
 fn stored(name: &str, ending: &str, words: &str, run: &Path) -> Verdict {
     let path = root().join(format!("tests/views/{name}.{ending}"));
     let expected = read_to_string(&path).map_err(|error| format!("  no view: {error}"))?;
     same_lines(&expected, &content(view(words, run))?)
+}
+
+/// The view that README.md begins with: the lines below its command, up to the sums.
+fn readme() -> Verdict {
+    let text = read_to_string(root().join("README.md")).map_err(|error| format!("  {error}"))?;
+    let mut lines = text.lines().skip_while(|line| !line.starts_with("$ tools/view "));
+    let command = lines.next().ok_or("  README.md has no view")?;
+    let shown: Vec<&str> = lines.take_while(|line| *line != "```").collect();
+    let found = content(shell(&format!("cd \"$ROOT\" && {}", &command[2..]), &[]))?;
+    let rows: Vec<&str> = found.lines().take_while(|line| !line.is_empty()).collect();
+    same_lines(&shown.join("\n"), &rows.join("\n"))
 }
 
 fn main() -> ExitCode {
@@ -27,6 +38,7 @@ fn main() -> ExitCode {
             checks.add(&format!("{name} beside"), move || stored(&title, "beside", &words, &run));
         }
     }
+    checks.add("the view in README.md", readme);
     checks.add("no view without its example", move || {
         same(files, read_dir(root().join("tests/views")).expect("the stored views").count())
     });
