@@ -3,7 +3,7 @@
 
 mod touch;
 
-pub use touch::touch;
+pub use touch::{sees, touch};
 
 use crate::queue::{Entry, Machine, Side};
 use std::collections::BTreeMap;

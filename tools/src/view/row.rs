@@ -37,10 +37,11 @@ impl<'a> Row<'a> {
             Form::Table => drawn(text::most_labels(options.width)),
             _ => drawn(usize::MAX),
         };
+        let seen = if words::sees(touch) { drawn(MOST_SEEN) } else { String::new() };
         let is_empty = options.form == Form::Table && is_open(touch) && labels.is_empty();
         Row {
             task: touch.task.map_or("-".into(), |task| options.names.task(task)),
-            what: words::touch(touch, &|| drawn(MOST_SEEN)),
+            what: words::touch(touch, &seen),
             anchor: queue.anchor(),
             records: tasks(queue).filter_map(|task| queue.record(task)).collect(),
             queue: if is_empty { "empty".into() } else { labels },

@@ -4,8 +4,8 @@ use super::{answer, refused, side, slot, MALFORMED};
 use crate::play::{Asked, Reply, Touch};
 use zeppolecape::{link_slot, raw, Anchor, Answer, Record};
 
-/// What the touch did; `sees` tells the queue afterwards, for a task that reads Anchor.
-pub fn touch(touch: &Touch, sees: &dyn Fn() -> String) -> String {
+/// What the touch did; `sees` is the queue afterwards, for a task that reads Anchor.
+pub fn touch(touch: &Touch, sees: &str) -> String {
     let did = match (touch.asked, touch.reply) {
         (_, Reply::Malformed) => MALFORMED.to_string(),
         (Asked::Step, Reply::Moved(answer)) => step(touch, answer, sees),
@@ -19,6 +19,11 @@ pub fn touch(touch: &Touch, sees: &dyn Fn() -> String) -> String {
         Some(count) => format!("{did} (retry {count})"),
         None => did,
     }
+}
+
+/// Whether a task may read Anchor with this touch: at 1, or by a change at 2 or 4 that fails.
+pub fn sees(touch: &Touch) -> bool {
+    touch.before.1.is_some_and(|record| matches!(record.place, 1 | 2 | 4))
 }
 
 fn start(asked: Asked) -> String {
@@ -38,14 +43,14 @@ fn start(asked: Asked) -> String {
 }
 
 /// A step that was carried out: the task had a record before and has one after it.
-fn step(touch: &Touch, told: Answer, sees: &dyn Fn() -> String) -> String {
+fn step(touch: &Touch, told: Answer, sees: &str) -> String {
     let (Some(before), Some(after)) = (&touch.before.1, &touch.after.1) else {
         return answer(told);
     };
     let failed = touch.retry().is_some();
     let did = match (before.place, failed) {
-        (1, _) => format!("reads Anchor: sees [{}]", sees()),
-        (2 | 4, true) => format!("failed: sees [{}]", sees()),
+        (1, _) => format!("reads Anchor: sees [{sees}]"),
+        (2 | 4, true) => format!("failed: sees [{sees}]"),
         (9, true) => format!("failed: the link of {} changed", slot(before.neighbour)),
         (10, true) => "failed: Anchor changed".into(),
         (14 | 17, true) => "failed: the pool's head changed".into(),
