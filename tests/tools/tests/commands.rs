@@ -75,36 +75,38 @@ fn wrong_words(checks: &mut Checks) {
     }
 }
 
+/// Lines that no run has.
+const BAD: [&str; 24] = [
+    "open 1 1",
+    "open 1 1 0 named",
+    "open 256 1 0",
+    "open 1 65536 0",
+    "open 1 1 4294967296",
+    "push 0 left",
+    "push 0 left 1 1 1",
+    "push 0 256 1",
+    "push 0 left 65536 1",
+    "push 0 left -1",
+    "pop 0",
+    "pop 1 \x07",
+    "step 0*2*2",
+    "step *3",
+    "step 1 0*",
+    "step *",
+    "step 0*x",
+    "step 256",
+    "step 0*1000001",
+    "raw",
+    "raw 123",
+    "raw xy",
+    " \x1b[2Jst\u{e9}p\\ 1",
+    "jump 1",
+];
+
 /// What `tools/runfile` says of a bad line, `view` says too.
 fn alike(checks: &mut Checks) {
-    let lines = [
-        "open 1 1",
-        "open 1 1 0 named",
-        "open 256 1 0",
-        "open 1 65536 0",
-        "open 1 1 4294967296",
-        "push 0 left",
-        "push 0 left 1 1 1",
-        "push 0 256 1",
-        "push 0 left 65536 1",
-        "push 0 left -1",
-        "pop 0",
-        "pop 1 \x07",
-        "step 0*2*2",
-        "step *3",
-        "step 1 0*",
-        "step *",
-        "step 0*x",
-        "step 256",
-        "step 0*1000001",
-        "raw",
-        "raw 123",
-        "raw xy",
-        " \x1b[2Jst\u{e9}p\\ 1",
-        "jump 1",
-    ];
-    checks.add("a bad line is told as tools/runfile tells it", move || {
-        lines.iter().try_for_each(|line| {
+    checks.add("a bad line is told as tools/runfile tells it", || {
+        BAD.iter().try_for_each(|line| {
             let scratch = Scratch::make();
             let text = scratch.file("text", format!("{line}\n").as_bytes());
             let command = |tool: &str| format!("\"$ROOT/tools/{tool}\" < \"$TEXT\" > /dev/null");
