@@ -39,7 +39,8 @@ pub struct Browser {
     _folder: Scratch,
 }
 
-const LAUNCH: &str = r#"mkfifo "$FOLDER/to" "$FOLDER/from" && exec "$BROWSER" --headless --no-sandbox \
+/// One that no longer answers is ended after ten minutes, and its silence is then an error.
+const LAUNCH: &str = r#"mkfifo "$FOLDER/to" "$FOLDER/from" && exec timeout 600 "$BROWSER" --headless --no-sandbox \
     --disable-gpu --no-first-run --user-data-dir="$FOLDER/profile" --window-size=1300,1100 \
     --remote-debugging-pipe 3<"$FOLDER/to" 4>"$FOLDER/from" >/dev/null 2>&1"#;
 
@@ -142,6 +143,8 @@ impl Browser {
 
 impl Drop for Browser {
     fn drop(&mut self) {
+        let closed = write!(self.to, r#"{{"id":0,"method":"Browser.close"}}{}"#, '\0').is_ok();
+        let _ = wait_for(|| !closed || matches!(self.child.try_wait(), Ok(Some(_)) | Err(_)));
         let _ = self.child.kill();
         let _ = self.child.wait();
     }
@@ -155,7 +158,7 @@ fn text_at<'a>(value: &'a Json, way: &[&str]) -> Result<&'a str, String> {
     value.at(way).and_then(Json::text).ok_or_else(|| format!("  no {way:?} in {value:?}"))
 }
 
-fn wait_for(what: impl Fn() -> bool) -> Result<(), String> {
+fn wait_for(mut what: impl FnMut() -> bool) -> Result<(), String> {
     let end = Instant::now() + Duration::from_secs(20);
     while !what() {
         if Instant::now() > end {
