@@ -7,7 +7,9 @@ mod accounts;
 pub use accounts::{on_the_way, Accounts, Missing};
 
 use crate::queue::{Entry, Machine, Opening};
-use crate::run::{Operation, Place};
+use crate::run::{Operation, Place, Run};
+use crate::say::Stop;
+use crate::words;
 use zeppolecape::{Anchor, Answer, Control, Record, Refusal, MOST_TASKS};
 
 /// What a touch was asked to be.
@@ -95,6 +97,23 @@ impl<M: Machine> Play<M> {
     pub fn of(queue: M) -> Play<M> {
         let (accounts, calls) = (Accounts::default(), Default::default());
         Play { queue, accounts, calls, events: 0, ended: false }
+    }
+
+    /// Carries out a run, each operation of which `seen` is handed; what ends it early is told.
+    pub fn to_its_end(
+        &mut self,
+        mut run: Run,
+        mut seen: impl FnMut(Operation),
+    ) -> Result<(), Stop> {
+        while let Some((at, operation)) = run.next()? {
+            let Some(touch) = self.touch(at, operation) else { break };
+            seen(operation);
+            if self.ended {
+                let name = run.name();
+                return Err(Stop::failed(format!("{name}: {at}: {}", words::touch(&touch, ""))));
+            }
+        }
+        Ok(())
     }
 
     /// The labels waiting, or why they cannot be told.
