@@ -9,7 +9,10 @@ mod sums;
 mod table;
 mod text;
 
+pub use html::{escaped, title};
 pub use options::USAGE;
+
+pub(crate) use html::json;
 
 use crate::play::Play;
 use crate::queue::{Library, Machine};
@@ -36,6 +39,14 @@ pub fn work(arguments: Vec<String>) -> Result<u8, Stop> {
     };
     out.flush()?;
     Ok(if whole? { 0 } else { 1 })
+}
+
+/// A run in text form as one page for a browser.
+pub fn page(name: &str, text: String) -> Result<String, Stop> {
+    let run = Run::of(name, Box::new(io::Cursor::new(text.into_bytes())))?;
+    let mut page = Vec::new();
+    html::page(run, &Options::of(vec!["--html".to_string()])?, &mut page)?;
+    String::from_utf8(page).map_err(Stop::failed)
 }
 
 /// What rows are shown in.

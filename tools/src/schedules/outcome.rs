@@ -26,6 +26,18 @@ impl Told {
             Answer::Running(place) => format!("at{place}"),
         }
     }
+
+    /// The labels waiting afterwards.
+    pub fn waits(&self) -> String {
+        match &self.waiting {
+            Ok(labels) if labels.is_empty() => "nothing".to_string(),
+            Ok(labels) => {
+                let labels: Vec<String> = labels.iter().map(u32::to_string).collect();
+                labels.join(" ")
+            }
+            Err(why) => refused(*why),
+        }
+    }
 }
 
 impl fmt::Display for Told {
@@ -34,15 +46,7 @@ impl fmt::Display for Told {
             Some(answer) => format!("task {task} {}", words::answer(answer)),
             None => format!("task {task} not answered"),
         });
-        let waits = match &self.waiting {
-            Ok(labels) if labels.is_empty() => "nothing waits".to_string(),
-            Ok(labels) => {
-                let labels: Vec<String> = labels.iter().map(u32::to_string).collect();
-                format!("waiting {}", labels.join(" "))
-            }
-            Err(why) => refused(*why),
-        };
-        write!(out, "{}; {waits}{}", answers.join(", "), ending(self.ending))
+        write!(out, "{}; waiting {}{}", answers.join(", "), self.waits(), ending(self.ending))
     }
 }
 

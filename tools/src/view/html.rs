@@ -1,7 +1,7 @@
 //! A run as one page for a browser, with all that it needs in it: it asks nobody for anything, and its
 //! policy forbids it to.
 
-mod json;
+pub mod json;
 mod recorder;
 
 use super::options::Options;
@@ -72,11 +72,11 @@ fn write(title: &str, data: &str, out: &mut dyn Write) -> io::Result<()> {
 }
 
 /// The file's name without its folders and its ending.
-fn title(name: &str) -> String {
+pub fn title(name: &str) -> String {
     let file = name.rsplit('/').next().unwrap_or(name);
     file.strip_suffix(".txt").unwrap_or(file).replace('_', " ")
 }
 
-fn escaped(text: &str) -> String {
+pub fn escaped(text: &str) -> String {
     text.replace('&', "&amp;").replace('<', "&lt;")
 }
