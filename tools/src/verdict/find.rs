@@ -13,8 +13,8 @@ pub enum Search {
     GaveUp(usize),
 }
 
-/// States that are remembered at the most: some hundred megabytes.
-const MOST_STATES: usize = 2_000_000;
+/// States that are remembered at the most: some hundred megabytes, and a few seconds.
+const MOST_STATES: usize = 500_000;
 
 /// An order that passes. At most 64 calls, each well formed.
 pub fn order(calls: &[Finished]) -> Search {
