@@ -144,6 +144,10 @@ for text in "$root"/examples/*.txt "$root"/tests/cases/*.txt; do
     fi
 done
 verdict 'runs audited' yes "$([ "$audited" -ge 20 ] && echo yes || echo "only $audited")"
+example=$root/examples/two_hands_on_one_label.txt
+{ printf '\357\273\277'; sed 's/$/\r/' "$example"; } > "$scratch/marked.txt"
+history_of() { "$root/tools/runfile" "$1" | "$trace" | "$root/tools/history" "$1" 2>&1; }
+verdict 'a byte-order mark and carriage returns' "$(history_of "$example")" "$(history_of "$scratch/marked.txt")"
 verdict 'a trace of another run' 'tools/history: event 2: the trace is of another run' \
     "$("$root/tools/runfile" "$root/tests/cases/pop_on_empty.txt" | "$trace" | "$root/tools/history" "$root/examples/first_labels.txt" 2>&1)"
 
