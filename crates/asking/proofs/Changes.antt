@@ -12,7 +12,7 @@ use Rattle.model.specs.declared.Control.{Control}
 use Rattle.model.specs.declared.Record.{Record}
 use Rattle.model.specs.Tables.{isPooled}
 use Rattle.model.specs.Sound.{anchorSound, recordSound}
-use Rattle.model.specs.Places.{Touch, nothing, setAnchor, setLink, clearMark, takeSlot, setNext, setHead, Move, sideOf, new4}
+use Rattle.model.specs.Places.{Touch, nothing, setAnchor, Move, sideOf}
 use Rattle.model.specs.Places.{at1, at2, at3, at4, at5, at6, at7, at9, at10, at11, at12, at13, at14, at15, at16, at17, move}
 use Rattle.model.specs.Refusals.{leavesSound, hasRoom}
 use Rattle.model.specs.Sides.{facing}

@@ -11,8 +11,6 @@ ghost use mathlib.Core.Bool.{cond};
 ghost use mathlib.Core.List.{List};
 ghost use Prim.Native.Nat.{ℕ, _<_, _≤_};
 ghost use lib.Dec.{eqb, leb, ltb};
-ghost use lib.ListN.{length};
-ghost use Rattle.word.specs.Anchor.{anchorOf};
 ghost use Rattle.word.specs.Link.{linkOf};
 ghost use Rattle.model.specs.Tables.{tablesOf};
 ghost use Rattle.model.specs.Places.{sideOf, endSeen, row, wordFound, new4};
