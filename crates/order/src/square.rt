@@ -8,7 +8,7 @@ ghost use mathlib.Core.Bool.{false};
 ghost use Prim.Native.Nat.{_≤_};
 ghost use Rattle.sheet_model.specs.Sheet.{any, outside};
 ghost use Rattle.sheet_model.specs.Squares.{squareOf, linked, byteRow, joinRow, crossed};
-ghost use Rattle.sheet_model.specs.Verdict.{inRows};
+ghost use Rattle.sheet_model.specs.Search.{inRows};
 
 /// A row with the marks of another.
 fn join_row(via: [u8; 32], row: [u8; 32]) -> [u8; 32]

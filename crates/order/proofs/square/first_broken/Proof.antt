@@ -10,7 +10,7 @@ use lib.Seq.{set-getD}
 use borrow.Author.Needs.{needs}
 use borrow.Author.Tests.{eq-eqb, ne-eqb}
 use Rattle.sheet_model.specs.Squares.{byteRow, squareOf, linked, rulesMarked, sweep, joinVia, rounds, crossed}
-use Rattle.sheet_model.specs.Verdict.{inRows}
+use Rattle.sheet_model.specs.Search.{inRows}
 use Rattle.sheet_model.proofs.ByteRows.{square-chained}
 use Rattle.sheet_model.proofs.Turns.{Inside, rules-on, rules-end, inside}
 use Rattle.sheet_model.proofs.Turns.{join-taken, join-left, sweep-on, sweep-end, rounds-on, rounds-end, all-left}
