@@ -65,15 +65,15 @@
  *                  bytes      1, 3     5, 12  16, 1023
  *   zc_open            88        78        78        78
  *   zc_open_pooled     88       117       173      6247
- *   zc_push           336       293       293       293
- *   zc_push_pooled    320       265       265       265
- *   zc_pop            320       261       261       261
- *   zc_step           496       309       301       301
- *   zc_step_record    512       305       299       299
- *   zc_run            544      1780      2981      3462
- *   zc_report         368       273       475     17257
+ *   zc_push           296       218       218       218
+ *   zc_push_pooled    280       209       209       209
+ *   zc_pop            280       166       166       166
+ *   zc_step           120       224       224       224
+ *   zc_step_record    144       217       217       217
+ *   zc_run            160      1697      2721      3160
+ *   zc_report         352       251       443     16244
  *   table bytes         -       240       816     30120
- *   code bytes: audit 1804, capi 10315, capi_record 5838, capi_run 8099, find 3227, history 9508, join 3397, schedule 9580, sheet 3587, shelf 3874, waiting 797
+ *   code bytes: audit 1804, capi 9195, capi_record 4586, capi_run 7263, find 3227, history 8386, join 3397, schedule 8875, sheet 3587, shelf 3874, waiting 797
  * As to the machine: x86-64, System V calling convention. The code uses the red zone (128 bytes
  * below the stack pointer) and SSE registers, no AVX: an interrupt handler that makes a call saves
  * the SSE state first, and an interrupt that is not masked during a call leaves the red zone alone.
