@@ -13,7 +13,8 @@ EXPORTS = capi capi_record capi_run history audit find waiting sheet shelf sched
 # Two of `rt` in one folder overwrite each other's notes on what is proved, and one may then find a proved crate
 # unproved. So each has a folder, with links to the crates, to what is proved of them, and to where the archives go.
 ALONE = mkdir -p target/alone/$$0/target && cd target/alone/$$0 && ln -sfn ../../../crates ../../../crates.txt . && \
-	ln -sfn ../../../rlib ../../../stamp ../../../staticlib target && rt staticlib $$0
+	ln -sfn ../../../rlib ../../../stamp ../../../staticlib target && begun=$$(date +%s) && \
+	rt staticlib $$0 && echo "rt: $$0 compiled ($$(( $$(date +%s) - begun )) s)"
 
 PREFIX ?= /usr/local
 LIBRARY ?= target/lib/libzeppolecape.a
@@ -35,9 +36,11 @@ exports:
 
 target/lib/libzeppolecape.a: crates.txt $(shell find crates -name '*.rt' -o -name '*.antt')
 	@command -v rt >/dev/null || { echo "make: the Rattle toolchain (rt) is not on the PATH; see README.md, Requirements" >&2; exit 1; }
-	rt check $(EXPORTS)
-	mkdir -p target/staticlib
-	printf '%s\n' $(EXPORTS) | xargs -P 2 -n 1 sh -c '$(ALONE)'
+	@echo "proving the library, once:"
+	@tools/progress proved $(EXPORTS) -- rt check $(EXPORTS)
+	@mkdir -p target/staticlib
+	@echo "compiling it:"
+	@tools/progress compiled $(EXPORTS) -- sh -c 'printf "%s\n" $(EXPORTS) | xargs -P 2 -n 1 sh -c "$$0"' '$(ALONE)'
 	rm -rf target/lib && mkdir -p target/lib/members
 	cd target/lib/members && for name in $(EXPORTS); do ar x ../../staticlib/lib$$name.a || exit 1; done
 	ar rcsD $@ target/lib/members/*.o

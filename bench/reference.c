@@ -504,18 +504,59 @@ zc_reply CALL(step_record)(zc_control *control, zc_record *one,
 }
 
 #ifdef AS_LIBRARY
+/* A table with what it held at first; no step writes an entry beyond the most rows. */
+#define KEPT(type, table, count)                                                  \
+    type kept_##table[ZC_MOST_SLOTS + 1];                                         \
+    size_t size_##table = sizeof(type) * (count <= ZC_MOST_SLOTS ? count : ZC_MOST_SLOTS + 1); \
+    if (size_##table > 0)                                                         \
+        memcpy(kept_##table, table, size_##table)
+#define PUT_BACK(table)                       \
+    if (size_##table > 0)                     \
+        memcpy(table, kept_##table, size_##table)
+
+/* A run of no steps: a step, taken back. */
+static zc_run_reply ask(zc_control *control, zc_record *records, size_t record_count, size_t task,
+                        TABLES(uint64_t, uint32_t, uint64_t), NEXT(uint64_t))
+{
+    zc_control kept_control = *control;
+    zc_record none = {0}, kept_record = task < record_count ? records[task] : none;
+    KEPT(uint64_t, lefts, left_count);
+    KEPT(uint64_t, rights, right_count);
+    KEPT(uint32_t, labels, label_count);
+    KEPT(uint64_t, marks, mark_count);
+    KEPT(uint64_t, next, next_count);
+    zc_reply reply =
+        zc_step(control, records, record_count, task, lefts, left_count, rights, right_count,
+                labels, label_count, marks, mark_count, next, next_count);
+    if (zc_refused(reply))
+        return (zc_run_reply){reply.code, 0, 0, 0};
+    *control = kept_control;
+    records[task] = kept_record;
+    PUT_BACK(lefts);
+    PUT_BACK(rights);
+    PUT_BACK(labels);
+    PUT_BACK(marks);
+    PUT_BACK(next);
+    return (zc_run_reply){ZC_RUNNING, 0, kept_record.place, 0};
+}
+
 zc_run_reply zc_run(zc_control *control, zc_record *records, size_t record_count, size_t task,
                     uint64_t most, TABLES(uint64_t, uint32_t, uint64_t), NEXT(uint64_t))
 {
-    for (uint64_t made = 0; made < most; made++) {
+    if (most == 0)
+        return ask(control, records, record_count, task, lefts, left_count, rights, right_count,
+                   labels, label_count, marks, mark_count, next, next_count);
+    uint64_t made = 0;
+    for (; made < most; made++) {
         zc_reply reply =
             zc_step(control, records, record_count, task, lefts, left_count, rights, right_count,
                     labels, label_count, marks, mark_count, next, next_count);
+        if (zc_refused(reply) && made > 0)
+            break;
         if (reply.code != ZC_RUNNING)
-            return (zc_run_reply){reply.code, reply.label, reply.value,
-                                  zc_refused(reply) ? made : made + 1};
+            return (zc_run_reply){reply.code, reply.label, reply.value, !zc_refused(reply) + made};
     }
-    return (zc_run_reply){ZC_RUNNING, 0, task < record_count ? records[task].place : 0, most};
+    return (zc_run_reply){ZC_RUNNING, 0, records[task].place, made};
 }
 #endif
 

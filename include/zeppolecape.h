@@ -65,15 +65,15 @@
  *                  bytes      1, 3     5, 12  16, 1023
  *   zc_open            88        78        78        78
  *   zc_open_pooled     88       117       173      6247
- *   zc_push           336       293       293       293
- *   zc_push_pooled    320       265       265       265
- *   zc_pop            320       261       261       261
- *   zc_step           496       309       301       301
- *   zc_step_record    512       305       299       299
- *   zc_run            544      1811      3015      3501
- *   zc_report         368       273       475     17257
+ *   zc_push           296       218       218       218
+ *   zc_push_pooled    280       209       209       209
+ *   zc_pop            280       166       166       166
+ *   zc_step           120       224       224       224
+ *   zc_step_record    144       217       217       217
+ *   zc_run            160      1697      2721      3160
+ *   zc_report         352       251       443     16244
  *   table bytes         -       240       816     30120
- *   code bytes: audit 1804, capi 10315, capi_record 5838, capi_run 6080, find 3227, history 9508, join 3443, schedule 9581, sheet 3587, shelf 3874, waiting 797
+ *   code bytes: audit 1804, capi 9195, capi_record 4586, capi_run 7263, find 3227, history 8386, join 3397, schedule 8875, sheet 3587, shelf 3874, waiting 797
  * As to the machine: x86-64, System V calling convention. The code uses the red zone (128 bytes
  * below the stack pointer) and SSE registers, no AVX: an interrupt handler that makes a call saves
  * the SSE state first, and an interrupt that is not masked during a call leaves the red zone alone.
@@ -111,8 +111,8 @@ extern "C" {
  * Major: a layout, a code, or what a call takes or does has changed: read CHANGELOG.md and compile
  * again. Minor: something was added. Patch: neither.
  */
-#define ZC_VERSION_MAJOR 3
-#define ZC_VERSION_MINOR 1
+#define ZC_VERSION_MAJOR 4
+#define ZC_VERSION_MINOR 0
 #define ZC_VERSION_PATCH 0
 #define ZC_VERSION (ZC_VERSION_MAJOR * 10000 + ZC_VERSION_MINOR * 100 + ZC_VERSION_PATCH)
 
@@ -266,7 +266,7 @@ typedef struct zc_reply {
 typedef struct zc_run_reply {
     uint32_t code, label;
     uint64_t value;
-    uint64_t steps; /* a refused step is none */
+    uint64_t steps; /* with a refusal 0 */
 } zc_run_reply;
 
 /* What the report tells. With a refusal every field but code is 0. */
@@ -422,11 +422,12 @@ zc_reply zc_step_record(zc_control *control, zc_record *one, uint64_t *lefts, si
 
 /*
  * Steps a task until a step does not answer running, `most` times at the most, and answers as the
- * last step did. With `most` steps made, or none to make, the answer is running at the task's place
- * (0: it is idle). In a queue that these calls alone wrote to, ZC_PUSH_STEPS or ZC_POP_STEPS are
- * enough, pooled ZC_POOLED_PUSH_STEPS or ZC_POOLED_POP_STEPS, which is proved.
- * Refuses as the step does, and nothing with `most` 0. In a queue that somebody else wrote to, a
- * later step may be refused too: the `steps` before it are made and stay.
+ * last step did. With `most` steps made the answer is running at the task's place. In a queue that
+ * these calls alone wrote to, ZC_PUSH_STEPS or ZC_POP_STEPS are enough, in a pooled one
+ * ZC_POOLED_PUSH_STEPS or ZC_POOLED_POP_STEPS, which is proved.
+ * Refuses what the first step is refused by, or would be with `most` 0, and then changes nothing. In
+ * a queue that somebody else wrote to, a later step may be refused: it is not made, and the answer is
+ * running at the task's place, with fewer `steps` than `most`.
  */
 zc_run_reply zc_run(zc_control *control, zc_record *records, size_t record_count, size_t task,
                     uint64_t most, uint64_t *lefts, size_t left_count, uint64_t *rights,

@@ -56,8 +56,10 @@ gets '0 pop left - empty 4 3\norder 1' 'refused 40'
 gets '0 pop left - empty 1 2\n1 pop left - empty 2 3\norder 1 2' 'refused 40'
 gets '0 2 left - empty 1 2\norder 1' 'refused 40'
 gets '0 pop 2 - empty 1 2\norder 1' 'refused 40'
-gets '0 pop left - 1 1 2\norder 1' 'refused 40'
-gets '0 pop left - 5 1 2\norder 1' 'refused 40'
+gets '0 pop left 700 1 1 2\norder 1' 'refused 40'
+gets '0 pop left 700 5 1 2\norder 1' 'refused 40'
+gets '0 pop left - 3 1 2\norder 1' passes
+gets '0 push left - empty 1 2\norder 1' 'fails at 1'
 gets '0 push left 1 empty 1 2\norder 1' 'fails at 1'
 
 # As many calls as may be, and one more; many more.
@@ -68,6 +70,7 @@ pops() { # COUNT
 verdict '64 calls' passes "$(pops 64 | said)"
 verdict '65 calls' 'refused 40' "$(pops 65 | said)"
 verdict '1000 calls' 'refused 40' "$(pops 1000 | said)"
+verdict '64 calls, an order of 65' 'no rearrangement' "$( (pops 64; echo 64) | said)"
 verdict '64 calls, an order of 5000' 'no rearrangement' "$( (pops 64; seq 1 5000) | said)"
 verdict 'a long text' 'verdict: longer than 65535 bytes' "$(head -c 65536 /dev/zero | tr '\0' '#' | said)"
 verdict 'a text of 65535 bytes' 'verdict: the order is missing; it is the last line, `order` and the calls'"'"' numbers' \
@@ -101,6 +104,20 @@ line '0 pop left - empty 4 99999999999999999999\norder 1' 1 'a number is above 1
 line '0 xxxxxxxxpush left 1 pushed 4 5\norder 1' 1 '`push` or `pop` is wanted'
 line '0 push\0 left 1 pushed 4 5\norder 1' 1 '`push` or `pop` is wanted'
 line '0 PUSH left 1 pushed 4 5\norder 1' 1 '`push` or `pop` is wanted'
+line '0 \0push left 1 pushed 4 5\norder 1' 1 '`push` or `pop` is wanted'
+line '0 push left 1 \0\0pushed 4 5\norder 1' 1 '`pushed`, `empty` or `popped` is wanted'
+line '0 pushpush left 1 pushed 4 5\norder 1' 1 '`push` or `pop` is wanted'
+line '\0order 1' 1 "a task's number or \`order\` is wanted"
+line "${push}orders 1" 2 "a task's number or \`order\` is wanted"
+
+# - stands for a label only with the answer empty.
+unlabelled='`-` stands for a label only with `empty`'
+line '0 push left - pushed 1 2\norder 1' 1 "$unlabelled"
+line "${push}0 pop left - popped 4 5\norder 1 2" 2 "$unlabelled"
+line '0 pop left - 4 1 2\norder 1' 1 "$unlabelled"
+line '0 pop left - 5 1 2\norder 1' 1 "$unlabelled"
+line "${empty}1 pop - 700 popped 5 10\norder 1 2" 2 '`left` or `right` is wanted'
+gets "${empty}1 pop right 5 empty 12 13\norder 1 2" passes
 
 # ---- Streams ----
 verdict 'help' 'usage: verdict < HISTORY' "$("$program" --help < /dev/null 2>&1 | head -1)"
@@ -127,6 +144,10 @@ for text in "$root"/examples/*.txt "$root"/tests/cases/*.txt; do
     fi
 done
 verdict 'runs audited' yes "$([ "$audited" -ge 20 ] && echo yes || echo "only $audited")"
+example=$root/examples/two_hands_on_one_label.txt
+{ printf '\357\273\277'; sed 's/$/\r/' "$example"; } > "$scratch/marked.txt"
+history_of() { "$root/tools/runfile" "$1" | "$trace" | "$root/tools/history" "$1" 2>&1; }
+verdict 'a byte-order mark and carriage returns' "$(history_of "$example")" "$(history_of "$scratch/marked.txt")"
 verdict 'a trace of another run' 'tools/history: event 2: the trace is of another run' \
     "$("$root/tools/runfile" "$root/tests/cases/pop_on_empty.txt" | "$trace" | "$root/tools/history" "$root/examples/first_labels.txt" 2>&1)"
 

@@ -88,8 +88,10 @@ static void run(void)
     is("run: label", half(bytes, 4), 700);
     is("run: value", word(bytes, 8), 66);
     is("run: steps", word(bytes, 16), 4);
-    reply = zc_run(RECORDS, 2, 1, TABLES);
-    is("run: refused", reply.code * 10 + reply.steps, 10 * ZC_NO_TASK);
+    for (uint64_t most = 0; most < 2; most++) {
+        reply = zc_run(RECORDS, 2, most, TABLES);
+        is("run: refused", reply.code * 10 + reply.steps, 10 * ZC_NO_TASK);
+    }
 }
 
 static void serve(void)

@@ -227,10 +227,10 @@ part_facts() {
 part_schedules() {
     holds "the benchmark of schedules compiles" $CC -std=gnu11 -O2 -Iinclude bench/schedules_main.c bench/schedules.c bench/reference.c "$archive" -o "$work/schedules_bench"
     holds "library and C hand out the same schedules" "$work/schedules_bench" 1
-    holds "the test of schedules compiles" in_cargo build --release -p library-schedules -p schedules
+    holds "the test of schedules compiles" in_cargo build --release -p library-schedules -p tools --bin library-schedules --bin schedules
     counts "schedules against the second program" "$work/cargo/release/library-schedules" "${SEED:-1}" "${TIMES:-1}"
     counts "planted faults in schedules by hand" tests/library/schedule_faults.sh "$work/cargo"
-    tools/runfile examples/the_last_label.txt | "$work/cargo/release/schedules" >"$work/orders"
+    "$work/cargo/release/schedules" examples/the_last_label.txt >"$work/orders"
     holds "every order of the example is printed" test "$(tail -n 1 "$work/orders")" = "18644 schedules: 18644 answered, 0 cut, 0 refused"
 }
 

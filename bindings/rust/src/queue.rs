@@ -97,7 +97,7 @@ impl Queue {
     }
 
     /// Steps one task until it answers, `most` times at the most. Refuses as [`step`](Queue::step) does,
-    /// and nothing with `most` 0.
+    /// with `most` 0 too.
     pub fn run(&mut self, task: usize, most: u64) -> Run {
         self.lend().run(task, most)
     }

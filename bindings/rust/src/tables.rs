@@ -145,8 +145,9 @@ impl Tables<'_> {
         outcome(call!(self.zc_step_record(self.control, one) next))
     }
 
-    /// Steps a task until it does not answer running, `most` times at the most. Refuses as
-    /// [`step`](Tables::step), and nothing with `most` 0.
+    /// Steps a task until it does not answer running, `most` times at the most. Refuses what its first
+    /// [`step`](Tables::step) is refused by, or would be with `most` 0; a later step that would be
+    /// refused is not made, and the answer is running at the task's place.
     pub fn run(&mut self, task: usize, most: u64) -> Run {
         let (records, count) = (self.records.as_mut_ptr(), self.records.len());
         let raw::RunReply { code, label, value, steps } =

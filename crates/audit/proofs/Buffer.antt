@@ -1,9 +1,8 @@
 -- Labels from one index of a list up to another: an end moved by one, and the label there.
 use mathlib.Core.Bool.{Bool, true, false, cond}
 use mathlib.Core.List.{List, [], _∷_, _++_, reverse, reverse-cons, reverse-reverse}
-use mathlib.Core.Logic.{_≢_}
 use mathlib.Core.Path.{_≡_, refl, sym, ap, _∙_, subst}
-use Prim.Native.Nat.{ℕ, suc, _+_, _-_, _<_, _≤_}
+use Prim.Native.Nat.{ℕ, suc, _+_, _<_, _≤_}
 use native.Mathlib.Numerals.{add-one}
 use native.Mathlib.Omega.{arith}
 use lib.Dec.{eqb}
@@ -11,7 +10,7 @@ use lib.ListN.{length, getD, set, take, drop, length-set}
 use lib.Seq.{slice, slice-cons, slice-empty, length-take-le, take-suc, take-suc-set, take-set-lt, drop-set-lt, drop-append-le, getD-set-same}
 use borrow.Author.Tests.{eq-eqb, ne-eqb}
 use Rattle.model.specs.Deque.{seenFrom}
-use Rattle.audit_model.specs.Audit.{Given, takeLabel}
+use Rattle.audit_model.specs.Audit.{takeLabel}
 
 -- Seen from the right, and from the left.
 from-right : {A : Type 0} (side : ℕ) (l : List A) → side ≡ 1 → seenFrom side l ≡ reverse l

@@ -1,14 +1,13 @@
 -- One turn of the replay: the call at index i fails it, or leads to the next.
 use mathlib.Core.Bool.{Bool, true, false, _&&_, not, cond}
-use mathlib.Core.List.{List, [], _∷_}
-use mathlib.Core.Path.{_≡_, refl, sym, ap, _∙_, subst}
-use Prim.Native.Nat.{ℕ, suc, _+_, _<_, _≤_}
+use mathlib.Core.List.{List, _∷_}
+use mathlib.Core.Path.{_≡_, sym, ap, _∙_}
+use Prim.Native.Nat.{ℕ, _+_, _<_, _≤_}
 use native.Mathlib.Numerals.{add-one}
 use lib.ListN.{length, getD}
 use lib.Seq.{slice, slice-empty}
 use borrow.Author.Tests.{not-true, not-false}
 use Rattle.audit_model.specs.declared.Finished.{Finished}
-use Rattle.audit_model.specs.declared.Verdict.{Verdict}
 use Rattle.audit_model.specs.declared.Verdict.the-variants.{Failed, Passed}
 use Rattle.audit_model.specs.Audit.{Given, agrees, allOf, notEarlier, replay, serveLabel}
 use Rattle.audit.proofs.Loops.{part-next}

@@ -12,10 +12,7 @@ use Rattle.model.specs.declared.Answer.the-variants.{Running, Pushed, Empty, Po
 use Rattle.model.specs.declared.Entry.{Entry}
 use Rattle.model.specs.declared.Op.{Op}
 use Rattle.model.specs.declared.Op.the-variants.{Push, Pop, Put, Step}
-use Rattle.model.specs.declared.Outcome.{Outcome}
-use Rattle.model.specs.declared.Outcome.the-variants.{Refused, Moved}
 use Rattle.model.specs.Calls.{Acted, Done, act, actOn, back, finish, popStart, pushStart, putStart, step}
-use Rattle.model.specs.Places.{wordFound, move}
 use Rattle.model.specs.Refusals.{among, popRefusal, pushRefusal, putRefusal, stepRefusal}
 use Rattle.model.specs.Tables.{Queue, recordAt}
 use Rattle.model.specs.History.{Call, Effect, Ending, Event, Ledger, Request, answered, pending}
@@ -152,14 +149,14 @@ module _ (n : ℕ) (ev : Event) (a : Answer) where
     apart = attend-apart d cs o (h .past) (h .apart);
   }
 
-begin-tidy : (n t kind side : ℕ) (e : Entry) (cs : List Call) → kind ≤ 1 → side ≤ 1 → Tidy n cs
-    → Tidy (suc n) (begins n t kind side e ∷ cs)
-begin-tidy n t kind side e cs k s h = record {
+begin-tidy : (n t kind side : ℕ) (named : Bool) (e : Entry) (cs : List Call) → kind ≤ 1 → side ≤ 1 → Tidy n cs
+    → Tidy (suc n) (begins n t kind side named e ∷ cs)
+begin-tidy n t kind side named e cs k s h = record {
   past = (record { kind = k; side = s; begun = omega arith; done = tt }, all-map (past-later n) cs (h .past));
   apart = (all-map fresh cs (h .past), h .apart);
 }
   where
-    fresh : (d : Call) → Past n d → Apart (begins n t kind side e) d
+    fresh : (d : Call) → Past n d → Apart (begins n t kind side named e) d
     fresh d p = record { starts = λ z. omega (arith, p .begun); later = not-now n (d .ending) (p .done); earlier = tt; ends = tt }
 
 module _ (n : ℕ) (q : Queue) (l : Ledger) (g : Matched n q l) (h : Tidy n (l .calls)) (t : ℕ) where
@@ -185,11 +182,11 @@ module _ (n : ℕ) (q : Queue) (l : Ledger) (g : Matched n q l) (h : Tidy n (l .
   pub act-tidy : (o : Op) → After o (act q t o)
   unfolding act actOn pushStart putStart popStart step finish note accept
   act-tidy (Push side x y) = by-test (Back (Push side x y)) (eqb (pushRefusal (q .tables) (among q t) (recordAt q t) side x) 0)
-      (λ e. begin-tidy n t 0 side _ (l .calls) (omega arith) (push-accepted q t side x (eqb-true _ _ e) .starting .side) h) (λ e. unchanged)
+      (λ e. begin-tidy n t 0 side true _ (l .calls) (omega arith) (push-accepted q t side x (eqb-true _ _ e) .starting .side) h) (λ e. unchanged)
   act-tidy (Pop side) = by-test (Back (Pop side)) (eqb (popRefusal (q .tables) (among q t) (recordAt q t) side) 0)
-      (λ e. begin-tidy n t 1 side _ (l .calls) (omega arith) (pop-accepted q t side (eqb-true _ _ e) .side) h) (λ e. unchanged)
+      (λ e. begin-tidy n t 1 side false _ (l .calls) (omega arith) (pop-accepted q t side (eqb-true _ _ e) .side) h) (λ e. unchanged)
   act-tidy (Put side y) = by-test (Back (Put side y)) (eqb (putRefusal (q .tables) (among q t) (recordAt q t) side) 0)
-      (λ e. begin-tidy n t 0 side _ (l .calls) (omega arith) (put-accepted q t side (eqb-true _ _ e) .0 .side) h) (λ e. unchanged)
+      (λ e. begin-tidy n t 0 side false _ (l .calls) (omega arith) (put-accepted q t side (eqb-true _ _ e) .0 .side) h) (λ e. unchanged)
   act-tidy Step = by-test (Back Step) (eqb (stepRefusal (q .tables) (among q t) (recordAt q t)) 0)
       (λ e. attend-tidy n _ _ (l .deque) (l .calls) one-open h) (λ e. unchanged)
 

@@ -20,7 +20,8 @@ use Rattle.model.specs.Lists.{All}
 use Rattle.audit_model.specs.declared.Finished.{Finished}
 use Rattle.audit_model.specs.declared.Verdict.the-variants.{Passed}
 use Rattle.audit_model.specs.Audit.{accepted, allOf, apart, differ, notEarlier, numbered, rearranges, replay, verdict, wellFormed}
-use Rattle.audit_model.specs.Written.{HistoriesPass, IsAnswered, Passes, Taken, effectOrder, effectsOf, finished, written}
+use Rattle.audit_model.specs.Written.{HistoriesPass, IsAnswered, Passes, finished, written}
+use Rattle.audit_model.proofs.Taken.{Taken, order-is, takenOf}
 use Rattle.audit_model.proofs.Lists.{Pairs, all-append, all-both, all-map, all-mapped, all-of, pairs-mapped, pairs-of, pairs-snoc}
 use Rattle.audit_model.proofs.Order.{NotAfter}
 use Rattle.audit_model.proofs.Replayed.{Replays, replayed, servedIn}
@@ -126,9 +127,10 @@ opened-passes pooled q tasks slots tag e os done small =
     let tidy = run-tidy os 1 o start.nobody begun (record { past = tt; apart = tt }) in
     let rep = replayed (run o os) 1 start.nobody (record { before = tt; replays = refl }) in
     let ord = ordered cs (all-settled cs done (lin .calls)) in
-    rw (is-accepted (tidy .0) cs small done (tidy .1) (lin .calls), finished-length cs, is-rearranged (finished cs) (length cs) (effectsOf cs) ord)
-    (ap (λ (x : List Finished). replay 1 x []) (map-map (numbered (finished cs)) (λ (t : Taken). t .number) (effectsOf cs))
-    ∙ passes (finished cs) 1 (effectsOf cs) [] (l .deque) (ord .suits) (ord .sorted) (rep .1 .replays))
+    ap (verdict (finished cs)) (order-is cs)
+    ∙ rw (is-accepted (tidy .0) cs small done (tidy .1) (lin .calls), finished-length cs, is-rearranged (finished cs) (length cs) (takenOf cs) ord)
+    (ap (λ (x : List Finished). replay 1 x []) (map-map (numbered (finished cs)) (λ (t : Taken). t .number) (takenOf cs))
+    ∙ passes (finished cs) 1 (takenOf cs) [] (l .deque) (ord .suits) (ord .sorted) (rep .1 .replays))
 
 pub histories-pass : HistoriesPass
 histories-pass pooled = after-opening pooled Passes (opened-passes pooled)

@@ -11,7 +11,8 @@ use Rattle.model.specs.History.{Call, Effect}
 use Rattle.model.specs.Lists.{All}
 use Rattle.audit_model.specs.declared.Finished.{Finished}
 use Rattle.audit_model.specs.Audit.{nobody, numbered}
-use Rattle.audit_model.specs.Written.{Taken, effectsOf, finished, insert, insertAll, taken, written}
+use Rattle.audit_model.specs.Written.{finished, written}
+use Rattle.audit_model.proofs.Taken.{Taken, put, putAll, taken, takenOf}
 use Rattle.audit_model.proofs.Lists.{Pairs, all-both, all-map}
 use Rattle.audit_model.proofs.Order.{NotAfter, insert-all, insert-length, insert-pairs, insert-sorted}
 use Rattle.audit_model.proofs.Settled.{Settled, Suits}
@@ -50,7 +51,7 @@ numbered-new fs f n e = getD-at fs f [] nobody n e
 
 inserted : (fs : List Finished) (f : Finished) (n : ℕ) (l : List Taken) (t : Taken)
     → length fs ≡ n → t .number ≡ suc n → Suits f t → Ordered fs n l
-    → Ordered (fs ++ (f ∷ [])) (suc n) (insert t l)
+    → Ordered (fs ++ (f ∷ [])) (suc n) (put t l)
 inserted fs f n l t e k s o = record {
   count = insert-length t l ∙ ap suc (o .count);
   known = insert-all (Within (suc n)) t l (record { low = omega arith; high = omega arith })
@@ -74,13 +75,13 @@ inserted fs f n l t e k s o = record {
     kept : (u : Taken) → Within n u → Suits (numbered fs (u .number)) u → Suits (numbered (fs ++ (f ∷ [])) (u .number)) u
     kept u w v = subst (λ (x : Finished). Suits x u) (sym (numbered-old fs f (u .number) (omega (arith, w .high)))) v
 
-pub ordered : (cs : List Call) → All IsSettled cs → Ordered (finished cs) (length cs) (effectsOf cs)
+pub ordered : (cs : List Call) → All IsSettled cs → Ordered (finished cs) (length cs) (takenOf cs)
 ordered [] h = record { count = refl; known = tt; differ = tt; sorted = tt; suits = tt }
 ordered (c ∷ cs) h =
     let s = h .0 in
     let n = suc (length cs) in
     let f = taken n (c .kind) (c .side) (c .entry) in
     let t = f (s .effect) in
-    subst (λ (es : List Effect). Ordered (finished (c ∷ cs)) n (insertAll f es (effectsOf cs))) (sym (s .only))
-    (subst (λ (fs : List Finished). Ordered fs n (insert t (effectsOf cs))) (sym (finished-cons c cs))
-    (inserted (finished cs) (written c (c .ending)) (length cs) (effectsOf cs) t (finished-length cs) refl (s .suits n) (ordered cs (h .1))))
+    subst (λ (es : List Effect). Ordered (finished (c ∷ cs)) n (putAll f es (takenOf cs))) (sym (s .only))
+    (subst (λ (fs : List Finished). Ordered fs n (put t (takenOf cs))) (sym (finished-cons c cs))
+    (inserted (finished cs) (written c (c .ending)) (length cs) (takenOf cs) t (finished-length cs) refl (s .suits n) (ordered cs (h .1))))

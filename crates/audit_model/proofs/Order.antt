@@ -9,41 +9,42 @@ use lib.ListN.{length}
 use borrow.Author.Tests.{ltb-true, ltb-false, lt-ltb, le-ltb}
 use Rattle.model.proofs.tests.Truth.{by-test}
 use Rattle.model.specs.Lists.{All}
-use Rattle.audit_model.specs.Written.{Taken, insert}
+use Rattle.audit_model.specs.Written.{insert}
+use Rattle.audit_model.proofs.Taken.{Taken, put}
 use Rattle.audit_model.proofs.Lists.{Pairs}
 
 -- Before later ones, and behind all.
-pub insert-before : (t : Taken) (l m : List Taken) → All (λ (u : Taken). t .at < u .at) m → insert t (l ++ m) ≡ insert t l ++ m
+pub insert-before : (t : Taken) (l m : List Taken) → All (λ (u : Taken). t .at < u .at) m → put t (l ++ m) ≡ put t l ++ m
 unfolding insert
 insert-before t [] [] h = refl
 insert-before t [] (u ∷ m) h = rw (lt-ltb (t .at) (u .at) (h .0))
 insert-before t (v ∷ l) m h = go (ltb (t .at) (v .at)) (insert-before t l m h)
   where
-    go : (b : Bool) → insert t (l ++ m) ≡ insert t l ++ m
-        → cond b (t ∷ v ∷ (l ++ m)) (v ∷ insert t (l ++ m)) ≡ cond b (t ∷ v ∷ l) (v ∷ insert t l) ++ m
+    go : (b : Bool) → put t (l ++ m) ≡ put t l ++ m
+        → cond b (t ∷ v ∷ (l ++ m)) (v ∷ put t (l ++ m)) ≡ cond b (t ∷ v ∷ l) (v ∷ put t l) ++ m
     go true e = refl
     go false e = ap (λ (k : List Taken). v ∷ k) e
 
-pub insert-last : (t : Taken) (l : List Taken) → All (λ (u : Taken). u .at ≤ t .at) l → insert t l ≡ l ++ (t ∷ [])
+pub insert-last : (t : Taken) (l : List Taken) → All (λ (u : Taken). u .at ≤ t .at) l → put t l ≡ l ++ (t ∷ [])
 unfolding insert
 insert-last t [] h = refl
 insert-last t (u ∷ l) h = rw (le-ltb (t .at) (u .at) (h .0)) (ap (λ (k : List Taken). u ∷ k) (insert-last t l (h .1)))
 
-pub insert-length : (t : Taken) (l : List Taken) → length (insert t l) ≡ suc (length l)
+pub insert-length : (t : Taken) (l : List Taken) → length (put t l) ≡ suc (length l)
 unfolding insert
 insert-length t [] = refl
 insert-length t (u ∷ l) = by-test (λ (k : List Taken). length k ≡ suc (suc (length l))) (ltb (t .at) (u .at))
     (λ _. refl)
     (λ _. ap suc (insert-length t l))
 
-pub insert-all : (P : Taken → Type 0) (t : Taken) (l : List Taken) → P t → All P l → All P (insert t l)
+pub insert-all : (P : Taken → Type 0) (t : Taken) (l : List Taken) → P t → All P l → All P (put t l)
 unfolding insert
 insert-all P t [] p h = (p, tt)
 insert-all P t (u ∷ l) p h = by-test (All P) (ltb (t .at) (u .at)) (λ _. (p, (h .0, h .1))) (λ _. (h .0, insert-all P t l p (h .1)))
 
 -- What holds of all pairs, where the new effect may come before or behind any other.
 pub insert-pairs : (R : Taken → Taken → Type 0) (t : Taken) (l : List Taken)
-    → All (λ (u : Taken). R t u) l → All (λ (u : Taken). R u t) l → Pairs R l → Pairs R (insert t l)
+    → All (λ (u : Taken). R t u) l → All (λ (u : Taken). R u t) l → Pairs R l → Pairs R (put t l)
 unfolding insert
 insert-pairs R t [] a b h = (tt, tt)
 insert-pairs R t (u ∷ l) a b h = by-test (Pairs R) (ltb (t .at) (u .at))
@@ -54,7 +55,7 @@ insert-pairs R t (u ∷ l) a b h = by-test (Pairs R) (ltb (t .at) (u .at))
 abbrev pub NotAfter : Taken → Taken → Type 0
 NotAfter t u = t .at ≤ u .at
 
-pub insert-sorted : (t : Taken) (l : List Taken) → Pairs NotAfter l → Pairs NotAfter (insert t l)
+pub insert-sorted : (t : Taken) (l : List Taken) → Pairs NotAfter l → Pairs NotAfter (put t l)
 unfolding insert
 insert-sorted t [] h = (tt, tt)
 insert-sorted t (u ∷ l) h = by-test (Pairs NotAfter) (ltb (t .at) (u .at))

@@ -1,5 +1,5 @@
 -- For every list of events: its effects, in the order of their places, are what the sequential deque served, with its replies.
-use mathlib.Core.Bool.{false, _&&_}
+use mathlib.Core.Bool.{Bool, false, true, _&&_}
 use mathlib.Core.List.{List, [], _∷_, _++_, append-assoc}
 use mathlib.Core.Path.{_≡_, refl, sym, ap, _∙_, subst}
 use Prim.Native.Nat.{ℕ, suc, _<_, _≤_}
@@ -14,16 +14,16 @@ use Rattle.model.specs.declared.Outcome.{Outcome}
 use Rattle.model.specs.declared.Outcome.the-variants.{Refused, Moved}
 use Rattle.model.specs.Deque.{Served, saysNoSlot, serve, serveFor, servePop, servePush, takeFirst, seenFrom}
 use Rattle.model.specs.History.{Call, Effect, Ending, Event, Ledger}
-use Rattle.model.specs.History.{accept, attend, begins, continued, ended, isEffect, isOpen, ledgerFrom, note, over, stepOf, toldEntry}
+use Rattle.model.specs.History.{accept, attend, begins, continued, ended, isEffect, isOpen, lacksSlot, ledgerFrom, note, over, stepOf, toldEntry}
 use Rattle.model.proofs.tests.Truth.{by-test}
 use Rattle.model.specs.Lists.{All}
-use Rattle.audit_model.specs.Written.{Taken, insert, insertAll, taken, effectsOf}
+use Rattle.audit_model.proofs.Taken.{Taken, put, putAll, taken, takenOf}
 use Rattle.audit_model.proofs.Lists.{all-append, all-map}
 use Rattle.audit_model.proofs.Order.{insert-all, insert-before, insert-last}
 
 -- An effect served from deque d: the call gets its reply, a push with its label in some slot.
 abbrev pub servedIn : ℕ → Taken → List Entry → Served
-servedIn slot t d = serveFor (t .reply) (t .kind) (t .side) (record { slot = slot; label = t .entry .label }) d
+servedIn slot t d = serveFor (saysNoSlot (t .reply)) (t .kind) (t .side) (record { slot = slot; label = t .entry .label }) d
 
 -- Served one after another from deque d, these effects have these replies and leave deque d′.
 abbrev pub Replays : List Taken → List Entry → List Entry → Type 0
@@ -43,10 +43,10 @@ never-no-slot kind side e d = by-test (λ (s : Served). saysNoSlot (s .reply) �
     go [] = refl
     go (x ∷ l) = refl
 
-reply-tells : (a : Answer) (kind side : ℕ) (e : Entry) (d : List Entry)
-    → let s = serveFor a kind side e d in serveFor (s .reply) kind side e d ≡ s
+reply-tells : (lacks : Bool) (kind side : ℕ) (e : Entry) (d : List Entry)
+    → let s = serveFor lacks kind side e d in serveFor (saysNoSlot (s .reply)) kind side e d ≡ s
 unfolding serveFor
-reply-tells a kind side e d = by-test (λ (s : Served). serveFor (s .reply) kind side e d ≡ s) (saysNoSlot a)
+reply-tells lacks kind side e d = by-test (λ (s : Served). serveFor (saysNoSlot (s .reply)) kind side e d ≡ s) lacks
     (λ _. refl)
     (λ _. rw (never-no-slot kind side e d))
 
@@ -63,22 +63,22 @@ Now n t = t .at ≡ n
 -- Earlier effects come before the new ones.
 insert-earlier : (n : ℕ) (f : Effect → Taken) → ((e : Effect) → f e .at ≡ e .at)
     → (es : List Effect) (l m : List Taken) → All (λ (e : Effect). e .at < n) es → All (Now n) m
-    → insertAll f es (l ++ m) ≡ insertAll f es l ++ m
+    → putAll f es (l ++ m) ≡ putAll f es l ++ m
 insert-earlier n f p [] l m h z = refl
 insert-earlier n f p (e ∷ es) l m h z =
-    ap (insert (f e)) (insert-earlier n f p es l m (h .1) z)
-    ∙ insert-before (f e) (insertAll f es l) m (all-map (λ (u : Taken) w. omega (arith, h .0, p e)) m z)
+    ap (put (f e)) (insert-earlier n f p es l m (h .1) z)
+    ∙ insert-before (f e) (putAll f es l) m (all-map (λ (u : Taken) w. omega (arith, h .0, p e)) m z)
 
 all-inserted : (n : ℕ) (f : Effect → Taken) → ((e : Effect) → f e .at ≡ e .at)
     → (es : List Effect) (l : List Taken) → All (λ (e : Effect). e .at < n) es
-    → All (AtOrBefore n) l → All (AtOrBefore n) (insertAll f es l)
+    → All (AtOrBefore n) l → All (AtOrBefore n) (putAll f es l)
 all-inserted n f p [] l h z = z
-all-inserted n f p (e ∷ es) l h z = insert-all (AtOrBefore n) (f e) (insertAll f es l) (omega (arith, h .0, p e)) (all-inserted n f p es l (h .1) z)
+all-inserted n f p (e ∷ es) l h z = insert-all (AtOrBefore n) (f e) (putAll f es l) (omega (arith, h .0, p e)) (all-inserted n f p es l (h .1) z)
 
-pub effects-before : (n : ℕ) (cs : List Call) → All (EffectsBefore n) cs → All (AtOrBefore n) (effectsOf cs)
+pub effects-before : (n : ℕ) (cs : List Call) → All (EffectsBefore n) cs → All (AtOrBefore n) (takenOf cs)
 effects-before n [] h = tt
 effects-before n (c ∷ cs) h =
-    all-inserted n (taken (length (c ∷ cs)) (c .kind) (c .side) (c .entry)) (λ e. refl) (c .effects) (effectsOf cs)
+    all-inserted n (taken (length (c ∷ cs)) (c .kind) (c .side) (c .entry)) (λ e. refl) (c .effects) (takenOf cs)
     (h .0) (effects-before n cs (h .1))
 
 module _ (n : ℕ) (ev : Event) (a : Answer) (d : List Entry) where
@@ -86,37 +86,37 @@ module _ (n : ℕ) (ev : Event) (a : Answer) (d : List Entry) where
   pub record Adds (cs : List Call) (l : Ledger) : Type 0 where
     pub new : List Taken
     pub count : length (l .calls) ≡ length cs
-    pub effects : effectsOf (l .calls) ≡ effectsOf cs ++ new
+    pub effects : takenOf (l .calls) ≡ takenOf cs ++ new
     pub here : All (Now n) new
     pub replays : Replays new d (l .deque)
 
   -- A call before others that were attended to keeps its effects where they were.
   keeps : (c : Call) (cs : List Call) (l : Ledger) → EffectsBefore n c → (g : Adds cs l)
-      → insertAll (taken (suc (length (l .calls))) (c .kind) (c .side) (c .entry)) (c .effects) (effectsOf (l .calls)) ≡ effectsOf (c ∷ cs) ++ g .new
-  keeps c cs l h g = (λ i. insertAll (taken (suc (g .count i)) (c .kind) (c .side) (c .entry)) (c .effects) (g .effects i))
-      ∙ insert-earlier n (taken (length (c ∷ cs)) (c .kind) (c .side) (c .entry)) (λ e. refl) (c .effects) (effectsOf cs) (g .new) h (g .here)
+      → putAll (taken (suc (length (l .calls))) (c .kind) (c .side) (c .entry)) (c .effects) (takenOf (l .calls)) ≡ takenOf (c ∷ cs) ++ g .new
+  keeps c cs l h g = (λ i. putAll (taken (suc (g .count i)) (c .kind) (c .side) (c .entry)) (c .effects) (g .effects i))
+      ∙ insert-earlier n (taken (length (c ∷ cs)) (c .kind) (c .side) (c .entry)) (λ e. refl) (c .effects) (takenOf cs) (g .new) h (g .here)
 
   skips : (c : Call) (e : Ending) (cs : List Call) (l : Ledger) → EffectsBefore n c → Adds cs l → Adds (c ∷ cs) (over (continued c (c .effects) e) l)
   skips c e cs l h g = record { new = g .new; count = ap suc (g .count); effects = keeps c cs l h g; here = g .here; replays = g .replays }
 
   -- It takes effect behind them.
   takes : (c : Call) (cs : List Call) (l : Ledger) → EffectsBefore n c → All (EffectsBefore n) cs → Adds cs l
-      → let s = serveFor a (c .kind) (c .side) (toldEntry c ev) (l .deque) in
+      → let s = serveFor (lacksSlot c a) (c .kind) (c .side) (toldEntry c ev) (l .deque) in
       Adds (c ∷ cs) (record { deque = s .deque; calls = continued c (record { at = n; reply = s .reply } ∷ c .effects) (ended n a) ∷ l .calls })
   takes c cs l h hs g =
-      let s = serveFor a (c .kind) (c .side) (toldEntry c ev) (l .deque) in
+      let s = serveFor (lacksSlot c a) (c .kind) (c .side) (toldEntry c ev) (l .deque) in
       let e : Effect = record { at = n; reply = s .reply } in
       let t = taken (length (c ∷ cs)) (c .kind) (c .side) (c .entry) e in
-      let same = reply-tells a (c .kind) (c .side) (toldEntry c ev) (l .deque) in
+      let same = reply-tells (lacksSlot c a) (c .kind) (c .side) (toldEntry c ev) (l .deque) in
       record {
         new = g .new ++ (t ∷ []);
         count = ap suc (g .count);
         effects =
-            (λ i. insert (taken (suc (g .count i)) (c .kind) (c .side) (c .entry) e) (keeps c cs l h g i))
-            ∙ insert-last t (effectsOf (c ∷ cs) ++ g .new)
-            (all-append (AtOrBefore n) (effectsOf (c ∷ cs)) (g .new)
+            (λ i. put (taken (suc (g .count i)) (c .kind) (c .side) (c .entry) e) (keeps c cs l h g i))
+            ∙ insert-last t (takenOf (c ∷ cs) ++ g .new)
+            (all-append (AtOrBefore n) (takenOf (c ∷ cs)) (g .new)
             (effects-before n (c ∷ cs) (h, hs)) (all-map (λ (u : Taken) w. omega arith) (g .new) (g .here)))
-            ∙ append-assoc (effectsOf (c ∷ cs)) (g .new) (t ∷ []);
+            ∙ append-assoc (takenOf (c ∷ cs)) (g .new) (t ∷ []);
         here = all-append (Now n) (g .new) (t ∷ []) (g .here) (refl, tt);
         replays = replays-append (g .new) (t ∷ []) d (l .deque) (s .deque) (g .replays)
             (toldEntry c ev .slot, (ap (λ (s : Served). s .reply) same, ap (λ (s : Served). s .deque) same));
@@ -150,26 +150,26 @@ attend-all n ev a P Q f g k d (c ∷ cs) h =
 -- Before position n.
 pub record Replayed (n : ℕ) (l : Ledger) : Type 0 where
   pub before : All (EffectsBefore n) (l .calls)
-  pub replays : Replays (effectsOf (l .calls)) [] (l .deque)
+  pub replays : Replays (takenOf (l .calls)) [] (l .deque)
 
 later : (n : ℕ) (c : Call) → EffectsBefore n c → EffectsBefore (suc n) c
 later n c h = all-map (λ (e : Effect) w. omega arith) (c .effects) h
 
-begun : (n t kind side : ℕ) (e : Entry) (l : Ledger) → Replayed n l → Replayed (suc n) (over (begins n t kind side e) l)
-begun n t kind side e l g = record { before = (tt, all-map (later n) (l .calls) (g .before)); replays = g .replays }
+begun : (n t kind side : ℕ) (named : Bool) (e : Entry) (l : Ledger) → Replayed n l → Replayed (suc n) (over (begins n t kind side named e) l)
+begun n t kind side named e l g = record { before = (tt, all-map (later n) (l .calls) (g .before)); replays = g .replays }
 
 accepted : (n : ℕ) (ev : Event) (o : Op) (a : Answer) (l : Ledger) → Replayed n l → Replayed (suc n) (accept n ev o a l)
 unfolding accept
-accepted n ev (Push side slot label) a l g = begun n (ev .task) 0 side _ l g
-accepted n ev (Pop side) a l g = begun n (ev .task) 1 side _ l g
-accepted n ev (Put side label) a l g = begun n (ev .task) 0 side _ l g
+accepted n ev (Push side slot label) a l g = begun n (ev .task) 0 side true _ l g
+accepted n ev (Pop side) a l g = begun n (ev .task) 1 side false _ l g
+accepted n ev (Put side label) a l g = begun n (ev .task) 0 side false _ l g
 accepted n ev Step a l g =
     let z = attend-adds n ev a (l .deque) (l .calls) (g .before) in
     record {
       before = attend-all n ev a (EffectsBefore n) (EffectsBefore (suc n)) (later n) (later n) (λ c r h. (omega arith, later n c h))
           (l .deque) (l .calls) (g .before);
       replays = subst (λ (k : List Taken). Replays k [] (attend n ev a (l .deque) (l .calls) .deque)) (sym (z .effects))
-          (replays-append (effectsOf (l .calls)) (z .new) [] (l .deque) _ (g .replays) (z .replays));
+          (replays-append (takenOf (l .calls)) (z .new) [] (l .deque) _ (g .replays) (z .replays));
     }
 
 noted : (n : ℕ) (ev : Event) (o : Outcome) (l : Ledger) → Replayed n l → Replayed (suc n) (note n ev o l)

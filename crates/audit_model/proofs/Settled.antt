@@ -13,7 +13,8 @@ use Rattle.model.specs.Calls.{replyOf}
 use Rattle.model.specs.History.{Call, Effect, Ending, Lawful, Once, answered, pending}
 use Rattle.audit_model.specs.declared.Finished.{Finished}
 use Rattle.audit_model.specs.Audit.{apart, wellFormed}
-use Rattle.audit_model.specs.Written.{IsAnswered, IsTold, Taken, labelTold, taken, written}
+use Rattle.audit_model.specs.Written.{IsAnswered, IsTold, labelTold, written}
+use Rattle.audit_model.proofs.Taken.{Taken, taken}
 use Rattle.audit_model.proofs.Events.{Apart, NotAt, NotTogether, Past}
 
 -- What is written of a reply to a push of label x, or to a pop: its number, and the label pushed or popped.

@@ -11,7 +11,7 @@ use Rattle.model.specs.declared.Entry.{Entry}
 use Rattle.model.specs.Deque.{Served, saysNoSlot, seenFrom, serve, serveFor, servePop, servePush, takeFirst}
 use Rattle.audit_model.specs.declared.Finished.{Finished}
 use Rattle.audit_model.specs.Audit.{Given, agrees, gives, serveLabel, takeLabel}
-use Rattle.audit_model.specs.Written.{Taken}
+use Rattle.audit_model.proofs.Taken.{Taken}
 use Rattle.audit_model.proofs.Settled.{Suits, SuitsReply}
 use Rattle.audit_model.proofs.Replayed.{servedIn}
 

@@ -1,14 +1,14 @@
 -- A worked history: a label pushed, then two pops of it at once; the later pop gets it. And one of a pooled queue with a single slot.
 use mathlib.Core.Path.{_≡_, refl}
 use mathlib.Core.List.{List, [], _∷_, _++_, map}
-use Prim.Native.Nat.{ℕ}
+use Prim.Native.Nat.{ℕ, zero, suc, _+_, _*_}
 use lib.ListN.{replicate}
 use Rattle.model.specs.declared.Op.the-variants.{Push, Pop, Put, Step}
 use Rattle.model.specs.Tables.{Queue, unused, tablesOf, unopened}
 use Rattle.model.specs.Sound.{anchorSound, linkSound, controlSound, recordSound, rowsFit}
 use Rattle.model.specs.Places.{sideOf, row, linkSide, reading, at1, at2, at3, new4, at4, at5, at6, at7, at9, at10, at11, at12, at13, at14, move}
 use Rattle.model.specs.Route.{pushRoute, popRoute, route, onward, answer, goes, counted}
-use Rattle.model.specs.Refusals.{openRefusal, pushRefusal, putRefusal, popRefusal, stepSound, stepRefusal, startRefusal}
+use Rattle.model.specs.Refusals.{openRefusal, stepSound, stepRefusal, startRefusal}
 use Rattle.model.specs.Calls.{opened, openAs, openPooled, openQueue, pushStart, putStart, popStart, finish, step, actOn, act}
 use Rattle.model.specs.Deque.{serve, serveFor, servePop, servePush}
 use Rattle.model.specs.History.{Call, Request, accept, attend, isEffect, ledger, ledgerFrom, note, run, stepOf}
@@ -69,6 +69,11 @@ told code position = record { code = code; position = position }
 abbrev history : List Finished
 history = push ∷ empty ∷ popped 700 5 ∷ []
 
+-- So many pushes, no two events equal.
+abbrev pushes : ℕ → List Finished
+pushes zero = []
+pushes (suc k) = record { task = 0; kind = 0; side = 1; label = 700; answer = 2; start = 2 * k; end = 2 * k + 1 } ∷ pushes k
+
 pub record Table : Type 0 where
   pub written-so : finished calls ≡ history
   -- the second pop took effect first
@@ -89,7 +94,9 @@ pub record Table : Type 0 where
       (1 ∷ 3 ∷ 2 ∷ []) ≡ Passed
   -- a start at another call's answer
   pub same-event : verdict (push ∷ empty ∷ popped 700 3 ∷ []) (1 ∷ 3 ∷ 2 ∷ []) ≡ Refused 40
-  pub too-many : verdict (replicate 65 push) [] ≡ Refused 40
+  -- 64 calls are judged; 65 are refused, though nothing else is wrong with them
+  pub as-many : verdict (pushes 64) [] ≡ Failed 0
+  pub too-many : verdict (pushes 65) [] ≡ Refused 40
   -- a push that named no slot is a push of its label; *no slot* is an answer of its own, which no history knows
   pub pooled-so : finished pooledCalls ≡ drawn ∷ noSlot ∷ []
   pub no-slot : verdict (drawn ∷ noSlot ∷ []) (1 ∷ 2 ∷ []) ≡ Refused 40
@@ -114,6 +121,7 @@ worked = record {
   other-label = refl;
   no-label = refl;
   same-event = refl;
+  as-many = refl;
   too-many = refl;
   pooled-so = refl;
   no-slot = refl;

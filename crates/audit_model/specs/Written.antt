@@ -41,34 +41,28 @@ written c (answered n a) = record {
 abbrev pub finished : List Call → List Finished
 finished cs = reverse (map (λ (c : Call). written c (c .ending)) cs)
 
--- An effect with its call's number, and what the call asked for.
-pub record Taken : Type 0 where
-  pub number : ℕ
+-- An effect: its place in the list, and its call's number.
+pub record Placed : Type 0 where
   pub at : ℕ
-  pub reply : Answer
-  pub kind : ℕ
-  pub side : ℕ
-  pub entry : Entry
+  pub number : ℕ
 
--- Into its place among effects that lie in order.
-unfoldable pub insert : Taken → List Taken → List Taken
-insert t [] = t ∷ []
-insert t (u ∷ l) = cond (ltb (t .at) (u .at)) (t ∷ u ∷ l) (u ∷ insert t l)
+-- Into its place among others that lie in order.
+unfoldable pub insert : {A : Type 0} → (A → ℕ) → A → List A → List A
+insert place x [] = x ∷ []
+insert place x (y ∷ l) = cond (ltb (place x) (place y)) (x ∷ y ∷ l) (y ∷ insert place x l)
 
-abbrev pub taken : ℕ → ℕ → ℕ → Entry → Effect → Taken
-taken number kind side e f = record { number = number; at = f .at; reply = f .reply; kind = kind; side = side; entry = e }
-
-abbrev pub insertAll : (Effect → Taken) → List Effect → List Taken → List Taken
-insertAll f [] l = l
-insertAll f (e ∷ es) l = insert (f e) (insertAll f es l)
+-- The effects of call number n among those of others.
+abbrev pub insertAll : ℕ → List Effect → List Placed → List Placed
+insertAll n [] l = l
+insertAll n (e ∷ es) l = insert (λ (p : Placed). p .at) (record { at = e .at; number = n }) (insertAll n es l)
 
 -- All effects, in the order of their places.
-abbrev pub effectsOf : List Call → List Taken
+abbrev pub effectsOf : List Call → List Placed
 effectsOf [] = []
-effectsOf (c ∷ cs) = insertAll (taken (length (c ∷ cs)) (c .kind) (c .side) (c .entry)) (c .effects) (effectsOf cs)
+effectsOf (c ∷ cs) = insertAll (length (c ∷ cs)) (c .effects) (effectsOf cs)
 
 abbrev pub effectOrder : List Call → List ℕ
-effectOrder cs = map (λ (t : Taken). t .number) (effectsOf cs)
+effectOrder cs = map (λ (p : Placed). p .number) (effectsOf cs)
 
 -- Pushed, empty or popped: no history can tell *no slot*.
 abbrev pub IsTold : Answer → Type 0

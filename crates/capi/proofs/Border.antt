@@ -6,27 +6,18 @@ use Prim.Native.Nat.{ℕ, _≤_}
 use native.Mathlib.Omega.{arith}
 use lib.Dec.{eqb, leb}
 use lib.ListN.{length, set}
-use lib.Seq.{set-getD}
 use Rattle.model.specs.declared.Control.{Control}
-use Rattle.model.specs.declared.Record.{Record}
-use Rattle.model.specs.declared.TaskRecord.{TaskRecord}
 use Rattle.model.specs.declared.Outcome.{Outcome}
 use Rattle.model.specs.declared.Reply.{Reply}
 use Rattle.model.specs.declared.Reported.{Reported}
 use Rattle.model.specs.declared.Op.{Op}
 use Rattle.model.specs.declared.Opening.the-variants as opening
-use Rattle.model.specs.declared.Op.the-variants.{Push, Pop, Put, Step}
-use Rattle.model.specs.Tables.{Tables, Queue, isPooled, tablesOf, queueOf, taskAt, unused, withCall}
+use Rattle.model.specs.Tables.{Tables, Queue, tablesOf, unused}
 use Rattle.model.specs.Sound.{rowsFit}
-use Rattle.model.specs.Refusals.{Lent, among, openRefusal, pushRefusal, putRefusal, popRefusal}
+use Rattle.model.specs.Refusals.{openRefusal}
 use Rattle.model.specs.Report.{report, retryCounts, tell}
-use Rattle.model.specs.Route.{counted}
-use Rattle.model.specs.Calls.{Acted, Done, OpenDone, opened as openedQueue, openAs, pushStart, putStart, popStart, back, act, actOn, openingCode, replyOf}
-use Rattle.model.proofs.tests.Truth.{split, not-both}
-use Rattle.model.specs.declared.Transition.{Transition}
-use Rattle.table.specs.Lent.{withTables}
-use Rattle.sound.specs.Lengths.{lengthsFit}
-use Rattle.model.specs.Ends.{endsCall, isMoved}
+use Rattle.model.specs.Calls.{Done, OpenDone, opened as openedQueue, openAs, act, openingCode, replyOf}
+use Rattle.model.proofs.tests.Truth.{split}
 use Rattle.model.specs.Lists.{zeroed}
 use Rattle.calls.specs.declared.opening.OpenedTables.{OpenedTables}
 use Rattle.calls.specs.Opening.{manyRecords, OpenedParts, openTables, whole}
@@ -34,18 +25,17 @@ use Rattle.calls.proofs.Openings.{clear-fits, open-parts}
 use Rattle.calls.specs.Telling.{countable}
 use Rattle.calls.proofs.Counts.{countable-fits}
 use Rattle.calls.proofs.Tells.{all-looked-at, report-parts}
-use Rattle.rows.specs.Rows.{controlOf, recordsOf, uppersOf, queueIn, withCallAt}
+use Rattle.rows.specs.Rows.{controlOf, recordsOf, uppersOf, queueIn}
 use Rattle.rows.proofs.Rows.{length-records}
-use Rattle.rows.proofs.OneStep.{lent, lent-among}
 use Rattle.capi.specs.Replies.{uppersAt, Coded, coded, Replied, replied, countsIn, reportReplyOf}
 use Rattle.capi.proofs.Count.{busyIn}
 
--- The step, its outcome in numbers.
-pub stepped : (q q′ : Queue) (task : ℕ) (us us′ : List ℕ) (o : Outcome) (r : Reply)
-    → _≡_ {A = Done} (record { queue = q′; outcome = o }) (act q task Step)
-    → us′ ≡ cond (endsCall o) (set us task 0) us → r ≡ replyOf o
-    → _≡_ {A = Replied} (record { queue = q′; uppers = us′; reply = r }) (replied endsCall task us (act q task Step))
-stepped q q′ task us us′ o r e eu er = rw (er, eu) (ap (replied endsCall task us) e)
+-- A start or step, its outcome in numbers. zeroes: after which outcomes the upper half of the label's word is zero.
+pub answered : (zeroes : Outcome → Bool) (op : Op) (q q′ : Queue) (task : ℕ) (us us′ : List ℕ) (o : Outcome) (r : Reply)
+    → _≡_ {A = Done} (record { queue = q′; outcome = o }) (act q task op)
+    → us′ ≡ cond (zeroes o) (set us task 0) us → r ≡ replyOf o
+    → _≡_ {A = Replied} (record { queue = q′; uppers = us′; reply = r }) (replied zeroes task us (act q task op))
+answered zeroes op q q′ task us us′ o r e eu er = rw (er, eu) (ap (replied zeroes task us) e)
 
 -- A named opening neither looks at the next rows nor writes them.
 abbrev nexts : List ℕ → OpenedParts → OpenedParts
@@ -97,72 +87,6 @@ module _ (ws : List ℕ) (rows : List (List ℕ)) (lefts rights labels marks nex
 
   abbrev pub queue : Queue
   queue = queueIn ws rows lefts rights labels marks next
-
-  -- Whether tables of these lengths are long enough for a control.
-  abbrev fit : Control → Bool
-  fit c = lengthsFit (isPooled c) (c .slots) (length lefts) (length rights) (length labels) (length marks) (length next)
-
-  module _ (task : ℕ) where
-    abbrev r₀ : TaskRecord
-    r₀ = taskAt queue task
-
-    -- ---- the starts: they leave control and the count as they are, and all where they are refused
-    abbrev Starts : TaskRecord → Acted → Type 0
-    Starts r a = (a .tables .control ≡ controlOf ws) × (isMoved (a .outcome) ≡ false → a .task ≡ r) × (a .task .retries ≡ r .retries)
-
-    kept : (b : Bool) (r : TaskRecord) (x y : Acted) → Starts r x → Starts r y → Starts r (cond b x y)
-    kept true r x y h _ = h
-    kept false r x y _ h = h
-
-    module _ (o : Op) (starts : (p : Lent) (r : TaskRecord) → Starts r (actOn entry p r o)) (rows′ : List (List ℕ)) (labels′ marks′ : List ℕ) where
-      abbrev leaving : Transition → Control → Replied
-      leaving m c = record {
-        queue = queueOf c (set (recordsOf rows) task
-            (record { call = m .task; retries = counted (r₀ .retries) (m .failed) })) lefts rights labels′ marks′ next;
-        uppers = cond (isMoved (m .outcome)) (set (uppersOf rows) task 0) (uppersOf rows);
-        reply = replyOf (m .outcome);
-      }
-
-      pub started : (c : Control) (n : ℕ) (r : Record) (m : Transition) (u : Reply) → c ≡ controlOf ws → n ≡ length rows → r ≡ r₀ .call
-          → ((k : ℕ) → withTables m lefts rights labels′ marks′ next k
-          ≡ actOn (tablesOf c lefts rights labels marks next) (lent ws rows lefts rights labels marks next task c n) (record {
-            call = r;
-            retries = k;
-          }) o)
-          → recordsOf rows′ ≡ cond (isMoved (m .outcome)) (withCallAt (recordsOf rows) task (m .task)) (recordsOf rows)
-          → uppersOf rows′ ≡ cond (isMoved (m .outcome)) (set (uppersOf rows) task 0) (uppersOf rows) → u ≡ replyOf (m .outcome)
-          → _≡_ {A = Replied} (record { queue = queueIn ws rows′ lefts rights labels′ marks′ next; uppers = uppersOf rows′; reply = u })
-          (replied isMoved task (uppersOf rows) (act queue task o))
-      unfolding act
-      started c n r m u ec en er e e2 e3 eu =
-          let k = r₀ .retries in
-          let left : withTables m lefts rights labels′ marks′ next k ≡ actOn entry (among queue task) r₀ o =
-          e k
-          ∙ ap (λ (p : Lent). actOn (tablesOf c lefts rights labels marks next) p (record { call = r; retries = k }) o)
-          (lent-among ws rows lefts rights labels marks next task c n ec en)
-          ∙ ap (λ (d : Control). actOn (tablesOf d lefts rights labels marks next) (among queue task) (record { call = r; retries = k }) o) ec
-          ∙ ap (λ (t : Record). actOn entry (among queue task) (record { call = t; retries = k }) o) er in
-          let s = subst (Starts r₀) (sym left) (starts (among queue task) r₀) in
-          let put : recordsOf rows′ ≡ set (recordsOf rows) task (record { call = m .task; retries = counted k (m .failed) }) =
-          split (isMoved (m .outcome))
-          (λ a. e2 ∙ rw a (ap (λ (n : ℕ). set (recordsOf rows) task (record { call = m .task; retries = n })) (sym (s .2))))
-          (λ a. e2 ∙ rw a (sym (set-getD (recordsOf rows) task unused) ∙ ap (set (recordsOf rows) task) (sym (s .1 a)))) in
-          rw (eu, put, e3)
-          (ap (leaving m) (sym (s .0)) ∙ ap (λ (a : Acted). replied isMoved task (uppersOf rows) (back queue task a)) left)
-
-    pub push-starts : (side slot label : ℕ) (p : Lent) (r : TaskRecord) → Starts r (actOn entry p r (Push side slot label))
-    unfolding actOn pushStart
-    push-starts side slot label p r = kept (eqb (pushRefusal entry p (r .call) side slot) 0) r _ _ (refl, λ h. absurd (not-both refl h), refl)
-        (refl, λ _. refl, refl)
-
-    pub put-starts : (side label : ℕ) (p : Lent) (r : TaskRecord) → Starts r (actOn entry p r (Put side label))
-    unfolding actOn putStart
-    put-starts side label p r = kept (eqb (putRefusal entry p (r .call) side) 0) r _ _ (refl, λ h. absurd (not-both refl h), refl)
-        (refl, λ _. refl, refl)
-
-    pub pop-starts : (side : ℕ) (p : Lent) (r : TaskRecord) → Starts r (actOn entry p r (Pop side))
-    unfolding actOn popStart
-    pop-starts side p r = kept (eqb (popRefusal entry p (r .call) side) 0) r _ _ (refl, λ h. absurd (not-both refl h), refl) (refl, λ _. refl, refl)
 
   -- ---- the opening
   module _ (pooled : Bool) (tasks slots tag : ℕ) (ws′ : List ℕ) (rows′ : List (List ℕ)) (lefts′ rights′ labels′ marks′ next′ : List ℕ)

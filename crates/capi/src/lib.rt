@@ -3,10 +3,10 @@
 pub mod openings;
 
 use calls::report;
-use calls::start;
 use model::Reply;
 use model::Report;
 use model::Reported;
+use rows::op;
 ghost use mathlib.Core.Path.{_≡_};
 ghost use mathlib.Core.Bool.{not};
 ghost use Prim.Native.Nat.{_≤_};
@@ -94,14 +94,9 @@ pub extern "C" fn zc_push(
         (now (lefts .entry)) (now (rights .entry)) (now (labels .entry)) (now (marks .entry)) (now (next .entry)))
         task (Push side slot label))) ⌝ }
 {
-    let row = *control;
-    let c = rows::control_of(row);
-    let n = records.len();
-    let r = rows::call_at(records, task);
-    let m = start::push_start(
-        c,
-        r,
-        n,
+    let o = op::push(
+        control,
+        records,
         task,
         side,
         slot,
@@ -112,8 +107,6 @@ pub extern "C" fn zc_push(
         marks,
         next,
     );
-    rows::store_start(records, task, m);
-    let o = m.outcome;
     engine::reply(o)
 }
 
@@ -144,14 +137,9 @@ pub extern "C" fn zc_push_pooled(
         (now (lefts .entry)) (now (rights .entry)) (now (labels .entry)) (now (marks .entry)) (now (next .entry)))
         task (Put side label))) ⌝ }
 {
-    let row = *control;
-    let c = rows::control_of(row);
-    let n = records.len();
-    let r = rows::call_at(records, task);
-    let m = start::put_start(
-        c,
-        r,
-        n,
+    let o = op::put(
+        control,
+        records,
         task,
         side,
         label,
@@ -161,8 +149,6 @@ pub extern "C" fn zc_push_pooled(
         marks,
         next,
     );
-    rows::store_start(records, task, m);
-    let o = m.outcome;
     engine::reply(o)
 }
 
@@ -192,13 +178,17 @@ pub extern "C" fn zc_pop(
         (now (lefts .entry)) (now (rights .entry)) (now (labels .entry)) (now (marks .entry)) (now (next .entry)))
         task (Pop side))) ⌝ }
 {
-    let row = *control;
-    let c = rows::control_of(row);
-    let n = records.len();
-    let r = rows::call_at(records, task);
-    let m = start::pop_start(c, r, n, task, side, lefts, rights, labels, marks, next);
-    rows::store_start(records, task, m);
-    let o = m.outcome;
+    let o = op::pop(
+        control,
+        records,
+        task,
+        side,
+        lefts,
+        rights,
+        labels,
+        marks,
+        next,
+    );
     engine::reply(o)
 }
 

@@ -1,1 +1,2 @@
 pub mod StepsLeft
+pub mod NoSteps

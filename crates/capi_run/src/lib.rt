@@ -3,13 +3,12 @@
 use model::Answer;
 use model::Outcome;
 ghost use mathlib.Core.Path.{_≡_};
-ghost use mathlib.Core.Bool.{cond};
-ghost use Prim.Native.Nat.{_+_, _<_};
+ghost use lib.ListN.{getD};
 ghost use Rattle.model.specs.declared.Answer.the-variants.{Running};
 ghost use Rattle.model.specs.declared.Outcome.the-variants.{Moved};
-ghost use Rattle.model.specs.Ends.{isMoved};
+ghost use Rattle.model.specs.Tables.{unused};
 ghost use Rattle.model.specs.Solo.{soloRun};
-ghost use Rattle.rows.specs.Rows.{queueIn, uppersOf};
+ghost use Rattle.rows.specs.Rows.{queueIn, recordsOf, uppersOf};
 ghost use Rattle.capi_run.specs.Replies.{runReplyOf, Ran, ran};
 
 /// An outcome in numbers, and the steps made.
@@ -36,22 +35,54 @@ fn run_reply(o: Outcome, steps: u64) -> RunReply
     }
 }
 
-// A refused step is not made.
-fn made(steps: u64, o: Outcome) -> u64
-    requires { ⌜ steps < 18446744073709551615 ⌝ }
-    ensures { λ n. ⌜ n ≡ steps + cond (isMoved o) 1 0 ⌝ }
+/// No further step is made: the task is running at its place.
+fn resting(records: &[[u64; rows::RECORD_WORDS]], task: usize, steps: u64) -> RunReply
+    ensures { λ r. ⌜ r ≡ runReplyOf (Moved (Running (getD (recordsOf (now (records .entry))) task unused .call .place))) steps ⌝ }
 {
-    if engine::moves(o) { steps + 1 } else { steps }
+    let r = rows::call_at(records, task);
+    run_reply(Outcome::Moved(Answer::Running(r.place)), steps)
 }
 
-// No step is left to make: the task is running at its place.
-fn running(place: u64) -> Outcome
-    ensures { λ o. ⌜ o ≡ Moved (Running place) ⌝ }
+/// A run of no steps: what its first step would be refused by, else the task is running at its place.
+fn asked(
+    control: &[u64; rows::CONTROL_WORDS],
+    records: &[[u64; rows::RECORD_WORDS]],
+    task: usize,
+    lefts: &[u64],
+    rights: &[u64],
+    labels: &[u32],
+    marks: &[u64],
+    next: &[u64],
+) -> RunReply
+    ensures { λ r.
+        ⌜ (let d = soloRun 0
+        (queueIn (now (control .entry)) (now (records .entry))
+        (now (lefts .entry)) (now (rights .entry)) (now (labels .entry)) (now (marks .entry)) (now (next .entry)))
+        task in r ≡ runReplyOf (d .outcome) (d .steps)) ⌝ }
 {
-    Outcome::Moved(Answer::Running(place))
+    let words = *control;
+    let c = rows::control_of(words);
+    let r = rows::call_at(records, task);
+    let why = asking::refusal(
+        c,
+        r,
+        records.len(),
+        task,
+        lefts,
+        rights,
+        labels,
+        marks,
+        next,
+    );
+    if why != 0 {
+        return run_reply(Outcome::Refused(why), 0);
+    }
+    resting(records, task, 0)
 }
 
-/// Moves a task until a step doesn't answer running, `most` steps at the most.
+/// Moves a task until a step doesn't answer running, `most` steps at the most. It is refused by what its
+/// first step is refused by, or would be, and then nothing is changed; a later step that is refused is not
+/// made, and ends the run.
 #[no_mangle]
 pub extern "C" fn zc_run(
     control: &mut [u64; rows::CONTROL_WORDS],
@@ -78,14 +109,22 @@ pub extern "C" fn zc_run(
         (now (lefts .entry)) (now (rights .entry)) (now (labels .entry)) (now (marks .entry)) (now (next .entry)))
         task)) ⌝ }
 {
+    if most == 0 {
+        return asked(control, records, task, lefts, rights, labels, marks, next);
+    }
     let mut steps: u64 = 0;
     while steps < most {
         let o = rows::step(control, records, task, lefts, rights, labels, marks, next);
         if !engine::runs(o) {
-            return run_reply(o, made(steps, o));
+            if engine::moves(o) {
+                return run_reply(o, steps + 1);
+            }
+            if steps == 0 {
+                return run_reply(o, 0);
+            }
+            return resting(records, task, steps);
         }
         steps += 1;
     }
-    let r = rows::call_at(records, task);
-    run_reply(running(r.place), steps)
+    resting(records, task, steps)
 }

@@ -3,23 +3,21 @@ use Prim.Native.Nat.{ℕ, _+_, _≤_}
 use mathlib.Core.Path.{_≡_, refl, sym, ap, _∙_}
 use mathlib.Core.Bool.{Bool, true, false, not, cond}
 use mathlib.Core.List.{List, [], _∷_, append-nil}
-use lib.Dec.{leb, ltb, eqb}
-use lib.ListN.{length, getD}
+use lib.Dec.{leb, eqb}
+use lib.ListN.{length}
 use borrow.Author.Tests.{leb-true, le-leb}
-use Rattle.model.specs.declared.Record.{Record}
+use Rattle.model.specs.declared.Control.{Control}
+use Rattle.model.specs.declared.Outcome.{Outcome}
 use Rattle.model.specs.declared.TaskRecord.{TaskRecord}
 use Rattle.model.specs.declared.Op.{Op}
 use Rattle.model.specs.declared.Opening.the-variants as opening
-use Rattle.model.specs.Tables.{Tables, Queue, taskAt, unused}
-use Rattle.model.specs.Refusals.{Lent, among, openRefusal}
-use Rattle.model.specs.Calls.{Acted, OpenDone, act, actOn, openAs}
+use Rattle.model.specs.Tables.{Tables, Queue, queueOf, unused}
+use Rattle.model.specs.Refusals.{openRefusal}
+use Rattle.model.specs.Calls.{Done, OpenDone, act, openAs}
 use Rattle.model.specs.Calls as calls
 use Rattle.model.specs.History.{run, final}
-use Rattle.model.specs.declared.Transition.{Transition}
 use Rattle.model.specs.Lists.{zeroed}
-use Rattle.table.specs.Lent.{withTables}
-use Rattle.rows.specs.Rows.{recordsOf}
-use Rattle.rows.proofs.Rows.{length-records}
+use Rattle.rows.specs.Rows.{controlOf, recordsOf, queueIn}
 use Rattle.calls.specs.Opening.{OpenedParts, manyRecords, openTables, whole}
 use Rattle.calls.proofs.Openings.{open-parts}
 use Rattle.lines.specs.Line.{Put, fitting, room, lineOf}
@@ -36,38 +34,23 @@ unfolding fitting
 put-fits out out′ to to′ l h p = rw (le-leb (to + 128) (length out) h) at p
 
 -- An operation answered is the list of that one operation.
-answered-one : (p : Page) (task : ℕ) (op : Op)
-    → answered p task op (actOn (p .run .queue .tables) (among (p .run .queue) task) (taskAt (p .run .queue) task) op)
-    ≡ operates p (record { task = task; op = op } ∷ [])
+answered-one : (p : Page) (task : ℕ) (op : Op) → answered p task op (act (p .run .queue) task op) ≡ operates p (record { task = task; op = op } ∷ [])
 unfolding answered operated final run linesOf numberOf act emptied
 answered-one p task op = rw append-nil
 
--- The same for the code's values: r is the task's record, n the number of rows, m what was done, x the page afterwards.
-module _ (s : RunState) (out : List ℕ) (rows : List (List ℕ)) (ls rs bs ms ns ls′ rs′ bs′ ms′ ns′ : List ℕ) (n task : ℕ) (op : Op)
-    (r : Record) (m : Transition) (x : Page) where
-  abbrev before : Page
-  before = pageOf s out rows ls rs bs ms ns
-
-  abbrev lent : ℕ → Lent
-  lent k = record { enough = leb (s .control .tasks) k; known = ltb task (s .control .tasks) }
-
-  abbrev own : ℕ
-  own = getD (recordsOf rows) task unused .retries
-
-  abbrev counted : Record → ℕ → TaskRecord
-  counted y k = record { call = y; retries = k }
-
-  pub operate-page : n ≡ length rows → r ≡ getD (recordsOf rows) task unused .call
-      → ((k : ℕ) → withTables m ls′ rs′ bs′ ms′ ns′ k ≡ actOn (before .run .queue .tables) (lent n) (counted r k) op)
-      → x ≡ answered (pageOf s out rows ls′ rs′ bs′ ms′ ns′) task op (withTables m ls′ rs′ bs′ ms′ ns′ own)
-      → x ≡ operates before (record { task = task; op = op } ∷ [])
-  unfolding answered written
-  operate-page en er e ex =
-      let q = before .run .queue in
-      let done : withTables m ls′ rs′ bs′ ms′ ns′ own ≡ actOn (q .tables) (among q task) (taskAt q task) op =
-      e own ∙ ap (λ (k : ℕ). actOn (q .tables) (lent k) (counted r own) op) (en ∙ sym (length-records rows))
-      ∙ ap (λ (y : Record). actOn (q .tables) (among q task) (counted y own) op) er in
-      ex ∙ ap (answered before task op) done ∙ answered-one before task op
+-- The same for the code's values: the rows are those before, after the operation, and at last; x is the page afterwards.
+pub operate-page : (s : RunState) (out ws ws′ : List ℕ) (rows rows₁ rows₂ : List (List ℕ)) (ls rs bs ms ns ls′ rs′ bs′ ms′ ns′ : List ℕ) (task : ℕ) (op : Op)
+    (c : Control) (o : Outcome) (x : Page)
+    → controlOf ws ≡ s .control → c ≡ controlOf ws′
+    → _≡_ {A = Done} (record { queue = queueIn ws′ rows₁ ls′ rs′ bs′ ms′ ns′; outcome = o }) (act (queueIn ws rows ls rs bs ms ns) task op)
+    → recordsOf rows₂ ≡ recordsOf rows₁
+    → x ≡ answered (pageOf s out rows ls rs bs ms ns) task op (record { queue = queueOf c (recordsOf rows₂) ls′ rs′ bs′ ms′ ns′; outcome = o })
+    → x ≡ operates (pageOf s out rows ls rs bs ms ns) (record { task = task; op = op } ∷ [])
+operate-page s out ws ws′ rows rows₁ rows₂ ls rs bs ms ns ls′ rs′ bs′ ms′ ns′ task op c o x ews ec e er ex =
+    let before = pageOf s out rows ls rs bs ms ns in
+    let done : _≡_ {A = Done} (record { queue = queueOf c (recordsOf rows₂) ls′ rs′ bs′ ms′ ns′; outcome = o }) (act (before .run .queue) task op) =
+    rw (ec, er) (e ∙ ap (λ (d : Control). act (queueOf d (recordsOf rows) ls rs bs ms ns) task op) ews) in
+    ex ∙ ap (answered before task op) done ∙ answered-one before task op
 
 -- A malformed place told where its line fits.
 pub break-page : (p : Page) (event : ℕ) (out : List ℕ) (to : ℕ) → leb (p .to + room) (length (p .out)) ≡ true → event ≡ next (p .run .event)

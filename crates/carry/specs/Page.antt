@@ -7,7 +7,7 @@ use lib.ListN.{length, take, drop, set}
 use lib.Seq.{sets}
 use Rattle.model.specs.declared.Op.{Op}
 use Rattle.model.specs.Tables.{queueOf}
-use Rattle.model.specs.Calls.{Acted, back, openAs}
+use Rattle.model.specs.Calls.{Done, openAs}
 use Rattle.model.specs.History.{Request}
 use Rattle.model.specs.Lists.{zeroed}
 use Rattle.rows.specs.Rows.{recordsOf, uppersOf}
@@ -46,12 +46,12 @@ pageOf s out rows lefts rights labels marks next = record {
 unfoldable pub written : Page → Told → List ℕ → Page
 written p t u = record { run = t .run; uppers = u; out = sets (p .out) (p .to) (t .lines); to = p .to + length (t .lines); at = p .at }
 
--- An operation that was done: its record is put back, and its line written.
-unfoldable pub answered : Page → ℕ → Op → Acted → Page
-answered p task op a =
+-- An operation that was done: its line is written.
+unfoldable pub answered : Page → ℕ → Op → Done → Page
+answered p task op d =
     let r = p .run in
-    let run : Run = record { queue = back (r .queue) task a .queue; opened = r .opened; over = r .over; event = next (r .event) } in
-    let line = lineOf (next (r .event)) (Act task op (a .outcome)) (a .tables .control .anchor) in
+    let run : Run = record { queue = d .queue; opened = r .opened; over = r .over; event = next (r .event) } in
+    let line = lineOf (next (r .event)) (Act task op (d .outcome)) (d .queue .tables .control .anchor) in
     written p (record { run = run; lines = line }) (set (p .uppers) task 0)
 
 -- The row of a record that is stored has no upper half: those of a field's starts and steps, and of an opening.

@@ -1,41 +1,38 @@
 //! What each field does, with its lines.
 use crate::RunState;
 use calls::opening;
-use engine::op;
 use lines::Line;
+use model::Control;
 use model::Op;
 use model::Opening;
-use model::Transition;
+use model::Outcome;
 ghost use mathlib.Core.Path.{_≡_};
 ghost use mathlib.Core.List.{List, [], _∷_};
 ghost use Prim.Native.Nat.{ℕ, _+_, _*_, _-_, _≤_};
-ghost use lib.ListN.{length, getD};
+ghost use lib.ListN.{length, set};
 ghost use lib.Seq.{slice};
-ghost use Rattle.model.specs.Tables.{unused};
-ghost use Rattle.table.specs.Lent.{withTables};
-ghost use Rattle.rows.specs.Rows.{recordsOf};
+ghost use Rattle.model.specs.Tables.{queueOf};
+ghost use Rattle.rows.specs.Rows.{recordsOf, uppersOf};
 ghost use Rattle.carry.specs.Run.{isOpened, eachOf};
 ghost use Rattle.carry.specs.Page.{pageOf, answered, operates, opens};
 
-// An operation that was done: its record stored, its line written.
+// An operation that was done: its line written.
 fn answer(
     s: RunState,
-    m: Transition,
+    control: Control,
+    outcome: Outcome,
     task: usize,
     op: Op,
     out: &mut [u8],
-    rows: &mut [[u64; rows::RECORD_WORDS]],
 ) -> RunState
     requires { ⌜ s .to + 128 ≤ length (now out) ⌝ }
     ensures { λ r.
-        ⌜ ((ls rs bs ms ns : List ℕ) → pageOf r (now (out .exit)) (now (rows .exit)) ls rs bs ms ns
-        ≡ answered (pageOf s (now (out .entry)) (now (rows .entry)) ls rs bs ms ns) task op
-        (withTables m ls rs bs ms ns (getD (recordsOf (now (rows .entry))) task unused .retries))) ⌝ }
+        ⌜ ((rows rows′ : List (List ℕ)) (ls rs bs ms ns ls′ rs′ bs′ ms′ ns′ : List ℕ) → uppersOf rows′ ≡ set (uppersOf rows) task 0
+        → pageOf r (now (out .exit)) rows′ ls′ rs′ bs′ ms′ ns′
+        ≡ answered (pageOf s (now (out .entry)) rows ls rs bs ms ns) task op
+        (record { queue = queueOf control (recordsOf rows′) ls′ rs′ bs′ ms′ ns′; outcome = outcome })) ⌝ }
     ensures { λ r. ⌜ r .to ≤ s .to + 128 ⌝ }
 {
-    let control = m.control;
-    let outcome = m.outcome;
-    rows::put_acted(rows, task, m);
     let event = std::num::wrapping_add_u64(s.event, 1);
     let to = lines::write_line(
         out,
@@ -78,11 +75,10 @@ fn operate(
     ensures { λ r. ⌜ r .to ≤ s .to + 128 ⌝ }
 {
     let c = s.control;
-    let r = rows::call_at(rows, task);
-    let m = op::act(
-        c,
-        r,
-        rows.len(),
+    let mut words = rows::control_row(c);
+    let outcome = rows::op::operate(
+        &mut words,
+        rows,
         task,
         op,
         lefts,
@@ -91,7 +87,9 @@ fn operate(
         marks,
         next,
     );
-    answer(s, m, task, op, out, rows)
+    rows::trim(rows, task);
+    let control = rows::control_of(words);
+    answer(s, control, outcome, task, op, out)
 }
 
 /// The operation for each of the task bytes from `from` to `end`.

@@ -9,8 +9,12 @@ use runfile::Field;
 ghost use mathlib.Core.Path.{_≡_};
 ghost use mathlib.Core.List.{List};
 ghost use Prim.Native.Nat.{ℕ, _+_, _≤_};
+ghost use lib.Dec.{leb};
 ghost use lib.ListN.{length, drop};
-ghost use Rattle.carry.specs.Page.{pageOf, breaks, carries, BytesThere};
+ghost use Rattle.carry.specs.Page.{pageOf, fieldRoom, breaks, carries, takes, BytesThere};
+
+// Room in the buffer for the lines of any one field.
+const FIELD_ROOM: usize = 524288;
 
 /// A run between two fields.
 pub struct RunState {
@@ -48,8 +52,8 @@ pub fn malformed(s: RunState, out: &mut [u8]) -> RunState
     s
 }
 
-/// A field at a position of the bytes. One that waits does nothing.
-pub fn carry_out(
+// A field at a position of the bytes. One that waits does nothing.
+fn carry_out(
     s: RunState,
     field: Field,
     bytes: &[u8],
@@ -110,4 +114,56 @@ pub fn carry_out(
         Field::Cut => s,
         Field::End => s,
     }
+}
+
+// Whether the buffer has room for the lines of any one field.
+fn has_room(len: usize, to: usize) -> bool
+    ensures { λ r. ⌜ r ≡ leb (to + fieldRoom) len ⌝ }
+{
+    if len < FIELD_ROOM {
+        return false;
+    }
+    to <= len - FIELD_ROOM
+}
+
+/// The field at the reading position. Nothing is done where the buffer has no room for its lines.
+pub fn take(
+    s: RunState,
+    bytes: &[u8],
+    out: &mut [u8],
+    rows: &mut [[u64; rows::RECORD_WORDS]],
+    lefts: &mut [u64],
+    rights: &mut [u64],
+    labels: &mut [u32],
+    marks: &mut [u64],
+    next: &mut [u64],
+) -> RunState
+    ensures { λ r.
+        ⌜ pageOf r (now (out .exit)) (now (rows .exit))
+        (now (lefts .exit)) (now (rights .exit)) (now (labels .exit)) (now (marks .exit)) (now (next .exit))
+        ≡ takes (now (bytes .entry))
+        (pageOf s (now (out .entry)) (now (rows .entry))
+        (now (lefts .entry)) (now (rights .entry)) (now (labels .entry)) (now (marks .entry)) (now (next .entry))) ⌝ }
+{
+    if has_room(out.len(), s.to) {
+        let at = s.at;
+        let found = runfile::field_at(bytes, at, s.opened);
+        let field = found.field;
+        let mut q = carry_out(
+            s,
+            field,
+            bytes,
+            at,
+            out,
+            rows,
+            lefts,
+            rights,
+            labels,
+            marks,
+            next,
+        );
+        q.at = at + found.size;
+        return q;
+    }
+    s
 }

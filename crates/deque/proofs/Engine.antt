@@ -31,14 +31,14 @@ use Rattle.model.specs.declared.Control.{Control}
 use Rattle.model.specs.declared.TaskRecord.{TaskRecord}
 use Rattle.model.specs.Tables.{Tables, tablesOf}
 use Rattle.model.specs.Calls.{Acted}
-use Rattle.deque.specs.declared.Stepped.{Stepped}
+use Rattle.rows.specs.declared.value.Stepped.{Stepped}
 use Rattle.deque.proofs.Walk.{control-value, record-value, slice-value}
 use Rattle.model.proofs.Control as K
 use Rattle.model.proofs.Control.Laws as K′
 use Rattle.model.proofs.TaskRecord as T
 use Rattle.model.proofs.TaskRecord.Laws as T′
-use Rattle.deque.proofs.Stepped as N
-use Rattle.deque.proofs.move_on as move-on
+use Rattle.rows.proofs.value.Stepped as N
+use Rattle.rows.proofs.value.move_on as move-on
 
 -- Something of each list: lefts, rights, labels, marks and next rows.
 abbrev pub Five : Type 0 → Type 0

@@ -3,13 +3,13 @@ use mathlib.Core.List.{[], _∷_}
 use mir.Val.{Val}
 use denote.Laws.{Is}
 use denote.Struct.Laws as LL
-use Rattle.deque.specs.declared.Stepped.{Stepped}
+use Rattle.rows.specs.declared.value.Stepped.{Stepped}
 use Rattle.deque.proofs.Walk.{control-value, record-value, outcome-value}
 use Rattle.model.proofs.Control as K
 use Rattle.model.proofs.TaskRecord as T
 use Rattle.model.proofs.Outcome as E
-use Rattle.deque.proofs.Stepped as N
-use Rattle.deque.proofs.Stepped.Laws as N′
+use Rattle.rows.proofs.value.Stepped as N
+use Rattle.rows.proofs.value.Stepped.Laws as N′
 
 pub control-of : (m : Stepped) {w : Val} → Is N.the-row m (w ∷ []) → Is K.the-row (m .control) (control-value (m .control) ∷ [])
 control-of m is = LL.owed N.the-type N′.the-laws m _ is .0

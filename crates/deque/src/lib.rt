@@ -3,63 +3,14 @@
 use model::Control;
 use model::Outcome;
 use model::TaskRecord;
-use model::Transition;
+use rows::value;
+use rows::value::Stepped;
 use sound::admission;
 ghost use mathlib.Core.Path.{_≡_};
 ghost use Rattle.model.specs.declared.Op.the-variants.{Step};
 ghost use Rattle.model.specs.Tables.{tablesOf, queueOf};
 ghost use Rattle.model.specs.Calls as calls;
 ghost use Rattle.model.specs.Calls.{Done, act, stepLent};
-ghost use Rattle.model.specs.Route.{counted};
-ghost use Rattle.engine.specs.MoveOn.{moveOn};
-
-/// What a step leaves of control and its task's record, and its outcome.
-struct Stepped {
-    control: Control,
-    task: TaskRecord,
-    outcome: Outcome,
-}
-
-/// The same of a step by value: a failed change is counted in the record.
-fn counting(t: TaskRecord, m: Transition) -> Stepped
-    ensures { λ s.
-        ⌜ s
-        ≡ record { control = m .control; task = record { call = m .task; retries = counted (t .retries) (m .failed) }; outcome = m .outcome } ⌝ }
-{
-    let retries = table::counted(t.retries, m.failed);
-    let control = m.control;
-    let call = m.task;
-    let outcome = m.outcome;
-    Stepped {
-        control: control,
-        task: TaskRecord { call, retries },
-        outcome: outcome,
-    }
-}
-
-/// The step of a record once it is admitted.
-fn move_on(
-    c: Control,
-    t: TaskRecord,
-    lefts: &mut [u64],
-    rights: &mut [u64],
-    labels: &mut [u32],
-    marks: &mut [u64],
-    next: &mut [u64],
-) -> Stepped
-    ensures { λ s.
-        ⌜ _≡_ {A = calls.Acted}
-        (record {
-          tables = tablesOf (s .control) (now (lefts .exit)) (now (rights .exit)) (now (labels .exit)) (now (marks .exit)) (now (next .exit));
-          task = s .task;
-          outcome = s .outcome;
-        })
-        (moveOn (tablesOf c (now (lefts .entry)) (now (rights .entry)) (now (labels .entry)) (now (marks .entry)) (now (next .entry))) t) ⌝ }
-{
-    let r = t.call;
-    let m = engine::move_on(c, r, lefts, rights, labels, marks, next);
-    counting(t, m)
-}
 
 /// The step of a record lent alone.
 fn step_alone(
@@ -80,9 +31,23 @@ fn step_alone(
         })
         (stepLent (tablesOf c (now (lefts .entry)) (now (rights .entry)) (now (labels .entry)) (now (marks .entry)) (now (next .entry))) t) ⌝ }
 {
-    let r = t.call;
-    let m = engine::step_alone(c, r, lefts, rights, labels, marks, next);
-    counting(t, m)
+    let why = admission::admit_alone(
+        c,
+        lefts.len(),
+        rights.len(),
+        labels.len(),
+        marks.len(),
+        next.len(),
+    );
+    if why != 0 {
+        let outcome = engine::refuse(why);
+        return Stepped {
+            control: c,
+            task: t,
+            outcome,
+        };
+    }
+    value::move_on(c, t, lefts, rights, labels, marks, next)
 }
 
 /// Moves a task by one step.
@@ -124,7 +89,7 @@ pub fn step(
     }
     let record = &mut records[task];
     let t = *record;
-    let m = move_on(c, t, lefts, rights, labels, marks, next);
+    let m = value::move_on(c, t, lefts, rights, labels, marks, next);
     *control = m.control;
     *record = m.task;
     m.outcome

@@ -8,17 +8,16 @@ use Rattle.model.specs.declared.Record.{Record}
 use Rattle.model.specs.declared.TaskRecord.{TaskRecord}
 use Rattle.model.specs.declared.Outcome.{Outcome}
 use Rattle.model.specs.declared.Outcome.the-variants as outcome
-use Rattle.model.specs.Tables.{Tables, tablesOf, counting, idle, withOwn, withWords}
+use Rattle.model.specs.Tables.{Tables, tablesOf, counting, idle, ofKind, withCall, withOwn, withWords}
 use Rattle.model.specs.Route.{counted}
-use Rattle.model.specs.Refusals.{Lent}
-use Rattle.model.specs.Calls.{Acted, step}
+use Rattle.model.specs.Calls.{Acted}
 use Rattle.model.proofs.tests.Truth.{split, not-both}
 use Rattle.model.specs.declared.Transition.{Transition}
 use Rattle.model.specs.Ends.{endsCall, isMoved}
 use Rattle.engine.specs.MoveOn.{moveOn}
-use Rattle.engine.specs.Stored.{controlMoved, recordMoved, controlAfter, recordAfter, anchorMoved, callMoved, anchorAfter, callAfter}
+use Rattle.engine.specs.Stored.{anchorMoved, callMoved, headMoved, ownMoved, anchorAfter, callAfter, headAfter, ownAfter}
 use Rattle.engine.proofs.ByPlace.{Keeps}
-use Rattle.engine.proofs.Unchanged.{Unchanged, step-kept, moved-on}
+use Rattle.engine.proofs.Unchanged.{Unchanged, moved-on}
 
 -- A refused step ends no call.
 pub refused-goes : (o : Outcome) → isMoved o ≡ false → endsCall o ≡ false
@@ -31,21 +30,6 @@ module _ (c : Control) (r : TaskRecord) (m : Transition) where
   abbrev pub goneOn : Record → TaskRecord
   goneOn t = counting t (counted (r .retries) (m .failed))
 
-  pub stored-end : isMoved (m .outcome) ≡ true → endsCall (m .outcome) ≡ true
-      → (controlMoved c (m .control) ≡ controlAfter c m) × (goneOn idle ≡ recordAfter r m)
-  unfolding controlAfter recordAfter
-  stored-end a b = (rw a, rw (a, b))
-
-  pub stored-going : isMoved (m .outcome) ≡ true → endsCall (m .outcome) ≡ false
-      → (controlMoved c (m .control) ≡ controlAfter c m) × (goneOn (recordMoved (r .call) (m .task)) ≡ recordAfter r m)
-  unfolding controlAfter recordAfter
-  stored-going a b = (rw a, rw (a, b))
-
-  pub stored-nothing : isMoved (m .outcome) ≡ false → (c ≡ controlAfter c m) × (r ≡ recordAfter r m)
-  unfolding controlAfter recordAfter
-  stored-nothing a = (rw a, rw a)
-
-  -- The same at places 1 to 10.
   pub early-end : isMoved (m .outcome) ≡ true → endsCall (m .outcome) ≡ true
       → (anchorMoved c (m .control) ≡ anchorAfter c m) × (goneOn idle ≡ callAfter r m)
   unfolding anchorAfter callAfter
@@ -59,6 +43,28 @@ module _ (c : Control) (r : TaskRecord) (m : Transition) where
   pub early-nothing : isMoved (m .outcome) ≡ false → (c ≡ anchorAfter c m) × (r ≡ callAfter r m)
   unfolding anchorAfter callAfter
   early-nothing a = (rw a, rw a)
+
+  -- Beyond 10, besides.
+  pub rest-end : isMoved (m .outcome) ≡ true → endsCall (m .outcome) ≡ true
+      → (headMoved c (m .control) ≡ headAfter c m) × (r ≡ ownAfter r m)
+  unfolding headAfter ownAfter
+  rest-end a b = (rw a, rw (a, b))
+
+  pub rest-going : isMoved (m .outcome) ≡ true → endsCall (m .outcome) ≡ false
+      → (headMoved c (m .control) ≡ headAfter c m) × (withCall r (ownMoved (r .call) (m .task)) ≡ ownAfter r m)
+  unfolding headAfter ownAfter
+  rest-going a b = (rw a, rw (a, b))
+
+  pub rest-nothing : isMoved (m .outcome) ≡ false → (c ≡ headAfter c m) × (r ≡ ownAfter r m)
+  unfolding headAfter ownAfter
+  rest-nothing a = (rw a, rw a)
+
+-- Control and call with all that a step may change of another.
+abbrev controlMoved : Control → Control → Control
+controlMoved old c = withWords old (c .anchor) (c .head)
+
+abbrev recordMoved : Record → Record → Record
+recordMoved old r = ofKind r (old .kind) (old .side)
 
 -- A control or record whose kept fields are its own.
 whole-control : (c old : Control) → c .tasks ≡ old .tasks → c .slots ≡ old .slots → c .pooled ≡ old .pooled → controlMoved old c ≡ c
@@ -102,8 +108,8 @@ module _ (q : Tables) (r : TaskRecord) (m : Transition) (lefts rights labels mar
         ap (λ (c : Control). leaves c r) (sym (ap (λ (t : Tables). t .control) (k .0)))
         ∙ ap (leaves (m .control)) (sym (k .1)) ∙ e
 
-    kept-stored : leaves (controlAfter (q .control) m) (recordAfter r m) ≡ a
-    unfolding controlAfter recordAfter
+    kept-stored : leaves (headAfter (anchorAfter (q .control) m) m) (ownAfter (callAfter r m) m) ≡ a
+    unfolding anchorAfter callAfter headAfter ownAfter
     kept-stored =
         split (isMoved (m .outcome))
         (λ a. split (endsCall (m .outcome)) (λ b. rw (a, b) (over b)) (λ b. rw (a, b) (going b)))
@@ -119,10 +125,8 @@ module _ (q : Tables) (r : TaskRecord) (m : Transition) (lefts rights labels mar
         (λ b. let k = kept .keeps b in rw (a, b, head, same-call (m .task) (r .call) (k .own early) (k .label early)) (going b)))
         (λ a. rw a (unmoved a))
 
-  pub stored : (p : Lent) → leaves (m .control) (gone (m .task)) ≡ step q p r → leaves (controlAfter (q .control) m) (recordAfter r m) ≡ step q p r
-  stored p e = kept-stored (step q p r) (step-kept q r p) e
-
-  pub moved-stored : leaves (m .control) (gone (m .task)) ≡ moveOn q r → leaves (controlAfter (q .control) m) (recordAfter r m) ≡ moveOn q r
+  pub moved-stored : leaves (m .control) (gone (m .task)) ≡ moveOn q r
+      → leaves (headAfter (anchorAfter (q .control) m) m) (ownAfter (callAfter r m) m) ≡ moveOn q r
   moved-stored e = kept-stored (moveOn q r) (moved-on q r) e
 
   pub early-stored : leaves (m .control) (gone (m .task)) ≡ moveOn q r → r .call .place ≤ 10

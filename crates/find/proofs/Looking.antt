@@ -9,7 +9,7 @@ use lib.ListN.{getD}
 use Rattle.word.specs.Link.{linkOf}
 use Rattle.model.specs.declared.Entry.{Entry}
 use Rattle.model.specs.Sound.{from1, linkSound}
-use Rattle.model.specs.Walk.{Walk, along, andThen, broken, entries, isBroken}
+use Rattle.model.specs.Walk.{Walk, andThen, broken, entries, isBroken}
 use Rattle.model.proofs.tests.Truth.{not-both}
 use Rattle.walk.specs.declared.Tally.the-variants.{Broken}
 use Rattle.walk.specs.Counted.{counted}

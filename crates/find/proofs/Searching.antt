@@ -7,7 +7,7 @@ use lib.ListN.{length, length-map, length-replicate, length-reverse, replicate}
 use Rattle.model.specs.Walk.{Walk, broken, entries, walkFrom}
 use Rattle.model.proofs.tests.Truth.{not-both}
 use Rattle.walk.specs.declared.Tally.{Tally}
-use Rattle.walk.specs.declared.Tally.the-variants.{Broken, Labels}
+use Rattle.walk.specs.declared.Tally.the-variants.{Labels}
 use Rattle.find_model.specs.Noting.{turned}
 use Rattle.find_model.proofs.Positions.{from-left, from-right}
 use Rattle.find.specs.Looked.{Looked, Searched, rowsOf}

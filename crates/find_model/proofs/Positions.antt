@@ -8,9 +8,8 @@ use native.Mathlib.Nat.{add-zero}
 use native.Mathlib.Omega.{arith}
 use lib.Dec.{eqb}
 use lib.ListN.{length, length-reverse, replicate}
-use borrow.Author.Tests.{eqb-false, eqb-true, le-leb, ne-eqb}
+use borrow.Author.Tests.{le-leb, ne-eqb}
 use Rattle.model.specs.declared.Entry.{Entry}
-use Rattle.model.specs.Sound.{from1}
 use Rattle.model.proofs.tests.Truth.{split}
 use Rattle.find_model.specs.Find.{found, position, positionFrom}
 use Rattle.find_model.specs.Noting.{note, notes, pick, turned}

@@ -1,6 +1,6 @@
 -- After any accepted opening and any list: never 34, and the positions are those in the sequential deque's queue.
-use mathlib.Core.Path.{_≡_, refl, ap, _∙_}
-use mathlib.Core.Bool.{Bool, true, false, not, cond, _&&_}
+use mathlib.Core.Path.{_≡_, refl}
+use mathlib.Core.Bool.{Bool, true, false, cond}
 use mathlib.Core.List.{List}
 use Prim.Native.Nat.{ℕ}
 use lib.Dec.{ltb, eqb}
@@ -8,13 +8,12 @@ use lib.ListN.{length}
 use Rattle.model.specs.declared.Entry.{Entry}
 use Rattle.model.specs.Tables.{Queue, Tables, isPooled}
 use Rattle.model.specs.Sound.{rowTests, rowsFit}
-use Rattle.model.specs.Walk.{contents, met}
 use Rattle.model.specs.Report.{waiting}
 use Rattle.model.specs.Refusals.{recordsFit}
 use Rattle.model.proofs.tests.Truth.{and-true}
 use Rattle.model.proofs.tests.Rules.{tests}
-use Rattle.model.proofs.Standing.{Standing, standing}
-use Rattle.find_model.specs.declared.FindReply.{FindReply}
+use Rattle.model.specs.Standing.{Standing}
+use Rattle.model.proofs.Standing.{standing}
 use Rattle.find_model.specs.Find.{Finds, find, findRefusal, found, refused}
 
 stands : (q : Queue) (d : List Entry) → Standing q d → (asked : List ℕ)

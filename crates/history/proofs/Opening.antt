@@ -2,11 +2,10 @@
 use Prim.Native.Nat.{ℕ, _*_, _≤_}
 use mathlib.Core.Path.{_≡_, refl, sym, ap, _∙_}
 use mathlib.Core.Bool.{Bool, true, false}
-use mathlib.Core.List.{List, []}
+use mathlib.Core.List.{List}
 use native.Mathlib.Omega.{arith}
 use lib.Dec.{eqb}
 use lib.ListN.{length}
-use borrow.Author.Tests.{eqb-false}
 use Rattle.model.specs.declared.Opening.{Opening}
 use Rattle.model.specs.declared.Opening.the-variants.{Refused, Opened}
 use Rattle.model.specs.Tables.{Queue}
@@ -18,7 +17,6 @@ use Rattle.model.proofs.Never34.{never-34}
 use Rattle.model.proofs.NoSlot.{no-slot-right}
 use Rattle.model.proofs.Retries.{retries-sum}
 use Rattle.model.proofs.tests.Truth.{split}
-use Rattle.model.specs.Lists.{zeroed}
 use Rattle.stock_model.proofs.Accounts.{every-label, stock-taking}
 use Rattle.capi.specs.Replies.{uppersAt, Coded, coded}
 use Rattle.history.specs.Requests.{requestsOf, requestsFrom, repliesOf}
@@ -84,7 +82,7 @@ module _ (pooled : Bool) (tasks slots tag : ℕ) (words : List ℕ) (before afte
       linearized = linearizable pooled (before .queue) tasks slots tag e (requestsOf count words);
       sound = never-34 pooled (before .queue) tasks slots tag e (requestsOf count words);
       counts = retries-sum pooled (before .queue) tasks slots tag e (requestsOf count words);
-      accounts = λ label. every-label label pooled (before .queue) tasks slots tag e (requestsOf count words);
+      accounts = every-label pooled (before .queue) tasks slots tag e (requestsOf count words);
       stock = stock-taking pooled (before .queue) tasks slots tag e (requestsOf count words);
       truthful = λ p os left h. truthful pooled (before .queue) tasks slots tag os e p;
     },

@@ -1,6 +1,6 @@
 -- What one operation leaves, and a list of them one by one.
 use Prim.Native.Nat.{ℕ, suc, _+_, _*_, _-_, _<_, _%_, _^_}
-use mathlib.Core.Path.{_≡_, refl, sym, ap, _∙_}
+use mathlib.Core.Path.{_≡_, sym, ap, _∙_}
 use mathlib.Core.List.{List, _∷_}
 use native.Mathlib.Numerals.{add-one}
 use native.Mathlib.Omega.{arith}

@@ -1,18 +1,17 @@
 -- After an opening the upper halves of the tasks' labels are zero, and stay so.
 use Prim.Native.Nat.{ℕ, zero, suc, _<_}
-use mathlib.Core.Path.{_≡_, refl, sym, ap, subst, _∙_}
-use mathlib.Core.Bool.{Bool, true, false, cond}
+use mathlib.Core.Path.{_≡_, refl, ap, _∙_}
+use mathlib.Core.Bool.{true, false}
 use mathlib.Core.List.{List, [], _∷_, _++_}
 use native.Mathlib.Omega.{arith}
 use lib.Dec.{eqb}
 use lib.ListN.{replicate, drop, set}
 use borrow.Author.Tests.{eqb-true}
-use Rattle.model.specs.declared.Answer.{Answer}
 use Rattle.model.specs.declared.Op.{Op}
 use Rattle.model.specs.declared.Op.the-variants.{Push, Pop, Put, Step}
 use Rattle.model.specs.declared.Outcome.{Outcome}
 use Rattle.model.specs.declared.Outcome.the-variants.{Refused, Moved}
-use Rattle.model.specs.Tables.{Tables, Queue, taskAt, recordAt}
+use Rattle.model.specs.Tables.{Tables, Queue, recordAt}
 use Rattle.model.specs.declared.TaskRecord.{TaskRecord}
 use Rattle.model.specs.Refusals.{among, pushRefusal, putRefusal, popRefusal, stepRefusal}
 use Rattle.model.specs.Calls.{Acted, decide, pushStart, putStart, popStart, step, actOn, act}

@@ -17,7 +17,7 @@ use Rattle.model.specs.Ends.{isMoved, endsCall}
 use Rattle.model.specs.History.{Request, Event, run, final, Linearized, NeverUnsound, NoSlotTrue}
 use Rattle.model.specs.Retries.{SumIsOld}
 use Rattle.model.specs.Lists.{zeroed}
-use Rattle.stock_model.specs.Accounts.{Accounted, only, StockSum}
+use Rattle.stock_model.specs.Accounts.{Accounted, StockSum}
 use Rattle.rows.specs.Rows.{queueIn, uppersOf}
 use Rattle.history.specs.declared.ServeReply.{ServeReply}
 use Rattle.history.specs.Requests.{requestsOf, repliesOf, room}
@@ -66,7 +66,7 @@ pub record CarriedOut (pooled : Bool) (tasks : ℕ) (q : Queue) (os : List Reque
   pub linearized : Linearized q os
   pub sound : NeverUnsound q os
   pub counts : SumIsOld q os
-  pub accounts : (label : ℕ) → Accounted (only label) q os
+  pub accounts : Accounted q os
   pub stock : StockSum q os
   pub truthful : pooled ≡ true → (done left : List Request) → os ≡ done ++ left → NoSlotTrue q done
 

@@ -1,17 +1,32 @@
--- A reading whose numbers lie at the front of a buffer.
-use mathlib.Core.List.{List, _++_}
-use Prim.Native.Nat.{ℕ, _≤_}
-use lib.ListN.{length, take, drop}
-use Rattle.historyfile.specs.declared.judge.State.{State}
-use Rattle.historyfile.specs.Reading.{Reading}
+-- A reading whose numbers lie at the front of two buffers, as many as there is room for.
+use mathlib.Core.Bool.{false, _||_, cond}
+use mathlib.Core.List.{List}
+use Prim.Native.Nat.{ℕ, _-_, _≤_}
+use lib.Dec.{eqb}
+use lib.ListN.{take, drop}
+use Rattle.historyfile.specs.declared.reading.State.{State}
+use Rattle.historyfile.specs.Reading.{Reading, endedLine, readAll}
+use Rattle.historyfile.specs.Text.{pieces}
 
-abbrev pub reading : State → List ℕ → Reading
-reading s buffer = record { scan = s .scan; values = take (s .count) buffer; calls = s .calls }
+abbrev pub reading : State → List ℕ → List ℕ → Reading
+reading s calls order = record { place = s .place; calls = take (s .calls) calls; order = take (s .order) order }
 
-pub record Within (s : State) (room : ℕ) : Type 0 where
-  pub fits : s .count ≤ room
-  pub part : s .calls ≤ s .count
+-- The first m numbers of the calls and n of the order.
+abbrev pub held : ℕ → ℕ → Reading → Reading
+held m n r = record { place = r .place; calls = take m (r .calls); order = take n (r .order) }
 
--- The numbers at the front, and behind them what the buffer held before.
-abbrev pub laid : List ℕ → List ℕ → List ℕ
-laid numbers before = numbers ++ drop (length numbers) before
+-- What is held once the text from byte i on is read, the word under way being the bytes from the one kept in the state on.
+unfoldable pub ahead : ℕ → ℕ → List ℕ → ℕ → State → List ℕ → List ℕ → Reading
+ahead m n text i s calls order =
+    held m n (readAll (pieces (s .comment) (take (i - s .from) (drop (s .from) text)) (drop i text)) (reading s calls order))
+
+-- Behind a byte that ended a word, the next word beginning at a position.
+unfoldable pub separated : State → ℕ → ℕ → State
+separated s b next =
+    cond (eqb b 10)
+    (record { place = endedLine (s .place); calls = s .calls; order = s .order; from = next; comment = false })
+    (record { place = s .place; calls = s .calls; order = s .order; from = next; comment = s .comment || eqb b 35 })
+
+pub record Within (s : State) (m n : ℕ) : Type 0 where
+  pub calls : s .calls ≤ m
+  pub order : s .order ≤ n

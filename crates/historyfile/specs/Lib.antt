@@ -1,3 +1,5 @@
 pub mod Text
+pub mod Words
 pub mod Reading
 pub mod Buffer
+pub mod Saying

@@ -1,3 +1,5 @@
-//! A history as text: its words read into numbers, and the verdict on it. `specs/Text.antt` has the form of the text.
+//! A history as text: its words read into numbers, the verdict on it, and what is said of it. `specs/Text.antt` has the form of the text.
 pub mod judge;
-pub mod scan;
+pub mod reading;
+pub mod say;
+pub mod words;

@@ -12,7 +12,6 @@ use Rattle.model.specs.declared.Entry.{Entry}
 use Rattle.model.specs.Tables.{Queue, queueOf}
 use Rattle.model.specs.Sound.{controlTests, controlSound}
 use Rattle.model.specs.Walk.{contents, met}
-use Rattle.model.specs.Refusals.{first}
 use Rattle.model.proofs.tests.Rules.{tests}
 use Rattle.model.proofs.bridge.Facts.{from1-true}
 use Rattle.model.specs.Lists.{every}

@@ -6,12 +6,10 @@ ghost use mathlib.Core.Path.{_≡_};
 ghost use mathlib.Core.List.{_∷_};
 ghost use Prim.Native.Nat.{ℕ, _+_, _≤_, _<_};
 ghost use Rattle.word.specs.Anchor.{anchorOf};
+ghost use Rattle.word.specs.Link.{packLink};
 ghost use Rattle.join_model.specs.Merge.{merge};
 ghost use Rattle.join_model.specs.Closed.{filled, leftOf, labelOf, markedTo};
 ghost use Rattle.join.specs.Scratch.{rowsDown, walkedTo, labelVia, rightTo};
-
-// The tag of a link word that was changed once.
-const CHANGED: u64 = 4294967296;
 
 /// Rows 1 to n: the slots of a queue from its right end along Left links.
 fn gather(n: u64, end: u64, links: &[u64], out: &mut [u64])
@@ -104,12 +102,20 @@ fn merge(
     }
 }
 
+/// The word of a link that was changed so many times.
+fn link_word(changes: u64, slot: u64) -> u64
+    ensures { λ w. ⌜ w ≡ packLink (record { tag = changes; slot = slot }) ⌝ }
+{
+    let link = Link { tag: changes, slot };
+    link.pack()
+}
+
 /// The Right of slot k where n slots are linked.
 fn right_word(n: u64, k: u64) -> u64
     requires { ⌜ k ≤ 1023 ⌝ }
     ensures { λ w. ⌜ w ≡ rightTo n k ⌝ }
 {
-    if k < n { CHANGED + (k + 1) } else { 0 }
+    if k < n { link_word(1, k + 1) } else { 0 }
 }
 
 /// Slots 1 to n linked in a row, and marked.
@@ -122,9 +128,10 @@ fn link_up(n: u64, lefts: &mut [u64], rights: &mut [u64], marks: &mut [u64])
     let mut k: u64 = 0;
     while k < n {
         let x = k + 1;
-        let w = right_word(n, x);
-        table::put_word(lefts, x, k);
-        table::put_word(rights, x, w);
+        let left = link_word(0, k);
+        let right = right_word(n, x);
+        table::put_word(lefts, x, left);
+        table::put_word(rights, x, right);
         table::set_mark(marks, x);
         k = x;
     }

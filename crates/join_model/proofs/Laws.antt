@@ -1,22 +1,25 @@
 -- The laws of the joining.
-use mathlib.Core.Path.{_≡_, sym, ap, _∙_}
-use mathlib.Core.Bool.{false}
+use mathlib.Core.Path.{_≡_, refl, sym, ap, _∙_}
+use mathlib.Core.Bool.{false, not}
 use mathlib.Core.List.{List, [], _∷_, _++_}
-use Prim.Native.Nat.{ℕ, zero, suc, _+_, _-_, _≤_}
+use Prim.Native.Nat.{ℕ, zero, suc, _-_, _≤_}
 use native.Mathlib.Omega.{arith}
 use lib.Dec.{ltb}
 use lib.ListN.{length}
 use borrow.Author.Tests.{ne-eqb, ltb-false}
 use Rattle.model.specs.Tables.{Queue}
 use Rattle.model.specs.Calls.{openAs}
-use Rattle.model.specs.Walk.{contents, entries, met}
-use Rattle.model.specs.History.{Request, final}
+use Rattle.model.specs.Walk.{contents, entries, isBroken, met}
+use Rattle.model.specs.History.{Request, final, run}
+use Rattle.model.proofs.tests.Rules.{_and_, never}
+use Rattle.model.proofs.Standing.{standing}
 use Rattle.model.proofs.Linearizable.{linearizable}
 use Rattle.model.proofs.Never34.{never-34}
-use Rattle.stock_model.proofs.Accounts.{every-label}
-use Rattle.join_model.specs.Join.{anchorIn, lane, lanes, pushes, joinRefusal, join}
+use Rattle.stock_model.proofs.Accounts.{every-label, stock-taking}
+use Rattle.join_model.specs.Join.{anchorIn, anyLate, lane, lanes, outcomes, pushes, joinRefusal, joinRules, join}
 use Rattle.join_model.specs.Closed.{tagAfter, lateFor, holding, closedRefusal}
 use Rattle.join_model.specs.Laws.{OwnOrder, StaysAscending, TieToFirst, SameCopies, RefusalKeeps, Zeros, OnlyFresh, JoinedWait, numbered, Continues}
+use Rattle.join_model.specs.Laws.{JoinNever34, StandingNever34}
 use Rattle.join_model.proofs.Ran.{final-on}
 use Rattle.join_model.proofs.Fresh.{Fresh}
 use Rattle.join_model.proofs.Closed.{same-refusal, accepted, joins}
@@ -86,7 +89,8 @@ continues pooled q tasks slots tag o os a b e later = record {
       (final-on os joining begun ∙ sym (third-is a b (final begun os) e)) ∙ waits a b (final begun os) e);
   linearized = linearizable pooled q tasks slots tag o (os ++ joining ++ later);
   sound = never-34 pooled q tasks slots tag o (os ++ joining ++ later);
-  accounted = λ x. every-label x pooled q tasks slots tag o (os ++ joining ++ later);
+  accounted = every-label pooled q tasks slots tag o (os ++ joining ++ later);
+  stock = stock-taking pooled q tasks slots tag o (os ++ joining ++ later);
 }
   where
     joining : List Request
@@ -94,3 +98,14 @@ continues pooled q tasks slots tag o os a b e later = record {
 
     begun : Queue
     begun = openAs pooled q tasks slots tag .queue
+
+pub standing-never-34 : StandingNever34
+unfolding joinRefusal
+standing-never-34 a b q d e f x y z = never 34 (joinRules a b q (anyLate (outcomes (run q (pushes 1 (lanes a b)))))) (λ e. omega arith)
+    (ap not (x .control) and ap not (y .control) and ap not (z .control)
+    and refl and ap isBroken (x .walk) and ap isBroken (y .walk)
+    and refl and refl and refl and tt)
+
+pub join-never-34 : JoinNever34
+join-never-34 pa a ta sa ga oa ks pb b tb sb gb ob ls pq q tq sq gq oq os =
+    standing-never-34 _ _ _ _ _ _ (standing pa a ta sa ga oa ks) (standing pb b tb sb gb ob ls) (standing pq q tq sq gq oq os)

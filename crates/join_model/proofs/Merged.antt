@@ -6,7 +6,8 @@ use native.Mathlib.Omega.{arith}
 use lib.ListN.{length}
 use borrow.Author.Tests.{leb-true, leb-false}
 use Rattle.model.proofs.tests.Truth.{by-test}
-use Rattle.join_model.specs.Merge.{firstGoes, merge, Interleaved, neither, ofFirst, ofSecond, AtLeast, Ascending, copies}
+use Rattle.model.specs.Lists.{copies}
+use Rattle.join_model.specs.Merge.{firstGoes, merge, Interleaved, neither, ofFirst, ofSecond, AtLeast, Ascending}
 
 all-first : (xs : List ℕ) → Interleaved xs [] xs
 all-first [] = neither

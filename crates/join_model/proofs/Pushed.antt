@@ -2,7 +2,7 @@
 use mathlib.Core.Path.{_≡_, refl, _∙_}
 use mathlib.Core.Bool.{Bool, true, false, _||_, not}
 use mathlib.Core.List.{[], _∷_}
-use Prim.Native.Nat.{ℕ, suc, _+_, _-_, _/_, _<_, _≤_}
+use Prim.Native.Nat.{ℕ, suc, _+_, _/_, _<_, _≤_}
 use native.Mathlib.Omega.{arith}
 use lib.Dec.{leb, ltb}
 use lib.ListN.{length, replicate, length-set}
@@ -14,7 +14,7 @@ use Rattle.model.specs.declared.Outcome.the-variants.{Moved, Refused}
 use Rattle.model.specs.declared.Op.the-variants.{Push, Step}
 use Rattle.model.specs.Tables.{Tables, Queue, isPooled, idle, withCall, marked, recordAt, taskAt, withAnchor, taken}
 use Rattle.model.specs.Sound.{anchorSound, controlTests, controlSound, recordSound, rowsFit}
-use Rattle.model.specs.Refusals.{recordsFit, pushRefusal, startRefusal}
+use Rattle.model.specs.Refusals.{recordsFit, startRefusal}
 use Rattle.model.specs.Calls.{pushStart, actOn, act}
 use Rattle.model.proofs.laws.Lengths.{Lengths, lengths}
 use Rattle.model.proofs.tests.Rules.{_and_, tests, passes}

@@ -13,9 +13,11 @@ use Rattle.model.specs.declared.Outcome.the-variants.{Moved}
 use Rattle.model.specs.Tables.{Tables, Queue}
 use Rattle.model.specs.Calls.{openQueue}
 use Rattle.model.specs.Walk.{contents, entries}
+use Rattle.model.specs.Standing.{Standing}
 use Rattle.model.specs.History.{Request, run, final, ledger, Linearized, NeverUnsound, AfterOpening}
-use Rattle.stock_model.specs.Accounts.{Accounted, only}
-use Rattle.join_model.specs.Merge.{merge, Interleaved, Ascending, copies}
+use Rattle.stock_model.specs.Accounts.{Accounted, StockSum}
+use Rattle.model.specs.Lists.{copies}
+use Rattle.join_model.specs.Merge.{merge, Interleaved, Ascending}
 use Rattle.join_model.specs.Join.{fresh, lane, lanes, pushes, outcomes, joinRefusal, join}
 use Rattle.join_model.specs.Closed.{joinClosed}
 
@@ -83,15 +85,23 @@ JoinedWait = (a b q : Queue) → joinRefusal a b q ≡ 0 → contents (join a b 
 
 -- A third that was opened, used and then joined: its history is the list before, the pushes, and what comes later, and is linearized.
 -- The sequential deque has the labels from the joining on, after all calls before it and before every later one; every label is accounted
--- for, those joined as pushed at the joining. (Document 02, #114.)
+-- for, those joined as pushed at the joining, and all of them add up. (Document 02, #114.)
 pub record Continued (q : Queue) (os joining later : List Request) (third : Queue) (labels : List ℕ) : Type 0 where
   pub leaves : final third later ≡ final q (os ++ joining ++ later)
   pub joins : ledger (run q (os ++ joining)) .deque ≡ numbered 1 labels
   pub linearized : Linearized q (os ++ joining ++ later)
   pub sound : NeverUnsound q (os ++ joining ++ later)
-  pub accounted : (x : ℕ) → Accounted (only x) q (os ++ joining ++ later)
+  pub accounted : Accounted q (os ++ joining ++ later)
+  pub stock : StockSum q (os ++ joining ++ later)
 
 abbrev pub Continues : Type 0
 Continues =
     AfterOpening (λ q os. (a b : Queue) → joinRefusal a b (final q os) ≡ 0 → (later : List Request)
     → Continued q os (pushes 1 (lanes a b)) later (join a b (final q os) .third) (lanes a b))
+
+-- 34 never occurs: of three queues on which a call that walks may rely, and so of three that were each made by an opening and a list.
+abbrev pub StandingNever34 : Type 0
+StandingNever34 = (a b q : Queue) (d e f : List Entry) → Standing a d → Standing b e → Standing q f → joinRefusal a b q ≢ 34
+
+abbrev pub JoinNever34 : Type 0
+JoinNever34 = AfterOpening (λ a ks. AfterOpening (λ b ls. AfterOpening (λ q os. joinRefusal (final a ks) (final b ls) (final q os) ≢ 34)))

@@ -1,8 +1,8 @@
 -- The labels of two queues in one list. (Document 02, #113.)
 use mathlib.Core.Bool.{Bool, cond}
 use mathlib.Core.List.{List, [], _∷_}
-use Prim.Native.Nat.{ℕ, _+_, _≤_}
-use lib.Dec.{eqb, leb}
+use Prim.Native.Nat.{ℕ, _≤_}
+use lib.Dec.{leb}
 
 -- Of the two leftmost remaining the smaller label goes next, the first queue's on a tie.
 abbrev pub firstGoes : ℕ → ℕ → Bool
@@ -27,8 +27,3 @@ AtLeast x (y ∷ l) = (x ≤ y) × AtLeast y l
 abbrev pub Ascending : List ℕ → Type 0
 Ascending [] = Unit {0}
 Ascending (x ∷ l) = AtLeast x l
-
--- How many copies of a label there are.
-abbrev pub copies : ℕ → List ℕ → ℕ
-copies x [] = 0
-copies x (y ∷ l) = cond (eqb y x) 1 0 + copies x l

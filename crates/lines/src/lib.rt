@@ -1,5 +1,5 @@
 //! A line of the trace, written into a lent buffer.
-mod number;
+pub mod number;
 
 ghost use mathlib.Core.Path.{_≡_};
 ghost use Prim.Native.Nat.{_+_, _≤_, _<_};

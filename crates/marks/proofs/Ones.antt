@@ -3,16 +3,18 @@ use mathlib.Core.Path.{_≡_, refl, sym, ap, ap₂, _∙_}
 use mathlib.Core.Bool.{cond}
 use mathlib.Core.List.{List}
 use Prim.Native.Nat.{ℕ, zero, suc, _+_, _-_, _*_, _/_, _%_, _^_, _<_, _≤_, min}
-use native.Mathlib.Nat.{mod-lt, mod-one, add-zero, add-suc, add-assoc, add-comm, lt-trans, lt-suc-self, le-of-suc-le-suc, not-suc-le-zero}
+use native.Mathlib.Nat.{mod-lt, mod-one, mod-eq-of-lt, add-zero, add-suc, add-assoc, add-comm, lt-trans, lt-suc-self, le-of-suc-le-suc, not-suc-le-zero}
 use native.Mathlib.Numerals.{one-add}
 use native.Mathlib.Omega.{arith}
 use lib.Dec.{lit<, eqb}
+use borrow.Author.Tests.{eqb-false, eqb-true, ne-eqb}
 use lib.ListN.{getD}
 use lib.Pow.{pow-pos, mod-pow-add, field, shr-shr}
 use lib.Count.{ones, ones-cat}
 use Rattle.model.specs.Tables.{bit, marked}
 use Rattle.model.specs.Lists.{count}
-use Rattle.marks.specs.Masked.{maskedWord}
+use Rattle.model.proofs.tests.Truth.{by-test}
+use Rattle.marks.specs.Masked.{upToLast, maskedWord}
 
 -- How many of the slots 1 to n are marked.
 abbrev pub marks : List ℕ → ℕ → ℕ
@@ -91,20 +93,30 @@ word-sum ws k s d a e l =
     ones-shifted (w % 2 ^ (d + s) / 2 ^ s) s ∙ ap ones (field w d s) ∙ ones-sum (w / 2 ^ s) d in
     marks-run ws a d ∙ ap (λ (x : ℕ). marks ws a + x) (sum-ext (λ j. mark ws (a + j)) (bit (w / 2 ^ s)) d at ∙ sym o)
 
+-- Of a word of 64 bits, those up to the last slot's.
+upper-bits : (w k slots : ℕ) → k ≤ slots / 64 → w < 2 ^ 64 → upToLast w k slots ≡ w % 2 ^ min 64 (slots + 1 - 64 * k)
+upper-bits w k slots h small =
+    by-test (λ (x : ℕ). x ≡ w % 2 ^ min 64 (slots + 1 - 64 * k)) (eqb k (slots / 64))
+    (λ e. let z : min 64 (slots + 1 - 64 * k) ≡ slots % 64 + 1 = omega (arith, eqb-true k (slots / 64) e) in ap (λ (n : ℕ). w % 2 ^ n) (sym z))
+    (λ e. let z : min 64 (slots + 1 - 64 * k) ≡ 64 = omega (arith, eqb-false k (slots / 64) e) in
+    sym (ap (λ (n : ℕ). w % 2 ^ n) z ∙ mod-eq-of-lt small))
+
 -- Word k adds the marks of its slots.
-pub word-step : (ws : List ℕ) (k slots : ℕ) → k ≤ slots / 64
+pub word-step : (ws : List ℕ) (k slots : ℕ) → k ≤ slots / 64 → getD ws k 0 < 2 ^ 64
     → marks ws (min (64 * (k + 1) - 1) slots) ≡ marks ws (min (64 * k - 1) slots) + ones (maskedWord (getD ws k 0) k slots)
-word-step ws zero slots h =
+word-step ws zero slots h small =
     let d = min 63 slots in
     let a : min (64 * 0 - 1) slots ≡ 0 = omega arith in
     let n : min (64 * (0 + 1) - 1) slots ≡ 0 + d = omega arith in
     let e : min 64 (slots + 1 - 64 * 0) ≡ d + 1 = omega arith in
-    rw (a, n, e) (word-sum ws 0 1 d 0 refl (omega arith))
-word-step ws (suc k) slots h =
+    rw (a, n, upper-bits (getD ws 0 0) 0 slots h small, e) (word-sum ws 0 1 d 0 refl (omega arith))
+word-step ws (suc k) slots h small =
     let d = min 64 (slots + 1 - 64 * suc k) in
     let a = 64 * suc k - 1 in
-    let e : (min (64 * (suc k + 1) - 1) slots ≡ a + d) × (min a slots ≡ a) × (1 - suc k ≡ 0) × (a + 1 ≡ 64 * suc k + 0) × (d + 0 ≤ 64) = omega arith in
+    let e : (min (64 * (suc k + 1) - 1) slots ≡ a + d) × (min a slots ≡ a) × (a + 1 ≡ 64 * suc k + 0) × (d + 0 ≤ 64) = omega arith in
     let w = getD ws (suc k) 0 in
-    ap (marks ws) (e .0)
-    ∙ word-sum ws (suc k) 0 d a (e .3) (e .4)
-    ∙ (λ i. marks ws (sym (e .1) i) + ones (w % 2 ^ add-zero d i / 2 ^ sym (e .2) i * 2 ^ sym (e .2) i))
+    let whole : w % 2 ^ (d + 0) / 2 ^ 0 * 2 ^ 0 ≡ w % 2 ^ d = ap (λ (n : ℕ). w % 2 ^ n / 1 * 1) (add-zero d) ∙ omega arith in
+    rw (ne-eqb (suc k) 0 (λ z. omega arith))
+    (ap (marks ws) (e .0)
+    ∙ word-sum ws (suc k) 0 d a (e .2) (e .3)
+    ∙ (λ i. marks ws (sym (e .1) i) + ones ((whole ∙ sym (upper-bits w (suc k) slots h small)) i)))

@@ -1,6 +1,12 @@
--- Word k of the marks as it is counted.
-use Prim.Native.Nat.{ℕ, _+_, _-_, _*_, _/_, _%_, _^_, min}
+-- Word k of the marks as it is counted. (Document 02, #105: "with bit 0 and those above the last slot left out".)
+use mathlib.Core.Bool.{cond}
+use Prim.Native.Nat.{ℕ, _+_, _*_, _/_, _%_, _^_}
+use lib.Dec.{eqb}
 
--- Its bits for slots 1 to slots: without those above the last slot's, and, in word 0, without bit 0.
+-- The last word without the bits above the last slot's.
+abbrev pub upToLast : ℕ → ℕ → ℕ → ℕ
+upToLast w k slots = cond (eqb k (slots / 64)) (w % 2 ^ (slots % 64 + 1)) w
+
+-- Word 0 without bit 0 besides.
 abbrev pub maskedWord : ℕ → ℕ → ℕ → ℕ
-maskedWord w k slots = w % 2 ^ min 64 (slots + 1 - 64 * k) / 2 ^ (1 - k) * 2 ^ (1 - k)
+maskedWord w k slots = cond (eqb k 0) (upToLast w k slots / 2 * 2) (upToLast w k slots)

@@ -1,14 +1,18 @@
 -- Cases worked beside those of `Bench`: each refusal of an opening and of a start, what a step may not touch, which changes count as failed, walks that
--- lead astray, what a report leaves out, and a task stepped until it answers. Each line holds by computing the meanings.
+-- lead astray, what a report tells and leaves out, the number of each outcome, and a task stepped until it answers. Each line holds by computing
+-- the meanings.
 use mathlib.Core.Path.{_≡_, refl}
 use mathlib.Core.Bool.{true, false}
 use mathlib.Core.List.{List, [], _∷_, _++_, map}
 use Prim.Native.Nat.{ℕ}
 use lib.ListN.{replicate}
 use Rattle.model.specs.declared.Record.{Record}
-use Rattle.model.specs.declared.Answer.the-variants.{NoSlot}
+use Rattle.model.specs.declared.Answer.the-variants.{Pushed, Empty, NoSlot}
 use Rattle.model.specs.declared.Outcome.the-variants.{Refused, Moved}
 use Rattle.model.specs.declared.Op.the-variants.{Put}
+use Rattle.model.specs.declared.Opening.the-variants as opening
+use Rattle.model.specs.declared.Reported.the-variants as reported
+use Rattle.model.specs.declared.Reply.{Reply}
 use Rattle.model.specs.Tables.{Tables, Queue, tablesOf, queueOf, unopened, openedControl, withWords, newCall, withSeen, withNeighbour, withLink}
 use Rattle.model.specs.Tables.{withMarks, counting, unused, started}
 use Rattle.model.specs.Sound.{anchorSound, linkSound, controlSound, recordSound, rowsFit}
@@ -16,25 +20,28 @@ use Rattle.model.specs.Places.{sideOf, row, linkSide, reading, at1, at2,
 use Rattle.model.specs.Places.{at15, at16, at17, move}
 use Rattle.model.specs.Route.{pushRoute, popRoute, route, onward, answer, goes, counted}
 use Rattle.model.specs.Refusals.{openRefusal, startRefusal, stepSound, stepRefusal, alone, reportRefusal}
-use Rattle.model.specs.Calls.{opened, openAs, openPooled, pushStart, putStart, popStart, finish, step, actOn, act}
+use Rattle.model.specs.Calls.{opened, openAs, openQueue, openPooled, pushStart, putStart, popStart, finish, step, actOn, act, openingCode, replyOf}
 use Rattle.model.specs.Walk.{Walk, entries, broken, along, contents}
-use Rattle.model.specs.Report.{busy, waiting, takenSlots, tell, report, retryCounts}
+use Rattle.model.specs.Report.{busy, waiting, takenSlots, tell, report, reportCode, retryCounts}
 use Rattle.model.specs.History.{Request, run, final}
-use Rattle.model.specs.Solo.{soloRun}
-use Rattle.model.proofs.Bench.{zeros, fresh, push, pop, steps, outcomes, at, got, one, halfway}
+use Rattle.model.specs.Solo.{soloRun, soloSteps}
+use Rattle.model.proofs.Bench.{zeros, fresh, push, pop, steps, outcomes, at, got, one, two}
 use Rattle.model.specs.Lists.{count, listed}
 
 -- Tables for 16 tasks and 1,023 slots.
 abbrev largest : Queue
 largest = queueOf unopened (replicate 16 unused) (replicate 1024 0) (replicate 1024 0) (replicate 1024 0) (replicate 16 0) []
 
--- A push that names no slot; a pooled queue of one slot.
+-- A push that names no slot; a pooled queue of one slot, with a first tag.
 abbrev put : ℕ → ℕ → ℕ → Request
 put t side label = record { task = t; op = Put side label }
 
+abbrev pooledAt : ℕ → Queue
+pooledAt tag =
+    openPooled (queueOf unopened (unused ∷ unused ∷ []) (0 ∷ 0 ∷ []) (0 ∷ 0 ∷ []) (0 ∷ 0 ∷ []) (0 ∷ []) (9 ∷ 9 ∷ [])) 2 1 tag .queue
+
 abbrev single : Queue
-single =
-    openPooled (queueOf unopened (unused ∷ unused ∷ []) (0 ∷ 0 ∷ []) (0 ∷ 0 ∷ []) (0 ∷ 0 ∷ []) (0 ∷ []) (9 ∷ 9 ∷ [])) 2 1 0 .queue
+single = pooledAt 0
 
 -- The same once its slot waits.
 abbrev filled : Queue
@@ -92,6 +99,22 @@ walkedBack right1 = contents (links 0x0000000280008002 spare spare right1)
 abbrev met : List ℕ → Walk
 met slots = entries (map (λ x. record { slot = x; label = 0 }) slots)
 
+-- From the last tag that a start is accepted at: slot 1 pushed, task 1 busy, and the tag one too high.
+abbrev worn : Queue
+worn = final (fresh 4294967262) (push 0 1 1 700 ∷ pop 1 1 ∷ steps (replicate 2 0))
+
+-- Of two labels task 1 has taken the left one and is at 11; task 0, with a third, is at 4, before its effect.
+abbrev halfway : Queue
+halfway = final two (pop 1 0 ∷ steps (replicate 3 1) ++ push 0 1 3 900 ∷ steps (replicate 2 0))
+
+-- After the race of two pops.
+abbrev raced : Queue
+raced = final one (pop 0 0 ∷ pop 1 1 ∷ steps (0 ∷ 1 ∷ 0 ∷ 1 ∷ 0 ∷ []))
+
+-- A reply in numbers.
+abbrev reply : ℕ → ℕ → ℕ → Reply
+reply code label value = record { code = code; label = label; value = value }
+
 -- What lies beyond is full: a busy record, marks of slots 0 and 4.
 abbrev crowded : Queue
 crowded = record {
@@ -102,7 +125,13 @@ crowded = record {
 abbrev popping : Queue
 popping = final one (pop 0 1 ∷ [])
 
+-- Task 0 pops at the right, where Left of 2 has a set bit in 31–15.
+abbrev astray : Queue
+astray = record { tables = links stable spare 0 0; records = counting (started 1 1 0 0) 0 ∷ unused ∷ [] }
+
 pub record Cases : Type 0 where
+  -- 2 tasks and 3 slots open
+  pub opens : openQueue zeros 2 3 0 .outcome ≡ opening.Opened
   -- 1 to 16 tasks, 1 to 1,023 slots, and tables long enough; 10 before 11 before 12
   pub largest-opens : openRefusal false largest 16 1023 ≡ 0
   pub smallest-opens : openRefusal false zeros 1 1 ≡ 0
@@ -121,6 +150,11 @@ pub record Cases : Type 0 where
   -- in a pooled queue a slot that is named is 41, whatever the slot
   pub pooled-starts : outcomes single (push 0 1 1 5 ∷ push 0 1 9 5 ∷ put 0 1 5 ∷ put 0 1 5 ∷ [])
       ≡ Refused 41 ∷ Refused 41 ∷ at 12 ∷ Refused 30 ∷ []
+  -- at the last tag a push that names no slot is accepted, past it refused 33, and so is a pop
+  pub pooled-at-last-tag : outcomes (pooledAt 4294967262) (put 0 1 5 ∷ pop 1 0 ∷ []) ≡ at 12 ∷ at 1 ∷ []
+  pub pooled-past-it : outcomes (pooledAt 4294967263) (put 0 1 5 ∷ pop 1 0 ∷ []) ≡ Refused 33 ∷ Refused 33 ∷ []
+  -- the order of 30, 32 and 33: all three apply, then the last two, then the last
+  pub start-order : outcomes worn (push 1 1 1 5 ∷ push 0 1 1 5 ∷ push 0 1 2 5 ∷ []) ≡ Refused 30 ∷ Refused 32 ∷ Refused 33 ∷ []
   -- the first push draws the one slot, the second finds none
   pub drawn : outcomes single (put 0 1 5 ∷ steps (replicate 3 0) ++ put 1 1 6 ∷ steps (1 ∷ []))
       ≡ at 12 ∷ at 13 ∷ at 14 ∷ at 1 ∷ at 12 ∷ Moved NoSlot ∷ []
@@ -158,21 +192,43 @@ pub record Cases : Type 0 where
   pub walks : map (λ w. walked w spare) (1 ∷ spare ∷ 0 ∷ 4 ∷ 2 ∷ []) ≡ met (1 ∷ 2 ∷ []) ∷ broken ∷ broken ∷ broken ∷ broken ∷ []
   pub walks-round : map (λ w. walked 3 w) (1 ∷ 2 ∷ []) ≡ met (1 ∷ 3 ∷ 2 ∷ []) ∷ broken ∷ []
   pub walks-back : map walkedBack (2 ∷ spare ∷ 0 ∷ 1 ∷ []) ≡ met (1 ∷ 2 ∷ []) ∷ broken ∷ broken ∷ broken ∷ []
+  -- two labels wait, from left to right
+  pub both-wait : contents (two .tables) ≡ entries (record { slot = 1; label = 700 } ∷ record { slot = 2; label = 800 } ∷ [])
+  -- the report of calls half done: both are busy, one label waits, and with the slots of the two calls three are taken
+  pub tells : report halfway
+      ≡ reported.Told (record { anchor = record { tag = 4; status = 0; left = 2; right = 2 }; busy = 2; waiting = 1; taken = 3 })
+  -- the failed change of the race is its task's
+  pub retries-told : retryCounts raced ≡ 0 ∷ 1 ∷ replicate 14 0
+  -- a refused report
+  pub report-short : report (record { tables = two .tables; records = [] }) ≡ reported.Refused 12
   -- a report counts no record beyond the tasks and no mark but those of slots 1 to slots
   pub no-more-told : report crowded ≡ report halfway
   pub no-more-counts : retryCounts crowded ≡ replicate 16 0
-  -- a task stepped until it answers: no step to make, too few, enough; a refused step is none
+  -- the number and values of each outcome, of openings and of reports
+  pub numbers : map replyOf (at 7 ∷ Moved Pushed ∷ Moved Empty ∷ got 2 800 ∷ Moved NoSlot ∷ Refused 34 ∷ [])
+      ≡ reply 1 0 7 ∷ reply 2 0 0 ∷ reply 3 0 0 ∷ reply 4 800 2 ∷ reply 5 0 0 ∷ reply 34 0 0 ∷ []
+  pub opening-numbers : map openingCode (opening.Opened ∷ opening.Refused 11 ∷ []) ≡ 0 ∷ 11 ∷ []
+  pub report-numbers : reportCode (report two) ≡ 0
+  pub report-refused : reportCode (reported.Refused 34) ≡ 34
+  -- retries stay at 4,294,967,295 once there
+  pub ceiling-reached : counted 4294967294 true ≡ 4294967295
+  pub ceiling-kept : counted 4294967295 true ≡ 4294967295
+  -- a task stepped until it answers: no step to make, too few, enough; refused where its first step is, one to make or none;
+  -- a later step that is refused is not made
   pub none-made : (soloRun 0 popping 0 .outcome ≡ at 1) × (soloRun 0 popping 0 .steps ≡ 0)
   pub two-made : (soloRun 2 popping 0 .outcome ≡ at 11) × (soloRun 2 popping 0 .steps ≡ 2)
   pub enough-made : (soloRun 9 popping 0 .outcome ≡ got 1 700) × (soloRun 9 popping 0 .steps ≡ 3)
   pub none-accepted : (soloRun 9 popping 1 .outcome ≡ Refused 31) × (soloRun 9 popping 1 .steps ≡ 0)
+  pub none-asked : (soloRun 0 popping 1 .outcome ≡ Refused 31) × (soloRun 0 popping 2 .outcome ≡ Refused 13)
+  pub one-made : (soloRun 9 astray 0 .outcome ≡ at 3) × (soloRun 9 astray 0 .steps ≡ 1)
 
 pub cases : Cases
 unfolding openAs opened openRefusal run final act actOn pushStart putStart popStart step finish startRefusal stepRefusal stepSound move at1 at2 at3
     new4 at4 at5 at6 at7 at9 at10 at11 at12 at13 at14 at15 at16 at17 reading sideOf row linkSide anchorSound linkSound controlSound recordSound
     rowsFit pushRoute popRoute route onward answer goes counted along contents report tell reportRefusal busy count waiting takenSlots retryCounts
-    listed soloRun
+    listed soloSteps soloRun
 cases = record {
+  opens = refl;
   largest-opens = refl;
   smallest-opens = refl;
   many-tasks = refl;
@@ -184,6 +240,9 @@ cases = record {
   short-next = refl;
   starts-refused = refl;
   pooled-starts = refl;
+  pooled-at-last-tag = refl;
+  pooled-past-it = refl;
+  start-order = refl;
   drawn = refl;
   marked-at-14 = refl;
   labelled-at-14 = refl;
@@ -212,10 +271,22 @@ cases = record {
   walks = refl;
   walks-round = refl;
   walks-back = refl;
+  both-wait = refl;
+  tells = refl;
+  retries-told = refl;
+  report-short = refl;
   no-more-told = refl;
   no-more-counts = refl;
+  numbers = refl;
+  opening-numbers = refl;
+  report-numbers = refl;
+  report-refused = refl;
+  ceiling-reached = refl;
+  ceiling-kept = refl;
   none-made = (refl, refl);
   two-made = (refl, refl);
   enough-made = (refl, refl);
   none-accepted = (refl, refl);
+  none-asked = (refl, refl);
+  one-made = (refl, refl);
 }

@@ -6,17 +6,18 @@ use mathlib.Core.Path.{_∙_, _≡_, ap, refl, subst, sym}
 use Prim.Native.Nat.{_<_, _≤_, ℕ}
 use native.Mathlib.Omega.{arith}
 use lib.Dec.{eqb, leb}
-use borrow.Author.Tests.{eqb-true, not-true}
+use borrow.Author.Tests.{eqb-true, leb-true, lt-leb}
+use Rattle.word.specs.Anchor.{anchorOf}
 use Rattle.model.specs.Calls.{opened}
-use Rattle.model.specs.History.{Had, InUse, Ledger, MarksNamed, MarksRight, MarksTrue, Waits, final, here, holds, holdsSlot}
-use Rattle.model.specs.History.{later, marksSlot, waits}
+use Rattle.model.specs.History.{InUse, Ledger, MarkedWhile, MarksNamed, MarksRight, Taken, Waits, final, here}
+use Rattle.model.specs.History.{is-taken, later, pop-gives, pop-holds, popGives, popHolds, push-holds, pushHolds, waits}
 use Rattle.model.specs.Tables.{atPlace, Queue, Tables, isPooled, marked, recordAt}
 use Rattle.model.specs.Walk.{entries}
 use Rattle.model.specs.declared.Entry.{Entry}
 use Rattle.model.specs.declared.Record.{Record}
 use Rattle.model.proofs.tests.ByPlace.{by-place}
 use Rattle.model.proofs.tests.Rules.{tests}
-use Rattle.model.proofs.tests.Truth.{and-of, and-true, decide-eq, not-both}
+use Rattle.model.proofs.tests.Truth.{and-true, decide-eq, not-both}
 use Rattle.model.proofs.lists.In.{In}
 use Rattle.model.proofs.lists.Slots.{slots}
 use Rattle.model.proofs.machine.Book.{Call}
@@ -32,10 +33,11 @@ use Rattle.model.proofs.ledger.Matched.{Matched}
 use Rattle.model.proofs.ledger.Waiting as waiting
 use Rattle.model.proofs.unsound.Safe.{Safe}
 use Rattle.model.proofs.progress.Reached.{final-reached, open-reached}
-use Rattle.model.proofs.NoSlot.{tip-near, used-is}
+use Rattle.model.proofs.NoSlot.{Held, tip-near, used-is}
 use Rattle.model.proofs.Openings.{after-opening}
 use Rattle.model.specs.Lists.{All}
-use Rattle.model.specs.Kinds.{giving}
+use Rattle.model.specs.Kinds.{giving, isPop, isPush}
+use Rattle.model.specs.Sides.{near}
 
 -- What waits is in the sequential deque.
 waits-in : (l : List Entry) (x : ℕ) → Waits x (entries l) → In x (slots l)
@@ -76,38 +78,83 @@ module _ (s : M.Shared) (h : ℕ → Owner) (t : ℕ) (r : M.Rec) (c : Call) (x 
 -- What a record holds, the decoded record holds.
 module _ (r : Record) (x : ℕ) where
   abbrev There : ℕ → Type 0
-  There p = holdsSlot (atPlace r p) x ≡ true → Holds (placeOf p) (recOf r) x
+  There p = Held (atPlace r p) x → Holds (placeOf p) (recOf r) x
 
-  pushes : (p : ℕ) → leb p 10 ≡ true → holdsSlot (atPlace r p) x ≡ true → (kindOf (r .kind) ≡ M.push) × (eqb (r .finishing) 1 ≡ false) × (r .own ≡ x)
-  unfolding holdsSlot
-  pushes p l w =
-      let z = tests (leb 1 p ∷ eqb (r .kind) 0 ∷ not (eqb (r .finishing) 1) ∷ eqb (r .own) x ∷ []) (rw l at w) in
-      (ap (λ (b : Bool). cond b M.push M.pop) (z .1 .0), not-true _ (z .1 .1 .0), eqb-true _ _ (z .1 .1 .1 .0))
+  never : {A : Type 0} → false ≡ true → A
+  never e = absurd (not-both e refl)
+
+  -- A push at 1 to 10; a pop at 11; a pop at 15 to 17.
+  early : (p : ℕ) → eqb p 11 ≡ false → leb 15 p ≡ false → Held (atPlace r p) x → (kindOf (r .kind) ≡ M.push) × (eqb (r .finishing) 1 ≡ false) × (r .own ≡ x)
+  unfolding pushHolds popHolds popGives
+  early p a b (inl w) =
+      let z = tests (leb 1 p ∷ leb p 10 ∷ eqb (r .kind) 0 ∷ eqb (r .finishing) 0 ∷ eqb (r .own) x ∷ []) w in
+      let f : r .finishing ≡ 0 = eqb-true _ _ (z .1 .1 .1 .0) in
+      (ap (λ (b : Bool). cond b M.push M.pop) (z .1 .1 .0), ap (λ (n : ℕ). eqb n 1) f, eqb-true _ _ (z .1 .1 .1 .1 .0))
+  early p a b (inr (inl w)) = absurd (not-both (and-true _ _ w .0) a)
+  early p a b (inr (inr w)) = absurd (not-both (and-true _ _ w .0) b)
+
+  end : Held (atPlace r 11) x → near (r .side) (anchorOf (r .seen)) ≡ x
+  unfolding pushHolds popHolds popGives
+  end (inl w) = never w
+  end (inr (inl w)) = eqb-true _ _ (and-true (isPop r) _ w .1)
+  end (inr (inr w)) = never w
+
+  none : (p : ℕ) → leb p 10 ≡ false → eqb p 11 ≡ false → leb 15 p ≡ false → Held (atPlace r p) x → ⊥
+  unfolding pushHolds popHolds popGives
+  none p a b c (inl w) = not-both (tests (leb 1 p ∷ leb p 10 ∷ eqb (r .kind) 0 ∷ eqb (r .finishing) 0 ∷ eqb (r .own) x ∷ []) w .1 .0) a
+  none p a b c (inr (inl w)) = not-both (and-true _ _ w .0) b
+  none p a b c (inr (inr w)) = not-both (and-true _ _ w .0) c
+
+  own : (p : ℕ) → leb p 10 ≡ false → eqb p 11 ≡ false → Held (atPlace r p) x → r .own ≡ x
+  unfolding pushHolds popHolds popGives
+  own p a b (inl w) = absurd (not-both (tests (leb 1 p ∷ leb p 10 ∷ eqb (r .kind) 0 ∷ eqb (r .finishing) 0 ∷ eqb (r .own) x ∷ []) w .1 .0) a)
+  own p a b (inr (inl w)) = absurd (not-both (and-true _ _ w .0) b)
+  own p a b (inr (inr w)) = eqb-true _ _ (and-true (isPop r) _ (and-true (leb 15 p) _ w .1) .1)
 
   at-places : (p : ℕ) → p ≢ 0 → p ≤ 17 → There p
-  unfolding recOf holdsSlot
+  unfolding recOf
   at-places = by-place There
-      (pushes 1 refl)
-      (pushes 2 refl)
-      (pushes 3 refl)
-      (pushes 4 refl)
-      (pushes 5 refl)
-      (pushes 6 refl)
-      (pushes 7 refl)
-      (pushes 8 refl)
-      (pushes 9 refl)
-      (pushes 10 refl)
-      (λ w. tip-near r x (eqb (r .side) 1) ∙ eqb-true _ _ w)
-      (λ w. absurd (not-both w refl))
-      (λ w. absurd (not-both w refl))
-      (λ w. absurd (not-both w refl))
-      (λ w. eqb-true _ _ w)
-      (λ w. eqb-true _ _ w)
-      (λ w. eqb-true _ _ w)
+      (early 1 refl refl)
+      (early 2 refl refl)
+      (early 3 refl refl)
+      (early 4 refl refl)
+      (early 5 refl refl)
+      (early 6 refl refl)
+      (early 7 refl refl)
+      (early 8 refl refl)
+      (early 9 refl refl)
+      (early 10 refl refl)
+      (λ w. tip-near r x (eqb (r .side) 1) ∙ end w)
+      (λ w. absurd (none 12 refl refl refl w))
+      (λ w. absurd (none 13 refl refl refl w))
+      (λ w. absurd (none 14 refl refl refl w))
+      (own 15 refl refl)
+      (own 16 refl refl)
+      (own 17 refl refl)
 
-  busy : r .place ≡ 0 → holdsSlot r x ≡ true → ⊥
-  unfolding holdsSlot
-  busy z w = not-both (subst (λ p. holdsSlot (atPlace r p) x ≡ true) z w) refl
+  busy : r .place ≡ 0 → Held r x → ⊥
+  unfolding pushHolds popHolds popGives
+  busy z w = idle (subst (λ p. Held (atPlace r p) x) z w)
+    where
+      idle : Held (atPlace r 0) x → ⊥
+      idle (inl w) = not-both w refl
+      idle (inr (inl w)) = not-both w refl
+      idle (inr (inr w)) = not-both w refl
+
+  -- A push that holds its slot, or a pop at 11, is at none of 15 to 17.
+  push-early : pushHolds r x ≡ true → giving r ≡ false
+  unfolding pushHolds
+  push-early w =
+      let z = tests (leb 1 (r .place) ∷ leb (r .place) 10 ∷ isPush r ∷ eqb (r .finishing) 0 ∷ eqb (r .own) x ∷ []) w in
+      lt-leb 15 (r .place) (omega (arith, leb-true (r .place) 10 (z .1 .0)))
+
+  pop-early : popHolds r x ≡ true → giving r ≡ false
+  unfolding popHolds
+  pop-early w = lt-leb 15 (r .place) (omega (arith, eqb-true (r .place) 11 (and-true _ _ w .0)))
+
+  gives-late : popGives r x ≡ true → giving r ≡ true
+  unfolding popGives
+  gives-late w = and-true _ _ w .0
 
 -- The places 15 to 17.
 giving-is : (p : ℕ) → p ≤ 17 → M.isGiving (placeOf p) ≡ leb 15 p
@@ -140,7 +187,7 @@ module _ (n : ℕ) (q : Queue) (l : Ledger) (g : Matched n q l) (f : Safe q) whe
   unfolding recOf
   gives t lt = ap (λ (r : M.Rec). M.isGiving (r .place)) (task-of q t lt) ∙ giving-is (recordAt q t .place) (low t lt)
 
-  holder : (t : ℕ) → t < G .control .tasks → (x : ℕ) → holdsSlot (recordAt q t) x ≡ true → h x ≡ held t
+  holder : (t : ℕ) → t < G .control .tasks → (x : ℕ) → Held (recordAt q t) x → h x ≡ held t
   unfolding recOf
   holder t lt x e = go (decide-eq (recordAt q t .place) 0)
     where
@@ -154,55 +201,48 @@ module _ (n : ℕ) (q : Queue) (l : Ledger) (g : Matched n q l) (f : Safe q) whe
   shown = g .inv .marks
 
   -- The mark of a slot that a record holds.
-  held-shown : (x : ℕ) → x ≤ G .control .slots → (t : ℕ) → t < G .control .tasks → holdsSlot (recordAt q t) x ≡ true
+  held-shown : (x : ℕ) → x ≤ G .control .slots → (t : ℕ) → t < G .control .tasks → Held (recordAt q t) x
       → marked (G .marks) x ≡ not (giving (recordAt q t))
   held-shown x le t lt e = shown x le ∙ ap (shows (stateOf q .task)) (holder t lt x e) ∙ ap not (gives t lt)
 
-  marked-had : (x : ℕ) → x ≤ G .control .slots → marked (G .marks) x ≡ true → Had marksSlot q x
-  unfolding marksSlot
-  marked-had x le m = go (used-is n q l g x (used (record { state = stateOf q; book = g .book }) (g .inv) x
+  marked-taken : (x : ℕ) → x ≤ G .control .slots → marked (G .marks) x ≡ true → Taken q x
+  marked-taken x le m = go (used-is n q l g f x (used (record { state = stateOf q; book = g .book }) (g .inv) x
       (λ e. not-both m (shown x le ∙ ap (shows (stateOf q .task)) e))))
     where
-      go : InUse q x → Had marksSlot q x
-      go (waits w) = waits w
-      go (holds t lt e) = holds t lt (and-of e (sym (held-shown x le t lt e) ∙ m))
+      go : InUse q x → Taken q x
+      go (is-taken k) = k
+      go (pop-gives t lt e) = absurd (not-both m (held-shown x le t lt (inr (inr e)) ∙ ap not (gives-late (recordAt q t) x e)))
 
-  had-marked : (x : ℕ) → x ≤ G .control .slots → Had marksSlot q x → marked (G .marks) x ≡ true
-  unfolding marksSlot stateOf
-  had-marked x le (waits w) =
+  taken-marked : (x : ℕ) → x ≤ G .control .slots → Taken q x → marked (G .marks) x ≡ true
+  unfolding stateOf
+  taken-marked x le (waits w) =
       let i = waits-in (g .book .queue) x (subst (Waits x) (waiting.waits G (g .links) h (g .book .queue) (g .inv .whole)) w) in
       shown x le ∙ ap (shows (stateOf q .task)) (all-in (λ y. h y ≡ queued) (slots (g .book .queue)) x (g .inv .whole .owned) i)
-  had-marked x le (holds t lt e) = let z = and-true _ _ e in held-shown x le t lt (z .0) ∙ z .1
+  taken-marked x le (push-holds t lt e) = held-shown x le t lt (inl e) ∙ ap not (push-early (recordAt q t) x e)
+  taken-marked x le (pop-holds t lt e) = held-shown x le t lt (inr (inl e)) ∙ ap not (pop-early (recordAt q t) x e)
 
-  -- In a named queue every slot in use is marked.
-  module _ (named : isPooled (G .control) ≡ false) where
-    none : (t : ℕ) → t < G .control .tasks → giving (recordAt q t) ≡ false
-    unfolding view stateOf
-    none t lt = sym (gives t lt) ∙ none-giving (view G) h t (stateOf q .task t) (g .book .calls t) named (stateOf q .task t .place) (g .inv .tasks t)
-
-    used-had : (x : ℕ) → InUse q x → Had marksSlot q x
-    unfolding marksSlot
-    used-had x (waits w) = waits w
-    used-had x (holds t lt e) = holds t lt (and-of e (ap not (none t lt)))
-
-had-used : (q : Queue) (x : ℕ) → Had marksSlot q x → InUse q x
-unfolding marksSlot
-had-used q x (waits w) = waits w
-had-used q x (holds t lt e) = holds t lt (and-true _ _ e .0)
+  -- In a named queue no slot is being given back.
+  use-is-taken : isPooled (G .control) ≡ false → (x : ℕ) → InUse q x → Taken q x
+  unfolding view stateOf
+  use-is-taken named x (is-taken k) = k
+  use-is-taken named x (pop-gives t lt e) =
+      let none : giving (recordAt q t) ≡ false = sym (gives t lt)
+      ∙ none-giving (view G) h t (stateOf q .task t) (g .book .calls t) named (stateOf q .task t .place) (g .inv .tasks t) in
+      absurd (not-both (gives-late (recordAt q t) x e) none)
 
 pub marks-right : MarksRight
-marks-right pooled = after-opening pooled (MarksTrue marksSlot) (λ q tasks slots tag e os x some le.
+marks-right pooled = after-opening pooled (MarkedWhile Taken) (λ q tasks slots tag e os x some le.
     let o = opened pooled q tasks slots tag in
     let z = final-reached pooled tasks os o (open-reached pooled tasks q slots tag e) in (
-      marked-had (z .position) (final o os) (z .ledger) (z .matched) (z .safe) x le,
-      had-marked (z .position) (final o os) (z .ledger) (z .matched) (z .safe) x le,
+      marked-taken (z .position) (final o os) (z .ledger) (z .matched) (z .safe) x le,
+      taken-marked (z .position) (final o os) (z .ledger) (z .matched) (z .safe) x le,
     ))
 
 pub marks-named : MarksNamed
-marks-named = after-opening false (MarksTrue holdsSlot) (λ q tasks slots tag e os x some le.
+marks-named = after-opening false (MarkedWhile InUse) (λ q tasks slots tag e os x some le.
     let o = opened false q tasks slots tag in
     let z = final-reached false tasks os o (open-reached false tasks q slots tag e) in (
-      λ m. had-used (final o os) x (marked-had (z .position) (final o os) (z .ledger) (z .matched) (z .safe) x le m),
-      λ w. had-marked (z .position) (final o os) (z .ledger) (z .matched) (z .safe) x le
-          (used-had (z .position) (final o os) (z .ledger) (z .matched) (z .safe) (z .roomy .way) x w),
+      λ m. is-taken (marked-taken (z .position) (final o os) (z .ledger) (z .matched) (z .safe) x le m),
+      λ u. taken-marked (z .position) (final o os) (z .ledger) (z .matched) (z .safe) x le
+          (use-is-taken (z .position) (final o os) (z .ledger) (z .matched) (z .safe) (z .roomy .way) x u),
     ))

@@ -1,5 +1,5 @@
 -- *No slot* is true: when a step answers so, every slot is in the queue or a task's. (Request #104.)
-use mathlib.Core.Bool.{Bool, cond, false, not, true}
+use mathlib.Core.Bool.{Bool, cond, false, true}
 use mathlib.Core.List.{List, [], _∷_}
 use mathlib.Core.Logic.{_≢_, _⊎_, inl, inr}
 use mathlib.Core.Path.{_∙_, _≡_, ap, refl, subst, sym}
@@ -8,10 +8,11 @@ use native.Mathlib.Decide.{decLt}
 use native.Mathlib.Omega.{arith}
 use lib.Dec.{eqb, leb, ltb}
 use lib.ListN.{List·getD-eq-default}
-use borrow.Author.Tests.{eq-eqb, eqb-true, ltb-true}
+use borrow.Author.Tests.{eq-eqb, eqb-false, eqb-true, ltb-true}
 use Rattle.word.specs.Anchor.{anchorOf}
 use Rattle.model.specs.Calls.{Acted, act, actOn, finish, opened, step}
-use Rattle.model.specs.History.{InUse, NoSlotRight, NoSlotTrue, Waits, final, here, holds, holdsSlot, later, ledger, run, waits}
+use Rattle.model.specs.History.{InUse, NoSlotRight, NoSlotTrue, Waits, final, here, is-taken, later, pop-gives, pop-holds, popGives}
+use Rattle.model.specs.History.{popHolds, push-holds, pushHolds, waits}
 use Rattle.model.specs.Refusals.{among, stepRefusal}
 use Rattle.model.specs.Walk.{entries}
 use Rattle.model.specs.Tables.{atPlace, Queue, Tables, recordAt}
@@ -24,22 +25,21 @@ use Rattle.model.specs.declared.Outcome.the-variants.{Moved}
 use Rattle.model.specs.declared.Record.{Record}
 use Rattle.model.proofs.tests.ByPlace.{by-place}
 use Rattle.model.proofs.tests.Rules.{_and_, passes}
-use Rattle.model.proofs.tests.Truth.{by-test, decide-eq}
+use Rattle.model.proofs.tests.Truth.{and-of, by-test, decide-eq}
 use Rattle.model.proofs.lists.In.{In}
 use Rattle.model.proofs.lists.Slots.{slots}
 use Rattle.model.proofs.machine.Book as B
 use Rattle.model.proofs.machine.Machine as M
-use Rattle.model.proofs.invariant.Tasks.{Task}
-use Rattle.model.proofs.places.NoSlot.{Holds, Lacks, Used, act-lacks, no-slot}
+use Rattle.model.proofs.places.NoSlot.{Holds, Used, no-slot}
 use Rattle.model.proofs.bridge.Accepted.{Stepping, step-accepted}
-use Rattle.model.proofs.bridge.EveryPlace.{step-seen}
-use Rattle.model.proofs.bridge.Operations.{reply, task-of}
+use Rattle.model.proofs.bridge.Facts.{RecordFine}
+use Rattle.model.proofs.bridge.Operations.{reply, step-lacks}
 use Rattle.model.proofs.bridge.View.{anchorSeen, answerSeen, kindOf, placeList, placeOf, recOf, stateOf, view}
-use Rattle.model.proofs.ledger.EveryOperation.{run-good}
 use Rattle.model.proofs.ledger.Matched.{Matched}
-use Rattle.model.proofs.ledger.Opened.{nobody, open-good, some-slots}
 use Rattle.model.proofs.ledger.Waiting as waiting
+use Rattle.model.proofs.unsound.Safe.{Safe}
 use Rattle.model.proofs.unsound.Suits.{kind-push}
+use Rattle.model.proofs.progress.Reached.{final-reached, open-reached}
 use Rattle.model.proofs.Openings.{after-opening}
 
 -- A slot of the sequential deque waits.
@@ -48,71 +48,83 @@ in-waits [] x i = absurd i
 in-waits (e ∷ l) x (inl z) = here e l z
 in-waits (e ∷ l) x (inr i) = later e l (in-waits l x i)
 
+-- A record holds slot x, as a push or as a pop.
+abbrev pub Held : Record → ℕ → Type 0
+Held r x = (pushHolds r x ≡ true) ⊎ ((popHolds r x ≡ true) ⊎ (popGives r x ≡ true))
+
 -- What a decoded record holds, the record holds.
 module _ (r : Record) (x : ℕ) where
   abbrev at : ℕ → Record
   at p = atPlace r p
 
   abbrev Here : ℕ → Type 0
-  Here p = Holds (placeOf p) (recOf r) x → holdsSlot (at p) x ≡ true
+  Here p = (p ≡ 11 → r .kind ≡ 1) → (15 ≤ p → r .kind ≡ 1) → r .finishing ≤ 1 → Holds (placeOf p) (recOf r) x → Held (at p) x
 
-  pushing : (p : ℕ) → leb p 10 ≡ true → leb 1 p ≡ true → (kindOf (r .kind) ≡ M.push) × (eqb (r .finishing) 1 ≡ false) × (r .own ≡ x)
-      → holdsSlot (at p) x ≡ true
-  unfolding holdsSlot
-  pushing p l s w = rw l (passes (leb 1 p ∷ eqb (r .kind) 0 ∷ not (eqb (r .finishing) 1) ∷ eqb (r .own) x ∷ [])
-      (s and eq-eqb _ _ (kind-push (r .kind) (w .0)) and ap not (w .1) and eq-eqb _ _ (w .2) and tt))
+  pushing-at : (p : ℕ) → leb 1 p ≡ true → leb p 10 ≡ true → r .finishing ≤ 1
+      → (kindOf (r .kind) ≡ M.push) × (eqb (r .finishing) 1 ≡ false) × (r .own ≡ x) → Held (at p) x
+  unfolding pushHolds
+  pushing-at p s l f w =
+      let none : r .finishing ≡ 0 = omega (arith, eqb-false (r .finishing) 1 (w .1)) in
+      inl (passes (leb 1 p ∷ leb p 10 ∷ eqb (r .kind) 0 ∷ eqb (r .finishing) 0 ∷ eqb (r .own) x ∷ [])
+      (s and l and eq-eqb _ _ (kind-push (r .kind) (w .0)) and eq-eqb _ _ none and eq-eqb _ _ (w .2) and tt))
 
   pub tip-near : (d : Bool) → M.tip (anchorSeen (r .seen)) d ≡ cond d (anchorOf (r .seen) .right) (anchorOf (r .seen) .left)
   tip-near false = refl
   tip-near true = refl
 
   holds-place : (p : ℕ) → p ≢ 0 → p ≤ 17 → Here p
-  unfolding recOf holdsSlot
+  unfolding recOf popHolds popGives
   holds-place = by-place Here
-      (λ w. pushing 1 refl refl w)
-      (λ w. pushing 2 refl refl w)
-      (λ w. pushing 3 refl refl w)
-      (λ w. pushing 4 refl refl w)
-      (λ w. pushing 5 refl refl w)
-      (λ w. pushing 6 refl refl w)
-      (λ w. pushing 7 refl refl w)
-      (λ w. pushing 8 refl refl w)
-      (λ w. pushing 9 refl refl w)
-      (λ w. pushing 10 refl refl w)
-      (λ w. eq-eqb _ _ (sym (tip-near (eqb (r .side) 1)) ∙ w))
-      (λ w. absurd w)
-      (λ w. absurd w)
-      (λ w. absurd w)
-      (λ w. eq-eqb _ _ w)
-      (λ w. eq-eqb _ _ w)
-      (λ w. eq-eqb _ _ w)
+      (λ f g b w. pushing-at 1 refl refl b w)
+      (λ f g b w. pushing-at 2 refl refl b w)
+      (λ f g b w. pushing-at 3 refl refl b w)
+      (λ f g b w. pushing-at 4 refl refl b w)
+      (λ f g b w. pushing-at 5 refl refl b w)
+      (λ f g b w. pushing-at 6 refl refl b w)
+      (λ f g b w. pushing-at 7 refl refl b w)
+      (λ f g b w. pushing-at 8 refl refl b w)
+      (λ f g b w. pushing-at 9 refl refl b w)
+      (λ f g b w. pushing-at 10 refl refl b w)
+      (λ f g b w. inr (inl (and-of (eq-eqb _ _ (f refl)) (eq-eqb _ _ (sym (tip-near (eqb (r .side) 1)) ∙ w)))))
+      (λ f g b w. absurd w)
+      (λ f g b w. absurd w)
+      (λ f g b w. absurd w)
+      (λ f g b w. inr (inr (and-of (eq-eqb _ _ (g (omega arith))) (eq-eqb _ _ w))))
+      (λ f g b w. inr (inr (and-of (eq-eqb _ _ (g (omega arith))) (eq-eqb _ _ w))))
+      (λ f g b w. inr (inr (and-of (eq-eqb _ _ (g (omega arith))) (eq-eqb _ _ w))))
 
-  pub holds-is : Holds (recOf r .place) (recOf r) x → holdsSlot r x ≡ true
+  pub holds-is : {pooled : Bool} {slots : ℕ} → (r .place ≢ 0 → RecordFine pooled slots r) → Holds (recOf r .place) (recOf r) x → Held r x
   unfolding recOf
-  holds-is w = go (decide-eq (r .place) 0) (decLt 17 (r .place))
+  holds-is f w = go (decide-eq (r .place) 0) (decLt 17 (r .place))
     where
-      go : (r .place ≡ 0) ⊎ (r .place ≢ 0) → Dec (17 < r .place) → holdsSlot r x ≡ true
+      go : (r .place ≡ 0) ⊎ (r .place ≢ 0) → Dec (17 < r .place) → Held r x
       go (inl z) d = absurd (subst (λ p. Holds (placeOf p) (recOf r) x) z w)
       go (inr z) (yes l) = absurd (subst (λ (p : M.Place). Holds p (recOf r) x)
           (List·getD-eq-default placeList M.idle {n = r .place} (omega arith)) w)
-      go (inr z) (no l) = holds-place (r .place) z (omega arith) w
+      go (inr z) (no l) = holds-place (r .place) z (omega arith) (f z .last) (f z .gives) (f z .finishing) w
+
+-- What a task's record holds is in use.
+held-used : (q : Queue) (t x : ℕ) → t < q .tables .control .tasks → Held (recordAt q t) x → InUse q x
+held-used q t x lt (inl e) = is-taken (push-holds t lt e)
+held-used q t x lt (inr (inl e)) = is-taken (pop-holds t lt e)
+held-used q t x lt (inr (inr e)) = pop-gives t lt e
 
 -- What is used in the decoded state is in use in the tables.
-pub used-is : (n : ℕ) (q : Queue) (l : _) (g : Matched n q l) (x : ℕ) → Used (record { state = stateOf q; book = g .book }) x → InUse q x
+pub used-is : (n : ℕ) (q : Queue) (l : _) (g : Matched n q l) → Safe q → (x : ℕ) → Used (record { state = stateOf q; book = g .book }) x → InUse q x
 unfolding stateOf view
-used-is n q l g x = go
+used-is n q l g f x = go
   where
     held : (u : ℕ) (b : Bool) → ltb u (q .tables .control .tasks) ≡ b → (let y = cond b (recOf (recordAt q u)) M.blank in
         Holds (y .place) y x) → InUse q x
-    held u true z w = holds u (ltb-true _ _ z) (holds-is (recordAt q u) x w)
+    held u true z w = held-used q u x (ltb-true _ _ z) (holds-is (recordAt q u) x (f .fine u (ltb-true _ _ z)) w)
     held u false z w = absurd w
 
     go : Used (record { state = stateOf q; book = g .book }) x → InUse q x
-    go (inl i) = waits (subst (Waits x) (sym (waiting.waits (q .tables) (g .links) (g .inv .owner) (g .book .queue) (g .inv .whole)))
-        (in-waits (g .book .queue) x i))
+    go (inl i) = is-taken (waits (subst (Waits x) (sym (waiting.waits (q .tables) (g .links) (g .inv .owner) (g .book .queue) (g .inv .whole)))
+        (in-waits (g .book .queue) x i)))
     go (inr w) = held (w .0) (ltb (w .0) (q .tables .control .tasks)) refl (w .1)
 
-module _ (n : ℕ) (q : Queue) (l : _) (g : Matched n q l) (t : ℕ) where
+module _ (n : ℕ) (q : Queue) (l : _) (g : Matched n q l) (f : Safe q) (t : ℕ) where
   abbrev G : Tables
   G = q .tables
 
@@ -121,19 +133,11 @@ module _ (n : ℕ) (q : Queue) (l : _) (g : Matched n q l) (t : ℕ) where
 
   -- The step that answers so has read an empty head.
   module _ (s : Stepping q t) (e : reply q (g .book) (g .inv) (g .links) t s ≡ NoSlot) where
-    empty-head : (view G .pooled ≡ true) × (view G .head .slot ≡ 0)
-    unfolding stateOf recOf
-    empty-head =
-        let w = subst (λ (x : M.Rec). Task (x .place) (view G) (g .inv .owner) t x (g .book .calls t)) (task-of q t (s .lies .known))
-        (g .inv .tasks t) in
-        let k = subst (Lacks (view G)) (step-seen G (s .control) (g .links) r (s .fine) (s .busy) (s .room))
-        (act-lacks (view G) (recOf r) (g .inv .owner) t (g .book .calls t) (placeOf (r .place)) w) in
-        k .lacks (ap (λ (a : Answer). B.isNoSlot (answerSeen a)) e)
-
     all-used : (x : ℕ) → 1 ≤ x → x ≤ G .control .slots → InUse q x
     unfolding stateOf view
-    all-used x some low = used-is n q l g x
-        (no-slot (record { state = stateOf q; book = g .book }) (g .inv) (empty-head .0) (empty-head .1) x (λ z. omega arith) low)
+    all-used x some low =
+        let z = step-lacks q (g .book) (g .inv) (g .links) t s (ap (λ (a : Answer). B.isNoSlot (answerSeen a)) e) in
+        used-is n q l g f x (no-slot (record { state = stateOf q; book = g .book }) (g .inv) (z .0) (z .1) x (λ z. omega arith) low)
 
   pub told-truly : act q t Step .outcome ≡ Moved NoSlot → (x : ℕ) → 1 ≤ x → x ≤ G .control .slots → InUse q x
   unfolding act actOn step finish
@@ -145,5 +149,5 @@ module _ (n : ℕ) (q : Queue) (l : _) (g : Matched n q l) (t : ℕ) where
 pub no-slot-right : NoSlotRight
 no-slot-right = after-opening true NoSlotTrue (λ q tasks slots tag e os t.
     let o = opened true q tasks slots tag in
-    let g = run-good os 1 o nobody (open-good true q tasks slots tag (some-slots true q tasks slots e)) in
-    told-truly (g .0) (final o os) (ledger (run o os)) (g .1) t)
+    let z = final-reached true tasks os o (open-reached true tasks q slots tag e) in
+    told-truly (z .position) (final o os) (z .ledger) (z .matched) (z .safe) t)

@@ -1,13 +1,12 @@
 -- After any accepted opening and any list: what every call that walks relies on, and so what the report tells.
 use mathlib.Core.Path.{_∙_, _≡_, refl}
-use mathlib.Core.Bool.{Bool, true}
+use mathlib.Core.Bool.{Bool}
 use mathlib.Core.List.{List, [], _∷_}
 use Prim.Native.Nat.{ℕ}
 use Rattle.model.specs.declared.Entry.{Entry}
 use Rattle.model.specs.declared.Reported.the-variants as reported
 use Rattle.model.specs.Tables.{Queue}
-use Rattle.model.specs.Sound.{controlSound}
-use Rattle.model.specs.Walk.{contents, entries}
+use Rattle.model.specs.Standing.{Standing}
 use Rattle.model.specs.Refusals.{openRefusal, recordsFit, reportRefusal}
 use Rattle.model.specs.Calls.{act, opened}
 use Rattle.model.specs.Report.{busy, report, tell, told, waiting}
@@ -18,12 +17,6 @@ use Rattle.model.proofs.unsound.Runs.{run-safe}
 use Rattle.model.proofs.Linearizable.{linearized}
 use Rattle.model.proofs.Never34.{open-safe}
 use Rattle.model.proofs.Openings.{after-opening}
-
--- Control and Anchor are sound, every table is long enough, and the walk meets the entries d.
-pub record Standing (q : Queue) (d : List Entry) : Type 0 where
-  pub control : controlSound (q .tables .control) ≡ true
-  pub long : fits q ≡ true
-  pub walk : contents (q .tables) ≡ entries d
 
 final-fits : (os : List Request) (q : Queue) → fits (final q os) ≡ fits q
 unfolding final

@@ -2,6 +2,7 @@
 pub mod SoundRecord
 pub mod Refusals
 pub mod Order
+pub mod Runs
 pub mod Lengths
 pub mod Sizes
 pub mod LentRecord

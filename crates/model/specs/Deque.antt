@@ -32,7 +32,6 @@ servePop side l = takeFirst side (seenFrom side l)
 unfoldable pub serve : ℕ → ℕ → Entry → List Entry → Served
 serve kind side e l = cond (eqb kind 0) (servePush side e l) (servePop side l)
 
--- A push that is answered *no slot* gets the same reply, and the deque stays.
 abbrev pub saysNoSlot : Answer → Bool
 saysNoSlot (Running p) = false
 saysNoSlot Pushed = false
@@ -40,5 +39,6 @@ saysNoSlot Empty = false
 saysNoSlot (Popped e) = false
 saysNoSlot NoSlot = true
 
-unfoldable pub serveFor : Answer → ℕ → ℕ → Entry → List Entry → Served
-serveFor a kind side e l = cond (saysNoSlot a) (record { reply = NoSlot; deque = l }) (serve kind side e l)
+-- To a push that lacks a slot it replies *no slot*, and stays. (Request #104.)
+unfoldable pub serveFor : Bool → ℕ → ℕ → Entry → List Entry → Served
+serveFor lacks kind side e l = cond lacks (record { reply = NoSlot; deque = l }) (serve kind side e l)

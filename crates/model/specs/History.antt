@@ -21,10 +21,10 @@ use Rattle.model.specs.declared.Reported.the-variants as reported
 use Rattle.model.specs.Calls.{openAs, act}
 use Rattle.model.specs.Walk.{Walk, entries, contents}
 use Rattle.model.specs.Report.{report}
-use Rattle.model.specs.Deque.{serveFor}
+use Rattle.model.specs.Deque.{saysNoSlot, serveFor}
 use Rattle.model.specs.Sides.{near}
 use Rattle.model.specs.Lists.{every, All}
-use Rattle.model.specs.Kinds.{isPush, giving}
+use Rattle.model.specs.Kinds.{isPush, isPop, giving}
 
 -- An operation of a task: an element of the list, with any numbers.
 pub record Request : Type 0 where
@@ -60,11 +60,13 @@ pub data Ending : Type 0 where
   pending : Ending
   answered : (at : ℕ) (answer : Answer) → Ending
 
--- A call begins with an accepted start; kind, side, slot and label are as its start named them. Its latest effect comes first.
+-- A call begins with an accepted start; kind, side, slot and label are as its start named them; `named` says whether it named a slot.
+-- Its latest effect comes first.
 pub record Call : Type 0 where
   pub task : ℕ
   pub kind : ℕ
   pub side : ℕ
+  pub named : Bool
   pub entry : Entry
   pub start : ℕ
   pub effects : List Effect
@@ -75,11 +77,20 @@ pub record Ledger : Type 0 where
   pub deque : List Entry
   pub calls : List Call
 
-abbrev pub begins : ℕ → ℕ → ℕ → ℕ → Entry → Call
-begins n t kind side e = record { task = t; kind = kind; side = side; entry = e; start = n; effects = []; ending = pending }
+abbrev pub begins : ℕ → ℕ → ℕ → ℕ → Bool → Entry → Call
+begins n t kind side named e = record { task = t; kind = kind; side = side; named = named; entry = e; start = n; effects = []; ending = pending }
 
 abbrev pub continued : Call → List Effect → Ending → Call
-continued c es e = record { task = c .task; kind = c .kind; side = c .side; entry = c .entry; start = c .start; effects = es; ending = e }
+continued c es e = record {
+  task = c .task;
+  kind = c .kind;
+  side = c .side;
+  named = c .named;
+  entry = c .entry;
+  start = c .start;
+  effects = es;
+  ending = e;
+}
 
 abbrev pub over : Call → Ledger → Ledger
 over c l = record { deque = l .deque; calls = c ∷ l .calls }
@@ -111,14 +122,18 @@ isEffect e a =
     let c = anchorOf (e .after) in
     not (eqb (b .left) (c .left) && eqb (b .right) (c .right)) || saysNone a
 
--- A push that named no slot (its entry has slot 0) is told, at its effect, with the end at its side of Anchor after that step.
+-- A push that named no slot is told, at its effect, with the end at its side of Anchor after that step.
 abbrev pub toldEntry : Call → Event → Entry
-toldEntry c e = record { slot = cond (eqb (c .entry .slot) 0) (near (c .side) (anchorOf (e .after))) (c .entry .slot); label = c .entry .label }
+toldEntry c e = record { slot = cond (c .named) (c .entry .slot) (near (c .side) (anchorOf (e .after))); label = c .entry .label }
+
+-- *No slot* is for pushes that named none. To any other call so answered the deque replies as ever: the answer is then not its reply.
+abbrev pub lacksSlot : Call → Answer → Bool
+lacksSlot c a = saysNoSlot a && (eqb (c .kind) 0 && not (c .named))
 
 -- The step at position n of call c: at an effect the sequential deque serves the call.
 unfoldable pub stepOf : ℕ → Event → Answer → List Entry → Call → List Call → Ledger
 stepOf n e a d c cs =
-    let s = serveFor a (c .kind) (c .side) (toldEntry c e) d in
+    let s = serveFor (lacksSlot c a) (c .kind) (c .side) (toldEntry c e) d in
     cond (isEffect e a)
     (record { deque = s .deque; calls = continued c (record { at = n; reply = s .reply } ∷ c .effects) (ended n a) ∷ cs })
     (record { deque = d; calls = continued c (c .effects) (ended n a) ∷ cs })
@@ -132,9 +147,9 @@ attend n e a d (c ∷ cs) =
 
 -- An accepted start adds a call, an accepted step is attended to; at a refusal nothing is done.
 unfoldable pub accept : ℕ → Event → Op → Answer → Ledger → Ledger
-accept n e (Push side slot label) a l = over (begins n (e .task) 0 side (record { slot = slot; label = label })) l
-accept n e (Pop side) a l = over (begins n (e .task) 1 side (record { slot = 0; label = 0 })) l
-accept n e (Put side label) a l = over (begins n (e .task) 0 side (record { slot = 0; label = label })) l
+accept n e (Push side slot label) a l = over (begins n (e .task) 0 side true (record { slot = slot; label = label })) l
+accept n e (Pop side) a l = over (begins n (e .task) 1 side false (record { slot = 0; label = 0 })) l
+accept n e (Put side label) a l = over (begins n (e .task) 0 side false (record { slot = 0; label = label })) l
 accept n e Step a l = attend n e a (l .deque) (l .calls)
 
 unfoldable pub note : ℕ → Event → Outcome → Ledger → Ledger
@@ -201,25 +216,32 @@ Never34 = AfterOpening NeverUnsound
 abbrev pub Reports : Type 0
 Reports = AfterOpening Told
 
--- A record holds slot x: a push at 1 to 10 that is not finishing its own; a pop at 11 the end that it took, at 15 to 17 its own.
-unfoldable pub holdsSlot : Record → ℕ → Bool
-holdsSlot r x =
-    cond (leb (r .place) 10) (every (leb 1 (r .place) ∷ isPush r ∷ not (eqb (r .finishing) 1) ∷ eqb (r .own) x ∷ []))
-    (cond (eqb (r .place) 11) (eqb (near (r .side) (anchorOf (r .seen))) x)
-    (giving r && eqb (r .own) x))
-
+-- Slot x waits in the queue.
 pub data Waits (x : ℕ) : Walk → Type 0 where
   here : (e : Entry) (l : List Entry) → x ≡ e .slot → Waits x (entries (e ∷ l))
   later : (e : Entry) (l : List Entry) → Waits x (entries l) → Waits x (entries (e ∷ l))
 
--- Slot x waits in the queue, or a record has it, as `has` tells.
-pub data Had (has : Record → ℕ → Bool) (q : Queue) (x : ℕ) : Type 0 where
-  waits : Waits x (contents (q .tables)) → Had has q x
-  holds : (t : ℕ) → t < q .tables .control .tasks → has (recordAt q t) x ≡ true → Had has q x
+-- A push holds its own slot between 14, or a start that names it, and its effect: at 1 to 10, and not finishing.
+unfoldable pub pushHolds : Record → ℕ → Bool
+pushHolds r x = every (leb 1 (r .place) ∷ leb (r .place) 10 ∷ isPush r ∷ eqb (r .finishing) 0 ∷ eqb (r .own) x ∷ [])
 
--- Slot x is in use.
-abbrev pub InUse : Queue → ℕ → Type 0
-InUse q x = Had holdsSlot q x
+-- A pop holds the end that it took between its effect and 17: at 11, where its mark is cleared, and, as its own slot, at 15 to 17.
+unfoldable pub popHolds : Record → ℕ → Bool
+popHolds r x = every (eqb (r .place) 11 ∷ isPop r ∷ eqb (near (r .side) (anchorOf (r .seen))) x ∷ [])
+
+unfoldable pub popGives : Record → ℕ → Bool
+popGives r x = every (giving r ∷ isPop r ∷ eqb (r .own) x ∷ [])
+
+-- Slot x is taken: it waits, a push holds it, or a pop at 11 does.
+pub data Taken (q : Queue) (x : ℕ) : Type 0 where
+  waits : Waits x (contents (q .tables)) → Taken q x
+  push-holds : (t : ℕ) → t < q .tables .control .tasks → pushHolds (recordAt q t) x ≡ true → Taken q x
+  pop-holds : (t : ℕ) → t < q .tables .control .tasks → popHolds (recordAt q t) x ≡ true → Taken q x
+
+-- Slot x is in use: it is taken, or a pop at 15 to 17 gives it back.
+pub data InUse (q : Queue) (x : ℕ) : Type 0 where
+  is-taken : Taken q x → InUse q x
+  pop-gives : (t : ℕ) → t < q .tables .control .tasks → popGives (recordAt q t) x ≡ true → InUse q x
 
 -- *No slot* is true: if a step after the list answers so, every slot was in use. (Request #104. Without it a program that loses slots passes.)
 abbrev pub NoSlotTrue : Queue → List Request → Type 0
@@ -229,20 +251,17 @@ NoSlotTrue q os = (t : ℕ) → act (final q os) t Step .outcome ≡ Moved NoSlo
 abbrev pub NoSlotRight : Type 0
 NoSlotRight = AfterOpeningAs true NoSlotTrue
 
--- A record has slot x marked: it holds it, and is no pop at 15 to 17, which has cleared the mark at 11. (Request #104.)
-unfoldable pub marksSlot : Record → ℕ → Bool
-marksSlot r x = holdsSlot r x && not (giving r)
+-- A slot's mark is set exactly while P holds of the slot.
+abbrev pub MarkedWhile : (Queue → ℕ → Type 0) → Queue → List Request → Type 0
+MarkedWhile P q os =
+    let now = final q os in
+    (x : ℕ) → 1 ≤ x → x ≤ now .tables .control .slots
+    → (marked (now .tables .marks) x ≡ true → P now x) × (P now x → marked (now .tables .marks) x ≡ true)
 
--- A slot's mark is set exactly while it waits, or a record has it. (Without it a program whose pops leave their slots marked passes.)
-abbrev pub MarksTrue : (Record → ℕ → Bool) → Queue → List Request → Type 0
-MarksTrue has q os =
-    let now = final q os .tables in
-    (x : ℕ) → 1 ≤ x → x ≤ now .control .slots
-    → (marked (now .marks) x ≡ true → Had has (final q os) x) × (Had has (final q os) x → marked (now .marks) x ≡ true)
-
+-- It is set exactly while the slot is taken. (Without it a program whose pops leave their slots marked passes.)
 abbrev pub MarksRight : Type 0
-MarksRight = AfterOpening (MarksTrue marksSlot)
+MarksRight = AfterOpening (MarkedWhile Taken)
 
--- In a named queue, where no pop is at 15 to 17, every slot in use is marked.
+-- In a named queue, where no pop is at 15 to 17, that is while the slot is in use.
 abbrev pub MarksNamed : Type 0
-MarksNamed = AfterOpeningAs false (MarksTrue holdsSlot)
+MarksNamed = AfterOpeningAs false (MarkedWhile InUse)

@@ -10,6 +10,7 @@ pub mod Walk
 pub mod Refusals
 pub mod Calls
 pub mod Ends
+pub mod Standing
 pub mod Report
 pub mod History
 pub mod OneTouch

@@ -2,6 +2,7 @@
 use mathlib.Core.Bool.{Bool, true, _&&_, cond}
 use mathlib.Core.List.{List, [], _∷_, _++_}
 use Prim.Native.Nat.{ℕ, zero, suc, _+_}
+use lib.Dec.{eqb}
 use lib.ListN.{replicate, drop}
 
 -- Every entry of a list has a property.
@@ -19,6 +20,11 @@ every (b ∷ c ∷ l) = b && every (c ∷ l)
 unfoldable pub count : (ℕ → Bool) → ℕ → ℕ
 count p zero = 0
 count p (suc n) = count p n + cond (p n) 1 0
+
+-- How many copies of a number a list has.
+abbrev pub copies : ℕ → List ℕ → ℕ
+copies x [] = 0
+copies x (y ∷ l) = cond (eqb y x) 1 0 + copies x l
 
 -- The values of f at the numbers below n, in their order.
 unfoldable pub listed : (ℕ → ℕ) → ℕ → List ℕ

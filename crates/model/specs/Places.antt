@@ -11,7 +11,9 @@ use Rattle.model.specs.declared.Record.{Record}
 use Rattle.model.specs.Tables.{Tables, isPooled, withMark}
 use Rattle.model.specs.Tables.{withOwn, withSeen, withNeighbour, withLink, withAnchor, withHead, linked, withMarks, withNext, taken}
 use Rattle.model.specs.Sides.{opposite, near, far, facing, links, pushing, named, isEmpty}
-use Rattle.model.specs.Kinds.{isPush, isPop, helping, drawing, giving}
+use Rattle.model.specs.Kinds.{isPush, isPop, helping}
+use Rattle.model.specs.Route.{done, equal, failedReading, hasFailed, namedQueue, noneFree, onlyWay, pooledQueue, readEmpty, readSingle}
+use Rattle.model.specs.Route.{readStable, readUnstable, someFree, unequal}
 
 -- The side: at 1 to 4 and 11 the task's, at 5 to 10 the one that the status as read names.
 unfoldable pub sideOf : Record → ℕ
@@ -21,26 +23,35 @@ sideOf r = cond (helping r) (named (anchorOf (r .seen) .status)) (r .side)
 abbrev pub endSeen : Record → ℕ
 endSeen r = near (sideOf r) (anchorOf (r .seen))
 
--- The slot whose row or mark a place touches: the neighbour at 7 and 9, a push's own slot at 3, the slot of the head as read at 13 and 14,
--- a pop's own slot at 16 and 17, else the end as read.
+-- The slot whose row or mark a place touches, and at 17 the one that it gives back, a line a place; 0: none.
 unfoldable pub row : Record → ℕ
 row r =
-    cond (eqb (r .place) 7 || eqb (r .place) 9) (r .neighbour)
-    (cond (eqb (r .place) 3 && isPush r) (r .own)
-    (cond (drawing r) (linkOf (r .link) .slot)
-    (cond (giving r) (r .own)
-    (endSeen r))))
+    cond (eqb (r .place) 3) (cond (isPush r) (r .own) (endSeen r))
+    (cond (eqb (r .place) 5) (endSeen r)
+    (cond (eqb (r .place) 7) (r .neighbour)
+    (cond (eqb (r .place) 9) (r .neighbour)
+    (cond (eqb (r .place) 11) (endSeen r)
+    (cond (eqb (r .place) 13) (linkOf (r .link) .slot)
+    (cond (eqb (r .place) 14) (linkOf (r .link) .slot)
+    (cond (eqb (r .place) 16) (r .own)
+    (cond (eqb (r .place) 17) (r .own)
+    0))))))))
 
 -- The link word of that row: Left at 3 and 5, Right at 7 and 9.
 unfoldable pub linkSide : Record → ℕ
 linkSide r = cond (eqb (r .place) 3 || eqb (r .place) 5) (opposite (sideOf r)) (sideOf r)
 
--- What a place finds in that row: the label at 11, the next slot at 13, else the link word.
+-- What a place finds in that row, a line a place: a link word, the label, the next slot; 0: it reads none.
 abbrev pub wordFound : Tables → Record → ℕ
 wordFound q r =
-    cond (eqb (r .place) 11) (getD (q .labels) (row r) 0)
+    let link = getD (links q (linkSide r)) (row r) 0 in
+    cond (eqb (r .place) 3) link
+    (cond (eqb (r .place) 5) link
+    (cond (eqb (r .place) 7) link
+    (cond (eqb (r .place) 9) link
+    (cond (eqb (r .place) 11) (getD (q .labels) (row r) 0)
     (cond (eqb (r .place) 13) (getD (q .next) (row r) 0)
-    (getD (links q (linkSide r)) (row r) 0))
+    0)))))
 
 -- A touch of the shared tables: at most one word is written, but where a slot is drawn, which sets the head, the slot's label and its mark.
 pub data Touch : Type 0 where
@@ -63,33 +74,38 @@ pub record Move : Type 0 where
 abbrev pub reads : Record → ℕ → Move
 reads r branch = record { touch = nothing; task = r; branch = branch; failed = false }
 
--- A comparison of the word as it is with the word as read: 0 equal, 1 not.
+-- A comparison of the word as it is with the word as read.
 abbrev pub compares : ℕ → ℕ → Record → Move
-compares now read r = reads r (cond (eqb now read) 0 1)
+compares now read r = reads r (cond (eqb now read) equal unequal)
 
--- A change: the word is replaced only if it still equals the word as read. 0 done, with the record r′; 1 failed, with r.
+-- A change: the word is replaced only if it still equals the word as read. Done, with the record r′; failed, with r.
 abbrev pub changes : ℕ → ℕ → Touch → Record → Record → Move
 changes now read touch r′ r =
-    cond (eqb now read) (record { touch = touch; task = r′; branch = 0; failed = false })
-    (record { touch = nothing; task = r; branch = 1; failed = true })
+    cond (eqb now read) (record { touch = touch; task = r′; branch = done; failed = false })
+    (record { touch = nothing; task = r; branch = hasFailed; failed = true })
 
--- 1: read Anchor. 0 empty, 1 a pop with l = r, 2 STABLE, 3 else.
+-- 1: read Anchor.
 unfoldable pub reading : Bool → Anchor → ℕ
 reading pop a =
-    cond (isEmpty a) 0
-    (cond (pop && eqb (a .left) (a .right)) 1
-    (cond (eqb (a .status) 0) 2
-    3))
+    cond (isEmpty a) readEmpty
+    (cond (pop && eqb (a .left) (a .right)) readSingle
+    (cond (eqb (a .status) 0) readStable
+    readUnstable))
 
 unfoldable pub at1 : Control → Record → Move
 at1 c r = reads (withSeen r (c .anchor) (r .finishing)) (reading (isPop r) (anchorOf (c .anchor)))
 
--- A change of Anchor at 2 or 4: 0 done, with the record r′. A failed one takes the word found as its reading and goes on as place 1:
--- 1 empty, 2 a pop with l = r, 3 STABLE, 4 else. (Document 02: #106.)
+-- A change of Anchor at 2 or 4: done, with the record r′. A failed one takes the word found as its reading and goes on as place 1.
+-- (Document 02: #106.)
 abbrev pub replaces : Control → ℕ → Record → Record → Move
 replaces c word r′ r =
-    cond (eqb (c .anchor) (r .seen)) (record { touch = setAnchor word; task = r′; branch = 0; failed = false })
-    (record { touch = nothing; task = withSeen r (c .anchor) (r .finishing); branch = reading (isPop r) (anchorOf (c .anchor)) + 1; failed = true })
+    cond (eqb (c .anchor) (r .seen)) (record { touch = setAnchor word; task = r′; branch = done; failed = false })
+    (record {
+      touch = nothing;
+      task = withSeen r (c .anchor) (r .finishing);
+      branch = failedReading (reading (isPop r) (anchorOf (c .anchor)));
+      failed = true;
+    })
 
 -- 2: change Anchor to own, own, s; a pop to null, null, s.
 unfoldable pub at2 : Control → Record → Move
@@ -105,10 +121,10 @@ at3 r w =
     (record {
       touch = setLink (linkSide r) (row r) (packLink (record { tag = linkOf w .tag; slot = endSeen r }));
       task = r;
-      branch = 0;
+      branch = onlyWay;
       failed = false;
     })
-    (reads (withNeighbour r (linkOf w .slot)) 0)
+    (reads (withNeighbour r (linkOf w .slot)) onlyWay)
 
 -- 4: change Anchor to l, own, RPUSH, and remember it, finishing; a pop to l, neighbour, s.
 unfoldable pub new4 : Record → ℕ
@@ -124,15 +140,15 @@ at4 c r = replaces c (new4 r) (cond (isPush r) (withSeen r (new4 r) 1) r) r
 
 -- 5: read r's Left as neighbour.
 unfoldable pub at5 : Record → ℕ → Move
-at5 r w = reads (withNeighbour r (linkOf w .slot)) 0
+at5 r w = reads (withNeighbour r (linkOf w .slot)) onlyWay
 
 -- 6 and 8: compare Anchor.
 unfoldable pub at6 : Control → Record → Move
 at6 c r = compares (c .anchor) (r .seen) r
 
--- 7: read neighbour's Right. 0 it names r, 1 not.
+-- 7: read neighbour's Right: it names r, or not.
 unfoldable pub at7 : Record → ℕ → Move
-at7 r w = reads (withLink r w) (cond (eqb (linkOf w .slot) (endSeen r)) 0 1)
+at7 r w = reads (withLink r w) (cond (eqb (linkOf w .slot) (endSeen r)) equal unequal)
 
 -- 9: change neighbour's Right to r.
 unfoldable pub at9 : Record → ℕ → Move
@@ -149,8 +165,8 @@ at10 c r =
 unfoldable pub at11 : Control → Record → ℕ → Move
 at11 c r l =
     cond (isPooled c)
-    (record { touch = clearMark (row r); task = withOwn r (row r) l; branch = 1; failed = false })
-    (record { touch = clearMark (row r); task = r; branch = 0; failed = false })
+    (record { touch = clearMark (row r); task = withOwn r (row r) l; branch = pooledQueue; failed = false })
+    (record { touch = clearMark (row r); task = r; branch = namedQueue; failed = false })
 
 -- The head as read with its tag raised, which names slot x.
 abbrev pub raised : Record → ℕ → ℕ
@@ -160,13 +176,13 @@ raised r x = packLink (record { tag = linkOf (r .link) .tag + 1; slot = x })
 abbrev pub noneLeft : ℕ → Bool
 noneLeft head = eqb (linkOf head .slot) 0
 
--- 12: read the head. 0 the stack is empty, 1 not.
+-- 12: read the head: the stack is empty, or not.
 unfoldable pub at12 : Control → Record → Move
-at12 c r = reads (withLink r (c .head)) (cond (noneLeft (c .head)) 0 1)
+at12 c r = reads (withLink r (c .head)) (cond (noneLeft (c .head)) noneFree someFree)
 
 -- 13: read the next of its slot.
 unfoldable pub at13 : Record → ℕ → Move
-at13 r n = reads (withNeighbour r n) 0
+at13 r n = reads (withNeighbour r n) onlyWay
 
 -- 14: change the head to that next; the slot is the push's, marked and with its label.
 unfoldable pub at14 : Control → Record → Move
@@ -174,11 +190,11 @@ at14 c r = changes (c .head) (r .link) (takeSlot (raised r (r .neighbour)) (row 
 
 -- 15: read the head.
 unfoldable pub at15 : Control → Record → Move
-at15 c r = reads (withLink r (c .head)) 0
+at15 c r = reads (withLink r (c .head)) onlyWay
 
 -- 16: put its slot into the own slot's next.
 unfoldable pub at16 : Record → Move
-at16 r = record { touch = setNext (row r) (linkOf (r .link) .slot); task = r; branch = 0; failed = false }
+at16 r = record { touch = setNext (row r) (linkOf (r .link) .slot); task = r; branch = onlyWay; failed = false }
 
 -- 17: change the head to the own slot.
 unfoldable pub at17 : Control → Record → Move

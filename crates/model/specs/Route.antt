@@ -26,15 +26,69 @@ popped = 23
 abbrev pub noSlot : ℕ
 noSlot = 24
 
+-- The branches of a place. Where it goes one way:
+abbrev pub onlyWay : ℕ
+onlyWay = 0
+
+-- a change is done or has failed,
+abbrev pub done : ℕ
+done = 0
+
+abbrev pub hasFailed : ℕ
+hasFailed = 1
+
+-- a comparison finds the word as read or another; so does place 7, where the link names r or not,
+abbrev pub equal : ℕ
+equal = 0
+
+abbrev pub unequal : ℕ
+unequal = 1
+
+-- place 11 is in a named or in a pooled queue, the head read at 12 has slot 0 or another,
+abbrev pub namedQueue : ℕ
+namedQueue = 0
+
+abbrev pub pooledQueue : ℕ
+pooledQueue = 1
+
+abbrev pub noneFree : ℕ
+noneFree = 0
+
+abbrev pub someFree : ℕ
+someFree = 1
+
+-- and the Anchor read at 1 is empty, has l = r in a pop, is STABLE, or is none of these.
+abbrev pub readEmpty : ℕ
+readEmpty = 0
+
+abbrev pub readSingle : ℕ
+readSingle = 1
+
+abbrev pub readStable : ℕ
+readStable = 2
+
+abbrev pub readUnstable : ℕ
+readUnstable = 3
+
+-- A failed change at 2 or 4 has the branches of that reading, behind the one where it is done. (Document 02: #106.)
+abbrev pub failedReading : ℕ → ℕ
+failedReading branch = branch + 1
+
 -- The column next: a line for each place from 0, where no task steps, and an entry for each branch from 0.
--- A push never reads a single label as such, so that entry is 0, no place.
+-- Where a reading leads: empty, l = r, STABLE, else. A push never reads a single label as such, so that entry is 0, no place.
+abbrev pub pushRead : List ℕ
+pushRead = 2 ∷ 0 ∷ 3 ∷ 5 ∷ []
+
+abbrev pub popRead : List ℕ
+popRead = empty ∷ 2 ∷ 3 ∷ 5 ∷ []
+
 unfoldable pub pushRoute : List (List ℕ)
 pushRoute =
     []
-    ∷ (2 ∷ 0 ∷ 3 ∷ 5 ∷ [])  -- 1: empty, -, STABLE, else
-    ∷ (pushed ∷ 2 ∷ 0 ∷ 3 ∷ 5 ∷ [])  -- 2: done, failed and read as at 1
+    ∷ pushRead  -- 1
+    ∷ (pushed ∷ pushRead)  -- 2: done, failed and read
     ∷ (4 ∷ [])  -- 3
-    ∷ (5 ∷ 2 ∷ 0 ∷ 3 ∷ 5 ∷ [])  -- 4: done, failed and read as at 1
+    ∷ (5 ∷ pushRead)  -- 4: done, failed and read
     ∷ (6 ∷ [])  -- 5
     ∷ (7 ∷ leave ∷ [])  -- 6: equal, else
     ∷ (10 ∷ 8 ∷ [])  -- 7: names r, else
@@ -50,10 +104,10 @@ pushRoute =
 unfoldable pub popRoute : List (List ℕ)
 popRoute =
     []
-    ∷ (empty ∷ 2 ∷ 3 ∷ 5 ∷ [])  -- 1: empty, l = r, STABLE, else
-    ∷ (11 ∷ empty ∷ 2 ∷ 3 ∷ 5 ∷ [])  -- 2: done, failed and read as at 1
+    ∷ popRead  -- 1
+    ∷ (11 ∷ popRead)  -- 2: done, failed and read
     ∷ (4 ∷ [])  -- 3
-    ∷ (11 ∷ empty ∷ 2 ∷ 3 ∷ 5 ∷ [])  -- 4: done, failed and read as at 1
+    ∷ (11 ∷ popRead)  -- 4: done, failed and read
     ∷ (6 ∷ [])  -- 5, as a push
     ∷ (7 ∷ leave ∷ [])  -- 6, as a push
     ∷ (10 ∷ 8 ∷ [])  -- 7, as a push

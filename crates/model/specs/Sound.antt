@@ -1,5 +1,5 @@
 -- What is sound, and which tables are long enough: refusals 34 and 12. (Document 01: Refused because of the input, .. of the state.)
-use mathlib.Core.Bool.{Bool, true, _&&_, _||_, not, cond, Bool·beq}
+use mathlib.Core.Bool.{Bool, _&&_, _||_, not, cond, Bool·beq}
 use mathlib.Core.List.{List, [], _∷_, _++_}
 use Prim.Native.Nat.{ℕ, _/_}
 use lib.Dec.{ltb, leb, eqb}

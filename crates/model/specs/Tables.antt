@@ -1,10 +1,9 @@
 -- The lent tables as lists of numbers. (Document 01: Tables.)
-use mathlib.Core.Bool.{Bool, _&&_, cond}
-use mathlib.Core.List.{List, [], _∷_, _++_}
-use Prim.Native.Nat.{ℕ, zero, suc, _+_, _*_, _/_, _%_, _^_}
+use mathlib.Core.Bool.{Bool, cond}
+use mathlib.Core.List.{List}
+use Prim.Native.Nat.{ℕ, _+_, _*_, _/_, _%_, _^_}
 use lib.Dec.{eqb}
-use lib.ListN.{getD, set, replicate, drop}
-use Rattle.word.specs.declared.Anchor.{Anchor}
+use lib.ListN.{getD, set}
 use Rattle.word.specs.Anchor.{packAnchor, emptyAnchor}
 use Rattle.model.specs.declared.Control.{Control}
 use Rattle.model.specs.declared.Record.{Record}

@@ -5,7 +5,6 @@ ghost use mathlib.Core.Path.{_≡_};
 ghost use mathlib.Core.Bool.{true, false, _&&_};
 ghost use mathlib.Core.List.{List};
 ghost use Prim.Native.Nat.{ℕ};
-ghost use lib.ListN.{length};
 ghost use Rattle.model.specs.Tables.{tablesOf};
 ghost use Rattle.model.specs.Sound.{controlSound};
 ghost use Rattle.sound.specs.Lengths.{lengthsFit};
@@ -93,9 +92,7 @@ pub fn sheet(
         return refused(34);
     }
     let n = listed.len();
-    let mut square = [[0u8; 32]; 32];
-    square::closure(&mut square, rules, n);
-    search::first_broken(&square, n, low, high)
+    square::first_broken(rules, n, low, high)
 }
 
 /// The sheet on a smaller printer: the same answer, with 32 lent words for the chained rules in the

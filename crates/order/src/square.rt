@@ -1,26 +1,14 @@
 // The chained rules in a square of 32 by 32 marks, one byte each.
 use crate::form::after;
 use crate::form::before;
+use crate::search;
+use sheet_model::SheetReply;
 ghost use mathlib.Core.Path.{_≡_};
 ghost use mathlib.Core.Bool.{false};
 ghost use Prim.Native.Nat.{_≤_};
-ghost use lib.ListN.{length, replicate};
 ghost use Rattle.sheet_model.specs.Sheet.{any, outside};
-ghost use Rattle.sheet_model.specs.Squares.{squareOf, linked, byteRow, rulesMarked, rounds, joinRow};
-
-/// Sets the marks of the rules themselves.
-fn mark(square: &mut [[u8; 32]], rules: &[u32], n: usize)
-    requires { ⌜ (32 ≤ length (now square)) × (n ≤ 32) × (any (outside n) (now rules) ≡ false) ⌝ }
-    ensures { λ _. ⌜ now (square .exit) ≡ rulesMarked byteRow (now (rules .entry)) (now (square .entry)) ⌝ }
-{
-    let mut i = 0;
-    while i < rules.len() {
-        let a = before(rules[i]);
-        let b = after(rules[i]);
-        square[a - 1][b - 1] = 1;
-        i += 1;
-    }
-}
+ghost use Rattle.sheet_model.specs.Squares.{squareOf, linked, byteRow, joinRow, crossed};
+ghost use Rattle.sheet_model.specs.Search.{inRows};
 
 /// A row with the marks of another.
 fn join_row(via: [u8; 32], row: [u8; 32]) -> [u8; 32]
@@ -35,11 +23,20 @@ fn join_row(via: [u8; 32], row: [u8; 32]) -> [u8; 32]
     joined
 }
 
-/// Each row that has place k marked gets that place's row.
-fn join(square: &mut [[u8; 32]], n: usize)
-    requires { ⌜ (32 ≤ length (now square)) × (n ≤ 32) ⌝ }
-    ensures { λ _. ⌜ now (square .exit) ≡ rounds byteRow n 0 n (now (square .entry)) ⌝ }
+/// Kept, or the first broken pair of n labels whose positions these are. The chained rules are filled into an array of
+/// arrays, row by row: first the rules' own marks, then each row that has place k marked gets that place's row.
+pub fn first_broken(rules: &[u32], n: usize, low: [u16; 32], high: [u16; 32]) -> SheetReply
+    requires { ⌜ (n ≤ 32) × (any (outside n) (now rules) ≡ false) ⌝ }
+    ensures { λ r. ⌜ r ≡ inRows (crossed byteRow (squareOf (linked (now (rules .entry)) n)) low high) n 1 n ⌝ }
 {
+    let mut square = [[0u8; 32]; 32];
+    let mut r = 0;
+    while r < rules.len() {
+        let a = before(rules[r]);
+        let b = after(rules[r]);
+        square[a - 1][b - 1] = 1;
+        r += 1;
+    }
     let mut k = 0;
     while k < n {
         let via = square[k];
@@ -53,14 +50,5 @@ fn join(square: &mut [[u8; 32]], n: usize)
         }
         k += 1;
     }
-}
-
-/// The chained rules of a list of n labels, in a square with no mark. It is lent from where it stands:
-/// handed on by value it would be copied each time, which costs as much as all else on a small sheet.
-pub fn closure(square: &mut [[u8; 32]], rules: &[u32], n: usize)
-    requires { ⌜ (now square ≡ replicate 32 (replicate 32 0)) × (n ≤ 32) × (any (outside n) (now rules) ≡ false) ⌝ }
-    ensures { λ _. ⌜ now (square .exit) ≡ squareOf (linked (now (rules .entry)) n) ⌝ }
-{
-    mark(square, rules, n);
-    join(square, n);
+    search::first_broken(&square, n, low, high)
 }

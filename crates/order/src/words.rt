@@ -9,7 +9,7 @@ ghost use Prim.Native.Nat.{_≤_};
 ghost use lib.ListN.{length, drop};
 ghost use Rattle.sheet_model.specs.Sheet.{any, outside};
 ghost use Rattle.sheet_model.specs.Squares.{linked, wordsOf, bitRow, rulesMarked, rounds, crossed};
-ghost use Rattle.sheet_model.specs.Verdict.{inRows};
+ghost use Rattle.sheet_model.specs.Search.{inRows};
 
 /// Sets the marks of the rules themselves.
 fn mark(words: &mut [u32], rules: &[u32], n: usize)

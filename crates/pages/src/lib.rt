@@ -10,6 +10,7 @@ ghost use lib.ListN.{length};
 ghost use Rattle.carry.specs.Page.{pageOf};
 ghost use Rattle.replay.specs.Feed.{Begins};
 ghost use Rattle.replay.specs.Pieces.{fromStart, nextPage, pagesOf, lastPage};
+ghost use Rattle.pages.specs.Some.{Some};
 
 // Writes out the lines, or tells that it cannot.
 fn flush(out: &[u8], to: usize) -> bool
@@ -65,7 +66,8 @@ fn take_page(
     Taken { state: q, written }
 }
 
-/// Every whole field of the bytes, until a page cannot be written: a page takes none only where none is left.
+/// Every whole field of the bytes, or those of the first pages, up to one that cannot be written: a page takes none only
+/// where none is left.
 pub fn take_piece(
     s: RunState,
     bytes: &[u8],
@@ -83,6 +85,12 @@ pub fn take_piece(
         ≡ pagesOf (now (bytes .entry))
         (fromStart (pageOf s (now (out .entry)) (now (rows .entry))
         (now (lefts .entry)) (now (rights .entry)) (now (labels .entry)) (now (marks .entry)) (now (next .entry)))) .page) ⌝ }
+    ensures { λ r.
+        ⌜ Some (now (bytes .entry))
+        (fromStart (pageOf s (now (out .entry)) (now (rows .entry))
+        (now (lefts .entry)) (now (rights .entry)) (now (labels .entry)) (now (marks .entry)) (now (next .entry))))
+        (pageOf (r .state) (now (out .exit)) (now (rows .exit))
+        (now (lefts .exit)) (now (rights .exit)) (now (labels .exit)) (now (marks .exit)) (now (next .exit))) ⌝ }
 {
     let mut q = s;
     q.at = 0;

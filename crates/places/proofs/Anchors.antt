@@ -2,7 +2,6 @@
 use mathlib.Core.Path.{_≡_, refl, ap}
 use mathlib.Core.Bool.{true, false, cond}
 use Prim.Native.Nat.{ℕ, _+_, _/_, _^_}
-use native.Mathlib.Omega.{arith}
 use lib.Dec.{eqb, ltb}
 use borrow.Author.Tests.{eq-eqb, ne-eqb}
 use Rattle.word.specs.Anchor.{anchorOf, packAnchor}
@@ -10,15 +9,17 @@ use Rattle.model.specs.declared.Control.{Control}
 use Rattle.model.specs.declared.Record.{Record}
 use Rattle.model.specs.Tables.{atPlace, tablesOf, withSeen}
 use Rattle.model.specs.Sound.{anchorSound}
-use Rattle.model.specs.Places.{reading, row, sideOf, nothing, setAnchor, Move, compares, at1, at2, new4, at4, at6, at10, move}
+use Rattle.model.specs.Places.{reading, row, sideOf, nothing, setAnchor, Move, compares, at1, at2, at4, at6, at10, move}
+use Rattle.model.specs.Places as model-places
 use Rattle.model.specs.Refusals.{needsRow, meetsLink, meetsHead, stepSound}
 use Rattle.model.specs.Route.{route, pushRoute, popRoute, goes, counted}
 use Rattle.model.specs.Calls.{entryOf, finish}
 use Rattle.model.proofs.laws.Onward.{reads-on}
 use Rattle.model.specs.declared.Transition.{Transition}
 use Rattle.table.specs.Lent.{withTables}
-use Rattle.places.specs.Arm.{stepAt, Steps, StepsOnAnchor}
-use Rattle.places.specs.Ending.{refused, settled, noEntry, failing, withFailed, anchored, anchorRead, mayChange, remembered, compared, changed}
+use Rattle.places.specs.Arm.{stepAt, Steps}
+use Rattle.places.specs.Ending.{refused, settled, noEntry, failing, anchored, anchorRead, mayChange, remembered, compared, changed}
+use Rattle.places.specs.Decided.{new2, new4, new10}
 use Rattle.places.proofs.Routes.{kinds, readings, Quiet, quietly}
 use Rattle.model.proofs.tests.Truth.{split}
 use Rattle.model.specs.Sides.{far, facing, pushing}
@@ -125,15 +126,11 @@ module _ (c : Control) (r : Record) where
     replacing new t first on moves =
         rw on at (changing new t seeing (outcome + 1) first (rw on read-quiet) moves)
 
-  pub step2 :
-      (end new : ℕ)
-      → end ≡ cond (eqb (r .kind) 0) (r .own) 0
-      → new ≡ packAnchor (facing (r .side) (r .seen / 2 ^ 32 + 1) (anchorOf (r .seen) .status) end end)
-      → Tries 2 c r new r (route 2 (r .kind) 0) (failing (anchorRead c r))
+  pub step2 : (new : ℕ) → new ≡ new2 r → Tries 2 c r new r (route 2 (r .kind) 0) (failing (anchorRead c r))
   unfolding move at2 sideOf route pushRoute popRoute
-  step2 end new e n =
+  step2 new e =
       replacing 2 (record { needs = refl; meets = refl; heads = refl; nexts = refl }) new r
-      (kinds Quiet 2 (r .kind) 0 refl refl) (reads-on (r .kind) outcome .0) (λ w. rw (n, e))
+      (kinds Quiet 2 (r .kind) 0 refl refl) (reads-on (r .kind) outcome .0) (λ w. rw e)
 
   -- The new Anchor of a push and of a pop at place 4.
   abbrev newPush : ℕ
@@ -143,43 +140,27 @@ module _ (c : Control) (r : Record) where
   newPop = packAnchor (facing (r .side) (r .seen / 2 ^ 32 + 1) (anchorOf (r .seen) .status) (r .neighbour) (far (r .side) (anchorOf (r .seen))))
 
   push4 : eqb (r .kind) 0 ≡ true → Tries 4 c r newPush (withSeen r newPush 1) (route 4 (r .kind) 0) (failing (anchorRead c r))
-  unfolding move at4 new4 sideOf route pushRoute popRoute
+  unfolding move at4 model-places.new4 sideOf route pushRoute popRoute
   push4 k =
       replacing 4 (record { needs = refl; meets = refl; heads = refl; nexts = refl }) newPush (withSeen r newPush 1)
       (kinds Quiet 4 (r .kind) 0 refl refl) (reads-on (r .kind) outcome .1) (λ w. rw k)
 
   pop4 : eqb (r .kind) 0 ≡ false → Tries 4 c r newPop r (route 4 (r .kind) 0) (failing (anchorRead c r))
-  unfolding move at4 new4 sideOf route pushRoute popRoute
+  unfolding move at4 model-places.new4 sideOf route pushRoute popRoute
   pop4 k =
       replacing 4 (record { needs = refl; meets = refl; heads = refl; nexts = refl }) newPop r
       (kinds Quiet 4 (r .kind) 0 refl refl) (reads-on (r .kind) outcome .1) (λ w. rw k)
 
-  pub step4 :
-      (status end new : ℕ)
-      → status ≡ cond (eqb (r .kind) 0) (pushing (r .side)) (anchorOf (r .seen) .status)
-      → end ≡ cond (eqb (r .kind) 0) (r .own) (r .neighbour)
-      → new ≡ packAnchor (facing (r .side) (r .seen / 2 ^ 32 + 1) status end (far (r .side) (anchorOf (r .seen))))
-      → Tries 4 c r new (remembered r new) (route 4 (r .kind) 0) (failing (anchorRead c r))
+  pub step4 : (new : ℕ) → new ≡ new4 r → Tries 4 c r new (remembered r new) (route 4 (r .kind) 0) (failing (anchorRead c r))
   unfolding remembered
-  step4 status end new s e n =
-      split (eqb (r .kind) 0)
-      (λ k. rw (n, s, e, k) (push4 k))
-      (λ k. rw (n, s, e, k) (pop4 k))
+  step4 new e = split (eqb (r .kind) 0) (λ k. rw (e, k) (push4 k)) (λ k. rw (e, k) (pop4 k))
 
   -- A failed change doesn't depend on the word it would have made.
   pub failed2 : (c .anchor ≡ r .seen → ⊥) → Steps 2 c r (failing (anchorRead c r))
-  failed2 h = fails (step2 _ _ refl refl) h
+  failed2 h = fails (step2 _ refl) h
 
   pub failed4 : (c .anchor ≡ r .seen → ⊥) → Steps 4 c r (failing (anchorRead c r))
   failed4 h = split (eqb (r .kind) 0) (λ k. fails (push4 k) h) (λ k. fails (pop4 k) h)
-
-  -- By the record's place: 1, or a failed change.
-  pub reads-first : r .place ≡ 1 → StepsOnAnchor c r (withFailed (anchorRead c r) false)
-  unfolding anchorRead settled
-  reads-first at = (λ _. step1, λ two. absurd (omega arith), λ four. absurd (omega arith))
-
-  pub reads-failed : (r .place ≡ 1 → ⊥) → (c .anchor ≡ r .seen → ⊥) → StepsOnAnchor c r (failing (anchorRead c r))
-  reads-failed later moved = (λ one. absurd (later one), λ _. failed2 moved, λ _. failed4 moved)
 
   pub step6 : Steps 6 c r (compared c r (route 6 (r .kind) 0) (route 6 (r .kind) 1))
   unfolding move at6 route pushRoute popRoute
@@ -193,10 +174,7 @@ module _ (c : Control) (r : Record) where
       comparing 8 (record { needs = refl; meets = refl; heads = refl; nexts = refl })
       (kinds Quiet 8 (r .kind) 0 refl refl) (kinds Quiet 8 (r .kind) 1 refl refl) (λ w. refl)
 
-  abbrev stable : ℕ
-  stable = packAnchor (record { tag = r .seen / 2 ^ 32 + 1; status = 0; left = anchorOf (r .seen) .left; right = anchorOf (r .seen) .right })
-
-  pub step10 : (new : ℕ) → new ≡ stable → Tries 10 c r new r (route 10 (r .kind) 0) (failing (settled c r (route 10 (r .kind) 1) noEntry))
+  pub step10 : (new : ℕ) → new ≡ new10 r → Tries 10 c r new r (route 10 (r .kind) 0) (failing (settled c r (route 10 (r .kind) 1) noEntry))
   unfolding move at10 route pushRoute popRoute
   step10 new e =
       changing 10 (record { needs = refl; meets = refl; heads = refl; nexts = refl }) new r r 1

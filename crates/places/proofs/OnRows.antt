@@ -1,5 +1,5 @@
 -- The model's step at the places that touch a slot row or a mark, in the terms of this crate: 3, 5, 7, 9 and 11.
-use mathlib.Core.Path.{_≡_, refl, ap}
+use mathlib.Core.Path.{_≡_, refl, ap, _∙_}
 use mathlib.Core.Bool.{Bool, true, false, not, cond}
 use mathlib.Core.List.{List}
 use Prim.Native.Nat.{ℕ, _+_, _/_, _^_}
@@ -19,6 +19,7 @@ use Rattle.model.specs.declared.Transition.{Transition}
 use Rattle.table.specs.Lent.{withTables}
 use Rattle.places.specs.Arm.{stepAt}
 use Rattle.places.specs.Ending.{refused, settled, noEntry, failing, rowSound, neighbourRead, linkRead}
+use Rattle.places.specs.Decided.{madeOf, new9, found3, found5, found7, found9, found11}
 use Rattle.places.proofs.Routes.{kinds, Quiet, entry, quietly}
 use Rattle.model.proofs.tests.Truth.{split}
 
@@ -53,7 +54,7 @@ module _ (c : Control) (r : Record) where
     abbrev pub linked : Transition → Bool → ℕ → ℕ → Acted
     linked m right x w = withTables m (cond right ls (set ls x w)) (cond right (set rs x w) rs) ns ms xs k
 
-    pub push3 :
+    push3 :
         eqb (r .kind) 0 ≡ true
         → (let w = getD (cond (not own) rs ls) (r .own) 0 in
         cond (rowSound (c .slots) (r .own) w)
@@ -70,7 +71,7 @@ module _ (c : Control) (r : Record) where
         (λ l. simp (k, turn, f, l)))
         (λ f. simp (k, turn, f))
 
-    pub pop3 :
+    pop3 :
         eqb (r .kind) 0 ≡ false
         → lent (neighbourRead c r (end own) (getD (cond (not own) rs ls) (end own) 0) (route 3 (r .kind) 0)) ≡ stepAt 3 q r k
     unfolding stepAt stepSound move row sideOf linkSide at3 finish neighbourRead rowSound settled goes counted route pushRoute popRoute
@@ -82,9 +83,9 @@ module _ (c : Control) (r : Record) where
         (λ l. simp (k, turn, f, l)))
         (λ f. simp (k, turn, f))
 
-    pub step5 : lent (neighbourRead c r (end named) (getD (cond (not named) rs ls) (end named) 0) (route 5 (r .kind) 0)) ≡ stepAt 5 q r k
+    read5 : lent (neighbourRead c r (end named) (getD (cond (not named) rs ls) (end named) 0) (route 5 (r .kind) 0)) ≡ stepAt 5 q r k
     unfolding stepAt stepSound move row sideOf linkSide at5 finish neighbourRead rowSound settled goes counted route pushRoute popRoute
-    step5 =
+    read5 =
         let w = getD (cond (not named) rs ls) (end named) 0 in
         split (from1 (c .slots) (end named))
         (λ f. split (linkSound (c .slots) w)
@@ -93,10 +94,10 @@ module _ (c : Control) (r : Record) where
         (λ l. simp (mirror, turn, f, l)))
         (λ f. simp (mirror, turn, f))
 
-    pub step7 : lent (linkRead c r (end named) (getD (cond named rs ls) (r .neighbour) 0) (route 7 (r .kind) 0) (route 7 (r .kind) 1))
+    read7 : lent (linkRead c r (end named) (getD (cond named rs ls) (r .neighbour) 0) (route 7 (r .kind) 0) (route 7 (r .kind) 1))
         ≡ stepAt 7 q r k
     unfolding stepAt stepSound move row sideOf linkSide at7 finish linkRead rowSound settled goes counted route pushRoute popRoute
-    step7 =
+    read7 =
         let w = getD (cond named rs ls) (r .neighbour) 0 in
         split (from1 (c .slots) (r .neighbour))
         (λ f. split (linkSound (c .slots) w)
@@ -108,7 +109,7 @@ module _ (c : Control) (r : Record) where
         (λ l. simp (mirror, f, l)))
         (λ f. simp (mirror, f))
 
-    pub step9 :
+    tests9 :
         cond (from1 (c .slots) (r .neighbour))
         (cond (eqb (getD (cond named rs ls) (r .neighbour) 0) (r .link))
         (cond (ltb (linkOf (r .link) .tag) 4294967295)
@@ -118,7 +119,7 @@ module _ (c : Control) (r : Record) where
         (lent (refused c r))
         ≡ stepAt 9 q r k
     unfolding stepAt stepSound move row sideOf linkSide at9 finish settled goes counted route pushRoute popRoute
-    step9 =
+    tests9 =
         split (from1 (c .slots) (r .neighbour))
         (λ f. split (eqb (getD (cond named rs ls) (r .neighbour) 0) (r .link))
         (λ s. split (ltb (linkOf (r .link) .tag) 4294967295)
@@ -130,7 +131,7 @@ module _ (c : Control) (r : Record) where
         (λ f. simp (mirror, f))
 
     -- The label of the end taken is the answer's, or in a pooled queue the record's.
-    pub named11 : isPooled c ≡ false →
+    named11 : isPooled c ≡ false →
         cond (from1 (c .slots) (end own))
         (withTables (settled c r (route 11 (r .kind) 0) (entry (end own) ns)) ls rs ns (withMark ms (end own) 0) xs k)
         (lent (refused c r))
@@ -138,7 +139,7 @@ module _ (c : Control) (r : Record) where
     unfolding stepAt stepSound move row sideOf at11 finish settled goes counted
     named11 p = split (from1 (c .slots) (end own)) (λ f. simp (p, f)) (λ f. simp (p, f))
 
-    pub pooled11 : isPooled c ≡ true →
+    pooled11 : isPooled c ≡ true →
         cond (from1 (c .slots) (end own))
         (withTables (settled c (withOwn r (end own) (getD ns (end own) 0)) (route 11 (r .kind) 1) noEntry) ls rs ns (withMark ms (end own) 0) xs k)
         (lent (refused c r))
@@ -150,6 +151,56 @@ module _ (c : Control) (r : Record) where
         (quietly c (withOwn r (end own) (getD ns (end own) 0)) (route 11 (r .kind) 1) (entry (end own) ns) (kinds Quiet 11 (r .kind) 1 refl refl))))
         (λ f. simp (p, f))
 
-    pub refused11 : from1 (c .slots) (end own) ≡ false → lent (refused c r) ≡ stepAt 11 q r k
+    refused11 : from1 (c .slots) (end own) ≡ false → lent (refused c r) ≡ stepAt 11 q r k
     unfolding stepAt stepSound move row sideOf at11 finish counted
     refused11 f = split (isPooled c) (λ p. simp (p, f)) (λ p. simp (p, f))
+
+    -- By the decision over the word found: what is written is written where the step is made.
+    abbrev links3 : Transition → Acted
+    links3 m =
+        let w = getD (cond (not own) rs ls) (r .own) 0 in
+        cond (madeOf m) (linked m (not own) (r .own) (packLink (record { tag = linkOf w .tag; slot = end own }))) (lent m)
+
+    pub put3 : eqb (r .kind) 0 ≡ true → (m : Transition) → m ≡ found3 c r (getD (cond (not own) rs ls) (r .own) 0) → links3 m ≡ stepAt 3 q r k
+    unfolding found3 settled
+    put3 push m e =
+        ap links3 e
+        ∙ split (rowSound (c .slots) (r .own) (getD (cond (not own) rs ls) (r .own) 0))
+        (λ f. rw (push, f) (rw f at (push3 push)))
+        (λ f. rw (push, f) (rw f at (push3 push)))
+
+    pub read3 : eqb (r .kind) 0 ≡ false → lent (found3 c r (getD (cond (not own) rs ls) (end own) 0)) ≡ stepAt 3 q r k
+    unfolding found3
+    read3 pop = rw pop (pop3 pop)
+
+    pub step5 : lent (found5 c r (getD (cond (not named) rs ls) (end named) 0)) ≡ stepAt 5 q r k
+    unfolding found5
+    step5 = read5
+
+    pub step7 : lent (found7 c r (getD (cond named rs ls) (r .neighbour) 0)) ≡ stepAt 7 q r k
+    unfolding found7
+    step7 = read7
+
+    abbrev links9 : Transition → Acted
+    links9 m = cond (madeOf m) (linked m named (r .neighbour) (new9 r)) (lent m)
+
+    pub step9 : (m : Transition) → m ≡ found9 c r (getD (cond named rs ls) (r .neighbour) 0) → links9 m ≡ stepAt 9 q r k
+    unfolding found9 settled
+    step9 m e =
+        ap links9 e
+        ∙ split (from1 (c .slots) (r .neighbour))
+        (λ f. split (eqb (getD (cond named rs ls) (r .neighbour) 0) (r .link))
+        (λ s. split (ltb (linkOf (r .link) .tag) 4294967295)
+        (λ t. rw (f, s, t) (rw (f, s, t) at tests9))
+        (λ t. rw (f, s, t) (rw (f, s, t) at tests9)))
+        (λ s. rw (f, s) (rw (f, s) at tests9)))
+        (λ f. rw f (rw f at tests9))
+
+    pub taken11 : from1 (c .slots) (end own) ≡ true
+        → withTables (found11 c r (getD ns (end own) 0)) ls rs ns (withMark ms (end own) 0) xs k ≡ stepAt 11 q r k
+    unfolding found11
+    taken11 f = split (isPooled c) (λ p. rw (f, p) (rw f at (pooled11 p))) (λ p. rw (f, p) (rw f at (named11 p)))
+
+    pub left11 : from1 (c .slots) (end own) ≡ false → (l : ℕ) → lent (found11 c r l) ≡ stepAt 11 q r k
+    unfolding found11
+    left11 f l = rw f (refused11 f)

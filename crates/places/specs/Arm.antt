@@ -26,10 +26,6 @@ Steps n c r m =
     (lefts rights labels marks next : List ℕ) (retries : ℕ)
     → withTables m lefts rights labels marks next retries ≡ stepAt n (tablesOf c lefts rights labels marks next) r retries
 
--- The step at the record's place, if that is 1, 2 or 4.
-abbrev pub StepsOnAnchor : Control → Record → Transition → Type 0
-StepsOnAnchor c r m = (r .place ≡ 1 → Steps 1 c r m) × (r .place ≡ 2 → Steps 2 c r m) × (r .place ≡ 4 → Steps 4 c r m)
-
 abbrev pub StepsOnLinks : ℕ → Control → Record → List ℕ → List ℕ → Transition → List ℕ → List ℕ → Type 0
 StepsOnLinks n c r lefts rights m lefts′ rights′ =
     (labels marks next : List ℕ) (retries : ℕ)

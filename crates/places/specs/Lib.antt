@@ -1,2 +1,3 @@
 pub mod Arm
 pub mod Ending
+pub mod Decided

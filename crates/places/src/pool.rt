@@ -1,6 +1,7 @@
 //! Places 12 to 17: a push draws its slot from the stack before place 1, and a pop gives its slot
 //! back after place 11. The head as read is kept as the link word, the next as the neighbour.
 //! (Document 02, #104: the tagged compare-and-swap stack of 003's references.)
+use crate::decide;
 use crate::next;
 use crate::step;
 use model::Control;
@@ -25,12 +26,7 @@ pub fn at13(c: Control, r: Record, nexts: &[u64]) -> Transition
 {
     let head = Link::unpack(r.link);
     let n = table::word_at(nexts, head.slot);
-    if n <= c.slots {
-        let mut t = r;
-        t.neighbour = n;
-        return step::settles(c, t, next::next(13, r.kind, 0), step::NO_ENTRY);
-    }
-    step::refused(c, r)
+    decide::at13(c, r, n)
 }
 
 /// Place 14: change the head to that next. The slot is then the push's own, marked and with its label.
@@ -38,20 +34,14 @@ pub fn at14(c: Control, r: Record, labels: &mut [u32], marks: &mut [u64]) -> Tra
     ensures { λ m.
         ⌜ StepsOnMarks 14 c r (now (labels .entry)) (now (marks .entry)) m (now (labels .exit)) (now (marks .exit)) ⌝ }
 {
-    let head = Link::unpack(r.link);
-    if c.head != r.link {
-        let m = step::settles(c, r, next::next(14, r.kind, 1), step::NO_ENTRY);
-        return step::fails(m);
-    }
-    if head.tag < Link::TAG_MASK {
-        let d = step::with_head(c, step::link_word(step::raised(r.link), r.neighbour));
+    let m = decide::at14(c, r);
+    if decide::made(m) {
+        let head = Link::unpack(r.link);
         table::put_label(labels, head.slot, r.label);
         table::set_mark(marks, head.slot);
-        let mut t = r;
-        t.own = head.slot;
-        return step::settles(d, t, next::next(14, r.kind, 0), step::NO_ENTRY);
+        return m;
     }
-    step::refused(c, r)
+    m
 }
 
 /// Place 15: read the head.
@@ -81,7 +71,7 @@ pub fn at17(c: Control, r: Record) -> Transition
         return step::fails(m);
     }
     if head.tag < Link::TAG_MASK {
-        let d = step::with_head(c, step::link_word(step::raised(r.link), r.own));
+        let d = step::with_head(c, decide::new17(r));
         let e = Entry {
             slot: r.own,
             label: r.label,

@@ -9,7 +9,7 @@ use model::Transition;
 use word::Anchor;
 use word::Link;
 ghost use mathlib.Core.Path.{_≡_};
-ghost use mathlib.Core.Bool.{false};
+ghost use mathlib.Core.Bool.{false, cond};
 ghost use Prim.Native.Nat.{_+_, _/_, _^_};
 ghost use Rattle.word.specs.Link.{packLink};
 ghost use Rattle.model.specs.Tables.{idle};
@@ -215,6 +215,13 @@ pub fn reads_link(c: Control, r: Record, end: u64, w: u64, same: u8, other: u8) 
     refused(c, r)
 }
 
+/// x if b holds, else y.
+fn either(b: bool, x: u8, y: u8) -> u8
+    ensures { λ n. ⌜ n ≡ cond b x y ⌝ }
+{
+    if b { x } else { y }
+}
+
 /// Remembers the head, whose slot may be 0.
 pub fn reads_head(c: Control, r: Record, none: u8, other: u8) -> Transition
     ensures { λ m. ⌜ m ≡ headRead c r none other ⌝ }
@@ -223,10 +230,7 @@ pub fn reads_head(c: Control, r: Record, none: u8, other: u8) -> Transition
         let head = Link::unpack(c.head);
         let mut t = r;
         t.link = c.head;
-        if head.slot == 0 {
-            return settles(c, t, none, NO_ENTRY);
-        }
-        return settles(c, t, other, NO_ENTRY);
+        return settles(c, t, either(head.slot == 0, none, other), NO_ENTRY);
     }
     refused(c, r)
 }

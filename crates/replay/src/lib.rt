@@ -6,65 +6,9 @@ use carry::RunState;
 use model::Control;
 ghost use mathlib.Core.Path.{_≡_};
 ghost use mathlib.Core.List.{List};
-ghost use Prim.Native.Nat.{ℕ, _+_};
-ghost use lib.Dec.{leb};
-ghost use Rattle.carry.specs.Page.{pageOf, fieldRoom, takes};
+ghost use Prim.Native.Nat.{ℕ};
+ghost use Rattle.carry.specs.Page.{pageOf};
 ghost use Rattle.replay.specs.Feed.{feedPage, finishPage, Begins};
-
-// Room in the buffer for the lines of any one field.
-const FIELD_ROOM: usize = 524288;
-
-// Whether the buffer has room for the lines of any one field.
-fn has_room(len: usize, to: usize) -> bool
-    ensures { λ r. ⌜ r ≡ leb (to + fieldRoom) len ⌝ }
-{
-    if len < FIELD_ROOM {
-        return false;
-    }
-    to <= len - FIELD_ROOM
-}
-
-// The field at the reading position. Nothing is done where the buffer has no room for its lines.
-fn take(
-    s: RunState,
-    bytes: &[u8],
-    out: &mut [u8],
-    rows: &mut [[u64; rows::RECORD_WORDS]],
-    lefts: &mut [u64],
-    rights: &mut [u64],
-    labels: &mut [u32],
-    marks: &mut [u64],
-    next: &mut [u64],
-) -> RunState
-    ensures { λ r.
-        ⌜ pageOf r (now (out .exit)) (now (rows .exit))
-        (now (lefts .exit)) (now (rights .exit)) (now (labels .exit)) (now (marks .exit)) (now (next .exit))
-        ≡ takes (now (bytes .entry))
-        (pageOf s (now (out .entry)) (now (rows .entry))
-        (now (lefts .entry)) (now (rights .entry)) (now (labels .entry)) (now (marks .entry)) (now (next .entry))) ⌝ }
-{
-    if has_room(out.len(), s.to) {
-        let at = s.at;
-        let found = runfile::field_at(bytes, at, s.opened);
-        let field = found.field;
-        let mut q = carry::carry_out(
-            s,
-            field,
-            bytes,
-            at,
-            out,
-            rows,
-            lefts,
-            rights,
-            labels,
-            marks,
-            next,
-        );
-        q.at = at + found.size;
-        return q;
-    }
-    s
-}
 
 /// Every whole field from the reading position on, while the buffer has room for the lines of any one.
 pub fn feed(
@@ -88,7 +32,7 @@ pub fn feed(
     let mut q = s;
     while !q.over {
         let at = q.at;
-        q = take(q, bytes, out, rows, lefts, rights, labels, marks, next);
+        q = carry::take(q, bytes, out, rows, lefts, rights, labels, marks, next);
         if q.at == at {
             return q;
         }

@@ -14,18 +14,18 @@ use Rattle.model.specs.Ends.{endsCall}
 use Rattle.model.specs.Sound.{recordSound}
 use Rattle.model.specs.declared.Transition.{Transition}
 use Rattle.table.specs.Lent.{withTables}
-use Rattle.sound.specs.Records.{idle-sound}
+use Rattle.sound.proofs.Parts.{idle-sound}
 use Rattle.places.specs.Arm.{stepAt}
 use Rattle.engine.specs.MoveOn.{moveOn}
 use Rattle.model.specs.Refusals.{recordRefusal}
-use Rattle.engine.specs.Stored.{controlAfter, recordAfter, anchorAfter, callAfter}
+use Rattle.engine.specs.Stored.{anchorAfter, callAfter, headAfter, ownAfter}
 use Rattle.engine.proofs.Stored.{moved-stored, early-stored}
 use Rattle.engine.proofs.InParts.{stopped, at-place}
 use Rattle.rows.specs.Rows.{controlOf, callOf, recordOf, upperOf}
 use Rattle.rows.specs.Moved.{RowMoved}
 use Rattle.rows.proofs.Rows.{counting}
 
--- Why a record at 1 to 10 is refused before its place is looked at, or not.
+-- Why a record is refused before its place is looked at, or not.
 module _ (pooled : Bool) (slots : ℕ) (r : Record) where
   pub no-call : r .place ≡ 0 → 31 ≡ recordRefusal pooled slots r
   unfolding recordRefusal
@@ -69,12 +69,11 @@ module _ (ws row lefts rights labels marks next : List ℕ) (c : Control) (r : R
           let k = recordOf row .retries in
           e k ∙ ap (λ (d : Control). moveOn (q d) (counting r k)) ec ∙ ap (λ (t : Record). moveOn (q (controlOf ws)) (counting t k)) er
 
-      -- All that a step may change is stored.
-      pub stores : controlOf ws′ ≡ controlAfter (controlOf ws) m → recordOf row′ ≡ recordAfter (recordOf row) m
+      -- All that a step may change is stored; at 1 to 10 the first layer is all.
+      stores : controlOf ws′ ≡ headAfter (anchorAfter (controlOf ws) m) m → recordOf row′ ≡ ownAfter (callAfter (recordOf row) m) m
           → RowMoved (q (controlOf ws)) row (q′ (controlOf ws′)) row′ (m .outcome)
       stores e1 e2 = (rw (e1, e2) (moved-stored (q (controlOf ws)) (recordOf row) m lefts′ rights′ labels′ marks′ next′ of-row), up)
 
-      -- All that a step at 1 to 10 may change is stored.
       stores-early : r .place ≤ 10 → controlOf ws′ ≡ anchorAfter (controlOf ws) m → recordOf row′ ≡ callAfter (recordOf row) m
           → RowMoved (q (controlOf ws)) row (q′ (controlOf ws′)) row′ (m .outcome)
       unfolding recordOf
@@ -83,10 +82,21 @@ module _ (ws row lefts rights labels marks next : List ℕ) (c : Control) (r : R
           (rw (e1, e2) (early-stored (q (controlOf ws)) (recordOf row) m lefts′ rights′ labels′ marks′ next′ of-row early), up)
 
     -- The step at place n, which is the record's.
-    pub at-its-place : (n : ℕ) (o : Outcome) → recordRefusal (isPooled c) (c .slots) r ≡ 0 → r .place ≡ n → r .place ≤ 10
-        → ((k : ℕ) → withTables m lefts′ rights′ labels′ marks′ next′ k ≡ stepAt n (q c) r k)
-        → controlOf ws′ ≡ anchorAfter (controlOf ws) m → recordOf row′ ≡ callAfter (recordOf row) m → o ≡ m .outcome
-        → RowMoved (q (controlOf ws)) row (q′ (controlOf ws′)) row′ o
-    at-its-place n o none at low steps e1 e2 eo =
-        subst (λ (u : Outcome). RowMoved (q (controlOf ws)) row (q′ (controlOf ws′)) row′ u) (sym eo)
-        (stores-early (λ k. steps k ∙ at-place (q c) (counting r k) n none at) low e1 e2)
+    module _ (n : ℕ) (o : Outcome) (none : recordRefusal (isPooled c) (c .slots) r ≡ 0) (at : r .place ≡ n) where
+      moves : ((k : ℕ) → withTables m lefts′ rights′ labels′ marks′ next′ k ≡ stepAt n (q c) r k)
+          → (k : ℕ) → withTables m lefts′ rights′ labels′ marks′ next′ k ≡ moveOn (q c) (counting r k)
+      moves steps k = steps k ∙ at-place (q c) (counting r k) n none at
+
+      told : o ≡ m .outcome → RowMoved (q (controlOf ws)) row (q′ (controlOf ws′)) row′ (m .outcome)
+          → RowMoved (q (controlOf ws)) row (q′ (controlOf ws′)) row′ o
+      told eo h = subst (λ (u : Outcome). RowMoved (q (controlOf ws)) row (q′ (controlOf ws′)) row′ u) (sym eo) h
+
+      pub at-its-place : ((k : ℕ) → withTables m lefts′ rights′ labels′ marks′ next′ k ≡ stepAt n (q c) r k)
+          → controlOf ws′ ≡ headAfter (anchorAfter (controlOf ws) m) m → recordOf row′ ≡ ownAfter (callAfter (recordOf row) m) m → o ≡ m .outcome
+          → RowMoved (q (controlOf ws)) row (q′ (controlOf ws′)) row′ o
+      at-its-place steps e1 e2 eo = told eo (stores (moves steps) e1 e2)
+
+      pub early-place : r .place ≤ 10 → ((k : ℕ) → withTables m lefts′ rights′ labels′ marks′ next′ k ≡ stepAt n (q c) r k)
+          → controlOf ws′ ≡ anchorAfter (controlOf ws) m → recordOf row′ ≡ callAfter (recordOf row) m → o ≡ m .outcome
+          → RowMoved (q (controlOf ws)) row (q′ (controlOf ws′)) row′ o
+      early-place low steps e1 e2 eo = told eo (stores-early (moves steps) low e1 e2)

@@ -5,8 +5,6 @@ use lib.ListN.{getD, set}
 use Rattle.model.specs.declared.Control.{Control}
 use Rattle.model.specs.declared.Record.{Record}
 use Rattle.model.specs.declared.TaskRecord.{TaskRecord}
-use Rattle.model.specs.Route.{counted}
-use Rattle.model.specs.declared.Transition.{Transition}
 use Rattle.model.specs.Tables.{Queue, queueOf, unused, withCall}
 
 unfoldable pub controlOf : List ℕ → Control
@@ -56,7 +54,3 @@ queueIn control rows = queueOf (controlOf control) (recordsOf rows)
 -- Records in which a task has another call and its own count.
 abbrev pub withCallAt : List TaskRecord → ℕ → Record → List TaskRecord
 withCallAt rs t r = set rs t (withCall (getD rs t unused) r)
-
--- Records in which a task has what a start or step leaves of its own.
-abbrev pub withActedAt : List TaskRecord → ℕ → Transition → List TaskRecord
-withActedAt rs t m = set rs t (record { call = m .task; retries = counted (getD rs t unused .retries) (m .failed) })

@@ -2,10 +2,10 @@
 use mathlib.Core.Path.{_≡_, refl, sym, ap, subst, _∙_}
 use mathlib.Core.Bool.{Bool, true, false, _&&_, not, cond}
 use mathlib.Core.List.{List, [], _∷_}
-use Prim.Native.Nat.{ℕ, zero, suc, _+_, _≤_}
+use Prim.Native.Nat.{ℕ, _≤_}
 use native.Mathlib.Omega.{arith}
 use lib.Dec.{eqb, leb}
-use lib.ListN.{length, getD, set}
+use lib.ListN.{length, set}
 use lib.Seq.{sets}
 use borrow.Author.Tests.{ne-eqb, leb-true, not-true}
 use Rattle.model.specs.declared.Control.{Control}
@@ -20,8 +20,8 @@ use Rattle.model.proofs.tests.Truth.{not-both, and-true}
 use Rattle.walk.specs.declared.Tally.{Tally}
 use Rattle.walk.specs.Counted.{counted}
 use Rattle.schedule_model.specs.declared.ScheduleReply.{ScheduleReply}
-use Rattle.schedule_model.specs.Schedules.{Schedule, allSchedules}
-use Rattle.schedule_model.specs.Next.{Next, given, noMore, memoryLength, remembered, firstAfter, storing, twoAtWork, scheduleRefusal, Handed, handing}
+use Rattle.schedule_model.specs.Schedules.{allSchedules}
+use Rattle.schedule_model.specs.Next.{Next, given, noMore, memoryLength, remembered, firstAfter, storing, twoAtWork, scheduleRefusal, handing}
 use Rattle.schedule_model.specs.Next.{nextSchedule}
 use Rattle.schedule_model.specs.Search.{seekOf}
 use Rattle.schedule_model.proofs.Admitted.{enough, memory, tasks}
@@ -29,7 +29,7 @@ use Rattle.schedule_model.proofs.Searched.{finds}
 use Rattle.schedule_model.proofs.TwoRecords.{two-records}
 use Rattle.schedule_model.proofs.Uncounted.{uncounted}
 use Rattle.schedule_search.specs.declared.Found.{Found}
-use Rattle.schedule_search.specs.Sought.{pairOf, foundOf, Sought, sought}
+use Rattle.schedule_search.specs.Sought.{pairOf, Sought, sought}
 use Rattle.schedule.specs.Answered.{refusalBefore, refusalAfter, Begins, Answered, answered}
 use Rattle.schedule_search.proofs.Seeking.{handed}
 use Rattle.schedule_search.proofs.Stepping.{sets-above}

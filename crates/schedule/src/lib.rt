@@ -2,7 +2,6 @@
 use model::Control;
 use model::Record;
 use schedule_model::ScheduleReply;
-use schedule_search::Two;
 use walk::Tally;
 ghost use mathlib.Core.Path.{_≡_};
 ghost use mathlib.Core.Bool.{_&&_, not, false};
@@ -94,24 +93,7 @@ fn hand_out(
         record { handed = handing ws (seekOf ws (memoryLength ws) 48 false (pairOf q a b)); tables = q }) ⌝ }
 {
     let len = memory_length(given);
-    let two = Two {
-        control: c,
-        a,
-        b,
-        stopped: false,
-    };
-    let f = schedule_search::seek(
-        two,
-        48,
-        false,
-        len,
-        given,
-        lefts,
-        rights,
-        labels,
-        marks,
-        next,
-    );
+    let f = schedule_search::search(c, a, b, len, given, lefts, rights, labels, marks, next);
     if !f.found {
         return ScheduleReply {
             code: 0,

@@ -3,8 +3,10 @@ pub mod Undone
 pub mod Searched
 pub mod Admitted
 pub mod Pairs
+pub mod Allowed
 pub mod Enumerated
 pub mod OnlyUnsound
+pub mod Unrefused
 pub mod Worked
 pub mod TwoRecords
 pub mod Uncounted

@@ -25,7 +25,8 @@ use Rattle.model.proofs.tests.Rules.{tests, passes, cleared}
 use Rattle.model.specs.Lists.{All}
 use Rattle.schedule_model.specs.Schedules.{atWork}
 use Rattle.schedule_model.specs.Next.{scheduleRefusal}
-use Rattle.schedule_model.specs.Claims.{tries, OnlyUnsound}
+use Rattle.schedule_model.specs.Allowed.{after}
+use Rattle.schedule_model.specs.Claims.{OnlyUnsound}
 use Rattle.schedule_model.proofs.Admitted.{control, enough, tasks}
 
 -- A change that leaves Anchor sound leaves control sound.
@@ -71,7 +72,7 @@ stays q t h = record {
   tasks = act-tasks q t Step ∙ h .tasks;
 }
 
-tried : (q : Queue) (ts : List ℕ) → Ready q → Ready (final q (tries ts))
+tried : (q : Queue) (ts : List ℕ) → Ready q → Ready (after q ts)
 unfolding final
 tried q [] h = h
 tried q (t ∷ ts) h = tried (act q t Step .queue) ts (stays q t h)
@@ -108,4 +109,4 @@ by34 q t n h low busy e =
 
 pub only-unsound : OnlyUnsound
 only-unsound q ws ts t n ok low busy e =
-    by34 (final q (tries ts)) t n (tried q ts (record { sound = control q ws ok; enough = enough q ws ok; tasks = tasks q ws ok })) low busy e
+    by34 (after q ts) t n (tried q ts (record { sound = control q ws ok; enough = enough q ws ok; tasks = tasks q ws ok })) low busy e

@@ -1,7 +1,7 @@
 -- With two tasks only the first two records count.
 use mathlib.Core.Path.{_≡_, refl, sym, ap, _∙_}
-use mathlib.Core.Bool.{Bool, true, cond}
-use mathlib.Core.List.{List, [], _∷_, _++_}
+use mathlib.Core.Bool.{Bool, true}
+use mathlib.Core.List.{List, [], _∷_}
 use Prim.Native.Nat.{ℕ, zero, suc}
 use native.Mathlib.Omega.{arith}
 use lib.Dec.{ltb}
@@ -13,7 +13,7 @@ use Rattle.model.specs.Tables.{Tables, Queue}
 use Rattle.model.specs.Refusals.{Lent, among}
 use Rattle.model.specs.Calls.{Acted, step, actOn, Done, back, act}
 use Rattle.model.proofs.laws.Sizes.{act-tasks}
-use Rattle.schedule_model.specs.Schedules.{Schedule, ends, atWork, bothAnswered, onwards, through, schedules}
+use Rattle.schedule_model.specs.Schedules.{schedules}
 
 abbrev wide : Tables → TaskRecord → TaskRecord → List TaskRecord → Queue
 wide q a b rest = record { tables = q; records = a ∷ b ∷ rest }

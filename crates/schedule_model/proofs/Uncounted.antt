@@ -8,7 +8,6 @@ use Rattle.model.specs.declared.Record.{Record}
 use Rattle.model.specs.declared.TaskRecord.{TaskRecord}
 use Rattle.model.specs.declared.Outcome.{Outcome}
 use Rattle.model.specs.declared.Outcome.the-variants.{Refused}
-use Rattle.model.specs.declared.Op.the-variants.{Step}
 use Rattle.model.specs.Tables.{Tables, Queue, counting}
 use Rattle.model.specs.Places.{wordFound, move}
 use Rattle.model.specs.Refusals.{Lent, among, stepRefusal}

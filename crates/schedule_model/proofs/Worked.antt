@@ -14,9 +14,8 @@ use Rattle.model.specs.Route.{pushRoute, popRoute, route, onward, answer, goes,
 use Rattle.model.specs.Refusals.{stepSound, stepRefusal}
 use Rattle.model.specs.Calls.{finish, step, actOn, act}
 use Rattle.model.specs.Walk.{along, contents}
-use Rattle.model.specs.Report.{waiting, takenSlots}
-use Rattle.model.specs.Lists.{count}
-use Rattle.schedule_model.specs.Schedules.{Schedule, schedules}
+use Rattle.model.specs.Report.{waiting}
+use Rattle.schedule_model.specs.Schedules.{schedules}
 use Rattle.schedule_model.specs.Next.{Handed, noMore, given, handing, nextSchedule, scheduleRefusal, storing}
 
 -- A queue of 7 slots: so many waiting, in slots 1 to last where the Left links lead that way.

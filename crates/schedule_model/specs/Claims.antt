@@ -2,16 +2,20 @@
 use mathlib.Core.Path.{_≡_}
 use mathlib.Core.Bool.{Bool, true, false, _&&_, cond}
 use mathlib.Core.List.{List, [], _∷_, _++_, map}
+use mathlib.Core.Logic.{_≢_}
 use Prim.Native.Nat.{ℕ, zero, suc, _+_, _<_}
 use lib.Dec.{eqb}
 use lib.ListN.{length, getD, take, drop, replicate}
+use Rattle.model.specs.declared.Entry.{Entry}
 use Rattle.model.specs.declared.Outcome.the-variants.{Refused}
 use Rattle.model.specs.declared.Op.the-variants.{Step}
 use Rattle.model.specs.Tables.{Queue}
 use Rattle.model.specs.Calls.{act}
-use Rattle.model.specs.History.{Request, final}
+use Rattle.model.specs.Standing.{Standing}
+use Rattle.model.specs.History.{AfterOpening, NeverUnsound, Request, final}
 use Rattle.model.specs.Lists.{All}
 use Rattle.schedule_model.specs.Schedules.{Schedule, atWork, schedules, allSchedules}
+use Rattle.schedule_model.specs.Allowed.{after}
 use Rattle.schedule_model.specs.Next.{Next, given, noMore, precedes, Handed, scheduleRefusal, nextSchedule}
 
 -- What the caller reads of an answer: the words 1 to length of the memory, and the ending.
@@ -50,11 +54,24 @@ abbrev pub Apart : Type 0
 Apart = (q : Queue) (n : ℕ) → Pairwise (λ s x. (begins (s .steps) (x .steps) ≡ false) × (begins (x .steps) (s .steps) ≡ false)) (schedules q n)
 
 -- Of two busy tasks no step is refused by another number than 34, however many steps were tried before.
-abbrev pub tries : List ℕ → List Request
-tries [] = []
-tries (t ∷ ts) = record { task = t; op = Step } ∷ tries ts
-
 abbrev pub OnlyUnsound : Type 0
 OnlyUnsound =
     (q : Queue) (ws ts : List ℕ) (t n : ℕ) → scheduleRefusal q ws ≡ 0 → t < 2
-    → let now = final q (tries ts) in atWork now t ≡ true → act now t Step .outcome ≡ Refused n → n ≡ 34
+    → let now = after q ts in atWork now t ≡ true → act now t Step .outcome ≡ Refused n → n ≡ 34
+
+-- Of a queue on which a call that walks may rely no call is refused 34.
+abbrev pub StandingNever34 : Type 0
+StandingNever34 = (q : Queue) (d : List Entry) → Standing q d → (ws : List ℕ) → scheduleRefusal q ws ≢ 34
+
+-- No call is refused 34, and no schedule that is handed out is marked refused: of a queue on which a call that walks may rely and of which no
+-- start or step is ever refused 34, as after any accepted opening and any list.
+pub record Unrefused (q : Queue) : Type 0 where
+  pub code : (ws : List ℕ) → nextSchedule q ws .reply .code ≢ 34
+  pub ending : (ws : List ℕ) → nextSchedule q ws .reply .ending ≢ 2
+  pub schedules : (ws : List ℕ) → scheduleRefusal q ws ≡ 0 → All (λ (s : Schedule). s .ending ≢ 2) (allSchedules q)
+
+abbrev pub StandingUnrefused : Type 0
+StandingUnrefused = (q : Queue) (d : List Entry) → Standing q d → ((os : List Request) → NeverUnsound q os) → Unrefused q
+
+abbrev pub NeverRefused : Type 0
+NeverRefused = AfterOpening (λ q os. Unrefused (final q os))

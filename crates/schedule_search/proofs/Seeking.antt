@@ -1,20 +1,20 @@
 -- What a search hands back, from what its parts hand back.
-use mathlib.Core.Path.{_≡_, refl, sym, ap, subst, _∙_}
+use mathlib.Core.Path.{_≡_, refl, sym, ap, _∙_}
 use mathlib.Core.Bool.{Bool, true, false, _&&_, _||_, not, cond}
-use mathlib.Core.List.{List, [], _∷_}
-use Prim.Native.Nat.{ℕ, zero, suc, _+_, _-_, _<_, _≤_}
+use mathlib.Core.List.{List}
+use Prim.Native.Nat.{ℕ, zero, suc, _-_, _<_}
 use native.Mathlib.Omega.{arith}
 use lib.Dec.{ltb, eqb}
-use lib.ListN.{length, getD}
+use lib.ListN.{getD}
 use borrow.Author.Tests.{ne-eqb}
 use Rattle.model.specs.declared.Record.{Record}
 use Rattle.model.specs.declared.Op.the-variants.{Step}
 use Rattle.model.specs.Tables.{Tables, Queue, recordAt}
 use Rattle.model.specs.Calls.{act}
 use Rattle.model.proofs.tests.Truth.{not-both}
-use Rattle.schedule_model.specs.Schedules.{Schedule, ends, begun, atWork, bothAnswered}
+use Rattle.schedule_model.specs.Schedules.{ends, atWork, bothAnswered}
 use Rattle.schedule_model.specs.Next.{Next, given, noMore}
-use Rattle.schedule_model.specs.Search.{ended, orElse, prefixed, stepped, bound, least, skips, frees, tried, seekOf}
+use Rattle.schedule_model.specs.Search.{ended, orElse, stepped, skips, frees, tried, seekOf}
 use Rattle.schedule_search.specs.declared.Found.{Found}
 use Rattle.schedule_search.specs.Sought.{pairOf, foundOf, written, Sought, sought, endsHere, under}
 

@@ -1,13 +1,12 @@
 -- A step, what is found below it, and back: the tables are as before, and the step stands in the memory.
-use mathlib.Core.Path.{_≡_, refl, sym, ap, subst, _∙_}
+use mathlib.Core.Path.{_≡_, refl, sym, ap, _∙_}
 use mathlib.Core.Bool.{Bool, true, false, not, cond}
 use mathlib.Core.List.{List, [], _∷_}
 use Prim.Native.Nat.{ℕ, zero, suc, _+_, _-_, _<_, _≤_}
 use native.Mathlib.Omega.{arith}
-use lib.Dec.{eqb, leb, ltb}
+use lib.Dec.{eqb}
 use lib.ListN.{length, set}
 use lib.Seq.{sets, set-comm}
-use Rattle.model.specs.declared.Control.{Control}
 use Rattle.model.specs.declared.Record.{Record}
 use Rattle.model.specs.declared.Outcome.{Outcome}
 use Rattle.model.specs.declared.Outcome.the-variants.{Refused, Moved}
@@ -15,9 +14,8 @@ use Rattle.model.specs.declared.Op.the-variants.{Step}
 use Rattle.model.specs.Tables.{Tables, unused, withCall, tablesOf}
 use Rattle.model.specs.Ends.{isMoved}
 use Rattle.model.specs.Places.{row}
-use Rattle.model.specs.Calls.{Acted, step, actOn, Done, back, act}
+use Rattle.model.specs.Calls.{Acted, actOn, Done, back, act}
 use Rattle.schedule_model.specs.declared.Saved.{Saved}
-use Rattle.schedule_model.specs.Schedules.{Schedule, begun}
 use Rattle.schedule_model.specs.Next.{Next, given, noMore}
 use Rattle.schedule_model.specs.Search.{prefixed, stepped, seekOf}
 use Rattle.schedule_model.specs.Undo.{saved, putBack}
@@ -25,7 +23,7 @@ use Rattle.schedule_model.proofs.Uncounted.{uncounted}
 use Rattle.schedule_model.proofs.Undone.{undoes}
 use Rattle.schedule_search.specs.declared.Found.{Found}
 use Rattle.schedule_search.specs.declared.Two.{Two}
-use Rattle.schedule_search.specs.Sought.{pairOf, foundOf, written, Sought, sought, under}
+use Rattle.schedule_search.specs.Sought.{pairOf, stepOfTwo, foundOf, written, Sought, sought, under}
 use Rattle.schedule_search.proofs.Seeking.{handed}
 
 stepped-is : (t : ℕ) (o : Outcome) (free : Bool) (m : Next) → stepped t o free m ≡ prefixed t (under (not (isMoved o)) free m)
@@ -55,10 +53,6 @@ prefix-written left t (given s) ws h k =
     let z : 49 - (left - 1) ≡ suc (49 - left) = omega (arith, h, k) in
     ap (λ (n : ℕ). set (sets ws n (s .steps)) (49 - left) t) z ∙ sets-above ws (s .steps) (suc (49 - left)) (49 - left) t (omega arith)
 
--- The step of one of two tasks, by its call: how many failed changes its task counts does not matter.
-abbrev made : Tables → Record → ℕ → Acted
-made q r t = step q (record { enough = leb (q .control .tasks) 2; known = ltb t (q .control .tasks) }) (withCall unused r)
-
 -- What is found below a step, and by it.
 module _ (ws : List ℕ) (len left : ℕ) (free : Bool) (a b : Record) where
   abbrev below : ℕ → Acted → Next
@@ -67,14 +61,14 @@ module _ (ws : List ℕ) (len left : ℕ) (free : Bool) (a b : Record) where
   abbrev by : ℕ → Done → Next
   by t e = stepped t (e .outcome) free (seekOf ws len left free (e .queue))
 
-  stepped-pair : (q : Tables) (r : Record) (t : ℕ) (d : Acted) → t < 2 → r ≡ cond (eqb t 0) a b → d ≡ made q r t
+  stepped-pair : (q : Tables) (r : Record) (t : ℕ) (d : Acted) → t < 2 → r ≡ cond (eqb t 0) a b → d ≡ stepOfTwo q r t
       → by t (act (pairOf q a b) t Step) ≡ stepped t (d .outcome) free (below t d)
   unfolding act actOn
   stepped-pair q r zero d low whose e =
-      ap (λ (x : Acted). by 0 (back (pairOf q a b) 0 x)) (sym (e ∙ ap (λ (c : Record). made q c 0) whose))
+      ap (λ (x : Acted). by 0 (back (pairOf q a b) 0 x)) (sym (e ∙ ap (λ (c : Record). stepOfTwo q c 0) whose))
       ∙ ap (stepped 0 (d .outcome) free) (uncounted ws len left free (d .tables) (d .task .call) b (d .task .retries) 0 0 0)
   stepped-pair q r (suc zero) d low whose e =
-      ap (λ (x : Acted). by 1 (back (pairOf q a b) 1 x)) (sym (e ∙ ap (λ (c : Record). made q c 1) whose))
+      ap (λ (x : Acted). by 1 (back (pairOf q a b) 1 x)) (sym (e ∙ ap (λ (c : Record). stepOfTwo q c 1) whose))
       ∙ ap (stepped 1 (d .outcome) free) (uncounted ws len left free (d .tables) a (d .task .call) 0 (d .task .retries) 0 0)
   stepped-pair q r (suc (suc t)) d low whose e = absurd (omega (arith, low))
 
@@ -99,7 +93,7 @@ module _ (q : Tables) (a b r : Record) (t left len : ℕ) (free : Bool) (ws : Li
   }
 
   pub there-and-back : (d : Acted) (n : Two) (s : Saved) (f : Found) (ws′ ws″ : List ℕ) (q′ q″ : Tables)
-      → s ≡ saved (row r) q → d ≡ made q r t → n ≡ stepTo d
+      → s ≡ saved (row r) q → d ≡ stepOfTwo q r t → n ≡ stepTo d
       → handed f ws′ q′ ≡ from d n
       → q″ ≡ putBack (q .control) s q′
       → ws″ ≡ cond (f .found) (set ws′ (49 - left) t) ws′
@@ -120,7 +114,7 @@ module _ (q : Tables) (a b r : Record) (t left len : ℕ) (free : Bool) (ws : Li
       let tables : q″ ≡ q =
       put
       ∙ ap (λ (v : Tables). putBack (q .control) s v) (ts ∙ ap (λ (g : Acted). g .tables) done)
-      ∙ ap (λ (k : Saved). putBack (q .control) k (made q r t .tables)) kept
+      ∙ ap (λ (k : Saved). putBack (q .control) k (stepOfTwo q r t .tables)) kept
       ∙ undoes q _ (withCall unused r)
       in
       let next = stepped-pair ws len (left - 1) free a b q r t d low whose done ∙ stepped-is t (d .outcome) free _ in

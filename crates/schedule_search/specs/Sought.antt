@@ -2,12 +2,12 @@
 use mathlib.Core.Bool.{Bool, true, false, cond}
 use mathlib.Core.List.{List, [], _∷_}
 use Prim.Native.Nat.{ℕ, _+_, _-_}
-use lib.Dec.{eqb}
+use lib.Dec.{eqb, leb, ltb}
 use lib.ListN.{length}
 use lib.Seq.{sets}
-use Rattle.model.specs.declared.Control.{Control}
 use Rattle.model.specs.declared.Record.{Record}
 use Rattle.model.specs.Tables.{Tables, Queue, unused, withCall}
+use Rattle.model.specs.Calls.{Acted, step}
 use Rattle.schedule_model.specs.Schedules.{ends}
 use Rattle.schedule_model.specs.Next.{Next, given, noMore}
 use Rattle.schedule_model.specs.Search.{ended}
@@ -16,6 +16,10 @@ use Rattle.schedule_search.specs.declared.Found.{Found}
 -- The tables with the calls of two tasks. Their counts do not matter to the search, which keeps none.
 abbrev pub pairOf : Tables → Record → Record → Queue
 pairOf q a b = record { tables = q; records = withCall unused a ∷ withCall unused b ∷ [] }
+
+-- The step of one of two tasks, by its call.
+abbrev pub stepOfTwo : Tables → Record → ℕ → Acted
+stepOfTwo q r t = step q (record { enough = leb (q .control .tasks) 2; known = ltb t (q .control .tasks) }) (withCall unused r)
 
 -- After so many steps made: the whole length and the ending.
 abbrev pub foundOf : ℕ → Next → Found

@@ -1,7 +1,10 @@
 //! The search for a schedule: a step, what comes after it, and back.
 use model::Control;
 use model::Record;
-use model::Transition;
+use model::TaskRecord;
+use rows::value;
+use rows::value::Stepped;
+use sound::admission;
 ghost use mathlib.Core.Path.{_≡_};
 ghost use mathlib.Core.Bool.{_&&_, not, cond, false};
 ghost use Prim.Native.Nat.{_≤_, _<_, _-_};
@@ -9,11 +12,11 @@ ghost use lib.Dec.{eqb};
 ghost use lib.ListN.{set};
 ghost use Rattle.model.specs.declared.Op.the-variants.{Step};
 ghost use Rattle.model.specs.Tables.{tablesOf};
-ghost use Rattle.model.specs.Calls.{act};
+ghost use Rattle.model.specs.Calls.{Acted, act};
 ghost use Rattle.model.specs.Ends.{isMoved};
 ghost use Rattle.schedule_model.specs.Schedules.{ends};
 ghost use Rattle.schedule_model.specs.Search.{ended, frees, stepped, tried, seekOf};
-ghost use Rattle.schedule_search.specs.Sought.{pairOf, foundOf, Sought, sought, endsHere, under};
+ghost use Rattle.schedule_search.specs.Sought.{pairOf, stepOfTwo, foundOf, Sought, sought, endsHere, under};
 
 mod undo;
 
@@ -25,12 +28,12 @@ pub struct Found {
 }
 
 /// Control and the calls of two tasks, as the steps so far left them.
-pub struct Two {
-    pub control: Control,
-    pub a: Record,
-    pub b: Record,
+struct Two {
+    control: Control,
+    a: Record,
+    b: Record,
     /// The last step was refused.
-    pub stopped: bool,
+    stopped: bool,
 }
 
 /// A schedule that ends here, after so many steps, if any schedule will do.
@@ -83,20 +86,65 @@ fn pick(t: u64, two: Two) -> Record
     if t == 0 { two.a } else { two.b }
 }
 
+/// The step of task t of two, whose call is r. How often its changes failed does not matter to the search.
+fn step_of(
+    t: u64,
+    c: Control,
+    r: Record,
+    lefts: &mut [u64],
+    rights: &mut [u64],
+    labels: &mut [u32],
+    marks: &mut [u64],
+    next: &mut [u64],
+) -> Stepped
+    ensures { λ s.
+        ⌜ _≡_ {A = Acted}
+        (record {
+          tables = tablesOf (s .control) (now (lefts .exit)) (now (rights .exit)) (now (labels .exit)) (now (marks .exit)) (now (next .exit));
+          task = s .task;
+          outcome = s .outcome;
+        })
+        (stepOfTwo (tablesOf c (now (lefts .entry)) (now (rights .entry)) (now (labels .entry)) (now (marks .entry)) (now (next .entry))) r t) ⌝ }
+{
+    let task = TaskRecord {
+        call: r,
+        retries: 0,
+    };
+    let why = admission::admit(
+        c,
+        2,
+        t as usize,
+        lefts.len(),
+        rights.len(),
+        labels.len(),
+        marks.len(),
+        next.len(),
+    );
+    if why != 0 {
+        let outcome = engine::refuse(why);
+        return Stepped {
+            control: c,
+            task,
+            outcome,
+        };
+    }
+    value::move_on(c, task, lefts, rights, labels, marks, next)
+}
+
 /// The two after a step of task t.
-fn after(t: u64, two: Two, m: Transition) -> Two
+fn after(t: u64, two: Two, m: Stepped) -> Two
     ensures { λ n.
         ⌜ n ≡ record {
           control = m .control;
-          a = cond (eqb t 0) (m .task) (two .a);
-          b = cond (eqb t 0) (two .b) (m .task);
+          a = cond (eqb t 0) (m .task .call) (two .a);
+          b = cond (eqb t 0) (two .b) (m .task .call);
           stopped = not (isMoved (m .outcome));
         } ⌝ }
 {
     let o = m.outcome;
     let stopped = !engine::moves(o);
     let control = m.control;
-    let r = m.task;
+    let r = m.task.call;
     if t == 0 {
         let b = two.b;
         return Two {
@@ -124,9 +172,54 @@ fn note(f: Found, given: &mut [u64], at: u64, t: u64)
     }
 }
 
+/// The first schedule of the calls a and b after the given list of length `len`. Its steps are stored in the list's place.
+pub fn search(
+    c: Control,
+    a: Record,
+    b: Record,
+    len: u64,
+    given: &mut [u64],
+    lefts: &mut [u64],
+    rights: &mut [u64],
+    labels: &mut [u32],
+    marks: &mut [u64],
+    next: &mut [u64],
+) -> Found
+    ensures { λ f.
+        ⌜ _≡_ {A = Sought}
+        (record {
+          found = f;
+          memory = now (given .exit);
+          tables = tablesOf c (now (lefts .exit)) (now (rights .exit)) (now (labels .exit)) (now (marks .exit)) (now (next .exit));
+        })
+        (let q = tablesOf c (now (lefts .entry)) (now (rights .entry)) (now (labels .entry)) (now (marks .entry)) (now (next .entry)) in
+        let ws = now (given .entry) in
+        sought 48 ws (seekOf ws len 48 false (pairOf q a b)) q) ⌝ }
+{
+    let two = Two {
+        control: c,
+        a,
+        b,
+        stopped: false,
+    };
+    let free = false;
+    seek(
+        two,
+        48,
+        free,
+        len,
+        given,
+        lefts,
+        rights,
+        labels,
+        marks,
+        next,
+    )
+}
+
 /// The first schedule from here on, with `left` steps to go. free: any will do, else one after the given
 /// list of length `len`, which the steps so far follow.
-pub fn seek(
+fn seek(
     two: Two,
     left: u64,
     free: bool,
@@ -263,7 +356,7 @@ fn step_and_back(
     let r = pick(t, two);
     let s = undo::keep(r, lefts, rights, labels, marks, next);
     let c = two.control;
-    let m = engine::step(c, r, 2, t as usize, lefts, rights, labels, marks, next);
+    let m = step_of(t, c, r, lefts, rights, labels, marks, next);
     let then = after(t, two, m);
     let f = seek(
         then,

@@ -1,43 +1,11 @@
 //! The words that a step can write, kept and put back.
 use model::Record;
 use schedule_model::Saved;
-use word::Anchor;
-use word::Link;
 ghost use mathlib.Core.Path.{_≡_};
-ghost use Rattle.model.specs.Places.{endSeen, row};
+ghost use Rattle.model.specs.Places.{row};
 ghost use Rattle.model.specs.Tables.{tablesOf};
 ghost use Rattle.model.specs.declared.Control.{Control};
 ghost use Rattle.schedule_model.specs.Undo.{saved, putBack};
-
-/// The end of the Anchor as read that the place looks at.
-fn end_seen(r: Record) -> u64
-    ensures { λ x. ⌜ x ≡ endSeen r ⌝ }
-{
-    let a = Anchor::unpack(r.seen);
-    let helping = (5 <= r.place) & (r.place <= 10);
-    let right = (helping & (a.status == 1)) | (!helping & (r.side == 1));
-    if right { a.right } else { a.left }
-}
-
-/// The slot whose row or mark the record's place touches.
-fn row_of(r: Record) -> u64
-    ensures { λ x. ⌜ x ≡ row r ⌝ }
-{
-    if (r.place == 7) | (r.place == 9) {
-        return r.neighbour;
-    }
-    if (r.place == 3) & (r.kind == 0) {
-        return r.own;
-    }
-    if (12 <= r.place) & (r.place <= 14) {
-        let head = Link::unpack(r.link);
-        return head.slot;
-    }
-    if 15 <= r.place {
-        return r.own;
-    }
-    end_seen(r)
-}
 
 /// The words of the row that the next step of the record can write.
 pub fn keep(
@@ -52,7 +20,7 @@ pub fn keep(
         ⌜ ((c : Control) → s ≡ saved (row r)
         (tablesOf c (now (lefts .entry)) (now (rights .entry)) (now (labels .entry)) (now (marks .entry)) (now (next .entry)))) ⌝ }
 {
-    let slot = row_of(r);
+    let slot = asking::row_of(r);
     let left = table::word_at(lefts, slot);
     let right = table::word_at(rights, slot);
     let label = table::label_at(labels, slot);

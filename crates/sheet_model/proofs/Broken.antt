@@ -14,7 +14,9 @@ use Rattle.sheet_model.specs.declared.SheetReply.{SheetReply}
 use Rattle.sheet_model.specs.Sheet.{Sheet, any, outside, twice, malformed, chained, waits, leftOf, labelAt, breaks}
 use Rattle.sheet_model.specs.Squares.{Row, linked, crossed}
 use Rattle.sheet_model.specs.Extents.{Extents, placeOf, unseen, notedAll}
-use Rattle.sheet_model.specs.Verdict.{brokenBy, inRow, inRows, verdict}
+use Rattle.sheet_model.specs.Verdict.{brokenBy, verdict}
+use Rattle.sheet_model.specs.Search.{inRow, inRows}
+use Rattle.sheet_model.proofs.Searched.{verdict-is}
 use Rattle.sheet_model.proofs.Square.{Shows, marks, row-at}
 use Rattle.sheet_model.proofs.Crossing.{meets, lowest, highest, crosses-up, crosses-down, meets-reverse, meets-left, meets-self}
 use Rattle.sheet_model.proofs.Noted.{label-place, low-noted, high-noted}
@@ -109,6 +111,6 @@ module _ (s : Sheet) (form : Formed s) (up : Bool) (l : List Entry) (short : len
         rw (p, q) (λ i. cell a b (let z = form .few in omega arith) (let z = form .few in omega arith) i && pair a b (omega arith) (omega arith) i)
 
     pub found-verdict : inRows (crossed r square (e .low) (e .high)) n 1 n ≡ verdict s (turned up l)
-    unfolding verdict
     found-verdict =
         same-rows (crossed r square (e .low) (e .high)) (breaks s (turned up l)) n 1 n (λ b c f g h k. crossed-breaks b c f (omega arith) h k)
+        ∙ sym (verdict-is s (turned up l))

@@ -7,10 +7,10 @@ use Prim.Native.Nat.{ℕ, zero, suc, _≤_, _+_}
 use native.Mathlib.Omega.{arith}
 use lib.Dec.{eqb, leb}
 use lib.ListN.{length}
-use borrow.Author.Tests.{eqb-true, leb-true}
+use borrow.Author.Tests.{eqb-true, leb-true, not-false}
 use Rattle.model.specs.Sound.{from1}
 use Rattle.sheet_model.specs.Sheet.{Chained, ruled, joined, any, before, after, outside, through}
-use Rattle.model.proofs.tests.Truth.{and-true, and-of, or-cases, or-first, or-second, decide-eq, split, not-both}
+use Rattle.model.proofs.tests.Truth.{and-true, and-of, or-cases, or-false, or-first, or-second, decide-eq, not-both}
 
 module _ (rules : List ℕ) where
   abbrev T : ℕ → ℕ → ℕ → Type 0
@@ -57,26 +57,32 @@ module _ (rules : List ℕ) where
   chained-of zero a b e = ruled a b e
   chained-of (suc k) a b e = cases k a b e (λ z. chained-of k a b z) (λ y z. joined a (suc k) b (chained-of k a (suc k) y) (chained-of k (suc k) b z))
 
--- A rule's second place is in the list.
-in-list : (n a b : ℕ) (l : List ℕ) → any (outside n) l ≡ false → any (λ w. eqb (before w) a && eqb (after w) b) l ≡ true → from1 n b ≡ true
+-- A rule's places are in the list.
+in-list : (n a b : ℕ) (l : List ℕ) → any (outside n) l ≡ false → any (λ w. eqb (before w) a && eqb (after w) b) l ≡ true
+    → (from1 n a ≡ true) × (from1 n b ≡ true)
 in-list n a b [] h e = absurd (not-both e refl)
 in-list n a b (w ∷ l) h e =
     or-cases (eqb (before w) a && eqb (after w) b) (any (λ w. eqb (before w) a && eqb (after w) b) l) e
-    (λ z. let y = eqb-true (after w) b (and-true (eqb (before w) a) (eqb (after w) b) z .1) in split (from1 n (after w))
-    (λ q. subst (λ v. from1 n v ≡ true) y q) (λ q. absurd (not-both (bad q) h)))
-    (λ z. in-list n a b l (split (any (outside n) l) (λ q. absurd (not-both (or-second (outside n w) q) h)) (λ q. q)) z)
-  where
-    bad : from1 n (after w) ≡ false → outside n w || any (outside n) l ≡ true
-    bad q = or-first {a = outside n w} _ (split (from1 n (before w)) (λ p. rw (p, q)) (λ p. rw p))
+    (λ z. let y = and-true (eqb (before w) a) (eqb (after w) b) z in
+    let q = and-true (from1 n (before w)) (from1 n (after w)) (not-false _ (or-false (outside n w) (any (outside n) l) h .0)) in
+    (subst (λ v. from1 n v ≡ true) (eqb-true (before w) a (y .0)) (q .0), subst (λ v. from1 n v ≡ true) (eqb-true (after w) b (y .1)) (q .1)))
+    (λ z. in-list n a b l (or-false (outside n w) (any (outside n) l) h .1) z)
 
 module _ (rules : List ℕ) (n : ℕ) (h : any (outside n) rules ≡ false) where
-  ends : (a b : ℕ) → Chained rules a b → from1 n b ≡ true
+  ends : (a b : ℕ) → Chained rules a b → (from1 n a ≡ true) × (from1 n b ≡ true)
   ends _ _ (ruled a b e) = in-list n a b rules h e
-  ends _ _ (joined a b c x y) = ends b c y
+  ends _ _ (joined a b c x y) = (ends a b x .0, ends b c y .1)
+
+  pub chained-within : (a b : ℕ) → Chained rules a b → ((1 ≤ a) × (a ≤ n)) × ((1 ≤ b) × (b ≤ n))
+  chained-within a b c =
+      let z = ends a b c in
+      let x = and-true _ _ (z .0) in
+      let y = and-true _ _ (z .1) in
+      ((leb-true _ _ (x .0), leb-true _ _ (x .1)), (leb-true _ _ (y .0), leb-true _ _ (y .1)))
 
   pub chained-in : (a b : ℕ) → Chained rules a b → through rules n a b ≡ true
   unfolding through
   chained-in _ _ (ruled a b e) = rules-in rules n a b e
   chained-in _ _ (joined a b c x y) =
-      let z = and-true _ _ (ends a b x) in
-      joins rules n a b c (leb-true _ _ (z .0)) (leb-true _ _ (z .1)) (chained-in a b x) (chained-in b c y)
+      let z = chained-within a b x .1 in
+      joins rules n a b c (z .0) (z .1) (chained-in a b x) (chained-in b c y)

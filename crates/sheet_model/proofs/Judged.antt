@@ -21,7 +21,8 @@ use Rattle.sheet_model.specs.declared.SheetReply.{SheetReply}
 use Rattle.sheet_model.specs.Sheet.{Sheet, malformed}
 use Rattle.sheet_model.specs.Squares.{Row, byteRow, linked, crossed}
 use Rattle.sheet_model.specs.Extents.{Extents, unseen, noted, nextAt, notedAll, gather, extents}
-use Rattle.sheet_model.specs.Verdict.{refused, inRows, verdict, early, judge}
+use Rattle.sheet_model.specs.Verdict.{refused, verdict, early, judge}
+use Rattle.sheet_model.specs.Search.{inRows}
 use Rattle.sheet_model.proofs.Broken.{Formed, formed, firstAt, turned, found-verdict}
 use Rattle.sheet_model.proofs.Square.{Shows, marks}
 use Rattle.sheet_model.proofs.ByteRows.{bytes, bytes-show}

@@ -1,28 +1,32 @@
 -- The laws of the sheets.
 use mathlib.Core.Bool.{Bool, true, false, _&&_, not, cond}
 use mathlib.Core.List.{List, _++_}
-use mathlib.Core.Path.{_≡_, refl, sym, ap, _∙_}
+use mathlib.Core.Path.{_≡_, refl, sym, ap, subst, _∙_}
 use Prim.Native.Nat.{ℕ, zero, suc, _/_, _%_, _^_, _≤_, _<_}
 use native.Mathlib.Omega.{arith}
 use lib.Dec.{eqb, leb}
 use lib.ListN.{length, getD, drop, List·getD-append}
-use borrow.Author.Tests.{le-leb, eq-eqb}
+use borrow.Author.Tests.{le-leb, eq-eqb, eqb-true}
 use Rattle.model.specs.declared.Entry.{Entry}
-use Rattle.model.specs.Tables.{Queue, isPooled}
+use Rattle.model.specs.Tables.{Queue, Tables, isPooled}
+use Rattle.model.specs.Walk.{contents, met}
 use Rattle.model.specs.Sound.{rowTests, rowsFit}
-use Rattle.model.specs.Refusals.{recordsFit}
+use Rattle.model.specs.Refusals.{first, recordsFit}
 use Rattle.model.specs.Calls.{openAs}
 use Rattle.model.specs.History.{final, ledger, run}
 use Rattle.model.proofs.tests.Truth.{split, and-true}
-use Rattle.model.proofs.tests.Rules.{tests}
-use Rattle.model.proofs.Standing.{Standing, standing}
+use Rattle.model.proofs.tests.Rules.{cleared, tests}
+use Rattle.model.specs.Standing.{Standing}
+use Rattle.model.proofs.Standing.{standing}
 use Rattle.sheet_model.specs.Sheet.{Sheet, malformed, chained}
-use Rattle.sheet_model.specs.Squares.{listOf, bitsOf, linked, wordsOf}
-use Rattle.sheet_model.specs.Verdict.{refused, verdict, judge, sheet, sheetWords}
-use Rattle.sheet_model.specs.Laws.{SquareIsChained, SheetsOfQueues, SameAnswer, BitsAreChained}
+use Rattle.sheet_model.specs.Squares.{listOf, bitsOf, linked, mark, wordsOf}
+use Rattle.sheet_model.specs.Verdict.{refused, verdict, judge, sheet, sheetRules, sheetWords}
+use Rattle.sheet_model.specs.Laws.{SquareIsChained, SheetsOfQueues, SameAnswer, BitsAreChained, KeptExactly, SheetRight}
+use Rattle.sheet_model.specs.Pairs.{Rightly}
 use Rattle.sheet_model.proofs.Broken.{formed}
 use Rattle.sheet_model.proofs.BitRows.{bit-at}
 use Rattle.sheet_model.proofs.Chained.{chained-of, chained-in}
+use Rattle.sheet_model.proofs.Pairs.{kept-told, none-told, verdict-right}
 use Rattle.sheet_model.proofs.ListOf.{length-listOf, getD-listOf}
 
 pub square-is-chained : SquareIsChained
@@ -50,9 +54,35 @@ pub same-answer : SameAnswer
 unfolding sheetWords sheet
 same-answer q s words h = ap (judge q s) (le-leb 32 (length words) h)
 
-pub bits-are-chained : BitsAreChained
+-- A call that is not refused has a well-formed sheet, and answers the verdict.
+module _ (q : Tables) (s : Sheet) (enough : Bool) (e : judge q s enough .code ≡ 0) where
+  no-rule : first (sheetRules q s enough) ≡ 0
+  unfolding judge
+  no-rule = split (eqb (first (sheetRules q s enough)) 0) (λ z. eqb-true _ _ z)
+      (λ z. let w : refused (first (sheetRules q s enough)) .code ≡ 0 = rw z at e in w)
+
+  well-formed : malformed s ≡ false
+  well-formed = cleared (sheetRules q s enough) refl no-rule .1 .0
+
+  answers : judge q s enough ≡ verdict s (met (contents q))
+  unfolding judge
+  answers = rw no-rule
+
+pub sheet-right : SheetRight
+unfolding sheet
+sheet-right q s e = subst (Rightly s (met (contents q))) (sym (answers q s true e)) (verdict-right s (met (contents q)) (well-formed q s true e))
+
+pub kept-exactly : KeptExactly
+unfolding sheet
+kept-exactly q s e =
+    let form = well-formed q s true e in
+    let r = sheet-right q s e in
+    record { only = none-told s (met (contents q)) form (sheet q s) r; all = kept-told s (met (contents q)) form (sheet q s) r }
+
+bits-marked : (q : Tables) (s : Sheet) (words : List ℕ) → sheetWords q s words .reply .code ≡ 0 → (a b : ℕ) → a < 32 → b < 32
+    → getD (sheetWords q s words .words) a 0 / 2 ^ b % 2 ≡ mark (chained s (suc a) (suc b))
 unfolding sheetWords wordsOf chained
-bits-are-chained q s words e a b f g =
+bits-marked q s words e a b f g =
     let n = length (s .listed) in
     let rows = listOf (λ a. bitsOf (linked (s .rules) n a) 32) 32 in
     rw (eq-eqb _ 0 e)
@@ -60,3 +90,14 @@ bits-are-chained q s words e a b f g =
     (List·getD-append rows (drop 32 words) 0 a (omega (arith, length-listOf (λ a. bitsOf (linked (s .rules) n a) 32) 32))
     ∙ getD-listOf (λ a. bitsOf (linked (s .rules) n a) 32) 32 a 0 f)
     ∙ bit-at 32 (linked (s .rules) n a) b g)
+
+marked-is : (t : Bool) → mark t ≡ 1 → t ≡ true
+marked-is true e = refl
+marked-is false e = absurd (omega arith)
+
+pub bits-are-chained : BitsAreChained
+unfolding sheetWords
+bits-are-chained q s words e a b f g =
+    let is = bits-marked q s words e a b f g in
+    let c = square-is-chained s (well-formed q s (leb 32 (length words)) e) (suc a) (suc b) in
+    record { only = λ z. c .only (marked-is _ (sym is ∙ z)); all = λ z. is ∙ ap mark (c .all z) }

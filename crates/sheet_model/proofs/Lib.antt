@@ -6,7 +6,9 @@ pub mod ByteRows
 pub mod BitRows
 pub mod Crossing
 pub mod Noted
+pub mod Searched
 pub mod Broken
+pub mod Pairs
 pub mod Gather
 pub mod Judged
 pub mod Printed

@@ -15,7 +15,8 @@ use Rattle.sheet_model.specs.declared.SheetReply.{SheetReply}
 use Rattle.sheet_model.specs.Sheet.{Sheet, before, after, any, twice, outside, malformed}
 use Rattle.sheet_model.specs.Extents.{placeOf, lower, higher, nextAt, position}
 use Rattle.sheet_model.specs.Squares.{Row, crossed, sweep, ruleMarked, rulesMarked, rounds, joinVia}
-use Rattle.sheet_model.specs.Verdict.{inRow, inRows, brokenBy, kept}
+use Rattle.sheet_model.specs.Verdict.{brokenBy, kept}
+use Rattle.sheet_model.specs.Search.{inRow, inRows}
 
 left : (n i : ℕ) → i < n → n - i ≡ suc (n - (i + 1))
 left n i h = omega arith

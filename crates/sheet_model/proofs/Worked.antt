@@ -8,7 +8,7 @@ use Rattle.model.specs.Tables.{Tables}
 use Rattle.model.proofs.laws.Order.{numbers}
 use Rattle.sheet_model.specs.declared.SheetReply.{SheetReply}
 use Rattle.sheet_model.specs.Sheet.{Sheet, through, chained, breaks, malformed}
-use Rattle.sheet_model.specs.Verdict.{brokenBy, kept, refused, sheetRules, inRow, inRows, verdict}
+use Rattle.sheet_model.specs.Verdict.{brokenBy, kept, refused, sheetRules, verdict, firstBroken, pairs, places}
 
 -- A rule on two places, labels 10, 20 and 30 listed, and labels waiting in slots that don't matter.
 abbrev rule : ℕ → ℕ → ℕ
@@ -22,23 +22,23 @@ wait [] = []
 wait (x ∷ l) = record { slot = 1; label = x } ∷ wait l
 
 chained-through-a-label-that-does-not-wait : verdict (ruled (rule 1 2 ∷ rule 2 3 ∷ [])) (wait (30 ∷ 10 ∷ [])) ≡ brokenBy 1 3
-unfolding verdict inRows inRow breaks chained through
+unfolding verdict firstBroken pairs places breaks chained through
 chained-through-a-label-that-does-not-wait = refl
 
 any-copy-of-either : verdict (ruled (rule 1 2 ∷ [])) (wait (10 ∷ 20 ∷ 10 ∷ [])) ≡ brokenBy 1 2
-unfolding verdict inRows inRow breaks chained through
+unfolding verdict firstBroken pairs places breaks chained through
 any-copy-of-either = refl
 
 kept-in-order : verdict (ruled (rule 1 2 ∷ rule 2 3 ∷ [])) (wait (10 ∷ 10 ∷ 30 ∷ 30 ∷ [])) ≡ kept
-unfolding verdict inRows inRow breaks chained through
+unfolding verdict firstBroken pairs places breaks chained through
 kept-in-order = refl
 
 one-copy-breaks-a-cycle : verdict (ruled (rule 2 3 ∷ rule 3 2 ∷ [])) (wait (20 ∷ [])) ≡ brokenBy 2 2
-unfolding verdict inRows inRow breaks chained through
+unfolding verdict firstBroken pairs places breaks chained through
 one-copy-breaks-a-cycle = refl
 
 first-place-first : verdict (ruled (rule 2 1 ∷ rule 1 3 ∷ [])) (wait (30 ∷ 10 ∷ 20 ∷ [])) ≡ brokenBy 1 3
-unfolding verdict inRows inRow breaks chained through
+unfolding verdict firstBroken pairs places breaks chained through
 first-place-first = refl
 
 a-place-with-itself-is-a-rule : malformed (ruled (rule 1 1 ∷ [])) ≡ false

@@ -4,11 +4,14 @@ use mathlib.Core.Bool.{true, false, cond}
 use mathlib.Core.List.{List}
 use Prim.Native.Nat.{ℕ, suc, _/_, _%_, _^_, _≤_, _<_}
 use lib.ListN.{length, getD}
+use Rattle.model.specs.declared.Entry.{Entry}
 use Rattle.model.specs.Tables.{Tables}
+use Rattle.model.specs.Walk.{contents, met}
 use Rattle.model.specs.History.{AfterOpening, final, ledger, run}
+use Rattle.sheet_model.specs.declared.SheetReply.{SheetReply}
 use Rattle.sheet_model.specs.Sheet.{Sheet, Chained, malformed, chained}
-use Rattle.sheet_model.specs.Squares.{mark}
-use Rattle.sheet_model.specs.Verdict.{refused, verdict, sheet, sheetWords}
+use Rattle.sheet_model.specs.Verdict.{kept, refused, verdict, sheet, sheetWords}
+use Rattle.sheet_model.specs.Pairs.{NoneBroken, Rightly}
 
 -- The square's marks are the relation chained before.
 pub record Closed (s : Sheet) (a b : ℕ) : Type 0 where
@@ -28,6 +31,24 @@ abbrev pub SameAnswer : Type 0
 SameAnswer = (q : Tables) (s : Sheet) (words : List ℕ) → 32 ≤ length words → sheetWords q s words .reply ≡ sheet q s
 
 -- After kept or a broken pair, bit b of word a is set exactly when place a + 1 is chained before place b + 1.
+pub record BitTells (bit : ℕ) (rules : List ℕ) (a b : ℕ) : Type 0 where
+  pub only : bit ≡ 1 → Chained rules a b
+  pub all : Chained rules a b → bit ≡ 1
+
 abbrev pub BitsAreChained : Type 0
 BitsAreChained = (q : Tables) (s : Sheet) (words : List ℕ) → sheetWords q s words .reply .code ≡ 0 → (a b : ℕ) → a < 32 → b < 32
-    → getD (sheetWords q s words .words) a 0 / 2 ^ b % 2 ≡ mark (chained s (suc a) (suc b))
+    → BitTells (getD (sheetWords q s words .words) a 0 / 2 ^ b % 2) (s .rules) (suc a) (suc b)
+
+-- The answer is right: of a well-formed sheet on any entries, and so where a call is not refused; and it is kept exactly where no pair is broken.
+abbrev pub VerdictRight : Type 0
+VerdictRight = (s : Sheet) (l : List Entry) → malformed s ≡ false → Rightly s l (verdict s l)
+
+abbrev pub SheetRight : Type 0
+SheetRight = (q : Tables) (s : Sheet) → sheet q s .code ≡ 0 → Rightly s (met (contents q)) (sheet q s)
+
+pub record KeptWhere (s : Sheet) (l : List Entry) (r : SheetReply) : Type 0 where
+  pub only : r ≡ kept → NoneBroken s l
+  pub all : NoneBroken s l → r ≡ kept
+
+abbrev pub KeptExactly : Type 0
+KeptExactly = (q : Tables) (s : Sheet) → sheet q s .code ≡ 0 → KeptWhere s (met (contents q)) (sheet q s)

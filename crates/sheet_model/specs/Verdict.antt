@@ -1,6 +1,6 @@
 -- What a sheet is answered. (Document 02, #111 and #112.)
 use mathlib.Core.Bool.{Bool, true, false, _&&_, not, cond}
-use mathlib.Core.List.{List, [], _∷_, _++_}
+use mathlib.Core.List.{List, [], _∷_, _++_, map}
 use Prim.Native.Nat.{ℕ, zero, suc, _+_}
 use lib.Dec.{eqb, leb}
 use lib.ListN.{length, drop}
@@ -22,19 +22,29 @@ kept = record { code = 0; first = 0; second = 0 }
 abbrev pub brokenBy : ℕ → ℕ → SheetReply
 brokenBy a b = record { code = 0; first = a; second = b }
 
--- The first broken pair with first place a and one of n second places from b on; else another answer.
-unfoldable pub inRow : (ℕ → ℕ → Bool) → ℕ → ℕ → ℕ → SheetReply → SheetReply
-inRow p a b zero other = other
-inRow p a b (suc n) other = cond (p a b) (brokenBy a b) (inRow p a (b + 1) n other)
+-- Two places in the sheet.
+pub record Pair : Type 0 where
+  pub first : ℕ
+  pub second : ℕ
 
--- The same among n first places from a on, each with m second places from 1 on.
-unfoldable pub inRows : (ℕ → ℕ → Bool) → ℕ → ℕ → ℕ → SheetReply
-inRows p m a zero = kept
-inRows p m a (suc n) = inRow p a 1 m (inRows p m (a + 1) n)
+-- n places from k on.
+unfoldable pub places : ℕ → ℕ → List ℕ
+places k zero = []
+places k (suc n) = k ∷ places (k + 1) n
+
+-- The pairs of such places, by first then second place.
+unfoldable pub pairs : List ℕ → List ℕ → List Pair
+pairs [] l = []
+pairs (a ∷ k) l = map (λ (b : ℕ). record { first = a; second = b }) l ++ pairs k l
+
+-- The first of them that is broken; kept where none is.
+unfoldable pub firstBroken : (ℕ → ℕ → Bool) → List Pair → SheetReply
+firstBroken broken [] = kept
+firstBroken broken (x ∷ l) = cond (broken (x .first) (x .second)) (brokenBy (x .first) (x .second)) (firstBroken broken l)
 
 -- Kept, or the first broken pair, by first then second place in the sheet.
 unfoldable pub verdict : Sheet → List Entry → SheetReply
-verdict s l = inRows (breaks s l) (length (s .listed)) 1 (length (s .listed))
+verdict s l = let all = places 1 (length (s .listed)) in firstBroken (breaks s l) (pairs all all)
 
 -- 34 for control and Anchor, 46, 12, and 34 for the walk. Enough: the words that #112 lends. No next table is lent, so 12 looks at none.
 abbrev pub sheetRules : Tables → Sheet → Bool → List Rule

@@ -8,6 +8,7 @@ use lib.ListN.{length}
 use borrow.Author.Tests.{eqb-false, leb-true, not-false}
 use Rattle.model.specs.declared.Control.{Control}
 use Rattle.model.specs.Tables.{Queue}
+use Rattle.model.specs.Sound.{controlSound}
 use Rattle.model.proofs.tests.Rules.{cleared}
 use Rattle.model.proofs.tests.Truth.{and-true}
 use Rattle.shelf_model.specs.Shelves.{Shelves, bothHold, holds, returnRefusal, returnRules, saveRefusal, saveRules, shelfAt}
@@ -31,6 +32,10 @@ unfolding saveRefusal
 save-fits q s n e =
     let z = cleared (saveRules q s n) refl e in
     both-fit (q .tables .control) q s n (leb-true _ _ (not-false _ (z .1 .0))) (not-false _ (z .1 .1 .0))
+
+pub save-sound : (q : Queue) (s : Shelves) (n : ℕ) → saveRefusal q s n ≡ 0 → controlSound (q .tables .control) ≡ true
+unfolding saveRefusal
+save-sound q s n e = not-false _ (cleared (saveRules q s n) refl e .0)
 
 pub return-fits : (q : Queue) (s : Shelves) (n : ℕ) → returnRefusal q s n ≡ 0 → Fits (shelfAt s n .tables .control) q s n
 unfolding returnRefusal

@@ -1,5 +1,5 @@
 -- What lies beyond the lengths matters to nobody: a start or step of the queue cut to its lengths is the start or step of the queue, cut.
-use mathlib.Core.Bool.{Bool, true, false, _&&_, _||_, cond, not}
+use mathlib.Core.Bool.{Bool, true, false, _||_, cond, not}
 use mathlib.Core.List.{List, [], _∷_, _++_}
 use mathlib.Core.Logic.{_≢_}
 use mathlib.Core.Path.{_≡_, _∙_, ap, refl}
@@ -15,7 +15,6 @@ use Rattle.model.specs.Sound.{recordSound, rowsFit}
 use Rattle.model.specs.Places.{Touch, nothing, setAnchor, setLink, clearMark, takeSlot, setNext, setHead}
 use Rattle.model.specs.Places.{Move, apply, wordFound, linkSide, move, row}
 use Rattle.model.specs.declared.Outcome.the-variants.{Moved, Refused}
-use Rattle.model.specs.Sound.{controlSound}
 use Rattle.model.specs.Route.{answer, onward, route}
 use Rattle.model.specs.Refusals.{Lent, admissionRules, first, fits, rule, stepRefusal, stepRules, stepSound}
 use Rattle.model.specs.Calls.{Acted, decide, finish, step}
@@ -23,8 +22,7 @@ use Rattle.model.proofs.tests.Rules.{cleared}
 use Rattle.model.proofs.bridge.Facts.{RecordFine, control-fine, record-fine}
 use Rattle.model.proofs.bridge.Stores.{TouchFine}
 use Rattle.model.proofs.bridge.Touches.{beyond, move-fine, row-fine}
-use Rattle.model.specs.Sides.{links}
-use Rattle.shelf_model.specs.Cut.{cut, cutTables}
+use Rattle.shelf_model.specs.Cut.{cutTables}
 use Rattle.shelf_model.proofs.Lists.{get-take, longer-take, set-take}
 
 -- Tables are long enough when cut just where they are.
@@ -102,11 +100,14 @@ column-cut : (n : ℕ) (l : List ℕ) (x : ℕ) → x ≤ n → getD (take (suc 
 column-cut n l x h = get-take (suc n) l x 0 (omega arith)
 
 met-cut : (q : Tables) (r : Record) → RecordFine (isPooled (q .control)) (q .control .slots) r → wordFound (cutTables q) r ≡ wordFound q r
-met-cut q r h = go (eqb (r .place) 11) (eqb (r .place) 13) refl
+met-cut q r h = λ i.
+    cond (eqb (r .place) 3) (side (eqb (linkSide r) 1) i)
+    (cond (eqb (r .place) 5) (side (eqb (linkSide r) 1) i)
+    (cond (eqb (r .place) 7) (side (eqb (linkSide r) 1) i)
+    (cond (eqb (r .place) 9) (side (eqb (linkSide r) 1) i)
+    (cond (eqb (r .place) 11) (column-cut (q .control .slots) (q .labels) (row r) low i)
+    (next (eqb (r .place) 13) refl i)))))
   where
-    n : ℕ
-    n = q .control .slots
-
     low : row r ≤ q .control .slots
     low = row-fine (isPooled (q .control)) (q .control .slots) r h
 
@@ -118,14 +119,10 @@ met-cut q r h = go (eqb (r .place) 11) (eqb (r .place) 13) refl
     side true = column-cut (q .control .slots) (q .rights) (row r) low
     side false = column-cut (q .control .slots) (q .lefts) (row r) low
 
-    go : (a b : Bool) → eqb (r .place) 13 ≡ b
-        → cond a (getD (cutTables q .labels) (row r) 0)
-        (cond b (getD (cutTables q .next) (row r) 0) (getD (links (cutTables q) (linkSide r)) (row r) 0))
-        ≡ cond a (getD (q .labels) (row r) 0) (cond b (getD (q .next) (row r) 0) (getD (links q (linkSide r)) (row r) 0))
-    go true b e = column-cut (q .control .slots) (q .labels) (row r) low
-    go false true e = ap (λ (p : Bool). getD (cond p (take (suc (q .control .slots)) (q .next)) []) (row r) 0) (pooled e)
+    next : (b : Bool) → eqb (r .place) 13 ≡ b → cond b (getD (cutTables q .next) (row r) 0) 0 ≡ cond b (getD (q .next) (row r) 0) 0
+    next true e = ap (λ (p : Bool). getD (cond p (take (suc (q .control .slots)) (q .next)) []) (row r) 0) (pooled e)
         ∙ column-cut (q .control .slots) (q .next) (row r) low
-    go false false e = side (eqb (linkSide r) 1)
+    next false e = refl
 
 -- Why a step is refused.
 last-three : (sound idles x y : Bool) → (sound ≡ true → idles ≡ false → x ≡ y)

@@ -4,7 +4,7 @@ use mathlib.Core.List.{List, [], _∷_}
 use mathlib.Core.Path.{_≡_, _∙_, ap, ap₂, refl, sym}
 use Prim.Native.Nat.{ℕ, zero, suc, _≤_}
 use native.Mathlib.Omega.{arith}
-use lib.Dec.{eqb, leb, ltb}
+use lib.Dec.{eqb, ltb}
 use lib.ListN.{getD, set, take}
 use lib.Seq.{set-getD}
 use borrow.Author.Tests.{ltb-true, not-false}
@@ -17,7 +17,7 @@ use Rattle.model.specs.declared.Outcome.the-variants.{Moved, Refused}
 use Rattle.model.specs.declared.Record.{Record}
 use Rattle.model.specs.declared.TaskRecord.{TaskRecord}
 use Rattle.model.specs.Tables.{Queue, Tables, asking, isPooled, started, taskAt, unused, withCall, taken}
-use Rattle.model.specs.Sound.{controlSound, from1, linkSound, recordSound, rowsFit}
+use Rattle.model.specs.Sound.{controlSound, from1, linkSound}
 use Rattle.model.specs.declared.Asked.{Asked}
 use Rattle.model.specs.declared.Control.{Control}
 use Rattle.model.specs.Refusals.{Lent, admissionRules, among, first, fits, namedPush, nothingAsked, pooledPush, popRefusal, pushRefusal, putRefusal}

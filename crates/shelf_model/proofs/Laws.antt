@@ -1,15 +1,13 @@
 -- A refusal changes nothing, the other shelves stay, a return gives back what was saved.
-use mathlib.Core.List.{List}
-use mathlib.Core.Logic.{_≢_}
 use mathlib.Core.Path.{_≡_, _∙_, ap, sym}
-use Prim.Native.Nat.{ℕ, _≤_}
+use Prim.Native.Nat.{ℕ}
 use lib.Dec.{eqb}
 use borrow.Author.Tests.{eq-eqb, eqb-true, ne-eqb}
 use Rattle.model.specs.Tables.{Queue}
-use Rattle.model.specs.History.{Request, run}
+use Rattle.model.specs.History.{run}
 use Rattle.model.proofs.tests.Truth.{split}
 use Rattle.shelf_model.specs.Cut.{cut}
-use Rattle.shelf_model.specs.Shelves.{Shelves, copied, returnRefusal, returned, saveRefusal, saved, shelfAt, withShelf}
+use Rattle.shelf_model.specs.Shelves.{Shelves, copied, returnRefusal, returned, saveRefusal, saved, shelfAt}
 use Rattle.shelf_model.specs.Laws.{BeyondIgnored, OthersKept, RefusalKeeps, RoundTrip}
 use Rattle.shelf_model.proofs.CutCalls.{run-cut}
 use Rattle.shelf_model.proofs.Copied.{cut-copied, shelf-other, shelf-same}

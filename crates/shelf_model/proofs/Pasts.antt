@@ -1,26 +1,33 @@
 -- A queue, and a past that leaves it: what holds after every accepted opening holds of both.
-use mathlib.Core.Bool.{true, _&&_}
-use mathlib.Core.List.{List, [], _∷_}
+use mathlib.Core.Bool.{true, _&&_, cond}
+use mathlib.Core.List.{List, [], _∷_, _++_, map}
 use mathlib.Core.Path.{_≡_, _∙_, ap, ap₂, refl, subst, sym}
 use Prim.Native.Nat.{ℕ, zero, suc, _+_, _<_, _≤_}
 use native.Mathlib.Omega.{arith}
 use lib.Dec.{eqb}
+use lib.ListN.{length}
 use Rattle.model.specs.declared.Control.{Control}
+use Rattle.model.specs.declared.Entry.{Entry}
 use Rattle.model.specs.declared.Outcome.the-variants.{Refused}
 use Rattle.model.specs.declared.TaskRecord.{TaskRecord}
 use Rattle.model.specs.Tables.{Queue, isPooled, taskAt}
 use Rattle.model.specs.Sound.{controlSound}
 use Rattle.model.specs.Calls.{act}
-use Rattle.model.specs.Walk.{contents, entries}
-use Rattle.model.specs.History.{AfterOpeningAs, Call, Event, Lawful, Linearized, NeverUnsound, Request, final, ledger, run}
+use Rattle.model.specs.Walk.{Walk, contents, entries, met}
+use Rattle.model.specs.History.{AfterOpeningAs, Call, Ending, Event, Lawful, Linearized, NeverUnsound, Request}
+use Rattle.model.specs.History.{answered, final, isOpen, ledger, pending, run}
 use Rattle.model.specs.Retries.{retriesBelow}
 use Rattle.model.proofs.laws.Sizes.{act-pooled, act-tasks, fits}
 use Rattle.model.proofs.Linearizable.{linearizable}
 use Rattle.model.proofs.Never34.{never-34}
-use Rattle.model.proofs.Standing.{Standing, standing}
-use Rattle.model.specs.Lists.{All}
+use Rattle.model.specs.Standing.{Standing}
+use Rattle.model.proofs.Standing.{standing}
+use Rattle.model.specs.Lists.{All, copies}
+use Rattle.stock_model.specs.Accounts.{Accounted, AccountedIn, AddedUp, Stands, StockSum, answeredLabels, hasTaken, heldLabels, pushedLabels, takenLabels}
+use Rattle.stock_model.specs.Accounts.{waitingLabels}
+use Rattle.stock_model.proofs.Accounts.{OpenKnown, every-label, open-known, stock-taking}
 use Rattle.shelf_model.specs.Cut.{cut}
-use Rattle.shelf_model.specs.Changeovers.{Explained, Past, True}
+use Rattle.shelf_model.specs.Changeovers.{Explained, FromOpening, Past}
 use Rattle.shelf_model.proofs.Lists.{enough-take}
 use Rattle.shelf_model.proofs.Cut.{fits-cut}
 use Rattle.shelf_model.proofs.CutCalls.{contents-cut, run-cut}
@@ -46,10 +53,16 @@ unfolding final
 final-pooled [] q = refl
 final-pooled (o ∷ os) q = final-pooled os (act q (o .task) (o .op) .queue) ∙ act-pooled q (o .task) (o .op)
 
+-- The events of a list's end.
+run-end : (P : Event → Type 0) (os ps : List Request) (q : Queue) → All P (run q (os ++ ps)) → All P (run (final q os) ps)
+unfolding run final
+run-end P [] ps q h = h
+run-end P (o ∷ os) ps q h = run-end P os ps (act q (o .task) (o .op) .queue) (h .1)
+
 -- A queue, and a past that leaves it.
 module _ (p : Past) (q : Queue) (h : Explained p q) where
-  abbrev t : True p
-  t = h .true
+  abbrev t : FromOpening p
+  t = h .begun
 
   abbrev now : Queue
   now = final (p .opened) (p .since)
@@ -60,27 +73,27 @@ module _ (p : Past) (q : Queue) (h : Explained p q) where
       subst (λ (o : Queue). P o (p .since)) (sym (t .opened)) (x (t .before) (t .tasks) (t .slots) (t .tag) (t .accepted) (p .since))
 
   same-control : q .tables .control ≡ now .tables .control
-  same-control = ap (λ (x : Queue). x .tables .control) (h .left)
+  same-control = ap (λ (x : Queue). x .tables .control) (h .leaves)
 
   pub same-tasks : q .tables .control .tasks ≡ now .tables .control .tasks
   same-tasks = ap (λ (c : Control). c .tasks) same-control
 
   same-walk : contents (q .tables) ≡ contents (now .tables)
-  same-walk = sym (contents-cut (q .tables)) ∙ ap (λ (x : Queue). contents (x .tables)) (h .left) ∙ contents-cut (now .tables)
+  same-walk = sym (contents-cut (q .tables)) ∙ ap (λ (x : Queue). contents (x .tables)) (h .leaves) ∙ contents-cut (now .tables)
 
   pub same-run : (l : List Request) → run q l ≡ run now l
-  same-run l = sym (run-cut l q) ∙ ap (λ (x : Queue). run x l) (h .left) ∙ run-cut l now
+  same-run l = sym (run-cut l q) ∙ ap (λ (x : Queue). run x l) (h .leaves) ∙ run-cut l now
 
   pub same-task : (i : ℕ) → i < q .tables .control .tasks → taskAt q i ≡ taskAt now i
   same-task i k =
-      sym (task-cut q i k) ∙ ap (λ (x : Queue). taskAt x i) (h .left) ∙ task-cut now i (subst (λ n. i < n) same-tasks k)
+      sym (task-cut q i k) ∙ ap (λ (x : Queue). taskAt x i) (h .leaves) ∙ task-cut now i (subst (λ n. i < n) same-tasks k)
 
   pub stands : Standing q (ledger (p .events) .deque)
   stands =
       let s = past-has (λ q os. Standing (final q os) (ledger (run q os) .deque)) (standing (t .pooled)) in
       record {
         control = subst (λ (c : Control). controlSound c ≡ true) (sym same-control) (s .control);
-        long = sym (long-cut q) ∙ ap fits (h .left) ∙ long-cut now ∙ s .long;
+        long = sym (long-cut q) ∙ ap fits (h .leaves) ∙ long-cut now ∙ s .long;
         walk = same-walk ∙ s .walk ∙ ap (λ (es : List Event). entries (ledger es .deque)) (sym (t .events));
       }
 
@@ -94,10 +107,50 @@ module _ (p : Past) (q : Queue) (h : Explained p q) where
       subst (λ (es : List Event). All (λ (e : Event). e .outcome ≡ Refused 34 → ⊥) es) (sym (t .events))
       (past-has NeverUnsound (never-34 (t .pooled)) .operations)
 
+  -- After the past any list may follow.
+  pub following-sound : (os : List Request) → All (λ (e : Event). e .outcome ≡ Refused 34 → ⊥) (run q os)
+  following-sound os =
+      let sound = never-34 (t .pooled) (t .before) (t .tasks) (t .slots) (t .tag) (t .accepted) (p .since ++ os) .operations in
+      subst (λ (es : List Event). All (λ (e : Event). e .outcome ≡ Refused 34 → ⊥) es) (sym (same-run os))
+      (run-end (λ (e : Event). e .outcome ≡ Refused 34 → ⊥) (p .since) os (p .opened)
+      (subst (λ (o : Queue). All (λ (e : Event). e .outcome ≡ Refused 34 → ⊥) (run o (p .since ++ os))) (sym (t .opened)) sound))
+
+  -- An open call stands in the queue where it stands after the past.
+  stands-alike : (c : Call) (e : Ending) → (isOpen e ≡ true → c .task < now .tables .control .tasks) → Stands now c e → Stands q c e
+  stands-alike c pending k s = λ kind. s kind ∙ ap (λ (r : TaskRecord). cond (hasTaken (r .call)) 1 0)
+      (sym (same-task (c .task) (subst (λ n. c .task < n) (sym same-tasks) (k refl))))
+  stands-alike c (answered n a) k s = tt
+
+  all-alike : (cs : List Call) → All (λ (c : Call). isOpen (c .ending) ≡ true → c .task < now .tables .control .tasks) cs
+      → All (λ (c : Call). Stands now c (c .ending)) cs → All (λ (c : Call). Stands q c (c .ending)) cs
+  all-alike [] k s = tt
+  all-alike (c ∷ cs) k s = (stands-alike c (c .ending) (k .0) (s .0), all-alike cs (k .1) (s .1))
+
+  same-waiting : waitingLabels (now .tables) ≡ waitingLabels (q .tables)
+  same-waiting = ap (λ (v : Walk). map (λ (e : Entry). e .label) (met v)) (sym same-walk)
+
+  pub accounts : AccountedIn (p .events) q
+  accounts =
+      let a = past-has Accounted (every-label (t .pooled)) in
+      let k = past-has OpenKnown (open-known (t .pooled)) in
+      let cs = ledger (run (p .opened) (p .since)) .calls in
+      subst (λ (es : List Event). AccountedIn es q) (sym (t .events)) (record {
+        every-push = λ x. subst (λ (l : List ℕ). copies x (pushedLabels cs) ≡ copies x (takenLabels cs) + copies x l) same-waiting (a .every-push x);
+        every-pop = a .every-pop;
+        stands = all-alike cs k (a .stands);
+      })
+
+  pub adds-up : AddedUp (p .events) q
+  adds-up =
+      let cs = ledger (run (p .opened) (p .since)) .calls in
+      subst (λ (es : List Event). AddedUp es q) (sym (t .events))
+      (subst (λ (l : List ℕ). length (pushedLabels cs) ≡ length (answeredLabels cs) + length (heldLabels cs) + length l) same-waiting
+      (past-has StockSum (stock-taking (t .pooled))))
+
   pub counts : retriesBelow q (q .tables .control .tasks) ≡ retriesBelow now (now .tables .control .tasks)
   counts =
       sym (below-cut q (q .tables .control .tasks) (omega arith))
-      ∙ ap (λ (x : Queue). retriesBelow x (x .tables .control .tasks)) (h .left)
+      ∙ ap (λ (x : Queue). retriesBelow x (x .tables .control .tasks)) (h .leaves)
       ∙ below-cut now (now .tables .control .tasks) (omega arith)
 
   pub same-pooled : isPooled (q .tables .control) ≡ isPooled (p .opened .tables .control)

@@ -4,7 +4,7 @@ use mathlib.Core.List.{List, [], _∷_}
 use mathlib.Core.Path.{_≡_, _∙_, ap, refl, subst, sym}
 use Prim.Native.Nat.{ℕ, zero, suc, _<_}
 use lib.Dec.{eqb}
-use borrow.Author.Tests.{not-true}
+use borrow.Author.Tests.{eq-eqb, eqb-true, not-true}
 use Rattle.model.specs.declared.Answer.the-variants.{Running}
 use Rattle.model.specs.declared.Op.the-variants.{Step}
 use Rattle.model.specs.declared.Outcome.the-variants.{Moved}
@@ -12,15 +12,16 @@ use Rattle.model.specs.declared.TaskRecord.{TaskRecord}
 use Rattle.model.specs.Tables.{Queue, recordAt, taskAt, unused}
 use Rattle.model.specs.Refusals.{openRefusal}
 use Rattle.model.specs.Calls.{Done, act, openAs}
-use Rattle.model.specs.Ends.{isRunning}
+use Rattle.model.specs.Ends.{isMoved, isRunning}
 use Rattle.model.specs.History.{Event, Request, run}
-use Rattle.model.specs.Solo.{SoloDone, oneMore, soloEnd, soloRun}
+use Rattle.model.specs.Solo.{SoloDone, lastStep, oneMore, resting, soloRun, soloSteps}
 use Rattle.model.specs.Progress.{AnsweredWithin}
-use Rattle.model.proofs.tests.Truth.{and-true}
+use Rattle.model.proofs.tests.Truth.{and-true, split}
 use Rattle.model.proofs.laws.Sizes.{act-tasks}
 use Rattle.shelf_model.specs.Cut.{cut}
-use Rattle.shelf_model.specs.Shelves.{returnRefusal, returned, saved}
-use Rattle.shelf_model.specs.Changeovers.{Action, World, asks, breaks, does, opens, returns, saves, shown, shows, unbroken}
+use Rattle.shelf_model.specs.Shelves.{Shelves, returnRefusal, returned}
+use Rattle.shelf_model.specs.Changeovers.{Action, Turn, World, asks, breaks, does, opens, returns, saves, eventOf}
+use Rattle.shelf_model.specs.Changeovers.{eventsOf, station, turned, unbroken}
 use Rattle.shelf_model.proofs.Lists.{get-take}
 use Rattle.shelf_model.proofs.CutCalls.{act-cut, cutDone}
 
@@ -31,23 +32,38 @@ task-cut q t h = get-take (q .tables .control .tasks) (q .records) t unused h
 abbrev cutSolo : SoloDone → SoloDone
 cutSolo d = record { queue = cut (d .queue); outcome = d .outcome; steps = d .steps }
 
-abbrev onceMore : ℕ → ℕ → Done → SoloDone
-onceMore n t d = cond (isRunning (d .outcome)) (oneMore (soloRun n (d .queue) t)) (soloEnd d)
-
 either : (b : Bool) (d e : SoloDone) → cond b (cutSolo d) (cutSolo e) ≡ cutSolo (cond b d e)
 either true d e = refl
 either false d e = refl
 
-solo-cut : (n : ℕ) (q : Queue) (t : ℕ) → t < q .tables .control .tasks → soloRun n (cut q) t ≡ cutSolo (soloRun n q t)
-unfolding soloRun
-solo-cut zero q t h =
+rests-cut : (q : Queue) (t : ℕ) → t < q .tables .control .tasks → resting (cut q) t ≡ cutSolo (resting q t)
+rests-cut q t h =
     ap (λ (r : TaskRecord). record { queue = cut q; outcome = Moved (Running (r .call .place)); steps = 0 }) (task-cut q t h)
-solo-cut (suc n) q t h =
+
+-- What a step d comes to, where `more` comes after it and `none` in place of it.
+abbrev onceMore : SoloDone → SoloDone → Done → SoloDone
+onceMore more none d = cond (isRunning (d .outcome)) (oneMore more) (cond (isMoved (d .outcome)) (lastStep d) none)
+
+steps-cut : (n : ℕ) (q : Queue) (t : ℕ) → t < q .tables .control .tasks → soloSteps n (cut q) t ≡ cutSolo (soloSteps n q t)
+unfolding soloSteps
+steps-cut zero q t h = rests-cut q t h
+steps-cut (suc n) q t h =
     let d = act q t Step in
     let known = subst (λ k. t < k) (sym (act-tasks q t Step)) h in
-    ap (onceMore n t) (act-cut q t Step)
-    ∙ ap (λ (s : SoloDone). cond (isRunning (d .outcome)) (oneMore s) (soloEnd (cutDone d))) (solo-cut n (d .queue) t known)
-    ∙ either (isRunning (d .outcome)) (oneMore (soloRun n (d .queue) t)) (soloEnd d)
+    ap (λ (e : Done). onceMore (soloSteps n (e .queue) t) (resting (cut q) t) e) (act-cut q t Step)
+    ∙ ap (λ (s : SoloDone). onceMore s (resting (cut q) t) (cutDone d)) (steps-cut n (d .queue) t known)
+    ∙ ap (λ (s : SoloDone). onceMore (cutSolo (soloSteps n (d .queue) t)) s (cutDone d)) (rests-cut q t h)
+    ∙ ap (λ (s : SoloDone). cond (isRunning (d .outcome)) (cutSolo (oneMore (soloSteps n (d .queue) t))) s)
+    (either (isMoved (d .outcome)) (lastStep d) (resting q t))
+    ∙ either (isRunning (d .outcome)) (oneMore (soloSteps n (d .queue) t)) (cond (isMoved (d .outcome)) (lastStep d) (resting q t))
+
+solo-cut : (n : ℕ) (q : Queue) (t : ℕ) → t < q .tables .control .tasks → soloRun n (cut q) t ≡ cutSolo (soloRun n q t)
+unfolding soloRun
+solo-cut n q t h =
+    let d = act q t Step in
+    ap (λ (e : Done). cond (isMoved (e .outcome)) (soloSteps n (cut q) t) (record { queue = cut q; outcome = e .outcome; steps = 0 })) (act-cut q t Step)
+    ∙ ap (λ (s : SoloDone). cond (isMoved (d .outcome)) s (record { queue = cut q; outcome = d .outcome; steps = 0 })) (steps-cut n q t h)
+    ∙ either (isMoved (d .outcome)) (soloSteps n q t) (record { queue = q; outcome = d .outcome; steps = 0 })
 
 pub solo-alike : (n most : ℕ) (q p : Queue) (t : ℕ) → t < q .tables .control .tasks → t < p .tables .control .tasks → cut q ≡ cut p
     → AnsweredWithin most (soloRun n p t) → AnsweredWithin most (soloRun n q t)
@@ -57,16 +73,16 @@ solo-alike n most q p t h g e a =
     let z = subst (AnsweredWithin most) same (record { answered = a .answered; within = a .within }) in
     record { answered = z .answered; within = z .within }
 
--- The starts and steps of a stretch.
+-- The starts and steps of queue i in a stretch.
 abbrev asking : Action → List Request → List Request
 asking (opens pooled tasks slots tag) os = os
 asking (asks o) os = o ∷ os
 asking (saves n) os = os
 asking (returns n) os = os
 
-unfoldable pub asked : List Action → List Request
-asked [] = []
-asked (a ∷ l) = asking a (asked l)
+unfoldable pub asked : ℕ → List Turn → List Request
+asked i [] = []
+asked i (t ∷ l) = cond (eqb i (t .queue)) (asking (t .action) (asked i l)) (asked i l)
 
 -- An opening or a return that is refused leaves the queue.
 open-refused : (q : Queue) (pooled : Bool) (tasks slots tag : ℕ) → eqb (openRefusal pooled q tasks slots) 0 ≡ false
@@ -74,21 +90,55 @@ open-refused : (q : Queue) (pooled : Bool) (tasks slots tag : ℕ) → eqb (open
 unfolding openAs
 open-refused q pooled tasks slots tag e = rw e
 
-return-refused : (w : World) (n : ℕ) → eqb (returnRefusal (w .queue) (w .shelves) n) 0 ≡ false
-    → returned (w .queue) (w .shelves) n ≡ w .queue
+return-refused : (q : Queue) (s : Shelves) (n : ℕ) → eqb (returnRefusal q s n) 0 ≡ false → returned q s n ≡ q
 unfolding returned
-return-refused w n e = rw e
+return-refused q s n e = rw e
+
+-- A turn of queue i, and one of another.
+abbrev turn : ℕ → Action → Turn
+turn i a = record { queue = i; action = a }
+
+turned-own : (w : World) (i : ℕ) (a : Action) → turned w (turn i a) .queues i ≡ does (station w i) a .queue
+unfolding turned
+turned-own w i a = rw (eq-eqb i i refl)
+
+turned-other : (w : World) (i : ℕ) (t : Turn) → eqb i (t .queue) ≡ false → turned w t .queues i ≡ w .queues i
+unfolding turned
+turned-other w i t e = rw e
 
 -- They show what they show one after the other.
-pub shows-run : (l : List Action) (w : World) → unbroken w l ≡ true → shows w l ≡ run (w .queue) (asked l)
-unfolding shows unbroken asked run does
-shows-run [] w e = refl
-shows-run (opens pooled tasks slots tag ∷ l) w e =
-    let z = and-true (not (breaks w (opens pooled tasks slots tag))) (unbroken (does w (opens pooled tasks slots tag)) l) e in
-    shows-run l (does w (opens pooled tasks slots tag)) (z .1)
-    ∙ ap (λ (q : Queue). run q (asked l)) (open-refused (w .queue) pooled tasks slots tag (not-true _ (z .0)))
-shows-run (asks o ∷ l) w e = ap (λ (es : List Event). shown (w .queue) o ∷ es) (shows-run l (does w (asks o)) e)
-shows-run (saves n ∷ l) w e = shows-run l (does w (saves n)) e
-shows-run (returns n ∷ l) w e =
-    let z = and-true (not (breaks w (returns n))) (unbroken (does w (returns n)) l) e in
-    shows-run l (does w (returns n)) (z .1) ∙ ap (λ (q : Queue). run q (asked l)) (return-refused w n (not-true _ (z .0)))
+abbrev EventsAre : ℕ → List Turn → World → Type 0
+EventsAre i l w = unbroken i w l ≡ true → eventsOf i w l ≡ run (w .queues i) (asked i l)
+
+module _ (i : ℕ) (l : List Turn) (w : World) (ih : (v : World) → EventsAre i l v) where
+  -- A queue that an action leaves as it was, or moves on.
+  on : (a : Action) (q : Queue) → does (station w i) a .queue ≡ q → unbroken i (turned w (turn i a)) l ≡ true
+      → eventsOf i (turned w (turn i a)) l ≡ run q (asked i l)
+  on a q e u = ih (turned w (turn i a)) u ∙ ap (λ (q : Queue). run q (asked i l)) (turned-own w i a ∙ e)
+
+  whole : (a : Action) → unbroken i w (turn i a ∷ l) ≡ true → (not (breaks (station w i) a) ≡ true) × (unbroken i (turned w (turn i a)) l ≡ true)
+  unfolding unbroken
+  whole a u = and-true (not (breaks (station w i) a)) (unbroken i (turned w (turn i a)) l) (rw (eq-eqb i i refl) at u)
+
+  own : (a : Action) → EventsAre i (turn i a ∷ l) w
+  unfolding eventsOf asked run does
+  own (opens pooled tasks slots tag) u =
+      let z = whole (opens pooled tasks slots tag) u in
+      rw (eq-eqb i i refl) (on (opens pooled tasks slots tag) (w .queues i) (open-refused (w .queues i) pooled tasks slots tag (not-true _ (z .0))) (z .1))
+  own (asks o) u = rw (eq-eqb i i refl)
+      (ap (λ (es : List Event). eventOf (w .queues i) o ∷ es) (on (asks o) (act (w .queues i) (o .task) (o .op) .queue) refl (whole (asks o) u .1)))
+  own (saves n) u = rw (eq-eqb i i refl) (on (saves n) (w .queues i) refl (whole (saves n) u .1))
+  own (returns n) u =
+      let z = whole (returns n) u in
+      rw (eq-eqb i i refl) (on (returns n) (w .queues i) (return-refused (w .queues i) (w .shelves) n (not-true _ (z .0))) (z .1))
+
+  others : (t : Turn) → eqb i (t .queue) ≡ false → EventsAre i (t ∷ l) w
+  unfolding eventsOf asked unbroken
+  others t e u = rw e (ih (turned w t) (rw e at u) ∙ ap (λ (q : Queue). run q (asked i l)) (turned-other w i t e))
+
+pub events-are : (i : ℕ) (l : List Turn) (w : World) → EventsAre i l w
+unfolding eventsOf asked run
+events-are i [] w = λ u. refl
+events-are i (t ∷ l) w = split (eqb i (t .queue))
+    (λ e. subst (λ j. EventsAre i (turn j (t .action) ∷ l) w) (eqb-true _ _ e) (own i l w (events-are i l) (t .action)))
+    (λ e. others i l w (events-are i l) t e)

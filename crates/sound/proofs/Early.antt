@@ -9,7 +9,8 @@ use Rattle.word.specs.declared.Anchor.{Anchor}
 use Rattle.word.specs.Anchor.{anchorOf}
 use Rattle.model.specs.declared.Record.{Record}
 use Rattle.model.specs.Sound.{from1, linkSound, anchorSound, recordSound}
-use Rattle.sound.specs.Records.{callSound, readsSound, earlyCall, earlySeen, busy-sound}
+use Rattle.sound.specs.Records.{earlyCall, earlySeen, earlySound}
+use Rattle.sound.proofs.Parts.{callSound, readsSound, busy-sound}
 use Rattle.sound.proofs.Places.{at-push, at-other}
 use Rattle.sound.proofs.Ends.{equal, apart}
 
@@ -40,7 +41,7 @@ pop-order true false true true true h = sym h
 pop-order true false true false true h = refl
 pop-order true false true o false h = simp and-false
 
-zero-low : (n : ℕ) → (leb n 1 && eqb n 0) ≡ eqb n 0
+pub zero-low : (n : ℕ) → (leb n 1 && eqb n 0) ≡ eqb n 0
 zero-low n = go (eqb n 0) refl
   where
     go : (t : Bool) → eqb n 0 ≡ t → (leb n 1 && t) ≡ t
@@ -142,10 +143,8 @@ module _ (slots : ℕ) (r : Record) (high : r .place ≤ 10) where
           (apart-order (leb (a .status) 2) (from1 slots (a .left)) (from1 slots (a .right)) true)
 
   -- All of them.
-  pub early : (pooled : Bool) → 0 < r .place
-      → (leb (r .side) 1 && (leb (r .neighbour) slots && (linkSound slots (r .link) && (earlyCall slots r && earlySeen slots (r .place) a))))
-      ≡ recordSound pooled slots r
-  unfolding readsSound
+  pub early : (pooled : Bool) → 0 < r .place → earlySound slots r ≡ recordSound pooled slots r
+  unfolding readsSound earlySound
   early pooled busy =
       all-order (leb (r .side) 1) (leb (r .neighbour) slots) (linkSound slots (r .link)) (earlyCall slots r) (earlySeen slots (r .place) a)
       ∙ (rw (call-early pooled, seen-early)

@@ -1,14 +1,12 @@
 -- An Anchor is sound if equal ends are no unstable ones and no slots above the last, and different ones are both slots.
 use mathlib.Core.Path.{_≡_, refl, _∙_}
-use mathlib.Core.Bool.{Bool, true, false, _&&_, _||_, not, Bool·beq, and-assoc, and-true, and-false, or-true}
-use mathlib.Core.List.{[], _∷_}
+use mathlib.Core.Bool.{Bool, true, false, _&&_, _||_, Bool·beq, and-assoc, and-true, and-false, or-true}
 use Prim.Native.Nat.{ℕ}
 use native.Mathlib.Omega.{arith}
 use lib.Dec.{leb, eqb}
 use borrow.Author.Tests.{eq-eqb, ne-eqb, eqb-true, eqb-false, le-leb, lt-leb}
 use Rattle.word.specs.declared.Anchor.{Anchor}
 use Rattle.model.specs.Sound.{from1, anchorSound}
-use Rattle.model.specs.Lists.{every}
 
 twice : (b c : Bool) → b ≡ (b && (b && (Bool·beq c c && true)))
 twice true true = refl

@@ -1,4 +1,6 @@
 pub mod Ends
+pub mod Parts
 pub mod Places
 pub mod Early
+pub mod Late
 pub mod Links

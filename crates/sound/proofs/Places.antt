@@ -5,12 +5,11 @@ use Prim.Native.Nat.{ℕ, _<_, _≤_}
 use native.Mathlib.Omega.{arith}
 use lib.Dec.{leb, eqb}
 use borrow.Author.Tests.{eq-eqb, ne-eqb, eqb-true, eqb-false, le-leb, lt-leb}
-use Rattle.word.specs.Anchor.{anchorOf}
 use Rattle.word.specs.Link.{linkOf}
 use Rattle.model.specs.declared.Record.{Record}
 use Rattle.model.specs.Sound.{from1, linkSound, anchorSound, recordSound}
 use Rattle.model.specs.Kinds.{helping}
-use Rattle.sound.specs.Records.{callSound, readsSound, busy-sound}
+use Rattle.sound.proofs.Parts.{callSound}
 
 -- 0 is at most 1, and so is 1.
 zero-most : (n : ℕ) (b : Bool) → (leb n 1 && (eqb n 0 && b)) ≡ (eqb n 0 && b)

@@ -1,10 +1,11 @@
 -- What the effects in a ledger add up to, whatever its events: labels pushed are labels taken and labels in the deque.
-use mathlib.Core.Bool.{_&&_}
-use mathlib.Core.List.{List, [], _∷_, _++_, reverse, reverse-cons}
+use mathlib.Core.Bool.{Bool, _&&_, cond}
+use mathlib.Core.List.{List, [], _∷_, _++_, map, reverse, reverse-cons}
 use mathlib.Core.Path.{_≡_, _∙_, ap, refl, sym}
 use Prim.Native.Nat.{ℕ, _+_}
 use native.Mathlib.Omega.{arith}
 use lib.Dec.{eqb}
+use lib.ListN.{length}
 use borrow.Author.Tests.{eqb-true}
 use Rattle.model.specs.declared.Answer.{Answer}
 use Rattle.model.specs.declared.Answer.the-variants.{Pushed}
@@ -13,24 +14,48 @@ use Rattle.model.specs.declared.Op.{Op}
 use Rattle.model.specs.declared.Op.the-variants.{Push, Pop, Put, Step}
 use Rattle.model.specs.declared.Outcome.{Outcome}
 use Rattle.model.specs.declared.Outcome.the-variants.{Refused, Moved}
-use Rattle.model.specs.Deque.{Served, saysNoSlot, seenFrom, serve, serveFor, servePop, servePush, takeFirst}
-use Rattle.model.specs.History.{Call, Effect, Event, Ledger, accept, attend, isEffect, isOpen, ledgerFrom, note, stepOf, toldEntry}
-use Rattle.stock_model.specs.Accounts.{poppedAs, pushedAs, pushedIn, sumOf, takenIn}
+use Rattle.model.specs.Deque.{Served, seenFrom, serve, serveFor, servePop, servePush, takeFirst}
+use Rattle.model.specs.History.{Call, Effect, Event, Ledger, accept, attend, isEffect, isOpen, lacksSlot, ledgerFrom, note, stepOf, toldEntry}
+use Rattle.stock_model.specs.Accounts.{each, labelPopped, labelPushed, pushedLabels, takenLabels}
 use Rattle.model.proofs.tests.Truth.{by-test}
-use Rattle.model.specs.Lists.{All}
+use Rattle.model.specs.Lists.{All, copies}
+
+-- The labels of a list, each counted as w says.
+unfoldable pub weigh : (ℕ → ℕ) → List ℕ → ℕ
+weigh w [] = 0
+weigh w (x ∷ l) = w x + weigh w l
+
+pub weigh-more : (w : ℕ → ℕ) (l m : List ℕ) → weigh w (l ++ m) ≡ weigh w l + weigh w m
+unfolding weigh
+weigh-more w [] m = omega arith
+weigh-more w (x ∷ l) m = omega (arith, weigh-more w l m)
+
+-- Copies of one label, and all labels.
+abbrev pub only : ℕ → ℕ → ℕ
+only x y = cond (eqb y x) 1 0
+
+pub weigh-only : (x : ℕ) (l : List ℕ) → weigh (only x) l ≡ copies x l
+unfolding weigh
+weigh-only x [] = refl
+weigh-only x (y ∷ l) = ap (λ (n : ℕ). only x y + n) (weigh-only x l)
+
+pub weigh-all : (l : List ℕ) → weigh (λ x. 1) l ≡ length l
+unfolding weigh
+weigh-all [] = refl
+weigh-all (x ∷ l) = omega (arith, weigh-all l)
 
 module _ (w : ℕ → ℕ) where
   -- The labels of a deque, however it is seen.
   abbrev load : List Entry → ℕ
-  load l = sumOf (λ (e : Entry). w (e .label)) l
+  load l = weigh w (map (λ (e : Entry). e .label) l)
 
   load-more : (l m : List Entry) → load (l ++ m) ≡ load l + load m
-  unfolding sumOf
+  unfolding weigh
   load-more [] m = omega arith
   load-more (e ∷ l) m = omega (arith, load-more l m)
 
   load-reverse : (l : List Entry) → load (reverse l) ≡ load l
-  unfolding sumOf
+  unfolding weigh
   load-reverse [] = refl
   load-reverse (e ∷ l) = rw (reverse-cons e l) (omega (arith, load-more (reverse l) (e ∷ []), load-reverse l))
 
@@ -39,50 +64,57 @@ module _ (w : ℕ → ℕ) where
 
   -- What the deque gains at a service is what the reply says.
   abbrev Fair : ℕ → List Entry → Served → Type 0
-  Fair x d s = pushedAs w x (s .reply) + load d ≡ poppedAs w (s .reply) + load (s .deque)
+  Fair x d s = weigh w (labelPushed x (s .reply)) + load d ≡ weigh w (labelPopped (s .reply)) + load (s .deque)
 
   pop-fair : (x side : ℕ) (d l : List Entry) → seenFrom side d ≡ l → Fair x d (takeFirst side l)
-  unfolding sumOf
+  unfolding weigh
   pop-fair x side d [] e = let z : load d ≡ 0 = sym (load-seen side d) ∙ ap (λ (l : List Entry). load l) e in omega arith
   pop-fair x side d (f ∷ l) e =
       let z : load d ≡ w (f .label) + load l = sym (load-seen side d) ∙ ap (λ (l : List Entry). load l) e in
       omega (arith, load-seen side l)
 
-  serve-fair : (a : Answer) (kind side : ℕ) (e : Entry) (d : List Entry) → Fair (e .label) d (serveFor a kind side e d)
-  unfolding serveFor serve servePush servePop sumOf
-  serve-fair a kind side e d =
-      by-test (Fair (e .label) d) (saysNoSlot a) (λ z. refl)
+  serve-fair : (lacks : Bool) (kind side : ℕ) (e : Entry) (d : List Entry) → Fair (e .label) d (serveFor lacks kind side e d)
+  unfolding serveFor serve servePush servePop weigh
+  serve-fair lacks kind side e d =
+      by-test (Fair (e .label) d) lacks (λ z. refl)
       (λ z. by-test (Fair (e .label) d) (eqb kind 0)
       (λ z. let f = load-seen side (e ∷ seenFrom side d) in let g = load-seen side d in omega arith)
       (λ z. pop-fair (e .label) side d (seenFrom side d) refl))
 
   -- The balance of a ledger: a step keeps it, whatever the calls and the deque.
+  abbrev put : List Call → ℕ
+  put cs = weigh w (pushedLabels cs)
+
+  abbrev out : List Call → ℕ
+  out cs = weigh w (takenLabels cs)
+
   abbrev Level : List Call → List Entry → Ledger → Type 0
-  Level cs d l = pushedIn w (l .calls) + (takenIn w cs + load d) ≡ pushedIn w cs + (takenIn w (l .calls) + load (l .deque))
+  Level cs d l = put (l .calls) + (out cs + load d) ≡ put cs + (out (l .calls) + load (l .deque))
 
   step-level : (n : ℕ) (e : Event) (a : Answer) (c : Call) (cs : List Call) (d : List Entry) (l : Ledger) → Level cs d l
       → Level (c ∷ cs) d (stepOf n e a (l .deque) c (l .calls))
-  unfolding stepOf sumOf
+  unfolding stepOf each
   step-level n e a c cs d l h =
-      let f = serve-fair a (c .kind) (c .side) (toldEntry c e) (l .deque) in
-      by-test (Level (c ∷ cs) d) (isEffect e a) (λ z. omega (arith, f, h)) (λ z. omega (arith, h))
+      let f = serve-fair (lacksSlot c a) (c .kind) (c .side) (toldEntry c e) (l .deque) in
+      by-test (Level (c ∷ cs) d) (isEffect e a) (λ z. simp weigh-more (omega (arith, f, h))) (λ z. simp weigh-more (omega (arith, h)))
 
   attend-level : (n : ℕ) (e : Event) (a : Answer) (d : List Entry) (cs : List Call) → Level cs d (attend n e a d cs)
-  unfolding attend sumOf
+  unfolding attend each
   attend-level n e a d [] = refl
   attend-level n e a d (c ∷ cs) =
       let l = attend n e a d cs in
       let h = attend-level n e a d cs in
-      by-test (Level (c ∷ cs) d) (eqb (c .task) (e .task) && isOpen (c .ending)) (λ z. step-level n e a c cs d l h) (λ z. omega (arith, h))
+      by-test (Level (c ∷ cs) d) (eqb (c .task) (e .task) && isOpen (c .ending)) (λ z. step-level n e a c cs d l h)
+      (λ z. simp weigh-more (omega (arith, h)))
 
   abbrev Balanced : Ledger → Type 0
-  Balanced l = pushedIn w (l .calls) ≡ takenIn w (l .calls) + load (l .deque)
+  Balanced l = put (l .calls) ≡ out (l .calls) + load (l .deque)
 
   accept-balanced : (n : ℕ) (e : Event) (o : Op) (a : Answer) (l : Ledger) → Balanced l → Balanced (accept n e o a l)
-  unfolding accept sumOf
-  accept-balanced n e (Push side slot label) a l h = omega (arith, h)
-  accept-balanced n e (Pop side) a l h = omega (arith, h)
-  accept-balanced n e (Put side label) a l h = omega (arith, h)
+  unfolding accept each
+  accept-balanced n e (Push side slot label) a l h = h
+  accept-balanced n e (Pop side) a l h = h
+  accept-balanced n e (Put side label) a l h = h
   accept-balanced n e Step a l h = omega (arith, h, attend-level n e a (l .deque) (l .calls))
 
   note-balanced : (n : ℕ) (e : Event) (o : Outcome) (l : Ledger) → Balanced l → Balanced (note n e o l)
@@ -102,10 +134,10 @@ Fits c e = e .reply ≡ Pushed → c .kind ≡ 0
 abbrev pub AllFit : List Call → Type 0
 AllFit cs = All (λ (c : Call). All (Fits c) (c .effects)) cs
 
-serve-fits : (a : Answer) (kind side : ℕ) (e : Entry) (d : List Entry) → serveFor a kind side e d .reply ≡ Pushed → kind ≡ 0
+serve-fits : (lacks : Bool) (kind side : ℕ) (e : Entry) (d : List Entry) → serveFor lacks kind side e d .reply ≡ Pushed → kind ≡ 0
 unfolding serveFor serve servePush servePop
-serve-fits a kind side e d =
-    by-test Says (saysNoSlot a) (λ z p. absurd (let w : _≡_ {A = ℕ} 0 1 = cc in omega arith))
+serve-fits lacks kind side e d =
+    by-test Says lacks (λ z p. absurd (let w : _≡_ {A = ℕ} 0 1 = cc in omega arith))
     (λ z. by-test Says (eqb kind 0) (λ k p. eqb-true kind 0 k) (λ k. first (seenFrom side d)))
   where
     Says : Served → Type 0
@@ -123,7 +155,7 @@ attend-fits n e a d (c ∷ cs) h =
     let ih = attend-fits n e a d cs (h .1) in
     by-test (λ (l : Ledger). AllFit (l .calls)) (eqb (c .task) (e .task) && isOpen (c .ending))
     (λ z. by-test (λ (l : Ledger). AllFit (l .calls)) (isEffect e a)
-    (λ y. ((serve-fits a (c .kind) (c .side) (toldEntry c e) (l .deque), h .0), ih)) (λ y. (h .0, ih)))
+    (λ y. ((serve-fits (lacksSlot c a) (c .kind) (c .side) (toldEntry c e) (l .deque), h .0), ih)) (λ y. (h .0, ih)))
     (λ z. (h .0, ih))
 
 note-fits : (n : ℕ) (e : Event) (o : Outcome) (l : Ledger) → AllFit (l .calls) → AllFit (note n e o l .calls)

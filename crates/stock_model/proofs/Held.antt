@@ -8,11 +8,12 @@ use native.Mathlib.Decide.{decLt}
 use native.Mathlib.Omega.{arith}
 use lib.Dec.{eqb, ltb}
 use lib.ListN.{length, List·getD-eq-default}
-use borrow.Author.Tests.{eq-eqb}
+use borrow.Author.Tests.{eq-eqb, ltb-true}
 use Rattle.model.specs.declared.Answer.the-variants.{Pushed}
 use Rattle.model.specs.declared.Record.{Record}
 use Rattle.model.specs.Tables.{Queue, atPlace, isPooled, recordAt}
 use Rattle.model.specs.History.{Call, Effect, Ending, Ledger, answered, isOpen, pending}
+use Rattle.model.proofs.lists.All.{all-map}
 use Rattle.model.proofs.tests.ByPlace.{by-place}
 use Rattle.model.proofs.tests.Truth.{by-test, decide-eq, not-both, split}
 use Rattle.model.proofs.machine.Book as B
@@ -129,6 +130,17 @@ module _ (n : ℕ) (q : Queue) (l : Ledger) (g : Matched n q l) where
       rest : (t : ℕ) → opens t cs ≤ opens t (l .calls)
       rest t = by-test (λ k. k ≤ opens t (l .calls) → opens t cs ≤ opens t (l .calls)) (eqb (c .task) t && isOpen (c .ending))
           (λ z k. omega arith) (λ z k. k) (h t)
+
+  -- An open call is one of the queue's tasks'.
+  pub every-known : All (λ (c : Call). isOpen (c .ending) ≡ true → c .task < q .tables .control .tasks) (l .calls)
+  unfolding stateOf
+  every-known = all-map Busies (λ (c : Call). isOpen (c .ending) ≡ true → c .task < q .tables .control .tasks) (λ c b o. known (c .task) (ltb (c .task) (q .tables .control .tasks)) refl (b o))
+      (l .calls) (all-busy (l .calls) (λ t. omega arith))
+    where
+      known : (t : ℕ) (k : Bool) → ltb t (q .tables .control .tasks) ≡ k → M.isIdle (cond k (recOf (recordAt q t)) M.blank .place) ≡ false
+          → t < q .tables .control .tasks
+      known t true e b = ltb-true _ _ e
+      known t false e b = absurd (not-both refl b)
 
   pub every-stands : AllFit (l .calls) → All (λ (c : Call). Stands q c (c .ending)) (l .calls)
   every-stands f = all-stand (l .calls) (all-busy (l .calls) (λ t. omega arith)) f (g .tracks)

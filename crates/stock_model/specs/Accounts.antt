@@ -1,7 +1,7 @@
 -- Every label accounted for, from the history of effects. (Document 02, #114.)
 use mathlib.Core.Path.{_≡_}
 use mathlib.Core.Bool.{Bool, _||_, cond}
-use mathlib.Core.List.{List, [], _∷_}
+use mathlib.Core.List.{List, [], _∷_, _++_, map}
 use Prim.Native.Nat.{ℕ, _+_}
 use lib.Dec.{eqb}
 use lib.ListN.{length}
@@ -11,61 +11,60 @@ use Rattle.model.specs.declared.Answer.{Answer}
 use Rattle.model.specs.declared.Answer.the-variants.{Running, Pushed, Empty, Popped, NoSlot}
 use Rattle.model.specs.Tables.{Tables, Queue, recordAt}
 use Rattle.model.specs.Walk.{contents, met}
-use Rattle.model.specs.History.{Request, run, final, Effect, Ending, pending, answered, Call, ledger, AfterOpening}
+use Rattle.model.specs.History.{Event, Request, run, final, Effect, Ending, pending, answered, Call, ledger, AfterOpening}
 use Rattle.model.specs.Kinds.{giving}
-use Rattle.model.specs.Lists.{All}
+use Rattle.model.specs.Lists.{All, copies}
 
-unfoldable pub sumOf : {A : Type 0} → (A → ℕ) → List A → ℕ
-sumOf f [] = 0
-sumOf f (x ∷ l) = f x + sumOf f l
+-- The lists that f gives for each entry, one after the other.
+unfoldable pub each : {A : Type 0} → (A → List ℕ) → List A → List ℕ
+each f [] = []
+each f (x ∷ l) = f x ++ each f l
 
--- What the reply to a call adds to the labels pushed, when it is a push of label x, and to those popped; w tells how much a label counts.
-abbrev pub pushedAs : (ℕ → ℕ) → ℕ → Answer → ℕ
-pushedAs w x (Running p) = 0
-pushedAs w x Pushed = w x
-pushedAs w x Empty = 0
-pushedAs w x (Popped e) = 0
-pushedAs w x NoSlot = 0
+-- The label that the reply to a call with label x says is pushed, none with *no slot*; and the label that a reply says is popped.
+abbrev pub labelPushed : ℕ → Answer → List ℕ
+labelPushed x (Running p) = []
+labelPushed x Pushed = x ∷ []
+labelPushed x Empty = []
+labelPushed x (Popped e) = []
+labelPushed x NoSlot = []
 
-abbrev pub poppedAs : (ℕ → ℕ) → Answer → ℕ
-poppedAs w (Running p) = 0
-poppedAs w Pushed = 0
-poppedAs w Empty = 0
-poppedAs w (Popped e) = w (e .label)
-poppedAs w NoSlot = 0
+abbrev pub labelPopped : Answer → List ℕ
+labelPopped (Running p) = []
+labelPopped Pushed = []
+labelPopped Empty = []
+labelPopped (Popped e) = e .label ∷ []
+labelPopped NoSlot = []
 
--- By a call's effect: the label pushed, *no slot* left out.
-abbrev pub pushedBy : (ℕ → ℕ) → Call → ℕ
-pushedBy w c = sumOf (λ (e : Effect). pushedAs w (c .entry .label) (e .reply)) (c .effects)
+-- The labels whose push took effect.
+abbrev pub pushedLabels : List Call → List ℕ
+pushedLabels cs = each (λ (c : Call). each (λ (e : Effect). labelPushed (c .entry .label) (e .reply)) (c .effects)) cs
 
--- By a pop's answer *popped*, and by a pop's effect: the label taken.
-abbrev pub answeredBy : (ℕ → ℕ) → Ending → ℕ
-answeredBy w pending = 0
-answeredBy w (answered n a) = poppedAs w a
+-- The labels taken by a pop's effect.
+abbrev pub takenBy : Call → List ℕ
+takenBy c = each (λ (e : Effect). labelPopped (e .reply)) (c .effects)
 
-abbrev pub takenBy : (ℕ → ℕ) → Call → ℕ
-takenBy w c = sumOf (λ (e : Effect). poppedAs w (e .reply)) (c .effects)
+abbrev pub takenLabels : List Call → List ℕ
+takenLabels cs = each takenBy cs
 
--- By a pop that took effect but hasn't answered yet.
-abbrev pub heldBy : (ℕ → ℕ) → Call → Ending → ℕ
-heldBy w c pending = takenBy w c
-heldBy w c (answered n a) = 0
+-- The labels of pops answered *popped*.
+abbrev pub answeredBy : Ending → List ℕ
+answeredBy pending = []
+answeredBy (answered n a) = labelPopped a
 
--- By all calls of a history; and the labels waiting in the tables.
-abbrev pub pushedIn : (ℕ → ℕ) → List Call → ℕ
-pushedIn w cs = sumOf (pushedBy w) cs
+abbrev pub answeredLabels : List Call → List ℕ
+answeredLabels cs = each (λ (c : Call). answeredBy (c .ending)) cs
 
-abbrev pub takenIn : (ℕ → ℕ) → List Call → ℕ
-takenIn w cs = sumOf (takenBy w) cs
+-- The labels of pops that took effect but haven't answered yet.
+abbrev pub heldBy : Call → Ending → List ℕ
+heldBy c pending = takenBy c
+heldBy c (answered n a) = []
 
-abbrev pub answeredIn : (ℕ → ℕ) → List Call → ℕ
-answeredIn w cs = sumOf (λ (c : Call). answeredBy w (c .ending)) cs
+abbrev pub heldLabels : List Call → List ℕ
+heldLabels cs = each (λ (c : Call). heldBy c (c .ending)) cs
 
-abbrev pub heldIn : (ℕ → ℕ) → List Call → ℕ
-heldIn w cs = sumOf (λ (c : Call). heldBy w c (c .ending)) cs
-
-abbrev pub waitingIn : (ℕ → ℕ) → Tables → ℕ
-waitingIn w q = sumOf (λ (e : Entry). w (e .label)) (met (contents q))
+-- The labels waiting, from left to right.
+abbrev pub waitingLabels : Tables → List ℕ
+waitingLabels q = map (λ (e : Entry). e .label) (met (contents q))
 
 -- A pop between its effect and its answer: at 11, in a pooled queue also at 15 to 17.
 abbrev pub hasTaken : Record → Bool
@@ -76,26 +75,28 @@ abbrev pub Stands : Queue → Call → Ending → Type 0
 Stands q c pending = c .kind ≡ 1 → length (c .effects) ≡ cond (hasTaken (recordAt q (c .task))) 1 0
 Stands q c (answered n a) = Unit {0}
 
--- After the list: a label pushed, and no other, has been taken by one pop's effect or is waiting; the pops answered and those that took effect
--- but haven't answered yet make up those taken; and these stand where document 02 says.
-pub record Accounted (w : ℕ → ℕ) (q : Queue) (os : List Request) : Type 0 where
-  pub pushed : let cs = ledger (run q os) .calls in pushedIn w cs ≡ takenIn w cs + waitingIn w (final q os .tables)
-  pub taken : let cs = ledger (run q os) .calls in takenIn w cs ≡ answeredIn w cs + heldIn w cs
-  pub stands : All (λ (c : Call). Stands (final q os) c (c .ending)) (ledger (run q os) .calls)
+-- Of a history and the queue as it stands: each label pushed, and no other, has either been taken by one pop's effect or is waiting, copies
+-- counted; the pops answered and those that haven't answered yet make up those taken; and these stand where document 02 says.
+pub record AccountedIn (es : List Event) (q : Queue) : Type 0 where
+  pub every-push : (x : ℕ) → let cs = ledger es .calls in copies x (pushedLabels cs) ≡ copies x (takenLabels cs) + copies x (waitingLabels (q .tables))
+  pub every-pop : (x : ℕ) → let cs = ledger es .calls in copies x (takenLabels cs) ≡ copies x (answeredLabels cs) + copies x (heldLabels cs)
+  pub stands : All (λ (c : Call). Stands q c (c .ending)) (ledger es .calls)
 
--- For one label its copies count.
-abbrev pub only : ℕ → ℕ → ℕ
-only x y = cond (eqb y x) 1 0
+-- All labels added up, as stock control does.
+abbrev pub AddedUp : List Event → Queue → Type 0
+AddedUp es q =
+    let cs = ledger es .calls in
+    length (pushedLabels cs) ≡ length (answeredLabels cs) + length (heldLabels cs) + length (waitingLabels (q .tables))
+
+-- After every list from an opening on.
+abbrev pub Accounted : Queue → List Request → Type 0
+Accounted q os = AccountedIn (run q os) (final q os)
 
 abbrev pub EveryLabel : Type 0
-EveryLabel = (x : ℕ) → AfterOpening (Accounted (only x))
+EveryLabel = AfterOpening Accounted
 
--- For stock control every label counts, and it is one sum: pushed, popped, on the way out, waiting.
 abbrev pub StockSum : Queue → List Request → Type 0
-StockSum q os =
-    let cs = ledger (run q os) .calls in
-    let each : ℕ → ℕ = λ x. 1 in
-    pushedIn each cs ≡ answeredIn each cs + heldIn each cs + waitingIn each (final q os .tables)
+StockSum q os = AddedUp (run q os) (final q os)
 
 abbrev pub StockTaking : Type 0
 StockTaking = AfterOpening StockSum

@@ -1,6 +1,8 @@
 //! The trace of the run file on standard input, written to standard output as the file comes.
 //!
 //! What the system reads (`refill`) and writes (`pages`) is in no contract; what is between is proved.
+mod refill;
+
 use carry::RunState;
 use pages::Taken;
 ghost use Prim.Native.Nat.{_≤_, _<_, _-_};
@@ -14,12 +16,12 @@ ghost use Rattle.carry.specs.Page.{pageOf, fieldRoom};
 ghost use Rattle.replay.specs.Feed.{Zeros};
 ghost use Rattle.replay.specs.Pieces.{roundPage, Gone};
 
-/// A run after a read: how many bytes the input holds, those from `state.at` on left; whether to read on; whether a read or write failed.
-pub struct Round {
-    pub state: RunState,
-    pub have: usize,
-    pub going: bool,
-    pub failed: bool,
+// A run after a read: how many bytes the input holds, those from `state.at` on left; whether to read on; whether a read or write failed.
+struct Round {
+    state: RunState,
+    have: usize,
+    going: bool,
+    failed: bool,
 }
 
 // Reads behind the bytes that are left, and takes them all, or the end of the input. The bytes left are no full buffer: reading nothing is
@@ -89,9 +91,9 @@ fn take_round(
     }
 }
 
-/// Reads and writes until the file ends, or the run, and tells whether all of the trace was written. The input is so long that a read
-/// always has room behind what is left.
-pub fn rounds(
+// Reads and writes until the file ends, or the run, and tells whether all of the trace was written. The input is so long that a read
+// always has room behind what is left.
+fn rounds(
     input: &mut [u8],
     out: &mut [u8],
     rows: &mut [[u64; rows::RECORD_WORDS]],
@@ -146,4 +148,26 @@ pub fn rounds(
         state: s,
         written: false,
     }
+}
+
+/// The whole of the file on standard input, over buffers and tables of its own.
+pub fn trace() {
+    let mut input = [0u8; 65536];
+    let mut output = [0u8; 589824];
+    let mut rows = [[0u64; rows::RECORD_WORDS]; 16];
+    let mut lefts = [0u64; 1024];
+    let mut rights = [0u64; 1024];
+    let mut labels = [0u32; 1024];
+    let mut marks = [0u64; 16];
+    let mut next = [0u64; 1024];
+    rounds(
+        &mut input,
+        &mut output,
+        &mut rows,
+        &mut lefts,
+        &mut rights,
+        &mut labels,
+        &mut marks,
+        &mut next,
+    );
 }

@@ -1,7 +1,7 @@
-//! Tells the verdict on the history on standard input, a text. `historyfile` reads and judges it.
-mod tell;
+//! Tells the verdict on the history on standard input, a text. `historyfile` judges it and has the words.
+mod help;
 
-use historyfile::judge;
+use historyfile::say;
 ghost use mathlib.Core.Path.{_≡_};
 ghost use Prim.Native.Nat.{_≤_};
 ghost use lib.ListN.{length};
@@ -46,7 +46,7 @@ fn read_all(input: &mut [u8]) -> Input
 }
 
 // A buffer that is full may not hold all of the input.
-fn judge_input(input: &mut [u8], values: &mut [u64]) -> bool {
+fn judge_input(input: &mut [u8], out: &mut [u8]) -> bool {
     let all = read_all(input);
     if all.failed {
         return io::write_all(2, b"verdict: cannot read\n");
@@ -55,18 +55,22 @@ fn judge_input(input: &mut [u8], values: &mut [u64]) -> bool {
     if n == input.len() {
         return io::write_all(2, b"verdict: longer than 65535 bytes\n");
     }
-    let j = judge::judge(&input[..n], values);
-    tell::tell(j)
+    let said = say::say(&input[..n], out);
+    let length = said.length;
+    if said.told {
+        return io::write_all(1, &out[..length]);
+    }
+    io::write_all(2, &out[..length])
 }
 
 fn main() {
     if os::arg_count() > 1 {
-        tell::help();
+        help::help();
         return;
     }
     let mut input = io::large_buffer();
-    let mut values = [0u64; 1024];
-    if !judge_input(&mut input, &mut values) {
+    let mut out = [0u8; lines::ROOM];
+    if !judge_input(&mut input, &mut out) {
         io::write_all(2, b"verdict: cannot write\n");
     }
 }

@@ -1,8 +1,8 @@
 -- What the two loops store is what the walk meets, turned to run from left to right.
 use mathlib.Core.Path.{_≡_, refl, sym, ap, subst, _∙_}
-use mathlib.Core.Bool.{Bool, true, false}
+use mathlib.Core.Bool.{false}
 use mathlib.Core.List.{List, [], _∷_, _++_, map, map-append, reverse, reverse-cons}
-use Prim.Native.Nat.{ℕ, zero, suc, _+_, _<_, _≤_}
+use Prim.Native.Nat.{ℕ, zero, suc, _<_, _≤_}
 use native.Mathlib.Nat.{zero-add}
 use native.Mathlib.Omega.{arith}
 use lib.Dec.{eqb}
@@ -17,7 +17,7 @@ use Rattle.model.specs.Sound.{from1, linkSound}
 use Rattle.model.specs.Walk.{Walk, along, andThen, broken, contents, entries, isBroken, met, walkFrom}
 use Rattle.model.proofs.tests.Truth.{not-both, split}
 use Rattle.model.specs.Sides.{isEmpty}
-use Rattle.walk.proofs.SlotBySlot.{rest, entry, outside, ends, strays, goes, empty, from-left, from-right}
+use Rattle.walk.proofs.SlotBySlot.{rest, outside, ends, strays, goes, empty, from-left, from-right}
 use Rattle.waiting.specs.Waiting.{onto}
 use Rattle.waiting.specs.Trail.{trail, downward, laid}
 

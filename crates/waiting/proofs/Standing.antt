@@ -12,7 +12,8 @@ use Rattle.model.specs.Refusals.{recordsFit}
 use Rattle.model.specs.Report.{waiting}
 use Rattle.model.proofs.tests.Truth.{and-true}
 use Rattle.model.proofs.tests.Rules.{tests}
-use Rattle.model.proofs.Standing.{Standing, standing}
+use Rattle.model.specs.Standing.{Standing}
+use Rattle.model.proofs.Standing.{standing}
 use Rattle.waiting.specs.Waiting.{ReadsOut, kept, readOut, tooShort, waitingRefusal, written}
 
 stands : (q : Queue) (d : List Entry) → Standing q d → (slots labels : List ℕ)

@@ -4,7 +4,7 @@
 //! say the same as sums of powers of two, for every argument.
 ghost use mathlib.Core.Path.{_≡_};
 ghost use Rattle.word.specs.Anchor.{packAnchor, anchorOf, emptyAnchor};
-ghost use Rattle.word.specs.Link.{packLink, linkOf, spareOf};
+ghost use Rattle.word.specs.Link.{packLink, linkOf};
 
 /// The queue's two ends, with a status and a tag that every change raises.
 pub struct Anchor {
@@ -86,8 +86,6 @@ impl Link {
 
     pub const SLOT_MASK: u64 = (1 << Self::SLOT_BITS) - 1;
 
-    pub const SPARE_MASK: u64 = (1 << Self::SPARE_BITS) - 1;
-
     pub const TAG_MASK: u64 = (1 << Self::TAG_BITS) - 1;
 
     /// The word of the fields, each cut to its width.
@@ -104,12 +102,5 @@ impl Link {
             tag: w >> Self::TAG_AT,
             slot: w & Self::SLOT_MASK,
         }
-    }
-
-    /// Bits 31 to 15, which are zero in a sound link word.
-    pub fn spare(w: u64) -> u64
-        ensures { λ r. ⌜ r ≡ spareOf w ⌝ }
-    {
-        (w >> Self::SPARE_AT) & Self::SPARE_MASK
     }
 }

@@ -10,6 +10,7 @@
 //! (all of them at once).
 //! The differential test: `dice`, `script`, `shift`, `scenario`, `malformed`, `coverage`, `ways`.
 //! For tests that drive the calls themselves: `damage` (tables that no run leaves).
+//! To be looked at beside the right queue: `wrong` (the faults that pass a spreadsheet).
 
 pub mod audit;
 pub mod check;
@@ -40,3 +41,4 @@ pub mod tables;
 pub mod trace;
 mod ways;
 pub mod word;
+pub mod wrong;

@@ -7,7 +7,7 @@ use crate::contents;
 use crate::places::advance;
 use crate::refusal::{self, demand, Refusal, LAST_START_TAG};
 use crate::tables::{
-    Control, Record, Shared, Tables, MOST_SLOTS, MOST_TASKS, NAMED, POOLED, POP, PUSH,
+    Control, Record, Shared, Storage, Tables, MOST_SLOTS, MOST_TASKS, NAMED, POOLED, POP, PUSH,
 };
 use crate::word::{Anchor, Link};
 
@@ -124,17 +124,41 @@ impl Tables<'_> {
     }
 
     /// Steps one task until a step does not answer running, `most` times at the most: its answer,
-    /// and the steps made. Where no step was left to make the task is running at its place.
+    /// and the steps made. What the first step would be refused by refuses the run; a later step that
+    /// would be refused is not made. Without an answer the task is running at its place.
     pub fn run(&mut self, task: u64, most: u64) -> (Answer, u64) {
-        for made in 0..most {
+        if most == 0 {
+            return (self.tried(task).map(|_| self.at_rest(task)), 0);
+        }
+        let mut made = 0;
+        while made < most {
             match self.step(task) {
-                Ok(Moved::Running(_)) => {}
+                Ok(Moved::Running(_)) => made += 1,
                 Ok(answer) => return (Ok(answer), made + 1),
-                Err(refusal) => return (Err(refusal), made),
+                Err(refusal) if made == 0 => return (Err(refusal), 0),
+                Err(_) => break,
             }
         }
-        let place = self.records.get(task as usize).map_or(0, |record| record.place);
-        (Ok(Moved::Running(place)), most)
+        (Ok(self.at_rest(task)), made)
+    }
+
+    fn at_rest(&self, task: u64) -> Moved {
+        Moved::Running(self.records[task as usize].place)
+    }
+
+    /// What a step would answer, found out on a copy.
+    fn tried(&self, task: u64) -> Answer {
+        let shared = &self.shared;
+        let mut copy = Storage {
+            control: shared.control.clone(),
+            lefts: shared.lefts.to_vec(),
+            rights: shared.rights.to_vec(),
+            labels: shared.labels.to_vec(),
+            marks: shared.marks.to_vec(),
+            next: shared.next.to_vec(),
+            records: self.records.to_vec(),
+        };
+        copy.lend().step(task)
     }
 
     /// 34 for control and Anchor, 12, and 34 for the walk.

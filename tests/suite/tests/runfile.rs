@@ -9,7 +9,7 @@ const WORKED_EXAMPLE: &str =
     "01000702000300000000 02000800010001000002bc 0400020000 0300020100 040003010101";
 
 /// Texts and the bytes that they become.
-const BECOMES: [(&str, &str); 13] = [
+const BECOMES: [(&str, &str); 15] = [
     ("# nothing at all", ""),
     ("open 16 1023 4294967295", "0100071003ffffffffff"),
     ("  push 255 left 65535 4294967295 # all at their most", "020008ff00ffffffffffff"),
@@ -23,7 +23,12 @@ const BECOMES: [(&str, &str); 13] = [
     ("step", "040000"),
     ("step 1 2*3 0*0 255", "04000501020202ff"),
     ("raw 00 FFfe 10", "00fffe10"),
+    ("\u{feff}pop 3 right\r\nstep 3\r", "0300020301 04000103"),
+    ("\u{feff}# a comment alone\r", ""),
 ];
+
+/// What stands behind the lines before a bad one: a field of an unknown tag, ff, that says "bad line".
+const BAD_LINE: &str = "ff0008626164206c696e65";
 
 /// Texts that are refused, the message, and the bytes of the lines before.
 const REFUSES: [(&str, &str, &str); 31] = [
@@ -82,15 +87,17 @@ fn made_of(text: &str, argument: Option<&Path>) -> Said {
 
 fn tables(checks: &mut Checks) {
     for (text, bytes) in BECOMES {
-        checks.add(&format!("becomes: {text}"), move || {
+        checks.add(&format!("becomes: {}", text.escape_debug()), move || {
             let said = made_of(text, None);
-            same((0, bytes.to_string(), String::new()), (said.status, hex(&said.out), said.noise))
+            let bytes = bytes.replace(' ', "");
+            same((0, bytes, String::new()), (said.status, hex(&said.out), said.noise))
         });
     }
     for (text, message, before) in REFUSES {
         checks.add(&format!("refuses: {}", text.escape_debug()), move || {
             let said = made_of(text, None);
-            let expected = (1, before.to_string(), format!("standard input:{message}\n"));
+            let expected =
+                (1, format!("{before}{BAD_LINE}"), format!("standard input:{message}\n"));
             same(expected, (said.status, hex(&said.out), said.noise))
         });
     }

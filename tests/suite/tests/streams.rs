@@ -67,6 +67,19 @@ fn arguments(checks: &mut Checks) {
             "trace: cannot write\n",
         ),
         (
+            "status: a run in its text form",
+            r#""$ROOT/tools/trace" < "$ROOT/examples/first_labels.txt""#,
+            1,
+            "tools/trace: this is no run file but a run in its text form: tools/runfile RUN | tools/trace\n",
+        ),
+        (
+            "status: a bad line before it in a pipe",
+            r#"printf 'open 1 1 0\njump\n' | "$ROOT/tools/runfile" | "$ROOT/tools/trace" > /dev/null"#,
+            1,
+            "standard input:2: unknown operation: jump\n\
+             tools/trace: the run ends at a line that tools/runfile could not read\n",
+        ),
+        (
             "status: a folder as input",
             r#""$ROOT/tools/trace" < "$FOLDER""#,
             1,
@@ -77,6 +90,54 @@ fn arguments(checks: &mut Checks) {
         checks.add(name, move || {
             let said = with_run(line);
             same((status, noise), (said.status, &said.noise))
+        });
+    }
+}
+
+/// `examples/show` shows the file that is named, wherever it lies, and else the example of that name.
+fn shown(checks: &mut Checks) {
+    let lines = [
+        ("a path", "cp \"$ROOT/tests/cases/worked_example.txt\" mine.txt; \"$ROOT/examples/show\" ./mine.txt", 0, "got:1:700"),
+        ("a name that is a file here", "echo 'open 1 1 7' > first_labels; \"$ROOT/examples/show\" first_labels", 0, "1 - open ok 0000000700000000"),
+        ("an example", "\"$ROOT/examples/show\" first_labels", 0, "40 0 step empty"),
+        ("an example's file name", "\"$ROOT/examples/show\" first_labels.txt", 0, "40 0 step empty"),
+        ("a path that leads nowhere", "\"$ROOT/examples/show\" no/first_labels.txt 2>&1", 1, "no file no/first_labels.txt"),
+        ("no example", "\"$ROOT/examples/show\" nothing 2>&1", 1, "no example nothing"),
+        ("a bad line", "echo jump > bad.txt; \"$ROOT/examples/show\" bad.txt 2>&1", 1, "bad.txt:1: unknown operation: jump"),
+        ("help", "\"$ROOT/examples/show\" --help", 0, "usage: examples/show"),
+    ];
+    for (name, line, status, words) in lines {
+        checks.add(&format!("status: show {name}"), move || {
+            let scratch = Scratch::make();
+            let said =
+                shell(&format!("cd \"$FOLDER\" && {line}"), &[("FOLDER", &scratch.path(""))]);
+            let out = text(&said.out);
+            same((status, true), (said.status, out.contains(words))).map_err(|what| what + &out)
+        });
+    }
+}
+
+/// `tools/progress` counts the crates that a command proves, says that it is still at work, and keeps the
+/// command's status, with the end of what it said.
+fn progress(checks: &mut Checks) {
+    let rt = "printf 'rt: %s\\n' 'word proved (unchanged since it was last proved)' 'model proved (12 s)'; \
+              sleep 1.5; echo 'rt: sound proved (3 s)'; echo wrong; exit $STATUS";
+    for (status, noise) in [(0, ""), (3, "wrong\n")] {
+        checks.add(&format!("status: progress of a command that ends with {status}"), move || {
+            let line = format!(
+                "STATUS={status} QUIET=1 \"$ROOT/tools/progress\" proved sound -- bash -c \"{rt}\""
+            );
+            let said = shell(&line.replace("$STATUS", "\\$STATUS"), &[]);
+            let out = text(&said.out);
+            let (waits, told): (Vec<&str>, Vec<&str>) =
+                out.lines().partition(|line| line.contains(" so far, after "));
+            let lines = [
+                "  2 of 3: model proved (12 s)",
+                "  3 of 3: sound proved (3 s)",
+                "  3 of 3 crates proved, 1 of them before",
+            ];
+            same((status, lines.to_vec(), true), (said.status, told, said.noise.ends_with(noise)))?;
+            same(true, waits.iter().any(|line| line.starts_with("  2 of 3 so far, after ")))
         });
     }
 }
@@ -206,6 +267,8 @@ fn main() -> ExitCode {
     let mut checks = Checks::of("streams");
     assert!(root().join("tools/trace").is_file());
     arguments(&mut checks);
+    shown(&mut checks);
+    progress(&mut checks);
     failures(&mut checks);
     for seed in [8, 9] {
         // Worn tags and nonsense: short runs with many starts and refusals.

@@ -128,7 +128,7 @@ unsafe extern "C" {
     ) -> Reply;
 
     /// Steps a task until a step does not answer running, `most` times at the most.
-    /// Refuses as [`zc_step`], and nothing with `most` 0.
+    /// Refuses what its first step is refused by, or would be with `most` 0.
     pub fn zc_run(
         control: *mut Control,
         records: *mut Record,

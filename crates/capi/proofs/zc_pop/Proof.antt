@@ -1,33 +1,17 @@
--- The start, its record stored, its answer in numbers.
-use mathlib.Core.Path.{refl}
-use lib.ListN.{length}
-use Rattle.model.specs.Calls.{actOn}
-use Rattle.capi.proofs.Border.{started, pop-starts}
+-- The start over rows, its answer in numbers.
+use Rattle.model.specs.Ends.{isMoved}
+use Rattle.rows.specs.Rows.{uppersOf}
+use Rattle.capi.proofs.Border.{answered}
 use borrow.Author.Needs.{needs}
 use Rattle.capi.proofs.zc_pop.Statement.{statement}
 use Rattle.capi.proofs.zc_pop.Tie as tie
 
 returns : tie.Need-returns
-unfolding actOn
 returns c =
-    let put = c .before .before in
-    let begun = put .before .before in
-    let read = begun .before in
-    let told = read .before .before in
-    let lists = told .before .before .before in
-    let a = lists .before .before .before .before .args in
-    started _ (a .records .now) _ _ _ _ _ _ _ (pop-starts _ (a .records .now) _ _ _ _ _ (a .task) _) _ _ _ _ (length (a .records .now)) _ _ _
-    (told .control-of .ensures) refl (read .call-at .ensures) (begun .pop-start .ensures)
-    (put .store-start .ensures .0) (put .store-start .ensures .1) (c .reply .ensures)
+    let did = c .before .before in
+    let known = did .before .before .before .before in
+    let first = known .before .before .before in
+    answered isMoved _ _ _ _ (uppersOf (first .args .records .now)) _ _ _ (did .pop .ensures .0) (did .pop .ensures .1) (c .reply .ensures)
 
 pub zc-pop-spec : {M : Type 1} → statement M
-zc-pop-spec =
-    tie.close
-    (tie.spec
-    (λ c κs. search needs)
-    (λ c κs. search needs)
-    (λ c κs. search needs)
-    (λ c κs. search needs)
-    (λ c κs. search needs)
-    (λ c. search needs)
-    returns)
+zc-pop-spec = tie.close (tie.spec (λ c κs. search needs) (λ c κs. search needs) (λ c. search needs) returns)

@@ -1,6 +1,8 @@
 -- The step over rows, its answer in numbers.
+use Rattle.model.specs.declared.Op.the-variants.{Step}
+use Rattle.model.specs.Ends.{endsCall}
 use Rattle.rows.specs.Rows.{uppersOf}
-use Rattle.capi.proofs.Border.{stepped}
+use Rattle.capi.proofs.Border.{answered}
 use borrow.Author.Needs.{needs}
 use Rattle.capi.proofs.zc_step.Statement.{statement}
 use Rattle.capi.proofs.zc_step.Tie as tie
@@ -14,7 +16,7 @@ returns c =
     let known = lent .before .before .before .before in
     let links = known .before .before .before in
     let first = links .before .before in
-    stepped _ _ _ (uppersOf (first .args .records .now)) _ _ _ (did .step .ensures .0) (did .step .ensures .1) (c .reply .ensures)
+    answered endsCall Step _ _ _ (uppersOf (first .args .records .now)) _ _ _ (did .step .ensures .0) (did .step .ensures .1) (c .reply .ensures)
 
 pub zc-step-spec : {M : Type 1} → statement M
 zc-step-spec =

@@ -8,7 +8,8 @@ use borrow.Author.Needs.{needs}
 use borrow.Author.Tests.{not-true, not-false}
 use Rattle.model.specs.Solo.{soloRun}
 use Rattle.rows.specs.Rows.{queueIn, uppersOf}
-use Rattle.capi_run.proofs.StepsLeft.{left, left-all, left-more, ended, cut, goes-on}
+use Rattle.capi_run.proofs.StepsLeft.{left, left-more, runs-on, answered, refused, stopped, cut}
+use Rattle.capi_run.proofs.NoSteps.{none-ran}
 use Rattle.capi_run.proofs.zc_run.Statement.{statement}
 use Rattle.capi_run.proofs.zc_run.Tie as tie
 
@@ -36,11 +37,38 @@ module _ (told : tie.After-runs Inv-loop μ-loop) where
 
 returns : tie.Need-returns Inv-loop μ-loop
 returns c =
-    let told = c .before .before .before in
+    let none = c .before .before .before .before .before .before .before .before in
+    let a = none .before .before .before .before .before .before .args in
+    let q = queueIn (a .control .now) (a .records .now) (a .lefts .now) (a .rights .now) (a .labels .now) (a .marks .now) (a .next .now) in
+    none-ran q (a .task) _ (uppersOf (a .records .now)) _ (none .if1 .taken) (c .asked .ensures)
+
+returns-2 : tie.Need-returns-2 Inv-loop μ-loop
+returns-2 c =
+    let told = c .before .before .before .before in
     let inv = test told .before .loop .inv in
     let step = did told .step .ensures in
-    ended _ _ _ _ _ _ _ (inv .1) (inv .2) _ _ _ _ _ (test told .loop-test .taken) (step .0)
-    (sym (told .runs .ensures) ∙ not-true _ (c .before .before .if1 .taken)) (step .1) (c .before .made .ensures) (c .run-reply .ensures)
+    answered _ _ _ _ _ _ _ (inv .1) (inv .2) _ _ _ (test told .loop-test .taken) (step .0) (step .1) _ _
+    (sym (told .runs .ensures) ∙ not-true _ (c .before .before .before .if2 .taken)) (sym (c .before .before .moves .ensures) ∙ c .before .if3 .taken) refl
+    (c .run-reply .ensures)
+
+returns-3 : tie.Need-returns-3 Inv-loop μ-loop
+returns-3 c =
+    let made = c .before .before in
+    let told = made .before .before .before in
+    let inv = test told .before .loop .inv in
+    let step = did told .step .ensures in
+    refused _ _ _ _ _ _ _ (inv .1) (inv .2) _ _ _ (test told .loop-test .taken) (step .0) (step .1) _
+    (sym (made .before .moves .ensures) ∙ made .if3 .left) (c .before .if4 .taken) (c .run-reply2 .ensures)
+
+returns-4 : tie.Need-returns-4 Inv-loop μ-loop
+returns-4 c =
+    let first = c .before .before in
+    let made = first .before in
+    let told = made .before .before .before in
+    let inv = test told .before .loop .inv in
+    let step = did told .step .ensures in
+    stopped _ _ _ _ _ _ _ (inv .1) (inv .2) _ _ _ (test told .loop-test .taken) (step .0) (step .1) _
+    (sym (made .before .moves .ensures) ∙ made .if3 .left) (first .if4 .left) (c .resting .ensures)
 
 loop-again : tie.Need-loop-again Inv-loop μ-loop
 loop-again c =
@@ -49,9 +77,9 @@ loop-again c =
     let less = test told .loop-test .taken in
     let step = did told .step in
     let lists = step .kept .1 .1 .1 in
-    let runs = sym (told .runs .ensures) ∙ not-false _ (c .if1 .left) in (
+    let runs = sym (told .runs .ensures) ∙ not-false _ (c .if2 .left) in (
       omega arith,
-      step .ensures .1 ∙ rw (goes-on _ runs) (inv .1),
+      step .ensures .1 ∙ rw (runs-on _ runs .1) (inv .1),
       left-more _ _ _ _ _ less (step .ensures .0) runs ∙ inv .2,
       step .kept .1 .0 ∙ inv .3,
       lists .0 ∙ inv .4,
@@ -61,13 +89,12 @@ loop-again c =
       lists .1 .1 .1 .1 .0 ∙ inv .8,
     )
 
-returns-2 : tie.Need-returns-2 Inv-loop μ-loop
-returns-2 c =
-    let out = c .before .before .before .before in
+returns-5 : tie.Need-returns-5 Inv-loop μ-loop
+returns-5 c =
+    let out = c .before .before in
     let inv = out .before .loop .inv in
     let past = out .loop-test .left in
-    cut _ _ _ _ _ _ _ (inv .1) (inv .2) _ _ _ (omega arith) (c .before .before .call-at .ensures) (c .before .running .ensures)
-    (c .run-reply2 .ensures)
+    cut _ _ _ _ _ _ _ (inv .1) (inv .2) _ past (λ z. out .before .before .if1 .left (omega (arith, past))) (c .resting2 .ensures)
 
 pub zc-run-spec : {M : Type 1} → statement M
 zc-run-spec =
@@ -75,28 +102,51 @@ zc-run-spec =
     (tie.spec
     Inv-loop
     μ-loop
-    (λ c. (omega arith, refl, sym (left-all _ _ _), refl, refl, refl, refl, refl, refl))
-    (λ c κs. search needs)
-    (λ c κs. search needs)
-    (λ c κs. let less = test (c .before) .loop-test .taken in search needs)
-    (λ c κs. search needs)
-    (λ c. let told = c .before .before .before in did told .step .kept .1 .0 ∙ test told .before .loop .inv .3)
-    (λ c. let told = c .before .before .before in did told .step .kept .1 .1 .1 .0 ∙ test told .before .loop .inv .4)
-    (λ c. let told = c .before .before .before in did told .step .kept .1 .1 .1 .1 .0 ∙ test told .before .loop .inv .5)
-    (λ c. let told = c .before .before .before in did told .step .kept .1 .1 .1 .1 .1 .0 ∙ test told .before .loop .inv .6)
-    (λ c. let told = c .before .before .before in did told .step .kept .1 .1 .1 .1 .1 .1 .0 ∙ test told .before .loop .inv .7)
-    (λ c. let told = c .before .before .before in did told .step .kept .1 .1 .1 .1 .1 .1 .1 .0 ∙ test told .before .loop .inv .8)
+    (λ _ _. tt)
+    (λ c. search needs)
+    (λ c. search needs)
+    (λ c. search needs)
+    (λ c. search needs)
+    (λ c. search needs)
+    (λ c. search needs)
     returns
+    (λ c. (omega arith, refl, refl, refl, refl, refl, refl, refl, refl))
+    (λ c κs. search needs)
+    (λ c κs. search needs)
+    (λ c κs. search needs)
+    (λ c. let less = test (c .before .before .before) .loop-test .taken in search needs)
+    (λ c κs. search needs)
+    (λ c. let told = c .before .before .before .before in did told .step .kept .1 .0 ∙ test told .before .loop .inv .3)
+    (λ c. let told = c .before .before .before .before in did told .step .kept .1 .1 .1 .0 ∙ test told .before .loop .inv .4)
+    (λ c. let told = c .before .before .before .before in did told .step .kept .1 .1 .1 .1 .0 ∙ test told .before .loop .inv .5)
+    (λ c. let told = c .before .before .before .before in did told .step .kept .1 .1 .1 .1 .1 .0 ∙ test told .before .loop .inv .6)
+    (λ c. let told = c .before .before .before .before in did told .step .kept .1 .1 .1 .1 .1 .1 .0 ∙ test told .before .loop .inv .7)
+    (λ c. let told = c .before .before .before .before in did told .step .kept .1 .1 .1 .1 .1 .1 .1 .0 ∙ test told .before .loop .inv .8)
+    returns-2
+    (λ c κs. search needs)
+    (λ c. let told = c .before .before .before .before .before in did told .step .kept .1 .0 ∙ test told .before .loop .inv .3)
+    (λ c. let told = c .before .before .before .before .before in did told .step .kept .1 .1 .1 .0 ∙ test told .before .loop .inv .4)
+    (λ c. let told = c .before .before .before .before .before in did told .step .kept .1 .1 .1 .1 .0 ∙ test told .before .loop .inv .5)
+    (λ c. let told = c .before .before .before .before .before in did told .step .kept .1 .1 .1 .1 .1 .0 ∙ test told .before .loop .inv .6)
+    (λ c. let told = c .before .before .before .before .before in did told .step .kept .1 .1 .1 .1 .1 .1 .0 ∙ test told .before .loop .inv .7)
+    (λ c. let told = c .before .before .before .before .before in did told .step .kept .1 .1 .1 .1 .1 .1 .1 .0 ∙ test told .before .loop .inv .8)
+    returns-3
+    (λ c κs. search needs)
+    (λ c. let told = c .before .before .before .before .before .before in did told .step .kept .1 .0 ∙ test told .before .loop .inv .3)
+    (λ c. let told = c .before .before .before .before .before .before in did told .step .kept .1 .1 .1 .0 ∙ test told .before .loop .inv .4)
+    (λ c. let told = c .before .before .before .before .before .before in did told .step .kept .1 .1 .1 .1 .0 ∙ test told .before .loop .inv .5)
+    (λ c. let told = c .before .before .before .before .before .before in did told .step .kept .1 .1 .1 .1 .1 .0 ∙ test told .before .loop .inv .6)
+    (λ c. let told = c .before .before .before .before .before .before in did told .step .kept .1 .1 .1 .1 .1 .1 .0 ∙ test told .before .loop .inv .7)
+    (λ c. let told = c .before .before .before .before .before .before in did told .step .kept .1 .1 .1 .1 .1 .1 .1 .0 ∙ test told .before .loop .inv .8)
+    returns-4
     (λ c. let less = test (c .before) .loop-test .taken in search needs)
     (λ c. let less = test (c .before) .loop-test .taken in omega arith)
     loop-again
     (λ c κs. search needs)
-    (λ c κs. search needs)
-    (λ c κs. search needs)
     (λ c. search needs)
     (λ c. search needs)
     (λ c. search needs)
     (λ c. search needs)
     (λ c. search needs)
     (λ c. search needs)
-    returns-2)
+    returns-5)

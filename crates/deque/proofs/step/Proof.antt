@@ -36,9 +36,9 @@ use Rattle.sound.proofs.admission.admit.Met as admit-thm
 use Rattle.engine.proofs.refuse.Symbol as refuse-def
 use Rattle.engine.proofs.refuse.Symbol.{name as #engine·refuse}
 use Rattle.engine.proofs.refuse.Met as refuse-thm
-use Rattle.deque.proofs.move_on.Symbol as callee-def
-use Rattle.deque.proofs.move_on.Symbol.{name as #deque·move-on}
-use Rattle.deque.proofs.move_on.Met as callee-thm
+use Rattle.rows.proofs.value.move_on.Symbol as callee-def
+use Rattle.rows.proofs.value.move_on.Symbol.{name as #rows·value·move-on}
+use Rattle.rows.proofs.value.move_on.Met as callee-thm
 use Rattle.deque.proofs.step.Key.{name as #deque·step}
 use Rattle.deque.proofs.step as self
 use Rattle.deque.proofs.step.Statement as stated
@@ -49,7 +49,7 @@ use Rattle.deque.proofs.step.Proof.Walk.{walk}
 module _ {M : Type 1} (𝓤 : URA M) (H : Heap 𝓤) (A : Atoms 𝓤) (W : Given 𝓤 H A) (mem : Memory → SProp 𝓤) (run : Routine → Fun 𝓤) where
   self-walks : (C : Calls 𝓤 H) (Λ : Loops 𝓤 H) → FmC 𝓤 H (W .laws) C → Triple 𝓤 (C #sound·admission·admit) (Admit 𝓤 H A mem run)
       → Triple 𝓤 (C #engine·refuse) (Refuse 𝓤 H A mem run)
-      → Triple 𝓤 (C #deque·move-on) (Move 𝓤 H A moveOn)
+      → Triple 𝓤 (C #rows·value·move-on) (Move 𝓤 H A moveOn)
       → Walks 𝓤 H A self.ended stayed (WpFn 𝓤 H C Λ code.function) (self.clauses 𝓤 H A mem run)
   self-walks C Λ fm known-admit known-refuse known = walked 𝓤 H A self.ended stayed (self.clauses 𝓤 H A mem run) (WpFn 𝓤 H C Λ code.function)
       (λ κs. (ptr-vals, (slice-vals, (uint-vals w64, (slice-vals, (slice-vals, (slice-vals, (slice-vals, (slice-vals, tt)))))))))
@@ -82,7 +82,7 @@ module _ {M : Type 1} (𝓤 : URA M) (H : Heap 𝓤) (A : Atoms 𝓤) (W : Given
 
 self-meets : {M : Type 1} (𝓤 : URA M) (H : Heap 𝓤) (A : Atoms 𝓤) → Given 𝓤 H A → (mem : Memory → SProp 𝓤) (run : Routine → Fun 𝓤) (𝓣 : Program 𝓤 H)
     → Triple 𝓤 (𝓣 .C #sound·admission·admit) (Admit 𝓤 H A mem run) → Triple 𝓤 (𝓣 .C #engine·refuse) (Refuse 𝓤 H A mem run)
-    → Triple 𝓤 (𝓣 .C #deque·move-on) (Move 𝓤 H A moveOn)
+    → Triple 𝓤 (𝓣 .C #rows·value·move-on) (Move 𝓤 H A moveOn)
     → Meets 𝓤 H A self.signature (WpFn 𝓤 H (𝓣 .C) (𝓣 .Λ) code.function) (self.spec 𝓤 H A mem run)
 self-meets 𝓤 H A W mem run 𝓣 known-admit known-refuse known =
     walk-meets 𝓤 H A self.ended stayed W (
@@ -118,4 +118,4 @@ step-spec 𝓤 H 𝓜 𝓖 𝓡 =
     (admit-thm.met 𝓤 H 𝓜 𝓖 𝓡))
     (cited 𝓤 H (Refuse 𝓤 H (𝓖 .A) (𝓜 .mem) (𝓡 .run)) 𝓜 𝓡 code.env #engine·refuse refuse-def.routine code.calls-engine·refuse
     (refuse-thm.met 𝓤 H 𝓜 𝓖 𝓡))
-    (cited 𝓤 H (Move 𝓤 H (𝓖 .A) moveOn) 𝓜 𝓡 code.env #deque·move-on callee-def.routine code.calls-deque·move-on (callee-thm.met 𝓤 H 𝓜 𝓖 𝓡)))
+    (cited 𝓤 H (Move 𝓤 H (𝓖 .A) moveOn) 𝓜 𝓡 code.env #rows·value·move-on callee-def.routine code.calls-rows·value·move-on (callee-thm.met 𝓤 H 𝓜 𝓖 𝓡)))

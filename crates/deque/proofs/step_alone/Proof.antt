@@ -1,17 +1,41 @@
--- The engine's step at the record's own count.
+-- Turned away by its number alone, or moved on.
+use mathlib.Core.Path.{_≡_, sym, ap, _∙_}
 use borrow.Author.Needs.{needs}
+use Rattle.model.specs.declared.Outcome.{Outcome}
+use Rattle.model.specs.Sound.{rowsFit}
+use Rattle.model.specs.Refusals.{alone}
+use Rattle.model.specs.Tables.{Tables, tablesOf}
+use Rattle.model.specs.Calls.{stepLent}
+use Rattle.sound.specs.Lengths.{lengthsFit}
+use Rattle.engine.proofs.InParts.{turned-away, admitted}
 use Rattle.deque.proofs.step_alone.Statement.{statement}
 use Rattle.deque.proofs.step_alone.Tie as tie
 
+-- The arguments, in the model's terms.
+module _ (a : tie.Start) where
+  abbrev q : Tables
+  q = tablesOf (a .args .c) (a .args .lefts .now) (a .args .rights .now) (a .args .labels .now) (a .args .marks .now) (a .args .next .now)
+
 returns : tie.Need-returns
+unfolding rowsFit lengthsFit stepLent
 returns c =
-    let rights = c .before .before .before .before in
-    let lefts = rights .before .before .before .before in
-    let moved = lefts .before .before .before in
+    let told = c .before .before in
+    let sized = told .before .before .before .before in
+    let a = sized .before .before in
+    rw (c .refuse .ensures) (turned-away (q a) alone (a .args .t) _ (told .admit-alone .ensures) (c .before .if1 .taken))
+
+returns-2 : tie.Need-returns-2
+unfolding rowsFit lengthsFit stepLent
+returns-2 c =
+    let marks = c .before .before .before .before in
+    let rights = marks .before .before .before .before in
+    let moved = rights .before .before in
     let lent = moved .before .before .before .before in
-    let sized = lent .before .before .before .before in
-    let start = sized .before .before .before .before in
-    rw (c .counting .ensures) (moved .step-alone .ensures (start .args .t .retries))
+    let left = lent .before .before in
+    let told = left .before in
+    let sized = told .before .before .before .before in
+    let a = sized .before .before in
+    moved .move-on .ensures ∙ admitted (q a) alone (a .args .t) (sym (told .admit-alone .ensures) ∙ left .if1 .left)
 
 pub step-alone-spec : {M : Type 1} → statement M
 step-alone-spec =
@@ -19,9 +43,11 @@ step-alone-spec =
     (tie.spec
     (λ c κs. search needs)
     (λ c κs. search needs)
+    returns
+    (λ c κs. search needs)
     (λ c. search needs)
     (λ c. search needs)
     (λ c. search needs)
     (λ c. search needs)
     (λ c. search needs)
-    returns)
+    returns-2)

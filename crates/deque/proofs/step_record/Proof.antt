@@ -51,8 +51,8 @@ use Rattle.model.proofs.TaskRecord as T
 use Rattle.model.proofs.TaskRecord.Laws as T′
 use Rattle.model.proofs.Outcome as E
 use Rattle.model.proofs.Outcome.Laws as E′
-use Rattle.deque.proofs.Stepped as N
-use Rattle.deque.proofs.Stepped.Laws as N′
+use Rattle.rows.proofs.value.Stepped as N
+use Rattle.rows.proofs.value.Stepped.Laws as N′
 use Rattle.deque.proofs.step_alone.Symbol as callee-def
 use Rattle.deque.proofs.step_alone.Symbol.{name as #deque·step-alone}
 use Rattle.deque.proofs.step_alone.Met as callee-thm

@@ -1,6 +1,5 @@
 -- The test is the definition's, and keeps the sum within the rows.
-use mathlib.Core.Path.{_≡_, _∙_}
-use Prim.Native.Nat.{ℕ, _≤_}
+use Prim.Native.Nat.{_≤_}
 use native.Mathlib.Omega.{arith}
 use borrow.Author.Tests.{leb-true}
 use Rattle.model.proofs.tests.Truth.{and-true}

@@ -1,12 +1,14 @@
 -- What is kept of a word is a remainder, and bit 0 is dropped by halving.
-use mathlib.Core.Path.{_≡_, ap, ap₂, _∙_, sym}
-use mathlib.Core.Logic.{⊎-elim}
-use Prim.Native.Nat.{ℕ, _+_, _-_, _*_, _/_, _%_, _^_, min}
+use mathlib.Core.Path.{_≡_, ap, _∙_, sym}
+use mathlib.Core.Logic.{_≢_, ⊎-elim}
+use Prim.Native.Nat.{ℕ, _+_, _-_, _*_, _/_, _%_, _^_}
 use native.Mathlib.Nat.{mod-eq-of-lt}
 use native.Mathlib.Omega.{arith}
 use lib.Pow.{high, ones-split, ones-lt}
 use lib.Bits.{bitAnd, and-mask, and-high}
 use borrow.Author.Needs.{needs}
+use borrow.Author.Tests.{eq-eqb, ne-eqb}
+use Rattle.marks.specs.Masked.{upToLast}
 use Rattle.marks.proofs.masked.Statement.{statement}
 use Rattle.marks.proofs.masked.Tie as tie
 
@@ -20,28 +22,25 @@ keep w r e =
     ap (bitAnd w) (ap (λ (x : ℕ). (2 ^ x - 1) / 2 ^ (63 - r)) (sym e) ∙ ones-shr (r + 1) (63 - r)) ∙ and-mask w (r + 1)
 
 -- After the first test.
-upper : (c : tie.Joined1) → c .if1 .m ≡ c .before .args .w % 2 ^ min 64 (c .before .args .slots + 1 - 64 * c .before .args .k)
+upper : (c : tie.Joined1) → (let a = c .before .args in c .if1 .m ≡ upToLast (a .w) (a .k) (a .slots))
 upper c =
     let a = c .before .args in
     ⊎-elim
-    (λ t.
-    let e : min 64 (a .slots + 1 - 64 * a .k) ≡ a .slots % 64 + 1 = omega arith in
-    rw e (t .1 ∙ keep (a .w) (a .slots % 64) (omega arith)))
-    (λ t.
-    let e : min 64 (a .slots + 1 - 64 * a .k) ≡ 64 = omega arith in
-    rw e (t .1 ∙ sym (mod-eq-of-lt (c .before .fits .w .fits))))
+    (λ t. rw (eq-eqb _ _ (t .0 .taken)) (t .1 ∙ keep (a .w) (a .slots % 64) (omega arith)))
+    (λ t. rw (ne-eqb _ _ (t .0 .left)) (t .1))
     (c .if1 .came)
 
 returns : tie.Need-returns
 returns c =
     let m = c .before .before .if1 .m in
-    let z : 1 - c .before .before .before .args .k ≡ 1 = omega arith in
-    rw z (and-high m 63 1 ∙ ap (λ (x : ℕ). x * 2) (mod-eq-of-lt (omega arith)) ∙ ap (λ (x : ℕ). x / 2 * 2) (upper (c .before .before)))
+    let first : c .before .before .before .args .k ≡ 0 = omega arith in
+    rw (eq-eqb _ 0 first)
+    (and-high m 63 1 ∙ ap (λ (x : ℕ). x * 2) (mod-eq-of-lt (omega arith)) ∙ ap (λ (x : ℕ). x / 2 * 2) (upper (c .before .before)))
 
 returns-2 : tie.Need-returns-2
 returns-2 c =
-    let z : 1 - c .before .before .args .k ≡ 0 = omega arith in
-    rw z (upper (c .before) ∙ omega arith)
+    let later : c .before .before .args .k ≢ 0 = λ z. omega arith in
+    rw (ne-eqb _ 0 later) (upper (c .before))
 
 pub masked-spec : {M : Type 1} → statement M
 masked-spec = tie.close (tie.spec (λ c. search needs) (λ c. search needs) returns returns-2)

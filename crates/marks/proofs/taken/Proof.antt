@@ -4,7 +4,6 @@ use Prim.Native.Nat.{ℕ, _≤_, _+_, _-_, _*_, _/_, min}
 use native.Mathlib.Nat.{zero-min}
 use native.Mathlib.Omega.{arith}
 use lib.Count.{ones}
-use borrow.Author.Needs.{needs}
 use Rattle.model.specs.Report.{takenSlots}
 use Rattle.model.specs.Lists.{count}
 use Rattle.marks.specs.Masked.{maskedWord}
@@ -37,7 +36,7 @@ next c =
     let w = c .masked .ensures ∙ ap (λ (x : ℕ). maskedWord x (l .k) (a .slots)) (c .before .word-at .ensures) in
     ap (λ (x : ℕ). x + ones (c .masked .result)) (l .inv .1)
     ∙ ap (λ (x : ℕ). marks ws (min (64 * l .k - 1) (a .slots)) + ones x) w
-    ∙ sym (word-step ws (l .k) (a .slots) (omega arith))
+    ∙ sym (word-step ws (l .k) (a .slots) (omega arith) (omega (arith, c .before .word-at .ensures)))
 
 -- It is no more than there are slots.
 room : (c : tie.After-masked Inv-loop μ-loop) → turn c .loop .n + ones (c .masked .result) ≤ turn c .before .before .args .slots

@@ -8,14 +8,14 @@ use borrow.Author.Tests.{eqb-true}
 use Rattle.word.specs.declared.Anchor.{Anchor}
 use Rattle.word.specs.Anchor.{anchorOf, packAnchor}
 use Rattle.word.specs.Link.{linkOf, packLink, spareOf}
-use Rattle.model.specs.Places.{at10, at5, at6, at7, at9, linkSide, move, row, sideOf}
+use Rattle.model.specs.Places.{at10, at5, at6, at7, at9, endSeen, linkSide, move, row, setLink, sideOf, wordFound}
 use Rattle.model.specs.Route.{answer, goes, onward, popRoute, pushRoute}
 use Rattle.model.specs.Tables.{Tables, atPlace}
 use Rattle.model.specs.declared.Record.{Record}
 use Rattle.model.proofs.tests.Truth.{split}
 use Rattle.model.proofs.machine.Machine as M
 use Rattle.model.proofs.bridge.Decoded.{AnchorRoom, LinkRoom, Seen, route-shared, same-touch}
-use Rattle.model.proofs.bridge.View.{anchorSeen, linkAt, linkSeen, recOf, view}
+use Rattle.model.proofs.bridge.View.{anchorSeen, linkAt, linkSeen, recOf, touchSeen, view}
 use Rattle.model.proofs.bridge.Words.{anchor-back, link-back, same-link-word, same-word, towards-status}
 
 module _ (q : Tables) (r : Record) where
@@ -60,21 +60,29 @@ module _ (q : Tables) (r : Record) where
         (sym (link-back (linkOf (r .link) .tag + 1) s (omega arith) g ∙ (let e : linkOf (r .link) .tag + 1 ≡ suc (linkOf (r .link) .tag) = omega arith in
         λ i. record { tag = e i; slot = s })))
 
+    -- The side is the one that the status as read names: the machine's link is the word that place 9 finds, and the one that it writes.
+    abbrev way : Bool
+    way = M.towards (anchorSeen (r .seen) .status)
+
+    found9 : linkAt q way (r .neighbour) ≡ wordFound q (at 9)
+    unfolding linkSide row sideOf
+    found9 = let z = towards-status (a .status) in split (eqb (a .status) 1) (λ e. rw (z, e)) (λ e. rw (z, e))
+
+    made9 : linkOf (r .link) .tag < 4294967295
+        → M.putLink way (r .neighbour) (record { tag = suc (linkOf (r .link) .tag); slot = M.tip (anchorSeen (r .seen)) way })
+        ≡ touchSeen (setLink (linkSide (at 9)) (row (at 9)) (packLink (record { tag = linkOf (r .link) .tag + 1; slot = endSeen (at 9) })))
+    unfolding linkSide row sideOf
+    made9 h = let z = towards-status (a .status) in
+        split (eqb (a .status) 1) (λ e. rw (z, e) (raised true (a .right) h (omega arith))) (λ e. rw (z, e) (raised false (a .left) h (omega arith)))
+
     pub place9 : LinkRoom q (at 9) → Seen q (at 9)
-    unfolding recOf view move at9 row linkSide sideOf onward pushRoute popRoute goes answer
-    place9 room =
-        let z = towards-status (a .status) in
-        split (eqb (a .status) 1)
-        (λ e. split (eqb (linkAt q true (r .neighbour)) (r .link))
-        (λ g. rw (z, e, link-equal true, g, route-shared 9 (r .kind) 0 refl, e)
-        (same-touch (raised true (a .right) (room (ap (λ (b : Bool). linkAt q b (r .neighbour)) e ∙ eqb-true _ _ g)) (omega arith))))
-        (λ g. split (eqb (r .finishing) 1) (λ j. rw (z, e, link-equal true, g, route-shared 9 (r .kind) 1 refl, j))
-        (λ j. rw (z, e, link-equal true, g, route-shared 9 (r .kind) 1 refl, j, e, j))))
-        (λ e. split (eqb (linkAt q false (r .neighbour)) (r .link))
-        (λ g. rw (z, e, link-equal false, g, route-shared 9 (r .kind) 0 refl, e)
-        (same-touch (raised false (a .left) (room (ap (λ (b : Bool). linkAt q b (r .neighbour)) e ∙ eqb-true _ _ g)) (omega arith))))
-        (λ g. split (eqb (r .finishing) 1) (λ j. rw (z, e, link-equal false, g, route-shared 9 (r .kind) 1 refl, j))
-        (λ j. rw (z, e, link-equal false, g, route-shared 9 (r .kind) 1 refl, j, e, j))))
+    unfolding recOf view move at9 onward pushRoute popRoute goes answer
+    place9 room = split (eqb (wordFound q (at 9)) (r .link))
+        (λ g. rw (link-equal way, found9, g, route-shared 9 (r .kind) 0 refl)
+        (same-touch (made9 (room (ap (λ (b : Bool). linkAt q b (r .neighbour)) (sym (towards-status (a .status))) ∙ found9 ∙ eqb-true _ _ g)))))
+        (λ g. split (eqb (r .finishing) 1)
+        (λ j. rw (link-equal way, found9, g, route-shared 9 (r .kind) 1 refl, j))
+        (λ j. rw (link-equal way, found9, g, route-shared 9 (r .kind) 1 refl, j, j)))
 
   -- The Anchor as read is compared with Anchor as it is.
   module _ (now-status : current .status ≤ 2) (read-status : a .status ≤ 2) where

@@ -21,6 +21,8 @@ use Rattle.model.proofs.machine.Book as B
 use Rattle.model.proofs.machine.Machine as M
 use Rattle.model.proofs.machine.Machine.{upd}
 use Rattle.model.proofs.invariant.Invariant.{Inv}
+use Rattle.model.proofs.invariant.Tasks.{Task}
+use Rattle.model.proofs.places.NoSlot.{Lacks, act-lacks}
 use Rattle.model.proofs.places.Start.{ask-inv, pop-inv, push-inv}
 use Rattle.model.proofs.places.Step.{step-inv, step-stands}
 use Rattle.model.proofs.places.Shown.{Stands}
@@ -144,6 +146,13 @@ module _ (q : Queue) (b : B.Book) (i : Inv (record { state = stateOf q; book = b
     pub step-pooled : isPooled (stepped .tables .control) ≡ isPooled (g .control)
     unfolding finish
     step-pooled = ap (λ (n : ℕ). eqb n 1) (touched-pooled (m .touch) g)
+
+    -- Who answers *no slot* is a push in a pooled queue whose head names none.
+    pub step-lacks : B.isNoSlot (answerSeen reply) ≡ true → (view g .pooled ≡ true) × (view g .head .slot ≡ 0) × (b .calls t .kind ≡ M.push)
+    unfolding stateOf recOf
+    step-lacks =
+        let w = subst (λ (x : M.Rec). Task (x .place) (view g) (i .owner) t x (b .calls t)) (task-of q t (s .lies .known)) (i .tasks t) in
+        subst (Lacks (view g) (b .calls t)) seen (act-lacks (view g) (recOf r) (b .calls t) (i .owner) t (placeOf (r .place)) w) .lacks
 
     -- A push that has its effect stands at the end of its side.
     pub step-told : let k = B.granted (touchSeen (m .touch)) (b .calls t) in

@@ -1,5 +1,5 @@
 -- What a place touches lies within the rows, and a link word that it writes is sound.
-use mathlib.Core.Bool.{Bool, _&&_, _||_, true}
+use mathlib.Core.Bool.{Bool, true}
 use mathlib.Core.Logic.{_≢_}
 use mathlib.Core.Path.{_≡_}
 use Prim.Native.Nat.{_%_, _*_, _+_, _/_, _<_, _^_, _≤_, ℕ}
@@ -9,11 +9,11 @@ use Rattle.word.specs.Link.{linkOf, packLink}
 use Rattle.model.specs.Places.{endSeen, linkSide, move, row, setLink, sideOf}
 use Rattle.model.specs.declared.Control.{Control}
 use Rattle.model.specs.declared.Record.{Record}
-use Rattle.model.proofs.tests.Truth.{by-test, split}
+use Rattle.model.proofs.tests.Truth.{by-test, either, split}
 use Rattle.model.proofs.bridge.ByMove.{by-move}
 use Rattle.model.proofs.bridge.Facts.{RecordFine}
 use Rattle.model.proofs.bridge.Stores.{TouchFine, WordFine}
-use Rattle.model.specs.Kinds.{drawing, giving}
+use Rattle.model.specs.Kinds.{isPush}
 
 -- A packed link word is sound.
 pub word-fine : (slots t n : ℕ) → n ≤ slots → n < 2 ^ 15 → WordFine slots (packLink (record { tag = t; slot = n }))
@@ -32,10 +32,16 @@ module _ (pooled : Bool) (slots : ℕ) (r : Record) (h : RecordFine pooled slots
 
   pub row-fine : row r ≤ slots
   unfolding row
-  row-fine = by-test (λ v. v ≤ slots) (eqb (r .place) 7 || eqb (r .place) 9) (λ e. h .neighbour)
-      (λ e. by-test (λ v. v ≤ slots) (eqb (r .place) 3 && eqb (r .kind) 0) (λ g. h .own)
-      (λ g. by-test (λ v. v ≤ slots) (drawing r) (λ e. h .link)
-      (λ g. by-test (λ v. v ≤ slots) (giving r) (λ e. h .own) (λ e. end-fine))))
+  row-fine =
+      either (λ v. v ≤ slots) (eqb (r .place) 3) (either (λ v. v ≤ slots) (isPush r) (h .own) end-fine)
+      (either (λ v. v ≤ slots) (eqb (r .place) 5) end-fine
+      (either (λ v. v ≤ slots) (eqb (r .place) 7) (h .neighbour)
+      (either (λ v. v ≤ slots) (eqb (r .place) 9) (h .neighbour)
+      (either (λ v. v ≤ slots) (eqb (r .place) 11) end-fine
+      (either (λ v. v ≤ slots) (eqb (r .place) 13) (h .link)
+      (either (λ v. v ≤ slots) (eqb (r .place) 14) (h .link)
+      (either (λ v. v ≤ slots) (eqb (r .place) 16) (h .own)
+      (either (λ v. v ≤ slots) (eqb (r .place) 17) (h .own) (omega arith)))))))))
 
   link-touch : (t : ℕ) → TouchFine pooled slots (setLink (linkSide r) (row r) (packLink (record { tag = t; slot = endSeen r })))
   link-touch t = (row-fine, word-fine slots t (endSeen r) end-fine end-small)

@@ -8,14 +8,16 @@ use borrow.Author.Tests.{eq-eqb, eqb-true}
 use Rattle.word.specs.declared.Anchor.{Anchor}
 use Rattle.word.specs.Anchor.{anchorOf, packAnchor}
 use Rattle.word.specs.Link.{linkOf}
+use Rattle.model.specs.Calls.{entryOf}
+use Rattle.model.specs.Kinds.{isPop}
 use Rattle.model.specs.Places.{at1, at2, at3, at4, linkSide, move, new4, reading, row, sideOf}
 use Rattle.model.specs.Route.{answer, goes, onward, popRoute, pushRoute, route}
-use Rattle.model.specs.Tables.{Tables, atPlace, ofKind}
+use Rattle.model.specs.Tables.{Tables, atPlace, ofKind, withSeen}
 use Rattle.model.specs.declared.Record.{Record}
 use Rattle.model.proofs.tests.Truth.{split}
 use Rattle.model.proofs.machine.Machine as M
 use Rattle.model.proofs.bridge.Decoded.{AnchorRoom, Seen, same-touch}
-use Rattle.model.proofs.bridge.View.{anchorSeen, linkAt, recOf, statusOf, view}
+use Rattle.model.proofs.bridge.View.{anchorSeen, answerSeen, kindOf, linkAt, recOf, statusOf, view}
 use Rattle.model.proofs.bridge.Words.{anchor-back, link-back, same-word, stable-status}
 use Rattle.model.specs.Sides.{facing}
 
@@ -80,18 +82,44 @@ module _ (q : Tables) (r : Record) where
           let z = ap M.putAnchor (sym (anchor-back (a .tag) (a .status) y y (room (eqb-true _ _ e)) read-status h h)) in
           split (eqb (r .side) 1) (λ g. rw g z) (λ g. rw g z)
 
+      -- What a failed change at place p reads, as at 1.
+      abbrev onto : ℕ → ℕ → ℕ
+      onto p k = onward (route p k (reading (isPop (at p k)) current + 1)) (r .finishing)
+
+      abbrev Reads : ℕ → ℕ → Type 0
+      Reads p k = M.one (kindOf k) (view q) (recOf (at p k)) ≡ record {
+        touch = M.none;
+        rec = recOf (goes (withSeen (at p k) now (r .finishing)) (onto p k));
+        answer = answerSeen (answer (onto p k) (entryOf q (at p k)));
+      }
+
+      pushed-reads2 : Reads 2 0
+      unfolding recOf view reading onward route pushRoute popRoute goes answer
+      pushed-reads2 = push-reads null (λ z. rw (z, none-right null z)) (λ z y. rw (z, stable null, y)) (λ z y. rw (z, stable null, y))
+
+      popped-reads2 : Reads 2 1
+      unfolding recOf view reading onward route pushRoute popRoute goes answer
+      popped-reads2 = pop-reads null (λ z. rw (z, none-right null z)) (λ z g. rw (z, g)) (λ g z y. rw (z, g, stable null, y)) (λ g z y. rw (z, g, stable null, y))
+
+      pushed-reads4 : Reads 4 0
+      unfolding recOf view reading onward route pushRoute popRoute goes answer
+      pushed-reads4 = push-reads null (λ z. rw (z, none-right null z)) (λ z y. rw (z, stable null, y)) (λ z y. rw (z, stable null, y))
+
+      popped-reads4 : Reads 4 1
+      unfolding recOf view reading onward route pushRoute popRoute goes answer
+      popped-reads4 = pop-reads null (λ z. rw (z, none-right null z)) (λ z g. rw (z, g)) (λ g z y. rw (z, g, stable null, y)) (λ g z y. rw (z, g, stable null, y))
+
       pub place2-push : r .own < 2 ^ 15 → Seen q (at 2 0)
       unfolding recOf view move at2 reading row linkSide sideOf onward route pushRoute popRoute goes answer
       place2-push h =
           split (eqb now (r .seen)) (λ e. rw (equal, e) (same-touch (both-back (r .own) h e)))
-          (λ e. push-reads null (λ z. rw (equal, e, z, none-right null z)) (λ z y. rw (equal, e, z, stable null, y)) (λ z y. rw (equal, e, z, stable null, y)))
+          (λ e. rw (equal, e) pushed-reads2)
 
       pub place2-pop : Seen q (at 2 1)
       unfolding recOf view move at2 reading row linkSide sideOf onward route pushRoute popRoute goes answer
       place2-pop =
           split (eqb now (r .seen)) (λ e. rw (equal, e) (same-touch (both-back 0 (omega arith) e)))
-          (λ e. pop-reads null (λ z. rw (equal, e, z, none-right null z)) (λ z g. rw (equal, e, z, g))
-          (λ g z y. rw (equal, e, z, g, stable null, y)) (λ g z y. rw (equal, e, z, g, stable null, y)))
+          (λ e. rw (equal, e) popped-reads2)
 
       push-back : r .own < 2 ^ 15 → eqb now (r .seen) ≡ true
           → M.aimed (anchorSeen (r .seen)) (eqb (r .side) 1) (r .own) (M.pushing (eqb (r .side) 1)) ≡ anchorSeen (new4 (at 4 0))
@@ -111,14 +139,13 @@ module _ (q : Tables) (r : Record) where
       unfolding recOf view move at4 reading row linkSide sideOf onward route pushRoute popRoute goes answer
       place4-push h =
           split (eqb now (r .seen)) (λ e. rw (equal, e) (ap (λ (b : M.Anchor). M.runs (M.putAnchor b) (M.finishes (recOf (at 4 0)) b)) (push-back h e)))
-          (λ e. push-reads null (λ z. rw (equal, e, z, none-right null z)) (λ z y. rw (equal, e, z, stable null, y)) (λ z y. rw (equal, e, z, stable null, y)))
+          (λ e. rw (equal, e) pushed-reads4)
 
       pub place4-pop : r .neighbour < 2 ^ 15 → Seen q (at 4 1)
       unfolding recOf view move at4 reading row linkSide sideOf onward route pushRoute popRoute goes answer
       place4-pop h =
           split (eqb now (r .seen)) (λ e. rw (equal, e) (same-touch (ap M.putAnchor (pop-back h e))))
-          (λ e. pop-reads null (λ z. rw (equal, e, z, none-right null z)) (λ z g. rw (equal, e, z, g))
-          (λ g z y. rw (equal, e, z, g, stable null, y)) (λ g z y. rw (equal, e, z, g, stable null, y)))
+          (λ e. rw (equal, e) popped-reads4)
 
   pub place3-push : ((b : Bool) → linkOf (linkAt q b (r .own)) .tag < 2 ^ 32) → Seen q (at 3 0)
   unfolding recOf view move at3 row linkSide sideOf onward route pushRoute popRoute goes answer

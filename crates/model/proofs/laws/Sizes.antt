@@ -16,7 +16,7 @@ use Rattle.model.specs.Places.{Touch, nothing, setAnchor, setLink, clear
 use Rattle.model.specs.Refusals.{Lent, among, recordsFit, stepRefusal, pushRefusal, popRefusal, putRefusal}
 use Rattle.model.specs.Calls.{Acted, decide, pushStart, popStart, putStart, finish, step, actOn, act, opened, stacked}
 use Rattle.model.proofs.tests.Truth.{either}
-use Rattle.model.proofs.laws.Lengths.{Lengths, act-lengths, lengths}
+use Rattle.model.proofs.laws.Lengths.{Lengths, act-lengths}
 use Rattle.model.proofs.lists.Range.{length-climb}
 use Rattle.model.specs.Lists.{zeroed, every}
 

@@ -7,10 +7,11 @@ use Prim.Native.Nat.{suc, ℕ}
 use native.Mathlib.Omega.{arith}
 use lib.Dec.{eqb}
 use lib.ListN.{set}
-use borrow.Author.Tests.{eq-eqb, eqb-false, eqb-true, ne-eqb}
+use borrow.Author.Tests.{eq-eqb, eqb-true, ne-eqb}
 use Rattle.word.specs.Anchor.{anchorOf}
 use Rattle.model.specs.Calls.{Acted, Done, act, actOn, back, finish, popStart, pushStart, putStart, step}
-use Rattle.model.specs.History.{Call, Event, Ledger, Request, accept, attend, begins, final, ledgerFrom, note, over, run}
+use Rattle.model.specs.Deque.{saysNoSlot}
+use Rattle.model.specs.History.{Call, Event, Ledger, Request, accept, attend, begins, final, isEffect, ledgerFrom, note, over, run, toldEntry}
 use Rattle.model.specs.Places.{wordFound, move}
 use Rattle.model.specs.Refusals.{among, popRefusal, pushRefusal, putRefusal, stepRefusal}
 use Rattle.model.specs.Tables.{Queue, asking, isPooled, recordAt, started, taskAt, unused, withCall, taken}
@@ -22,7 +23,7 @@ use Rattle.model.specs.declared.Op.{Op}
 use Rattle.model.specs.declared.Outcome.the-variants.{Moved, Refused}
 use Rattle.model.specs.declared.Record.{Record}
 use Rattle.model.specs.declared.TaskRecord.{TaskRecord}
-use Rattle.model.proofs.tests.Truth.{by-test, decide-eq}
+use Rattle.model.proofs.tests.Truth.{by-test, decide-eq, not-both}
 use Rattle.model.proofs.lists.Store.{set-back}
 use Rattle.model.proofs.machine.Answers.{EndsAt}
 use Rattle.model.proofs.machine.Book as B
@@ -33,13 +34,14 @@ use Rattle.model.proofs.invariant.Invariant.{Inv}
 use Rattle.model.proofs.bridge.Accepted.{Lies, Pushing, Stepping, pop-accepted, push-accepted, put-accepted, step-accepted}
 use Rattle.model.proofs.bridge.Decoded.{seenMove}
 use Rattle.model.proofs.bridge.Facts.{LinksFine}
-use Rattle.model.proofs.bridge.Operations.{not-idle, pop-keeps, push-keeps, put-back, put-keeps, reply, step-ends, step-grants}
+use Rattle.model.proofs.bridge.Operations.{not-idle, pop-keeps, push-keeps, put-back, put-keeps, reply, step-ends, step-grants, step-lacks}
 use Rattle.model.proofs.bridge.Operations.{step-keeps, step-links, step-pooled, step-task, step-told, stepped, task-of}
 use Rattle.model.proofs.bridge.View.{anchorSeen, answerSeen, kindOf, placeOf, recOf, stateOf, touchSeen, view}
 use Rattle.model.proofs.ledger.Attended.{Attended, attend-keeps, bookAfter, goingOn}
 use Rattle.model.proofs.ledger.Matched.{Matched, busyNo}
 use Rattle.model.proofs.ledger.Matches.{Final, Matches, Names, Tracks, matches-granted, opens, rest-keeps, tracks-mono}
 use Rattle.model.proofs.ledger.Served.{Told, effect-is, no-slot-is}
+use Rattle.model.proofs.unsound.Suits.{kind-push}
 use Rattle.model.specs.Lists.{All}
 
 goes-on : (a : Answer) (b : Bool) → EndsAt (answerSeen a) b → goingOn a ≡ busyNo b
@@ -61,21 +63,27 @@ kept-head b t w (Popped e) h f = h .0
 kept-head b t w NoSlot h f = h .0
 
 -- The end that an effect sets at a push's side is the slot that the ledger tells: the one named, if one was.
-told-end : (c : Call) (k : B.Call) (ev : Event) (a : Answer) (p : Bool) → k .side ≡ eqb (c .side) 1 → Names p (k .slot) (c .entry .slot)
+told-end : (c : Call) (k : B.Call) (ev : Event) (a : Answer) (p : Bool) → k .side ≡ eqb (c .side) 1
+    → Names p (c .named) (k .slot) (c .entry .slot)
     → (B.effect (anchorSeen (ev .before)) (anchorSeen (ev .after)) (answerSeen a) ≡ true → B.isNoSlot (answerSeen a) ≡ false → k .kind ≡ M.push
     → M.tip (anchorSeen (ev .after)) (k .side) ≡ k .slot)
-    → Told c k ev a
-told-end c k ev a p side names f e z y = by-test (λ x. k .slot ≡ x) (eqb (c .entry .slot) 0)
-    (λ _. sym (f (effect-is ev a ∙ e) (no-slot-is a ∙ z) y) ∙ ap (λ (d : Bool). M.tip (anchorSeen (ev .after)) d) side ∙ end (eqb (c .side) 1))
+    → isEffect ev a ≡ true → saysNoSlot a ≡ false → k .kind ≡ M.push → k .slot ≡ toldEntry c ev .slot
+told-end c k ev a p side names f e z y = by-test (λ x. k .slot ≡ x) (c .named)
     (λ w. named p w names)
+    (λ _. sym (f (effect-is ev a ∙ e) (no-slot-is a ∙ z) y) ∙ ap (λ (d : Bool). M.tip (anchorSeen (ev .after)) d) side ∙ end (eqb (c .side) 1))
   where
     end : (d : Bool) → M.tip (anchorSeen (ev .after)) d ≡ cond d (anchorOf (ev .after) .right) (anchorOf (ev .after) .left)
     end false = refl
     end true = refl
 
-    named : (p : Bool) → eqb (c .entry .slot) 0 ≡ false → Names p (k .slot) (c .entry .slot) → k .slot ≡ c .entry .slot
+    named : (p : Bool) → c .named ≡ true → Names p (c .named) (k .slot) (c .entry .slot) → k .slot ≡ c .entry .slot
     named false w n = n
-    named true w n = absurd (eqb-false _ _ w n)
+    named true w n = absurd (not-both w n)
+
+-- In a pooled queue no start names a slot.
+unnamed-call : (c : Call) (k : B.Call) (p : Bool) → p ≡ true → Names p (c .named) (k .slot) (c .entry .slot) → c .named ≡ false
+unnamed-call c k false e n = absurd (not-both e refl)
+unnamed-call c k true e n = n
 
 module _ (n : ℕ) (q : Queue) (l : Ledger) (g : Matched n q l) (t : ℕ) where
   abbrev r : Record
@@ -142,8 +150,15 @@ module _ (n : ℕ) (q : Queue) (l : Ledger) (g : Matched n q l) (t : ℕ) where
     unfolding view
     ready c m =
         let m′ = matches-granted (isPooled (q .tables .control)) n c (b .calls t)
-        (touchSeen (move (q .tables .control) r (wordFound (q .tables) r) .touch)) (step-grants q b (g .inv) (g .links) t s (b .calls t)) m in
-        (m′, told-end c k ev a (isPooled (q .tables .control)) (m′ .side) (m′ .slot) (step-told q b (g .inv) (g .links) t s))
+        (touchSeen (move (q .tables .control) r (wordFound (q .tables) r) .touch)) (step-grants q b (g .inv) (g .links) t s (b .calls t)) m in (
+          m′,
+          record {
+            slot = told-end c k ev a (isPooled (q .tables .control)) (m′ .side) (m′ .slot) (step-told q b (g .inv) (g .links) t s);
+            lacks = λ z.
+                let y = step-lacks q b (g .inv) (g .links) t s (no-slot-is a ∙ z) in
+                (eq-eqb _ _ (kind-push (c .kind) (sym (m .kind) ∙ y .2)), unnamed-call c (b .calls t) (isPooled (q .tables .control)) (y .0) (m .slot));
+          },
+        )
 
     attended : Attended (isPooled (q .tables .control)) n b t k ev a (l .calls) (attend n ev a (l .deque) (l .calls))
     attended = subst (λ d. Attended (isPooled (q .tables .control)) n b t k ev a (l .calls) (attend n ev a d (l .calls))) (g .deque)
@@ -180,14 +195,14 @@ module _ (n : ℕ) (q : Queue) (l : Ledger) (g : Matched n q l) (t : ℕ) where
     was-idle = g .busy t ∙ ap (λ (x : M.Rec). busyNo (M.isIdle (x .place))) (task-of q t (z .known))
         ∙ ap (λ (p : ℕ). busyNo (M.isIdle (placeOf p))) free
 
-    begun : (q′ : Queue) (new : Record) (kind side : ℕ) (e : Entry) → M.isIdle (recOf new .place) ≡ false
+    begun : (q′ : Queue) (new : Record) (kind side : ℕ) (named : Bool) (e : Entry) → M.isIdle (recOf new .place) ≡ false
         → isPooled (q′ .tables .control) ≡ isPooled (q .tables .control)
-        → ((u : ℕ) → stateOf q′ .task u ≡ upd (stateOf q .task) t (recOf new) u) → Names (isPooled (q .tables .control)) (e .slot) (e .slot)
+        → ((u : ℕ) → stateOf q′ .task u ≡ upd (stateOf q .task) t (recOf new) u) → Names (isPooled (q .tables .control)) named (e .slot) (e .slot)
         → Inv (record { state = stateOf q′; book = B.begun (g .book) t (B.bookedCall (kindOf kind) (eqb side 1) (e .slot) (e .label)) })
         → LinksFine (q′ .tables)
-        → Matched (suc n) q′ (over (begins n t kind side e) l)
+        → Matched (suc n) q′ (over (begins n t kind side named e) l)
     unfolding recOf
-    begun q′ new kind side e up p is names i k =
+    begun q′ new kind side named e up p is names i k =
         let c = B.bookedCall (kindOf kind) (eqb side 1) (e .slot) (e .label) in
         let w = isPooled (q .tables .control) in
         record {
@@ -195,8 +210,8 @@ module _ (n : ℕ) (q : Queue) (l : Ledger) (g : Matched n q l) (t : ℕ) where
           inv = i;
           links = k;
           deque = g .deque;
-          tracks = subst (λ p. Tracks p (suc n) (upd (g .book .calls) t c) (begins n t kind side e ∷ l .calls)) (sym p) (
-            subst (Matches w (suc n) (begins n t kind side e)) (sym (upd-same (g .book .calls) t c))
+          tracks = subst (λ p. Tracks p (suc n) (upd (g .book .calls) t c) (begins n t kind side named e ∷ l .calls)) (sym p) (
+            subst (Matches w (suc n) (begins n t kind side named e)) (sym (upd-same (g .book .calls) t c))
                 (record { kind = refl; side = refl; slot = names; label = refl; begun = omega arith; count = refl; last = tt }),
             rest-keeps w n (g .book .calls) (upd (g .book .calls) t c) t (λ u z. upd-other (g .book .calls) t c u z) (l .calls) was-idle (g .tracks),
           );
@@ -214,7 +229,7 @@ module _ (n : ℕ) (q : Queue) (l : Ledger) (g : Matched n q l) (t : ℕ) where
             ∙ ap (λ (x : M.Rec). busyNo (M.isIdle (x .place))) (sym (is u ∙ upd-other (stateOf q .task) t (recOf new) u z))
 
     -- A start that names no slot, or takes none.
-    unnamed : (p : Bool) → Names p 0 0
+    unnamed : (p : Bool) → Names p false 0 0
     unnamed false = refl
     unnamed true = refl
 
@@ -224,7 +239,7 @@ module _ (n : ℕ) (q : Queue) (l : Ledger) (g : Matched n q l) (t : ℕ) where
 
     pop-good : (side : ℕ) → Puts (Pop side) (record { tables = q .tables; task = put (started 1 side 0 0); outcome = Moved (Running 1) })
     unfolding note accept recOf
-    pop-good side = begun (record { tables = q .tables; records = set (q .records) t (put (started 1 side 0 0)) }) (started 1 side 0 0) 1 side
+    pop-good side = begun (record { tables = q .tables; records = set (q .records) t (put (started 1 side 0 0)) }) (started 1 side 0 0) 1 side false
         (record { slot = 0; label = 0 }) refl refl
         (replaced (started 1 side 0 0)) (unnamed (isPooled (q .tables .control))) (pop-keeps q (g .book) (g .inv) (g .links) t z free side) (g .links)
 
@@ -234,7 +249,7 @@ module _ (n : ℕ) (q : Queue) (l : Ledger) (g : Matched n q l) (t : ℕ) where
       outcome = Moved (Running 12);
     })
     unfolding note accept recOf
-    put-good side y p = begun (record { tables = q .tables; records = set (q .records) t (put (asking side y)) }) (asking side y) 0 side
+    put-good side y p = begun (record { tables = q .tables; records = set (q .records) t (put (asking side y)) }) (asking side y) 0 side false
         (record { slot = 0; label = y }) refl refl
         (replaced (asking side y)) (unnamed (isPooled (q .tables .control))) (put-keeps q (g .book) (g .inv) (g .links) t z free side y p) (g .links)
 
@@ -245,8 +260,8 @@ module _ (n : ℕ) (q : Queue) (l : Ledger) (g : Matched n q l) (t : ℕ) where
     })
     unfolding note accept stateOf recOf
     push-good side x y p = begun (record { tables = taken (q .tables) x y; records = set (q .records) t (put (started 0 side x y)) })
-        (started 0 side x y) 0 side (record { slot = x; label = y }) refl refl
-        (replaced (started 0 side x y)) (subst (λ b. Names b x x) (sym (p .named)) refl)
+        (started 0 side x y) 0 side true (record { slot = x; label = y }) refl refl
+        (replaced (started 0 side x y)) (subst (λ b. Names b true x x) (sym (p .named)) refl)
         (push-keeps q (g .book) (g .inv) (g .links) t z free side x y (p .real) (p .within) (p .named) (p .unmarked))
         (record { spare = g .links .spare; tag = g .links .tag; slot = g .links .slot; next = g .links .next; head = g .links .head })
 

@@ -62,15 +62,15 @@ Last n c k (e ∷ l) = Latest n c k e
 
 -- In a named queue a call's slot is the one that its start named, in the book as in the ledger. In a pooled queue a start names none; the book
 -- has the slot once it is drawn.
-abbrev pub Names : Bool → ℕ → ℕ → Type 0
-Names false x y = x ≡ y
-Names true x y = y ≡ 0
+abbrev pub Names : Bool → Bool → ℕ → ℕ → Type 0
+Names false named x y = x ≡ y
+Names true named x y = named ≡ false
 
 -- An open call, before position n, and the one in the book.
 pub record Matches (p : Bool) (n : ℕ) (c : Call) (k : B.Call) : Type 0 where
   pub kind : k .kind ≡ kindOf (c .kind)
   pub side : k .side ≡ eqb (c .side) 1
-  pub slot : Names p (k .slot) (c .entry .slot)
+  pub slot : Names p (c .named) (k .slot) (c .entry .slot)
   pub label : k .label ≡ c .entry .label
   pub begun : c .start < n
   pub count : k .effects ≡ length (c .effects)

@@ -6,7 +6,7 @@ use Prim.Native.Nat.{suc, ℕ}
 use native.Mathlib.Omega.{arith}
 use lib.Dec.{eqb}
 use Rattle.model.specs.Deque.{Served, saysNoSlot, serve, serveFor, servePop, servePush, takeFirst}
-use Rattle.model.specs.History.{Call, Effect, Ending, Event, Ledger, continued, ended, isEffect, stepOf, toldEntry}
+use Rattle.model.specs.History.{Call, Effect, Ending, Event, Ledger, continued, ended, isEffect, lacksSlot, stepOf, toldEntry}
 use Rattle.model.specs.declared.Answer.the-variants.{Empty, NoSlot, Popped, Pushed, Running}
 use Rattle.model.specs.declared.Answer.{Answer}
 use Rattle.model.specs.declared.Entry.{Entry}
@@ -70,14 +70,15 @@ last-other : (n : ℕ) (c : Call) (k : B.Call) (l : List Effect) (e : Ending) (m
 last-other n c k [] e m h = tt
 last-other n c k (x ∷ l) e m h = record { told = h .told; final = h .final; begun = h .begun; past = h .past }
 
--- A push that the deque serves has the slot that the ledger tells.
-abbrev pub Told : Call → B.Call → Event → Answer → Type 0
-Told c k ev a = isEffect ev a ≡ true → saysNoSlot a ≡ false → k .kind ≡ M.push → k .slot ≡ toldEntry c ev .slot
+-- A push that the deque serves has the slot that the ledger tells, and who is answered *no slot* is a push that named none.
+pub record Told (c : Call) (k : B.Call) (ev : Event) (a : Answer) : Type 0 where
+  pub slot : isEffect ev a ≡ true → saysNoSlot a ≡ false → k .kind ≡ M.push → k .slot ≡ toldEntry c ev .slot
+  pub lacks : saysNoSlot a ≡ true → (eqb (c .kind) 0 ≡ true) × (c .named ≡ false)
 
 module _ (p : Bool) (n : ℕ) (ev : Event) (a : Answer) (d : List Entry) (c : Call) (k : B.Call) (h : Matches p n c k) (cs : List Call)
     (t : Told c k ev a) where
   abbrev s : Served
-  s = serveFor a (c .kind) (c .side) (toldEntry c ev) d
+  s = serveFor (lacksSlot c a) (c .kind) (c .side) (toldEntry c ev) d
 
   abbrev w : B.Noted
   w = cond (saysNoSlot a) (record { call = B.told k M.noSlot; queue = d }) (B.served (k .kind) k d)
@@ -88,9 +89,9 @@ module _ (p : Bool) (n : ℕ) (ev : Event) (a : Answer) (d : List Entry) (c : Ca
   agrees : isEffect ev a ≡ true → Agrees c k d s w
   unfolding serve serveFor
   agrees e = split (saysNoSlot a)
-      (λ z. rw z (record { deque = refl; told = refl; final = tt; call = refl }))
+      (λ z. rw (z, t .lacks z .0, t .lacks z .1) (record { deque = refl; told = refl; final = tt; call = refl }))
       (λ z. rw z (subst (λ y. Agrees c k d (serve (c .kind) (c .side) (toldEntry c ev) d) (B.served y k d)) (sym (h .kind))
-      (serve-is c k (toldEntry c ev) (h .side) (h .label) d (eqb (c .kind) 0) (λ y. t e z (h .kind ∙ kind-is (eqb (c .kind) 0) y)))))
+      (serve-is c k (toldEntry c ev) (h .side) (h .label) d (eqb (c .kind) 0) (λ y. t .slot e z (h .kind ∙ kind-is (eqb (c .kind) 0) y)))))
 
   with-effect : isEffect ev a ≡ true → Stepped p n a c cs w (record {
     deque = s .deque;

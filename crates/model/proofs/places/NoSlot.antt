@@ -2,7 +2,7 @@
 -- (Line 15. A program that loses slots, or answers *no slot* at will, is linearizable all the same.)
 use mathlib.Core.Bool.{Bool, false, true}
 use mathlib.Core.Logic.{_≢_, _⊎_, inl, inr}
-use mathlib.Core.Path.{_≡_, refl, subst, sym}
+use mathlib.Core.Path.{_∙_, _≡_, refl, subst, sym}
 use Prim.Native.Nat.{_≤_, ℕ}
 use lib.Dec.{eqb}
 use Rattle.model.proofs.tests.Truth.{by-test, not-both}
@@ -88,55 +88,55 @@ no-slot p i e z x nz le = used p i x (λ g. none-free pool z x nz le g)
     pool : Pool (s .slots) (s .next) (s .head .slot) (i .owner)
     pool = subst (λ b. Spare b (s .slots) (s .next) (s .head .slot) (i .owner)) e (i .whole .spare)
 
--- Who answers *no slot* has just read a head that names none.
-pub record Lacks (s : Shared) (m : Move) : Type 0 where
-  pub lacks : isNoSlot (m .answer) ≡ true → (s .pooled ≡ true) × (s .head .slot ≡ 0)
+-- Who answers *no slot* is a push, and has just read a head that names none.
+pub record Lacks (s : Shared) (c : Call) (m : Move) : Type 0 where
+  pub lacks : isNoSlot (m .answer) ≡ true → (s .pooled ≡ true) × (s .head .slot ≡ 0) × (c .kind ≡ push)
 
-module _ (s : Shared) (r : Rec) where
-  other : {m : Move} → isNoSlot (m .answer) ≡ false → Lacks s m
+module _ (s : Shared) (r : Rec) (c : Call) where
+  other : {m : Move} → isNoSlot (m .answer) ≡ false → Lacks s c m
   other e = record { lacks = λ z. absurd (not-both z e) }
 
-  lacks-leave : (g : Touch) → Lacks s (leave g r)
-  lacks-leave g = by-test (Lacks s) (r .finishing) (λ e. other refl) (λ e. other refl)
+  lacks-leave : (g : Touch) → Lacks s c (leave g r)
+  lacks-leave g = by-test (Lacks s c) (r .finishing) (λ e. other refl) (λ e. other refl)
 
-  lacks1 : (k : Kind) → Lacks s (one k s r)
-  lacks1 push = by-test (Lacks s) (eqb (s .anchor .left) 0) (λ e. other refl)
-      (λ e. by-test (Lacks s) (isStable (s .anchor .status)) (λ e. other refl) (λ e. other refl))
-  lacks1 pop = by-test (Lacks s) (eqb (s .anchor .left) 0) (λ e. other refl)
-      (λ e. by-test (Lacks s) (eqb (s .anchor .left) (s .anchor .right)) (λ e. other refl)
-      (λ e. by-test (Lacks s) (isStable (s .anchor .status)) (λ e. other refl) (λ e. other refl)))
+  lacks1 : (k : Kind) → Lacks s c (one k s r)
+  lacks1 push = by-test (Lacks s c) (eqb (s .anchor .left) 0) (λ e. other refl)
+      (λ e. by-test (Lacks s c) (isStable (s .anchor .status)) (λ e. other refl) (λ e. other refl))
+  lacks1 pop = by-test (Lacks s c) (eqb (s .anchor .left) 0) (λ e. other refl)
+      (λ e. by-test (Lacks s c) (eqb (s .anchor .left) (s .anchor .right)) (λ e. other refl)
+      (λ e. by-test (Lacks s c) (isStable (s .anchor .status)) (λ e. other refl) (λ e. other refl)))
 
-  lacks2 : (k : Kind) → Lacks s (two k s r)
-  lacks2 push = by-test (Lacks s) (same (r .read) (s .anchor)) (λ e. other refl) (λ e. lacks1 push)
-  lacks2 pop = by-test (Lacks s) (same (r .read) (s .anchor)) (λ e. other refl) (λ e. lacks1 pop)
+  lacks2 : (k : Kind) → Lacks s c (two k s r)
+  lacks2 push = by-test (Lacks s c) (same (r .read) (s .anchor)) (λ e. other refl) (λ e. lacks1 push)
+  lacks2 pop = by-test (Lacks s c) (same (r .read) (s .anchor)) (λ e. other refl) (λ e. lacks1 pop)
 
-  lacks3 : (k : Kind) → Lacks s (three k s r)
+  lacks3 : (k : Kind) → Lacks s c (three k s r)
   lacks3 push = other refl
   lacks3 pop = other refl
 
-  lacks4 : (k : Kind) → Lacks s (four k s r)
-  lacks4 push = by-test (Lacks s) (same (r .read) (s .anchor)) (λ e. other refl) (λ e. lacks1 push)
-  lacks4 pop = by-test (Lacks s) (same (r .read) (s .anchor)) (λ e. other refl) (λ e. lacks1 pop)
+  lacks4 : (k : Kind) → Lacks s c (four k s r)
+  lacks4 push = by-test (Lacks s c) (same (r .read) (s .anchor)) (λ e. other refl) (λ e. lacks1 push)
+  lacks4 pop = by-test (Lacks s c) (same (r .read) (s .anchor)) (λ e. other refl) (λ e. lacks1 pop)
 
-  pub act-lacks : (h : ℕ → Owner) (t : ℕ) (c : Call) (p : Place) → Task p s h t r c → Lacks s (act p s r)
-  act-lacks h t c idle w = other refl
-  act-lacks h t c at1 w = lacks1 (r .kind)
-  act-lacks h t c at2 w = lacks2 (r .kind)
-  act-lacks h t c at3 w = lacks3 (r .kind)
-  act-lacks h t c at4 w = lacks4 (r .kind)
-  act-lacks h t c at5 w = other refl
-  act-lacks h t c at6 w = by-test (Lacks s) (same (r .read) (s .anchor)) (λ e. other refl) (λ e. lacks-leave none)
-  act-lacks h t c at7 w = by-test (Lacks s) (eqb (s .link (towards (r .read .status)) (r .near) .slot) (tip (r .read) (towards (r .read .status))))
+  pub act-lacks : (h : ℕ → Owner) (t : ℕ) (p : Place) → Task p s h t r c → Lacks s c (act p s r)
+  act-lacks h t idle w = other refl
+  act-lacks h t at1 w = lacks1 (r .kind)
+  act-lacks h t at2 w = lacks2 (r .kind)
+  act-lacks h t at3 w = lacks3 (r .kind)
+  act-lacks h t at4 w = lacks4 (r .kind)
+  act-lacks h t at5 w = other refl
+  act-lacks h t at6 w = by-test (Lacks s c) (same (r .read) (s .anchor)) (λ e. other refl) (λ e. lacks-leave none)
+  act-lacks h t at7 w = by-test (Lacks s c) (eqb (s .link (towards (r .read .status)) (r .near) .slot) (tip (r .read) (towards (r .read .status))))
       (λ e. other refl) (λ e. other refl)
-  act-lacks h t c at8 w = by-test (Lacks s) (same (r .read) (s .anchor)) (λ e. other refl) (λ e. lacks-leave none)
-  act-lacks h t c at9 w = by-test (Lacks s) (sameLink (r .link) (s .link (towards (r .read .status)) (r .near))) (λ e. other refl)
+  act-lacks h t at8 w = by-test (Lacks s c) (same (r .read) (s .anchor)) (λ e. other refl) (λ e. lacks-leave none)
+  act-lacks h t at9 w = by-test (Lacks s c) (sameLink (r .link) (s .link (towards (r .read .status)) (r .near))) (λ e. other refl)
       (λ e. lacks-leave none)
-  act-lacks h t c at10 w = by-test (Lacks s) (same (r .read) (s .anchor)) (λ e. lacks-leave (putAnchor (settled (r .read)))) (λ e. lacks-leave none)
-  act-lacks h t c at11 w = by-test (Lacks s) (s .pooled) (λ e. other refl) (λ e. other refl)
-  act-lacks h t c (draw at12) w = by-test (Lacks s) (exhausted (s .head)) (λ e. record { lacks = λ _. (w .0, exhausted-true (s .head) e) })
+  act-lacks h t at10 w = by-test (Lacks s c) (same (r .read) (s .anchor)) (λ e. lacks-leave (putAnchor (settled (r .read)))) (λ e. lacks-leave none)
+  act-lacks h t at11 w = by-test (Lacks s c) (s .pooled) (λ e. other refl) (λ e. other refl)
+  act-lacks h t (draw at12) w = by-test (Lacks s c) (exhausted (s .head)) (λ e. record { lacks = λ _. (w .0, exhausted-true (s .head) e, w .1 .agrees .kind ∙ w .1 .kind) })
       (λ e. other refl)
-  act-lacks h t c (draw at13) w = other refl
-  act-lacks h t c (draw at14) w = by-test (Lacks s) (sameLink (r .link) (s .head)) (λ e. other refl) (λ e. other refl)
-  act-lacks h t c (give at15) w = other refl
-  act-lacks h t c (give at16) w = other refl
-  act-lacks h t c (give at17) w = by-test (Lacks s) (sameLink (r .link) (s .head)) (λ e. other refl) (λ e. other refl)
+  act-lacks h t (draw at13) w = other refl
+  act-lacks h t (draw at14) w = by-test (Lacks s c) (sameLink (r .link) (s .head)) (λ e. other refl) (λ e. other refl)
+  act-lacks h t (give at15) w = other refl
+  act-lacks h t (give at16) w = other refl
+  act-lacks h t (give at17) w = by-test (Lacks s c) (sameLink (r .link) (s .head)) (λ e. other refl) (λ e. other refl)

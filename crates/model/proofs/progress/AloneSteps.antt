@@ -11,7 +11,7 @@ use Rattle.model.specs.Calls.{Acted, Done, act, actOn, back, finish, ste
 use Rattle.model.specs.History.{Ledger}
 use Rattle.model.specs.Places.{Move, wordFound, move}
 use Rattle.model.specs.Progress.{AnsweredWithin, Busy, limit}
-use Rattle.model.specs.Solo.{soloRun}
+use Rattle.model.specs.Solo.{soloRun, soloSteps}
 use Rattle.model.specs.Refusals.{among, stepRefusal}
 use Rattle.model.specs.Route.{goes, counted}
 use Rattle.model.specs.Tables.{Queue, Tables, recordAt, taskAt, unused}
@@ -132,8 +132,8 @@ module _ (n : ℕ) (q : Queue) (l : Ledger) (g : Matched n q l) (f : Safe q) (po
 module _ (pooled : Bool) (tasks : ℕ) where
   -- Within j steps, where it owes no more.
   pub solo-answers : (j n : ℕ) (q : Queue) → Reached pooled tasks q → (t : ℕ) → Busy q t
-      → aloneOf pooled (kindOf (recordAt q t .kind)) t (stateOf q) ≤ j → j ≤ n → AnsweredWithin j (soloRun n q t)
-  unfolding soloRun
+      → aloneOf pooled (kindOf (recordAt q t .kind)) t (stateOf q) ≤ j → j ≤ n → AnsweredWithin j (soloSteps n q t)
+  unfolding soloSteps
   solo-answers zero n q z t b le more =
       absurd (omega (arith, alone-within pooled (kindOf (recordAt q t .kind)) (stateOf q .shared) (stateOf q .task t) .0))
   solo-answers (suc j) zero q z t b le more = absurd (omega (arith, more))
@@ -156,8 +156,8 @@ module _ (pooled : Bool) (tasks : ℕ) where
         subst (λ v. aloneOf pooled (kindOf v) t (stateOf (d .queue)) ≤ j) (sym (x .kind e)) (omega (arith, x .less e)),
       )
 
-      run-on : (a : Answer) → x .answer ≡ a → (answerSeen (x .answer) ≡ M.running → AnsweredWithin j (soloRun n (d .queue) t))
-          → AnsweredWithin (suc j) (soloRun (suc n) q t)
+      run-on : (a : Answer) → x .answer ≡ a → (answerSeen (x .answer) ≡ M.running → AnsweredWithin j (soloSteps n (d .queue) t))
+          → AnsweredWithin (suc j) (soloSteps (suc n) q t)
       run-on (Running p) e ih =
           let h = ih (ap answerSeen e) in
           rw (x .moved ∙ ap Moved e) (record { answered = h .answered; within = omega (arith, h .within) })
@@ -169,7 +169,10 @@ module _ (pooled : Bool) (tasks : ℕ) where
   -- 18 steps for a push, 13 for a pop, in a pooled queue 21 and 16.
   pub solo-within : (q : Queue) → Reached pooled tasks q → (t n : ℕ) → Busy q t → limit pooled (recordAt q t .kind) ≤ n
       → AnsweredWithin (limit pooled (recordAt q t .kind)) (soloRun n q t)
-  solo-within q z t n b more = solo-answers _ n q z t b (enough pooled (recordAt q t .kind)) more
+  unfolding soloRun
+  solo-within q z t n b more =
+      let x = step-nearer (z .position) q (z .ledger) (z .matched) (z .safe) pooled tasks (z .roomy) t b in
+      rw (x .moved) (solo-answers _ n q z t b (enough pooled (recordAt q t .kind)) more)
     where
       within : (way : Bool) (k : M.Kind) → aloneOf way k t (stateOf q) ≤ spend way k + 11 + cond (draws way k) 3 0
       within way k = alone-within way k (stateOf q .shared) (stateOf q .task t) .1

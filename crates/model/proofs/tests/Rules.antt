@@ -5,9 +5,9 @@ use mathlib.Core.Logic.{_≢_}
 use mathlib.Core.Path.{_∙_, _≡_, ap, refl, sym}
 use Prim.Native.Nat.{ℕ}
 use lib.Dec.{eqb}
-use borrow.Author.Tests.{eqb-false, not-true}
+use borrow.Author.Tests.{eq-eqb, eqb-false, not-true}
 use Rattle.model.specs.Refusals.{Rule, first}
-use Rattle.model.proofs.tests.Truth.{and-true}
+use Rattle.model.proofs.tests.Truth.{and-true, not-both}
 use Rattle.model.specs.Lists.{All, every}
 
 -- One fact after another: the facts of a list, which end with tt.
@@ -38,6 +38,15 @@ cleared (r ∷ l) n e = let z = and-true (not (eqb (r .number) 0)) (numbered l) 
         → (r .applies ≡ false) × All (λ (r : Rule). r .applies ≡ false) l
     go true a z f = absurd (eqb-false _ _ (not-true _ z) (ap (λ (b : Bool). cond b (r .number) (first l)) (sym a) ∙ e))
     go false a z f = (a, f (ap (λ (b : Bool). cond b (r .number) (first l)) (sym a) ∙ e))
+
+-- A number is not the answer where no rule with it applies.
+pub never : (n : ℕ) (l : List Rule) → n ≢ 0 → All (λ (r : Rule). eqb (r .number) n && r .applies ≡ false) l → first l ≢ n
+never n [] z h = λ e. z (sym e)
+never n (r ∷ l) z h = go (r .applies) (h .0) (never n l z (h .1))
+  where
+    go : (b : Bool) → eqb (r .number) n && b ≡ false → first l ≢ n → cond b (r .number) (first l) ≢ n
+    go true a f = λ e. not-both (ap (λ (b : Bool). b && true) (eq-eqb _ _ e)) a
+    go false a f = f
 
 -- Of two lists of rules the first one's number counts, unless none of its rules applies.
 pub first-passed : (l m : List Rule) → numbered l ≡ true → first l ≡ 0 → first (l ++ m) ≡ first m

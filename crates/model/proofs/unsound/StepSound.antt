@@ -2,7 +2,7 @@
 use mathlib.Core.Bool.{Bool, _||_, cond, false, not, true}
 use mathlib.Core.Logic.{_≢_}
 use mathlib.Core.Path.{_∙_, _≡_, ap, refl, subst, sym}
-use Prim.Native.Nat.{_+_, _≤_, suc, ℕ}
+use Prim.Native.Nat.{_+_, _<_, _≤_, suc, ℕ}
 use native.Mathlib.Omega.{arith}
 use lib.Dec.{eqb, leb}
 use borrow.Author.Tests.{eq-eqb, eqb-true, le-leb, ne-eqb}
@@ -30,7 +30,7 @@ use Rattle.model.proofs.bridge.Facts.{AnchorFine, ControlFine, RecordFi
 use Rattle.model.proofs.bridge.Operations.{step-seen-keeps, task-of}
 use Rattle.model.proofs.bridge.Room.{room-testing}
 use Rattle.model.proofs.bridge.Touches.{beyond, row-fine}
-use Rattle.model.proofs.bridge.View.{anchorSeen, placeOf, recOf, stateOf, view}
+use Rattle.model.proofs.bridge.View.{anchorSeen, linkAt, placeOf, recOf, stateOf, view}
 use Rattle.model.proofs.ledger.Matched.{Matched}
 use Rattle.model.proofs.tags.AnchorTag.{Light, light}
 use Rattle.model.proofs.tags.Bounds.{room-bounded}
@@ -167,18 +167,27 @@ module _ (n : ℕ) (q : Queue) (l : Ledger) (g : Matched n q l) (f : Safe q) (t 
         (λ y x. refl)
         (r .place) busy (h .place) own-task own-extra
 
-    -- What it finds there: a link word up to 10, a next at 13.
-    pub met-link : r .place ≤ 10 → (spareOf (wordFound G r) ≡ 0) × (linkOf (wordFound G r) .slot ≤ G .control .slots)
+    -- What it finds there: up to 10 a link word, or 0 for none; at 13 a next.
+    abbrev LinkWord : ℕ → Type 0
+    LinkWord w = (spareOf w ≡ 0) × (linkOf w .slot ≤ G .control .slots)
+
+    pub met-link : r .place ≤ 10 → LinkWord (wordFound G r)
     met-link le =
         let e = row-fine (isPooled (G .control)) (G .control .slots) r h in
         let d = eqb (linkSide r) 1 in
-        rw (ne-eqb (r .place) 11 (λ z. omega arith), ne-eqb (r .place) 13 (λ z. omega arith))
-        (g .links .spare d (row r) e, g .links .slot d (row r) e)
+        let link : LinkWord (linkAt G d (row r)) = (g .links .spare d (row r) e, g .links .slot d (row r) e) in
+        by-test LinkWord (eqb (r .place) 3) (λ z. link)
+        (λ z. by-test LinkWord (eqb (r .place) 5) (λ z. link)
+        (λ z. by-test LinkWord (eqb (r .place) 7) (λ z. link)
+        (λ z. by-test LinkWord (eqb (r .place) 9) (λ z. link)
+        (λ z. by-test LinkWord (eqb (r .place) 11) (λ z. absurd (omega (arith, eqb-true (r .place) 11 z)))
+        (λ z. by-test LinkWord (eqb (r .place) 13) (λ z. absurd (omega (arith, eqb-true (r .place) 13 z))) (λ z. (refl, omega arith)))))))
 
     pub met-next : r .place ≡ 13 → wordFound G r ≤ G .control .slots
     met-next e =
         let p : isPooled (G .control) ≡ true = beyond (isPooled (G .control)) (G .control .slots) r h (omega arith) in
-        rw (ne-eqb (r .place) 11 (λ z. omega arith), eq-eqb (r .place) 13 e)
+        let other : (n : ℕ) → n < 13 → eqb (r .place) n ≡ false = λ n l. ne-eqb (r .place) n (λ z. omega arith) in
+        rw (other 3 (omega arith), other 5 (omega arith), other 7 (omega arith), other 9 (omega arith), other 11 (omega arith), eq-eqb (r .place) 13 e)
         (g .links .next p (row r) (row-fine (isPooled (G .control)) (G .control .slots) r h))
 
     link-test : not (meetsLink r) || linkSound (G .control .slots) (wordFound G r) ≡ true

@@ -1,7 +1,7 @@
 use mathlib.Core.Bool.{true}
 use mathlib.Core.List.{List, []}
-use mathlib.Core.Path.{refl, sym, ap, subst, _∙_}
-use Prim.Native.Nat.{ℕ, _≤_}
+use mathlib.Core.Path.{sym, ap, _∙_}
+use Prim.Native.Nat.{ℕ}
 use lib.ListN.{length}
 use borrow.Author.Tests.{not-true, not-false}
 use Rattle.model.specs.Tables.{Tables, tablesOf}
@@ -10,8 +10,9 @@ use Rattle.sound.specs.Lengths.{lengthsFit}
 use Rattle.sheet_model.specs.Extents.{Extents}
 use Rattle.sheet_model.specs.Sheet.{Sheet}
 use Rattle.sheet_model.specs.Squares.{linked, byteRow, crossed}
-use Rattle.sheet_model.specs.Verdict.{refused, inRows, sheet}
-use Rattle.sheet_model.proofs.ByteRows.{bytes, bytes-show, square-marks, square-long}
+use Rattle.sheet_model.specs.Verdict.{refused, sheet}
+use Rattle.sheet_model.specs.Search.{inRows}
+use Rattle.sheet_model.proofs.ByteRows.{bytes, bytes-show, square-marks}
 use Rattle.sheet_model.proofs.Broken.{formed}
 use Rattle.sheet_model.proofs.Judged.{Accepted, slots-few, accepted, judge-early, judge-lost, judge-told}
 use borrow.Author.Needs.{needs}
@@ -51,34 +52,23 @@ returns-2 c next =
     c .refused2 .ensures ∙ judge-lost (queue (go .before) next) (asked (go .before)) true (fine go next)
     (ap (λ (x : Extents). x .sound) (sym (walked .extents .ensures)) ∙ not-true _ (c .before .if2 .taken))
 
-closure-requires : tie.Need-closure-requires
-closure-requires c κs =
-    let walked = c .before .before .before .before in
-    let go = walked .before .before .before in
-    let f = formed (asked (go .before)) (fine go [] .form) in
-    (refl, f .few, f .inside)
-
 first-broken-requires : tie.Need-first-broken-requires
 first-broken-requires c κs =
-    let closed = c .before .before in
-    let sound = closed .before .before in
-    let walked = sound .before .before .before in
-    let go = walked .before .before .before in (
-      subst (λ (l : List (List ℕ)). 32 ≤ length l) (sym (closed .closure .ensures)) (square-long _),
-      formed (asked (go .before)) (fine go [] .form) .few,
-    )
+    let walked = c .before .before .before in
+    let go = walked .before .before .before in
+    let f = formed (asked (go .before)) (fine go [] .form) in
+    (f .few, f .inside)
 
 returns-3 : tie.Need-returns-3
 unfolding sheet
 returns-3 c next =
-    let closed = c .before .before .before in
-    let sound = closed .before .before in
+    let sound = c .before in
     let walked = sound .before .before .before in
     let go = walked .before .before .before in
     let s = asked (go .before) in
     let n = length (s .listed) in
     let x = walked .extents .ensures in
-    let f = closed .closure .ensures ∙ square-marks (linked (s .rules) n) in
+    let f = square-marks (linked (s .rules) n) in
     c .first-broken .ensures ∙ (λ i. inRows (crossed byteRow (f i) (x i .low) (x i .high)) n 1 n)
     ∙ judge-told (queue (go .before) next) s true (fine go next) byteRow bytes bytes-show []
     (ap (λ (y : Extents). y .sound) (sym x) ∙ not-false _ (sound .if2 .left))
@@ -95,8 +85,5 @@ sheet-spec =
     extents-requires
     (λ c κs. search needs)
     returns-2
-    (λ c. search needs)
-    closure-requires
-    (λ c. search needs)
     first-broken-requires
     returns-3)

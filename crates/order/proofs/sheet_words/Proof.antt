@@ -14,7 +14,8 @@ use Rattle.sheet_model.specs.Extents.{Extents}
 use Rattle.sheet_model.specs.declared.SheetReply.{SheetReply}
 use Rattle.sheet_model.specs.Sheet.{Sheet}
 use Rattle.sheet_model.specs.Squares.{bitRow, crossed, wordsOf}
-use Rattle.sheet_model.specs.Verdict.{refused, inRows}
+use Rattle.sheet_model.specs.Verdict.{refused}
+use Rattle.sheet_model.specs.Search.{inRows}
 use Rattle.sheet_model.proofs.BitRows.{bits, bits-show, words-long}
 use Rattle.sheet_model.proofs.Broken.{formed}
 use Rattle.sheet_model.proofs.Judged.{Accepted, slots-few, accepted, judge-early, judge-lost, judge-told}

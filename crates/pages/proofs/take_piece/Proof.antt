@@ -1,5 +1,5 @@
 -- What is left of the pages leads from here to where all of them lead from the first byte. What is left of the bytes falls.
-use mathlib.Core.Path.{_≡_, refl, sym, ap, _∙_}
+use mathlib.Core.Path.{_≡_, refl, sym, ap, subst, _∙_}
 use Prim.Native.Nat.{_-_}
 use native.Mathlib.Omega.{arith}
 use borrow.Author.Needs.{needs}
@@ -7,6 +7,7 @@ use lib.ListN.{length}
 use Rattle.carry.specs.Page.{Page, pageOf}
 use Rattle.replay.specs.Pieces.{pagesOf}
 use borrow.Author.Tests.{not-true, not-false}
+use Rattle.pages.specs.Some.{Some, none, more}
 use Rattle.replay.proofs.PageLoop.{pages-rest, pages-last, pages-ended}
 use Rattle.pages.proofs.PieceLoop.{still-when, moved-when, went-on}
 use Rattle.pages.proofs.take_piece.Statement.{statement}
@@ -18,6 +19,7 @@ Inv-loop bytes out₀ rows₀ lefts₀ rights₀ labels₀ marks₀ next₀ q₀
     ≡ pagesOf bytes (pageOf q₀ out₀ rows₀ lefts₀ rights₀ labels₀ marks₀ next₀) .page)
     × (length out ≡ length out₀) × (length rows ≡ length rows₀) × (length lefts ≡ length lefts₀) × (length rights ≡ length rights₀)
     × (length labels ≡ length labels₀) × (length marks ≡ length marks₀) × (length next ≡ length next₀)
+    × Some bytes (pageOf q₀ out₀ rows₀ lefts₀ rights₀ labels₀ marks₀ next₀) (pageOf q out rows lefts rights labels marks next)
 
 abbrev μ-loop : tie.MeasureT-loop
 μ-loop bytes out₀ rows₀ lefts₀ rights₀ labels₀ marks₀ next₀ q₀ out rows lefts rights labels marks next q = length bytes - q .at
@@ -43,12 +45,17 @@ module _ (c : tie.After-struct-known2 Inv-loop μ-loop) where
       lists .before .before .before .before
 
 returns : tie.Need-returns Inv-loop μ-loop
-returns c = λ written.
-    let turn = done (c .before) in
-    let took = turn .take-page .ensures in
-    let still = still-when _ _ _ (c .if2 .taken) written in
-    took ∙ pages-last _ _ (not-true _ (test (c .before) .if1 .taken)) (ap (λ (x : Page). x .at) (sym took) ∙ still)
-    ∙ test (c .before) .before .before .loop .inv .0
+returns c = (
+  λ written.
+      let turn = done (c .before) in
+      let took = turn .take-page .ensures in
+      let still = still-when _ _ _ (c .if2 .taken) written in
+      took ∙ pages-last _ _ (not-true _ (test (c .before) .if1 .taken)) (ap (λ (x : Page). x .at) (sym took) ∙ still)
+      ∙ test (c .before) .before .before .loop .inv .0,
+  let turn = done (c .before) in
+      let inv = test (c .before) .before .before .loop .inv in
+      subst (Some _ _) (sym (turn .take-page .ensures)) (more _ (inv .8) (not-true _ (test (c .before) .if1 .taken))),
+)
 
 loop-less : tie.Need-loop-less Inv-loop μ-loop
 loop-less c =
@@ -74,10 +81,11 @@ loop-again c =
       kept .1 .1 .1 .1 .0 ∙ inv .5,
       kept .1 .1 .1 .1 .1 .0 ∙ inv .6,
       kept .1 .1 .1 .1 .1 .1 .0 ∙ inv .7,
+      subst (Some bytes _) (sym took) (more _ (inv .8) (not-true _ (test (c .before) .if1 .taken))),
     )
 
 returns-2 : tie.Need-returns-2 Inv-loop μ-loop
-returns-2 c = λ written. pages-ended _ _ (not-false _ (c .if1 .left)) ∙ c .before .before .loop .inv .0
+returns-2 c = (λ written. pages-ended _ _ (not-false _ (c .if1 .left)) ∙ c .before .before .loop .inv .0, c .before .before .loop .inv .8)
 
 pub take-piece-spec : {M : Type 1} → statement M
 take-piece-spec =
@@ -85,7 +93,7 @@ take-piece-spec =
     (tie.spec
     Inv-loop
     μ-loop
-    (λ c. (refl, refl, refl, refl, refl, refl, refl, refl))
+    (λ c. (refl, refl, refl, refl, refl, refl, refl, refl, none))
     (λ c κs. search needs)
     (λ c. done (c .before) .take-page .kept .1 .1 .0 ∙ test (c .before) .before .before .loop .inv .1)
     (λ c. done (c .before) .take-page .kept .1 .1 .1 .0 ∙ test (c .before) .before .before .loop .inv .2)

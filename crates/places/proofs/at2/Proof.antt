@@ -1,46 +1,17 @@
--- `step2`, with what the calls answer put in; the change is denied or made.
-use mathlib.Core.Path.{sym, _∙_}
-use borrow.Author.Tests.{not-true, not-false}
-use borrow.Author.Needs.{needs}
-use Rattle.model.specs.Route.{route}
-use Rattle.places.specs.Ending.{anchorRead, failing}
-use Rattle.places.proofs.Anchors.{Tries, denies, makes, step2}
+-- Anchor is as read, and the change is `change2`; or it is not, and the change has failed.
+use Rattle.places.proofs.Anchors.{failed2}
 use Rattle.places.proofs.at2.Statement.{statement}
 use Rattle.places.proofs.at2.Tie as tie
 
-module _ (b : tie.After-facing) where
-  abbrev a : tie.Start
-  a = let d = b .before .before .before in d .before .before .before
-
-  tried : Tries 2 (a .args .c) (a .args .r) (b .facing .result) (a .args .r) (route 2 (a .args .r .kind) 0) (failing (anchorRead (a .args .c) (a .args .r)))
-  tried =
-      let d = b .before .before .before in
-      step2 (a .args .c) (a .args .r) (d .choose .result) (b .facing .result) (d .choose .ensures)
-      (rw (d .before .before .unpack .ensures, b .before .raised .ensures) at (b .facing .ensures))
-
 returns : tie.Need-returns
-returns c same =
-    let m = c .before .before in
-    rw (c .refused .ensures) (denies (tried (m .before)) same (sym (m .may-change .ensures) ∙ not-true _ (c .before .if1 .taken)))
+returns c = c .change2 .ensures (c .before .if1 .taken)
 
 returns-2 : tie.Need-returns-2
-returns-2 c same =
-    let m = c .before .before .before .before in
-    rw (c .settles .ensures, c .before .next .ensures, c .before .before .with-anchor .ensures)
-    (makes (tried (m .before)) same (sym (m .may-change .ensures) ∙ not-false _ (c .before .before .before .if1 .left)))
+returns-2 c =
+    let read = c .before in
+    let other = read .before in
+    let a = other .before .before .before .args in
+    rw (c .fails .ensures, read .reads-anchor .ensures) (failed2 (a .c) (a .r) (other .if1 .left))
 
 pub at2-spec : {M : Type 1} → statement M
-at2-spec =
-    tie.close
-    (tie.spec
-    (λ _ _. tt)
-    (λ _ _. tt)
-    (λ _ _. tt)
-    (λ _ _. tt)
-    (λ _ _. tt)
-    (λ _ _. tt)
-    returns
-    (λ _ _. tt)
-    (λ c κs. search needs)
-    (λ _ _. tt)
-    returns-2)
+at2-spec = tie.close (tie.spec (λ _ _. tt) returns (λ _ _. tt) (λ _ _. tt) returns-2)

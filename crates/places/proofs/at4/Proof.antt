@@ -1,59 +1,17 @@
--- `step4`, with what the calls answer put in; the change is denied or made.
-use mathlib.Core.Path.{sym, _∙_}
-use borrow.Author.Tests.{not-true, not-false}
-use borrow.Author.Needs.{needs}
-use Rattle.model.specs.Route.{route}
-use Rattle.places.specs.Ending.{anchorRead, failing, remembered}
-use Rattle.places.proofs.Anchors.{Tries, denies, makes, step4}
+-- Anchor is as read, and the change is `change4`; or it is not, and the change has failed.
+use Rattle.places.proofs.Anchors.{failed4}
 use Rattle.places.proofs.at4.Statement.{statement}
 use Rattle.places.proofs.at4.Tie as tie
 
-module _ (b : tie.After-facing) where
-  abbrev a : tie.Start
-  a =
-      let p = b .before .before .before in
-      let d = p .before .before in
-      d .before .before .before .before
-
-  tried :
-      (let new = b .facing .result in
-      Tries 4 (a .args .c) (a .args .r) new (remembered (a .args .r) new) (route 4 (a .args .r .kind) 0) (failing (anchorRead (a .args .c) (a .args .r))))
-  tried =
-      let p = b .before .before .before in
-      let d = p .before .before in
-      step4 (a .args .c) (a .args .r) (b .before .before .choose .result) (b .before .choose2 .result) (b .facing .result)
-      (rw (p .pushing .ensures, d .before .before .unpack .ensures) at (b .before .before .choose .ensures))
-      (b .before .choose2 .ensures)
-      (rw (d .raised .ensures, d .before .far .ensures, d .before .before .unpack .ensures) at (b .facing .ensures))
-
 returns : tie.Need-returns
-returns c same =
-    let m = c .before .before in
-    rw (c .refused .ensures) (denies (tried (m .before)) same (sym (m .may-change .ensures) ∙ not-true _ (c .before .if1 .taken)))
+returns c = c .change4 .ensures (c .before .if1 .taken)
 
 returns-2 : tie.Need-returns-2
-returns-2 c same =
-    let w = c .before .before .before in
-    let m = w .before .before in
-    rw (c .settles .ensures, c .before .next .ensures, c .before .before .remembers .ensures, w .with-anchor .ensures)
-    (makes (tried (m .before)) same (sym (m .may-change .ensures) ∙ not-false _ (w .before .if1 .left)))
+returns-2 c =
+    let read = c .before in
+    let other = read .before in
+    let a = other .before .before .before .args in
+    rw (c .fails .ensures, read .reads-anchor .ensures) (failed4 (a .c) (a .r) (other .if1 .left))
 
 pub at4-spec : {M : Type 1} → statement M
-at4-spec =
-    tie.close
-    (tie.spec
-    (λ _ _. tt)
-    (λ _ _. tt)
-    (λ _ _. tt)
-    (λ _ _. tt)
-    (λ _ _. tt)
-    (λ _ _. tt)
-    (λ _ _. tt)
-    (λ _ _. tt)
-    (λ _ _. tt)
-    returns
-    (λ _ _. tt)
-    (λ _ _. tt)
-    (λ c κs. search needs)
-    (λ _ _. tt)
-    returns-2)
+at4-spec = tie.close (tie.spec (λ _ _. tt) returns (λ _ _. tt) (λ _ _. tt) returns-2)

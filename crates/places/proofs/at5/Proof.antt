@@ -1,24 +1,15 @@
 -- `step5`, with what the calls answer put in.
-use borrow.Author.Needs.{needs}
 use Rattle.places.proofs.OnRows.{step5}
 use Rattle.places.proofs.at5.Statement.{statement}
 use Rattle.places.proofs.at5.Tie as tie
 
 returns : tie.Need-returns
 returns c =
-    let end = c .before .before .before in
+    let end = c .before .before in
     let anchor = end .before .before in
     let a = anchor .before .before .before .args in
-    rw (c .reads-neighbour .ensures, c .before .next .ensures, c .before .before .link-at .ensures, end .near .ensures, anchor .unpack .ensures)
+    rw (c .at5 .ensures, c .before .link-at .ensures, end .near .ensures, anchor .unpack .ensures)
     (step5 (a .c) (a .r) (a .lefts .now) (a .rights .now))
 
 pub at5-spec : {M : Type 1} → statement M
-at5-spec =
-    tie.close
-    (tie.spec
-    (λ _ _. tt)
-    (λ _ _. tt)
-    (λ _ _. tt)
-    (λ c κs. search needs)
-    (λ _ _. tt)
-    returns)
+at5-spec = tie.close (tie.spec (λ _ _. tt) (λ _ _. tt) (λ _ _. tt) (λ _ _. tt) returns)

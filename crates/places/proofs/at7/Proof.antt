@@ -1,32 +1,13 @@
 -- `step7`, with what the calls answer put in.
-use borrow.Author.Needs.{needs}
 use Rattle.places.proofs.OnRows.{step7}
 use Rattle.places.proofs.at7.Statement.{statement}
 use Rattle.places.proofs.at7.Tie as tie
 
 returns : tie.Need-returns
 returns c =
-    let end = c .before .before .before .before in
-    let anchor = end .before .before in
+    let anchor = c .before .before .before in
     let a = anchor .before .before .before .args in
-    rw (
-      c .reads-link .ensures,
-      c .before .next2 .ensures,
-      c .before .before .next .ensures,
-      c .before .before .before .link-at .ensures,
-      end .near .ensures,
-      anchor .unpack .ensures,
-    )
-    (step7 (a .c) (a .r) (a .lefts .now) (a .rights .now))
+    rw (c .at7 .ensures, c .before .link-at .ensures, anchor .unpack .ensures) (step7 (a .c) (a .r) (a .lefts .now) (a .rights .now))
 
 pub at7-spec : {M : Type 1} → statement M
-at7-spec =
-    tie.close
-    (tie.spec
-    (λ _ _. tt)
-    (λ _ _. tt)
-    (λ _ _. tt)
-    (λ c κs. search needs)
-    (λ c κs. search needs)
-    (λ _ _. tt)
-    returns)
+at7-spec = tie.close (tie.spec (λ _ _. tt) (λ _ _. tt) (λ _ _. tt) returns)

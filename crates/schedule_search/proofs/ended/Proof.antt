@@ -1,11 +1,6 @@
 -- Nothing more to step.
-use mathlib.Core.Path.{_≡_, refl}
-use mathlib.Core.Bool.{Bool, true}
-use Prim.Native.Nat.{ℕ}
+use mathlib.Core.Path.{refl}
 use native.Mathlib.Nat.{add-zero}
-use Rattle.schedule_model.specs.Schedules.{ends}
-use Rattle.schedule_model.specs.Search.{ended}
-use Rattle.schedule_search.specs.Sought.{foundOf}
 use Rattle.schedule_search.proofs.ended.Statement.{statement}
 use Rattle.schedule_search.proofs.ended.Tie as tie
 

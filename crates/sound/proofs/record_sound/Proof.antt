@@ -1,10 +1,23 @@
--- The two parts are the definition's tests.
-use Rattle.sound.specs.Records.{parts}
+-- Idle, beyond 10, or at 1 to 10.
+use mathlib.Core.Path.{sym, _∙_}
+use native.Mathlib.Omega.{arith}
+use borrow.Author.Tests.{eq-eqb}
+use Rattle.sound.proofs.Parts.{idle-sound}
+use Rattle.sound.proofs.Early.{early}
+use Rattle.sound.proofs.Late.{late}
 use Rattle.sound.proofs.record_sound.Statement.{statement}
 use Rattle.sound.proofs.record_sound.Tie as tie
 
 returns : tie.Need-returns
-returns c = rw (c .before .reads-sound .ensures, c .before .before .call-sound .ensures) (parts _ _ _)
+returns c = sym (idle-sound _ _ _ (eq-eqb _ _ (c .if1 .taken)))
+
+returns-2 : tie.Need-returns-2
+returns-2 c = c .late-sound .ensures ∙ late _ _ _ (c .before .if2 .taken)
+
+returns-3 : tie.Need-returns-3
+returns-3 c =
+    let beyond = c .before in
+    c .early-sound .ensures ∙ early _ _ (beyond .if2 .left) _ (let busy = beyond .before .before .if1 .left in omega arith)
 
 pub record-sound-spec : {M : Type 1} → statement M
-record-sound-spec = tie.close (tie.spec (λ _ _. tt) (λ _ _. tt) returns)
+record-sound-spec = tie.close (tie.spec returns (λ _ _. tt) returns-2 (λ _ _. tt) returns-3)

@@ -109,7 +109,7 @@ returns-3 c =
       (
         kept r,
         (
-          (λ w. piece-round _ _ _ _ _ _ (order r) (within-new r) some (kept r) (done .ensures (not-false _ w))),
+          (λ w. piece-round _ _ _ _ _ _ (order r) (within-new r) some (kept r) (done .ensures .0 (not-false _ w))),
           (λ w. some-read _ _ (done .result .state .over) (order r) some),
         ),
       ),

@@ -1,12 +1,11 @@
 -- With i slots ahead: what is still to be stored, beside what is, comes to what the call owes.
-use mathlib.Core.Path.{_≡_, refl, sym, ap, _∙_}
+use mathlib.Core.Path.{_≡_, refl, ap, _∙_}
 use mathlib.Core.List.{List}
-use Prim.Native.Nat.{ℕ, suc, _≤_, _+_, _-_}
+use Prim.Native.Nat.{ℕ, suc, _-_}
 use native.Mathlib.Omega.{arith}
 use lib.ListN.{getD, length, length-set}
 use Rattle.word.specs.declared.Link.{Link}
 use Rattle.word.specs.Link.{linkOf}
-use Rattle.model.specs.declared.Entry.{Entry}
 use Rattle.waiting.specs.Waiting.{slotsOf, labelsOf}
 use Rattle.waiting.specs.Trail.{trail, downward}
 use Rattle.waiting.proofs.Storing.{down-more, down-last}

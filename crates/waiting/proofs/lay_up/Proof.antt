@@ -1,13 +1,12 @@
 -- With i slots stored: what is still to be stored, beside what is, comes to what the call owes.
-use mathlib.Core.Path.{_≡_, refl, sym, ap, _∙_}
+use mathlib.Core.Path.{_≡_, refl, ap, _∙_}
 use mathlib.Core.List.{List}
-use Prim.Native.Nat.{ℕ, suc, _≤_, _+_, _-_}
+use Prim.Native.Nat.{ℕ, _≤_, _-_}
 use native.Mathlib.Omega.{arith}
 use lib.ListN.{getD, length, length-set}
 use lib.Seq.{sets}
 use Rattle.word.specs.declared.Link.{Link}
 use Rattle.word.specs.Link.{linkOf}
-use Rattle.model.specs.declared.Entry.{Entry}
 use Rattle.waiting.specs.Waiting.{slotsOf, labelsOf}
 use Rattle.waiting.specs.Trail.{trail}
 use Rattle.waiting.proofs.Storing.{up-first, up-more, up-last}

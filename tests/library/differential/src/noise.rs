@@ -102,7 +102,7 @@ pub fn noise(tally: &mut Tally, dice: &mut Dice, scenes: u32) {
         };
         let mut scene = Scene::draw(dice, Wanted::any(export), 1);
         if let Call::Run { most, .. } = &mut scene.call {
-            *most = dice.between(0, 25);
+            *most = dice.pick(&[0, 1, 2, 25]);
         }
         spoil_control(dice, &mut scene);
         spoil_record(dice, &mut scene);

@@ -1,4 +1,3 @@
-use mathlib.Core.Path.{refl}
 use Rattle.audit_model.specs.Audit.{apart}
 use Rattle.audit.proofs.calls.apart.Statement.{statement}
 use Rattle.audit.proofs.calls.apart.Tie as tie

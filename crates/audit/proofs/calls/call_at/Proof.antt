@@ -1,5 +1,4 @@
 -- The seven words of a call.
-use mathlib.Core.Path.{_∙_}
 use borrow.Author.Needs.{needs}
 use Rattle.audit.proofs.WordsRead.{read-is}
 use Rattle.audit.proofs.calls.call_at.Statement.{statement}

@@ -1,4 +1,3 @@
-use mathlib.Core.Path.{refl}
 use Rattle.audit_model.specs.Audit.{wellFormed}
 use Rattle.audit.proofs.calls.well_formed.Statement.{statement}
 use Rattle.audit.proofs.calls.well_formed.Tie as tie

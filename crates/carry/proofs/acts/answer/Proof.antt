@@ -1,4 +1,4 @@
--- The record is put back, and the line written.
+-- The line is written.
 use native.Mathlib.Omega.{arith}
 use borrow.Author.Needs.{needs}
 use Rattle.carry.specs.Page.{written, answered}
@@ -11,9 +11,8 @@ unfolding answered written
 returns c =
     let told = c .before .before in
     let event = told .before .before in
-    let put = event .before .before in
     let w = put-fits _ _ _ _ _ (omega arith) (told .write-line .ensures .0) in (
-      λ ls rs bs ms ns. rw (w .stop, w .stored, event .wrapping-add-u64 .ensures, put .put-acted .ensures .0, put .put-acted .ensures .1),
+      λ rows rows′ ls rs bs ms ns ls′ rs′ bs′ ms′ ns′ eu. rw (w .stop, w .stored, event .wrapping-add-u64 .ensures, eu),
       told .write-line .ensures .1,
     )
 
@@ -23,7 +22,5 @@ answer-spec =
     (tie.spec
     (λ c κs. search needs)
     (λ c κs. search needs)
-    (λ c κs. search needs)
-    (λ c. search needs)
     (λ c. search needs)
     returns)

@@ -14,7 +14,7 @@ use Rattle.model.specs.declared.TaskRecord.{TaskRecord}
 use Rattle.model.specs.declared.Outcome.{Outcome}
 use Rattle.model.specs.declared.Outcome.the-variants.{Refused}
 use Rattle.model.specs.declared.Op.the-variants.{Step}
-use Rattle.deque.specs.declared.Stepped.{Stepped}
+use Rattle.rows.specs.declared.value.Stepped.{Stepped}
 use Rattle.model.specs.Tables.{Tables, Queue, taskAt, unused}
 use Rattle.model.specs.Sound.{rowsFit}
 use Rattle.model.specs.Refusals.{among}

@@ -57,11 +57,11 @@ use Rattle.model.proofs.TaskRecord as T
 use Rattle.model.proofs.TaskRecord.Laws as T′
 use Rattle.model.proofs.Outcome as E
 use Rattle.model.proofs.Outcome.Laws as E′
-use Rattle.deque.proofs.Stepped as N
-use Rattle.deque.proofs.Stepped.Laws as N′
+use Rattle.rows.proofs.value.Stepped as N
+use Rattle.rows.proofs.value.Stepped.Laws as N′
 use Rattle.sound.proofs.admission.admit.Symbol.{name as #sound·admission·admit}
 use Rattle.engine.proofs.refuse.Symbol.{name as #engine·refuse}
-use Rattle.deque.proofs.move_on.Symbol.{name as #deque·move-on}
+use Rattle.rows.proofs.value.move_on.Symbol.{name as #rows·value·move-on}
 use Rattle.deque.proofs.step as self
 use Rattle.deque.proofs.step.Code as code
 use Rattle.deque.proofs.step.Code.Mir as body
@@ -130,7 +130,7 @@ module _ {M : Type 1} (𝓤 : URA M) (H : Heap 𝓤) (A : Atoms 𝓤) (W : Given
   module _ (C : Calls 𝓤 H) (Λ : Loops 𝓤 H) where
     module _ (fm : FmC 𝓤 H (W .laws) C) (known-admit : Triple 𝓤 (C #sound·admission·admit) (Admit 𝓤 H A at-mem run))
         (known-refuse : Triple 𝓤 (C #engine·refuse) (Refuse 𝓤 H A at-mem run))
-        (known : Triple 𝓤 (C #deque·move-on) (Move 𝓤 H A moveOn)) where
+        (known : Triple 𝓤 (C #rows·value·move-on) (Move 𝓤 H A moveOn)) where
       pub walk : Room T.the-row n → Room u64 (length (x1 .now)) → Room u64 (length (x2 .now)) → Room u32 (length (x3 .now)) → Room u64 (length (x4 .now))
           → Room u64 (length (x5 .now))
           → ent 𝓤 (onEntry 𝓤 H A self.signature (κc, (κr, κs)) (qc, (qr, qs)) a vals)

@@ -5,7 +5,6 @@ use mathlib.Core.List.{[], _∷_}
 use Prim.Native.Nat.{_/_}
 use lib.Dec.{ltb}
 use lib.ListN.{length}
-use borrow.Author.Needs.{needs}
 use Rattle.model.specs.Tables.{Queue, queueOf}
 use Rattle.model.specs.Sound.{controlSound}
 use Rattle.model.specs.Walk.{contents}

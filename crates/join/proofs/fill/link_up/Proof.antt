@@ -1,9 +1,10 @@
 -- After k turns k slots are linked and marked.
 use mathlib.Core.Path.{_≡_, refl, ap, _∙_}
 use mathlib.Core.List.{List}
-use Prim.Native.Nat.{ℕ, _≤_, _-_}
+use Prim.Native.Nat.{ℕ, _≤_, _-_, _+_}
 use native.Mathlib.Omega.{arith}
 use lib.ListN.{length}
+use Rattle.word.specs.Link.{packLink}
 use Rattle.join_model.specs.Closed.{filled, leftOf, markedTo}
 use Rattle.join_model.proofs.Filling.{filled-length, marked-length}
 use Rattle.join.specs.Scratch.{rightTo}
@@ -23,12 +24,16 @@ Inv-loop n lefts₀ rights₀ marks₀ k₀ lefts rights marks k = Kept n lefts�
 abbrev μ-loop : tie.MeasureT-loop
 μ-loop n lefts₀ rights₀ marks₀ k₀ lefts rights marks k = n - k
 
+-- The word that names k, never changed.
+named : (k : ℕ) → k ≤ 1023 → packLink (record { tag = 0; slot = k }) ≡ leftOf (k + 1)
+named k h = omega arith
+
 -- The places of a turn.
 abbrev lefts-put : tie.After-put-word2 Inv-loop μ-loop → tie.After-put-word Inv-loop μ-loop
 lefts-put r = r .before .before .before .before
 
 abbrev turn : tie.After-put-word Inv-loop μ-loop → tie.At-loop Inv-loop μ-loop
-turn p = p .before .before .before .before
+turn p = p .before .before .before .before .before
 
 abbrev start : tie.At-loop Inv-loop μ-loop → tie.Start Inv-loop μ-loop
 start l = l .before .before .before .before
@@ -42,9 +47,12 @@ loop-again c =
     let a = start l .args in
     let k = l .loop .k in
     let inv = l .loop .inv in
+    let test = p .before .before .before .before .loop-test in
+    let below : k ≤ 1023 = omega (arith, test .taken, start l .pre) in
     record {
-      few = omega (arith, p .before .before .before .loop-test .taken);
-      left = p .put-word .ensures ∙ filled-more leftOf k (a .lefts .now) (l .loop .lefts) k (inv .left) (omega arith);
+      few = omega (arith, test .taken);
+      left = p .put-word .ensures
+          ∙ filled-more leftOf k (a .lefts .now) (l .loop .lefts) _ (inv .left) (p .before .before .before .link-word .ensures ∙ named k below);
       right = r .put-word2 .ensures ∙ filled-more (rightTo (a .n)) k (a .rights .now) (l .loop .rights) _ (inv .right) (p .before .before .right-word .ensures);
       mark = m .set-mark .ensures ∙ marked-more k (a .marks .now) (l .loop .marks) (inv .mark);
     }
@@ -78,6 +86,7 @@ link-up-spec =
     μ-loop
     (λ c. record { few = omega arith; left = refl; right = refl; mark = refl })
     (λ c. omega arith)
+    (λ _ _. tt)
     (λ c κs. omega arith)
     (λ _ _. tt)
     (λ _ _. tt)

@@ -1,6 +1,6 @@
 -- What a side picks, mirrored: the opposite side picks the same of the mirrored tables.
 use mathlib.Core.Path.{_≡_, refl, ap, ap₂, _∙_}
-use mathlib.Core.Bool.{Bool, true, false, _&&_, _||_, not, cond}
+use mathlib.Core.Bool.{Bool, true, false, _||_, not, cond}
 use mathlib.Core.List.{List}
 use Prim.Native.Nat.{ℕ, zero, suc, _<_}
 use native.Mathlib.Omega.{arith}
@@ -16,7 +16,7 @@ use Rattle.model.specs.Places.{sideOf, endSeen, row, linkSide, wordFound
 use Rattle.model.specs.Mirror.{mirrorSide, mirrorStatus, mirrorAnchor, mirrorTables, mirrorBusy}
 use Rattle.model.proofs.laws.Mirror.Packed.{mirror-fields}
 use Rattle.model.specs.Sides.{opposite, near, far, facing, links, pushing, named}
-use Rattle.model.specs.Kinds.{drawing, giving, helping, isPush}
+use Rattle.model.specs.Kinds.{helping, isPush}
 
 -- A side enters by one test alone.
 module _ (d : ℕ) where
@@ -95,8 +95,16 @@ module _ (r : Record) where
 
     pub row-mirror : row (mirrorBusy r) ≡ row r
     unfolding row
-    row-mirror = ap (λ (x : ℕ). cond (eqb (r .place) 7 || eqb (r .place) 9) (r .neighbour)
-        (cond (eqb (r .place) 3 && isPush r) (r .own) (cond (drawing r) (linkOf (r .link) .slot) (cond (giving r) (r .own) x)))) end-mirror
+    row-mirror = ap (λ (x : ℕ).
+        cond (eqb (r .place) 3) (cond (isPush r) (r .own) x)
+        (cond (eqb (r .place) 5) x
+        (cond (eqb (r .place) 7) (r .neighbour)
+        (cond (eqb (r .place) 9) (r .neighbour)
+        (cond (eqb (r .place) 11) x
+        (cond (eqb (r .place) 13) (linkOf (r .link) .slot)
+        (cond (eqb (r .place) 14) (linkOf (r .link) .slot)
+        (cond (eqb (r .place) 16) (r .own)
+        (cond (eqb (r .place) 17) (r .own) 0))))))))) end-mirror
 
     pub link-side-mirror : linkSide (mirrorBusy r) ≡ opposite (linkSide r)
     unfolding linkSide
@@ -108,7 +116,13 @@ module _ (r : Record) where
 
     pub link-met-mirror : (q : Tables) → wordFound (mirrorTables q) (mirrorBusy r) ≡ wordFound q r
     link-met-mirror q =
-        ap₂ (λ (d x : ℕ). cond (eqb (r .place) 11) (getD (q .labels) x 0)
-        (cond (eqb (r .place) 13) (getD (q .next) x 0) (getD (links (mirrorTables q) d) x 0))) link-side-mirror row-mirror
-        ∙ ap (λ (l : List ℕ). cond (eqb (r .place) 11) (getD (q .labels) (row r) 0)
-        (cond (eqb (r .place) 13) (getD (q .next) (row r) 0) (getD l (row r) 0))) (links-mirror (linkSide r) q)
+        let link : getD (links (mirrorTables q) (linkSide (mirrorBusy r))) (row (mirrorBusy r)) 0 ≡ getD (links q (linkSide r)) (row r) 0 =
+        ap₂ (λ (d x : ℕ). getD (links (mirrorTables q) d) x 0) link-side-mirror row-mirror
+        ∙ ap (λ (l : List ℕ). getD l (row r) 0) (links-mirror (linkSide r) q) in
+        λ i.
+        cond (eqb (r .place) 3) (link i)
+        (cond (eqb (r .place) 5) (link i)
+        (cond (eqb (r .place) 7) (link i)
+        (cond (eqb (r .place) 9) (link i)
+        (cond (eqb (r .place) 11) (getD (q .labels) (row-mirror i) 0)
+        (cond (eqb (r .place) 13) (getD (q .next) (row-mirror i) 0) 0)))))

@@ -17,14 +17,14 @@ returns c =
 returns-2 : tie.Need-returns-2
 returns-2 c =
     let h = c .before .before in
-    let t = h .before .before .before in
+    let t = h .before .before in
     let i = t .before .before in
     let u = i .before .before .before in
     let a = u .before .args in
     let same = eq-eqb _ _ (i .if1 .left) in
     let room = rw (u .unpack .ensures) at (lt-ltb _ _ (t .if2 .taken)) in
     λ ls rs ns ms xs k.
-    rw (c .settles2 .ensures, c .before .next2 .ensures, h .with-head .ensures, h .before .link-word .ensures, h .before .before .raised .ensures)
+    rw (c .settles2 .ensures, c .before .next2 .ensures, h .with-head .ensures, h .before .new17 .ensures)
     (rw (same, room) at (step17 (a .c) (a .r) ls rs ns ms xs k))
 
 returns-3 : tie.Need-returns-3
@@ -45,7 +45,6 @@ at17-spec =
     (λ _ _. tt)
     (λ _ _. tt)
     returns
-    (λ _ _. tt)
     (λ _ _. tt)
     (λ _ _. tt)
     (λ c κs. search needs)

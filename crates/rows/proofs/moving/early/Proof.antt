@@ -1,4 +1,4 @@
--- Refused by its number, or its place's contract and what is stored of it, by `at-its-place`.
+-- Refused by its number, or its place's contract and what is stored of it, by `early-place`.
 use mathlib.Core.Path.{_≡_, sym, subst, _∙_}
 use mathlib.Core.List.{List}
 use Prim.Native.Nat.{ℕ, _<_, _≤_}
@@ -10,9 +10,10 @@ use Rattle.model.specs.declared.Control.{Control}
 use Rattle.model.specs.declared.Record.{Record}
 use Rattle.model.specs.Tables.{isPooled}
 use Rattle.model.specs.Refusals.{recordRefusal}
+use Rattle.sound.proofs.Early.{early}
 use Rattle.engine.proofs.InParts.{above}
 use Rattle.rows.specs.Rows.{controlOf, callOf}
-use Rattle.rows.proofs.InItsRow.{no-call, unsound, passes, refuses, at-its-place}
+use Rattle.rows.proofs.InItsRow.{no-call, unsound, passes, refuses, early-place}
 use Rattle.rows.proofs.moving.early.Statement.{statement}
 use Rattle.rows.proofs.moving.early.Tie as tie
 
@@ -49,7 +50,7 @@ returns-2 c low labels marks next =
     let read = busy .before .before in
     refuses _ _ _ _ labels marks next _ _ (read .control-of .ensures) (called read .call-of .ensures) 34 _
     (unsound _ _ _
-    (sym (told .early-sound .ensures (isPooled (c₀ read)) (some (busy .if1 .left)) (low-place read low)) ∙ not-true _ (c .before .if2 .taken)))
+    (sym (early _ _ (low-place read low) (isPooled (c₀ read)) (some (busy .if1 .left))) ∙ sym (told .early-sound .ensures) ∙ not-true _ (c .before .if2 .taken)))
     (λ (x : _≡_ {A = ℕ} 34 0). omega (arith, x)) (c .refuse2 .ensures)
 
 -- Past the refusals.
@@ -63,7 +64,7 @@ module _ (left : tie.Else2) where
   passed : callOf (row₀ read₀) .place ≤ 10 → recordRefusal (isPooled (c₀ read₀)) (c₀ read₀ .slots) (r₀ read₀) ≡ 0
   passed low =
       passes _ _ _ (busy .if1 .left)
-      (sym (left .before .early-sound .ensures (isPooled (c₀ read₀)) (some (busy .if1 .left)) (low-place read₀ low)) ∙ not-false _ (left .if2 .left))
+      (sym (early _ _ (low-place read₀ low) (isPooled (c₀ read₀)) (some (busy .if1 .left))) ∙ sym (left .before .early-sound .ensures) ∙ not-false _ (left .if2 .left))
 
 returns-3 : tie.Need-returns-3
 returns-3 c low labels marks next =
@@ -72,7 +73,7 @@ returns-3 c low labels marks next =
     let left = place .before in
     let read = read₀ left in
     let put = c .put-early .ensures in
-    at-its-place _ _ _ _ labels marks next _ _ (read .control-of .ensures) (called read .call-of .ensures) _ _ _ _ labels marks next _
+    early-place _ _ _ _ labels marks next _ _ (read .control-of .ensures) (called read .call-of .ensures) _ _ _ _ labels marks next _
     (put .1 .1 .1) 1 _
     (passed left low) (place .match .keys1) (low-place read low) (λ k. made .at1 .ensures _ _ labels marks next k) (put .1 .0) (put .1 .1 .0) (put .0)
 
@@ -83,9 +84,9 @@ returns-4 c low labels marks next =
     let left = place .before in
     let read = read₀ left in
     let put = c .put-early2 .ensures in
-    at-its-place _ _ _ _ labels marks next _ _ (read .control-of .ensures) (called read .call-of .ensures) _ _ _ _ labels marks next _
+    early-place _ _ _ _ labels marks next _ _ (read .control-of .ensures) (called read .call-of .ensures) _ _ _ _ labels marks next _
     (put .1 .1 .1) 2 _
-    (passed left low) (place .match .keys2) (low-place read low) (λ k. made .tries2 .ensures _ _ labels marks next k) (put .1 .0)
+    (passed left low) (place .match .keys2) (low-place read low) (λ k. made .at2 .ensures _ _ labels marks next k) (put .1 .0)
     (put .1 .1 .0) (put .0)
 
 returns-5 : tie.Need-returns-5
@@ -97,7 +98,7 @@ returns-5 c low labels marks next =
     let left = place .before in
     let read = read₀ left in
     let put = c .put-early3 .ensures in
-    at-its-place _ _ _ _ labels marks next _ _ (read .control-of .ensures) (called read .call-of .ensures) _ _ _ _ labels marks next _
+    early-place _ _ _ _ labels marks next _ _ (read .control-of .ensures) (called read .call-of .ensures) _ _ _ _ labels marks next _
     (put .1 .1 .1) 3 _
     (passed left low) (place .match .keys3) (low-place read low) (λ k. made .at3 .ensures labels marks next k) (put .1 .0) (put .1 .1 .0) (put .0)
 
@@ -108,9 +109,9 @@ returns-6 c low labels marks next =
     let left = place .before in
     let read = read₀ left in
     let put = c .put-early4 .ensures in
-    at-its-place _ _ _ _ labels marks next _ _ (read .control-of .ensures) (called read .call-of .ensures) _ _ _ _ labels marks next _
+    early-place _ _ _ _ labels marks next _ _ (read .control-of .ensures) (called read .call-of .ensures) _ _ _ _ labels marks next _
     (put .1 .1 .1) 4 _
-    (passed left low) (place .match .keys4) (low-place read low) (λ k. made .tries4 .ensures _ _ labels marks next k) (put .1 .0)
+    (passed left low) (place .match .keys4) (low-place read low) (λ k. made .at4 .ensures _ _ labels marks next k) (put .1 .0)
     (put .1 .1 .0) (put .0)
 
 returns-7 : tie.Need-returns-7
@@ -121,7 +122,7 @@ returns-7 c low labels marks next =
     let left = place .before in
     let read = read₀ left in
     let put = c .put-early5 .ensures in
-    at-its-place _ _ _ _ labels marks next _ _ (read .control-of .ensures) (called read .call-of .ensures) _ _ _ _ labels marks next _
+    early-place _ _ _ _ labels marks next _ _ (read .control-of .ensures) (called read .call-of .ensures) _ _ _ _ labels marks next _
     (put .1 .1 .1) 5 _
     (passed left low) (place .match .keys5) (low-place read low) (λ k. made .at5 .ensures labels marks next k) (put .1 .0) (put .1 .1 .0) (put .0)
 
@@ -132,7 +133,7 @@ returns-8 c low labels marks next =
     let left = place .before in
     let read = read₀ left in
     let put = c .put-early6 .ensures in
-    at-its-place _ _ _ _ labels marks next _ _ (read .control-of .ensures) (called read .call-of .ensures) _ _ _ _ labels marks next _
+    early-place _ _ _ _ labels marks next _ _ (read .control-of .ensures) (called read .call-of .ensures) _ _ _ _ labels marks next _
     (put .1 .1 .1) 6 _
     (passed left low) (place .match .keys6) (low-place read low) (λ k. made .at6 .ensures _ _ labels marks next k) (put .1 .0) (put .1 .1 .0) (put .0)
 
@@ -144,7 +145,7 @@ returns-9 c low labels marks next =
     let left = place .before in
     let read = read₀ left in
     let put = c .put-early7 .ensures in
-    at-its-place _ _ _ _ labels marks next _ _ (read .control-of .ensures) (called read .call-of .ensures) _ _ _ _ labels marks next _
+    early-place _ _ _ _ labels marks next _ _ (read .control-of .ensures) (called read .call-of .ensures) _ _ _ _ labels marks next _
     (put .1 .1 .1) 7 _
     (passed left low) (place .match .keys7) (low-place read low) (λ k. made .at7 .ensures labels marks next k) (put .1 .0) (put .1 .1 .0) (put .0)
 
@@ -155,7 +156,7 @@ returns-10 c low labels marks next =
     let left = place .before in
     let read = read₀ left in
     let put = c .put-early8 .ensures in
-    at-its-place _ _ _ _ labels marks next _ _ (read .control-of .ensures) (called read .call-of .ensures) _ _ _ _ labels marks next _
+    early-place _ _ _ _ labels marks next _ _ (read .control-of .ensures) (called read .call-of .ensures) _ _ _ _ labels marks next _
     (put .1 .1 .1) 8 _
     (passed left low) (place .match .keys8) (low-place read low) (λ k. made .at8 .ensures _ _ labels marks next k) (put .1 .0) (put .1 .1 .0) (put .0)
 
@@ -168,7 +169,7 @@ returns-11 c low labels marks next =
     let left = place .before in
     let read = read₀ left in
     let put = c .put-early9 .ensures in
-    at-its-place _ _ _ _ labels marks next _ _ (read .control-of .ensures) (called read .call-of .ensures) _ _ _ _ labels marks next _
+    early-place _ _ _ _ labels marks next _ _ (read .control-of .ensures) (called read .call-of .ensures) _ _ _ _ labels marks next _
     (put .1 .1 .1) 9 _
     (passed left low) (place .match .keys9) (low-place read low) (λ k. made .at9 .ensures labels marks next k) (put .1 .0) (put .1 .1 .0) (put .0)
 
@@ -185,7 +186,7 @@ returns-12 c low labels marks next =
     let two = above (some (busy left .if1 .left)) (g .0 .0 .0 .0 .1) in
     let six = above (above (above (above two (g .0 .0 .0 .1)) (g .0 .0 .1)) (g .0 .1)) (g .1) in
     let ten = above (above (above (above six (h .0 .0 .0 .1)) (h .0 .0 .1)) (h .0 .1)) (h .1) in
-    at-its-place _ _ _ _ labels marks next _ _ (read .control-of .ensures) (called read .call-of .ensures) _ _ _ _ labels marks next _
+    early-place _ _ _ _ labels marks next _ _ (read .control-of .ensures) (called read .call-of .ensures) _ _ _ _ labels marks next _
     (put .1 .1 .1) 10 _
     (passed left low) (le-antisymm (low-place read low) ten) (low-place read low) (λ k. made .at10 .ensures _ _ labels marks next k) (put .1 .0)
     (put .1 .1 .0) (put .0)

@@ -1,15 +1,17 @@
--- Beyond place 10 the step at any place, else the one at 1 to 10.
+-- The step beyond place 10, or at 1 to 10.
 use borrow.Author.Needs.{needs}
 use Rattle.rows.specs.Rows.{callOf}
 use Rattle.rows.proofs.moving.move_row.Statement.{statement}
 use Rattle.rows.proofs.moving.move_row.Tie as tie
 
 returns : tie.Need-returns
+unfolding callOf
 returns c =
     let made0 = c .before .before .before .before in
-    let made1 = made0 .before .before .before .before in
-    let made = made1 .before .before in
-    made .anywhere .ensures
+    let made = made0 .before .before in
+    let high0 = made .before .before .before .before in
+    let high = high0 .before .before in
+    made .late .ensures (high .if1 .taken) _ _
 
 returns-2 : tie.Need-returns-2
 unfolding callOf
@@ -25,8 +27,6 @@ move-row-spec =
     (tie.spec
     (λ c. search needs)
     (λ c κs. search needs)
-    (λ c. search needs)
-    (λ c. search needs)
     (λ c. search needs)
     (λ c. search needs)
     (λ c. search needs)

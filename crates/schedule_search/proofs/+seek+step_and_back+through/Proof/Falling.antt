@@ -1,10 +1,10 @@
 -- What falls from call to call: three times the steps to go, by where the search stands; and what each function calls.
-use Prim.Native.Nat.{ℕ, _+_, _-_, _*_, _<_}
+use Prim.Native.Nat.{ℕ, _-_, _*_, _<_}
 use borrow.Fn.Kinds.{In}
 use borrow.Fn.PlainCycle.{Measures, is, falls, and}
 use Rattle.schedule_search.proofs.pick.Reads as pick-reads
 use Rattle.schedule_search.proofs.undo.keep.Reads as keep-reads
-use Rattle.engine.proofs.step.Reads as step-reads
+use Rattle.schedule_search.proofs.step_of.Reads as step-of-reads
 use Rattle.schedule_search.proofs.after.Reads as after-reads
 use Rattle.schedule_search.proofs.undo.put_back.Reads as put-back-reads
 use Rattle.schedule_search.proofs.note.Reads as note-reads
@@ -66,8 +66,8 @@ step-and-back-callees t = (
   pick-reads.Learnt,
   keep-reads.Asked,
   keep-reads.Learnt,
-  step-reads.Asked,
-  step-reads.Learnt,
+  step-of-reads.Asked,
+  step-of-reads.Learnt,
   after-reads.Asked,
   after-reads.Learnt,
   seek-below t,

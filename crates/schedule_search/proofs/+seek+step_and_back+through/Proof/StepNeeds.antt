@@ -32,13 +32,13 @@ made t c =
     at1 .before .before .before
 
 abbrev moved : (t : ℕ) → step-and-back-lts.After-after (step-and-back-callees t) (step-and-back-at t) step-and-back.Post
-    → step-and-back-lts.After-step (step-and-back-callees t) (step-and-back-at t) step-and-back.Post
+    → step-and-back-lts.After-step-of (step-and-back-callees t) (step-and-back-at t) step-and-back.Post
 moved t c =
     let at1 = c .before .before .before .before in
     let at2 = at1 .before .before .before .before in
     at2 .before .before .before
 
-abbrev kept : (t : ℕ) → step-and-back-lts.After-step (step-and-back-callees t) (step-and-back-at t) step-and-back.Post
+abbrev kept : (t : ℕ) → step-and-back-lts.After-step-of (step-and-back-callees t) (step-and-back-at t) step-and-back.Post
     → step-and-back-lts.After-keep (step-and-back-callees t) (step-and-back-at t) step-and-back.Post
 kept t c =
     let at1 = c .before .before .before .before in
@@ -84,31 +84,31 @@ pub step-and-back-lefts : (t : ℕ) → step-and-back-lts.Need-same-length-2 (st
 step-and-back-lefts t c =
     let p = put t c in
     let s = sought t p in
-    p .put-back .kept .1 .0 ∙ s .seek .kept .1 .1 .1 .1 .1 .0 ∙ moved t (made t s) .step .kept .1 .1 .1 .1 .0
+    p .put-back .kept .1 .0 ∙ s .seek .kept .1 .1 .1 .1 .1 .0 ∙ moved t (made t s) .step-of .kept .1 .1 .1 .0
 
 pub step-and-back-rights : (t : ℕ) → step-and-back-lts.Need-same-length-3 (step-and-back-callees t) (step-and-back-at t) step-and-back.Post
 step-and-back-rights t c =
     let p = put t c in
     let s = sought t p in
-    p .put-back .kept .1 .1 .0 ∙ s .seek .kept .1 .1 .1 .1 .1 .1 .0 ∙ moved t (made t s) .step .kept .1 .1 .1 .1 .1 .0
+    p .put-back .kept .1 .1 .0 ∙ s .seek .kept .1 .1 .1 .1 .1 .1 .0 ∙ moved t (made t s) .step-of .kept .1 .1 .1 .1 .0
 
 pub step-and-back-labels : (t : ℕ) → step-and-back-lts.Need-same-length-4 (step-and-back-callees t) (step-and-back-at t) step-and-back.Post
 step-and-back-labels t c =
     let p = put t c in
     let s = sought t p in
-    p .put-back .kept .1 .1 .1 .0 ∙ s .seek .kept .1 .1 .1 .1 .1 .1 .1 .0 ∙ moved t (made t s) .step .kept .1 .1 .1 .1 .1 .1 .0
+    p .put-back .kept .1 .1 .1 .0 ∙ s .seek .kept .1 .1 .1 .1 .1 .1 .1 .0 ∙ moved t (made t s) .step-of .kept .1 .1 .1 .1 .1 .0
 
 pub step-and-back-marks : (t : ℕ) → step-and-back-lts.Need-same-length-5 (step-and-back-callees t) (step-and-back-at t) step-and-back.Post
 step-and-back-marks t c =
     let p = put t c in
     let s = sought t p in
-    p .put-back .kept .1 .1 .1 .1 .0 ∙ s .seek .kept .1 .1 .1 .1 .1 .1 .1 .1 .0 ∙ moved t (made t s) .step .kept .1 .1 .1 .1 .1 .1 .1 .0
+    p .put-back .kept .1 .1 .1 .1 .0 ∙ s .seek .kept .1 .1 .1 .1 .1 .1 .1 .1 .0 ∙ moved t (made t s) .step-of .kept .1 .1 .1 .1 .1 .1 .0
 
 pub step-and-back-next : (t : ℕ) → step-and-back-lts.Need-same-length-6 (step-and-back-callees t) (step-and-back-at t) step-and-back.Post
 step-and-back-next t c =
     let p = put t c in
     let s = sought t p in
-    p .put-back .kept .1 .1 .1 .1 .1 .0 ∙ s .seek .kept .1 .1 .1 .1 .1 .1 .1 .1 .1 .0 ∙ moved t (made t s) .step .kept .1 .1 .1 .1 .1 .1 .1 .1 .0
+    p .put-back .kept .1 .1 .1 .1 .1 .0 ∙ s .seek .kept .1 .1 .1 .1 .1 .1 .1 .1 .1 .0 ∙ moved t (made t s) .step-of .kept .1 .1 .1 .1 .1 .1 .1 .0
 
 pub step-and-back-returns : (t : ℕ) → step-and-back-lts.Need-returns (step-and-back-callees t) (step-and-back-at t) step-and-back.Post
 step-and-back-returns t c =
@@ -122,4 +122,4 @@ step-and-back-returns t c =
     let two = a .args .two in
     let z = a .pre .1 in
     there-and-back _ (two .a) (two .b) _ _ _ _ _ _ (z .0) (z .1 .0) (z .1 .1) (r .pick .ensures) _ _ _ _ _ _ _ _ (k .keep .ensures (two .control))
-    (m .step .ensures 0) (n .after .ensures) (s .seek .ensures) (p .put-back .ensures (two .control)) (c .before .before .note .ensures)
+    (m .step-of .ensures) (n .after .ensures) (s .seek .ensures) (p .put-back .ensures (two .control)) (c .before .before .note .ensures)

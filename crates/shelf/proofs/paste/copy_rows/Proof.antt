@@ -1,8 +1,7 @@
 -- The first i entries are copied.
 use mathlib.Core.Path.{_≡_, ap, _∙_}
-use Prim.Native.Nat.{ℕ, _+_, _-_, _<_}
+use Prim.Native.Nat.{ℕ, _-_}
 use native.Mathlib.Omega.{arith}
-use lib.ListN.{length}
 use borrow.Author.Needs.{needs}
 use Rattle.shelf.specs.Pasting.{pasted}
 use Rattle.shelf.proofs.Pasting.{Pasting, pasting-more, pasting-none}

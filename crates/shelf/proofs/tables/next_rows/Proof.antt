@@ -1,5 +1,4 @@
 -- The test is the definition's.
-use native.Mathlib.Omega.{arith}
 use borrow.Author.Needs.{needs}
 use borrow.Author.Tests.{eq-eqb, ne-eqb}
 use Rattle.shelf.proofs.tables.next_rows.Statement.{statement}

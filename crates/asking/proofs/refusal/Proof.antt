@@ -1,0 +1,111 @@
+-- Each return is the first rule that applies, by the tests passed before it.
+use mathlib.Core.Bool.{Bool, true, false, not}
+use mathlib.Core.List.{List, [], _∷_, _++_}
+use mathlib.Core.Path.{_≡_, refl, sym, ap, _∙_}
+use native.Mathlib.Omega.{arith}
+use lib.Dec.{leb, ltb}
+use borrow.Author.Tests.{eq-eqb, ne-eqb, not-true, not-false}
+use Rattle.model.specs.Tables.{Tables, isPooled, tablesOf}
+use Rattle.model.specs.Sound.{recordSound, rowsFit}
+use Rattle.model.specs.Places.{wordFound}
+use Rattle.model.specs.Refusals.{Lent, Rule, rule, first, fits, admission, admissionRules, recordRules, stepSound, stepRefusal}
+use Rattle.model.proofs.tests.Rules.{first-passed, first-refused}
+use Rattle.sound.specs.Lengths.{lengthsFit}
+use Rattle.asking.proofs.Changes.{within}
+use Rattle.asking.proofs.refusal.Statement.{statement}
+use Rattle.asking.proofs.refusal.Tie as tie
+
+-- The arguments in the model's terms, and the rules: those of admission, and those of the record and what it touches.
+module _ (asked : tie.After-admit) where
+  abbrev start : tie.Start
+  start = let lists = asked .before .before .before in lists .before .before .before
+
+  abbrev q : Tables
+  q =
+      let a = start .args in
+      tablesOf (a .c) (a .lefts .now) (a .rights .now) (a .labels .now) (a .marks .now) (a .next .now)
+
+  abbrev p : Lent
+  p = let a = start .args in record { enough = leb (a .c .tasks) (a .records); known = ltb (a .task) (a .c .tasks) }
+
+  abbrev before : List Rule
+  before = admissionRules (q .control) (fits q) p
+
+  abbrev touches : Bool
+  touches = let r = start .args .r in stepSound (q .control) r (wordFound q r)
+
+  abbrev after : List Rule
+  after = recordRules (isPooled (q .control)) (q .control .slots) (start .args .r) ++ (rule 34 (not touches) ∷ [])
+
+  -- Where the first ones pass, the others decide.
+  passed : asked .admit .result ≡ 0 → first (before ++ after) ≡ first after
+  unfolding admission lengthsFit rowsFit
+  passed none = first-passed before after refl (sym (asked .admit .ensures) ∙ none)
+
+returns : tie.Need-returns
+unfolding stepRefusal admission lengthsFit rowsFit
+returns c =
+    let asked = c .before in
+    let why = asked .admit .ensures in
+    why ∙ sym (first-refused (before asked) (after asked) (λ z. c .if1 .taken (why ∙ z)))
+
+returns-2 : tie.Need-returns-2
+unfolding stepRefusal
+returns-2 c =
+    let turn = c .before .before .before in
+    rw (passed (turn .before) (turn .if1 .left), sym (c .before .record-sound .ensures) ∙ not-true _ (c .if2 .taken))
+
+returns-3 : tie.Need-returns-3
+unfolding stepRefusal
+returns-3 c =
+    let sound = c .before .before in
+    let turn = sound .before .before .before in
+    rw (
+      passed (turn .before) (turn .if1 .left),
+      sym (sound .before .record-sound .ensures) ∙ not-false _ (sound .if2 .left),
+      eq-eqb _ 0 (c .if3 .taken),
+    )
+
+-- A busy and sound record: whether what it touches is sound.
+module _ (told : tie.After-touch-sound) where
+  abbrev busy : tie.Else3
+  busy = told .before .before
+
+  abbrev sound : tie.Else2
+  sound = busy .before .before
+
+  abbrev turn : tie.Else1
+  turn = sound .before .before .before
+
+  abbrev asked : tie.After-admit
+  asked = turn .before
+
+  fine : (let c = start asked .args .c in recordSound (isPooled c) (c .slots) (start asked .args .r) ≡ true)
+  fine = sym (sound .before .record-sound .ensures) ∙ not-false _ (sound .if2 .left)
+
+  found : told .touch-sound .result ≡ touches asked
+  found =
+      let r = start asked .args .r in
+      let high = within _ _ r fine (busy .if3 .left) in
+      told .touch-sound .ensures (omega (arith, busy .if3 .left)) high
+      ∙ ap (stepSound (q asked .control) r) (told .before .found .ensures (q asked .control) (q asked .marks))
+
+  decided : (b : Bool) → told .touch-sound .result ≡ b → first (after asked) ≡ first (rule 34 (not b) ∷ [])
+  decided b e = rw (fine, ne-eqb _ 0 (busy .if3 .left), sym found ∙ e)
+
+returns-4 : tie.Need-returns-4
+unfolding stepRefusal
+returns-4 c =
+    let told = c .before in
+    rw (passed (asked told) (turn told .if1 .left)) (sym (decided told true (c .if4 .taken)))
+
+returns-5 : tie.Need-returns-5
+unfolding stepRefusal
+returns-5 c =
+    let told = c .before in
+    rw (passed (asked told) (turn told .if1 .left)) (sym (decided told false (c .if4 .left)))
+
+pub refusal-spec : {M : Type 1} → statement M
+refusal-spec =
+    tie.close
+    (tie.spec (λ _ _. tt) returns (λ _ _. tt) returns-2 returns-3 (λ _ _. tt) (λ _ _. tt) returns-4 returns-5)

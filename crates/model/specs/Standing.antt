@@ -1,0 +1,15 @@
+-- What a call that walks relies on. (Document 02: #102, #107, #109, #110, #111.)
+use mathlib.Core.Path.{_≡_}
+use mathlib.Core.Bool.{true, _&&_}
+use mathlib.Core.List.{List}
+use Rattle.model.specs.declared.Entry.{Entry}
+use Rattle.model.specs.Tables.{Queue}
+use Rattle.model.specs.Sound.{controlSound}
+use Rattle.model.specs.Walk.{contents, entries}
+use Rattle.model.specs.Refusals.{fits, recordsFit}
+
+-- Control and Anchor are sound, every table is long enough, and the walk meets the entries d: so no 34 applies, and no 12 to the queue's tables.
+pub record Standing (q : Queue) (d : List Entry) : Type 0 where
+  pub control : controlSound (q .tables .control) ≡ true
+  pub long : fits (q .tables) && recordsFit (q .tables .control .tasks) q ≡ true
+  pub walk : contents (q .tables) ≡ entries d

@@ -1,0 +1,55 @@
+-- Which schedules the tables allow, of any list of tasks. (Document 02, #107.)
+use mathlib.Core.Path.{_≡_}
+use mathlib.Core.Bool.{Bool, true, false, _||_, cond}
+use mathlib.Core.List.{List, [], _∷_, _++_, List·Memᴰ}
+use Prim.Native.Nat.{ℕ, _<_}
+use lib.Dec.{eqb}
+use lib.ListN.{length}
+use Rattle.model.specs.declared.Outcome.{Outcome}
+use Rattle.model.specs.declared.Outcome.the-variants.{Refused, Moved}
+use Rattle.model.specs.declared.Op.the-variants.{Step}
+use Rattle.model.specs.Tables.{Queue}
+use Rattle.model.specs.Calls.{act}
+use Rattle.model.specs.History.{Request, final}
+use Rattle.schedule_model.specs.Schedules.{Schedule, atWork, bothAnswered, allSchedules}
+
+-- A step of each task of a list, and the queue after them.
+abbrev pub tries : List ℕ → List Request
+tries [] = []
+tries (t ∷ ts) = record { task = t; op = Step } ∷ tries ts
+
+abbrev pub after : Queue → List ℕ → Queue
+after q ts = final q (tries ts)
+
+abbrev pub isRefused : Outcome → Bool
+isRefused (Refused why) = true
+isRefused (Moved a) = false
+
+-- The last of these steps is refused.
+unfoldable pub lastRefused : Queue → List ℕ → Bool
+lastRefused q [] = false
+lastRefused q (t ∷ []) = isRefused (act q t Step .outcome)
+lastRefused q (t ∷ u ∷ ts) = lastRefused (act q t Step .queue) (u ∷ ts)
+
+-- A schedule ends when both calls are answered, after n steps, or at a refused step.
+unfoldable pub hasEnded : ℕ → Queue → List ℕ → Bool
+hasEnded n q ts = lastRefused q ts || bothAnswered (after q ts) || eqb (length ts) n
+
+-- Its mark: 2 its last step refused, even as the n-th; 0 both calls answered; 1 cut.
+unfoldable pub endingOf : Queue → List ℕ → ℕ
+endingOf q ts = cond (lastRefused q ts) 2 (cond (bothAnswered (after q ts)) 0 1)
+
+-- A schedule that is cut after n steps: each of its steps is of a task then still busy, it has not ended before the step, and with the
+-- last of them it has ended.
+pub record Allowed (n : ℕ) (q : Queue) (s : Schedule) : Type 0 where
+  pub busy : (before : List ℕ) (t : ℕ) (rest : List ℕ) → s .steps ≡ before ++ (t ∷ rest) → (t < 2) × (atWork (after q before) t ≡ true)
+  pub goesOn : (before : List ℕ) (t : ℕ) (rest : List ℕ) → s .steps ≡ before ++ (t ∷ rest) → hasEnded n q before ≡ false
+  pub ended : hasEnded n q (s .steps) ≡ true
+  pub ending : s .ending ≡ endingOf q (s .steps)
+
+-- The schedules handed out are those that are allowed, cut after 48 steps, and none besides.
+abbrev pub OnlyAllowed : Type 0
+OnlyAllowed = (q : Queue) (s : Schedule) → List·Memᴰ s (allSchedules q) → Allowed 48 q s
+
+abbrev pub EveryAllowed : Type 0
+EveryAllowed = (q : Queue) (s : Schedule) → Allowed 48 q s → List·Memᴰ s (allSchedules q)

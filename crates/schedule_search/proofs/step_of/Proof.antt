@@ -1,0 +1,59 @@
+-- Turned away by its number alone, or moved on.
+use mathlib.Core.Path.{sym, _∙_}
+use borrow.Author.Needs.{needs}
+use Rattle.model.specs.Sound.{rowsFit}
+use lib.Dec.{leb, ltb}
+use Rattle.model.specs.declared.TaskRecord.{TaskRecord}
+use Rattle.model.specs.Refusals.{Lent}
+use Rattle.model.specs.Tables.{Tables, tablesOf, unused, withCall}
+use Rattle.sound.specs.Lengths.{lengthsFit}
+use Rattle.engine.proofs.InParts.{turned-away, admitted}
+use Rattle.schedule_search.proofs.step_of.Statement.{statement}
+use Rattle.schedule_search.proofs.step_of.Tie as tie
+
+-- The arguments, in the model's terms.
+module _ (a : tie.Start) where
+  abbrev q : Tables
+  q = tablesOf (a .args .c) (a .args .lefts .now) (a .args .rights .now) (a .args .labels .now) (a .args .marks .now) (a .args .next .now)
+
+  abbrev p : Lent
+  p = record { enough = leb (a .args .c .tasks) 2; known = ltb (a .args .t) (a .args .c .tasks) }
+
+  abbrev r : TaskRecord
+  r = withCall unused (a .args .r)
+
+returns : tie.Need-returns
+unfolding rowsFit lengthsFit
+returns c =
+    let told = c .before .before in
+    let sized = told .before .before .before .before in
+    let a = sized .before .before in
+    rw (c .refuse .ensures) (turned-away (q a) (p a) (r a) _ (told .admit .ensures) (c .before .if1 .taken))
+
+returns-2 : tie.Need-returns-2
+unfolding rowsFit lengthsFit
+returns-2 c =
+    let marks = c .before .before .before .before in
+    let rights = marks .before .before .before .before in
+    let moved = rights .before .before in
+    let lent = moved .before .before .before .before in
+    let left = lent .before .before in
+    let told = left .before in
+    let sized = told .before .before .before .before in
+    let a = sized .before .before in
+    moved .move-on .ensures ∙ admitted (q a) (p a) (r a) (sym (told .admit .ensures) ∙ left .if1 .left)
+
+pub step-of-spec : {M : Type 1} → statement M
+step-of-spec =
+    tie.close
+    (tie.spec
+    (λ c κs. search needs)
+    (λ c κs. search needs)
+    returns
+    (λ c κs. search needs)
+    (λ c. search needs)
+    (λ c. search needs)
+    (λ c. search needs)
+    (λ c. search needs)
+    (λ c. search needs)
+    returns-2)
