@@ -19,7 +19,7 @@ ghost use Rattle.model.specs.Ends.{answerEnds, endsCall, isMoved, isRunning};
 
 /// Why an admitted step is refused before its place is looked at, or 0. An idle record is sound
 /// whatever it holds.
-fn refusal(pooled: bool, slots: u64, r: Record) -> u32
+pub fn refusal(pooled: bool, slots: u64, r: Record) -> u32
     ensures { λ why. ⌜ why ≡ recordRefusal pooled slots r ⌝ }
 {
     if r.place == 0 {

@@ -5,10 +5,10 @@
 //! it refuses with 34 what the place may not touch and then changes nothing.
 //! Line numbers are those of source 003. Figures 3 and 5 show the right side;
 //! at places 5 to 10, figure 4, the side is the one that the status as read names.
-mod next;
+pub mod next;
 pub mod pool;
-mod side;
-mod step;
+pub mod side;
+pub mod step;
 
 use model::Control;
 use model::Entry;
