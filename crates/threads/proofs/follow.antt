@@ -1,0 +1,8 @@
+-- A simulation, instruction by instruction: the list makes a start or step whole at its deciding instruction.
+pub mod Overlay
+pub mod Plans
+pub mod Starting
+pub mod LateStays
+pub mod Good
+pub mod Follow
+pub mod Roomy
