@@ -4,5 +4,9 @@ pub mod Plans
 pub mod Starting
 pub mod LateStays
 pub mod Good
-pub mod Follow
+pub mod Relation
+pub mod Instruction
+pub mod Steps
+pub mod Starts
+pub mod Tick
 pub mod Roomy

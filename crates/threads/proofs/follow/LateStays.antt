@@ -220,7 +220,7 @@ module _ (pooled slots : ℕ) where
         (ending k₀ q _ _ _))
     tick-left (begun (Pop side)) = subst (Left (begun (Pop side))) (sym (first-pop q r pooled slots side)) (plain-left (begun (Pop side)) (Pop side) (ownRefusal pooled slots (r .call) side false false) (started 1 side 0 0) 1)
     tick-left (begun (Put side label)) =
-        subst (Left (begun (Put side label))) (sym (first-put q r pooled slots side label)) 
+        subst (Left (begun (Put side label))) (sym (first-put q r pooled slots side label))
         (plain-left (begun (Put side label)) (Put side label) (ownRefusal pooled slots (r .call) side (not (eqb pooled 1)) false) (asking side label) 12)
     tick-left (begun Step) = step-left (begun Step)
     tick-left (loaded w) = puts-left (loaded w) w
