@@ -23,7 +23,7 @@ use Rattle.threads.specs.declared.PlannedTouch.{PlannedTouch}
 use Rattle.threads.specs.Split.{Touched, perform, plan}
 use Rattle.threads.specs.Starts.{ownRefusal}
 use Rattle.threads.specs.Instructions.{Hand, free, begun, loaded, knows, claims, looks, labels, marks, ends, Ticked}
-use Rattle.threads.specs.Instructions.{loadsOwn, putsOwn, stepFirst, clears, tick}
+use Rattle.threads.specs.Instructions.{isAsRead, loadsOwn, putsOwn, stepFirst, clears, tick}
 use Rattle.threads.specs.Crew.{Crew, Act, calls, next, takesUp, ticked, go}
 use Rattle.threads.proofs.follow.Plans.{Two, says}
 use Rattle.threads.proofs.follow.Starting.{plainStart, namedOwn, first-pop, first-put, first-push, claims-is, looks-is}
@@ -103,7 +103,7 @@ module _ (q : Tables) (l : IsLate q) where
 
     puts-own : (w : ℕ) → Ticks (putsOwn pooled slots q r w)
     unfolding putsOwn
-    puts-own w = either Ticks (eqb (getD (links q (p .side)) (p .slot) 0) w) l loads-own
+    puts-own w = either Ticks (isAsRead q p w) l loads-own
 
     steps : Ticks (stepFirst pooled slots q r)
     unfolding stepFirst
@@ -188,11 +188,11 @@ module _ (pooled slots : ℕ) where
     loads-left k₀ =
         either (Left k₀) (linkSound slots (getD (links q (asked .side)) (asked .slot) 0))
         (record { hand = tt; claim = λ e. absurd (not-both e refl); early = λ _. refl })
-        (ending k₀ q _ _ _)
+        (ending k₀ _ _ _ _)
 
     puts-left : (k₀ : Hand) (w : ℕ) → Left k₀ (putsOwn pooled slots q r w)
     unfolding putsOwn
-    puts-left k₀ w = either (Left k₀) (eqb (getD (links q (asked .side)) (asked .slot) 0) w) (ending k₀ _ _ _ _) (loads-left k₀)
+    puts-left k₀ w = either (Left k₀) (isAsRead q asked w) (ending k₀ _ _ _ _) (loads-left k₀)
 
     step-left : (k₀ : Hand) → Left k₀ (stepFirst pooled slots q r)
     unfolding stepFirst
@@ -201,12 +201,12 @@ module _ (pooled slots : ℕ) where
         (either (Left k₀) (eqb (asked .act) 6) (record { hand = tt; claim = λ e. absurd (not-both e refl); early = λ _. refl })
         (either (Left k₀) (eqb (asked .act) 9)
         (either (Left k₀) (eqb (q .control .head) (asked .expected))
-        (record { hand = tt; claim = λ e. absurd (not-both e refl); early = λ _. refl }) (ending k₀ q _ _ _))
+        (record { hand = tt; claim = λ e. absurd (not-both e refl); early = λ _. refl }) (ending k₀ _ _ _ _))
         (ending k₀ _ _ _ _)))
 
     plain-left : (k₀ : Hand) (op : Op) (why : ℕ) (call : Record) (place : ℕ) → Left k₀ (plainStart q r op why call place)
     plain-left k₀ op why call place =
-        either (Left k₀) (eqb why 0) (either (Left k₀) (late (q .control)) (ending k₀ q _ _ _) (ending k₀ q _ _ _)) (ending k₀ q _ _ _)
+        either (Left k₀) (eqb why 0) (either (Left k₀) (late (q .control)) (ending k₀ _ _ _ _) (ending k₀ _ _ _ _)) (ending k₀ _ _ _ _)
 
     pub tick-left : (k : Hand) → Left k (tick pooled slots q r k)
     unfolding clears
@@ -217,7 +217,7 @@ module _ (pooled slots : ℕ) where
         (either (Left k₀) (eqb (namedOwn pooled slots (r .call) side slot) 0)
         (by-test (Left k₀) (late (q .control)) (λ e. record { hand = e; claim = λ e. absurd (not-both e refl); early = λ _. refl })
         (λ e. record { hand = tt; claim = λ _. e; early = λ _. refl }))
-        (ending k₀ q _ _ _))
+        (ending k₀ _ _ _ _))
     tick-left (begun (Pop side)) = subst (Left (begun (Pop side))) (sym (first-pop q r pooled slots side)) (plain-left (begun (Pop side)) (Pop side) (ownRefusal pooled slots (r .call) side false false) (started 1 side 0 0) 1)
     tick-left (begun (Put side label)) =
         subst (Left (begun (Put side label))) (sym (first-put q r pooled slots side label))

@@ -26,7 +26,7 @@ use Rattle.threads.specs.declared.PlannedTouch.{PlannedTouch}
 use Rattle.threads.proofs.split.Within.{plans-within}
 use Rattle.model.proofs.bridge.Facts.{from1-true}
 use Rattle.threads.specs.Instructions.{Hand, loaded, knows, labels, marks, ends, Ticked, quiet, decided}
-use Rattle.threads.specs.Instructions.{loadsOwn, putsOwn, stepFirst, clears}
+use Rattle.threads.specs.Instructions.{isAsRead, loadsOwn, putsOwn, stepFirst, clears}
 use Rattle.threads.specs.Crew.{Crew, owed}
 use Rattle.threads.specs.Promises.{onRow, OwesLabel, OwesMark}
 use Rattle.threads.proofs.follow.Overlay.{overlay, Over, over, perform5, perform6, perform9}
@@ -224,12 +224,12 @@ module _ (now : Moment) where
         (λ e. I.plain now k₀ c Step (settle pooled slots r (linkOn T) .task) (settle pooled slots r (linkOn T) .outcome) (put-is five (linkOn T) refl false e))
 
     pub puts-goal : (w : ℕ) → p .act ≡ 5 → linkSound slots w ≡ true → Goal k₀ (putsOwn pooled slots T r w)
-    unfolding putsOwn
+    unfolding putsOwn isAsRead
     puts-goal w five sound =
         let k = ends (settle pooled slots r w .task) (settle pooled slots r w .outcome) in
-        by-test (Goal k₀) (eqb (linkOn T) w)
+        by-test (Goal k₀) (isAsRead T p w)
         (λ e. I.deciding now Step (record { tables = putOn G w; task = settle pooled slots r w .task; outcome = settle pooled slots r w .outcome })
-        (put-is five w (eqb-true _ _ e) true sound) k₀ (c .owes) (c .tells) (c .writes) (putOn T w) k (record {
+        (put-is five w (eqb-true (linkOn T) w e) true sound) k₀ (c .owes) (c .tells) (c .writes) (putOn T w) k (record {
           rest = ap (λ (X : Tables). putOn X w) (f .rest);
           labels-long = f .labels-long;
           marks-long = f .marks-long;
