@@ -6,6 +6,7 @@ pub mod LateStays
 pub mod Good
 pub mod Relation
 pub mod Instruction
+pub mod Clean
 pub mod Steps
 pub mod Starts
 pub mod Tick

@@ -18,7 +18,8 @@ use Rattle.threads.specs.Starts.{lateWord, loadsMark, takesSlot, settleStart}
 use Rattle.touch.specs.Started.{Started, startedBy}
 
 pub asks : (r : Record) (s : Start) {c d : Control} {w w′ o o′ : Bool} → c ≡ d → w ≡ w′ → o ≡ o′
-    → askedRefusal c r (s .side) (record { wrong = w; outside = o; taken = false }) ≡ askedRefusal d r (s .side) (record { wrong = w′; outside = o′; taken = false })
+    → askedRefusal c r (s .side) (record { wrong = w; outside = o; taken = false }) ≡ askedRefusal d r (s .side)
+    (record { wrong = w′; outside = o′; taken = false })
 asks r s ec ew eo = λ i. askedRefusal (ec i) r (s .side) (record { wrong = ew i; outside = eo i; taken = false })
 
 -- The tests of every start, with an Anchor that is not late and a mark that is clear.

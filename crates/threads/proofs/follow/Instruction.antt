@@ -1,8 +1,8 @@
--- What an instruction must show (Goal): one that decides nothing (quietly, waits), one that decides (turning, deciding, plain).
+-- What an instruction must show (Goal): one that decides nothing (quietly), one that decides (turning, deciding).
 use mathlib.Core.Path.{_≡_, refl, ap, sym, subst, _∙_}
 use mathlib.Core.Bool.{Bool, false, cond}
 use mathlib.Core.List.{List, [], _∷_, _++_}
-use Prim.Native.Nat.{ℕ, _<_, _≤_, _/_}
+use Prim.Native.Nat.{ℕ, _<_}
 use native.Mathlib.Omega.{arith}
 use lib.Dec.{eqb}
 use lib.ListN.{length, getD, set, length-set}
@@ -11,14 +11,13 @@ use borrow.Author.Tests.{eqb-true, eqb-false, eq-eqb}
 use Rattle.model.specs.declared.TaskRecord.{TaskRecord}
 use Rattle.model.specs.declared.Outcome.{Outcome}
 use Rattle.model.specs.declared.Op.{Op}
-use Rattle.model.specs.Tables.{Tables, Queue, taskAt, recordAt, marked, withMark, unused}
+use Rattle.model.specs.Tables.{Tables, Queue, taskAt, recordAt, marked, unused}
 use Rattle.model.specs.Places.{row}
 use Rattle.model.specs.Lists.{All}
 use Rattle.model.specs.History.{Event}
 use Rattle.model.specs.Calls.{Acted, Done, act, back}
 use Rattle.model.specs.declared.Outcome.the-variants.{Refused}
 use Rattle.model.proofs.tests.Truth.{split}
-use Rattle.model.proofs.bridge.Marks.{marked-same, marked-other}
 use Rattle.model.proofs.invariant.Owners.{held}
 use Rattle.threads.specs.Split.{plan}
 use Rattle.threads.specs.Turns.{Turn, take, runTurns, finalTurns}
@@ -96,7 +95,8 @@ module _ (now : Moment) where
     pub task : recordOf k r′ ≡ taskAt q′ t
     pub extra : Extra tasks pooled slots t r′ (q′ .tables .labels) k
     pub others : (u : ℕ) → (u ≡ t → ⊥) → taskAt q′ u ≡ taskAt q u
-    pub kept : (u : ℕ) → (u ≡ t → ⊥) → (k : Hand) → m .hands u ≡ k → Extra tasks pooled slots u (taskAt (m .queue) u) (G .labels) k → Extra tasks pooled slots u (taskAt (m .queue) u) (q′ .tables .labels) k
+    pub kept : (u : ℕ) → (u ≡ t → ⊥) → (k : Hand) → m .hands u ≡ k → Extra tasks pooled slots u (taskAt (m .queue) u) (G .labels) k
+        → Extra tasks pooled slots u (taskAt (m .queue) u) (q′ .tables .labels) k
 
   pub build : (T′ : Tables) (r′ : TaskRecord) (k : Hand) (q′ : Queue) → Next T′ r′ k q′ → Sim tasks pooled slots (after T′ r′ k) q′
   build T′ r′ k q′ n = record {
@@ -114,11 +114,15 @@ module _ (now : Moment) where
         (subst (λ (r : TaskRecord). recordOf (m .hands u) r ≡ taskAt q′ u) (sym (getD-set-other (m .queue .records) t u r′ unused (eqb-false u t e)))
         (f .records u ∙ sym (n .others u (eqb-false u t e)))));
     extra = λ u. split (eqb u t)
-        (λ e. subst (λ (u : ℕ). Extra tasks pooled slots u (getD (set (m .queue .records) t r′) u unused) (q′ .tables .labels) (withHand (m .hands) t k u)) (sym (eqb-true u t e))
-        (subst (λ (b : Bool). Extra tasks pooled slots t (getD (set (m .queue .records) t r′) t unused) (q′ .tables .labels) (cond b k (m .hands t))) (sym (eq-eqb t t refl))
+        (λ e. subst (λ (u : ℕ). Extra tasks pooled slots u (getD (set (m .queue .records) t r′) u unused) (q′ .tables .labels) (withHand (m .hands) t k u))
+        (sym (eqb-true u t e))
+        (subst (λ (b : Bool). Extra tasks pooled slots t (getD (set (m .queue .records) t r′) t unused) (q′ .tables .labels) (cond b k (m .hands t)))
+        (sym (eq-eqb t t refl))
         (subst (λ (r : TaskRecord). Extra tasks pooled slots t r (q′ .tables .labels) k) (sym (getD-set-same (m .queue .records) t r′ unused low)) (n .extra))))
-        (λ e. subst (λ (b : Bool). Extra tasks pooled slots u (getD (set (m .queue .records) t r′) u unused) (q′ .tables .labels) (cond b k (m .hands u))) (sym e)
-        (subst (λ (r : TaskRecord). Extra tasks pooled slots u r (q′ .tables .labels) (m .hands u)) (sym (getD-set-other (m .queue .records) t u r′ unused (eqb-false u t e)))
+        (λ e. subst (λ (b : Bool). Extra tasks pooled slots u (getD (set (m .queue .records) t r′) u unused) (q′ .tables .labels) (cond b k (m .hands u)))
+        (sym e)
+        (subst (λ (r : TaskRecord). Extra tasks pooled slots u r (q′ .tables .labels) (m .hands u))
+        (sym (getD-set-other (m .queue .records) t u r′ unused (eqb-false u t e)))
         (n .kept u (eqb-false u t e) (m .hands u) refl (f .extra u))));
   }
 
@@ -139,7 +143,8 @@ module _ (now : Moment) where
       append-none (x ∷ l) = ap (λ (l : List Outcome). x ∷ l) (append-none l)
 
   -- Where a hand's facts don't depend on the labels, they stay.
-  pub stays : (u : ℕ) → (u ≡ t → ⊥) → (k : Hand) → m .hands u ≡ k → Extra tasks pooled slots u (taskAt (m .queue) u) (G .labels) k → Extra tasks pooled slots u (taskAt (m .queue) u) (G .labels) k
+  pub stays : (u : ℕ) → (u ≡ t → ⊥) → (k : Hand) → m .hands u ≡ k → Extra tasks pooled slots u (taskAt (m .queue) u) (G .labels) k
+      → Extra tasks pooled slots u (taskAt (m .queue) u) (G .labels) k
   stays u ne k e z = z
 
   abbrev pub turn : Op → Bool → Turn
@@ -165,7 +170,8 @@ module _ (now : Moment) where
     -- A label that another has read at 11 stays.
     read-stays : Wrote (G .labels) a → (u : ℕ) → u < tasks → (u ≡ t → ⊥) → m .hands u ≡ m .hands u → taskAt (m .queue) u ≡ taskAt q u
         → plan pooled slots (taskAt (m .queue) u .call) .act ≡ 6
-        → getD (a .tables .labels) (plan pooled slots (taskAt (m .queue) u .call) .slot) 0 ≡ getD (G .labels) (plan pooled slots (taskAt (m .queue) u .call) .slot) 0
+        → getD (a .tables .labels) (plan pooled slots (taskAt (m .queue) u .call) .slot) 0 ≡ getD (G .labels)
+        (plan pooled slots (taskAt (m .queue) u .call) .slot) 0
     read-stays (none e) u lu ne _ same six = ap (λ (l : List ℕ). getD l (plan pooled slots (taskAt (m .queue) u .call) .slot) 0) e
     read-stays (one slot label e k) u lu ne _ same six =
         let s = says pooled slots (taskAt (m .queue) u .call) .six six in
@@ -253,63 +259,3 @@ module _ (now : Moment) where
   pub deciding : (op : Op) (a : Acted) (is : act q t op ≡ back q t a) (k₀ : Hand) → owed k₀ ≡ [] → tells k₀ ≡ [] → written k₀ r ≡ r
       → (T′ : Tables) (k : Hand) → Decided op false a (now-is op a is) (now-good op) (now-never op) T′ k → Goal k₀ (decided op T′ k)
   deciding op a is = turning op false a (now-is op a is) (now-good op) (now-never op)
-
-  -- A hand that owes nothing, and has nothing to tell or to write.
-  pub record Clean (k₀ : Hand) : Type 0 where
-    pub at : m .hands t ≡ k₀
-    pub owes : owed k₀ ≡ []
-    pub tells : tells k₀ ≡ []
-    pub writes : written k₀ r ≡ r
-    pub reads : r ≡ taskAt q t
-    pub labels : (x : ℕ) → OwesLabel k₀ x → ⊥
-    pub marks : (x : ℕ) → OwesMark k₀ x → ⊥
-
-  module _ (k₀ : Hand) (c : Clean k₀) where
-    pub no-label : (k : Hand) (x : ℕ) → ((u : ℕ) → OwesLabel (withHand (m .hands) t k u) x → ⊥) → getD (T .labels) x 0 ≡ getD (G .labels) x 0
-    no-label k x never = f .labels x (before OwesLabel k x (λ o. c .labels x (subst (λ (k : Hand). OwesLabel k x) (c .at) o)) never)
-
-    pub no-mark : (k : Hand) (x : ℕ) → ((u : ℕ) → OwesMark (withHand (m .hands) t k u) x → ⊥) → marked (T .marks) x ≡ marked (G .marks) x
-    no-mark k x never = f .marks x (before OwesMark k x (λ o. c .marks x (subst (λ (k : Hand). OwesMark k x) (c .at) o)) never)
-
-    -- It goes on, and decides nothing yet.
-    pub waits : (k : Hand) → owed k ≡ [] → recordOf k r ≡ r → Extra tasks pooled slots t r (G .labels) k → Goal k₀ (quiet T k)
-    waits k o e z = quietly k₀ T k (c .owes ∙ sym o ∙ ap (λ (l : List Outcome). l ++ owed k) (sym (c .tells))) (record {
-      rest = f .rest;
-      labels-long = f .labels-long;
-      marks-long = f .marks-long;
-      labels = no-label k;
-      marks = no-mark k;
-      long = f .long;
-      task = subst (λ (x : TaskRecord). recordOf k x ≡ taskAt q t) (sym (c .writes)) (e ∙ c .reads);
-      extra = subst (λ (x : TaskRecord). Extra tasks pooled slots t x (G .labels) k) (sym (c .writes)) z;
-      others = λ u ne. refl;
-      kept = stays;
-    })
-
-    -- It is decided, and no shared word is changed.
-    pub plain : (op : Op) (task : TaskRecord) (o : Outcome) → act q t op ≡ back q t (record { tables = G; task = task; outcome = o })
-        → Goal k₀ (decided op T (ends task o))
-    plain op task o is =
-        deciding op (record { tables = G; task = task; outcome = o }) is k₀ (c .owes) (c .tells) (c .writes) T (ends task o) (record {
-          rest = f .rest;
-          labels-long = f .labels-long;
-          marks-long = f .marks-long;
-          labels = no-label (ends task o);
-          marks = no-mark (ends task o);
-          wrote = none refl;
-          task = refl;
-          extra = tt;
-          owes = refl;
-        })
-
-    -- A mark put by both.
-    pub put-marks : (slot b : ℕ) → b < 2 → slot ≤ slots → (k : Hand) (x : ℕ) → ((u : ℕ) → OwesMark (withHand (m .hands) t k u) x → ⊥)
-        → marked (withMark (T .marks) slot b) x ≡ marked (withMark (G .marks) slot b) x
-    put-marks slot b two le k x never =
-        let room = own.mark-room tasks pooled slots q g slot le in
-        let room′ : slot / 64 < length (T .marks) = subst (λ (n : ℕ). slot / 64 < n) (sym (f .marks-long)) room in
-        split (eqb x slot)
-        (λ e. subst (λ (x : ℕ). marked (withMark (T .marks) slot b) x ≡ marked (withMark (G .marks) slot b) x) (sym (eqb-true _ _ e))
-        (marked-same (T .marks) slot b two room′ ∙ sym (marked-same (G .marks) slot b two room)))
-        (λ e. marked-other (T .marks) slot b two room′ x (eqb-false _ _ e) ∙ no-mark k x never
-        ∙ sym (marked-other (G .marks) slot b two room x (eqb-false _ _ e)))

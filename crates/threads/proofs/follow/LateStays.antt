@@ -180,7 +180,8 @@ module _ (pooled slots : ℕ) where
     abbrev asked : PlannedTouch
     asked = plan pooled slots (r .call)
 
-    ending : (k₀ : Hand) (q : Tables) (task : TaskRecord) (o : Outcome) (ds : List Op) → Left k₀ (record { tables = q; hand = ends task o; decides = ds; early = false })
+    ending : (k₀ : Hand) (q : Tables) (task : TaskRecord) (o : Outcome) (ds : List Op) → Left k₀
+        (record { tables = q; hand = ends task o; decides = ds; early = false })
     ending k₀ q task o ds = record { hand = tt; claim = λ e. absurd (not-both e refl); early = λ _. refl }
 
     loads-left : (k₀ : Hand) → Left k₀ (loadsOwn pooled slots q r)
@@ -218,7 +219,8 @@ module _ (pooled slots : ℕ) where
         (by-test (Left k₀) (late (q .control)) (λ e. record { hand = e; claim = λ e. absurd (not-both e refl); early = λ _. refl })
         (λ e. record { hand = tt; claim = λ _. e; early = λ _. refl }))
         (ending k₀ _ _ _ _))
-    tick-left (begun (Pop side)) = subst (Left (begun (Pop side))) (sym (first-pop q r pooled slots side)) (plain-left (begun (Pop side)) (Pop side) (ownRefusal pooled slots (r .call) side false false) (started 1 side 0 0) 1)
+    tick-left (begun (Pop side)) = subst (Left (begun (Pop side))) (sym (first-pop q r pooled slots side))
+        (plain-left (begun (Pop side)) (Pop side) (ownRefusal pooled slots (r .call) side false false) (started 1 side 0 0) 1)
     tick-left (begun (Put side label)) =
         subst (Left (begun (Put side label))) (sym (first-put q r pooled slots side label))
         (plain-left (begun (Put side label)) (Put side label) (ownRefusal pooled slots (r .call) side (not (eqb pooled 1)) false) (asking side label) 12)

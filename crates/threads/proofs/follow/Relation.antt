@@ -71,7 +71,8 @@ module _ (tasks pooled slots : ℕ) where
     pub holds-held : (u : ℕ) → u < tasks → (x : ℕ) → Holds (taskAt q u) x → h x ≡ held u
     holds-held u lu x k = subst (λ (x : ℕ). h x ≡ held u) (k .slot) (own.own1 tasks pooled slots q g u lu (k .place) (k .kind) .0)
 
-    pub owes-label : (u x : ℕ) (k : Hand) → recordOf k (taskAt (m .queue) u) ≡ taskAt q u → Extra u (taskAt (m .queue) u) (G .labels) k → OwesLabel k x → h x ≡ held u
+    pub owes-label : (u x : ℕ) (k : Hand) → recordOf k (taskAt (m .queue) u) ≡ taskAt q u → Extra u (taskAt (m .queue) u) (G .labels) k → OwesLabel k x
+        → h x ≡ held u
     owes-label u x free e z o = absurd o
     owes-label u x (begun op) e z o = absurd o
     owes-label u x (loaded w) e z o = absurd o

@@ -32,6 +32,7 @@ use Rattle.model.proofs.unsound.StartSafe.{Room}
 use Rattle.threads.proofs.follow.Good as own
 use Rattle.threads.proofs.follow.Good.{Good}
 use Rattle.threads.proofs.follow.Instruction as I
+use Rattle.threads.proofs.follow.Clean as C
 use Rattle.threads.proofs.follow.Relation as R
 use Rattle.threads.proofs.follow.Relation.{Holds, Moment, Sim, none, one}
 
@@ -96,7 +97,7 @@ module _ (now : Moment) where
   abbrev Goal : Hand → Ticked → Type 0
   Goal = I.Goal now
 
-  module _ (k₀ : Hand) (c : I.Clean now k₀) where
+  module _ (k₀ : Hand) (c : C.Clean now k₀) where
     late-is : late (T .control) ≡ late (G .control)
     late-is = ap late (R.control tasks pooled slots m q f g)
 
@@ -121,10 +122,11 @@ module _ (now : Moment) where
         let x : ℕ = cond false 32 (cond (late (G .control)) 33 0) in
         by-test (Goal k₀) (eqb n 0)
         (λ e. by-test (Goal k₀) (late (T .control))
-        (λ l. I.plain now k₀ c op r (Refused 33) (is ∙ ap (back q t) (decide-next n G r done x e ∙ decide-late n G r done false (late (G .control)) (sym late-is ∙ l))))
-        (λ l. I.plain now k₀ c op (withCall r call) (Moved (Running place))
+        (λ l. C.plain now k₀ c op r (Refused 33)
+        (is ∙ ap (back q t) (decide-next n G r done x e ∙ decide-late n G r done false (late (G .control)) (sym late-is ∙ l))))
+        (λ l. C.plain now k₀ c op (withCall r call) (Moved (Running place))
         (is ∙ ap (back q t) (decide-next n G r done x e ∙ decide-done n G r done false (late (G .control)) refl (sym late-is ∙ l)))))
-        (λ e. I.plain now k₀ c op r (Refused n) (is ∙ ap (back q t) (decide-own n G r done x e)))
+        (λ e. C.plain now k₀ c op r (Refused n) (is ∙ ap (back q t) (decide-own n G r done x e)))
 
     pub pop-goal : (side : ℕ) → Goal k₀ (startFirst pooled slots T r (Pop side) (pops side))
     unfolding act actOn popStart
@@ -170,9 +172,9 @@ module _ (now : Moment) where
           subst (Goal k₀) (sym (first-push T r pooled slots side slot label))
           (by-test (Goal k₀) (eqb n 0)
           (λ e. by-test (Goal k₀) (late (T .control))
-          (λ _. I.waits now k₀ c (looks side slot label) refl refl (eqb-true _ _ e))
-          (λ _. I.waits now k₀ c (claims side slot label) refl refl (eqb-true _ _ e)))
-          (λ e. I.plain now k₀ c op r (Refused n) (push-is ∙ ap (back q t) (decide-own n G r (pushed r) x e))))
+          (λ _. C.waits now k₀ c (looks side slot label) refl refl (eqb-true _ _ e))
+          (λ _. C.waits now k₀ c (claims side slot label) refl refl (eqb-true _ _ e)))
+          (λ e. C.plain now k₀ c op r (Refused n) (push-is ∙ ap (back q t) (decide-own n G r (pushed r) x e))))
 
       module _ (e : n ≡ 0) where
         passed : (eqb pooled 1 ≡ false) × (from1 slots slot ≡ true)
@@ -188,7 +190,7 @@ module _ (now : Moment) where
         pub looks-goal : late (T .control) ≡ true → Goal k₀ (looksMark T r side slot label)
         looks-goal l =
             subst (Goal k₀) (sym (looks-is T r side slot label))
-            (I.plain now k₀ c op r (Refused (cond (marked (T .marks) slot) 32 33))
+            (C.plain now k₀ c op r (Refused (cond (marked (T .marks) slot) 32 33))
             (to-next ∙ ap (back q t) (decide-late n G r (pushed r) (marked (G .marks) slot) (late (G .control)) (sym late-is ∙ l))
             ∙ ap (λ (b : Bool). back q t (record { tables = G; task = r; outcome = Refused (cond b 32 33) })) (sym same-mark)))
 
@@ -230,8 +232,8 @@ module _ (now : Moment) where
               rest = f .rest;
               labels-long = f .labels-long;
               marks-long = f .marks-long;
-              labels = I.no-label now k₀ c (ends r (Refused 32));
-              marks = I.no-mark now k₀ c (ends r (Refused 32));
+              labels = C.no-label now k₀ c (ends r (Refused 32));
+              marks = C.no-mark now k₀ c (ends r (Refused 32));
               wrote = none refl;
               task = refl;
               extra = tt;
@@ -242,8 +244,8 @@ module _ (now : Moment) where
               rest = ap (λ (X : Tables). withMarks X (withMark (T .marks) slot 1)) (f .rest);
               labels-long = f .labels-long ∙ sym (length-set (G .labels) slot label);
               marks-long = length-set (T .marks) (slot / 64) _ ∙ f .marks-long ∙ sym (length-set (G .marks) (slot / 64) _);
-              labels = λ y never. I.no-label now k₀ c k y never ∙ sym (getD-set-other (G .labels) slot y label 0 (λ z. I.own-owed now OwesLabel k y never z));
-              marks = I.put-marks now k₀ c slot 1 (omega arith) le k;
+              labels = λ y never. C.no-label now k₀ c k y never ∙ sym (getD-set-other (G .labels) slot y label 0 (λ z. I.own-owed now OwesLabel k y never z));
+              marks = C.put-marks now k₀ c slot 1 (omega arith) le k;
               wrote = one slot label refl holds;
               task = refl;
               extra = (lt, holds, refl, λ z. absurd (not-both z refl));

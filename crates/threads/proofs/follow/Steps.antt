@@ -34,6 +34,7 @@ use Rattle.threads.proofs.follow.Plans.{says, settle14}
 use Rattle.threads.proofs.follow.Good as own
 use Rattle.threads.proofs.follow.Good.{Good}
 use Rattle.threads.proofs.follow.Instruction as I
+use Rattle.threads.proofs.follow.Clean as C
 use Rattle.threads.proofs.follow.Relation as R
 use Rattle.threads.proofs.follow.Relation.{Holds, Moment, Sim, none, one}
 
@@ -80,7 +81,7 @@ module _ (now : Moment) where
   abbrev Goal : Hand → Ticked → Type 0
   Goal = I.Goal now
 
-  module _ (k₀ : Hand) (c : I.Clean now k₀) where
+  module _ (k₀ : Hand) (c : C.Clean now k₀) where
     abbrev p : PlannedTouch
     p = plan pooled slots (r .call)
 
@@ -112,8 +113,8 @@ module _ (now : Moment) where
           rest = O .tables ∙ (λ i. overlay (perform G p .tables) (sym same-labels i) (sym same-marks i));
           labels-long = ap (λ (l : List ℕ). length l) same-labels ∙ f .labels-long ∙ sym (ap (λ (l : List ℕ). length l) (O .labels));
           marks-long = ap (λ (l : List ℕ). length l) same-marks ∙ f .marks-long ∙ sym (ap (λ (l : List ℕ). length l) (O .marks));
-          labels = λ x never. ap (λ (l : List ℕ). getD l x 0) same-labels ∙ I.no-label now k₀ c k x never ∙ sym (ap (λ (l : List ℕ). getD l x 0) (O .labels));
-          marks = λ x never. ap (λ (l : List ℕ). marked l x) same-marks ∙ I.no-mark now k₀ c k x never ∙ sym (ap (λ (l : List ℕ). marked l x) (O .marks));
+          labels = λ x never. ap (λ (l : List ℕ). getD l x 0) same-labels ∙ C.no-label now k₀ c k x never ∙ sym (ap (λ (l : List ℕ). getD l x 0) (O .labels));
+          marks = λ x never. ap (λ (l : List ℕ). marked l x) same-marks ∙ C.no-mark now k₀ c k x never ∙ sym (ap (λ (l : List ℕ). marked l x) (O .marks));
           wrote = none (O .labels);
           task = ap (λ (w : ℕ). settle pooled slots r w .task) (O .found);
           extra = tt;
@@ -147,7 +148,7 @@ module _ (now : Moment) where
         ∙ ap (λ (b : Bool). back q t (record { tables = cond b drawn G; task = s .task; outcome = s .outcome })) e
 
     swap-failed : p .act ≡ 9 → eqb head (p .expected) ≡ false → Goal k₀ (decided Step T (ends (s .task) (s .outcome)))
-    swap-failed nine e = I.plain now k₀ c Step (s .task) (s .outcome) (swap-is nine false e)
+    swap-failed nine e = C.plain now k₀ c Step (s .task) (s .outcome) (swap-is nine false e)
 
     swap-done : p .act ≡ 9 → eqb head (p .expected) ≡ true
         → Goal k₀ (decided Step (withHead T (p .word)) (labels true (p .slot) (p .label) (s .task) (s .outcome)))
@@ -168,8 +169,10 @@ module _ (now : Moment) where
           rest = ap (λ (X : Tables). withHead X (p .word)) (f .rest);
           labels-long = f .labels-long ∙ sym (length-set (G .labels) (p .slot) (p .label));
           marks-long = f .marks-long ∙ sym (length-set (G .marks) (p .slot / 64) _);
-          labels = λ x never. I.no-label now k₀ c k x never ∙ sym (getD-set-other (G .labels) (p .slot) x (p .label) 0 (λ z. I.own-owed now OwesLabel k x never z));
-          marks = λ x never. I.no-mark now k₀ c k x never ∙ sym (marked-other (G .marks) (p .slot) 1 (omega arith) room x (λ z. I.own-owed now OwesMark k x never (refl, z)));
+          labels = λ x never. C.no-label now k₀ c k x never ∙ sym
+              (getD-set-other (G .labels) (p .slot) x (p .label) 0 (λ z. I.own-owed now OwesLabel k x never z));
+          marks = λ x never. C.no-mark now k₀ c k x never ∙ sym
+              (marked-other (G .marks) (p .slot) 1 (omega arith) room x (λ z. I.own-owed now OwesMark k x never (refl, z)));
           wrote = one (p .slot) (p .label) refl holds;
           task = refl;
           extra = (
@@ -188,11 +191,12 @@ module _ (now : Moment) where
         let at11 : recordAt q t .place ≡ 11 = ap (λ (r : TaskRecord). r .call .place) (sym (c .reads)) ∙ n .place in
         let mine : h (p .slot) ≡ held t =
         subst (λ (x : ℕ). h x ≡ held t) (sym (n .slot ∙ ap (λ (r : TaskRecord). row (r .call)) (c .reads))) (own.own11 tasks pooled slots q g t lt at11) in
-        I.waits now k₀ c (knows (getD (T .labels) (p .slot) 0)) refl refl (
+        C.waits now k₀ c (knows (getD (T .labels) (p .slot) 0)) refl refl (
           lt,
           six,
           f .labels (p .slot) (λ u o.
-              let same : t ≡ u = own.held-same tasks pooled slots q g t u (p .slot) mine (R.owes-label tasks pooled slots m q f g u (p .slot) (m .hands u) (f .records u) (f .extra u) o) in
+              let same : t ≡ u = own.held-same tasks pooled slots q g t u (p .slot) mine
+              (R.owes-label tasks pooled slots m q f g u (p .slot) (m .hands u) (f .records u) (f .extra u) o) in
               c .labels (p .slot) (subst (λ (k : Hand). OwesLabel k (p .slot)) (c .at) (subst (λ (u : ℕ). OwesLabel (m .hands u) (p .slot)) (sym same) o))),
         )
 
@@ -214,14 +218,15 @@ module _ (now : Moment) where
           task = settle pooled slots r (same-link i) .task;
           outcome = settle pooled slots r (same-link i) .outcome;
         }))
-        ∙ ap (λ (b : Bool). back q t (record { tables = cond b (putOn G w) G; task = settle pooled slots r w .task; outcome = settle pooled slots r w .outcome })) e
+        ∙ ap (λ (b : Bool). back q t
+        (record { tables = cond b (putOn G w) G; task = settle pooled slots r w .task; outcome = settle pooled slots r w .outcome })) e
 
     loads-goal : p .act ≡ 5 → Goal k₀ (loadsOwn pooled slots T r)
     unfolding loadsOwn
     loads-goal five =
         by-test (Goal k₀) (linkSound slots (linkOn T))
-        (λ e. I.waits now k₀ c (loaded (linkOn T)) refl refl (five, e))
-        (λ e. I.plain now k₀ c Step (settle pooled slots r (linkOn T) .task) (settle pooled slots r (linkOn T) .outcome) (put-is five (linkOn T) refl false e))
+        (λ e. C.waits now k₀ c (loaded (linkOn T)) refl refl (five, e))
+        (λ e. C.plain now k₀ c Step (settle pooled slots r (linkOn T) .task) (settle pooled slots r (linkOn T) .outcome) (put-is five (linkOn T) refl false e))
 
     pub puts-goal : (w : ℕ) → p .act ≡ 5 → linkSound slots w ≡ true → Goal k₀ (putsOwn pooled slots T r w)
     unfolding putsOwn isAsRead
@@ -233,8 +238,8 @@ module _ (now : Moment) where
           rest = ap (λ (X : Tables). putOn X w) (f .rest);
           labels-long = f .labels-long;
           marks-long = f .marks-long;
-          labels = I.no-label now k₀ c k;
-          marks = I.no-mark now k₀ c k;
+          labels = C.no-label now k₀ c k;
+          marks = C.no-mark now k₀ c k;
           wrote = none refl;
           task = refl;
           extra = tt;
@@ -266,8 +271,8 @@ module _ (now : Moment) where
           rest = ap (λ (X : Tables). withMarks X (withMark (T .marks) (p .slot) 0)) (f .rest);
           labels-long = f .labels-long;
           marks-long = length-set (T .marks) (p .slot / 64) _ ∙ f .marks-long ∙ sym (length-set (G .marks) (p .slot / 64) _);
-          labels = I.no-label now k₀ c k;
-          marks = I.put-marks now k₀ c (p .slot) 0 (omega arith) (row-within (ap onRow six)) k;
+          labels = C.no-label now k₀ c k;
+          marks = C.put-marks now k₀ c (p .slot) 0 (omega arith) (row-within (ap onRow six)) k;
           wrote = none refl;
           task = refl;
           extra = tt;

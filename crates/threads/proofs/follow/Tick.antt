@@ -91,7 +91,8 @@ module _ (now : Moment) where
     mark-there = ap (marked (G .marks)) (sym (held-here .slot)) ∙ own.marked1 tasks pooled slots q g t lt (held-here .place) (held-here .kind)
 
     store-label : (both : Bool) (label : ℕ) (k : Hand) → m .hands t ≡ labels both slot label task o → task .call .label ≡ label
-        → owed k ≡ o ∷ [] → recordOf k r ≡ task → Extra tasks pooled slots t r (G .labels) k → ((x : ℕ) → OwesMark (labels both slot label task o) x → OwesMark k x)
+        → owed k ≡ o ∷ [] → recordOf k r ≡ task → Extra tasks pooled slots t r (G .labels) k →
+        ((x : ℕ) → OwesMark (labels both slot label task o) x → OwesMark k x)
         → Goal (labels both slot label task o) (quiet (withLabels T (set (T .labels) slot label)) k)
     store-label both label k at is-label owes rec extra still =
         let room : slot < length (T .labels) = subst (λ (n : ℕ). slot < n) (sym (f .labels-long)) (own.label-room tasks pooled slots q g slot le) in
@@ -104,7 +105,8 @@ module _ (now : Moment) where
               (getD-set-same (T .labels) slot label 0 room ∙ sym is-label ∙ sym label-there))
               (λ e. getD-set-other (T .labels) slot x label 0 (eqb-false _ _ e)
               ∙ f .labels x (I.before now OwesLabel k x (λ z. eqb-false _ _ e (subst (λ (k : Hand). OwesLabel k x) at z)) never));
-          marks = λ x never. f .marks x (I.before now OwesMark k x (λ z. I.own-owed now OwesMark k x never (still x (subst (λ (k : Hand). OwesMark k x) at z))) never);
+          marks = λ x never. f .marks x
+              (I.before now OwesMark k x (λ z. I.own-owed now OwesMark k x never (still x (subst (λ (k : Hand). OwesMark k x) at z))) never);
           long = f .long;
           task = rec ∙ same;
           extra = extra;

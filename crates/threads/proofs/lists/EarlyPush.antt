@@ -92,7 +92,8 @@ module _ (q : Queue) (t side slot : ℕ) where
   unfolding rowsFit
   early-fits label = λ i.
       every (ltb (G .control .slots) (length (G .lefts)) ∷ ltb (G .control .slots) (length (G .rights))
-      ∷ ltb (G .control .slots) (length-set (G .labels) slot label i) ∷ ltb (G .control .slots / 64) (length-set (G .marks) (slot / 64) (putBit (getD (G .marks) (slot / 64) 0) (slot % 64) 1) i)
+      ∷ ltb (G .control .slots) (length-set (G .labels) slot label i) ∷ ltb (G .control .slots / 64)
+      (length-set (G .marks) (slot / 64) (putBit (getD (G .marks) (slot / 64) 0) (slot % 64) 1) i)
       ∷ (not (isPooled (G .control)) || ltb (G .control .slots) (length (G .next))) ∷ [])
       && leb (G .control .tasks) (length-set (q .records) t (withCall (taskAt q t) (started 0 side slot label)) i)
 

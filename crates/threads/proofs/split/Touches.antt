@@ -64,15 +64,19 @@ module _ (r : Record) where
   unfolding move at2
   touch2 pooled slots = ap (λ (b : Bool). cond b (done (setAnchor new2) (atPlace r 2)) (again 2 (asRead pooled slots)) .touch) (same (r .seen))
 
-  pub moves4 : (c : Control) (w : ℕ) → move c (atPlace r 4) w ≡ cond (eqb (c .anchor) (r .seen)) (done (setAnchor (new4 (atPlace r 4))) (cond (isPush r) (withSeen (atPlace r 4) (new4 (atPlace r 4)) 1) (atPlace r 4))) (again 4 c)
+  pub moves4 : (c : Control) (w : ℕ) → move c (atPlace r 4) w ≡ cond (eqb (c .anchor) (r .seen))
+      (done (setAnchor (new4 (atPlace r 4))) (cond (isPush r) (withSeen (atPlace r 4) (new4 (atPlace r 4)) 1) (atPlace r 4))) (again 4 c)
   unfolding move at4
   moves4 c w = refl
 
   pub touch4 : (pooled slots : ℕ) → touchAsRead pooled slots (atPlace r 4) ≡ setAnchor (new4 (atPlace r 4))
   unfolding move at4
-  touch4 pooled slots = ap (λ (b : Bool). cond b (done (setAnchor (new4 (atPlace r 4))) (cond (isPush r) (withSeen (atPlace r 4) (new4 (atPlace r 4)) 1) (atPlace r 4))) (again 4 (asRead pooled slots)) .touch) (same (r .seen))
+  touch4 pooled slots = ap
+      (λ (b : Bool). cond b (done (setAnchor (new4 (atPlace r 4))) (cond (isPush r) (withSeen (atPlace r 4) (new4 (atPlace r 4)) 1) (atPlace r 4)))
+      (again 4 (asRead pooled slots)) .touch) (same (r .seen))
 
-  pub moves10 : (c : Control) (w : ℕ) → move c (atPlace r 10) w ≡ cond (eqb (c .anchor) (r .seen)) (done (setAnchor new10) (atPlace r 10)) (failed (atPlace r 10) 1)
+  pub moves10 : (c : Control) (w : ℕ) → move c (atPlace r 10) w ≡ cond (eqb (c .anchor) (r .seen)) (done (setAnchor new10) (atPlace r 10))
+      (failed (atPlace r 10) 1)
   unfolding move at10
   moves10 c w = refl
 
@@ -88,13 +92,15 @@ module _ (r : Record) where
   unfolding move at9
   touch9 pooled slots = ap (λ (b : Bool). cond b (done swap9 (atPlace r 9)) (failed (atPlace r 9) 1) .touch) (same (r .link))
 
-  pub moves14 : (c : Control) (w : ℕ) → move c (atPlace r 14) w ≡ cond (eqb (c .head) (r .link)) (done draw14 (withOwn (atPlace r 14) (row (atPlace r 14)) (r .label))) (failed (atPlace r 14) 1)
+  pub moves14 : (c : Control) (w : ℕ) → move c (atPlace r 14) w ≡ cond (eqb (c .head) (r .link))
+      (done draw14 (withOwn (atPlace r 14) (row (atPlace r 14)) (r .label))) (failed (atPlace r 14) 1)
   unfolding move at14
   moves14 c w = refl
 
   pub touch14 : (pooled slots : ℕ) → touchAsRead pooled slots (atPlace r 14) ≡ draw14
   unfolding move at14
-  touch14 pooled slots = ap (λ (b : Bool). cond b (done draw14 (withOwn (atPlace r 14) (row (atPlace r 14)) (r .label))) (failed (atPlace r 14) 1) .touch) (same (r .link))
+  touch14 pooled slots = ap (λ (b : Bool). cond b (done draw14 (withOwn (atPlace r 14) (row (atPlace r 14)) (r .label))) (failed (atPlace r 14) 1) .touch)
+      (same (r .link))
 
   pub moves17 : (c : Control) (w : ℕ) → move c (atPlace r 17) w ≡ cond (eqb (c .head) (r .link)) (done swap17 (atPlace r 17)) (failed (atPlace r 17) 1)
   unfolding move at17

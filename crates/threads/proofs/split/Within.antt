@@ -72,7 +72,8 @@ module _ (pooled slots : ℕ) (r : Record) where
       (λ k. split (from1 slots (r .own))
       (λ f. subst (Within slots) (asks.put3 pooled slots r k f) (λ h. f))
       (λ f. subst (Within slots) (asks.refused3 pooled slots r k f) (λ h. never h refl)))
-      (λ k. tested (asks.end pooled slots r (asks.own pooled slots r)) (cond (asks.own pooled slots r) 0 1) (planned pooled slots (atPlace r 3)) (asks.read3 pooled slots r k))
+      (λ k. tested (asks.end pooled slots r (asks.own pooled slots r)) (cond (asks.own pooled slots r) 0 1) (planned pooled slots (atPlace r 3))
+      (asks.read3 pooled slots r k))
 
   ok4 : ok 4
   ok4 = changes made4 (planned pooled slots (atPlace r 4)) (asks.plan4 pooled slots r status4 end4 made4 refl refl refl)
@@ -146,7 +147,8 @@ module _ (pooled slots : ℕ) (r : Record) where
       let n = r .place in
       turn P 1 n low (λ _. subst (Within slots) (asks.plan1 pooled slots r) (λ h. never h refl))
       (λ h. turn P 2 n h (λ _. ok2) (λ h. turn P 3 n h (λ _. ok3) (λ h. turn P 4 n h (λ _. ok4)
-      (λ h. turn P 5 n h (λ _. tested (asks.end pooled slots r (asks.named pooled slots r)) (cond (asks.named pooled slots r) 0 1) (planned pooled slots (atPlace r 5)) (asks.plan5 pooled slots r))
+      (λ h. turn P 5 n h (λ _. tested (asks.end pooled slots r (asks.named pooled slots r)) (cond (asks.named pooled slots r) 0 1)
+      (planned pooled slots (atPlace r 5)) (asks.plan5 pooled slots r))
       (λ h. turn P 6 n h (λ _. subst (Within slots) (asks.plan6 pooled slots r) (λ h. never h refl))
       (λ h. turn P 7 n h (λ _. tested (r .neighbour) (cond (asks.named pooled slots r) 1 0) (planned pooled slots (atPlace r 7)) (asks.plan7 pooled slots r))
       (λ h. turn P 8 n h (λ _. subst (Within slots) (asks.plan8 pooled slots r) (λ h. never h refl))

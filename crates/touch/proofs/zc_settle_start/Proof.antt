@@ -13,7 +13,8 @@ returns c =
     let a = st .before .before .args in
     let was = a .task .now in
     c .settle-start .ensures
-    ∙ ap (λ (s : Start). startedBy (a .pooled) (a .slots) (upperOf was) (recordOf was) (settleStart (recordOf was) s (a .act) (a .found))) (st .start-of .ensures)
+    ∙ ap (λ (s : Start). startedBy (a .pooled) (a .slots) (upperOf was) (recordOf was) (settleStart (recordOf was) s (a .act) (a .found)))
+    (st .start-of .ensures)
 
 pub zc-settle-start-spec : {M : Type 1} → statement M
 zc-settle-start-spec = tie.close (tie.spec (λ c κs. search needs) (λ c κs. search needs) returns)

@@ -8,7 +8,8 @@ returns : tie.Need-returns
 returns c =
     let a = c .before .before .before .before .args in
     c .decides .ensures
-    ∙ by-mark (a .pooled) (a .slots) (a .task .now) (a .s) (a .act) (a .found) (c .before .by-mark .result) (c .before .before .before .if1 .taken) (c .before .by-mark .ensures)
+    ∙ by-mark (a .pooled) (a .slots) (a .task .now) (a .s) (a .act) (a .found) (c .before .by-mark .result) (c .before .before .before .if1 .taken)
+    (c .before .by-mark .ensures)
 
 returns-2 : tie.Need-returns-2
 returns-2 c =
