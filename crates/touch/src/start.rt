@@ -143,7 +143,7 @@ fn decides(
 {
     let was = *task;
     if why != 0 {
-        let p = crate::plan(pooled, slots, rows::call_of(was));
+        let p = crate::plan(pooled, slots, task);
         return Onward {
             reply: Reply {
                 code: why,
@@ -156,7 +156,7 @@ fn decides(
     let call = first_call(s);
     let after = rows::record_row(call, was[9]);
     *task = after;
-    let p = crate::plan(pooled, slots, call);
+    let p = crate::plan(pooled, slots, task);
     Onward {
         reply: Reply {
             code: 1,

@@ -20,7 +20,7 @@ array-read-counted c = search needs
 returns : tie.Need-returns
 unfolding recordOf
 returns c =
-    let rp = c .before in
+    let rp = c .before .before in
     let row = rp .before in
     let cnt = row .before in
     let then = cnt .before in
@@ -39,12 +39,12 @@ returns c =
           (co .call-of .ensures) (st .settle .ensures) (rp .reply .ensures)
           (row .record-row .result) (cnt .counted .result) (cnt .counted .ensures) (row .record-row .ensures)
           moves,
-      c .next .ensures (a .pooled) sound ∙ ap (plan (a .pooled) (a .slots)) (sym same),
+      c .next .ensures (a .pooled) (ap (recordSound (eqb (a .pooled) 1) (a .slots)) same ∙ sound),
     )
 
 returns-2 : tie.Need-returns-2
 returns-2 c =
-    let rp = c .before in
+    let rp = c .before .before in
     let left = rp .before in
     let mv = left .before in
     let st = mv .before in
@@ -53,7 +53,7 @@ returns-2 c =
       kept (a .pooled) (a .slots) (a .found) (a .task .now) (co .call-of .result) (st .settle .result) (rp .reply2 .result)
           (co .call-of .ensures) (st .settle .ensures) (rp .reply2 .ensures)
           (sym (mv .moves .ensures) ∙ left .if1 .left),
-      c .plan .ensures ∙ ap (plan (a .pooled) (a .slots)) (co .call-of .ensures),
+      c .plan .ensures,
     )
 
 pub zc-settle-plan-spec : {M : Type 1} → statement M
