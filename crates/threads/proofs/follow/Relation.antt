@@ -14,7 +14,7 @@ use Rattle.model.proofs.invariant.Owners.{Owner, held}
 use Rattle.threads.specs.Split.{plan}
 use Rattle.threads.specs.Instructions.{Hand, free, begun, loaded, knows, claims, looks, labels, marks, ends}
 use Rattle.threads.specs.Crew.{Crew, owed}
-use Rattle.threads.specs.Promises.{recordOf, OwesLabel, OwesMark}
+use Rattle.threads.specs.Promises.{recordOf, OwesLabel, OwesMark, Agrees}
 use Rattle.threads.proofs.follow.Overlay.{overlay}
 use Rattle.threads.proofs.follow.Starting.{namedOwn}
 use Rattle.threads.proofs.follow.Good as own
@@ -53,6 +53,18 @@ module _ (tasks pooled slots : ℕ) where
     pub long : length (m .queue .records) ≡ length (q .records)
     pub records : (t : ℕ) → recordOf (m .hands t) (taskAt (m .queue) t) ≡ taskAt q t
     pub extra : (t : ℕ) → Extra t (taskAt (m .queue) t) (q .tables .labels) (m .hands t)
+
+  -- What the simulation says of memory.
+  pub agrees : (m : Crew) (q : Queue) → Sim m q → Agrees m q
+  agrees m q f = record {
+    control = ap (λ (x : Tables). x .control) (f .rest);
+    lefts = ap (λ (x : Tables). x .lefts) (f .rest);
+    rights = ap (λ (x : Tables). x .rights) (f .rest);
+    next = ap (λ (x : Tables). x .next) (f .rest);
+    labels = f .labels;
+    marks = f .marks;
+    records = f .records;
+  }
 
   module _ (m : Crew) (q : Queue) (f : Sim m q) (g : Good tasks pooled slots q) where
     abbrev pub T : Tables
