@@ -12,13 +12,15 @@ use Rattle.model.specs.declared.Outcome.the-variants.{Refused}
 use Rattle.model.specs.declared.Opening.the-variants.{Opened}
 use Rattle.model.specs.Tables.{Tables, Queue, taskAt, marked}
 use Rattle.model.specs.Sound.{from1}
-use Rattle.model.specs.Refusals.{admission, alone, fits}
-use Rattle.model.specs.Calls.{openAs, stepLent}
+use Rattle.model.specs.Refusals.{admission, alone, fits, late}
+use Rattle.model.specs.Calls.{act, openAs, stepLent}
 use Rattle.model.specs.History.{ledger, Call, Lawful}
 use Rattle.model.specs.Walk.{contents, entries}
 use Rattle.model.specs.Lists.{All}
 use Rattle.threads.specs.Split.{plan, splitStep}
-use Rattle.threads.specs.Turns.{runTurns, finalTurns}
+use Rattle.threads.specs.declared.Start.{Start}
+use Rattle.threads.specs.Starts.{isNamed, planStart}
+use Rattle.threads.specs.Turns.{Turn, take, runTurns, finalTurns}
 use Rattle.threads.specs.Instructions.{Hand, free, begun, loaded, knows, claims, looks, labels, marks, ends}
 use Rattle.threads.specs.Crew.{Crew, Act, allFree, Known, goOn, turns, told, outcomesOf, owed}
 
@@ -33,6 +35,14 @@ onRow act = (leb 3 act && leb act 6) || leb 9 act
 
 abbrev pub PlansWithin : Type 0
 PlansWithin = (pooled slots : ℕ) (r : Record) → onRow (plan pooled slots r .act) ≡ true → from1 slots (plan pooled slots r .slot) ≡ true
+
+-- A start that gets as far as its touches is for a slot of 1 to slots, if it names one (12 and 13 are of that slot).
+abbrev pub StartsWithin : Type 0
+StartsWithin = (pooled slots : ℕ) (r : Record) (s : Start) → planStart pooled slots r s .act ≡ 1 → isNamed s ≡ true → from1 slots (s .slot) ≡ true
+
+-- A turn that was early is one as ever where Anchor is not late.
+abbrev pub EarlyAsEver : Type 0
+EarlyAsEver = (q : Queue) (u : Turn) → late (q .tables .control) ≡ false → take q u ≡ act q (u .task) (u .op)
 
 -- THREADS. A label or a mark that is to be stored.
 abbrev pub OwesLabel : Hand → ℕ → Type 0

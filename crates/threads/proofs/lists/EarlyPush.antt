@@ -3,6 +3,7 @@ use mathlib.Core.Path.{_≡_, refl, ap, sym, _∙_}
 use mathlib.Core.Bool.{Bool, true, false, _&&_, _||_, not, cond}
 use mathlib.Core.List.{List, [], _∷_, _++_}
 use Prim.Native.Nat.{ℕ, suc, _≤_, _/_, _%_}
+use native.Mathlib.Omega.{arith}
 use lib.Dec.{eqb, leb, ltb}
 use lib.ListN.{getD, length, length-set}
 use borrow.Author.Tests.{eqb-true, eqb-false, leb-true, not-false, not-true}
@@ -14,17 +15,19 @@ use Rattle.model.specs.declared.Op.{Op}
 use Rattle.model.specs.declared.Op.the-variants.{Push, Pop, Put, Step}
 use Rattle.model.specs.Tables.{Tables, Queue, isPooled, marked, putBit, recordAt, taskAt, taken, withCall, started}
 use Rattle.model.specs.Sound.{from1, controlSound, recordSound, rowsFit}
-use Rattle.model.specs.Refusals.{Rule, rule, first, among, fits, isBusy, late, recordsFit, pushRefusal, startRefusal}
+use Rattle.model.specs.Refusals.{Rule, rule, first, among, fits, isBusy, late, recordsFit, namedPush, pushRefusal, startRefusal, startRules}
 use Rattle.model.specs.Calls.{Acted, Done, act, back}
 use Rattle.model.specs.History.{Event, Ledger, ledgerFrom, note}
 use Rattle.model.specs.Lists.{All, every}
-use Rattle.model.proofs.tests.Truth.{and-true, by-test}
+use Rattle.model.proofs.tests.Truth.{and-true, by-test, either}
+use Rattle.model.proofs.tests.Rules.{_and_, never}
 use Rattle.model.proofs.laws.Sizes as sizes
 use Rattle.model.proofs.bridge.Accepted.{Lies, lies}
 use Rattle.model.proofs.bridge.Facts.{from1-true}
 use Rattle.model.proofs.ledger.EveryOperation.{act-good, push-good}
 use Rattle.model.proofs.ledger.Matched.{Matched}
 use Rattle.threads.specs.Turns.{Turn, actEarly, take, runTurns, finalTurns}
+use Rattle.threads.specs.Promises.{EarlyAsEver}
 
 -- Rules with other numbers than the answer did not apply.
 abbrev others : ℕ → List Rule → Bool
@@ -127,3 +130,24 @@ pub turns-good : (us : List Turn) (n : ℕ) (q : Queue) (l : Ledger) → Matched
 unfolding runTurns finalTurns ledgerFrom
 turns-good [] n q l g = (n, g)
 turns-good (u ∷ us) n q l g = turns-good us (suc n) (take q u .queue) _ (take-good n q l g (u .task) (u .op) (u .early))
+
+-- Where Anchor is not late 33 is no refusal.
+module _ (q : Queue) (t : ℕ) (l : late (q .tables .control) ≡ false) where
+  not-33 : (side slot : ℕ) → pushRefusal (q .tables) (among q t) (recordAt q t) side slot ≡ 33 → ⊥
+  unfolding startRefusal
+  not-33 side slot =
+      never 33 (startRules (q .tables .control) (fits (q .tables)) (among q t) (recordAt q t) side (namedPush (q .tables) slot)) (omega arith)
+      (refl and refl and refl and refl and refl and refl and refl and refl and refl and l and tt)
+
+  as-ever : (o : Op) → actEarly q t o ≡ act q t o
+  unfolding actEarly
+  as-ever (Push side slot label) =
+      by-test (λ (d : Done). d ≡ act q t (Push side slot label)) (eqb (pushRefusal (q .tables) (among q t) (recordAt q t) side slot) 33)
+      (λ e. absurd (not-33 side slot (eqb-true _ _ e))) (λ _. refl)
+  as-ever (Pop side) = refl
+  as-ever (Put side label) = refl
+  as-ever Step = refl
+
+pub early-as-ever : EarlyAsEver
+unfolding take
+early-as-ever q u l = either (λ (d : Done). d ≡ act q (u .task) (u .op)) (u .early) (as-ever q (u .task) l (u .op)) refl

@@ -1,10 +1,10 @@
--- A plan for a row names a slot, whatever the record holds.
-use mathlib.Core.Path.{_≡_, refl, subst, sym}
+-- A plan for a row names a slot, whatever the record holds; so does a start that is not refused.
+use mathlib.Core.Path.{_≡_, refl, ap, subst, sym, _∙_}
 use mathlib.Core.Bool.{Bool, true, false, _&&_, _||_, not, cond}
 use Prim.Native.Nat.{ℕ, suc, _+_, _/_, _^_, _≤_}
 use native.Mathlib.Omega.{arith}
 use lib.Dec.{eqb, leb}
-use borrow.Author.Tests.{eqb-true, eqb-false, le-leb, not-true}
+use borrow.Author.Tests.{eqb-true, eqb-false, le-leb, not-false, not-true}
 use Rattle.word.specs.Anchor.{anchorOf, packAnchor}
 use Rattle.word.specs.Link.{linkOf, spareOf}
 use Rattle.model.specs.Sides.{far, facing, pushing}
@@ -13,11 +13,13 @@ use Rattle.model.specs.declared.Record.{Record}
 use Rattle.model.specs.Tables.{atPlace}
 use Rattle.model.specs.Sound.{from1, linkSound, recordTests, recordSound}
 use Rattle.model.specs.Refusals.{recordRefusal}
-use Rattle.model.proofs.tests.Rules.{tests}
+use Rattle.model.proofs.tests.Rules.{cleared, tests}
 use Rattle.model.proofs.tests.Truth.{split, either, by-test, and-true, and-of, not-both}
 use Rattle.threads.specs.declared.PlannedTouch.{PlannedTouch}
 use Rattle.threads.specs.Split.{refuses, loadsAnchor, swapsAnchor, loadsLink, plan, planned}
-use Rattle.threads.specs.Promises.{onRow, PlansWithin}
+use Rattle.threads.specs.declared.Start.{Start}
+use Rattle.threads.specs.Starts.{ownRules, ownRefusal, wrongPush, outside, startWhy, planStart}
+use Rattle.threads.specs.Promises.{onRow, PlansWithin, StartsWithin}
 use Rattle.threads.proofs.split.Planned as asks
 use Rattle.threads.proofs.split.ByRecord as by
 
@@ -171,3 +173,13 @@ plans-within pooled slots r =
   where
     sound-of : recordRefusal (eqb pooled 1) slots r ≡ 0 → recordSound (eqb pooled 1) slots r ≡ true
     sound-of none = split (recordSound (eqb pooled 1) slots r) (λ s. s) (λ s. absurd (let z : _≡_ {A = ℕ} 34 0 = simp s at none in omega arith))
+
+-- A start that is not refused for its slot names one.
+pub starts-within : StartsWithin
+unfolding planStart ownRefusal
+starts-within pooled slots r s one named =
+    split (eqb (startWhy pooled slots r s) 0)
+    (λ z. let y = cleared (ownRules pooled slots r (s .side) (wrongPush pooled s) (outside slots s)) refl (eqb-true _ _ z) in
+    let e : not (from1 slots (s .slot)) ≡ false = sym (ap (λ (b : Bool). cond b (not (from1 slots (s .slot))) false) named) ∙ y .1 .1 .0 in
+    not-false _ e)
+    (λ z. absurd (let w : _≡_ {A = ℕ} 0 1 = sym (ap (λ (b : Bool). cond b loadsAnchor (refuses (startWhy pooled slots r s)) .act) z) ∙ one in omega arith))
