@@ -1,0 +1,135 @@
+// Threads push and pop at random sides, with pauses between instructions; then every label that was
+// pushed was popped once or waits once, and at rest the tables are sound. Every third turn is a FIFO:
+// pushes at the right, pops at the left, and each reader meets each writer's labels in their order.
+//
+//     accounts SECONDS [SEED]
+#include "team.h"
+
+#include <atomic>
+#include <chrono>
+#include <thread>
+
+namespace {
+
+enum { LABEL_BITS = 27 }; // above them the thread
+constexpr uint32_t NUMBER = (1u << LABEL_BITS) - 1;
+
+struct Turn {
+    bool pooled, fifo;
+    uint64_t threads, slots, calls, seed;
+};
+
+// What a thread did.
+struct Worker {
+    Own own;
+    std::vector<uint32_t> popped;
+    uint32_t pushed = 0;
+    uint64_t others = 0; // empty, no slot, slot taken
+};
+
+struct Totals {
+    uint64_t turns = 0, pushed = 0, popped = 0, others = 0, retries = 0;
+} totals;
+
+void push(Queue &queue, Worker &worker, uint64_t thread, uint64_t side)
+{
+    uint32_t label = static_cast<uint32_t>(thread << LABEL_BITS) | worker.pushed;
+    zc_reply reply = queue.call(&worker.own.record, queue.push(side, label));
+    bool none = reply.code == (queue.pooled ? ZC_NO_FREE_SLOT : ZC_TAKEN);
+    expect(none || reply.code == ZC_PUSHED, "a push answered otherwise");
+    worker.pushed += reply.code == ZC_PUSHED;
+    worker.others += none;
+}
+
+void pop(Queue &queue, Worker &worker, uint64_t side)
+{
+    zc_reply reply = queue.call(&worker.own.record, {ZC_ASK_POP, side, 0, 0});
+    expect(reply.code == ZC_POPPED || reply.code == ZC_EMPTY, "a pop answered otherwise");
+    if (reply.code == ZC_POPPED)
+        worker.popped.push_back(reply.label);
+    worker.others += reply.code == ZC_EMPTY;
+}
+
+void work(Queue &queue, Worker &worker, uint64_t thread, const Turn &turn)
+{
+    seed(turn.seed, thread);
+    for (uint64_t at = 0; at < turn.calls; at++) {
+        bool pushes = turn.fifo ? thread % 2 == 0 : draw(2) == 0;
+        if (pushes)
+            push(queue, worker, thread, turn.fifo ? ZC_RIGHT : draw(2));
+        else
+            pop(queue, worker, turn.fifo ? ZC_LEFT : draw(2));
+    }
+}
+
+// Each label once, and in a FIFO those of one writer in order.
+void judge(const std::vector<Worker> &workers, const std::vector<uint32_t> &waiting, bool fifo)
+{
+    std::vector<std::vector<bool>> met;
+    uint64_t pushed = 0, popped = 0;
+    for (const Worker &worker : workers) {
+        met.emplace_back(worker.pushed);
+        pushed += worker.pushed;
+    }
+    auto meet = [&](uint32_t label) {
+        uint32_t thread = label >> LABEL_BITS, place = label & NUMBER;
+        expect(thread < met.size() && place < met[thread].size(), "a label that nobody pushed");
+        expect(!met[thread][place], "a label twice");
+        met[thread][place] = true;
+        popped++;
+    };
+    for (const Worker &worker : workers) {
+        std::vector<int64_t> last(workers.size(), -1);
+        for (uint32_t label : worker.popped) {
+            meet(label);
+            expect(!fifo || (label & NUMBER) > last[label >> LABEL_BITS], "labels out of order");
+            last[label >> LABEL_BITS] = label & NUMBER;
+        }
+        totals.others += worker.others;
+        totals.retries += worker.own.record.retries;
+    }
+    totals.popped += popped;
+    for (uint32_t label : waiting)
+        meet(label);
+    expect(popped == pushed, "a label lost");
+    totals.pushed += pushed;
+    totals.turns++;
+}
+
+void one(const Turn &turn)
+{
+    Queue queue(turn.pooled, turn.threads, turn.slots);
+    std::vector<Worker> workers(turn.threads);
+    std::vector<std::thread> team;
+    std::atomic<uint64_t> ready{0};
+    for (uint64_t thread = 0; thread < turn.threads; thread++)
+        team.emplace_back([&, thread] {
+            ready++;
+            while (ready.load() < turn.threads)
+                sched_yield();
+            work(queue, workers[thread], thread, turn);
+        });
+    for (std::thread &member : team)
+        member.join();
+    judge(workers, queue.at_rest(), turn.fifo);
+}
+
+} // namespace
+
+int main(int argc, char **argv)
+{
+    static const uint64_t sizes[] = {1, 2, 3, 6, 64, 100}, pauses[] = {0, 5, 50};
+    uint64_t seconds = number(argc, argv, 1, 5), first = number(argc, argv, 2, 1);
+    auto end = std::chrono::steady_clock::now() + std::chrono::seconds(seconds);
+    alarm(static_cast<unsigned>(seconds) + 60); // a call that does not end stops the test
+    for (uint64_t turn = 0; turn < 12 || std::chrono::steady_clock::now() < end; turn++) {
+        pause_one_in = pauses[turn % 3];
+        one({turn % 2 == 0, turn % 3 == 2, 2 + turn / 2 % 3, sizes[turn / 6 % 6], 5000, first * 1000 + turn});
+    }
+    std::printf("%llu turns: %llu labels pushed, %llu popped, %llu calls found none or no slot, %llu retries\n",
+                static_cast<unsigned long long>(totals.turns), static_cast<unsigned long long>(totals.pushed),
+                static_cast<unsigned long long>(totals.popped), static_cast<unsigned long long>(totals.others),
+                static_cast<unsigned long long>(totals.retries));
+    expect(totals.retries > 0, "threads that never met");
+    std::puts("every label accounted for");
+}

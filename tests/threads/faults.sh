@@ -1,0 +1,68 @@
+#!/bin/bash
+# Do the tests of threads fail when they should? Each fault of faults.txt is planted in a copy of
+# zeppolecape_atomic.h, and the test that its first line names must see it: touches, or one of the two
+# with threads, accounts and rounds. Last line: "N passed, M failed".
+#
+#     tests/threads/faults.sh ARCHIVE
+set -u -o pipefail
+archive=$(realpath "$1")
+cd "$(dirname "$0")/../.."
+CC=${CC:-gcc}
+CXX=${CXX:-g++}
+work=$(mktemp -d)
+trap 'rm -rf "$work"' EXIT
+
+# Makes a folder with the edited header for each fault; faults are three lines: name, text, other text.
+count=$(python3 - "$work" <<'END'
+import os, sys
+header = open('include/zeppolecape_atomic.h').read()
+lines = [line.replace('\\n', '\n') for line in open('tests/threads/faults.txt').read().splitlines()]
+for at in range(len(lines) // 3):
+    name, old, new = lines[3 * at:3 * at + 3]
+    if header.count(old) != 1:
+        sys.exit(f'{name}: the text is not once in the header, but {header.count(old)} times')
+    os.mkdir(f'{sys.argv[1]}/{at}')
+    open(f'{sys.argv[1]}/{at}/zeppolecape_atomic.h', 'w').write(header.replace(old, new))
+    open(f'{sys.argv[1]}/{at}/name', 'w').write(name)
+print(len(lines) // 3)
+END
+) || { echo "0 passed, 1 failed"; exit 1; }
+
+built() { # FOLDER TEST: with the header there
+    case $2 in
+    touches) $CC -std=gnu11 -O1 -w -I"$1" -Iinclude -Ibench -Itests/library tests/threads/touches.c bench/touch_reference.c "$archive" -o "$1/$2" ;;
+    *) $CXX -std=c++17 -O1 -w -I"$1" -Iinclude "tests/threads/$2.cc" "$archive" -pthread -o "$1/$2" ;;
+    esac
+}
+
+seen() { # FOLDER TEST ARGUMENTS..: the test fails, in whatever way
+    local folder=$1 test=$2
+    shift 2
+    [ -x "$folder/$test" ] || built "$folder" "$test" || exit 2
+    ! timeout -s KILL 20 "$folder/$test" "$@" >"$folder/said" 2>&1
+}
+
+passed=0
+failed=0
+for at in $(seq 0 $((count - 1))); do
+    name=$(cat "$work/$at/name")
+    case $name in
+    touches:*) seen "$work/$at" touches 200000 && by=touches || by= ;;
+    *)
+        by=
+        for seed in 1 2 3 4; do
+            seen "$work/$at" accounts 2 $seed && by="accounts, seed $seed" && break
+            seen "$work/$at" rounds 2 $seed && by="rounds, seed $seed" && break
+        done
+        ;;
+    esac
+    if [ -n "$by" ]; then
+        passed=$((passed + 1))
+        echo "$name: seen by $by: $(grep -m 1 FAILED "$work/$at/said" || echo "it stopped")"
+    else
+        failed=$((failed + 1))
+        echo "NOT SEEN $name"
+    fi
+done
+echo "$passed passed, $failed failed"
+[ $failed -eq 0 ]

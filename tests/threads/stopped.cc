@@ -1,0 +1,152 @@
+// The promise that a lock cannot make. A thread is stopped for ever in the middle of its call, at each
+// place in turn, once before its touch and once between the touch and what comes of it; then the
+// others make a million calls. Of their labels none is lost; of the stopped thread's call at most a
+// label and a slot are.
+//
+//     stopped [CALLS [SEED]]
+#include "team.h"
+
+#include <atomic>
+#include <condition_variable>
+#include <mutex>
+#include <thread>
+
+namespace {
+
+enum { WORKERS = 3, SLOTS = 6, LABEL_BITS = 28 };
+constexpr uint32_t NUMBER = (1u << LABEL_BITS) - 1;
+
+struct Case {
+    bool pooled, touched;
+    uint64_t place;
+};
+
+// For ever: until the test is over, and then the thread ends without another touch.
+struct Door {
+    std::mutex lock;
+    std::condition_variable opens;
+    bool open = false;
+
+    void wait()
+    {
+        std::unique_lock<std::mutex> hold(lock);
+        opens.wait(hold, [this] { return open; });
+    }
+    void release()
+    {
+        std::lock_guard<std::mutex> hold(lock);
+        open = true;
+        opens.notify_all();
+    }
+};
+
+// What a thread did: labels pushed, those popped, one bit each by their number.
+struct Worker {
+    Own own;
+    uint32_t pushed = 0;
+    std::vector<uint32_t> popped;
+
+    zc_start draws(const Queue &queue, uint64_t thread)
+    {
+        uint64_t side = draw(2);
+        if (draw(2) == 0)
+            return {ZC_ASK_POP, side, 0, 0};
+        return queue.push(side, static_cast<uint32_t>(thread << LABEL_BITS) | pushed);
+    }
+    void note(const zc_reply &reply)
+    {
+        expect(reply.code <= ZC_NO_FREE_SLOT || reply.code == ZC_TAKEN, "a call refused");
+        pushed += reply.code == ZC_PUSHED;
+        if (reply.code == ZC_POPPED)
+            popped.push_back(reply.label);
+    }
+};
+
+// Calls until one stands at the place; there the thread stops. Whether that call is a push.
+bool run_to(Queue &queue, Worker &worker, const Case &stop)
+{
+    zc_record *own = &worker.own.record;
+    for (;;) {
+        zc_start start = worker.draws(queue, WORKERS);
+        zc_touch touch;
+        zc_reply reply = zc_atomic_start(&queue.shared, own, &start, &touch);
+        while (reply.code == ZC_RUNNING) {
+            if (own->place == stop.place) {
+                if (stop.touched)
+                    zc_made(&queue.shared, &touch);
+                return start.operation != ZC_ASK_POP;
+            }
+            reply = zc_atomic_step(&queue.shared, own, &touch);
+        }
+        worker.note(reply);
+    }
+}
+
+// Each label of the workers once; of the stopped thread's last call one more or one less.
+void judge(const std::vector<Worker> &workers, const std::vector<uint32_t> &waiting, bool push)
+{
+    std::vector<std::vector<bool>> met;
+    uint64_t pushed = 0, popped = 0;
+    for (const Worker &worker : workers) {
+        met.emplace_back(worker.pushed + (&worker == &workers.back() && push));
+        pushed += worker.pushed;
+    }
+    auto meet = [&](uint32_t label) {
+        uint32_t thread = label >> LABEL_BITS, place = label & NUMBER;
+        expect(thread < met.size() && place < met[thread].size(), "a label that nobody pushed");
+        expect(!met[thread][place], "a label twice");
+        met[thread][place] = true;
+        popped++;
+    };
+    for (const Worker &worker : workers)
+        for (uint32_t label : worker.popped)
+            meet(label);
+    for (uint32_t label : waiting)
+        meet(label);
+    expect(push ? popped == pushed || popped == pushed + 1 : popped == pushed || popped + 1 == pushed,
+           "a label lost");
+}
+
+void one(const Case &stop, uint64_t calls, uint64_t number)
+{
+    Queue queue(stop.pooled, WORKERS + 1, SLOTS);
+    std::vector<Worker> workers(WORKERS + 1);
+    std::atomic<bool> stopped{false};
+    bool push = false;
+    Door door;
+    std::vector<std::thread> team;
+    team.emplace_back([&] {
+        seed(number, WORKERS);
+        push = run_to(queue, workers[WORKERS], stop);
+        stopped = true;
+        door.wait();
+    });
+    for (uint64_t thread = 0; thread < WORKERS; thread++)
+        team.emplace_back([&, thread] {
+            seed(number, thread);
+            Worker &worker = workers[thread];
+            for (uint64_t left = calls / WORKERS + 1; left != 0; left -= stopped.load())
+                worker.note(queue.call(&worker.own.record, worker.draws(queue, thread)));
+        });
+    for (size_t thread = 1; thread < team.size(); thread++)
+        team[thread].join();
+    judge(workers, queue.at_rest(1), push);
+    door.release();
+    team[0].join();
+}
+
+} // namespace
+
+int main(int argc, char **argv)
+{
+    uint64_t calls = number(argc, argv, 1, 1000000), first = number(argc, argv, 2, 1), cases = 0;
+    for (bool pooled : {true, false})
+        for (uint64_t place = 1; place <= (pooled ? 17 : 11); place++)
+            for (bool touched : {false, true}) {
+                alarm(120); // others that wait for the stopped one stop the test
+                pause_one_in = 200;
+                one({pooled, touched, place}, pooled ? calls : calls / 10, first * 100 + cases++);
+            }
+    std::printf("%d stops for ever; after each the others made %llu calls, a tenth with named slots\n",
+                static_cast<int>(cases), static_cast<unsigned long long>(calls));
+}
