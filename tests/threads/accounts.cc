@@ -53,7 +53,8 @@ void pop(Queue &queue, Worker &worker, uint64_t side)
 void work(Queue &queue, Worker &worker, uint64_t thread, const Turn &turn)
 {
     seed(turn.seed, thread);
-    for (uint64_t at = 0; at < turn.calls; at++) {
+    auto end = std::chrono::steady_clock::now() + std::chrono::milliseconds(500);
+    for (uint64_t at = 0; at < turn.calls && std::chrono::steady_clock::now() < end; at++) {
         bool pushes = turn.fifo ? thread % 2 == 0 : draw(2) == 0;
         if (pushes)
             push(queue, worker, thread, turn.fifo ? ZC_RIGHT : draw(2));

@@ -128,7 +128,8 @@ bool claims(const Call &a, const Call &b)
     return a.found != b.found ? b.found : a.told.start < b.told.start;
 }
 
-uint64_t judged, overlapping;
+uint64_t judged, overlapping, rounds_made;
+constexpr uint64_t NO_MORE = ~uint64_t{0};
 
 void judge(std::vector<Call> calls, const std::vector<uint32_t> &waiting)
 {
@@ -157,10 +158,10 @@ void judge(std::vector<Call> calls, const std::vector<uint32_t> &waiting)
 
 struct Shape {
     bool pooled;
-    uint64_t threads, slots, rounds;
+    uint64_t threads, slots;
 };
 
-// Rounds by threads that stay; each waits for the next round.
+// A hundred rounds, or as many as half a second allows, by threads that stay.
 void rounds(const Shape &shape, uint64_t number)
 {
     std::unique_ptr<Queue> queue;
@@ -170,14 +171,17 @@ void rounds(const Shape &shape, uint64_t number)
     for (uint64_t thread = 0; thread < shape.threads; thread++)
         team.emplace_back([&, thread] {
             seed(number, thread);
-            for (uint64_t at = 1; at <= shape.rounds; at++) {
+            for (uint64_t at = 1;; at++) {
                 while (round.load() < at)
                     sched_yield();
+                if (round.load() == NO_MORE)
+                    return;
                 calls_of(*queue, thread, std::min<uint64_t>(64 / shape.threads, 16), notes[thread]);
                 finished++;
             }
         });
-    for (uint64_t at = 1; at <= shape.rounds; at++) {
+    auto end = std::chrono::steady_clock::now() + std::chrono::milliseconds(500);
+    for (uint64_t at = 1; at <= 100 && std::chrono::steady_clock::now() < end; at++, rounds_made++) {
         queue = std::make_unique<Queue>(shape.pooled, shape.threads, shape.slots);
         finished = 0;
         round = at;
@@ -188,6 +192,7 @@ void rounds(const Shape &shape, uint64_t number)
             calls.insert(calls.end(), some.begin(), some.end());
         judge(calls, queue->at_rest());
     }
+    round = NO_MORE;
     for (std::thread &member : team)
         member.join();
 }
@@ -202,10 +207,10 @@ int main(int argc, char **argv)
     alarm(static_cast<unsigned>(seconds) + 60); // a call that does not end stops the test
     for (; turn < 12 || std::chrono::steady_clock::now() < end; turn++) {
         pause_one_in = pauses[turn % 3];
-        rounds({turn % 2 == 0, 2 + turn / 2 % 3, sizes[turn / 6 % 4], 100}, first * 1000 + turn);
+        rounds({turn % 2 == 0, 2 + turn / 2 % 3, sizes[turn / 6 % 4]}, first * 1000 + turn);
     }
-    std::printf("%d rounds, %llu calls, %llu overlapping pairs: each linearizable, in the order of the tags too\n",
-                static_cast<int>(turn * 100), static_cast<unsigned long long>(judged),
+    std::printf("%llu rounds, %llu calls, %llu overlapping pairs: each linearizable, in the order of the tags too\n",
+                static_cast<unsigned long long>(rounds_made), static_cast<unsigned long long>(judged),
                 static_cast<unsigned long long>(overlapping));
     expect(overlapping > 0, "calls that never overlapped");
 }

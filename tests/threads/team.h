@@ -35,7 +35,7 @@ inline void pause_sometimes()
 {
     if (pause_one_in == 0 || draw(pause_one_in) != 0)
         return;
-    if (draw(2) == 0)
+    if (draw(4) == 0)
         sched_yield();
     else
         for (volatile uint64_t turns = draw(256); turns != 0; turns = turns - 1) {
