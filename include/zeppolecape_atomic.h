@@ -276,36 +276,35 @@ static inline uint64_t zc_made(const zc_shared *shared, const zc_touch *touch)
 /* ---- Whole calls -------------------------------------------------------------------------- */
 
 /* Starts a call: running, with its first step planned, or refused. */
-static inline zc_onward zc_begun(const zc_shared *shared, zc_record *own, const zc_start *start)
+static inline void zc_begin(const zc_shared *shared, zc_record *own, const zc_start *start,
+                            zc_onward *onward)
 {
-    zc_onward onward = {{ZC_STARTING, 0, 0}, {0, 0, 0, 0, 0, 0}};
-    onward.touch = zc_plan_start(shared->slots, shared->pooled, own, start);
-    if (onward.touch.act == ZC_NO_TOUCH)
-        onward.reply.code = ZC_AS(uint32_t, onward.touch.word);
-    while (onward.reply.code == ZC_STARTING) {
-        uint32_t act = onward.touch.act;
+    onward->touch = zc_plan_start(shared->slots, shared->pooled, own, start);
+    onward->reply.code = ZC_AS(uint32_t, onward->touch.word);
+    onward->reply.label = 0;
+    onward->reply.value = 0;
+    if (onward->touch.act == ZC_NO_TOUCH)
+        return;
+    do {
+        uint32_t act = onward->touch.act;
+        ZC_BETWEEN();
+        uint64_t found = zc_made(shared, &onward->touch);
+        ZC_BETWEEN();
+        *onward = zc_settle_start(shared->slots, shared->pooled, own, start, act, found);
+    } while (onward->reply.code == ZC_STARTING);
+}
+
+/* Starts a call and steps it to its answer. */
+static inline zc_reply zc_answer_to(const zc_shared *shared, zc_record *own, const zc_start *start)
+{
+    zc_onward onward;
+    zc_begin(shared, own, start, &onward);
+    while (onward.reply.code == ZC_RUNNING) {
         ZC_BETWEEN();
         uint64_t found = zc_made(shared, &onward.touch);
         ZC_BETWEEN();
-        onward = zc_settle_start(shared->slots, shared->pooled, own, start, act, found);
+        onward = zc_settle_plan(shared->slots, shared->pooled, own, found);
     }
-    return onward;
-}
-
-/* Makes the step that `touch` plans. */
-static inline zc_onward zc_stepped(const zc_shared *shared, zc_record *own, const zc_touch *touch)
-{
-    ZC_BETWEEN();
-    uint64_t found = zc_made(shared, touch);
-    ZC_BETWEEN();
-    return zc_settle_plan(shared->slots, shared->pooled, own, found);
-}
-
-static inline zc_reply zc_answer_of(const zc_shared *shared, zc_record *own, const zc_start *start)
-{
-    zc_onward onward = zc_begun(shared, own, start);
-    while (onward.reply.code == ZC_RUNNING)
-        onward = zc_stepped(shared, own, &onward.touch);
     return onward.reply;
 }
 
@@ -318,7 +317,7 @@ static inline zc_reply zc_atomic_push(const zc_shared *shared, zc_record *own, u
                                       uint64_t slot, uint32_t label)
 {
     const zc_start start = {ZC_ASK_PUSH, side, slot, label};
-    return zc_answer_of(shared, own, &start);
+    return zc_answer_to(shared, own, &start);
 }
 
 /*
@@ -329,14 +328,14 @@ static inline zc_reply zc_atomic_push_pooled(const zc_shared *shared, zc_record 
                                              uint32_t label)
 {
     const zc_start start = {ZC_ASK_PUSH_POOLED, side, 0, label};
-    return zc_answer_of(shared, own, &start);
+    return zc_answer_to(shared, own, &start);
 }
 
 /* Pops. Answers popped or empty, or refuses: 14, 34 for the record, 30, 33. */
 static inline zc_reply zc_atomic_pop(const zc_shared *shared, zc_record *own, uint64_t side)
 {
     const zc_start start = {ZC_ASK_POP, side, 0, 0};
-    return zc_answer_of(shared, own, &start);
+    return zc_answer_to(shared, own, &start);
 }
 
 /* ---- One touch at a time ------------------------------------------------------------------
@@ -351,7 +350,8 @@ static inline zc_reply zc_atomic_pop(const zc_shared *shared, zc_record *own, ui
 static inline zc_reply zc_atomic_start(const zc_shared *shared, zc_record *own,
                                        const zc_start *start, zc_touch *next)
 {
-    zc_onward onward = zc_begun(shared, own, start);
+    zc_onward onward;
+    zc_begin(shared, own, start, &onward);
     if (onward.reply.code == ZC_RUNNING)
         *next = onward.touch;
     return onward.reply;
@@ -363,7 +363,10 @@ static inline zc_reply zc_atomic_start(const zc_shared *shared, zc_record *own,
  */
 static inline zc_reply zc_atomic_step(const zc_shared *shared, zc_record *own, zc_touch *next)
 {
-    zc_onward onward = zc_stepped(shared, own, next);
+    ZC_BETWEEN();
+    uint64_t found = zc_made(shared, next);
+    ZC_BETWEEN();
+    zc_onward onward = zc_settle_plan(shared->slots, shared->pooled, own, found);
     *next = onward.touch;
     return onward.reply;
 }
