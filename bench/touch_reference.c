@@ -13,7 +13,10 @@
 /* ---- Soundness --------------------------------------------------------------------------- */
 
 static bool slot_ok(uint64_t slot, uint64_t slots) { return slot - 1 < slots; }
-static bool link_ok(uint64_t word, uint64_t slots) { return (word & ~TAGS) <= slots; }
+static bool link_ok(uint64_t word, uint64_t slots)
+{
+    return (word & UINT64_C(0xffff8000)) == 0 && zc_link_slot(word) <= slots;
+}
 
 static bool anchor_ok(uint64_t word, uint64_t slots)
 {
@@ -91,15 +94,19 @@ static bool anchor_may(const zc_record *own, uint64_t slots)
     return own->seen < TAGS && anchor_ok(anchor_after(own), slots);
 }
 
-/* The slot whose row a step needs; 1 where it needs none. */
+/* Whether a step needs the row of a slot that its record need not have right. */
+static bool needs_row(const zc_record *own)
+{
+    return own->place % 2 == 1 && own->place >= 3 && own->place <= 11;
+}
+
 static uint64_t row_of(const zc_record *own)
 {
     switch (own->place) {
     case 3: return own->kind == ZC_PUSH ? own->own : end_of(own->seen, own->side);
     case 5: return end_of(own->seen, mended(own));
     case 7: case 9: return own->neighbour;
-    case 11: return end_of(own->seen, own->side);
-    default: return 1;
+    default: return end_of(own->seen, own->side);
     }
 }
 
@@ -115,7 +122,7 @@ static zc_touch load(uint32_t act) { return touch(act, 0, 0, 0, 0); }
 zc_touch TOUCH_CALL(plan)(uint64_t slots, uint64_t pooled, const zc_record *own)
 {
     uint32_t why = record_refusal(own, slots, pooled);
-    if (why == 0 && !slot_ok(row_of(own), slots))
+    if (why == 0 && needs_row(own) && !slot_ok(row_of(own), slots))
         why = ZC_UNSOUND;
     if (why != 0)
         return touch(ZC_NO_TOUCH, 0, 0, 0, why);
@@ -281,11 +288,12 @@ zc_onward TOUCH_CALL(settle_plan)(uint64_t slots, uint64_t pooled, zc_record *ow
 {
     zc_onward onward = {refuse(record_refusal(own, slots, pooled)), {0, 0, 0, 0, 0, 0}};
     if (onward.reply.code == 0) {
-        switch (own->place) {
-        case 3: case 5: case 7: case 9: case 11: onward.reply = on_row(own, found, slots, pooled); break;
-        case 1: case 2: case 4: case 6: case 8: case 10: onward.reply = on_anchor(own, found, slots); break;
-        default: onward.reply = on_pool(own, found, slots); break;
-        }
+        if (needs_row(own))
+            onward.reply = on_row(own, found, slots, pooled);
+        else if (own->place <= 10)
+            onward.reply = on_anchor(own, found, slots);
+        else
+            onward.reply = on_pool(own, found, slots);
     }
     onward.touch = TOUCH_CALL(plan)(slots, pooled, own);
     return onward;
