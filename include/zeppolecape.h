@@ -1,11 +1,11 @@
 /*
  * zeppolecape.h - the label queue, a shared deque moved one touch at a time.
  *
- * WHAT IT IS NOT: a queue that two callers may enter at once. One call at a time on a queue. The
- * library uses plain loads and stores, so it is not for several cores or threads at once, and it
- * is not re-entrant: mask interrupts (or hold a lock) around each call and around each read of the
- * tables, as examples/c/interrupt.c does. Two callers at once lose labels, and nothing tells. What
- * is lock-free is the tasks, between calls: wherever a task is stopped, the others go on.
+ * FOR WHOM. Threads, cores and interrupt handlers share a queue through zeppolecape_atomic.h, with no
+ * lock and nothing masked. The calls of this header are for one caller at a time: an executive whose
+ * step is one undivided touch, or a queue at rest. They use plain loads and stores and are not
+ * re-entrant: two callers at once lose labels, and nothing tells. In both, wherever a task is stopped
+ * the others go on.
  *
  * WHAT IT IS. The library holds no memory of its own. You lend it tables; it opens a queue in them,
  * starts a push or a pop for a task, moves one task by one step, and reports. A step is one touch of
@@ -40,8 +40,8 @@
  *  - `control`, `one` of zc_step_record and the three controls of zc_join are not null. Every pointer
  *    is aligned for its type and good for its count of elements (a count is never in bytes).
  *  - Nothing that a call writes overlaps anything else that it is lent.
- *  - One call at a time on a queue, as said above: it is the executive that makes each step
- *    one undivided touch. Calls on different queues are independent.
+ *  - One call of this header at a time on a queue, as said above: it is the executive that makes each
+ *    step one undivided touch. Calls on different queues are independent.
  *  - Between calls the tables are yours to read. Writing into an open queue is
  *    never dangerous to memory, but only a queue that was written by these calls
  *    alone keeps its promises (and never answers 34).

@@ -26,31 +26,32 @@
  *    the middle of two calls, and a handler needs one of its own: it may then make whole calls in
  *    the middle of anybody's step, its own thread's too.
  *  - Every call of zeppolecape.h on this queue (report, walks, shelves, joinings, openings, starts
- *    and steps), and reading its tables, wants the queue at rest: no thread is in a call of this file, and
- *    what synchronises (a join, a barrier, a lock) lies between it and their last call.
+ *    and steps), and reading its tables, wants the queue at rest: no thread is in a call of this
+ *    file, and what synchronises (a join, a barrier, a lock) lies between it and their last call.
  *  - Nobody else writes the tables.
  *
  * LIMITS
- *  - A thread that dies in a call takes along what the call held: a slot at most, the label of its
- *    push, or the one that its pop had won. Nobody waits for it. Its record may be stepped on by another thread only if
- *    it died between two steps: in the middle of one it can't be told whether the touch was made.
- *  - 33: an opening has tags for 4,294,967,262 changes of Anchor, which threads at full speed use up
- *    within some ten minutes (a pair of push and pop is two or three). Then every start is refused. Bring the threads to
- *    rest, zc_queue_drain, open again, zc_queue_refill, and let them go on. Tags never wrap, so that
- *    a word is never taken for an older one.
+ *  - A thread that dies in a call takes along what the call held: at most a slot and a label, that
+ *    of its push or the one that its pop had won. Nobody waits for it. Another thread may go on with
+ *    its record only if it died between two steps: in the middle of one it can't be told whether the
+ *    touch was made.
+ *  - 33: an opening has tags for 4,294,967,262 changes of Anchor; a pair of push and pop makes two or
+ *    three, so that threads at full speed use them up in ten minutes to an hour. Then every start is
+ *    refused. Bring the threads to rest, zc_queue_drain, open again, zc_queue_refill, and let them go
+ *    on (examples/c/renew.c). Tags never wrap, so that a word is never taken for an older one.
  *  - Lock-free is not wait-free: one call may try again as long as others are faster.
  *
  * WHAT IS PROVED, of threads that interleave at single loads, stores, compare-and-swaps and changes
- * of a mark as this file makes them (crates/threads): memory and every thread's answers are those of
- * a list of starts and steps, in the order of their deciding instructions; such a list is
- * linearizable, and 34 does not occur in it. zc_plan, zc_settle_plan and the starts are proved to do
- * what these theorems say of them, for all records and words. Not proved, but tested: the C below,
- * which is the table of touches (zc_made) and the loops around it.
+ * of a mark as this file makes them (crates/threads/specs/Promises.antt): memory and every thread's
+ * answers are those of a list of starts and steps, in the order of their deciding instructions; that
+ * list is linearizable, and nobody is told 34. The four calls below are proved to do what these
+ * theorems say of them, for all records and words. Not proved, but tested: the C in this file, a
+ * table of thirteen touches (zc_made) and the loops around it.
  *
  * ORDER. Every access to a shared word is sequentially consistent, and the proved calls reach none.
  * By the rules of C11 and C++11 all these accesses then have one order that agrees with each
- * thread's own: an interleaving, which is what the proof speaks of. Weaker orders would need another proof. On
- * x86-64 they'd save an xchg for a stored label or next, and nothing else.
+ * thread's own: an interleaving, which is what the proof speaks of. Weaker orders would need another
+ * proof; on x86-64 they would save the xchg by which a label or a next is stored, and nothing else.
  *
  * C11 or C++11, gcc or clang: the tables are plain words, and are reached by the builtins that are
  * these compilers' atomics. Link with libzeppolecape.a and with threads, if you have them.
@@ -252,7 +253,7 @@ static inline uint64_t *zc_link(const zc_shared *shared, const zc_touch *touch)
     return &(touch->side == ZC_RIGHT ? shared->rights : shared->lefts)[touch->slot];
 }
 
-/* Makes a touch, and answers the word found: `perform` of crates/touch/specs/Split.antt, a line each. */
+/* Makes a touch, and answers the word found: `perform` of crates/threads/specs/Split.antt, a line each. */
 static inline uint64_t zc_made(const zc_shared *shared, const zc_touch *touch)
 {
     switch (touch->act) {

@@ -1,7 +1,7 @@
 // The promise that a lock cannot make. A thread is stopped for ever in the middle of its call, at each
-// place in turn, once before its touch and once between the touch and what comes of it; then the
-// others make a million calls. Of their labels none is lost; of the stopped thread's call at most a
-// label and a slot are.
+// place in turn; then the others make a million calls. Of their labels none is lost; of the stopped
+// thread's call at most a label and a slot are. The same with a tenth of the calls for a thread that
+// has made its touch, and for named slots.
 //
 //     stopped [CALLS [SEED]]
 #include "team.h"
@@ -145,8 +145,8 @@ int main(int argc, char **argv)
             for (bool touched : {false, true}) {
                 alarm(120); // others that wait for the stopped one stop the test
                 pause_one_in = 200;
-                one({pooled, touched, place}, pooled ? calls : calls / 10, first * 100 + cases++);
+                one({pooled, touched, place}, pooled && !touched ? calls : calls / 10, first * 100 + cases++);
             }
-    std::printf("%d stops for ever; after each the others made %llu calls, a tenth with named slots\n",
+    std::printf("%d stops for ever; after 17 of them the others made %llu calls, after the rest a tenth\n",
                 static_cast<int>(cases), static_cast<unsigned long long>(calls));
 }

@@ -2,7 +2,7 @@
  * The table of touches in zeppolecape_atomic.h, one thread: a step split at its touch does what
  * zc_step_record does, and a start what zc_push, zc_push_pooled and zc_pop do, on a copy of the same
  * tables: same answer, same record, same words, refusals too. Tables and records are random, sound or
- * damaged. Then the four proved calls are compared with the same by hand in C, on any numbers.
+ * damaged. Then the four proved calls are compared with the same by hand in C, on any records and words.
  *
  *     touches [TRIALS [SEED]]
  */
@@ -191,9 +191,9 @@ static int one_by_hand(void)
     static struct tables t;
     any_tables(&t);
     any_record(&t);
-    uint64_t slots = once_in(50) ? any_word(3) : t.control.slots;
+    uint64_t slots = once_in(50) ? draw(ZC_MOST_SLOTS + 1) : t.control.slots;
     uint64_t pooled = once_in(50) ? draw(4) : t.control.pooled;
-    const uint64_t likely[] = {t.record.seen, t.record.link, any_word(slots % 1024 + 1)};
+    const uint64_t likely[] = {t.record.seen, t.record.link, any_word(slots + 1)};
     uint64_t found = likely[draw(3)];
     zc_record one = t.record, other = t.record;
     zc_touch a = zc_plan(slots, pooled, &one), b = reference_plan(slots, pooled, &other);
@@ -213,7 +213,7 @@ static int one_by_hand(void)
     if (a.act == ZC_NO_TOUCH)
         return 1;
     uint32_t act = start.operation == ZC_ASK_PUSH ? (uint32_t[]){1, 12, 13}[draw(3)] : a.act;
-    found = act == ZC_LOAD_ANCHOR ? any_word(slots % 1024 + 1) : draw(2);
+    found = act == ZC_LOAD_ANCHOR ? any_word(slots + 1) : draw(2);
     if (!same_onward(zc_settle_start(slots, pooled, &one, &start, act, found),
                      reference_settle_start(slots, pooled, &other, &start, act, found)) ||
         memcmp(&one, &other, sizeof one) != 0)
