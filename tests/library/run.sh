@@ -197,6 +197,7 @@ part_projects() {
     cp -r examples/project-pkgconfig "$work/project-pkgconfig"
     holds "the project with pkg-config" make -B -C "$work/project-pkgconfig" PKG_CONFIG_PATH="$prefix/lib/pkgconfig" CFLAGS=-Werror
     holds "the project with pkg-config runs" "$work/project-pkgconfig/printer"
+    holds "threads by the installed headers" sh -c "$CC $WARNINGS examples/c/threads.c \$(PKG_CONFIG_PATH='$prefix/lib/pkgconfig' pkg-config --cflags --libs zeppolecape) -pthread -o '$work/installed_threads'"
     holds "the project with CMake: configured" cmake -S examples/project-cmake -B "$work/project-cmake" -DCMAKE_PREFIX_PATH="$prefix"
     holds "the project with CMake: built" cmake --build "$work/project-cmake"
     holds "the project with CMake runs" "$work/project-cmake/printer"

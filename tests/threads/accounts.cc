@@ -1,13 +1,12 @@
-// Threads push and pop at random sides, with pauses between instructions; then every label that was
-// pushed was popped once or waits once, and at rest the tables are sound. Every third turn is a FIFO:
-// pushes at the right, pops at the left, and each reader meets each writer's labels in their order.
+// Threads, and by turns fibers, push and pop at random sides, with pauses between instructions; then
+// every label that was pushed was popped once or waits once, and at rest the tables are sound. Every
+// third turn is a FIFO: pushes at the right, pops at the left, and each reader meets each writer's
+// labels in their order.
 //
 //     accounts SECONDS [SEED]
 #include "team.h"
 
-#include <atomic>
 #include <chrono>
-#include <thread>
 
 namespace {
 
@@ -15,7 +14,7 @@ enum { LABEL_BITS = 27 }; // above them the thread
 constexpr uint32_t NUMBER = (1u << LABEL_BITS) - 1;
 
 struct Turn {
-    bool pooled, fifo;
+    bool pooled, fifo, fibers;
     uint64_t threads, slots, calls, seed;
 };
 
@@ -52,9 +51,10 @@ void pop(Queue &queue, Worker &worker, uint64_t side)
 
 void work(Queue &queue, Worker &worker, uint64_t thread, const Turn &turn)
 {
-    seed(turn.seed, thread);
     auto end = std::chrono::steady_clock::now() + std::chrono::milliseconds(500);
-    for (uint64_t at = 0; at < turn.calls && std::chrono::steady_clock::now() < end; at++) {
+    for (uint64_t at = 0; at < turn.calls; at++) {
+        if (!turn.fibers && std::chrono::steady_clock::now() > end)
+            break;
         bool pushes = turn.fifo ? thread % 2 == 0 : draw(2) == 0;
         if (pushes)
             push(queue, worker, thread, turn.fifo ? ZC_RIGHT : draw(2));
@@ -101,17 +101,10 @@ void one(const Turn &turn)
 {
     Queue queue(turn.pooled, turn.threads, turn.slots);
     std::vector<Worker> workers(turn.threads);
-    std::vector<std::thread> team;
-    std::atomic<uint64_t> ready{0};
+    std::vector<std::function<void()>> team;
     for (uint64_t thread = 0; thread < turn.threads; thread++)
-        team.emplace_back([&, thread] {
-            ready++;
-            while (ready.load() < turn.threads)
-                sched_yield();
-            work(queue, workers[thread], thread, turn);
-        });
-    for (std::thread &member : team)
-        member.join();
+        team.push_back([&, thread] { work(queue, workers[thread], thread, turn); });
+    together(turn.fibers, team, turn.seed);
     judge(workers, queue.at_rest(), turn.fifo);
 }
 
@@ -119,13 +112,14 @@ void one(const Turn &turn)
 
 int main(int argc, char **argv)
 {
-    static const uint64_t sizes[] = {1, 2, 3, 6, 64, 100}, pauses[] = {0, 5, 50};
+    static const uint64_t sizes[] = {3, 2, 1, 6, 64, 100}, pauses[] = {2, 5, 50};
     uint64_t seconds = number(argc, argv, 1, 5), first = number(argc, argv, 2, 1);
     auto end = std::chrono::steady_clock::now() + std::chrono::seconds(seconds);
     alarm(static_cast<unsigned>(seconds) + 60); // a call that does not end stops the test
-    for (uint64_t turn = 0; turn < 12 || std::chrono::steady_clock::now() < end; turn++) {
-        pause_one_in = pauses[turn % 3];
-        one({turn % 2 == 0, turn % 3 == 2, 2 + turn / 2 % 3, sizes[turn / 6 % 6], 5000, first * 1000 + turn});
+    for (uint64_t turn = 0; turn < 24 || std::chrono::steady_clock::now() < end; turn++) {
+        bool fibers = turn / 2 % 4 != 3;
+        pause_one_in = pauses[turn / 2 % 3];
+        one({turn % 2 == 0, turn % 3 == 2, fibers, 4 - turn / 2 % 3, sizes[turn / 4 % 6], 5000, first * 1000 + turn});
     }
     std::printf("%llu turns: %llu labels pushed, %llu popped, %llu calls found none or no slot, %llu retries\n",
                 static_cast<unsigned long long>(totals.turns), static_cast<unsigned long long>(totals.pushed),

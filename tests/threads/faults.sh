@@ -12,21 +12,23 @@ CXX=${CXX:-g++}
 work=$(mktemp -d)
 trap 'rm -rf "$work"' EXIT
 
-# Makes a folder with the edited header for each fault; faults are three lines: name, text, another wherever it stands.
-count=$(python3 - "$work" <<'END'
-import os, sys
-header = open('include/zeppolecape_atomic.h').read()
-lines = [line.replace('\\n', '\n') for line in open('tests/threads/faults.txt').read().splitlines()]
-for at in range(len(lines) // 3):
-    name, old, new = lines[3 * at:3 * at + 3]
-    if old not in header:
-        sys.exit(f'{name}: the text is not in the header')
-    os.mkdir(f'{sys.argv[1]}/{at}')
-    open(f'{sys.argv[1]}/{at}/zeppolecape_atomic.h', 'w').write(header.replace(old, new))
-    open(f'{sys.argv[1]}/{at}/name', 'w').write(name)
-print(len(lines) // 3)
-END
-) || { echo "0 passed, 1 failed"; exit 1; }
+# Makes a folder with the edited header for each fault; faults are three lines: name, text, and what
+# is put in its place wherever it stands. Both may hold \n.
+header=$(cat include/zeppolecape_atomic.h)
+count=0
+while IFS= read -r name && IFS= read -r old && IFS= read -r new; do
+    old=${old//\\n/$'\n'}
+    new=${new//\\n/$'\n'}
+    if [[ $header != *"$old"* ]]; then
+        echo "$name: the text is not in the header"
+        echo "0 passed, 1 failed"
+        exit 1
+    fi
+    mkdir "$work/$count"
+    printf '%s\n' "${header//"$old"/"$new"}" >"$work/$count/zeppolecape_atomic.h"
+    echo "$name" >"$work/$count/name"
+    count=$((count + 1))
+done <tests/threads/faults.txt
 
 built() { # FOLDER TEST: with the header there
     case $2 in
@@ -39,7 +41,7 @@ seen() { # FOLDER TEST ARGUMENTS..: the test fails, in whatever way
     local folder=$1 test=$2
     shift 2
     [ -x "$folder/$test" ] || built "$folder" "$test" || exit 2
-    ! timeout -s KILL 20 "$folder/$test" "$@" >"$folder/said" 2>&1
+    ! timeout -s KILL 20 "$folder/$test" "$@" >"$folder/said" 2>/dev/null
 }
 
 passed=0

@@ -1,5 +1,5 @@
-// Short rounds of calls by threads, each call with the times of its start and its answer. Of every
-// round is asked: is there any order of the calls that respects these times and that a plain deque
+// Short rounds of calls by threads, and by turns fibers, each call with the times of its start and its
+// answer. Of every round is asked: is there any order of the calls that respects these times and that a plain deque
 // would answer so (the search of Wing and Gong)? And is the order of the changes of Anchor, by their
 // tags, such an order? That is for zc_audit, the proved judge of histories, to say.
 //
@@ -7,11 +7,8 @@
 #include "team.h"
 
 #include <algorithm>
-#include <atomic>
 #include <chrono>
 #include <deque>
-#include <string>
-#include <thread>
 #include <unordered_set>
 
 namespace {
@@ -73,7 +70,7 @@ struct Search {
 
 // ---- A round --------------------------------------------------------------------------------
 
-// Steps a call to its answer and notes its effect: a change of Anchor that moves an end, at places 2
+// Steps a call to its answer, as zc_answer_to does, and notes its effect: a change of Anchor that moves an end, at places 2
 // and 4, or the Anchor at which a pop answers empty.
 zc_reply finish(Queue &queue, zc_record *own, zc_touch touch, Call &call)
 {
@@ -128,8 +125,7 @@ bool claims(const Call &a, const Call &b)
     return a.found != b.found ? b.found : a.told.start < b.told.start;
 }
 
-uint64_t judged, overlapping, rounds_made;
-constexpr uint64_t NO_MORE = ~uint64_t{0};
+uint64_t judged, overlapping;
 
 void judge(std::vector<Call> calls, const std::vector<uint32_t> &waiting)
 {
@@ -157,60 +153,40 @@ void judge(std::vector<Call> calls, const std::vector<uint32_t> &waiting)
 }
 
 struct Shape {
-    bool pooled;
+    bool pooled, fibers;
     uint64_t threads, slots;
 };
 
-// A hundred rounds, or as many as half a second allows, by threads that stay.
-void rounds(const Shape &shape, uint64_t number)
+void one(const Shape &shape, uint64_t number)
 {
-    std::unique_ptr<Queue> queue;
-    std::atomic<uint64_t> round{0}, finished{0};
+    Queue queue(shape.pooled, shape.threads, shape.slots);
     std::vector<std::vector<Call>> notes(shape.threads);
-    std::vector<std::thread> team;
+    std::vector<std::function<void()>> team;
     for (uint64_t thread = 0; thread < shape.threads; thread++)
-        team.emplace_back([&, thread] {
-            seed(number, thread);
-            for (uint64_t at = 1;; at++) {
-                while (round.load() < at)
-                    sched_yield();
-                if (round.load() == NO_MORE)
-                    return;
-                calls_of(*queue, thread, std::min<uint64_t>(64 / shape.threads, 16), notes[thread]);
-                finished++;
-            }
+        team.push_back([&, thread] {
+            calls_of(queue, thread, std::min<uint64_t>(64 / shape.threads, 16), notes[thread]);
         });
-    auto end = std::chrono::steady_clock::now() + std::chrono::milliseconds(500);
-    for (uint64_t at = 1; at <= 100 && std::chrono::steady_clock::now() < end; at++, rounds_made++) {
-        queue = std::make_unique<Queue>(shape.pooled, shape.threads, shape.slots);
-        finished = 0;
-        round = at;
-        while (finished.load() < shape.threads)
-            sched_yield();
-        std::vector<Call> calls;
-        for (const std::vector<Call> &some : notes)
-            calls.insert(calls.end(), some.begin(), some.end());
-        judge(calls, queue->at_rest());
-    }
-    round = NO_MORE;
-    for (std::thread &member : team)
-        member.join();
+    together(shape.fibers, team, number);
+    std::vector<Call> calls;
+    for (const std::vector<Call> &some : notes)
+        calls.insert(calls.end(), some.begin(), some.end());
+    judge(calls, queue.at_rest());
 }
 
 } // namespace
 
 int main(int argc, char **argv)
 {
-    static const uint64_t sizes[] = {1, 2, 4, 6}, pauses[] = {5, 20, 0};
+    static const uint64_t sizes[] = {3, 2, 1, 6}, pauses[] = {2, 5, 20};
     uint64_t seconds = number(argc, argv, 1, 5), first = number(argc, argv, 2, 1), turn = 0;
     auto end = std::chrono::steady_clock::now() + std::chrono::seconds(seconds);
     alarm(static_cast<unsigned>(seconds) + 60); // a call that does not end stops the test
-    for (; turn < 12 || std::chrono::steady_clock::now() < end; turn++) {
-        pause_one_in = pauses[turn % 3];
-        rounds({turn % 2 == 0, 2 + turn / 2 % 3, sizes[turn / 6 % 4]}, first * 1000 + turn);
+    for (; turn < 500 || std::chrono::steady_clock::now() < end; turn++) {
+        pause_one_in = pauses[turn / 4 % 3];
+        one({turn % 2 == 0, turn / 2 % 4 != 0, 2 + turn / 4 % 3, sizes[turn / 12 % 4]}, first * 100000 + turn);
     }
     std::printf("%llu rounds, %llu calls, %llu overlapping pairs: each linearizable, in the order of the tags too\n",
-                static_cast<unsigned long long>(rounds_made), static_cast<unsigned long long>(judged),
+                static_cast<unsigned long long>(turn), static_cast<unsigned long long>(judged),
                 static_cast<unsigned long long>(overlapping));
     expect(overlapping > 0, "calls that never overlapped");
 }

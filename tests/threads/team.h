@@ -1,15 +1,20 @@
-// What the tests of threads share: pauses between instructions, a queue and its check at rest.
+// What the tests of threads share: a team of threads or fibers that pause between instructions, a
+// queue and its check at rest.
 #ifndef TEAM_H
 #define TEAM_H
 
+#include <atomic>
 #include <cstdint>
 #include <cstdio>
 #include <cstdlib>
+#include <functional>
 #include <memory>
 #include <string>
+#include <thread>
 #include <vector>
 
 #include <sched.h>
+#include <ucontext.h>
 #include <unistd.h>
 
 // Random numbers, xorshift64, of each thread.
@@ -28,18 +33,102 @@ inline void seed(uint64_t number, uint64_t thread)
     random_state = (number * 7919 + thread * 104729 + 1) * 0x9e3779b97f4a7c15u | 1;
 }
 
-// Between any two instructions: once in so many times the thread lets others go on. 0: never.
+// Threads of another kind, which hang on no processor and no load: each member has a stack of its own,
+// and between any two instructions it is drawn who goes on. The same seed gives the same run.
+class Fibers {
+    struct Fiber {
+        ucontext_t context;
+        std::unique_ptr<char[]> stack;
+        bool over;
+    };
+    enum { STACK = 1 << 17 };
+    const std::vector<std::function<void()>> &work;
+    std::vector<Fiber> fibers;
+    ucontext_t home;
+    size_t at = 0, left;
+
+    static void enter()
+    {
+        Fibers *all = running;
+        all->work[all->at]();
+        all->fibers[all->at].over = true;
+        if (--all->left == 0)
+            setcontext(&all->home);
+        all->change();
+    }
+
+public:
+    static inline Fibers *running = nullptr;
+
+    explicit Fibers(const std::vector<std::function<void()>> &members)
+        : work(members), fibers(members.size()), left(members.size())
+    {
+        for (Fiber &fiber : fibers) {
+            fiber.stack = std::make_unique<char[]>(STACK);
+            getcontext(&fiber.context);
+            fiber.context.uc_stack.ss_sp = fiber.stack.get();
+            fiber.context.uc_stack.ss_size = STACK;
+            makecontext(&fiber.context, enter, 0);
+        }
+        running = this;
+        swapcontext(&home, &fibers[0].context);
+        running = nullptr;
+    }
+
+    void change()
+    {
+        size_t from = at;
+        do
+            at = draw(fibers.size());
+        while (fibers[at].over);
+        if (at != from)
+            swapcontext(&fibers[from].context, &fibers[at].context);
+    }
+};
+
+// Between any two instructions: once in so many times others go on. 0: only where the system says so.
 inline uint64_t pause_one_in = 0;
 
 inline void pause_sometimes()
 {
     if (pause_one_in == 0 || draw(pause_one_in) != 0)
         return;
-    if (draw(4) == 0)
+    if (Fibers::running != nullptr)
+        Fibers::running->change();
+    else if (draw(4) == 0)
         sched_yield();
     else
         for (volatile uint64_t turns = draw(256); turns != 0; turns = turns - 1) {
         }
+}
+
+// Fibers are no threads to ThreadSanitizer.
+#ifdef __SANITIZE_THREAD__
+constexpr bool fibers_allowed = false;
+#else
+constexpr bool fibers_allowed = true;
+#endif
+
+// Carries out the work of each member at once, as fibers or, from a common beginning, as threads.
+inline void together(bool fibers, const std::vector<std::function<void()>> &work, uint64_t number)
+{
+    if (fibers && fibers_allowed) {
+        seed(number, 0);
+        Fibers all(work);
+        return;
+    }
+    std::atomic<size_t> ready{0};
+    std::vector<std::thread> team;
+    for (size_t thread = 0; thread < work.size(); thread++)
+        team.emplace_back([&, thread] {
+            seed(number, thread);
+            ready++;
+            while (ready.load() < work.size())
+                sched_yield();
+            work[thread]();
+        });
+    for (std::thread &member : team)
+        member.join();
 }
 
 #define ZC_BETWEEN() pause_sometimes()
