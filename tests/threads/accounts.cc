@@ -112,14 +112,14 @@ void one(const Turn &turn)
 
 int main(int argc, char **argv)
 {
-    static const uint64_t sizes[] = {3, 2, 1, 6, 64, 100}, pauses[] = {2, 5, 50};
+    static const uint64_t sizes[] = {3, 4, 2, 1, 6, 100}, pauses[] = {2, 5, 20};
     uint64_t seconds = number(argc, argv, 1, 5), first = number(argc, argv, 2, 1);
     auto end = std::chrono::steady_clock::now() + std::chrono::seconds(seconds);
     alarm(static_cast<unsigned>(seconds) + 60); // a call that does not end stops the test
     for (uint64_t turn = 0; turn < 24 || std::chrono::steady_clock::now() < end; turn++) {
         bool fibers = turn / 2 % 4 != 3;
         pause_one_in = pauses[turn / 2 % 3];
-        one({turn % 2 == 0, turn % 3 == 2, fibers, 4 - turn / 2 % 3, sizes[turn / 4 % 6], 5000, first * 1000 + turn});
+        one({turn % 2 == 0, turn % 3 == 2, fibers, 4 - turn / 2 % 3, sizes[turn / 4 % 6], fibers ? 15000u : 5000u, first * 1000 + turn});
     }
     std::printf("%llu turns: %llu labels pushed, %llu popped, %llu calls found none or no slot, %llu retries\n",
                 static_cast<unsigned long long>(totals.turns), static_cast<unsigned long long>(totals.pushed),

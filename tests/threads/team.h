@@ -34,18 +34,21 @@ inline void seed(uint64_t number, uint64_t thread)
 }
 
 // Threads of another kind, which hang on no processor and no load: each member has a stack of its own,
-// and between any two instructions it is drawn who goes on. The same seed gives the same run.
+// and between any two instructions it is drawn who goes on; some sleep for a while, so that slots are
+// used again meanwhile. The same seed gives the same run.
 class Fibers {
     struct Fiber {
         ucontext_t context;
         std::unique_ptr<char[]> stack;
         bool over;
+        uint64_t wakes; // at this change
     };
     enum { STACK = 1 << 17 };
     const std::vector<std::function<void()>> &work;
     std::vector<Fiber> fibers;
     ucontext_t home;
     size_t at = 0, left;
+    uint64_t changes = 0;
 
     static void enter()
     {
@@ -78,9 +81,14 @@ public:
     void change()
     {
         size_t from = at;
-        do
+        changes++;
+        if (draw(8) == 0)
+            fibers[from].wakes = changes + draw(400);
+        for (int tries = 0;; tries++) { // if all sleep one is woken
             at = draw(fibers.size());
-        while (fibers[at].over);
+            if (!fibers[at].over && (fibers[at].wakes <= changes || tries > 50))
+                break;
+        }
         if (at != from)
             swapcontext(&fibers[from].context, &fibers[at].context);
     }
