@@ -10,9 +10,6 @@
 
 namespace {
 
-enum { LABEL_BITS = 27 }; // above them the thread
-constexpr uint32_t NUMBER = (1u << LABEL_BITS) - 1;
-
 struct Turn {
     bool pooled, fifo, fibers;
     uint64_t threads, slots, calls, seed;
@@ -32,7 +29,7 @@ struct Totals {
 
 void push(Queue &queue, Worker &worker, uint64_t thread, uint64_t side)
 {
-    uint32_t label = static_cast<uint32_t>(thread << LABEL_BITS) | worker.pushed;
+    uint32_t label = label_of(thread, worker.pushed);
     zc_reply reply = queue.call(&worker.own.record, queue.push(side, label));
     bool none = reply.code == (queue.pooled ? ZC_NO_FREE_SLOT : ZC_TAKEN);
     expect(none || reply.code == ZC_PUSHED, "a push answered otherwise");
@@ -66,33 +63,26 @@ void work(Queue &queue, Worker &worker, uint64_t thread, const Turn &turn)
 // Each label once, and in a FIFO those of one writer in order.
 void judge(const std::vector<Worker> &workers, const std::vector<uint32_t> &waiting, bool fifo)
 {
-    std::vector<std::vector<bool>> met;
-    uint64_t pushed = 0, popped = 0;
+    Met met;
+    uint64_t pushed = 0;
     for (const Worker &worker : workers) {
-        met.emplace_back(worker.pushed);
+        met.threads.emplace_back(worker.pushed);
         pushed += worker.pushed;
     }
-    auto meet = [&](uint32_t label) {
-        uint32_t thread = label >> LABEL_BITS, place = label & NUMBER;
-        expect(thread < met.size() && place < met[thread].size(), "a label that nobody pushed");
-        expect(!met[thread][place], "a label twice");
-        met[thread][place] = true;
-        popped++;
-    };
     for (const Worker &worker : workers) {
         std::vector<int64_t> last(workers.size(), -1);
         for (uint32_t label : worker.popped) {
-            meet(label);
-            expect(!fifo || (label & NUMBER) > last[label >> LABEL_BITS], "labels out of order");
-            last[label >> LABEL_BITS] = label & NUMBER;
+            met.meet(label);
+            expect(!fifo || number_of(label) > last[thread_of(label)], "labels out of order");
+            last[thread_of(label)] = number_of(label);
         }
         totals.others += worker.others;
         totals.retries += worker.own.record.retries;
     }
-    totals.popped += popped;
+    totals.popped += met.count;
     for (uint32_t label : waiting)
-        meet(label);
-    expect(popped == pushed, "a label lost");
+        met.meet(label);
+    expect(met.count == pushed, "a label lost");
     totals.pushed += pushed;
     totals.turns++;
 }
@@ -121,10 +111,9 @@ int main(int argc, char **argv)
         pause_one_in = pauses[turn / 2 % 3];
         one({turn % 2 == 0, turn % 3 == 2, fibers, 4 - turn / 2 % 3, sizes[turn / 4 % 6], fibers ? 15000u : 5000u, first * 1000 + turn});
     }
-    std::printf("%llu turns: %llu labels pushed, %llu popped, %llu calls found none or no slot, %llu retries\n",
+    expect(totals.retries > 0, "threads that never met");
+    std::printf("%llu turns, %llu labels pushed and accounted for, %llu of them popped; %llu calls found none or no slot, %llu retries\n",
                 static_cast<unsigned long long>(totals.turns), static_cast<unsigned long long>(totals.pushed),
                 static_cast<unsigned long long>(totals.popped), static_cast<unsigned long long>(totals.others),
                 static_cast<unsigned long long>(totals.retries));
-    expect(totals.retries > 0, "threads that never met");
-    std::puts("every label accounted for");
 }

@@ -13,8 +13,7 @@
 
 namespace {
 
-enum { WORKERS = 3, SLOTS = 6, LABEL_BITS = 28 };
-constexpr uint32_t NUMBER = (1u << LABEL_BITS) - 1;
+enum { WORKERS = 3, SLOTS = 6 };
 
 struct Case {
     bool pooled, touched;
@@ -40,7 +39,7 @@ struct Door {
     }
 };
 
-// What a thread did: labels pushed, those popped, one bit each by their number.
+// What a thread did.
 struct Worker {
     Own own;
     uint32_t pushed = 0;
@@ -51,7 +50,7 @@ struct Worker {
         uint64_t side = draw(2);
         if (draw(2) == 0)
             return {ZC_ASK_POP, side, 0, 0};
-        return queue.push(side, static_cast<uint32_t>(thread << LABEL_BITS) | pushed);
+        return queue.push(side, label_of(thread, pushed));
     }
     void note(const zc_reply &reply)
     {
@@ -85,26 +84,18 @@ bool run_to(Queue &queue, Worker &worker, const Case &stop)
 // Each label of the workers once; of the stopped thread's last call one more or one less.
 void judge(const std::vector<Worker> &workers, const std::vector<uint32_t> &waiting, bool push)
 {
-    std::vector<std::vector<bool>> met;
-    uint64_t pushed = 0, popped = 0;
+    Met met;
+    uint64_t pushed = 0;
     for (const Worker &worker : workers) {
-        met.emplace_back(worker.pushed + (&worker == &workers.back() && push));
+        met.threads.emplace_back(worker.pushed + (&worker == &workers.back() && push));
         pushed += worker.pushed;
     }
-    auto meet = [&](uint32_t label) {
-        uint32_t thread = label >> LABEL_BITS, place = label & NUMBER;
-        expect(thread < met.size() && place < met[thread].size(), "a label that nobody pushed");
-        expect(!met[thread][place], "a label twice");
-        met[thread][place] = true;
-        popped++;
-    };
     for (const Worker &worker : workers)
         for (uint32_t label : worker.popped)
-            meet(label);
+            met.meet(label);
     for (uint32_t label : waiting)
-        meet(label);
-    expect(push ? popped == pushed || popped == pushed + 1 : popped == pushed || popped + 1 == pushed,
-           "a label lost");
+        met.meet(label);
+    expect(met.count == pushed || (push ? met.count == pushed + 1 : met.count + 1 == pushed), "a label lost");
 }
 
 void one(const Case &stop, uint64_t calls, uint64_t number)

@@ -231,6 +231,30 @@ struct Queue {
     }
 };
 
+// Labels are numbered by each thread, which stands above the number.
+enum { LABEL_BITS = 27 };
+inline uint32_t label_of(uint64_t thread, uint64_t number)
+{
+    return static_cast<uint32_t>(thread << LABEL_BITS | number);
+}
+inline uint32_t thread_of(uint32_t label) { return label >> LABEL_BITS; }
+inline uint32_t number_of(uint32_t label) { return label & ((1u << LABEL_BITS) - 1); }
+
+// The labels met again: each that a thread pushed at most once, and no other.
+struct Met {
+    std::vector<std::vector<bool>> threads;
+    uint64_t count = 0;
+
+    void meet(uint32_t label)
+    {
+        uint32_t thread = thread_of(label), at = number_of(label);
+        expect(thread < threads.size() && at < threads[thread].size(), "a label that nobody pushed");
+        expect(!threads[thread][at], "a label twice");
+        threads[thread][at] = true;
+        count++;
+    }
+};
+
 // A record in cache lines of its own.
 struct alignas(128) Own {
     zc_record record{};
