@@ -109,7 +109,7 @@ int main(int argc, char **argv)
     for (uint64_t turn = 0; turn < 24 || std::chrono::steady_clock::now() < end; turn++) {
         bool fibers = turn / 2 % 4 != 3;
         pause_one_in = pauses[turn / 2 % 3];
-        one({turn % 2 == 0, turn % 3 == 2, fibers, 4 - turn / 2 % 3, sizes[turn / 4 % 6], fibers ? 15000u : 5000u, first * 1000 + turn});
+        one({turn % 2 == 0, turn % 3 == 2, fibers, 4 - turn / 6 % 3, sizes[turn / 4 % 6], fibers ? 15000u : 5000u, first * 1000 + turn});
     }
     expect(totals.retries > 0, "threads that never met");
     std::printf("%llu turns, %llu labels pushed and accounted for, %llu of them popped; %llu calls found none or no slot, %llu retries\n",
