@@ -107,7 +107,7 @@ int main(int argc, char **argv)
     auto end = std::chrono::steady_clock::now() + std::chrono::seconds(seconds);
     alarm(static_cast<unsigned>(seconds) + 60); // a call that does not end stops the test
     for (uint64_t turn = 0; turn < 24 || std::chrono::steady_clock::now() < end; turn++) {
-        bool fibers = turn / 2 % 4 != 3;
+        bool fibers = fibers_allowed && turn / 2 % 4 != 3;
         pause_one_in = pauses[turn / 2 % 3];
         one({turn % 2 == 0, turn % 3 == 2, fibers, 4 - turn / 6 % 3, sizes[turn / 4 % 6], fibers ? 15000u : 5000u, first * 1000 + turn});
     }
