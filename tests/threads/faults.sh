@@ -1,7 +1,7 @@
 #!/bin/bash
 # Do the tests of threads fail when they should? Each fault of faults.txt is planted in a copy of
-# zeppolecape_atomic.h, and the test that its first line names must see it: touches, or one of the two
-# with threads, accounts and rounds. Last line: "N passed, M failed".
+# zeppolecape_atomic.h, and the test that its first line names must see it: touches; or one of the two
+# with threads, accounts and rounds; or accounts under ThreadSanitizer. Last line: "N passed, M failed".
 #
 #     tests/threads/faults.sh ARCHIVE
 set -u -o pipefail
@@ -33,6 +33,7 @@ done <tests/threads/faults.txt
 built() { # FOLDER TEST: with the header there
     case $2 in
     touches) $CC -std=gnu11 -O1 -w -I"$1" -Iinclude -Ibench -Itests/library tests/threads/touches.c bench/touch_reference.c "$archive" -o "$1/$2" ;;
+    *.tsan) $CXX -std=c++17 -O1 -w -fsanitize=thread -I"$1" -Iinclude "tests/threads/${2%.tsan}.cc" "$archive" -pthread -o "$1/$2" ;;
     *) $CXX -std=c++17 -O1 -w -I"$1" -Iinclude "tests/threads/$2.cc" "$archive" -pthread -o "$1/$2" ;;
     esac
 }
@@ -41,7 +42,7 @@ seen() { # FOLDER TEST ARGUMENTS..: the test fails, in whatever way
     local folder=$1 test=$2
     shift 2
     [ -x "$folder/$test" ] || built "$folder" "$test" || exit 2
-    ! timeout -s KILL 20 "$folder/$test" "$@" >"$folder/said" 2>/dev/null
+    ! TSAN_OPTIONS=halt_on_error=1 timeout -s KILL 40 "$folder/$test" "$@" >"$folder/said" 2>&1
 }
 
 passed=0
@@ -50,17 +51,18 @@ for at in $(seq 0 $((count - 1))); do
     name=$(cat "$work/$at/name")
     case $name in
     touches:*) seen "$work/$at" touches 200000 && by=touches || by= ;;
+    tsan:*) seen "$work/$at" accounts.tsan 2 && by=ThreadSanitizer || by= ;;
     *)
         by=
         for seed in 1 2 3 4; do
-            seen "$work/$at" accounts 2 $seed && by="accounts, seed $seed" && break
-            seen "$work/$at" rounds 2 $seed && by="rounds, seed $seed" && break
+            seen "$work/$at" accounts 1 $seed && by="accounts, seed $seed" && break
+            seen "$work/$at" rounds 1 $seed && by="rounds, seed $seed" && break
         done
         ;;
     esac
     if [ -n "$by" ]; then
         passed=$((passed + 1))
-        echo "$name: seen by $by: $(grep -m 1 FAILED "$work/$at/said" || echo "it stopped")"
+        echo "$name: seen by $by: $(grep -m 1 'FAILED\|WARNING: ' "$work/$at/said" || echo "it stopped")"
     else
         failed=$((failed + 1))
         echo "NOT SEEN $name"
