@@ -1,7 +1,7 @@
 // Threads on one queue: pairs of push and pop a second, and the longest wait for an answer while
 // another thread is stopped for 10 ms now and then, wherever it stands. bench/threads.sh prints it all.
 //
-//     threads pairs PAIRS TIMES      threads waits SECONDS      threads count named|pooled PAIRS
+//     threads pairs PAIRS TIMES      threads waits SECONDS TIMES      threads count named|pooled PAIRS
 #include "threads_by_hand.h"
 
 #include <algorithm>
@@ -9,7 +9,6 @@
 #include <chrono>
 #include <cstdio>
 #include <cstdlib>
-#include <cstring>
 #include <memory>
 #include <mutex>
 #include <string>
@@ -238,9 +237,8 @@ template <class Deque> double longest_wait(size_t threads, uint64_t seconds)
     return *std::max_element(longest.begin() + 1, longest.end());
 }
 
-template <class Deque> void row(const char *what, const char *name, uint64_t amount, int times)
+template <class Deque> void row(bool pairs, const char *name, uint64_t amount, int times)
 {
-    bool pairs = std::strcmp(what, "pairs") == 0;
     std::printf("| %s |", name);
     for (size_t threads : {1, 2, 4}) {
         if (!pairs && threads == 1)
@@ -260,8 +258,8 @@ template <class Deque> void row(const char *what, const char *name, uint64_t amo
 // For callgrind: pairs by one thread, and the steps that they take.
 template <class Deque> __attribute__((noinline)) void counted_pairs(Tables &t, Own &own, uint64_t pairs)
 {
-    for (uint64_t at = 0; at < pairs; at++)
-        pair<Deque, NeverStops>(t, own, static_cast<uint32_t>(at));
+    while (pairs-- != 0)
+        pair<Deque, NeverStops>(t, own, 1);
 }
 
 template <class Deque> int count(uint64_t pairs)
@@ -292,17 +290,18 @@ int main(int argc, char **argv)
     std::string what = argc > 1 ? argv[1] : "";
     if (what == "count" && argc == 4) {
         uint64_t pairs = std::strtoull(argv[3], nullptr, 10);
-        return std::strcmp(argv[2], "named") == 0 ? count<Atomic<false>>(pairs) : count<Atomic<true>>(pairs);
+        return argv[2] == std::string("named") ? count<Atomic<false>>(pairs) : count<Atomic<true>>(pairs);
     }
-    if (argc != 4 || (what != "pairs" && what != "waits"))
+    bool pairs = what == "pairs";
+    if (argc != 4 || (!pairs && what != "waits"))
         return std::puts("threads pairs PAIRS TIMES | waits SECONDS TIMES | count named|pooled PAIRS"), 2;
     uint64_t amount = std::strtoull(argv[2], nullptr, 10);
     int times = std::atoi(argv[3]);
-    row<Atomic<false>>(argv[1], "`zeppolecape_atomic.h`, named", amount, times);
-    row<Atomic<true>>(argv[1], "`zeppolecape_atomic.h`, pooled", amount, times);
-    row<Locked<false>>(argv[1], "mutex around the proved calls, named", amount, times);
-    row<Locked<true>>(argv[1], "mutex around the proved calls, pooled", amount, times);
-    row<Ring>(argv[1], "mutex around a plain ring", amount, times);
-    row<Hand<false>>(argv[1], "the algorithm by hand, named", amount, times);
-    row<Hand<true>>(argv[1], "the algorithm by hand, pooled", amount, times);
+    row<Atomic<false>>(pairs, "`zeppolecape_atomic.h`, named", amount, times);
+    row<Atomic<true>>(pairs, "`zeppolecape_atomic.h`, pooled", amount, times);
+    row<Locked<false>>(pairs, "mutex around the proved calls, named", amount, times);
+    row<Locked<true>>(pairs, "mutex around the proved calls, pooled", amount, times);
+    row<Ring>(pairs, "mutex around a plain ring", amount, times);
+    row<Hand<false>>(pairs, "the algorithm by hand, named", amount, times);
+    row<Hand<true>>(pairs, "the algorithm by hand, pooled", amount, times);
 }
