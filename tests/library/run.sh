@@ -93,7 +93,8 @@ part_header() {
     printf '#include "zeppolecape.h"\nZC_QUEUE_STORAGE(queue, 2, 3);\nZC_NAMED_STORAGE(named, 2, 3);\n' >"$work/alone.c"
     printf 'ZC_SHELF_STORAGE(shelves, 2, 3);\nZC_NAMED_SHELF_STORAGE(few, 2, 3);\n' >>"$work/alone.c"
     printf 'uint64_t used(void);\nuint64_t used(void) { return zc_queue_free_slot(&queue) + zc_queue_free_slot(&named) + shelves.left_count + few.next_count; }\n' >>"$work/alone.c"
-    printf '#include "zeppolecape_atomic.h"\nzc_reply used(const zc_shared *, zc_record *);\nzc_reply used(const zc_shared *shared, zc_record *own) { return zc_atomic_pop(shared, own, ZC_LEFT); }\n' >"$work/atomic.c"
+    printf '#include "zeppolecape_atomic.h"\nzc_reply used(const zc_shared *, zc_record *);\n' >"$work/atomic.c"
+    printf 'zc_reply used(const zc_shared *all, zc_record *own) { return zc_atomic_pop(all, own, ZC_LEFT); }\n' >>"$work/atomic.c"
     local compiler name
     for compiler in $CC clang; do # without clang the first alone
         command -v $compiler >/dev/null || continue
@@ -107,7 +108,8 @@ part_header() {
         command -v $compiler >/dev/null || continue
         for name in alone atomic; do
             for standard in c++11 c++17; do
-                holds "header as $standard, $compiler, $name" $compiler -x c++ -std=$standard $WARNINGS -Wconversion -Wold-style-cast -Iinclude -fsyntax-only "$work/$name.c"
+                holds "header as $standard, $compiler, $name" $compiler -x c++ -std=$standard $WARNINGS -Wconversion -Wold-style-cast \
+                    -Iinclude -fsyntax-only "$work/$name.c"
             done
         done
     done
@@ -197,7 +199,8 @@ part_projects() {
     cp -r examples/project-pkgconfig "$work/project-pkgconfig"
     holds "the project with pkg-config" make -B -C "$work/project-pkgconfig" PKG_CONFIG_PATH="$prefix/lib/pkgconfig" CFLAGS=-Werror
     holds "the project with pkg-config runs" "$work/project-pkgconfig/printer"
-    holds "threads by the installed headers" sh -c "$CC $WARNINGS examples/c/threads.c \$(PKG_CONFIG_PATH='$prefix/lib/pkgconfig' pkg-config --cflags --libs zeppolecape) -pthread -o '$work/installed_threads'"
+    holds "threads by the installed headers" sh -c "$CC $WARNINGS examples/c/threads.c -pthread -o '$work/installed_threads' \
+        \$(PKG_CONFIG_PATH='$prefix/lib/pkgconfig' pkg-config --cflags --libs zeppolecape)"
     holds "the project with CMake: configured" cmake -S examples/project-cmake -B "$work/project-cmake" -DCMAKE_PREFIX_PATH="$prefix"
     holds "the project with CMake: built" cmake --build "$work/project-cmake"
     holds "the project with CMake runs" "$work/project-cmake/printer"
