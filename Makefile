@@ -1,14 +1,14 @@
 # The library as one archive, and its installation.
 #
 #     make                        proves the crates and writes target/lib/libzeppolecape.a (some minutes, once)
-#     make install PREFIX=/opt/zc header, archive, pkg-config file and CMake package; DESTDIR is honoured
+#     make install PREFIX=/opt/zc headers, archive, pkg-config file and CMake package; DESTDIR is honoured
 #     make uninstall PREFIX=/opt/zc
 #
 # The tests are .ci/run and tests/README.md's commands.
 
 # The crates that export calls. All are proved first; then each is compiled for itself (`rt staticlib NAME`),
 # two at a time. The library holds them all, and a program takes in only those whose calls it makes.
-EXPORTS = capi capi_record capi_run history audit find waiting sheet shelf schedule join
+EXPORTS = capi capi_record capi_run touch history audit find waiting sheet shelf schedule join
 
 # Two of `rt` in one folder overwrite each other's notes on what is proved, and one may then find a proved crate
 # unproved. So each has a folder, with links to the crates, to what is proved of them, and to where the archives go.
@@ -23,7 +23,8 @@ version_part = $(shell sed -n 's/^\#define ZC_VERSION_$(1) \([0-9]*\)$$/\1/p' in
 VERSION := $(call version_part,MAJOR).$(call version_part,MINOR).$(call version_part,PATCH)
 
 # A path may hold spaces: what is installed is named once here, and quoted where it is used.
-HEADER = $(DESTDIR)$(PREFIX)/include/zeppolecape.h
+INCLUDE = $(DESTDIR)$(PREFIX)/include
+HEADERS = zeppolecape.h zeppolecape_atomic.h
 ARCHIVE = $(DESTDIR)$(PREFIX)/lib/libzeppolecape.a
 PKGCONFIG = $(DESTDIR)$(PREFIX)/lib/pkgconfig
 CMAKE = $(DESTDIR)$(PREFIX)/lib/cmake/zeppolecape
@@ -46,7 +47,8 @@ target/lib/libzeppolecape.a: crates.txt $(shell find crates -name '*.rt' -o -nam
 	ar rcsD $@ target/lib/members/*.o
 
 install: $(LIBRARY)
-	install -D -m 644 include/zeppolecape.h "$(HEADER)"
+	install -d "$(INCLUDE)"
+	for name in $(HEADERS); do install -m 644 include/$$name "$(INCLUDE)/$$name" || exit 1; done
 	install -D -m 644 "$(LIBRARY)" "$(ARCHIVE)"
 	install -d "$(PKGCONFIG)" "$(CMAKE)"
 	sed 's/@VERSION@/$(VERSION)/' packaging/zeppolecape.pc.in >"$(PKGCONFIG)/zeppolecape.pc"
@@ -54,5 +56,6 @@ install: $(LIBRARY)
 	install -m 644 packaging/zeppolecape-config.cmake "$(CMAKE)/zeppolecape-config.cmake"
 
 uninstall:
-	rm -f "$(HEADER)" "$(ARCHIVE)" "$(PKGCONFIG)/zeppolecape.pc"
+	for name in $(HEADERS); do rm -f "$(INCLUDE)/$$name" || exit 1; done
+	rm -f "$(ARCHIVE)" "$(PKGCONFIG)/zeppolecape.pc"
 	rm -rf "$(CMAKE)"

@@ -1,11 +1,11 @@
 /*
  * zeppolecape.h - the label queue, a shared deque moved one touch at a time.
  *
- * WHAT IT IS NOT: a queue that two callers may enter at once. One call at a time on a queue. The
- * library uses plain loads and stores, so it is not for several cores or threads at once, and it
- * is not re-entrant: mask interrupts (or hold a lock) around each call and around each read of the
- * tables, as examples/c/interrupt.c does. Two callers at once lose labels, and nothing tells. What
- * is lock-free is the tasks, between calls: wherever a task is stopped, the others go on.
+ * FOR WHOM. Threads, cores and interrupt handlers share a queue through zeppolecape_atomic.h, with no
+ * lock and nothing masked. The calls of this header are for one caller at a time: an executive whose
+ * step is one undivided touch, or a queue at rest. They use plain loads and stores and are not
+ * re-entrant: two callers at once lose labels, and nothing tells. In both, wherever a task is stopped
+ * the others go on.
  *
  * WHAT IT IS. The library holds no memory of its own. You lend it tables; it opens a queue in them,
  * starts a push or a pop for a task, moves one task by one step, and reports. A step is one touch of
@@ -40,8 +40,8 @@
  *  - `control`, `one` of zc_step_record and the three controls of zc_join are not null. Every pointer
  *    is aligned for its type and good for its count of elements (a count is never in bytes).
  *  - Nothing that a call writes overlaps anything else that it is lent.
- *  - One call at a time on a queue, as said above: it is the executive that makes each step
- *    one undivided touch. Calls on different queues are independent.
+ *  - One call of this header at a time on a queue, as said above: it is the executive that makes each
+ *    step one undivided touch. Calls on different queues are independent.
  *  - Between calls the tables are yours to read. Writing into an open queue is
  *    never dangerous to memory, but only a queue that was written by these calls
  *    alone keeps its promises (and never answers 34).
@@ -73,7 +73,7 @@
  *   zc_run            160      1697      2721      3160
  *   zc_report         352       251       443     16244
  *   table bytes         -       240       816     30120
- *   code bytes: audit 1804, capi 9195, capi_record 4586, capi_run 7263, find 3227, history 8386, join 3397, schedule 8875, sheet 3587, shelf 3874, waiting 797
+ *   code bytes: audit 1804, capi 9195, capi_record 4586, capi_run 7263, find 3227, history 8386, join 3397, schedule 8875, sheet 3587, shelf 3874, touch 9321, waiting 797
  * As to the machine: x86-64, System V calling convention. The code uses the red zone (128 bytes
  * below the stack pointer) and SSE registers, no AVX: an interrupt handler that makes a call saves
  * the SSE state first, and an interrupt that is not masked during a call leaves the red zone alone.
@@ -116,6 +116,15 @@ extern "C" {
 #define ZC_VERSION_PATCH 0
 #define ZC_VERSION (ZC_VERSION_MAJOR * 10000 + ZC_VERSION_MINOR * 100 + ZC_VERSION_PATCH)
 
+/* A conversion, in the words of either language. */
+#ifdef __cplusplus
+#define ZC_AS(type, value) static_cast<type>(value)
+#define ZC_WORDS(words, rows) reinterpret_cast<words *>(rows)
+#else
+#define ZC_AS(type, value) ((type)(value))
+#define ZC_WORDS(words, rows) ((words *)(rows))
+#endif
+
 /* ---- Limits and lengths ---------------------------------------------------------------- */
 
 #define ZC_MOST_TASKS 16
@@ -146,14 +155,14 @@ extern "C" {
 #define ZC_POP_STEPS 13
 #define ZC_POOLED_PUSH_STEPS 21
 #define ZC_POOLED_POP_STEPS 16
-#define ZC_STRETCH(tasks) (26 * (uint64_t)(tasks))
+#define ZC_STRETCH(tasks) (26 * ZC_AS(uint64_t, tasks))
 #define ZC_POOLED_STRETCH(tasks) \
-    (20 * (uint64_t)(tasks) + 3 * ((uint64_t)(tasks) * ((uint64_t)(tasks) - 1) / 2))
+    (20 * ZC_AS(uint64_t, tasks) + 3 * (ZC_AS(uint64_t, tasks) * (ZC_AS(uint64_t, tasks) - 1) / 2))
 
 /* Entries of lefts, rights, labels and next: rows 0 to slots (row 0 is null's, and unused). */
-#define ZC_ROWS(slots) ((size_t)(slots) + 1)
+#define ZC_ROWS(slots) (ZC_AS(size_t, slots) + 1)
 /* Entries of marks: bit n mod 64 of word n div 64 is set while slot n is taken. */
-#define ZC_MARK_WORDS(slots) ((size_t)(slots) / 64 + 1)
+#define ZC_MARK_WORDS(slots) (ZC_AS(size_t, slots) / 64 + 1)
 
 /* ---- Numbers ---------------------------------------------------------------------------- */
 
@@ -543,7 +552,7 @@ static inline uint64_t zc_link_slot(uint64_t link) { return link & 0x7fff; }
 /* Whether a slot, 1 to slots, is taken. */
 static inline int zc_marked(const uint64_t *marks, uint64_t slot)
 {
-    return (int)(marks[slot / 64] >> (slot % 64) & 1);
+    return ZC_AS(int, marks[slot / 64] >> (slot % 64) & 1);
 }
 
 /* ---- The tables named once ----------------------------------------------------------------
@@ -679,7 +688,7 @@ static inline uint64_t zc_queue_free_slot(const zc_queue *queue)
 {
     for (size_t word = 0; word < queue->mark_count; word++) {
         uint64_t clear = ~queue->marks[word];
-        uint64_t slot = (uint64_t)word * 64;
+        uint64_t slot = ZC_AS(uint64_t, word) * 64;
         if (word == 0)
             clear &= ~UINT64_C(1); /* slot 0 is null */
         for (; clear != 0; clear >>= 1, slot++)
@@ -717,7 +726,7 @@ static inline zc_waiting_reply zc_queue_drain(const zc_queue *queue, zc_reply *a
         int busy = task < queue->control->tasks && queue->records[task].place != 0;
         answers[task] = busy ? zc_queue_finish(queue, task) : none;
     }
-    return zc_queue_waiting(queue, slots, labels, (size_t)queue->control->slots);
+    return zc_queue_waiting(queue, slots, labels, ZC_AS(size_t, queue->control->slots));
 }
 #endif
 
@@ -803,7 +812,7 @@ zc_verdict zc_audit_words(const uint64_t *words, size_t word_count, const uint64
 static inline zc_verdict zc_audit(const zc_finished *calls, size_t call_count,
                                   const uint64_t *order, size_t order_count)
 {
-    return zc_audit_words((const uint64_t *)calls, 7 * call_count, order, order_count);
+    return zc_audit_words(ZC_WORDS(const uint64_t, calls), 7 * call_count, order, order_count);
 }
 #endif
 
@@ -828,7 +837,8 @@ ZC_LAYOUT(offsetof(zc_sheet_reply, first) == 8 && offsetof(zc_sheet_reply, secon
  * becomes 0, which is outside every list. */
 static inline uint32_t zc_rule(uint64_t first, uint64_t second)
 {
-    return (uint32_t)(first > 65535 ? 0 : first) << 16 | (uint32_t)(second > 65535 ? 0 : second);
+    return ZC_AS(uint32_t, first > 65535 ? 0 : first) << 16 |
+           ZC_AS(uint32_t, second > 65535 ? 0 : second);
 }
 
 /*
@@ -1165,8 +1175,8 @@ static inline zc_serve_reply zc_queue_serve(const zc_queue *queue, uint64_t pool
                                             zc_answer *replies, size_t reply_count)
 {
     return zc_serve(queue->control, queue->records, queue->record_count, pooled, tasks, slots, tag,
-                    (const uint64_t *)requests, ZC_REQUEST_WORDS * request_count,
-                    (uint64_t *)replies, ZC_ANSWER_WORDS * reply_count, ZC_TABLES(queue));
+                    ZC_WORDS(const uint64_t, requests), ZC_REQUEST_WORDS * request_count,
+                    ZC_WORDS(uint64_t, replies), ZC_ANSWER_WORDS * reply_count, ZC_TABLES(queue));
 }
 #endif
 

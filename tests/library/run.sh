@@ -3,10 +3,10 @@
 #
 #     tests/library/run.sh [FOLDER]     of libzeppolecape.a; default: target/lib, where `make` writes it
 #     tests/library/run.sh --stand-in   the same calls by hand in its place: bench/reference.c, audit_reference.c, sheet.c, schedules.c,
-#                                       join_reference.c, serve.c and shelf_reference.c
+#                                       join_reference.c, serve.c, shelf_reference.c and touch_reference.c
 #
 # PARTS names what runs, all of it by default: header, a program NAME for each tests/library/NAME.c that has a main,
-# bindings examples projects bench audit sheet serve facts schedules joining shelves differential.
+# bindings examples projects bench audit sheet serve facts schedules joining shelves threads differential.
 # SEED and TIMES go to the differential test (1 and 1). BUILD keeps what is built there. JOBS parts run at a time,
 # by default as many as there are processors; each in a shell of its own, and what they say stays in order.
 set -u -o pipefail
@@ -14,7 +14,7 @@ from=$PWD
 cd "$(dirname "$0")/../.."
 
 PROGRAMS=$(grep -l '^int main' tests/library/*.c | grep -v '/join.c$\|/shelf.c$' | xargs -n 1 basename -s .c | tr '\n' ' ')
-PARTS=${PARTS:-header $PROGRAMS bindings examples projects bench audit sheet serve facts schedules joining shelves differential}
+PARTS=${PARTS:-header $PROGRAMS bindings examples projects bench audit sheet serve facts schedules joining shelves threads differential}
 CC=${CC:-gcc}
 CXX=${CXX:-g++}
 WARNINGS="-Wall -Wextra -Wpedantic -Werror"
@@ -40,7 +40,8 @@ case ${1:-} in
     $CC -std=c11 -O2 $WARNINGS -DAS_LIBRARY -Iinclude -c bench/join_reference.c -o "$work/join.o" || exit 2
     $CC -std=c11 -O2 $WARNINGS -DAS_LIBRARY -Iinclude -c bench/serve.c -o "$work/serve.o" || exit 2
     $CC -std=c11 -O2 $WARNINGS -DAS_LIBRARY -Iinclude -c bench/shelf_reference.c -o "$work/shelf.o" || exit 2
-    ar rcs "$archive" "$work"/{library,audit,sheet,schedules,join,serve,shelf}.o
+    $CC -std=c11 -O2 $WARNINGS -DAS_LIBRARY -Iinclude -c bench/touch_reference.c -o "$work/touch.o" || exit 2
+    ar rcs "$archive" "$work"/{library,audit,sheet,schedules,join,serve,shelf,touch}.o
     ;;
 *)
     given=${1:-$PWD/target/lib}
@@ -92,11 +93,25 @@ part_header() {
     printf '#include "zeppolecape.h"\nZC_QUEUE_STORAGE(queue, 2, 3);\nZC_NAMED_STORAGE(named, 2, 3);\n' >"$work/alone.c"
     printf 'ZC_SHELF_STORAGE(shelves, 2, 3);\nZC_NAMED_SHELF_STORAGE(few, 2, 3);\n' >>"$work/alone.c"
     printf 'uint64_t used(void);\nuint64_t used(void) { return zc_queue_free_slot(&queue) + zc_queue_free_slot(&named) + shelves.left_count + few.next_count; }\n' >>"$work/alone.c"
-    for standard in c11 c17; do
-        holds "header as $standard" $CC -std=$standard $WARNINGS -Wconversion -Iinclude -fsyntax-only "$work/alone.c"
+    printf '#include "zeppolecape_atomic.h"\nzc_reply used(const zc_shared *, zc_record *);\n' >"$work/atomic.c"
+    printf 'zc_reply used(const zc_shared *all, zc_record *own) { return zc_atomic_pop(all, own, ZC_LEFT); }\n' >>"$work/atomic.c"
+    local compiler name
+    for compiler in $CC clang; do # without clang the first alone
+        command -v $compiler >/dev/null || continue
+        for name in alone atomic; do
+            for standard in c11 c17; do
+                holds "header as $standard, $compiler, $name" $compiler -std=$standard $WARNINGS -Wconversion -Iinclude -fsyntax-only "$work/$name.c"
+            done
+        done
     done
-    for standard in c++11 c++17; do
-        holds "header as $standard" $CXX -x c++ -std=$standard $WARNINGS -Wconversion -Iinclude -fsyntax-only "$work/alone.c"
+    for compiler in $CXX clang++; do
+        command -v $compiler >/dev/null || continue
+        for name in alone atomic; do
+            for standard in c++11 c++17; do
+                holds "header as $standard, $compiler, $name" $compiler -x c++ -std=$standard $WARNINGS -Wconversion -Wold-style-cast \
+                    -Iinclude -fsyntax-only "$work/$name.c"
+            done
+        done
     done
     # Twice in one program, and from two files of it.
     printf '#include "zeppolecape.h"\n#include "zeppolecape.h"\nint other(void) { return zc_refused(zc_reply{34, 0, 0}); }\n' >"$work/two.cc"
@@ -149,7 +164,7 @@ part_bindings() {
 
 # An example in C, and a line that it must print.
 example() { # NAME LINE
-    holds "C example $1 compiles" $CC $WARNINGS -Iinclude "examples/c/$1.c" "$archive" -o "$work/$1"
+    holds "C example $1 compiles" $CC $WARNINGS -Iinclude "examples/c/$1.c" "$archive" -pthread -o "$work/$1"
     holds "C example $1" "$work/$1"
     cp "$log" "$work/said_by_$1"
     holds "C example $1: $2" grep -qxF "$2" "$work/said_by_$1"
@@ -158,12 +173,14 @@ example() { # NAME LINE
 # The commands that examples/README.md names, with this archive.
 part_examples() {
     example interrupt 'no label lost'
+    example threads 'no label lost'
     example renew 'no label lost'
     example changeover 'cheese: 301 302 303'
     example lanes 'prints 101 102 103 104 105 106 107'
     example sheet "a wedge behind the pallet's label: broken, 7105 must print before 9000"
     holds "C example compiles" $CC $WARNINGS -Iinclude examples/c/executive.c "$archive" -o "$work/executive_c"
-    holds "Rust example compiles" in_cargo build --release -p executive
+    holds "Rust examples compile" in_cargo build --release -p executive
+    holds "five threads in Rust" "$work/cargo/release/threads"
     for seed in 1 2 3 4 5 6 7 8 9 10 18446744073709551615; do
         holds "C example, seed $seed" "$work/executive_c" $seed
         cp "$log" "$work/said_by_c"
@@ -182,6 +199,8 @@ part_projects() {
     cp -r examples/project-pkgconfig "$work/project-pkgconfig"
     holds "the project with pkg-config" make -B -C "$work/project-pkgconfig" PKG_CONFIG_PATH="$prefix/lib/pkgconfig" CFLAGS=-Werror
     holds "the project with pkg-config runs" "$work/project-pkgconfig/printer"
+    holds "threads by the installed headers" sh -c "$CC $WARNINGS examples/c/threads.c -pthread -o '$work/installed_threads' \
+        \$(PKG_CONFIG_PATH='$prefix/lib/pkgconfig' pkg-config --cflags --libs zeppolecape)"
     holds "the project with CMake: configured" cmake -S examples/project-cmake -B "$work/project-cmake" -DCMAKE_PREFIX_PATH="$prefix"
     holds "the project with CMake: built" cmake --build "$work/project-cmake"
     holds "the project with CMake runs" "$work/project-cmake/printer"
@@ -242,6 +261,10 @@ part_shelves() { # shelf.c is linked with the calls by hand, and planted faults 
     holds "shelves against C, and planted faults" sh tests/library/shelf.sh "$archive"
     holds "the benchmark of shelves compiles" $CC -std=gnu11 -O2 -Iinclude bench/shelf.c bench/shelf_reference.c "$archive" -o "$work/shelf_bench"
     holds "the benchmark of shelves runs" "$work/shelf_bench" 16 1023 2
+}
+
+part_threads() { # a minute; an hour by tests/threads/run.sh --hour
+    counts "threads" tests/threads/run.sh "$archive"
 }
 
 part_differential() {

@@ -1,10 +1,10 @@
 //! The label queue: a double-ended queue that up to 16 tasks share, moved one touch at a time.
 //!
-//! It is not a queue that threads or cores may enter at once: the library uses plain loads and
-//! stores, and each call takes the tables by `&mut`, so that one is under way at a time. What is
-//! lock-free is the tasks, between calls: wherever a task is stopped, the others go on.
+//! [`SharedQueue`] is for threads and cores: each has a [`Handle`], nobody holds a lock, and wherever a
+//! thread is stopped the others go on. [`Queue`] is for an executive whose step is one undivided touch:
+//! it makes each call by `&mut self`, with plain loads and stores, so that one is under way at a time.
 //!
-//! [`Queue`] owns its tables. [`Tables`] lends tables that the caller keeps elsewhere, with any
+//! Both own their tables. [`Tables`] lends tables that the caller keeps elsewhere, with any
 //! contents and any lengths. [`Shelves`] keep copies of a queue to go back to. [`audit()`] checks a
 //! history of finished calls. [`raw`] holds the C declarations themselves.
 //!
@@ -29,6 +29,7 @@
 extern crate alloc;
 
 mod audit;
+mod cells;
 mod find;
 mod join;
 mod numbers;
@@ -36,6 +37,7 @@ mod queue;
 pub mod raw;
 mod schedules;
 mod serve;
+mod shared;
 mod sheet;
 mod shelves;
 mod tables;
@@ -50,6 +52,7 @@ pub use queue::Queue;
 pub use raw::{Control, Record};
 pub use schedules::{Ending, Schedule, Schedules, MOST_SCHEDULE, SCHEDULE_WORDS};
 pub use serve::{Request, ANSWER_WORDS, REQUEST_WORDS};
+pub use shared::{Handle, Handles, SharedQueue};
 pub use sheet::{rule, SheetVerdict, MOST_LISTED, MOST_RULES, SHEET_WORDS};
 pub use shelves::{ShelfTables, Shelves, SHELVES};
 pub use tables::Tables;

@@ -13,12 +13,12 @@ use alloc::vec::Vec;
 #[derive(Clone, Debug)]
 pub struct Queue {
     pub(crate) control: Control,
-    records: Vec<Record>,
+    pub(crate) records: Vec<Record>,
     pub(crate) lefts: Vec<u64>,
     pub(crate) rights: Vec<u64>,
-    labels: Vec<u32>,
-    marks: Vec<u64>,
-    next: Vec<u64>,
+    pub(crate) labels: Vec<u32>,
+    pub(crate) marks: Vec<u64>,
+    pub(crate) next: Vec<u64>,
 }
 
 impl Queue {

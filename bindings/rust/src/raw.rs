@@ -7,9 +7,11 @@
 //! and nobody else uses it during the call. Everything else is checked by the call.
 
 mod calls;
+mod touch;
 mod waiting;
 
 pub use calls::*;
+pub use touch::*;
 pub use waiting::*;
 
 /// Side left.

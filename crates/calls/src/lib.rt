@@ -1,5 +1,5 @@
 //! The covered part of every call but the step: refusals, starts, opening, report.
 pub mod opening;
-mod refusal;
+pub mod refusal;
 pub mod report;
 pub mod start;

@@ -13,7 +13,7 @@ ghost use Rattle.sound.specs.Lengths.{lengthsFit};
 ghost use Rattle.calls.specs.Starting.{askedRefusal};
 
 /// The Anchor tag is too high for a start.
-fn late(anchor: u64) -> bool
+pub fn late(anchor: u64) -> bool
     ensures { λ r. ⌜ r ≡ ltb 4294967262 (anchorOf anchor .tag) ⌝ }
 {
     let a = Anchor::unpack(anchor);
@@ -21,7 +21,7 @@ fn late(anchor: u64) -> bool
 }
 
 /// What a start is asked once it is admitted.
-fn asked_refusal(c: Control, r: Record, side: u64, asked: Asked) -> u32
+pub fn asked_refusal(c: Control, r: Record, side: u64, asked: Asked) -> u32
     ensures { λ n. ⌜ n ≡ askedRefusal c r side asked ⌝ }
 {
     if 1 < side {

@@ -14,7 +14,7 @@ ghost use Rattle.table.specs.Lent.{withTables};
 ghost use Rattle.calls.specs.Starting.{decided};
 
 /// The whole record of a call at its first place.
-fn new_call(place: u64, kind: u64, side: u64, own: u64, label: u32) -> Record
+pub fn new_call(place: u64, kind: u64, side: u64, own: u64, label: u32) -> Record
     ensures { λ r. ⌜ r ≡ newCall place kind side own label ⌝ }
 {
     Record {

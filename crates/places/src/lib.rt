@@ -7,7 +7,7 @@
 //! Line numbers are those of source 003. Figures 3 and 5 show the right side;
 //! at places 5 to 10, figure 4, the side is the one that the status as read names.
 pub mod decide;
-mod next;
+pub mod next;
 pub mod pool;
 pub mod side;
 pub mod step;

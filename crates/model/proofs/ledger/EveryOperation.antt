@@ -3,7 +3,7 @@ use mathlib.Core.Bool.{Bool, _&&_, cond, false, true}
 use mathlib.Core.List.{List, [], _∷_}
 use mathlib.Core.Logic.{_≢_, _⊎_, inl, inr}
 use mathlib.Core.Path.{_∙_, _≡_, ap, refl, subst, sym}
-use Prim.Native.Nat.{suc, ℕ}
+use Prim.Native.Nat.{_≤_, suc, ℕ}
 use native.Mathlib.Omega.{arith}
 use lib.Dec.{eqb}
 use lib.ListN.{set}
@@ -14,7 +14,7 @@ use Rattle.model.specs.Deque.{saysNoSlot}
 use Rattle.model.specs.History.{Call, Event, Ledger, Request, accept, attend, begins, final, isEffect, ledgerFrom, note, over, run, toldEntry}
 use Rattle.model.specs.Places.{wordFound, move}
 use Rattle.model.specs.Refusals.{among, popRefusal, pushRefusal, putRefusal, stepRefusal}
-use Rattle.model.specs.Tables.{Queue, asking, isPooled, recordAt, started, taskAt, unused, withCall, taken}
+use Rattle.model.specs.Tables.{Queue, asking, isPooled, marked, recordAt, started, taskAt, unused, withCall, taken}
 use Rattle.model.specs.declared.Answer.the-variants.{Empty, NoSlot, Popped, Pushed, Running}
 use Rattle.model.specs.declared.Answer.{Answer}
 use Rattle.model.specs.declared.Entry.{Entry}
@@ -31,7 +31,7 @@ use Rattle.model.proofs.machine.Laws.{upd-other, upd-same}
 use Rattle.model.proofs.machine.Machine as M
 use Rattle.model.proofs.machine.Machine.{upd}
 use Rattle.model.proofs.invariant.Invariant.{Inv}
-use Rattle.model.proofs.bridge.Accepted.{Lies, Pushing, Stepping, pop-accepted, push-accepted, put-accepted, step-accepted}
+use Rattle.model.proofs.bridge.Accepted.{Lies, Stepping, pop-accepted, push-accepted, put-accepted, step-accepted}
 use Rattle.model.proofs.bridge.Decoded.{seenMove}
 use Rattle.model.proofs.bridge.Facts.{LinksFine}
 use Rattle.model.proofs.bridge.Operations.{not-idle, pop-keeps, push-keeps, put-back, put-keeps, reply, step-ends, step-grants, step-lacks}
@@ -253,22 +253,21 @@ module _ (n : ℕ) (q : Queue) (l : Ledger) (g : Matched n q l) (t : ℕ) where
         (record { slot = 0; label = y }) refl refl
         (replaced (asking side y)) (unnamed (isPooled (q .tables .control))) (put-keeps q (g .book) (g .inv) (g .links) t z free side y p) (g .links)
 
-    push-good : (side x y : ℕ) → Pushing q t side x → Puts (Push side x y) (record {
-      tables = taken (q .tables) x y;
-      task = put (started 0 side x y);
-      outcome = Moved (Running 1);
-    })
+    -- No tag is looked at: it is the other tests of a push that keep the ledger matched.
+    pub push-good : (side x y : ℕ) → 1 ≤ x → x ≤ q .tables .control .slots → isPooled (q .tables .control) ≡ false → marked (q .tables .marks) x ≡ false
+        → Puts (Push side x y) (record { tables = taken (q .tables) x y; task = put (started 0 side x y); outcome = Moved (Running 1) })
     unfolding note accept stateOf recOf
-    push-good side x y p = begun (record { tables = taken (q .tables) x y; records = set (q .records) t (put (started 0 side x y)) })
+    push-good side x y real within named unmarked = begun (record { tables = taken (q .tables) x y; records = set (q .records) t (put (started 0 side x y)) })
         (started 0 side x y) 0 side true (record { slot = x; label = y }) refl refl
-        (replaced (started 0 side x y)) (subst (λ b. Names b true x x) (sym (p .named)) refl)
-        (push-keeps q (g .book) (g .inv) (g .links) t z free side x y (p .real) (p .within) (p .named) (p .unmarked))
+        (replaced (started 0 side x y)) (subst (λ b. Names b true x x) (sym named) refl)
+        (push-keeps q (g .book) (g .inv) (g .links) t z free side x y real within named unmarked)
         (record { spare = g .links .spare; tag = g .links .tag; slot = g .links .slot; next = g .links .next; head = g .links .head })
 
   pub act-good : (o : Op) → After o (act q t o)
   unfolding act actOn pushStart putStart popStart step
   act-good (Push side x y) = by-test (Puts (Push side x y)) (eqb (pushRefusal (q .tables) (among q t) r side x) 0)
-      (λ e. let p = push-accepted q t side x (eqb-true _ _ e) in push-good (p .starting .lies) (p .starting .free) side x y p)
+      (λ e. let p = push-accepted q t side x (eqb-true _ _ e) in
+      push-good (p .starting .lies) (p .starting .free) side x y (p .real) (p .within) (p .named) (p .unmarked))
       (λ e. refused (Push side x y) (pushRefusal (q .tables) (among q t) r side x))
   act-good (Pop side) = by-test (Puts (Pop side)) (eqb (popRefusal (q .tables) (among q t) r side) 0)
       (λ e. let p = pop-accepted q t side (eqb-true _ _ e) in pop-good (p .lies) (p .free) side)

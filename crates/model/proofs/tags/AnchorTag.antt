@@ -20,11 +20,11 @@ use Rattle.model.proofs.tags.Sum.{total, total-at, total-le}
 pub record Light (s : Shared) (r : Rec) (m : Move) : Type 0 where
   pub less : weight (apply s (m .touch)) + cost (m .rec) ≤ weight s + cost r
 
-unsettled-small : (st : Status) → unsettled st ≤ 1
+pub unsettled-small : (st : Status) → unsettled st ≤ 1
 unsettled-small stable = omega arith
 unsettled-small (pushing d) = omega arith
 
-cost-small : (r : Rec) → cost r ≤ 2
+pub cost-small : (r : Rec) → cost r ≤ 2
 cost-small r = by-test (λ n. n ≤ 2) (spent (r .place) (r .finishing)) (λ e. omega arith) (λ e. go (r .kind))
   where
     go : (k : Kind) → owes k ≤ 2

@@ -27,7 +27,7 @@ use Rattle.model.proofs.bridge.Accepted.{Lies, lies, pop-accepted, push
 use Rattle.model.proofs.ledger.EveryOperation.{act-good}
 use Rattle.model.proofs.ledger.Matched.{Matched}
 use Rattle.model.proofs.unsound.Safe.{Safe}
-use Rattle.model.proofs.unsound.StartSafe.{pop-begins, push-begins, put-begins, start-safe}
+use Rattle.model.proofs.unsound.StartSafe.{early-room, pop-begins, push-begins, put-begins, start-safe}
 use Rattle.model.proofs.unsound.StepSafe.{step-safe}
 use Rattle.model.proofs.unsound.StepSound.{own-sound, step-sound}
 
@@ -102,22 +102,23 @@ module _ (n : ℕ) (q : Queue) (l : Ledger) (g : Matched n q l) (f : Safe q) (t 
   act-safe (Push side x y) = by-test Puts (eqb (pushRefusal G (among q t) r side x) 0)
       (λ e. let p = push-accepted q t side x (eqb-true _ _ e) in (
         moved _,
-        start-safe q f t (p .starting .lies) (p .starting .early) (p .starting .free) _ _ (started 0 side x y)
-            (push-begins (isPooled (G .control)) (G .control .slots) side x y (p .starting .side) (p .real) (p .within)),
+        start-safe q f t (p .starting .lies) (p .starting .free) _ _ (started 0 side x y)
+            (push-begins (isPooled (G .control)) (G .control .slots) side x y (p .starting .side) (p .real) (p .within))
+            (early-room q f t (p .starting .lies .known) (started 0 side x y) (p .starting .early)),
       ))
       (λ e. refused (pushRefusal G (among q t) r side x) (start-34 side (namedPush G x)))
   act-safe (Pop side) = by-test Puts (eqb (popRefusal G (among q t) r side) 0)
       (λ e. let p = pop-accepted q t side (eqb-true _ _ e) in (
         moved _,
-        start-safe q f t (p .lies) (p .early) (p .free) _ _ (started 1 side 0 0)
-            (pop-begins (isPooled (G .control)) (G .control .slots) side (p .side)),
+        start-safe q f t (p .lies) (p .free) _ _ (started 1 side 0 0) (pop-begins (isPooled (G .control)) (G .control .slots) side (p .side))
+            (early-room q f t (p .lies .known) (started 1 side 0 0) (p .early)),
       ))
       (λ e. refused (popRefusal G (among q t) r side) (start-34 side nothingAsked))
   act-safe (Put side y) = by-test Puts (eqb (putRefusal G (among q t) r side) 0)
       (λ e. let p = put-accepted q t side (eqb-true _ _ e) in (
         moved _,
-        start-safe q f t (p .0 .lies) (p .0 .early) (p .0 .free) _ _ (asking side y)
-            (put-begins (isPooled (G .control)) (G .control .slots) side y (p .1) (p .0 .side)),
+        start-safe q f t (p .0 .lies) (p .0 .free) _ _ (asking side y) (put-begins (isPooled (G .control)) (G .control .slots) side y (p .1) (p .0 .side))
+            (early-room q f t (p .0 .lies .known) (asking side y) (p .0 .early)),
       ))
       (λ e. refused (putRefusal G (among q t) r side) (start-34 side (pooledPush G)))
   act-safe Step = by-test Puts (eqb (stepRefusal G (among q t) r) 0)

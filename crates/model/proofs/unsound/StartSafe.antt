@@ -92,9 +92,21 @@ pub put-begins : (pooled : Bool) (slots side y : ℕ) → pooled ≡ true → si
 unfolding recOf
 put-begins pooled slots side y p hs = record { fine = asking-fine pooled slots side y p hs; extra = refl; share = omega arith }
 
-module _ (q : Queue) (f : Safe q) (t : ℕ) (z : Lies q t) (early : late (q .tables .control) ≡ false) (free : recordAt q t .place ≡ 0)
-    (labels marks : List ℕ) (new : Record)
-    (h : Begins (isPooled (q .tables .control)) (q .tables .control .slots) new) where
+-- Anchor's tag has room for the changes that the new call will owe.
+abbrev pub Room : Queue → ℕ → Record → Type 0
+Room q t new = weight (view (q .tables)) + total (λ u. cost (upd (stateOf q .task) t (recOf new) u)) (q .tables .control .tasks) ≤ 4294967295
+
+-- It has at a tag up to 4,294,967,262, whatever the tasks owe.
+pub early-room : (q : Queue) → Safe q → (t : ℕ) → t < q .tables .control .tasks → (new : Record) → late (q .tables .control) ≡ false → Room q t new
+unfolding view
+early-room q f t known new early =
+    let c = q .tables .control in
+    let low = ltb-false _ (anchorOf (c .anchor) .tag) early in
+    start-bound (view (q .tables)) (stateOf q .task) (c .tasks) t known (view (q .tables)) (recOf new) 4294967295 refl
+    (omega (arith, control-fine c (f .control) .tasks))
+
+module _ (q : Queue) (f : Safe q) (t : ℕ) (z : Lies q t) (free : recordAt q t .place ≡ 0) (labels marks : List ℕ) (new : Record)
+    (h : Begins (isPooled (q .tables .control)) (q .tables .control .slots) new) (room : Room q t new) where
   abbrev G : Tables
   G = q .tables
 
@@ -130,11 +142,7 @@ module _ (q : Queue) (f : Safe q) (t : ℕ) (z : Lies q t) (early : late (q .tab
 
   bound′ : weight (view (q′ .tables)) + total (λ u. cost (stateOf q′ .task u)) (G .control .tasks) ≤ 4294967295
   unfolding view
-  bound′ =
-      let low = ltb-false _ (anchorOf (G .control .anchor) .tag) early in
-      subst (λ (k : ℕ → M.Rec). weight (view (q′ .tables)) + total (λ u. cost (k u)) (G .control .tasks) ≤ 4294967295) (sym tasks-are)
-      (start-bound (view G) (stateOf q .task) (G .control .tasks) t (z .known) (view (q′ .tables)) (recOf new) 4294967295 refl
-      (omega (arith, control-fine (G .control) (f .control) .tasks)))
+  bound′ = subst (λ (k : ℕ → M.Rec). weight (view (q′ .tables)) + total (λ u. cost (k u)) (G .control .tasks) ≤ 4294967295) (sym tasks-are) room
 
   head′ : view G .head .tag + total (λ u. share (stateOf q′ .task u)) (G .control .tasks) ≤ view G .anchor .tag + G .control .tasks
   unfolding recOf

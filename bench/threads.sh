@@ -1,0 +1,53 @@
+#!/bin/bash
+# Threads on one queue: zeppolecape_atomic.h against a mutex around the proved calls, a mutex around a
+# plain ring, and the algorithm by hand with atomics. Prints three tables in Markdown, in about four
+# minutes; run it on an idle machine, of at least two cores.
+#
+#     bench/threads.sh [FOLDER]     of libzeppolecape.a; default: target/lib, where `make` writes it
+#
+# CXX (g++), PAIRS (2000000), TIMES (5) and SECONDS_EACH (3) may be set.
+set -eu -o pipefail
+folder=$(realpath "${1:-$(dirname "$0")/../target/lib}")
+cd "$(dirname "$0")"
+CXX=${CXX:-g++}
+PAIRS=${PAIRS:-2000000}
+TIMES=${TIMES:-5}
+SECONDS_EACH=${SECONDS_EACH:-3}
+COUNTED=20000
+work=$(mktemp -d)
+trap 'rm -rf "$work"' EXIT
+$CXX -std=c++17 -O3 -g -Wall -Wextra -Werror -I../include threads.cc "$folder/libzeppolecape.a" -pthread -o "$work/threads"
+
+echo "$(sed -n 's/^model name[^:]*: //p' /proc/cpuinfo | head -1), $(nproc) cores; $($CXX --version | head -1), -O3; load $(cut -d ' ' -f 1 /proc/loadavg)."
+echo
+echo "Million pairs of push and pop a second, by all threads together; median of $TIMES runs of $PAIRS pairs."
+echo
+echo "| | 1 thread | 2 | 4 |"
+echo "|---|---|---|---|"
+"$work/threads" pairs "$PAIRS" "$TIMES" | tee "$work/pairs"
+echo
+echo "The longest that a thread waited for a push and a pop, in microseconds, while another is stopped for 10 ms"
+echo "at one in 256 of its touches; median of 3 runs of $SECONDS_EACH s. With more threads than cores a wait includes the others' turns."
+echo
+echo "| | 2 threads | 4 |"
+echo "|---|---|---|"
+"$work/threads" waits "$SECONDS_EACH" 3
+echo
+echo "A step of \`zeppolecape_atomic.h\`, one thread: starts, touches and loops included in the first two figures."
+echo
+echo "| queue | steps a pair | ns a step | instructions a step | of these zc_settle_plan |"
+echo "|---|---|---|---|---|"
+for way in named pooled; do
+    steps=$("$work/threads" count $way $COUNTED)
+    ns=$(awk -v way=$way -v steps="$steps" -v pairs=$COUNTED -F '|' \
+        '$2 ~ "atomic.*" way { printf "%.1f", 1000 / $3 / (steps / pairs) }' "$work/pairs")
+    all=- settled=-
+    if command -v valgrind >/dev/null; then
+        valgrind --tool=callgrind --callgrind-out-file="$work/out" --toggle-collect='*counted_pairs*' "$work/threads" count $way $COUNTED >/dev/null 2>&1
+        all=$(awk -v steps="$steps" '$1 == "summary:" { printf "%.0f", $2 / steps }' "$work/out")
+        settled=$(callgrind_annotate --inclusive=yes --threshold=100 "$work/out" 2>/dev/null |
+            awk -v steps="$steps" '/:zc_settle_plan/ { gsub(",", "", $1); printf "%.0f", $1 / steps; exit }')
+    fi
+    awk -v s="$steps" -v p=$COUNTED -v way=$way -v ns="$ns" -v all="$all" -v settled="$settled" \
+        'BEGIN { printf "| %s | %.1f | %s | %s | %s |\n", way, s / p, ns, all, settled }'
+done

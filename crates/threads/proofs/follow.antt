@@ -1,0 +1,13 @@
+-- A simulation, instruction by instruction: the list makes a start or step whole at its deciding instruction.
+pub mod Overlay
+pub mod Plans
+pub mod Starting
+pub mod LateStays
+pub mod Good
+pub mod Relation
+pub mod Instruction
+pub mod Clean
+pub mod Steps
+pub mod Starts
+pub mod Tick
+pub mod Roomy

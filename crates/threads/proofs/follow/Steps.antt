@@ -1,0 +1,280 @@
+-- The instructions of a step, by its touch.
+use mathlib.Core.Path.{_≡_, refl, ap, sym, subst, _∙_}
+use mathlib.Core.Bool.{Bool, true, false, cond}
+use mathlib.Core.List.{List, [], _∷_}
+use Prim.Native.Nat.{ℕ, _<_, _≤_, _/_}
+use native.Mathlib.Omega.{arith}
+use lib.Dec.{eqb}
+use lib.ListN.{length, getD, length-set}
+use lib.Seq.{getD-set-other}
+use borrow.Author.Tests.{eqb-true}
+use Rattle.model.specs.declared.Control.{Control}
+use Rattle.model.specs.declared.TaskRecord.{TaskRecord}
+use Rattle.model.specs.declared.Op.the-variants.{Step}
+use Rattle.model.specs.Tables.{Tables, Queue, taskAt, recordAt, marked, linked, withMark, withMarks, withHead, taken}
+use Rattle.model.specs.Places.{row}
+use Rattle.model.specs.Sides.{links}
+use Rattle.model.specs.Sound.{linkSound}
+use Rattle.word.specs.Link.{linkOf, packLink}
+use Rattle.model.specs.Calls.{Acted, act, back}
+use Rattle.model.proofs.tests.Rules.{cleared}
+use Rattle.model.proofs.tests.Truth.{by-test}
+use Rattle.model.proofs.bridge.Marks.{marked-other}
+use Rattle.model.proofs.invariant.Owners.{Owner, held}
+use Rattle.threads.specs.Split.{plan, perform, settle, splitStep, Touched, Settled}
+use Rattle.threads.specs.declared.PlannedTouch.{PlannedTouch}
+use Rattle.threads.proofs.split.Within.{plans-within}
+use Rattle.model.proofs.bridge.Facts.{from1-true}
+use Rattle.threads.specs.Instructions.{Hand, loaded, knows, labels, marks, ends, Ticked, quiet, decided}
+use Rattle.threads.specs.Instructions.{isAsRead, loadsOwn, putsOwn, stepFirst, clears}
+use Rattle.threads.specs.Crew.{Crew, owed}
+use Rattle.threads.specs.Promises.{onRow, OwesLabel, OwesMark}
+use Rattle.threads.proofs.follow.Overlay.{overlay, Over, over, perform5, perform6, perform9}
+use Rattle.threads.proofs.follow.Plans.{says, settle14}
+use Rattle.threads.proofs.follow.Good as own
+use Rattle.threads.proofs.follow.Good.{Good}
+use Rattle.threads.proofs.follow.Instruction as I
+use Rattle.threads.proofs.follow.Clean as C
+use Rattle.threads.proofs.follow.Relation as R
+use Rattle.threads.proofs.follow.Relation.{Holds, Moment, Sim, none, one}
+
+module _ (now : Moment) where
+  abbrev tasks : ℕ
+  tasks = now .tasks
+
+  abbrev pooled : ℕ
+  pooled = now .pooled
+
+  abbrev slots : ℕ
+  slots = now .slots
+
+  abbrev m : Crew
+  m = now .crew
+
+  abbrev q : Queue
+  q = now .queue
+
+  abbrev f : Sim (now .tasks) (now .pooled) (now .slots) (now .crew) (now .queue)
+  f = now .sim
+
+  abbrev g : Good (now .tasks) (now .pooled) (now .slots) (now .queue)
+  g = now .good
+
+  abbrev t : ℕ
+  t = now .thread
+
+  abbrev lt : now .thread < now .tasks
+  lt = now .known
+
+  abbrev T : Tables
+  T = now .crew .queue .tables
+
+  abbrev G : Tables
+  G = now .queue .tables
+
+  abbrev r : TaskRecord
+  r = taskAt (now .crew .queue) (now .thread)
+
+  abbrev h : ℕ → Owner
+  h = now .good .matched .inv .owner
+
+  abbrev Goal : Hand → Ticked → Type 0
+  Goal = I.Goal now
+
+  module _ (k₀ : Hand) (c : C.Clean now k₀) where
+    abbrev p : PlannedTouch
+    p = plan pooled slots (r .call)
+
+    abbrev stepped : Touched → Acted
+    stepped d = record { tables = d .tables; task = settle pooled slots r (d .found) .task; outcome = settle pooled slots r (d .found) .outcome }
+
+    abbrev splitAt : ℕ → ℕ → TaskRecord → Acted
+    splitAt pooled slots r =
+        let d = perform G (plan pooled slots (r .call)) in
+        let s = settle pooled slots r (d .found) in
+        record { tables = d .tables; task = s .task; outcome = s .outcome }
+
+    step-at : act q t Step ≡ back q t (stepped (perform G p))
+    unfolding splitStep
+    step-at = own.step-is tasks pooled slots q g t lt ∙ (λ i. back q t (splitAt (g .pool i) (g .size i) (sym (c .reads) i)))
+
+    -- Any touch but 6 and 9 is one instruction.
+    one-touch : eqb (p .act) 6 ≡ false → eqb (p .act) 9 ≡ false
+        → Goal k₀ (let d = perform T p in let e = settle pooled slots r (d .found) in decided Step (d .tables) (ends (e .task) (e .outcome)))
+    one-touch no6 no9 =
+        let O : Over G (T .labels) (T .marks) (perform G p) (perform T p) =
+        subst (λ (X : Tables). Over G (T .labels) (T .marks) (perform G p) (perform X p)) (sym (f .rest)) (over G (T .labels) (T .marks) p no6 no9) in
+        let d = perform T p in
+        let e = settle pooled slots r (d .found) in
+        let k = ends (e .task) (e .outcome) in
+        let same-labels : d .tables .labels ≡ T .labels = ap (λ (X : Tables). X .labels) (O .tables) in
+        let same-marks : d .tables .marks ≡ T .marks = ap (λ (X : Tables). X .marks) (O .tables) in
+        I.deciding now Step (stepped (perform G p)) step-at k₀ (c .owes) (c .tells) (c .writes) (d .tables) k (record {
+          rest = O .tables ∙ (λ i. overlay (perform G p .tables) (sym same-labels i) (sym same-marks i));
+          labels-long = ap (λ (l : List ℕ). length l) same-labels ∙ f .labels-long ∙ sym (ap (λ (l : List ℕ). length l) (O .labels));
+          marks-long = ap (λ (l : List ℕ). length l) same-marks ∙ f .marks-long ∙ sym (ap (λ (l : List ℕ). length l) (O .marks));
+          labels = λ x never. ap (λ (l : List ℕ). getD l x 0) same-labels ∙ C.no-label now k₀ c k x never ∙ sym (ap (λ (l : List ℕ). getD l x 0) (O .labels));
+          marks = λ x never. ap (λ (l : List ℕ). marked l x) same-marks ∙ C.no-mark now k₀ c k x never ∙ sym (ap (λ (l : List ℕ). marked l x) (O .marks));
+          wrote = none (O .labels);
+          task = ap (λ (w : ℕ). settle pooled slots r w .task) (O .found);
+          extra = tt;
+          owes = ap (λ (w : ℕ). settle pooled slots r w .outcome ∷ []) (O .found);
+        })
+
+    row-within : onRow (p .act) ≡ true → p .slot ≤ slots
+    row-within e = from1-true slots (p .slot) (plans-within pooled slots (r .call) e) .1
+
+    -- 14: the swap of the head decides; the label and the mark are owed.
+    abbrev drawn : Tables
+    drawn = taken (withHead G (p .word)) (p .slot) (p .label)
+
+    abbrev head : ℕ
+    head = T .control .head
+
+    abbrev s : Settled
+    s = settle pooled slots r head
+
+    swap-is : p .act ≡ 9 → (b : Bool) → eqb head (p .expected) ≡ b
+        → act q t Step ≡ back q t (record { tables = cond b drawn G; task = s .task; outcome = s .outcome })
+    swap-is nine b e =
+        let same-head : G .control .head ≡ head = ap (λ (c : Control). c .head) (sym (R.control tasks pooled slots m q f g)) in
+        step-at
+        ∙ ap (λ (d : Touched). back q t (stepped d)) (perform9 G p nine)
+        ∙ (λ i. back q t (record {
+          tables = cond (eqb (same-head i) (p .expected)) drawn G;
+          task = settle pooled slots r (same-head i) .task;
+          outcome = settle pooled slots r (same-head i) .outcome;
+        }))
+        ∙ ap (λ (b : Bool). back q t (record { tables = cond b drawn G; task = s .task; outcome = s .outcome })) e
+
+    swap-failed : p .act ≡ 9 → eqb head (p .expected) ≡ false → Goal k₀ (decided Step T (ends (s .task) (s .outcome)))
+    swap-failed nine e = C.plain now k₀ c Step (s .task) (s .outcome) (swap-is nine false e)
+
+    swap-done : p .act ≡ 9 → eqb head (p .expected) ≡ true
+        → Goal k₀ (decided Step (withHead T (p .word)) (labels true (p .slot) (p .label) (s .task) (s .outcome)))
+    swap-done nine e =
+        let n = says pooled slots (r .call) .nine nine in
+        let k = labels true (p .slot) (p .label) (s .task) (s .outcome) in
+        let at14 : recordAt q t .place ≡ 14 = ap (λ (r : TaskRecord). r .call .place) (sym (c .reads)) ∙ n .place in
+        let push : r .call .kind ≡ 0 = ap (λ (r : TaskRecord). r .call .kind) (c .reads) ∙ own.push14 tasks pooled slots q g t lt at14 in
+        let is-drawn = settle14 pooled slots r nine push head (eqb-true _ _ e) in
+        let holds : Holds (s .task) (p .slot) = record {
+          place = ap (λ (r : TaskRecord). r .call .place) is-drawn;
+          kind = ap (λ (r : TaskRecord). r .call .kind) is-drawn ∙ push;
+          slot = ap (λ (r : TaskRecord). r .call .own) is-drawn ∙ sym (n .slot);
+        } in
+        let room = own.mark-room tasks pooled slots q g (p .slot) (row-within (ap onRow nine)) in
+        I.deciding now Step (record { tables = drawn; task = s .task; outcome = s .outcome }) (swap-is nine true e) k₀ (c .owes) (c .tells) (c .writes)
+        (withHead T (p .word)) k (record {
+          rest = ap (λ (X : Tables). withHead X (p .word)) (f .rest);
+          labels-long = f .labels-long ∙ sym (length-set (G .labels) (p .slot) (p .label));
+          marks-long = f .marks-long ∙ sym (length-set (G .marks) (p .slot / 64) _);
+          labels = λ x never. C.no-label now k₀ c k x never ∙ sym
+              (getD-set-other (G .labels) (p .slot) x (p .label) 0 (λ z. I.own-owed now OwesLabel k x never z));
+          marks = λ x never. C.no-mark now k₀ c k x never ∙ sym
+              (marked-other (G .marks) (p .slot) 1 (omega arith) room x (λ z. I.own-owed now OwesMark k x never (refl, z)));
+          wrote = one (p .slot) (p .label) refl holds;
+          task = refl;
+          extra = (
+            lt,
+            holds,
+            ap (λ (r : TaskRecord). r .call .label) is-drawn ∙ sym (n .label),
+            λ _. own.pool14 tasks pooled slots q g t lt at14,
+          );
+          owes = refl;
+        })
+
+    -- 11: the label is read; nobody else owes it, since the pop owns the slot.
+    reads-label : p .act ≡ 6 → Goal k₀ (quiet T (knows (getD (T .labels) (p .slot) 0)))
+    reads-label six =
+        let n = says pooled slots (r .call) .six six in
+        let at11 : recordAt q t .place ≡ 11 = ap (λ (r : TaskRecord). r .call .place) (sym (c .reads)) ∙ n .place in
+        let mine : h (p .slot) ≡ held t =
+        subst (λ (x : ℕ). h x ≡ held t) (sym (n .slot ∙ ap (λ (r : TaskRecord). row (r .call)) (c .reads))) (own.own11 tasks pooled slots q g t lt at11) in
+        C.waits now k₀ c (knows (getD (T .labels) (p .slot) 0)) refl refl (
+          lt,
+          six,
+          f .labels (p .slot) (λ u o.
+              let same : t ≡ u = own.held-same tasks pooled slots q g t u (p .slot) mine
+              (R.owes-label tasks pooled slots m q f g u (p .slot) (m .hands u) (f .records u) (f .extra u) o) in
+              c .labels (p .slot) (subst (λ (k : Hand). OwesLabel k (p .slot)) (c .at) (subst (λ (u : ℕ). OwesLabel (m .hands u) (p .slot)) (sym same) o))),
+        )
+
+    -- A push at 3.
+    abbrev linkOn : Tables → ℕ
+    linkOn X = getD (links X (p .side)) (p .slot) 0
+
+    abbrev putOn : Tables → ℕ → Tables
+    putOn X w = linked X (p .side) (p .slot) (packLink (record { tag = linkOf w .tag; slot = p .word }))
+
+    put-is : p .act ≡ 5 → (w : ℕ) → linkOn T ≡ w → (b : Bool) → linkSound slots w ≡ b
+        → act q t Step ≡ back q t (record { tables = cond b (putOn G w) G; task = settle pooled slots r w .task; outcome = settle pooled slots r w .outcome })
+    put-is five w at b e =
+        let same-link : linkOn G ≡ w = ap linkOn (sym (f .rest)) ∙ at in
+        step-at
+        ∙ ap (λ (d : Touched). back q t (stepped d)) (perform5 G p five)
+        ∙ (λ i. back q t (record {
+          tables = cond (linkSound (g .size i) (same-link i)) (putOn G (same-link i)) G;
+          task = settle pooled slots r (same-link i) .task;
+          outcome = settle pooled slots r (same-link i) .outcome;
+        }))
+        ∙ ap (λ (b : Bool). back q t
+        (record { tables = cond b (putOn G w) G; task = settle pooled slots r w .task; outcome = settle pooled slots r w .outcome })) e
+
+    loads-goal : p .act ≡ 5 → Goal k₀ (loadsOwn pooled slots T r)
+    unfolding loadsOwn
+    loads-goal five =
+        by-test (Goal k₀) (linkSound slots (linkOn T))
+        (λ e. C.waits now k₀ c (loaded (linkOn T)) refl refl (five, e))
+        (λ e. C.plain now k₀ c Step (settle pooled slots r (linkOn T) .task) (settle pooled slots r (linkOn T) .outcome) (put-is five (linkOn T) refl false e))
+
+    pub puts-goal : (w : ℕ) → p .act ≡ 5 → linkSound slots w ≡ true → Goal k₀ (putsOwn pooled slots T r w)
+    unfolding putsOwn isAsRead
+    puts-goal w five sound =
+        let k = ends (settle pooled slots r w .task) (settle pooled slots r w .outcome) in
+        by-test (Goal k₀) (isAsRead T p w)
+        (λ e. I.deciding now Step (record { tables = putOn G w; task = settle pooled slots r w .task; outcome = settle pooled slots r w .outcome })
+        (put-is five w (eqb-true (linkOn T) w e) true sound) k₀ (c .owes) (c .tells) (c .writes) (putOn T w) k (record {
+          rest = ap (λ (X : Tables). putOn X w) (f .rest);
+          labels-long = f .labels-long;
+          marks-long = f .marks-long;
+          labels = C.no-label now k₀ c k;
+          marks = C.no-mark now k₀ c k;
+          wrote = none refl;
+          task = refl;
+          extra = tt;
+          owes = refl;
+        }))
+        (λ e. loads-goal five)
+
+    pub step-goal : Goal k₀ (stepFirst pooled slots T r)
+    unfolding stepFirst
+    step-goal =
+        by-test (Goal k₀) (eqb (p .act) 5) (λ e. loads-goal (eqb-true _ _ e))
+        (λ no5. by-test (Goal k₀) (eqb (p .act) 6) (λ e. reads-label (eqb-true _ _ e))
+        (λ no6. by-test (Goal k₀) (eqb (p .act) 9)
+        (λ e. by-test (Goal k₀) (eqb head (p .expected)) (swap-done (eqb-true _ _ e)) (swap-failed (eqb-true _ _ e)))
+        (λ no9. one-touch no6 no9)))
+
+    -- The mark is cleared: that decides the pop's step.
+    pub clears-goal : (l : ℕ) → p .act ≡ 6 → l ≡ getD (G .labels) (p .slot) 0 → Goal k₀ (clears pooled slots T r l)
+    unfolding clears
+    clears-goal l six e =
+        let done : ℕ → Acted = λ (w : ℕ). record {
+          tables = withMarks G (withMark (G .marks) (p .slot) 0);
+          task = settle pooled slots r w .task;
+          outcome = settle pooled slots r w .outcome;
+        } in
+        let k = ends (settle pooled slots r l .task) (settle pooled slots r l .outcome) in
+        I.deciding now Step (done l) (step-at ∙ ap (λ (d : Touched). back q t (stepped d)) (perform6 G p six) ∙ ap (λ (w : ℕ). back q t (done w)) (sym e))
+        k₀ (c .owes) (c .tells) (c .writes) (withMarks T (withMark (T .marks) (p .slot) 0)) k (record {
+          rest = ap (λ (X : Tables). withMarks X (withMark (T .marks) (p .slot) 0)) (f .rest);
+          labels-long = f .labels-long;
+          marks-long = length-set (T .marks) (p .slot / 64) _ ∙ f .marks-long ∙ sym (length-set (G .marks) (p .slot / 64) _);
+          labels = C.no-label now k₀ c k;
+          marks = C.put-marks now k₀ c (p .slot) 0 (omega arith) (row-within (ap onRow six)) k;
+          wrote = none refl;
+          task = refl;
+          extra = tt;
+          owes = refl;
+        })

@@ -1,0 +1,42 @@
+-- A split step is the step on the lent record.
+use mathlib.Core.Path.{_≡_, _∙_}
+use mathlib.Core.Bool.{true}
+use Prim.Native.Nat.{ℕ}
+use native.Mathlib.Omega.{arith}
+use lib.Dec.{eqb}
+use borrow.Author.Tests.{eqb-true}
+use Rattle.word.specs.Anchor.{anchorOf}
+use Rattle.model.specs.declared.TaskRecord.{TaskRecord}
+use Rattle.model.specs.Tables.{Tables, isPooled}
+use Rattle.model.proofs.tests.Rules.{tests}
+use Rattle.model.specs.Sound.{anchorSound, controlTests, controlSound}
+use Rattle.model.specs.Refusals.{admission, alone, fits, recordRefusal}
+use Rattle.model.specs.Calls.{stepLent}
+use Rattle.model.proofs.tests.Truth.{split}
+use Rattle.engine.specs.MoveOn.{moveOn}
+use Rattle.engine.proofs.InParts.{admitted, placed, below-18}
+use Rattle.threads.specs.Split.{perform, plan, settle, splitStep}
+use Rattle.threads.specs.Promises.{SplitStands}
+use Rattle.threads.proofs.split.ByPlace.{splits}
+
+-- Where the Anchor is sound, the three parts are what an admitted record does.
+moves : (q : Tables) (r : TaskRecord) → anchorSound (q .control .slots) (anchorOf (q .control .anchor)) ≡ true → splitStep q r ≡ moveOn q r
+unfolding splitStep plan perform settle moveOn
+moves q r sound =
+    split (eqb (recordRefusal (isPooled (q .control)) (q .control .slots) (r .call)) 0)
+    (λ z. let none = eqb-true _ _ z in
+    rw z (splits q (r .retries) sound (r .call) (placed q r none .0) (below-18 q r none)))
+    (λ z. rw z)
+
+-- Admitted tables have a sound Anchor.
+anchor-sound : (q : Tables) → controlSound (q .control) ≡ true → anchorSound (q .control .slots) (anchorOf (q .control .anchor)) ≡ true
+unfolding controlSound
+anchor-sound q h = tests (controlTests (q .control)) h .1 .1 .0
+
+control-sound : (q : Tables) → admission (q .control) (fits q) alone ≡ 0 → controlSound (q .control) ≡ true
+unfolding admission
+control-sound q h = split (controlSound (q .control)) (λ a. a) (λ a. absurd (let z : _≡_ {A = ℕ} 34 0 = simp a at h in omega arith))
+
+pub split-stands : SplitStands
+unfolding stepLent
+split-stands q r h = moves q r (anchor-sound q (control-sound q h)) ∙ admitted q alone r h

@@ -1,0 +1,121 @@
+-- What is promised of split steps, and of threads that interleave at single instructions.
+use mathlib.Core.Path.{_≡_}
+use mathlib.Core.Bool.{Bool, true, false, _&&_, _||_, cond}
+use mathlib.Core.List.{List, [], _∷_, _++_}
+use Prim.Native.Nat.{ℕ}
+use lib.Dec.{leb}
+use lib.ListN.{getD}
+use Rattle.model.specs.declared.Record.{Record}
+use Rattle.model.specs.declared.TaskRecord.{TaskRecord}
+use Rattle.model.specs.declared.Outcome.{Outcome}
+use Rattle.model.specs.declared.Outcome.the-variants.{Refused}
+use Rattle.model.specs.declared.Opening.the-variants.{Opened}
+use Rattle.model.specs.Tables.{Tables, Queue, taskAt, marked}
+use Rattle.model.specs.Sound.{from1}
+use Rattle.model.specs.Refusals.{admission, alone, fits, late}
+use Rattle.model.specs.Calls.{act, openAs, stepLent}
+use Rattle.model.specs.History.{ledger, Call, Lawful}
+use Rattle.model.specs.Walk.{contents, entries}
+use Rattle.model.specs.Lists.{All}
+use Rattle.threads.specs.Split.{plan, splitStep}
+use Rattle.threads.specs.declared.Start.{Start}
+use Rattle.threads.specs.Starts.{isNamed, planStart}
+use Rattle.threads.specs.Turns.{Turn, take, runTurns, finalTurns}
+use Rattle.threads.specs.Instructions.{Hand, free, begun, loaded, knows, claims, looks, labels, marks, ends}
+use Rattle.threads.specs.Crew.{Crew, Act, allFree, Known, goOn, turns, told, outcomesOf, owed}
+
+-- For any tables and any record: where the tables are admitted (34 for control and Anchor, 12), plan, touch and settlement are the step on the lent
+-- record, refusals and all.
+abbrev pub SplitStands : Type 0
+SplitStands = (q : Tables) (r : TaskRecord) → admission (q .control) (fits q) alone ≡ 0 → splitStep q r ≡ stepLent q r
+
+-- The touches of a slot's row, its label or its mark: 3 to 6 and 9 to 11. They name a slot, 1 to slots, whatever the record holds.
+abbrev pub onRow : ℕ → Bool
+onRow act = (leb 3 act && leb act 6) || leb 9 act
+
+abbrev pub PlansWithin : Type 0
+PlansWithin = (pooled slots : ℕ) (r : Record) → onRow (plan pooled slots r .act) ≡ true → from1 slots (plan pooled slots r .slot) ≡ true
+
+-- A start that gets as far as its touches is for a slot of 1 to slots, if it names one (12 and 13 are of that slot).
+abbrev pub StartsWithin : Type 0
+StartsWithin = (pooled slots : ℕ) (r : Record) (s : Start) → planStart pooled slots r s .act ≡ 1 → isNamed s ≡ true → from1 slots (s .slot) ≡ true
+
+-- A turn that was early is one as ever where Anchor is not late.
+abbrev pub EarlyAsEver : Type 0
+EarlyAsEver = (q : Queue) (u : Turn) → late (q .tables .control) ≡ false → take q u ≡ act q (u .task) (u .op)
+
+-- THREADS. A label or a mark that is to be stored.
+abbrev pub OwesLabel : Hand → ℕ → Type 0
+OwesLabel free x = ⊥
+OwesLabel (begun op) x = ⊥
+OwesLabel (loaded w) x = ⊥
+OwesLabel (knows label) x = ⊥
+OwesLabel (claims side slot label) x = ⊥
+OwesLabel (looks side slot label) x = ⊥
+OwesLabel (labels both slot label task o) x = x ≡ slot
+OwesLabel (marks slot task o) x = ⊥
+OwesLabel (ends task o) x = ⊥
+
+abbrev pub OwesMark : Hand → ℕ → Type 0
+OwesMark free x = ⊥
+OwesMark (begun op) x = ⊥
+OwesMark (loaded w) x = ⊥
+OwesMark (knows label) x = ⊥
+OwesMark (claims side slot label) x = ⊥
+OwesMark (looks side slot label) x = ⊥
+OwesMark (labels both slot label task o) x = (both ≡ true) × (x ≡ slot)
+OwesMark (marks slot task o) x = x ≡ slot
+OwesMark (ends task o) x = ⊥
+
+-- The record that a thread has, or will have written by its last instruction.
+abbrev pub recordOf : Hand → TaskRecord → TaskRecord
+recordOf free r = r
+recordOf (begun op) r = r
+recordOf (loaded w) r = r
+recordOf (knows label) r = r
+recordOf (claims side slot label) r = r
+recordOf (looks side slot label) r = r
+recordOf (labels both slot label task o) r = task
+recordOf (marks slot task o) r = task
+recordOf (ends task o) r = task
+
+-- The memory of m is that of q: the same control (Anchor, head), links and nexts; the same labels and marks, but for those that a thread owes;
+-- each thread's record, once written.
+pub record Agrees (m : Crew) (q : Queue) : Type 0 where
+  pub control : m .queue .tables .control ≡ q .tables .control
+  pub lefts : m .queue .tables .lefts ≡ q .tables .lefts
+  pub rights : m .queue .tables .rights ≡ q .tables .rights
+  pub next : m .queue .tables .next ≡ q .tables .next
+  pub labels : (x : ℕ) → ((t : ℕ) → OwesLabel (m .hands t) x → ⊥) → getD (m .queue .tables .labels) x 0 ≡ getD (q .tables .labels) x 0
+  pub marks : (x : ℕ) → ((t : ℕ) → OwesMark (m .hands t) x → ⊥) → marked (m .queue .tables .marks) x ≡ marked (q .tables .marks) x
+  pub records : (t : ℕ) → recordOf (m .hands t) (taskAt (m .queue) t) ≡ taskAt q t
+
+-- A run of instructions is a list of starts and steps, in the order of their deciding instructions: the same memory, and each thread is told the
+-- outcomes of its own, in their order, but the last one perhaps still owed.
+pub record AsList (pooled slots : ℕ) (q : Queue) (l : List Act) : Type 0 where
+  pub memory : Agrees (goOn pooled slots (allFree q) l) (finalTurns q (turns pooled slots (allFree q) l))
+  pub outcomes : (t : ℕ) → outcomesOf t (runTurns q (turns pooled slots (allFree q) l))
+      ≡ told pooled slots (allFree q) l t ++ owed (goOn pooled slots (allFree q) l .hands t)
+
+-- After any accepted opening, named or pooled, on any tables; any list of acts by threads of the tasks opened, so every prefix of a run too.
+abbrev pub AfterOpening : (ℕ → ℕ → Queue → List Act → Type 0) → Type 0
+AfterOpening P = (pooled : Bool) (q : Queue) (tasks slots tag : ℕ) → openAs pooled q tasks slots tag .outcome ≡ Opened
+    → (l : List Act) → All (Known tasks) l → P (cond pooled 1 0) slots (openAs pooled q tasks slots tag .queue) l
+
+abbrev pub InstructionsStand : Type 0
+InstructionsStand = AfterOpening AsList
+
+-- So they are linearizable, in the words of `History`.
+pub record Linearized (pooled slots : ℕ) (q : Queue) (l : List Act) : Type 0 where
+  pub calls : All (λ (c : Call). Lawful c (c .ending)) (ledger (runTurns q (turns pooled slots (allFree q) l)) .calls)
+  pub waits : contents (finalTurns q (turns pooled slots (allFree q) l) .tables) ≡ entries (ledger (runTurns q (turns pooled slots (allFree q) l)) .deque)
+
+abbrev pub InstructionsLinearizable : Type 0
+InstructionsLinearizable = AfterOpening Linearized
+
+-- Nobody is told 34: no word is found unsound, and no tag passes 32 bits.
+abbrev pub NeverUnsound : ℕ → ℕ → Queue → List Act → Type 0
+NeverUnsound pooled slots q l = (t : ℕ) → All (λ (o : Outcome). o ≡ Refused 34 → ⊥) (told pooled slots (allFree q) l t)
+
+abbrev pub InstructionsNever34 : Type 0
+InstructionsNever34 = AfterOpening NeverUnsound

@@ -1,0 +1,18 @@
+use mathlib.Core.Path.{ap, _∙_}
+use lib.Dec.{eqb}
+use Rattle.model.specs.declared.Record.{Record}
+use Rattle.model.specs.Refusals.{recordRefusal}
+use Rattle.threads.specs.Split.{plan}
+use borrow.Author.Needs.{needs}
+use Rattle.touch.proofs.arms_row.Statement.{statement}
+use Rattle.touch.proofs.arms_row.Tie as tie
+
+returns : tie.Need-returns
+returns c pooled none =
+    let co = c .before in
+    let a = co .before .before .args in
+    c .arms .ensures pooled (ap (λ (r : Record). recordRefusal (eqb pooled 1) (a .slots) r) (co .call-of .ensures) ∙ none)
+    ∙ ap (plan pooled (a .slots)) (co .call-of .ensures)
+
+pub arms-row-spec : {M : Type 1} → statement M
+arms-row-spec = tie.close (tie.spec (λ c κs. search needs) (λ c κs. search needs) returns)

@@ -1,0 +1,30 @@
+-- A start in words, and what its settlement leaves and answers.
+use mathlib.Core.Bool.{cond}
+use mathlib.Core.List.{List}
+use Prim.Native.Nat.{ℕ, _%_, _^_}
+use lib.ListN.{getD}
+use Rattle.model.specs.declared.TaskRecord.{TaskRecord}
+use Rattle.model.specs.declared.Reply.{Reply}
+use Rattle.model.specs.Calls.{replyOf}
+use Rattle.model.specs.Ends.{isMoved}
+use Rattle.threads.specs.declared.PlannedTouch.{PlannedTouch}
+use Rattle.threads.specs.declared.Start.{Start}
+use Rattle.threads.specs.Split.{plan}
+use Rattle.threads.specs.Starts.{Begins, touches, answers}
+
+-- Four words: operation, side, slot, label; a label has 32 bits.
+unfoldable pub startOf : List ℕ → Start
+startOf ws = record { operation = getD ws 0 0; side = getD ws 1 0; slot = getD ws 2 0; label = getD ws 3 0 % 2 ^ 32 }
+
+-- What a settlement leaves of the record and of the upper half of its label's word, and what it answers.
+pub record Started : Type 0 where
+  pub task : TaskRecord
+  pub upper : ℕ
+  pub reply : Reply
+  pub touch : PlannedTouch
+
+-- A start that has a touch to make leaves the record and answers 0. One that is decided answers its outcome, and the plan of the record as it then is.
+abbrev pub startedBy : ℕ → ℕ → ℕ → TaskRecord → Begins → Started
+startedBy pooled slots upper r (touches p) = record { task = r; upper = upper; reply = record { code = 0; label = 0; value = 0 }; touch = p }
+startedBy pooled slots upper r (answers task o) =
+    record { task = task; upper = cond (isMoved o) 0 upper; reply = replyOf o; touch = plan pooled slots (task .call) }

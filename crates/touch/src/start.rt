@@ -1,0 +1,200 @@
+//! The starts split at their touches: what a start does first, and what it comes to once a touch has
+//! found a word.
+use crate::Onward;
+use crate::asks;
+use calls::refusal;
+use model::Asked;
+use model::Record;
+use model::Reply;
+use threads::PlannedTouch;
+use threads::Start;
+ghost use mathlib.Core.Path.{_≡_};
+ghost use mathlib.Core.Bool.{cond};
+ghost use lib.Dec.{eqb};
+ghost use Rattle.rows.specs.Rows.{callOf, recordOf, upperOf};
+ghost use Rattle.threads.specs.Starts.{wrongPush, outside, planStart, firstCall, judged, settleStart, takesSlot, loadsMark};
+ghost use Rattle.touch.specs.Started.{startOf, Started, startedBy};
+
+/// The words of a start.
+pub const START_WORDS: usize = 4;
+
+// A label is below this.
+const LABELS: u64 = 4294967296;
+
+/// The start that its words are.
+pub fn start_of(words: [u64; START_WORDS]) -> Start
+    ensures { λ s. ⌜ s ≡ startOf words ⌝ }
+{
+    Start {
+        operation: words[0],
+        side: words[1],
+        slot: words[2],
+        label: (words[3] % LABELS) as u32,
+    }
+}
+
+/// 41: a push of the wrong kind for the queue.
+fn wrong_push(pooled: u64, s: Start) -> bool
+    ensures { λ b. ⌜ b ≡ wrongPush pooled s ⌝ }
+{
+    if s.operation == 0 {
+        return pooled == 1;
+    }
+    if s.operation == 1 {
+        return false;
+    }
+    pooled != 1
+}
+
+/// 15: a push that names no slot of the queue.
+fn outside(slots: u64, s: Start) -> bool
+    ensures { λ b. ⌜ b ≡ outside slots s ⌝ }
+{
+    if s.operation == 0 {
+        return !sound::from1(slots, s.slot);
+    }
+    false
+}
+
+/// What a start does first: it is refused by its own numbers and record, or loads Anchor. (The tests are
+/// those of every start, with an Anchor that is not late and a mark that is clear.)
+pub fn plan_start(pooled: u64, slots: u64, r: Record, s: Start) -> PlannedTouch
+    ensures { λ p. ⌜ p ≡ planStart pooled slots r s ⌝ }
+{
+    let asked = Asked {
+        wrong: wrong_push(pooled, s),
+        outside: outside(slots, s),
+        taken: false,
+    };
+    let why = refusal::asked_refusal(crate::knowing(pooled, slots, 0), r, s.side, asked);
+    if why != 0 {
+        return asks::refuses(why);
+    }
+    asks::LOAD_ANCHOR
+}
+
+/// The call that a start writes.
+fn first_call(s: Start) -> Record
+    ensures { λ r. ⌜ r ≡ firstCall s ⌝ }
+{
+    if s.operation == 0 {
+        return calls::start::new_call(1, 0, s.side, s.slot, s.label);
+    }
+    if s.operation == 1 {
+        return calls::start::new_call(1, 1, s.side, 0, 0);
+    }
+    calls::start::new_call(12, 0, s.side, 0, s.label)
+}
+
+/// The touch of a push that names a slot, once it has loaded Anchor: it takes the slot; where Anchor was
+/// late it only looks at the mark.
+fn at_slot(late: bool, s: Start) -> PlannedTouch
+    ensures { λ p. ⌜ p ≡ cond late (loadsMark (s .slot)) (takesSlot (s .slot) (s .label)) ⌝ }
+{
+    if late {
+        return PlannedTouch {
+            act: 13,
+            label: 0,
+            side: 0,
+            slot: s.slot,
+            expected: 0,
+            word: 0,
+        };
+    }
+    PlannedTouch {
+        act: 12,
+        label: s.label,
+        side: 0,
+        slot: s.slot,
+        expected: 0,
+        word: 0,
+    }
+}
+
+/// Why a start that names no slot is refused, by the Anchor found; 0: it is carried out.
+fn by_anchor(late: bool) -> u32
+    ensures { λ n. ⌜ n ≡ cond late 33 0 ⌝ }
+{
+    if late { 33 } else { 0 }
+}
+
+/// Why a push that names a slot is refused, by the mark found; 0: it is carried out.
+fn by_mark(act: u32, found: u64) -> u32
+    ensures { λ n. ⌜ n ≡ cond (eqb found 0) (cond (eqb act 12) 0 33) 32 ⌝ }
+{
+    if found != 0 {
+        return 32;
+    }
+    if act == 12 { 0 } else { 33 }
+}
+
+/// A start that is decided: carried out, or refused by the number `why`.
+fn decides(
+    slots: u64,
+    pooled: u64,
+    task: &mut [u64; rows::RECORD_WORDS],
+    s: Start,
+    why: u32,
+) -> Onward
+    ensures { λ o.
+        ⌜ _≡_ {A = Started}
+        (record { task = recordOf (now (task .exit)); upper = upperOf (now (task .exit)); reply = o .reply; touch = o .touch })
+        (startedBy pooled slots (upperOf (now (task .entry))) (recordOf (now (task .entry))) (judged (recordOf (now (task .entry))) s why)) ⌝ }
+{
+    let was = *task;
+    if why != 0 {
+        let p = crate::plan(pooled, slots, task);
+        return Onward {
+            reply: Reply {
+                code: why,
+                label: 0,
+                value: 0,
+            },
+            touch: p,
+        };
+    }
+    let call = first_call(s);
+    let after = rows::record_row(call, was[9]);
+    *task = after;
+    let p = crate::plan(pooled, slots, task);
+    Onward {
+        reply: Reply {
+            code: 1,
+            label: 0,
+            value: call.place,
+        },
+        touch: p,
+    }
+}
+
+/// What a start comes to once its touch of kind `act` has found a word.
+pub fn settle_start(
+    slots: u64,
+    pooled: u64,
+    task: &mut [u64; rows::RECORD_WORDS],
+    s: Start,
+    act: u32,
+    found: u64,
+) -> Onward
+    ensures { λ o.
+        ⌜ _≡_ {A = Started}
+        (record { task = recordOf (now (task .exit)); upper = upperOf (now (task .exit)); reply = o .reply; touch = o .touch })
+        (startedBy pooled slots (upperOf (now (task .entry))) (recordOf (now (task .entry)))
+        (settleStart (recordOf (now (task .entry))) s act found)) ⌝ }
+{
+    if act != 1 {
+        return decides(slots, pooled, task, s, by_mark(act, found));
+    }
+    let late = refusal::late(found);
+    if s.operation == 0 {
+        return Onward {
+            reply: Reply {
+                code: 0,
+                label: 0,
+                value: 0,
+            },
+            touch: at_slot(late, s),
+        };
+    }
+    decides(slots, pooled, task, s, by_anchor(late))
+}
