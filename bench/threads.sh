@@ -46,7 +46,7 @@ for way in named pooled; do
         valgrind --tool=callgrind --callgrind-out-file="$work/out" --toggle-collect='*counted_pairs*' "$work/threads" count $way $COUNTED >/dev/null 2>&1
         all=$(awk -v steps="$steps" '$1 == "summary:" { printf "%.0f", $2 / steps }' "$work/out")
         settled=$(callgrind_annotate --inclusive=yes --threshold=100 "$work/out" 2>/dev/null |
-            awk -v steps="$steps" '/:zc_settle_plan/ { gsub(",", "", $1); printf "%.0f", $1 / steps; exit }')
+            awk -v steps="$steps" '!found && /:zc_settle_plan/ { gsub(",", "", $1); printf "%.0f", $1 / steps; found = 1 }')
     fi
     awk -v s="$steps" -v p=$COUNTED -v way=$way -v ns="$ns" -v all="$all" -v settled="$settled" \
         'BEGIN { printf "| %s | %.1f | %s | %s | %s |\n", way, s / p, ns, all, settled }'
