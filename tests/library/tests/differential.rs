@@ -5,7 +5,7 @@
 
 use std::collections::BTreeSet;
 use std::process::{Command, ExitCode};
-use suite::{last_of, made, root, same, Checks, Told, Verdict};
+use suite::{made, root, same, Checks, Told, Verdict};
 
 const PARTS: [&str; 7] = ["calls", "sheet", "shelf", "join", "schedules", "serve", "audit"];
 
@@ -55,7 +55,7 @@ fn main() -> ExitCode {
         checks.tell(name, move || part(name));
     }
     checks.tell("touches", || {
-        last_of(
+        made(
             r#"gcc -std=c11 -O2 $STRICT -Iinclude -Ibench -Itests/library tests/threads/touches.c \
                    bench/touch_reference.c "$ARCHIVE" -o "$WORK/touches"
                "$WORK/touches" 200000 1"#,

@@ -67,7 +67,7 @@ fn programs(checks: &mut Checks) {
     for name in names {
         checks.tell(&format!("program: {name}"), move || {
             last_of(&format!(
-                r#"gcc -std=c11 $STRICT -Iinclude tests/library/{name}.c "$ARCHIVE" -o "$WORK/program"
+                r#"gcc -std=c11 $STRICT -Iinclude -Ibench tests/library/{name}.c "$ARCHIVE" -o "$WORK/program"
                    "$WORK/program""#
             ))
         });

@@ -67,7 +67,7 @@ fn recipe(test: &str) -> Option<String> {
                 return None;
             }
             format!(
-                r#"{by_hand} cc -std=c11 -O1 -w -Iinclude {source} "$WORK/fault.o" $others -o "$WORK/program"
+                r#"{by_hand} cc -std=c11 -O1 -w -Iinclude -Ibench {source} "$WORK/fault.o" $others -o "$WORK/program"
                    set +e; limited "$WORK/program""#
             )
         }
