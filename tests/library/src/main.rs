@@ -9,6 +9,7 @@
 //! Of each call every answer and every refusal must be met; how often is told.
 //!
 //!     library-differential PART [SEED] [TIMES]
+//!     library-differential answers                 every call, and what it can answer
 
 mod audit;
 mod audit_histories;
@@ -50,8 +51,12 @@ fn main() -> ExitCode {
         "shelf" => shelves::shelves(&mut tally, &mut dice, 20_000 * times),
         "audit" => audit::audits(&mut tally, &mut dice, 4_000 * times),
         "schedules" => schedules::schedules(&mut tally, &mut dice, 8_000 * times),
+        "answers" => {
+            tally::tell_answers();
+            return ExitCode::SUCCESS;
+        }
         _ => {
-            eprintln!("usage: library-differential calls|sheet|join|serve|shelf|audit|schedules [SEED] [TIMES]");
+            eprintln!("usage: library-differential calls|sheet|join|serve|shelf|audit|schedules|answers [SEED] [TIMES]");
             return ExitCode::from(2);
         }
     }

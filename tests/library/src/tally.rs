@@ -43,6 +43,14 @@ const ANSWERS: [(Export, &[u32]); 19] = [
     (Export::NextSchedule, &[0, 12, 34, 42]),
 ];
 
+/// The table above, a line a call.
+pub fn tell_answers() {
+    for (export, codes) in ANSWERS {
+        let codes: Vec<String> = codes.iter().map(u32::to_string).collect();
+        println!("{} {}", export.name(), codes.join(" "));
+    }
+}
+
 impl Tally {
     /// Carries out a call on both sides, compares answers and all tables, and gives the answer of
     /// the reference if they agree.
@@ -72,7 +80,10 @@ impl Tally {
             println!("MISMATCH {}", what());
         }
         if self.mismatches == ENOUGH || calls::are_an_object() {
-            println!("FAILED {} of {} calls differed, no more were made", self.mismatches, self.calls);
+            println!(
+                "FAILED {} of {} calls differed, no more were made",
+                self.mismatches, self.calls
+            );
             println!("{} passed, {} failed", self.passed, self.failed + 1);
             std::process::exit(1);
         }
@@ -94,7 +105,8 @@ impl Tally {
         for export in exports {
             let met = |tally: &Tally, code| tally.reached.get(&(*export, code)).copied();
             let name = export.name();
-            let wanted = ANSWERS.iter().find(|(of, _)| of == export).map_or(&[][..], |(_, codes)| codes);
+            let wanted =
+                ANSWERS.iter().find(|(of, _)| of == export).map_or(&[][..], |(_, codes)| codes);
             let told: Vec<String> = wanted
                 .iter()
                 .map(|&code| format!("{code}: {}", met(self, code).unwrap_or(0)))
@@ -103,7 +115,8 @@ impl Tally {
             for &code in wanted {
                 self.check(met(self, code).is_some(), &format!("{name} was never answered {code}"));
             }
-            let strange = self.reached.keys().find(|(of, code)| of == export && !wanted.contains(code));
+            let strange =
+                self.reached.keys().find(|(of, code)| of == export && !wanted.contains(code));
             let strange = strange.map(|(_, code)| *code);
             self.check(strange.is_none(), &format!("{name} was answered {strange:?}"));
         }

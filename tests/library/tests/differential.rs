@@ -5,12 +5,16 @@
 
 use std::collections::BTreeSet;
 use std::process::{Command, ExitCode};
-use suite::{made, root, same, Checks, Told, Verdict};
+use suite::{made, same, Checks, Told, Verdict};
 
 const PARTS: [&str; 7] = ["calls", "sheet", "shelf", "join", "schedules", "serve", "audit"];
 
-/// Calls that are held to the second program elsewhere: `tests/threads/touches.c` has these.
+/// Calls whose answers `tests/threads/touches.c` counts.
 const TOUCHES: [&str; 4] = ["zc_plan", "zc_plan_start", "zc_settle_plan", "zc_settle_start"];
+
+/// The refusals of documents 01 and 02 that are a call's; 16 is that of a run file.
+const REFUSALS: [u32; 20] =
+    [10, 11, 12, 13, 14, 15, 30, 31, 32, 33, 34, 40, 41, 42, 43, 44, 45, 46, 47, 48];
 
 fn part(name: &str) -> Told {
     let output = Command::new(env!("CARGO_BIN_EXE_library-differential"))
@@ -24,33 +28,21 @@ fn part(name: &str) -> Told {
     }
 }
 
-/// The calls that the archive exports, and those of whose answers the parts tell.
+/// The archive exports the calls that the parts tell of, and these have all refusals.
 fn every_export() -> Verdict {
     let listed = made(r#"nm -g --defined-only "$ARCHIVE" | sed -n 's/.* T \(zc_[a-z_]*\)$/\1/p'"#)?;
     let exported: BTreeSet<&str> = listed.lines().collect();
-    let source = include_str!("../src/tally.rs");
-    let named: Vec<String> = source
-        .split("(Export::")
-        .skip(1)
-        .filter_map(|text| text.split_once(", &[").map(|(variant, _)| name_of(variant)))
-        .collect();
-    let mut tested: BTreeSet<&str> = named.iter().map(String::as_str).collect();
+    let answers = part("answers")?;
+    let mut tested: BTreeSet<&str> =
+        answers.lines().filter_map(|line| line.split(' ').next()).collect();
     tested.extend(TOUCHES);
-    same(exported, tested)
-}
-
-/// `zc_open_pooled` for `OpenPooled`.
-fn name_of(variant: &str) -> String {
-    let lower = |letter: char| match letter.is_uppercase() {
-        true => format!("_{}", letter.to_ascii_lowercase()),
-        false => letter.to_string(),
-    };
-    format!("zc{}", variant.chars().map(lower).collect::<String>())
+    same(exported, tested)?;
+    let numbers = answers.split_whitespace().filter_map(|word| word.parse().ok());
+    same(BTreeSet::from(REFUSALS), numbers.filter(|number| *number >= 10).collect())
 }
 
 fn main() -> ExitCode {
     let mut checks = Checks::of("library");
-    assert!(root().join("tests/library/src/tally.rs").is_file());
     for name in PARTS {
         checks.tell(name, move || part(name));
     }

@@ -127,7 +127,9 @@ fn passes(check: &Check, quiet: bool) -> bool {
     match &told {
         Ok(note) if note.is_empty() && quiet => {}
         Ok(note) if note.is_empty() => println!("test {name} ... ok{time}"),
-        Ok(note) => println!("test {name} ... ok{time}\n    {}", note.trim_end().replace('\n', "\n    ")),
+        Ok(note) => {
+            println!("test {name} ... ok{time}\n    {}", note.trim_end().replace('\n', "\n    "))
+        }
         Err(what) => println!("test {name} ... FAILED{time}\n{what}"),
     }
     told.is_ok()

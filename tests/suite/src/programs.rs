@@ -117,7 +117,8 @@ pub fn plain_shell(line: &str, names: &[(&str, &Path)]) -> Said {
 /// folder of their own, `$STRICT` asks a compiler for all warnings as errors.
 pub fn made(lines: &str) -> Told {
     let (scratch, archive) = (Scratch::make(), archive());
-    let names = [("ARCHIVE", &*archive), ("WORK", &scratch.path("")), ("STRICT", Path::new(STRICT))];
+    let names =
+        [("ARCHIVE", &*archive), ("WORK", &scratch.path("")), ("STRICT", Path::new(STRICT))];
     plain_shell(&format!("set -eu -o pipefail\n{lines}"), &names).content()
 }
 

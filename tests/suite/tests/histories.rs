@@ -137,8 +137,13 @@ fn tables(checks: &mut Checks) {
     for text in ["", PUSH, "# order 1\n"] {
         checks.add(&format!("no order: {}", shown(text)), move || gets(text.as_bytes(), MISSING));
     }
-    let counts =
-        [(64, 0, "passes"), (65, 0, "refused 40"), (1_000, 0, "refused 40"), (64, 1, "no rearrangement"), (64, 5_000, "no rearrangement")];
+    let counts = [
+        (64, 0, "passes"),
+        (65, 0, "refused 40"),
+        (1_000, 0, "refused 40"),
+        (64, 1, "no rearrangement"),
+        (64, 5_000, "no rearrangement"),
+    ];
     for (count, more, expected) in counts {
         checks.add(&format!("{count} calls, {more} numbers too many"), move || {
             gets(&pops(count, more), expected)
@@ -213,7 +218,8 @@ fn runs(checks: &mut Checks) {
         let example = root().join("examples/two_hands_on_one_label.txt");
         let text = String::from_utf8_lossy(&read(&example).unwrap_or_default()).into_owned();
         let scratch = Scratch::make();
-        let marked = scratch.file("marked.txt", format!("\u{feff}{}", text.replace('\n', "\r\n")).as_bytes());
+        let marked = scratch
+            .file("marked.txt", format!("\u{feff}{}", text.replace('\n', "\r\n")).as_bytes());
         let history = words(HISTORY, &[("TEXT", &example)]);
         same(true, history.contains("order "))?;
         same(history, words(HISTORY, &[("TEXT", &marked)]))

@@ -61,7 +61,8 @@ pub fn headers(checks: &mut Checks) {
     for storage in ["QUEUE", "NAMED", "SHELF", "NAMED_SHELF"] {
         for sizes in ["0, 3", "17, 3", "2, 0", "2, 1024"] {
             checks.add(&format!("header: no ZC_{storage}_STORAGE for {sizes}"), move || {
-                let text = format!("#include \"zeppolecape.h\"\nZC_{storage}_STORAGE(queue, {sizes});\n");
+                let text =
+                    format!("#include \"zeppolecape.h\"\nZC_{storage}_STORAGE(queue, {sizes});\n");
                 let line = format!("gcc -Iinclude -x c -fsyntax-only - <<'END'\n{text}END");
                 let said = plain_shell(&line, &[]);
                 same((1, true), (said.status, said.noise.contains("error:")))

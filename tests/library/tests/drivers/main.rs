@@ -12,27 +12,37 @@ use suite::{last_of, root, Checks};
 
 /// Programs that compare the library with the same calls by hand: the sources, and the words of its runs.
 const BY_HAND: [(&str, &str, &[&str]); 9] = [
-    ("the step", "bench/main.c bench/reference.c bench/lean.c bench/bare.c", &[
-        "check named 1 3 100000",
-        "check named 5 1023 100000",
-        "check named 16 3 100000",
-        "check pooled 1 3 100000",
-        "check pooled 5 3 100000",
-        "check pooled 16 1023 100000",
-    ]),
-    ("the walks", "bench/walks.c bench/reference.c", &[
-        "check 0", "check 1", "check 2", "check 64", "check 1023",
-    ]),
+    (
+        "the step",
+        "bench/main.c bench/reference.c bench/lean.c bench/bare.c",
+        &[
+            "check named 1 3 100000",
+            "check named 5 1023 100000",
+            "check named 16 3 100000",
+            "check pooled 1 3 100000",
+            "check pooled 5 3 100000",
+            "check pooled 16 1023 100000",
+        ],
+    ),
+    (
+        "the walks",
+        "bench/walks.c bench/reference.c",
+        &["check 0", "check 1", "check 2", "check 64", "check 1023"],
+    ),
     ("audits", "bench/audit.c bench/audit_reference.c", &["check 200000"]),
     ("order sheets", "bench/sheet_main.c bench/sheet.c", &["1"]),
     ("lists", "bench/serve_main.c bench/serve.c bench/reference.c", &["100000 3"]),
     ("schedules", "bench/schedules_main.c bench/schedules.c bench/reference.c", &["1"]),
-    ("shelves", "tests/library/shelf.c bench/reference.c bench/shelf_reference.c", &[
-        "20000 1", "20000 2",
-    ]),
-    ("joinings", "tests/library/join.c bench/reference.c bench/join_reference.c", &[
-        "20000 1", "20000 2",
-    ]),
+    (
+        "shelves",
+        "tests/library/shelf.c bench/reference.c bench/shelf_reference.c",
+        &["20000 1", "20000 2"],
+    ),
+    (
+        "joinings",
+        "tests/library/join.c bench/reference.c bench/join_reference.c",
+        &["20000 1", "20000 2"],
+    ),
     ("the time of shelves", "bench/shelf.c bench/shelf_reference.c", &["16 1023 2"]),
 ];
 
@@ -60,7 +70,9 @@ fn programs(checks: &mut Checks) {
         .filter(|path| path.extension().is_some_and(|end| end == "c"))
         .filter(|path| read_to_string(path).is_ok_and(|text| text.contains("\nint main")))
         .map(|path| path.file_stem().unwrap_or_default().to_string_lossy().into_owned())
-        .filter(|name| !BY_HAND.iter().any(|(_, sources, _)| sources.contains(&format!("/{name}.c "))))
+        .filter(|name| {
+            !BY_HAND.iter().any(|(_, sources, _)| sources.contains(&format!("/{name}.c ")))
+        })
         .collect();
     names.sort();
     assert!(names.len() >= 7, "the programs of tests/library: {names:?}");

@@ -70,10 +70,10 @@ const INSTALLED: &str = r#"
 "#;
 
 pub fn projects(checks: &mut Checks) {
-    checks.add("project: installed, used by make and CMake, removed", || made(INSTALLED).map(|_| ()));
-    checks.tell("project: no archive", || {
-        says("/nowhere", "there is no /nowhere/libzeppolecape.a")
-    });
+    checks
+        .add("project: installed, used by make and CMake, removed", || made(INSTALLED).map(|_| ()));
+    checks
+        .tell("project: no archive", || says("/nowhere", "there is no /nowhere/libzeppolecape.a"));
     checks.tell("project: no absolute path", || {
         says("target", r#"ZEPPOLECAPE_LIB_DIR is not an absolute path: "target""#)
     });

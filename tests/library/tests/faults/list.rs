@@ -3,7 +3,7 @@
 //! A `file:` and a `test:` line hold for all faults below them, until the next. A fault is a sentence
 //! after `# ` and one or more edits: `old:` lines, a text that stands once in the file, and `new:`
 //! lines, what takes its place. Before them `in: NAME` says that it stands once in the function of
-//! that name. `test:` names the tests of which each must see it.
+//! that name. `test:` names the tests of which each must see it, `also:` more of them for one fault.
 
 use std::fs::{read_dir, read_to_string};
 use suite::root;
@@ -65,10 +65,11 @@ fn read(list: &str, text: &str, faults: &mut Vec<Fault>) {
             fault.edits.push(Edit::default());
         }
         match (word, fault.edits.last_mut()) {
+            ("also:", _) => fault.tests.extend(rest.split(' ').map(str::to_string)),
             ("in:", Some(edit)) => edit.scope = Some(rest.to_string()),
             ("old:", Some(edit)) => edit.old.push(rest.to_string()),
             ("new:", Some(edit)) => edit.new.push(rest.to_string()),
-            _ => wrong("neither #, file:, test:, in:, old: nor new:"),
+            _ => wrong("neither #, file:, test:, also:, in:, old: nor new:"),
         }
     }
 }
@@ -94,7 +95,8 @@ fn body(text: &str, name: &str) -> Option<(usize, usize)> {
 impl Fault {
     /// The file with the fault in it, or why that does not go.
     pub fn planted(&self) -> Result<String, String> {
-        let mut text = read_to_string(root().join(&self.file)).map_err(|error| error.to_string())?;
+        let mut text =
+            read_to_string(root().join(&self.file)).map_err(|error| error.to_string())?;
         if self.edits.is_empty() {
             return Err(format!("  no edit: {}", self.name));
         }
@@ -106,7 +108,8 @@ impl Fault {
                     body(&text, name).ok_or(format!("  no function {name} in {}", self.file))?
                 }
             };
-            let found: Vec<usize> = text[begin..end].match_indices(&old).map(|(at, _)| at).collect();
+            let found: Vec<usize> =
+                text[begin..end].match_indices(&old).map(|(at, _)| at).collect();
             let &[at] = &found[..] else {
                 let (times, file) = (found.len(), &self.file);
                 return Err(format!("  this stands {times} times, not once, in {file}:\n  {old}"));

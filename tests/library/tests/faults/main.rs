@@ -32,9 +32,13 @@ fn sample(faults: &[Fault], seed: u64) -> BTreeSet<usize> {
     for at in (1..order.len()).rev() {
         order.swap(at, dice.between(0, at as u64) as usize);
     }
-    let mut tests = BTreeSet::new();
-    let first = order.iter().filter(|&&at| tests.insert(&faults[at].tests)).copied().collect();
-    let mut chosen: BTreeSet<usize> = first;
+    let (mut chosen, mut tested) = (BTreeSet::new(), BTreeSet::new());
+    for &at in &order {
+        if faults[at].tests.iter().any(|test| !tested.contains(test)) {
+            tested.extend(&faults[at].tests);
+            chosen.insert(at);
+        }
+    }
     for at in order {
         if chosen.len() < SAMPLE {
             chosen.insert(at);

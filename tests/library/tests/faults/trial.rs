@@ -106,7 +106,13 @@ impl Workshop {
     }
 
     /// The status with which a test ends on this text in the file's place, and what it said.
-    fn run(&self, test: &str, seeds: &str, file: &str, text: &str) -> Result<(i32, String), String> {
+    fn run(
+        &self,
+        test: &str,
+        seeds: &str,
+        file: &str,
+        text: &str,
+    ) -> Result<(i32, String), String> {
         let recipe = recipe(test).ok_or(format!("  there is no test {test}"))?;
         let work = Scratch::make();
         let name = PathBuf::from(file);
@@ -122,7 +128,9 @@ impl Workshop {
         let said = plain_shell(&format!("{PRELUDE}{recipe}"), &names);
         let all = String::from_utf8_lossy(&said.out) + said.noise.as_str();
         match said.status {
-            2 | 3 | 99 | 124 | 126 | 127 => Err(format!("  the test could not be made ({}):\n{all}", said.status)),
+            2 | 3 | 99 | 124 | 126 | 127 => {
+                Err(format!("  the test could not be made ({}):\n{all}", said.status))
+            }
             status => Ok((status, all.into_owned())),
         }
     }
