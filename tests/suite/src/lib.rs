@@ -6,6 +6,6 @@ mod programs;
 
 pub use harness::{same, Checks, Told, Verdict};
 pub use programs::{
-    archive, last_of, made, plain_shell, root, run_text, shell, texts, trace, verdict, Said,
-    Scratch,
+    archive, last_of, made, made_within, plain_shell, root, run_text, shell, texts, trace, verdict,
+    Said, Scratch,
 };

@@ -8,6 +8,7 @@ use std::sync::atomic::{AtomicU32, Ordering};
 
 use crate::harness::Told;
 
+const TEN_MINUTES: u32 = 600;
 const STRICT: &str = "-Wall -Wextra -Wpedantic -Werror";
 
 /// The repository's folder.
@@ -105,26 +106,34 @@ impl Said {
     }
 }
 
-/// A line of shell in the repository's folder, with these names set and at most ten minutes of time;
-/// `$ROOT` is that folder.
+/// A line of shell in the repository's folder `$ROOT`, with these names set and at most ten minutes of time.
 pub fn plain_shell(line: &str, names: &[(&str, &Path)]) -> Said {
+    shell_within(TEN_MINUTES, line, names)
+}
+
+fn shell_within(seconds: u32, line: &str, names: &[(&str, &Path)]) -> Said {
     let mut command = Command::new("timeout");
-    command.args(["600", "bash", "-c", line]).env("ROOT", root()).current_dir(root());
-    run(command.envs(names.iter().copied()).stdin(Stdio::null()))
+    command.args([&seconds.to_string(), "bash", "-c", line]).env("ROOT", root());
+    run(command.current_dir(root()).envs(names.iter().copied()).stdin(Stdio::null()))
 }
 
 /// Lines of shell that must all succeed, and what they wrote: `$ARCHIVE` is the library under test, `$WORK` a
 /// folder of their own, `$STRICT` asks a compiler for all warnings as errors.
 pub fn made(lines: &str) -> Told {
+    made_within(TEN_MINUTES, lines)
+}
+
+/// The same, with so many seconds of time.
+pub fn made_within(seconds: u32, lines: &str) -> Told {
     let (scratch, archive) = (Scratch::make(), archive());
     let names =
         [("ARCHIVE", &*archive), ("WORK", &scratch.path("")), ("STRICT", Path::new(STRICT))];
-    plain_shell(&format!("set -eu -o pipefail\n{lines}"), &names).content()
+    shell_within(seconds, &format!("set -eu -o pipefail\n{lines}"), &names).content()
 }
 
-/// The same, of which the last line is told.
-pub fn last_of(lines: &str) -> Told {
-    made(lines).map(|said| said.lines().last().unwrap_or_default().to_string())
+/// The last line of what is told.
+pub fn last_of(told: Told) -> Told {
+    told.map(|said| said.lines().last().unwrap_or_default().to_string())
 }
 
 /// The same as `plain_shell`, with the programs under test as `$TRACE` and `$VERDICT`.

@@ -8,7 +8,7 @@ mod uses;
 
 use std::fs::{read_dir, read_to_string};
 use std::process::ExitCode;
-use suite::{last_of, root, Checks};
+use suite::{last_of, made, root, Checks};
 
 /// Programs that compare the library with the same calls by hand: the sources, and the words of its runs.
 const BY_HAND: [(&str, &str, &[&str]); 9] = [
@@ -33,31 +33,28 @@ const BY_HAND: [(&str, &str, &[&str]); 9] = [
     ("order sheets", "bench/sheet_main.c bench/sheet.c", &["1"]),
     ("lists", "bench/serve_main.c bench/serve.c bench/reference.c", &["100000 3"]),
     ("schedules", "bench/schedules_main.c bench/schedules.c bench/reference.c", &["1"]),
-    (
-        "shelves",
-        "tests/library/shelf.c bench/reference.c bench/shelf_reference.c",
-        &["20000 1", "20000 2"],
-    ),
-    (
-        "joinings",
-        "tests/library/join.c bench/reference.c bench/join_reference.c",
-        &["20000 1", "20000 2"],
-    ),
+    ("shelves", "tests/library/shelf.c bench/reference.c bench/shelf_reference.c", &["20000 1"]),
+    ("joinings", "tests/library/join.c bench/reference.c bench/join_reference.c", &["20000 1"]),
     ("the time of shelves", "bench/shelf.c bench/shelf_reference.c", &["16 1023 2"]),
 ];
 
 fn by_hand(checks: &mut Checks) {
     for (name, sources, runs) in BY_HAND {
-        checks.tell(&format!("by hand: {name}"), move || {
+        let check = move || {
             let runs: String =
                 runs.iter().map(|words| format!("\"$WORK/program\" {words}\n")).collect();
-            last_of(&format!(
+            last_of(made(&format!(
                 "gcc -std=gnu11 -O2 -Iinclude -Ibench {sources} \"$ARCHIVE\" -o \"$WORK/program\"\n{runs}"
-            ))
-        });
+            )))
+        };
+        match name {
+            // long, and both are held to the second program too: by `differential` and by `faults`
+            "schedules" => checks.long(&format!("by hand: {name}"), check),
+            _ => checks.tell(&format!("by hand: {name}"), check),
+        }
     }
     checks.tell("by hand: figures of bench/facts.txt", || {
-        last_of(r#"bench/facts.sh --check "$(dirname "$ARCHIVE")""#)
+        last_of(made(r#"bench/facts.sh --check "$(dirname "$ARCHIVE")""#))
     });
 }
 
@@ -78,10 +75,10 @@ fn programs(checks: &mut Checks) {
     assert!(names.len() >= 7, "the programs of tests/library: {names:?}");
     for name in names {
         checks.tell(&format!("program: {name}"), move || {
-            last_of(&format!(
+            last_of(made(&format!(
                 r#"gcc -std=c11 $STRICT -Iinclude -Ibench tests/library/{name}.c "$ARCHIVE" -o "$WORK/program"
                    "$WORK/program""#
-            ))
+            )))
         });
     }
 }
