@@ -44,11 +44,24 @@ fn what_stands_in_backticks_is_there() {
 #[test]
 fn paths_in_commands_are_there() {
     let names = names();
-    let tops = ["bench/", "bindings/", "crates/", "docs/", "examples/", "include/", "tests/", "tools/", ".ci/"];
+    let tops = [
+        "bench/",
+        "bindings/",
+        "crates/",
+        "docs/",
+        "examples/",
+        "include/",
+        "tests/",
+        "tools/",
+        ".ci/",
+    ];
     let mut found = Vec::new();
     for path in documents() {
-        for (at, line) in content(&path).lines().enumerate().filter(|(_, line)| line.starts_with("    ")) {
-            let words = line.split(|letter: char| letter.is_whitespace() || "'\"`;(),=".contains(letter));
+        for (at, line) in
+            content(&path).lines().enumerate().filter(|(_, line)| line.starts_with("    "))
+        {
+            let words =
+                line.split(|letter: char| letter.is_whitespace() || "'\"`;(),=".contains(letter));
             for word in words.filter(|word| tops.iter().any(|top| word.starts_with(top))) {
                 if !names.has_path(word.trim_end_matches(['.', ':'])) {
                     found.push(format!("{path}:{}: no such file or folder: {word}", at + 1));
@@ -63,8 +76,11 @@ fn paths_in_commands_are_there() {
 fn links_lead_somewhere() {
     let mut found = Vec::new();
     for path in documents() {
-        let folder = path.rsplit_once('/').map_or(String::new(), |(folder, _)| format!("{folder}/"));
-        for link in content(&path).split("](").skip(1).filter_map(|rest| rest.split([')', '#']).next()) {
+        let folder =
+            path.rsplit_once('/').map_or(String::new(), |(folder, _)| format!("{folder}/"));
+        for link in
+            content(&path).split("](").skip(1).filter_map(|rest| rest.split([')', '#']).next())
+        {
             let there = documents::root().join(format!("{folder}{link}")).exists();
             if !link.contains("://") && !link.is_empty() && !there {
                 found.push(format!("{path}: no file {link}"));
@@ -77,7 +93,8 @@ fn links_lead_somewhere() {
 #[test]
 fn every_allowed_word_has_a_reason_and_is_needed() {
     let names = names();
-    let spans: Vec<String> = documents().iter().flat_map(|path| spans(&content(path))).map(|(_, span)| span).collect();
+    let spans: Vec<String> =
+        documents().iter().flat_map(|path| spans(&content(path))).map(|(_, span)| span).collect();
     let mut found = Vec::new();
     for (words, reason) in allowed() {
         if reason.is_empty() {
@@ -110,7 +127,12 @@ fn sentences_are_short() {
 fn notes_of_requests_are_short() {
     let notes = files().into_iter().filter(|path| path.starts_with("docs/changes/1"));
     let counted = notes.map(|path| (content(&path).split_whitespace().count(), path));
-    none(counted.filter(|(words, _)| *words >= LONGEST_NOTE).map(|(words, path)| format!("{path}: {words} words")).collect());
+    none(
+        counted
+            .filter(|(words, _)| *words >= LONGEST_NOTE)
+            .map(|(words, path)| format!("{path}: {words} words"))
+            .collect(),
+    );
 }
 
 #[test]
