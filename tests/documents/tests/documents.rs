@@ -90,6 +90,30 @@ fn links_lead_somewhere() {
     none(found);
 }
 
+/// README's table of calls: each call of a row is made by one of the programs that the row names.
+#[test]
+fn calls_are_shown_by_their_examples() {
+    let (mut rows, mut found) = (0, Vec::new());
+    for line in content("README.md").lines().filter(|line| line.starts_with("| `zc_")) {
+        let (first, rest) = line[2..].split_once(" | ").expect("a row");
+        let programs: String = spans(rest.rsplit_once(" | ").expect("a row").1)
+            .iter()
+            .map(|(_, path)| content(path))
+            .collect();
+        let words: Vec<&str> =
+            programs.split(|letter: char| !letter.is_alphanumeric() && letter != '_').collect();
+        rows += 1;
+        for (_, call) in spans(first) {
+            let wrapped = call.replacen("zc_", "zc_queue_", 1);
+            if !words.contains(&call.as_str()) && !words.contains(&wrapped.as_str()) {
+                found.push(format!("{call}: no program of its row makes it"));
+            }
+        }
+    }
+    assert!(rows > 10, "README.md has no table of calls");
+    none(found);
+}
+
 #[test]
 fn every_allowed_word_has_a_reason_and_is_needed() {
     let names = names();
