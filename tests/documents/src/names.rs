@@ -89,7 +89,7 @@ impl Names {
 
     /// Why what stands in backticks is not there; nothing where it is.
     pub fn misses(&self, span: &str) -> Option<String> {
-        let span = span.trim_end_matches(" ..").trim_end_matches("..");
+        let span = span.trim_end_matches(" ..").trim_end_matches("..").trim_end_matches(':');
         if !span.chars().any(|letter| letter.is_ascii_alphabetic()) {
             return None;
         }
@@ -100,6 +100,14 @@ impl Names {
             let option = span.split('=').next().unwrap_or(span);
             return (!self.options.contains(option))
                 .then(|| format!("no program has the option {option}"));
+        }
+        // A variable of the caller's, perhaps with a value: some source has its name.
+        let variable = span.split('=').next().unwrap_or(span);
+        if !variable.starts_with("ZC_")
+            && variable.chars().all(|l| l.is_ascii_uppercase() || l == '_')
+        {
+            let known = self.words.contains(variable);
+            return (!known).then(|| format!("no source has the word {variable}"));
         }
         if span.contains('/') || ENDINGS.iter().any(|ending| span.ends_with(ending)) {
             return (!self.has_path(span)).then(|| "no such file or folder".to_string());
@@ -161,11 +169,13 @@ impl Names {
         self.defined.contains_key(name) || self.has_path(name)
     }
 
-    /// Whether some path ends so; a star stands for one part, or the rest of one.
+    /// Whether some path ends so; a star, or NAME, stands for one part or a piece of one. What is
+    /// built or lies outside is not looked for.
     pub fn has_path(&self, path: &str) -> bool {
-        let wanted = path.trim_start_matches("./").trim_end_matches('/');
-        if wanted.starts_with("target/") || wanted.starts_with("/opt/rattle") || wanted == "target"
-        {
+        let wanted = path.trim_start_matches("./").trim_end_matches('/').replace("NAME", "*");
+        let wanted = wanted.as_str();
+        let outside = ["target/", "/opt/rattle", "/dev/"];
+        if wanted == "target" || outside.iter().any(|top| wanted.starts_with(top)) {
             return true;
         }
         let Some((before, behind)) = wanted.split_once('*') else {
