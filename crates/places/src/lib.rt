@@ -1,17 +1,17 @@
 //! What each place does with the tables lent to it, one function a place; 12 to 17, where a pooled queue draws its
 //! slots and gets them back, are in `pool`. A place that touches a row, a label or a next reads, decides over the
-//! word found (`decide`), and writes where the step was made.
+//! word found (crate `decide`), and writes where the step was made.
 //!
 //! Every function carries out the step at its place, whatever its arguments:
 //! it refuses with 34 what the place may not touch and then changes nothing.
 //! Line numbers are those of source 003. Figures 3 and 5 show the right side;
 //! at places 5 to 10, figure 4, the side is the one that the status as read names.
-pub mod decide;
-pub mod next;
+pub mod links;
 pub mod pool;
-pub mod side;
-pub mod step;
 
+use decide::next;
+use decide::side;
+use decide::step;
 use model::Control;
 use model::Record;
 use model::Transition;
@@ -60,16 +60,16 @@ pub fn at3(c: Control, r: Record, lefts: &mut [u64], rights: &mut [u64]) -> Tran
     let a = Anchor::unpack(r.seen);
     let end = side::near(right, a);
     if r.kind == 0 {
-        let w = side::link_at(!right, r.own, lefts, rights);
+        let w = links::link_at(!right, r.own, lefts, rights);
         let m = decide::at3(c, r, w);
         if decide::made(m) {
             let link = Link::unpack(w);
-            side::put_link(!right, r.own, step::link_word(link.tag, end), lefts, rights);
+            links::put_link(!right, r.own, step::link_word(link.tag, end), lefts, rights);
             return m;
         }
         return m;
     }
-    let w = side::link_at(!right, end, lefts, rights);
+    let w = links::link_at(!right, end, lefts, rights);
     decide::at3(c, r, w)
 }
 
@@ -106,7 +106,7 @@ pub fn at5(c: Control, r: Record, lefts: &[u64], rights: &[u64]) -> Transition
     let a = Anchor::unpack(r.seen);
     let right = a.status == 1;
     let end = side::near(right, a);
-    let w = side::link_at(!right, end, lefts, rights);
+    let w = links::link_at(!right, end, lefts, rights);
     decide::at5(c, r, w)
 }
 
@@ -126,7 +126,7 @@ pub fn at7(c: Control, r: Record, lefts: &[u64], rights: &[u64]) -> Transition
 {
     let a = Anchor::unpack(r.seen);
     let right = a.status == 1;
-    let w = side::link_at(right, r.neighbour, lefts, rights);
+    let w = links::link_at(right, r.neighbour, lefts, rights);
     decide::at7(c, r, w)
 }
 
@@ -146,11 +146,11 @@ pub fn at9(c: Control, r: Record, lefts: &mut [u64], rights: &mut [u64]) -> Tran
 {
     let a = Anchor::unpack(r.seen);
     let right = a.status == 1;
-    let w = side::link_at(right, r.neighbour, lefts, rights);
+    let w = links::link_at(right, r.neighbour, lefts, rights);
     let m = decide::at9(c, r, w);
     if decide::made(m) {
         let new = decide::new9(r);
-        side::put_link(right, r.neighbour, new, lefts, rights);
+        links::put_link(right, r.neighbour, new, lefts, rights);
         return m;
     }
     m

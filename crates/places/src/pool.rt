@@ -1,9 +1,8 @@
 //! Places 12 to 17: a push draws its slot from the stack before place 1, and a pop gives its slot
 //! back after place 11. The head as read is kept as the link word, the next as the neighbour.
 //! (Document 02, #104: the tagged compare-and-swap stack of 003's references.)
-use crate::decide;
-use crate::next;
-use crate::step;
+use decide::next;
+use decide::step;
 use model::Control;
 use model::Entry;
 use model::Record;

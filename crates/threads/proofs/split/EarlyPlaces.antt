@@ -24,7 +24,7 @@ use Rattle.model.specs.Route.{leave, route, pushRoute, popRoute, onward, answer
 use Rattle.model.specs.Calls.{Acted, finish}
 use Rattle.model.proofs.tests.Truth.{split, either}
 use Rattle.places.specs.Arm.{stepAt}
-use Rattle.places.proofs.Routes.{kinds, readings, Quiet}
+use Rattle.decide.proofs.Routes.{kinds, readings, Quiet}
 use Rattle.threads.proofs.split.Touches as touches
 use Rattle.threads.specs.declared.PlannedTouch.{PlannedTouch}
 use Rattle.threads.specs.Split.{knowing, loads, touchAsRead, planFor, planned, perform, refusing, gone, settledAt, meetsAnchor}

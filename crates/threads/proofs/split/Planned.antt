@@ -13,7 +13,7 @@ use Rattle.model.specs.Places.{Touch, nothing, setAnchor, setLink, clearMark, t
 use Rattle.model.specs.Places.{row, sideOf, linkSide, new4, move}
 use Rattle.model.specs.Places.{at1, at2, at3, at4, at5, at6, at7, at9, at10, at11, at12, at13, at14, at15, at16, at17}
 use Rattle.model.proofs.tests.Truth.{split}
-use Rattle.places.specs.Ending.{mayChange}
+use Rattle.decide.specs.Ending.{mayChange}
 use Rattle.threads.specs.declared.PlannedTouch.{PlannedTouch}
 use Rattle.threads.specs.Split.{planOf, refuses, loadsAnchor, swapsAnchor, loadsLink, swapsLink, putsLink, takesLabel}
 use Rattle.threads.specs.Split.{loadsHead, swapsHead, drawsSlot, loadsNext, storesNext, loads, touchAsRead, planFor, planned}

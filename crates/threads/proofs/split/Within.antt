@@ -8,7 +8,7 @@ use borrow.Author.Tests.{eqb-true, eqb-false, le-leb, not-false, not-true}
 use Rattle.word.specs.Anchor.{anchorOf, packAnchor}
 use Rattle.word.specs.Link.{linkOf, spareOf}
 use Rattle.model.specs.Sides.{far, facing, pushing}
-use Rattle.places.specs.Ending.{mayChange}
+use Rattle.decide.specs.Ending.{mayChange}
 use Rattle.model.specs.declared.Record.{Record}
 use Rattle.model.specs.Tables.{atPlace}
 use Rattle.model.specs.Sound.{from1, linkSound, recordTests, recordSound}
