@@ -10,11 +10,11 @@ use Rattle.model.specs.declared.Record.{Record}
 use Rattle.model.specs.declared.Reply.{Reply}
 use Rattle.calls.specs.Starting.{askedRefusal}
 use Rattle.rows.specs.Rows.{callOf, recordOf, upperOf}
-use Rattle.threads.specs.declared.PlannedTouch.{PlannedTouch}
-use Rattle.threads.specs.declared.Start.{Start}
-use Rattle.threads.specs.Split.{knowing, refuses, loadsAnchor, plan}
-use Rattle.threads.specs.Starts.{Begins, ownRefusal, wrongPush, outside, startWhy, planStart, firstCall, judged}
-use Rattle.threads.specs.Starts.{lateWord, loadsMark, takesSlot, settleStart}
+use Rattle.threads_model.specs.declared.PlannedTouch.{PlannedTouch}
+use Rattle.threads_model.specs.declared.Start.{Start}
+use Rattle.threads_model.specs.Split.{knowing, refuses, loadsAnchor, plan}
+use Rattle.threads_model.specs.Starts.{Begins, ownRefusal, wrongPush, outside, startWhy, planStart, firstCall, judged}
+use Rattle.threads_model.specs.Starts.{lateWord, loadsMark, takesSlot, settleStart}
 use Rattle.touch.specs.Started.{Started, startedBy}
 
 pub asks : (r : Record) (s : Start) {c d : Control} {w w′ o o′ : Bool} → c ≡ d → w ≡ w′ → o ≡ o′

@@ -6,13 +6,13 @@ use calls::refusal;
 use model::Asked;
 use model::Record;
 use model::Reply;
-use threads::PlannedTouch;
-use threads::Start;
+use threads_model::PlannedTouch;
+use threads_model::Start;
 ghost use mathlib.Core.Path.{_≡_};
 ghost use mathlib.Core.Bool.{cond};
 ghost use lib.Dec.{eqb};
 ghost use Rattle.rows.specs.Rows.{callOf, recordOf, upperOf};
-ghost use Rattle.threads.specs.Starts.{wrongPush, outside, planStart, firstCall, judged, settleStart, takesSlot, loadsMark};
+ghost use Rattle.threads_model.specs.Starts.{wrongPush, outside, planStart, firstCall, judged, settleStart, takesSlot, loadsMark};
 ghost use Rattle.touch.specs.Started.{startOf, Started, startedBy};
 
 /// The words of a start.

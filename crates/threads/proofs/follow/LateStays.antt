@@ -19,12 +19,12 @@ use Rattle.model.specs.Sides.{links}
 use Rattle.model.specs.Sound.{linkSound}
 use Rattle.model.specs.Refusals.{late}
 use Rattle.model.proofs.tests.Truth.{split, either, by-test, not-both}
-use Rattle.threads.specs.declared.PlannedTouch.{PlannedTouch}
-use Rattle.threads.specs.Split.{Touched, perform, plan}
-use Rattle.threads.specs.Starts.{ownRefusal}
-use Rattle.threads.specs.Instructions.{Hand, free, begun, loaded, knows, claims, looks, labels, marks, ends, Ticked}
-use Rattle.threads.specs.Instructions.{isAsRead, loadsOwn, putsOwn, stepFirst, clears, tick}
-use Rattle.threads.specs.Crew.{Crew, Act, calls, next, takesUp, ticked, go}
+use Rattle.threads_model.specs.declared.PlannedTouch.{PlannedTouch}
+use Rattle.threads_model.specs.Split.{Touched, perform, plan}
+use Rattle.threads_model.specs.Starts.{ownRefusal}
+use Rattle.threads_model.specs.Instructions.{Hand, free, begun, loaded, knows, claims, looks, labels, marks, ends, Ticked}
+use Rattle.threads_model.specs.Instructions.{isAsRead, loadsOwn, putsOwn, stepFirst, clears, tick}
+use Rattle.threads_model.specs.Crew.{Crew, Act, calls, next, takesUp, ticked, go}
 use Rattle.threads.proofs.follow.Plans.{Two, says}
 use Rattle.threads.proofs.follow.Starting.{plainStart, namedOwn, first-pop, first-put, first-push, claims-is, looks-is}
 

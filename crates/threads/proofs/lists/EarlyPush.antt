@@ -26,7 +26,7 @@ use Rattle.model.proofs.bridge.Accepted.{Lies, lies}
 use Rattle.model.proofs.bridge.Facts.{from1-true}
 use Rattle.model.proofs.ledger.EveryOperation.{act-good, push-good}
 use Rattle.model.proofs.ledger.Matched.{Matched}
-use Rattle.threads.specs.Turns.{Turn, actEarly, take, runTurns, finalTurns}
+use Rattle.threads_model.specs.Turns.{Turn, actEarly, take, runTurns, finalTurns}
 use Rattle.threads.specs.Promises.{EarlyAsEver}
 
 -- Rules with other numbers than the answer did not apply.

@@ -37,7 +37,7 @@ use Rattle.model.proofs.tags.Sum.{total, total-keep, total-le, total-upd}
 use Rattle.model.proofs.unsound.Safe.{Safe}
 use Rattle.model.proofs.unsound.StartSafe.{Room}
 use Rattle.model.proofs.unsound.StepSound.{lighter, seen, stepping}
-use Rattle.threads.specs.Turns.{actEarly, take}
+use Rattle.threads_model.specs.Turns.{actEarly, take}
 use Rattle.threads.proofs.lists.EarlyPush.{pushed, waited}
 
 -- What task u owes; `early u`: its push has passed 33 and had no turn yet.

@@ -20,7 +20,7 @@ use Rattle.model.proofs.tests.Truth.{split}
 use Rattle.places.specs.Arm.{stepAt}
 use Rattle.decide.proofs.Routes.{Quiet}
 use Rattle.threads.proofs.split.Touches as touches
-use Rattle.threads.specs.Split.{knowing, loads, planned, perform, gone, settledAt, meetsAnchor}
+use Rattle.threads_model.specs.Split.{knowing, loads, planned, perform, gone, settledAt, meetsAnchor}
 use Rattle.threads.proofs.split.EarlyPlaces as E
 use Rattle.threads.proofs.split.EarlyPlaces.{hush, told}
 

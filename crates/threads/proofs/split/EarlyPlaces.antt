@@ -26,8 +26,8 @@ use Rattle.model.proofs.tests.Truth.{split, either}
 use Rattle.places.specs.Arm.{stepAt}
 use Rattle.decide.proofs.Routes.{kinds, readings, Quiet}
 use Rattle.threads.proofs.split.Touches as touches
-use Rattle.threads.specs.declared.PlannedTouch.{PlannedTouch}
-use Rattle.threads.specs.Split.{knowing, loads, touchAsRead, planFor, planned, perform, refusing, gone, settledAt, meetsAnchor}
+use Rattle.threads_model.specs.declared.PlannedTouch.{PlannedTouch}
+use Rattle.threads_model.specs.Split.{knowing, loads, touchAsRead, planFor, planned, perform, refusing, gone, settledAt, meetsAnchor}
 
 -- Only a route to the answer popped names an entry.
 pub hush : (n f : ℕ) (e e′ : Entry) → Quiet n → answer (onward n f) e ≡ answer (onward n f) e′

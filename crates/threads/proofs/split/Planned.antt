@@ -14,9 +14,9 @@ use Rattle.model.specs.Places.{row, sideOf, linkSide, new4, move}
 use Rattle.model.specs.Places.{at1, at2, at3, at4, at5, at6, at7, at9, at10, at11, at12, at13, at14, at15, at16, at17}
 use Rattle.model.proofs.tests.Truth.{split}
 use Rattle.decide.specs.Ending.{mayChange}
-use Rattle.threads.specs.declared.PlannedTouch.{PlannedTouch}
-use Rattle.threads.specs.Split.{planOf, refuses, loadsAnchor, swapsAnchor, loadsLink, swapsLink, putsLink, takesLabel}
-use Rattle.threads.specs.Split.{loadsHead, swapsHead, drawsSlot, loadsNext, storesNext, loads, touchAsRead, planFor, planned}
+use Rattle.threads_model.specs.declared.PlannedTouch.{PlannedTouch}
+use Rattle.threads_model.specs.Split.{planOf, refuses, loadsAnchor, swapsAnchor, loadsLink, swapsLink, putsLink, takesLabel}
+use Rattle.threads_model.specs.Split.{loadsHead, swapsHead, drawsSlot, loadsNext, storesNext, loads, touchAsRead, planFor, planned}
 use Rattle.threads.proofs.split.Touches as touches
 
 -- The side that a status names, and its opposite.

@@ -20,7 +20,7 @@ use Rattle.model.specs.Refusals.{leavesSound}
 use Rattle.model.proofs.tests.Truth.{either, by-test, and-of, or-first}
 use Rattle.model.proofs.tests.Rules.{_and_}
 use Rattle.model.proofs.laws.Onward.{reads-on}
-use Rattle.threads.specs.Split.{knowing}
+use Rattle.threads_model.specs.Split.{knowing}
 use Rattle.threads.proofs.split.SoundFields as F
 
 module _ (pooled slots w : ℕ) where

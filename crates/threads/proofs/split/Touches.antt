@@ -14,7 +14,7 @@ use Rattle.model.specs.Kinds.{isPush, isPop}
 use Rattle.model.specs.Places.{Touch, nothing, setAnchor, setLink, clearMark, takeSlot, setHead, Move, raised}
 use Rattle.model.specs.Places.{reading, row, sideOf, linkSide, endSeen, new4, move, at2, at3, at4, at9, at10, at11, at14, at17}
 use Rattle.model.proofs.tests.Truth.{split}
-use Rattle.threads.specs.Split.{knowing, touchAsRead}
+use Rattle.threads_model.specs.Split.{knowing, touchAsRead}
 
 -- A word equals itself.
 pub same : (n : ℕ) → eqb n n ≡ true

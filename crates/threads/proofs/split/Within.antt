@@ -15,10 +15,10 @@ use Rattle.model.specs.Sound.{from1, linkSound, recordTests, recordSound}
 use Rattle.model.specs.Refusals.{recordRefusal}
 use Rattle.model.proofs.tests.Rules.{cleared, tests}
 use Rattle.model.proofs.tests.Truth.{split, either, by-test, and-true, and-of, not-both}
-use Rattle.threads.specs.declared.PlannedTouch.{PlannedTouch}
-use Rattle.threads.specs.Split.{refuses, loadsAnchor, swapsAnchor, loadsLink, plan, planned}
-use Rattle.threads.specs.declared.Start.{Start}
-use Rattle.threads.specs.Starts.{ownRules, ownRefusal, wrongPush, outside, startWhy, planStart}
+use Rattle.threads_model.specs.declared.PlannedTouch.{PlannedTouch}
+use Rattle.threads_model.specs.Split.{refuses, loadsAnchor, swapsAnchor, loadsLink, plan, planned}
+use Rattle.threads_model.specs.declared.Start.{Start}
+use Rattle.threads_model.specs.Starts.{ownRules, ownRefusal, wrongPush, outside, startWhy, planStart}
 use Rattle.threads.specs.Promises.{onRow, PlansWithin, StartsWithin}
 use Rattle.threads.proofs.split.Planned as asks
 use Rattle.threads.proofs.split.ByRecord as by

@@ -2,7 +2,7 @@ use mathlib.Core.Path.{ap, _∙_}
 use lib.Dec.{eqb}
 use Rattle.model.specs.declared.Record.{Record}
 use Rattle.model.specs.Refusals.{recordRefusal}
-use Rattle.threads.specs.Split.{plan}
+use Rattle.threads_model.specs.Split.{plan}
 use borrow.Author.Needs.{needs}
 use Rattle.touch.proofs.arms_row.Statement.{statement}
 use Rattle.touch.proofs.arms_row.Tie as tie

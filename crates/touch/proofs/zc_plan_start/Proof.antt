@@ -1,5 +1,5 @@
 use mathlib.Core.Path.{_∙_}
-use Rattle.threads.specs.Starts.{planStart}
+use Rattle.threads_model.specs.Starts.{planStart}
 use borrow.Author.Needs.{needs}
 use Rattle.touch.proofs.zc_plan_start.Statement.{statement}
 use Rattle.touch.proofs.zc_plan_start.Tie as tie

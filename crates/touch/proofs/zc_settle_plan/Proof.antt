@@ -8,7 +8,7 @@ use Rattle.model.specs.declared.TaskRecord.{TaskRecord}
 use Rattle.model.specs.Sound.{recordSound}
 use Rattle.rows.specs.Rows.{callOf, recordOf}
 use Rattle.model.specs.Ends.{isMoved}
-use Rattle.threads.specs.Split.{Settled, heardAs, plan}
+use Rattle.threads_model.specs.Split.{Settled, heardAs, plan}
 use Rattle.threads.proofs.split.StaysSound.{settle-sound}
 use Rattle.touch.proofs.Border.{moved, kept}
 use Rattle.touch.proofs.zc_settle_plan.Statement.{statement}

@@ -1,7 +1,7 @@
 use mathlib.Core.Path.{ap, _∙_}
 use Rattle.model.specs.declared.TaskRecord.{TaskRecord}
 use Rattle.rows.specs.Rows.{recordOf}
-use Rattle.threads.specs.Split.{plan}
+use Rattle.threads_model.specs.Split.{plan}
 use Rattle.touch.proofs.Starting.{refused, begun}
 use borrow.Author.Needs.{needs}
 use Rattle.touch.proofs.start.decides.Statement.{statement}

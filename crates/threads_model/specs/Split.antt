@@ -1,5 +1,5 @@
 -- A step split at its touch of shared memory: `plan`, what a task's own record says that the step does there; `perform`, that touch made as one
--- act; `settle`, what the record, with the word found, comes to. Neither plan nor settle sees a shared table. Promises are in `SplitLists`.
+-- act; `settle`, what the record, with the word found, comes to. Neither plan nor settle sees a shared table. Promises are in crate `threads`.
 use mathlib.Core.Path.{_≡_}
 use mathlib.Core.Bool.{Bool, _&&_, _||_, not, cond}
 use Prim.Native.Nat.{ℕ, _%_, _^_}
@@ -22,7 +22,7 @@ use Rattle.model.specs.Places.{Touch, nothing, setAnchor, setLink, clearMark, t
 use Rattle.model.specs.Route.{route, onward, answer, goes, counted}
 use Rattle.model.specs.Refusals.{needsRow, meetsLink, leavesSound, hasRoom, stepSound, recordRefusal}
 use Rattle.model.specs.Calls.{Acted}
-use Rattle.threads.specs.declared.PlannedTouch.{PlannedTouch}
+use Rattle.threads_model.specs.declared.PlannedTouch.{PlannedTouch}
 
 -- PLAN. What the executive is asked to do: `act` says what, side and slot where, the other fields with which words.
 abbrev pub planOf : ℕ → ℕ → ℕ → ℕ → ℕ → ℕ → PlannedTouch

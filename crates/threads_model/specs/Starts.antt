@@ -13,9 +13,9 @@ use Rattle.model.specs.declared.Answer.the-variants.{Running}
 use Rattle.model.specs.Tables.{withCall, started, asking}
 use Rattle.model.specs.Sound.{from1, recordSound}
 use Rattle.model.specs.Refusals.{Rule, rule, first, isBusy}
-use Rattle.threads.specs.declared.PlannedTouch.{PlannedTouch}
-use Rattle.threads.specs.declared.Start.{Start}
-use Rattle.threads.specs.Split.{planOf, refuses, loadsAnchor}
+use Rattle.threads_model.specs.declared.PlannedTouch.{PlannedTouch}
+use Rattle.threads_model.specs.declared.Start.{Start}
+use Rattle.threads_model.specs.Split.{planOf, refuses, loadsAnchor}
 
 -- The three starts: a push that names a slot, a pop, a push that names none.
 abbrev pub names : ℕ → ℕ → ℕ → Start
