@@ -1,3 +1,4 @@
 pub mod Arm
 pub mod Ending
+pub mod Constants
 pub mod Decided
