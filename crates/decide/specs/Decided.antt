@@ -11,7 +11,7 @@ use Rattle.model.specs.declared.Transition.{Transition}
 use Rattle.model.specs.Sound.{from1}
 use Rattle.model.specs.Sides.{far, facing, pushing}
 use Rattle.model.specs.Kinds.{isPush}
-use Rattle.model.specs.Route.{route}
+use Rattle.model.specs.Route.{route, onlyWay, done, hasFailed, equal, unequal, namedQueue, pooledQueue}
 use Rattle.model.specs.Tables.{isPooled, withNeighbour, withOwn}
 use Rattle.model.specs.Ends.{isMoved}
 use Rattle.decide.specs.Ending.{refused, settled, noEntry, failing, headed, rowSound, neighbourRead, linkRead}
@@ -61,38 +61,38 @@ madeOf m = isMoved (m .outcome) && not (m .failed)
 unfoldable pub found3 : Control → Record → ℕ → Transition
 found3 c r w =
     cond (isPush r)
-    (cond (rowSound (c .slots) (r .own) w) (settled c r (route 3 (r .kind) 0) noEntry) (refused c r))
-    (neighbourRead c r (ownEnd r) w (route 3 (r .kind) 0))
+    (cond (rowSound (c .slots) (r .own) w) (settled c r (route 3 (r .kind) onlyWay) noEntry) (refused c r))
+    (neighbourRead c r (ownEnd r) w (route 3 (r .kind) onlyWay))
 
 unfoldable pub found5 : Control → Record → ℕ → Transition
-found5 c r w = neighbourRead c r (namedEnd r) w (route 5 (r .kind) 0)
+found5 c r w = neighbourRead c r (namedEnd r) w (route 5 (r .kind) onlyWay)
 
 unfoldable pub found7 : Control → Record → ℕ → Transition
-found7 c r w = linkRead c r (namedEnd r) w (route 7 (r .kind) 0) (route 7 (r .kind) 1)
+found7 c r w = linkRead c r (namedEnd r) w (route 7 (r .kind) equal) (route 7 (r .kind) unequal)
 
 unfoldable pub found9 : Control → Record → ℕ → Transition
 found9 c r w =
     cond (from1 (c .slots) (r .neighbour))
     (cond (eqb w (r .link))
-    (cond (ltb (linkOf (r .link) .tag) 4294967295) (settled c r (route 9 (r .kind) 0) noEntry) (refused c r))
-    (failing (settled c r (route 9 (r .kind) 1) noEntry)))
+    (cond (ltb (linkOf (r .link) .tag) 4294967295) (settled c r (route 9 (r .kind) done) noEntry) (refused c r))
+    (failing (settled c r (route 9 (r .kind) hasFailed) noEntry)))
     (refused c r)
 
 unfoldable pub found11 : Control → Record → ℕ → Transition
 found11 c r l =
     cond (from1 (c .slots) (ownEnd r))
     (cond (isPooled c)
-    (settled c (withOwn r (ownEnd r) l) (route 11 (r .kind) 1) noEntry)
-    (settled c r (route 11 (r .kind) 0) (record { slot = ownEnd r; label = l })))
+    (settled c (withOwn r (ownEnd r) l) (route 11 (r .kind) pooledQueue) noEntry)
+    (settled c r (route 11 (r .kind) namedQueue) (record { slot = ownEnd r; label = l })))
     (refused c r)
 
 unfoldable pub found13 : Control → Record → ℕ → Transition
-found13 c r n = cond (leb n (c .slots)) (settled c (withNeighbour r n) (route 13 (r .kind) 0) noEntry) (refused c r)
+found13 c r n = cond (leb n (c .slots)) (settled c (withNeighbour r n) (route 13 (r .kind) onlyWay) noEntry) (refused c r)
 
 unfoldable pub found14 : Control → Record → Transition
 found14 c r =
     cond (eqb (c .head) (r .link))
     (cond (ltb (linkOf (r .link) .tag) 4294967295)
-    (settled (headed c (new14 r)) (withOwn r (top r) (r .label)) (route 14 (r .kind) 0) noEntry)
+    (settled (headed c (new14 r)) (withOwn r (top r) (r .label)) (route 14 (r .kind) done) noEntry)
     (refused c r))
-    (failing (settled c r (route 14 (r .kind) 1) noEntry))
+    (failing (settled c r (route 14 (r .kind) hasFailed) noEntry))

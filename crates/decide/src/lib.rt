@@ -95,13 +95,13 @@ pub fn at3(c: Control, r: Record, w: u64) -> Transition
 {
     if r.kind == 0 {
         if step::row_sound(c.slots, r.own, w) {
-            return step::settles(c, r, next::next(3, r.kind, 0), step::NO_ENTRY);
+            return step::settles(c, r, next::next(3, r.kind, next::ONLY_WAY), step::NO_ENTRY);
         }
         return step::refused(c, r);
     }
     let a = Anchor::unpack(r.seen);
     let end = side::near(r.side == 1, a);
-    step::reads_neighbour(c, r, end, w, next::next(3, r.kind, 0))
+    step::reads_neighbour(c, r, end, w, next::next(3, r.kind, next::ONLY_WAY))
 }
 
 /// Place 5: the slot that w names is the neighbour.
@@ -110,7 +110,7 @@ pub fn at5(c: Control, r: Record, w: u64) -> Transition
 {
     let a = Anchor::unpack(r.seen);
     let end = side::near(a.status == 1, a);
-    step::reads_neighbour(c, r, end, w, next::next(5, r.kind, 0))
+    step::reads_neighbour(c, r, end, w, next::next(5, r.kind, next::ONLY_WAY))
 }
 
 /// Place 7: w is remembered; it may name the end.
@@ -119,8 +119,8 @@ pub fn at7(c: Control, r: Record, w: u64) -> Transition
 {
     let a = Anchor::unpack(r.seen);
     let end = side::near(a.status == 1, a);
-    let names_end = next::next(7, r.kind, 0);
-    let other = next::next(7, r.kind, 1);
+    let names_end = next::next(7, r.kind, next::EQUAL);
+    let other = next::next(7, r.kind, next::UNEQUAL);
     step::reads_link(c, r, end, w, names_end, other)
 }
 
@@ -133,11 +133,11 @@ pub fn at9(c: Control, r: Record, w: u64) -> Transition
         return step::refused(c, r);
     }
     if w != r.link {
-        let m = step::settles(c, r, next::next(9, r.kind, 1), step::NO_ENTRY);
+        let m = step::settles(c, r, next::next(9, r.kind, next::FAILED), step::NO_ENTRY);
         return step::fails(m);
     }
     if link.tag < Link::TAG_MASK {
-        return step::settles(c, r, next::next(9, r.kind, 0), step::NO_ENTRY);
+        return step::settles(c, r, next::next(9, r.kind, next::DONE), step::NO_ENTRY);
     }
     step::refused(c, r)
 }
@@ -154,9 +154,10 @@ pub fn at11(c: Control, r: Record, label: u32) -> Transition
             let mut t = r;
             t.own = end;
             t.label = label;
-            return step::settles(c, t, next::next(11, r.kind, 1), step::NO_ENTRY);
+            return step::settles(c, t, next::next(11, r.kind, next::POOLED), step::NO_ENTRY);
         }
-        return step::settles(c, r, next::next(11, r.kind, 0), Entry { slot: end, label });
+        let e = Entry { slot: end, label };
+        return step::settles(c, r, next::next(11, r.kind, next::NAMED), e);
     }
     step::refused(c, r)
 }
@@ -168,7 +169,7 @@ pub fn at13(c: Control, r: Record, w: u64) -> Transition
     if w <= c.slots {
         let mut t = r;
         t.neighbour = w;
-        return step::settles(c, t, next::next(13, r.kind, 0), step::NO_ENTRY);
+        return step::settles(c, t, next::next(13, r.kind, next::ONLY_WAY), step::NO_ENTRY);
     }
     step::refused(c, r)
 }
@@ -179,14 +180,14 @@ pub fn at14(c: Control, r: Record) -> Transition
 {
     let head = Link::unpack(r.link);
     if c.head != r.link {
-        let m = step::settles(c, r, next::next(14, r.kind, 1), step::NO_ENTRY);
+        let m = step::settles(c, r, next::next(14, r.kind, next::FAILED), step::NO_ENTRY);
         return step::fails(m);
     }
     if head.tag < Link::TAG_MASK {
         let d = step::with_head(c, new14(r));
         let mut t = r;
         t.own = head.slot;
-        return step::settles(d, t, next::next(14, r.kind, 0), step::NO_ENTRY);
+        return step::settles(d, t, next::next(14, r.kind, next::DONE), step::NO_ENTRY);
     }
     step::refused(c, r)
 }

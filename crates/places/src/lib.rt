@@ -47,7 +47,7 @@ fn change2(c: Control, r: Record) -> Transition
         return step::refused(c, r);
     }
     let d = step::with_anchor(c, new);
-    step::settles(d, r, next::next(2, r.kind, 0), step::NO_ENTRY)
+    step::settles(d, r, next::next(2, r.kind, next::DONE), step::NO_ENTRY)
 }
 
 /// Place 3: put the end into the own slot's inward link, its tag kept; a pop reads the end's
@@ -95,7 +95,7 @@ fn change4(c: Control, r: Record) -> Transition
     }
     let d = step::with_anchor(c, new);
     let t = step::remembers(r, new);
-    step::settles(d, t, next::next(4, r.kind, 0), step::NO_ENTRY)
+    step::settles(d, t, next::next(4, r.kind, next::DONE), step::NO_ENTRY)
 }
 
 /// Place 5: read the end's inward link as neighbour. (Figure 4, line 5.)
@@ -114,8 +114,8 @@ pub fn at5(c: Control, r: Record, lefts: &[u64], rights: &[u64]) -> Transition
 pub fn at6(c: Control, r: Record) -> Transition
     ensures { λ m. ⌜ Steps 6 c r m ⌝ }
 {
-    let same = next::next(6, r.kind, 0);
-    let other = next::next(6, r.kind, 1);
+    let same = next::next(6, r.kind, next::EQUAL);
+    let other = next::next(6, r.kind, next::UNEQUAL);
     step::compares(c, r, same, other)
 }
 
@@ -134,8 +134,8 @@ pub fn at7(c: Control, r: Record, lefts: &[u64], rights: &[u64]) -> Transition
 pub fn at8(c: Control, r: Record) -> Transition
     ensures { λ m. ⌜ Steps 8 c r m ⌝ }
 {
-    let same = next::next(8, r.kind, 0);
-    let other = next::next(8, r.kind, 1);
+    let same = next::next(8, r.kind, next::EQUAL);
+    let other = next::next(8, r.kind, next::UNEQUAL);
     step::compares(c, r, same, other)
 }
 
@@ -161,7 +161,7 @@ pub fn at10(c: Control, r: Record) -> Transition
     ensures { λ m. ⌜ Steps 10 c r m ⌝ }
 {
     if c.anchor != r.seen {
-        let m = step::settles(c, r, next::next(10, r.kind, 1), step::NO_ENTRY);
+        let m = step::settles(c, r, next::next(10, r.kind, next::FAILED), step::NO_ENTRY);
         return step::fails(m);
     }
     let new = decide::new10(r);
@@ -169,7 +169,7 @@ pub fn at10(c: Control, r: Record) -> Transition
         return step::refused(c, r);
     }
     let d = step::with_anchor(c, new);
-    step::settles(d, r, next::next(10, r.kind, 0), step::NO_ENTRY)
+    step::settles(d, r, next::next(10, r.kind, next::DONE), step::NO_ENTRY)
 }
 
 /// Place 11: read the label of the end taken and clear its mark. (Figure 5, after the loop.) In a
