@@ -9,7 +9,7 @@ use Rattle.model.specs.declared.Control.{Control}
 use Rattle.model.specs.declared.Record.{Record}
 use Rattle.model.specs.Tables.{atPlace, tablesOf, withSeen}
 use Rattle.model.specs.Sound.{anchorSound}
-use Rattle.model.specs.Places.{reading, row, sideOf, nothing, setAnchor, Move, compares, at1, at2, at4, at6, at10, move}
+use Rattle.model.specs.Places.{reading, sideOf, nothing, setAnchor, Move, compares, at1, at2, at4, at6, at10, move}
 use Rattle.model.specs.Places as model-places
 use Rattle.model.specs.Refusals.{needsRow, meetsLink, meetsHead, stepSound}
 use Rattle.model.specs.Route.{route, pushRoute, popRoute, goes, counted}

@@ -1,12 +1,12 @@
 -- The call's steps, one after the other, make up its meaning.
 use mathlib.Core.Bool.{Bool, true, false, not, _&&_, cond}
-use mathlib.Core.List.{List, [], _∷_, reverse}
-use mathlib.Core.Path.{_≡_, refl, sym, ap, subst, _∙_}
-use Prim.Native.Nat.{ℕ, zero, suc, _≤_}
+use mathlib.Core.List.{List, [], _∷_}
+use mathlib.Core.Path.{_≡_, refl, sym, ap, _∙_}
+use Prim.Native.Nat.{ℕ, _≤_}
 use native.Mathlib.Omega.{arith}
 use lib.Dec.{eqb, leb}
 use lib.ListN.{length}
-use borrow.Author.Tests.{leb-true, ne-eqb, not-true, not-false}
+use borrow.Author.Tests.{leb-true, not-true, not-false}
 use Rattle.word.specs.declared.Anchor.{Anchor}
 use Rattle.word.specs.Anchor.{anchorOf}
 use Rattle.model.specs.declared.Control.{Control}
@@ -23,7 +23,7 @@ use Rattle.sheet_model.specs.Squares.{Row, byteRow, linked, crossed}
 use Rattle.sheet_model.specs.Extents.{Extents, unseen, noted, nextAt, notedAll, gather, extents}
 use Rattle.sheet_model.specs.Verdict.{refused, verdict, early, judge}
 use Rattle.sheet_model.specs.Search.{inRows}
-use Rattle.sheet_model.proofs.Broken.{Formed, formed, firstAt, turned, found-verdict}
+use Rattle.sheet_model.proofs.Broken.{Formed, formed, firstAt, found-verdict}
 use Rattle.sheet_model.proofs.Square.{Shows, marks}
 use Rattle.sheet_model.proofs.ByteRows.{bytes, bytes-show}
 use Rattle.sheet_model.proofs.Gather.{Follows, Short, gather-walk, along-short}

@@ -1,16 +1,15 @@
 -- What a walk has noted of each listed label: its lowest and its highest position.
-use mathlib.Core.Bool.{Bool, true, false, _&&_, _||_, cond}
+use mathlib.Core.Bool.{Bool, true, false, cond}
 use mathlib.Core.List.{List, [], _∷_}
-use mathlib.Core.Logic.{_⊎_, inl, inr}
 use mathlib.Core.Path.{_≡_, refl, sym, ap, _∙_}
 use Prim.Native.Nat.{ℕ, zero, suc, _≤_, _<_, min, max}
 use native.Mathlib.Omega.{arith}
-use lib.Dec.{eqb, ltb}
+use lib.Dec.{eqb}
 use lib.ListN.{length, getD, set, replicate, length-set, getD-replicate}
 use lib.Seq.{getD-set-same, getD-set-other}
 use borrow.Author.Tests.{eqb-true, eqb-false, eq-eqb, ne-eqb}
 use Rattle.model.specs.declared.Entry.{Entry}
-use Rattle.model.proofs.tests.Truth.{decide-eq, split, or-false}
+use Rattle.model.proofs.tests.Truth.{or-false}
 use Rattle.sheet_model.specs.Sheet.{any, twice}
 use Rattle.sheet_model.specs.Extents.{Extents, placeOf, lower, higher, unseen, noted, nextAt, notedAll}
 use Rattle.sheet_model.proofs.Crossing.{lowest, highest, low-bound, lower-is, lower-min, higher-max}

@@ -1,18 +1,18 @@
 -- The test of a pair is what the document calls broken, and the verdict is kept or the first such pair.
-use mathlib.Core.Bool.{Bool, true, false, _&&_, _||_, cond}
-use mathlib.Core.List.{List, [], _∷_, map}
+use mathlib.Core.Bool.{Bool, true, false, _&&_, cond}
+use mathlib.Core.List.{List, [], _∷_}
 use mathlib.Core.Logic.{_⊎_, inl, inr}
 use mathlib.Core.Path.{_≡_, ap, refl, sym, subst}
 use Prim.Native.Nat.{ℕ, zero, suc, _+_, _≤_, _<_}
 use native.Mathlib.Omega.{arith}
 use lib.Dec.{eqb}
-use lib.ListN.{length, getD}
+use lib.ListN.{length}
 use borrow.Author.Tests.{eqb-true, eq-eqb}
 use Rattle.model.specs.declared.Entry.{Entry}
 use Rattle.model.proofs.tests.Truth.{and-of, and-true, by-test, decide-eq, not-both, or-cases, or-first, or-second, split}
 use Rattle.sheet_model.specs.declared.SheetReply.{SheetReply}
 use Rattle.sheet_model.specs.Sheet.{Sheet, Chained, breaks, chained, labelAt, leftOf, malformed, waits}
-use Rattle.sheet_model.specs.Verdict.{brokenBy, kept, verdict}
+use Rattle.sheet_model.specs.Verdict.{brokenBy, kept}
 use Rattle.sheet_model.specs.Search.{inRow, inRows}
 use Rattle.sheet_model.specs.Pairs.{Broken, Copy, CopyAt, Earlier, LeftCopy, NoneBroken, Rightly, crossed, itself, keeps, tells}
 use Rattle.sheet_model.specs.Laws.{VerdictRight}

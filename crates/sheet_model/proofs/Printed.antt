@@ -10,7 +10,7 @@ use Rattle.model.specs.Tables.{Tables}
 use Rattle.sheet_model.specs.declared.SheetReply.{SheetReply}
 use Rattle.sheet_model.specs.Sheet.{Sheet}
 use Rattle.sheet_model.specs.Squares.{linked, wordsOf}
-use Rattle.sheet_model.specs.Verdict.{refused, brokenBy, judge, Printed, sheetWords}
+use Rattle.sheet_model.specs.Verdict.{brokenBy, judge, Printed, sheetWords}
 use Rattle.sheet_model.specs.Search.{inRow, inRows}
 
 row-code : (p : ℕ → ℕ → Bool) (a b n : ℕ) (o : SheetReply) → o .code ≡ 0 → inRow p a b n o .code ≡ 0

@@ -1,6 +1,5 @@
 -- A step split at its touch of shared memory: `plan`, what a task's own record says that the step does there; `perform`, that touch made as one
 -- act; `settle`, what the record, with the word found, comes to. Neither plan nor settle sees a shared table. Promises are in crate `threads`.
-use mathlib.Core.Path.{_≡_}
 use mathlib.Core.Bool.{Bool, _&&_, _||_, not, cond}
 use Prim.Native.Nat.{ℕ, _%_, _^_}
 use lib.Dec.{eqb}

@@ -11,7 +11,7 @@ use threads_model::Start;
 ghost use mathlib.Core.Path.{_≡_};
 ghost use mathlib.Core.Bool.{cond};
 ghost use lib.Dec.{eqb};
-ghost use Rattle.rows.specs.Rows.{callOf, recordOf, upperOf};
+ghost use Rattle.rows.specs.Rows.{recordOf, upperOf};
 ghost use Rattle.threads_model.specs.Starts.{wrongPush, outside, planStart, firstCall, judged, settleStart, takesSlot, loadsMark};
 ghost use Rattle.touch.specs.Started.{startOf, Started, startedBy};
 

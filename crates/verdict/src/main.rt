@@ -2,7 +2,6 @@
 mod help;
 
 use judge::say;
-ghost use mathlib.Core.Path.{_≡_};
 ghost use Prim.Native.Nat.{_≤_};
 ghost use lib.ListN.{length};
 

@@ -23,7 +23,7 @@ use Rattle.model.proofs.tests.Truth.{split, by-test, not-both}
 use Rattle.model.proofs.bridge.Facts.{from1-true}
 use Rattle.threads_model.specs.Turns.{actEarly, take}
 use Rattle.threads_model.specs.Starts.{ownRules, ownRefusal, names, pops, puts}
-use Rattle.threads_model.specs.Instructions.{Hand, claims, looks, labels, marks, ends, Ticked}
+use Rattle.threads_model.specs.Instructions.{Hand, claims, looks, labels, ends, Ticked}
 use Rattle.threads_model.specs.Instructions.{startFirst, claimsMark, looksMark}
 use Rattle.threads_model.specs.Crew.{Crew}
 use Rattle.threads.specs.Promises.{OwesLabel}

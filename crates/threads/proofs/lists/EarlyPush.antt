@@ -7,15 +7,13 @@ use native.Mathlib.Omega.{arith}
 use lib.Dec.{eqb, leb, ltb}
 use lib.ListN.{getD, length, length-set}
 use borrow.Author.Tests.{eqb-true, eqb-false, leb-true, not-false, not-true}
-use Rattle.model.specs.declared.Record.{Record}
-use Rattle.model.specs.declared.TaskRecord.{TaskRecord}
 use Rattle.model.specs.declared.Answer.the-variants.{Running}
 use Rattle.model.specs.declared.Outcome.the-variants.{Moved}
 use Rattle.model.specs.declared.Op.{Op}
 use Rattle.model.specs.declared.Op.the-variants.{Push, Pop, Put, Step}
 use Rattle.model.specs.Tables.{Tables, Queue, isPooled, marked, putBit, recordAt, taskAt, taken, withCall, started}
 use Rattle.model.specs.Sound.{from1, controlSound, recordSound, rowsFit}
-use Rattle.model.specs.Refusals.{Rule, rule, first, among, fits, isBusy, late, recordsFit, namedPush, pushRefusal, startRefusal, startRules}
+use Rattle.model.specs.Refusals.{Rule, rule, first, among, fits, isBusy, late, namedPush, pushRefusal, startRefusal, startRules}
 use Rattle.model.specs.Calls.{Acted, Done, act, back}
 use Rattle.model.specs.History.{Event, Ledger, ledgerFrom, note}
 use Rattle.model.specs.Lists.{All, every}

@@ -16,7 +16,7 @@ use Rattle.model.specs.Tables.{Tables, atPlace, counting}
 use Rattle.model.specs.Sides.{links}
 use Rattle.model.specs.Kinds.{isPop}
 use Rattle.model.specs.Sound.{from1, anchorSound, linkSound}
-use Rattle.model.specs.Places.{Touch, raised}
+use Rattle.model.specs.Places.{Touch}
 use Rattle.model.specs.Places.{reading, row, linkSide, endSeen, new4, move}
 use Rattle.model.specs.Places.{at1, at5, at6, at7}
 use Rattle.model.specs.Refusals.{stepSound}

@@ -1,4 +1,3 @@
-use mathlib.Core.Path.{sym, _∙_}
 use native.Mathlib.Nat.{le-antisymm}
 use lib.Dec.{eqb}
 use borrow.Author.Tests.{eqb-true, eqb-false}

@@ -3,12 +3,11 @@ use mathlib.Core.Path.{_≡_, sym, ap, subst, _∙_}
 use mathlib.Core.Bool.{true}
 use lib.Dec.{eqb}
 use borrow.Author.Needs.{needs}
-use Rattle.model.specs.declared.Record.{Record}
 use Rattle.model.specs.declared.TaskRecord.{TaskRecord}
 use Rattle.model.specs.Sound.{recordSound}
 use Rattle.rows.specs.Rows.{callOf, recordOf}
 use Rattle.model.specs.Ends.{isMoved}
-use Rattle.threads_model.specs.Split.{Settled, heardAs, plan}
+use Rattle.threads_model.specs.Split.{Settled, heardAs}
 use Rattle.threads.proofs.split.StaysSound.{settle-sound}
 use Rattle.touch.proofs.Border.{moved, kept}
 use Rattle.touch.proofs.zc_settle_plan.Statement.{statement}
