@@ -8,6 +8,7 @@
  * A history that passes is the longest way: every pair is looked at.
  */
 #include "audit_reference.h"
+#include "draw.h"
 
 #include <inttypes.h>
 #include <stdio.h>
@@ -24,16 +25,6 @@ struct history {
 };
 
 static struct history histories[HISTORIES];
-
-static uint64_t state = UINT64_C(88172645463325252);
-
-static uint64_t draw(uint64_t below)
-{
-    state ^= state << 13;
-    state ^= state >> 7;
-    state ^= state << 17;
-    return (state >> 16) % below;
-}
 
 /* Up to 16 calls under way at once; one starts, takes effect or answers at each event. */
 static void draw_history(struct history *history, size_t count)

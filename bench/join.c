@@ -5,6 +5,7 @@
  *                          best of TIMES, interleaved: library, C. The third has 1,023 slots; making
  *                          it fresh again is measured by itself and left out.
  */
+#include "draw.h"
 #include "join_reference.h"
 
 #include <stdio.h>
@@ -23,15 +24,6 @@ typedef struct lane {
 
 static lane first, second, third;
 
-static uint64_t draw(uint64_t below)
-{
-    static uint64_t state = UINT64_C(88172645463325252);
-    state ^= state << 13;
-    state ^= state >> 7;
-    state ^= state << 17;
-    return (state >> 16) % below;
-}
-
 /* A STABLE queue of so many labels that ascend, in slots drawn at random. */
 static void line_up(lane *l, uint64_t count)
 {
@@ -39,12 +31,9 @@ static void line_up(lane *l, uint64_t count)
     uint32_t label = 0;
     l->control.tasks = TASKS;
     l->control.slots = SLOTS;
-    for (uint64_t at = 0; at < SLOTS; at++)
-        order[at] = at + 1;
+    draw_slots(order, SLOTS, count);
     for (uint64_t at = 0; at < count; at++) {
-        uint64_t other = at + draw(SLOTS - at), slot = order[other];
-        order[other] = order[at];
-        order[at] = slot;
+        uint64_t slot = order[at];
         l->labels[slot] = label += (uint32_t)draw(1000);
         l->lefts[slot] = at == 0 ? 0 : order[at - 1];
         if (at > 0)

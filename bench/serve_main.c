@@ -4,6 +4,7 @@
  *     serve REQUESTS TIMES    checks that both answer and leave the same, and tells the best of TIMES, in
  *                             nanoseconds a request, for a named queue and a pooled one of 5 tasks
  */
+#include "draw.h"
 #include "serve.h"
 
 #include <stdio.h>
@@ -16,21 +17,11 @@ enum { TASKS = 5, SLOTS = 64 };
 ZC_QUEUE_STORAGE(ours, TASKS, SLOTS);
 ZC_QUEUE_STORAGE(theirs, TASKS, SLOTS);
 
-static uint64_t seed = 88172645463325252;
-
-static uint64_t below(uint64_t most)
-{
-    seed ^= seed << 13;
-    seed ^= seed >> 7;
-    seed ^= seed << 17;
-    return seed % most;
-}
-
-static void draw(zc_request *requests, size_t count, uint64_t pooled)
+static void draw_requests(zc_request *requests, size_t count, uint64_t pooled)
 {
     for (size_t at = 0; at < count; at++) {
-        uint64_t operation = below(6) ? ZC_ASK_STEP : below(2) ? ZC_ASK_POP : 2 * pooled;
-        zc_request request = {below(TASKS), operation, below(2), 1 + below(SLOTS), below(1000)};
+        uint64_t operation = draw(6) ? ZC_ASK_STEP : draw(2) ? ZC_ASK_POP : 2 * pooled;
+        zc_request request = {draw(TASKS), operation, draw(2), 1 + draw(SLOTS), draw(1000)};
         requests[at] = request;
     }
 }
@@ -86,7 +77,7 @@ int main(int argc, char **argv)
         return 2;
     }
     for (uint64_t pooled = 0; pooled < 2; pooled++) {
-        draw(requests, count, pooled);
+        draw_requests(requests, count, pooled);
         uint64_t *other = answers + ZC_ANSWER_WORDS * count;
         if (compare(requests, count, pooled, atoi(argv[2]), answers, other))
             return 1;

@@ -9,6 +9,7 @@
  * The queue has 1,023 slots and 16 tasks; the labels wait in slots drawn at random, so that the next
  * row is seldom near.
  */
+#include "draw.h"
 #include "reference.h"
 
 #include <stdbool.h>
@@ -32,26 +33,14 @@ static uint32_t labels_out[2][SLOTS];
 #define NO_NEXT NULL, 0 /* the slots are named */
 #define OUT(engine) slots_out[engine], SLOTS, labels_out[engine], SLOTS
 
-static uint64_t draw(uint64_t below)
-{
-    static uint64_t state = UINT64_C(88172645463325252);
-    state ^= state << 13;
-    state ^= state >> 7;
-    state ^= state << 17;
-    return (state >> 16) % below;
-}
-
 /* A STABLE queue of so many labels. */
 static void line_up(uint64_t count)
 {
     uint64_t order[SLOTS];
     reference_open(&control, records, TASKS, TASKS, SLOTS, 0, LENT);
-    for (uint64_t at = 0; at < SLOTS; at++)
-        order[at] = at + 1;
+    draw_slots(order, SLOTS, count);
     for (uint64_t at = 0; at < count; at++) {
-        uint64_t other = at + draw(SLOTS - at), slot = order[other];
-        order[other] = order[at];
-        order[at] = slot;
+        uint64_t slot = order[at];
         labels[slot] = (uint32_t)draw(UINT64_MAX);
         marks[slot / 64] |= UINT64_C(1) << (slot % 64);
         lefts[slot] = at == 0 ? 0 : order[at - 1];

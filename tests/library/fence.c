@@ -3,6 +3,7 @@
  * touch of the next entry stops the program. Lengths are as needed, or too short in every way.
  */
 #define _DEFAULT_SOURCE
+#include "draw.h"
 #include "zeppolecape.h"
 
 #include <stdio.h>
@@ -36,16 +37,6 @@ static void *last(struct ground ground, size_t bytes)
 {
     memset(ground.end - ground.size, 0xff, ground.size);
     return ground.end - bytes;
-}
-
-static uint64_t state = 1;
-
-static uint64_t draw(uint64_t limit)
-{
-    state ^= state << 13;
-    state ^= state >> 7;
-    state ^= state << 17;
-    return (state >> 20) % limit;
 }
 
 /* A count: as needed, or less. */

@@ -53,12 +53,9 @@ static void line_up(lane *l, uint64_t count)
 {
     uint64_t slots = l->control.slots, order[ROWS];
     uint64_t kind = draw(3);
-    for (uint64_t at = 0; at < slots; at++)
-        order[at] = at + 1;
+    draw_slots(order, slots, count);
     for (uint64_t at = 0; at < count; at++) {
-        uint64_t other = at + draw(slots - at), slot = order[other];
-        order[other] = order[at];
-        order[at] = slot;
+        uint64_t slot = order[at];
         l->labels[slot] = (uint32_t)(kind == 0 ? draw(4) : kind == 1 ? at * 3 : draw(UINT64_MAX));
         l->marks[slot / 64] |= UINT64_C(1) << (slot % 64);
         l->lefts[slot] = draw(9) << 32 | (at == 0 ? draw(slots + 1) : order[at - 1]);

@@ -4,6 +4,7 @@
  * contents, the same code and count as zc_waiting.
  */
 #include "check.h"
+#include "draw.h"
 #include "zeppolecape.h"
 
 enum { TASKS = 2, SLOTS = 5 };
@@ -176,15 +177,6 @@ static void report(void)
     queue.label_count = ZC_ROWS(SLOTS);
     rights[1] = UINT64_C(0xffffffff00000000) | good;
     tells("any tag", 0, 4);
-}
-
-static uint64_t draw(uint64_t below)
-{
-    static uint64_t state = UINT64_C(88172645463325252);
-    state ^= state << 13;
-    state ^= state >> 7;
-    state ^= state << 17;
-    return (state >> 16) % below;
 }
 
 static void agree(void)

@@ -171,6 +171,38 @@ static int one_start(void)
 
 /* ---- The proved calls and the same by hand -------------------------------------------------- */
 
+/* How often each call gave each answer; a plan's is 0, or the number of its refusal. */
+enum { PLAN, SETTLE_PLAN, PLAN_START, SETTLE_START, CALLS };
+static uint64_t met[CALLS][64];
+
+static uint64_t of_plan(zc_touch touch) { return touch.act == ZC_NO_TOUCH ? touch.word % 64 : 0; }
+
+/* Every answer that the header lists was met, and no other. */
+static void every_answer(void)
+{
+    static const struct {
+        const char *name;
+        uint64_t codes[8], count;
+    } calls[CALLS] = {{"zc_plan", {0, 31, 34}, 3},
+                      {"zc_settle_plan", {1, 2, 3, 4, 5, 31, 34}, 7},
+                      {"zc_plan_start", {0, 14, 15, 30, 34, 41}, 6},
+                      {"zc_settle_start", {0, 1, 32, 33}, 4}};
+    for (size_t call = 0; call < CALLS; call++) {
+        uint64_t all = 0, listed = 0;
+        for (size_t code = 0; code < 64; code++)
+            all += met[call][code];
+        printf("%s answered", calls[call].name);
+        for (size_t at = 0; at < calls[call].count; at++) {
+            uint64_t code = calls[call].codes[at];
+            printf(" %" PRIu64 ": %" PRIu64 "%s", code, met[call][code], at + 1 < calls[call].count ? "," : "\n");
+            listed += met[call][code];
+        }
+        for (size_t at = 0; at < calls[call].count; at++)
+            is("an answer that was met", met[call][calls[call].codes[at]] > 0, 1);
+        is("answers that are not listed", all - listed, 0);
+    }
+}
+
 static int same_onward(zc_onward a, zc_onward b)
 {
     return same_reply(a.reply, b.reply) && memcmp(&a.touch, &b.touch, sizeof a.touch) == 0;
@@ -197,10 +229,12 @@ static int one_by_hand(void)
     uint64_t found = likely[draw(3)];
     zc_record one = t.record, other = t.record;
     zc_touch a = zc_plan(slots, pooled, &one), b = reference_plan(slots, pooled, &other);
+    met[PLAN][of_plan(b)]++;
     if (memcmp(&a, &b, sizeof a) != 0)
         return printf("FAILED by hand: a plan at place %u\n", (unsigned)t.record.place), 0;
-    if (!same_onward(zc_settle_plan(slots, pooled, &one, found),
-                     reference_settle_plan(slots, pooled, &other, found)) ||
+    zc_onward settled = reference_settle_plan(slots, pooled, &other, found);
+    met[SETTLE_PLAN][settled.reply.code % 64]++;
+    if (!same_onward(zc_settle_plan(slots, pooled, &one, found), settled) ||
         memcmp(&one, &other, sizeof one) != 0)
         return printf("FAILED by hand: a settlement at place %u\n", (unsigned)t.record.place), 0;
     if (!once_in(5))
@@ -208,14 +242,16 @@ static int one_by_hand(void)
     zc_start start = any_start(t.control.slots);
     a = zc_plan_start(slots, pooled, &one, &start);
     b = reference_plan_start(slots, pooled, &other, &start);
+    met[PLAN_START][of_plan(b)]++;
     if (memcmp(&a, &b, sizeof a) != 0)
         return puts("FAILED by hand: the plan of a start"), 0;
     if (a.act == ZC_NO_TOUCH)
         return 1;
     uint32_t act = start.operation == ZC_ASK_PUSH ? (uint32_t[]){1, 12, 13}[draw(3)] : a.act;
     found = act == ZC_LOAD_ANCHOR ? any_word(slots + 1) : draw(2);
-    if (!same_onward(zc_settle_start(slots, pooled, &one, &start, act, found),
-                     reference_settle_start(slots, pooled, &other, &start, act, found)) ||
+    settled = reference_settle_start(slots, pooled, &other, &start, act, found);
+    met[SETTLE_START][settled.reply.code % 64]++;
+    if (!same_onward(zc_settle_start(slots, pooled, &one, &start, act, found), settled) ||
         memcmp(&one, &other, sizeof one) != 0)
         return puts("FAILED by hand: the settlement of a start"), 0;
     return 1;
@@ -255,5 +291,6 @@ int main(int argc, char **argv)
                                      ZC_WORN, ZC_UNSOUND, ZC_WRONG_PUSH};
     for (size_t at = 0; at < sizeof codes / sizeof *codes; at++)
         is("an answer of a start", starts[codes[at]] >= 100, 1);
+    every_answer();
     return told();
 }

@@ -138,6 +138,17 @@ impl Coverage {
         self.count(Thing::File(kind));
     }
 
+    /// What another has reached, too.
+    pub fn add(&mut self, other: &Coverage) {
+        for (way, [left, right]) in &other.ways {
+            let counts = self.ways.entry(*way).or_default();
+            *counts = [counts[0] + left, counts[1] + right];
+        }
+        for (thing, count) in &other.things {
+            *self.things.entry(*thing).or_default() += count;
+        }
+    }
+
     /// Everything that should have been reached and was not.
     pub fn missing(&self) -> Vec<String> {
         let ways = self.ways.iter().filter(|(_, counts)| counts.contains(&0));

@@ -4,5 +4,8 @@
 mod harness;
 mod programs;
 
-pub use harness::{same, Checks, Verdict};
-pub use programs::{root, run_text, shell, texts, trace, Said, Scratch};
+pub use harness::{same, Checks, Told, Verdict};
+pub use programs::{
+    archive, last_of, made, made_within, plain_shell, root, run_text, shell, texts, trace, verdict,
+    Said, Scratch,
+};

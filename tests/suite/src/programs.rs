@@ -6,18 +6,44 @@ use std::path::{Path, PathBuf};
 use std::process::{self, Command, Stdio};
 use std::sync::atomic::{AtomicU32, Ordering};
 
+use crate::harness::Told;
+
+const TEN_MINUTES: u32 = 600;
+const STRICT: &str = "-Wall -Wextra -Wpedantic -Werror";
+
 /// The repository's folder.
 pub fn root() -> PathBuf {
     Path::new(env!("CARGO_MANIFEST_DIR")).join("../..").canonicalize().expect("the repository")
 }
 
-/// The program under test: `TRACE`, an absolute path, else the one that `rt check trace` builds.
-pub fn trace() -> PathBuf {
-    let program =
-        env::var_os("TRACE").map_or_else(|| root().join("target/bin/trace"), PathBuf::from);
-    assert!(program.is_absolute(), "TRACE is not an absolute path: {}", program.display());
-    assert!(program.is_file(), "no program {}; build it with: rt check trace", program.display());
+/// A program under test: the file that a variable names by an absolute path, else the one that
+/// `rt check` builds.
+fn under_test(variable: &str, name: &str) -> PathBuf {
+    let built = || root().join("target/bin").join(name);
+    let program = env::var_os(variable).map_or_else(built, PathBuf::from);
+    assert!(program.is_absolute(), "{variable} is not an absolute path: {}", program.display());
+    assert!(program.is_file(), "no program {}; build it with: rt check {name}", program.display());
     program
+}
+
+/// The program under test: `TRACE`, or `target/bin/trace`.
+pub fn trace() -> PathBuf {
+    under_test("TRACE", "trace")
+}
+
+/// The program that judges histories: `VERDICT`, or `target/bin/verdict`.
+pub fn verdict() -> PathBuf {
+    under_test("VERDICT", "verdict")
+}
+
+/// The library under test: `libzeppolecape.a` in the folder that `ZEPPOLECAPE_LIB_DIR` names, or where
+/// `make` writes it.
+pub fn archive() -> PathBuf {
+    let made = || root().join("target/lib");
+    let folder = env::var_os("ZEPPOLECAPE_LIB_DIR").map_or_else(made, PathBuf::from);
+    let archive = folder.join("libzeppolecape.a");
+    assert!(archive.is_file(), "there is no {}; build it with: make", archive.display());
+    archive
 }
 
 /// A folder of one check's own; it goes with the value.
@@ -67,11 +93,53 @@ fn run(command: &mut Command) -> Said {
     }
 }
 
-/// A line of shell, with these names set and at most ten minutes of time.
-pub fn shell(line: &str, names: &[(&str, &Path)]) -> Said {
+impl Said {
+    /// What it wrote, where it ended with status 0; else the end of all that it said.
+    pub fn content(self) -> Told {
+        let out = String::from_utf8_lossy(&self.out);
+        if self.status == 0 {
+            return Ok(out.into_owned());
+        }
+        let all: Vec<&str> = out.lines().chain(self.noise.lines()).collect();
+        let end = all[all.len().saturating_sub(30)..].join("\n  ");
+        Err(format!("  ended with status {}\n  {end}", self.status))
+    }
+}
+
+/// A line of shell in the repository's folder `$ROOT`, with these names set and at most ten minutes of time.
+pub fn plain_shell(line: &str, names: &[(&str, &Path)]) -> Said {
+    shell_within(TEN_MINUTES, line, names)
+}
+
+fn shell_within(seconds: u32, line: &str, names: &[(&str, &Path)]) -> Said {
     let mut command = Command::new("timeout");
-    command.args(["600", "bash", "-c", line]).env("TRACE", trace()).env("ROOT", root());
-    run(command.envs(names.iter().copied()).stdin(Stdio::null()))
+    command.args([&seconds.to_string(), "bash", "-c", line]).env("ROOT", root());
+    run(command.current_dir(root()).envs(names.iter().copied()).stdin(Stdio::null()))
+}
+
+/// Lines of shell that must all succeed, and what they wrote: `$ARCHIVE` is the library under test, `$WORK` a
+/// folder of their own, `$STRICT` asks a compiler for all warnings as errors.
+pub fn made(lines: &str) -> Told {
+    made_within(TEN_MINUTES, lines)
+}
+
+/// The same, with so many seconds of time.
+pub fn made_within(seconds: u32, lines: &str) -> Told {
+    let (scratch, archive) = (Scratch::make(), archive());
+    let names =
+        [("ARCHIVE", &*archive), ("WORK", &scratch.path("")), ("STRICT", Path::new(STRICT))];
+    shell_within(seconds, &format!("set -eu -o pipefail\n{lines}"), &names).content()
+}
+
+/// The last line of what is told.
+pub fn last_of(told: Told) -> Told {
+    told.map(|said| said.lines().last().unwrap_or_default().to_string())
+}
+
+/// The same as `plain_shell`, with the programs under test as `$TRACE` and `$VERDICT`.
+pub fn shell(line: &str, names: &[(&str, &Path)]) -> Said {
+    let programs = [("TRACE", &*trace()), ("VERDICT", &*verdict())];
+    plain_shell(line, &[&programs, names].concat())
 }
 
 /// A run in its text form through `tools/runfile` and the program; both must be content.

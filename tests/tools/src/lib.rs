@@ -7,7 +7,14 @@ pub mod expected;
 pub mod json;
 
 use std::path::Path;
-use suite::{shell, Said};
+use suite::{plain_shell, shell, Checks, Said};
+
+/// The checks of a test target, with the tools built: a tool that has to be built first says so.
+pub fn checks(target: &'static str) -> Checks {
+    let built = plain_shell("cargo build --quiet --offline --locked -p tools", &[]).content();
+    assert!(built.is_ok(), "the tools do not build: {built:?}");
+    Checks::of(target)
+}
 
 /// A run of `view`, with `RUN` in its words naming the run.
 pub fn view(words: &str, run: &Path) -> Said {

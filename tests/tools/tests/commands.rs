@@ -190,7 +190,7 @@ fn long_runs(checks: &mut Checks) {
 }
 
 fn main() -> ExitCode {
-    let mut checks = Checks::of("commands");
+    let mut checks = toolsuite::checks("commands");
     for words in ["--help", "-h", "--csv --help"] {
         checks.add(&format!("help: {words}"), move || {
             let said = view(words, Path::new("/"));

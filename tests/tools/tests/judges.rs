@@ -203,7 +203,7 @@ fn schedules(checks: &mut Checks) {
 }
 
 fn main() -> ExitCode {
-    let mut checks = Checks::of("judges");
+    let mut checks = toolsuite::checks("judges");
     for tool in ["verdict", "sheet", "schedules"] {
         checks.add(&format!("{tool} --help"), move || {
             let said = shell(&format!("\"$ROOT/tools/{tool}\" --help"), &[]);

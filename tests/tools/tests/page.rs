@@ -153,7 +153,7 @@ fn in_a_browser(checks: &mut Checks, program: PathBuf) {
 }
 
 fn main() -> ExitCode {
-    let mut checks = Checks::of("page");
+    let mut checks = toolsuite::checks("page");
     match program() {
         None => println!("NOT TRIED: the page in a browser; there is no chromium on the PATH"),
         Some(program) => in_a_browser(&mut checks, program),

@@ -4,7 +4,7 @@
 use reference::scenario;
 use std::path::Path;
 use std::process::ExitCode;
-use suite::{same, shell, texts, Checks, Scratch, Verdict};
+use suite::{same, shell, texts, Scratch, Verdict};
 use toolsuite::{content, csv, expected, same_lines, view};
 
 /// The columns that the second program can tell; what a touch did, in words, is told in stored files.
@@ -53,7 +53,7 @@ fn of_seed(seed: u64) -> Verdict {
 }
 
 fn main() -> ExitCode {
-    let mut checks = Checks::of("rows");
+    let mut checks = toolsuite::checks("rows");
     for folder in ["examples", "tests/cases"] {
         for (name, text) in texts(folder) {
             checks.add(&format!("{folder}: {name}"), move || of_text(&text));

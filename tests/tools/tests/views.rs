@@ -4,7 +4,7 @@
 use std::fs::{read_dir, read_to_string};
 use std::path::Path;
 use std::process::ExitCode;
-use suite::{root, same, shell, texts, Checks, Verdict};
+use suite::{root, same, shell, texts, Verdict};
 use toolsuite::{content, same_lines, view};
 
 fn stored(name: &str, ending: &str, words: &str, run: &Path) -> Verdict {
@@ -25,7 +25,7 @@ fn readme() -> Verdict {
 }
 
 fn main() -> ExitCode {
-    let mut checks = Checks::of("views");
+    let mut checks = toolsuite::checks("views");
     let mut files = 0;
     for (name, run) in texts("examples") {
         files += 1;

@@ -7,7 +7,7 @@ use reference::runfile::{Field, Fields};
 use reference::tables::{Storage, Tables};
 use reference::wrong::Fault;
 use std::process::ExitCode;
-use suite::{root, same, shell, Checks, Verdict};
+use suite::{root, same, shell, Verdict};
 
 const FAULTS: [(&str, Fault); 5] = [
     ("8", Fault::NoPlace8),
@@ -88,7 +88,7 @@ fn objected(name: &str, fault: Fault) -> Verdict {
 }
 
 fn main() -> ExitCode {
-    let mut checks = Checks::of("wrong");
+    let mut checks = toolsuite::checks("wrong");
     for (name, fault) in FAULTS {
         checks.add(&format!("the judge objects without {name}"), move || objected(name, fault));
     }

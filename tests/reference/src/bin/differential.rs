@@ -5,7 +5,7 @@
 use reference::check::Judge;
 use reference::coverage::Coverage;
 use reference::dice::Dice;
-use reference::malformed;
+use reference::malformed::{self, Broken};
 use reference::run::{run, Event, Failure, Nobody, Watcher};
 use reference::scenario;
 use reference::tables::Tables;
@@ -14,6 +14,7 @@ use std::io::{self, Write};
 use std::ops::Range;
 use std::path::PathBuf;
 use std::process::{Command, ExitCode, Output, Stdio};
+use std::sync::atomic::{AtomicBool, AtomicUsize, Ordering};
 use std::thread;
 
 const HELP: &str = "\
@@ -77,7 +78,7 @@ fn read_order(arguments: &[String]) -> Option<Order> {
     Some(order)
 }
 
-/// The program under test, the folder of the runs, and the tally.
+/// The program under test, the folder of the runs, and one worker's tally.
 struct Bench {
     program: PathBuf,
     folder: PathBuf,
@@ -85,6 +86,16 @@ struct Bench {
     passed: u64,
     failed: u64,
 }
+
+/// A run file to be compared: one of the malformed, that of a seed, the long one.
+enum Job {
+    Broken(usize, Broken),
+    Seed(u64),
+    Long,
+}
+
+/// Whether a failing run was kept already.
+static KEPT: AtomicBool = AtomicBool::new(false);
 
 /// The reference's judge and the coverage look on together.
 struct Both<'a>(Judge, &'a mut Coverage);
@@ -110,16 +121,24 @@ impl Bench {
         Ok(Bench { program, folder, coverage, passed: 0, failed: 0 })
     }
 
-    /// Runs everything; whether all passed and, if demanded, all was reached.
+    /// Runs everything, on all processors; whether all passed and, if demanded, all was reached.
     fn test(&mut self, order: &Order) -> io::Result<bool> {
-        for (number, broken) in malformed::all().into_iter().enumerate() {
-            self.compare(broken.kind, &format!("malformed file {number}"), &broken.file)?;
+        let broken = malformed::all().into_iter().enumerate();
+        let mut jobs = vec![Job::Long];
+        jobs.extend(broken.map(|(number, broken)| Job::Broken(number, broken)));
+        jobs.extend(order.seeds.clone().map(Job::Seed));
+        let next = AtomicUsize::new(0);
+        let workers: io::Result<Vec<Bench>> = thread::scope(|scope| {
+            let work = || Bench::set_up(&order.program)?.work(&jobs, &next);
+            let count = thread::available_parallelism().map_or(1, usize::from);
+            let working: Vec<_> = (0..count).map(|_| scope.spawn(work)).collect();
+            working.into_iter().map(|worker| worker.join().expect("a worker")).collect()
+        });
+        for worker in workers? {
+            self.coverage.add(&worker.coverage);
+            self.passed += worker.passed;
+            self.failed += worker.failed;
         }
-        for seed in order.seeds.clone() {
-            let (scenario, file) = scenario::of_seed(seed);
-            self.compare(scenario, &format!("seed {seed}"), &file)?;
-        }
-        self.compare_long()?;
         print!("{}", self.coverage);
         if order.demanding {
             for name in self.coverage.missing() {
@@ -129,6 +148,23 @@ impl Bench {
         }
         println!("{} passed, {} failed", self.passed, self.failed);
         Ok(self.failed == 0 && self.passed > 0)
+    }
+
+    /// Takes job after job, until there is none.
+    fn work(mut self, jobs: &[Job], next: &AtomicUsize) -> io::Result<Bench> {
+        while let Some(job) = jobs.get(next.fetch_add(1, Ordering::Relaxed)) {
+            match job {
+                Job::Broken(number, broken) => {
+                    self.compare(broken.kind, &format!("malformed file {number}"), &broken.file)?
+                }
+                Job::Seed(seed) => {
+                    let (scenario, file) = scenario::of_seed(*seed);
+                    self.compare(scenario, &format!("seed {seed}"), &file)?;
+                }
+                Job::Long => self.compare_long()?,
+            }
+        }
+        Ok(self)
     }
 
     fn compare(&mut self, kind: &'static str, name: &str, file: &[u8]) -> io::Result<()> {
@@ -193,7 +229,7 @@ impl Bench {
 
     /// Keeps the first failing run and its expected trace, and says how to replay it.
     fn keep(&self, file: &[u8], expected: &[u8]) -> io::Result<()> {
-        if self.failed > 0 {
+        if KEPT.swap(true, Ordering::Relaxed) {
             return Ok(());
         }
         let (run, trace) = (self.folder.join("failing.run"), self.folder.join("failing.trace"));
