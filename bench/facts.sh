@@ -3,8 +3,8 @@
 #
 #     bench/facts.sh [FOLDER]          measures libzeppolecape.a of FOLDER (target/lib) and prints the table
 #     bench/facts.sh --check [FOLDER]  a test for each figure of bench/facts.txt: it has not grown by more than a
-#                                      tenth; and README.md and the header show the table of bench/facts.txt
-#     bench/facts.sh --write [FOLDER]  measures anew, and writes bench/facts.txt and both tables
+#                                      tenth; and README.md, docs/CALLS.md and the header show bench/facts.txt
+#     bench/facts.sh --write [FOLDER]  measures anew, and writes bench/facts.txt and what those three show
 set -eu -o pipefail
 export LC_ALL=C
 
@@ -74,6 +74,18 @@ markdown() { # FILE
     echo "Bytes of code, by the part of the library: $(code "$1"); a program links the parts whose calls it makes."
 }
 
+summary() { # FILE: a few figures in a sentence, for README.md
+    rows "$1" | awk '
+        { stack[$1] = $2; most[$1] = $5; middle[$1] = $4 }
+        END {
+            printf "- **Stack and instructions**, the most seen with 16 tasks and 1,023 slots:"
+            count = split("zc_step zc_push zc_push_pooled zc_pop zc_report", call, " ")
+            for (c = 1; c <= count; c++)
+                printf "%s `%s` %s bytes and %s instructions", (c > 1 ? "," : ""), call[c], stack[call[c]], most[call[c]]
+            print ". The others, and the bytes of code: `docs/CALLS.md`. Tables of 5 tasks and 12 slots: " middle["tables"] " bytes."
+        }'
+}
+
 comment() { # FILE
     echo " *                  stack,   instructions at most, by tasks and slots"
     echo " *                  bytes      1, 3     5, 12  16, 1023"
@@ -89,6 +101,7 @@ between() { # FILE FIRST LAST
         index($0, first) { skip = 1; while ((getline line < "-") > 0) print line }' "$1"
 }
 README=("$root/README.md" '<!-- facts -->' '<!-- end of facts -->')
+CALLED=("$root/docs/CALLS.md" '<!-- facts -->' '<!-- end of facts -->')
 HEADER=("$root/include/zeppolecape.h" ' * FACTS' ' * As to the machine:')
 
 check() {
@@ -102,9 +115,10 @@ check() {
             echo "FAILED $name: ${is:-not measured}, more than a tenth above $was"
         fi
     done <"$root/bench/facts.txt"
-    markdown "$root/bench/facts.txt" | between "${README[@]}" >"$work/README"
+    summary "$root/bench/facts.txt" | between "${README[@]}" >"$work/README"
+    markdown "$root/bench/facts.txt" | between "${CALLED[@]}" >"$work/CALLED"
     comment "$root/bench/facts.txt" | between "${HEADER[@]}" >"$work/HEADER"
-    for file in README HEADER; do
+    for file in README CALLED HEADER; do
         local -n parts=$file
         if cmp -s "${parts[0]}" "$work/$file"; then
             passed=$((passed + 1))
@@ -114,7 +128,7 @@ check() {
         fi
     done
     echo "$passed passed, $failed failed"
-    [ $failed -eq 0 ] && [ $passed -gt 2 ]
+    [ $failed -eq 0 ] && [ $passed -gt 3 ]
 }
 
 measure >"$work/measured"
@@ -126,7 +140,8 @@ print)
 check) check ;;
 write)
     cp "$work/measured" "$root/bench/facts.txt"
-    markdown "$work/measured" | between "${README[@]}" >"$work/README" && cp "$work/README" "${README[0]}"
+    summary "$work/measured" | between "${README[@]}" >"$work/README" && cp "$work/README" "${README[0]}"
+    markdown "$work/measured" | between "${CALLED[@]}" >"$work/CALLED" && cp "$work/CALLED" "${CALLED[0]}"
     comment "$work/measured" | between "${HEADER[@]}" >"$work/HEADER" && cp "$work/HEADER" "${HEADER[0]}"
     ;;
 esac

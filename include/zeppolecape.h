@@ -4,8 +4,8 @@
  * FOR WHOM. Threads, cores and interrupt handlers share a queue through zeppolecape_atomic.h, with no
  * lock and nothing masked. The calls of this header are for one caller at a time: an executive whose
  * step is one undivided touch, or a queue at rest. They use plain loads and stores and are not
- * re-entrant: two callers at once lose labels, and nothing tells. In both, wherever a task is stopped
- * the others go on.
+ * re-entrant: two callers at once lose labels, which is not detected. In both, wherever a task is
+ * stopped the others go on.
  *
  * WHAT IT IS. The library holds no memory of its own. You lend it tables; it opens a queue in them,
  * starts a push or a pop for a task, moves one task by one step, and reports. A step is one touch of
@@ -192,7 +192,7 @@ extern "C" {
 #define ZC_SHORT 12       /* see ZC_ROWS and ZC_MARK_WORDS; one record a task; next only if pooled */
 #define ZC_NO_TASK 13     /* tasks are 0 to tasks - 1 */
 #define ZC_NO_SIDE 14     /* sides are ZC_LEFT and ZC_RIGHT */
-#define ZC_NO_SLOT 15     /* slots are 1 to slots; 0 is null */
+#define ZC_NO_SLOT 15     /* slots are 1 to slots; 0 is null. Not ZC_NO_FREE_SLOT, the answer 5 */
 #define ZC_BAD_HISTORY 40 /* zc_audit: not a history that can be judged, see there */
 #define ZC_NO_SHELF 43    /* zc_save, zc_return: shelves are 0 to 7 */
 #define ZC_MANY_ASKED 45  /* zc_find: more than 32 labels asked for */
@@ -649,8 +649,9 @@ static inline zc_reply zc_queue_step(const zc_queue *queue, size_t task)
 }
 
 /*
- * ZC_CORE_ONLY, defined before this header, leaves out the wrappers of calls that libcapi.a lacks,
- * for one who links that archive alone with a compiler that keeps unused inline functions.
+ * ZC_CORE_ONLY, defined before this header, leaves out the wrappers of all but the openings, the
+ * starts, zc_step and zc_report: for one who links an archive of these alone (`rt staticlib capi`)
+ * with a compiler that keeps unused inline functions.
  */
 #ifndef ZC_CORE_ONLY
 static inline zc_reply zc_queue_step_record(const zc_queue *queue, zc_record *one)

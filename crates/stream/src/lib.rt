@@ -24,8 +24,8 @@ struct Round {
     failed: bool,
 }
 
-// Reads behind the bytes that are left, and takes them all, or the end of the input. The bytes left are no full buffer: reading nothing is
-// the end.
+// Reads behind the bytes that are left, and takes them all, or the end of the input. The buffer has room, so a zero-byte read means end of
+// input.
 fn take_round(
     s: RunState,
     input: &mut [u8],

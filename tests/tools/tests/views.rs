@@ -13,11 +13,11 @@ fn stored(name: &str, ending: &str, words: &str, run: &Path) -> Verdict {
     same_lines(&expected, &content(view(words, run))?)
 }
 
-/// The view that README.md begins with: the lines below its command, up to the sums.
-fn readme() -> Verdict {
-    let text = read_to_string(root().join("README.md")).map_err(|error| format!("  {error}"))?;
+/// The view that docs/TOOLS.md shows: the lines below its command, up to the sums.
+fn documented() -> Verdict {
+    let text = read_to_string(root().join("docs/TOOLS.md")).map_err(|error| format!("  {error}"))?;
     let mut lines = text.lines().skip_while(|line| !line.starts_with("$ tools/view "));
-    let command = lines.next().ok_or("  README.md has no view")?;
+    let command = lines.next().ok_or("  docs/TOOLS.md has no view")?;
     let shown: Vec<&str> = lines.take_while(|line| *line != "```").collect();
     let found = content(shell(&format!("cd \"$ROOT\" && {}", &command[2..]), &[]))?;
     let rows: Vec<&str> = found.lines().take_while(|line| !line.is_empty()).collect();
@@ -38,7 +38,7 @@ fn main() -> ExitCode {
             checks.add(&format!("{name} beside"), move || stored(&title, "beside", &words, &run));
         }
     }
-    checks.add("the view in README.md", readme);
+    checks.add("the view in docs/TOOLS.md", documented);
     checks.add("no view without its example", move || {
         same(files, read_dir(root().join("tests/views")).expect("the stored views").count())
     });

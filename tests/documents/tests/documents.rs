@@ -1,0 +1,130 @@
+//! Every path, name and command that a document has in backticks is there; sentences and notes are short.
+
+use documents::{allowed, content, files, is_document, sentences, spans, Names};
+use std::sync::OnceLock;
+
+const LONGEST_SENTENCE: usize = 300;
+const LONGEST_NOTE: usize = 300;
+
+/// Figures of speech that are not to come back.
+const BANNED: [&str; 6] = ["house", "lesson", "lessons", "sceptic", "sceptics", "nothing tells"];
+
+fn documents() -> Vec<String> {
+    files().into_iter().filter(|path| is_document(path)).collect()
+}
+
+/// Read once for all tests.
+fn names() -> &'static Names {
+    static NAMES: OnceLock<Names> = OnceLock::new();
+    NAMES.get_or_init(|| Names::of(&files(), content))
+}
+
+fn none(found: Vec<String>) {
+    assert!(found.is_empty(), "\n{}\n{} in all", found.join("\n"), found.len());
+}
+
+#[test]
+fn what_stands_in_backticks_is_there() {
+    let names = names();
+    let allowed: Vec<String> = allowed().into_iter().map(|(words, _)| words).collect();
+    let mut found = Vec::new();
+    for path in documents() {
+        for (line, span) in spans(&content(&path)) {
+            if allowed.contains(&span) {
+                continue;
+            }
+            if let Some(why) = names.misses(&span) {
+                found.push(format!("{path}:{line}: `{span}`: {why}"));
+            }
+        }
+    }
+    none(found);
+}
+
+#[test]
+fn paths_in_commands_are_there() {
+    let names = names();
+    let tops = ["bench/", "bindings/", "crates/", "docs/", "examples/", "include/", "tests/", "tools/", ".ci/"];
+    let mut found = Vec::new();
+    for path in documents() {
+        for (at, line) in content(&path).lines().enumerate().filter(|(_, line)| line.starts_with("    ")) {
+            let words = line.split(|letter: char| letter.is_whitespace() || "'\"`;(),=".contains(letter));
+            for word in words.filter(|word| tops.iter().any(|top| word.starts_with(top))) {
+                if !names.has_path(word.trim_end_matches(['.', ':'])) {
+                    found.push(format!("{path}:{}: no such file or folder: {word}", at + 1));
+                }
+            }
+        }
+    }
+    none(found);
+}
+
+#[test]
+fn links_lead_somewhere() {
+    let mut found = Vec::new();
+    for path in documents() {
+        let folder = path.rsplit_once('/').map_or(String::new(), |(folder, _)| format!("{folder}/"));
+        for link in content(&path).split("](").skip(1).filter_map(|rest| rest.split([')', '#']).next()) {
+            let there = documents::root().join(format!("{folder}{link}")).exists();
+            if !link.contains("://") && !link.is_empty() && !there {
+                found.push(format!("{path}: no file {link}"));
+            }
+        }
+    }
+    none(found);
+}
+
+#[test]
+fn every_allowed_word_has_a_reason_and_is_needed() {
+    let names = names();
+    let spans: Vec<String> = documents().iter().flat_map(|path| spans(&content(path))).map(|(_, span)| span).collect();
+    let mut found = Vec::new();
+    for (words, reason) in allowed() {
+        if reason.is_empty() {
+            found.push(format!("{words}: no reason"));
+        } else if !spans.contains(&words) {
+            found.push(format!("{words}: in no document"));
+        } else if names.misses(&words).is_none() {
+            found.push(format!("{words}: it is there, and needs no leave"));
+        }
+    }
+    none(found);
+}
+
+#[test]
+fn sentences_are_short() {
+    let mut found = Vec::new();
+    for path in documents() {
+        for (line, sentence) in sentences(&content(&path)) {
+            let length = sentence.chars().count();
+            if length > LONGEST_SENTENCE {
+                let begin: String = sentence.chars().take(80).collect();
+                found.push(format!("{path}:{line}: {length} characters: {begin}.."));
+            }
+        }
+    }
+    none(found);
+}
+
+#[test]
+fn notes_of_requests_are_short() {
+    let notes = files().into_iter().filter(|path| path.starts_with("docs/changes/1"));
+    let counted = notes.map(|path| (content(&path).split_whitespace().count(), path));
+    none(counted.filter(|(words, _)| *words >= LONGEST_NOTE).map(|(words, path)| format!("{path}: {words} words")).collect());
+}
+
+#[test]
+fn plain_words() {
+    let mut found = Vec::new();
+    for path in files().iter().filter(|path| !path.starts_with("tests/documents/")) {
+        for (at, line) in content(path).lines().enumerate() {
+            let words: Vec<String> =
+                line.split(|letter: char| !letter.is_alphabetic()).map(str::to_lowercase).collect();
+            let line = format!(" {} ", words.join(" "));
+            for banned in BANNED.iter().filter(|banned| line.contains(&format!(" {banned} "))) {
+                found.push(format!("{path}:{}: {banned}", at + 1));
+            }
+        }
+    }
+    none(found);
+}
