@@ -253,7 +253,7 @@ static inline uint64_t *zc_link(const zc_shared *shared, const zc_touch *touch)
     return &(touch->side == ZC_RIGHT ? shared->rights : shared->lefts)[touch->slot];
 }
 
-/* Makes a touch, and answers the word found: `perform` of crates/threads/specs/Split.antt, a line each. */
+/* Makes a touch, and answers the word found: `perform` of crates/threads_model/specs/Split.antt, a line each. */
 static inline uint64_t zc_made(const zc_shared *shared, const zc_touch *touch)
 {
     switch (touch->act) {
