@@ -13,7 +13,8 @@ use Rattle.model.specs.declared.Entry.{Entry}
 use Rattle.model.specs.Sound.{from1, linkSound}
 use Rattle.model.specs.Walk.{Walk, entries, broken, andThen, along}
 use Rattle.model.specs.Sides.{isEmpty}
-use Rattle.sheet_model.specs.Extents.{Extents, placeOf, lower, higher, lost, noted, nextAt, notedAll, gather, extents}
+use Rattle.order.specs.Extents.{Extents, placeOf, lower, higher, lost, noted, nextAt, gather, extents}
+use Rattle.order.proofs.Noted.{notedAll}
 
 module _ (slots : ℕ) (links labels listed : List ℕ) (up : Bool) (last : ℕ) where
   abbrev rest : ℕ → ℕ → ℕ → Extents → Extents

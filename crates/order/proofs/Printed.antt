@@ -7,11 +7,11 @@ use lib.Dec.{eqb, leb}
 use lib.ListN.{length, drop}
 use borrow.Author.Tests.{eq-eqb, ne-eqb}
 use Rattle.model.specs.Tables.{Tables}
 use Rattle.sheet_model.specs.declared.SheetReply.{SheetReply}
 use Rattle.sheet_model.specs.Sheet.{Sheet}
-use Rattle.sheet_model.specs.Squares.{linked, wordsOf}
+use Rattle.sheet_model.specs.Words.{linked, wordsOf}
 use Rattle.sheet_model.specs.Verdict.{brokenBy, judge, Printed, sheetWords}
-use Rattle.sheet_model.specs.Search.{inRow, inRows}
+use Rattle.order.specs.Search.{inRow, inRows}
 
 row-code : (p : ℕ → ℕ → Bool) (a b n : ℕ) (o : SheetReply) → o .code ≡ 0 → inRow p a b n o .code ≡ 0
 unfolding inRow

@@ -7,14 +7,16 @@ use Prim.Native.Nat.{ℕ, _≤_, _<_}
 use native.Mathlib.Omega.{arith}
 use lib.Bits.{bitOr}
 use lib.Dec.{eqb}
-use lib.ListN.{length, getD, set, replicate, length-set}
+use lib.ListN.{getD, set, replicate, length-set}
 use lib.Seq.{getD-set-same, getD-set-other}
 use borrow.Author.Tests.{eq-eqb, ne-eqb}
 use Rattle.model.proofs.tests.Truth.{decide-eq}
 use Rattle.sheet_model.specs.Sheet.{any, outside}
-use Rattle.sheet_model.specs.Squares.{listOf, mark, linked, squareOf, ored, joinRow, byteRow, rounds, rulesMarked}
-use Rattle.sheet_model.proofs.ListOf.{length-listOf, getD-listOf, as-listOf, ext-listOf, sweep-listOf}
-use Rattle.sheet_model.proofs.Square.{Shows, marks, marks-chained}
+use Rattle.sheet_model.specs.Words.{listOf, mark, linked}
+use Rattle.order.specs.Squares.{squareOf, ored, joinRow, byteRow, rounds, rulesMarked}
+use Rattle.sheet_model.proofs.ListOf.{length-listOf, getD-listOf, as-listOf, ext-listOf}
+use Rattle.order.proofs.Sweep.{sweep-listOf}
+use Rattle.order.proofs.Rounds.{Shows, marks, marks-chained}
 
 abbrev pub bytes : (ℕ → Bool) → List ℕ
 bytes f = listOf (λ b. mark (f b)) 32
@@ -75,7 +77,3 @@ square-chained rules n k h = marks-chained byteRow bytes bytes-show [] rules n k
 pub square-marks : (f : ℕ → ℕ → Bool) → squareOf f ≡ marks byteRow bytes bytes-show [] f
 unfolding squareOf listOf
 square-marks f = refl
-
-pub square-long : (f : ℕ → ℕ → Bool) → 32 ≤ length (squareOf f)
-unfolding squareOf
-square-long f = omega (arith, length-listOf (λ a. bytes (f a)) 32)

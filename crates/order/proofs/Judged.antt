@@ -17,16 +17,20 @@ use Rattle.model.specs.Walk.{Walk, entries, broken, along, walkFrom, contents, 
 use Rattle.model.proofs.tests.Truth.{split, and-true, not-both}
 use Rattle.model.proofs.tests.Rules.{tests}
 use Rattle.model.specs.Sides.{isEmpty}
 use Rattle.sheet_model.specs.declared.SheetReply.{SheetReply}
 use Rattle.sheet_model.specs.Sheet.{Sheet, malformed}
-use Rattle.sheet_model.specs.Squares.{Row, byteRow, linked, crossed}
-use Rattle.sheet_model.specs.Extents.{Extents, unseen, noted, nextAt, notedAll, gather, extents}
-use Rattle.sheet_model.specs.Verdict.{refused, verdict, early, judge}
-use Rattle.sheet_model.specs.Search.{inRows}
-use Rattle.sheet_model.proofs.Broken.{Formed, formed, firstAt, found-verdict}
-use Rattle.sheet_model.proofs.Square.{Shows, marks}
-use Rattle.sheet_model.proofs.ByteRows.{bytes, bytes-show}
-use Rattle.sheet_model.proofs.Gather.{Follows, Short, gather-walk, along-short}
+use Rattle.sheet_model.specs.Words.{linked}
+use Rattle.order.specs.Squares.{Row, byteRow, crossed}
+use Rattle.order.specs.Extents.{Extents, noted, nextAt, gather, extents}
+use Rattle.sheet_model.specs.Verdict.{refused, verdict, judge}
+use Rattle.order.specs.Refusals.{early}
+use Rattle.order.specs.Search.{inRows}
+use Rattle.sheet_model.proofs.Formed.{Formed, formed}
+use Rattle.order.proofs.Broken.{firstAt, found-verdict}
+use Rattle.order.proofs.Rounds.{Shows, marks}
+use Rattle.order.proofs.ByteRows.{bytes, bytes-show}
+use Rattle.order.proofs.Gather.{Follows, Short, gather-walk, along-short}
+use Rattle.order.proofs.Noted.{unseen, notedAll}
 
 pub slots-few : (c : Control) → controlSound c ≡ true → c .slots ≤ 1023
 unfolding controlSound

@@ -5,10 +5,10 @@ use mathlib.Core.Path.{_≡_, refl, ap, _∙_}
 use Prim.Native.Nat.{ℕ, zero, suc, _+_}
 use lib.ListN.{length}
 use Rattle.model.specs.declared.Entry.{Entry}
 use Rattle.sheet_model.specs.declared.SheetReply.{SheetReply}
 use Rattle.sheet_model.specs.Sheet.{Sheet, breaks}
 use Rattle.sheet_model.specs.Verdict.{Pair, brokenBy, firstBroken, pairs, places, verdict}
-use Rattle.sheet_model.specs.Search.{inRow, inRows}
+use Rattle.order.specs.Search.{inRow, inRows}
 
 module _ (p : ℕ → ℕ → Bool) where
   row-is : (a b n : ℕ) (l : List Pair)

@@ -8,8 +8,8 @@ use lib.Dec.{eqb, leb, ltb}
 use lib.ListN.{length}
 use borrow.Author.Tests.{eqb-true, ne-eqb, leb-true, leb-false, le-leb, lt-leb, ltb-true, ltb-false}
 use Rattle.model.specs.declared.Entry.{Entry}
 use Rattle.sheet_model.specs.Sheet.{waits, leftOf}
-use Rattle.sheet_model.specs.Extents.{lower, higher, nextAt}
+use Rattle.order.specs.Extents.{lower, higher, nextAt}
 
 or-false-right : (a : Bool) → a || false ≡ a
 or-false-right true = refl

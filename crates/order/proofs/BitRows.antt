@@ -2,8 +2,8 @@
 use mathlib.Core.Bool.{Bool, true, false, _||_}
 use mathlib.Core.List.{List, _++_}
 use mathlib.Core.Path.{_≡_, refl, sym, ap, _∙_}
-use Prim.Native.Nat.{ℕ, zero, suc, _+_, _*_, _/_, _%_, _^_, _≤_, _<_, max}
-use native.Mathlib.Nat.{div-div-eq-div-mul, pow-succ'}
+use Prim.Native.Nat.{ℕ, zero, suc, _+_, _*_, _%_, _^_, _≤_, _<_, max}
+use native.Mathlib.Nat.{pow-succ'}
 use native.Mathlib.Omega.{arith}
 use lib.Bits.{bitOr, or-step}
 use lib.Dec.{eqb}
@@ -11,10 +11,12 @@ use lib.Pow.{pow-lt}
 use lib.ListN.{length, replicate, length-append}
 use borrow.Author.Tests.{eq-eqb, ne-eqb, eqb-true, eqb-false}
 use Rattle.model.proofs.tests.Truth.{split}
 use Rattle.sheet_model.specs.Sheet.{any, outside}
-use Rattle.sheet_model.specs.Squares.{listOf, mark, linked, bitsOf, wordsOf, bitRow, rounds, rulesMarked}
+use Rattle.sheet_model.specs.Words.{listOf, mark, linked, bitsOf, wordsOf}
+use Rattle.order.specs.Squares.{bitRow, rounds, rulesMarked}
+use Rattle.sheet_model.proofs.Words.{bit-at, half, odd}
 use Rattle.sheet_model.proofs.ListOf.{length-listOf}
-use Rattle.sheet_model.proofs.Square.{Shows, marks-chained}
+use Rattle.order.proofs.Rounds.{Shows, marks-chained}
 
 abbrev pub bits : (ℕ → Bool) → ℕ
 bits f = bitsOf f 32
@@ -24,30 +26,6 @@ unfolding bitsOf
 same-bits zero f g h = refl
 same-bits (suc n) f g h =
     λ i. mark (h 0 (omega arith) i) + 2 * same-bits n (λ b. f (suc b)) (λ b. g (suc b)) (λ b k. h (suc b) (omega arith)) i
-
-small : (t : Bool) → mark t < 2
-small true = omega arith
-small false = omega arith
-
-half : (t : Bool) (x : ℕ) → (mark t + 2 * x) / 2 ≡ x
-half t x = let h = small t in omega arith
-
-odd : (t : Bool) (x : ℕ) → (mark t + 2 * x) % 2 ≡ mark t
-odd t x = let h = small t in omega arith
-
-pub bit-at : (n : ℕ) (f : ℕ → Bool) (k : ℕ) → k < n → bitsOf f n / 2 ^ k % 2 ≡ mark (f k)
-unfolding bitsOf
-bit-at zero f k h = absurd (omega arith)
-bit-at (suc n) f zero h = ap (λ (x : ℕ). x % 2) (over-one (mark (f 0) + 2 * bitsOf (λ b. f (suc b)) n)) ∙ odd (f 0) (bitsOf (λ b. f (suc b)) n)
-  where
-    over-one : (x : ℕ) → x / 1 ≡ x
-    over-one x = omega arith
-bit-at (suc n) f (suc k) h =
-    let w = mark (f 0) + 2 * bitsOf (λ b. f (suc b)) n in
-    ap (λ (x : ℕ). w / x % 2) (pow-succ' 2 k)
-    ∙ ap (λ (x : ℕ). x % 2) (sym (div-div-eq-div-mul w 2 (2 ^ k)))
-    ∙ ap (λ (x : ℕ). x / 2 ^ k % 2) (half (f 0) (bitsOf (λ b. f (suc b)) n))
-    ∙ bit-at n (λ b. f (suc b)) k (omega arith)
 
 or-bits : (n : ℕ) (f g : ℕ → Bool) → bitOr (bitsOf f n) (bitsOf g n) ≡ bitsOf (λ b. f b || g b) n
 unfolding bitsOf

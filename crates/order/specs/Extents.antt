@@ -3,8 +3,7 @@ use mathlib.Core.Bool.{Bool, true, false, cond}
 use mathlib.Core.List.{List, [], _∷_}
 use Prim.Native.Nat.{ℕ, zero, suc, _+_, _-_}
 use lib.Dec.{ltb, eqb}
-use lib.ListN.{getD, set, replicate}
-use Rattle.model.specs.declared.Entry.{Entry}
+use lib.ListN.{getD, set}
 use Rattle.word.specs.declared.Anchor.{Anchor}
 use Rattle.word.specs.Link.{linkOf}
 use Rattle.model.specs.Sound.{from1, linkSound}
@@ -28,10 +27,6 @@ lower at x = cond (ltb at x) at x
 abbrev pub higher : ℕ → ℕ → ℕ
 higher at x = cond (ltb x at) at x
 
--- No label waits.
-abbrev pub unseen : Extents
-unseen = record { sound = true; low = replicate 32 1024; high = replicate 32 0 }
-
 -- A broken walk; what it had noted stays.
 abbrev pub lost : Extents → Extents
 lost e = record { sound = false; low = e .low; high = e .high }
@@ -46,15 +41,11 @@ noted listed x at e =
 abbrev pub nextAt : Bool → ℕ → ℕ
 nextAt up at = cond up (at + 1) (at - 1)
 
-unfoldable pub notedAll : List ℕ → Bool → ℕ → List Entry → Extents → Extents
-notedAll listed up at [] e = e
-notedAll listed up at (x ∷ l) e = notedAll listed up (nextAt up at) l (noted listed (x .label) at e)
-
 -- The position after k steps.
 abbrev pub position : Bool → ℕ → ℕ
 position up k = cond up (1 + k) (1023 - k)
 
--- The same as one walk over the words that it reads: from slot x to the slot last, n of them at the most.
+-- One walk over the words that it reads, from slot x to the slot last, n of them at the most: each label is noted.
 unfoldable pub gather : ℕ → List ℕ → List ℕ → List ℕ → Bool → ℕ → ℕ → ℕ → ℕ → Extents → Extents
 gather slots links labels listed up last zero x at e = lost e
 gather slots links labels listed up last (suc n) x at e =

@@ -1,39 +1,27 @@
 -- What the square and the positions tell is what breaks the sheet, and the first pair found is the verdict.
-use mathlib.Core.Bool.{Bool, true, false, _&&_, _||_, cond}
+use mathlib.Core.Bool.{Bool, true, false, _&&_, cond}
 use mathlib.Core.List.{List, reverse}
 use mathlib.Core.Logic.{_⊎_, inl, inr}
 use mathlib.Core.Path.{_≡_, refl, sym, ap, _∙_}
 use Prim.Native.Nat.{ℕ, zero, suc, _+_, _-_, _≤_, _<_}
 use native.Mathlib.Omega.{arith}
-use lib.Dec.{eqb, leb, ltb}
+use lib.Dec.{eqb, leb}
 use lib.ListN.{length, getD}
-use borrow.Author.Tests.{eq-eqb, ne-eqb, ltb-false}
+use borrow.Author.Tests.{eq-eqb, ne-eqb}
 use Rattle.model.specs.declared.Entry.{Entry}
-use Rattle.model.proofs.tests.Truth.{decide-eq, or-false}
+use Rattle.model.proofs.tests.Truth.{decide-eq}
 use Rattle.sheet_model.specs.declared.SheetReply.{SheetReply}
-use Rattle.sheet_model.specs.Sheet.{Sheet, any, outside, twice, malformed, chained, waits, leftOf, breaks}
-use Rattle.sheet_model.specs.Squares.{Row, linked, crossed}
-use Rattle.sheet_model.specs.Extents.{Extents, placeOf, unseen, notedAll}
+use Rattle.sheet_model.specs.Sheet.{Sheet, chained, waits, leftOf, breaks}
+use Rattle.sheet_model.specs.Words.{linked}
+use Rattle.order.specs.Squares.{Row, crossed}
+use Rattle.order.specs.Extents.{Extents, placeOf}
 use Rattle.sheet_model.specs.Verdict.{brokenBy, verdict}
-use Rattle.sheet_model.specs.Search.{inRow, inRows}
-use Rattle.sheet_model.proofs.Searched.{verdict-is}
-use Rattle.sheet_model.proofs.Square.{Shows, marks, row-at}
-use Rattle.sheet_model.proofs.Crossing.{meets, lowest, highest, crosses-up, crosses-down, meets-reverse, meets-left, meets-self}
-use Rattle.sheet_model.proofs.Noted.{label-place, low-noted, high-noted}
-
--- What the form gives.
-pub record Formed (s : Sheet) : Type 0 where
-  pub few : length (s .listed) ≤ 32
-  pub once : twice (s .listed) ≡ false
-  pub inside : any (outside (length (s .listed))) (s .rules) ≡ false
-
-pub formed : (s : Sheet) → malformed s ≡ false → Formed s
-unfolding malformed
-formed s e =
-    let a = or-false (ltb 32 (length (s .listed)) || ltb 128 (length (s .rules)) || twice (s .listed)) (any (outside (length (s .listed))) (s .rules)) e in
-    let b = or-false (ltb 32 (length (s .listed)) || ltb 128 (length (s .rules))) (twice (s .listed)) (a .0) in
-    let c = or-false (ltb 32 (length (s .listed))) (ltb 128 (length (s .rules))) (b .0) in
-    record { few = ltb-false 32 (length (s .listed)) (c .0); once = b .1; inside = a .1 }
+use Rattle.order.specs.Search.{inRow, inRows}
+use Rattle.sheet_model.proofs.Formed.{Formed}
+use Rattle.order.proofs.Searched.{verdict-is}
+use Rattle.order.proofs.Rounds.{Shows, marks, row-at}
+use Rattle.order.proofs.Crossing.{meets, lowest, highest, crosses-up, crosses-down, meets-reverse, meets-left, meets-self}
+use Rattle.order.proofs.Noted.{unseen, notedAll, label-place, low-noted, high-noted}
 
 -- The entries met, from left to right, and the first position, of a walk from the left or from the right.
 abbrev pub turned : Bool → List Entry → List Entry

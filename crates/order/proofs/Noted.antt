@@ -10,9 +10,18 @@ use lib.Seq.{getD-set-same, getD-set-other}
 use borrow.Author.Tests.{eqb-true, eqb-false, eq-eqb, ne-eqb}
 use Rattle.model.specs.declared.Entry.{Entry}
 use Rattle.model.proofs.tests.Truth.{or-false}
 use Rattle.sheet_model.specs.Sheet.{any, twice}
-use Rattle.sheet_model.specs.Extents.{Extents, placeOf, lower, higher, unseen, noted, nextAt, notedAll}
-use Rattle.sheet_model.proofs.Crossing.{lowest, highest, low-bound, lower-is, lower-min, higher-max}
+use Rattle.order.specs.Extents.{Extents, placeOf, lower, higher, noted, nextAt}
+use Rattle.order.proofs.Crossing.{lowest, highest, low-bound, lower-is, lower-min, higher-max}
+
+-- No label waits.
+abbrev pub unseen : Extents
+unseen = record { sound = true; low = replicate 32 1024; high = replicate 32 0 }
+
+-- Some entries noted one after the other.
+unfoldable pub notedAll : List ℕ → Bool → ℕ → List Entry → Extents → Extents
+notedAll listed up at [] e = e
+notedAll listed up at (x ∷ l) e = notedAll listed up (nextAt up at) l (noted listed (x .label) at e)
 
 any-at : (p : ℕ → Bool) (l : List ℕ) (i : ℕ) → any p l ≡ false → i < length l → p (getD l i 0) ≡ false
 any-at p [] i e h = absurd (omega arith)

@@ -11,12 +11,12 @@ use lib.Seq.{drop-cons, set-out, set-getD}
 use borrow.Author.Tests.{eq-eqb, ne-eqb, leb-true, not-false, lt-ltb, le-ltb, ltb-true, ltb-false}
 use Rattle.model.specs.Sound.{from1}
 use Rattle.model.proofs.tests.Truth.{and-true, or-false, split}
 use Rattle.sheet_model.specs.declared.SheetReply.{SheetReply}
 use Rattle.sheet_model.specs.Sheet.{Sheet, before, after, any, twice, outside, malformed}
-use Rattle.sheet_model.specs.Extents.{placeOf, lower, higher, nextAt, position}
-use Rattle.sheet_model.specs.Squares.{Row, crossed, sweep, ruleMarked, rulesMarked, rounds, joinVia}
+use Rattle.order.specs.Extents.{placeOf, lower, higher, nextAt, position}
+use Rattle.order.specs.Squares.{Row, crossed, sweep, ruleMarked, rulesMarked, rounds, joinVia}
 use Rattle.sheet_model.specs.Verdict.{brokenBy, kept}
-use Rattle.sheet_model.specs.Search.{inRow, inRows}
+use Rattle.order.specs.Search.{inRow, inRows}
 
 left : (n i : ℕ) → i < n → n - i ≡ suc (n - (i + 1))
 left n i h = omega arith

@@ -1,35 +1,16 @@
 -- The chained rules as a square of marks, and the loops that fill it. (Document 02, #111 and #112.)
 use mathlib.Core.Bool.{Bool, _&&_, not, cond}
 use mathlib.Core.List.{List, [], _∷_}
-use Prim.Native.Nat.{ℕ, zero, suc, _+_, _-_, _*_, _/_, _%_, _^_}
+use Prim.Native.Nat.{ℕ, zero, suc, _+_, _-_, _/_, _%_, _^_}
 use lib.Bits.{bitOr}
 use lib.Dec.{eqb, leb}
 use lib.ListN.{getD, set}
-use Rattle.sheet_model.specs.Sheet.{before, after, through}
-
--- The numbers f 0 to f (n - 1).
-unfoldable pub listOf : {A : Type 0} → (ℕ → A) → ℕ → List A
-listOf f zero = []
-listOf f (suc n) = f 0 ∷ listOf (λ i. f (suc i)) n
-
-abbrev pub mark : Bool → ℕ
-mark b = cond b 1 0
-
--- Places a + 1 and b + 1 are chained through places 1 to k.
-abbrev pub linked : List ℕ → ℕ → ℕ → ℕ → Bool
-linked rules k a b = through rules k (suc a) (suc b)
+use Rattle.sheet_model.specs.Sheet.{before, after}
+use Rattle.sheet_model.specs.Words.{listOf, mark}
 
 -- A square of 32 by 32 marks, one byte each; row a, column b belong to places a + 1, b + 1.
 unfoldable pub squareOf : (ℕ → ℕ → Bool) → List (List ℕ)
 squareOf f = listOf (λ a. listOf (λ b. mark (f a b)) 32) 32
-
--- The same as one word a row: bit b of word a.
-unfoldable pub bitsOf : (ℕ → Bool) → ℕ → ℕ
-bitsOf f zero = 0
-bitsOf f (suc n) = mark (f 0) + 2 * bitsOf (λ b. f (suc b)) n
-
-unfoldable pub wordsOf : (ℕ → ℕ → Bool) → List ℕ
-wordsOf f = listOf (λ a. bitsOf (f a) 32) 32
 
 -- One element after the other is replaced, n of them from i on.
 unfoldable pub sweep : {A : Type 0} → A → (ℕ → A → A) → ℕ → ℕ → List A → List A

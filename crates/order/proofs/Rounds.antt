@@ -11,10 +11,12 @@ use lib.ListN.{length, getD, set, length-set, List·getD-append}
 use lib.Seq.{getD-set-same, getD-set-other, set-append-left}
 use borrow.Author.Tests.{eq-eqb, ne-eqb, ltb-true, ltb-false}
 use Rattle.model.proofs.tests.Truth.{decide-eq, or-false}
 use Rattle.sheet_model.specs.Sheet.{before, after, any, outside, ruledBefore, through}
-use Rattle.sheet_model.specs.Squares.{Row, listOf, linked, sweep, joinVia, rounds, ruleMarked, rulesMarked}
-use Rattle.sheet_model.proofs.ListOf.{length-listOf, getD-listOf, as-listOf, ext-listOf, length-sweep, sweep-at, sweep-beyond, sweep-append}
-use Rattle.sheet_model.proofs.Turns.{inside}
+use Rattle.sheet_model.specs.Words.{listOf, linked}
+use Rattle.order.specs.Squares.{Row, sweep, joinVia, rounds, ruleMarked, rulesMarked}
+use Rattle.sheet_model.proofs.ListOf.{length-listOf, getD-listOf, as-listOf, ext-listOf}
+use Rattle.order.proofs.Sweep.{length-sweep, sweep-at, sweep-beyond, sweep-append}
+use Rattle.order.proofs.Turns.{inside}
 
 or-none : (a : Bool) → a || false ≡ a
 or-none true = refl
