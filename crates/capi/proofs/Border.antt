@@ -2,7 +2,7 @@
 use mathlib.Core.Path.{_≡_, refl, sym, ap, subst, _∙_}
 use mathlib.Core.Bool.{Bool, true, false, cond}
 use mathlib.Core.List.{List}
-use Prim.Native.Nat.{ℕ, _≤_}
+use Prim.Native.Nat.{ℕ, _≤_, min}
 use native.Mathlib.Omega.{arith}
 use lib.Dec.{eqb, leb}
 use lib.ListN.{length, set}
@@ -25,8 +25,8 @@ use Rattle.calls.proofs.Openings.{clear-fits, open-parts}
 use Rattle.calls.specs.Telling.{countable}
 use Rattle.calls.proofs.Counts.{countable-fits}
 use Rattle.calls.proofs.Tells.{all-looked-at, report-parts}
-use Rattle.rows.specs.Rows.{controlOf, recordsOf, uppersOf, clearing, queueIn}
-use Rattle.rows.proofs.Rows.{length-records, cleared-records, cleared-uppers}
+use Rattle.rows.specs.Rows.{controlOf, recordsOf, uppersOf, queueIn}
+use Rattle.rows.proofs.Rows.{length-records, all-zeroed}
 use Rattle.capi.specs.Replies.{uppersAt, Coded, coded, Replied, replied, countsIn, reportReplyOf}
 use Rattle.capi.proofs.Count.{busyIn}
 
@@ -101,8 +101,8 @@ module _ (ws : List ℕ) (rows : List (List ℕ)) (lefts rights labels marks nex
 
     pub opened : (code : ℕ) → c ≡ controlOf ws → n ≡ length rows
         → parts ≡ openTables pooled (tablesOf c lefts rights labels marks next) n tasks slots tag
-        → controlOf ws′ ≡ m .control → recordsOf rows′ ≡ clearing (m .clear) unused (recordsOf rows)
-        → uppersOf rows′ ≡ clearing (m .clear) 0 (uppersOf rows) → code ≡ openingCode (m .outcome)
+        → controlOf ws′ ≡ m .control → recordsOf rows′ ≡ zeroed (min (m .clear) (length rows)) unused (recordsOf rows)
+        → uppersOf rows′ ≡ zeroed (min (m .clear) (length rows)) 0 (uppersOf rows) → code ≡ openingCode (m .outcome)
         → _≡_ {A = Coded} (record { queue = queueIn ws′ rows′ lefts′ rights′ labels′ marks′ next′; uppers = uppersOf rows′; code = code })
         (coded tasks (uppersOf rows) (openAs pooled queue tasks slots tag))
     opened code ec en e e1 e2 e3 eo =
@@ -114,7 +114,7 @@ module _ (ws : List ℕ) (rows : List (List ℕ)) (lefts rights labels marks nex
         subst (λ (o : OpenedParts). zeroed (o .clear) 0 (uppersOf rows) ≡ uppersAt tasks (uppersOf rows) (o .outcome)) (sym e)
         (clear-uppers pooled (tablesOf c lefts rights labels marks next) n tasks slots tag (uppersOf rows)) in
         let fits = clears en e in
-        rw (eo, e1, e2 ∙ cleared-records rows _ fits, e3 ∙ cleared-uppers rows _ fits, zeroes)
+        rw (eo, e1, e2 ∙ all-zeroed _ _ _ _ fits, e3 ∙ all-zeroed _ _ _ _ fits, zeroes)
         (ap (λ (o : OpenedParts). coded tasks (uppersOf rows) (whole (recordsOf rows) o)) e′
         ∙ ap (coded tasks (uppersOf rows)) (sym (open-parts pooled queue tasks slots tag)))
 

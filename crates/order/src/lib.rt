@@ -9,7 +9,8 @@ ghost use Rattle.model.specs.Tables.{tablesOf};
 ghost use Rattle.model.specs.Sound.{controlSound};
 ghost use Rattle.sound.specs.Lengths.{lengthsFit};
 ghost use Rattle.sheet_model.specs.Sheet.{malformed};
-ghost use Rattle.sheet_model.specs.Verdict.{refused, early, sheet, Printed, sheetWords};
+ghost use Rattle.sheet_model.specs.Verdict.{refused, sheet, Printed, sheetWords};
+ghost use Rattle.order.specs.Refusals.{early};
 
 mod extents;
 mod form;

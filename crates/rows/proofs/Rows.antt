@@ -1,7 +1,7 @@
 -- Rows and what they are: lengths, a row read, a row written.
 use mathlib.Core.Path.{_≡_, refl, sym, ap, _∙_}
 use mathlib.Core.List.{List, [], _∷_}
-use Prim.Native.Nat.{ℕ, zero, suc, _+_, _<_, _≤_}
+use Prim.Native.Nat.{ℕ, zero, suc, _+_, _<_, _≤_, min}
 use native.Mathlib.Numerals.{add-one}
 use native.Mathlib.Omega.{arith}
 use lib.ListN.{length, getD, set}
@@ -9,8 +9,7 @@ use Rattle.model.specs.declared.Record.{Record}
 use Rattle.model.specs.declared.TaskRecord.{TaskRecord}
 use Rattle.model.specs.Tables.{unused, withOwn}
 use Rattle.model.specs.Lists.{zeroed}
-use borrow.Author.Tests.{le-leb}
-use Rattle.rows.specs.Rows.{callOf, recordOf, recordsOf, upperOf, uppersOf, clearing}
+use Rattle.rows.specs.Rows.{callOf, recordOf, recordsOf, upperOf, uppersOf}
 
 pub length-records : (rows : List (List ℕ)) → length (recordsOf rows) ≡ length rows
 unfolding recordsOf
@@ -63,12 +62,6 @@ zero-suc {A} (suc n) z (x ∷ l) h = ap (λ (t : List A). z ∷ t) (zero-suc n z
 pub one-more : {A : Type 0} (n : ℕ) (z : A) (l : List A) → n < length l → set (zeroed n z l) n z ≡ zeroed (n + 1) z l
 one-more n z l h = zero-suc n z l h ∙ ap (λ (k : ℕ). zeroed k z l) (sym (add-one n))
 
--- Of so many rows the first n are cleared.
-module _ (rows : List (List ℕ)) (n : ℕ) (fits : n ≤ length rows) where
-  pub cleared-records : clearing n unused (recordsOf rows) ≡ zeroed n unused (recordsOf rows)
-  unfolding clearing
-  cleared-records = rw (length-records rows, le-leb _ _ fits)
-
-  pub cleared-uppers : clearing n 0 (uppersOf rows) ≡ zeroed n 0 (uppersOf rows)
-  unfolding clearing
-  cleared-uppers = rw (length-uppers rows, le-leb _ _ fits)
+-- Of at least n entries the first n are zeroed.
+pub all-zeroed : {A : Type 0} (n k : ℕ) (z : A) (l : List A) → n ≤ k → zeroed (min n k) z l ≡ zeroed n z l
+all-zeroed n k z l fits = let all : min n k ≡ n = omega (arith, fits) in ap (λ (i : ℕ). zeroed i z l) all

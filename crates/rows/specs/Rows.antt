@@ -1,14 +1,11 @@
 -- Control and records as rows of words, in the order of their fields.
-use mathlib.Core.Bool.{cond}
 use mathlib.Core.List.{List, [], _∷_}
 use Prim.Native.Nat.{ℕ, _/_, _%_, _^_}
-use lib.Dec.{leb}
-use lib.ListN.{length, getD, set}
+use lib.ListN.{getD, set}
 use Rattle.model.specs.declared.Control.{Control}
 use Rattle.model.specs.declared.Record.{Record}
 use Rattle.model.specs.declared.TaskRecord.{TaskRecord}
 use Rattle.model.specs.Tables.{Queue, queueOf, unused, withCall}
-use Rattle.model.specs.Lists.{zeroed}
 
 unfoldable pub controlOf : List ℕ → Control
 controlOf ws = record {
@@ -49,10 +46,6 @@ recordsOf (ws ∷ rows) = recordOf ws ∷ recordsOf rows
 unfoldable pub uppersOf : List (List ℕ) → List ℕ
 uppersOf [] = []
 uppersOf (ws ∷ rows) = upperOf ws ∷ uppersOf rows
-
--- The first n entries of a list zeroed; a list of fewer is kept.
-unfoldable pub clearing : {A : Type 0} → ℕ → A → List A → List A
-clearing n z l = cond (leb n (length l)) (zeroed n z l) l
 
 -- A queue whose control and records are lent as rows.
 abbrev pub queueIn : List ℕ → List (List ℕ) → List ℕ → List ℕ → List ℕ → List ℕ → List ℕ → Queue

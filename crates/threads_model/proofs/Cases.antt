@@ -33,7 +33,7 @@ begins t op = calls (record { task = t; op = op })
 abbrev part : ℕ → ℕ → List Act
 part t n = begins t Step ∷ replicate n (next t)
 
--- A whole start or step. None has more than four instructions, and a thread that has nothing to do changes nothing.
+-- A whole start or step. None here has more than four instructions, and a thread that has nothing to do changes nothing.
 abbrev whole : ℕ → Op → List Act
 whole t op = begins t op ∷ replicate 4 (next t)
 
@@ -81,7 +81,7 @@ abbrev overtaken : List Act
 overtaken = begins 0 (Push 1 2 800) ∷ next 0 ∷ first ++ replicate 3 (next 0)
 
 -- Place 3. Thread 0 loads its own link; thread 1, at 9, changes that word; thread 0 compares and puts. (Records as lent: after an opening and calls
--- alone nobody at 9 has the slot of a push at 3 for its neighbour.)
+-- alone no change at 9 of such a link is done.)
 abbrev at3and9 : Queue
 at3and9 =
     let stable : ℕ = 0x0000000100008002 in

@@ -11,8 +11,8 @@ use Rattle.word.specs.declared.Link.{Link}
 use Rattle.word.specs.Link.{linkOf}
 use Rattle.model.specs.Sound.{from1, linkSound}
 use Rattle.model.specs.Walk.{along}
-use Rattle.walk.specs.Counted.{andCounted, counted}
-use Rattle.walk.proofs.Counting.{Reaches, begins, full, out, stops, astray, onwards}
+use Rattle.walk.specs.Counted.{counted}
+use Rattle.walk.proofs.Counting.{andCounted, Reaches, begins, full, out, stops, astray, onwards}
 use Rattle.walk.proofs.count.Statement.{statement}
 use Rattle.walk.proofs.count.Tie as tie
 

@@ -5,7 +5,7 @@ use Prim.Native.Nat.{_≤_}
 use borrow.Author.Needs.{needs}
 use Rattle.calls.specs.Opening.{OpenedParts}
 use Rattle.calls.proofs.Openings.{clear-fits}
-use Rattle.rows.proofs.Rows.{length-records, cleared-records, cleared-uppers}
+use Rattle.rows.proofs.Rows.{length-records, all-zeroed}
 use Rattle.carry.proofs.AfterActs.{put-fits, open-page}
 use Rattle.carry.proofs.acts.open_queue.Statement.{statement}
 use Rattle.carry.proofs.acts.open_queue.Tie as tie
@@ -45,7 +45,7 @@ returns c =
     let e = cleared c .clear .ensures in
     let m = made c in
     open-page _ _ _ _ _ _ _ _ _ _ _ _ _ (sym (length-records _)) (m .open-tables .ensures)
-    (e .0 ∙ cleared-records _ _ (fits m)) (e .1 ∙ cleared-uppers _ _ (fits m))
+    (e .0 ∙ all-zeroed _ _ _ _ (fits m)) (e .1 ∙ all-zeroed _ _ _ _ (fits m))
     (put c .before .is-opened .ensures) (put c .wrapping-add-u64 .ensures)
     (put-fits _ _ _ _ _ (first m .pre) (c .before .before .write-line .ensures .0))
 
