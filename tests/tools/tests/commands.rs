@@ -163,7 +163,7 @@ fn plain(text: &str) -> String {
 /// A million touches, written as a text while they are read: memory does not grow with them.
 fn long_runs(checks: &mut Checks) {
     let lines = r#"(set +o pipefail; echo open 1 1 0; yes $'push 0 right 1 7\nstep 0*2\npop 0 left\nstep 0*3' | head -n 572000)"#;
-    let program = r#""${CARGO_TARGET_DIR:-$ROOT/target/cargo}/release/view""#;
+    let program = r#""${CARGO_TARGET_DIR:-$ROOT/target/cargo}/debug/view""#;
     for (words, last) in [
         ("", "All labels are accounted for: pushed 143000 = popped 143000 +"),
         ("--csv", "1001001,"),

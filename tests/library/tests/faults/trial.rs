@@ -12,66 +12,85 @@ pub struct Workshop {
     folder: Scratch,
 }
 
-/// How a test is made of a file with a fault: lines of shell, in which `$FILE` is that file, `$NAME` the
-/// repository's name for it, `$MADE` the workshop's folder and `$WORK` one of its own.
-fn recipe(test: &str) -> Option<String> {
-    let by_hand = r#"cc -std=c11 -O1 -w -fPIC -DAS_LIBRARY -Iinclude -Ibench -c "$FILE" -o "$WORK/fault.o"
-        others=$(ls "$MADE"/by_hand/*.o | grep -v "/$(basename "$NAME" .c).o$" || true)
-    "#;
-    let atomic = |compiler: &str, sources: &str, runs: &str| {
+// Lines of shell: `$FILE` is the file with the fault, `$NAME` the repository's name for it, `$MADE` the
+// workshop's folder, `$WORK` one of its own.
+
+/// The faulty calls by hand, compiled; `$others` are those that are as they should be.
+const OBJECT: &str = r#"
+    cc -std=c11 -O1 -w -fPIC -DAS_LIBRARY -Iinclude -Ibench -c "$FILE" -o "$WORK/fault.o"
+    others=$(ls "$MADE"/by_hand/*.o | grep -v "/$(basename "$NAME" .c).o$" || true)
+"#;
+
+/// A part of the differential test, with a shared object in the library's place.
+fn part(name: &str) -> String {
+    let program = env!("CARGO_BIN_EXE_library-differential");
+    format!(
+        r#"{OBJECT}
+           cc -shared "$WORK/fault.o" $others -o "$WORK/fault.so"
+           set +e; ZC_OBJECT=$WORK/fault.so limited {program} {name} 1 1"#
+    )
+}
+
+/// `tests/library/NAME.c` beside the right calls by hand, with the faulty ones in the library's place.
+fn beside(name: &str) -> String {
+    format!(
+        r#"{OBJECT}
+           cc "$MADE/{name}.o" "$MADE/right/reference.o" "$MADE/right/{name}_reference.o" "$WORK/fault.o" -o "$WORK/program"
+           set +e; limited "$WORK/program" 20000"#
+    )
+}
+
+/// `tests/library/NAME.c` alone, likewise.
+fn program(name: &str) -> Option<String> {
+    let source = format!("tests/library/{name}.c");
+    root().join(&source).is_file().then(|| {
         format!(
-            r#"cp "$FILE" "$WORK/zeppolecape_atomic.h"
-               {compiler} -O1 -w -I"$WORK" -Iinclude -Ibench -Itests/library {sources} "$MADE/by_hand.a" -pthread -o "$WORK/program"
-               {runs}"#
+            r#"{OBJECT}
+               cc -std=c11 -O1 -w -Iinclude -Ibench {source} "$WORK/fault.o" $others -o "$WORK/program"
+               set +e; limited "$WORK/program""#
         )
-    };
-    Some(match test {
-        "calls" | "sheet" | "join" | "serve" | "shelf" | "audit" | "schedules" => format!(
-            r#"{by_hand} cc -shared "$WORK/fault.o" $others -o "$WORK/fault.so"
-               set +e; ZC_OBJECT=$WORK/fault.so limited {} {test} 1 1"#,
-            env!("CARGO_BIN_EXE_library-differential")
-        ),
-        "joinings" | "shelves" => {
-            let name = if test == "joinings" { "join" } else { "shelf" };
-            format!(
-                r#"{by_hand} cc "$MADE/{name}.o" "$MADE/right/reference.o" "$MADE/right/{name}_reference.o" "$WORK/fault.o" -o "$WORK/program"
-                   set +e; limited "$WORK/program" 20000"#
-            )
-        }
-        "touches" => atomic(
-            "cc -std=gnu11",
-            "tests/threads/touches.c bench/touch_reference.c",
-            r#"set +e; limited "$WORK/program" 200000"#,
-        ),
-        "tsan" => atomic(
-            "cxx -fsanitize=thread",
-            "tests/threads/accounts.cc",
-            r#"set +e; limited "$WORK/program" 2"#,
-        ),
-        // one of the two sees it, by one of the seeds
-        "threads" => format!(
-            "{}\n{}",
-            atomic("cxx", "tests/threads/accounts.cc", r#"mv "$WORK/program" "$WORK/accounts""#),
-            atomic(
-                "cxx",
-                "tests/threads/rounds.cc",
-                r#"set +e; for seed in $SEEDS; do
-                    limited "$WORK/accounts" 1 $seed || exit 1
-                    limited "$WORK/program" 1 $seed || exit 1
-                done"#
-            )
-        ),
-        _ => {
-            let source = format!("tests/library/{test}.c");
-            if !root().join(&source).is_file() {
-                return None;
-            }
-            format!(
-                r#"{by_hand} cc -std=c11 -O1 -w -Iinclude -Ibench {source} "$WORK/fault.o" $others -o "$WORK/program"
-                   set +e; limited "$WORK/program""#
-            )
-        }
     })
+}
+
+/// A program of `tests/threads`, with the faulty header in the other's place.
+fn atomic(compiler: &str, sources: &str, program: &str) -> String {
+    format!(
+        r#"cp "$FILE" "$WORK/zeppolecape_atomic.h"
+           {compiler} -O1 -w -I"$WORK" -Iinclude -Ibench -Itests/library {sources} "$MADE/by_hand.a" -pthread -o "$WORK/{program}"
+        "#
+    )
+}
+
+/// Accounts or rounds see it, by one of the seeds.
+fn threads() -> String {
+    let accounts = atomic("cxx", "tests/threads/accounts.cc", "accounts");
+    let rounds = atomic("cxx", "tests/threads/rounds.cc", "rounds");
+    format!(
+        r#"{accounts}{rounds}
+           for seed in $SEEDS; do for program in accounts rounds; do
+               limited "$WORK/$program" 1 $seed || exit 1
+           done; done"#
+    )
+}
+
+/// How a test is made and run, if there is one of this name.
+fn recipe(test: &str) -> Option<String> {
+    let touches = "tests/threads/touches.c bench/touch_reference.c";
+    match test {
+        "calls" | "sheet" | "join" | "serve" | "shelf" | "audit" | "schedules" => Some(part(test)),
+        "joinings" => Some(beside("join")),
+        "shelves" => Some(beside("shelf")),
+        "touches" => Some(
+            atomic("cc -std=gnu11", touches, "touches")
+                + r#"set +e; limited "$WORK/touches" 200000"#,
+        ),
+        "tsan" => {
+            let built = atomic("cxx -fsanitize=thread", "tests/threads/accounts.cc", "accounts");
+            Some(built + r#"set +e; limited "$WORK/accounts" 2"#)
+        }
+        "threads" => Some(threads()),
+        name => program(name),
+    }
 }
 
 /// A program that hangs is stopped by the processor's time that it takes, so that no busy machine is taken
