@@ -717,7 +717,8 @@ static inline zc_reply zc_queue_finish(const zc_queue *queue, size_t task)
  * Brings an open queue to rest and reads it out, as 33 asks for. Steps every busy task to its answer
  * and writes that to answers[task], code 0 where no call was under way: a popped label is nowhere else.
  * Then writes the labels waiting and their slots as zc_queue_waiting does, and answers so.
- * `answers` has room for each record, `slots` and `labels` for each slot, all apart from the tables.
+ * `answers` has room for each record, `slots` and `labels` for as many entries as control has slots
+ * (up to 1,023 where somebody else wrote there), all apart from the tables.
  */
 static inline zc_waiting_reply zc_queue_drain(const zc_queue *queue, zc_reply *answers,
                                               uint64_t *slots, uint32_t *labels)

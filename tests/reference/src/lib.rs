@@ -9,6 +9,7 @@
 //! slots), `invariant` (what holds between any two steps), `retries` (the counts' sum), `check`
 //! (all of them at once).
 //! The differential test: `dice`, `script`, `shift`, `scenario`, `malformed`, `coverage`, `ways`.
+//! Every interleaving of a few calls: `search`.
 //! For tests that drive the calls themselves: `damage` (tables that no run leaves).
 //! To be looked at beside the right queue: `wrong` (the faults that pass a spreadsheet).
 
@@ -34,6 +35,7 @@ pub mod runfile;
 pub mod scenario;
 pub mod schedules;
 pub mod script;
+pub mod search;
 pub mod sheet;
 pub mod shelf;
 pub mod shift;

@@ -1,246 +1,94 @@
-//! All interleavings of a few short calls, judged at every event: not a sample, every one.
+//! All interleavings of a few short calls, judged at every event: not a sample, every one. What the small
+//! scopes met is told in docs/MODEL-CHECKING.md, whose table `search` writes.
 
-use reference::check::Judge;
-use reference::machine::Moved;
-use reference::run::{Call, Event, Reply, Watcher};
-use reference::tables::Storage;
-use reference::word::Anchor;
-use std::collections::{HashMap, HashSet};
+use reference::search::{row, small, visit, Met, Scope, Wish, ANY};
+use std::path::Path;
 
-const SLOTS: u64 = 3;
+type Call = &'static [Wish];
+const PUSH_LEFT: Call = &[Wish::Push(0)];
+const PUSH_RIGHT: Call = &[Wish::Push(1)];
+const POP_LEFT: Call = &[Wish::Pop(0)];
+const POP_RIGHT: Call = &[Wish::Pop(1)];
 
-/// A push or a pop at a side.
-#[derive(Clone, Copy, Debug, PartialEq, Eq, Hash)]
-enum Wish {
-    Push(u8),
-    Pop(u8),
+fn met(pooled: bool, slots: u64, waiting: u8, calls: Vec<Vec<Call>>) -> Met {
+    let scope = Scope { pooled, slots, waiting, calls };
+    visit(&scope).unwrap_or_else(|what| panic!("{what} in {scope:?}"))
 }
 
-const WISHES: [Wish; 4] = [Wish::Push(0), Wish::Push(1), Wish::Pop(0), Wish::Pop(1)];
-
-/// The tables, the judge who has followed them here, and what each task still wants.
-#[derive(Clone, PartialEq, Eq, Hash)]
-struct World {
-    storage: Storage,
-    judge: Judge,
-    wishes: Vec<Vec<Wish>>,
-}
-
-impl World {
-    fn new(wishes: Vec<Vec<Wish>>) -> World {
-        World::named(SLOTS, wishes)
-    }
-
-    fn named(slots: u64, wishes: Vec<Vec<Wish>>) -> World {
-        let tasks = wishes.len() as u64;
-        let mut storage = Storage::fitting(tasks, slots);
-        storage.lend().open(tasks, slots, 0).expect("opens");
-        World { storage, judge: Judge::default(), wishes }
-    }
-
-    fn pooled(slots: u64, wishes: Vec<Vec<Wish>>) -> World {
-        let tasks = wishes.len() as u64;
-        let mut storage = Storage::fitting(tasks, slots);
-        storage.lend().open_pooled(tasks, slots, 0).expect("opens");
-        World { storage, judge: Judge::default(), wishes }
-    }
-
-    /// The world after the task's next event, or nothing if it has none.
-    fn after(&self, task: u8) -> Option<World> {
-        let mut world = self.clone();
-        world.judge.before(&world.storage.lend(), Some(task));
-        let (call, reply) = if world.storage.records[usize::from(task)].place == 0 {
-            (world.start(task)?, Reply::Done)
-        } else {
-            let moved = world.storage.lend().step(task.into()).expect("a busy task steps");
-            (Call::Step, Reply::Moved(moved))
+/// The rows in the document are what the search meets today, and stay within the papers' bounds:
+/// 02, #108, for named slots, and 20 for each task and 3 for each pair in a pool.
+#[test]
+fn the_small_scopes_are_as_told() {
+    let path = Path::new(env!("CARGO_MANIFEST_DIR")).join("../../docs/MODEL-CHECKING.md");
+    let page = std::fs::read_to_string(path).expect("the document");
+    for scope in small() {
+        let found = visit(&scope).unwrap_or_else(|what| panic!("{what} in {scope:?}"));
+        let line = row(&scope, &found);
+        assert!(page.contains(&line), "not in docs/MODEL-CHECKING.md: {line}");
+        let tasks = scope.calls.len() as u64;
+        let (stretch, alone) = match scope.pooled {
+            false => (26 * tasks, [18, 13]),
+            true => (20 * tasks + 3 * (tasks * (tasks - 1) / 2), [21, 16]),
         };
-        let event = Event { task: Some(task), call, reply };
-        let judged = world.judge.after(&world.storage.lend(), &event);
-        judged.unwrap_or_else(|what| panic!("{what} in {:?}", self.wishes));
-        // So that equal tables make equal worlds, however they came about.
-        world.judge.before(&world.storage.lend(), None);
-        Some(world)
+        assert!(found.stretch < stretch && found.alone <= alone, "{line}");
     }
-
-    fn start(&mut self, task: u8) -> Option<Call> {
-        let wish = self.wishes[usize::from(task)].pop()?;
-        let mut tables = self.storage.lend();
-        Some(match wish {
-            Wish::Pop(side) => {
-                tables.pop(task.into(), side.into()).expect("an idle task starts");
-                Call::Pop { side }
-            }
-            Wish::Push(side) if tables.shared.is_pooled() => {
-                tables.push_pooled(task.into(), side.into(), task.into()).expect("starts");
-                Call::Push { side, slot: None, label: task.into() }
-            }
-            Wish::Push(side) => {
-                let slots = tables.shared.control.slots;
-                let slot = (1..=slots).find(|&slot| !tables.shared.is_marked(slot))?;
-                tables.push(task.into(), side.into(), slot, task.into()).expect("a free slot");
-                Call::Push { side, slot: Some(slot as u16), label: task.into() }
-            }
-        })
-    }
-}
-
-/// Every world that the wishes can lead to.
-fn explored(first: World) -> HashSet<World> {
-    let tasks = first.wishes.len() as u8;
-    let mut seen = HashSet::from([first.clone()]);
-    let mut open = vec![first];
-    while let Some(world) = open.pop() {
-        for next in (0..tasks).filter_map(|task| world.after(task)) {
-            if seen.insert(next.clone()) {
-                open.push(next);
-            }
-        }
-    }
-    seen
-}
-
-/// Visits every world that the wishes can lead to; how many there are.
-fn explore(first: World) -> usize {
-    explored(first).len()
-}
-
-/// The most steps that a push and a pop need to their answers, stepped alone from any of the worlds.
-fn longest_alone(worlds: &HashSet<World>) -> [u64; 2] {
-    let mut longest = [0, 0];
-    for world in worlds {
-        for (task, record) in world.storage.records.iter().enumerate() {
-            if record.place != 0 {
-                let (answer, steps) = world.storage.clone().lend().run(task as u64, 100);
-                assert!(!matches!(answer, Ok(Moved::Running(_)) | Err(_)), "{answer:?}");
-                let most = &mut longest[record.kind as usize];
-                *most = steps.max(*most);
-            }
-        }
-    }
-    longest
-}
-
-impl World {
-    /// The accepted steps of an event of the task that leads here from `before`, 0 for a start;
-    /// nothing where a call takes effect or answers by it.
-    fn silent_steps(&self, before: &World, task: u8) -> Option<u64> {
-        let ends = |world: &World| {
-            let anchor = Anchor::unpack(world.storage.control.anchor);
-            (anchor.left, anchor.right)
-        };
-        let place = |world: &World| world.storage.records[usize::from(task)].place;
-        match (place(before), place(self)) {
-            (0, _) => Some(0),
-            (_, 0) => None,
-            _ => (ends(before) == ends(self)).then_some(1),
-        }
-    }
-}
-
-/// The most steps that can follow one another from this world on with no effect and no answer.
-fn silent_from(world: &World, known: &mut HashMap<World, u64>) -> u64 {
-    if let Some(&steps) = known.get(world) {
-        return steps;
-    }
-    let tasks = world.wishes.len() as u8;
-    let mut longest = 0;
-    for task in 0..tasks {
-        let Some(next) = world.after(task) else { continue };
-        if let Some(steps) = next.silent_steps(world, task) {
-            longest = longest.max(steps + silent_from(&next, known));
-        }
-    }
-    known.insert(world.clone(), longest);
-    longest
-}
-
-/// The longest stretch without effect or answer that any of the worlds begins.
-fn longest_stretch(worlds: &HashSet<World>) -> u64 {
-    let mut known = HashMap::new();
-    worlds.iter().map(|world| silent_from(world, &mut known)).max().unwrap_or(0)
-}
-
-/// A world with one label waiting, slot 1.
-fn one_waiting(wishes: Vec<Vec<Wish>>) -> World {
-    let mut world = World::new(wishes);
-    world.wishes[0].push(Wish::Push(1));
-    for _ in 0..3 {
-        world = world.after(0).expect("a push alone takes two steps");
-    }
-    assert_eq!(world.storage.control.anchor, 0x0000_0001_0000_8001);
-    world
 }
 
 #[test]
 fn two_tasks_with_two_calls_each() {
-    let mut worlds = 0;
-    for first in WISHES {
-        for second in WISHES {
-            for third in WISHES {
-                let wishes = vec![vec![third, first], vec![Wish::Pop(0), second]];
-                worlds += explore(World::new(wishes.clone())) + explore(one_waiting(wishes));
-            }
-        }
-    }
-    assert!(worlds > 390_000, "only {worlds} worlds");
+    let found = met(false, 3, 0, vec![vec![ANY, ANY], vec![ANY, ANY]]);
+    assert!(found.states > 460_000, "only {} states", found.states);
+    let found = met(false, 3, 1, vec![vec![ANY, ANY], vec![ANY]]);
+    assert!(found.states > 40_000, "only {} states", found.states);
 }
 
 #[test]
 fn three_tasks_with_a_call_each() {
-    let (left, right) = (0, 1);
     let crews = [
-        [Wish::Push(right), Wish::Push(left), Wish::Pop(right)],
-        [Wish::Push(right), Wish::Pop(left), Wish::Pop(right)],
-        [Wish::Push(left), Wish::Push(left), Wish::Pop(left)],
+        [PUSH_RIGHT, PUSH_LEFT, POP_RIGHT],
+        [PUSH_RIGHT, POP_LEFT, POP_RIGHT],
+        [PUSH_LEFT, PUSH_LEFT, POP_LEFT],
     ];
-    let worlds: usize =
-        crews.iter().map(|crew| explore(one_waiting(crew.map(|wish| vec![wish]).to_vec()))).sum();
-    assert!(worlds > 190_000, "only {worlds} worlds");
+    let crews = crews.map(|crew| met(false, 3, 1, crew.map(|call| vec![call]).to_vec()));
+    let states: usize = crews.iter().map(|crew| crew.states).sum();
+    assert!(states > 190_000, "only {states} states");
 }
 
 #[test]
 fn two_tasks_share_a_pool() {
-    let mut worlds = 0;
-    for slots in [1, 2] {
-        for first in WISHES {
-            for second in WISHES {
-                let wishes = vec![vec![Wish::Pop(0), first], vec![Wish::Push(1), second]];
-                worlds += explore(World::pooled(slots, wishes.clone()));
-                let longer =
-                    wishes.into_iter().map(|wishes| [wishes, vec![Wish::Push(0)]].concat());
-                worlds += explore(World::pooled(slots, longer.collect()));
-            }
-        }
+    let longer = vec![vec![PUSH_LEFT, ANY, POP_LEFT], vec![PUSH_LEFT, ANY, PUSH_RIGHT]];
+    let shorter = vec![vec![ANY, POP_LEFT], vec![PUSH_LEFT, ANY, PUSH_RIGHT]];
+    for (slots, calls, least) in [(1, longer, 3_700), (2, shorter, 220_000)] {
+        let found = met(true, slots, 0, calls);
+        assert!(found.states > least, "only {} states of {slots} slots", found.states);
+        assert!(found.answers.contains_key("no slot"), "{slots} slots are never too few");
     }
-    assert!(worlds > 100_000, "only {worlds} worlds");
 }
 
 #[test]
 fn three_tasks_share_a_pool() {
-    let (left, right) = (0, 1);
     let crews = [
-        [vec![Wish::Push(right)], vec![Wish::Push(left)], vec![Wish::Pop(left), Wish::Push(right)]],
-        [vec![Wish::Push(right)], vec![Wish::Pop(left)], vec![Wish::Pop(right), Wish::Push(left)]],
+        vec![vec![PUSH_RIGHT], vec![PUSH_LEFT], vec![PUSH_RIGHT, POP_LEFT]],
+        vec![vec![PUSH_RIGHT], vec![POP_LEFT], vec![PUSH_LEFT, POP_RIGHT]],
     ];
-    let worlds: usize = crews.map(|crew| explore(World::pooled(2, crew.to_vec()))).iter().sum();
-    assert!(worlds > 100_000, "only {worlds} worlds");
+    let states: usize = crews.map(|crew| met(true, 2, 0, crew).states).iter().sum();
+    assert!(states > 100_000, "only {states} states");
 }
 
 /// Document 02, #108, for named slots; in a pool the places 12 to 17 come to it.
 #[test]
 fn the_longest_ways_alone() {
-    let wishes = [
-        vec![vec![Wish::Push(1); 3], vec![Wish::Push(1)]],
-        vec![vec![Wish::Push(1); 3], vec![Wish::Pop(1)]],
-        vec![vec![Wish::Push(0); 2], vec![Wish::Push(1), Wish::Pop(0)]],
+    let crews = [
+        vec![vec![PUSH_RIGHT; 3], vec![PUSH_RIGHT]],
+        vec![vec![PUSH_RIGHT; 3], vec![POP_RIGHT]],
+        vec![vec![PUSH_LEFT; 2], vec![POP_LEFT, PUSH_RIGHT]],
     ];
-    let longest = |open: fn(Vec<Vec<Wish>>) -> World| {
-        let each = wishes.clone().map(|wishes| longest_alone(&explored(open(wishes))));
+    let longest = |pooled| {
+        let each = crews.clone().map(|crew| met(pooled, 4, 0, crew).alone);
         each.into_iter().reduce(|one, other| [one[0].max(other[0]), one[1].max(other[1])])
     };
-    assert_eq!(longest(|wishes| World::named(4, wishes)), Some([18, 13]));
-    assert_eq!(longest(|wishes| World::pooled(4, wishes)), Some([21, 16]));
+    assert_eq!(longest(false), Some([18, 13]));
+    assert_eq!(longest(true), Some([21, 16]));
 }
 
 /// Document 02, #108: 26 steps for each task always hold an effect or an answer. In a pool it is 20 for
@@ -248,15 +96,13 @@ fn the_longest_ways_alone() {
 /// are the cases `stretch_of_20` and `pooled_stretch_of_23`.
 #[test]
 fn the_longest_stretches() {
-    let push = vec![Wish::Push(1)];
     let crews = [
-        (vec![vec![Wish::Push(1); 3], push.clone()], [20, 23]),
-        (vec![vec![Wish::Push(1); 3], vec![Wish::Pop(1)]], [20, 23]),
-        (vec![push.clone(), push.clone(), push], [26 * 3, 20 * 3 + 3 * 3]),
+        (vec![vec![PUSH_RIGHT; 3], vec![PUSH_RIGHT]], [20, 23]),
+        (vec![vec![PUSH_RIGHT; 3], vec![POP_RIGHT]], [20, 23]),
+        (vec![vec![PUSH_RIGHT]; 3], [26 * 3, 20 * 3 + 3 * 3]),
     ];
     for (crew, most) in crews {
-        let worlds = [World::named(5, crew.clone()), World::pooled(5, crew.clone())];
-        let longest = worlds.map(|world| longest_stretch(&explored(world)));
+        let longest = [false, true].map(|pooled| met(pooled, 5, 0, crew.clone()).stretch);
         println!("{crew:?}: silent steps in a row, named and pooled: {longest:?}");
         assert!(longest[0] <= most[0] && longest[1] <= most[1], "{longest:?} of {crew:?}");
     }
