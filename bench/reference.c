@@ -560,7 +560,7 @@ zc_run_reply zc_run(zc_control *control, zc_record *records, size_t record_count
 }
 #endif
 
-/* The labels waiting, from end to end; 0 where the links lead astray or nothing waits. */
+/* The labels waiting, from end to end; 0 where a link is unsound or nothing waits. */
 static uint64_t walked(const zc_control *control, const uint64_t *lefts, const uint64_t *rights)
 {
     int from_left = zc_anchor_status(control->anchor) == ZC_LPUSH;

@@ -4,9 +4,22 @@
 #
 #     bench/run.sh [FOLDER]         of libzeppolecape.a; default: target/lib, where `make` writes it
 #     bench/run.sh --stand-in       reference.c in the library's place: all ratios should be 1
+#     bench/run.sh --write [..]     the same, and what is printed then stands in bench/README.md: on an idle machine
 #
 # CC (gcc), OPT (-O3), STEPS (100000), TIMES (150) may be set.
 set -eu -o pipefail
+if [ "${1-}" = --write ]; then
+    said=$(mktemp)
+    trap 'rm -f "$said" "$said.md"' EXIT
+    bash "$0" "${@:2}" | tee "$said"
+    readme=$(dirname "$0")/README.md
+    awk -v said="$said" '
+        index($0, "<!-- end of the run -->") { skip = 0 }
+        !skip { print }
+        index($0, "<!-- the run -->") { skip = 1; while ((getline line < said) > 0) print line }' "$readme" >"$said.md"
+    cp "$said.md" "$readme"
+    exit
+fi
 cd "$(dirname "$0")"
 
 CC=${CC:-gcc}
@@ -116,7 +129,8 @@ for compiler in gcc clang; do
                 count=-
                 if [ $have_callgrind = yes ]; then
                     loop=$(collected loop "$both" count loop named $tasks $slots $COUNTED)
-                    count=$((($(collected $engine "$both" count $engine named $tasks $slots $COUNTED) - loop) / COUNTED))
+                    count=$(collected $engine "$both" count $engine named $tasks $slots $COUNTED)
+                    count=$(awk -v n="$count" -v l="$loop" -v s=$COUNTED 'BEGIN { printf "%.1f", (n - l) / s }')
                 fi
                 echo "$(awk -v n=$engine '$1 == n { print $2 }' "$work/times") $count"
             done | tr '\n' ' ' | awk -v c=$compiler -v t=$tasks -v s=$slots \

@@ -210,8 +210,8 @@ extern "C" {
 #define ZC_WORN 33
 /*
  * The contents of a table contradict each other; never after an opening, or a return to a shelf that
- * was so saved, and calls of this library alone, so somebody else wrote there. Four groups, each
- * tested at its time:
+ * was so saved, and calls of this library alone, so somebody else wrote there, or the queue was never
+ * opened. Four groups, each tested at its time:
  *  - control: tasks or slots outside their limits; pooled above 1; an Anchor with status 3, an end
  *    above slots, just one end null, or unstable with equal ends;
  *  - the record, if busy: place above 11, in a pooled queue above 17; kind, side or finishing above

@@ -116,12 +116,12 @@ refusals! {
     Short = 12, "a lent table is too short";
     NoTask = 13, "no such task";
     NoSide = 14, "side not 0 or 1";
-    NoSlot = 15, "slot not 1 to slots";
+    NoSlot = 15, "slot not 1 to slots", "(not [`Answer::NoFreeSlot`], which is an answer)";
     Busy = 30, "the task is busy";
     Idle = 31, "the task is idle";
     Taken = 32, "the slot is taken";
     Worn = 33, "the Anchor tag is too high for another start", "(see [`Queue::renew`](crate::Queue::renew))";
-    Unsound = 34, "the tables are unsound", "(somebody else wrote there)";
+    Unsound = 34, "the tables are unsound", "(somebody else wrote there, or the queue was never opened)";
     BadHistory = 40, "not a history that can be judged", "(of [`audit`](crate::audit()) alone)";
     WrongPush = 41, "a slot named in a pooled queue, or none in the other";
     NotTwo = 42, "not two busy tasks, or over four labels waiting", "(of [`Queue::schedules`](crate::Queue::schedules) alone)";

@@ -9,7 +9,7 @@ ghost use Rattle.model.specs.Tables.{tablesOf};
 ghost use Rattle.model.specs.Walk.{along, contents};
 ghost use Rattle.walk.specs.Counted.{counted};
 
-/// The labels waiting, or that the links lead astray.
+/// The labels waiting, or that a link is unsound.
 pub enum Tally {
     Broken,
     Labels(u64),

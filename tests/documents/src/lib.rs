@@ -26,7 +26,8 @@ pub fn files() -> Vec<String> {
                     open.push(path);
                 }
             } else {
-                found.push(path.strip_prefix(root()).expect("below the root").display().to_string());
+                found
+                    .push(path.strip_prefix(root()).expect("below the root").display().to_string());
             }
         }
     }

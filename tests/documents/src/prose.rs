@@ -29,7 +29,8 @@ pub fn spans(text: &str) -> Vec<(usize, String)> {
 /// The sentences of a document, with the number of the line where their paragraph begins. Tables and headings have none.
 pub fn sentences(text: &str) -> Vec<(usize, String)> {
     let mut found = Vec::new();
-    let apart = |line: &str| line.trim().is_empty() || line.starts_with('|') || line.starts_with('#');
+    let apart =
+        |line: &str| line.trim().is_empty() || line.starts_with('|') || line.starts_with('#');
     for (number, paragraph) in paragraphs(text, apart) {
         let letters: Vec<char> = paragraph.chars().collect();
         let mut begun = 0;
@@ -51,7 +52,10 @@ fn ends(letters: &[char], at: usize) -> bool {
     let next = letters.get(at + 1).copied().unwrap_or(' ');
     let after = letters.get(at + 2).copied().unwrap_or(' ');
     let dots = letters[at] == '.' && at > 0 && letters[at - 1] == '.';
-    matches!(letters[at], '.' | '?' | '!') && !dots && (next == ' ' || "*\")".contains(next)) && !after.is_lowercase()
+    matches!(letters[at], '.' | '?' | '!')
+        && !dots
+        && (next == ' ' || "*\")".contains(next))
+        && !after.is_lowercase()
 }
 
 /// Lines that belong together, joined; an item of a list is by itself.
@@ -78,5 +82,7 @@ fn paragraphs(text: &str, apart: impl Fn(&str) -> bool) -> Vec<(usize, String)> 
 fn is_item(line: &str) -> bool {
     let line = line.trim_start();
     let number = line.trim_start_matches(|letter: char| letter.is_ascii_digit());
-    line.starts_with("- ") || line.starts_with('|') || (number.len() < line.len() && number.starts_with(". "))
+    line.starts_with("- ")
+        || line.starts_with('|')
+        || (number.len() < line.len() && number.starts_with(". "))
 }

@@ -44,11 +44,24 @@ fn what_stands_in_backticks_is_there() {
 #[test]
 fn paths_in_commands_are_there() {
     let names = names();
-    let tops = ["bench/", "bindings/", "crates/", "docs/", "examples/", "include/", "tests/", "tools/", ".ci/"];
+    let tops = [
+        "bench/",
+        "bindings/",
+        "crates/",
+        "docs/",
+        "examples/",
+        "include/",
+        "tests/",
+        "tools/",
+        ".ci/",
+    ];
     let mut found = Vec::new();
     for path in documents() {
-        for (at, line) in content(&path).lines().enumerate().filter(|(_, line)| line.starts_with("    ")) {
-            let words = line.split(|letter: char| letter.is_whitespace() || "'\"`;(),=".contains(letter));
+        for (at, line) in
+            content(&path).lines().enumerate().filter(|(_, line)| line.starts_with("    "))
+        {
+            let words =
+                line.split(|letter: char| letter.is_whitespace() || "'\"`;(),=".contains(letter));
             for word in words.filter(|word| tops.iter().any(|top| word.starts_with(top))) {
                 if !names.has_path(word.trim_end_matches(['.', ':'])) {
                     found.push(format!("{path}:{}: no such file or folder: {word}", at + 1));
@@ -63,8 +76,11 @@ fn paths_in_commands_are_there() {
 fn links_lead_somewhere() {
     let mut found = Vec::new();
     for path in documents() {
-        let folder = path.rsplit_once('/').map_or(String::new(), |(folder, _)| format!("{folder}/"));
-        for link in content(&path).split("](").skip(1).filter_map(|rest| rest.split([')', '#']).next()) {
+        let folder =
+            path.rsplit_once('/').map_or(String::new(), |(folder, _)| format!("{folder}/"));
+        for link in
+            content(&path).split("](").skip(1).filter_map(|rest| rest.split([')', '#']).next())
+        {
             let there = documents::root().join(format!("{folder}{link}")).exists();
             if !link.contains("://") && !link.is_empty() && !there {
                 found.push(format!("{path}: no file {link}"));
@@ -74,10 +90,35 @@ fn links_lead_somewhere() {
     none(found);
 }
 
+/// README's table of calls: each call of a row is made by one of the programs that the row names.
+#[test]
+fn calls_are_shown_by_their_examples() {
+    let (mut rows, mut found) = (0, Vec::new());
+    for line in content("README.md").lines().filter(|line| line.starts_with("| `zc_")) {
+        let (first, rest) = line[2..].split_once(" | ").expect("a row");
+        let programs: String = spans(rest.rsplit_once(" | ").expect("a row").1)
+            .iter()
+            .map(|(_, path)| content(path))
+            .collect();
+        let words: Vec<&str> =
+            programs.split(|letter: char| !letter.is_alphanumeric() && letter != '_').collect();
+        rows += 1;
+        for (_, call) in spans(first) {
+            let wrapped = call.replacen("zc_", "zc_queue_", 1);
+            if !words.contains(&call.as_str()) && !words.contains(&wrapped.as_str()) {
+                found.push(format!("{call}: no program of its row makes it"));
+            }
+        }
+    }
+    assert!(rows > 10, "README.md has no table of calls");
+    none(found);
+}
+
 #[test]
 fn every_allowed_word_has_a_reason_and_is_needed() {
     let names = names();
-    let spans: Vec<String> = documents().iter().flat_map(|path| spans(&content(path))).map(|(_, span)| span).collect();
+    let spans: Vec<String> =
+        documents().iter().flat_map(|path| spans(&content(path))).map(|(_, span)| span).collect();
     let mut found = Vec::new();
     for (words, reason) in allowed() {
         if reason.is_empty() {
@@ -110,7 +151,12 @@ fn sentences_are_short() {
 fn notes_of_requests_are_short() {
     let notes = files().into_iter().filter(|path| path.starts_with("docs/changes/1"));
     let counted = notes.map(|path| (content(&path).split_whitespace().count(), path));
-    none(counted.filter(|(words, _)| *words >= LONGEST_NOTE).map(|(words, path)| format!("{path}: {words} words")).collect());
+    none(
+        counted
+            .filter(|(words, _)| *words >= LONGEST_NOTE)
+            .map(|(words, path)| format!("{path}: {words} words"))
+            .collect(),
+    );
 }
 
 #[test]

@@ -13,7 +13,8 @@ fn block(opening: &str) -> String {
 }
 
 fn library() -> PathBuf {
-    let folder = std::env::var_os("ZEPPOLECAPE_LIB_DIR").map_or(root().join("target/lib"), PathBuf::from);
+    let folder =
+        std::env::var_os("ZEPPOLECAPE_LIB_DIR").map_or(root().join("target/lib"), PathBuf::from);
     let archive = folder.join("libzeppolecape.a");
     assert!(archive.is_file(), "there is no {}; build it with: make", archive.display());
     archive
@@ -27,7 +28,11 @@ fn run(command: &mut Command) -> Output {
 fn printed(name: &str) -> String {
     let program = Path::new(env!("CARGO_TARGET_TMPDIR")).join(name);
     let source = format!("examples/c/{name}.c");
-    let built = run(Command::new("cc").args(["-Wall", "-Wextra", "-Werror", "-Iinclude", &source]).arg(library()).arg("-o").arg(&program));
+    let built = run(Command::new("cc")
+        .args(["-Wall", "-Wextra", "-Werror", "-Iinclude", &source])
+        .arg(library())
+        .arg("-o")
+        .arg(&program));
     assert!(built.status.success(), "{}", String::from_utf8_lossy(&built.stderr));
     let said = run(&mut Command::new(&program));
     assert!(said.status.success(), "{name} ended with {}", said.status);
@@ -42,7 +47,8 @@ fn readme_shows_the_examples() {
 
 #[test]
 fn readme_shows_what_the_first_program_prints() {
-    let shown = block("$ cc -Iinclude examples/c/first.c target/lib/libzeppolecape.a -o first && ./first");
+    let shown =
+        block("$ cc -Iinclude examples/c/first.c target/lib/libzeppolecape.a -o first && ./first");
     let shown: Vec<&str> = shown.lines().filter(|line| !line.starts_with('$')).collect();
     assert_eq!(printed("first").lines().collect::<Vec<_>>(), shown);
 }

@@ -15,7 +15,8 @@ fn stored(name: &str, ending: &str, words: &str, run: &Path) -> Verdict {
 
 /// The view that docs/TOOLS.md shows: the lines below its command, up to the sums.
 fn documented() -> Verdict {
-    let text = read_to_string(root().join("docs/TOOLS.md")).map_err(|error| format!("  {error}"))?;
+    let text =
+        read_to_string(root().join("docs/TOOLS.md")).map_err(|error| format!("  {error}"))?;
     let mut lines = text.lines().skip_while(|line| !line.starts_with("$ tools/view "));
     let command = lines.next().ok_or("  docs/TOOLS.md has no view")?;
     let shown: Vec<&str> = lines.take_while(|line| *line != "```").collect();
