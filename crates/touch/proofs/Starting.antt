@@ -92,12 +92,14 @@ module _ (pooled slots : ℕ) where
   pub put-plan : (side label : ℕ) → leb side 1 ≡ true → eqb pooled 1 ≡ true → loadsHead ≡ plan pooled slots (asking side label)
   put-plan side label a p =
       let r = asking side label in
-      plans pooled slots r (F.put pooled slots 12 r (F.high pooled slots 12 refl p) refl refl refl refl refl refl (base 12 0 side 0 label refl a)) 12 refl refl _
+      plans pooled slots r (F.put pooled slots 12 r (F.high pooled slots 12 refl p) refl refl refl refl refl refl
+      (base 12 0 side 0 label refl a)) 12 refl refl _
       (plan12 pooled slots r)
 
   refused-34 : (r : Record) → (sounds r ≡ true → ⊥) → refuses 34 ≡ plan pooled slots r
   refused-34 r h =
-      refuses-plan pooled slots r 34 (unsound (eqb pooled 1) slots r (split (sounds r) (λ t. absurd (h t)) (λ f. f))) (λ (z : _≡_ {A = ℕ} 34 0). omega (arith, z))
+      refuses-plan pooled slots r 34 (unsound (eqb pooled 1) slots r (split (sounds r) (λ t. absurd (h t)) (λ f. f))) (λ
+      (z : _≡_ {A = ℕ} 34 0). omega (arith, z))
 
   pub bad-side : (r : Record) → eqb (r .place) 0 ≡ false → leb (r .side) 1 ≡ false → refuses 34 ≡ plan pooled slots r
   bad-side r busy a = refused-34 r (λ t. not-both (F.fit pooled slots r busy t .base .side) a)

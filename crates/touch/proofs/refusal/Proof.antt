@@ -40,12 +40,14 @@ returns-4 : tie.Need-returns-4
 returns-4 c =
     let busy = c .before .before .if3 .left in
     as-called (c .before .before .before .before .before .before)
-    (sym (passes _ _ _ busy (sym (early _ _ (c .before .before .before .before .if1 .left) _ (some busy)) ∙ sym (c .before .early-sound .ensures) ∙ c .if4 .taken)))
+    (sym (passes _ _ _ busy (sym (early _ _ (c .before .before .before .before .if1 .left) _ (some busy)) ∙ sym (c .before .early-sound .ensures)
+    ∙ c .if4 .taken)))
 
 returns-5 : tie.Need-returns-5
 returns-5 c =
     as-called (c .before .before .before .before .before .before)
-    (unsound _ _ _ (sym (early _ _ (c .before .before .before .before .if1 .left) _ (some (c .before .before .if3 .left))) ∙ sym (c .before .early-sound .ensures) ∙ c .if4 .left))
+    (unsound _ _ _ (sym (early _ _ (c .before .before .before .before .if1 .left) _ (some (c .before .before .if3 .left))) ∙ sym
+    (c .before .early-sound .ensures) ∙ c .if4 .left))
 
 pub refusal-spec : {M : Type 1} → statement M
 refusal-spec =

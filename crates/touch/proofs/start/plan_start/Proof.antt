@@ -28,13 +28,16 @@ returns-3 c =
     let a = c .before .before .before .before .before .before .before .args in
     c .refuses3 .ensures
     ∙ by.no-slot (a .pooled) (a .slots) (callOf (a .task .now)) (a .s) (le-leb _ _ (c .before .before .before .before .before .if1 .left))
-    (sym (c .before .before .before .before .wrong-push .ensures) ∙ c .before .before .before .if2 .left) (sym (c .before .before .outside .ensures) ∙ c .before .if3 .taken)
+    (sym (c .before .before .before .before .wrong-push .ensures) ∙ c .before .before .before .if2 .left) (sym (c .before .before .outside .ensures)
+    ∙ c .before .if3 .taken)
 
 returns-4 : tie.Need-returns-4
 returns-4 c =
     let a = c .before .before .before .before .before .before .before .before .before .before .args in
     by.free (a .pooled) (a .slots) (callOf (a .task .now)) (a .s) (le-leb _ _ (c .before .before .before .before .before .before .before .before .if1 .left))
-    (sym (c .before .before .before .before .before .before .before .wrong-push .ensures) ∙ c .before .before .before .before .before .before .if2 .left) (sym (c .before .before .before .before .before .outside .ensures) ∙ c .before .before .before .before .if3 .left)
+    (sym (c .before .before .before .before .before .before .before .wrong-push .ensures)
+    ∙ c .before .before .before .before .before .before .if2 .left) (sym (c .before .before .before .before .before .outside .ensures)
+    ∙ c .before .before .before .before .if3 .left)
     (sym (ap (λ (r : Record). r .place) (c .before .before .call-of .ensures)) ∙ c .if4 .taken)
 
 returns-5 : tie.Need-returns-5
@@ -42,8 +45,12 @@ returns-5 c =
     let co = c .before .before .before .before .before .call-of in
     let a = c .before .before .before .before .before .before .before .before .before .before .before .before .before .args in
     c .refuses4 .ensures
-    ∙ by.taken-up (a .pooled) (a .slots) (co .result) (a .s) (le-leb _ _ (c .before .before .before .before .before .before .before .before .before .before .before .if1 .left))
-    (sym (c .before .before .before .before .before .before .before .before .before .before .wrong-push .ensures) ∙ c .before .before .before .before .before .before .before .before .before .if2 .left) (sym (c .before .before .before .before .before .before .before .before .outside .ensures) ∙ c .before .before .before .before .before .before .before .if3 .left)
+    ∙ by.taken-up (a .pooled) (a .slots) (co .result) (a .s) (le-leb _ _
+    (c .before .before .before .before .before .before .before .before .before .before .before .if1 .left))
+    (sym (c .before .before .before .before .before .before .before .before .before .before .wrong-push .ensures)
+    ∙ c .before .before .before .before .before .before .before .before .before .if2 .left) (sym
+    (c .before .before .before .before .before .before .before .before .outside .ensures)
+    ∙ c .before .before .before .before .before .before .before .if3 .left)
     (c .before .before .before .if4 .left) (sym (c .before .before .record-sound .ensures) ∙ c .before .if5 .taken)
     ∙ ap (λ (r : Record). planStart (a .pooled) (a .slots) r (a .s)) (co .ensures)
 
@@ -52,8 +59,12 @@ returns-6 c =
     let co = c .before .before .before .before .before .call-of in
     let a = c .before .before .before .before .before .before .before .before .before .before .before .before .before .args in
     c .refuses5 .ensures
-    ∙ by.damaged (a .pooled) (a .slots) (co .result) (a .s) (le-leb _ _ (c .before .before .before .before .before .before .before .before .before .before .before .if1 .left))
-    (sym (c .before .before .before .before .before .before .before .before .before .before .wrong-push .ensures) ∙ c .before .before .before .before .before .before .before .before .before .if2 .left) (sym (c .before .before .before .before .before .before .before .before .outside .ensures) ∙ c .before .before .before .before .before .before .before .if3 .left)
+    ∙ by.damaged (a .pooled) (a .slots) (co .result) (a .s) (le-leb _ _
+    (c .before .before .before .before .before .before .before .before .before .before .before .if1 .left))
+    (sym (c .before .before .before .before .before .before .before .before .before .before .wrong-push .ensures)
+    ∙ c .before .before .before .before .before .before .before .before .before .if2 .left) (sym
+    (c .before .before .before .before .before .before .before .before .outside .ensures)
+    ∙ c .before .before .before .before .before .before .before .if3 .left)
     (sym (c .before .before .record-sound .ensures) ∙ c .before .if5 .left)
     ∙ ap (λ (r : Record). planStart (a .pooled) (a .slots) r (a .s)) (co .ensures)
 
