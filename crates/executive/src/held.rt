@@ -6,6 +6,14 @@ use model::Op;
 use model::Outcome;
 use model::TaskRecord;
 use rows::op;
+ghost use mathlib.Core.Path.{_≡_};
+ghost use Rattle.model.specs.declared.Op.the-variants.{Step};
+ghost use lib.ListN.{getD, set};
+ghost use Rattle.model.specs.Tables.{unused};
+ghost use Rattle.model.specs.Calls.{act};
+ghost use Rattle.model.specs.LentSteps.{takeTurn, lent};
+ghost use Rattle.rows.specs.Rows.{recordOf, recordsOf};
+ghost use Rattle.executive.specs.Held.{queueIn, doneOf};
 
 /// Control, records and tables of a queue of 3 slots.
 pub struct Held {
@@ -24,27 +32,49 @@ pub struct Done {
     pub outcome: Outcome,
 }
 
-fn row_of(t: TaskRecord) -> [u64; rows::RECORD_WORDS] {
+fn row_of(t: TaskRecord) -> [u64; rows::RECORD_WORDS]
+    ensures { λ row. ⌜ recordOf row ≡ t ⌝ }
+{
     let call = t.call;
     rows::record_row(call, t.retries)
 }
 
-fn record_of(row: [u64; rows::RECORD_WORDS]) -> TaskRecord {
+fn record_of(row: [u64; rows::RECORD_WORDS]) -> TaskRecord
+    ensures { λ t. ⌜ t ≡ recordOf row ⌝ }
+{
     let call = rows::call_of(row);
     let retries = rows::retries_of(row);
     TaskRecord { call, retries }
 }
 
-/// A start. Its function has the records as rows of words.
-pub fn start(h: Held, task: usize, op: Op) -> Done {
-    let c = h.control;
-    let rs = h.records;
-    let first = rs[0];
-    let second = rs[1];
+fn rows_of(records: [TaskRecord; TASKS]) -> [[u64; rows::RECORD_WORDS]; TASKS]
+    ensures { λ r. ⌜ recordsOf r ≡ records ⌝ }
+{
+    let first = records[0];
+    let second = records[1];
     let a = row_of(first);
     let b = row_of(second);
+    [a, b]
+}
+
+fn records_of(rows: [[u64; rows::RECORD_WORDS]; TASKS]) -> [TaskRecord; TASKS]
+    ensures { λ rs. ⌜ rs ≡ recordsOf rows ⌝ }
+{
+    let first = rows[0];
+    let second = rows[1];
+    let a = record_of(first);
+    let b = record_of(second);
+    [a, b]
+}
+
+/// A start. Its function has the records as rows of words.
+pub fn start(h: Held, task: usize, op: Op) -> Done
+    ensures { λ d. ⌜ doneOf d ≡ act (queueIn h) task op ⌝ }
+{
+    let c = h.control;
+    let rs = h.records;
     let mut words = rows::control_row(c);
-    let mut rows = [a, b];
+    let mut rows = rows_of(rs);
     let mut lefts = h.lefts;
     let mut rights = h.rights;
     let mut labels = h.labels;
@@ -62,11 +92,7 @@ pub fn start(h: Held, task: usize, op: Op) -> Done {
         &mut next,
     );
     let control = rows::control_of(words);
-    let x = rows[0];
-    let y = rows[1];
-    let d = record_of(x);
-    let e = record_of(y);
-    let records = [d, e];
+    let records = records_of(rows);
     let held = Held {
         control,
         records,
@@ -80,7 +106,9 @@ pub fn start(h: Held, task: usize, op: Op) -> Done {
 }
 
 /// A step of a task, the records lent side by side.
-pub fn step(h: Held, task: usize) -> Done {
+pub fn step(h: Held, task: usize) -> Done
+    ensures { λ d. ⌜ doneOf d ≡ act (queueIn h) task Step ⌝ }
+{
     let c = h.control;
     let rs = h.records;
     let mut lefts = h.lefts;
@@ -113,11 +141,27 @@ pub fn step(h: Held, task: usize) -> Done {
     Done { held, outcome }
 }
 
+fn second(records: [TaskRecord; TASKS]) -> TaskRecord
+    ensures { λ t. ⌜ t ≡ getD records 1 unused ⌝ }
+{
+    records[1]
+}
+
+fn with_second(records: [TaskRecord; TASKS], t: TaskRecord) -> [TaskRecord; TASKS]
+    ensures { λ rs. ⌜ rs ≡ set records 1 t ⌝ }
+{
+    let mut rs = records;
+    rs[1] = t;
+    rs
+}
+
 /// A step of task 1, its record lent alone.
-pub fn step_alone(h: Held) -> Done {
+pub fn step_alone(h: Held) -> Done
+    ensures { λ d. ⌜ doneOf d ≡ takeTurn (queueIn h) (lent 1) ⌝ }
+{
     let c = h.control;
-    let mut records = h.records;
-    let t = records[1];
+    let rs = h.records;
+    let t = second(rs);
     let mut lefts = h.lefts;
     let mut rights = h.rights;
     let mut labels = h.labels;
@@ -135,7 +179,7 @@ pub fn step_alone(h: Held) -> Done {
     let control = s.control;
     let r = s.task;
     let outcome = s.outcome;
-    records[1] = r;
+    let records = with_second(rs, r);
     let held = Held {
         control,
         records,
