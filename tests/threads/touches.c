@@ -93,6 +93,8 @@ static void any_record(struct tables *t)
         uint64_t *rows = zc_anchor_status(r->seen) == ZC_RPUSH ? t->rights : t->lefts;
         r->link = rows[r->neighbour];
     }
+    if (once_in(60))
+        r->seen |= UINT64_C(3) << 30;
     if (once_in(20)) /* any field, but the upper half of the label's word, by which no call goes */
         ((uint64_t *)r)[once_in(2) ? draw(4) : 5 + draw(5)] = once_in(2) ? draw(3) : any_link(1023);
 }

@@ -64,7 +64,7 @@ fn damage(dice: &mut Dice, tables: &mut Storage) {
     let any = dice.between(0, tables.control.slots);
     let row = dice.pick(&[0, tables.control.slots, any]) as usize;
     let bit = 1 << dice.between(0, 63);
-    match dice.between(0, 11) {
+    match dice.between(0, 17) {
         0 => tables.lefts[row] ^= bit,
         1 => tables.rights[row] ^= bit,
         2 => tables.labels[row] ^= 1 << dice.between(0, 31),
@@ -76,7 +76,17 @@ fn damage(dice: &mut Dice, tables: &mut Storage) {
         8 => tables.records[0].place = dice.between(1, 20),
         9 => tables.records.truncate(dice.between(0, 1) as usize),
         10 => tables.lefts.truncate(row),
-        _ => tables.labels.truncate(row),
+        11 => tables.rights.truncate(row),
+        12 => tables.labels.truncate(row),
+        13 => tables.marks.truncate(row / 64),
+        14 => tables.control.anchor |= 3 << 30,
+        15 | 16 => {
+            // the walk meets slot 0, one beyond the last, or perhaps one that it has met
+            let met = dice.between(1, tables.control.slots);
+            tables.lefts[row] = dice.pick(&[0, tables.control.slots + 1, met, met]);
+        }
+        // a single label waits, in a third queue too
+        _ => tables.control.anchor = row.max(1) as u64 * 0x8001,
     }
 }
 
