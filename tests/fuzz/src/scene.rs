@@ -90,7 +90,16 @@ fn tag(bytes: &mut Bytes) -> u64 {
 }
 
 pub fn link(bytes: &mut Bytes, slots: u64) -> u64 {
-    tag(bytes) | bytes.near(slots) & 0xffff_ffff
+    let low = match bytes.below(8) {
+        0 => 1 << (15 + bytes.below(17)) | bytes.below(slots + 1),
+        _ => beyond(bytes, slots),
+    };
+    tag(bytes) | low
+}
+
+/// A number up to `near`, or the one beyond it.
+fn beyond(bytes: &mut Bytes, near: u64) -> u64 {
+    bytes.below(near + 2)
 }
 
 pub fn anchor(bytes: &mut Bytes, slots: u64) -> u64 {
@@ -140,18 +149,19 @@ fn stand(bytes: &mut Bytes, tables: &mut Storage, slots: u64) {
     put(&mut tables.records, at, record);
 }
 
-/// A field of a record.
+/// A field of a record; now and then any number there.
 pub fn spoil(bytes: &mut Bytes, record: &mut Record, slots: u64) {
+    let number = if bytes.below(4) == 0 { Bytes::near } else { beyond };
     match bytes.below(10) {
-        0 => record.place = bytes.near(17),
-        1 => record.kind = bytes.near(1),
-        2 => record.side = bytes.near(1),
-        3 => record.own = bytes.near(slots),
+        0 => record.place = number(bytes, 17),
+        1 => record.kind = number(bytes, 1),
+        2 => record.side = number(bytes, 1),
+        3 => record.own = number(bytes, slots),
         4 => record.label = bytes.label(),
         5 => record.seen = anchor(bytes, slots),
-        6 => record.neighbour = bytes.near(slots),
+        6 => record.neighbour = number(bytes, slots),
         7 => record.link = link(bytes, slots),
-        8 => record.finishing = bytes.near(1),
+        8 => record.finishing = number(bytes, 1),
         _ => record.retries = bytes.pick(&[1, 4_294_967_294, 4_294_967_295, u64::MAX]),
     }
 }
