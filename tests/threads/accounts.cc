@@ -105,7 +105,7 @@ int main(int argc, char **argv)
     static const uint64_t sizes[] = {3, 4, 2, 1, 6, 100}, pauses[] = {2, 5, 20};
     uint64_t seconds = number(argc, argv, 1, 5), first = number(argc, argv, 2, 1);
     auto end = std::chrono::steady_clock::now() + std::chrono::seconds(seconds);
-    alarm(static_cast<unsigned>(seconds) + 60); // a call that does not end stops the test
+    stops_after(seconds);
     for (uint64_t turn = 0; turn < 24 || std::chrono::steady_clock::now() < end; turn++) {
         bool fibers = fibers_allowed && turn / 2 % 4 != 3;
         pause_one_in = pauses[turn / 2 % 3];

@@ -180,7 +180,7 @@ int main(int argc, char **argv)
     static const uint64_t sizes[] = {3, 2, 1, 6}, pauses[] = {2, 5, 20};
     uint64_t seconds = number(argc, argv, 1, 5), first = number(argc, argv, 2, 1), turn = 0;
     auto end = std::chrono::steady_clock::now() + std::chrono::seconds(seconds);
-    alarm(static_cast<unsigned>(seconds) + 60); // a call that does not end stops the test
+    stops_after(seconds);
     for (; turn < 500 || std::chrono::steady_clock::now() < end; turn++) {
         pause_one_in = pauses[turn / 4 % 3];
         one({turn % 2 == 0, turn / 2 % 4 != 0, 2 + turn / 4 % 3, sizes[turn / 12 % 4]}, first * 100000 + turn);

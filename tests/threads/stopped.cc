@@ -134,7 +134,7 @@ int main(int argc, char **argv)
     for (bool pooled : {true, false})
         for (uint64_t place = 1; place <= (pooled ? 17 : 11); place++)
             for (bool touched : {false, true}) {
-                alarm(120); // others that wait for the stopped one stop the test
+                stops_after(60); // others that wait for the stopped one stop the test
                 one({pooled, touched, place}, pooled && !touched ? calls : calls / 10, first * 100 + cases++);
             }
     std::printf("%d stops for ever; after 17 of them the others made %llu calls, after the rest a tenth\n",

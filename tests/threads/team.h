@@ -14,6 +14,7 @@
 #include <vector>
 
 #include <sched.h>
+#include <sys/time.h>
 #include <ucontext.h>
 #include <unistd.h>
 
@@ -154,6 +155,16 @@ inline void expect(bool holds, const char *what)
 {
     if (!holds)
         fail(what);
+}
+
+// A call that does not end stops the test: by the processor's time of all threads, so that a busy
+// machine is not taken for it. Where all wait, and take no such time, the clock does, later.
+inline void stops_after(uint64_t seconds)
+{
+    itimerval limit = {};
+    limit.it_value.tv_sec = static_cast<time_t>(4 * seconds + 60);
+    setitimer(ITIMER_PROF, &limit, nullptr);
+    alarm(static_cast<unsigned>(seconds) + 500);
 }
 
 inline uint64_t number(int count, char **words, int at, uint64_t otherwise)
