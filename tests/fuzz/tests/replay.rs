@@ -39,11 +39,11 @@ fn histories_kept() {
 /// Lent tables of any contents, by the Rust crate.
 #[test]
 fn tables_random() {
-    random("tables", 20_000);
+    random("tables", 100_000);
 }
 
 /// Calls in any order on the queues that the Rust crate owns.
 #[test]
 fn owned_random() {
-    random("owned", 2_000);
+    random("owned", 10_000);
 }
