@@ -54,7 +54,9 @@ impl Program {
         let file = format!("zeppolecape-inline-{}-{name}-{standard}-{}", process::id(), more.len());
         let program = Program(env::temp_dir().join(file));
         let mut command = compiler(name, standard, more);
-        command.arg("-I").arg(root().join("tests/library"));
+        for folder in ["tests/library", "bench"] {
+            command.arg("-I").arg(root().join(folder));
+        }
         command.arg(root().join("tests/helpers/c/inline.c"));
         command.args(["-x", "none"]).arg(archive()).arg("-o").arg(&program.0);
         done(&mut command);
