@@ -11,7 +11,8 @@ use base.Logic.{ent, sep}
 use base.Fml.{GName, Fml, fsep, fat, flft, flent, fres}
 use prog.Wp.{Heap}
 use ghost.Atoms.{Atoms, sem}
-use types.Kit.{Given, Goal, Soaks, Seq, Step, step, Item, ‵, _⊛_, ⋆, some, later, _$_, _∵_, !, qed, move, use1, use2, use3, split, pick, rewrite, fsplit, fjoin, fpick}
+use types.Kit.{Given, Goal, Soaks, Seq, Step, step, Item, ‵, _⊛_, ⋆, some, later, _$_, _∵_, !, qed}
+use types.Kit.{move, use1, use2, use3, split, pick, rewrite, fsplit, fjoin, fpick}
 use types.Kit.{fpack, feqL, feqI, frame, await, done}
 use types.Tokens.{lft-new, lft-end}
 use types.SemTy.{Arr, Body, cells}
