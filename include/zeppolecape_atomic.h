@@ -253,7 +253,7 @@ static inline uint64_t *zc_link(const zc_shared *shared, const zc_touch *touch)
     return &(touch->side == ZC_RIGHT ? shared->rights : shared->lefts)[touch->slot];
 }
 
-/* Makes a touch, and answers the word found: `perform` of crates/threads/specs/Split.antt, a line each. */
+/* Makes a touch, and answers the word found: `perform` of crates/threads_model/specs/Split.antt, a line each. */
 static inline uint64_t zc_made(const zc_shared *shared, const zc_touch *touch)
 {
     switch (touch->act) {
@@ -295,16 +295,43 @@ static inline void zc_begin(const zc_shared *shared, zc_record *own, const zc_st
     } while (onward->reply.code == ZC_STARTING);
 }
 
+/*
+ * How long a thread waits once a change of its own has failed, some microseconds: whoever was faster
+ * then makes several calls with the words in its own cache, where two that try again at once take
+ * them from each other at every touch. It is no wait for anybody: it ends by itself.
+ */
+#ifndef ZC_PAUSES
+#define ZC_PAUSES 256 /* 0: none */
+#endif
+
+static inline void zc_back_off(void)
+{
+    for (int left = ZC_PAUSES; left > 0; left--) {
+#if defined __x86_64__ || defined __i386__
+        __builtin_ia32_pause();
+#elif defined __aarch64__
+        __asm__ volatile("yield");
+#else
+        __atomic_signal_fence(__ATOMIC_SEQ_CST);
+#endif
+    }
+}
+
 /* Starts a call and steps it to its answer. */
 static inline zc_reply zc_answer_to(const zc_shared *shared, zc_record *own, const zc_start *start)
 {
     zc_onward onward;
     zc_begin(shared, own, start, &onward);
+    uint64_t failed = own->retries;
     while (onward.reply.code == ZC_RUNNING) {
         ZC_BETWEEN();
         uint64_t found = zc_made(shared, &onward.touch);
         ZC_BETWEEN();
         onward = zc_settle_plan(shared->slots, shared->pooled, own, found);
+        if (own->retries != failed) {
+            failed = own->retries;
+            zc_back_off();
+        }
     }
     return onward.reply;
 }

@@ -141,6 +141,7 @@ inline void together(bool fibers, const std::vector<std::function<void()>> &work
 }
 
 #define ZC_BETWEEN() pause_sometimes()
+#define ZC_PAUSES 0 // a change that failed is tried again at once: more meet
 #include "zeppolecape_atomic.h"
 
 [[noreturn]] inline void fail(const std::string &what)

@@ -6,6 +6,7 @@ use crate::raw::{self, Onward, Start, Touch};
 use crate::{Answer, Control, Queue, Record, Refusal, Side};
 use alloc::vec::Vec;
 use core::cell::Cell;
+use core::hint::spin_loop;
 use core::marker::PhantomData;
 use core::slice::IterMut;
 use core::sync::atomic::{AtomicU32, AtomicU64};
@@ -197,8 +198,13 @@ impl Handle<'_> {
 
     /// Steps the call that was started to its answer. Refuses 31.
     pub fn finish(&mut self) -> Result<Answer, Refusal> {
+        let mut failed = self.seat.record.retries;
         let mut onward = self.cells.stepped(&mut self.seat.record, &self.seat.touch);
         while onward.reply.code == raw::RUNNING {
+            if self.seat.record.retries != failed {
+                failed = self.seat.record.retries;
+                back_off();
+            }
             onward = self.cells.stepped(&mut self.seat.record, &onward.touch);
         }
         self.seat.touch = onward.touch;
@@ -223,6 +229,14 @@ impl Handle<'_> {
             self.seat.touch = touch;
         }
         outcome(reply)
+    }
+}
+
+/// Some microseconds once a change has failed: whoever was faster then makes several calls with the
+/// words in its own cache. It is no wait for anybody: it ends by itself.
+fn back_off() {
+    for _ in 0..256 {
+        spin_loop();
     }
 }
 

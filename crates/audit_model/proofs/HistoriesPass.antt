@@ -2,7 +2,7 @@
 use mathlib.Core.Bool.{Bool, true}
 use mathlib.Core.List.{List, [], _∷_, map, map-map}
 use mathlib.Core.Path.{_≡_, refl, sym, ap, _∙_, subst}
-use Prim.Native.Nat.{ℕ, suc, _<_, _≤_}
+use Prim.Native.Nat.{ℕ, suc, _≤_}
 use native.Mathlib.Omega.{arith}
 use lib.ListN.{length, length-map}
 use borrow.Author.Tests.{eq-eqb, le-leb, ne-eqb}
@@ -28,7 +28,7 @@ use Rattle.audit_model.proofs.Replayed.{Replays, replayed, servedIn}
 use Rattle.audit_model.proofs.Events.{Apart, Past, Tidy, run-tidy}
 use Rattle.audit_model.proofs.Settled.{Suits, apart-written, formed, settled}
 use Rattle.audit_model.proofs.SlotsDropped.{label-gives, labelsOf}
-use Rattle.audit_model.proofs.Numbered.{IsSettled, Ordered, OtherCall, Within, finished-cons, finished-length, ordered}
+use Rattle.audit_model.proofs.Numbered.{IsSettled, Ordered, Within, finished-cons, finished-length, ordered}
 
 -- What a history may hold.
 abbrev Formed : Finished → Type 0

@@ -1,11 +1,10 @@
 -- Settled calls: their effects in order name every call once, and each effect suits the call of its number.
-use mathlib.Core.Bool.{true}
-use mathlib.Core.List.{List, [], _∷_, _++_, map, reverse, reverse-cons}
+use mathlib.Core.List.{List, [], _∷_, _++_, map, reverse-cons}
 use mathlib.Core.Logic.{_≢_}
 use mathlib.Core.Path.{_≡_, refl, sym, ap, _∙_, subst}
-use Prim.Native.Nat.{ℕ, suc, _<_, _≤_}
+use Prim.Native.Nat.{ℕ, suc, _≤_}
 use native.Mathlib.Omega.{arith}
-use lib.ListN.{length, getD, length-reverse, length-map, List·getD-append}
+use lib.ListN.{length, length-reverse, length-map, List·getD-append}
 use lib.Seq.{getD-at}
 use Rattle.model.specs.History.{Call, Effect}
 use Rattle.model.specs.Lists.{All}

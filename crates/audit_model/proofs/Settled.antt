@@ -10,10 +10,10 @@ use Rattle.model.specs.declared.Answer.{Answer}
 use Rattle.model.specs.declared.Answer.the-variants.{Running, Pushed, Empty, Popped, NoSlot}
 use Rattle.model.specs.declared.Outcome.the-variants.{Moved}
 use Rattle.model.specs.Calls.{replyOf}
-use Rattle.model.specs.History.{Call, Effect, Ending, Lawful, Once, answered, pending}
+use Rattle.model.specs.History.{Call, Effect, Ending, Lawful, answered, pending}
 use Rattle.audit_model.specs.declared.Finished.{Finished}
 use Rattle.audit_model.specs.Audit.{apart, wellFormed}
-use Rattle.audit_model.specs.Written.{IsAnswered, IsTold, labelTold, written}
+use Rattle.audit_model.specs.Written.{IsAnswered, IsTold, written}
 use Rattle.audit_model.proofs.Taken.{Taken, taken}
 use Rattle.audit_model.proofs.Events.{Apart, NotAt, NotTogether, Past}
 

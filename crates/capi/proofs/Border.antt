@@ -1,8 +1,8 @@
 -- The calls over rows: what their parts say comes to what the call means.
 use mathlib.Core.Path.{_≡_, refl, sym, ap, subst, _∙_}
-use mathlib.Core.Bool.{Bool, true, false, _&&_, cond}
+use mathlib.Core.Bool.{Bool, true, false, cond}
 use mathlib.Core.List.{List}
-use Prim.Native.Nat.{ℕ, _≤_}
+use Prim.Native.Nat.{ℕ, _≤_, min}
 use native.Mathlib.Omega.{arith}
 use lib.Dec.{eqb, leb}
 use lib.ListN.{length, set}
@@ -26,7 +26,7 @@ use Rattle.calls.specs.Telling.{countable}
 use Rattle.calls.proofs.Counts.{countable-fits}
 use Rattle.calls.proofs.Tells.{all-looked-at, report-parts}
 use Rattle.rows.specs.Rows.{controlOf, recordsOf, uppersOf, queueIn}
-use Rattle.rows.proofs.Rows.{length-records}
+use Rattle.rows.proofs.Rows.{length-records, all-zeroed}
 use Rattle.capi.specs.Replies.{uppersAt, Coded, coded, Replied, replied, countsIn, reportReplyOf}
 use Rattle.capi.proofs.Count.{busyIn}
 
@@ -94,15 +94,15 @@ module _ (ws : List ℕ) (rows : List (List ℕ)) (lefts rights labels marks nex
     abbrev parts : OpenedParts
     parts = record { tables = tablesOf (m .control) lefts′ rights′ labels′ marks′ next′; clear = m .clear; outcome = m .outcome }
 
-    pub clears : n ≡ length rows → parts ≡ openTables pooled (tablesOf c lefts rights labels marks next) n tasks slots tag → m .clear ≤ length rows
+    clears : n ≡ length rows → parts ≡ openTables pooled (tablesOf c lefts rights labels marks next) n tasks slots tag → m .clear ≤ length rows
     clears en e =
         subst (λ (k : ℕ). m .clear ≤ k) en
         (subst (λ (o : OpenedParts). o .clear ≤ n) (sym e) (clear-fits pooled (tablesOf c lefts rights labels marks next) n tasks slots tag))
 
     pub opened : (code : ℕ) → c ≡ controlOf ws → n ≡ length rows
         → parts ≡ openTables pooled (tablesOf c lefts rights labels marks next) n tasks slots tag
-        → controlOf ws′ ≡ m .control → recordsOf rows′ ≡ zeroed (m .clear) unused (recordsOf rows)
-        → uppersOf rows′ ≡ zeroed (m .clear) 0 (uppersOf rows) → code ≡ openingCode (m .outcome)
+        → controlOf ws′ ≡ m .control → recordsOf rows′ ≡ zeroed (min (m .clear) (length rows)) unused (recordsOf rows)
+        → uppersOf rows′ ≡ zeroed (min (m .clear) (length rows)) 0 (uppersOf rows) → code ≡ openingCode (m .outcome)
         → _≡_ {A = Coded} (record { queue = queueIn ws′ rows′ lefts′ rights′ labels′ marks′ next′; uppers = uppersOf rows′; code = code })
         (coded tasks (uppersOf rows) (openAs pooled queue tasks slots tag))
     opened code ec en e e1 e2 e3 eo =
@@ -113,7 +113,8 @@ module _ (ws : List ℕ) (rows : List (List ℕ)) (lefts rights labels marks nex
         let zeroes : zeroed (m .clear) 0 (uppersOf rows) ≡ uppersAt tasks (uppersOf rows) (m .outcome) =
         subst (λ (o : OpenedParts). zeroed (o .clear) 0 (uppersOf rows) ≡ uppersAt tasks (uppersOf rows) (o .outcome)) (sym e)
         (clear-uppers pooled (tablesOf c lefts rights labels marks next) n tasks slots tag (uppersOf rows)) in
-        rw (eo, e1, e2, e3, zeroes)
+        let fits = clears en e in
+        rw (eo, e1, e2 ∙ all-zeroed _ _ _ _ fits, e3 ∙ all-zeroed _ _ _ _ fits, zeroes)
         (ap (λ (o : OpenedParts). coded tasks (uppersOf rows) (whole (recordsOf rows) o)) e′
         ∙ ap (coded tasks (uppersOf rows)) (sym (open-parts pooled queue tasks slots tag)))
 

@@ -4,7 +4,6 @@ pub mod openings;
 
 use calls::report;
 use model::Reply;
-use model::Report;
 use model::Reported;
 use rows::op;
 ghost use mathlib.Core.Path.{_≡_};

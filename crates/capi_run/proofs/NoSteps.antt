@@ -15,7 +15,7 @@ use Rattle.model.specs.Tables.{Queue, recordAt, tablesOf}
 use Rattle.model.specs.Refusals.{among, stepRefusal}
 use Rattle.model.specs.Calls.{act, actOn, finish, step}
 use Rattle.model.specs.Ends.{isMoved, endsCall}
-use Rattle.model.specs.Solo.{SoloDone, resting, soloRun, soloSteps}
+use Rattle.model.specs.Solo.{SoloDone, soloRun, soloSteps}
 use Rattle.model.proofs.tests.Truth.{by-test}
 use Rattle.rows.specs.Rows.{controlOf, queueIn}
 use Rattle.rows.proofs.Rows.{length-records}

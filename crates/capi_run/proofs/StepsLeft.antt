@@ -1,6 +1,6 @@
 -- A run of steps, one step after another: with k steps made of n, what is left leads where the whole run leads.
 use mathlib.Core.Path.{_≡_, refl, sym, ap, _∙_}
-use mathlib.Core.Bool.{Bool, true, false, cond}
+use mathlib.Core.Bool.{true, false, cond}
 use mathlib.Core.List.{List}
 use Prim.Native.Nat.{ℕ, zero, suc, _+_, _-_, _<_, _≤_}
 use native.Mathlib.Omega.{arith}
@@ -15,7 +15,7 @@ use Rattle.model.specs.Tables.{Queue, recordAt}
 use Rattle.model.specs.Calls.{Done, act}
 use Rattle.model.specs.Ends.{isMoved, isRunning, endsCall}
 use Rattle.model.specs.Solo.{SoloDone, lastStep, oneMore, resting, soloRun, soloSteps}
-use Rattle.model.proofs.tests.Truth.{not-both, split}
+use Rattle.model.proofs.tests.Truth.{not-both}
 use Rattle.model.proofs.laws.Refusals.{act-refused}
 use Rattle.capi_run.specs.declared.RunReply.{RunReply}
 use Rattle.capi_run.specs.Replies.{runReplyOf, Ran, ran}

@@ -6,7 +6,7 @@ use Prim.Native.Nat.{ℕ}
 use lib.Dec.{ltb, eqb}
 use lib.ListN.{length}
 use Rattle.model.specs.declared.Entry.{Entry}
-use Rattle.model.specs.Tables.{Queue, Tables, isPooled}
+use Rattle.model.specs.Tables.{Queue, isPooled}
 use Rattle.model.specs.Sound.{rowTests, rowsFit}
 use Rattle.model.specs.Report.{waiting}
 use Rattle.model.specs.Refusals.{recordsFit}
@@ -14,7 +14,7 @@ use Rattle.model.proofs.tests.Truth.{and-true}
 use Rattle.model.proofs.tests.Rules.{tests}
 use Rattle.model.specs.Standing.{Standing}
 use Rattle.model.proofs.Standing.{standing}
-use Rattle.find_model.specs.Find.{Finds, find, findRefusal, found, refused}
+use Rattle.find_model.specs.Find.{Finds, RowsWaiting, find, findRefusal, found, refused}
 
 stands : (q : Queue) (d : List Entry) → Standing q d → (asked : List ℕ)
     → find (q .tables) asked ≡ cond (ltb 32 (length asked)) (refused 45) (found d asked)
@@ -33,7 +33,6 @@ stands q d s asked =
 pub finds : Finds
 finds pooled q tasks slots tag e os asked = stands _ _ (standing pooled q tasks slots tag e os) asked
 
--- The rows reported are the number waiting.
-pub rows-waiting : (q : Tables) (asked : List ℕ) → findRefusal q asked ≡ 0 → find q asked .rows ≡ waiting q
+pub rows-waiting : RowsWaiting
 unfolding find found waiting
 rows-waiting q asked e = rw e

@@ -9,6 +9,7 @@ use Rattle.model.specs.declared.Entry.{Entry}
 use Rattle.model.specs.Tables.{Tables}
 use Rattle.model.specs.Sound.{controlSound, rowsFit}
 use Rattle.model.specs.Walk.{contents, isBroken, met}
+use Rattle.model.specs.Report.{waiting}
 use Rattle.model.specs.Refusals.{Rule, rule, first}
 use Rattle.model.specs.History.{AfterOpening, final, ledger, run}
 use Rattle.find_model.specs.declared.FindReply.{FindReply}
@@ -55,3 +56,7 @@ abbrev pub Finds : Type 0
 Finds =
     AfterOpening (λ q os. (asked : List ℕ)
     → find (final q os .tables) asked ≡ cond (ltb 32 (length asked)) (refused 45) (found (ledger (run q os) .deque) asked))
+
+-- The walk's count of rows equals the number waiting.
+abbrev pub RowsWaiting : Type 0
+RowsWaiting = (q : Tables) (asked : List ℕ) → findRefusal q asked ≡ 0 → find q asked .rows ≡ waiting q

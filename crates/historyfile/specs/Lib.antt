@@ -2,4 +2,3 @@ pub mod Text
 pub mod Words
 pub mod Reading
 pub mod Buffer
-pub mod Saying

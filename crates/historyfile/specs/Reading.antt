@@ -1,14 +1,10 @@
--- The numbers of a text, and the verdict on them.
+-- The numbers of a text.
 use mathlib.Core.Bool.{Bool, true, false, _&&_, not, cond}
 use mathlib.Core.List.{List, [], _∷_, _++_}
 use Prim.Native.Nat.{ℕ, _+_, _%_, _^_}
 use lib.Dec.{eqb, ltb}
-use Rattle.audit_model.specs.Audit.{verdict}
-use Rattle.audit_model.specs.LentHistory.{callsIn}
 use Rattle.historyfile.specs.declared.reading.Place.{Place}
 use Rattle.historyfile.specs.declared.reading.Turn.{Turn}
-use Rattle.historyfile.specs.declared.judge.Judged.{Judged}
-use Rattle.historyfile.specs.declared.judge.Judged.the-variants.{Unread, Told}
 use Rattle.historyfile.specs.declared.words.Meaning.{Meaning}
 use Rattle.historyfile.specs.declared.words.Meaning.the-variants.{Number, NoLabel, Order, Fault}
 use Rattle.historyfile.specs.Text.{Piece, word, lineEnd, pieces}
@@ -99,11 +95,3 @@ readAll (lineEnd ∷ ps) r = readAll ps (readEnd r)
 
 abbrev pub whole : List ℕ → Reading
 whole text = readAll (pieces false [] text) (record { place = atStart; calls = []; order = [] })
-
--- A text without a fault and with an order is judged.
-unfoldable pub told : Reading → Judged
-told r =
-    cond (eqb (r .place .fault) 0 && eqb (r .place .column) 8) (Told (verdict (callsIn (r .calls)) (r .order))) (Unread (r .place))
-
-unfoldable pub judged : List ℕ → Judged
-judged text = told (whole text)

@@ -1,5 +1,3 @@
-//! A history as text: its words read into numbers, the verdict on it, and what is said of it. `specs/Text.antt` has the form of the text.
-pub mod judge;
+//! A history as text, its words read into numbers. `specs/Text.antt` has the form of the text.
 pub mod reading;
-pub mod say;
 pub mod words;

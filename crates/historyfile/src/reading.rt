@@ -274,7 +274,7 @@ fn begin() -> State
 }
 
 /// The whole text, its last word and line ended: the first numbers of its calls and of its order, as many as there is room for.
-pub(crate) fn read(text: &[u8], calls: &mut [u64], order: &mut [u64]) -> State
+pub fn read(text: &[u8], calls: &mut [u64], order: &mut [u64]) -> State
     ensures { λ r.
         ⌜ reading r (now (calls .exit)) (now (order .exit))
         ≡ held (length (now (calls .entry))) (length (now (order .entry))) (whole (now (text .entry))) ⌝ }

@@ -2,7 +2,7 @@
 pub mod number;
 
 ghost use mathlib.Core.Path.{_≡_};
-ghost use Prim.Native.Nat.{_+_, _≤_, _<_};
+ghost use Prim.Native.Nat.{_+_, _≤_};
 ghost use lib.ListN.{length};
 ghost use lib.Dec.{leb};
 ghost use Rattle.lines.specs.Line.{callWord, callOf, entryOf, answerOf, moved, outcomeOf, openingOf, told, anchorText, lineOf};

@@ -20,7 +20,6 @@ use Rattle.model.specs.declared.Answer.the-variants.{NoSlot}
 use Rattle.model.specs.declared.Answer.{Answer}
 use Rattle.model.specs.declared.Entry.{Entry}
 use Rattle.model.specs.declared.Op.the-variants.{Step}
-use Rattle.model.specs.declared.Opening.the-variants as opening
 use Rattle.model.specs.declared.Outcome.the-variants.{Moved}
 use Rattle.model.specs.declared.Record.{Record}
 use Rattle.model.proofs.tests.ByPlace.{by-place}

@@ -1,5 +1,6 @@
 -- The mirror of a queue: left and right exchanged. (Document 01: Places, "for the left swap Left with Right, left end with right end, and RPUSH with LPUSH".)
-use mathlib.Core.Bool.{cond}
+use mathlib.Core.Path.{_≡_}
+use mathlib.Core.Bool.{Bool, cond}
 use mathlib.Core.List.{map}
 use Prim.Native.Nat.{ℕ}
 use lib.Dec.{eqb}
@@ -11,7 +12,7 @@ use Rattle.model.specs.declared.TaskRecord.{TaskRecord}
 use Rattle.model.specs.declared.Op.{Op}
 use Rattle.model.specs.declared.Op.the-variants.{Push, Pop, Put, Step}
 use Rattle.model.specs.Tables.{Tables, Queue, tablesOf, withWords, withSeen, ofKind, withCall}
-use Rattle.model.specs.Calls.{OpenDone, Acted, Done}
+use Rattle.model.specs.Calls.{OpenDone, Acted, Done, openAs, act, stepLent}
 
 -- Sides 0 and 1 exchanged, RPUSH and LPUSH exchanged; any other number is kept.
 unfoldable pub mirrorSide : ℕ → ℕ
@@ -60,3 +61,12 @@ mirrorOpened d = record { queue = mirrorQueue (d .queue); outcome = d .outcome }
 
 abbrev pub mirrorDone : Done → Done
 mirrorDone d = record { queue = mirrorQueue (d .queue); outcome = d .outcome }
+
+-- What is promised: whatever an opening, a start or step, or a step on a lent record does to a queue, it does mirrored to the mirror; and the
+-- mirror of the mirror is the queue itself.
+pub record Mirrored : Type 0 where
+  pub opening : (pooled : Bool) (q : Queue) (tasks slots tag : ℕ)
+      → openAs pooled (mirrorQueue q) tasks slots tag ≡ mirrorOpened (openAs pooled q tasks slots tag)
+  pub operation : (q : Queue) (t : ℕ) (o : Op) → act (mirrorQueue q) t (mirrorOp o) ≡ mirrorDone (act q t o)
+  pub lent : (q : Tables) (r : TaskRecord) → stepLent (mirrorTables q) (mirrorTask r) ≡ mirrorActed (stepLent q r)
+  pub twice : (q : Queue) → mirrorQueue (mirrorQueue q) ≡ q

@@ -1,8 +1,13 @@
 -- One touch at a time: how far the shared tables may differ after a step. (Document 01: "moved one touch at a time".)
 use mathlib.Core.Path.{_≡_}
+use mathlib.Core.Logic.{_≢_}
 use Prim.Native.Nat.{ℕ}
 use lib.ListN.{set}
-use Rattle.model.specs.Tables.{Tables, withAnchor, withHead, linked, withMarks, withNext, taken}
+use Rattle.model.specs.declared.TaskRecord.{TaskRecord}
+use Rattle.model.specs.declared.Op.{Op}
+use Rattle.model.specs.declared.Op.the-variants.{Step}
+use Rattle.model.specs.Tables.{Tables, Queue, recordAt, taskAt, withAnchor, withHead, linked, withMarks, withNext, taken}
+use Rattle.model.specs.Calls.{act, stepLent}
 
 -- After a step at a place: tables q, or those that differ from q in one word: Anchor, a link word, a word of marks, a next, the head.
 -- At 14 alone, where a slot is drawn, head, label and mark are set at once.
@@ -14,3 +19,9 @@ pub data OneTouch (place : ℕ) (q : Tables) : Tables → Type 0 where
   next : (x v : ℕ) → OneTouch place q (withNext q (set (q .next) x v))
   head : (w : ℕ) → OneTouch place q (withHead q w)
   drawn : (w x l : ℕ) → place ≡ 14 → OneTouch place q (taken (withHead q w) x l)
+
+-- What is promised of every step, of a task and of a lent record; and that no start or step changes the record of another task.
+pub record TouchesOnce : Type 0 where
+  pub operation : (q : Queue) (t : ℕ) → OneTouch (recordAt q t .place) (q .tables) (act q t Step .queue .tables)
+  pub lent : (q : Tables) (r : TaskRecord) → OneTouch (r .call .place) q (stepLent q r .tables)
+  pub others : (q : Queue) (t u : ℕ) (o : Op) → u ≢ t → taskAt (act q t o .queue) u ≡ taskAt q u

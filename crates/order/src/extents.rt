@@ -8,7 +8,7 @@ ghost use mathlib.Core.Bool.{true};
 ghost use Prim.Native.Nat.{_≤_};
 ghost use lib.ListN.{getD, set};
 ghost use Rattle.word.specs.Anchor.{anchorOf};
-ghost use Rattle.sheet_model.specs.Extents.{Extents, lower, higher, nextAt, position, gather, extents};
+ghost use Rattle.order.specs.Extents.{Extents, lower, higher, nextAt, position, gather, extents};
 
 /// Puts a position at k if it is lower than the one there.
 fn lower(t: &mut [u16], k: usize, at: u16)

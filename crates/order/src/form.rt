@@ -2,7 +2,7 @@
 ghost use mathlib.Core.Path.{_≡_};
 ghost use Prim.Native.Nat.{_+_, _≤_};
 ghost use lib.ListN.{length, drop};
-ghost use Rattle.sheet_model.specs.Extents.{placeOf};
+ghost use Rattle.order.specs.Extents.{placeOf};
 ghost use Rattle.sheet_model.specs.Sheet.{before, after, any, twice, outside, malformed};
 
 /// The place of x among the labels listed from i on, counted from 0 at the whole list's start;

@@ -2,14 +2,15 @@
 use model::Control;
 use sheet_model::SheetReply;
 ghost use mathlib.Core.Path.{_≡_};
-ghost use mathlib.Core.Bool.{true, false, _&&_};
+ghost use mathlib.Core.Bool.{false, _&&_};
 ghost use mathlib.Core.List.{List};
 ghost use Prim.Native.Nat.{ℕ};
 ghost use Rattle.model.specs.Tables.{tablesOf};
 ghost use Rattle.model.specs.Sound.{controlSound};
 ghost use Rattle.sound.specs.Lengths.{lengthsFit};
 ghost use Rattle.sheet_model.specs.Sheet.{malformed};
-ghost use Rattle.sheet_model.specs.Verdict.{refused, early, sheet, Printed, sheetWords};
+ghost use Rattle.sheet_model.specs.Verdict.{refused, sheet, Printed, sheetWords};
+ghost use Rattle.order.specs.Refusals.{early};
 
 mod extents;
 mod form;

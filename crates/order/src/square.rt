@@ -7,8 +7,9 @@ ghost use mathlib.Core.Path.{_≡_};
 ghost use mathlib.Core.Bool.{false};
 ghost use Prim.Native.Nat.{_≤_};
 ghost use Rattle.sheet_model.specs.Sheet.{any, outside};
-ghost use Rattle.sheet_model.specs.Squares.{squareOf, linked, byteRow, joinRow, crossed};
-ghost use Rattle.sheet_model.specs.Search.{inRows};
+ghost use Rattle.sheet_model.specs.Words.{linked};
+ghost use Rattle.order.specs.Squares.{squareOf, byteRow, joinRow, crossed};
+ghost use Rattle.order.specs.Search.{inRows};
 
 /// A row with the marks of another.
 fn join_row(via: [u8; 32], row: [u8; 32]) -> [u8; 32]

@@ -8,8 +8,9 @@ ghost use mathlib.Core.List.{_++_};
 ghost use Prim.Native.Nat.{_≤_};
 ghost use lib.ListN.{length, drop};
 ghost use Rattle.sheet_model.specs.Sheet.{any, outside};
-ghost use Rattle.sheet_model.specs.Squares.{linked, wordsOf, bitRow, rulesMarked, rounds, crossed};
-ghost use Rattle.sheet_model.specs.Search.{inRows};
+ghost use Rattle.sheet_model.specs.Words.{linked, wordsOf};
+ghost use Rattle.order.specs.Squares.{bitRow, rulesMarked, rounds, crossed};
+ghost use Rattle.order.specs.Search.{inRows};
 
 /// Sets the marks of the rules themselves.
 fn mark(words: &mut [u32], rules: &[u32], n: usize)

@@ -9,7 +9,7 @@ use Rattle.model.specs.declared.Control.{Control}
 use Rattle.model.specs.declared.Record.{Record}
 use Rattle.model.specs.Tables.{atPlace, tablesOf, withSeen}
 use Rattle.model.specs.Sound.{anchorSound}
-use Rattle.model.specs.Places.{reading, row, sideOf, nothing, setAnchor, Move, compares, at1, at2, at4, at6, at10, move}
+use Rattle.model.specs.Places.{reading, sideOf, nothing, setAnchor, Move, compares, at1, at2, at4, at6, at10, move}
 use Rattle.model.specs.Places as model-places
 use Rattle.model.specs.Refusals.{needsRow, meetsLink, meetsHead, stepSound}
 use Rattle.model.specs.Route.{route, pushRoute, popRoute, goes, counted}
@@ -18,9 +18,9 @@ use Rattle.model.proofs.laws.Onward.{reads-on}
 use Rattle.model.specs.declared.Transition.{Transition}
 use Rattle.table.specs.Lent.{withTables}
 use Rattle.places.specs.Arm.{stepAt, Steps}
-use Rattle.places.specs.Ending.{refused, settled, noEntry, failing, anchored, anchorRead, mayChange, remembered, compared, changed}
-use Rattle.places.specs.Decided.{new2, new4, new10}
-use Rattle.places.proofs.Routes.{kinds, readings, Quiet, quietly}
+use Rattle.decide.specs.Ending.{refused, settled, noEntry, failing, anchored, anchorRead, mayChange, remembered, compared, changed}
+use Rattle.decide.specs.Decided.{new2, new4, new10}
+use Rattle.decide.proofs.Routes.{kinds, readings, Quiet, quietly}
 use Rattle.model.proofs.tests.Truth.{split}
 use Rattle.model.specs.Sides.{far, facing, pushing}
 use Rattle.model.specs.Kinds.{isPop}

@@ -18,9 +18,9 @@ use Rattle.model.specs.Calls.{Acted, finish}
 use Rattle.model.specs.declared.Transition.{Transition}
 use Rattle.table.specs.Lent.{withTables}
 use Rattle.places.specs.Arm.{stepAt}
-use Rattle.places.specs.Ending.{refused, settled, noEntry, failing, rowSound, neighbourRead, linkRead}
-use Rattle.places.specs.Decided.{madeOf, new9, found3, found5, found7, found9, found11}
-use Rattle.places.proofs.Routes.{kinds, Quiet, entry, quietly}
+use Rattle.decide.specs.Ending.{refused, settled, noEntry, failing, rowSound, neighbourRead, linkRead}
+use Rattle.decide.specs.Decided.{madeOf, new9, found3, found5, found7, found9, found11}
+use Rattle.decide.proofs.Routes.{kinds, Quiet, entry, quietly}
 use Rattle.model.proofs.tests.Truth.{split}
 
 -- The side that a status names, and the opposite of a side.

@@ -17,9 +17,9 @@ use Rattle.model.specs.Calls.{Acted, entryOf, finish}
 use Rattle.model.specs.declared.Transition.{Transition}
 use Rattle.table.specs.Lent.{withTables}
 use Rattle.places.specs.Arm.{stepAt}
-use Rattle.places.specs.Ending.{refused, settled, noEntry, failing, headed, headRead}
-use Rattle.places.specs.Decided.{madeOf, top, new17, found13, found14}
-use Rattle.places.proofs.Routes.{kinds, Quiet, quietly}
+use Rattle.decide.specs.Ending.{refused, settled, noEntry, failing, headed, headRead}
+use Rattle.decide.specs.Decided.{madeOf, top, new17, found13, found14}
+use Rattle.decide.proofs.Routes.{kinds, Quiet, quietly}
 use Rattle.model.proofs.tests.Truth.{split}
 
 module _ (c : Control) (r : Record) (ls rs ns ms xs : List ℕ) (k : ℕ) where

@@ -1,3 +1,1 @@
 pub mod Arm
-pub mod Ending
-pub mod Decided

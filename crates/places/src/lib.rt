@@ -1,17 +1,17 @@
 //! What each place does with the tables lent to it, one function a place; 12 to 17, where a pooled queue draws its
 //! slots and gets them back, are in `pool`. A place that touches a row, a label or a next reads, decides over the
-//! word found (`decide`), and writes where the step was made.
+//! word found (crate `decide`), and writes where the step was made.
 //!
 //! Every function carries out the step at its place, whatever its arguments:
 //! it refuses with 34 what the place may not touch and then changes nothing.
 //! Line numbers are those of source 003. Figures 3 and 5 show the right side;
 //! at places 5 to 10, figure 4, the side is the one that the status as read names.
-pub mod decide;
-pub mod next;
+pub mod links;
 pub mod pool;
-pub mod side;
-pub mod step;
 
+use decide::next;
+use decide::side;
+use decide::step;
 use model::Control;
 use model::Record;
 use model::Transition;
@@ -47,7 +47,7 @@ fn change2(c: Control, r: Record) -> Transition
         return step::refused(c, r);
     }
     let d = step::with_anchor(c, new);
-    step::settles(d, r, next::next(2, r.kind, 0), step::NO_ENTRY)
+    step::settles(d, r, next::next(2, r.kind, next::DONE), step::NO_ENTRY)
 }
 
 /// Place 3: put the end into the own slot's inward link, its tag kept; a pop reads the end's
@@ -60,16 +60,16 @@ pub fn at3(c: Control, r: Record, lefts: &mut [u64], rights: &mut [u64]) -> Tran
     let a = Anchor::unpack(r.seen);
     let end = side::near(right, a);
     if r.kind == 0 {
-        let w = side::link_at(!right, r.own, lefts, rights);
+        let w = links::link_at(!right, r.own, lefts, rights);
         let m = decide::at3(c, r, w);
         if decide::made(m) {
             let link = Link::unpack(w);
-            side::put_link(!right, r.own, step::link_word(link.tag, end), lefts, rights);
+            links::put_link(!right, r.own, step::link_word(link.tag, end), lefts, rights);
             return m;
         }
         return m;
     }
-    let w = side::link_at(!right, end, lefts, rights);
+    let w = links::link_at(!right, end, lefts, rights);
     decide::at3(c, r, w)
 }
 
@@ -95,7 +95,7 @@ fn change4(c: Control, r: Record) -> Transition
     }
     let d = step::with_anchor(c, new);
     let t = step::remembers(r, new);
-    step::settles(d, t, next::next(4, r.kind, 0), step::NO_ENTRY)
+    step::settles(d, t, next::next(4, r.kind, next::DONE), step::NO_ENTRY)
 }
 
 /// Place 5: read the end's inward link as neighbour. (Figure 4, line 5.)
@@ -106,7 +106,7 @@ pub fn at5(c: Control, r: Record, lefts: &[u64], rights: &[u64]) -> Transition
     let a = Anchor::unpack(r.seen);
     let right = a.status == 1;
     let end = side::near(right, a);
-    let w = side::link_at(!right, end, lefts, rights);
+    let w = links::link_at(!right, end, lefts, rights);
     decide::at5(c, r, w)
 }
 
@@ -114,8 +114,8 @@ pub fn at5(c: Control, r: Record, lefts: &[u64], rights: &[u64]) -> Transition
 pub fn at6(c: Control, r: Record) -> Transition
     ensures { λ m. ⌜ Steps 6 c r m ⌝ }
 {
-    let same = next::next(6, r.kind, 0);
-    let other = next::next(6, r.kind, 1);
+    let same = next::next(6, r.kind, next::EQUAL);
+    let other = next::next(6, r.kind, next::UNEQUAL);
     step::compares(c, r, same, other)
 }
 
@@ -126,7 +126,7 @@ pub fn at7(c: Control, r: Record, lefts: &[u64], rights: &[u64]) -> Transition
 {
     let a = Anchor::unpack(r.seen);
     let right = a.status == 1;
-    let w = side::link_at(right, r.neighbour, lefts, rights);
+    let w = links::link_at(right, r.neighbour, lefts, rights);
     decide::at7(c, r, w)
 }
 
@@ -134,8 +134,8 @@ pub fn at7(c: Control, r: Record, lefts: &[u64], rights: &[u64]) -> Transition
 pub fn at8(c: Control, r: Record) -> Transition
     ensures { λ m. ⌜ Steps 8 c r m ⌝ }
 {
-    let same = next::next(8, r.kind, 0);
-    let other = next::next(8, r.kind, 1);
+    let same = next::next(8, r.kind, next::EQUAL);
+    let other = next::next(8, r.kind, next::UNEQUAL);
     step::compares(c, r, same, other)
 }
 
@@ -146,11 +146,11 @@ pub fn at9(c: Control, r: Record, lefts: &mut [u64], rights: &mut [u64]) -> Tran
 {
     let a = Anchor::unpack(r.seen);
     let right = a.status == 1;
-    let w = side::link_at(right, r.neighbour, lefts, rights);
+    let w = links::link_at(right, r.neighbour, lefts, rights);
     let m = decide::at9(c, r, w);
     if decide::made(m) {
         let new = decide::new9(r);
-        side::put_link(right, r.neighbour, new, lefts, rights);
+        links::put_link(right, r.neighbour, new, lefts, rights);
         return m;
     }
     m
@@ -161,7 +161,7 @@ pub fn at10(c: Control, r: Record) -> Transition
     ensures { λ m. ⌜ Steps 10 c r m ⌝ }
 {
     if c.anchor != r.seen {
-        let m = step::settles(c, r, next::next(10, r.kind, 1), step::NO_ENTRY);
+        let m = step::settles(c, r, next::next(10, r.kind, next::FAILED), step::NO_ENTRY);
         return step::fails(m);
     }
     let new = decide::new10(r);
@@ -169,7 +169,7 @@ pub fn at10(c: Control, r: Record) -> Transition
         return step::refused(c, r);
     }
     let d = step::with_anchor(c, new);
-    step::settles(d, r, next::next(10, r.kind, 0), step::NO_ENTRY)
+    step::settles(d, r, next::next(10, r.kind, next::DONE), step::NO_ENTRY)
 }
 
 /// Place 11: read the label of the end taken and clear its mark. (Figure 5, after the loop.) In a

@@ -1,9 +1,8 @@
 //! Places 12 to 17: a push draws its slot from the stack before place 1, and a pop gives its slot
 //! back after place 11. The head as read is kept as the link word, the next as the neighbour.
 //! (Document 02, #104: the tagged compare-and-swap stack of 003's references.)
-use crate::decide;
-use crate::next;
-use crate::step;
+use decide::next;
+use decide::step;
 use model::Control;
 use model::Entry;
 use model::Record;
@@ -15,8 +14,8 @@ ghost use Rattle.places.specs.Arm.{Steps, StepsOnMarks, StepsOnNext};
 pub fn at12(c: Control, r: Record) -> Transition
     ensures { λ m. ⌜ Steps 12 c r m ⌝ }
 {
-    let none = next::next(12, r.kind, 0);
-    let other = next::next(12, r.kind, 1);
+    let none = next::next(12, r.kind, next::NONE_FREE);
+    let other = next::next(12, r.kind, next::SOME_FREE);
     step::reads_head(c, r, none, other)
 }
 
@@ -48,7 +47,7 @@ pub fn at14(c: Control, r: Record, labels: &mut [u32], marks: &mut [u64]) -> Tra
 pub fn at15(c: Control, r: Record) -> Transition
     ensures { λ m. ⌜ Steps 15 c r m ⌝ }
 {
-    let n = next::next(15, r.kind, 0);
+    let n = next::next(15, r.kind, next::ONLY_WAY);
     step::reads_head(c, r, n, n)
 }
 
@@ -58,7 +57,7 @@ pub fn at16(c: Control, r: Record, nexts: &mut [u64]) -> Transition
 {
     let head = Link::unpack(r.link);
     table::put_word(nexts, r.own, head.slot);
-    step::settles(c, r, next::next(16, r.kind, 0), step::NO_ENTRY)
+    step::settles(c, r, next::next(16, r.kind, next::ONLY_WAY), step::NO_ENTRY)
 }
 
 /// Place 17: change the head to the own slot, and answer with it and its label.
@@ -67,7 +66,7 @@ pub fn at17(c: Control, r: Record) -> Transition
 {
     let head = Link::unpack(r.link);
     if c.head != r.link {
-        let m = step::settles(c, r, next::next(17, r.kind, 1), step::NO_ENTRY);
+        let m = step::settles(c, r, next::next(17, r.kind, next::FAILED), step::NO_ENTRY);
         return step::fails(m);
     }
     if head.tag < Link::TAG_MASK {
@@ -76,7 +75,7 @@ pub fn at17(c: Control, r: Record) -> Transition
             slot: r.own,
             label: r.label,
         };
-        return step::settles(d, r, next::next(17, r.kind, 0), e);
+        return step::settles(d, r, next::next(17, r.kind, next::DONE), e);
     }
     step::refused(c, r)
 }

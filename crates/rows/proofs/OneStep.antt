@@ -17,12 +17,12 @@ use Rattle.model.specs.Tables.{Tables, Queue, isPooled, tablesOf, taskAt, unuse
 use Rattle.model.specs.Ends.{endsCall}
 use Rattle.model.specs.Sound.{rowsFit}
 use Rattle.model.specs.Refusals.{Lent, among}
-use Rattle.model.specs.Calls.{Acted, Done, back, act, actOn}
+use Rattle.model.specs.Calls.{Done, back, act, actOn}
 use Rattle.sound.specs.Lengths.{lengthsFit}
 use Rattle.engine.specs.MoveOn.{moveOn}
 use Rattle.model.specs.Refusals.{admission}
 use Rattle.engine.proofs.InParts.{turned-away, admitted, task-there}
-use Rattle.rows.specs.Rows.{controlOf, recordOf, recordsOf, upperOf, uppersOf, queueIn}
+use Rattle.rows.specs.Rows.{controlOf, recordsOf, upperOf, uppersOf, queueIn}
 use Rattle.rows.specs.Moved.{RowMoved}
 use Rattle.rows.proofs.Rows.{length-records, record-read, upper-read, record-put, upper-put}
 

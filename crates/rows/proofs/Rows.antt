@@ -1,7 +1,7 @@
 -- Rows and what they are: lengths, a row read, a row written.
 use mathlib.Core.Path.{_≡_, refl, sym, ap, _∙_}
 use mathlib.Core.List.{List, [], _∷_}
-use Prim.Native.Nat.{ℕ, zero, suc, _+_, _<_}
+use Prim.Native.Nat.{ℕ, zero, suc, _+_, _<_, _≤_, min}
 use native.Mathlib.Numerals.{add-one}
 use native.Mathlib.Omega.{arith}
 use lib.ListN.{length, getD, set}
@@ -61,3 +61,7 @@ zero-suc {A} (suc n) z (x ∷ l) h = ap (λ (t : List A). z ∷ t) (zero-suc n z
 
 pub one-more : {A : Type 0} (n : ℕ) (z : A) (l : List A) → n < length l → set (zeroed n z l) n z ≡ zeroed (n + 1) z l
 one-more n z l h = zero-suc n z l h ∙ ap (λ (k : ℕ). zeroed k z l) (sym (add-one n))
+
+-- Of at least n entries the first n are zeroed.
+pub all-zeroed : {A : Type 0} (n k : ℕ) (z : A) (l : List A) → n ≤ k → zeroed (min n k) z l ≡ zeroed n z l
+all-zeroed n k z l fits = let all : min n k ≡ n = omega (arith, fits) in ap (λ (i : ℕ). zeroed i z l) all

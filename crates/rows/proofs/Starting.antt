@@ -19,7 +19,7 @@ use Rattle.model.specs.Ends.{isMoved}
 use Rattle.model.specs.Calls.{Acted, Done, pushStart, putStart, popStart, back, act, actOn}
 use Rattle.model.proofs.tests.Truth.{split, not-both}
 use Rattle.table.specs.Lent.{withTables}
-use Rattle.rows.specs.Rows.{controlOf, recordsOf, uppersOf, queueIn, withCallAt}
+use Rattle.rows.specs.Rows.{controlOf, recordsOf, queueIn, withCallAt}
 use Rattle.rows.proofs.OneStep.{lent, lent-among}
 
 set-twice : (l : List ℕ) (i : ℕ) → set (set l i 0) i 0 ≡ set l i 0

@@ -1,12 +1,11 @@
 -- The test `through` and the relation `Chained` agree where every rule points into the list.
-use mathlib.Core.Bool.{Bool, _&&_, _||_, true, false, not}
+use mathlib.Core.Bool.{_&&_, true, false}
 use mathlib.Core.List.{List, [], _∷_}
 use mathlib.Core.Logic.{_⊎_, inl, inr}
-use mathlib.Core.Path.{_≡_, refl, sym, ap, subst, _∙_}
-use Prim.Native.Nat.{ℕ, zero, suc, _≤_, _+_}
+use mathlib.Core.Path.{_≡_, refl, subst}
+use Prim.Native.Nat.{ℕ, zero, suc, _≤_}
 use native.Mathlib.Omega.{arith}
-use lib.Dec.{eqb, leb}
-use lib.ListN.{length}
+use lib.Dec.{eqb}
 use borrow.Author.Tests.{eqb-true, leb-true, not-false}
 use Rattle.model.specs.Sound.{from1}
 use Rattle.sheet_model.specs.Sheet.{Chained, ruled, joined, any, before, after, outside, through}

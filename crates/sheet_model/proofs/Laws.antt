@@ -1,8 +1,8 @@
 -- The laws of the sheets.
-use mathlib.Core.Bool.{Bool, true, false, _&&_, not, cond}
-use mathlib.Core.List.{List, _++_}
+use mathlib.Core.Bool.{Bool, true, false, cond}
+use mathlib.Core.List.{List}
 use mathlib.Core.Path.{_≡_, refl, sym, ap, subst, _∙_}
-use Prim.Native.Nat.{ℕ, zero, suc, _/_, _%_, _^_, _≤_, _<_}
+use Prim.Native.Nat.{ℕ, suc, _/_, _%_, _^_, _<_}
 use native.Mathlib.Omega.{arith}
 use lib.Dec.{eqb, leb}
 use lib.ListN.{length, getD, drop, List·getD-append}
@@ -19,19 +19,19 @@ use Rattle.model.proofs.tests.Rules.{cleared, tests}
 use Rattle.model.specs.Standing.{Standing}
 use Rattle.model.proofs.Standing.{standing}
 use Rattle.sheet_model.specs.Sheet.{Sheet, malformed, chained}
-use Rattle.sheet_model.specs.Squares.{listOf, bitsOf, linked, mark, wordsOf}
+use Rattle.sheet_model.specs.Words.{listOf, bitsOf, linked, mark, wordsOf}
 use Rattle.sheet_model.specs.Verdict.{refused, verdict, judge, sheet, sheetRules, sheetWords}
-use Rattle.sheet_model.specs.Laws.{SquareIsChained, SheetsOfQueues, SameAnswer, BitsAreChained, KeptExactly, SheetRight}
+use Rattle.sheet_model.specs.Laws.{ChainedExactly, SheetsOfQueues, SameAnswer, BitsAreChained, KeptExactly, SheetRight}
 use Rattle.sheet_model.specs.Pairs.{Rightly}
-use Rattle.sheet_model.proofs.Broken.{formed}
-use Rattle.sheet_model.proofs.BitRows.{bit-at}
+use Rattle.sheet_model.proofs.Formed.{formed}
+use Rattle.sheet_model.proofs.Words.{bit-at, marked-is}
 use Rattle.sheet_model.proofs.Chained.{chained-of, chained-in}
 use Rattle.sheet_model.proofs.Pairs.{kept-told, none-told, verdict-right}
 use Rattle.sheet_model.proofs.ListOf.{length-listOf, getD-listOf}
 
-pub square-is-chained : SquareIsChained
+pub chained-exactly : ChainedExactly
 unfolding chained
-square-is-chained s e a b = record {
+chained-exactly s e a b = record {
   only = chained-of (s .rules) (length (s .listed)) a b;
   all = chained-in (s .rules) (length (s .listed)) (formed s e .inside) a b;
 }
@@ -91,13 +91,9 @@ bits-marked q s words e a b f g =
     ∙ getD-listOf (λ a. bitsOf (linked (s .rules) n a) 32) 32 a 0 f)
     ∙ bit-at 32 (linked (s .rules) n a) b g)
 
-marked-is : (t : Bool) → mark t ≡ 1 → t ≡ true
-marked-is true e = refl
-marked-is false e = absurd (omega arith)
-
 pub bits-are-chained : BitsAreChained
 unfolding sheetWords
 bits-are-chained q s words e a b f g =
     let is = bits-marked q s words e a b f g in
-    let c = square-is-chained s (well-formed q s (leb 32 (length words)) e) (suc a) (suc b) in
+    let c = chained-exactly s (well-formed q s (leb 32 (length words)) e) (suc a) (suc b) in
     record { only = λ z. c .only (marked-is _ (sym is ∙ z)); all = λ z. is ∙ ap mark (c .all z) }

@@ -1,23 +1,21 @@
 -- The test of a pair is what the document calls broken, and the verdict is kept or the first such pair.
-use mathlib.Core.Bool.{Bool, true, false, _&&_, _||_, cond}
-use mathlib.Core.List.{List, [], _∷_, map}
+use mathlib.Core.Bool.{Bool, true, false, _&&_, cond}
+use mathlib.Core.List.{List, [], _∷_, _++_, map}
 use mathlib.Core.Logic.{_⊎_, inl, inr}
 use mathlib.Core.Path.{_≡_, ap, refl, sym, subst}
 use Prim.Native.Nat.{ℕ, zero, suc, _+_, _≤_, _<_}
 use native.Mathlib.Omega.{arith}
 use lib.Dec.{eqb}
-use lib.ListN.{length, getD}
+use lib.ListN.{length}
 use borrow.Author.Tests.{eqb-true, eq-eqb}
 use Rattle.model.specs.declared.Entry.{Entry}
 use Rattle.model.proofs.tests.Truth.{and-of, and-true, by-test, decide-eq, not-both, or-cases, or-first, or-second, split}
 use Rattle.sheet_model.specs.declared.SheetReply.{SheetReply}
 use Rattle.sheet_model.specs.Sheet.{Sheet, Chained, breaks, chained, labelAt, leftOf, malformed, waits}
-use Rattle.sheet_model.specs.Verdict.{brokenBy, kept, verdict}
-use Rattle.sheet_model.specs.Search.{inRow, inRows}
+use Rattle.sheet_model.specs.Verdict.{Pair, brokenBy, firstBroken, kept, pairs, places, verdict}
 use Rattle.sheet_model.specs.Pairs.{Broken, Copy, CopyAt, Earlier, LeftCopy, NoneBroken, Rightly, crossed, itself, keeps, tells}
 use Rattle.sheet_model.specs.Laws.{VerdictRight}
-use Rattle.sheet_model.proofs.Searched.{verdict-is}
-use Rattle.sheet_model.proofs.Broken.{formed}
+use Rattle.sheet_model.proofs.Formed.{formed}
 use Rattle.sheet_model.proofs.Chained.{chained-in, chained-of, chained-within}
 
 -- One entry further left.
@@ -118,12 +116,13 @@ module _ (p : ℕ → ℕ → Bool) where
   next a b n other _ z (hit d g h k f) = hit d (omega arith) (omega arith) k (λ e x y. from-here a b e z x (λ w. f e w y))
   next a b n other _ z (miss f) = miss (λ e x y. from-here a b e z x (λ w. f e w (omega arith)))
 
-  in-row : (a b n : ℕ) (other : SheetReply) → InRow p a b n other (inRow p a b n other)
-  unfolding inRow
-  in-row a b zero other = miss (λ e x y. absurd (omega arith))
-  in-row a b (suc n) other = by-test (InRow p a b (suc n) other) (p a b)
+  in-row : (a b n : ℕ) (l : List Pair)
+      → InRow p a b n (firstBroken p l) (firstBroken p (map (λ (x : ℕ). record { first = a; second = x }) (places b n) ++ l))
+  unfolding firstBroken places
+  in-row a b zero l = miss (λ e x y. absurd (omega arith))
+  in-row a b (suc n) l = by-test (InRow p a b (suc n) (firstBroken p l)) (p a b)
       (λ y. hit b (omega arith) (omega arith) y (λ e x y. absurd (omega arith)))
-      (λ z. next a b n other _ z (in-row a (b + 1) n other))
+      (λ z. next a b n (firstBroken p l) _ z (in-row a (b + 1) n l))
 
   -- What fails in row a and in the rows after it fails from row a on.
   from-row : (m a e f : ℕ) → ((d : ℕ) → 1 ≤ d → d < 1 + m → p a d ≡ false) → a ≤ e → 1 ≤ f → f ≤ m → (a + 1 ≤ e → p e f ≡ false) → p e f ≡ false
@@ -147,10 +146,12 @@ module _ (p : ℕ → ℕ → Bool) where
       before e x u v (inr o) = subst (λ e. p e x ≡ false) (sym (o .0)) (f x v (o .1))
   row-first m a n other _ (miss f) ih = rows-after m a n other f ih
 
-  in-rows : (m a n : ℕ) → InRows p m a n (inRows p m a n)
-  unfolding inRows
+  in-rows : (m a n : ℕ) → InRows p m a n (firstBroken p (pairs (places a n) (places 1 m)))
+  unfolding firstBroken places pairs
   in-rows m a zero = none (λ e f x y. absurd (omega arith))
-  in-rows m a (suc n) = row-first m a n (inRows p m (a + 1) n) _ (in-row a 1 m (inRows p m (a + 1) n)) (in-rows m (a + 1) n)
+  in-rows m a (suc n) =
+      let after = pairs (places (a + 1) n) (places 1 m) in
+      row-first m a n (firstBroken p after) _ (in-row a 1 m after) (in-rows m (a + 1) n)
 
 module _ (s : Sheet) (l : List Entry) (form : malformed s ≡ false) where
   rightly : (r : SheetReply) → InRows (breaks s l) (length (s .listed)) 1 (length (s .listed)) r → Rightly s l r
@@ -172,5 +173,5 @@ module _ (s : Sheet) (l : List Entry) (form : malformed s ≡ false) where
   kept-told _ (tells a b k f) h = absurd (h a b k)
 
 pub verdict-right : VerdictRight
-verdict-right s l form =
-    subst (Rightly s l) (sym (verdict-is s l)) (rightly s l form _ (in-rows (breaks s l) (length (s .listed)) 1 (length (s .listed))))
+unfolding verdict
+verdict-right s l form = rightly s l form _ (in-rows (breaks s l) (length (s .listed)) 1 (length (s .listed)))

@@ -13,13 +13,13 @@ use Rattle.sheet_model.specs.Sheet.{Sheet, Chained, malformed, chained}
 use Rattle.sheet_model.specs.Verdict.{kept, refused, verdict, sheet, sheetWords}
 use Rattle.sheet_model.specs.Pairs.{NoneBroken, Rightly}
 
--- The square's marks are the relation chained before.
-pub record Closed (s : Sheet) (a b : ℕ) : Type 0 where
+-- The test is passed exactly where place a is chained before place b.
+pub record ChainedWhere (s : Sheet) (a b : ℕ) : Type 0 where
   pub only : chained s a b ≡ true → Chained (s .rules) a b
   pub all : Chained (s .rules) a b → chained s a b ≡ true
 
-abbrev pub SquareIsChained : Type 0
-SquareIsChained = (s : Sheet) → malformed s ≡ false → (a b : ℕ) → Closed s a b
+abbrev pub ChainedExactly : Type 0
+ChainedExactly = (s : Sheet) → malformed s ≡ false → (a b : ℕ) → ChainedWhere s a b
 
 -- From an opening on, a well-formed sheet is judged on the sequential deque's queue; 34 and 12 never occur.
 abbrev pub SheetsOfQueues : Type 0
@@ -30,14 +30,16 @@ SheetsOfQueues =
 abbrev pub SameAnswer : Type 0
 SameAnswer = (q : Tables) (s : Sheet) (words : List ℕ) → 32 ≤ length words → sheetWords q s words .reply ≡ sheet q s
 
+-- A mark is 1 exactly when place a is chained before place b.
+pub record MarkTells (m : ℕ) (rules : List ℕ) (a b : ℕ) : Type 0 where
+  pub only : m ≡ 1 → Chained rules a b
+  pub all : Chained rules a b → m ≡ 1
+
 -- After kept or a broken pair, bit b of word a is set exactly when place a + 1 is chained before place b + 1.
-pub record BitTells (bit : ℕ) (rules : List ℕ) (a b : ℕ) : Type 0 where
-  pub only : bit ≡ 1 → Chained rules a b
-  pub all : Chained rules a b → bit ≡ 1
 
 abbrev pub BitsAreChained : Type 0
 BitsAreChained = (q : Tables) (s : Sheet) (words : List ℕ) → sheetWords q s words .reply .code ≡ 0 → (a b : ℕ) → a < 32 → b < 32
-    → BitTells (getD (sheetWords q s words .words) a 0 / 2 ^ b % 2) (s .rules) (suc a) (suc b)
+    → MarkTells (getD (sheetWords q s words .words) a 0 / 2 ^ b % 2) (s .rules) (suc a) (suc b)
 
 -- The answer is right: of a well-formed sheet on any entries, and so where a call is not refused; and it is kept exactly where no pair is broken.
 abbrev pub VerdictRight : Type 0

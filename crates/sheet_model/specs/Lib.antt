@@ -1,7 +1,5 @@
 pub mod Sheet
+pub mod Words
 pub mod Verdict
-pub mod Squares
-pub mod Extents
-pub mod Search
 pub mod Pairs
 pub mod Laws

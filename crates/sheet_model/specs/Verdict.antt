@@ -10,7 +10,7 @@ use Rattle.model.specs.Sound.{controlSound, rowsFit}
 use Rattle.model.specs.Refusals.{Rule, rule, first}
 use Rattle.model.specs.Walk.{contents, isBroken, met}
 use Rattle.sheet_model.specs.declared.SheetReply.{SheetReply}
-use Rattle.sheet_model.specs.Squares.{linked, wordsOf}
+use Rattle.sheet_model.specs.Words.{linked, wordsOf}
 use Rattle.sheet_model.specs.Sheet.{Sheet, malformed, breaks}
 
 abbrev pub refused : ℕ → SheetReply
@@ -54,10 +54,6 @@ sheetRules q s enough =
     ∷ rule 12 (not (rowsFit false (q .control .slots) q && enough))
     ∷ rule 34 (isBroken (contents q))
     ∷ []
-
--- What stands before the walk.
-unfoldable pub early : Bool → Bool → Bool → ℕ
-early sound bad fit = first (rule 34 (not sound) ∷ rule 46 bad ∷ rule 12 (not fit) ∷ [])
 
 unfoldable pub judge : Tables → Sheet → Bool → SheetReply
 judge q s enough =

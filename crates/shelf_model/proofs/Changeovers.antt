@@ -10,7 +10,7 @@ use Rattle.model.specs.declared.Opening.the-variants.{Opened}
 use Rattle.model.specs.Tables.{Queue}
 use Rattle.model.specs.Sound.{controlSound}
 use Rattle.model.specs.Refusals.{openRefusal}
-use Rattle.model.specs.Calls.{Done, act, openAs, opened}
+use Rattle.model.specs.Calls.{Done, act, openAs}
 use Rattle.model.specs.History.{Event, Request, final, run}
 use Rattle.model.proofs.tests.Truth.{decide-eq, not-both, split}
 use Rattle.shelf_model.specs.Cut.{cut}

@@ -29,7 +29,7 @@ use Rattle.model.proofs.tests.Rules.{cleared}
 use Rattle.model.proofs.tests.Truth.{split}
 use Rattle.model.proofs.bridge.Facts.{from1-true}
 use Rattle.model.proofs.laws.Sizes.{act-tasks}
-use Rattle.model.specs.Sides.{far, isEmpty, links, near, opposite}
+use Rattle.model.specs.Sides.{far, isEmpty, near, opposite}
 use Rattle.shelf_model.specs.Cut.{cut, cutTables}
 use Rattle.shelf_model.proofs.Lists.{enough-take, get-take, set-take}
 use Rattle.shelf_model.proofs.Cut.{columns, cutActed, decide-cut, fits-cut, mark-cut, marked-cut, step-cut}

@@ -9,7 +9,7 @@ use Rattle.model.specs.declared.Answer.the-variants.{Running}
 use Rattle.model.specs.declared.Op.the-variants.{Step}
 use Rattle.model.specs.declared.Outcome.the-variants.{Moved}
 use Rattle.model.specs.declared.TaskRecord.{TaskRecord}
-use Rattle.model.specs.Tables.{Queue, recordAt, taskAt, unused}
+use Rattle.model.specs.Tables.{Queue, taskAt, unused}
 use Rattle.model.specs.Refusals.{openRefusal}
 use Rattle.model.specs.Calls.{Done, act, openAs}
 use Rattle.model.specs.Ends.{isMoved, isRunning}

@@ -1,5 +1,5 @@
 -- What a record's place asks of it: at 12 to 14, at 15 and beyond, and at 1 to 11 of a push and of any other kind.
-use mathlib.Core.Path.{_≡_, refl, sym, ap, _∙_}
+use mathlib.Core.Path.{_≡_, refl}
 use mathlib.Core.Bool.{Bool, true, false, _&&_, _||_, not, cond, and-assoc, and-true, and-false, or-true, or-false}
 use Prim.Native.Nat.{ℕ, _<_, _≤_}
 use native.Mathlib.Omega.{arith}
@@ -7,7 +7,7 @@ use lib.Dec.{leb, eqb}
 use borrow.Author.Tests.{eq-eqb, ne-eqb, eqb-true, eqb-false, le-leb, lt-leb}
 use Rattle.word.specs.Link.{linkOf}
 use Rattle.model.specs.declared.Record.{Record}
-use Rattle.model.specs.Sound.{from1, linkSound, anchorSound, recordSound}
+use Rattle.model.specs.Sound.{from1}
 use Rattle.model.specs.Kinds.{helping}
 use Rattle.sound.proofs.Parts.{callSound}
 

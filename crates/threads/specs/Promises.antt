@@ -1,7 +1,7 @@
 -- What is promised of split steps, and of threads that interleave at single instructions.
 use mathlib.Core.Path.{_≡_}
 use mathlib.Core.Bool.{Bool, true, false, _&&_, _||_, cond}
-use mathlib.Core.List.{List, [], _∷_, _++_}
+use mathlib.Core.List.{List, _++_}
 use Prim.Native.Nat.{ℕ}
 use lib.Dec.{leb}
 use lib.ListN.{getD}
@@ -17,12 +17,12 @@ use Rattle.model.specs.Calls.{act, openAs, stepLent}
 use Rattle.model.specs.History.{ledger, Call, Lawful}
 use Rattle.model.specs.Walk.{contents, entries}
 use Rattle.model.specs.Lists.{All}
-use Rattle.threads.specs.Split.{plan, splitStep}
-use Rattle.threads.specs.declared.Start.{Start}
-use Rattle.threads.specs.Starts.{isNamed, planStart}
-use Rattle.threads.specs.Turns.{Turn, take, runTurns, finalTurns}
-use Rattle.threads.specs.Instructions.{Hand, free, begun, loaded, knows, claims, looks, labels, marks, ends}
-use Rattle.threads.specs.Crew.{Crew, Act, allFree, Known, goOn, turns, told, outcomesOf, owed}
+use Rattle.threads_model.specs.Split.{plan, splitStep}
+use Rattle.threads_model.specs.declared.Start.{Start}
+use Rattle.threads_model.specs.Starts.{isNamed, planStart}
+use Rattle.threads_model.specs.Turns.{Turn, take, runTurns, finalTurns}
+use Rattle.threads_model.specs.Instructions.{Hand, free, begun, loaded, knows, claims, looks, labels, marks, ends}
+use Rattle.threads_model.specs.Crew.{Crew, Act, allFree, Known, goOn, turns, told, outcomesOf, owed}
 
 -- For any tables and any record: where the tables are admitted (34 for control and Anchor, 12), plan, touch and settlement are the step on the lent
 -- record, refusals and all.

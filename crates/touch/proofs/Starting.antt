@@ -1,41 +1,116 @@
 -- A start by its tests, and in its row.
-use mathlib.Core.Path.{_≡_, ap, _∙_}
-use mathlib.Core.Bool.{Bool, false, cond}
+use mathlib.Core.Path.{_≡_, refl, ap, sym, _∙_}
+use mathlib.Core.Bool.{Bool, true, false, _&&_, cond}
 use mathlib.Core.List.{List}
 use Prim.Native.Nat.{ℕ}
-use lib.Dec.{eqb}
-use borrow.Author.Tests.{eq-eqb, ne-eqb}
-use Rattle.model.specs.declared.Control.{Control}
+use native.Mathlib.Omega.{arith}
+use lib.Dec.{eqb, leb}
+use borrow.Author.Tests.{eq-eqb, ne-eqb, le-leb}
+use Rattle.word.specs.Anchor.{anchorOf}
 use Rattle.model.specs.declared.Record.{Record}
 use Rattle.model.specs.declared.Reply.{Reply}
-use Rattle.calls.specs.Starting.{askedRefusal}
+use Rattle.model.specs.Tables.{newCall, started, asking}
+use Rattle.model.specs.Sound.{from1, anchorSound, linkSound, recordSound}
+use Rattle.model.proofs.tests.Truth.{split, and-true, not-both}
+use Rattle.sound.proofs.Parts.{idle-sound}
 use Rattle.rows.specs.Rows.{callOf, recordOf, upperOf}
-use Rattle.threads.specs.declared.PlannedTouch.{PlannedTouch}
-use Rattle.threads.specs.declared.Start.{Start}
-use Rattle.threads.specs.Split.{knowing, refuses, loadsAnchor, plan}
-use Rattle.threads.specs.Starts.{Begins, ownRefusal, wrongPush, outside, startWhy, planStart, firstCall, judged}
-use Rattle.threads.specs.Starts.{lateWord, loadsMark, takesSlot, settleStart}
+use Rattle.rows.proofs.InItsRow.{unsound}
+use Rattle.threads_model.specs.declared.PlannedTouch.{PlannedTouch}
+use Rattle.threads_model.specs.declared.Start.{Start}
+use Rattle.threads_model.specs.Split.{refuses, loadsAnchor, loadsHead, plan}
+use Rattle.threads_model.specs.Starts.{Begins, ownRefusal, wrongPush, outside, planStart, firstCall, judged}
+use Rattle.threads_model.specs.Starts.{lateWord, loadsMark, takesSlot, settleStart}
+use Rattle.threads.proofs.split.ByRecord.{refuses-plan}
+use Rattle.threads.proofs.split.Planned.{plan1, plan12}
+use Rattle.threads.proofs.split.SoundFields as F
 use Rattle.touch.specs.Started.{Started, startedBy}
+use Rattle.touch.proofs.Tested.{plans}
 
-pub asks : (r : Record) (s : Start) {c d : Control} {w w′ o o′ : Bool} → c ≡ d → w ≡ w′ → o ≡ o′
-    → askedRefusal c r (s .side) (record { wrong = w; outside = o; taken = false }) ≡ askedRefusal d r (s .side)
-    (record { wrong = w′; outside = o′; taken = false })
-asks r s ec ew eo = λ i. askedRefusal (ec i) r (s .side) (record { wrong = ew i; outside = eo i; taken = false })
+-- What a start does first, by its tests one after the other.
+module _ (pooled slots : ℕ) (r : Record) (s : Start) where
+  abbrev Plans : PlannedTouch → Type 0
+  Plans p = p ≡ planStart pooled slots r s
 
--- The tests of every start, with an Anchor that is not late and a mark that is clear.
-module _ (pooled slots : ℕ) (r : Record) (s : Start) (n : ℕ)
-    (is : n ≡ askedRefusal (knowing pooled slots 0 0) r (s .side) (record { wrong = wrongPush pooled s; outside = outside slots s; taken = false })) where
-  why-is : n ≡ startWhy pooled slots r s
-  unfolding askedRefusal ownRefusal
-  why-is = is
+  pub no-side : leb (s .side) 1 ≡ false → Plans (refuses 14)
+  unfolding planStart ownRefusal
+  no-side a = rw a
 
-  pub plans-refusal : (n ≡ 0 → ⊥) → refuses n ≡ planStart pooled slots r s
-  unfolding planStart
-  plans-refusal h = rw (← why-is, ne-eqb n 0 h)
+  module _ (a : leb (s .side) 1 ≡ true) where
+    pub wrong-kind : wrongPush pooled s ≡ true → Plans (refuses 41)
+    unfolding planStart ownRefusal
+    wrong-kind b = rw (a, b)
 
-  pub plans-load : n ≡ 0 → loadsAnchor ≡ planStart pooled slots r s
-  unfolding planStart
-  plans-load h = rw (← why-is, eq-eqb n 0 h)
+    module _ (b : wrongPush pooled s ≡ false) where
+      pub no-slot : outside slots s ≡ true → Plans (refuses 15)
+      unfolding planStart ownRefusal
+      no-slot d = rw (a, b, d)
+
+      module _ (d : outside slots s ≡ false) where
+        pub free : r .place ≡ 0 → Plans loadsAnchor
+        unfolding planStart ownRefusal
+        free e = let idle = eq-eqb (r .place) 0 e in rw (a, b, d, idle-sound (eqb pooled 1) slots r idle, idle)
+
+        pub taken-up : (r .place ≡ 0 → ⊥) → recordSound (eqb pooled 1) slots r ≡ true → Plans (refuses 30)
+        unfolding planStart ownRefusal
+        taken-up h f = rw (a, b, d, f, ne-eqb (r .place) 0 h)
+
+        pub damaged : recordSound (eqb pooled 1) slots r ≡ false → Plans (refuses 34)
+        unfolding planStart ownRefusal
+        damaged f = rw (a, b, d, f)
+
+-- The first step of a call as a start writes it.
+module _ (pooled slots : ℕ) where
+  abbrev sounds : Record → Bool
+  sounds r = recordSound (eqb pooled 1) slots r
+
+  zero-low : leb 0 slots ≡ true
+  zero-low = le-leb 0 slots (omega arith)
+
+  no-link : linkSound slots 0 ≡ true
+  unfolding linkSound
+  no-link = zero-low
+
+  no-anchor : anchorSound slots (anchorOf 0) ≡ true
+  unfolding anchorSound
+  no-anchor = rw zero-low
+
+  base : (n kind side own label : ℕ) → leb kind 1 ≡ true → leb side 1 ≡ true → F.Base pooled slots (newCall n kind side own label)
+  base n kind side own label k a = record { kind = k; side = a; fin = refl; near = zero-low; link = no-link; seen = no-anchor }
+
+  pub push-plan : (side slot label : ℕ) → leb side 1 ≡ true → from1 slots slot ≡ true → loadsAnchor ≡ plan pooled slots (started 0 side slot label)
+  push-plan side slot label a f =
+      let r = started 0 side slot label in
+      plans pooled slots r (F.put pooled slots 1 r (F.low pooled slots 1 refl refl) refl refl refl f refl refl (base 1 0 side slot label refl a)) 1 refl refl _
+      (plan1 pooled slots r)
+
+  pub pop-plan : (side : ℕ) → leb side 1 ≡ true → loadsAnchor ≡ plan pooled slots (started 1 side 0 0)
+  pop-plan side a =
+      let r = started 1 side 0 0 in
+      plans pooled slots r (F.put pooled slots 1 r (F.low pooled slots 1 refl refl) refl refl refl refl refl refl (base 1 1 side 0 0 refl a)) 1 refl refl _
+      (plan1 pooled slots r)
+
+  pub put-plan : (side label : ℕ) → leb side 1 ≡ true → eqb pooled 1 ≡ true → loadsHead ≡ plan pooled slots (asking side label)
+  put-plan side label a p =
+      let r = asking side label in
+      plans pooled slots r (F.put pooled slots 12 r (F.high pooled slots 12 refl p) refl refl refl refl refl refl
+      (base 12 0 side 0 label refl a)) 12 refl refl _
+      (plan12 pooled slots r)
+
+  refused-34 : (r : Record) → (sounds r ≡ true → ⊥) → refuses 34 ≡ plan pooled slots r
+  refused-34 r h =
+      refuses-plan pooled slots r 34 (unsound (eqb pooled 1) slots r (split (sounds r) (λ t. absurd (h t)) (λ f. f))) (λ
+      (z : _≡_ {A = ℕ} 34 0). omega (arith, z))
+
+  pub bad-side : (r : Record) → eqb (r .place) 0 ≡ false → leb (r .side) 1 ≡ false → refuses 34 ≡ plan pooled slots r
+  bad-side r busy a = refused-34 r (λ t. not-both (F.fit pooled slots r busy t .base .side) a)
+
+  pub bad-slot : (side slot label : ℕ) → from1 slots slot ≡ false → refuses 34 ≡ plan pooled slots (started 0 side slot label)
+  bad-slot side slot label f = refused-34 (started 0 side slot label) (λ t. not-both (F.fit pooled slots (started 0 side slot label) refl t .owns) f)
+
+  pub not-pooled : (side label : ℕ) → eqb pooled 1 ≡ false → refuses 34 ≡ plan pooled slots (asking side label)
+  not-pooled side label p =
+      refused-34 (asking side label)
+      (λ t. not-both (F.fit pooled slots (asking side label) refl t .place) (ap (λ (b : Bool). leb 12 (cond b 17 11)) p))
 
 module _ (pooled slots : ℕ) (was : List ℕ) (s : Start) where
   abbrev leaves : List ℕ → Reply → PlannedTouch → Started
@@ -62,22 +137,21 @@ module _ (pooled slots : ℕ) (was : List ℕ) (s : Start) where
       })
 
   -- A settlement by its touch.
-  pub by-mark : (act w why : ℕ) → (act ≡ 1 → ⊥) → why ≡ cond (eqb w 0) (cond (eqb act 12) 0 33) 32
+  pub by-touch : (act w why : ℕ) (late : Bool) → (eqb act 1 && eqb (s .operation) 0) ≡ false → late ≡ lateWord w
+      → why ≡ cond (eqb act 1) (cond late 33 0) (cond (eqb w 0) (cond (eqb act 12) 0 33) 32)
       → by (judged (recordOf was) s why) ≡ by (settleStart (recordOf was) s act w)
   unfolding settleStart
-  by-mark act w why h e = rw (ne-eqb act 1 h) (ap (λ (n : ℕ). by (judged (recordOf was) s n)) e)
+  by-touch act w why late other l e =
+      ap (λ (n : ℕ). by (judged (recordOf was) s n)) (e ∙ ap (λ (b : Bool). cond (eqb act 1) (cond b 33 0) (cond (eqb w 0) (cond (eqb act 12) 0 33) 32)) l)
+      ∙ split (eqb act 1)
+      (λ a. let n : eqb (s .operation) 0 ≡ false = ap (λ (b : Bool). b && eqb (s .operation) 0) (sym a) ∙ other in rw (a, n))
+      (λ a. rw a)
 
-  pub by-anchor : (act w why : ℕ) (late : Bool) → act ≡ 1 → (s .operation ≡ 0 → ⊥) → late ≡ lateWord w → why ≡ cond late 33 0
-      → by (judged (recordOf was) s why) ≡ by (settleStart (recordOf was) s act w)
-  unfolding settleStart
-  by-anchor act w why late one other l e =
-      let n = e ∙ ap (λ (b : Bool). cond b 33 0) l in
-      ap (λ (n : ℕ). by (judged (recordOf was) s n)) n ∙ rw (eq-eqb act 1 one, ne-eqb (s .operation) 0 other)
-
-  pub at-slot : (act w : ℕ) (late : Bool) (p : PlannedTouch) → act ≡ 1 → s .operation ≡ 0 → late ≡ lateWord w
+  pub at-slot : (act w : ℕ) (late : Bool) (p : PlannedTouch) → (eqb act 1 && eqb (s .operation) 0) ≡ true → late ≡ lateWord w
       → p ≡ cond late (loadsMark (s .slot)) (takesSlot (s .slot) (s .label))
       → leaves was (record { code = 0; label = 0; value = 0 }) p ≡ by (settleStart (recordOf was) s act w)
   unfolding settleStart
-  at-slot act w late p one zero l e =
+  at-slot act w late p both l e =
+      let z = and-true (eqb act 1) (eqb (s .operation) 0) both in
       let n = e ∙ ap (λ (b : Bool). cond b (loadsMark (s .slot)) (takesSlot (s .slot) (s .label))) l in
-      rw (eq-eqb act 1 one, eq-eqb (s .operation) 0 zero) (ap (leaves was (record { code = 0; label = 0; value = 0 })) n)
+      rw (z .0, z .1) (ap (leaves was (record { code = 0; label = 0; value = 0 })) n)

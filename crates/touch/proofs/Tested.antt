@@ -1,21 +1,35 @@
--- Why a record is refused, by the tests made one after the other.
-use mathlib.Core.Path.{_≡_}
+-- What a record that is not refused shows, and the plan of a sound one.
+use mathlib.Core.Path.{_≡_, sym, _∙_}
 use mathlib.Core.Bool.{Bool, true, false}
 use Prim.Native.Nat.{ℕ}
-use borrow.Author.Tests.{eq-eqb, ne-eqb}
+use native.Mathlib.Omega.{arith}
+use lib.Dec.{eqb}
+use borrow.Author.Tests.{eqb-false, ne-eqb}
+use Rattle.word.specs.Anchor.{anchorOf}
 use Rattle.model.specs.declared.Record.{Record}
-use Rattle.model.specs.Sound.{recordSound}
+use Rattle.model.specs.Tables.{atPlace}
+use Rattle.model.specs.Sound.{anchorSound, recordSound}
 use Rattle.model.specs.Refusals.{recordRefusal}
+use Rattle.model.proofs.tests.Truth.{split}
+use Rattle.rows.proofs.InItsRow.{unsound}
+use Rattle.threads_model.specs.declared.PlannedTouch.{PlannedTouch}
+use Rattle.threads_model.specs.Split.{planned, plan}
+use Rattle.threads.proofs.split.ByRecord.{low, plans-at, sound-none}
+use Rattle.threads.proofs.split.SoundFields.{fit}
 
-module _ (pooled : Bool) (slots : ℕ) (r : Record) where
-  pub idle : recordSound pooled slots r ≡ true → r .place ≡ 0 → 31 ≡ recordRefusal pooled slots r
-  unfolding recordRefusal
-  idle s e = rw (s, eq-eqb _ _ e)
+pub sound-of : (pooled : Bool) (slots : ℕ) (r : Record) → recordRefusal pooled slots r ≡ 0 → recordSound pooled slots r ≡ true
+sound-of pooled slots r none =
+    split (recordSound pooled slots r) (λ s. s) (λ b. let z : 34 ≡ 0 = unsound pooled slots r b ∙ none in absurd (omega (arith, z)))
 
-  pub passes : recordSound pooled slots r ≡ true → (r .place ≡ 0 → ⊥) → 0 ≡ recordRefusal pooled slots r
-  unfolding recordRefusal
-  passes s h = rw (s, ne-eqb _ _ h)
+module _ (pooled slots : ℕ) (r : Record) where
+  busy : (n : ℕ) → eqb n 0 ≡ false → r .place ≡ n → r .place ≡ 0 → ⊥
+  busy n other at zero = eqb-false n 0 other (sym at ∙ zero)
 
-  pub fails : recordSound pooled slots r ≡ false → 34 ≡ recordRefusal pooled slots r
-  unfolding recordRefusal
-  fails s = rw s
+  pub seen-sound : recordRefusal (eqb pooled 1) slots r ≡ 0 → anchorSound slots (anchorOf (r .seen)) ≡ true
+  seen-sound none =
+      let l = low pooled slots r none in
+      fit pooled slots r (ne-eqb (r .place) 0 (λ z. omega (arith, l, z))) (sound-of (eqb pooled 1) slots r none) .base .seen
+
+  pub plans : recordSound (eqb pooled 1) slots r ≡ true → (n : ℕ) → eqb n 0 ≡ false → r .place ≡ n
+      → (p : PlannedTouch) → p ≡ planned pooled slots (atPlace r n) → p ≡ plan pooled slots r
+  plans sound n other at p e = plans-at pooled slots r (sound-none pooled slots r sound (busy n other at)) n at p e

@@ -7,10 +7,10 @@ use Rattle.model.specs.declared.TaskRecord.{TaskRecord}
 use Rattle.model.specs.declared.Reply.{Reply}
 use Rattle.model.specs.Calls.{replyOf}
 use Rattle.model.specs.Ends.{isMoved}
-use Rattle.threads.specs.declared.PlannedTouch.{PlannedTouch}
-use Rattle.threads.specs.declared.Start.{Start}
-use Rattle.threads.specs.Split.{plan}
-use Rattle.threads.specs.Starts.{Begins, touches, answers}
+use Rattle.threads_model.specs.declared.PlannedTouch.{PlannedTouch}
+use Rattle.threads_model.specs.declared.Start.{Start}
+use Rattle.threads_model.specs.Split.{plan}
+use Rattle.threads_model.specs.Starts.{Begins, touches, answers}
 
 -- Four words: operation, side, slot, label; a label has 32 bits.
 unfoldable pub startOf : List ℕ → Start

@@ -3,16 +3,16 @@
 use crate::Onward;
 use crate::asks;
 use calls::refusal;
-use model::Asked;
 use model::Record;
 use model::Reply;
-use threads::PlannedTouch;
-use threads::Start;
+use threads_model::PlannedTouch;
+use threads_model::Start;
 ghost use mathlib.Core.Path.{_≡_};
 ghost use mathlib.Core.Bool.{cond};
 ghost use lib.Dec.{eqb};
 ghost use Rattle.rows.specs.Rows.{callOf, recordOf, upperOf};
-ghost use Rattle.threads.specs.Starts.{wrongPush, outside, planStart, firstCall, judged, settleStart, takesSlot, loadsMark};
+ghost use Rattle.threads_model.specs.Split.{plan};
+ghost use Rattle.threads_model.specs.Starts.{wrongPush, outside, planStart, firstCall, judged, settleStart, takesSlot, loadsMark};
 ghost use Rattle.touch.specs.Started.{startOf, Started, startedBy};
 
 /// The words of a start.
@@ -56,21 +56,33 @@ fn outside(slots: u64, s: Start) -> bool
     false
 }
 
-/// What a start does first: it is refused by its own numbers and record, or loads Anchor. (The tests are
-/// those of every start, with an Anchor that is not late and a mark that is clear.)
-pub fn plan_start(pooled: u64, slots: u64, r: Record, s: Start) -> PlannedTouch
-    ensures { λ p. ⌜ p ≡ planStart pooled slots r s ⌝ }
+/// What a start does first: it is refused by its own numbers and record, or loads Anchor.
+pub fn plan_start(
+    pooled: u64,
+    slots: u64,
+    task: &[u64; rows::RECORD_WORDS],
+    s: Start,
+) -> PlannedTouch
+    ensures { λ p. ⌜ p ≡ planStart pooled slots (callOf (now (task .entry))) s ⌝ }
 {
-    let asked = Asked {
-        wrong: wrong_push(pooled, s),
-        outside: outside(slots, s),
-        taken: false,
-    };
-    let why = refusal::asked_refusal(crate::knowing(pooled, slots, 0), r, s.side, asked);
-    if why != 0 {
-        return asks::refuses(why);
+    if 1 < s.side {
+        return asks::refuses(14);
     }
-    asks::LOAD_ANCHOR
+    if wrong_push(pooled, s) {
+        return asks::refuses(41);
+    }
+    if outside(slots, s) {
+        return asks::refuses(15);
+    }
+    let row = *task;
+    let r = rows::call_of(row);
+    if r.place == 0 {
+        return asks::LOAD_ANCHOR;
+    }
+    if sound::record_sound(pooled == 1, slots, r) {
+        return asks::refuses(30);
+    }
+    asks::refuses(34)
 }
 
 /// The call that a start writes.
@@ -84,6 +96,28 @@ fn first_call(s: Start) -> Record
         return calls::start::new_call(1, 1, s.side, 0, 0);
     }
     calls::start::new_call(12, 0, s.side, 0, s.label)
+}
+
+/// Its first step: all that can be unsound of it are the words of the start.
+fn first_plan(pooled: u64, slots: u64, s: Start) -> PlannedTouch
+    ensures { λ p. ⌜ p ≡ plan pooled slots (firstCall s) ⌝ }
+{
+    if 1 < s.side {
+        return asks::refuses(34);
+    }
+    if s.operation == 0 {
+        if sound::from1(slots, s.slot) {
+            return asks::LOAD_ANCHOR;
+        }
+        return asks::refuses(34);
+    }
+    if s.operation == 1 {
+        return asks::LOAD_ANCHOR;
+    }
+    if pooled == 1 {
+        return asks::LOAD_HEAD;
+    }
+    asks::refuses(34)
 }
 
 /// The touch of a push that names a slot, once it has loaded Anchor: it takes the slot; where Anchor was
@@ -111,17 +145,13 @@ fn at_slot(late: bool, s: Start) -> PlannedTouch
     }
 }
 
-/// Why a start that names no slot is refused, by the Anchor found; 0: it is carried out.
-fn by_anchor(late: bool) -> u32
-    ensures { λ n. ⌜ n ≡ cond late 33 0 ⌝ }
+/// Why a start is refused by the word found, or 0: by the Anchor, whose lateness is told, or by the mark.
+fn why_not(act: u32, found: u64, late: bool) -> u32
+    ensures { λ n. ⌜ n ≡ cond (eqb act 1) (cond late 33 0) (cond (eqb found 0) (cond (eqb act 12) 0 33) 32) ⌝ }
 {
-    if late { 33 } else { 0 }
-}
-
-/// Why a push that names a slot is refused, by the mark found; 0: it is carried out.
-fn by_mark(act: u32, found: u64) -> u32
-    ensures { λ n. ⌜ n ≡ cond (eqb found 0) (cond (eqb act 12) 0 33) 32 ⌝ }
-{
+    if act == 1 {
+        return if late { 33 } else { 0 };
+    }
     if found != 0 {
         return 32;
     }
@@ -156,7 +186,7 @@ fn decides(
     let call = first_call(s);
     let after = rows::record_row(call, was[9]);
     *task = after;
-    let p = crate::plan(pooled, slots, task);
+    let p = first_plan(pooled, slots, s);
     Onward {
         reply: Reply {
             code: 1,
@@ -182,11 +212,8 @@ pub fn settle_start(
         (startedBy pooled slots (upperOf (now (task .entry))) (recordOf (now (task .entry)))
         (settleStart (recordOf (now (task .entry))) s act found)) ⌝ }
 {
-    if act != 1 {
-        return decides(slots, pooled, task, s, by_mark(act, found));
-    }
     let late = refusal::late(found);
-    if s.operation == 0 {
+    if (act == 1) & (s.operation == 0) {
         return Onward {
             reply: Reply {
                 code: 0,
@@ -196,5 +223,5 @@ pub fn settle_start(
             touch: at_slot(late, s),
         };
     }
-    decides(slots, pooled, task, s, by_anchor(late))
+    decides(slots, pooled, task, s, why_not(act, found, late))
 }

@@ -1,8 +1,7 @@
-//! Tells the verdict on the history on standard input, a text. `historyfile` judges it and has the words.
+//! Tells the verdict on the history on standard input, a text. `judge` judges it and has the words.
 mod help;
 
-use historyfile::say;
-ghost use mathlib.Core.Path.{_≡_};
+use judge::say;
 ghost use Prim.Native.Nat.{_≤_};
 ghost use lib.ListN.{length};
 

@@ -16,8 +16,13 @@ use Rattle.model.specs.Walk.{Walk, along, andThen, broken, contents, entries, i
 use Rattle.model.specs.Sides.{isEmpty}
 use Rattle.walk.specs.declared.Tally.{Tally}
 use Rattle.walk.specs.declared.Tally.the-variants.{Broken, Labels}
-use Rattle.walk.specs.Counted.{andCounted, counted}
+use Rattle.walk.specs.Counted.{counted}
 use Rattle.walk.proofs.SlotBySlot.{rest, entry, outside, ends, strays, goes, from-left, from-right}
+
+-- n and those of the walk.
+abbrev pub andCounted : ℕ → Walk → Tally
+andCounted n (entries l) = Labels (n + length l)
+andCounted n broken = Broken
 
 none-yet : (w : Walk) → andCounted 0 w ≡ counted w
 none-yet (entries l) = ap Labels (omega arith)

@@ -1,5 +1,5 @@
 //! A text through `verdict`, and read here from the program's own help and the messages that
-//! `tests/histories.sh` has: a call a line, seven words, then the order.
+//! `tests/suite/tests/histories.rs` has: a call a line, seven words, then the order.
 
 use crate::programs::{said, Said};
 use reference::audit::{audit, Finished, Verdict};

@@ -1,7 +1,6 @@
 -- Turned away by its number alone, or moved on.
-use mathlib.Core.Path.{_≡_, sym, ap, _∙_}
+use mathlib.Core.Path.{sym, _∙_}
 use borrow.Author.Needs.{needs}
-use Rattle.model.specs.declared.Outcome.{Outcome}
 use Rattle.model.specs.Sound.{rowsFit}
 use Rattle.model.specs.Refusals.{alone}
 use Rattle.model.specs.Tables.{Tables, tablesOf}

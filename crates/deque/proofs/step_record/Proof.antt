@@ -16,12 +16,11 @@ use prog.Wp.{Heap, Calls, Loops, WpFn, Tables as Program}
 use ghost.Atoms.{Atoms}
 use contract.Monad.{Fun}
 use contract.Running.{givenOf, tables, tablesOf}
-use types.Kit.{Given, Item, ‵, _⊛_, post, _$_, _∵_, !, qed, move, drop, split, join, fsplit, fsplit3, fjoin, fjoin3, feqI, suffices, frame, done}
+use types.Kit.{Given, Item, ‵, _⊛_, _$_, _∵_, !, qed, move, drop, split, join, fsplit, fsplit3, fjoin, fjoin3, feqI, suffices, frame, done}
 use types.Run.{look, look-raw, init, store-raw, stop, hop, fld, from, load, addr, of-opd, and-then, no-more, assigns, returns, enter, params1, pass1, pass0}
 use types.Part.{agg, whole, sub, look-in}
 use sound.WpLaws.{FmC, fmOf, WpFn-mono}
 use denote.RattleType.{owns}
-use denote.Memory.{mem}
 use denote.Laws.{Is, shows}
 use denote.Builtin.{u32, u64}
 use denote.Ref.{RefT, MutRef, ptr-vals, mut-tells}
@@ -41,7 +40,7 @@ use Rattle.model.specs.declared.TaskRecord.{TaskRecord}
 use Rattle.model.specs.declared.Outcome.{Outcome}
 use Rattle.model.specs.Tables.{Tables}
 use Rattle.model.specs.Calls.{Acted, stepLent}
-use Rattle.deque.proofs.Walk.{control-value, record-value, slice-value, kept, var, part, lets, receive}
+use Rattle.deque.proofs.Walk.{control-value, record-value, slice-value, var, part, lets, receive}
 use Rattle.deque.proofs.Engine.{Five, tabled, unwritten, Move, slices, moves}
 use Rattle.deque.proofs.Stored.{control-of, task-of, outcome-of}
 use Rattle.deque.proofs.Frame.{full, allocates, frees-all}

@@ -12,8 +12,8 @@ use Rattle.word.specs.Link.{linkOf}
 use Rattle.model.specs.Sound.{from1, linkSound}
 use Rattle.model.specs.Walk.{Walk, along}
 use Rattle.walk.specs.declared.Tally.the-variants.{Broken}
-use Rattle.walk.specs.Counted.{andCounted, counted}
-use Rattle.walk.proofs.Counting.{Reaches, begins, full, out, astray}
+use Rattle.walk.specs.Counted.{counted}
+use Rattle.walk.proofs.Counting.{andCounted, Reaches, begins, full, out, astray}
 use Rattle.walk.proofs.Counting as counting
 use Rattle.find_model.specs.Noting.{note, noting}
 use Rattle.find.specs.Looked.{Looked}

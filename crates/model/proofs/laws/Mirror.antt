@@ -26,10 +26,11 @@ use Rattle.model.specs.declared.Asked.{Asked}
 use Rattle.model.specs.Refusals.{openRefusal, Lent, among, alone, fits, startRefusal, namedPush, pooledPush, nothingAsked}
 use Rattle.model.specs.Calls.{opened, OpenDone, openAs, Acted, decide, pushStart, putStart, popStart, actOn, back, act, stepLent}
 use Rattle.model.specs.Mirror.{mirrorSide, mirrorStatus, mirrorWord, mirrorControl, mirrorTables, mirrorRecord, mirrorTask, mirrorQueue, mirrorOp}
-use Rattle.model.specs.Mirror.{mirrorActed, mirrorOpened, mirrorDone}
+use Rattle.model.specs.Mirror.{mirrorActed, mirrorOpened, mirrorDone, Mirrored}
 use Rattle.model.proofs.laws.Mirror.Packed.{mirror-pack}
 use Rattle.model.proofs.laws.Mirror.Sound.{rows-fit-mirror, start-refusal-mirror}
 use Rattle.model.proofs.laws.Mirror.Steps.{decide-mirror, step-mirror}
+use Rattle.model.proofs.laws.Mirror.Twice.{mirror-twice}
 use Rattle.model.specs.Lists.{zeroed}
 
 -- A start or step of one record.
@@ -129,3 +130,6 @@ open-mirror pooled q tasks slots tag =
         (record { queue = q; outcome = opening.Refused why }))
     go true why = refl
     go false why = refl
+
+pub mirrored : Mirrored
+mirrored = record { opening = open-mirror; operation = act-mirror; lent = lent-mirror; twice = mirror-twice }

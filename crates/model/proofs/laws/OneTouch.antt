@@ -18,7 +18,7 @@ use Rattle.model.specs.Places.{at1, at2, at3, at4, at5, at6, at7, at9, a
 use Rattle.model.specs.Route.{counted}
 use Rattle.model.specs.Refusals.{Lent, among, alone, stepRefusal}
 use Rattle.model.specs.Calls.{Acted, finish, step, actOn, act, stepLent}
-use Rattle.model.specs.OneTouch.{OneTouch, untouched, anchor, link, mark, next, head, drawn}
+use Rattle.model.specs.OneTouch.{TouchesOnce, OneTouch, untouched, anchor, link, mark, next, head, drawn}
 use Rattle.model.proofs.tests.Truth.{either, by-test}
 use Rattle.model.specs.Kinds.{isPush}
 
@@ -178,3 +178,6 @@ lent-uncounted q r = step-uncounted q alone r
 pub act-others : (q : Queue) (t u : ℕ) (o : Op) → (u ≡ t → ⊥) → taskAt (act q t o .queue) u ≡ taskAt q u
 unfolding act
 act-others q t u o other = getD-set-other (q .records) t u _ unused other
+
+pub touches-once : TouchesOnce
+touches-once = record { operation = act-touch; lent = lent-touch; others = act-others }

@@ -1,7 +1,7 @@
 use mathlib.Core.Bool.{_&&_}
 use mathlib.Core.Path.{sym, ap, _∙_}
 use borrow.Author.Tests.{not-true, not-false}
-use Rattle.sheet_model.proofs.Judged.{early-34, early-46, early-12, early-0}
+use Rattle.order.proofs.Judged.{early-34, early-46, early-12, early-0}
 use borrow.Author.Needs.{needs}
 use Rattle.order.proofs.early.Statement.{statement}
 use Rattle.order.proofs.early.Tie as tie

@@ -7,14 +7,15 @@ use borrow.Author.Tests.{not-true, not-false}
 use Rattle.model.specs.Tables.{Tables, tablesOf}
 use Rattle.model.specs.Sound.{rowsFit}
 use Rattle.sound.specs.Lengths.{lengthsFit}
-use Rattle.sheet_model.specs.Extents.{Extents}
+use Rattle.order.specs.Extents.{Extents}
 use Rattle.sheet_model.specs.Sheet.{Sheet}
-use Rattle.sheet_model.specs.Squares.{linked, byteRow, crossed}
+use Rattle.sheet_model.specs.Words.{linked}
+use Rattle.order.specs.Squares.{byteRow, crossed}
 use Rattle.sheet_model.specs.Verdict.{refused, sheet}
-use Rattle.sheet_model.specs.Search.{inRows}
-use Rattle.sheet_model.proofs.ByteRows.{bytes, bytes-show, square-marks}
-use Rattle.sheet_model.proofs.Broken.{formed}
-use Rattle.sheet_model.proofs.Judged.{Accepted, slots-few, accepted, judge-early, judge-lost, judge-told}
+use Rattle.order.specs.Search.{inRows}
+use Rattle.order.proofs.ByteRows.{bytes, bytes-show, square-marks}
+use Rattle.sheet_model.proofs.Formed.{formed}
+use Rattle.order.proofs.Judged.{Accepted, slots-few, accepted, judge-early, judge-lost, judge-told}
 use borrow.Author.Needs.{needs}
 use Rattle.order.proofs.sheet.Statement.{statement}
 use Rattle.order.proofs.sheet.Tie as tie

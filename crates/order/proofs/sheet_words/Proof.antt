@@ -10,16 +10,17 @@ use Rattle.model.specs.Tables.{Tables, tablesOf}
 use Rattle.model.specs.Sound.{rowsFit}
 use Rattle.model.proofs.tests.Truth.{and-true}
 use Rattle.sound.specs.Lengths.{lengthsFit}
-use Rattle.sheet_model.specs.Extents.{Extents}
+use Rattle.order.specs.Extents.{Extents}
 use Rattle.sheet_model.specs.declared.SheetReply.{SheetReply}
 use Rattle.sheet_model.specs.Sheet.{Sheet}
-use Rattle.sheet_model.specs.Squares.{bitRow, crossed, wordsOf}
+use Rattle.sheet_model.specs.Words.{wordsOf}
+use Rattle.order.specs.Squares.{bitRow, crossed}
 use Rattle.sheet_model.specs.Verdict.{refused}
-use Rattle.sheet_model.specs.Search.{inRows}
-use Rattle.sheet_model.proofs.BitRows.{bits, bits-show, words-long}
-use Rattle.sheet_model.proofs.Broken.{formed}
-use Rattle.sheet_model.proofs.Judged.{Accepted, slots-few, accepted, judge-early, judge-lost, judge-told}
-use Rattle.sheet_model.proofs.Printed.{rows-code, printed-refused, printed-told}
+use Rattle.order.specs.Search.{inRows}
+use Rattle.order.proofs.BitRows.{bits, bits-show, words-long}
+use Rattle.sheet_model.proofs.Formed.{formed}
+use Rattle.order.proofs.Judged.{Accepted, slots-few, accepted, judge-early, judge-lost, judge-told}
+use Rattle.order.proofs.Printed.{rows-code, printed-refused, printed-told}
 use borrow.Author.Needs.{needs}
 use Rattle.order.proofs.sheet_words.Statement.{statement}
 use Rattle.order.proofs.sheet_words.Tie as tie

@@ -1,7 +1,7 @@
 -- `taken11` and `left11`, with what the calls answer put in.
 use mathlib.Core.Path.{_≡_, sym, _∙_}
 use borrow.Author.Needs.{needs}
-use Rattle.places.specs.Decided.{ownEnd}
+use Rattle.decide.specs.Decided.{ownEnd}
 use Rattle.places.proofs.OnRows.{taken11, left11}
 use Rattle.places.proofs.at11.Statement.{statement}
 use Rattle.places.proofs.at11.Tie as tie

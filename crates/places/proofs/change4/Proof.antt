@@ -3,7 +3,7 @@ use mathlib.Core.Path.{sym, _∙_}
 use borrow.Author.Tests.{not-true, not-false}
 use borrow.Author.Needs.{needs}
 use Rattle.model.specs.Route.{route}
-use Rattle.places.specs.Ending.{anchorRead, failing, remembered}
+use Rattle.decide.specs.Ending.{anchorRead, failing, remembered}
 use Rattle.places.proofs.Anchors.{Tries, denies, makes, step4}
 use Rattle.places.proofs.change4.Statement.{statement}
 use Rattle.places.proofs.change4.Tie as tie

@@ -1,65 +1,14 @@
--- The rows below i are zero, the others as before.
-use mathlib.Core.Path.{_≡_, refl, ap, _∙_}
-use mathlib.Core.List.{List}
-use Prim.Native.Nat.{ℕ, _-_, _<_, _≤_}
+-- No more rows are zeroed than are there.
 use native.Mathlib.Omega.{arith}
-use lib.ListN.{length, set, length-set}
-use Rattle.model.specs.declared.TaskRecord.{TaskRecord}
-use Rattle.model.specs.Tables.{unused}
-use Rattle.model.specs.Lists.{zeroed}
-use Rattle.rows.specs.Rows.{callOf, recordOf, recordsOf, upperOf, uppersOf}
-use Rattle.rows.proofs.Rows.{length-records, length-uppers, record-put, upper-put, one-more}
 use borrow.Author.Needs.{needs}
 use Rattle.rows.proofs.clear.Statement.{statement}
 use Rattle.rows.proofs.clear.Tie as tie
 
-abbrev Inv-loop : tie.InvT-loop
-Inv-loop rows₀ n i₀ rows i =
-    (i ≤ n) × (length rows ≡ length rows₀)
-    × (recordsOf rows ≡ zeroed i unused (recordsOf rows₀)) × (uppersOf rows ≡ zeroed i 0 (uppersOf rows₀))
+zero-first-requires : tie.Need-zero-first-requires
+zero-first-requires c κs = omega (arith, c .before .least .ensures)
 
-abbrev μ-loop : tie.MeasureT-loop
-μ-loop rows₀ n i₀ rows i = n - i
-
-inside : tie.Need-slice-set-from-rows Inv-loop μ-loop
-inside c = omega (arith, c .loop-test .taken, c .before .loop .inv .1, c .before .before .pre)
-
-loop-again : tie.Need-loop-again Inv-loop μ-loop
-unfolding callOf recordOf upperOf
-loop-again c =
-    let less = c .loop-test .taken in
-    let turn = c .before .loop in
-    let rows₀ = c .before .before .args .rows .now in
-    let enough = c .before .before .pre in
-    let there : turn .i < length (recordsOf rows₀) = omega (arith, length-records rows₀) in
-    let here : turn .i < length (uppersOf rows₀) = omega (arith, length-uppers rows₀) in (
-      omega arith,
-      length-set (turn .rows) (turn .i) _ ∙ turn .inv .1,
-      record-put _ _ _ ∙ ap (λ (l : List TaskRecord). set l (turn .i) unused) (turn .inv .2) ∙ one-more (turn .i) unused (recordsOf rows₀) there,
-      upper-put _ _ _ ∙ ap (λ (l : List ℕ). set l (turn .i) 0) (turn .inv .3) ∙ one-more (turn .i) 0 (uppersOf rows₀) here,
-    )
-
-returns : tie.Need-returns Inv-loop μ-loop
-returns c =
-    let past = c .loop-test .left in
-    let below = c .before .loop .inv .0 in
-    let rows₀ = c .before .before .args .rows .now in
-    let e : c .before .loop .i ≡ c .before .before .args .n = omega arith in (
-      c .before .loop .inv .2 ∙ ap (λ (k : ℕ). zeroed k unused (recordsOf rows₀)) e,
-      c .before .loop .inv .3 ∙ ap (λ (k : ℕ). zeroed k 0 (uppersOf rows₀)) e,
-    )
+returns : tie.Need-returns
+returns c = rw (← c .before .before .before .least .ensures) (c .before .zero-first .ensures)
 
 pub clear-spec : {M : Type 1} → statement M
-clear-spec =
-    tie.close
-    (tie.spec
-    Inv-loop
-    μ-loop
-    (λ c. (omega arith, refl, refl, refl))
-    (λ c. let here = inside c in search needs)
-    inside
-    (λ c. search needs)
-    (λ c. search needs)
-    loop-again
-    (λ c. c .before .loop .inv .1)
-    returns)
+clear-spec = tie.close (tie.spec (λ _ _. tt) zero-first-requires (λ c. search needs) returns)

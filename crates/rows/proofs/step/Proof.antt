@@ -1,5 +1,5 @@
 -- Not admitted: the number alone. Admitted: the task has a record, and what its step may change is stored.
-use mathlib.Core.Path.{_≡_, refl, sym, ap, _∙_}
+use mathlib.Core.Path.{_≡_, refl, sym, _∙_}
 use Prim.Native.Nat.{_<_}
 use lib.ListN.{length}
 use Rattle.rows.proofs.OneStep.{fault, asked, refused, there, stepped}

@@ -6,7 +6,7 @@ use lib.ListN.{getD, set}
 use lib.Seq.{set-out, set-getD}
 use Rattle.model.specs.Tables.{unused}
 use Rattle.model.specs.declared.Record.{Record}
-use Rattle.rows.specs.Rows.{callOf, recordOf, recordsOf, uppersOf}
+use Rattle.rows.specs.Rows.{recordOf, recordsOf, uppersOf}
 use Rattle.rows.proofs.Rows.{length-uppers, record-put, record-read, upper-put, counting}
 use borrow.Author.Needs.{needs}
 use Rattle.rows.proofs.trim.Statement.{statement}

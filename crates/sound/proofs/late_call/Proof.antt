@@ -1,6 +1,5 @@
 -- The first test that fails, or all at 11, of a push that draws, or of a pop that gives back.
-use mathlib.Core.Path.{sym, _∙_}
-use borrow.Author.Needs.{needs}
+use mathlib.Core.Path.{_∙_}
 use borrow.Author.Tests.{eq-eqb, ne-eqb, le-leb, lt-leb, not-true, not-false}
 use Rattle.sound.specs.Records.{lateCall}
 use Rattle.sound.proofs.Late.{gives}

@@ -12,9 +12,9 @@ use Rattle.model.specs.Tables.{Tables, Queue, taskAt, marked, withMark}
 use Rattle.model.specs.Calls.{act, back}
 use Rattle.model.proofs.tests.Truth.{split}
 use Rattle.model.proofs.bridge.Marks.{marked-same, marked-other}
-use Rattle.threads.specs.Instructions.{Hand, labels, marks, ends, Ticked, quiet, decided}
-use Rattle.threads.specs.Instructions.{written, tells}
-use Rattle.threads.specs.Crew.{Crew, withHand, owed}
+use Rattle.threads_model.specs.Instructions.{Hand, labels, marks, ends, Ticked, quiet, decided}
+use Rattle.threads_model.specs.Instructions.{written, tells}
+use Rattle.threads_model.specs.Crew.{Crew, withHand, owed}
 use Rattle.threads.specs.Promises.{recordOf, OwesLabel, OwesMark}
 use Rattle.threads.proofs.follow.Good as own
 use Rattle.threads.proofs.follow.Good.{Good}

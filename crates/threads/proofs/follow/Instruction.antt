@@ -19,11 +19,11 @@ use Rattle.model.specs.Calls.{Acted, Done, act, back}
 use Rattle.model.specs.declared.Outcome.the-variants.{Refused}
 use Rattle.model.proofs.tests.Truth.{split}
 use Rattle.model.proofs.invariant.Owners.{held}
-use Rattle.threads.specs.Split.{plan}
-use Rattle.threads.specs.Turns.{Turn, take, runTurns, finalTurns}
-use Rattle.threads.specs.Instructions.{Hand, free, begun, loaded, knows, claims, looks, labels, marks, ends, Ticked, quiet, decided}
-use Rattle.threads.specs.Instructions.{written, tells}
-use Rattle.threads.specs.Crew.{Crew, withHand, turnsOf, outcomesOf, owed}
+use Rattle.threads_model.specs.Split.{plan}
+use Rattle.threads_model.specs.Turns.{Turn, take, runTurns, finalTurns}
+use Rattle.threads_model.specs.Instructions.{Hand, free, begun, loaded, knows, claims, looks, labels, marks, ends, Ticked, quiet, decided}
+use Rattle.threads_model.specs.Instructions.{written, tells}
+use Rattle.threads_model.specs.Crew.{Crew, withHand, turnsOf, outcomesOf, owed}
 use Rattle.threads.specs.Promises.{recordOf, OwesLabel, OwesMark}
 use Rattle.threads.proofs.follow.Overlay.{overlay}
 use Rattle.threads.proofs.follow.Plans.{says}

@@ -1,30 +1,29 @@
 -- A late Anchor stays late: whatever the records hold, no instruction lowers Anchor's tag.
-use mathlib.Core.Path.{_≡_, refl, ap, sym, subst, _∙_}
-use mathlib.Core.Bool.{Bool, true, false, not, cond}
-use mathlib.Core.List.{List, [], _∷_}
+use mathlib.Core.Path.{_≡_, refl, ap, sym, subst}
+use mathlib.Core.Bool.{Bool, true, false, not}
+use mathlib.Core.List.{List}
 use Prim.Native.Nat.{ℕ, _<_, _≤_}
 use native.Mathlib.Omega.{arith}
-use lib.Dec.{eqb, ltb}
-use lib.ListN.{getD, set}
-use borrow.Author.Tests.{eqb-true, eqb-false, eq-eqb, ltb-true, lt-ltb}
+use lib.Dec.{eqb}
+use lib.ListN.{getD}
+use borrow.Author.Tests.{eqb-true, ltb-true, lt-ltb}
 use Rattle.word.specs.Anchor.{anchorOf}
-use Rattle.word.specs.Link.{linkOf, packLink}
 use Rattle.model.specs.declared.Record.{Record}
 use Rattle.model.specs.declared.TaskRecord.{TaskRecord}
 use Rattle.model.specs.declared.Outcome.{Outcome}
 use Rattle.model.specs.declared.Op.{Op}
 use Rattle.model.specs.declared.Op.the-variants.{Push, Pop, Put, Step}
-use Rattle.model.specs.Tables.{Tables, taskAt, marked, withAnchor, withHead, linked, withMarks, withMark, withNext, taken, started, asking}
+use Rattle.model.specs.Tables.{Tables, taskAt, marked, withAnchor, started, asking}
 use Rattle.model.specs.Sides.{links}
 use Rattle.model.specs.Sound.{linkSound}
 use Rattle.model.specs.Refusals.{late}
-use Rattle.model.proofs.tests.Truth.{split, either, by-test, not-both}
-use Rattle.threads.specs.declared.PlannedTouch.{PlannedTouch}
-use Rattle.threads.specs.Split.{Touched, perform, plan}
-use Rattle.threads.specs.Starts.{ownRefusal}
-use Rattle.threads.specs.Instructions.{Hand, free, begun, loaded, knows, claims, looks, labels, marks, ends, Ticked}
-use Rattle.threads.specs.Instructions.{isAsRead, loadsOwn, putsOwn, stepFirst, clears, tick}
-use Rattle.threads.specs.Crew.{Crew, Act, calls, next, takesUp, ticked, go}
+use Rattle.model.proofs.tests.Truth.{either, by-test, not-both}
+use Rattle.threads_model.specs.declared.PlannedTouch.{PlannedTouch}
+use Rattle.threads_model.specs.Split.{Touched, perform, plan}
+use Rattle.threads_model.specs.Starts.{ownRefusal}
+use Rattle.threads_model.specs.Instructions.{Hand, free, begun, loaded, knows, claims, looks, labels, marks, ends, Ticked}
+use Rattle.threads_model.specs.Instructions.{isAsRead, loadsOwn, putsOwn, stepFirst, clears, tick}
+use Rattle.threads_model.specs.Crew.{Crew, Act, calls, next, takesUp, ticked, go}
 use Rattle.threads.proofs.follow.Plans.{Two, says}
 use Rattle.threads.proofs.follow.Starting.{plainStart, namedOwn, first-pop, first-put, first-push, claims-is, looks-is}
 

@@ -11,9 +11,9 @@ use Rattle.model.specs.Tables.{Tables, Queue, taskAt, marked}
 use Rattle.model.specs.Sound.{linkSound}
 use Rattle.model.specs.Calls.{Acted}
 use Rattle.model.proofs.invariant.Owners.{Owner, held}
-use Rattle.threads.specs.Split.{plan}
-use Rattle.threads.specs.Instructions.{Hand, free, begun, loaded, knows, claims, looks, labels, marks, ends}
-use Rattle.threads.specs.Crew.{Crew, owed}
+use Rattle.threads_model.specs.Split.{plan}
+use Rattle.threads_model.specs.Instructions.{Hand, free, begun, loaded, knows, claims, looks, labels, marks, ends}
+use Rattle.threads_model.specs.Crew.{Crew}
 use Rattle.threads.specs.Promises.{recordOf, OwesLabel, OwesMark, Agrees}
 use Rattle.threads.proofs.follow.Overlay.{overlay}
 use Rattle.threads.proofs.follow.Starting.{namedOwn}

@@ -10,10 +10,10 @@ use Rattle.model.specs.Refusals.{late}
 use Rattle.model.specs.Calls.{act}
 use Rattle.model.proofs.tests.Truth.{either, split, not-both}
 use Rattle.model.proofs.unsound.StartSafe.{Room}
-use Rattle.threads.specs.Turns.{take, finalTurns}
-use Rattle.threads.specs.Instructions.{Hand, free, begun, loaded, knows, claims, looks, labels, marks, ends, Ticked, tick}
-use Rattle.threads.specs.Crew.{Crew, next, withHand, ticked, go, asTurns, turnsOf}
-use Rattle.threads.proofs.lists.TagRoom.{Roomy, act-roomy, early-room, early-roomy, fewer-roomy, turn-roomy, without}
+use Rattle.threads_model.specs.Turns.{take, finalTurns}
+use Rattle.threads_model.specs.Instructions.{Hand, free, begun, loaded, knows, claims, looks, labels, marks, ends, Ticked, tick}
+use Rattle.threads_model.specs.Crew.{Crew, next, withHand, ticked, go, asTurns, turnsOf}
+use Rattle.threads.proofs.lists.TagRoom.{Roomy, act-roomy, early-room, early-roomy, fewer-roomy, turn-roomy}
 use Rattle.threads.proofs.follow.Good.{Good, good-act}
 use Rattle.threads.proofs.follow.LateStays.{Left, isClaims, tick-left}
 use Rattle.threads.proofs.follow.Starting.{claims-is}

@@ -1,6 +1,6 @@
 -- The instructions of a start, by what they look at.
 use mathlib.Core.Path.{_≡_, refl}
-use mathlib.Core.Bool.{Bool, true, false, not, cond}
+use mathlib.Core.Bool.{true, false, not, cond}
 use mathlib.Core.List.{[], _∷_}
 use Prim.Native.Nat.{ℕ}
 use lib.Dec.{eqb}
@@ -14,8 +14,8 @@ use Rattle.model.specs.Tables.{Tables, marked, withMark, withMarks, withCall, s
 use Rattle.model.specs.Sound.{from1}
 use Rattle.model.specs.Refusals.{late}
 use Rattle.model.proofs.tests.Truth.{split}
-use Rattle.threads.specs.Starts.{names, pops, puts, ownRefusal, planStart, settleStart}
-use Rattle.threads.specs.Instructions.{Hand, claims, looks, labels, ends, Ticked, quiet, decided, startFirst, claimsMark, looksMark}
+use Rattle.threads_model.specs.Starts.{names, pops, puts, ownRefusal, planStart, settleStart}
+use Rattle.threads_model.specs.Instructions.{Hand, claims, looks, labels, ends, Ticked, quiet, decided, startFirst, claimsMark, looksMark}
 
 -- A pop, or a push that names no slot: refused by its own numbers and record, refused 33, or carried out.
 abbrev pub plainStart : Tables → TaskRecord → Op → ℕ → Record → ℕ → Ticked

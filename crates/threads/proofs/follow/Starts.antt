@@ -21,11 +21,11 @@ use Rattle.model.specs.declared.Asked.{Asked}
 use Rattle.model.proofs.tests.Rules.{cleared}
 use Rattle.model.proofs.tests.Truth.{split, by-test, not-both}
 use Rattle.model.proofs.bridge.Facts.{from1-true}
-use Rattle.threads.specs.Turns.{actEarly, take}
-use Rattle.threads.specs.Starts.{ownRules, ownRefusal, names, pops, puts}
-use Rattle.threads.specs.Instructions.{Hand, claims, looks, labels, marks, ends, Ticked}
-use Rattle.threads.specs.Instructions.{startFirst, claimsMark, looksMark}
-use Rattle.threads.specs.Crew.{Crew}
+use Rattle.threads_model.specs.Turns.{actEarly, take}
+use Rattle.threads_model.specs.Starts.{ownRules, ownRefusal, names, pops, puts}
+use Rattle.threads_model.specs.Instructions.{Hand, claims, looks, labels, ends, Ticked}
+use Rattle.threads_model.specs.Instructions.{startFirst, claimsMark, looksMark}
+use Rattle.threads_model.specs.Crew.{Crew}
 use Rattle.threads.specs.Promises.{OwesLabel}
 use Rattle.threads.proofs.follow.Starting.{plainStart, namedOwn, first-pop, first-put, first-push, claims-is, looks-is}
 use Rattle.model.proofs.unsound.StartSafe.{Room}

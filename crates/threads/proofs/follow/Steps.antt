@@ -17,17 +17,16 @@ use Rattle.model.specs.Sides.{links}
 use Rattle.model.specs.Sound.{linkSound}
 use Rattle.word.specs.Link.{linkOf, packLink}
 use Rattle.model.specs.Calls.{Acted, act, back}
-use Rattle.model.proofs.tests.Rules.{cleared}
 use Rattle.model.proofs.tests.Truth.{by-test}
 use Rattle.model.proofs.bridge.Marks.{marked-other}
 use Rattle.model.proofs.invariant.Owners.{Owner, held}
-use Rattle.threads.specs.Split.{plan, perform, settle, splitStep, Touched, Settled}
-use Rattle.threads.specs.declared.PlannedTouch.{PlannedTouch}
+use Rattle.threads_model.specs.Split.{plan, perform, settle, splitStep, Touched, Settled}
+use Rattle.threads_model.specs.declared.PlannedTouch.{PlannedTouch}
 use Rattle.threads.proofs.split.Within.{plans-within}
 use Rattle.model.proofs.bridge.Facts.{from1-true}
-use Rattle.threads.specs.Instructions.{Hand, loaded, knows, labels, marks, ends, Ticked, quiet, decided}
-use Rattle.threads.specs.Instructions.{isAsRead, loadsOwn, putsOwn, stepFirst, clears}
-use Rattle.threads.specs.Crew.{Crew, owed}
+use Rattle.threads_model.specs.Instructions.{Hand, loaded, knows, labels, ends, Ticked, quiet, decided}
+use Rattle.threads_model.specs.Instructions.{isAsRead, loadsOwn, putsOwn, stepFirst, clears}
+use Rattle.threads_model.specs.Crew.{Crew}
 use Rattle.threads.specs.Promises.{onRow, OwesLabel, OwesMark}
 use Rattle.threads.proofs.follow.Overlay.{overlay, Over, over, perform5, perform6, perform9}
 use Rattle.threads.proofs.follow.Plans.{says, settle14}

@@ -14,9 +14,9 @@ use Rattle.model.specs.declared.Op.the-variants.{Push, Pop, Put, Step}
 use Rattle.model.specs.Tables.{Tables, Queue, taskAt, marked, withMark, withMarks, started}
 use Rattle.model.proofs.tests.Truth.{split, not-both}
 use Rattle.model.proofs.bridge.Marks.{marked-same, marked-other}
-use Rattle.threads.specs.Instructions.{Hand, free, begun, loaded, knows, claims, looks, labels, marks, ends, Ticked, quiet}
-use Rattle.threads.specs.Instructions.{withLabels, tick, written, tells}
-use Rattle.threads.specs.Crew.{Crew, owed}
+use Rattle.threads_model.specs.Instructions.{Hand, free, begun, loaded, knows, claims, looks, labels, marks, ends, Ticked, quiet}
+use Rattle.threads_model.specs.Instructions.{withLabels, tick, written, tells}
+use Rattle.threads_model.specs.Crew.{Crew, owed}
 use Rattle.threads.specs.Promises.{recordOf, OwesLabel, OwesMark}
 use Rattle.threads.proofs.follow.LateStays.{Late}
 use Rattle.model.proofs.unsound.StartSafe.{Room}

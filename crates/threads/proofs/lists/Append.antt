@@ -11,9 +11,9 @@ use Rattle.model.specs.Tables.{Queue}
 use Rattle.model.specs.History.{Event}
 use Rattle.model.specs.Lists.{All}
 use Rattle.model.proofs.tests.Truth.{split}
-use Rattle.threads.specs.Turns.{Turn, take, runTurns, finalTurns}
-use Rattle.threads.specs.Crew.{asTurns}
-use Rattle.threads.specs.Crew.{outcomesOf}
+use Rattle.threads_model.specs.Turns.{Turn, take, runTurns, finalTurns}
+use Rattle.threads_model.specs.Crew.{asTurns}
+use Rattle.threads_model.specs.Crew.{outcomesOf}
 
 pub assoc : (a b c : List Outcome) → (a ++ b) ++ c ≡ a ++ (b ++ c)
 assoc [] b c = refl

@@ -7,15 +7,13 @@ use native.Mathlib.Omega.{arith}
 use lib.Dec.{eqb, leb, ltb}
 use lib.ListN.{getD, length, length-set}
 use borrow.Author.Tests.{eqb-true, eqb-false, leb-true, not-false, not-true}
-use Rattle.model.specs.declared.Record.{Record}
-use Rattle.model.specs.declared.TaskRecord.{TaskRecord}
 use Rattle.model.specs.declared.Answer.the-variants.{Running}
 use Rattle.model.specs.declared.Outcome.the-variants.{Moved}
 use Rattle.model.specs.declared.Op.{Op}
 use Rattle.model.specs.declared.Op.the-variants.{Push, Pop, Put, Step}
 use Rattle.model.specs.Tables.{Tables, Queue, isPooled, marked, putBit, recordAt, taskAt, taken, withCall, started}
 use Rattle.model.specs.Sound.{from1, controlSound, recordSound, rowsFit}
-use Rattle.model.specs.Refusals.{Rule, rule, first, among, fits, isBusy, late, recordsFit, namedPush, pushRefusal, startRefusal, startRules}
+use Rattle.model.specs.Refusals.{Rule, rule, first, among, fits, isBusy, late, namedPush, pushRefusal, startRefusal, startRules}
 use Rattle.model.specs.Calls.{Acted, Done, act, back}
 use Rattle.model.specs.History.{Event, Ledger, ledgerFrom, note}
 use Rattle.model.specs.Lists.{All, every}
@@ -26,7 +24,7 @@ use Rattle.model.proofs.bridge.Accepted.{Lies, lies}
 use Rattle.model.proofs.bridge.Facts.{from1-true}
 use Rattle.model.proofs.ledger.EveryOperation.{act-good, push-good}
 use Rattle.model.proofs.ledger.Matched.{Matched}
-use Rattle.threads.specs.Turns.{Turn, actEarly, take, runTurns, finalTurns}
+use Rattle.threads_model.specs.Turns.{Turn, actEarly, take, runTurns, finalTurns}
 use Rattle.threads.specs.Promises.{EarlyAsEver}
 
 -- Rules with other numbers than the answer did not apply.

@@ -3,7 +3,7 @@ use mathlib.Core.Path.{_≡_, refl, ap, sym, subst, fun-ext, _∙_}
 use mathlib.Core.Bool.{Bool, true, false, cond}
 use mathlib.Core.List.{List}
 use mathlib.Core.Logic.{_≢_, _⊎_, inl, inr}
-use Prim.Native.Nat.{ℕ, _+_, _*_, _<_, _≤_}
+use Prim.Native.Nat.{ℕ, _+_, _<_, _≤_}
 use native.Mathlib.Omega.{arith}
 use lib.Dec.{eqb}
 use borrow.Author.Tests.{eqb-true, eq-eqb, ne-eqb, ltb-false}
@@ -37,7 +37,7 @@ use Rattle.model.proofs.tags.Sum.{total, total-keep, total-le, total-upd}
 use Rattle.model.proofs.unsound.Safe.{Safe}
 use Rattle.model.proofs.unsound.StartSafe.{Room}
 use Rattle.model.proofs.unsound.StepSound.{lighter, seen, stepping}
-use Rattle.threads.specs.Turns.{actEarly, take}
+use Rattle.threads_model.specs.Turns.{actEarly, take}
 use Rattle.threads.proofs.lists.EarlyPush.{pushed, waited}
 
 -- What task u owes; `early u`: its push has passed 33 and had no turn yet.

@@ -9,20 +9,20 @@ use borrow.Author.Tests.{eqb-true, eqb-false}
 use Rattle.word.specs.Anchor.{anchorOf}
 use Rattle.model.specs.declared.Control.{Control}
 use Rattle.model.specs.declared.Record.{Record}
-use Rattle.model.specs.Tables.{Tables, isPooled, atPlace}
+use Rattle.model.specs.Tables.{Tables, isPooled, atPlace, withOwn}
 use Rattle.model.specs.Sound.{from1, anchorSound, linkSound}
-use Rattle.model.specs.Places.{row, noneLeft, move}
-use Rattle.model.specs.Places.{at12, at13, at15, at16}
+use Rattle.model.specs.Places.{row, noneLeft, raised, move}
+use Rattle.model.specs.Places.{at12, at13, at14, at15, at16, at17}
 use Rattle.model.specs.Refusals.{stepSound}
 use Rattle.model.specs.Route.{route, pushRoute, popRoute}
 use Rattle.model.specs.Calls.{finish}
 use Rattle.model.proofs.tests.Truth.{split}
 use Rattle.places.specs.Arm.{stepAt}
-use Rattle.places.proofs.Routes.{Quiet}
+use Rattle.decide.proofs.Routes.{Quiet}
 use Rattle.threads.proofs.split.Touches as touches
-use Rattle.threads.specs.Split.{knowing, loads, planned, perform, gone, settledAt, meetsAnchor}
+use Rattle.threads_model.specs.Split.{loadsHead, swapsHead, drawsSlot, knowing, loads, planned, perform, gone, settledAt, meetsAnchor}
 use Rattle.threads.proofs.split.EarlyPlaces as E
-use Rattle.threads.proofs.split.EarlyPlaces.{hush, told}
+use Rattle.threads.proofs.split.Settlement.{hush, told, change-splits}
 
 module _ (q : Tables) (k : ℕ) where
   abbrev c : Control
@@ -69,18 +69,13 @@ module _ (q : Tables) (k : ℕ) where
     done14 b = E.quiet2 q k sound r 14 b (E.quiet q k sound r 14 0 refl refl) (E.quiet q k sound r 14 1 refl refl)
 
     split14 : E.Splits q k (atPlace r 14)
-    unfolding loads perform meetsAnchor settledAt gone stepAt stepSound finish
+    unfolding loads perform meetsAnchor settledAt stepAt stepSound move at14
     split14 =
-        let there = touches.moves14 r c in
-        let here = touches.moves14 r (c′ (c .head)) in
+        let s : Record = atPlace r 14 in
         E.by-touch q k sound r 14 (touches.touch14 r (c .pooled) (c .slots))
-        (split (E.link-room q k sound r)
-        (λ l. split (eqb (c .head) (r .link))
-        (λ h. rw (l, there, here, h, l) (told _ _ (hush _ _ _ _ (done14 true))))
-        (λ h. rw (l, there, here, h) (told _ _ (hush _ _ _ _ (done14 false)))))
-        (λ l. split (eqb (c .head) (r .link))
-        (λ h. rw (l, there, here, h, l))
-        (λ h. rw (l, there, here, h) (told _ _ (hush _ _ _ _ (done14 false))))))
+        (change-splits q k s (touches.draw14 r) (withOwn s (row s) (r .label)) s 1 (c .head) (r .link)
+        (drawsSlot (r .link) (raised s (r .neighbour)) (row s) (r .label)) loadsHead refl refl
+        refl refl (hush _ _ _ _ (done14 true)) (hush _ _ _ _ (done14 false)))
 
     done15 : Quiet (route 15 (r .kind) 0)
     unfolding route pushRoute popRoute
@@ -102,18 +97,12 @@ module _ (q : Tables) (k : ℕ) where
     split16 = told _ _ (hush _ _ _ _ done16)
 
     split17 : E.Splits q k (atPlace r 17)
-    unfolding loads perform meetsAnchor settledAt gone stepAt stepSound finish
+    unfolding loads perform meetsAnchor settledAt stepAt stepSound move at17
     split17 =
-        let there = touches.moves17 r c in
-        let here = touches.moves17 r (c′ (c .head)) in
+        let s : Record = atPlace r 17 in
         E.by-touch q k sound r 17 (touches.touch17 r (c .pooled) (c .slots))
-        (split (E.link-room q k sound r)
-        (λ l. split (eqb (c .head) (r .link))
-        (λ h. rw (l, there, here, h, l))
-        (λ h. rw (l, there, here, h)))
-        (λ l. split (eqb (c .head) (r .link))
-        (λ h. rw (l, there, here, h, l))
-        (λ h. rw (l, there, here, h))))
+        (change-splits q k s (touches.swap17 r) s s 1 (c .head) (r .link) (swapsHead (r .link) (raised s (r .own))) loadsHead refl refl
+        refl refl refl refl)
 
     -- A record has one of these places.
     turn : (P : ℕ → Type 0) (i n : ℕ) → i ≤ n → P i → (suc i ≤ n → P n) → P n

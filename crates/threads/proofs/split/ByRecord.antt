@@ -1,6 +1,6 @@
 -- The plan of a record that is refused, idle or sound.
-use mathlib.Core.Path.{_≡_, refl, ap, sym, _∙_}
-use mathlib.Core.Bool.{Bool, true}
+use mathlib.Core.Path.{_≡_, ap, sym, _∙_}
+use mathlib.Core.Bool.{true}
 use mathlib.Core.List.{[]}
 use Prim.Native.Nat.{ℕ, _≤_}
 use lib.Dec.{eqb}
@@ -10,8 +10,8 @@ use Rattle.model.specs.Tables.{tablesOf, atPlace, counting}
 use Rattle.model.specs.Sound.{recordSound}
 use Rattle.model.specs.Refusals.{recordRefusal}
 use Rattle.engine.proofs.InParts.{placed, below-18}
-use Rattle.threads.specs.declared.PlannedTouch.{PlannedTouch}
-use Rattle.threads.specs.Split.{knowing, refuses, planned, plan}
+use Rattle.threads_model.specs.declared.PlannedTouch.{PlannedTouch}
+use Rattle.threads_model.specs.Split.{knowing, refuses, planned, plan}
 
 module _ (pooled slots : ℕ) (r : Record) where
   abbrev why : ℕ

@@ -1,65 +1,41 @@
 -- At places 1 to 10 plan, touch and settlement are the model's step there.
-use mathlib.Core.Path.{_≡_, refl, ap, _∙_}
+use mathlib.Core.Path.{_≡_, refl, ap, sym, _∙_}
 use mathlib.Core.Bool.{Bool, true, false, _&&_, not, cond}
 use Prim.Native.Nat.{ℕ, _+_}
-use lib.Dec.{eqb, ltb}
+use lib.Dec.{eqb}
 use lib.ListN.{getD}
 use Rattle.word.specs.Anchor.{anchorOf}
-use Rattle.word.specs.Link.{linkOf}
+use Rattle.word.specs.Link.{linkOf, packLink}
 use Rattle.model.specs.declared.Control.{Control}
 use Rattle.model.specs.declared.Record.{Record}
-use Rattle.model.specs.declared.TaskRecord.{TaskRecord}
-use Rattle.model.specs.declared.Entry.{Entry}
-use Rattle.model.specs.declared.Answer.{Answer}
-use Rattle.model.specs.declared.Outcome.the-variants.{Moved}
-use Rattle.model.specs.Tables.{Tables, atPlace, counting}
+use Rattle.model.specs.Tables.{Tables, atPlace, withSeen, withNeighbour, counting}
 use Rattle.model.specs.Sides.{links}
-use Rattle.model.specs.Kinds.{isPop}
+use Rattle.model.specs.Kinds.{isPush, isPop}
 use Rattle.model.specs.Sound.{from1, anchorSound, linkSound}
-use Rattle.model.specs.Places.{Touch, raised}
+use Rattle.model.specs.Places.{Touch, nothing, setAnchor, Move, apply}
 use Rattle.model.specs.Places.{reading, row, linkSide, endSeen, new4, move}
-use Rattle.model.specs.Places.{at1, at5, at6, at7}
-use Rattle.model.specs.Refusals.{stepSound}
-use Rattle.model.specs.Route.{leave, route, pushRoute, popRoute, onward, answer}
-use Rattle.model.specs.Calls.{Acted, finish}
+use Rattle.model.specs.Places.{at1, at2, at3, at4, at5, at6, at7, at9, at10}
+use Rattle.model.specs.Refusals.{leavesSound, hasRoom, stepSound}
+use Rattle.model.specs.Route.{route, pushRoute, popRoute}
+use Rattle.model.specs.Calls.{Acted, decide, finish}
 use Rattle.model.proofs.tests.Truth.{split, either}
 use Rattle.places.specs.Arm.{stepAt}
-use Rattle.places.proofs.Routes.{kinds, readings, Quiet}
+use Rattle.decide.proofs.Routes.{kinds, readings, Quiet}
 use Rattle.threads.proofs.split.Touches as touches
-use Rattle.threads.specs.declared.PlannedTouch.{PlannedTouch}
-use Rattle.threads.specs.Split.{knowing, loads, touchAsRead, planFor, planned, perform, refusing, gone, settledAt, meetsAnchor}
-
--- Only a route to the answer popped names an entry.
-pub hush : (n f : ℕ) (e e′ : Entry) → Quiet n → answer (onward n f) e ≡ answer (onward n f) e′
-unfolding onward answer
-hush n f e e′ h =
-    split (eqb n leave)
-    (λ l. split (eqb f 1) (λ g. simp (l, g)) (λ g. simp (l, g)))
-    (λ l. simp (l, h))
-
-pub told : (q : Tables) (r : TaskRecord) {a b : Answer} → a ≡ b
-    → _≡_ {A = Acted} (record { tables = q; task = r; outcome = Moved a }) (record { tables = q; task = r; outcome = Moved b })
-told q r e = ap (λ (a : Answer). record { tables = q; task = r; outcome = Moved a }) e
+use Rattle.threads.proofs.split.Settlement.{hush, told, settled-with, one, none, row-splits, change-splits, row-change-splits}
+use Rattle.threads_model.specs.declared.PlannedTouch.{PlannedTouch}
+use Rattle.threads_model.specs.Split.{refuses, refusing, swapsAnchor, loadsAnchor, swapsLink, loadsLink, putsLink}
+use Rattle.threads_model.specs.Split.{loads, touchAsRead, planFor, planned, perform, gone, settledAt, meetsAnchor}
 
 module _ (q : Tables) (k : ℕ) where
   abbrev pub c : Control
   c = q .control
 
-  -- Past what is asked of the record.
   abbrev pub split-with : Record → PlannedTouch → Acted
-  split-with r p =
-      let d = perform q p in
-      let e =
-      cond (meetsAnchor r && not (anchorSound (c .slots) (anchorOf (d .found)))) (refusing (counting r k) 34)
-      (settledAt (r .place) (knowing (c .pooled) (c .slots) (d .found) (d .found)) r (d .found) k) in
-      record { tables = d .tables; task = e .task; outcome = e .outcome }
+  split-with r p = settled-with q k r (perform q p .tables) (perform q p .found)
 
   abbrev pub Splits : Record → Type 0
   Splits r = split-with r (planned (c .pooled) (c .slots) r) ≡ stepAt (r .place) q r k
-
-  -- The control that a settlement knows once it has found a word.
-  abbrev pub c′ : ℕ → Control
-  c′ w = knowing (c .pooled) (c .slots) w w
 
   module _ (sound : anchorSound (c .slots) (anchorOf (c .anchor)) ≡ true) (r : Record) where
     -- The plan by its touch.
@@ -97,31 +73,22 @@ module _ (q : Tables) (k : ℕ) where
     unfolding planned loads perform meetsAnchor settledAt gone stepAt stepSound move at1 finish
     split1 = rw sound (told _ _ (hush _ _ _ _ quiet-read))
 
-    -- The tag as read can be raised.
-    abbrev pub room : ℕ → Bool
-    room w = ltb (anchorOf w .tag) 4294967295
-
     done2 : Quiet (route 2 (r .kind) 0)
     unfolding route pushRoute popRoute
     done2 = quiet 2 0 refl refl
 
+    -- A change of Anchor that fails at 2 or 4 takes the word found as its reading.
+    abbrev reread : ℕ → Record
+    reread n = withSeen (atPlace r n) (c .anchor) (r .finishing)
+
     pub split2 : Splits (atPlace r 2)
-    unfolding loads perform meetsAnchor settledAt gone stepAt stepSound finish
+    unfolding loads perform meetsAnchor settledAt stepAt stepSound move at2
     split2 =
-        let there = touches.moves2 r c in
-        let here = touches.moves2 r (c′ (c .anchor)) in
+        let s : Record = atPlace r 2 in
+        let w = touches.new2 r in
         by-touch 2 (touches.touch2 r (c .pooled) (c .slots))
-        (split (anchorSound (c .slots) (anchorOf (touches.new2 r)))
-        (λ a. split (room (r .seen))
-        (λ l. split (eqb (c .anchor) (r .seen))
-        (λ h. rw (a, l, there, here, h, a, l, sound) (told _ _ (hush _ _ _ _ done2)))
-        (λ h. rw (a, l, there, here, h, sound) (told _ _ (hush _ _ _ _ quiet-again2))))
-        (λ l. split (eqb (c .anchor) (r .seen))
-        (λ h. rw (a, l, there, here, h, a, l, sound))
-        (λ h. rw (a, l, there, here, h, sound) (told _ _ (hush _ _ _ _ quiet-again2)))))
-        (λ a. split (eqb (c .anchor) (r .seen))
-        (λ h. rw (a, there, here, h, a, sound))
-        (λ h. rw (a, there, here, h, sound) (told _ _ (hush _ _ _ _ quiet-again2)))))
+        (change-splits q k s (setAnchor w) s (reread 2) (seen + 1) (c .anchor) (r .seen) (swapsAnchor (r .seen) w) loadsAnchor refl refl
+        (ap not sound) refl (hush _ _ _ _ done2) (hush _ _ _ _ quiet-again2))
 
     done3 : Quiet (route 3 (r .kind) 0)
     unfolding route pushRoute popRoute
@@ -131,46 +98,49 @@ module _ (q : Tables) (k : ℕ) where
     abbrev met : ℕ → ℕ
     met n = getD (links q (linkSide (atPlace r n))) (row (atPlace r n)) 0
 
+    -- A push puts its own link, a pop reads one.
+    abbrev way3 : Bool → Move
+    way3 push = cond push (touches.done (touches.put3 r (met 3)) (atPlace r 3)) (touches.done nothing (withNeighbour (atPlace r 3) (linkOf (met 3) .slot)))
+
+    abbrev fine3 : Bool → Bool
+    fine3 push = linkSound (c .slots) (met 3)
+        && (leavesSound (c .slots) (way3 push .touch) && (hasRoom (atPlace r 3) (way3 push .touch) && true))
+
+    split3-as : (push : Bool) → eqb (r .kind) 0 ≡ push → (p : PlannedTouch) → perform q p .found ≡ met 3
+        → perform q p .tables ≡ cond (fine3 push) (apply (way3 push .touch) q) q
+        → split-with (atPlace r 3) (cond (not (from1 (c .slots) (row (atPlace r 3)))) (refuses 34) p) ≡ stepAt 3 q (atPlace r 3) k
+    unfolding meetsAnchor settledAt stepAt stepSound move at3
+    split3-as push e p finds left =
+        let s : Record = atPlace r 3 in
+        let there = from1 (c .slots) (row s) in
+        row-splits q k s p (met 3) (way3 push) there (fine3 push) _ _ finds left refl refl
+        (ap (λ (b : Bool). cond (there && fine3 b) (gone (counting s k) (met 3) (way3 b)) (refusing (counting s k) 34)) e)
+        (hush _ _ _ _ (either (λ (m : Move). Quiet (route 3 (r .kind) (m .branch))) push done3 done3))
+        ∙ ap (λ (b : Bool). decide (cond (there && fine3 b) 0 34) q (counting s k) (finish q (counting s k) (way3 b))) (sym e)
+
     pub split3 : Splits (atPlace r 3)
-    unfolding loads perform meetsAnchor settledAt gone stepAt stepSound finish
+    unfolding loads perform
     split3 =
-        let there = touches.moves3 r c in
-        let here = touches.moves3 r (c′ (met 3)) in
+        let s : Record = atPlace r 3 in
         split (eqb (r .kind) 0)
-        (λ p. by-touch 3 (touches.touch3 r (c .pooled) (c .slots) p)
-        (split (from1 (c .slots) (row (atPlace r 3)))
-        (λ f. split (linkSound (c .slots) (met 3))
-        (λ l. rw (f, there, here, p, l) (told _ _ (hush _ _ _ _ done3)))
-        (λ l. rw (f, there, here, p, l)))
-        (λ f. rw f)))
-        (λ p. by-touch 3 (touches.touch3-pop r (c .pooled) (c .slots) p)
-        (split (from1 (c .slots) (row (atPlace r 3)))
-        (λ f. split (linkSound (c .slots) (met 3))
-        (λ l. rw (f, there, here, p, l) (told _ _ (hush _ _ _ _ done3)))
-        (λ l. rw (f, there, here, p, l)))
-        (λ f. rw f)))
+        (λ e. by-touch 3 (touches.touch3 r (c .pooled) (c .slots) e)
+        (split3-as true e (putsLink (linkSide s) (row s) (endSeen s)) refl (one (linkSound (c .slots) (met 3)) _ _)))
+        (λ e. by-touch 3 (touches.touch3-pop r (c .pooled) (c .slots) e)
+        (split3-as false e (loadsLink (linkSide s) (row s)) refl (sym (none (fine3 false) q))))
 
     done4 : Quiet (route 4 (r .kind) 0)
     unfolding route pushRoute popRoute
     done4 = quiet 4 0 refl refl
 
     pub split4 : Splits (atPlace r 4)
-    unfolding loads perform meetsAnchor settledAt gone stepAt stepSound finish
+    unfolding loads perform meetsAnchor settledAt stepAt stepSound move at4
     split4 =
-        let there = touches.moves4 r c in
-        let here = touches.moves4 r (c′ (c .anchor)) in
+        let s : Record = atPlace r 4 in
+        let w = new4 s in
         by-touch 4 (touches.touch4 r (c .pooled) (c .slots))
-        (split (anchorSound (c .slots) (anchorOf (new4 (atPlace r 4))))
-        (λ a. split (room (r .seen))
-        (λ l. split (eqb (c .anchor) (r .seen))
-        (λ h. rw (a, l, there, here, h, a, l, sound) (told _ _ (hush _ _ _ _ done4)))
-        (λ h. rw (a, l, there, here, h, sound) (told _ _ (hush _ _ _ _ quiet-again4))))
-        (λ l. split (eqb (c .anchor) (r .seen))
-        (λ h. rw (a, l, there, here, h, a, l, sound))
-        (λ h. rw (a, l, there, here, h, sound) (told _ _ (hush _ _ _ _ quiet-again4)))))
-        (λ a. split (eqb (c .anchor) (r .seen))
-        (λ h. rw (a, there, here, h, a, sound))
-        (λ h. rw (a, there, here, h, sound) (told _ _ (hush _ _ _ _ quiet-again4)))))
+        (change-splits q k s (setAnchor w) (cond (isPush r) (withSeen s w 1) s) (reread 4) (seen + 1) (c .anchor) (r .seen)
+        (swapsAnchor (r .seen) w) loadsAnchor refl refl
+        (ap not sound) refl (hush _ _ _ _ done4) (hush _ _ _ _ quiet-again4))
 
     done5 : Quiet (route 5 (r .kind) 0)
     unfolding route pushRoute popRoute
@@ -218,43 +188,25 @@ module _ (q : Tables) (k : ℕ) where
     unfolding route pushRoute popRoute
     done9 b = quiet2 9 b (quiet 9 0 refl refl) (quiet 9 1 refl refl)
 
-    abbrev pub link-room : Bool
-    link-room = ltb (linkOf (r .link) .tag) 4294967295
-
     pub split9 : Splits (atPlace r 9)
-    unfolding loads perform meetsAnchor settledAt gone stepAt stepSound finish
+    unfolding loads perform meetsAnchor settledAt stepAt stepSound move at9
     split9 =
-        let there = touches.moves9 r c in
-        let here = touches.moves9 r (c′ (met 9)) in
+        let s : Record = atPlace r 9 in
+        let w : ℕ = packLink (record { tag = linkOf (r .link) .tag + 1; slot = endSeen s }) in
         by-touch 9 (touches.touch9 r (c .pooled) (c .slots))
-        (split (from1 (c .slots) (row (atPlace r 9)))
-        (λ f. split link-room
-        (λ l. split (eqb (met 9) (r .link))
-        (λ h. rw (f, l, there, here, h, l) (told _ _ (hush _ _ _ _ (done9 true))))
-        (λ h. rw (f, l, there, here, h) (told _ _ (hush _ _ _ _ (done9 false)))))
-        (λ l. split (eqb (met 9) (r .link))
-        (λ h. rw (f, l, there, here, h, l))
-        (λ h. rw (f, l, there, here, h) (told _ _ (hush _ _ _ _ (done9 false))))))
-        (λ f. rw f))
+        (row-change-splits q k s (touches.swap9 r) s s 1 (met 9) (r .link)
+        (swapsLink (linkSide s) (row s) (r .link) w) (loadsLink (linkSide s) (row s)) refl refl
+        (from1 (c .slots) (row s)) _ _ refl refl refl (hush _ _ _ _ (done9 true)) (hush _ _ _ _ (done9 false)))
 
     done10 : (b : Bool) → Quiet (route 10 (r .kind) (cond b 0 1))
     unfolding route pushRoute popRoute
     done10 b = quiet2 10 b (quiet 10 0 refl refl) (quiet 10 1 refl refl)
 
     pub split10 : Splits (atPlace r 10)
-    unfolding loads perform meetsAnchor settledAt gone stepAt stepSound finish
+    unfolding loads perform meetsAnchor settledAt stepAt stepSound move at10
     split10 =
-        let there = touches.moves10 r c in
-        let here = touches.moves10 r (c′ (c .anchor)) in
+        let s : Record = atPlace r 10 in
+        let w = touches.new10 r in
         by-touch 10 (touches.touch10 r (c .pooled) (c .slots))
-        (split (anchorSound (c .slots) (anchorOf (touches.new10 r)))
-        (λ a. split (room (r .seen))
-        (λ l. split (eqb (c .anchor) (r .seen))
-        (λ h. rw (a, l, there, here, h, a, l, sound) (told _ _ (hush _ _ _ _ (done10 true))))
-        (λ h. rw (a, l, there, here, h, sound) (told _ _ (hush _ _ _ _ (done10 false)))))
-        (λ l. split (eqb (c .anchor) (r .seen))
-        (λ h. rw (a, l, there, here, h, a, l, sound))
-        (λ h. rw (a, l, there, here, h, sound) (told _ _ (hush _ _ _ _ (done10 false))))))
-        (λ a. split (eqb (c .anchor) (r .seen))
-        (λ h. rw (a, there, here, h, a, sound))
-        (λ h. rw (a, there, here, h, sound) (told _ _ (hush _ _ _ _ (done10 false))))))
+        (change-splits q k s (setAnchor w) s s 1 (c .anchor) (r .seen) (swapsAnchor (r .seen) w) loadsAnchor refl refl
+        (ap not sound) refl (hush _ _ _ _ (done10 true)) (hush _ _ _ _ (done10 false)))

@@ -1,6 +1,6 @@
 -- What each place asks, in the terms of the code.
 use mathlib.Core.Path.{_≡_, refl, ap, sym, _∙_}
-use mathlib.Core.Bool.{Bool, true, false, not, cond}
+use mathlib.Core.Bool.{Bool, true, false, cond}
 use Prim.Native.Nat.{ℕ, _+_, _/_, _^_}
 use lib.Dec.{eqb, ltb}
 use Rattle.word.specs.Anchor.{anchorOf, packAnchor}
@@ -8,15 +8,15 @@ use Rattle.word.specs.Link.{linkOf, packLink}
 use Rattle.model.specs.declared.Record.{Record}
 use Rattle.model.specs.Tables.{atPlace}
 use Rattle.model.specs.Sides.{far, facing, pushing}
-use Rattle.model.specs.Sound.{from1, anchorSound}
-use Rattle.model.specs.Places.{Touch, nothing, setAnchor, setLink, clearMark, takeSlot, setHead}
+use Rattle.model.specs.Sound.{from1}
+use Rattle.model.specs.Places.{Touch, nothing, setAnchor}
 use Rattle.model.specs.Places.{row, sideOf, linkSide, new4, move}
 use Rattle.model.specs.Places.{at1, at2, at3, at4, at5, at6, at7, at9, at10, at11, at12, at13, at14, at15, at16, at17}
 use Rattle.model.proofs.tests.Truth.{split}
-use Rattle.places.specs.Ending.{mayChange}
-use Rattle.threads.specs.declared.PlannedTouch.{PlannedTouch}
-use Rattle.threads.specs.Split.{planOf, refuses, loadsAnchor, swapsAnchor, loadsLink, swapsLink, putsLink, takesLabel}
-use Rattle.threads.specs.Split.{loadsHead, swapsHead, drawsSlot, loadsNext, storesNext, loads, touchAsRead, planFor, planned}
+use Rattle.decide.specs.Ending.{mayChange}
+use Rattle.threads_model.specs.declared.PlannedTouch.{PlannedTouch}
+use Rattle.threads_model.specs.Split.{planOf, refuses, loadsAnchor, swapsAnchor, loadsLink}
+use Rattle.threads_model.specs.Split.{loadsHead, loads, touchAsRead, planFor, planned}
 use Rattle.threads.proofs.split.Touches as touches
 
 -- The side that a status names, and its opposite.

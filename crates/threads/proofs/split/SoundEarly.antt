@@ -18,9 +18,8 @@ use Rattle.model.specs.Places.{at1, at2, at3, at4, at5, at6, at7, at9, at10}
 use Rattle.model.specs.Route.{route, onward, goes, pushRoute, popRoute}
 use Rattle.model.specs.Refusals.{leavesSound}
 use Rattle.model.proofs.tests.Truth.{either, by-test, and-of, or-first}
-use Rattle.model.proofs.tests.Rules.{_and_}
 use Rattle.model.proofs.laws.Onward.{reads-on}
-use Rattle.threads.specs.Split.{knowing}
+use Rattle.threads_model.specs.Split.{knowing}
 use Rattle.threads.proofs.split.SoundFields as F
 
 module _ (pooled slots w : ℕ) where

@@ -15,7 +15,7 @@ use Rattle.model.specs.Calls.{stepLent}
 use Rattle.model.proofs.tests.Truth.{split}
 use Rattle.engine.specs.MoveOn.{moveOn}
 use Rattle.engine.proofs.InParts.{admitted, placed, below-18}
-use Rattle.threads.specs.Split.{perform, plan, settle, splitStep}
+use Rattle.threads_model.specs.Split.{perform, plan, settle, splitStep}
 use Rattle.threads.specs.Promises.{SplitStands}
 use Rattle.threads.proofs.split.ByPlace.{splits}
 

@@ -1,4 +1,4 @@
--- The moves of the places whose touch hangs on a test, and what they touch where every word is as read.
+-- What a place touches where every word is as read, at the places whose touch hangs on a test; and the move at 11.
 use mathlib.Core.Path.{_≡_, refl, ap}
 use mathlib.Core.Bool.{Bool, true, false, cond}
 use Prim.Native.Nat.{ℕ, _+_}
@@ -14,7 +14,7 @@ use Rattle.model.specs.Kinds.{isPush, isPop}
 use Rattle.model.specs.Places.{Touch, nothing, setAnchor, setLink, clearMark, takeSlot, setHead, Move, raised}
 use Rattle.model.specs.Places.{reading, row, sideOf, linkSide, endSeen, new4, move, at2, at3, at4, at9, at10, at11, at14, at17}
 use Rattle.model.proofs.tests.Truth.{split}
-use Rattle.threads.specs.Split.{knowing, touchAsRead}
+use Rattle.threads_model.specs.Split.{knowing, touchAsRead}
 
 -- A word equals itself.
 pub same : (n : ℕ) → eqb n n ≡ true
@@ -56,18 +56,9 @@ module _ (r : Record) where
   abbrev pub swap17 : Touch
   swap17 = setHead (raised (atPlace r 17) (r .own))
 
-  pub moves2 : (c : Control) (w : ℕ) → move c (atPlace r 2) w ≡ cond (eqb (c .anchor) (r .seen)) (done (setAnchor new2) (atPlace r 2)) (again 2 c)
-  unfolding move at2
-  moves2 c w = refl
-
   pub touch2 : (pooled slots : ℕ) → touchAsRead pooled slots (atPlace r 2) ≡ setAnchor new2
   unfolding move at2
   touch2 pooled slots = ap (λ (b : Bool). cond b (done (setAnchor new2) (atPlace r 2)) (again 2 (asRead pooled slots)) .touch) (same (r .seen))
-
-  pub moves4 : (c : Control) (w : ℕ) → move c (atPlace r 4) w ≡ cond (eqb (c .anchor) (r .seen))
-      (done (setAnchor (new4 (atPlace r 4))) (cond (isPush r) (withSeen (atPlace r 4) (new4 (atPlace r 4)) 1) (atPlace r 4))) (again 4 c)
-  unfolding move at4
-  moves4 c w = refl
 
   pub touch4 : (pooled slots : ℕ) → touchAsRead pooled slots (atPlace r 4) ≡ setAnchor (new4 (atPlace r 4))
   unfolding move at4
@@ -75,36 +66,18 @@ module _ (r : Record) where
       (λ (b : Bool). cond b (done (setAnchor (new4 (atPlace r 4))) (cond (isPush r) (withSeen (atPlace r 4) (new4 (atPlace r 4)) 1) (atPlace r 4)))
       (again 4 (asRead pooled slots)) .touch) (same (r .seen))
 
-  pub moves10 : (c : Control) (w : ℕ) → move c (atPlace r 10) w ≡ cond (eqb (c .anchor) (r .seen)) (done (setAnchor new10) (atPlace r 10))
-      (failed (atPlace r 10) 1)
-  unfolding move at10
-  moves10 c w = refl
-
   pub touch10 : (pooled slots : ℕ) → touchAsRead pooled slots (atPlace r 10) ≡ setAnchor new10
   unfolding move at10
   touch10 pooled slots = ap (λ (b : Bool). cond b (done (setAnchor new10) (atPlace r 10)) (failed (atPlace r 10) 1) .touch) (same (r .seen))
-
-  pub moves9 : (c : Control) (w : ℕ) → move c (atPlace r 9) w ≡ cond (eqb w (r .link)) (done swap9 (atPlace r 9)) (failed (atPlace r 9) 1)
-  unfolding move at9
-  moves9 c w = refl
 
   pub touch9 : (pooled slots : ℕ) → touchAsRead pooled slots (atPlace r 9) ≡ swap9
   unfolding move at9
   touch9 pooled slots = ap (λ (b : Bool). cond b (done swap9 (atPlace r 9)) (failed (atPlace r 9) 1) .touch) (same (r .link))
 
-  pub moves14 : (c : Control) (w : ℕ) → move c (atPlace r 14) w ≡ cond (eqb (c .head) (r .link))
-      (done draw14 (withOwn (atPlace r 14) (row (atPlace r 14)) (r .label))) (failed (atPlace r 14) 1)
-  unfolding move at14
-  moves14 c w = refl
-
   pub touch14 : (pooled slots : ℕ) → touchAsRead pooled slots (atPlace r 14) ≡ draw14
   unfolding move at14
   touch14 pooled slots = ap (λ (b : Bool). cond b (done draw14 (withOwn (atPlace r 14) (row (atPlace r 14)) (r .label))) (failed (atPlace r 14) 1) .touch)
       (same (r .link))
-
-  pub moves17 : (c : Control) (w : ℕ) → move c (atPlace r 17) w ≡ cond (eqb (c .head) (r .link)) (done swap17 (atPlace r 17)) (failed (atPlace r 17) 1)
-  unfolding move at17
-  moves17 c w = refl
 
   pub touch17 : (pooled slots : ℕ) → touchAsRead pooled slots (atPlace r 17) ≡ swap17
   unfolding move at17
@@ -112,10 +85,6 @@ module _ (r : Record) where
 
   abbrev reads3 : ℕ → Move
   reads3 w = done nothing (withNeighbour (atPlace r 3) (linkOf w .slot))
-
-  pub moves3 : (c : Control) (w : ℕ) → move c (atPlace r 3) w ≡ cond (eqb (r .kind) 0) (done (put3 w) (atPlace r 3)) (reads3 w)
-  unfolding move at3
-  moves3 c w = refl
 
   pub touch3 : (pooled slots : ℕ) → eqb (r .kind) 0 ≡ true → touchAsRead pooled slots (atPlace r 3) ≡ put3 (r .link)
   unfolding move at3

@@ -1,17 +1,18 @@
 use mathlib.Core.Path.{ap, _∙_}
 use lib.Dec.{eqb}
 use Rattle.model.specs.declared.Record.{Record}
-use Rattle.model.specs.Refusals.{recordRefusal}
-use Rattle.threads.specs.Split.{plan}
+use Rattle.model.specs.Sound.{recordSound}
+use Rattle.threads_model.specs.Split.{plan}
 use borrow.Author.Needs.{needs}
 use Rattle.touch.proofs.arms_row.Statement.{statement}
 use Rattle.touch.proofs.arms_row.Tie as tie
 
 returns : tie.Need-returns
-returns c pooled none =
+returns c at pooled sound =
     let co = c .before in
     let a = co .before .before .args in
-    c .arms .ensures pooled (ap (λ (r : Record). recordRefusal (eqb pooled 1) (a .slots) r) (co .call-of .ensures) ∙ none)
+    c .arms .ensures (ap (λ (r : Record). r .place) (co .call-of .ensures) ∙ at) pooled
+    (ap (recordSound (eqb pooled 1) (a .slots)) (co .call-of .ensures) ∙ sound)
     ∙ ap (plan pooled (a .slots)) (co .call-of .ensures)
 
 pub arms-row-spec : {M : Type 1} → statement M

@@ -1,10 +1,9 @@
 -- With n slots met, n and what the walk from x on counts are what the whole walk counts.
 use mathlib.Core.Path.{_≡_, refl, sym, ap, _∙_}
-use mathlib.Core.Bool.{true, false}
+use mathlib.Core.Bool.{true}
 use mathlib.Core.List.{List}
 use Prim.Native.Nat.{ℕ, _≤_, _+_, _-_}
 use native.Mathlib.Omega.{arith}
-use lib.Dec.{eqb}
 use lib.ListN.{getD}
 use borrow.Author.Needs.{needs}
 use borrow.Author.Tests.{eq-eqb, ne-eqb, not-true, not-false}
@@ -12,8 +11,8 @@ use Rattle.word.specs.declared.Link.{Link}
 use Rattle.word.specs.Link.{linkOf}
 use Rattle.model.specs.Sound.{from1, linkSound}
 use Rattle.model.specs.Walk.{along}
-use Rattle.walk.specs.Counted.{andCounted, counted}
-use Rattle.walk.proofs.Counting.{Reaches, begins, full, out, stops, astray, onwards}
+use Rattle.walk.specs.Counted.{counted}
+use Rattle.walk.proofs.Counting.{andCounted, Reaches, begins, full, out, stops, astray, onwards}
 use Rattle.walk.proofs.count.Statement.{statement}
 use Rattle.walk.proofs.count.Tie as tie
 

@@ -1,7 +1,7 @@
 -- The opening of the tables, its control and as many records as it says, its answer in numbers.
 use mathlib.Core.Path.{refl}
 use mathlib.Core.Bool.{false}
-use Rattle.capi.proofs.Border.{any-next, clears, opened}
+use Rattle.capi.proofs.Border.{any-next, opened}
 use borrow.Author.Needs.{needs}
 use Rattle.capi.proofs.openings.zc_open.Statement.{statement}
 use Rattle.capi.proofs.openings.zc_open.Tie as tie
@@ -25,15 +25,6 @@ returns c next =
     (told made .control-of .ensures) refl (any-next _ _ _ _ _ _ next _ _ _ _ (made .open-tables .ensures)) (put .control-row .ensures)
     (c .before .before .clear .ensures .0) (c .before .before .clear .ensures .1) (c .opening-code .ensures)
 
-clear-requires : tie.Need-clear-requires
-clear-requires c κs =
-    let lists = c .before .before .before .before in
-    let lent = lists .before .before .before .before in
-    let made = lent .before .before .before .before in
-    let s = a made .args in
-    clears (s .control .now) (s .records .now) (s .lefts .now) (s .rights .now) (s .labels .now) (s .marks .now) _ false _ _ _
-    (s .control .now) (s .records .now) _ _ _ _ _ _ _ _ refl (made .open-tables .ensures)
-
 pub zc-open-spec : {M : Type 1} → statement M
 zc-open-spec =
     tie.close
@@ -42,7 +33,7 @@ zc-open-spec =
     (λ c. search needs)
     (λ c κs. search needs)
     (λ c κs. search needs)
-    clear-requires
+    (λ _ _. tt)
     (λ c κs. search needs)
     (λ c. search needs)
     (λ c. search needs)

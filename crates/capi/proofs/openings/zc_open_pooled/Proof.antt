@@ -1,7 +1,7 @@
 -- The opening of the tables, its control and as many records as it says, its answer in numbers.
 use mathlib.Core.Path.{refl}
 use mathlib.Core.Bool.{true}
-use Rattle.capi.proofs.Border.{clears, opened}
+use Rattle.capi.proofs.Border.{opened}
 use borrow.Author.Needs.{needs}
 use Rattle.capi.proofs.openings.zc_open_pooled.Statement.{statement}
 use Rattle.capi.proofs.openings.zc_open_pooled.Tie as tie
@@ -25,16 +25,6 @@ returns c =
     (told made .control-of .ensures) refl (made .open-tables .ensures) (put .control-row .ensures)
     (c .before .before .clear .ensures .0) (c .before .before .clear .ensures .1) (c .opening-code .ensures)
 
-clear-requires : tie.Need-clear-requires
-clear-requires c κs =
-    let lists = c .before .before .before .before in
-    let lent = lists .before .before .before .before in
-    let read = lent .before .before .before .before in
-    let made = read .before in
-    let s = a made .args in
-    clears (s .control .now) (s .records .now) (s .lefts .now) (s .rights .now) (s .labels .now) (s .marks .now) (s .next .now) true _ _ _
-    (s .control .now) (s .records .now) _ _ _ _ _ _ _ _ refl (made .open-tables .ensures)
-
 pub zc-open-pooled-spec : {M : Type 1} → statement M
 zc-open-pooled-spec =
     tie.close
@@ -42,7 +32,7 @@ zc-open-pooled-spec =
     (λ c κs. search needs)
     (λ c κs. search needs)
     (λ c κs. search needs)
-    clear-requires
+    (λ _ _. tt)
     (λ c κs. search needs)
     (λ c. search needs)
     (λ c. search needs)

@@ -1,11 +1,11 @@
 -- The opening's parts with the records cleared are the opening; then its line.
-use mathlib.Core.Path.{sym, subst}
+use mathlib.Core.Path.{sym, subst, _∙_}
 use lib.ListN.{length}
 use Prim.Native.Nat.{_≤_}
 use borrow.Author.Needs.{needs}
 use Rattle.calls.specs.Opening.{OpenedParts}
 use Rattle.calls.proofs.Openings.{clear-fits}
-use Rattle.rows.proofs.Rows.{length-records}
+use Rattle.rows.proofs.Rows.{length-records, all-zeroed}
 use Rattle.carry.proofs.AfterActs.{put-fits, open-page}
 use Rattle.carry.proofs.acts.open_queue.Statement.{statement}
 use Rattle.carry.proofs.acts.open_queue.Tie as tie
@@ -19,13 +19,11 @@ module _ (made : tie.After-open-tables) where
       let more = lists .before .before .before .before in
       more .before
 
-clear-requires : tie.Need-clear-requires
-clear-requires c κs =
-    let marks = c .before .before .before .before in
-    let rights = marks .before .before .before .before in
-    let made = rights .before .before .before .before in
-    let n = length (first made .args .rows .now) in
-    subst (λ (x : OpenedParts). x .clear ≤ n) (sym (made .open-tables .ensures)) (clear-fits _ _ n _ _ _)
+  -- As many records are there as it clears.
+  fits : made .open-tables .result .clear ≤ length (first .args .rows .now)
+  fits =
+      let n = length (first .args .rows .now) in
+      subst (λ (x : OpenedParts). x .clear ≤ n) (sym (made .open-tables .ensures)) (clear-fits _ _ n _ _ _)
 
 -- The line, the clearing before it, and the opening before that.
 module _ (c : tie.After-slice-known12) where
@@ -46,7 +44,8 @@ returns : tie.Need-returns
 returns c =
     let e = cleared c .clear .ensures in
     let m = made c in
-    open-page _ _ _ _ _ _ _ _ _ _ _ _ _ (sym (length-records _)) (m .open-tables .ensures) (e .0) (e .1)
+    open-page _ _ _ _ _ _ _ _ _ _ _ _ _ (sym (length-records _)) (m .open-tables .ensures)
+    (e .0 ∙ all-zeroed _ _ _ _ (fits m)) (e .1 ∙ all-zeroed _ _ _ _ (fits m))
     (put c .before .is-opened .ensures) (put c .wrapping-add-u64 .ensures)
     (put-fits _ _ _ _ _ (first m .pre) (c .before .before .write-line .ensures .0))
 
@@ -55,7 +54,7 @@ open-queue-spec =
     tie.close
     (tie.spec
     (λ c κs. search needs)
-    clear-requires
+    (λ _ _. tt)
     (λ c κs. search needs)
     (λ c κs. search needs)
     (λ c κs. search needs)

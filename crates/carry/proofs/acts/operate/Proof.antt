@@ -1,5 +1,5 @@
 -- An operation carried out in the rows, and answered.
-use mathlib.Core.Path.{_≡_, _∙_}
+use mathlib.Core.Path.{_∙_}
 use borrow.Author.Needs.{needs}
 use Rattle.carry.proofs.AfterActs.{operate-page}
 use Rattle.carry.proofs.acts.operate.Statement.{statement}

@@ -16,7 +16,6 @@ use prog.Routine.{Routine}
 use prog.Wp.{Heap, Calls, Loops, WpFn}
 use ghost.Atoms.{Atoms}
 use contract.Monad.{Fun}
-use contract.Running.{tables}
 use types.Kit.{Given, Item, ‵, _⊛_, atRet, _$_, _∵_, !, qed, by, move, keep, drop, use1, split, fsplit, fsplit3, fjoin}
 use types.Kit.{fjoin3, feqI}
 use types.Run.{look, look-raw, init, store, store-raw, stop, hop, fld, from, load, lit, addr, bin, of-opd, and-then, no-more, assigns}
@@ -42,9 +41,7 @@ use Rattle.model.specs.declared.Control.{Control}
 use Rattle.model.specs.declared.TaskRecord.{TaskRecord}
 use Rattle.model.specs.declared.Outcome.{Outcome}
 use Rattle.model.specs.Tables.{unused}
-use Rattle.model.specs.Calls.{back}
 use Rattle.engine.specs.MoveOn.{moveOn}
-use Rattle.engine.proofs.InParts.{admitted}
 use Rattle.deque.proofs.Walk.{control-value, record-value, slice-value, kept, var, part, lets, receive, valued}
 use Rattle.deque.proofs.Walk.{fits-scaled, gives-up}
 use Rattle.deque.proofs.Admission.{Admit, Refuse, admits, refuses}

@@ -2,8 +2,8 @@
 use mathlib.Core.Bool.{true}
 use mathlib.Core.Path.{ap, _∙_}
 use Rattle.word.specs.declared.Anchor.{Anchor}
-use Rattle.sheet_model.proofs.Gather.{nothing-waits, from-left, from-right}
-use Rattle.sheet_model.specs.Extents.{Extents, extents}
+use Rattle.order.proofs.Gather.{nothing-waits, from-left, from-right}
+use Rattle.order.specs.Extents.{Extents, extents}
 use borrow.Author.Needs.{needs}
 use Rattle.order.proofs.extents.extents.Statement.{statement}
 use Rattle.order.proofs.extents.extents.Tie as tie

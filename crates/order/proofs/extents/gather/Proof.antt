@@ -8,9 +8,9 @@ use Rattle.word.specs.Link.{linkOf}
 use borrow.Author.Needs.{needs}
 use mathlib.Core.Bool.{true}
 use Rattle.model.specs.Sound.{from1, linkSound}
-use Rattle.sheet_model.specs.Extents.{Extents, lost, noted, nextAt, position, gather}
-use Rattle.sheet_model.proofs.Turns.{position-on, position-low, position-high}
-use Rattle.sheet_model.proofs.Gather.{none-left, no-slot, at-last, bad-link, onwards, noted-is}
+use Rattle.order.specs.Extents.{Extents, lost, noted, nextAt, position, gather}
+use Rattle.order.proofs.Turns.{position-on, position-low, position-high}
+use Rattle.order.proofs.Gather.{none-left, no-slot, at-last, bad-link, onwards, noted-is}
 use Rattle.order.proofs.extents.gather.Statement.{statement}
 use Rattle.order.proofs.extents.gather.Tie as tie
 

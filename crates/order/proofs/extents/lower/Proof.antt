@@ -1,4 +1,4 @@
-use Rattle.sheet_model.proofs.Turns.{lower-out, lower-put, lower-kept}
+use Rattle.order.proofs.Turns.{lower-out, lower-put, lower-kept}
 use borrow.Author.Needs.{needs}
 use Rattle.order.proofs.extents.lower.Statement.{statement}
 use Rattle.order.proofs.extents.lower.Tie as tie

@@ -1,4 +1,4 @@
-use Rattle.sheet_model.proofs.Turns.{higher-out, higher-put, higher-kept}
+use Rattle.order.proofs.Turns.{higher-out, higher-put, higher-kept}
 use borrow.Author.Needs.{needs}
 use Rattle.order.proofs.extents.raise.Statement.{statement}
 use Rattle.order.proofs.extents.raise.Tie as tie

@@ -3,7 +3,7 @@ use mathlib.Core.Path.{_≡_, refl}
 use lib.ListN.{length, drop}
 use borrow.Author.Needs.{needs}
 use Rattle.sheet_model.specs.Sheet.{twice}
-use Rattle.sheet_model.proofs.Turns.{twice-here, twice-on, twice-end}
+use Rattle.order.proofs.Turns.{twice-here, twice-on, twice-end}
 use Rattle.order.proofs.form.listed_twice.Statement.{statement}
 use Rattle.order.proofs.form.listed_twice.Tie as tie
 

@@ -2,7 +2,7 @@ use lib.ListN.{length}
 use mathlib.Core.Bool.{_||_}
 use mathlib.Core.Path.{sym, ap, _∙_}
 use Rattle.sheet_model.specs.Sheet.{Sheet, any, outside}
-use Rattle.sheet_model.proofs.Turns.{many-listed, many-rules, others}
+use Rattle.order.proofs.Turns.{many-listed, many-rules, others}
 use borrow.Author.Needs.{needs}
 use Rattle.order.proofs.form.malformed.Statement.{statement}
 use Rattle.order.proofs.form.malformed.Tie as tie

@@ -4,8 +4,8 @@ use mathlib.Core.Path.{_≡_, refl, ap, _∙_}
 use native.Mathlib.Omega.{arith}
 use lib.ListN.{length, drop, getD}
 use borrow.Author.Needs.{needs}
-use Rattle.sheet_model.specs.Extents.{placeOf}
-use Rattle.sheet_model.proofs.Turns.{place-here, place-on, place-end}
+use Rattle.order.specs.Extents.{placeOf}
+use Rattle.order.proofs.Turns.{place-here, place-on, place-end}
 use Rattle.order.proofs.form.place_from.Statement.{statement}
 use Rattle.order.proofs.form.place_from.Tie as tie
 

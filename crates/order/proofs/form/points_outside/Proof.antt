@@ -4,7 +4,7 @@ use lib.ListN.{length, drop}
 use borrow.Author.Needs.{needs}
 use Rattle.model.specs.Sound.{from1}
 use Rattle.sheet_model.specs.Sheet.{any, outside}
-use Rattle.sheet_model.proofs.Turns.{any-here, any-on, any-end}
+use Rattle.order.proofs.Turns.{any-here, any-on, any-end}
 use Rattle.order.proofs.form.points_outside.Statement.{statement}
 use Rattle.order.proofs.form.points_outside.Tie as tie
 

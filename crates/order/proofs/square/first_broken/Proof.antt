@@ -9,11 +9,12 @@ use lib.ListN.{length, drop, getD, set, length-set, replicate, length-replicate}
 use lib.Seq.{set-getD}
 use borrow.Author.Needs.{needs}
 use borrow.Author.Tests.{eq-eqb, ne-eqb}
-use Rattle.sheet_model.specs.Squares.{byteRow, squareOf, linked, rulesMarked, sweep, joinVia, rounds, crossed}
-use Rattle.sheet_model.specs.Search.{inRows}
-use Rattle.sheet_model.proofs.ByteRows.{square-chained}
-use Rattle.sheet_model.proofs.Turns.{Inside, rules-on, rules-end, inside}
-use Rattle.sheet_model.proofs.Turns.{join-taken, join-left, sweep-on, sweep-end, rounds-on, rounds-end, all-left}
+use Rattle.sheet_model.specs.Words.{linked}
+use Rattle.order.specs.Squares.{byteRow, squareOf, rulesMarked, sweep, joinVia, rounds, crossed}
+use Rattle.order.specs.Search.{inRows}
+use Rattle.order.proofs.ByteRows.{square-chained}
+use Rattle.order.proofs.Turns.{Inside, rules-on, rules-end, inside}
+use Rattle.order.proofs.Turns.{join-taken, join-left, sweep-on, sweep-end, rounds-on, rounds-end, all-left}
 use Rattle.order.proofs.square.first_broken.Statement.{statement}
 use Rattle.order.proofs.square.first_broken.Tie as tie
 

@@ -1,8 +1,8 @@
 use Prim.Native.Nat.{_≤_, _-_}
 use mathlib.Core.Path.{_≡_, refl, sym, _∙_}
 use borrow.Author.Needs.{needs}
-use Rattle.sheet_model.specs.Squares.{sweep, ored, joinRow}
-use Rattle.sheet_model.proofs.Turns.{sweep-on, sweep-end}
+use Rattle.order.specs.Squares.{sweep, ored, joinRow}
+use Rattle.order.proofs.Turns.{sweep-on, sweep-end}
 use Rattle.order.proofs.square.join_row.Statement.{statement}
 use Rattle.order.proofs.square.join_row.Tie as tie
 

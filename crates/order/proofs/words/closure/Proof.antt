@@ -4,8 +4,8 @@ use Prim.Native.Nat.{ℕ, _≤_}
 use lib.ListN.{length, drop, replicate}
 use borrow.Author.Tests.{le-leb}
 use Rattle.table.specs.Zeroing.{zeroing}
-use Rattle.sheet_model.specs.Squares.{bitRow, rulesMarked, rounds}
-use Rattle.sheet_model.proofs.BitRows.{words-chained}
+use Rattle.order.specs.Squares.{bitRow, rulesMarked, rounds}
+use Rattle.order.proofs.BitRows.{words-chained}
 use borrow.Author.Needs.{needs}
 use Rattle.order.proofs.words.closure.Statement.{statement}
 use Rattle.order.proofs.words.closure.Tie as tie

@@ -6,8 +6,8 @@ use Prim.Native.Nat.{ℕ, _≤_, _-_}
 use mathlib.Core.Path.{_≡_, refl, sym, ap, _∙_}
 use lib.ListN.{length, getD}
 use borrow.Author.Needs.{needs}
-use Rattle.sheet_model.specs.Squares.{bitRow, sweep, joinVia, rounds}
-use Rattle.sheet_model.proofs.Turns.{join-taken, join-left, sweep-on, sweep-end, rounds-on, rounds-end, all-left}
+use Rattle.order.specs.Squares.{bitRow, sweep, joinVia, rounds}
+use Rattle.order.proofs.Turns.{join-taken, join-left, sweep-on, sweep-end, rounds-on, rounds-end, all-left}
 use Rattle.order.proofs.words.join.Statement.{statement}
 use Rattle.order.proofs.words.join.Tie as tie
 

@@ -4,10 +4,10 @@ use mathlib.Core.Path.{_≡_, refl, sym, _∙_}
 use lib.ListN.{length, drop, getD, length-set}
 use borrow.Author.Needs.{needs}
 use native.Mathlib.Omega.{arith}
-use Rattle.sheet_model.specs.Squares.{bitRow, rulesMarked}
+use Rattle.order.specs.Squares.{bitRow, rulesMarked}
 use Rattle.sheet_model.specs.Sheet.{after}
-use Rattle.sheet_model.proofs.BitRows.{shl-one}
-use Rattle.sheet_model.proofs.Turns.{Inside, rules-on, rules-end, inside}
+use Rattle.order.proofs.BitRows.{shl-one}
+use Rattle.order.proofs.Turns.{Inside, rules-on, rules-end, inside}
 use Rattle.order.proofs.words.mark.Statement.{statement}
 use Rattle.order.proofs.words.mark.Tie as tie
 

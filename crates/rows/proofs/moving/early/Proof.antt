@@ -12,7 +12,7 @@ use Rattle.model.specs.Tables.{isPooled}
 use Rattle.model.specs.Refusals.{recordRefusal}
 use Rattle.sound.proofs.Early.{early}
 use Rattle.engine.proofs.InParts.{above}
-use Rattle.rows.specs.Rows.{controlOf, callOf}
+use Rattle.rows.specs.Rows.{callOf}
 use Rattle.rows.proofs.InItsRow.{no-call, unsound, passes, refuses, early-place}
 use Rattle.rows.proofs.moving.early.Statement.{statement}
 use Rattle.rows.proofs.moving.early.Tie as tie

@@ -12,7 +12,7 @@ use Rattle.model.specs.Tables.{isPooled, tablesOf}
 use Rattle.model.specs.Refusals.{recordRefusal}
 use Rattle.sound.proofs.Late.{late}
 use Rattle.engine.proofs.InParts.{above, below-18}
-use Rattle.rows.specs.Rows.{controlOf, callOf}
+use Rattle.rows.specs.Rows.{callOf}
 use Rattle.rows.proofs.Rows.{counting}
 use Rattle.rows.proofs.InItsRow.{unsound, passes, refuses, at-its-place}
 use Rattle.rows.proofs.moving.late.Statement.{statement}

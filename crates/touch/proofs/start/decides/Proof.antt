@@ -1,7 +1,6 @@
-use mathlib.Core.Path.{ap, _∙_}
-use Rattle.model.specs.declared.TaskRecord.{TaskRecord}
+use mathlib.Core.Path.{sym, ap, _∙_}
 use Rattle.rows.specs.Rows.{recordOf}
-use Rattle.threads.specs.Split.{plan}
+use Rattle.threads_model.specs.Split.{plan}
 use Rattle.touch.proofs.Starting.{refused, begun}
 use borrow.Author.Needs.{needs}
 use Rattle.touch.proofs.start.decides.Statement.{statement}
@@ -18,12 +17,12 @@ array-read-record-row c = search needs
 returns-2 : tie.Need-returns-2
 unfolding recordOf
 returns-2 c =
-    let row = c .before .before in
-    let call = row .before in
-    let a = call .before .before .before .args in
-    begun (a .pooled) (a .slots) (a .task .now) (a .s) (row .record-row .result) (call .first-call .result) (a .why) (c .plan2 .result)
-    (call .before .if1 .left) (call .first-call .ensures) (row .record-row .ensures)
-    (c .plan2 .ensures ∙ ap (λ (x : TaskRecord). plan (a .pooled) (a .slots) (x .call)) (row .record-row .ensures .0))
+    let row = c .before in
+    let call = c .before .before in
+    let a = c .before .before .before .before .before .args in
+    begun (a .pooled) (a .slots) (a .task .now) (a .s) (row .record-row .result) (call .first-call .result) (a .why) (c .first-plan .result)
+    (c .before .before .before .if1 .left) (call .first-call .ensures) (row .record-row .ensures)
+    (c .first-plan .ensures ∙ ap (plan (a .pooled) (a .slots)) (sym (call .first-call .ensures)))
 
 pub decides-spec : {M : Type 1} → statement M
 decides-spec =

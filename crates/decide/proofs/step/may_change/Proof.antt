@@ -1,0 +1,11 @@
+-- The two tests are the definition's.
+use Rattle.decide.specs.Ending.{mayChange}
+use Rattle.decide.proofs.step.may_change.Statement.{statement}
+use Rattle.decide.proofs.step.may_change.Tie as tie
+
+returns : tie.Need-returns
+unfolding mayChange
+returns c = simp (c .before .anchor-sound .ensures, c .before .before .unpack .ensures)
+
+pub may-change-spec : {M : Type 1} → statement M
+may-change-spec = tie.close (tie.spec (λ _ _. tt) (λ _ _. tt) returns)

@@ -1,0 +1,98 @@
+-- What a place makes of the word w that it found, apart from touching it: at 3, 5, 7 and 9 a link word, at 11 a label, at 13 a next. And the new word
+-- of each change. What 1, 2, 4, 6, 8, 10, 12, 15 and 17 make of Anchor or head, which control holds, is in `Ending`.
+use mathlib.Core.Bool.{Bool, _&&_, not, cond}
+use Prim.Native.Nat.{ℕ, _+_}
+use lib.Dec.{eqb, leb, ltb}
+use Rattle.word.specs.Anchor.{anchorOf, packAnchor}
+use Rattle.word.specs.Link.{linkOf, packLink}
+use Rattle.model.specs.declared.Control.{Control}
+use Rattle.model.specs.declared.Record.{Record}
+use Rattle.model.specs.declared.Transition.{Transition}
+use Rattle.model.specs.Sound.{from1}
+use Rattle.model.specs.Sides.{far, facing, pushing}
+use Rattle.model.specs.Kinds.{isPush}
+use Rattle.model.specs.Route.{route, onlyWay, done, hasFailed, equal, unequal, namedQueue, pooledQueue}
+use Rattle.model.specs.Tables.{isPooled, withNeighbour, withOwn}
+use Rattle.model.specs.Ends.{isMoved}
+use Rattle.decide.specs.Ending.{refused, settled, noEntry, failing, headed, rowSound, neighbourRead, linkRead}
+
+-- The end as read: at the task's side, and at 5 to 10 at the side that the status names. The slot of the head as read.
+abbrev pub ownEnd : Record → ℕ
+ownEnd r = cond (eqb (r .side) 1) (anchorOf (r .seen) .right) (anchorOf (r .seen) .left)
+
+abbrev pub namedEnd : Record → ℕ
+namedEnd r = cond (eqb (anchorOf (r .seen) .status) 1) (anchorOf (r .seen) .right) (anchorOf (r .seen) .left)
+
+abbrev pub top : Record → ℕ
+top r = linkOf (r .link) .slot
+
+-- NEW WORDS, each with the tag as read raised by 1.
+abbrev pub new2 : Record → ℕ
+new2 r =
+    let a = anchorOf (r .seen) in
+    let end : ℕ = cond (isPush r) (r .own) 0 in
+    packAnchor (facing (r .side) (a .tag + 1) (a .status) end end)
+
+abbrev pub new4 : Record → ℕ
+new4 r =
+    let a = anchorOf (r .seen) in
+    let status : ℕ = cond (isPush r) (pushing (r .side)) (a .status) in
+    let end : ℕ = cond (isPush r) (r .own) (r .neighbour) in
+    packAnchor (facing (r .side) (a .tag + 1) status end (far (r .side) a))
+
+abbrev pub new9 : Record → ℕ
+new9 r = packLink (record { tag = linkOf (r .link) .tag + 1; slot = namedEnd r })
+
+abbrev pub new10 : Record → ℕ
+new10 r =
+    let a = anchorOf (r .seen) in
+    packAnchor (record { tag = a .tag + 1; status = 0; left = a .left; right = a .right })
+
+abbrev pub new14 : Record → ℕ
+new14 r = packLink (record { tag = linkOf (r .link) .tag + 1; slot = r .neighbour })
+
+abbrev pub new17 : Record → ℕ
+new17 r = packLink (record { tag = linkOf (r .link) .tag + 1; slot = r .own })
+
+-- DECISIONS. A step that was carried out and whose change, if it makes one, has not failed.
+abbrev pub madeOf : Transition → Bool
+madeOf m = isMoved (m .outcome) && not (m .failed)
+
+unfoldable pub found3 : Control → Record → ℕ → Transition
+found3 c r w =
+    cond (isPush r)
+    (cond (rowSound (c .slots) (r .own) w) (settled c r (route 3 (r .kind) onlyWay) noEntry) (refused c r))
+    (neighbourRead c r (ownEnd r) w (route 3 (r .kind) onlyWay))
+
+unfoldable pub found5 : Control → Record → ℕ → Transition
+found5 c r w = neighbourRead c r (namedEnd r) w (route 5 (r .kind) onlyWay)
+
+unfoldable pub found7 : Control → Record → ℕ → Transition
+found7 c r w = linkRead c r (namedEnd r) w (route 7 (r .kind) equal) (route 7 (r .kind) unequal)
+
+unfoldable pub found9 : Control → Record → ℕ → Transition
+found9 c r w =
+    cond (from1 (c .slots) (r .neighbour))
+    (cond (eqb w (r .link))
+    (cond (ltb (linkOf (r .link) .tag) 4294967295) (settled c r (route 9 (r .kind) done) noEntry) (refused c r))
+    (failing (settled c r (route 9 (r .kind) hasFailed) noEntry)))
+    (refused c r)
+
+unfoldable pub found11 : Control → Record → ℕ → Transition
+found11 c r l =
+    cond (from1 (c .slots) (ownEnd r))
+    (cond (isPooled c)
+    (settled c (withOwn r (ownEnd r) l) (route 11 (r .kind) pooledQueue) noEntry)
+    (settled c r (route 11 (r .kind) namedQueue) (record { slot = ownEnd r; label = l })))
+    (refused c r)
+
+unfoldable pub found13 : Control → Record → ℕ → Transition
+found13 c r n = cond (leb n (c .slots)) (settled c (withNeighbour r n) (route 13 (r .kind) onlyWay) noEntry) (refused c r)
+
+unfoldable pub found14 : Control → Record → Transition
+found14 c r =
+    cond (eqb (c .head) (r .link))
+    (cond (ltb (linkOf (r .link) .tag) 4294967295)
+    (settled (headed c (new14 r)) (withOwn r (top r) (r .label)) (route 14 (r .kind) done) noEntry)
+    (refused c r))
+    (failing (settled c r (route 14 (r .kind) hasFailed) noEntry))
