@@ -83,6 +83,8 @@
  *
  * A REFUSAL is its number alone: every table keeps its contents. If several
  * numbers apply, the first in the order that stands with the call is answered.
+ * A helper that makes several calls, as zc_queue_finish does, may meet one late;
+ * what it did before stays.
  *
  *   because of the input                     because of the state
  *   10  tasks not 1 to 16                    30  start: the task is busy

@@ -40,6 +40,8 @@
  *    refused. Bring the threads to rest, zc_queue_drain, open again, zc_queue_refill, and let them go
  *    on (examples/c/renew.c). Tags never wrap, so that a word is never taken for an older one.
  *  - Lock-free is not wait-free: one call may try again as long as others are faster.
+ *  - In tables that somebody else wrote to, a whole call may be told 34 in the middle: its touches up
+ *    to there are made, and its record stands where it stopped.
  *
  * WHAT IS PROVED, of threads that interleave at single loads, stores, compare-and-swaps and changes
  * of a mark as this file makes them (crates/threads/specs/Promises.antt): memory and every thread's

@@ -1,2 +1,3 @@
 pub mod StepsLeft
 pub mod NoSteps
+pub mod Laws

@@ -1,25 +1,23 @@
--- After any accepted opening and any list: never 34, and the positions are those in the sequential deque's queue.
+-- Where a call that walks may rely on the queue, and so after any accepted opening and any list: never 34, and the positions are those in the
+-- sequential deque's queue.
 use mathlib.Core.Path.{_≡_, refl}
 use mathlib.Core.Bool.{Bool, true, false, cond}
 use mathlib.Core.List.{List}
 use Prim.Native.Nat.{ℕ}
 use lib.Dec.{ltb, eqb}
 use lib.ListN.{length}
-use Rattle.model.specs.declared.Entry.{Entry}
-use Rattle.model.specs.Tables.{Queue, isPooled}
+use Rattle.model.specs.Tables.{isPooled}
 use Rattle.model.specs.Sound.{rowTests, rowsFit}
 use Rattle.model.specs.Report.{waiting}
 use Rattle.model.specs.Refusals.{recordsFit}
 use Rattle.model.proofs.tests.Truth.{and-true}
 use Rattle.model.proofs.tests.Rules.{tests}
-use Rattle.model.specs.Standing.{Standing}
 use Rattle.model.proofs.Standing.{standing}
-use Rattle.find_model.specs.Find.{Finds, RowsWaiting, find, findRefusal, found, refused}
+use Rattle.find_model.specs.Find.{Finds, RowsWaiting, StandingFinds, find, findRefusal, found, refused}
 
-stands : (q : Queue) (d : List Entry) → Standing q d → (asked : List ℕ)
-    → find (q .tables) asked ≡ cond (ltb 32 (length asked)) (refused 45) (found d asked)
+pub standing-finds : StandingFinds
 unfolding find findRefusal rowsFit
-stands q d s asked =
+standing-finds q d s asked =
     let c = q .tables .control in
     let pooled = isPooled c in
     let long = and-true (rowsFit pooled (c .slots) (q .tables)) (recordsFit (c .tasks) q) (s .long) .0 in
@@ -31,7 +29,7 @@ stands q d s asked =
     go false = refl
 
 pub finds : Finds
-finds pooled q tasks slots tag e os asked = stands _ _ (standing pooled q tasks slots tag e os) asked
+finds pooled q tasks slots tag e os asked = standing-finds _ _ (standing pooled q tasks slots tag e os) asked
 
 pub rows-waiting : RowsWaiting
 unfolding find found waiting

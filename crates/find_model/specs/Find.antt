@@ -6,11 +6,12 @@ use Prim.Native.Nat.{ℕ, _+_, _-_}
 use lib.Dec.{ltb, eqb}
 use lib.ListN.{length, replicate}
 use Rattle.model.specs.declared.Entry.{Entry}
-use Rattle.model.specs.Tables.{Tables}
+use Rattle.model.specs.Tables.{Tables, Queue}
 use Rattle.model.specs.Sound.{controlSound, rowsFit}
 use Rattle.model.specs.Walk.{contents, isBroken, met}
 use Rattle.model.specs.Report.{waiting}
 use Rattle.model.specs.Refusals.{Rule, rule, first}
+use Rattle.model.specs.Standing.{Standing}
 use Rattle.model.specs.History.{AfterOpening, final, ledger, run}
 use Rattle.find_model.specs.declared.FindReply.{FindReply}
 
@@ -51,7 +52,13 @@ find q asked =
     let why = findRefusal q asked in
     cond (eqb why 0) (found (met (contents q)) asked) (refused why)
 
--- After any list following an opening: over 32 labels are refused, never 34; else the positions are those in the sequential deque's queue.
+-- Of a queue on which a call that walks may rely, as after a return to a shelf: over 32 labels are refused, never 34; else the positions are
+-- those among its entries.
+abbrev pub StandingFinds : Type 0
+StandingFinds = (q : Queue) (d : List Entry) → Standing q d → (asked : List ℕ)
+    → find (q .tables) asked ≡ cond (ltb 32 (length asked)) (refused 45) (found d asked)
+
+-- After any list following an opening they are those in the sequential deque's queue.
 abbrev pub Finds : Type 0
 Finds =
     AfterOpening (λ q os. (asked : List ℕ)

@@ -1,14 +1,13 @@
 -- The laws of the sheets.
 use mathlib.Core.Bool.{Bool, true, false, cond}
-use mathlib.Core.List.{List}
+use mathlib.Core.List.{List, _++_}
 use mathlib.Core.Path.{_≡_, refl, sym, ap, subst, _∙_}
 use Prim.Native.Nat.{ℕ, suc, _/_, _%_, _^_, _<_}
 use native.Mathlib.Omega.{arith}
 use lib.Dec.{eqb, leb}
 use lib.ListN.{length, getD, drop, List·getD-append}
-use borrow.Author.Tests.{le-leb, eq-eqb, eqb-true}
-use Rattle.model.specs.declared.Entry.{Entry}
-use Rattle.model.specs.Tables.{Queue, Tables, isPooled}
+use borrow.Author.Tests.{le-leb, eq-eqb, ne-eqb, eqb-true}
+use Rattle.model.specs.Tables.{Tables, isPooled}
 use Rattle.model.specs.Walk.{contents, met}
 use Rattle.model.specs.Sound.{rowTests, rowsFit}
 use Rattle.model.specs.Refusals.{first, recordsFit}
@@ -16,12 +15,11 @@ use Rattle.model.specs.Calls.{openAs}
 use Rattle.model.specs.History.{final, ledger, run}
 use Rattle.model.proofs.tests.Truth.{split, and-true}
 use Rattle.model.proofs.tests.Rules.{cleared, tests}
-use Rattle.model.specs.Standing.{Standing}
 use Rattle.model.proofs.Standing.{standing}
 use Rattle.sheet_model.specs.Sheet.{Sheet, malformed, chained}
 use Rattle.sheet_model.specs.Words.{listOf, bitsOf, linked, mark, wordsOf}
 use Rattle.sheet_model.specs.Verdict.{refused, verdict, judge, sheet, sheetRules, sheetWords}
-use Rattle.sheet_model.specs.Laws.{ChainedExactly, SheetsOfQueues, SameAnswer, BitsAreChained, KeptExactly, SheetRight}
+use Rattle.sheet_model.specs.Laws.{ChainedExactly, StandingSheets, SheetsOfQueues, SameAnswer, RefusalKeeps, BitsAreChained, KeptExactly, SheetRight}
 use Rattle.sheet_model.specs.Pairs.{Rightly}
 use Rattle.sheet_model.proofs.Formed.{formed}
 use Rattle.sheet_model.proofs.Words.{bit-at, marked-is}
@@ -36,9 +34,9 @@ chained-exactly s e a b = record {
   all = chained-in (s .rules) (length (s .listed)) (formed s e .inside) a b;
 }
 
-judged : (q : Queue) (d : List Entry) (s : Sheet) → Standing q d → sheet (q .tables) s ≡ cond (malformed s) (refused 46) (verdict s d)
+pub standing-sheets : StandingSheets
 unfolding sheet judge rowsFit
-judged q d s h =
+standing-sheets q d s h =
     let c = q .tables .control in
     let pooled = isPooled c in
     let long = and-true (rowsFit pooled (c .slots) (q .tables)) (recordsFit (c .tasks) q) (h .long) .0 in
@@ -48,7 +46,7 @@ judged q d s h =
 pub sheets-of-queues : SheetsOfQueues
 sheets-of-queues pooled q tasks slots tag e os s =
     let o = openAs pooled q tasks slots tag .queue in
-    judged (final o os) (ledger (run o os) .deque) s (standing pooled q tasks slots tag e os)
+    standing-sheets (final o os) (ledger (run o os) .deque) s (standing pooled q tasks slots tag e os)
 
 pub same-answer : SameAnswer
 unfolding sheetWords sheet
@@ -78,6 +76,13 @@ kept-exactly q s e =
     let form = well-formed q s true e in
     let r = sheet-right q s e in
     record { only = none-told s (met (contents q)) form (sheet q s) r; all = kept-told s (met (contents q)) form (sheet q s) r }
+
+-- By the test that the words are written under.
+pub refusal-keeps : RefusalKeeps
+unfolding sheetWords
+refusal-keeps q s words h =
+    let written = wordsOf (linked (s .rules) (length (s .listed))) ++ drop 32 words in
+    ap (λ (told : Bool). cond told written words) (ne-eqb _ 0 h)
 
 bits-marked : (q : Tables) (s : Sheet) (words : List ℕ) → sheetWords q s words .reply .code ≡ 0 → (a b : ℕ) → a < 32 → b < 32
     → getD (sheetWords q s words .words) a 0 / 2 ^ b % 2 ≡ mark (chained s (suc a) (suc b))

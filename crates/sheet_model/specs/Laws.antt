@@ -2,10 +2,12 @@
 use mathlib.Core.Path.{_≡_}
 use mathlib.Core.Bool.{true, false, cond}
 use mathlib.Core.List.{List}
+use mathlib.Core.Logic.{_≢_}
 use Prim.Native.Nat.{ℕ, suc, _/_, _%_, _^_, _≤_, _<_}
 use lib.ListN.{length, getD}
 use Rattle.model.specs.declared.Entry.{Entry}
-use Rattle.model.specs.Tables.{Tables}
+use Rattle.model.specs.Tables.{Tables, Queue}
+use Rattle.model.specs.Standing.{Standing}
 use Rattle.model.specs.Walk.{contents, met}
 use Rattle.model.specs.History.{AfterOpening, final, ledger, run}
 use Rattle.sheet_model.specs.declared.SheetReply.{SheetReply}
@@ -21,7 +23,12 @@ pub record ChainedWhere (s : Sheet) (a b : ℕ) : Type 0 where
 abbrev pub ChainedExactly : Type 0
 ChainedExactly = (s : Sheet) → malformed s ≡ false → (a b : ℕ) → ChainedWhere s a b
 
--- From an opening on, a well-formed sheet is judged on the sequential deque's queue; 34 and 12 never occur.
+-- Of a queue on which a call that walks may rely, as after a return to a shelf: a well-formed sheet is judged on its entries; 34 and 12 never
+-- occur.
+abbrev pub StandingSheets : Type 0
+StandingSheets = (q : Queue) (d : List Entry) (s : Sheet) → Standing q d → sheet (q .tables) s ≡ cond (malformed s) (refused 46) (verdict s d)
+
+-- From an opening on it is judged on the sequential deque's queue.
 abbrev pub SheetsOfQueues : Type 0
 SheetsOfQueues =
     AfterOpening (λ q os. (s : Sheet) → sheet (final q os .tables) s ≡ cond (malformed s) (refused 46) (verdict s (ledger (run q os) .deque)))
@@ -30,13 +37,16 @@ SheetsOfQueues =
 abbrev pub SameAnswer : Type 0
 SameAnswer = (q : Tables) (s : Sheet) (words : List ℕ) → 32 ≤ length words → sheetWords q s words .reply ≡ sheet q s
 
+-- A refusal leaves the lent words.
+abbrev pub RefusalKeeps : Type 0
+RefusalKeeps = (q : Tables) (s : Sheet) (words : List ℕ) → sheetWords q s words .reply .code ≢ 0 → sheetWords q s words .words ≡ words
+
 -- A mark is 1 exactly when place a is chained before place b.
 pub record MarkTells (m : ℕ) (rules : List ℕ) (a b : ℕ) : Type 0 where
   pub only : m ≡ 1 → Chained rules a b
   pub all : Chained rules a b → m ≡ 1
 
 -- After kept or a broken pair, bit b of word a is set exactly when place a + 1 is chained before place b + 1.
-
 abbrev pub BitsAreChained : Type 0
 BitsAreChained = (q : Tables) (s : Sheet) (words : List ℕ) → sheetWords q s words .reply .code ≡ 0 → (a b : ℕ) → a < 32 → b < 32
     → MarkTells (getD (sheetWords q s words .words) a 0 / 2 ^ b % 2) (s .rules) (suc a) (suc b)

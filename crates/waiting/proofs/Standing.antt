@@ -1,25 +1,23 @@
--- After any accepted opening and any list: never 34, and what is written is the sequential deque's queue.
+-- Where a call that walks may rely on the queue, and so after any accepted opening and any list: never 34, and what is written is the sequential
+-- deque's queue.
 use mathlib.Core.Path.{_≡_, refl}
 use mathlib.Core.Bool.{Bool, true, false, cond}
 use mathlib.Core.List.{List}
 use Prim.Native.Nat.{ℕ}
 use lib.Dec.{eqb}
 use lib.ListN.{length}
-use Rattle.model.specs.declared.Entry.{Entry}
-use Rattle.model.specs.Tables.{Queue, isPooled}
+use Rattle.model.specs.Tables.{isPooled}
 use Rattle.model.specs.Sound.{rowTests, rowsFit}
 use Rattle.model.specs.Refusals.{recordsFit}
 use Rattle.model.specs.Report.{waiting}
 use Rattle.model.proofs.tests.Truth.{and-true}
 use Rattle.model.proofs.tests.Rules.{tests}
-use Rattle.model.specs.Standing.{Standing}
 use Rattle.model.proofs.Standing.{standing}
-use Rattle.waiting.specs.Waiting.{ReadsOut, kept, readOut, tooShort, waitingRefusal, written}
+use Rattle.waiting.specs.Waiting.{ReadsOut, StandingReadsOut, kept, readOut, tooShort, waitingRefusal, written}
 
-stands : (q : Queue) (d : List Entry) → Standing q d → (slots labels : List ℕ)
-    → readOut (q .tables) slots labels ≡ cond (tooShort (length d) slots labels) (kept 12 slots labels) (written d slots labels)
+pub standing-reads-out : StandingReadsOut
 unfolding readOut waitingRefusal waiting rowsFit
-stands q d s slots labels =
+standing-reads-out q d s slots labels =
     let c = q .tables .control in
     let pooled = isPooled c in
     let long = and-true (rowsFit pooled (c .slots) (q .tables)) (recordsFit (c .tasks) q) (s .long) .0 in
@@ -32,4 +30,4 @@ stands q d s slots labels =
     go false = refl
 
 pub reads-out : ReadsOut
-reads-out pooled q tasks slots tag e os out₁ out₂ = stands _ _ (standing pooled q tasks slots tag e os) out₁ out₂
+reads-out pooled q tasks slots tag e os out₁ out₂ = standing-reads-out _ _ (standing pooled q tasks slots tag e os) out₁ out₂

@@ -6,11 +6,12 @@ use Prim.Native.Nat.{ℕ}
 use lib.Dec.{ltb, eqb}
 use lib.ListN.{length, drop}
 use Rattle.model.specs.declared.Entry.{Entry}
-use Rattle.model.specs.Tables.{Tables}
+use Rattle.model.specs.Tables.{Tables, Queue}
 use Rattle.model.specs.Sound.{rowsFit}
 use Rattle.model.specs.Walk.{contents, isBroken, met}
 use Rattle.model.specs.Refusals.{Rule, rule, first, tableRules}
 use Rattle.model.specs.Report.{waiting}
+use Rattle.model.specs.Standing.{Standing}
 use Rattle.model.specs.History.{AfterOpening, final, ledger, run}
 use Rattle.waiting.specs.declared.WaitingReply.{WaitingReply}
 
@@ -64,7 +65,13 @@ readOut q slots labels =
     let why = waitingRefusal q slots labels in
     cond (eqb why 0) (written (met (contents q)) slots labels) (kept why slots labels)
 
--- After any list following an opening: never 34, and what is written is the sequential deque's queue; 12 where a table is too short for it.
+-- Of a queue on which a call that walks may rely, as after a return to a shelf: never 34, and its entries are written; 12 where a table is too
+-- short for them.
+abbrev pub StandingReadsOut : Type 0
+StandingReadsOut = (q : Queue) (d : List Entry) → Standing q d → (slots labels : List ℕ)
+    → readOut (q .tables) slots labels ≡ cond (tooShort (length d) slots labels) (kept 12 slots labels) (written d slots labels)
+
+-- After any list following an opening these are the sequential deque's queue.
 abbrev pub ReadsOut : Type 0
 ReadsOut =
     AfterOpening (λ q os. (slots labels : List ℕ)
