@@ -1,5 +1,5 @@
 -- Labels from one index of a list up to another: an end moved by one, and the label there.
-use mathlib.Core.Bool.{Bool, true, false, cond}
+use mathlib.Core.Bool.{Bool, true, false, _&&_, cond}
 use mathlib.Core.List.{List, [], _∷_, _++_, reverse, reverse-cons, reverse-reverse}
 use mathlib.Core.Path.{_≡_, refl, sym, ap, _∙_, subst}
 use Prim.Native.Nat.{ℕ, suc, _+_, _<_, _≤_}
@@ -10,7 +10,7 @@ use lib.ListN.{length, getD, set, take, drop, length-set}
 use lib.Seq.{slice, slice-cons, slice-empty, length-take-le, take-suc, take-suc-set, take-set-lt, drop-set-lt, drop-append-le, getD-set-same}
 use borrow.Author.Tests.{eq-eqb, ne-eqb}
 use Rattle.model.specs.Deque.{seenFrom}
-use Rattle.audit_model.specs.Audit.{takeLabel}
+use Rattle.audit_model.specs.Audit.{agrees, takeLabel}
 
 -- Seen from the right, and from the left.
 from-right : {A : Type 0} (side : ℕ) (l : List A) → side ≡ 1 → seenFrom side l ≡ reverse l
@@ -18,6 +18,15 @@ from-right side l e = ap (λ (b : Bool). cond b (reverse l) l) (eq-eqb side 1 e)
 
 from-left : {A : Type 0} (side : ℕ) (l : List A) → (side ≡ 1 → ⊥) → seenFrom side l ≡ l
 from-left side l e = ap (λ (b : Bool). cond b (reverse l) l) (ne-eqb side 1 e)
+
+-- An answer that has no label.
+pub plain : (answer label given : ℕ) → (given ≡ 4 → ⊥) → eqb answer given ≡ agrees answer label given 0
+unfolding agrees
+plain answer label given h = rw (ne-eqb given 4 h) (go (eqb answer given))
+  where
+    go : (t : Bool) → t ≡ t && true
+    go true = refl
+    go false = refl
 
 module _ (b : List ℕ) (low high : ℕ) where
   -- One label more at the right, stored or there already.
