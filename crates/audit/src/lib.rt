@@ -22,7 +22,7 @@ ghost use Rattle.audit.specs.FirstEarly.{firstEarly};
 
 // Up to the first position that stands too early, which fails whatever it answers.
 fn served(words: &[u64], order: &[u64], early: usize) -> Verdict
-    requires { ⌜ (length (now order) ≤ 64) × (allOf (from1 (length (now words) / 7)) (now order) ≡ true)
+    requires { ⌜ (length (now words) / 7 ≤ 64) × (length (now order) ≤ 64) × (allOf (from1 (length (now words) / 7)) (now order) ≡ true)
         × (early ≡ firstEarly (inOrder (callsIn (now words)) (now order))) ⌝ }
     ensures { λ r. ⌜ r ≡ replay 1 (inOrder (callsIn (now (words .entry))) (now (order .entry))) [] ⌝ }
 {
@@ -30,8 +30,7 @@ fn served(words: &[u64], order: &[u64], early: usize) -> Verdict
     let mut low: usize = 64;
     let mut high: usize = 64;
     for i in 0..early {
-        let c = calls::call_at(words, (order[i] - 1) as usize);
-        let s = labels::serve_label(c, &mut buffer, low, high);
+        let s = labels::serve_label(words, (order[i] - 1) as usize, &mut buffer, low, high);
         if !s.same {
             return Verdict::Failed(i as u32 + 1);
         }

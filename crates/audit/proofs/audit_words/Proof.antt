@@ -52,7 +52,7 @@ served-requires c κs =
     let some = c .before .before .before in
     let ks = rearranged (order some) (length (words some) / 7) (fits (c .before)) in
     let few = at-most-64 (callsIn (words some)) (length (words some) / 7) (count-is (words some)) (good some) in
-    (omega arith, ks .1, c .first-early .ensures)
+    (few, omega arith, ks .1, c .first-early .ensures)
 
 returns-3 : tie.Need-returns-3
 returns-3 c =

@@ -1,17 +1,19 @@
 -- What is left of the replay leads from here to where the whole replay leads; so far no position stands too early.
-use mathlib.Core.List.{List, [], _∷_}
+use mathlib.Core.List.{List, [], _∷_, map}
 use mathlib.Core.Path.{_≡_, refl, sym, ap, _∙_}
 use Prim.Native.Nat.{ℕ, _+_, _-_, _/_, _≤_}
 use native.Mathlib.Omega.{arith}
 use borrow.Author.Needs.{needs}
 use borrow.Author.Tests.{not-false, not-true}
-use lib.ListN.{length, getD, drop, drop-of-length-le}
-use lib.Seq.{slice}
+use lib.ListN.{length, getD, drop, drop-of-length-le, replicate}
+use lib.Seq.{slice-empty}
 use Rattle.audit_model.specs.declared.Finished.{Finished}
 use Rattle.audit_model.specs.declared.Verdict.the-variants.{Failed}
-use Rattle.audit_model.specs.Audit.{inOrder, replay}
+use Rattle.audit_model.specs.Audit.{inOrder, nobody, replay}
 use Rattle.audit_model.specs.LentHistory.{callsIn}
 use Rattle.audit.specs.FirstEarly.{firstEarly}
+use Rattle.audit.specs.LabelQueue.{Holds, held, labelAt}
+use Rattle.audit.proofs.Buffer.{zeros-hold}
 use Rattle.audit.proofs.Early.{early-within}
 use Rattle.audit.proofs.Turn.{fails, goes-on, next-early, stops}
 use Rattle.audit.proofs.WordsRead.{next-call, number-known}
@@ -20,9 +22,9 @@ use Rattle.audit.proofs.served.Tie as tie
 
 abbrev Inv-loop : tie.InvT-loop
 Inv-loop words order early buffer₀ low₀ high₀ i₀ buffer low high i =
-    (i ≤ early) × (early ≤ length order) × (low ≤ high) × (64 ≤ low + i) × (high ≤ 64 + i) × (length buffer ≡ 128)
+    (i ≤ early) × (early ≤ length order) × (low ≤ high) × (64 ≤ low + i) × (high ≤ 64 + i) × Holds (length words / 7) buffer
     × (i + firstEarly (inOrder (callsIn words) (drop i order)) ≡ early)
-    × (replay (i + 1) (inOrder (callsIn words) (drop i order)) (slice low high buffer) ≡ replay 1 (inOrder (callsIn words) order) [])
+    × (replay (i + 1) (inOrder (callsIn words) (drop i order)) (held words low high buffer) ≡ replay 1 (inOrder (callsIn words) order) [])
 
 abbrev μ-loop : tie.MeasureT-loop
 μ-loop words order early buffer₀ low₀ high₀ i₀ buffer low high i = early - i
@@ -31,8 +33,16 @@ loop-holds : tie.Need-loop-holds Inv-loop μ-loop
 loop-holds c =
     let start = c .before .before in
     let within = early-within (callsIn (start .args .words .now)) (start .args .order .now) in
-    let is = start .pre .2 in
-    (search needs, omega arith, search needs, search needs, search needs, refl, omega arith, refl)
+    let is = start .pre .3 in (
+      search needs,
+      omega arith,
+      search needs,
+      search needs,
+      search needs,
+      record { size = refl; calls = zeros-hold (length (start .args .words .now) / 7 - 1) 128 },
+      omega arith,
+      ap (replay 1 (inOrder (callsIn (start .args .words .now)) (start .args .order .now))) (slice-empty 64 (map (labelAt (start .args .words .now)) (replicate 128 0))),
+    )
 
 -- The number at index i is a call's.
 known : (c : tie.In-loop Inv-loop μ-loop) → let start = c .before .before .before .before in
@@ -41,31 +51,37 @@ known c =
     let start = c .before .before .before .before in
     let inv = c .before .loop .inv in
     let less = c .loop-test .taken in
-    number-known (start .args .words .now) (start .args .order .now) (start .pre .1) (c .before .loop .i) (omega arith)
+    number-known (start .args .words .now) (start .args .order .now) (start .pre .2) (c .before .loop .i) (omega arith)
+
+serve-label-requires : tie.Need-serve-label-requires Inv-loop μ-loop
+serve-label-requires c κs =
+    let test = c .before .before in
+    let number = known test in
+    let inv = test .before .loop .inv in
+    (omega arith, omega arith, omega arith, inv .2, omega arith, inv .5)
 
 -- A turn: from the call served back to its test, and to the beginning.
 module _ (done : tie.After-serve-label Inv-loop μ-loop) where
   abbrev test : tie.In-loop Inv-loop μ-loop
-  test = done .before .before .before .before
+  test = done .before .before .before
 
   abbrev start : tie.Start Inv-loop μ-loop
   start = test .before .before .before .before
 
   abbrev call : Finished
-  call = done .before .before .call-at .result
+  call = getD (callsIn (start .args .words .now)) (getD (start .args .order .now) (test .before .loop .i) 0 - 1) nobody
 
   abbrev rest : List Finished
   rest = inOrder (callsIn (start .args .words .now)) (drop (test .before .loop .i + 1) (start .args .order .now))
 
   abbrev queue : List ℕ
-  queue = let at = test .before .loop in slice (at .low) (at .high) (at .buffer)
+  queue = let at = test .before .loop in held (start .args .words .now) (at .low) (at .high) (at .buffer)
 
   next : inOrder (callsIn (start .args .words .now)) (drop (test .before .loop .i) (start .args .order .now)) ≡ call ∷ rest
   next =
       let inv = test .before .loop .inv in
       let less = test .loop-test .taken in
-      next-call (start .args .words .now) (start .args .order .now) (start .pre .1) (test .before .loop .i) (omega arith)
-      ∙ ap (λ (c : Finished). c ∷ rest) (sym (done .before .before .call-at .ensures))
+      next-call (start .args .words .now) (start .args .order .now) (start .pre .2) (test .before .loop .i) (omega arith)
 
   is : test .before .loop .i + firstEarly (call ∷ rest) ≡ start .args .early
   is = sym (ap (λ (l : List Finished). test .before .loop .i + firstEarly l) next) ∙ test .before .loop .inv .6
@@ -92,7 +108,7 @@ loop-again c =
       s .ensures .moved .ends,
       omega (arith, s .ensures .moved .left),
       omega (arith, s .ensures .moved .right),
-      s .ensures .size,
+      s .ensures .holds,
       next-early (call done) (rest done) (at .i) (start done .args .early) (is done) less,
       goes-on (call done) (rest done) (at .i) (start done .args .early) (is done) (queue done) less
           (sym (s .ensures .same-is) ∙ not-false (s .result .same) (c .if1 .left)) _ (s .ensures .queue-is) ∙ onward done,
@@ -108,8 +124,8 @@ returns-2 c =
     let more = c .if2 .taken in
     let inv = at .inv in
     let here : start .args .early ≡ at .i = omega arith in
-    let next = next-call ws ks (start .pre .1) (at .i) (omega arith) in
-    let q = slice (at .low) (at .high) (at .buffer) in
+    let next = next-call ws ks (start .pre .2) (at .i) (omega arith) in
+    let q = held ws (at .low) (at .high) (at .buffer) in
     ap (λ (m : ℕ). Failed (m + 1)) here
     ∙ stops _ _ (at .i) (start .args .early) (sym (ap (λ (l : List Finished). at .i + firstEarly l) next) ∙ inv .6) q (λ z. omega arith)
     ∙ sym (ap (λ (l : List Finished). replay (at .i + 1) l q) next) ∙ inv .7
@@ -123,7 +139,7 @@ returns-3 c =
     let all = c .if2 .left in
     let inv = at .inv in
     let end : length (args .order .now) ≤ at .i = omega arith in
-    sym (ap (λ (l : List ℕ). replay (at .i + 1) (inOrder (callsIn (args .words .now)) l) (slice (at .low) (at .high) (at .buffer)))
+    sym (ap (λ (l : List ℕ). replay (at .i + 1) (inOrder (callsIn (args .words .now)) l) (held (args .words .now) (at .low) (at .high) (at .buffer)))
     (drop-of-length-le (args .order .now) end)) ∙ inv .7
 
 pub served-spec : {M : Type 1} → statement M
@@ -136,8 +152,7 @@ served-spec =
     (λ c. search needs)
     (λ c. search needs)
     (λ c. omega (arith, known (c .before)))
-    (λ c κs. omega (arith, known (c .before)))
-    (λ c κs. search needs)
+    serve-label-requires
     (λ c. search needs)
     (λ c. search needs)
     returns
