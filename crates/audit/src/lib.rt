@@ -1,7 +1,7 @@
 //! Histories of finished calls, checked against their claimed order of effects.
 //! What the verdict is stands in `audit_model/specs/Audit.antt`.
 //!
-//! A history is lent as words, seven a call (`Finished`), and read in place; the only memory besides is a queue of 128 labels.
+//! A history is lent as words, seven a call (`Finished`), and read in place; the only memory besides is 128 bytes for the queue.
 //! Sixty-four calls take some 2,000 comparisons of two calls, each held against every other for its events; the order is gone
 //! through once for numbers named twice, once for the first position that stands too early, and once to serve the calls.
 mod calls;
@@ -20,7 +20,7 @@ ghost use Rattle.audit_model.specs.Audit.{allOf, inOrder, replay, verdict};
 ghost use Rattle.audit_model.specs.LentHistory.{callsIn, verdictReply};
 ghost use Rattle.audit.specs.FirstEarly.{firstEarly};
 
-// Up to the first position that stands too early, which fails whatever it answers.
+// The calls up to the first position that stands too early, which fails whatever it answers.
 fn served(words: &[u64], order: &[u64], early: usize) -> Verdict
     requires { ⌜ (length (now words) / 7 ≤ 64) × (length (now order) ≤ 64) × (allOf (from1 (length (now words) / 7)) (now order) ≡ true)
         × (early ≡ firstEarly (inOrder (callsIn (now words)) (now order))) ⌝ }
@@ -74,6 +74,7 @@ fn reply(v: Verdict) -> VerdictReply
     }
 }
 
+// The verdict on no call.
 fn of_none(order: &[u64]) -> Verdict
     ensures { λ r. ⌜ r ≡ verdict [] (now (order .entry)) ⌝ }
 {
@@ -87,7 +88,7 @@ fn of_none(order: &[u64]) -> Verdict
 pub extern "C" fn zc_audit_words(words: &[u64], order: &[u64]) -> VerdictReply
     ensures { λ r. ⌜ r ≡ verdictReply (verdict (callsIn (now (words .entry))) (now (order .entry))) ⌝ }
 {
-    // No call: told before room is made for labels.
+    // Told before registers are saved and the queue is cleared.
     if words.len() < 7 {
         let v = of_none(order);
         return reply(v);

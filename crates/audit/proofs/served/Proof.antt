@@ -46,7 +46,8 @@ loop-holds c =
 
 -- The number at index i is a call's.
 known : (c : tie.In-loop Inv-loop μ-loop) → let start = c .before .before .before .before in
-    (1 ≤ getD (start .args .order .now) (c .before .loop .i) 0) × (getD (start .args .order .now) (c .before .loop .i) 0 ≤ length (start .args .words .now) / 7)
+    (1 ≤ getD (start .args .order .now) (c .before .loop .i) 0)
+    × (getD (start .args .order .now) (c .before .loop .i) 0 ≤ length (start .args .words .now) / 7)
 known c =
     let start = c .before .before .before .before in
     let inv = c .before .loop .inv in
