@@ -25,6 +25,9 @@ calls-at j zero i ws h = absurd (omega arith)
 calls-at j (suc n) zero ws h = let z : j ≡ j + 0 = omega arith in ap (callAt ws) z
 calls-at j (suc n) (suc i) ws h = calls-at (suc j) n i ws (omega arith) ∙ (let z : suc j + i ≡ j + suc i = omega arith in ap (callAt ws) z)
 
+pub within : (n k : ℕ) → from1 n k ≡ true → (1 ≤ k) × (k ≤ n)
+within n k e = let z = and-true (leb 1 k) (leb k n) e in (leb-true 1 k (z .0), leb-true k n (z .1))
+
 module _ (ws : List ℕ) where
   pub count-is : length (callsIn ws) ≡ length ws / 7
   count-is = calls-length 0 (length ws / 7) ws
@@ -38,10 +41,7 @@ module _ (ws : List ℕ) where
   -- The call at index i of an order of known numbers.
   module _ (ks : List ℕ) (known : allOf (from1 (length ws / 7)) ks ≡ true) (i : ℕ) (h : i < length ks) where
     pub number-known : (1 ≤ getD ks i 0) × (getD ks i 0 ≤ length ws / 7)
-    number-known =
-        let k = getD ks i 0 in
-        let z = and-true (leb 1 k) (leb k (length ws / 7)) (all-at (from1 (length ws / 7)) ks i 0 h known) in
-        (leb-true 1 k (z .0), leb-true k (length ws / 7) (z .1))
+    number-known = within (length ws / 7) (getD ks i 0) (all-at (from1 (length ws / 7)) ks i 0 h known)
 
     pub next-call : inOrder (callsIn ws) (drop i ks) ≡ getD (callsIn ws) (getD ks i 0 - 1) nobody ∷ inOrder (callsIn ws) (drop (i + 1) ks)
     next-call =

@@ -2,19 +2,18 @@
 use mathlib.Core.Bool.{Bool, true, false, _&&_, not}
 use mathlib.Core.Path.{_≡_, refl, sym, ap, _∙_, subst}
 use mathlib.Core.List.{List, [], _∷_}
-use Prim.Native.Nat.{ℕ, _+_, _-_, _/_, _≤_}
+use Prim.Native.Nat.{ℕ, _+_, _-_, _≤_}
 use native.Mathlib.Omega.{arith}
 use borrow.Author.Needs.{needs}
-use borrow.Author.Tests.{leb-true, not-false, not-true}
-use lib.Dec.{leb}
+use borrow.Author.Tests.{not-false, not-true}
 use lib.ListN.{length, getD, drop, drop-of-length-le, length-set}
 use Rattle.model.specs.Sound.{from1}
 use Rattle.model.specs.Tables.{withMark}
-use Rattle.model.proofs.tests.Truth.{and-true}
 use Rattle.audit_model.specs.Audit.{allOf, differ}
 use Rattle.audit.proofs.Loops.{drop-next, passes, passes-turn}
 use Rattle.audit.proofs.Named.{Named, none-named, one-more}
 use Rattle.audit.proofs.Verdicts.{another-length, not-rearranged, same-length}
+use Rattle.audit.proofs.WordsRead.{within}
 use Rattle.audit.proofs.order.is_rearranged.Statement.{statement}
 use Rattle.audit.proofs.order.is_rearranged.Tie as tie
 
@@ -56,25 +55,24 @@ module _ (c : tie.After-known Inv-loop μ-loop) where
   len : length ks ≡ n
   len = at .before .if1 .left
 
-  within : (j + 1 ≡ at .loop .i) × (j + 1 ≤ length ks)
-  within = let some = c .before .before .loop-test .taken in let inv = at .loop .inv in let e = len in (omega arith, omega arith)
+  index : (j + 1 ≡ at .loop .i) × (j + 1 ≤ length ks)
+  index = let some = c .before .before .loop-test .taken in let inv = at .loop .inv in let e = len in (omega arith, omega arith)
 
   behind : passes (from1 n) differ (drop (j + 1) ks) ≡ true
-  behind = ap (λ (m : ℕ). passes (from1 n) differ (drop m ks)) (within .0) ∙ at .loop .inv .2
+  behind = ap (λ (m : ℕ). passes (from1 n) differ (drop m ks)) (index .0) ∙ at .loop .inv .2
 
   named : Named (at .loop .named) (drop (j + 1) ks)
-  named = subst (λ (m : ℕ). Named (at .loop .named) (drop m ks)) (sym (within .0)) (at .loop .inv .3)
+  named = subst (λ (m : ℕ). Named (at .loop .named) (drop m ks)) (sym (index .0)) (at .loop .inv .3)
 
   turn : (a b : Bool) → c .known .result ≡ a → allOf (differ (getD ks j 0)) (drop (j + 1) ks) ≡ b
       → passes (from1 n) differ (drop j ks) ≡ a && (b && passes (from1 n) differ (drop (j + 1) ks))
-  turn a b e = passes-turn (from1 n) differ ks j 0 a b (let z = within .1 in omega arith) (sym (c .known .ensures) ∙ e)
+  turn a b e = passes-turn (from1 n) differ ks j 0 a b (let z = index .1 in omega arith) (sym (c .known .ensures) ∙ e)
 
   bounds : c .known .result ≡ true → (1 ≤ getD ks j 0) × (getD ks j 0 ≤ 64)
   bounds e =
-      let z = and-true (leb 1 (getD ks j 0)) (leb (getD ks j 0) n) (sym (c .known .ensures) ∙ e) in
-      let high = leb-true (getD ks j 0) n (z .1) in
+      let z = within n (getD ks j 0) (sym (c .known .ensures) ∙ e) in
       let most = start .pre in
-      (leb-true 1 (getD ks j 0) (z .0), omega arith)
+      (z .0, omega arith)
 
 returns-2 : tie.Need-returns-2 Inv-loop μ-loop
 returns-2 c =
@@ -110,7 +108,7 @@ loop-again c =
       ap length put ∙ length-set (at k .loop .named) _ _ ∙ inv .1,
       turn k true true (sound (asked .before .before)) (not-false _ (sym (told asked) ∙ c .before .before .before .if3 .left)) ∙ behind k,
       subst (λ (marks : List ℕ). Named marks (drop (j k) (ks k))) (sym put)
-          (subst (Named (withMark (at k .loop .named) (x - 1) 1)) (sym (drop-next (ks k) (j k) 0 (let z = within k .1 in omega arith)))
+          (subst (Named (withMark (at k .loop .named) (x - 1) 1)) (sym (drop-next (ks k) (j k) 0 (let z = index k .1 in omega arith)))
           (one-more (at k .loop .named) (drop (j k + 1) (ks k)) x (inv .1) (known .0) (known .1) (named k))),
     )
 
