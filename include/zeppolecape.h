@@ -1086,7 +1086,7 @@ ZC_LAYOUT(offsetof(zc_schedule_reply, ending) == 8 && offsetof(zc_schedule_reply
  * schedule answers is found by carrying out its steps on a copy.
  *
  * It holds no memory between calls: each goes the way of the last schedule again, then on to the
- * next. It is recursive, a level for each step; with 48 steps a call takes 88,000 bytes of stack.
+ * next. It is recursive, a level for each step; with 48 steps a call takes 28,000 bytes of stack.
  * Answers code 0, or refuses: 34 for control, 12 (`schedule` too: 49), 34 for the walk, 42. A refusal
  * leaves `schedule`. A busy record that is unsound is no refusal: its step is, and stops the schedule.
  */

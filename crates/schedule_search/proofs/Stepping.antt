@@ -1,6 +1,6 @@
 -- A step, what is found below it, and back: the queue is as before, and the step stands in the memory.
 use mathlib.Core.Path.{_≡_, refl, sym, ap, subst, _∙_}
-use mathlib.Core.Bool.{Bool, true, false, not, cond}
+use mathlib.Core.Bool.{Bool, true, false, _||_, not, cond}
 use mathlib.Core.List.{List, [], _∷_}
 use Prim.Native.Nat.{ℕ, suc, _+_, _-_, _<_, _≤_}
 use native.Mathlib.Omega.{arith}
@@ -11,7 +11,7 @@ use Rattle.model.specs.declared.Record.{Record}
 use Rattle.model.specs.declared.TaskRecord.{TaskRecord}
 use Rattle.model.specs.declared.Outcome.{Outcome}
 use Rattle.model.specs.declared.Outcome.the-variants.{Refused, Moved}
-use Rattle.model.specs.Tables.{Tables, Queue, tablesOf, taskAt, recordAt, unused}
+use Rattle.model.specs.Tables.{Tables, Queue, tablesOf, taskAt, unused}
 use Rattle.model.specs.Ends.{isMoved}
 use Rattle.model.specs.Places.{row, wordFound}
 use Rattle.model.specs.Refusals.{stepSound}
@@ -24,10 +24,10 @@ use Rattle.rows.specs.Moved.{RowMoved}
 use Rattle.rows.proofs.Rows.{record-read, record-put}
 use Rattle.schedule_model.specs.declared.Saved.{Saved}
 use Rattle.schedule_model.specs.Next.{Next, given, noMore}
-use Rattle.schedule_model.specs.Search.{prefixed, stepped, frees}
+use Rattle.schedule_model.specs.Schedules.{atWork}
+use Rattle.schedule_model.specs.Search.{prefixed, stepped, skips, frees}
 use Rattle.schedule_model.specs.Undo.{saved, putBack}
 use Rattle.schedule_model.proofs.Undone.{undoes, unwritten}
-use Rattle.schedule_search.specs.declared.Choice.{Choice}
 use Rattle.schedule_search.specs.declared.Found.{Found}
 use Rattle.schedule_search.specs.declared.undo.Kept.{Kept}
 use Rattle.schedule_search.specs.Stepped.{moved, Steps, restored}
@@ -117,14 +117,27 @@ module _ (control : List ℕ) (pair : List (List ℕ)) (lefts rights labels mark
 
 -- c: whether task t may be next.
 module _ (ws : List ℕ) (len left : ℕ) (free : Bool) (q : Queue) (t : ℕ) where
-  pub passed-over : (c : Choice) (f : Found) → c ≡ choice ws len left free q t → c .skips ≡ true → f ≡ record { found = false; length = 0; ending = 0 }
+  abbrev skip : Bool
+  skip = not (atWork q t) || skips ws len left free t
+
+  passing : (skip any : Bool) (c : ℕ) → c ≡ cond skip 0 (cond any 2 1) → c ≡ 0 → skip ≡ true
+  passing true any c e h = refl
+  passing false true c e h = absurd (omega (arith, e, h))
+  passing false false c e h = absurd (omega (arith, e, h))
+
+  going : (skip any : Bool) (c : ℕ) → c ≡ cond skip 0 (cond any 2 1) → (c ≡ 0 → ⊥) → (skip ≡ false) × (eqb c 2 ≡ any)
+  going true any c e h = absurd (h e)
+  going false true c e h = (refl, rw e refl)
+  going false false c e h = (refl, rw e refl)
+
+  pub passed-over : (c : ℕ) (f : Found) → c ≡ choice ws len left free q t → c ≡ 0 → f ≡ record { found = false; length = 0; ending = 0 }
       → handed f ws q ≡ sought left ws (branch ws len left free q t) q
-  passed-over c f e skips h = rw (sym (ap (λ (x : Choice). x .skips) e) ∙ skips) (none-here f left ws q h)
+  passed-over c f e none h = rw (passing skip (frees ws len left free t) c e none) (none-here f left ws q h)
 
   -- k: what is kept; the queue and the memory after the step (₁), after the search below it (′), and after putting back (″).
-  pub there-and-back : 0 < left → left ≤ 48 → (c : Choice) (k : Kept) (q₁ q′ q″ : Queue) (f : Found) (ws′ ws″ : List ℕ)
-      → c ≡ choice ws len left free q t → c .skips ≡ false → Steps q t k q₁
-      → handed f ws′ q′ ≡ sought (left - 1) ws (under (k .stopped) (c .free) (seeking ws len (left - 1) (c .free) q₁)) q₁
+  pub there-and-back : 0 < left → left ≤ 48 → (c : ℕ) (k : Kept) (q₁ q′ q″ : Queue) (f : Found) (ws′ ws″ : List ℕ)
+      → c ≡ choice ws len left free q t → (c ≡ 0 → ⊥) → Steps q t k q₁
+      → handed f ws′ q′ ≡ sought (left - 1) ws (under (k .stopped) (eqb c 2) (seeking ws len (left - 1) (eqb c 2) q₁)) q₁
       → q″ ≡ restored k t q′
       → ws″ ≡ cond (f .found) (set ws′ (49 - left) t) ws′
       → handed f ws″ q″ ≡ sought left ws (branch ws len left free q t) q
@@ -133,10 +146,11 @@ module _ (ws : List ℕ) (len left : ℕ) (free : Bool) (q : Queue) (t : ℕ) wh
       let d = moved q t in
       let beneath : Bool → Bool → Queue → Next = λ stopped any p. under stopped any (seeking ws len (left - 1) any p) in
       let any = frees ws len left free t in
+      let may = going skip any c chosen goes in
       let u = beneath (not (isMoved (d .outcome))) any (d .queue) in
       let all : handed f ws′ q′ ≡ sought (left - 1) ws u (d .queue) =
       found
-      ∙ ap (λ (x : Choice). sought (left - 1) ws (beneath (k .stopped) (x .free) q₁) q₁) chosen
+      ∙ ap (λ (x : Bool). sought (left - 1) ws (beneath (k .stopped) x q₁) q₁) (may .1)
       ∙ ap (λ (x : Bool). sought (left - 1) ws (beneath x any q₁) q₁) (step .stopped)
       ∙ ap (λ (p : Queue). sought (left - 1) ws (beneath (not (isMoved (d .outcome))) any p) p) (step .queue)
       in
@@ -149,6 +163,6 @@ module _ (ws : List ℕ) (len left : ℕ) (free : Bool) (q : Queue) (t : ℕ) wh
       ∙ prefix-written left t some few u ws
       in
       let queue : q″ ≡ q = put ∙ ap (λ (z : Sought). restored k t (z .queue)) all ∙ all-back q q₁ t k step in
-      rw (sym (ap (λ (x : Choice). x .skips) chosen) ∙ goes)
+      rw (may .0)
       ((λ i. handed ((fs ∙ prefix-found left t some few u) i) (memory i) (queue i))
       ∙ ap (λ (m : Next). sought left ws m q) (sym (stepped-is t (d .outcome) any (seeking ws len (left - 1) any (d .queue)))))

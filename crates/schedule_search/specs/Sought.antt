@@ -9,7 +9,6 @@ use Rattle.model.specs.Tables.{Queue}
 use Rattle.schedule_model.specs.Schedules.{ends, atWork}
 use Rattle.schedule_model.specs.Next.{Next, given, noMore}
 use Rattle.schedule_model.specs.Search.{ended, skips, frees, tried, seekBy}
-use Rattle.schedule_search.specs.declared.Choice.{Choice}
 use Rattle.schedule_search.specs.declared.Found.{Found}
 use Rattle.schedule_search.specs.Stepped.{moved}
 
@@ -22,9 +21,9 @@ branch ws len left free q t =
     let d = moved q t in
     tried ws len left free q t (d .outcome) (seeking ws len (left - 1) (frees ws len left free t) (d .queue))
 
--- Task t can't be next; any schedule that goes on with it will do.
-abbrev pub choice : List ℕ → ℕ → ℕ → Bool → Queue → ℕ → Choice
-choice ws len left free q t = record { skips = not (atWork q t) || skips ws len left free t; free = frees ws len left free t }
+-- Whether task t may be next: 0 not; 1 bound by the rest of the list; 2 any schedule that goes on with it will do.
+abbrev pub choice : List ℕ → ℕ → ℕ → Bool → Queue → ℕ → ℕ
+choice ws len left free q t = cond (not (atWork q t) || skips ws len left free t) 0 (cond (frees ws len left free t) 2 1)
 
 -- After so many steps made: the whole length and the ending.
 abbrev pub foundOf : ℕ → Next → Found

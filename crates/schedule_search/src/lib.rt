@@ -3,7 +3,7 @@ ghost use mathlib.Core.Path.{_≡_};
 ghost use mathlib.Core.Bool.{cond, false};
 ghost use mathlib.Core.List.{[], _∷_};
 ghost use Prim.Native.Nat.{_≤_, _<_};
-ghost use lib.ListN.{length, set};
+ghost use lib.ListN.{set};
 ghost use Rattle.model.specs.Tables.{Tables};
 ghost use Rattle.rows.specs.Rows.{recordsOf, queueIn};
 ghost use Rattle.schedule_model.specs.Schedules.{ends, bothAnswered};
@@ -44,7 +44,7 @@ fn none() -> Found
 }
 
 /// How a schedule ends here; 3: it goes on.
-fn ending(stopped: bool, pair: &[[u64; rows::RECORD_WORDS]], left: u64) -> u64
+fn ending(stopped: bool, pair: &[[u64; rows::RECORD_WORDS]; 2], left: u64) -> u64
     ensures { λ e.
         ⌜ ((q : Tables) → e ≡ endsHere stopped (bothAnswered (record { tables = q; records = recordsOf (now (pair .entry)) })) left) ⌝ }
 {
@@ -59,33 +59,36 @@ fn ending(stopped: bool, pair: &[[u64; rows::RECORD_WORDS]], left: u64) -> u64
     if left == 0 { 1 } else { 3 }
 }
 
-/// Whether task t can't be next: it is idle, or the given list forbids it; and whether any schedule that goes on with it will do.
-struct Choice {
-    skips: bool,
-    free: bool,
-}
-
+/// Whether task t may be next: 0 not, since it is idle or the given list forbids it; 1 bound by the rest of the list;
+/// 2 any schedule that goes on with it will do.
 fn choose(
     t: u64,
-    pair: &[[u64; rows::RECORD_WORDS]],
+    pair: &[[u64; rows::RECORD_WORDS]; 2],
     left: u64,
     free: bool,
     len: u64,
     given: &[u64],
-) -> Choice
+) -> u64
     requires { ⌜ left ≤ 48 ⌝ }
     ensures { λ c.
         ⌜ ((q : Tables)
         → c ≡ choice (now (given .entry)) len left free (record { tables = q; records = recordsOf (now (pair .entry)) }) t) ⌝ }
 {
     let r = rows::call_at(pair, t as usize);
-    let busy = !(r.place == 0);
-    let least = table::word_at(given, 49 - left);
-    let bound = !free & (48 - left < len);
-    Choice {
-        skips: !busy | (bound & (t < least)),
-        free: !bound | !(t == least),
+    if r.place == 0 {
+        return 0;
     }
+    if free {
+        return 2;
+    }
+    if len <= 48 - left {
+        return 2;
+    }
+    let least = table::word_at(given, 49 - left);
+    if t < least {
+        return 0;
+    }
+    if t == least { 1 } else { 2 }
 }
 
 /// A step of what was found is stored on the way back.
@@ -146,7 +149,7 @@ pub fn search(
 fn seek(
     stopped: bool,
     control: &mut [u64; rows::CONTROL_WORDS],
-    pair: &mut [[u64; rows::RECORD_WORDS]],
+    pair: &mut [[u64; rows::RECORD_WORDS]; 2],
     left: u64,
     free: bool,
     len: u64,
@@ -157,7 +160,7 @@ fn seek(
     marks: &mut [u64],
     next: &mut [u64],
 ) -> Found
-    requires { ⌜ (length (now pair) ≡ 2) × (left ≤ 48) ⌝ }
+    requires { ⌜ left ≤ 48 ⌝ }
     ensures { λ f.
         ⌜ _≡_ {A = Sought}
         (record {
@@ -204,7 +207,7 @@ fn seek(
 fn through(
     t: u64,
     control: &mut [u64; rows::CONTROL_WORDS],
-    pair: &mut [[u64; rows::RECORD_WORDS]],
+    pair: &mut [[u64; rows::RECORD_WORDS]; 2],
     left: u64,
     free: bool,
     len: u64,
@@ -215,7 +218,7 @@ fn through(
     marks: &mut [u64],
     next: &mut [u64],
 ) -> Found
-    requires { ⌜ (t < 2) × ((length (now pair) ≡ 2) × ((0 < left) × (left ≤ 48))) ⌝ }
+    requires { ⌜ (t < 2) × ((0 < left) × (left ≤ 48)) ⌝ }
     ensures { λ f.
         ⌜ _≡_ {A = Sought}
         (record {
@@ -230,7 +233,7 @@ fn through(
         sought left ws (branch ws len left free q t) q) ⌝ }
 {
     let c = choose(t, pair, left, free, len, given);
-    if c.skips {
+    if c == 0 {
         return none();
     }
     let i = t as usize;
@@ -240,7 +243,7 @@ fn through(
         control,
         pair,
         left - 1,
-        c.free,
+        c == 2,
         len,
         given,
         lefts,

@@ -5,7 +5,6 @@ use rows::moving;
 use schedule_model::Saved;
 ghost use mathlib.Core.Path.{_≡_};
 ghost use Prim.Native.Nat.{_<_};
-ghost use lib.ListN.{length};
 ghost use Rattle.model.specs.Places.{row};
 ghost use Rattle.model.specs.Tables.{tablesOf};
 ghost use Rattle.rows.specs.Rows.{controlOf, queueIn};
@@ -91,14 +90,14 @@ fn put_back(
 pub fn step(
     t: usize,
     control: &mut [u64; rows::CONTROL_WORDS],
-    pair: &mut [[u64; rows::RECORD_WORDS]],
+    pair: &mut [[u64; rows::RECORD_WORDS]; 2],
     lefts: &mut [u64],
     rights: &mut [u64],
     labels: &mut [u32],
     marks: &mut [u64],
     next: &mut [u64],
 ) -> Kept
-    requires { ⌜ t < length (now pair) ⌝ }
+    requires { ⌜ t < 2 ⌝ }
     ensures { λ k.
         ⌜ Steps
         (queueIn (now (control .entry)) (now (pair .entry))
@@ -124,14 +123,14 @@ pub fn back(
     k: Kept,
     t: usize,
     control: &mut [u64; rows::CONTROL_WORDS],
-    pair: &mut [[u64; rows::RECORD_WORDS]],
+    pair: &mut [[u64; rows::RECORD_WORDS]; 2],
     lefts: &mut [u64],
     rights: &mut [u64],
     labels: &mut [u32],
     marks: &mut [u64],
     next: &mut [u64],
 )
-    requires { ⌜ t < length (now pair) ⌝ }
+    requires { ⌜ t < 2 ⌝ }
     ensures { λ _.
         ⌜ queueIn (now (control .exit)) (now (pair .exit))
         (now (lefts .exit)) (now (rights .exit)) (now (labels .exit)) (now (marks .exit)) (now (next .exit))

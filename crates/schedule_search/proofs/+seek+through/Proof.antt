@@ -2,8 +2,6 @@
 mod Falling
 mod SeekNeeds
 mod ThroughNeeds
-use mathlib.Core.Path.{_∙_}
-use native.Mathlib.Omega.{arith}
 use borrow.Author.Needs.{needs}
 use Rattle.schedule_search.proofs.+seek+through.Proof.Falling.{μ-seek, μ-through, seek-at, through-at, seek-callees, through-callees}
 use Rattle.schedule_search.proofs.+seek+through.Proof.Falling.{Inv-loop, μ-loop}
@@ -23,11 +21,9 @@ pub +seek+through-spec : {M : Type 1} → statement M
     (λ _ _. tt)
     (λ c. search needs)
     (λ _ _. tt)
-    (λ c. search needs)
     (by-seek.ends n)
     (by-seek.holds n)
     (by-seek.through-requires n)
-    (by-seek.same-pair n)
     (by-seek.same-given n)
     (by-seek.same-lefts n)
     (by-seek.same-rights n)
@@ -45,12 +41,10 @@ pub +seek+through-spec : {M : Type 1} → statement M
     (λ c. c .before .before .loop .inv .4)
     (λ c. c .before .before .loop .inv .5)
     (λ c. c .before .before .loop .inv .6)
-    (λ c. c .before .before .loop .inv .7)
     (by-seek.over n))
     (λ n. through-lts.spec (through-callees n) (through-at n) through.Post
     (by-through.choose-requires n)
     (λ _ _. tt)
-    (λ c. search needs)
     (λ c. search needs)
     (by-through.passes n)
     (by-through.step-requires n)
@@ -59,7 +53,6 @@ pub +seek+through-spec : {M : Type 1} → statement M
     (by-through.back-requires n)
     (by-through.sub-note n)
     (λ _ _. tt)
-    (by-through.same-pair n)
     (by-through.same-given n)
     (by-through.same-lefts n)
     (by-through.same-rights n)

@@ -31,24 +31,27 @@ returns c q = let a = c .before .args in sym (ap (λ (z : Bool). endsHere z (bot
 returns-2 : tie.Need-returns-2
 returns-2 c q =
     let second = c .before .before .before in
-    let first = second .before in
-    let a = first .before .before .args in
-    made q (a .pair .now) (a .stopped) true (a .left) 0 _ _ (first .before .if1 .left) (first .call-at .ensures) (second .call-at2 .ensures) (c .if2 .taken) refl
+    let first = second .before .before in
+    let go = first .before .before in
+    let a = go .before .args in
+    made q (a .pair .now) (a .stopped) true (a .left) 0 _ _ (go .if1 .left) (first .call-at .ensures) (second .call-at2 .ensures) (c .if2 .taken) refl
 
 returns-3 : tie.Need-returns-3
 returns-3 c q =
     let second = c .before .before .before .before in
-    let first = second .before in
-    let a = first .before .before .args in
-    made q (a .pair .now) (a .stopped) false (a .left) 1 _ _ (first .before .if1 .left) (first .call-at .ensures) (second .call-at2 .ensures)
+    let first = second .before .before in
+    let go = first .before .before in
+    let a = go .before .args in
+    made q (a .pair .now) (a .stopped) false (a .left) 1 _ _ (go .if1 .left) (first .call-at .ensures) (second .call-at2 .ensures)
     (c .before .if2 .left) (rw (eq-eqb _ 0 (c .if3 .taken)) refl)
 
 returns-4 : tie.Need-returns-4
 returns-4 c q =
     let second = c .before .before .before .before in
-    let first = second .before in
-    let a = first .before .before .args in
-    made q (a .pair .now) (a .stopped) false (a .left) 3 _ _ (first .before .if1 .left) (first .call-at .ensures) (second .call-at2 .ensures)
+    let first = second .before .before in
+    let go = first .before .before in
+    let a = go .before .args in
+    made q (a .pair .now) (a .stopped) false (a .left) 3 _ _ (go .if1 .left) (first .call-at .ensures) (second .call-at2 .ensures)
     (c .before .if2 .left) (rw (ne-eqb _ 0 (c .if3 .left)) refl)
 
 pub ending-spec : {M : Type 1} → statement M

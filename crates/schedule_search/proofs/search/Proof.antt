@@ -1,8 +1,6 @@
 -- The whole search, in rows of its own.
-use mathlib.Core.Path.{refl}
 use native.Mathlib.Omega.{arith}
 use borrow.Author.Needs.{needs}
-use Rattle.rows.specs.Rows.{queueIn}
 use Rattle.schedule_search.proofs.Seeking.{by-value}
 use Rattle.schedule_search.proofs.search.Statement.{statement}
 use Rattle.schedule_search.proofs.search.Tie as tie
@@ -11,16 +9,14 @@ returns : tie.Need-returns
 returns c =
     let next = c .before .before .before .before in
     let labels = next .before .before .before .before in
-    let given = labels .before .before .before .before in
-    let sought = given .before in
+    let sought = labels .before .before .before .before in
     by-value _ _ _ _ _ _ (sought .seek .ensures)
 
 pub search-spec : {M : Type 1} → statement M
 search-spec =
     tie.close
     (tie.spec
-    (λ c. search needs)
-    (λ c κs. (refl, omega arith))
+    (λ c κs. omega arith)
     (λ c. search needs)
     (λ c. search needs)
     (λ c. search needs)

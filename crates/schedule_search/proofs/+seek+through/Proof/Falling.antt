@@ -71,7 +71,7 @@ abbrev pub Inv-loop : seek-lts.InvT-loop
 Inv-loop stopped control₀ pair₀ left free len given₀ lefts₀ rights₀ labels₀ marks₀ next₀ e t₀ control pair given lefts rights labels marks next t =
     let q = queueIn control₀ pair₀ lefts₀ rights₀ labels₀ marks₀ next₀ in
     Turn given₀ given len free q (queueIn control pair lefts rights labels marks next) left t (under stopped free (seeking given₀ len left free q))
-    × (length pair ≡ length pair₀) × (length given ≡ length given₀) × (length lefts ≡ length lefts₀) × (length rights ≡ length rights₀)
+    × (length given ≡ length given₀) × (length lefts ≡ length lefts₀) × (length rights ≡ length rights₀)
     × (length labels ≡ length labels₀) × (length marks ≡ length marks₀) × (length next ≡ length next₀)
 
 abbrev pub μ-loop : seek-lts.MeasureT-loop

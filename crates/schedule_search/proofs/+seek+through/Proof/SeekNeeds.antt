@@ -1,5 +1,5 @@
 -- It ends here, or goes on with one task after the other.
-use mathlib.Core.Path.{_≡_, refl, _∙_}
+use mathlib.Core.Path.{refl, _∙_}
 use Prim.Native.Nat.{ℕ}
 use native.Mathlib.Omega.{arith}
 use borrow.Author.Needs.{needs}
@@ -53,7 +53,6 @@ module _ (n : ℕ) where
         refl,
         refl,
         refl,
-        refl,
       )
 
   pub through-requires : lts.Need-through-requires (seek-callees n) (seek-at n) seek.Post Inv-loop μ-loop
@@ -64,7 +63,7 @@ module _ (n : ℕ) where
       let pre = begun (on .before) .pre in
       let some = goes on .some in (
         omega (arith, pre .0, some),
-        (turn .loop-test .taken, (turn .before .loop .inv .1 ∙ pre .1 .0, (some, pre .1 .1))),
+        (turn .loop-test .taken, (some, pre .1)),
       )
 
   -- The turn of a task, from where its answer is looked at.
@@ -73,8 +72,7 @@ module _ (n : ℕ) where
     did =
         let marks = told .before .before .before .before in
         let rights = marks .before .before .before .before in
-        let given = rights .before .before .before .before in
-        given .before
+        rights .before .before .before .before
 
     abbrev turn : lts.In-loop (seek-callees n) (seek-at n) seek.Post Inv-loop μ-loop
     turn =
@@ -90,26 +88,23 @@ module _ (n : ℕ) where
       turn-found _ (a .len) (a .free) _ (a .left) _ _ _ _ (at .before .loop .inv .0) _ _ _ (at .loop-test .taken) (did told .through .ensures)
       (c .if2 .taken)
 
-  pub same-pair : lts.Need-same-length-2 (seek-callees n) (seek-at n) seek.Post Inv-loop μ-loop
-  same-pair c = did (c .before) .through .kept .1 .1 .0 ∙ turn (c .before) .before .loop .inv .1
+  pub same-given : lts.Need-same-length (seek-callees n) (seek-at n) seek.Post Inv-loop μ-loop
+  same-given c = did (c .before) .through .kept .1 .1 .1 .1 .1 .1 .0 ∙ turn (c .before) .before .loop .inv .1
 
-  pub same-given : lts.Need-same-length-3 (seek-callees n) (seek-at n) seek.Post Inv-loop μ-loop
-  same-given c = did (c .before) .through .kept .1 .1 .1 .1 .1 .1 .0 ∙ turn (c .before) .before .loop .inv .2
+  pub same-lefts : lts.Need-same-length-2 (seek-callees n) (seek-at n) seek.Post Inv-loop μ-loop
+  same-lefts c = did (c .before) .through .kept .1 .1 .1 .1 .1 .1 .1 .0 ∙ turn (c .before) .before .loop .inv .2
 
-  pub same-lefts : lts.Need-same-length-4 (seek-callees n) (seek-at n) seek.Post Inv-loop μ-loop
-  same-lefts c = did (c .before) .through .kept .1 .1 .1 .1 .1 .1 .1 .0 ∙ turn (c .before) .before .loop .inv .3
+  pub same-rights : lts.Need-same-length-3 (seek-callees n) (seek-at n) seek.Post Inv-loop μ-loop
+  same-rights c = did (c .before) .through .kept .1 .1 .1 .1 .1 .1 .1 .1 .0 ∙ turn (c .before) .before .loop .inv .3
 
-  pub same-rights : lts.Need-same-length-5 (seek-callees n) (seek-at n) seek.Post Inv-loop μ-loop
-  same-rights c = did (c .before) .through .kept .1 .1 .1 .1 .1 .1 .1 .1 .0 ∙ turn (c .before) .before .loop .inv .4
+  pub same-labels : lts.Need-same-length-4 (seek-callees n) (seek-at n) seek.Post Inv-loop μ-loop
+  same-labels c = did (c .before) .through .kept .1 .1 .1 .1 .1 .1 .1 .1 .1 .0 ∙ turn (c .before) .before .loop .inv .4
 
-  pub same-labels : lts.Need-same-length-6 (seek-callees n) (seek-at n) seek.Post Inv-loop μ-loop
-  same-labels c = did (c .before) .through .kept .1 .1 .1 .1 .1 .1 .1 .1 .1 .0 ∙ turn (c .before) .before .loop .inv .5
+  pub same-marks : lts.Need-same-length-5 (seek-callees n) (seek-at n) seek.Post Inv-loop μ-loop
+  same-marks c = did (c .before) .through .kept .1 .1 .1 .1 .1 .1 .1 .1 .1 .1 .0 ∙ turn (c .before) .before .loop .inv .5
 
-  pub same-marks : lts.Need-same-length-7 (seek-callees n) (seek-at n) seek.Post Inv-loop μ-loop
-  same-marks c = did (c .before) .through .kept .1 .1 .1 .1 .1 .1 .1 .1 .1 .1 .0 ∙ turn (c .before) .before .loop .inv .6
-
-  pub same-next : lts.Need-same-length-8 (seek-callees n) (seek-at n) seek.Post Inv-loop μ-loop
-  same-next c = did (c .before) .through .kept .1 .1 .1 .1 .1 .1 .1 .1 .1 .1 .1 .0 ∙ turn (c .before) .before .loop .inv .7
+  pub same-next : lts.Need-same-length-6 (seek-callees n) (seek-at n) seek.Post Inv-loop μ-loop
+  same-next c = did (c .before) .through .kept .1 .1 .1 .1 .1 .1 .1 .1 .1 .1 .1 .0 ∙ turn (c .before) .before .loop .inv .6
 
   pub one-more : lts.Need-add-t (seek-callees n) (seek-at n) seek.Post Inv-loop μ-loop
   one-more c = let less = turn (c .before) .loop-test .taken in search needs
@@ -126,13 +121,12 @@ module _ (n : ℕ) where
       let lists = through .kept .1 .1 .1 .1 .1 .1 in
       let a = begun (at .before .before .before) .args in (
         turn-on _ (a .len) (a .free) _ (a .left) _ _ _ _ (inv .0) _ _ _ (at .loop-test .taken) (through .ensures) (c .if2 .left),
-        through .kept .1 .1 .0 ∙ inv .1,
-        lists .0 ∙ inv .2,
-        lists .1 .0 ∙ inv .3,
-        lists .1 .1 .0 ∙ inv .4,
-        lists .1 .1 .1 .0 ∙ inv .5,
-        lists .1 .1 .1 .1 .0 ∙ inv .6,
-        lists .1 .1 .1 .1 .1 .0 ∙ inv .7,
+        lists .0 ∙ inv .1,
+        lists .1 .0 ∙ inv .2,
+        lists .1 .1 .0 ∙ inv .3,
+        lists .1 .1 .1 .0 ∙ inv .4,
+        lists .1 .1 .1 .1 .0 ∙ inv .5,
+        lists .1 .1 .1 .1 .1 .0 ∙ inv .6,
       )
 
   pub over : lts.Need-returns-3 (seek-callees n) (seek-at n) seek.Post Inv-loop μ-loop

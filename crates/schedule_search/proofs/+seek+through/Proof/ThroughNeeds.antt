@@ -44,7 +44,7 @@ module _ (n : ℕ) where
       let at2 = at1 .before .before .before .before in
       let at3 = at2 .before .before .before .before in
       let at4 = at3 .before .before .before .before in
-      at4 .before .before .before .before
+      at4 .before .before .before
 
   abbrev sought : lts.After-back (through-callees n) (through-at n) through.Post → lts.After-seek (through-callees n) (through-at n) through.Post
   sought c =
@@ -52,38 +52,29 @@ module _ (n : ℕ) where
       let at2 = at1 .before .before .before .before in
       let at3 = at2 .before .before .before .before in
       let at4 = at3 .before .before .before .before in
-      let at5 = at4 .before .before .before .before in
-      at5 .before
+      at4 .before .before .before .before
 
   abbrev put : lts.After-note (through-callees n) (through-at n) through.Post → lts.After-back (through-callees n) (through-at n) through.Post
   put c =
       let at1 = c .before .before .before .before in
       let at2 = at1 .before .before .before .before in
-      let at3 = at2 .before .before .before .before in
-      at3 .before
+      at2 .before .before .before .before
 
   abbrev start : lts.After-seek (through-callees n) (through-at n) through.Post → lts.Start (through-callees n) (through-at n) through.Post
   start c = begun (chosen (stepped c) .before)
 
   pub choose-requires : lts.Need-choose-requires (through-callees n) (through-at n) through.Post
-  choose-requires c κs =
-      let lent = c .before .before .before .before in
-      let start = lent .before .before .before .before in
-      start .pre .1 .1 .1 .1
+  choose-requires c κs = let lent = c .before .before .before .before in lent .before .before .before .before .pre .1 .1 .1
 
   pub step-requires : lts.Need-step-requires (through-callees n) (through-at n) through.Post
-  step-requires c κs =
-      let lent = c .before .before .before .before in
-      let z = begun (lent .before .before .before .before) .pre .1 in
-      omega (arith, z .0, z .1 .0)
+  step-requires c κs = let lent = c .before .before .before .before in begun (lent .before .before .before .before) .pre .1 .0
 
   pub sub-seek : lts.Need-sub-seek (through-callees n) (through-at n) through.Post
   sub-seek c =
       let at1 = c .before .before .before .before in
       let at2 = at1 .before .before .before .before in
-      let at3 = at2 .before .before .before .before in
-      let z = begun (chosen (at3 .before) .before) .pre .1 in
-      z .1 .1 .0
+      let k = at2 .before .before .before .before in
+      begun (chosen k .before) .pre .1 .1 .0
 
   pub seek-requires : lts.Need-seek-requires (through-callees n) (through-at n) through.Post
   seek-requires c κs =
@@ -91,11 +82,8 @@ module _ (n : ℕ) where
       let at2 = at1 .before .before .before .before in
       let at3 = at2 .before .before .before .before in
       let at4 = at3 .before .before .before .before in
-      let made = at4 .before .before .before in
-      let z = begun (chosen made .before) .pre in (
-        omega (arith, z .0, z .1 .1 .1 .0, z .1 .1 .1 .1),
-        (made .step .kept .1 .1 .0 ∙ z .1 .1 .0, omega (arith, z .1 .1 .1 .1)),
-      )
+      let z = begun (chosen (at4 .before .before) .before) .pre in
+      (omega (arith, z .0, z .1 .1 .0, z .1 .1 .1), omega (arith, z .1 .1 .1))
 
   pub back-requires : lts.Need-back-requires (through-callees n) (through-at n) through.Post
   back-requires c κs =
@@ -103,52 +91,43 @@ module _ (n : ℕ) where
       let at2 = at1 .before .before .before .before in
       let at3 = at2 .before .before .before .before in
       let at4 = at3 .before .before .before .before in
-      let s = at4 .before .before .before .before in
-      let z = start s .pre .1 in
-      omega (arith, z .0, z .1 .0, s .seek .kept .1 .1 .0, stepped s .step .kept .1 .1 .0)
+      start (at4 .before .before .before) .pre .1 .0
 
   pub sub-note : lts.Need-sub-note (through-callees n) (through-at n) through.Post
   sub-note c =
       let at1 = c .before .before .before .before in
       let at2 = at1 .before .before .before .before in
-      let at3 = at2 .before .before .before .before in
-      let z = start (sought at3) .pre .1 in
-      omega (arith, z .1 .1 .1)
+      let z = start (sought (at2 .before .before .before)) .pre .1 in
+      omega (arith, z .1 .1)
 
-  pub same-pair : lts.Need-same-length-3 (through-callees n) (through-at n) through.Post
-  same-pair c =
-      let p = put (c .before .before) in
-      let s = sought p in
-      p .back .kept .1 .1 .1 .0 ∙ s .seek .kept .1 .1 .0 ∙ stepped s .step .kept .1 .1 .0
-
-  pub same-given : lts.Need-same-length-4 (through-callees n) (through-at n) through.Post
+  pub same-given : lts.Need-same-length-2 (through-callees n) (through-at n) through.Post
   same-given c = c .before .before .note .kept .1 .0 ∙ sought (put (c .before .before)) .seek .kept .1 .1 .1 .1 .1 .1 .0
 
-  pub same-lefts : lts.Need-same-length-5 (through-callees n) (through-at n) through.Post
+  pub same-lefts : lts.Need-same-length-3 (through-callees n) (through-at n) through.Post
   same-lefts c =
       let p = put (c .before .before) in
       let s = sought p in
       p .back .kept .1 .1 .1 .1 .0 ∙ s .seek .kept .1 .1 .1 .1 .1 .1 .1 .0 ∙ stepped s .step .kept .1 .1 .1 .0
 
-  pub same-rights : lts.Need-same-length-6 (through-callees n) (through-at n) through.Post
+  pub same-rights : lts.Need-same-length-4 (through-callees n) (through-at n) through.Post
   same-rights c =
       let p = put (c .before .before) in
       let s = sought p in
       p .back .kept .1 .1 .1 .1 .1 .0 ∙ s .seek .kept .1 .1 .1 .1 .1 .1 .1 .1 .0 ∙ stepped s .step .kept .1 .1 .1 .1 .0
 
-  pub same-labels : lts.Need-same-length-7 (through-callees n) (through-at n) through.Post
+  pub same-labels : lts.Need-same-length-5 (through-callees n) (through-at n) through.Post
   same-labels c =
       let p = put (c .before .before) in
       let s = sought p in
       p .back .kept .1 .1 .1 .1 .1 .1 .0 ∙ s .seek .kept .1 .1 .1 .1 .1 .1 .1 .1 .1 .0 ∙ stepped s .step .kept .1 .1 .1 .1 .1 .0
 
-  pub same-marks : lts.Need-same-length-8 (through-callees n) (through-at n) through.Post
+  pub same-marks : lts.Need-same-length-6 (through-callees n) (through-at n) through.Post
   same-marks c =
       let p = put (c .before .before) in
       let s = sought p in
       p .back .kept .1 .1 .1 .1 .1 .1 .1 .0 ∙ s .seek .kept .1 .1 .1 .1 .1 .1 .1 .1 .1 .1 .0 ∙ stepped s .step .kept .1 .1 .1 .1 .1 .1 .0
 
-  pub same-next : lts.Need-same-length-9 (through-callees n) (through-at n) through.Post
+  pub same-next : lts.Need-same-length-7 (through-callees n) (through-at n) through.Post
   same-next c =
       let p = put (c .before .before) in
       let s = sought p in
@@ -163,5 +142,5 @@ module _ (n : ℕ) where
       let on = chosen k in
       let a = start s .args in
       let z = start s .pre .1 in
-      there-and-back _ (a .len) (a .left) (a .free) (whole (start s)) (a .t) (z .1 .1 .0) (z .1 .1 .1) _ _ _ _ _ _ _ _
+      there-and-back _ (a .len) (a .left) (a .free) (whole (start s)) (a .t) (z .1 .0) (z .1 .1) _ _ _ _ _ _ _ _
       (on .before .choose .ensures (tables (start s))) (on .if1 .left) (k .step .ensures) (s .seek .ensures) (p .back .ensures) (noted .note .ensures)

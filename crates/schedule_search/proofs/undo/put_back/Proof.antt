@@ -1,5 +1,5 @@
 -- Anchor and the head, and five words stored.
-use mathlib.Core.Path.{_≡_, ap, _∙_}
+use mathlib.Core.Path.{ap, _∙_}
 use borrow.Author.Needs.{needs}
 use Rattle.model.specs.declared.Control.{Control}
 use Rattle.model.specs.Tables.{tablesOf, withWords}

@@ -4,21 +4,20 @@ use Rattle.schedule_search.proofs.Stepping.{steps}
 use Rattle.schedule_search.proofs.undo.step.Statement.{statement}
 use Rattle.schedule_search.proofs.undo.step.Tie as tie
 
--- The row is there, when it is read and when it is lent.
-read-row : tie.Need-mul-row
-read-row c = search needs
-
+-- The row is there.
 module _ (kept : tie.After-keep) where
-  abbrev row : tie.After-row
-  row =
+  abbrev start : tie.Start
+  start =
       let words = kept .before .before .before .before in
-      words .before .before .before .before
+      let read = words .before .before .before .before in
+      let rows = read .before .before .before .before in
+      rows .before .before
 
 lent-row : tie.Need-mul-move-row
-lent-row c = record { fits = read-row (row (c .before) .before) .fits }
+lent-row c = let there = start (c .before) .pre in search needs
 
 index-row : tie.Need-index-1-move-row
-index-row c = let start1 = row (c .before) .before .before .before in let there = start1 .before .before .before .pre in search needs
+index-row c = let there = start (c .before) .pre in search needs
 
 returns : tie.Need-returns
 returns c =
@@ -35,7 +34,7 @@ pub step-spec : {M : Type 1} → statement M
 step-spec =
     tie.close
     (tie.spec
-    read-row
+    (λ c. search needs)
     (λ c. search needs)
     (λ _ _. tt)
     (λ _ _. tt)
@@ -43,7 +42,6 @@ step-spec =
     index-row
     (λ _ _. tt)
     (λ _ _. tt)
-    (λ c. search needs)
     (λ c. search needs)
     (λ c. search needs)
     (λ c. search needs)
