@@ -95,8 +95,5 @@ module _ (q : Tables) (x : ℕ) where
   applied t (head w) = alike _ _ _ _ _ left right label marks next
 
 pub undoes : Undoes
-undoes q r = applied q (row r) (move (q .control) r (wordFound q r) .touch) (there (q .control) r (wordFound q r))
-
--- The same where nothing was written.
-pub unwritten : (q : Tables) (x : ℕ) → putBack (saved x q) q ≡ q
-unwritten q x = applied q x nothing none
+undoes q r =
+    (applied q (row r) nothing none, applied q (row r) (move (q .control) r (wordFound q r) .touch) (there (q .control) r (wordFound q r)))

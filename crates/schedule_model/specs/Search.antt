@@ -47,13 +47,18 @@ abbrev pub tried : List ℕ → ℕ → ℕ → Bool → Queue → ℕ → Outco
 tried ws len left free q t o m =
     cond (not (atWork q t) || skips ws len left free t) noMore (stepped t o (frees ws len left free t) m)
 
+-- A level of the search: o, p the outcomes of a step of each task, l, m what is found below them.
+abbrev pub level : List ℕ → ℕ → ℕ → Bool → Queue → Outcome → Outcome → Next → Next → Next
+level ws len left free q o p l m =
+    cond (bothAnswered q) (ended free (ends 0)) (orElse (tried ws len left free q 0 o l) (tried ws len left free q 1 p m))
+
 -- by: how the search steps a task.
 unfoldable pub seekBy : (Queue → ℕ → Done) → List ℕ → ℕ → ℕ → Bool → Queue → Next
 seekBy by ws len zero free q = cond (bothAnswered q) (ended free (ends 0)) (ended free (ends 1))
 seekBy by ws len (suc n) free q =
-    cond (bothAnswered q) (ended free (ends 0))
-    (orElse (tried ws len (suc n) free q 0 (by q 0 .outcome) (seekBy by ws len n (frees ws len (suc n) free 0) (by q 0 .queue)))
-    (tried ws len (suc n) free q 1 (by q 1 .outcome) (seekBy by ws len n (frees ws len (suc n) free 1) (by q 1 .queue))))
+    level ws len (suc n) free q (by q 0 .outcome) (by q 1 .outcome)
+    (seekBy by ws len n (frees ws len (suc n) free 0) (by q 0 .queue))
+    (seekBy by ws len n (frees ws len (suc n) free 1) (by q 1 .queue))
 
 abbrev pub seekOf : List ℕ → ℕ → ℕ → Bool → Queue → Next
 seekOf = seekBy (λ q t. act q t Step)

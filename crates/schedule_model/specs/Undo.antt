@@ -28,6 +28,8 @@ putBack s q = tablesOf (withWords (q .control) (s .anchor) (s .head))
     (set (q .marks) (s .slot / 64) (s .mark))
     (set (q .next) (s .slot) (s .next))
 
--- What a call's next step writes, put back.
+-- A call's next step, refused or made, and what it can write put back.
 abbrev pub Undoes : Type 0
-Undoes = (q : Tables) (r : Record) → putBack (saved (row r) q) (apply (move (q .control) r (wordFound q r) .touch) q) ≡ q
+Undoes =
+    (q : Tables) (r : Record)
+    → (putBack (saved (row r) q) q ≡ q) × (putBack (saved (row r) q) (apply (move (q .control) r (wordFound q r) .touch) q) ≡ q)

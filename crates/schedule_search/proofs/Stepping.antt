@@ -27,7 +27,7 @@ use Rattle.schedule_model.specs.Next.{Next, given, noMore}
 use Rattle.schedule_model.specs.Schedules.{atWork}
 use Rattle.schedule_model.specs.Search.{prefixed, stepped, skips, frees}
 use Rattle.schedule_model.specs.Undo.{saved, putBack}
-use Rattle.schedule_model.proofs.Undone.{undoes, unwritten}
+use Rattle.schedule_model.proofs.Undone.{undoes}
 use Rattle.schedule_search.specs.declared.Found.{Found}
 use Rattle.schedule_search.specs.declared.undo.Kept.{Kept}
 use Rattle.schedule_search.specs.Stepped.{moved, Steps, restored}
@@ -67,14 +67,14 @@ tables-back : (q : Tables) (r : TaskRecord) → putBack (saved (row (r .call)) q
 unfolding moveOn finish
 tables-back q r =
     either Back (eqb (fault q r) 0)
-    (subst Back (sym (here q r)) (either Back (eqb (cond (stepSound (q .control) (r .call) (wordFound q (r .call))) 0 34) 0) (undoes q (r .call)) idle))
-    idle
+    (subst Back (sym (here q r)) (either Back (eqb (cond (stepSound (q .control) (r .call) (wordFound q (r .call))) 0 34) 0) (undoes q (r .call) .1) refused))
+    refused
   where
     Back : Acted → Type 0
     Back a = putBack (saved (row (r .call)) q) (a .tables) ≡ q
 
-    idle : putBack (saved (row (r .call)) q) q ≡ q
-    idle = unwritten q (row (r .call))
+    refused : putBack (saved (row (r .call)) q) q ≡ q
+    refused = undoes q (r .call) .0
 
 -- The queue after a step and back.
 all-back : (q q₁ : Queue) (t : ℕ) (k : Kept) → Steps q t k q₁ → restored k t (moved q t .queue) ≡ q
