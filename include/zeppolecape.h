@@ -73,7 +73,7 @@
  *   zc_run            160      1697      2721      3160
  *   zc_report         352       251       443     16244
  *   table bytes         -       240       816     30120
- *   code bytes: audit 1804, capi 9195, capi_record 4586, capi_run 7263, find 3227, history 8386, join 3397, schedule 8875, sheet 3587, shelf 3874, touch 10514, waiting 797
+ *   code bytes: audit 1804, capi 9195, capi_record 4586, capi_run 7263, find 3227, history 8386, join 3397, schedule 7903, sheet 3587, shelf 3874, touch 10514, waiting 797
  * As to the machine: x86-64, System V calling convention. The code uses the red zone (128 bytes
  * below the stack pointer) and SSE registers, no AVX: an interrupt handler that makes a call saves
  * the SSE state first, and an interrupt that is not masked during a call leaves the red zone alone.
