@@ -6,7 +6,10 @@
 
 use crate::raw::{self, Onward, Record, Start, Touch};
 use alloc::vec::Vec;
-use core::sync::atomic::{AtomicU32, AtomicU64, Ordering::{Relaxed, SeqCst}};
+use core::sync::atomic::{
+    AtomicU32, AtomicU64,
+    Ordering::{Relaxed, SeqCst},
+};
 
 /// A word in cache lines of its own.
 #[derive(Debug)]
