@@ -51,7 +51,9 @@ hears q l t = told (q .tables .control .pooled) (q .tables .control .slots) (all
 
 -- The slot whose label thread t touches next.
 abbrev touching : Queue → List Act → ℕ → ℕ
-touching q l t = labelNext (q .tables .control .pooled) (q .tables .control .slots) (goOn (q .tables .control .pooled) (q .tables .control .slots) (allFree q) l) t
+touching q l t =
+    let c = q .tables .control in
+    labelNext (c .pooled) (c .slots) (goOn (c .pooled) (c .slots) (allFree q) l) t
 
 abbrev order : Queue → List Act → List Turn
 order q l = turns (q .tables .control .pooled) (q .tables .control .slots) (allFree q) l

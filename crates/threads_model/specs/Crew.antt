@@ -9,7 +9,8 @@ use Rattle.model.specs.declared.Op.{Op}
 use Rattle.model.specs.Tables.{Queue, taskAt}
 use Rattle.model.specs.History.{Event, Request}
 use Rattle.threads_model.specs.Turns.{Turn}
-use Rattle.threads_model.specs.Instructions.{Hand, free, begun, loaded, knows, claims, looks, labels, marks, ends, Ticked, tick, written, tells, labelTouched}
+use Rattle.threads_model.specs.Instructions.{Hand, free, begun, loaded, knows, claims, looks, labels, marks, ends, Ticked, tick, written, tells}
+use Rattle.threads_model.specs.Instructions.{labelTouched}
 
 -- Memory, and the threads' hands; the number of slots and the kind of queue are what each thread copied at the beginning.
 pub record Crew : Type 0 where

@@ -20,7 +20,8 @@ use Rattle.threads_model.specs.declared.Start.{Start}
 use Rattle.threads_model.specs.Split.{plan, perform, settle}
 use Rattle.threads_model.specs.Starts.{Begins, touches, answers, names, pops, puts, planStart, settleStart}
 use Rattle.threads_model.specs.Instructions.{Hand, free, begun, loaded, knows, claims, looks, labels, marks, ends, Ticked, quiet, decided, settled, tick}
-use Rattle.threads_model.specs.Instructions.{awaits, withLabels, labelTouched, loadsOwn, isAsRead, putsOwn, stepFirst, clears, startFirst, claimsMark, looksMark}
+use Rattle.threads_model.specs.Instructions.{awaits, withLabels, labelTouched, loadsOwn, isAsRead, putsOwn, stepFirst, clears}
+use Rattle.threads_model.specs.Instructions.{startFirst, claimsMark, looksMark}
 use Rattle.threads.specs.Promises.{relabelled, TouchesOneLabel}
 use Rattle.threads.proofs.follow.Overlay.{overlay, both, over}
 
@@ -45,7 +46,9 @@ module _ (pooled slots : ℕ) (q : Tables) (r : TaskRecord) (x v : ℕ) where
 
   starts : (op : Op) (s : Start) → Same (startFirst pooled slots q r op s) (startFirst pooled slots other r op s)
   unfolding startFirst
-  starts op s = both Same (eqb (planStart pooled slots (r .call) s .act) 0) (λ _. refl) (λ _. settles op false q (awaits s) ends (settleStart r s (planStart pooled slots (r .call) s .act) (q .control .anchor)))
+  starts op s =
+      let act = planStart pooled slots (r .call) s .act in
+      both Same (eqb act 0) (λ _. refl) (λ _. settles op false q (awaits s) ends (settleStart r s act (q .control .anchor)))
 
   claiming : (side slot label : ℕ) → Same (claimsMark q r side slot label) (claimsMark other r side slot label)
   unfolding claimsMark
