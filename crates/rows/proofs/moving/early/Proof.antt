@@ -53,7 +53,8 @@ returns-2 c low labels marks next =
     let read = told .before .before in
     refuses _ _ _ _ labels marks next _ _ (read .control-of .ensures) (called read .call-of .ensures) 34 _
     (unsound _ _ _
-    (sym (early _ _ (low-place read low) (isPooled (c₀ read)) (some (busy .if2 .left))) ∙ sym (told .before .early-sound .ensures) ∙ not-true _ (told .if1 .taken)))
+    (sym (early _ _ (low-place read low) (isPooled (c₀ read)) (some (busy .if2 .left)))
+    ∙ sym (told .before .early-sound .ensures) ∙ not-true _ (told .if1 .taken)))
     (λ (x : _≡_ {A = ℕ} 34 0). omega (arith, x)) (c .refuse2 .ensures)
 
 -- Past the tests.
@@ -82,7 +83,8 @@ returns-4 c low labels marks next =
     let put = c .put-early .ensures in
     early-place _ _ _ _ labels marks next _ _ (read .control-of .ensures) (called read .call-of .ensures) _ _ _ _ labels marks next _
     (put .1 .1 .1) 1 _
-    (passed left (at 0 (place .match .keys2)) low) (place .match .keys2) (low-place read low) (λ k. made .at1 .ensures _ _ labels marks next k) (put .1 .0) (put .1 .1 .0) (put .0)
+    (passed left (at 0 (place .match .keys2)) low) (place .match .keys2) (low-place read low)
+    (λ k. made .at1 .ensures _ _ labels marks next k) (put .1 .0) (put .1 .1 .0) (put .0)
 
 returns-5 : tie.Need-returns-5
 returns-5 c low labels marks next =
@@ -93,7 +95,8 @@ returns-5 c low labels marks next =
     let put = c .put-early2 .ensures in
     early-place _ _ _ _ labels marks next _ _ (read .control-of .ensures) (called read .call-of .ensures) _ _ _ _ labels marks next _
     (put .1 .1 .1) 2 _
-    (passed left (at 1 (place .match .keys3)) low) (place .match .keys3) (low-place read low) (λ k. made .at2 .ensures _ _ labels marks next k) (put .1 .0)
+    (passed left (at 1 (place .match .keys3)) low) (place .match .keys3) (low-place read low)
+    (λ k. made .at2 .ensures _ _ labels marks next k) (put .1 .0)
     (put .1 .1 .0) (put .0)
 
 returns-6 : tie.Need-returns-6
@@ -107,7 +110,8 @@ returns-6 c low labels marks next =
     let put = c .put-early3 .ensures in
     early-place _ _ _ _ labels marks next _ _ (read .control-of .ensures) (called read .call-of .ensures) _ _ _ _ labels marks next _
     (put .1 .1 .1) 3 _
-    (passed left (at 2 (place .match .keys4)) low) (place .match .keys4) (low-place read low) (λ k. made .at3 .ensures labels marks next k) (put .1 .0) (put .1 .1 .0) (put .0)
+    (passed left (at 2 (place .match .keys4)) low) (place .match .keys4) (low-place read low)
+    (λ k. made .at3 .ensures labels marks next k) (put .1 .0) (put .1 .1 .0) (put .0)
 
 returns-7 : tie.Need-returns-7
 returns-7 c low labels marks next =
@@ -118,7 +122,8 @@ returns-7 c low labels marks next =
     let put = c .put-early4 .ensures in
     early-place _ _ _ _ labels marks next _ _ (read .control-of .ensures) (called read .call-of .ensures) _ _ _ _ labels marks next _
     (put .1 .1 .1) 4 _
-    (passed left (at 3 (place .match .keys5)) low) (place .match .keys5) (low-place read low) (λ k. made .at4 .ensures _ _ labels marks next k) (put .1 .0)
+    (passed left (at 3 (place .match .keys5)) low) (place .match .keys5) (low-place read low)
+    (λ k. made .at4 .ensures _ _ labels marks next k) (put .1 .0)
     (put .1 .1 .0) (put .0)
 
 returns-8 : tie.Need-returns-8
@@ -131,7 +136,8 @@ returns-8 c low labels marks next =
     let put = c .put-early5 .ensures in
     early-place _ _ _ _ labels marks next _ _ (read .control-of .ensures) (called read .call-of .ensures) _ _ _ _ labels marks next _
     (put .1 .1 .1) 5 _
-    (passed left (at 4 (place .match .keys6)) low) (place .match .keys6) (low-place read low) (λ k. made .at5 .ensures labels marks next k) (put .1 .0) (put .1 .1 .0) (put .0)
+    (passed left (at 4 (place .match .keys6)) low) (place .match .keys6) (low-place read low)
+    (λ k. made .at5 .ensures labels marks next k) (put .1 .0) (put .1 .1 .0) (put .0)
 
 returns-9 : tie.Need-returns-9
 returns-9 c low labels marks next =
@@ -142,7 +148,8 @@ returns-9 c low labels marks next =
     let put = c .put-early6 .ensures in
     early-place _ _ _ _ labels marks next _ _ (read .control-of .ensures) (called read .call-of .ensures) _ _ _ _ labels marks next _
     (put .1 .1 .1) 6 _
-    (passed left (at 5 (place .match .keys7)) low) (place .match .keys7) (low-place read low) (λ k. made .at6 .ensures _ _ labels marks next k) (put .1 .0) (put .1 .1 .0) (put .0)
+    (passed left (at 5 (place .match .keys7)) low) (place .match .keys7) (low-place read low)
+    (λ k. made .at6 .ensures _ _ labels marks next k) (put .1 .0) (put .1 .1 .0) (put .0)
 
 returns-10 : tie.Need-returns-10
 returns-10 c low labels marks next =
@@ -154,7 +161,8 @@ returns-10 c low labels marks next =
     let put = c .put-early7 .ensures in
     early-place _ _ _ _ labels marks next _ _ (read .control-of .ensures) (called read .call-of .ensures) _ _ _ _ labels marks next _
     (put .1 .1 .1) 7 _
-    (passed left (at 6 (place .match .keys8)) low) (place .match .keys8) (low-place read low) (λ k. made .at7 .ensures labels marks next k) (put .1 .0) (put .1 .1 .0) (put .0)
+    (passed left (at 6 (place .match .keys8)) low) (place .match .keys8) (low-place read low)
+    (λ k. made .at7 .ensures labels marks next k) (put .1 .0) (put .1 .1 .0) (put .0)
 
 returns-11 : tie.Need-returns-11
 returns-11 c low labels marks next =
@@ -165,7 +173,8 @@ returns-11 c low labels marks next =
     let put = c .put-early8 .ensures in
     early-place _ _ _ _ labels marks next _ _ (read .control-of .ensures) (called read .call-of .ensures) _ _ _ _ labels marks next _
     (put .1 .1 .1) 8 _
-    (passed left (at 7 (place .match .keys9)) low) (place .match .keys9) (low-place read low) (λ k. made .at8 .ensures _ _ labels marks next k) (put .1 .0) (put .1 .1 .0) (put .0)
+    (passed left (at 7 (place .match .keys9)) low) (place .match .keys9) (low-place read low)
+    (λ k. made .at8 .ensures _ _ labels marks next k) (put .1 .0) (put .1 .1 .0) (put .0)
 
 returns-12 : tie.Need-returns-12
 returns-12 c low labels marks next =
@@ -178,7 +187,8 @@ returns-12 c low labels marks next =
     let put = c .put-early9 .ensures in
     early-place _ _ _ _ labels marks next _ _ (read .control-of .ensures) (called read .call-of .ensures) _ _ _ _ labels marks next _
     (put .1 .1 .1) 9 _
-    (passed left (at 8 (place .match .keys10)) low) (place .match .keys10) (low-place read low) (λ k. made .at9 .ensures labels marks next k) (put .1 .0) (put .1 .1 .0) (put .0)
+    (passed left (at 8 (place .match .keys10)) low) (place .match .keys10) (low-place read low)
+    (λ k. made .at9 .ensures labels marks next k) (put .1 .0) (put .1 .1 .0) (put .0)
 
 returns-13 : tie.Need-returns-13
 returns-13 c low labels marks next =
@@ -189,7 +199,8 @@ returns-13 c low labels marks next =
     let put = c .put-early10 .ensures in
     early-place _ _ _ _ labels marks next _ _ (read .control-of .ensures) (called read .call-of .ensures) _ _ _ _ labels marks next _
     (put .1 .1 .1) 10 _
-    (passed left (at 9 (place .match .keys11)) low) (place .match .keys11) (low-place read low) (λ k. made .at10 .ensures _ _ labels marks next k) (put .1 .0)
+    (passed left (at 9 (place .match .keys11)) low) (place .match .keys11) (low-place read low)
+    (λ k. made .at10 .ensures _ _ labels marks next k) (put .1 .0)
     (put .1 .1 .0) (put .0)
 
 -- No other place is met here.
