@@ -21,7 +21,11 @@ unfolding earlySound
 returns-3 c =
     let reads = c .before .before in
     let side = reads .before .before in
-    rw (le-leb _ _ (side .if1 .left), sym (reads .before .read-sound .ensures) ∙ not-false _ (reads .if2 .left), sym (c .before .early-call .ensures) ∙ not-true _ (c .if3 .taken))
+    rw (
+      le-leb _ _ (side .if1 .left),
+      sym (reads .before .read-sound .ensures) ∙ not-false _ (reads .if2 .left),
+      sym (c .before .early-call .ensures) ∙ not-true _ (c .if3 .taken),
+    )
 
 returns-4 : tie.Need-returns-4
 unfolding earlySound
@@ -30,7 +34,11 @@ returns-4 c =
     let reads = call .before .before in
     let side = reads .before .before in
     c .early-seen .ensures
-    ∙ (rw (le-leb _ _ (side .if1 .left), sym (reads .before .read-sound .ensures) ∙ not-false _ (reads .if2 .left), sym (call .before .early-call .ensures) ∙ not-false _ (call .if3 .left)))
+    ∙ (rw (
+      le-leb _ _ (side .if1 .left),
+      sym (reads .before .read-sound .ensures) ∙ not-false _ (reads .if2 .left),
+      sym (call .before .early-call .ensures) ∙ not-false _ (call .if3 .left),
+    ))
 
 pub early-sound-spec : {M : Type 1} → statement M
 early-sound-spec =

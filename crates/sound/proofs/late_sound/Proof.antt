@@ -29,7 +29,12 @@ returns-4 c =
     let finishing = c .before .before in
     let reads = finishing .before .before in
     let side = reads .before .before in
-    rw (le-leb _ _ (side .if1 .left), sym (reads .before .read-sound .ensures) ∙ not-false _ (reads .if2 .left), eq-eqb _ _ (finishing .if3 .left), sym (c .before .anchor-sound .ensures) ∙ not-true _ (c .if4 .taken))
+    rw (
+      le-leb _ _ (side .if1 .left),
+      sym (reads .before .read-sound .ensures) ∙ not-false _ (reads .if2 .left),
+      eq-eqb _ _ (finishing .if3 .left),
+      sym (c .before .anchor-sound .ensures) ∙ not-true _ (c .if4 .taken),
+    )
 
 returns-5 : tie.Need-returns-5
 unfolding lateSound
@@ -39,7 +44,12 @@ returns-5 c =
     let reads = finishing .before .before in
     let side = reads .before .before in
     c .late-call .ensures
-    ∙ (rw (le-leb _ _ (side .if1 .left), sym (reads .before .read-sound .ensures) ∙ not-false _ (reads .if2 .left), eq-eqb _ _ (finishing .if3 .left), sym (seen .before .anchor-sound .ensures) ∙ not-false _ (seen .if4 .left)))
+    ∙ (rw (
+      le-leb _ _ (side .if1 .left),
+      sym (reads .before .read-sound .ensures) ∙ not-false _ (reads .if2 .left),
+      eq-eqb _ _ (finishing .if3 .left),
+      sym (seen .before .anchor-sound .ensures) ∙ not-false _ (seen .if4 .left),
+    ))
 
 pub late-sound-spec : {M : Type 1} → statement M
 late-sound-spec =
