@@ -81,6 +81,16 @@ static uint64_t outcome(const struct part *part, const struct line *line, const 
     return mix(sum, part->left());
 }
 
+/* Whether all engines do the same on a line that was begun. */
+static bool agree(const struct part *part, const struct line *line)
+{
+    uint64_t first = outcome(part, line, engines[0]);
+    for (size_t engine = 1; engine < engine_count; engine++)
+        if (outcome(part, line, engines[engine]) != first)
+            return false;
+    return true;
+}
+
 static int check(bool at_length)
 {
     char name[200];
@@ -90,8 +100,7 @@ static int check(bool at_length)
             const struct line *line = &part->lines[l];
             name_line(line, name);
             part->begin(line);
-            holds(outcome(part, line, &library_calls) == outcome(part, line, &gcc_calls), name,
-                  "answer or leave otherwise");
+            holds(agree(part, line), name, "answer or leave otherwise");
         }
         if (part->alike != NULL)
             holds(part->alike(&library_calls, &gcc_calls, at_length),
@@ -127,28 +136,34 @@ static int facts(void)
     return 0;
 }
 
+/* One line by every engine: counted, then timed in turn. */
+static void tell_line(const struct part *part, const struct line *line, double seconds)
+{
+    struct counts counts[ENGINES];
+    double ns[ENGINES];
+    char text[200];
+    for (size_t engine = 0; engine < engine_count; engine++)
+        counts[engine] = count_round(part, line, engines[engine]);
+    time_rounds(part, line, engines, engine_count, seconds, ns);
+    describe(line, text);
+    printf("%s\t%s", call_name(line->call), text);
+    for (size_t engine = 0; engine < engine_count; engine++)
+        printf("\t%.1f\t%" PRIu64 "\t%.2f", counts[engine].mean, counts[engine].stack, ns[engine]);
+    printf("\n");
+    fflush(stdout);
+}
+
 static int tell_lines(double seconds)
 {
-    char text[200];
     for (size_t at = 0; at < PARTS; at++)
         for (size_t l = 0; l < parts[at]->line_count; l++) {
             const struct line *line = &parts[at]->lines[l];
-            struct counts counts[ENGINES];
-            double ns[ENGINES];
             parts[at]->begin(line);
-            for (size_t engine = 0; engine < engine_count; engine++)
-                counts[engine] = count_round(parts[at], line, engines[engine]);
-            time_rounds(parts[at], line, engines, engine_count, seconds, ns);
-            describe(line, text);
-            printf("%s\t%s", call_name(line->call), text);
-            for (size_t engine = 0; engine < ENGINES; engine++)
-                if (engine < engine_count)
-                    printf("\t%.1f\t%" PRIu64 "\t%.2f", counts[engine].mean, counts[engine].stack,
-                           ns[engine]);
-                else
-                    printf("\t\t\t");
-            printf("\n");
-            fflush(stdout);
+            if (!agree(parts[at], line)) {
+                fprintf(stderr, "bench: library and C answer or leave otherwise: %s\n", call_name(line->call));
+                return 1;
+            }
+            tell_line(parts[at], line, seconds);
         }
     return 0;
 }

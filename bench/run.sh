@@ -95,10 +95,11 @@ trace_line() { # the program trace and the second program: nanoseconds a step
 machine() { # on which it was measured, and how busy it was
     echo "$(sed -n 's/^model name[^:]*: //p' /proc/cpuinfo | head -1), $(nproc) cores; $(gcc --version | head -1);"
     echo "$(clang --version 2>/dev/null | head -1 || echo 'no clang'); $(date -u +%Y-%m-%d). Load at the start:" \
-        "$(awk -v cores="$(nproc)" '{ print $1 ($1 > cores / 2 ? ", so other work was under way, and times are but near" : "") }' /proc/loadavg)."
+        "$(awk -v cores="$(nproc)" '{ print $1 ($1 > cores / 2 ? ": other work was under way, so the times are rough" : "") }' /proc/loadavg)."
 }
 
 table() {
+    "$work/bench" check >"$work/alike" || { cat "$work/alike" >&2; return 1; }
     machine
     echo
     { "$work/bench" lines "${SECONDS_EACH:-1.5}"; [ "$mode" = stand-in ] || trace_line; } >"$work/lines"
@@ -142,4 +143,4 @@ write() {
 }
 
 build
-case $mode in check) check ;; facts) write_facts ;; write) write ;; *) table ;; esac
+case $mode in check) check ;; facts) write_facts ;; write) write ;; *) table ;; esac; exit

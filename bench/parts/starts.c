@@ -35,40 +35,57 @@ static uint64_t round_openings(const struct calls *calls, size_t count)
 
 const struct part openings = {LINES(opening_lines), begin, scribble, round_openings, queue_left, NULL};
 
-/* ---- Starts, each for an idle task ---------------------------------------------------------- */
+/* ---- Starts, each for an idle task --------------------------------------------------------- */
 
-#define START(name, form, tasks, slots) {FIELD(name), form, tasks, slots, 0, NULL, 400, 20, 4000}
+enum { STARTS = 2000 };
+#define START(name, form, tasks, slots) {FIELD(name), form, tasks, slots, 0, NULL, STARTS, 99, STARTS}
 static const struct line start_lines[] = {
     START(zc_push, "named", 1, 3),         START(zc_push, "named", 16, 1023),
     START(zc_push_pooled, "pooled", 1, 3), START(zc_push_pooled, "pooled", 16, 1023),
     START(zc_pop, "named", 1, 3),          START(zc_pop, "pooled", 16, 1023),
 };
 
-static zc_reply start(const struct calls *calls, size_t task, uint64_t side, uint64_t slot)
+/* A record for each start, so that none is written just before a call reads it. */
+static zc_record fresh[STARTS + ZC_MOST_TASKS];
+
+static void lay_starts(void)
 {
+    open_queue();
+    memset(fresh, 0, sizeof fresh);
+}
+
+static zc_reply start(const struct calls *calls, size_t at, uint64_t side, uint64_t slot)
+{
+    size_t task = at % tasks;
+    zc_record *records = &fresh[at - task];
     if (call == FIELD(zc_push))
-        return calls->zc_push(QUEUE, task, side, slot, 7, LENT);
+        return calls->zc_push(&queue.control, records, tasks, task, side, slot, 7, LENT);
     if (call == FIELD(zc_push_pooled))
-        return calls->zc_push_pooled(QUEUE, task, side, 7, LENT);
-    return calls->zc_pop(QUEUE, task, side, LENT);
+        return calls->zc_push_pooled(&queue.control, records, tasks, task, side, 7, LENT);
+    return calls->zc_pop(&queue.control, records, tasks, task, side, LENT);
 }
 
 static uint64_t round_starts(const struct calls *calls, size_t count)
 {
-    static const zc_record idle;
     uint64_t sum = 0, slot = 0;
     for (size_t at = 0; at < count; at++) {
-        size_t task = at % tasks;
         slot = slot % slots + 1;
-        queue.records[task] = idle;
         queue.marks[slot / 64] &= ~(UINT64_C(1) << slot % 64);
         if (calls != NULL)
-            sum = mix_reply(sum, start(calls, task, at & 1, slot));
+            sum = mix_reply(sum, start(calls, at, at & 1, slot));
     }
     return sum;
 }
 
-const struct part starts = {LINES(start_lines), begin, open_queue, round_starts, queue_left, NULL};
+static uint64_t starts_left(void)
+{
+    uint64_t hash = queue_left();
+    for (size_t at = 0; at < STARTS; at++)
+        hash = mix_record(hash, &fresh[at]);
+    return hash;
+}
+
+const struct part starts = {LINES(start_lines), begin, lay_starts, round_starts, starts_left, NULL};
 
 /* ---- Runs: a push at the right and a pop at the left in turn, three labels waiting ---------- */
 

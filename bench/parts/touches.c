@@ -1,12 +1,11 @@
 /*
  * The calls for threads, each on its own: records and words found are those of one thread that carries
- * out a schedule of steps, and lie ready; a record is copied before each call.
+ * out a schedule of steps, and lie ready; all records are copied before a round, so that none is written
+ * just before a call reads it.
  */
 #include "bench.h"
 
 #include "draw.h"
-
-#include <string.h>
 
 enum { SAMPLES = 2000, STEPS = 40 * SAMPLES };
 #define TOUCH(name, form) {FIELD(name), form, 5, 64, 0, NULL, SAMPLES, 31, SAMPLES}
@@ -26,7 +25,7 @@ static struct sample {
 } step_samples[SAMPLES], start_samples[SAMPLES], *samples;
 
 static size_t call, starts_kept, steps_kept;
-static zc_record own;
+static zc_record owned[SAMPLES];
 static struct move moves[2 * STEPS];
 
 static zc_shared share(void)
@@ -80,7 +79,11 @@ static void begin(const struct line *line)
             keep_step(&shared, moves[at].task);
 }
 
-static void lay(void) { memset(&own, 0, sizeof own); }
+static void lay(void)
+{
+    for (size_t at = 0; at < SAMPLES; at++)
+        owned[at] = samples[at].record;
+}
 
 static uint64_t mix_touch(uint64_t sum, const zc_touch *touch)
 {
@@ -88,37 +91,40 @@ static uint64_t mix_touch(uint64_t sum, const zc_touch *touch)
 }
 
 /* One call on a copy of a sample's record. */
-static uint64_t one(const struct calls *calls, const struct sample *sample, uint64_t sum)
+static uint64_t one(const struct calls *calls, const struct sample *sample, zc_record *own, uint64_t sum)
 {
     zc_touch touch;
     zc_onward onward;
     if (call == FIELD(zc_plan)) {
-        touch = calls->zc_plan(slots, pooled, &own);
+        touch = calls->zc_plan(slots, pooled, own);
         return mix_touch(sum, &touch);
     }
     if (call == FIELD(zc_plan_start)) {
-        touch = calls->zc_plan_start(slots, pooled, &own, &sample->start);
+        touch = calls->zc_plan_start(slots, pooled, own, &sample->start);
         return mix_touch(sum, &touch);
     }
     if (call == FIELD(zc_settle_plan))
-        onward = calls->zc_settle_plan(slots, pooled, &own, sample->found);
+        onward = calls->zc_settle_plan(slots, pooled, own, sample->found);
     else
-        onward = calls->zc_settle_start(slots, pooled, &own, &sample->start, sample->act, sample->found);
+        onward = calls->zc_settle_start(slots, pooled, own, &sample->start, sample->act, sample->found);
     return mix_touch(mix_reply(sum, onward.reply), &onward.touch);
 }
 
 static uint64_t round_touches(const struct calls *calls, size_t count)
 {
     uint64_t sum = 0;
-    for (size_t at = 0; at < count; at++) {
-        own = samples[at].record;
-        if (calls != NULL)
-            sum = one(calls, &samples[at], sum) + own.place + own.seen + own.link;
-    }
+    for (size_t at = 0; at < count && calls != NULL; at++)
+        sum = one(calls, &samples[at], &owned[at], sum);
     return sum;
 }
 
-static uint64_t left(void) { return mix_record(0, &own); }
+static uint64_t left(void)
+{
+    uint64_t hash = 0;
+    for (size_t at = 0; at < SAMPLES; at++)
+        hash = mix_record(hash, &owned[at]);
+    return hash;
+}
 
 /* Records and words found with one word spoilt: each call answers and leaves the same. */
 static bool alike(const struct calls *ours, const struct calls *theirs, bool at_length)
@@ -130,10 +136,9 @@ static bool alike(const struct calls *ours, const struct calls *theirs, bool at_
             struct sample sample = samples[draw(SAMPLES)];
             uint64_t *words = (uint64_t *)&sample.record, *word = draw(2) ? &words[draw(10)] : &sample.found;
             *word = draw(3) ? draw(slots + 3) : *word ^ UINT64_C(1) << draw(64);
-            own = sample.record;
-            uint64_t first = mix_record(one(ours, &sample, 0), &own);
-            own = sample.record;
-            if (first != mix_record(one(theirs, &sample, 0), &own))
+            zc_record first = sample.record, second = sample.record;
+            if (mix_record(one(ours, &sample, &first, 0), &first) !=
+                mix_record(one(theirs, &sample, &second, 0), &second))
                 return false;
         }
     }
