@@ -26,9 +26,9 @@ while found=$(awk '$1 == "VmHWM:" { print $2 }' "/proc/$running/status" 2>/dev/n
 done
 wait "$running" || { echo "FAILED the program ended with status $?"; exit 1; }
 wait "$tail"
-events=$(cut -d ' ' -f 1 "$work/last")
+events=$(grep -aoE '^[0-9]+' "$work/last" || echo 0)
 if [ -s "$work/noise" ] || [ "$events" -le "$steps" ]; then
-    echo "FAILED after event $events: $(cat "$work/noise")"
+    echo "FAILED with $events as the last event: $(cat "$work/noise")"
     exit 1
 fi
 echo "$steps steps and $((events - steps)) other events in $SECONDS s; at most $resident kB resident, 16,384 kB allowed"
