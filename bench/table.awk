@@ -10,7 +10,10 @@ BEGIN {
     }
 }
 function ratio(a, b) { return b > 0 ? sprintf("%.2f", a / b) : "" }
-function plain(number) { return number == "" ? "" : number < 10 ? sprintf("%.1f", number) : sprintf("%.0f", number) }
+function plain(number) { return number == "" ? "" : number < 9.95 ? sprintf("%.1f", number) : grouped(sprintf("%.0f", number)) }
+function grouped(digits) { # 1,023
+    return length(digits) > 3 ? grouped(substr(digits, 1, length(digits) - 3)) "," substr(digits, length(digits) - 2) : digits
+}
 function shown(name) { return name == "zc_audit_words" ? "zc_audit" : name }
 function keep(r, by) {
     if (r == "") return
@@ -37,7 +40,7 @@ $1 == "trace" {
     if (!speed)
         printf "| `%s` | %s | %s | %s | %s | %s | %s | %s | %s | %s | %s | %s | %s | %s | %s |\n", shown($1), $2, \
             plain($3), plain($6), plain($9), ratio($3, $6), ratio($3, $9), \
-            plain($5), plain($8), plain($11), ratio($5, $8), ratio($5, $11), $4, $7, $10
+            plain($5), plain($8), plain($11), ratio($5, $8), ratio($5, $11), grouped($4), grouped($7), grouped($10)
 }
 END {
     if (speed) {
