@@ -1,160 +1,146 @@
 #!/bin/bash
-# The library's step against the same step by hand in C, and against the bare algorithm; the calls
-# that walk the queue against the same calls by hand in C.
+# The benchmark: every exported call of the library against the same call by hand in C, by gcc and by clang.
 #
-#     bench/run.sh [FOLDER]         of libzeppolecape.a; default: target/lib, where `make` writes it
-#     bench/run.sh --stand-in       reference.c in the library's place: all ratios should be 1
-#     bench/run.sh --write [..]     the same, and what is printed then stands in bench/README.md: on an idle machine
+#     bench/run.sh [FOLDER]            counts and times, and prints the table: some four minutes, on an idle machine
+#     bench/run.sh --write [FOLDER]    writes it into bench/README.md, its best and worst line into README.md, and
+#                                      all that --facts writes
+#     bench/run.sh --facts [FOLDER]    counts alone, which does not depend on the machine's load: writes bench/facts.txt,
+#                                      what README.md, docs/CALLS.md and the header show of it, and bench/scale.svg
+#     bench/run.sh --check [FOLDER]    a test: library and C answer alike and leave the same tables, no figure of
+#                                      bench/facts.txt has grown by more than a twentieth, and the documents show them
+#     bench/run.sh --stand-in          C by gcc in the library's place: how far the ratios are from 1 is the noise
 #
-# CC (gcc), OPT (-O3), STEPS (100000), TIMES (150) may be set.
+# FOLDER has libzeppolecape.a: target/lib, where `make` writes it. SECONDS_EACH (1.5) is how long a line is timed,
+# LONG=1 lets --check try more.
 set -eu -o pipefail
-if [ "${1-}" = --write ]; then
-    said=$(mktemp)
-    trap 'rm -f "$said" "$said.md"' EXIT
-    bash "$0" "${@:2}" | tee "$said"
-    readme=$(dirname "$0")/README.md
-    awk -v said="$said" '
-        index($0, "<!-- end of the run -->") { skip = 0 }
-        !skip { print }
-        index($0, "<!-- the run -->") { skip = 1; while ((getline line < said) > 0) print line }' "$readme" >"$said.md"
-    cp "$said.md" "$readme"
-    exit
-fi
-cd "$(dirname "$0")"
-
-CC=${CC:-gcc}
-OPT=${OPT:--O3}
-STEPS=${STEPS:-100000}
-TIMES=${TIMES:-150}
-COUNTED=50000 # steps under callgrind
-WARNINGS="-std=gnu11 -Wall -Wextra -Werror"
-
+export LC_ALL=C
+root=$(cd "$(dirname "$0")/.." && pwd)
+mode=print
+case ${1-} in --write | --facts | --check | --stand-in) mode=${1#--}; shift ;; esac
+archive=$(realpath "${1:-$root/target/lib}")/libzeppolecape.a
+[ -f "$archive" ] || [ "$mode" = stand-in ] || { echo "bench: no $archive; build it with: make" >&2; echo "0 passed, 1 failed"; exit 2; }
 work=$(mktemp -d)
 trap 'rm -rf "$work"' EXIT
+cd "$root/bench"
+. ./shown.sh
 
-folder=${1:-../target/lib}
-if [ "$folder" = --stand-in ]; then
-    $CC $WARNINGS $OPT -DAS_LIBRARY -I../include -c reference.c -o "$work/library.o"
-    archive=$work/library.o
-else
-    [ $# -eq 0 ] || folder=$(cd "$OLDPWD" && realpath "$folder")
-    archive=$folder/libzeppolecape.a
-    if [ ! -f "$archive" ]; then
-        echo "bench: no $archive; build it with: make" >&2
-        exit 2
-    fi
-fi
+# ---- The program ----------------------------------------------------------------------------------------------
 
-for source in main reference lean bare walks; do
-    $CC $WARNINGS $OPT -I../include -c $source.c -o "$work/$source.o"
-done
-$CC "$work"/{main,reference,lean,bare}.o "$archive" -o "$work/bench"
-$CC "$work"/{walks,reference}.o "$archive" -o "$work/walks"
+FLAGS="-std=gnu11 -Wall -Wextra -Werror -I../include -I."
+BY_HAND="reference touch_reference sheet schedules join_reference serve shelf_reference lean bare"
 
-# Instructions of a whole replay by callgrind; nothing if it cannot tell.
-collected() { # ENGINE COMMAND..
-    local engine=$1
-    shift
-    valgrind --tool=callgrind --callgrind-out-file=/dev/null --toggle-collect="replay_$engine" "$@" 2>&1 >/dev/null |
-        sed -n 's/.*Collected : \([0-9]*\).*/\1/p' || true
-}
-instructions() { collected "$1" "$work/bench" count "$1" "$2" "$3" "$4" $COUNTED; } # ENGINE WAY TASKS SLOTS
-
-have_callgrind=yes
-if ! command -v valgrind >/dev/null || [ -z "$(instructions loop named 1 3)" ]; then
-    have_callgrind=no
-fi
-
-ratio() { awk -v a="$1" -v b="$2" 'BEGIN { if (b > 0) printf "%.2f", a / b; else printf "-" }'; }
-
-echo "$(sed -n 's/^model name[^:]*: //p' /proc/cpuinfo | head -1); $($CC --version | head -1), $OPT for C (the library is compiled at -O3);"
-echo "$STEPS random steps, best of $TIMES interleaved replays. Nanoseconds and instructions a step."
-[ $have_callgrind = yes ] || echo "No callgrind (valgrind) that runs here: instructions are left out (-)."
-echo
-echo "| call | queue | tasks | slots | ns: library | C | bare | library/C | library/bare | instructions: library | C | bare | library/C | library/bare |"
-echo "|---|---|---|---|---|---|---|---|---|---|---|---|---|---|"
-
-line() { # CALL WAY TASKS SLOTS LIBRARY REFERENCE
-    local a b c ia=- ib=- ic=- rb=- rc=- loop
-    a=$(awk -v n="$5" '$1 == n { print $2 }' "$work/times")
-    b=$(awk -v n="$6" '$1 == n { print $2 }' "$work/times")
-    c=$(awk '$1 == "bare" { print $2 }' "$work/times")
-    if [ $have_callgrind = yes ]; then
-        loop=$(instructions loop "$2" "$3" "$4")
-        each() { awk -v n="$(instructions "$@")" -v l="$loop" -v s=$COUNTED 'BEGIN { printf "%.1f", (n - l) / s }'; }
-        ia=$(each "$5" "$2" "$3" "$4")
-        ib=$(each "$6" "$2" "$3" "$4")
-        ic=$(each bare "$2" "$3" "$4")
-        rb=$(ratio "$ia" "$ib")
-        rc=$(ratio "$ia" "$ic")
-    fi
-    printf '| %s | %s | %s | %s | %.1f | %.1f | %.1f | %s | %s | %s | %s | %s | %s | %s |\n' \
-        "$1" "$2" "$3" "$4" "$a" "$b" "$c" "$(ratio "$a" "$b")" "$(ratio "$a" "$c")" \
-        "$ia" "$ib" "$ic" "$rb" "$rc"
+# All calls by hand as a compiler makes them, in one object that shows nothing but their table. zc_run comes from an
+# object of its own: in one with the step it would be a second caller of what is measured.
+by_hand() { # COMPILER TABLE
+    local name compile="$1 $FLAGS -O3 -c"
+    mkdir "$work/$2"
+    for name in $BY_HAND; do
+        $compile $name.c -o "$work/$2/$name.o"
+    done
+    $compile -DAS_LIBRARY audit_reference.c -o "$work/$2/audit.o"
+    $compile -DAS_LIBRARY reference.c -o "$work/$2/run.o"
+    objcopy --keep-global-symbol=zc_run "$work/$2/run.o"
+    $compile -DBY_HAND -DENGINE="$2" engine.c -o "$work/$2/engine.o"
+    ld -r "$work/$2"/*.o -o "$work/$2.o"
+    objcopy --keep-global-symbol="$2" "$work/$2.o"
 }
 
-for way in named pooled; do
-    for call in step step_record; do
-        for tasks in 1 5 16; do
-            for slots in 3 1023; do
-                "$work/bench" check $way $tasks $slots "$STEPS"
-                "$work/bench" time $way $tasks $slots "$STEPS" "$TIMES" >"$work/times"
-                line zc_$call $way $tasks $slots library${call#step} reference${call#step}
-            done
-        done
+driver() {
+    local name
+    for name in main meter most tables parts/*; do
+        gcc $FLAGS -O2 -c "${name%.c}.c" -o "$work/driver.$(basename "$name" .c).o"
     done
-done
-echo
-echo "Answers and tables of all were the same in every line."
-echo
-echo "zc_step on a named queue against both steps by hand in C (reference.c; lean.c, of fewer instructions) by each compiler, at -O3."
-echo
-echo "| C by | tasks | slots | ns: library | C | lean | library/C | library/lean | instructions: library | C | lean |"
-echo "|---|---|---|---|---|---|---|---|---|---|---|"
-both=$work/both
-for compiler in gcc clang; do
-    if ! command -v $compiler >/dev/null; then
-        absent="$compiler is not here: the other compiler alone was compared with."
-        continue
+}
+
+build() { # two compilers at a time; what is counted needs no clang
+    by_hand gcc gcc_calls &
+    local first=$!
+    driver
+    wait $first
+    if [ "$mode" = stand-in ]; then
+        by_hand gcc library_calls
+        archive=
+    else
+        gcc $FLAGS -O2 -DENGINE=library_calls -c engine.c -o "$work/library_calls.o"
     fi
-    for source in reference lean; do
-        $compiler $WARNINGS -O3 -I../include -c $source.c -o "$work/$source.$compiler.o"
-    done
-    $CC "$work"/{main,bare,reference.$compiler,lean.$compiler}.o "$archive" -o "$both"
-    for tasks in 1 5 16; do
-        for slots in 3 1023; do
-            "$both" check named $tasks $slots "$STEPS"
-            "$both" time named $tasks $slots "$STEPS" "$TIMES" >"$work/times"
-            for engine in library reference lean; do
-                count=-
-                if [ $have_callgrind = yes ]; then
-                    loop=$(collected loop "$both" count loop named $tasks $slots $COUNTED)
-                    count=$(collected $engine "$both" count $engine named $tasks $slots $COUNTED)
-                    count=$(awk -v n="$count" -v l="$loop" -v s=$COUNTED 'BEGIN { printf "%.1f", (n - l) / s }')
-                fi
-                echo "$(awk -v n=$engine '$1 == n { print $2 }' "$work/times") $count"
-            done | tr '\n' ' ' | awk -v c=$compiler -v t=$tasks -v s=$slots \
-                '{ printf "| %s | %s | %s | %.1f | %.1f | %.1f | %.2f | %.2f | %s | %s | %s |\n", c, t, s, $1, $3, $5, $1 / $3, $1 / $5, $2, $4, $6 }'
-        done
-    done
-done
-[ -z "${absent:-}" ] || echo "$absent"
-echo
-echo "The calls that walk the queue, 1,023 slots; nanoseconds and instructions a call."
-echo
-echo "| call | labels waiting | ns: library | C | library/C | instructions: library | C |"
-echo "|---|---|---|---|---|---|---|"
-for call in report find waiting; do
-    for labels in 3 64 1023; do
-        "$work/walks" check $labels
-        "$work/walks" time $call $labels 500 >"$work/times"
-        a=$(awk '$1 == "library" { print $2 }' "$work/times")
-        b=$(awk '$1 == "reference" { print $2 }' "$work/times")
-        ia=- ib=-
-        if [ $have_callgrind = yes ]; then
-            ia=$(($(collected library "$work/walks" count $call library $labels) / 1000))
-            ib=$(($(collected reference "$work/walks" count $call reference $labels) / 1000))
-        fi
-        printf '| zc_%s | %s | %.0f | %.0f | %s | %s | %s |\n' $call $labels "$a" "$b" "$(ratio "$a" "$b")" "$ia" "$ib"
-    done
-done
+    if [ "$mode" != check ] && command -v clang >/dev/null; then
+        by_hand clang clang_calls
+    fi
+    gcc -Wl,-z,now "$work"/driver.*.o "$work"/*_calls.o $archive -o "$work/bench"
+}
+
+# ---- What is measured -----------------------------------------------------------------------------------------
+
+uses() { # NAME PATTERN: whether the machine code has it
+    local lines
+    lines=$(objdump -d "$archive" | grep -cE -e "$2" || true)
+    echo "uses.$1 $((lines > 0))"
+}
+
+measure_facts() { # lines of NAME NUMBER
+    uses red_zone '-0x[0-9a-f]+\(%rsp'
+    uses sse '%xmm'
+    uses avx '%[yz]mm'
+    size "$archive" | awk 'NR > 1 { sub(/\.o$/, "", $6); print "code." $6, $1 }'
+    "$work/bench" facts
+}
+
+trace_line() { # the program trace and the second program: nanoseconds a step
+    [ -x "$root/target/bin/trace" ] || { echo "bench: no target/bin/trace, its line is left out; build it with: rt check trace" >&2; return; }
+    "$root/tests/throughput.sh" "$root/target/bin/trace" >"$work/throughput"
+    awk '$1 == "program" { ours = 1e9 / $3 } $1 == "reference" { theirs = 1e9 / $3 }
+         END { printf "trace\t\t%.2f\t%.2f\n", ours, theirs }' "$work/throughput"
+}
+
+machine() { # on which it was measured, and how busy it was
+    echo "$(sed -n 's/^model name[^:]*: //p' /proc/cpuinfo | head -1), $(nproc) cores; $(gcc --version | head -1);"
+    echo "$(clang --version 2>/dev/null | head -1 || echo 'no clang'); $(date -u +%Y-%m-%d). Load at the start:" \
+        "$(awk -v cores="$(nproc)" '{ print $1 ($1 > cores / 2 ? ": other work was under way, so the times are rough" : "") }' /proc/loadavg)."
+}
+
+table() {
+    "$work/bench" check >"$work/alike" || { cat "$work/alike" >&2; return 1; }
+    machine
+    echo
+    { "$work/bench" lines "${SECONDS_EACH:-1.5}"; [ "$mode" = stand-in ] || trace_line; } >"$work/lines"
+    awk -f table.awk "$work/lines"
+}
+
+# Every call that the archive exports has a line.
+all_measured() {
+    nm -g --defined-only "$archive" | awk '$2 == "T" { print $3 }' | sort >"$work/exported"
+    if sed -n 's/^stack\.\([^ ]*\) .*/\1/p' "$work/measured" | sort | diff "$work/exported" - >"$work/missed"; then
+        echo "1 passed, 0 failed"
+    else
+        echo "FAILED exported (<) and measured (>) are not the same calls: $(sed -n '/^[<>]/p' "$work/missed" | paste -sd ' ')"
+        echo "0 passed, 1 failed"
+    fi
+}
+
+check() {
+    "$work/bench" check ${LONG:+long} >"$work/alike" || tail -n 1 "$work/alike" | grep -q ' failed$' ||
+        printf '%s\n' "FAILED the comparison with C ended early" "0 passed, 1 failed" >>"$work/alike"
+    measure_facts >"$work/measured"
+    { cat "$work/alike"; all_measured; hold facts.txt "$work/measured"; show_facts --check; } | awk '
+        /^[0-9]+ passed, [0-9]+ failed$/ { passed += $1; failed += $3; next } { print }
+        END { print passed + 0 " passed, " failed + 0 " failed"; exit failed > 0 || passed == 0 }'
+}
+
+write_facts() {
+    measure_facts >"$work/measured"
+    cp "$work/measured" facts.txt
+    show_facts --write
+    "$work/bench" scale | awk -f plot.awk >"$work/scale.svg"
+    cp "$work/scale.svg" scale.svg
+}
+
+write() {
+    table | tee "$work/table"
+    put README.md '<!-- the table -->' '<!-- end of the table -->' "$work/table"
+    awk -v speed=1 -f table.awk "$work/lines" >"$work/speed"
+    put ../README.md '<!-- speed -->' '<!-- end of speed -->' "$work/speed"
+    write_facts
+}
+
+build
+case $mode in check) check ;; facts) write_facts ;; write) write ;; *) table ;; esac; exit

@@ -1,6 +1,6 @@
 /*
  * A list carried out, by hand in C: an opening, then a call of reference.c for each request. It is the
- * yardstick of serve_main.c and stands for the library in tests/library.
+ * yardstick of the benchmark and stands for the library in tests/library.
  */
 #include "serve.h"
 

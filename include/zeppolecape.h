@@ -15,9 +15,8 @@
  *     make                                          (proves, and writes target/lib/libzeppolecape.a)
  *     cc -Iinclude main.c target/lib/libzeppolecape.a
  *
- * The library is for x86-64. It calls nothing but memset, from the openings, zc_serve, zc_audit_words
- * and the order sheets, memcpy, from zc_find and zc_next_schedule, and memmove, from zc_save and
- * zc_return.
+ * The library is for x86-64. It calls nothing but memset, from the openings, zc_serve and the order
+ * sheets, memcpy, from zc_find and zc_next_schedule, and memmove, from zc_save and zc_return.
  *
  * In short:
  *
@@ -60,7 +59,7 @@
  * (zc_is_refusal). Some replies hold it in 32 bits, some in 64; a uint64_t takes either, and all the
  * ZC_ names below compare with both.
  *
- * FACTS, the most that bench/facts.sh saw over random calls; memset's instructions are not counted:
+ * FACTS, the most that bench/run.sh saw over random calls; memset's instructions are not counted:
  *                  stack,   instructions at most, by tasks and slots
  *                  bytes      1, 3     5, 12  16, 1023
  *   zc_open            88        78        78        78
@@ -70,10 +69,14 @@
  *   zc_pop            280       166       166       166
  *   zc_step           120       224       224       224
  *   zc_step_record    144       217       217       217
- *   zc_run            160      1697      2721      3160
+ *   zc_run            160      1866      3013      3159
  *   zc_report         352       251       443     16244
  *   table bytes         -       240       816     30120
- *   code bytes: audit 1804, capi 9195, capi_record 4586, capi_run 7263, find 3227, history 8386, join 3397, schedule 8875, sheet 3587, shelf 3874, touch 10514, waiting 797
+ *   stack bytes of the others: zc_waiting 72, zc_find 968, zc_sheet 1568, zc_sheet_words 560,
+ *   zc_join 184, zc_save 120, zc_return 120, zc_next_schedule 84744, zc_serve 408,
+ *   zc_audit 1144, zc_plan 192, zc_settle_plan 208, zc_plan_start 128, zc_settle_start 48
+ *   code bytes: audit 711, capi 9195, capi_record 4586, capi_run 7263, find 3227,
+ *   history 8386, join 3397, schedule 7903, sheet 3587, shelf 3874, touch 10514, waiting 797
  * As to the machine: x86-64, System V calling convention. The code uses the red zone (128 bytes
  * below the stack pointer) and SSE registers, no AVX: an interrupt handler that makes a call saves
  * the SSE state first, and an interrupt that is not masked during a call leaves the red zone alone.
@@ -1088,7 +1091,7 @@ ZC_LAYOUT(offsetof(zc_schedule_reply, ending) == 8 && offsetof(zc_schedule_reply
  * schedule answers is found by carrying out its steps on a copy.
  *
  * It holds no memory between calls: each goes the way of the last schedule again, then on to the
- * next. It is recursive, a level for each step; with 48 steps a call takes 88,000 bytes of stack.
+ * next. It is recursive, a level for each step: FACTS has the stack that it takes with 48 steps.
  * Answers code 0, or refuses: 34 for control, 12 (`schedule` too: 49), 34 for the walk, 42. A refusal
  * leaves `schedule`. A busy record that is unsound is no refusal: its step is, and stops the schedule.
  */

@@ -50,10 +50,14 @@
  * theorems say of them, for all records and words. Not proved, but tested: the C in this file, a
  * table of thirteen touches (zc_made) and the loops around it.
  *
- * ORDER. Every access to a shared word is sequentially consistent, and the proved calls reach none.
- * By the rules of C11 and C++11 all these accesses then have one order that agrees with each
- * thread's own: an interleaving, which is what the proof speaks of. Weaker orders would need another
- * proof; on x86-64 they would save the xchg by which a label or a next is stored, and nothing else.
+ * ORDER. Every access to a shared word but a label is sequentially consistent, and the proved calls
+ * reach none. By the rules of C11 and C++11 all these accesses then have one order that agrees with
+ * each thread's own: an interleaving, which is what the proof speaks of. Labels are loaded and stored
+ * as plain words: in no interleaving do two threads have an instruction on one label before them,
+ * which is proved too (LabelsApart), so there is no data race, and by the same rules a program
+ * without one does nothing but what its interleavings do. A next is no such word: one thread may
+ * load it at 13 while another stores it. Weaker orders would need another proof; on x86-64 they
+ * would save the xchg by which a next is stored, and nothing else.
  *
  * C11 or C++11, gcc or clang: the tables are plain words, and are reached by the builtins that are
  * these compilers' atomics. Link with libzeppolecape.a and with threads, if you have them.
@@ -216,10 +220,10 @@ static inline uint64_t zc_put(uint64_t *link, uint64_t slot, uint64_t slots)
     return found;
 }
 
-/* The label is read while the mark still keeps the slot from others' pushes. */
+/* The label is read while the mark still keeps the slot from others' pushes: no thread stores it. */
 static inline uint64_t zc_taken(const zc_shared *shared, uint64_t slot)
 {
-    uint64_t label = __atomic_load_n(&shared->labels[slot], __ATOMIC_SEQ_CST);
+    uint64_t label = shared->labels[slot];
     ZC_BETWEEN();
     __atomic_fetch_and(&shared->marks[slot / 64], ~(UINT64_C(1) << slot % 64), __ATOMIC_SEQ_CST);
     return label;
@@ -232,7 +236,7 @@ static inline uint64_t zc_drawn(const zc_shared *shared, const zc_touch *touch)
     uint64_t found = zc_swapped(shared->head, touch->expected, touch->word);
     if (found == touch->expected) {
         ZC_BETWEEN();
-        __atomic_store_n(&shared->labels[slot], touch->label, __ATOMIC_SEQ_CST);
+        shared->labels[slot] = touch->label;
         ZC_BETWEEN();
         __atomic_fetch_or(&shared->marks[slot / 64], UINT64_C(1) << slot % 64, __ATOMIC_SEQ_CST);
     }
@@ -246,7 +250,7 @@ static inline uint64_t zc_claimed(const zc_shared *shared, const zc_touch *touch
     if (__atomic_fetch_or(&shared->marks[slot / 64], bit, __ATOMIC_SEQ_CST) & bit)
         return 1;
     ZC_BETWEEN();
-    __atomic_store_n(&shared->labels[slot], touch->label, __ATOMIC_SEQ_CST);
+    shared->labels[slot] = touch->label;
     return 0;
 }
 

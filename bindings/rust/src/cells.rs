@@ -1,8 +1,15 @@
-//! The tables as threads share them: every word atomic, every touch sequentially consistent.
+//! The tables as threads share them: every word atomic, every touch but a label's sequentially
+//! consistent. No two threads ever have an instruction on one label before them, which is proved
+//! (`LabelsApart` of crates/threads/specs/Promises.antt), so a label could be a plain word, as it is
+//! in C. Here it is an atomic with relaxed loads and stores, which are the same instructions and need
+//! no unsafe code: each load finds the one store that happens before it.
 
 use crate::raw::{self, Onward, Record, Start, Touch};
 use alloc::vec::Vec;
-use core::sync::atomic::{AtomicU32, AtomicU64, Ordering::SeqCst};
+use core::sync::atomic::{
+    AtomicU32, AtomicU64,
+    Ordering::{Relaxed, SeqCst},
+};
 
 /// A word in cache lines of its own.
 #[derive(Debug)]
@@ -59,7 +66,7 @@ impl Cells {
 
     /// The label is read while the mark still keeps the slot from others' pushes.
     fn take(&self, slot: u64) -> u64 {
-        let label = self.labels[slot as usize].load(SeqCst);
+        let label = self.labels[slot as usize].load(Relaxed);
         self.marks[slot as usize / 64].fetch_and(!(1 << (slot % 64)), SeqCst);
         u64::from(label)
     }
@@ -68,7 +75,7 @@ impl Cells {
     fn draw(&self, touch: &Touch) -> u64 {
         let found = swap(&self.head.0, touch.expected, touch.word);
         if found == touch.expected {
-            self.labels[touch.slot as usize].store(touch.label, SeqCst);
+            self.labels[touch.slot as usize].store(touch.label, Relaxed);
             self.marks[touch.slot as usize / 64].fetch_or(1 << (touch.slot % 64), SeqCst);
         }
         found
@@ -80,7 +87,7 @@ impl Cells {
         if self.marks[touch.slot as usize / 64].fetch_or(bit, SeqCst) & bit != 0 {
             return 1;
         }
-        self.labels[touch.slot as usize].store(touch.label, SeqCst);
+        self.labels[touch.slot as usize].store(touch.label, Relaxed);
         0
     }
 

@@ -32,9 +32,10 @@ use core::sync::atomic::{AtomicU32, AtomicU64};
 /// # Ok::<(), zeppolecape::Refusal>(())
 /// ```
 ///
-/// Every word of the tables is an atomic, and every access to one is sequentially consistent. What a
-/// step does with shared memory and what comes of it are proved calls; the touch between them is made
-/// here. That this is linearizable, down to single instructions, is proved; the crate is not.
+/// Every word of the tables is an atomic, and every access to one is sequentially consistent but for
+/// labels: no two threads ever touch one at a time. What a step does with shared memory and what comes
+/// of it are proved calls; the touch between them is made here. That this is linearizable, down to
+/// single instructions, is proved; the crate is not.
 ///
 /// Refusal 33, [`Refusal::Worn`], comes after 4,294,967,262 changes, which threads at full speed make
 /// within some ten minutes: `into_queue`, [`Queue::renew`], and share it again.

@@ -1,37 +1,48 @@
--- Loops that test each element from one index up to another: the elements passed, and those to come.
+-- Tests of each element and of each two: of a list by its first element, and of what is left of one from an index on.
 use mathlib.Core.Bool.{Bool, true, false, _&&_}
-use mathlib.Core.List.{List, _∷_}
+use mathlib.Core.List.{List, [], _∷_}
 use mathlib.Core.Path.{_≡_, refl, sym, ap, _∙_}
-use Prim.Native.Nat.{ℕ, _+_, _<_, _≤_}
+use Prim.Native.Nat.{ℕ, zero, suc, _+_, _<_}
 use native.Mathlib.Numerals.{add-one}
-use lib.ListN.{length, getD}
-use lib.Seq.{slice, slice-cons, slice-empty}
+use native.Mathlib.Omega.{arith}
+use lib.ListN.{length, getD, drop}
+use lib.Seq.{drop-cons}
+use Rattle.model.proofs.tests.Truth.{and-true}
 use Rattle.audit_model.specs.Audit.{allOf, pairwise}
 
-and-assoc : (a b c : Bool) → a && b && c ≡ a && (b && c)
-and-assoc true b c = refl
-and-assoc false b c = refl
-
-and-end : (a : Bool) → a && true ≡ a
-and-end true = refl
-and-end false = refl
-
-module _ {A : Type 0} (l : List A) (n : ℕ) where
-  pub part-next : (i : ℕ) (d : A) → i < n → n ≤ length l → slice i n l ≡ getD l i d ∷ slice (i + 1) n l
-  part-next i d h k = slice-cons i n l d h k ∙ ap (λ (j : ℕ). getD l i d ∷ slice j n l) (sym (add-one i))
+module _ {A : Type 0} where
+  pub drop-next : (l : List A) (i : ℕ) (d : A) → i < length l → drop i l ≡ getD l i d ∷ drop (i + 1) l
+  drop-next l i d h = rw (add-one, drop-cons l i d)
 
   module _ (f : A → Bool) where
-    pub all-next : (i : ℕ) (d : A) (ok : Bool) → i < n → n ≤ length l → ok && f (getD l i d) && allOf f (slice (i + 1) n l) ≡ ok && allOf f (slice i n l)
-    all-next i d ok h k = and-assoc ok (f (getD l i d)) (allOf f (slice (i + 1) n l)) ∙ ap (λ (m : List A). ok && allOf f m) (sym (part-next i d h k))
+    pub all-at : (l : List A) (i : ℕ) (d : A) → i < length l → allOf f l ≡ true → f (getD l i d) ≡ true
+    all-at [] i d h e = absurd (omega arith)
+    all-at (x ∷ l) zero d h e = and-true (f x) (allOf f l) e .0
+    all-at (x ∷ l) (suc i) d h e = all-at l i d (omega arith) (and-true (f x) (allOf f l) e .1)
 
-    pub all-done : (ok : Bool) (i : ℕ) → i ≡ n → ok && allOf f (slice i n l) ≡ ok
-    all-done ok i e = ap (λ (j : ℕ). ok && allOf f (slice j n l)) e ∙ ap (λ (m : List A). ok && allOf f m) (slice-empty n l) ∙ and-end ok
+    pub all-turn : (l : List A) (i : ℕ) (d : A) (b : Bool) → i < length l → f (getD l i d) ≡ b → allOf f (drop i l) ≡ b && allOf f (drop (i + 1) l)
+    all-turn l i d b h e = ap (allOf f) (drop-next l i d h) ∙ ap (λ (t : Bool). t && allOf f (drop (i + 1) l)) e
 
-  module _ (r : A → A → Bool) where
-    pub pairs-next : (i : ℕ) (d : A) (ok : Bool) → i < n → n ≤ length l
-        → ok && allOf (r (getD l i d)) (slice (i + 1) n l) && pairwise r (slice (i + 1) n l) ≡ ok && pairwise r (slice i n l)
-    pairs-next i d ok h k = and-assoc ok (allOf (r (getD l i d)) (slice (i + 1) n l)) (pairwise r (slice (i + 1) n l))
-        ∙ ap (λ (m : List A). ok && pairwise r m) (sym (part-next i d h k))
+    module _ (r : A → A → Bool) where
+      abbrev pub passes : List A → Bool
+      passes l = allOf f l && pairwise r l
 
-    pub pairs-done : (ok : Bool) (i : ℕ) → i ≡ n → ok && pairwise r (slice i n l) ≡ ok
-    pairs-done ok i e = ap (λ (j : ℕ). ok && pairwise r (slice j n l)) e ∙ ap (λ (m : List A). ok && pairwise r m) (slice-empty n l) ∙ and-end ok
+      first-passes : (x : A) (l : List A) → passes (x ∷ l) ≡ f x && (allOf (r x) l && passes l)
+      first-passes x l = regroup (f x) (allOf f l) (allOf (r x) l) (pairwise r l)
+        where
+          regroup : (a b c d : Bool) → a && b && (c && d) ≡ a && (c && (b && d))
+          regroup false b c d = refl
+          regroup true true c d = refl
+          regroup true false true d = refl
+          regroup true false false d = refl
+
+      pub passes-turn : (l : List A) (i : ℕ) (d : A) (a b : Bool) → i < length l → f (getD l i d) ≡ a
+          → allOf (r (getD l i d)) (drop (i + 1) l) ≡ b → passes (drop i l) ≡ a && (b && passes (drop (i + 1) l))
+      passes-turn l i d a b h p q =
+          ap passes (drop-next l i d h) ∙ first-passes (getD l i d) (drop (i + 1) l) ∙ (λ j. p j && (q j && passes (drop (i + 1) l)))
+
+      pub passes-from : (l : List A) (i : ℕ) → passes l ≡ true → passes (drop i l) ≡ true
+      passes-from l zero e = e
+      passes-from [] (suc i) e = refl
+      passes-from (x ∷ l) (suc i) e =
+          passes-from l i (and-true (allOf (r x) l) (passes l) (and-true (f x) (allOf (r x) l && passes l) (sym (first-passes x l) ∙ e) .1) .1)

@@ -1,43 +1,42 @@
--- One turn of the replay: the call at index i fails it, or leads to the next.
-use mathlib.Core.Bool.{Bool, true, false, _&&_, not, cond}
+-- One turn of the replay, at index i of the order: call c with the calls behind it, from queue q. No position before `first` stands too early.
+use mathlib.Core.Bool.{Bool, true, false, _&&_, cond}
 use mathlib.Core.List.{List, _∷_}
-use mathlib.Core.Path.{_≡_, sym, ap, _∙_}
-use Prim.Native.Nat.{ℕ, _+_, _<_, _≤_}
+use mathlib.Core.Path.{_≡_, refl}
+use Prim.Native.Nat.{ℕ, suc, _+_, _<_}
 use native.Mathlib.Numerals.{add-one}
-use lib.ListN.{length, getD}
-use lib.Seq.{slice, slice-empty}
-use borrow.Author.Tests.{not-true, not-false}
+use native.Mathlib.Omega.{arith}
+use Rattle.model.proofs.tests.Truth.{split}
 use Rattle.audit_model.specs.declared.Finished.{Finished}
-use Rattle.audit_model.specs.declared.Verdict.the-variants.{Failed, Passed}
-use Rattle.audit_model.specs.Audit.{Given, agrees, allOf, notEarlier, replay, serveLabel}
-use Rattle.audit.proofs.Loops.{part-next}
+use Rattle.audit_model.specs.declared.Verdict.the-variants.{Failed}
+use Rattle.audit_model.specs.Audit.{allOf, gives, notEarlier, replay}
+use Rattle.audit_model.specs.Laws.{answers}
+use Rattle.audit.specs.FirstEarly.{firstEarly}
 
-module _ (calls : List Finished) (n i : ℕ) (d c : Finished) (is : c ≡ getD calls i d) (q : List ℕ) (less : i < n) (fits : n ≤ length calls) where
-  abbrev g : Given
-  g = serveLabel (c .kind) (c .side) (c .label) q
+module _ (c : Finished) (rest : List Finished) (i first : ℕ) (is : i + firstEarly (c ∷ rest) ≡ first) where
+  not-early : i < first → (allOf (notEarlier c) rest ≡ true) × (i + 1 + firstEarly rest ≡ first)
+  unfolding firstEarly
+  not-early h = split (allOf (notEarlier c) rest)
+      (λ t. (t, let z = rw t at is in omega arith))
+      (λ t. absurd (let z = rw t at is in omega arith))
 
-  abbrev rest : List Finished
-  rest = slice (i + 1) n calls
+  pub next-early : i < first → i + 1 + firstEarly rest ≡ first
+  next-early h = not-early h .1
 
-  next : replay (i + 1) (slice i n calls) q
-      ≡ cond (agrees (c .answer) (c .label) (g .answer) (g .label) && allOf (notEarlier c) rest) (replay (i + 1 + 1) rest (g .queue)) (Failed (i + 1))
-  unfolding replay
-  next = ap (λ (l : List Finished). replay (i + 1) l q) (part-next calls n i d less fits ∙ ap (λ (x : Finished). x ∷ rest) (sym is))
-      ∙ ap (λ (m : ℕ). cond (agrees (c .answer) (c .label) (g .answer) (g .label) && allOf (notEarlier c) rest) (replay m rest (g .queue))
-      (Failed (i + 1))) (sym (add-one (i + 1)))
+  module _ (q : List ℕ) where
+    pub fails : i < first → answers c q ≡ false → Failed (i + 1) ≡ replay (i + 1) (c ∷ rest) q
+    unfolding replay
+    fails h e = rw e
 
-  module _ (answer label : ℕ) (same early : Bool) (a : answer ≡ g .answer) (l : label ≡ g .label) (s : same ≡ agrees (c .answer) (c .label) answer label)
-      (e : early ≡ allOf (notEarlier c) rest) where
-    test : (b : Bool) → same && early ≡ b → replay (i + 1) (slice i n calls) q ≡ cond b (replay (i + 1 + 1) rest (g .queue)) (Failed (i + 1))
-    test b z = next ∙ ap (λ (t : Bool). cond t (replay (i + 1 + 1) rest (g .queue)) (Failed (i + 1)))
-        ((λ j. agrees (c .answer) (c .label) (sym a j) (sym l j) && allOf (notEarlier c) rest) ∙ (λ j. sym s j && sym e j) ∙ z)
+    pub goes-on : i < first → answers c q ≡ true → (r : List ℕ) → r ≡ gives c q .queue → replay (i + 1 + 1) rest r ≡ replay (i + 1) (c ∷ rest) q
+    unfolding replay
+    goes-on h e r k = rw (e, not-early h .0, k, add-one (i + 1))
 
-    pub fails : not (same && early) ≡ true → Failed (i + 1) ≡ replay (i + 1) (slice i n calls) q
-    fails z = sym (test false (not-true _ z))
-
-    pub goes-on : (r : List ℕ) → not (same && early) ≡ false → r ≡ g .queue → replay (i + 1 + 1) rest r ≡ replay (i + 1) (slice i n calls) q
-    goes-on r z k = ap (replay (i + 1 + 1) rest) k ∙ sym (test true (not-false _ z))
-
-pub all-served : (calls : List Finished) (n i p : ℕ) (q : List ℕ) → i ≡ n → replay p (slice i n calls) q ≡ Passed
-unfolding replay
-all-served calls n i p q e = ap (λ (l : List Finished). replay p l q) (ap (λ (j : ℕ). slice j n calls) e ∙ slice-empty n calls)
+    pub stops : (i < first → ⊥) → Failed (i + 1) ≡ replay (i + 1) (c ∷ rest) q
+    unfolding replay firstEarly
+    stops h = split (allOf (notEarlier c) rest)
+        (λ t. absurd (let z = rw t at is in h (omega arith)))
+        (λ t. rw t (go (answers c q)))
+      where
+        go : (b : Bool) → Failed (i + 1) ≡ cond (b && false) (replay (suc (i + 1)) rest (gives c q .queue)) (Failed (i + 1))
+        go true = refl
+        go false = refl

@@ -1,58 +1,79 @@
 -- The verdict from its parts.
-use mathlib.Core.Bool.{Bool, true, false, _&&_, not, cond}
-use mathlib.Core.List.{List, []}
-use mathlib.Core.Path.{_≡_, refl, sym, _∙_}
-use Prim.Native.Nat.{ℕ, _<_, _≤_}
-use lib.Dec.{eqb}
-use lib.ListN.{length}
-use borrow.Author.Tests.{eq-eqb, eqb-true, le-leb, lt-leb, ne-eqb, not-false, not-true}
+use mathlib.Core.Bool.{true, false, _&&_}
+use mathlib.Core.List.{List, [], _∷_}
+use mathlib.Core.Path.{_≡_, refl, sym, ap, _∙_}
+use Prim.Native.Nat.{ℕ, _/_, _<_, _≤_}
+use native.Mathlib.Omega.{arith}
+use lib.Dec.{eqb, leb}
+use lib.ListN.{length, drop}
+use borrow.Author.Tests.{eq-eqb, eqb-true, le-leb, leb-true, lt-leb, ne-eqb}
 use Rattle.model.specs.Sound.{from1}
-use Rattle.model.proofs.tests.Truth.{and-true}
+use Rattle.model.proofs.tests.Truth.{and-true, not-both, split}
 use Rattle.audit_model.specs.declared.Finished.{Finished}
-use Rattle.audit_model.specs.declared.Verdict.{Verdict}
-use Rattle.audit_model.specs.declared.Verdict.the-variants.{Failed, Refused}
+use Rattle.audit_model.specs.declared.Verdict.the-variants.{Failed, Passed, Refused}
 use Rattle.audit_model.specs.Audit.{accepted, allOf, apart, differ, inOrder, pairwise, rearranges, replay, verdict, wellFormed}
+use Rattle.audit_model.specs.LentHistory.{callsFrom, callsIn}
+use Rattle.audit.proofs.Loops.{passes, passes-from}
+
+module _ (cs : List Finished) (n : ℕ) (len : length cs ≡ n) where
+  pub too-many : 64 < n → false ≡ accepted cs
+  unfolding accepted
+  too-many h = rw (len, lt-leb n 64 h)
+
+  pub few-enough : n ≤ 64 → accepted cs ≡ passes wellFormed apart cs
+  unfolding accepted
+  few-enough h = rw (len, le-leb n 64 h)
+
+  pub at-most-64 : accepted cs ≡ true → n ≤ 64
+  unfolding accepted
+  at-most-64 e =
+      let z = leb-true (length cs) 64 (and-true (leb (length cs) 64) (allOf wellFormed cs)
+      (and-true (leb (length cs) 64 && allOf wellFormed cs) (pairwise apart cs) e .0) .0) in
+      omega arith
 
 module _ (ks : List ℕ) (n : ℕ) where
   pub another-length : (length ks ≡ n → ⊥) → false ≡ rearranges n ks
   unfolding rearranges
   another-length e = rw (ne-eqb (length ks) n e)
 
-  pub same-length : (known once : Bool) → length ks ≡ n → known ≡ allOf (from1 n) ks → once ≡ pairwise differ ks → known && once ≡ rearranges n ks
+  pub same-length : length ks ≡ n → rearranges n ks ≡ passes (from1 n) differ ks
   unfolding rearranges
-  same-length known once e k o = (λ i. k i && o i) ∙ rw (eq-eqb (length ks) n e)
+  same-length e = rw (eq-eqb (length ks) n e)
 
-  pub length-is : rearranges n ks ≡ true → length ks ≡ n
+  pub not-rearranged : (j : ℕ) → length ks ≡ n → passes (from1 n) differ (drop j ks) ≡ false → false ≡ rearranges n ks
+  not-rearranged j e h = sym (same-length e ∙ split (passes (from1 n) differ ks)
+      (λ t. absurd (not-both (passes-from (from1 n) differ ks j t) h)) (λ t. t))
+
+  pub rearranged : rearranges n ks ≡ true → (length ks ≡ n) × (allOf (from1 n) ks ≡ true)
   unfolding rearranges
-  length-is e = eqb-true (length ks) n (and-true (eqb (length ks) n) (allOf (from1 n) ks)
-      (and-true (eqb (length ks) n && allOf (from1 n) ks) (pairwise differ ks) e .0) .0)
+  rearranged e =
+      let z = and-true (eqb (length ks) n) (allOf (from1 n) ks) (and-true (eqb (length ks) n && allOf (from1 n) ks) (pairwise differ ks) e .0) in
+      (eqb-true (length ks) n (z .0), z .1)
 
-module _ (cs : List Finished) (n : ℕ) (ks : List ℕ) (len : length cs ≡ n) where
-  pub too-many : 64 < n → Refused 40 ≡ verdict cs ks
-  unfolding verdict accepted
-  too-many h = rw (len, lt-leb n 64 h)
+module _ (cs : List Finished) (ks : List ℕ) where
+  pub refused : accepted cs ≡ false → Refused 40 ≡ verdict cs ks
+  unfolding verdict
+  refused a = rw a
 
-  module _ (small : n ≤ 64) (formed separate : Bool) (f : formed ≡ allOf wellFormed cs) (s : separate ≡ pairwise apart cs) where
-    accepted-is : accepted cs ≡ formed && separate
-    unfolding accepted
-    accepted-is = rw (len, le-leb n 64 small) (λ i. sym f i && sym s i)
-
-    abbrev judged : Bool → Bool → Verdict
-    judged a r = cond a (cond r (replay 1 (inOrder cs ks) []) (Failed 0)) (Refused 40)
-
-    verdict-is : (a r : Bool) → formed && separate ≡ a → rearranges n ks ≡ r → verdict cs ks ≡ judged a r
+  module _ (n : ℕ) (len : length cs ≡ n) (good : accepted cs ≡ true) where
+    pub out-of-order : rearranges n ks ≡ false → Failed 0 ≡ verdict cs ks
     unfolding verdict
-    verdict-is a r p q = (λ i. judged (accepted-is i) (rearranges (len i) ks)) ∙ (λ i. judged (p i) (q i))
+    out-of-order r = rw (good, len, r)
 
-    pub refused : not (formed && separate) ≡ true → Refused 40 ≡ verdict cs ks
-    refused z = sym (verdict-is false (rearranges n ks) (not-true _ z) refl)
+    pub replayed-so : rearranges n ks ≡ true → replay 1 (inOrder cs ks) [] ≡ verdict cs ks
+    unfolding verdict
+    replayed-so r = rw (good, len, r)
 
-    module _ (good : not (formed && separate) ≡ false) (r : Bool) (is : r ≡ rearranges n ks) where
-      pub out-of-order : not r ≡ true → Failed 0 ≡ verdict cs ks
-      out-of-order z = sym (verdict-is true false (not-false _ good) (sym is ∙ not-true _ z))
+-- A history of no call.
+pub no-calls : (ws : List ℕ) → length ws < 7 → callsIn ws ≡ []
+unfolding callsFrom
+no-calls ws h = let z : length ws / 7 ≡ 0 = omega arith in ap (λ (n : ℕ). callsFrom 0 n ws) z
 
-      pub in-order-length : not r ≡ false → length ks ≡ n
-      in-order-length z = length-is ks n (sym is ∙ not-false _ z)
+pub none-ordered : (ks : List ℕ) → length ks ≡ 0 → Passed ≡ verdict [] ks
+unfolding verdict accepted rearranges replay
+none-ordered [] e = refl
+none-ordered (k ∷ ks) e = absurd (omega arith)
 
-      pub replayed-so : not r ≡ false → replay 1 (inOrder cs ks) [] ≡ verdict cs ks
-      replayed-so z = sym (verdict-is true true (not-false _ good) (sym is ∙ not-false _ z))
+pub some-ordered : (ks : List ℕ) → (length ks ≡ 0 → ⊥) → Failed 0 ≡ verdict [] ks
+unfolding verdict accepted rearranges
+some-ordered ks e = rw (ne-eqb (length ks) 0 e)

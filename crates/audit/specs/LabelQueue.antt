@@ -1,10 +1,26 @@
--- A queue of labels held in a buffer: those from index low up to, not including, high.
-use mathlib.Core.List.{List}
+-- A plain queue of labels, held as the indices of the calls that pushed them: those of a buffer from index low up to, not including, high.
+use mathlib.Core.Bool.{Bool}
+use mathlib.Core.List.{List, _∷_, map}
 use mathlib.Core.Path.{_≡_}
-use Prim.Native.Nat.{ℕ, _+_, _≤_}
-use lib.ListN.{length}
+use Prim.Native.Nat.{ℕ, _+_, _-_, _/_, _<_, _≤_}
+use lib.ListN.{length, getD}
 use lib.Seq.{slice}
-use Rattle.audit_model.specs.Audit.{Given}
+use Rattle.model.specs.Deque.{seenFrom}
+use Rattle.audit_model.specs.declared.Finished.{Finished}
+use Rattle.audit_model.specs.Audit.{Given, agrees, nobody}
+use Rattle.audit_model.specs.LentHistory.{callsIn}
+
+-- The label of the call at index k; the labels held.
+abbrev pub labelAt : List ℕ → ℕ → ℕ
+labelAt words k = getD (callsIn words) k nobody .label
+
+abbrev pub held : List ℕ → ℕ → ℕ → List ℕ → List ℕ
+held words low high buffer = slice low high (map (labelAt words) buffer)
+
+-- Room for 128, and nothing but indices of n calls, or 0.
+pub record Holds (n : ℕ) (buffer : List ℕ) : Type 0 where
+  pub size : length buffer ≡ 128
+  pub calls : (j : ℕ) → getD buffer j 0 ≤ n - 1
 
 -- One call moves an end by one place at the most.
 pub record Moved (low high low′ high′ : ℕ) : Type 0 where
@@ -12,10 +28,15 @@ pub record Moved (low high low′ high′ : ℕ) : Type 0 where
   pub left : low ≤ low′ + 1
   pub right : high′ ≤ high + 1
 
--- Answer, label and queue are those that are due.
-pub record Serves (low high : ℕ) (due : Given) (answer label low′ high′ : ℕ) (buffer : List ℕ) : Type 0 where
-  pub answer-is : answer ≡ due .answer
-  pub label-is : label ≡ due .label
-  pub queue-is : slice low′ high′ buffer ≡ due .queue
+-- Index k is put at its side's end.
+pub record Put (low high side k low′ high′ : ℕ) (before after : List ℕ) : Type 0 where
+  pub queue-is : (f : ℕ → ℕ) → slice low′ high′ (map f after) ≡ seenFrom side (f k ∷ seenFrom side (slice low high (map f before)))
   pub moved : Moved low high low′ high′
-  pub size : length buffer ≡ 128
+  pub holds : (n : ℕ) → k < n → Holds n before → Holds n after
+
+-- Whether the call has the answer that is due, and the queue that is.
+pub record Serves (words : List ℕ) (c : Finished) (low high : ℕ) (due : Given) (same : Bool) (low′ high′ : ℕ) (buffer : List ℕ) : Type 0 where
+  pub same-is : same ≡ agrees (c .answer) (c .label) (due .answer) (due .label)
+  pub queue-is : held words low′ high′ buffer ≡ due .queue
+  pub moved : Moved low high low′ high′
+  pub holds : Holds (length words / 7) buffer

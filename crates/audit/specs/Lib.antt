@@ -1,1 +1,2 @@
 pub mod LabelQueue
+pub mod FirstEarly

@@ -2,13 +2,12 @@
 use audit_model::Finished;
 ghost use mathlib.Core.Path.{_≡_};
 ghost use Prim.Native.Nat.{_/_, _≤_, _<_};
-ghost use lib.ListN.{length, getD};
-ghost use lib.Seq.{slice};
+ghost use lib.ListN.{length, getD, drop};
 ghost use Rattle.audit_model.specs.Audit as meaning;
-ghost use Rattle.audit_model.specs.Audit.{allOf, numbered, pairwise, wellFormed};
+ghost use Rattle.audit_model.specs.Audit.{allOf, wellFormed};
 ghost use Rattle.audit_model.specs.LentHistory.{callsIn};
 
-fn call_at(words: &[u64], i: usize) -> Finished
+pub fn call_at(words: &[u64], i: usize) -> Finished
     requires { ⌜ i < length (now words) / 7 ⌝ }
     ensures { λ r. ⌜ r ≡ getD (callsIn (now (words .entry))) i meaning.nobody ⌝ }
 {
@@ -24,50 +23,10 @@ fn call_at(words: &[u64], i: usize) -> Finished
     }
 }
 
-fn no_call() -> Finished
-    ensures { λ r. ⌜ r ≡ meaning.nobody ⌝ }
-{
-    Finished {
-        task: 0,
-        kind: 0,
-        side: 0,
-        label: 0,
-        answer: 0,
-        start: 0,
-        end: 0,
-    }
-}
-
-// Numbers count from 1.
-pub fn call_of(words: &[u64], k: u64) -> Finished
-    ensures { λ r. ⌜ r ≡ numbered (callsIn (now (words .entry))) k ⌝ }
-{
-    if k == 0 {
-        return no_call();
-    }
-    let i = (k - 1) as usize;
-    if words.len() / 7 <= i {
-        return no_call();
-    }
-    call_at(words, i)
-}
-
 fn well_formed(c: Finished) -> bool
     ensures { λ r. ⌜ r ≡ wellFormed c ⌝ }
 {
     (c.kind <= 1) & (c.side <= 1) & (2 <= c.answer) & (c.answer <= 4) & (c.start < c.end)
-}
-
-pub fn all_formed(words: &[u64]) -> bool
-    ensures { λ r. ⌜ r ≡ allOf wellFormed (callsIn (now (words .entry))) ⌝ }
-{
-    let mut ok = true;
-    for i in 0..words.len() / 7 {
-        let c = call_at(words, i);
-        let fine = well_formed(c);
-        ok = ok & fine;
-    }
-    ok
 }
 
 // No event of one is an event of the other.
@@ -79,25 +38,32 @@ fn apart(c: Finished, d: Finished) -> bool
 
 fn apart_from(words: &[u64], at: usize, c: Finished) -> bool
     requires { ⌜ at ≤ length (now words) / 7 ⌝ }
-    ensures { λ r. ⌜ r ≡ allOf (meaning.apart c) (slice at (length (now (words .entry)) / 7) (callsIn (now (words .entry)))) ⌝ }
+    ensures { λ r. ⌜ r ≡ allOf (meaning.apart c) (drop at (callsIn (now (words .entry)))) ⌝ }
 {
-    let mut ok = true;
     for i in at..words.len() / 7 {
         let d = call_at(words, i);
-        let fine = apart(c, d);
-        ok = ok & fine;
+        if !apart(c, d) {
+            return false;
+        }
     }
-    ok
+    true
 }
 
-pub fn all_apart(words: &[u64]) -> bool
-    ensures { λ r. ⌜ r ≡ pairwise meaning.apart (callsIn (now (words .entry))) ⌝ }
+pub fn accepted(words: &[u64]) -> bool
+    ensures { λ r. ⌜ r ≡ meaning.accepted (callsIn (now (words .entry))) ⌝ }
 {
-    let mut ok = true;
-    for i in 0..words.len() / 7 {
-        let c = call_at(words, i);
-        let fine = apart_from(words, i + 1, c);
-        ok = ok & fine;
+    let n = words.len() / 7;
+    if 64 < n {
+        return false;
     }
-    ok
+    for i in 0..n {
+        let c = call_at(words, i);
+        if !well_formed(c) {
+            return false;
+        }
+        if !apart_from(words, i + 1, c) {
+            return false;
+        }
+    }
+    true
 }

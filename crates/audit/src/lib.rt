@@ -1,68 +1,44 @@
 //! Histories of finished calls, checked against their claimed order of effects.
 //! What the verdict is stands in `audit_model/specs/Audit.antt`.
 //!
-//! A history is lent as words, seven a call (`Finished`), and read in place; the only memory besides is a queue of 128 labels.
-//! Sixty-four calls take some 4,000 comparisons of two calls: each is held against every other for its events, and against
-//! every later one of the order.
+//! A history is lent as words, seven a call (`Finished`), and read in place; the only memory besides is 128 bytes for the queue.
+//! Sixty-four calls take some 2,000 comparisons of two calls, each held against every other for its events; the order is gone
+//! through once for numbers named twice, once for the first position that stands too early, and once to serve the calls.
 mod calls;
 mod labels;
 mod order;
 
-use audit_model::Finished;
 use audit_model::Verdict;
 use audit_model::VerdictReply;
-ghost use mathlib.Core.Path.{_≡_};
+ghost use mathlib.Core.Bool.{true};
 ghost use mathlib.Core.List.{[]};
-ghost use Prim.Native.Nat.{_≤_};
+ghost use mathlib.Core.Path.{_≡_};
+ghost use Prim.Native.Nat.{_/_, _≤_};
 ghost use lib.ListN.{length};
-ghost use lib.Seq.{slice};
-ghost use Rattle.audit_model.specs.Audit as meaning;
-ghost use Rattle.audit_model.specs.Audit.{allOf, inOrder, notEarlier, replay, verdict};
+ghost use Rattle.model.specs.Sound.{from1};
+ghost use Rattle.audit_model.specs.Audit.{allOf, inOrder, replay, verdict};
 ghost use Rattle.audit_model.specs.LentHistory.{callsIn, verdictReply};
+ghost use Rattle.audit.specs.FirstEarly.{firstEarly};
 
-fn agrees(c: Finished, answer: u64, label: u64) -> bool
-    ensures { λ r. ⌜ r ≡ meaning.agrees (c .answer) (c .label) answer label ⌝ }
-{
-    (c.answer == answer) & ((answer != 4) | (c.label == label))
-}
-
-fn not_earlier(c: Finished, d: Finished) -> bool
-    ensures { λ r. ⌜ r ≡ notEarlier c d ⌝ }
-{
-    c.start <= d.end
-}
-
-fn none_earlier(words: &[u64], order: &[u64], at: usize, c: Finished) -> bool
-    requires { ⌜ at ≤ length (now order) ⌝ }
-    ensures { λ r.
-        ⌜ r ≡ allOf (notEarlier c) (slice at (length (now (order .entry))) (inOrder (callsIn (now (words .entry))) (now (order .entry)))) ⌝ }
-{
-    let mut ok = true;
-    for i in at..order.len() {
-        let d = calls::call_of(words, order[i]);
-        let fine = not_earlier(c, d);
-        ok = ok & fine;
-    }
-    ok
-}
-
-fn served(words: &[u64], order: &[u64]) -> Verdict
-    requires { ⌜ length (now order) ≤ 64 ⌝ }
+// The calls up to the first position that stands too early, which fails whatever it answers.
+fn served(words: &[u64], order: &[u64], early: usize) -> Verdict
+    requires { ⌜ (length (now words) / 7 ≤ 64) × (length (now order) ≤ 64) × (allOf (from1 (length (now words) / 7)) (now order) ≡ true)
+        × (early ≡ firstEarly (inOrder (callsIn (now words)) (now order))) ⌝ }
     ensures { λ r. ⌜ r ≡ replay 1 (inOrder (callsIn (now (words .entry))) (now (order .entry))) [] ⌝ }
 {
     let mut buffer = [0; 128];
     let mut low: usize = 64;
     let mut high: usize = 64;
-    for i in 0..order.len() {
-        let c = calls::call_of(words, order[i]);
-        let s = labels::serve_label(c, &mut buffer, low, high);
-        let same = agrees(c, s.answer, s.label);
-        let early = none_earlier(words, order, i + 1, c);
-        if !(same & early) {
+    for i in 0..early {
+        let s = labels::serve_label(words, (order[i] - 1) as usize, &mut buffer, low, high);
+        if !s.same {
             return Verdict::Failed(i as u32 + 1);
         }
         low = s.low;
         high = s.high;
+    }
+    if early < order.len() {
+        return Verdict::Failed(early as u32 + 1);
     }
     Verdict::Passed
 }
@@ -72,20 +48,14 @@ fn served(words: &[u64], order: &[u64]) -> Verdict
 pub fn audit_words(words: &[u64], order: &[u64]) -> Verdict
     ensures { λ r. ⌜ r ≡ verdict (callsIn (now (words .entry))) (now (order .entry)) ⌝ }
 {
-    let n = words.len() / 7;
-    if 64 < n {
+    if !calls::accepted(words) {
         return Verdict::Refused(40);
     }
-    let formed = calls::all_formed(words);
-    let apart = calls::all_apart(words);
-    if !(formed & apart) {
-        return Verdict::Refused(40);
-    }
-    let fine = order::is_rearranged(order, n);
-    if !fine {
+    if !order::is_rearranged(order, words.len() / 7) {
         return Verdict::Failed(0);
     }
-    served(words, order)
+    let early = order::first_early(words, order);
+    served(words, order, early)
 }
 
 fn reply(v: Verdict) -> VerdictReply
@@ -104,10 +74,25 @@ fn reply(v: Verdict) -> VerdictReply
     }
 }
 
+// The verdict on no call.
+fn of_none(order: &[u64]) -> Verdict
+    ensures { λ r. ⌜ r ≡ verdict [] (now (order .entry)) ⌝ }
+{
+    if order.len() == 0 {
+        return Verdict::Passed;
+    }
+    Verdict::Failed(0)
+}
+
 #[no_mangle]
 pub extern "C" fn zc_audit_words(words: &[u64], order: &[u64]) -> VerdictReply
     ensures { λ r. ⌜ r ≡ verdictReply (verdict (callsIn (now (words .entry))) (now (order .entry))) ⌝ }
 {
+    // Told before registers are saved and the queue is cleared.
+    if words.len() < 7 {
+        let v = of_none(order);
+        return reply(v);
+    }
     let v = audit_words(words, order);
     reply(v)
 }

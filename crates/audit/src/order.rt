@@ -1,10 +1,14 @@
-//! The claimed order: whether it names every call once.
+//! The claimed order, looked at from its end: whether it names every call once, and its first position that stands too early.
+use crate::calls;
+ghost use mathlib.Core.Bool.{true, cond};
 ghost use mathlib.Core.Path.{_≡_};
-ghost use Prim.Native.Nat.{_≤_};
+ghost use Prim.Native.Nat.{_/_, _≤_, min};
+ghost use lib.Dec.{ltb};
 ghost use lib.ListN.{length};
-ghost use lib.Seq.{slice};
 ghost use Rattle.model.specs.Sound.{from1};
-ghost use Rattle.audit_model.specs.Audit.{allOf, differ, pairwise, rearranges};
+ghost use Rattle.audit_model.specs.Audit.{allOf, inOrder, rearranges};
+ghost use Rattle.audit_model.specs.LentHistory.{callsIn};
+ghost use Rattle.audit.specs.FirstEarly.{firstEarly};
 
 fn known(k: u64, most: u64) -> bool
     ensures { λ r. ⌜ r ≡ from1 most k ⌝ }
@@ -12,53 +16,56 @@ fn known(k: u64, most: u64) -> bool
     (1 <= k) & (k <= most)
 }
 
-fn all_known(order: &[u64], most: u64) -> bool
-    ensures { λ r. ⌜ r ≡ allOf (from1 most) (now (order .entry)) ⌝ }
-{
-    let mut ok = true;
-    for i in 0..order.len() {
-        let fine = known(order[i], most);
-        ok = ok & fine;
-    }
-    ok
-}
-
-fn differs(j: u64, k: u64) -> bool
-    ensures { λ r. ⌜ r ≡ differ j k ⌝ }
-{
-    j != k
-}
-
-fn differs_from(order: &[u64], at: usize, j: u64) -> bool
-    requires { ⌜ at ≤ length (now order) ⌝ }
-    ensures { λ r. ⌜ r ≡ allOf (differ j) (slice at (length (now (order .entry))) (now (order .entry))) ⌝ }
-{
-    let mut ok = true;
-    for i in at..order.len() {
-        let fine = differs(j, order[i]);
-        ok = ok & fine;
-    }
-    ok
-}
-
-fn none_twice(order: &[u64]) -> bool
-    ensures { λ r. ⌜ r ≡ pairwise differ (now (order .entry)) ⌝ }
-{
-    let mut ok = true;
-    for i in 0..order.len() {
-        let fine = differs_from(order, i + 1, order[i]);
-        ok = ok & fine;
-    }
-    ok
-}
-
+/// A mark for each number named behind the position.
 pub fn is_rearranged(order: &[u64], n: usize) -> bool
+    requires { ⌜ n ≤ 64 ⌝ }
     ensures { λ r. ⌜ r ≡ rearranges n (now (order .entry)) ⌝ }
 {
     if order.len() != n {
         return false;
     }
-    let known = all_known(order, n as u64);
-    let once = none_twice(order);
-    known & once
+    let mut named = [0; 1];
+    let mut i = n;
+    while 0 < i {
+        i -= 1;
+        let k = order[i];
+        if !known(k, n as u64) {
+            return false;
+        }
+        if table::marked(&named, k - 1) {
+            return false;
+        }
+        table::set_mark(&mut named, k - 1);
+    }
+    true
+}
+
+fn smaller(x: u64, y: u64) -> u64
+    ensures { λ r. ⌜ r ≡ min x y ⌝ }
+{
+    if x < y { x } else { y }
+}
+
+// Position i is early where a call behind it was answered before its own started; else the first is as it was.
+fn sooner(least: u64, start: u64, i: usize, first: usize) -> usize
+    ensures { λ r. ⌜ r ≡ cond (ltb least start) i first ⌝ }
+{
+    if least < start { i } else { first }
+}
+
+/// By the least answer event behind the position.
+pub fn first_early(words: &[u64], order: &[u64]) -> usize
+    requires { ⌜ allOf (from1 (length (now words) / 7)) (now order) ≡ true ⌝ }
+    ensures { λ r. ⌜ r ≡ firstEarly (inOrder (callsIn (now (words .entry))) (now (order .entry))) ⌝ }
+{
+    let mut least: u64 = 18446744073709551615;
+    let mut first = order.len();
+    let mut i = order.len();
+    while 0 < i {
+        i -= 1;
+        let c = calls::call_at(words, (order[i] - 1) as usize);
+        first = sooner(least, c.start, i, first);
+        least = smaller(least, c.end);
+    }
+    first
 }

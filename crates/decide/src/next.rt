@@ -108,11 +108,13 @@ fn read(kind: u64, branch: usize) -> u8
 pub fn after_reading(kind: u64, a: Anchor) -> u8
     ensures { λ r. ⌜ r ≡ route 1 kind (reading (eqb kind 1) a) ⌝ }
 {
-    if (a.left == 0) & (a.right == 0) {
-        return read(kind, READ_EMPTY);
-    }
-    if (kind == 1) & (a.left == a.right) {
-        return read(kind, READ_SINGLE);
+    if a.left == a.right {
+        if a.left == 0 {
+            return read(kind, READ_EMPTY);
+        }
+        if kind == 1 {
+            return read(kind, READ_SINGLE);
+        }
     }
     if a.status == 0 {
         read(kind, READ_STABLE)

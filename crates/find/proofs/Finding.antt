@@ -9,13 +9,10 @@ use lib.ListN.{length}
 use borrow.Author.Tests.{ltb-false, ne-eqb}
 use Rattle.model.specs.Tables.{Tables}
 use Rattle.model.specs.Sound.{controlSound, rowsFit}
-use Rattle.model.specs.Walk.{contents, isBroken}
+use Rattle.model.specs.Walk.{Walk, contents, isBroken, entries, broken}
 use Rattle.model.specs.Refusals.{rule, first}
-use Rattle.walk.specs.declared.Tally.the-variants.{Broken, Labels}
-use Rattle.walk.proofs.Counting.{all-counted, none-counted}
-use Rattle.find_model.specs.declared.FindReply.{FindReply}
-use Rattle.find_model.specs.Find.{find, findRefusal, found, refused}
-use Rattle.find.specs.Looked.{Searched, refusalBefore}
+use Rattle.find_model.specs.Find.{find, findRefusal, refused}
+use Rattle.find.specs.Looked.{foundIn, refusalBefore}
 
 none-applies : (a b c : Bool) → refusalBefore a b c ≡ 0 → (a ≡ true) × (b ≡ false) × (c ≡ true)
 unfolding refusalBefore
@@ -50,13 +47,7 @@ module _ (q : Tables) (asked : List ℕ) where
     pub few : length asked ≤ 32
     few = ltb-false 32 (length asked) (passed .1)
 
-    pub lost : (after : List ℕ) → Searched asked (contents q) Broken after → refused 34 ≡ find q asked
+    pub finds : (v : Walk) → contents q ≡ v → foundIn v asked ≡ find q asked
     unfolding find findRefusal
-    lost after s = rw (passed .0, passed .1, passed .2, none-counted (contents q) (s .tally))
-
-    pub finds : (m : ℕ) (after : List ℕ) → Searched asked (contents q) (Labels m) after
-        → _≡_ {A = FindReply} (record { code = 0; rows = m; positions = after }) (find q asked)
-    unfolding find findRefusal found
-    finds m after s =
-        let g = all-counted (contents q) m (s .tally) in
-        rw (passed .0, passed .1, passed .2, g .0, g .1, s .positions (g .0))
+    finds (entries l) e = rw (passed .0, passed .1, passed .2, e)
+    finds broken e = rw (passed .0, passed .1, passed .2, e)

@@ -1,33 +1,50 @@
--- A walk that was made, and what it noted.
+-- What a walk notes and finds.
 use mathlib.Core.Path.{_≡_}
-use mathlib.Core.Bool.{Bool, false, not}
+use mathlib.Core.Bool.{Bool, true, not}
 use mathlib.Core.List.{List, [], _∷_}
-use Prim.Native.Nat.{ℕ}
+use Prim.Native.Nat.{ℕ, zero, suc, _+_, _≤_}
 use lib.ListN.{length}
-use Rattle.model.specs.Walk.{Walk, isBroken, met}
+use Rattle.model.specs.declared.Entry.{Entry}
+use Rattle.model.specs.Sound.{from1}
+use Rattle.model.specs.Walk.{Walk, entries, broken}
 use Rattle.model.specs.Refusals.{rule, first}
 use Rattle.walk.specs.declared.Tally.{Tally}
 use Rattle.walk.specs.declared.Tally.the-variants.{Broken, Labels}
-use Rattle.walk.specs.Counted.{counted}
-use Rattle.find_model.specs.Find.{found}
-use Rattle.find_model.specs.Noting.{noting}
+use Rattle.walk.specs.declared.Way.{Way}
+use Rattle.walk.specs.Over.{Made, made, lost}
+use Rattle.find_model.specs.declared.FindReply.{FindReply}
+use Rattle.find_model.specs.Find.{found, refused}
+use Rattle.find_model.specs.Noting.{note}
+use Rattle.find.specs.Sieve.{Ready}
 
--- Its labels counted; the positions noted, where it is not broken.
-pub record Looked (early : Bool) (asked before : List ℕ) (w : Walk) (r : Tally) (after : List ℕ) : Type 0 where
-  pub tally : r ≡ counted w
-  pub kept : length after ≡ length before
-  pub noted : isBroken w ≡ false → after ≡ noting early asked 1 before w
+-- The slots met, and the positions noted.
+pub record Noted : Type 0 where
+  pub count : ℕ
+  pub positions : List ℕ
 
--- The rows that a walk read; 0 where it is broken.
-abbrev pub rowsOf : Tally → ℕ
-rowsOf Broken = 0
-rowsOf (Labels n) = n
+abbrev pub noteOn : Bool → List ℕ → Noted → Entry → Noted
+noteOn early asked s e = record { count = s .count + 1; positions = note early (e .label) (s .count + 1) asked (s .positions) }
 
--- The whole walk: its labels counted; the positions found, where it is not broken.
-pub record Searched (asked : List ℕ) (w : Walk) (r : Tally) (after : List ℕ) : Type 0 where
-  pub tally : r ≡ counted w
-  pub size : length after ≡ 32
-  pub positions : isBroken w ≡ false → after ≡ found (met w) asked .positions
+abbrev pub noted : Tally → List ℕ → Made Noted
+noted Broken ps = lost
+noted (Labels n) ps = made (record { count = n; positions = ps })
+
+-- What the walk relies on.
+pub record Looks (w : Way) (asked sieve positions : List ℕ) : Type 0 where
+  pub at : from1 (w .slots) (w .first) ≡ true
+  pub sieve-size : length sieve ≡ 16
+  pub room : length asked ≤ length positions
+
+-- A table of which the first i entries are changed.
+abbrev pub turning : (ℕ → ℕ) → ℕ → List ℕ → List ℕ
+turning f zero l = l
+turning f (suc i) [] = []
+turning f (suc i) (x ∷ l) = f x ∷ turning f i l
+
+-- What is found in a walk.
+abbrev pub foundIn : Walk → List ℕ → FindReply
+foundIn (entries l) asked = found l asked
+foundIn broken asked = refused 34
 
 -- The refusals before the walk, over tests already made.
 unfoldable pub refusalBefore : Bool → Bool → Bool → ℕ

@@ -9,3 +9,8 @@ use Rattle.model.specs.Tables.{marked}
 pub record Sifted (asked sieve : List ℕ) : Type 0 where
   pub size : length sieve ≡ 16
   pub passes : (i : ℕ) → i < length asked → marked sieve (getD asked i 0 % 1024) ≡ true
+
+-- Beyond the first few slots it has been made.
+pub record Ready (k : ℕ) (asked sieve : List ℕ) : Type 0 where
+  pub size : length sieve ≡ 16
+  pub sifted : 4 < k → Sifted asked sieve

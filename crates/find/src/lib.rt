@@ -2,23 +2,23 @@
 use find_model::FindReply;
 use model::Control;
 use walk::Tally;
-use word::Anchor;
-use word::Link;
+use walk::Way;
 ghost use mathlib.Core.Path.{_≡_};
-ghost use mathlib.Core.Bool.{false};
-ghost use mathlib.Core.List.{List, map};
-ghost use Prim.Native.Nat.{ℕ, _≤_};
-ghost use lib.Dec.{ltb};
-ghost use lib.ListN.{length, replicate};
-ghost use Rattle.model.specs.Tables.{tablesOf};
-ghost use Rattle.model.specs.Sound.{controlSound};
-ghost use Rattle.model.specs.Walk.{along, contents};
+ghost use mathlib.Core.Bool.{true, false, _||_};
+ghost use mathlib.Core.List.{List};
+ghost use Prim.Native.Nat.{ℕ, _+_, _%_, _<_, _≤_};
+ghost use lib.Dec.{leb, ltb};
+ghost use lib.ListN.{length, getD, set, replicate};
+ghost use Rattle.model.specs.Tables.{tablesOf, marked};
+ghost use Rattle.model.specs.Sound.{controlSound, from1};
 ghost use Rattle.sound.specs.Lengths.{lengthsFit};
 ghost use Rattle.rows.specs.Rows.{controlOf};
-ghost use Rattle.find_model.specs.Find.{find, refused};
+ghost use Rattle.walk.specs.Over.{over};
+ghost use Rattle.walk.specs.Ways.{ahead, turnedBack};
+ghost use Rattle.find_model.specs.Find.{find};
 ghost use Rattle.find_model.specs.Noting.{pick, note, turned};
-ghost use Rattle.find.specs.Sieve.{Sifted};
-ghost use Rattle.find.specs.Looked.{Looked, Searched, rowsOf, refusalBefore};
+ghost use Rattle.find.specs.Sieve.{Sifted, Ready};
+ghost use Rattle.find.specs.Looked.{Looks, noted, noteOn, turning, foundIn, refusalBefore};
 
 fn wide(x: u32) -> u64
     ensures { λ r. ⌜ r ≡ x ⌝ }
@@ -38,155 +38,118 @@ fn sift(asked: &[u32], sieve: &mut [u64])
     }
 }
 
-/// What is noted for label x when the k-th slot met holds y.
-fn pick(early: bool, x: u32, y: u32, k: u64, p: u64) -> u64
-    ensures { λ r. ⌜ r ≡ pick early x y k p ⌝ }
+/// Notes the k-th slot met, which holds y, at i for label x.
+fn put(early: bool, x: u32, y: u32, k: u64, i: usize, positions: &mut [u64])
+    requires { ⌜ i < length (now positions) ⌝ }
+    ensures { λ _.
+        ⌜ now (positions .exit) ≡ set (now (positions .entry)) i (pick early x y k (getD (now (positions .entry)) i 0)) ⌝ }
 {
-    if (y == x) & (!early | (p == 0)) { k } else { p }
+    if y != x {
+        return;
+    }
+    if early & (positions[i] != 0) {
+        return;
+    }
+    positions[i] = k;
 }
 
-/// Notes the k-th slot met for each label asked for that it holds.
+/// The same for each label asked for.
 fn note(early: bool, y: u32, k: u64, asked: &[u32], positions: &mut [u64])
     requires { ⌜ length (now asked) ≤ length (now positions) ⌝ }
     ensures { λ _. ⌜ now (positions .exit) ≡ note early y k (now (asked .entry)) (now (positions .entry)) ⌝ }
 {
     let mut i = 0;
     while i < asked.len() {
-        positions[i] = pick(early, asked[i], y, k, positions[i]);
+        put(early, asked[i], y, k, i, positions);
         i += 1;
     }
 }
 
-/// The same, at the cost of one mark for a label that was not asked for.
+// So many slots are compared with each label asked for; with more it pays to sift.
+const FEW: u64 = 4;
+
+/// Sifts when n slots were met and more are to come.
+fn ready(n: u64, asked: &[u32], sieve: &mut [u64])
+    requires { ⌜ Ready n (now asked) (now sieve) ⌝ }
+    ensures { λ _. ⌜ Ready (n + 1) (now (asked .entry)) (now (sieve .exit)) ⌝ }
+{
+    if n == FEW {
+        sift(asked, sieve);
+    }
+}
+
+/// Whether the k-th slot met may hold a label asked for.
+fn passes(y: u32, k: u64, sieve: &[u64]) -> bool
+    ensures { λ r. ⌜ r ≡ leb k 4 || marked (now (sieve .entry)) (y % 1024) ⌝ }
+{
+    if k <= FEW {
+        return true;
+    }
+    table::marked(sieve, wide(y) % 1024)
+}
+
+/// Notes the k-th slot met, beyond the first few at the cost of one mark for a label that was not asked for.
 fn meet(early: bool, y: u32, k: u64, asked: &[u32], sieve: &[u64], positions: &mut [u64])
-    requires { ⌜ Sifted (now asked) (now sieve) × (length (now asked) ≤ length (now positions)) ⌝ }
+    requires { ⌜ Ready k (now asked) (now sieve) × (length (now asked) ≤ length (now positions)) ⌝ }
     ensures { λ _. ⌜ now (positions .exit) ≡ note early y k (now (asked .entry)) (now (positions .entry)) ⌝ }
 {
-    let asked_for = table::marked(sieve, wide(y) % 1024);
-    if asked_for {
+    if passes(y, k, sieve) {
         note(early, y, k, asked, positions);
     }
 }
 
-/// From slot start along the links to slot last, noting each slot met.
+/// Along the way, noting each slot met.
 fn look(
-    early: bool,
-    slots: u64,
-    last: u64,
-    start: u64,
-    links: &[u64],
+    w: Way,
+    lefts: &[u64],
+    rights: &[u64],
     labels: &[u32],
     asked: &[u32],
-    sieve: &[u64],
+    sieve: &mut [u64],
     positions: &mut [u64],
 ) -> Tally
-    requires { ⌜ Sifted (now asked) (now sieve) × (length (now asked) ≤ length (now positions)) ⌝ }
+    requires { ⌜ Looks w (now asked) (now sieve) (now positions) ⌝ }
     ensures { λ r.
-        ⌜ Looked early (now (asked .entry)) (now (positions .entry))
-        (along slots (now (links .entry)) (now (labels .entry)) last slots start)
-        r (now (positions .exit)) ⌝ }
+        ⌜ noted r (now (positions .exit)) ≡ over (noteOn (w .rightward) (now (asked .entry)))
+        (record { count = 0; positions = now (positions .entry) })
+        (ahead w (now (lefts .entry)) (now (rights .entry)) (now (labels .entry))) ⌝ }
 {
     let mut n: u64 = 0;
-    let mut x = start;
-    while n < slots {
-        let real = sound::from1(slots, x);
-        if !real {
-            return Tally::Broken;
-        }
+    let mut x = w.first;
+    while n < w.slots {
+        ready(n, asked, sieve);
         n += 1;
         let label = table::label_at(labels, x);
-        meet(early, label, n, asked, sieve, positions);
-        if x == last {
+        meet(w.rightward, label, n, asked, sieve, positions);
+        if x == w.last {
             return Tally::Labels(n);
         }
-        let w = table::word_at(links, x);
-        let fine = sound::link_sound(slots, w);
-        if !fine {
+        x = walk::leads(w, lefts, rights, x);
+        if x == 0 {
             return Tally::Broken;
         }
-        let link = Link::unpack(w);
-        x = link.slot;
     }
     Tally::Broken
 }
 
 /// A position counted from the other end of so many rows.
 fn turned(rows: u64, p: u64) -> u64
+    requires { ⌜ p ≤ rows ⌝ }
     ensures { λ r. ⌜ r ≡ turned rows p ⌝ }
 {
-    if (1 <= p) & (p <= rows) {
-        rows - p + 1
-    } else {
-        p
-    }
+    if p == 0 { 0 } else { rows - p + 1 }
 }
 
-fn turn(rows: u64, positions: &mut [u64])
-    ensures { λ _. ⌜ now (positions .exit) ≡ map (turned rows) (now (positions .entry)) ⌝ }
+/// The first n positions, all of them within so many rows.
+fn turn(rows: u64, n: usize, positions: &mut [u64])
+    requires { ⌜ (n ≤ length (now positions)) × ((i : ℕ) → getD (now positions) i 0 ≤ rows) ⌝ }
+    ensures { λ _. ⌜ now (positions .exit) ≡ turning (turned rows) n (now (positions .entry)) ⌝ }
 {
     let mut i = 0;
-    while i < positions.len() {
+    while i < n {
         positions[i] = turned(rows, positions[i]);
         i += 1;
     }
-}
-
-/// The rows that a walk read; 0 where it is broken.
-fn rows_of(t: Tally) -> u64
-    ensures { λ n. ⌜ n ≡ rowsOf t ⌝ }
-{
-    match t {
-        Tally::Broken => 0,
-        Tally::Labels(n) => n,
-    }
-}
-
-/// From the right end along Left links, or, under LPUSH, from the left end along Right links.
-fn search(
-    c: Control,
-    lefts: &[u64],
-    rights: &[u64],
-    labels: &[u32],
-    asked: &[u32],
-    sieve: &[u64],
-    positions: &mut [u64],
-) -> Tally
-    requires { ⌜ Sifted (now asked) (now sieve) × ((length (now asked) ≤ 32) × (now positions ≡ replicate 32 0)) ⌝ }
-    ensures { λ r.
-        ⌜ ((marks next : List ℕ) → Searched (now (asked .entry))
-        (contents (tablesOf c (now (lefts .entry)) (now (rights .entry)) (now (labels .entry)) marks next))
-        r (now (positions .exit))) ⌝ }
-{
-    let a = Anchor::unpack(c.anchor);
-    if (a.left == 0) & (a.right == 0) {
-        return Tally::Labels(0);
-    }
-    if a.status == 2 {
-        return look(
-            true,
-            c.slots,
-            a.right,
-            a.left,
-            rights,
-            labels,
-            asked,
-            sieve,
-            positions,
-        );
-    }
-    let walked = look(
-        false,
-        c.slots,
-        a.left,
-        a.right,
-        lefts,
-        labels,
-        asked,
-        sieve,
-        positions,
-    );
-    turn(rows_of(walked), positions);
-    walked
 }
 
 /// 34 for control and Anchor, 45, 12. No next table is lent, so none counts.
@@ -214,17 +177,40 @@ fn refusal(
     0
 }
 
-fn refused(number: u32) -> FindReply
-    ensures { λ r. ⌜ r ≡ refused number ⌝ }
-{
-    FindReply {
-        code: number as u64,
-        rows: 0,
-        positions: [0; 32],
-    }
+/// What is answered beside the positions.
+struct Sought {
+    /// 0, or the number of a refusal.
+    code: u64,
+    rows: u64,
 }
 
-/// Where the labels asked for wait, whatever the next rows.
+/// From a first slot on: the rows, with the positions noted, or 34 with none.
+fn search(
+    w: Way,
+    lefts: &[u64],
+    rights: &[u64],
+    labels: &[u32],
+    asked: &[u32],
+    positions: &mut [u64],
+) -> Sought
+    requires { ⌜ (from1 (w .slots) (w .first) ≡ true) × ((length (now asked) ≤ 32) × (now positions ≡ replicate 32 0)) ⌝ }
+    ensures { λ r.
+        ⌜ _≡_ {A = FindReply} (record { code = r .code; rows = r .rows; positions = now (positions .exit) })
+        (foundIn (turnedBack w (ahead w (now (lefts .entry)) (now (rights .entry)) (now (labels .entry)))) (now (asked .entry))) ⌝ }
+{
+    let mut sieve: [u64; 16] = [0; 16];
+    let walked = look(w, lefts, rights, labels, asked, &mut sieve, positions);
+    let Tally::Labels(rows) = walked else {
+        table::zero_words(positions, 32);
+        return Sought { code: 34, rows: 0 };
+    };
+    if !w.rightward {
+        turn(rows, asked.len(), positions);
+    }
+    Sought { code: 0, rows }
+}
+
+/// Where the labels asked for wait, whatever the next rows; all but the positions.
 fn find(
     c: Control,
     asked: &[u32],
@@ -232,11 +218,13 @@ fn find(
     rights: &[u64],
     labels: &[u32],
     marks: &[u64],
-) -> FindReply
+    positions: &mut [u64],
+) -> Sought
+    requires { ⌜ now positions ≡ replicate 32 0 ⌝ }
     ensures { λ r.
-        ⌜ ((next : List ℕ) → r ≡ find
+        ⌜ ((next : List ℕ) → _≡_ {A = FindReply} (record { code = r .code; rows = r .rows; positions = now (positions .exit) }) (find
         (tablesOf c (now (lefts .entry)) (now (rights .entry)) (now (labels .entry)) (now (marks .entry)) next)
-        (now (asked .entry))) ⌝ }
+        (now (asked .entry)))) ⌝ }
 {
     let why = refusal(
         c,
@@ -247,20 +235,19 @@ fn find(
         marks.len(),
     );
     if why != 0 {
-        return refused(why);
+        return Sought {
+            code: why as u64,
+            rows: 0,
+        };
     }
-    let mut sieve: [u64; 16] = [0; 16];
-    sift(asked, &mut sieve);
-    let mut positions: [u64; 32] = [0; 32];
-    let walked = search(c, lefts, rights, labels, asked, &sieve, &mut positions);
-    match walked {
-        Tally::Broken => refused(34),
-        Tally::Labels(rows) => FindReply {
-            code: 0,
-            rows,
-            positions,
-        },
+    let w = walk::begin(c);
+    if sound::from1(w.slots, w.first) {
+        return search(w, lefts, rights, labels, asked, positions);
     }
+    if walk::none_on(w) {
+        return Sought { code: 0, rows: 0 };
+    }
+    Sought { code: 34, rows: 0 }
 }
 
 /// The same for C and Rust, with control lent as its row of words.
@@ -280,5 +267,11 @@ pub extern "C" fn zc_find(
 {
     let row = *control;
     let c = rows::control_of(row);
-    find(c, asked, lefts, rights, labels, marks)
+    let mut positions: [u64; 32] = [0; 32];
+    let r = find(c, asked, lefts, rights, labels, marks, &mut positions);
+    FindReply {
+        code: r.code,
+        rows: r.rows,
+        positions,
+    }
 }

@@ -8,6 +8,7 @@ use native.Mathlib.Omega.{arith}
 use lib.Dec.{eqb}
 use lib.ListN.{length, getD, set, length-map, length-reverse}
 use borrow.Author.Tests.{eqb-false, ne-eqb, ltb-true}
+use Rattle.word.specs.Anchor.{anchorOf}
 use Rattle.model.specs.declared.Control.{Control}
 use Rattle.model.specs.declared.Entry.{Entry}
 use Rattle.model.specs.declared.TaskRecord.{TaskRecord}
@@ -17,7 +18,6 @@ use Rattle.model.specs.Walk.{Walk, entries, broken, along, contents, isBroken, 
 use Rattle.model.proofs.tests.Rules.{tests}
 use Rattle.model.proofs.tests.Truth.{split, not-both}
 use Rattle.model.specs.Sides.{isEmpty}
-use Rattle.walk.proofs.SlotBySlot.{empty, from-right}
 use Rattle.join_model.specs.Merge.{merge}
 use Rattle.join_model.specs.Join.{anchorIn, lane, lanes, joinRefusal, Joined, join, laid}
 use Rattle.join_model.specs.Closed.{filled, leftOf, labelOf, markedTo, held, holding, lateFor, closedRefusal, joinClosed}
@@ -29,6 +29,18 @@ use Rattle.join.specs.declared.Done.{Done}
 use Rattle.join.specs.Scratch.{trail, walkedTo, labelVia, rowsDown, rightTo}
 use Rattle.join.specs.Anchored.{anchored, Joins}
 use Rattle.join.proofs.Filled.{overwritten, linked, names, trod, turned}
+
+-- At rest, the walk begins at the right end.
+module _ (q : Tables) where
+  empty : isEmpty (anchorOf (q .control .anchor)) ≡ true → contents q ≡ entries []
+  unfolding contents
+  empty e = rw e
+
+  from-right : isEmpty (anchorOf (q .control .anchor)) ≡ false → eqb (anchorOf (q .control .anchor) .status) 2 ≡ false
+      → contents q ≡ walkFrom 1 (along (q .control .slots) (q .lefts) (q .labels) (anchorOf (q .control .anchor) .left) (q .control .slots)
+      (anchorOf (q .control .anchor) .right))
+  unfolding contents
+  from-right e f = rw (e, f)
 
 -- The labels of a lane are what the rows lead to, from the last one down.
 module _ (q : Queue) (rests : Rests q) (n : ℕ) (all : n ≡ length (lane q)) (slots : List ℕ) where

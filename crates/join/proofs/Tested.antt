@@ -6,9 +6,10 @@ use mathlib.Core.Logic.{_≢_}
 use Prim.Native.Nat.{ℕ, zero, suc, _+_, _-_, _<_, _≤_}
 use native.Mathlib.Numerals.{add-one}
 use native.Mathlib.Omega.{arith}
+use lib.Bits.{bitOr, or-zero-l, or-add-and, and-le-r}
 use lib.Dec.{eqb, ltb}
 use lib.ListN.{length, getD, List·getD-eq-default}
-use borrow.Author.Tests.{ne-eqb, eqb-true, ltb-true, ltb-false}
+use borrow.Author.Tests.{ne-eqb, eqb-true, eqb-false, ltb-true, ltb-false}
 use Rattle.model.specs.declared.TaskRecord.{TaskRecord}
 use Rattle.model.specs.Tables.{unused}
 use Rattle.model.proofs.tests.Truth.{split, not-both}
@@ -29,8 +30,16 @@ seven true true true true true f g = refl
 pub least-le : (n m : ℕ) → least n m ≤ m
 least-le n m = split (ltb n m) (λ e. rw e (let h = ltb-true n m e in omega arith)) (λ e. rw e (omega arith))
 
-pub blank-more : (l : List ℕ) (i : ℕ) → blank i l && eqb (getD l i 0) 0 ≡ blank (i + 1) l
-blank-more l i = ap (λ (n : ℕ). blank n l) (sym (add-one i))
+-- Two words have no bit set between them where both are zero.
+or-none : (a b : ℕ) → eqb (bitOr a b) 0 ≡ eqb a 0 && eqb b 0
+or-none a b =
+    split (eqb a 0)
+    (λ z. rw z (ap (λ (x : ℕ). eqb (bitOr x b) 0) (eqb-true a 0 z) ∙ ap (λ (x : ℕ). eqb x 0) (or-zero-l b)))
+    (λ z. let h = eqb-false a 0 z in rw z (ne-eqb (bitOr a b) 0 (λ e. omega (arith, or-add-and a b, and-le-r a b))))
+
+pub blank-more : (l : List ℕ) (i any : ℕ) → eqb any 0 ≡ blank i l → eqb (bitOr any (getD l i 0)) 0 ≡ blank (i + 1) l
+blank-more l i any e =
+    or-none any (getD l i 0) ∙ ap (λ (b : Bool). b && eqb (getD l i 0) 0) e ∙ ap (λ (n : ℕ). blank n l) (sym (add-one i))
 
 -- Beyond the end of a table all is zero.
 blank-past : (l : List ℕ) (k : ℕ) → blank (length l + k) l ≡ blank (length l) l

@@ -26,13 +26,13 @@ fn blank(t: &[u64], n: u64) -> bool
     ensures { λ r. ⌜ r ≡ blank n (now (t .entry)) ⌝ }
 {
     let end = least(n, t.len());
-    let mut all = true;
+    let mut any = 0;
     let mut i: usize = 0;
     while i < end {
-        all = all & (t[i] == 0);
+        any = any | t[i];
         i += 1;
     }
-    all
+    any == 0
 }
 
 /// The same of labels.
@@ -40,13 +40,13 @@ fn blank_labels(t: &[u32], n: u64) -> bool
     ensures { λ r. ⌜ r ≡ blank n (now (t .entry)) ⌝ }
 {
     let end = least(n, t.len());
-    let mut all = true;
+    let mut any = 0;
     let mut i: usize = 0;
     while i < end {
-        all = all & (t[i] == 0);
+        any = any | t[i];
         i += 1;
     }
-    all
+    any == 0
 }
 
 /// None of the first n tasks is busy.

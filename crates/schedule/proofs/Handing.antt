@@ -1,17 +1,16 @@
 -- What a call answers: a refusal, the schedule that the search found, or no more.
-use mathlib.Core.Path.{_≡_, refl, sym, ap, subst, _∙_}
+use mathlib.Core.Path.{_≡_, refl, sym, ap, _∙_}
 use mathlib.Core.Bool.{Bool, true, false, _&&_, not, cond}
 use mathlib.Core.List.{List, [], _∷_}
 use Prim.Native.Nat.{ℕ, _≤_}
 use native.Mathlib.Omega.{arith}
 use lib.Dec.{eqb, leb}
-use lib.ListN.{length, set}
+use lib.ListN.{length, getD, set}
 use lib.Seq.{sets}
 use borrow.Author.Tests.{ne-eqb, leb-true, not-true}
-use Rattle.model.specs.declared.Control.{Control}
 use Rattle.model.specs.declared.Record.{Record}
 use Rattle.model.specs.declared.TaskRecord.{TaskRecord}
-use Rattle.model.specs.Tables.{Tables, Queue, isPooled, tablesOf}
+use Rattle.model.specs.Tables.{Tables, Queue, isPooled, unused}
 use Rattle.model.specs.Sound.{controlSound, rowsFit}
 use Rattle.model.specs.Walk.{Walk, entries, broken, contents, isBroken, met}
 use Rattle.model.specs.Report.{waiting}
@@ -24,29 +23,31 @@ use Rattle.schedule_model.specs.Schedules.{allSchedules}
 use Rattle.schedule_model.specs.Next.{Next, given, noMore, memoryLength, remembered, firstAfter, storing, twoAtWork, scheduleRefusal, handing}
 use Rattle.schedule_model.specs.Next.{nextSchedule}
 use Rattle.schedule_model.specs.Search.{seekOf}
-use Rattle.schedule_model.proofs.Admitted.{enough, memory, tasks}
+use Rattle.schedule_model.proofs.Admitted.{memory}
+use Rattle.schedule_model.proofs.OnlyUnsound.{Ready, ready}
 use Rattle.schedule_model.proofs.Searched.{finds}
 use Rattle.schedule_model.proofs.TwoRecords.{two-records}
-use Rattle.schedule_model.proofs.Uncounted.{uncounted}
 use Rattle.schedule_search.specs.declared.Found.{Found}
-use Rattle.schedule_search.specs.Sought.{pairOf, Sought, sought}
+use Rattle.schedule_search.specs.Sought.{seeking, Sought, sought}
 use Rattle.schedule.specs.Answered.{refusalBefore, refusalAfter, Begins, Answered, answered}
 use Rattle.schedule_search.proofs.Seeking.{handed}
 use Rattle.schedule_search.proofs.Stepping.{sets-above}
+use Rattle.schedule_search.proofs.Unasked.{unasked}
 
 abbrev pub told : ScheduleReply → List ℕ → Tables → Answered
 told r ws q = record { handed = record { reply = r; memory = ws }; tables = q }
 
 -- Nothing was found, and all is as it was.
-none-told : (f : Found) (ws ws′ : List ℕ) (q q′ : Tables) (m : Next) → handed f ws′ q′ ≡ sought 48 ws m q → f .found ≡ false
-    → told (record { code = 0; ending = 3; length = 0 }) ws′ q′ ≡ record { handed = handing ws m; tables = q }
+none-told : (f : Found) (ws ws′ : List ℕ) (q q′ : Queue) (m : Next) → handed f ws′ q′ ≡ sought 48 ws m q → f .found ≡ false
+    → told (record { code = 0; ending = 3; length = 0 }) ws′ (q′ .tables) ≡ record { handed = handing ws m; tables = q .tables }
 unfolding sought
 none-told f ws ws′ q q′ (given s) e h = absurd (not-both (ap (λ (z : Sought). z .found .found) e) h)
-none-told f ws ws′ q q′ noMore e h = ap (λ (z : Sought). told (record { code = 0; ending = 3; length = 0 }) (z .memory) (z .tables)) e
+none-told f ws ws′ q q′ noMore e h = ap (λ (z : Sought). told (record { code = 0; ending = 3; length = 0 }) (z .memory) (z .queue .tables)) e
 
 -- A schedule was found and stored; its length goes into word 0.
-some-told : (f : Found) (ws ws′ : List ℕ) (q q′ : Tables) (m : Next) → handed f ws′ q′ ≡ sought 48 ws m q → f .found ≡ true
-    → told (record { code = 0; ending = f .ending; length = f .length }) (set ws′ 0 (f .length)) q′ ≡ record { handed = handing ws m; tables = q }
+some-told : (f : Found) (ws ws′ : List ℕ) (q q′ : Queue) (m : Next) → handed f ws′ q′ ≡ sought 48 ws m q → f .found ≡ true
+    → told (record { code = 0; ending = f .ending; length = f .length }) (set ws′ 0 (f .length)) (q′ .tables)
+    ≡ record { handed = handing ws m; tables = q .tables }
 unfolding sought storing
 some-told f ws ws′ q q′ noMore e h = absurd (not-both h (ap (λ (z : Sought). z .found .found) e))
 some-told f ws ws′ q q′ (given s) e h =
@@ -57,36 +58,38 @@ some-told f ws ws′ q q′ (given s) e h =
     ∙ sets-above ws (s .steps) 1 0 (length (s .steps)) (omega arith)
     in
     λ i.
-    told (record { code = 0; ending = e i .found .ending; length = n i }) (stored i) (e i .tables)
+    told (record { code = 0; ending = e i .found .ending; length = n i }) (stored i) (e i .queue .tables)
 
 -- The search was bound by the whole list.
-module _ (ws ws′ : List ℕ) (len : ℕ) (q q′ : Tables) (p : Queue) (f : Found) (whole : len ≡ memoryLength ws)
-    (found : handed f ws′ q′ ≡ sought 48 ws (seekOf ws len 48 false p) q) where
-  abbrev all : handed f ws′ q′ ≡ sought 48 ws (seekOf ws (memoryLength ws) 48 false p) q
-  all = found ∙ ap (λ (n : ℕ). sought 48 ws (seekOf ws n 48 false p) q) whole
+module _ (ws ws′ : List ℕ) (len : ℕ) (q q′ : Queue) (f : Found) (whole : len ≡ memoryLength ws)
+    (found : handed f ws′ q′ ≡ sought 48 ws (seeking ws len 48 false q) q) where
+  abbrev all : handed f ws′ q′ ≡ sought 48 ws (seeking ws (memoryLength ws) 48 false q) q
+  all = found ∙ ap (λ (n : ℕ). sought 48 ws (seeking ws n 48 false q) q) whole
 
-  pub no-more : not (f .found) ≡ true
-      → told (record { code = 0; ending = 3; length = 0 }) ws′ q′ ≡ record { handed = handing ws (seekOf ws (memoryLength ws) 48 false p); tables = q }
-  no-more h = none-told f ws ws′ q q′ (seekOf ws (memoryLength ws) 48 false p) all (not-true _ h)
+  abbrev answer : Answered
+  answer = record { handed = handing ws (seeking ws (memoryLength ws) 48 false q); tables = q .tables }
+
+  pub no-more : not (f .found) ≡ true → told (record { code = 0; ending = 3; length = 0 }) ws′ (q′ .tables) ≡ answer
+  no-more h = none-told f ws ws′ q q′ (seeking ws (memoryLength ws) 48 false q) all (not-true _ h)
 
   pub next-found : (ws″ : List ℕ) → f .found ≡ true → ws″ ≡ set ws′ 0 (f .length)
-      → told (record { code = 0; ending = f .ending; length = f .length }) ws″ q′
-      ≡ record { handed = handing ws (seekOf ws (memoryLength ws) 48 false p); tables = q }
+      → told (record { code = 0; ending = f .ending; length = f .length }) ws″ (q′ .tables) ≡ answer
   next-found ws″ h e =
-      ap (λ (l : List ℕ). told (record { code = 0; ending = f .ending; length = f .length }) l q′) e
-      ∙ some-told f ws ws′ q q′ (seekOf ws (memoryLength ws) 48 false p) all h
+      ap (λ (l : List ℕ). told (record { code = 0; ending = f .ending; length = f .length }) l (q′ .tables)) e
+      ∙ some-told f ws ws′ q q′ (seeking ws (memoryLength ws) 48 false q) all h
 
--- Neither the records beyond the first two count, nor their counts.
-same-search : (ws : List ℕ) (q : Tables) (rs : List TaskRecord) (n : ℕ) (a b : Record) → 49 ≤ length ws → Begins rs n a b → q .control .tasks ≡ 2
-    → q .control .tasks ≤ length rs
-    → seekOf ws (memoryLength ws) 48 false (pairOf q a b) ≡ firstAfter (remembered ws) (allSchedules (record { tables = q; records = rs }))
-same-search ws q [] n a b m these two few = absurd (omega (arith, two, few))
-same-search ws q (x ∷ []) n a b m these two few = absurd (omega (arith, two, few))
-same-search ws q (x ∷ y ∷ rest) n a b m these two few =
-    (λ i. seekOf ws (memoryLength ws) 48 false (pairOf q (sym (these .first) i) (sym (these .second) i)))
-    ∙ uncounted ws (memoryLength ws) 48 false q (x .call) (y .call) 0 0 (x .retries) (y .retries)
-    ∙ finds ws (record { tables = q; records = x ∷ y ∷ [] }) m
-    ∙ ap (firstAfter (remembered ws)) (sym (two-records 48 q x y rest two))
+-- Two records with the tables.
+abbrev pub pairOf : Tables → TaskRecord → TaskRecord → Queue
+pairOf q a b = record { tables = q; records = a ∷ b ∷ [] }
+
+-- The records beyond the first two do not count.
+same-search : (ws : List ℕ) (q : Tables) (rs : List TaskRecord) → 49 ≤ length ws → q .control .tasks ≡ 2 → q .control .tasks ≤ length rs
+    → seekOf ws (memoryLength ws) 48 false (pairOf q (getD rs 0 unused) (getD rs 1 unused))
+    ≡ firstAfter (remembered ws) (allSchedules (record { tables = q; records = rs }))
+same-search ws q [] m two few = absurd (omega (arith, two, few))
+same-search ws q (x ∷ []) m two few = absurd (omega (arith, two, few))
+same-search ws q (x ∷ y ∷ rest) m two few =
+    finds ws (pairOf q x y) m ∙ ap (firstAfter (remembered ws)) (sym (two-records 48 q x y rest two))
 
 -- The rules in two parts.
 first-part : (c f : Bool) (l : List Rule)
@@ -133,35 +136,34 @@ module _ (q : Tables) (rs : List TaskRecord) (n : ℕ) (a b : Record) (ws : List
       (first-part (controlSound (q .control)) fit (rule 34 (isBroken (contents q)) ∷ rule 42 (not (two && leb (length (met (contents q))) 4)) ∷ [])
       ∙ ap (λ (k : ℕ). cond (eqb before 0) k before) (last-part two (contents q)))
 
+  pub refused-before : (why : ℕ) → why ≡ before → (why ≡ 0 → ⊥) → why ≡ scheduleRefusal Q ws
+  refused-before why e n = sym (rules ∙ rw (sym e, ne-eqb why 0 n) refl)
+
+  pub refused-after : (first last : ℕ) (walk : Tally) → first ≡ before → first ≡ 0 → walk ≡ counted (contents q) → last ≡ refusalAfter two walk
+      → last ≡ scheduleRefusal Q ws
+  refused-after first last walk e z w l = sym (rules ∙ rw (sym e, z) (ap (refusalAfter two) (sym w) ∙ sym l))
+
+module _ (q : Tables) (rs : List TaskRecord) (ws : List ℕ) where
+  abbrev whole : Queue
+  whole = record { tables = q; records = rs }
+
   -- A refusal says its number and leaves all as it was.
-  turned-away : (why : ℕ) (r : ScheduleReply) → scheduleRefusal Q ws ≡ why → (why ≡ 0 → ⊥) → r ≡ record { code = why; ending = 0; length = 0 }
+  pub turned-away : (why : ℕ) (r : ScheduleReply) → why ≡ scheduleRefusal whole ws → (why ≡ 0 → ⊥) → r ≡ record { code = why; ending = 0; length = 0 }
       → told r ws q ≡ answered q rs ws
   unfolding nextSchedule
-  turned-away why r e n h = rw (e, ne-eqb why 0 n) (ap (λ (z : ScheduleReply). told z ws q) h)
-
-  pub refused-before : (why : ℕ) (r : ScheduleReply) → why ≡ before → (why ≡ 0 → ⊥) → r ≡ record { code = why; ending = 0; length = 0 }
-      → told r ws q ≡ answered q rs ws
-  refused-before why r e n h = turned-away why r (rules ∙ rw (sym e, ne-eqb why 0 n) refl) n h
-
-  pub refused-after : (first last : ℕ) (walk : Tally) (r : ScheduleReply) → first ≡ before → first ≡ 0 → walk ≡ counted (contents q)
-      → last ≡ refusalAfter two walk → (last ≡ 0 → ⊥) → r ≡ record { code = last; ending = 0; length = 0 } → told r ws q ≡ answered q rs ws
-  refused-after first last walk r e z w l n h =
-      turned-away last r (rules ∙ rw (sym e, z) (ap (refusalAfter two) (sym w) ∙ sym l)) n h
+  turned-away why r e n h = rw (sym e, ne-eqb why 0 n) (ap (λ (z : ScheduleReply). told z ws q) h)
 
   -- None applies: the search is the definition.
-  pub accepted : (first last : ℕ) (walk : Tally) → first ≡ before → first ≡ 0 → walk ≡ counted (contents q) → last ≡ refusalAfter two walk → last ≡ 0
-      → record { handed = handing ws (seekOf ws (memoryLength ws) 48 false (pairOf q a b)); tables = q } ≡ answered q rs ws
+  pub accepted : (a b : TaskRecord) → scheduleRefusal whole ws ≡ 0 → a ≡ getD rs 0 unused → b ≡ getD rs 1 unused
+      → record { handed = handing ws (seeking ws (memoryLength ws) 48 false (pairOf q a b)); tables = q } ≡ answered q rs ws
   unfolding nextSchedule
-  accepted first last walk e z w l y =
-      let ok : scheduleRefusal Q ws ≡ 0 = rules ∙ rw (sym e, z) (ap (refusalAfter two) (sym w) ∙ sym l ∙ y) in
-      let m = memory Q ws ok in
-      let few : q .control .tasks ≤ length rs = leb-true _ _ (and-true (rowsFit (isPooled (q .control)) (q .control .slots) q) _ (enough Q ws ok) .1) in
-      rw ok
-      (ap (λ (s : Next). record { handed = handing ws s; tables = q }) (same-search ws q rs n a b m these (tasks Q ws ok) few))
-
--- The control that its row is.
-pub by-rows : (c d : Control) (ls rs bs ms ns ls′ rs′ bs′ ms′ ns′ : List ℕ) (records : List TaskRecord) (ws ws′ : List ℕ) (r : ScheduleReply) → c ≡ d
-    → told r ws′ (tablesOf c ls′ rs′ bs′ ms′ ns′) ≡ answered (tablesOf c ls rs bs ms ns) records ws
-    → told r ws′ (tablesOf d ls′ rs′ bs′ ms′ ns′) ≡ answered (tablesOf d ls rs bs ms ns) records ws
-by-rows c d ls rs bs ms ns ls′ rs′ bs′ ms′ ns′ records ws ws′ r e h =
-    subst (λ (k : Control). told r ws′ (tablesOf k ls′ rs′ bs′ ms′ ns′) ≡ answered (tablesOf k ls rs bs ms ns) records ws) e h
+  accepted a b ok ea eb =
+      let r = ready whole ws ok in
+      let sizes = and-true (rowsFit (isPooled (q .control)) (q .control .slots) q) _ (r .enough) in
+      let few : q .control .tasks ≤ length rs = leb-true _ _ (sizes .1) in
+      let these : Ready (pairOf q a b) = record { sound = r .sound; enough = rw (sizes .0, r .tasks) refl; tasks = r .tasks } in
+      let found = unasked ws (memoryLength ws) 48 false (pairOf q a b) these
+      ∙ (λ i. seekOf ws (memoryLength ws) 48 false (pairOf q (ea i) (eb i)))
+      ∙ same-search ws q rs (memory whole ws ok) (r .tasks) few
+      in
+      rw ok (ap (λ (s : Next). record { handed = handing ws s; tables = q }) found)

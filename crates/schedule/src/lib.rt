@@ -5,20 +5,20 @@ use schedule_model::ScheduleReply;
 use walk::Tally;
 ghost use mathlib.Core.Path.{_≡_};
 ghost use mathlib.Core.Bool.{_&&_, not, false};
-ghost use mathlib.Core.List.{List};
-ghost use Rattle.model.specs.declared.TaskRecord.{TaskRecord};
+ghost use mathlib.Core.List.{List, [], _∷_};
 ghost use lib.Dec.{eqb, leb};
-ghost use Rattle.model.specs.Tables.{isPooled, tablesOf};
+ghost use lib.ListN.{getD};
+ghost use Rattle.model.specs.declared.TaskRecord.{TaskRecord};
+ghost use Rattle.model.specs.Tables.{isPooled, tablesOf, queueOf, unused};
 ghost use Rattle.model.specs.Sound.{controlSound};
 ghost use Rattle.sound.specs.Lengths.{lengthsFit};
-ghost use Rattle.rows.specs.Rows.{controlOf, recordsOf};
-ghost use Rattle.schedule_model.specs.Next.{memoryLength, handing};
-ghost use Rattle.schedule_model.specs.Search.{seekOf};
-ghost use Rattle.schedule_search.specs.Sought.{pairOf};
+ghost use Rattle.rows.specs.Rows.{controlOf, recordOf, recordsOf, queueIn};
+ghost use Rattle.schedule_model.specs.Next.{memoryLength, scheduleRefusal, handing};
+ghost use Rattle.schedule_search.specs.Sought.{seeking};
 ghost use Rattle.schedule.specs.Answered.{refusalBefore, refusalAfter, Begins, Answered, answered};
 
 /// 34 for control and Anchor, and 12. The tables and the memory are given by their lengths.
-fn refusal(
+fn unfit_tables(
     c: Control,
     records: usize,
     memory: usize,
@@ -52,6 +52,41 @@ fn unfit(c: Control, a: Record, b: Record, walked: Tally) -> u32
     }
 }
 
+/// Why a call is refused; 0: it is not. a and b are the calls of the first two of so many records.
+fn refusal(
+    c: Control,
+    a: Record,
+    b: Record,
+    records: usize,
+    given: &[u64],
+    lefts: &[u64],
+    rights: &[u64],
+    labels: &[u32],
+    marks: &[u64],
+    next: &[u64],
+) -> u32
+    ensures { λ why.
+        ⌜ ((rs : List TaskRecord) → Begins rs records a b
+        → why ≡ scheduleRefusal (queueOf c rs (now (lefts .entry)) (now (rights .entry)) (now (labels .entry)) (now (marks .entry)) (now (next .entry)))
+        (now (given .entry))) ⌝ }
+{
+    let why = unfit_tables(
+        c,
+        records,
+        given.len(),
+        lefts.len(),
+        rights.len(),
+        labels.len(),
+        marks.len(),
+        next.len(),
+    );
+    if why != 0 {
+        return why;
+    }
+    let walked = walk::waiting(c, lefts, rights);
+    unfit(c, a, b, walked)
+}
+
 fn refused(why: u32) -> ScheduleReply
     ensures { λ r. ⌜ r ≡ record { code = why; ending = 0; length = 0 } ⌝ }
 {
@@ -59,6 +94,18 @@ fn refused(why: u32) -> ScheduleReply
         code: why as u64,
         ending: 0,
         length: 0,
+    }
+}
+
+/// A task's row, or an idle one where there is no such task.
+fn row_at(records: &[[u64; rows::RECORD_WORDS]], task: usize) -> [u64; rows::RECORD_WORDS]
+    ensures { λ row. ⌜ recordOf row ≡ getD (recordsOf (now (records .entry))) task unused ⌝ }
+{
+    if task < records.len() {
+        let row = records[task];
+        row
+    } else {
+        [0; rows::RECORD_WORDS]
     }
 }
 
@@ -72,9 +119,9 @@ fn memory_length(given: &[u64]) -> u64
 
 /// The schedule after the remembered list, stored over it.
 fn hand_out(
-    c: Control,
-    a: Record,
-    b: Record,
+    control: [u64; rows::CONTROL_WORDS],
+    a: [u64; rows::RECORD_WORDS],
+    b: [u64; rows::RECORD_WORDS],
     given: &mut [u64],
     lefts: &mut [u64],
     rights: &mut [u64],
@@ -86,14 +133,26 @@ fn hand_out(
         ⌜ _≡_ {A = Answered}
         (record {
           handed = record { reply = r; memory = now (given .exit) };
-          tables = tablesOf c (now (lefts .exit)) (now (rights .exit)) (now (labels .exit)) (now (marks .exit)) (now (next .exit));
+          tables = tablesOf (controlOf control)
+              (now (lefts .exit)) (now (rights .exit)) (now (labels .exit)) (now (marks .exit)) (now (next .exit));
         })
-        (let q = tablesOf c (now (lefts .entry)) (now (rights .entry)) (now (labels .entry)) (now (marks .entry)) (now (next .entry)) in
+        (let q = queueIn control (a ∷ b ∷ []) (now (lefts .entry)) (now (rights .entry)) (now (labels .entry)) (now (marks .entry)) (now (next .entry)) in
         let ws = now (given .entry) in
-        record { handed = handing ws (seekOf ws (memoryLength ws) 48 false (pairOf q a b)); tables = q }) ⌝ }
+        record { handed = handing ws (seeking ws (memoryLength ws) 48 false q); tables = q .tables }) ⌝ }
 {
     let len = memory_length(given);
-    let f = schedule_search::search(c, a, b, len, given, lefts, rights, labels, marks, next);
+    let f = schedule_search::search(
+        control,
+        a,
+        b,
+        len,
+        given,
+        lefts,
+        rights,
+        labels,
+        marks,
+        next,
+    );
     if !f.found {
         return ScheduleReply {
             code: 0,
@@ -109,51 +168,7 @@ fn hand_out(
     }
 }
 
-/// One call: a and b are the calls of the first two of so many records.
-fn next_schedule(
-    c: Control,
-    a: Record,
-    b: Record,
-    records: usize,
-    given: &mut [u64],
-    lefts: &mut [u64],
-    rights: &mut [u64],
-    labels: &mut [u32],
-    marks: &mut [u64],
-    next: &mut [u64],
-) -> ScheduleReply
-    ensures { λ r.
-        ⌜ ((rs : List TaskRecord) → Begins rs records a b
-        → _≡_ {A = Answered}
-        (record {
-          handed = record { reply = r; memory = now (given .exit) };
-          tables = tablesOf c (now (lefts .exit)) (now (rights .exit)) (now (labels .exit)) (now (marks .exit)) (now (next .exit));
-        })
-        (answered (tablesOf c (now (lefts .entry)) (now (rights .entry)) (now (labels .entry)) (now (marks .entry)) (now (next .entry)))
-        rs (now (given .entry)))) ⌝ }
-{
-    let why = refusal(
-        c,
-        records,
-        given.len(),
-        lefts.len(),
-        rights.len(),
-        labels.len(),
-        marks.len(),
-        next.len(),
-    );
-    if why != 0 {
-        return refused(why);
-    }
-    let walked = walk::waiting(c, lefts, rights);
-    let last = unfit(c, a, b, walked);
-    if last != 0 {
-        return refused(last);
-    }
-    hand_out(c, a, b, given, lefts, rights, labels, marks, next)
-}
-
-/// The same for C and Rust, with control and records lent as rows of words.
+/// One call for C and Rust, with control and records lent as rows of words.
 #[no_mangle]
 pub extern "C" fn zc_next_schedule(
     control: &[u64; rows::CONTROL_WORDS],
@@ -176,10 +191,16 @@ pub extern "C" fn zc_next_schedule(
         (tablesOf (controlOf (now (control .entry))) (now (lefts .entry)) (now (rights .entry)) (now (labels .entry)) (now (marks .entry)) (now (next .entry)))
         (recordsOf (now (records .entry))) (now (schedule .entry))) ⌝ }
 {
-    let row = *control;
-    let c = rows::control_of(row);
-    let a = rows::call_at(records, 0);
-    let b = rows::call_at(records, 1);
+    let words = *control;
+    let c = rows::control_of(words);
+    let x = rows::call_at(records, 0);
+    let y = rows::call_at(records, 1);
     let n = records.len();
-    next_schedule(c, a, b, n, schedule, lefts, rights, labels, marks, next)
+    let why = refusal(c, x, y, n, schedule, lefts, rights, labels, marks, next);
+    if why != 0 {
+        return refused(why);
+    }
+    let a = row_at(records, 0);
+    let b = row_at(records, 1);
+    hand_out(words, a, b, schedule, lefts, rights, labels, marks, next)
 }

@@ -9,4 +9,4 @@ pub mod OnlyUnsound
 pub mod Unrefused
 pub mod Worked
 pub mod TwoRecords
-pub mod Uncounted
+pub mod AnyStep

@@ -21,6 +21,7 @@ use Rattle.model.proofs.tests.Truth.{by-test}
 use Rattle.model.proofs.tests.Rules.{tests, passes, cleared}
 use Rattle.schedule_model.specs.Schedules.{atWork}
 use Rattle.schedule_model.specs.Allowed.{after}
+use Rattle.schedule_model.specs.Next.{scheduleRefusal}
 use Rattle.schedule_model.specs.Claims.{OnlyUnsound}
 use Rattle.schedule_model.proofs.Admitted.{control, enough, tasks}
 
@@ -54,12 +55,15 @@ sound-after q p r h =
     (λ _. h)
 
 -- A queue whose control is sound, with tables long enough for its two tasks.
-record Ready (q : Queue) : Type 0 where
-  sound : controlSound (q .tables .control) ≡ true
-  enough : fits q ≡ true
-  tasks : q .tables .control .tasks ≡ 2
+pub record Ready (q : Queue) : Type 0 where
+  pub sound : controlSound (q .tables .control) ≡ true
+  pub enough : fits q ≡ true
+  pub tasks : q .tables .control .tasks ≡ 2
 
-stays : (q : Queue) (t : ℕ) → Ready q → Ready (act q t Step .queue)
+pub ready : (q : Queue) (ws : List ℕ) → scheduleRefusal q ws ≡ 0 → Ready q
+ready q ws ok = record { sound = control q ws ok; enough = enough q ws ok; tasks = tasks q ws ok }
+
+pub stays : (q : Queue) (t : ℕ) → Ready q → Ready (act q t Step .queue)
 unfolding act actOn
 stays q t h = record {
   sound = sound-after (q .tables) (among q t) (taskAt q t) (h .sound);
@@ -104,4 +108,4 @@ by34 q t n h low busy e =
 
 pub only-unsound : OnlyUnsound
 only-unsound q ws ts t n ok low busy e =
-    by34 (after q ts) t n (tried q ts (record { sound = control q ws ok; enough = enough q ws ok; tasks = tasks q ws ok })) low busy e
+    by34 (after q ts) t n (tried q ts (ready q ws ok)) low busy e

@@ -17,7 +17,7 @@ use Rattle.model.specs.Calls.{act}
 use Rattle.model.proofs.tests.Truth.{by-test}
 use Rattle.schedule_model.specs.Schedules.{Schedule, ends, begun, atWork, bothAnswered, onwards, through, schedules, allSchedules}
 use Rattle.schedule_model.specs.Next.{Next, given, noMore, precedes, firstAfter, memoryLength, remembered}
-use Rattle.schedule_model.specs.Search.{ended, orElse, prefixed, stepped, least, frees, tried, seekOf}
+use Rattle.schedule_model.specs.Search.{ended, orElse, prefixed, stepped, least, frees, tried, seekBy, seekOf}
 
 -- The first of a list, if any will do, or if it must come after g.
 abbrev pub pick : Bool → List ℕ → List Schedule → Next
@@ -174,15 +174,15 @@ module _ (ws : List ℕ) (len : ℕ) (few : len ≤ 48) (enough : 49 ≤ length 
   over n e = drop-past (48 - suc n) list (rw long (ltb-false (48 - suc n) len e))
 
   at : (n : ℕ) → suc n ≤ 48 → (f : Bool) (q : Queue) (t : ℕ) → ((f : Bool) (q : Queue) → seekOf ws len n f q ≡ pick f (left n) (schedules q n))
-      → tried ws len (suc n) f q t (seekOf ws len n (frees ws len (suc n) f t) (act q t Step .queue))
+      → tried ws len (suc n) f q t (act q t Step .outcome) (seekOf ws len n (frees ws len (suc n) f t) (act q t Step .queue))
       ≡ pick f (left (suc n)) (through q t (schedules (act q t Step .queue) n))
   at n h f q t below =
       let d = act q t Step in
-      ap (λ (m : Next). tried ws len (suc n) f q t m) (below (frees ws len (suc n) f t) (d .queue))
+      ap (λ (m : Next). tried ws len (suc n) f q t (d .outcome) m) (below (frees ws len (suc n) f t) (d .queue))
       ∙ level t (least ws (suc n)) (d .outcome) (schedules (d .queue) n) (atWork q t) f (ltb (48 - suc n) len) (left (suc n)) (left n) (yet n h) (over n)
 
   pub search-is : (n : ℕ) → n ≤ 48 → (f : Bool) (q : Queue) → seekOf ws len n f q ≡ pick f (left n) (schedules q n)
-  unfolding seekOf schedules
+  unfolding seekBy schedules
   search-is zero h f q = closed (bothAnswered q) f (left zero)
   search-is (suc n) h f q =
       let below = search-is n (omega (arith, h)) in

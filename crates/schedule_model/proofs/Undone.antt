@@ -1,4 +1,4 @@
--- With the words of the row that its place names put back, the tables are as before a step.
+-- With Anchor, the head and the words of the row that its place names put back, control and tables are as before a step.
 use mathlib.Core.Path.{_≡_}
 use mathlib.Core.Bool.{Bool, true, false, cond}
 use mathlib.Core.List.{List}
@@ -11,8 +11,6 @@ use Rattle.model.specs.declared.Record.{Record}
 use Rattle.model.specs.Tables.{Tables, isPooled, tablesOf}
 use Rattle.model.specs.Places.{Touch, nothing, setAnchor, setLink, clearMark, takeSlot, setNext, setHead, Move, row, wordFound, apply}
 use Rattle.model.specs.Places.{at1, at2, at3, at4, at5, at6, at7, at9, at10, at11, at12, at13, at14, at15, at16, at17, move}
-use Rattle.model.specs.Refusals.{stepRefusal}
-use Rattle.model.specs.Calls.{Acted, finish, step}
 use Rattle.model.proofs.tests.Truth.{either}
 use Rattle.model.specs.Kinds.{isPush}
 use Rattle.schedule_model.specs.Undo.{saved, putBack, Undoes}
@@ -62,7 +60,7 @@ module _ (q : Tables) (x : ℕ) where
   alike ls rs bs ms ns l r b m n = λ i. tablesOf (q .control) (l i) (r i) (b i) (m i) (n i)
 
   abbrev back : Tables → Tables
-  back q′ = putBack (q .control) (saved x q) q′
+  back q′ = putBack (saved x q) q′
 
   -- Each list where the touch left it alone.
   left : set (q .lefts) x (getD (q .lefts) x 0) ≡ q .lefts
@@ -97,10 +95,5 @@ module _ (q : Tables) (x : ℕ) where
   applied t (head w) = alike _ _ _ _ _ left right label marks next
 
 pub undoes : Undoes
-unfolding step finish
-undoes q p r =
-    let c = r .call in
-    let m = move (q .control) c (wordFound q c) in
-    either (λ (a : Acted). back q (row c) (a .tables) ≡ q) (eqb (stepRefusal q p c) 0)
-    (applied q (row c) (m .touch) (there (q .control) c (wordFound q c)))
-    (applied q (row c) nothing none)
+undoes q r =
+    (applied q (row r) nothing none, applied q (row r) (move (q .control) r (wordFound q r) .touch) (there (q .control) r (wordFound q r)))

@@ -8,7 +8,7 @@ use Rattle.model.specs.declared.Outcome.{Outcome}
 use Rattle.model.specs.declared.Outcome.the-variants.{Refused, Moved}
 use Rattle.model.specs.declared.Op.the-variants.{Step}
 use Rattle.model.specs.Tables.{Queue}
-use Rattle.model.specs.Calls.{act}
+use Rattle.model.specs.Calls.{Done, act}
 use Rattle.schedule_model.specs.Schedules.{Schedule, ends, begun, atWork, bothAnswered}
 use Rattle.schedule_model.specs.Next.{Next, given, noMore}
 
@@ -43,13 +43,22 @@ skips ws len left free t = bound len left free && ltb t (least ws left)
 abbrev pub frees : List ℕ → ℕ → ℕ → Bool → ℕ → Bool
 frees ws len left free t = not (bound len left free) || not (eqb t (least ws left))
 
-abbrev pub tried : List ℕ → ℕ → ℕ → Bool → Queue → ℕ → Next → Next
-tried ws len left free q t m =
-    cond (not (atWork q t) || skips ws len left free t) noMore (stepped t (act q t Step .outcome) (frees ws len left free t) m)
+abbrev pub tried : List ℕ → ℕ → ℕ → Bool → Queue → ℕ → Outcome → Next → Next
+tried ws len left free q t o m =
+    cond (not (atWork q t) || skips ws len left free t) noMore (stepped t o (frees ws len left free t) m)
 
-unfoldable pub seekOf : List ℕ → ℕ → ℕ → Bool → Queue → Next
-seekOf ws len zero free q = cond (bothAnswered q) (ended free (ends 0)) (ended free (ends 1))
-seekOf ws len (suc n) free q =
-    cond (bothAnswered q) (ended free (ends 0))
-    (orElse (tried ws len (suc n) free q 0 (seekOf ws len n (frees ws len (suc n) free 0) (act q 0 Step .queue)))
-    (tried ws len (suc n) free q 1 (seekOf ws len n (frees ws len (suc n) free 1) (act q 1 Step .queue))))
+-- A level of the search: o, p the outcomes of a step of each task, l, m what is found below them.
+abbrev pub level : List ℕ → ℕ → ℕ → Bool → Queue → Outcome → Outcome → Next → Next → Next
+level ws len left free q o p l m =
+    cond (bothAnswered q) (ended free (ends 0)) (orElse (tried ws len left free q 0 o l) (tried ws len left free q 1 p m))
+
+-- by: how the search steps a task.
+unfoldable pub seekBy : (Queue → ℕ → Done) → List ℕ → ℕ → ℕ → Bool → Queue → Next
+seekBy by ws len zero free q = cond (bothAnswered q) (ended free (ends 0)) (ended free (ends 1))
+seekBy by ws len (suc n) free q =
+    level ws len (suc n) free q (by q 0 .outcome) (by q 1 .outcome)
+    (seekBy by ws len n (frees ws len (suc n) free 0) (by q 0 .queue))
+    (seekBy by ws len n (frees ws len (suc n) free 1) (by q 1 .queue))
+
+abbrev pub seekOf : List ℕ → ℕ → ℕ → Bool → Queue → Next
+seekOf = seekBy (λ q t. act q t Step)

@@ -1,18 +1,17 @@
--- A step tried is undone without a log: it writes no row but the one that its place names.
+-- A step tried is undone without a log: of control it writes Anchor and the head, and no row but the one that its place names.
 use mathlib.Core.Path.{_≡_}
 use Prim.Native.Nat.{ℕ, _/_}
 use lib.ListN.{getD, set}
-use Rattle.model.specs.declared.Control.{Control}
-use Rattle.model.specs.declared.TaskRecord.{TaskRecord}
-use Rattle.model.specs.Tables.{Tables, tablesOf}
-use Rattle.model.specs.Places.{row}
-use Rattle.model.specs.Refusals.{Lent}
-use Rattle.model.specs.Calls.{step}
+use Rattle.model.specs.declared.Record.{Record}
+use Rattle.model.specs.Tables.{Tables, tablesOf, withWords}
+use Rattle.model.specs.Places.{row, wordFound, move, apply}
 use Rattle.schedule_model.specs.declared.Saved.{Saved}
 
--- Slot x's words.
+-- Anchor, the head, and slot x's words.
 abbrev pub saved : ℕ → Tables → Saved
 saved x q = record {
+  anchor = q .control .anchor;
+  head = q .control .head;
   slot = x;
   left = getD (q .lefts) x 0;
   right = getD (q .rights) x 0;
@@ -21,14 +20,16 @@ saved x q = record {
   next = getD (q .next) x 0;
 }
 
--- Put back, with the control c of before.
-abbrev pub putBack : Control → Saved → Tables → Tables
-putBack c s q = tablesOf c
+abbrev pub putBack : Saved → Tables → Tables
+putBack s q = tablesOf (withWords (q .control) (s .anchor) (s .head))
     (set (q .lefts) (s .slot) (s .left))
     (set (q .rights) (s .slot) (s .right))
     (set (q .labels) (s .slot) (s .label))
     (set (q .marks) (s .slot / 64) (s .mark))
     (set (q .next) (s .slot) (s .next))
 
+-- A call's next step, refused or made, and what it can write put back.
 abbrev pub Undoes : Type 0
-Undoes = (q : Tables) (p : Lent) (r : TaskRecord) → putBack (q .control) (saved (row (r .call)) q) (step q p r .tables) ≡ q
+Undoes =
+    (q : Tables) (r : Record)
+    → (putBack (saved (row r) q) q ≡ q) × (putBack (saved (row r) q) (apply (move (q .control) r (wordFound q r) .touch) q) ≡ q)

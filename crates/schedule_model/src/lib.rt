@@ -11,8 +11,11 @@ pub struct ScheduleReply {
     pub length: u64,
 }
 
-/// The words of one slot's row, and the word of its mark: all of the lent tables that a step can write.
+/// All that a step can write of control and of the lent tables: Anchor, the head, the words of one slot's row, and the
+/// word of its mark.
 pub struct Saved {
+    pub anchor: u64,
+    pub head: u64,
     pub slot: u64,
     pub left: u64,
     pub right: u64,

@@ -1,30 +1,38 @@
--- A step, what is found below it, and back: the tables are as before, and the step stands in the memory.
-use mathlib.Core.Path.{_≡_, refl, sym, ap, _∙_}
-use mathlib.Core.Bool.{Bool, true, false, not, cond}
+-- A step, what is found below it, and back: the queue is as before, and the step stands in the memory.
+use mathlib.Core.Path.{_≡_, refl, sym, ap, subst, _∙_}
+use mathlib.Core.Bool.{Bool, true, false, _||_, not, cond}
 use mathlib.Core.List.{List, [], _∷_}
-use Prim.Native.Nat.{ℕ, zero, suc, _+_, _-_, _<_, _≤_}
+use Prim.Native.Nat.{ℕ, suc, _+_, _-_, _<_, _≤_}
 use native.Mathlib.Omega.{arith}
 use lib.Dec.{eqb}
-use lib.ListN.{length, set}
-use lib.Seq.{sets, set-comm}
+use lib.ListN.{length, getD, set}
+use lib.Seq.{sets, set-comm, set-getD, set-set}
 use Rattle.model.specs.declared.Record.{Record}
+use Rattle.model.specs.declared.TaskRecord.{TaskRecord}
 use Rattle.model.specs.declared.Outcome.{Outcome}
 use Rattle.model.specs.declared.Outcome.the-variants.{Refused, Moved}
-use Rattle.model.specs.declared.Op.the-variants.{Step}
-use Rattle.model.specs.Tables.{Tables, unused, withCall, tablesOf}
+use Rattle.model.specs.Tables.{Tables, Queue, tablesOf, taskAt, unused}
 use Rattle.model.specs.Ends.{isMoved}
-use Rattle.model.specs.Places.{row}
-use Rattle.model.specs.Calls.{Acted, actOn, Done, back, act}
+use Rattle.model.specs.Places.{row, wordFound}
+use Rattle.model.specs.Refusals.{stepSound}
+use Rattle.model.specs.Calls.{Acted, finish, Done, back}
+use Rattle.model.proofs.tests.Truth.{either}
+use Rattle.engine.specs.MoveOn.{moveOn}
+use Rattle.engine.proofs.InParts.{fault, here}
+use Rattle.rows.specs.Rows.{controlOf, callOf, recordOf, queueIn}
+use Rattle.rows.specs.Moved.{RowMoved}
+use Rattle.rows.proofs.Rows.{record-read, record-put}
 use Rattle.schedule_model.specs.declared.Saved.{Saved}
 use Rattle.schedule_model.specs.Next.{Next, given, noMore}
-use Rattle.schedule_model.specs.Search.{prefixed, stepped, seekOf}
+use Rattle.schedule_model.specs.Schedules.{atWork}
+use Rattle.schedule_model.specs.Search.{prefixed, stepped, skips, frees}
 use Rattle.schedule_model.specs.Undo.{saved, putBack}
-use Rattle.schedule_model.proofs.Uncounted.{uncounted}
 use Rattle.schedule_model.proofs.Undone.{undoes}
 use Rattle.schedule_search.specs.declared.Found.{Found}
-use Rattle.schedule_search.specs.declared.Two.{Two}
-use Rattle.schedule_search.specs.Sought.{pairOf, stepOfTwo, foundOf, written, Sought, sought, under}
-use Rattle.schedule_search.proofs.Seeking.{handed}
+use Rattle.schedule_search.specs.declared.undo.Kept.{Kept}
+use Rattle.schedule_search.specs.Stepped.{moved, Steps, restored}
+use Rattle.schedule_search.specs.Sought.{seeking, branch, choice, foundOf, written, Sought, sought, under}
+use Rattle.schedule_search.proofs.Seeking.{handed, none-here}
 
 stepped-is : (t : ℕ) (o : Outcome) (free : Bool) (m : Next) → stepped t o free m ≡ prefixed t (under (not (isMoved o)) free m)
 stepped-is t (Refused why) true m = refl
@@ -39,83 +47,122 @@ sets-above l (x ∷ s) i j t h =
     ∙ ap (λ (r : List ℕ). sets r (suc i) s) (set-comm l i j x t (λ e. omega (arith, h, e)))
 
 -- The step found below is prefixed.
-prefix-found : (left t : ℕ) (m : Next) → 0 < left → left ≤ 48 → foundOf (48 - (left - 1)) m ≡ foundOf (48 - left) (prefixed t m)
-prefix-found left t (given s) h k =
-    let z : 48 - (left - 1) + length (s .steps) ≡ 48 - left + suc (length (s .steps)) = omega (arith, h, k) in
-    ap (λ (n : ℕ). record { found = true; length = n; ending = s .ending }) z
-prefix-found left t noMore h k = refl
+module _ (left t : ℕ) (some : 0 < left) (few : left ≤ 48) where
+  prefix-found : (m : Next) → foundOf (48 - (left - 1)) m ≡ foundOf (48 - left) (prefixed t m)
+  prefix-found (given s) =
+      let z : 48 - (left - 1) + length (s .steps) ≡ 48 - left + suc (length (s .steps)) = omega (arith, some, few) in
+      ap (λ (n : ℕ). record { found = true; length = n; ending = s .ending }) z
+  prefix-found noMore = refl
 
-prefix-written : (left t : ℕ) (m : Next) (ws : List ℕ) → 0 < left → left ≤ 48
-    → cond (foundOf (48 - (left - 1)) m .found) (set (written (49 - (left - 1)) m ws) (49 - left) t) (written (49 - (left - 1)) m ws)
-    ≡ written (49 - left) (prefixed t m) ws
-prefix-written left t noMore ws h k = refl
-prefix-written left t (given s) ws h k =
-    let z : 49 - (left - 1) ≡ suc (49 - left) = omega (arith, h, k) in
-    ap (λ (n : ℕ). set (sets ws n (s .steps)) (49 - left) t) z ∙ sets-above ws (s .steps) (suc (49 - left)) (49 - left) t (omega arith)
+  prefix-written : (m : Next) (ws : List ℕ)
+      → cond (foundOf (48 - (left - 1)) m .found) (set (written (49 - (left - 1)) m ws) (49 - left) t) (written (49 - (left - 1)) m ws)
+      ≡ written (49 - left) (prefixed t m) ws
+  prefix-written noMore ws = refl
+  prefix-written (given s) ws =
+      let z : 49 - (left - 1) ≡ suc (49 - left) = omega (arith, some, few) in
+      ap (λ (n : ℕ). set (sets ws n (s .steps)) (49 - left) t) z ∙ sets-above ws (s .steps) (suc (49 - left)) (49 - left) t (omega arith)
 
--- What is found below a step, and by it.
-module _ (ws : List ℕ) (len left : ℕ) (free : Bool) (a b : Record) where
-  abbrev below : ℕ → Acted → Next
-  below t d = seekOf ws len left free (pairOf (d .tables) (cond (eqb t 0) (d .task .call) a) (cond (eqb t 0) b (d .task .call)))
+-- The tables after a step and back.
+tables-back : (q : Tables) (r : TaskRecord) → putBack (saved (row (r .call)) q) (moveOn q r .tables) ≡ q
+unfolding moveOn finish
+tables-back q r =
+    either Back (eqb (fault q r) 0)
+    (subst Back (sym (here q r)) (either Back (eqb (cond (stepSound (q .control) (r .call) (wordFound q (r .call))) 0 34) 0) (undoes q (r .call) .1) refused))
+    refused
+  where
+    Back : Acted → Type 0
+    Back a = putBack (saved (row (r .call)) q) (a .tables) ≡ q
 
-  abbrev by : ℕ → Done → Next
-  by t e = stepped t (e .outcome) free (seekOf ws len left free (e .queue))
+    refused : putBack (saved (row (r .call)) q) q ≡ q
+    refused = undoes q (r .call) .0
 
-  stepped-pair : (q : Tables) (r : Record) (t : ℕ) (d : Acted) → t < 2 → r ≡ cond (eqb t 0) a b → d ≡ stepOfTwo q r t
-      → by t (act (pairOf q a b) t Step) ≡ stepped t (d .outcome) free (below t d)
-  unfolding act actOn
-  stepped-pair q r zero d low whose e =
-      ap (λ (x : Acted). by 0 (back (pairOf q a b) 0 x)) (sym (e ∙ ap (λ (c : Record). stepOfTwo q c 0) whose))
-      ∙ ap (stepped 0 (d .outcome) free) (uncounted ws len left free (d .tables) (d .task .call) b (d .task .retries) 0 0 0)
-  stepped-pair q r (suc zero) d low whose e =
-      ap (λ (x : Acted). by 1 (back (pairOf q a b) 1 x)) (sym (e ∙ ap (λ (c : Record). stepOfTwo q c 1) whose))
-      ∙ ap (stepped 1 (d .outcome) free) (uncounted ws len left free (d .tables) a (d .task .call) 0 (d .task .retries) 0 0)
-  stepped-pair q r (suc (suc t)) d low whose e = absurd (omega (arith, low))
+-- The queue after a step and back.
+all-back : (q q₁ : Queue) (t : ℕ) (k : Kept) → Steps q t k q₁ → restored k t (moved q t .queue) ≡ q
+unfolding moved
+all-back q q₁ t k s =
+    let r = taskAt q t in
+    let a = moveOn (q .tables) r in
+    let tables : putBack (k .saved) (a .tables) ≡ q .tables =
+    ap (λ (x : Saved). putBack x (a .tables)) (s .words-kept) ∙ tables-back (q .tables) r
+    in
+    let records : set (set (q .records) t (a .task)) t (recordOf (k .row)) ≡ q .records =
+    ap (set (set (q .records) t (a .task)) t) (s .record-kept) ∙ set-set (q .records) t (a .task) r ∙ set-getD (q .records) t unused
+    in
+    λ i.
+    record { tables = tables i; records = records i }
 
--- s: the words kept; d: the step; n: the two after it; q′, ws′: what is left by the search below it; q″, ws″: after putting back.
-module _ (q : Tables) (a b r : Record) (t left len : ℕ) (free : Bool) (ws : List ℕ) (low : t < 2) (some : 0 < left) (few : left ≤ 48)
-    (whose : r ≡ cond (eqb t 0) a b) where
-  -- What is found below, by the two or by the step.
-  abbrev beneath : Acted → Next
-  beneath d = under (not (isMoved (d .outcome))) free (below ws len (left - 1) free a b t d)
+-- The queue of a search, lent as rows, and task t's row in it moved on: the step of the task.
+module _ (control : List ℕ) (pair : List (List ℕ)) (lefts rights labels marks next : List ℕ) (t : ℕ) where
+  abbrev Q : Queue
+  Q = queueIn control pair lefts rights labels marks next
 
-  abbrev from : Acted → Two → Sought
-  from d n =
-      let v = tablesOf (n .control) (d .tables .lefts) (d .tables .rights) (d .tables .labels) (d .tables .marks) (d .tables .next) in
-      sought (left - 1) ws (under (n .stopped) free (seekOf ws len (left - 1) free (pairOf v (n .a) (n .b)))) v
+  abbrev was : List ℕ
+  was = getD pair t []
 
-  abbrev stepTo : Acted → Two
-  stepTo d = record {
-    control = d .tables .control;
-    a = cond (eqb t 0) (d .task .call) a;
-    b = cond (eqb t 0) b (d .task .call);
-    stopped = not (isMoved (d .outcome));
-  }
+  pub steps : (control₁ row₁ lefts₁ rights₁ labels₁ marks₁ next₁ : List ℕ) (r : Record) (s : Saved) (o : Outcome) (moves : Bool)
+      → r ≡ callOf was → s ≡ saved (row r) (Q .tables)
+      → RowMoved (Q .tables) was (tablesOf (controlOf control₁) lefts₁ rights₁ labels₁ marks₁ next₁) row₁ o → moves ≡ isMoved o
+      → Steps Q t (record { row = was; saved = s; stopped = not moves }) (queueIn control₁ (set pair t row₁) lefts₁ rights₁ labels₁ marks₁ next₁)
+  unfolding moved recordOf
+  steps control₁ row₁ lefts₁ rights₁ labels₁ marks₁ next₁ r s o moves whose kept made told =
+      let done : _≡_ {A = Done} (record { queue = queueIn control₁ (set pair t row₁) lefts₁ rights₁ labels₁ marks₁ next₁; outcome = o }) (moved Q t) =
+      rw (record-put pair t row₁) (ap (back Q t) (made .0 ∙ ap (moveOn (Q .tables)) (record-read pair t)))
+      in
+      record {
+        record-kept = record-read pair t;
+        words-kept = kept ∙ ap (λ (x : Record). saved (row x) (Q .tables)) (whose ∙ ap (λ (x : TaskRecord). x .call) (record-read pair t));
+        stopped = ap not (told ∙ ap (λ (d : Done). isMoved (d .outcome)) done);
+        queue = ap (λ (d : Done). d .queue) done;
+      }
 
-  pub there-and-back : (d : Acted) (n : Two) (s : Saved) (f : Found) (ws′ ws″ : List ℕ) (q′ q″ : Tables)
-      → s ≡ saved (row r) q → d ≡ stepOfTwo q r t → n ≡ stepTo d
-      → handed f ws′ q′ ≡ from d n
-      → q″ ≡ putBack (q .control) s q′
+-- c: whether task t may be next.
+module _ (ws : List ℕ) (len left : ℕ) (free : Bool) (q : Queue) (t : ℕ) where
+  abbrev skip : Bool
+  skip = not (atWork q t) || skips ws len left free t
+
+  passing : (skip any : Bool) (c : ℕ) → c ≡ cond skip 0 (cond any 2 1) → c ≡ 0 → skip ≡ true
+  passing true any c e h = refl
+  passing false true c e h = absurd (omega (arith, e, h))
+  passing false false c e h = absurd (omega (arith, e, h))
+
+  going : (skip any : Bool) (c : ℕ) → c ≡ cond skip 0 (cond any 2 1) → (c ≡ 0 → ⊥) → (skip ≡ false) × (eqb c 2 ≡ any)
+  going true any c e h = absurd (h e)
+  going false true c e h = (refl, rw e refl)
+  going false false c e h = (refl, rw e refl)
+
+  pub passed-over : (c : ℕ) (f : Found) → c ≡ choice ws len left free q t → c ≡ 0 → f ≡ record { found = false; length = 0; ending = 0 }
+      → handed f ws q ≡ sought left ws (branch ws len left free q t) q
+  passed-over c f e none h = rw (passing skip (frees ws len left free t) c e none) (none-here f left ws q h)
+
+  -- k: what is kept; the queue and the memory after the step (₁), after the search below it (′), and after putting back (″).
+  pub there-and-back : 0 < left → left ≤ 48 → (c : ℕ) (k : Kept) (q₁ q′ q″ : Queue) (f : Found) (ws′ ws″ : List ℕ)
+      → c ≡ choice ws len left free q t → (c ≡ 0 → ⊥) → Steps q t k q₁
+      → handed f ws′ q′ ≡ sought (left - 1) ws (under (k .stopped) (eqb c 2) (seeking ws len (left - 1) (eqb c 2) q₁)) q₁
+      → q″ ≡ restored k t q′
       → ws″ ≡ cond (f .found) (set ws′ (49 - left) t) ws′
-      → handed f ws″ q″ ≡ sought left ws (by ws len (left - 1) free a b t (act (pairOf q a b) t Step)) q
+      → handed f ws″ q″ ≡ sought left ws (branch ws len left free q t) q
   unfolding sought
-  there-and-back d n s f ws′ ws″ q′ q″ kept done then found put noted =
-      let u = beneath d in
-      let all : handed f ws′ q′ ≡ sought (left - 1) ws u (d .tables) = found ∙ ap (from d) then in
+  there-and-back some few c k q₁ q′ q″ f ws′ ws″ chosen goes step found put noted =
+      let d = moved q t in
+      let beneath : Bool → Bool → Queue → Next = λ stopped any p. under stopped any (seeking ws len (left - 1) any p) in
+      let any = frees ws len left free t in
+      let may = going skip any c chosen goes in
+      let u = beneath (not (isMoved (d .outcome))) any (d .queue) in
+      let all : handed f ws′ q′ ≡ sought (left - 1) ws u (d .queue) =
+      found
+      ∙ ap (λ (x : Bool). sought (left - 1) ws (beneath (k .stopped) x q₁) q₁) (may .1)
+      ∙ ap (λ (x : Bool). sought (left - 1) ws (beneath x any q₁) q₁) (step .stopped)
+      ∙ ap (λ (p : Queue). sought (left - 1) ws (beneath (not (isMoved (d .outcome))) any p) p) (step .queue)
+      in
       let fs : f ≡ foundOf (48 - (left - 1)) u = ap (λ (z : Sought). z .found) all in
       let ms : ws′ ≡ written (49 - (left - 1)) u ws = ap (λ (z : Sought). z .memory) all in
-      let ts : q′ ≡ d .tables = ap (λ (z : Sought). z .tables) all in
       let memory : ws″ ≡ written (49 - left) (prefixed t u) ws =
       noted
       ∙ ap (λ (g : Found). cond (g .found) (set ws′ (49 - left) t) ws′) fs
       ∙ ap (λ (l : List ℕ). cond (foundOf (48 - (left - 1)) u .found) (set l (49 - left) t) l) ms
-      ∙ prefix-written left t u ws some few
+      ∙ prefix-written left t some few u ws
       in
-      let tables : q″ ≡ q =
-      put
-      ∙ ap (λ (v : Tables). putBack (q .control) s v) (ts ∙ ap (λ (g : Acted). g .tables) done)
-      ∙ ap (λ (k : Saved). putBack (q .control) k (stepOfTwo q r t .tables)) kept
-      ∙ undoes q _ (withCall unused r)
-      in
-      let next = stepped-pair ws len (left - 1) free a b q r t d low whose done ∙ stepped-is t (d .outcome) free _ in
-      (λ i. handed ((fs ∙ prefix-found left t u some few) i) (memory i) (tables i)) ∙ ap (λ (m : Next). sought left ws m q) (sym next)
+      let queue : q″ ≡ q = put ∙ ap (λ (z : Sought). restored k t (z .queue)) all ∙ all-back q q₁ t k step in
+      rw (may .0)
+      ((λ i. handed ((fs ∙ prefix-found left t some few u) i) (memory i) (queue i))
+      ∙ ap (λ (m : Next). sought left ws m q) (sym (stepped-is t (d .outcome) any (seeking ws len (left - 1) any (d .queue)))))

@@ -1,25 +1,29 @@
--- What a search hands back by value, with the memory and the tables that it was lent.
-use mathlib.Core.Bool.{Bool, true, false, cond}
-use mathlib.Core.List.{List, [], _∷_}
+-- What a search hands back by value, with the memory and the queue that it was lent.
+use mathlib.Core.Bool.{Bool, true, false, _||_, not, cond}
+use mathlib.Core.List.{List}
 use Prim.Native.Nat.{ℕ, _+_, _-_}
-use lib.Dec.{eqb, leb, ltb}
+use lib.Dec.{eqb}
 use lib.ListN.{length}
 use lib.Seq.{sets}
-use Rattle.model.specs.declared.Record.{Record}
-use Rattle.model.specs.Tables.{Tables, Queue, unused, withCall}
-use Rattle.model.specs.Calls.{Acted, step}
-use Rattle.schedule_model.specs.Schedules.{ends}
+use Rattle.model.specs.Tables.{Queue}
+use Rattle.schedule_model.specs.Schedules.{ends, atWork}
 use Rattle.schedule_model.specs.Next.{Next, given, noMore}
-use Rattle.schedule_model.specs.Search.{ended}
+use Rattle.schedule_model.specs.Search.{ended, skips, frees, tried, seekBy}
 use Rattle.schedule_search.specs.declared.Found.{Found}
+use Rattle.schedule_search.specs.Stepped.{moved}
 
--- The tables with the calls of two tasks. Their counts do not matter to the search, which keeps none.
-abbrev pub pairOf : Tables → Record → Record → Queue
-pairOf q a b = record { tables = q; records = withCall unused a ∷ withCall unused b ∷ [] }
+abbrev pub seeking : List ℕ → ℕ → ℕ → Bool → Queue → Next
+seeking = seekBy moved
 
--- The step of one of two tasks, by its call.
-abbrev pub stepOfTwo : Tables → Record → ℕ → Acted
-stepOfTwo q r t = step q (record { enough = leb (q .control .tasks) 2; known = ltb t (q .control .tasks) }) (withCall unused r)
+-- The schedules that begin with task t.
+abbrev pub branch : List ℕ → ℕ → ℕ → Bool → Queue → ℕ → Next
+branch ws len left free q t =
+    let d = moved q t in
+    tried ws len left free q t (d .outcome) (seeking ws len (left - 1) (frees ws len left free t) (d .queue))
+
+-- Whether task t may be next: 0 not; 1 bound by the rest of the list; 2 any schedule that goes on with it will do.
+abbrev pub choice : List ℕ → ℕ → ℕ → Bool → Queue → ℕ → ℕ
+choice ws len left free q t = cond (not (atWork q t) || skips ws len left free t) 0 (cond (frees ws len left free t) 2 1)
 
 -- After so many steps made: the whole length and the ending.
 abbrev pub foundOf : ℕ → Next → Found
@@ -34,11 +38,11 @@ written i noMore ws = ws
 pub record Sought : Type 0 where
   pub found : Found
   pub memory : List ℕ
-  pub tables : Tables
+  pub queue : Queue
 
--- With so many steps to go; the tables are as before.
-unfoldable pub sought : ℕ → List ℕ → Next → Tables → Sought
-sought left ws m q = record { found = foundOf (48 - left) m; memory = written (49 - left) m ws; tables = q }
+-- With so many steps to go; the queue is as before.
+unfoldable pub sought : ℕ → List ℕ → Next → Queue → Sought
+sought left ws m q = record { found = foundOf (48 - left) m; memory = written (49 - left) m ws; queue = q }
 
 -- How a schedule ends: the last step was refused, both calls are answered, no step is left; or 3, it goes on.
 abbrev pub endsHere : Bool → Bool → ℕ → ℕ

@@ -1,22 +1,14 @@
 //! The search for a schedule: a step, what comes after it, and back.
-use model::Control;
-use model::Record;
-use model::TaskRecord;
-use rows::value;
-use rows::value::Stepped;
-use sound::admission;
 ghost use mathlib.Core.Path.{_≡_};
-ghost use mathlib.Core.Bool.{_&&_, not, cond, false};
-ghost use Prim.Native.Nat.{_≤_, _<_, _-_};
-ghost use lib.Dec.{eqb};
+ghost use mathlib.Core.Bool.{cond, false};
+ghost use mathlib.Core.List.{[], _∷_};
+ghost use Prim.Native.Nat.{_≤_, _<_};
 ghost use lib.ListN.{set};
-ghost use Rattle.model.specs.declared.Op.the-variants.{Step};
-ghost use Rattle.model.specs.Tables.{tablesOf};
-ghost use Rattle.model.specs.Calls.{Acted, act};
-ghost use Rattle.model.specs.Ends.{isMoved};
-ghost use Rattle.schedule_model.specs.Schedules.{ends};
-ghost use Rattle.schedule_model.specs.Search.{ended, frees, stepped, tried, seekOf};
-ghost use Rattle.schedule_search.specs.Sought.{pairOf, stepOfTwo, foundOf, Sought, sought, endsHere, under};
+ghost use Rattle.model.specs.Tables.{Tables};
+ghost use Rattle.rows.specs.Rows.{recordsOf, queueIn};
+ghost use Rattle.schedule_model.specs.Schedules.{ends, bothAnswered};
+ghost use Rattle.schedule_model.specs.Search.{ended};
+ghost use Rattle.schedule_search.specs.Sought.{seeking, branch, choice, foundOf, Sought, sought, endsHere, under};
 
 mod undo;
 
@@ -25,15 +17,6 @@ pub struct Found {
     pub found: bool,
     pub length: u64,
     pub ending: u64,
-}
-
-/// Control and the calls of two tasks, as the steps so far left them.
-struct Two {
-    control: Control,
-    a: Record,
-    b: Record,
-    /// The last step was refused.
-    stopped: bool,
 }
 
 /// A schedule that ends here, after so many steps, if any schedule will do.
@@ -61,106 +44,51 @@ fn none() -> Found
 }
 
 /// How a schedule ends here; 3: it goes on.
-fn ending(two: Two, left: u64) -> u64
-    ensures { λ e. ⌜ e ≡ endsHere (two .stopped) (eqb (two .a .place) 0 && eqb (two .b .place) 0) left ⌝ }
+fn ending(stopped: bool, pair: &[[u64; rows::RECORD_WORDS]; 2], left: u64) -> u64
+    ensures { λ e.
+        ⌜ ((q : Tables) → e ≡ endsHere stopped (bothAnswered (record { tables = q; records = recordsOf (now (pair .entry)) })) left) ⌝ }
 {
-    if two.stopped {
+    if stopped {
         return 2;
     }
-    if (two.a.place == 0) & (two.b.place == 0) {
+    let a = rows::call_at(pair, 0);
+    let b = rows::call_at(pair, 1);
+    if !(!(a.place == 0) | !(b.place == 0)) {
         return 0;
     }
     if left == 0 { 1 } else { 3 }
 }
 
-fn place_of(t: u64, two: Two) -> u64
-    ensures { λ p. ⌜ p ≡ cond (eqb t 0) (two .a .place) (two .b .place) ⌝ }
-{
-    if t == 0 { two.a.place } else { two.b.place }
-}
-
-/// The call of task t.
-fn pick(t: u64, two: Two) -> Record
-    ensures { λ r. ⌜ r ≡ cond (eqb t 0) (two .a) (two .b) ⌝ }
-{
-    if t == 0 { two.a } else { two.b }
-}
-
-/// The step of task t of two, whose call is r. How often its changes failed does not matter to the search.
-fn step_of(
+/// Whether task t may be next: 0 not, since it is idle or the given list forbids it; 1 bound by the rest of the list;
+/// 2 any schedule that goes on with it will do.
+fn choose(
     t: u64,
-    c: Control,
-    r: Record,
-    lefts: &mut [u64],
-    rights: &mut [u64],
-    labels: &mut [u32],
-    marks: &mut [u64],
-    next: &mut [u64],
-) -> Stepped
-    ensures { λ s.
-        ⌜ _≡_ {A = Acted}
-        (record {
-          tables = tablesOf (s .control) (now (lefts .exit)) (now (rights .exit)) (now (labels .exit)) (now (marks .exit)) (now (next .exit));
-          task = s .task;
-          outcome = s .outcome;
-        })
-        (stepOfTwo (tablesOf c (now (lefts .entry)) (now (rights .entry)) (now (labels .entry)) (now (marks .entry)) (now (next .entry))) r t) ⌝ }
+    pair: &[[u64; rows::RECORD_WORDS]; 2],
+    left: u64,
+    free: bool,
+    len: u64,
+    given: &[u64],
+) -> u64
+    requires { ⌜ left ≤ 48 ⌝ }
+    ensures { λ c.
+        ⌜ ((q : Tables)
+        → c ≡ choice (now (given .entry)) len left free (record { tables = q; records = recordsOf (now (pair .entry)) }) t) ⌝ }
 {
-    let task = TaskRecord {
-        call: r,
-        retries: 0,
-    };
-    let why = admission::admit(
-        c,
-        2,
-        t as usize,
-        lefts.len(),
-        rights.len(),
-        labels.len(),
-        marks.len(),
-        next.len(),
-    );
-    if why != 0 {
-        let outcome = engine::refuse(why);
-        return Stepped {
-            control: c,
-            task,
-            outcome,
-        };
+    let r = rows::call_at(pair, t as usize);
+    if r.place == 0 {
+        return 0;
     }
-    value::move_on(c, task, lefts, rights, labels, marks, next)
-}
-
-/// The two after a step of task t.
-fn after(t: u64, two: Two, m: Stepped) -> Two
-    ensures { λ n.
-        ⌜ n ≡ record {
-          control = m .control;
-          a = cond (eqb t 0) (m .task .call) (two .a);
-          b = cond (eqb t 0) (two .b) (m .task .call);
-          stopped = not (isMoved (m .outcome));
-        } ⌝ }
-{
-    let o = m.outcome;
-    let stopped = !engine::moves(o);
-    let control = m.control;
-    let r = m.task.call;
-    if t == 0 {
-        let b = two.b;
-        return Two {
-            control,
-            a: r,
-            b,
-            stopped,
-        };
+    if free {
+        return 2;
     }
-    let a = two.a;
-    Two {
-        control,
-        a,
-        b: r,
-        stopped,
+    if len <= 48 - left {
+        return 2;
     }
+    let least = table::word_at(given, 49 - left);
+    if t < least {
+        return 0;
+    }
+    if t == least { 1 } else { 2 }
 }
 
 /// A step of what was found is stored on the way back.
@@ -172,11 +100,11 @@ fn note(f: Found, given: &mut [u64], at: u64, t: u64)
     }
 }
 
-/// The first schedule of the calls a and b after the given list of length `len`. Its steps are stored in the list's place.
+/// The first schedule of the calls in the rows a and b after the given list of length `len`. Its steps are stored in the list's place.
 pub fn search(
-    c: Control,
-    a: Record,
-    b: Record,
+    control: [u64; rows::CONTROL_WORDS],
+    a: [u64; rows::RECORD_WORDS],
+    b: [u64; rows::RECORD_WORDS],
     len: u64,
     given: &mut [u64],
     lefts: &mut [u64],
@@ -190,21 +118,20 @@ pub fn search(
         (record {
           found = f;
           memory = now (given .exit);
-          tables = tablesOf c (now (lefts .exit)) (now (rights .exit)) (now (labels .exit)) (now (marks .exit)) (now (next .exit));
+          queue = queueIn control (a ∷ b ∷ []) (now (lefts .exit)) (now (rights .exit)) (now (labels .exit)) (now (marks .exit)) (now (next .exit));
         })
-        (let q = tablesOf c (now (lefts .entry)) (now (rights .entry)) (now (labels .entry)) (now (marks .entry)) (now (next .entry)) in
+        (let q = queueIn control (a ∷ b ∷ []) (now (lefts .entry)) (now (rights .entry)) (now (labels .entry)) (now (marks .entry)) (now (next .entry)) in
         let ws = now (given .entry) in
-        sought 48 ws (seekOf ws len 48 false (pairOf q a b)) q) ⌝ }
+        sought 48 ws (seeking ws len 48 false q) q) ⌝ }
 {
-    let two = Two {
-        control: c,
-        a,
-        b,
-        stopped: false,
-    };
+    let mut words = control;
+    let mut pair = [a, b];
+    let stopped = false;
     let free = false;
     seek(
-        two,
+        stopped,
+        &mut words,
+        &mut pair,
         48,
         free,
         len,
@@ -217,10 +144,12 @@ pub fn search(
     )
 }
 
-/// The first schedule from here on, with `left` steps to go. free: any will do, else one after the given
-/// list of length `len`, which the steps so far follow.
+/// The first schedule from here on, with `left` steps to go, after a step that was refused (stopped) or made. free: any will
+/// do, else one after the given list of length `len`, which the steps so far follow.
 fn seek(
-    two: Two,
+    stopped: bool,
+    control: &mut [u64; rows::CONTROL_WORDS],
+    pair: &mut [[u64; rows::RECORD_WORDS]; 2],
     left: u64,
     free: bool,
     len: u64,
@@ -237,51 +166,48 @@ fn seek(
         (record {
           found = f;
           memory = now (given .exit);
-          tables = tablesOf (two .control) (now (lefts .exit)) (now (rights .exit)) (now (labels .exit)) (now (marks .exit)) (now (next .exit));
+          queue = queueIn (now (control .exit)) (now (pair .exit))
+              (now (lefts .exit)) (now (rights .exit)) (now (labels .exit)) (now (marks .exit)) (now (next .exit));
         })
-        (let q = tablesOf (two .control) (now (lefts .entry)) (now (rights .entry)) (now (labels .entry)) (now (marks .entry)) (now (next .entry)) in
+        (let q = queueIn (now (control .entry)) (now (pair .entry))
+        (now (lefts .entry)) (now (rights .entry)) (now (labels .entry)) (now (marks .entry)) (now (next .entry)) in
         let ws = now (given .entry) in
-        sought left ws (under (two .stopped) free (seekOf ws len left free (pairOf q (two .a) (two .b)))) q) ⌝ }
+        sought left ws (under stopped free (seeking ws len left free q)) q) ⌝ }
 {
-    let e = ending(two, left);
+    let e = ending(stopped, pair, left);
     if e != 3 {
         return ended(free, 48 - left, e);
     }
-    let first = through(
-        0,
-        two,
-        left,
-        free,
-        len,
-        given,
-        lefts,
-        rights,
-        labels,
-        marks,
-        next,
-    );
-    if first.found {
-        return first;
+    let mut t: u64 = 0;
+    while t < 2 {
+        let f = through(
+            t,
+            control,
+            pair,
+            left,
+            free,
+            len,
+            given,
+            lefts,
+            rights,
+            labels,
+            marks,
+            next,
+        );
+        if f.found {
+            return f;
+        }
+        t += 1;
     }
-    through(
-        1,
-        two,
-        left,
-        free,
-        len,
-        given,
-        lefts,
-        rights,
-        labels,
-        marks,
-        next,
-    )
+    none()
 }
 
-/// Those that begin with task t, if it is busy and the given list lets it.
+/// Those that begin with task t, if it is busy and the given list lets it: steps it, goes on, and puts back what the step
+/// wrote. Called at one place, so that a level of the search is one frame.
 fn through(
     t: u64,
-    two: Two,
+    control: &mut [u64; rows::CONTROL_WORDS],
+    pair: &mut [[u64; rows::RECORD_WORDS]; 2],
     left: u64,
     free: bool,
     len: u64,
@@ -298,70 +224,26 @@ fn through(
         (record {
           found = f;
           memory = now (given .exit);
-          tables = tablesOf (two .control) (now (lefts .exit)) (now (rights .exit)) (now (labels .exit)) (now (marks .exit)) (now (next .exit));
+          queue = queueIn (now (control .exit)) (now (pair .exit))
+              (now (lefts .exit)) (now (rights .exit)) (now (labels .exit)) (now (marks .exit)) (now (next .exit));
         })
-        (let q = tablesOf (two .control) (now (lefts .entry)) (now (rights .entry)) (now (labels .entry)) (now (marks .entry)) (now (next .entry)) in
+        (let q = queueIn (now (control .entry)) (now (pair .entry))
+        (now (lefts .entry)) (now (rights .entry)) (now (labels .entry)) (now (marks .entry)) (now (next .entry)) in
         let ws = now (given .entry) in
-        let p = pairOf q (two .a) (two .b) in
-        sought left ws (tried ws len left free p t (seekOf ws len (left - 1) (frees ws len left free t) (act p t Step .queue))) q) ⌝ }
+        sought left ws (branch ws len left free q t) q) ⌝ }
 {
-    let place = place_of(t, two);
-    let least = table::word_at(given, 49 - left);
-    let bound = !free & (48 - left < len);
-    if (place == 0) | (bound & (t < least)) {
+    let c = choose(t, pair, left, free, len, given);
+    if c == 0 {
         return none();
     }
-    let any = !bound | !(t == least);
-    step_and_back(
-        t,
-        two,
-        left,
-        any,
-        len,
-        given,
-        lefts,
-        rights,
-        labels,
-        marks,
-        next,
-    )
-}
-
-/// Steps task t, goes on, and puts back what the step wrote.
-fn step_and_back(
-    t: u64,
-    two: Two,
-    left: u64,
-    free: bool,
-    len: u64,
-    given: &mut [u64],
-    lefts: &mut [u64],
-    rights: &mut [u64],
-    labels: &mut [u32],
-    marks: &mut [u64],
-    next: &mut [u64],
-) -> Found
-    requires { ⌜ (t < 2) × ((0 < left) × (left ≤ 48)) ⌝ }
-    ensures { λ f.
-        ⌜ _≡_ {A = Sought}
-        (record {
-          found = f;
-          memory = now (given .exit);
-          tables = tablesOf (two .control) (now (lefts .exit)) (now (rights .exit)) (now (labels .exit)) (now (marks .exit)) (now (next .exit));
-        })
-        (let q = tablesOf (two .control) (now (lefts .entry)) (now (rights .entry)) (now (labels .entry)) (now (marks .entry)) (now (next .entry)) in
-        let d = act (pairOf q (two .a) (two .b)) t Step in
-        sought left (now (given .entry)) (stepped t (d .outcome) free (seekOf (now (given .entry)) len (left - 1) free (d .queue))) q) ⌝ }
-{
-    let r = pick(t, two);
-    let s = undo::keep(r, lefts, rights, labels, marks, next);
-    let c = two.control;
-    let m = step_of(t, c, r, lefts, rights, labels, marks, next);
-    let then = after(t, two, m);
+    let i = t as usize;
+    let k = undo::step(i, control, pair, lefts, rights, labels, marks, next);
     let f = seek(
-        then,
+        k.stopped,
+        control,
+        pair,
         left - 1,
-        free,
+        c == 2,
         len,
         given,
         lefts,
@@ -370,7 +252,7 @@ fn step_and_back(
         marks,
         next,
     );
-    undo::put_back(s, lefts, rights, labels, marks, next);
+    undo::back(k, i, control, pair, lefts, rights, labels, marks, next);
     note(f, given, 49 - left, t);
     f
 }

@@ -9,7 +9,7 @@ use Rattle.word.specs.declared.Anchor.{Anchor}
 use Rattle.word.specs.Anchor.{anchorOf}
 use Rattle.model.specs.declared.Record.{Record}
 use Rattle.model.specs.Sound.{from1, linkSound, anchorSound, recordSound}
-use Rattle.sound.specs.Records.{earlyCall, earlySeen, earlySound}
+use Rattle.sound.specs.Records.{readSound, earlyCall, earlySeen, earlySound}
 use Rattle.sound.proofs.Parts.{callSound, readsSound, busy-sound}
 use Rattle.sound.proofs.Places.{at-push, at-other}
 use Rattle.sound.proofs.Ends.{equal, apart}
@@ -48,43 +48,16 @@ zero-low n = go (eqb n 0) refl
     go true e = let zero : n ≡ 0 = eqb-true n 0 e in rw (le-leb n 1 (omega arith))
     go false e = simp and-false
 
-all-order : (s n l c r : Bool) → (s && (n && (l && (c && r)))) ≡ ((s && c) && (n && (l && r)))
+all-order : (s n l c r : Bool) → (s && ((n && l) && (c && r))) ≡ ((s && c) && (n && (l && r)))
 all-order false n l c r = refl
 all-order true true true c r = refl
 all-order true true false c r = simp and-false
 all-order true false l c r = simp and-false
 
--- The tests one by one: of a pop, and of an Anchor word with equal ends or with different ones.
+-- The tests of a pop.
 pub pops : (slots : ℕ) (r : Record) → (r .kind ≡ 0 → ⊥) → r .kind ≡ 1 → (eqb (r .own) 0 && eqb (r .finishing) 0) ≡ earlyCall slots r
 unfolding earlyCall
 pops slots r other pop = rw (ne-eqb _ _ other, eq-eqb _ _ pop)
-
-module _ (slots place : ℕ) (a : Anchor) where
-  module _ (same : a .left ≡ a .right) where
-    pub equal-late : 5 ≤ place → false ≡ earlySeen slots place a
-    unfolding earlySeen
-    equal-late late = rw (eq-eqb _ _ same, le-leb _ _ late)
-
-    pub equal-soon : place < 5 → (eqb (a .status) 0 && leb (a .left) slots) ≡ earlySeen slots place a
-    unfolding earlySeen
-    equal-soon soon = rw (eq-eqb _ _ same, lt-leb 5 place soon)
-
-  module _ (other : a .left ≡ a .right → ⊥) where
-    pub left-out : from1 slots (a .left) ≡ false → false ≡ earlySeen slots place a
-    unfolding earlySeen
-    left-out l = rw (ne-eqb _ _ other, l)
-
-    pub right-out : from1 slots (a .left) ≡ true → from1 slots (a .right) ≡ false → false ≡ earlySeen slots place a
-    unfolding earlySeen
-    right-out l r = rw (ne-eqb _ _ other, l, r)
-
-    pub apart-late : from1 slots (a .left) ≡ true → from1 slots (a .right) ≡ true → 5 ≤ place → from1 2 (a .status) ≡ earlySeen slots place a
-    unfolding earlySeen
-    apart-late l r late = rw (ne-eqb _ _ other, l, r, le-leb _ _ late)
-
-    pub apart-soon : from1 slots (a .left) ≡ true → from1 slots (a .right) ≡ true → place < 5 → leb (a .status) 2 ≡ earlySeen slots place a
-    unfolding earlySeen
-    apart-soon l r soon = rw (ne-eqb _ _ other, l, r, lt-leb 5 place soon)
 
 module _ (slots : ℕ) (r : Record) (high : r .place ≤ 10) where
   call-early : (pooled : Bool) → (leb (r .side) 1 && earlyCall slots r) ≡ callSound pooled slots r
@@ -144,7 +117,7 @@ module _ (slots : ℕ) (r : Record) (high : r .place ≤ 10) where
 
   -- All of them.
   pub early : (pooled : Bool) → 0 < r .place → earlySound slots r ≡ recordSound pooled slots r
-  unfolding readsSound earlySound
+  unfolding readsSound earlySound readSound
   early pooled busy =
       all-order (leb (r .side) 1) (leb (r .neighbour) slots) (linkSound slots (r .link)) (earlyCall slots r) (earlySeen slots (r .place) a)
       ∙ (rw (call-early pooled, seen-early)

@@ -45,3 +45,14 @@ apart slots a other =
         let left : a .left ≡ 0 → ⊥ = eqb-false _ _ e in
         let right : a .right ≡ 0 → ⊥ = eqb-false _ _ f in
         rw (le-leb 1 (a .left) (omega arith), le-leb 1 (a .right) (omega arith)) (simp (or-true, and-true))
+
+-- The tests of different ends one by one.
+module _ (slots : ℕ) (a : Anchor) (other : a .left ≡ a .right → ⊥) where
+  pub left-null : from1 slots (a .left) ≡ false → false ≡ anchorSound slots a
+  left-null l = rw (← apart slots a other, l) (simp and-false)
+
+  pub right-null : from1 slots (a .right) ≡ false → false ≡ anchorSound slots a
+  right-null r = rw (← apart slots a other, r) (simp and-false)
+
+  pub both-slots : from1 slots (a .left) ≡ true → from1 slots (a .right) ≡ true → leb (a .status) 2 ≡ anchorSound slots a
+  both-slots l r = rw (← apart slots a other, l, r) (simp and-true)

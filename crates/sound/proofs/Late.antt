@@ -10,7 +10,7 @@ use Rattle.word.specs.Link.{linkOf}
 use Rattle.model.specs.declared.Record.{Record}
 use Rattle.model.specs.Sound.{from1, linkSound, anchorSound, recordSound}
 use Rattle.model.specs.Kinds.{helping}
-use Rattle.sound.specs.Records.{lateCall, lateSound}
+use Rattle.sound.specs.Records.{readSound, lateCall, lateSound}
 use Rattle.sound.proofs.Parts.{callSound, readsSound, busy-sound}
 use Rattle.sound.proofs.Early.{zero-low}
 use Rattle.sound.proofs.Places.{at-draw, at-give, at-push, at-other, beyond}
@@ -54,7 +54,7 @@ pub gives : (pooled : Bool) (slots : ℕ) (r : Record) → (r .place ≡ 11 → 
 unfolding lateCall
 gives pooled slots r other pool far pop high = rw (ne-eqb _ _ other, pool, lt-leb _ _ far, eq-eqb _ _ pop, le-leb _ _ high)
 
-all-order : (s n l z a c : Bool) → (s && (n && (l && (z && (a && c))))) ≡ ((s && (z && c)) && (n && (l && (a && true))))
+all-order : (s n l z a c : Bool) → (s && ((n && l) && (z && (a && c)))) ≡ ((s && (z && c)) && (n && (l && (a && true))))
 all-order false n l z a c = refl
 all-order true n l false a c = simp and-false
 all-order true true true true true c = simp and-true
@@ -107,7 +107,7 @@ module _ (pooled : Bool) (slots : ℕ) (r : Record) (low : 10 < r .place) where
 
   -- All of them.
   pub late : lateSound pooled slots r ≡ recordSound pooled slots r
-  unfolding readsSound lateSound
+  unfolding readsSound lateSound readSound
   late =
       all-order (leb (r .side) 1) (leb (r .neighbour) slots) (linkSound slots (r .link)) (eqb (r .finishing) 0) (anchorSound slots (anchorOf (r .seen)))
       (lateCall pooled slots r)

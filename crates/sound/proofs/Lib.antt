@@ -1,4 +1,5 @@
 pub mod Ends
+pub mod Seen
 pub mod Parts
 pub mod Places
 pub mod Early

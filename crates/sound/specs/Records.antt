@@ -22,10 +22,14 @@ earlySeen slots place a =
     (not (leb 5 place) && (eqb (a .status) 0 && leb (a .left) slots))
     (from1 slots (a .left) && (from1 slots (a .right) && cond (leb 5 place) (from1 2 (a .status)) (leb (a .status) 2)))
 
+-- Neighbour and link word.
+unfoldable pub readSound : ℕ → ℕ → ℕ → Bool
+readSound slots neighbour link = leb neighbour slots && linkSound slots link
+
 unfoldable pub earlySound : ℕ → Record → Bool
 earlySound slots r =
     leb (r .side) 1
-    && (leb (r .neighbour) slots && (linkSound slots (r .link) && (earlyCall slots r && earlySeen slots (r .place) (anchorOf (r .seen)))))
+    && (readSound slots (r .neighbour) (r .link) && (earlyCall slots r && earlySeen slots (r .place) (anchorOf (r .seen))))
 
 -- The tests of a record beyond 10 of its kind and own slot, and of the head that it has read.
 unfoldable pub lateCall : Bool → ℕ → Record → Bool
@@ -39,5 +43,5 @@ lateCall pooled slots r =
 unfoldable pub lateSound : Bool → ℕ → Record → Bool
 lateSound pooled slots r =
     leb (r .side) 1
-    && (leb (r .neighbour) slots && (linkSound slots (r .link)
-    && (eqb (r .finishing) 0 && (anchorSound slots (anchorOf (r .seen)) && lateCall pooled slots r))))
+    && (readSound slots (r .neighbour) (r .link)
+    && (eqb (r .finishing) 0 && (anchorSound slots (anchorOf (r .seen)) && lateCall pooled slots r)))

@@ -5,6 +5,8 @@ pub mod Starting
 pub mod LateStays
 pub mod Good
 pub mod Relation
+pub mod Labels
+pub mod OneLabel
 pub mod Instruction
 pub mod Clean
 pub mod Steps

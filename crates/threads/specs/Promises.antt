@@ -2,9 +2,10 @@
 use mathlib.Core.Path.{_≡_}
 use mathlib.Core.Bool.{Bool, true, false, _&&_, _||_, cond}
 use mathlib.Core.List.{List, _++_}
-use Prim.Native.Nat.{ℕ}
+use mathlib.Core.Logic.{_≢_}
+use Prim.Native.Nat.{ℕ, _<_}
 use lib.Dec.{leb}
-use lib.ListN.{getD}
+use lib.ListN.{getD, set}
 use Rattle.model.specs.declared.Record.{Record}
 use Rattle.model.specs.declared.TaskRecord.{TaskRecord}
 use Rattle.model.specs.declared.Outcome.{Outcome}
@@ -22,7 +23,8 @@ use Rattle.threads_model.specs.declared.Start.{Start}
 use Rattle.threads_model.specs.Starts.{isNamed, planStart}
 use Rattle.threads_model.specs.Turns.{Turn, take, runTurns, finalTurns}
 use Rattle.threads_model.specs.Instructions.{Hand, free, begun, loaded, knows, claims, looks, labels, marks, ends}
-use Rattle.threads_model.specs.Crew.{Crew, Act, allFree, Known, goOn, turns, told, outcomesOf, owed}
+use Rattle.threads_model.specs.Instructions.{Ticked, tick, withLabels, labelTouched}
+use Rattle.threads_model.specs.Crew.{Crew, Act, allFree, Known, goOn, turns, told, outcomesOf, owed, labelNext}
 
 -- For any tables and any record: where the tables are admitted (34 for control and Anchor, 12), plan, touch and settlement are the step on the lent
 -- record, refusals and all.
@@ -119,3 +121,24 @@ NeverUnsound pooled slots q l = (t : ℕ) → All (λ (o : Outcome). o ≡ Refus
 
 abbrev pub InstructionsNever34 : Type 0
 InstructionsNever34 = AfterOpening NeverUnsound
+
+-- LABELS. An instruction touches one label at most, that of the slot named by `labelTouched`: whatever another slot's label is, it does the same, and
+-- leaves that label as it is.
+abbrev pub relabelled : Ticked → ℕ → ℕ → Ticked
+relabelled k x v =
+    record { tables = withLabels (k .tables) (set (k .tables .labels) x v); hand = k .hand; decides = k .decides; early = k .early }
+
+abbrev pub TouchesOneLabel : Type 0
+TouchesOneLabel = (pooled slots : ℕ) (q : Tables) (r : TaskRecord) (k : Hand) (x v : ℕ) → labelTouched pooled slots r k ≢ x
+    → tick pooled slots (withLabels q (set (q .labels) x v)) r k ≡ relabelled (tick pooled slots q r k) x v
+
+-- A label has one thread at a time: no two of the threads of the tasks opened have before them an instruction on the label of one slot. So loads and
+-- stores of labels are never in a data race, and need not be atomic.
+abbrev pub LabelsApart : ℕ → ℕ → Queue → List Act → Type 0
+LabelsApart pooled slots q l =
+    let m = goOn pooled slots (allFree q) l in
+    (t u : ℕ) → t < q .tables .control .tasks → u < q .tables .control .tasks
+    → labelNext pooled slots m t ≢ 0 → labelNext pooled slots m t ≡ labelNext pooled slots m u → t ≡ u
+
+abbrev pub InstructionsLabelsApart : Type 0
+InstructionsLabelsApart = AfterOpening LabelsApart

@@ -23,7 +23,7 @@ use Rattle.threads_model.specs.Split.{loads, planned, plan, perform, gon
 use Rattle.threads_model.specs.Starts.{ownRefusal, planStart, settleStart}
 use Rattle.threads_model.specs.Turns.{Turn}
 use Rattle.threads_model.specs.Instructions.{loadsOwn, isAsRead, putsOwn, stepFirst, clears, startFirst, claimsMark, looksMark}
-use Rattle.threads_model.specs.Crew.{Act, calls, next, allFree, go, goOn, turns, told}
+use Rattle.threads_model.specs.Crew.{Act, calls, next, allFree, go, goOn, turns, told, labelNext}
 
 -- A thread begins a start or a step.
 abbrev begins : ℕ → Op → Act
@@ -48,6 +48,12 @@ leaves q l = goOn (q .tables .control .pooled) (q .tables .control .slots) (allF
 
 abbrev hears : Queue → List Act → ℕ → List Outcome
 hears q l t = told (q .tables .control .pooled) (q .tables .control .slots) (allFree q) l t
+
+-- The slot whose label thread t touches next.
+abbrev touching : Queue → List Act → ℕ → ℕ
+touching q l t =
+    let c = q .tables .control in
+    labelNext (c .pooled) (c .slots) (goOn (c .pooled) (c .slots) (allFree q) l) t
 
 abbrev order : Queue → List Act → List Turn
 order q l = turns (q .tables .control .pooled) (q .tables .control .slots) (allFree q) l
@@ -103,6 +109,14 @@ waitsAt8 =
 abbrev popAmid : List Act
 popAmid = first ++ whole 0 (Pop 1) ++ steps (replicate 2 0) ++ part 0 1 ++ whole 1 (Push 1 1 900) ++ replicate 2 (next 0)
 
+-- Thread 0 at 11 with its step begun and so many instructions of it made; then thread 1 names slot 1 and has looked at its mark.
+abbrev takenAmid : ℕ → List Act
+takenAmid n = first ++ whole 0 (Pop 1) ++ steps (replicate 2 0) ++ part 0 n ++ (begins 1 (Push 1 1 900) ∷ next 1 ∷ next 1 ∷ [])
+
+-- Threads 0 and 1 are about to draw slot 1; thread 1 does.
+abbrev bothDraw : List Act
+bothDraw = before14 0 5 ++ before14 1 6 ++ (begins 0 Step ∷ begins 1 Step ∷ [])
+
 -- Place 14. Thread 0 is about to draw slot 1; thread 1 draws it; thread 0's change fails.
 abbrev drawnBefore : List Act
 drawnBefore = before14 0 5 ++ before14 1 6 ++ steps (1 ∷ 0 ∷ [])
@@ -138,6 +152,13 @@ pub record Cases : Type 0 where
   -- 11: the label is read before the slot is free, so thread 1 is refused 32 and thread 0 gets its own label
   pub label-read-first : hears (fresh 0) popAmid 0 ≡ at 1 ∷ at 2 ∷ at 11 ∷ got 1 700 ∷ []
   pub mark-cleared-last : hears (fresh 0) popAmid 1 ≡ at 1 ∷ at 2 ∷ Moved Pushed ∷ Refused 32 ∷ []
+  -- so they never touch its label at one time: thread 0 first, then neither, and once the mark is cleared thread 1
+  pub label-of-pop : touching (fresh 0) (takenAmid 0) 0 ≡ 1
+  pub label-of-none : touching (fresh 0) (takenAmid 1) 1 ≡ 0
+  pub label-of-push : touching (fresh 0) (takenAmid 2) 1 ≡ 1
+  -- 14: a label is touched by who has drawn its slot, not by who is about to
+  pub label-undrawn : touching pool bothDraw 0 ≡ 0
+  pub label-drawn : touching pool (bothDraw ++ (next 1 ∷ [])) 1 ≡ 1
   -- 14: the label of who has drawn the slot stays
   pub label-stays : leaves pool drawnBefore .labels ≡ 0 ∷ 6 ∷ 0 ∷ []
   -- the head's tag was raised three times, so thread 0's change fails, and slot 2 is drawn once
@@ -174,6 +195,11 @@ cases = record {
   right-stays = refl;
   label-read-first = refl;
   mark-cleared-last = refl;
+  label-of-pop = refl;
+  label-of-none = refl;
+  label-of-push = refl;
+  label-undrawn = refl;
+  label-drawn = refl;
   label-stays = refl;
   tag-tells = refl;
   head-stays = refl;

@@ -10,6 +10,7 @@ use Rattle.model.specs.Tables.{Queue, taskAt}
 use Rattle.model.specs.History.{Event, Request}
 use Rattle.threads_model.specs.Turns.{Turn}
 use Rattle.threads_model.specs.Instructions.{Hand, free, begun, loaded, knows, claims, looks, labels, marks, ends, Ticked, tick, written, tells}
+use Rattle.threads_model.specs.Instructions.{labelTouched}
 
 -- Memory, and the threads' hands; the number of slots and the kind of queue are what each thread copied at the beginning.
 pub record Crew : Type 0 where
@@ -101,3 +102,7 @@ owed (looks side slot label) = []
 owed (labels both slot label task o) = o ∷ []
 owed (marks slot task o) = o ∷ []
 owed (ends task o) = o ∷ []
+
+-- The slot whose label thread t's next instruction touches, or 0.
+abbrev pub labelNext : ℕ → ℕ → Crew → ℕ → ℕ
+labelNext pooled slots m t = labelTouched pooled slots (taskAt (m .queue) t) (m .hands t)

@@ -1,72 +1,72 @@
--- What the two loops store is what the walk meets, turned to run from left to right.
+-- What the loop stores is what the walk meets, turned to run from left to right.
 use mathlib.Core.Path.{_≡_, refl, sym, ap, subst, _∙_}
-use mathlib.Core.Bool.{false}
+use mathlib.Core.Bool.{Bool, true, false, cond}
 use mathlib.Core.List.{List, [], _∷_, _++_, map, map-append, reverse, reverse-cons}
-use Prim.Native.Nat.{ℕ, zero, suc, _<_, _≤_}
+use Prim.Native.Nat.{ℕ, zero, suc, _+_, _-_, _<_, _≤_}
 use native.Mathlib.Nat.{zero-add}
 use native.Mathlib.Omega.{arith}
 use lib.Dec.{eqb}
 use lib.ListN.{drop, getD, length, length-map, length-reverse, length-set, set}
 use lib.Seq.{append-snoc, sets, sets-eq}
-use Rattle.word.specs.declared.Anchor.{Anchor}
-use Rattle.word.specs.Anchor.{anchorOf}
 use Rattle.word.specs.Link.{linkOf}
 use Rattle.model.specs.declared.Entry.{Entry}
 use Rattle.model.specs.Tables.{Tables}
 use Rattle.model.specs.Sound.{from1, linkSound}
-use Rattle.model.specs.Walk.{Walk, along, andThen, broken, contents, entries, isBroken, met, walkFrom}
+use Rattle.model.specs.Walk.{Walk, along, andThen, broken, contents, entries, isBroken, met}
 use Rattle.model.proofs.tests.Truth.{not-both, split}
-use Rattle.model.specs.Sides.{isEmpty}
-use Rattle.walk.proofs.SlotBySlot.{rest, outside, ends, strays, goes, empty, from-left, from-right}
+use Rattle.walk.specs.declared.Way.{Way}
+use Rattle.walk.specs.Ways.{wayOf, noneOn, linksOn, ahead, turnedBack}
+use Rattle.walk.proofs.Along.{rest, waits, nothing, off}
 use Rattle.waiting.specs.Waiting.{onto}
-use Rattle.waiting.specs.Trail.{trail, downward, laid}
+use Rattle.waiting.specs.Laid.{trail, place, laid}
 
 -- A walk that is not broken meets the entries of as many slots along the links.
 abbrev Follows : List ℕ → List ℕ → ℕ → Walk → Type 0
 Follows links labels x w = isBroken w ≡ false → met w ≡ trail links labels (length (met w)) x
 
-module _ (slots : ℕ) (links labels : List ℕ) (last : ℕ) where
+module _ (w : Way) (lefts rights labels : List ℕ) where
+  abbrev links : List ℕ
+  links = linksOn w lefts rights
+
   abbrev at : ℕ → Entry
   at x = record { slot = x; label = getD labels x 0 }
 
   stuck : (x : ℕ) → Follows links labels x broken
   stuck x f = absurd (not-both refl f)
 
-  stops : (x : ℕ) → Follows links labels x (entries (at x ∷ []))
-  unfolding trail
-  stops x f = refl
-
-  more : (x : ℕ) (w : Walk) → Follows links labels (linkOf (getD links x 0) .slot) w → Follows links labels x (andThen (at x) w)
-  unfolding trail
-  more x (entries l) h f = ap (λ (m : List Entry). at x ∷ m) (h refl)
-  more x broken h f = absurd (not-both refl f)
-
-  pub follows : (n x : ℕ) → Follows links labels x (rest slots links labels last n x)
-  unfolding along
+  follows : (n x : ℕ) → Follows links labels x (rest w lefts rights labels n x)
+  unfolding along trail
   follows zero x = stuck x
   follows (suc n) x =
-      let next = linkOf (getD links x 0) .slot in
-      let all = rest slots links labels last (suc n) x in
-      let so : (w : Walk) → all ≡ w → Follows links labels x w → Follows links labels x all = λ w e h. subst (Follows links labels x) (sym e) h in
-      split (from1 slots x)
-      (λ real. split (eqb x last)
-      (λ end. so _ (ends slots links labels last n x real end) (stops x))
-      (λ on. split (linkSound slots (getD links x 0))
-      (λ fine. so _ (goes slots links labels last n x real on fine) (more x (rest slots links labels last n next) (follows n next)))
-      (λ bad. so _ (strays slots links labels last n x real on bad) (stuck x))))
-      (λ out. so _ (outside slots links labels last (suc n) x out) (stuck x))
+      go (from1 (w .slots) x) (eqb x (w .last)) (linkSound (w .slots) (getD links x 0)) (rest w lefts rights labels n (linkOf (getD links x 0) .slot))
+      (follows n (linkOf (getD links x 0) .slot))
+    where
+      go : (a b c : Bool) (v : Walk) → Follows links labels (linkOf (getD links x 0) .slot) v
+          → Follows links labels x (cond a (cond b (entries (at x ∷ [])) (andThen (at x) (cond c v broken))) broken)
+      go true true c v h f = refl
+      go true false true (entries l) h f = ap (λ (m : List Entry). at x ∷ m) (h refl)
+      go true false true broken h f = absurd (not-both refl f)
+      go true false false v h f = absurd (not-both refl f)
+      go false b c v h f = absurd (not-both refl f)
 
--- Stored downwards, numbers stand reversed.
+-- Stored upwards, numbers stand as they are; downwards, reversed.
+up-all : (n i : ℕ) (xs t : List ℕ) → laid true n i xs t ≡ sets t i xs
+unfolding laid
+up-all n i [] t = refl
+up-all n i (x ∷ xs) t = let k : i + 1 ≡ suc i = omega arith in ap (λ (j : ℕ). laid true n j xs (set t i x)) k ∙ up-all n (suc i) xs (set t i x)
+
 dropped : (k : ℕ) (t : List ℕ) (x : ℕ) → k < length t → drop k (set t k x) ≡ x ∷ drop (suc k) t
 dropped k [] x h = absurd (omega arith)
 dropped zero (y ∷ t) x h = refl
 dropped (suc k) (y ∷ t) x h = dropped k t x (omega arith)
 
-pub turned : (xs t : List ℕ) → length xs ≤ length t → downward xs t ≡ reverse xs ++ drop (length xs) t
-unfolding downward
-turned [] t h = refl
-turned (x ∷ xs) t h =
-    turned xs (set t (length xs) x) (omega (arith, length-set t (length xs) x))
+down-all : (n i : ℕ) (xs t : List ℕ) → n ≡ i + length xs → length xs ≤ length t → laid false n i xs t ≡ reverse xs ++ drop (length xs) t
+unfolding laid
+down-all n i [] t e h = refl
+down-all n i (x ∷ xs) t e h =
+    let k : n - 1 - i ≡ length xs = omega arith in
+    ap (λ (j : ℕ). laid false n (i + 1) xs (set t j x)) k
+    ∙ down-all n (i + 1) xs (set t (length xs) x) (omega arith) (omega (arith, length-set t (length xs) x))
     ∙ ap (λ (l : List ℕ). reverse xs ++ l) (dropped (length xs) t x (omega arith))
     ∙ sym (append-snoc (reverse xs) x (drop (suc (length xs)) t))
     ∙ ap (λ (l : List ℕ). l ++ drop (suc (length xs)) t) (sym (reverse-cons x xs))
@@ -80,62 +80,77 @@ map-reverse g (e ∷ l) =
     ∙ sym (reverse-cons (g e) (map g l))
 
 -- So many entries stored where the walk meets them.
-module _ (g : Entry → ℕ) (links labels : List ℕ) (x n : ℕ) (t : List ℕ) (w : Walk) where
-  pub up : Follows links labels x w → isBroken (walkFrom 0 w) ≡ false → n ≡ length (met (walkFrom 0 w)) → n ≤ length t
-      → sets t 0 (map g (trail links labels n x)) ≡ onto (map g (met (walkFrom 0 w))) t
-  up = go w
-    where
-      go : (w : Walk) → Follows links labels x w → isBroken (walkFrom 0 w) ≡ false → n ≡ length (met (walkFrom 0 w)) → n ≤ length t
-          → sets t 0 (map g (trail links labels n x)) ≡ onto (map g (met (walkFrom 0 w))) t
-      go broken f b e h = absurd (not-both refl b)
-      go (entries l) f b e h =
-          ap (λ (m : ℕ). sets t 0 (map g (trail links labels m x))) e
-          ∙ ap (λ (m : List Entry). sets t 0 (map g m)) (sym (f refl))
-          ∙ sets-eq (map g l) t 0 (omega (arith, length-map l g))
-          ∙ ap (λ (k : ℕ). map g l ++ drop k t) (zero-add (length (map g l)))
+module _ (w : Way) (g : Entry → ℕ) (l : List Entry) (t : List ℕ) where
+  abbrev Stored : Bool → Type 0
+  Stored up = length l ≤ length t → laid up (length l) 0 (map g l) t ≡ onto (map g (met (turnedBack (record {
+    slots = w .slots;
+    rightward = up;
+    first = w .first;
+    last = w .last;
+  }) (entries l)))) t
 
-  pub down : Follows links labels x w → isBroken (walkFrom 1 w) ≡ false → n ≡ length (met (walkFrom 1 w)) → n ≤ length t
-      → downward (map g (trail links labels n x)) t ≡ onto (map g (met (walkFrom 1 w))) t
-  down = go w
-    where
-      go : (w : Walk) → Follows links labels x w → isBroken (walkFrom 1 w) ≡ false → n ≡ length (met (walkFrom 1 w)) → n ≤ length t
-          → downward (map g (trail links labels n x)) t ≡ onto (map g (met (walkFrom 1 w))) t
-      go broken f b e h = absurd (not-both refl b)
-      go (entries l) f b e h =
-          let k : n ≡ length l = e ∙ length-reverse l in
-          let z : length (map g l) ≡ length (map g (reverse l)) = length-map l g ∙ sym (length-reverse l) ∙ sym (length-map (reverse l) g) in
-          ap (λ (m : ℕ). downward (map g (trail links labels m x)) t) k
-          ∙ ap (λ (m : List Entry). downward (map g m) t) (sym (f refl))
-          ∙ turned (map g l) t (omega (arith, length-map l g))
-          ∙ ap (λ (m : List ℕ). m ++ drop (length (map g l)) t) (sym (map-reverse g l))
-          ∙ ap (λ (m : ℕ). map g (reverse l) ++ drop m t) z
+  stored : (up : Bool) → Stored up
+  stored true h =
+      up-all (length l) 0 (map g l) t ∙ sets-eq (map g l) t 0 (omega (arith, length-map l g))
+      ∙ ap (λ (k : ℕ). map g l ++ drop k t) (zero-add (length (map g l)))
+  stored false h =
+      let z : length (map g l) ≡ length (map g (reverse l)) = length-map l g ∙ sym (length-reverse l) ∙ sym (length-map (reverse l) g) in
+      down-all (length l) 0 (map g l) t (omega (arith, length-map l g)) (omega (arith, length-map l g))
+      ∙ ap (λ (m : List ℕ). m ++ drop (length (map g l)) t) (sym (map-reverse g l))
+      ∙ ap (λ (m : ℕ). map g (reverse l) ++ drop m t) z
 
--- Anchor's two ways, and the empty queue.
-module _ (q : Tables) (g : Entry → ℕ) (n : ℕ) (t : List ℕ) where
-  abbrev a : Anchor
-  a = anchorOf (q .control .anchor)
-
+module _ (q : Tables) (w : Way) (e : w ≡ wayOf (q .control)) (g : Entry → ℕ) (n : ℕ) (t : List ℕ) where
   abbrev Goal : Walk → Type 0
-  Goal w =
-      isBroken w ≡ false → n ≡ length (met w) → n ≤ length t
-      → laid (map g) a n (q .lefts) (q .rights) (q .labels) t ≡ onto (map g (met w)) t
+  Goal v =
+      isBroken v ≡ false → n ≡ length (met v) → n ≤ length t
+      → laid (w .rightward) n 0 (map g (trail (linksOn w (q .lefts) (q .rights)) (q .labels) n (w .first))) t ≡ onto (map g (met v)) t
+
+  some : (v : Walk) → Follows (linksOn w (q .lefts) (q .rights)) (q .labels) (w .first) v → Goal (turnedBack w v)
+  some broken f b k h = absurd (not-both refl b)
+  some (entries l) f b k h =
+      let size : n ≡ length l = k ∙ back (w .rightward) in
+      ap (λ (m : ℕ). laid (w .rightward) m 0 (map g (trail (linksOn w (q .lefts) (q .rights)) (q .labels) m (w .first))) t) size
+      ∙ ap (λ (m : List Entry). laid (w .rightward) (length l) 0 (map g m) t) (sym (f refl))
+      ∙ stored w g l t (w .rightward) (omega arith)
+    where
+      back : (up : Bool) → length (met (turnedBack (record { slots = w .slots; rightward = up; first = w .first; last = w .last }) (entries l))) ≡ length l
+      back true = refl
+      back false = length-reverse l
 
   none : Goal (entries [])
-  unfolding laid trail downward
-  none b e h =
-      subst (λ (m : ℕ). laid (map g) a m (q .lefts) (q .rights) (q .labels) t ≡ t) (sym e)
-      (split (eqb (a .status) 2) (λ z. rw z) (λ z. rw z))
+  unfolding laid trail
+  none b k h = subst (λ (m : ℕ). laid (w .rightward) m 0 (map g (trail (linksOn w (q .lefts) (q .rights)) (q .labels) m (w .first))) t ≡ t) (sym k) refl
 
   pub lays : Goal (contents q)
-  unfolding laid
   lays =
-      let slots = q .control .slots in
-      let r = rest slots (q .rights) (q .labels) (a .right) slots (a .left) in
-      let l = rest slots (q .lefts) (q .labels) (a .left) slots (a .right) in
-      let on-left = follows slots (q .rights) (q .labels) (a .right) slots (a .left) in
-      let on-right = follows slots (q .lefts) (q .labels) (a .left) slots (a .right) in
-      split (isEmpty a)
-      (λ z. subst Goal (sym (empty q z)) none)
-      (λ z. split (eqb (a .status) 2)
-      (λ s. subst Goal (sym (from-left q z s)) (λ b e h. rw s (up g (q .rights) (q .labels) (a .left) n t r on-left b e h)))
-      (λ s. subst Goal (sym (from-right q z s)) (λ b e h. rw s (down g (q .lefts) (q .labels) (a .right) n t l on-right b e h))))
+      split (from1 (w .slots) (w .first))
+      (λ z. subst Goal (sym (waits q w e z))
+      (some (ahead w (q .lefts) (q .rights) (q .labels)) (follows w (q .lefts) (q .rights) (q .labels) (w .slots) (w .first))))
+      (λ z. split (noneOn w) (λ y. subst Goal (sym (nothing q w e y)) none)
+      (λ y. subst Goal (sym (off q w e z y)) (λ b k h. absurd (not-both refl b))))
+
+-- What is still to be stored, one slot on.
+module _ (g : Entry → ℕ) (links labels : List ℕ) (up : Bool) (n : ℕ) where
+  abbrev pub due : ℕ → ℕ → List ℕ
+  due i x = map g (trail links labels (n - i) x)
+
+  pub more : (i x v y : ℕ) (t u all : List ℕ) → i < n → v ≡ g (record { slot = x; label = getD labels x 0 }) → y ≡ linkOf (getD links x 0) .slot
+      → u ≡ set t (place up n i) v → laid up n i (due i x) t ≡ all → laid up n (i + 1) (due (i + 1) y) u ≡ all
+  unfolding trail laid
+  more i x v y t u all h ev ey eu e =
+      let left : suc (n - (i + 1)) ≡ n - i = omega arith in
+      (λ j. laid up n (i + 1) (due (i + 1) (ey j)) (eu j))
+      ∙ ap (λ (a : ℕ). laid up n (i + 1) (due (i + 1) (linkOf (getD links x 0) .slot)) (set t (place up n i) a)) ev
+      ∙ ap (λ (m : ℕ). laid up n i (map g (trail links labels m x)) t) left
+      ∙ e
+
+  pub ends : (i x : ℕ) (t all : List ℕ) → n ≤ i → laid up n i (due i x) t ≡ all → t ≡ all
+  unfolding trail laid
+  ends i x t all h e = let z : 0 ≡ n - i = omega arith in ap (λ (m : ℕ). laid up n i (map g (trail links labels m x)) t) z ∙ e
+
+  pub begins : (x : ℕ) (t : List ℕ) → laid up n 0 (due 0 x) t ≡ laid up n 0 (map g (trail links labels n x)) t
+  begins x t = let z : n - 0 ≡ n = omega arith in ap (λ (m : ℕ). laid up n 0 (map g (trail links labels m x)) t) z
+
+pub place-low : (up : Bool) (n i : ℕ) → i < n → place up n i < n
+place-low true n i h = h
+place-low false n i h = omega arith

@@ -1,4 +1,3 @@
-pub mod Storing
 pub mod Laid
 pub mod ReadingOut
 pub mod Standing

@@ -7,7 +7,6 @@ use native.Mathlib.Omega.{arith}
 use lib.Dec.{ltb}
 use lib.ListN.{length}
 use borrow.Author.Tests.{ltb-false, ne-eqb}
-use Rattle.word.specs.Anchor.{anchorOf}
 use Rattle.model.specs.Tables.{Tables}
 use Rattle.model.specs.Sound.{controlSound, rowsFit}
 use Rattle.model.specs.Walk.{contents, isBroken}
@@ -15,10 +14,12 @@ use Rattle.model.specs.Refusals.{rule, first}
 use Rattle.model.specs.Report.{waiting}
 use Rattle.model.proofs.tests.Truth.{or-false}
 use Rattle.walk.specs.declared.Tally.the-variants.{Broken, Labels}
+use Rattle.walk.specs.declared.Way.{Way}
+use Rattle.walk.specs.Ways.{wayOf, linksOn}
 use Rattle.walk.specs.Counted.{counted}
 use Rattle.walk.proofs.Counting.{all-counted, none-counted}
 use Rattle.waiting.specs.Waiting.{Written, kept, labelsOf, readOut, slotsOf, tooShort, waitingRefusal}
-use Rattle.waiting.specs.Trail.{laid, refusalBefore}
+use Rattle.waiting.specs.Laid.{trail, laid, refusalBefore}
 use Rattle.waiting.proofs.Laid.{lays}
 
 none-applies : (a b : Bool) → refusalBefore a b ≡ 0 → (a ≡ true) × (b ≡ true)
@@ -35,7 +36,7 @@ one-applies true false c d h = refl
 one-applies false b c d h = refl
 
 -- Both tables have room.
-room : (n : ℕ) (slots labels : List ℕ) → tooShort n slots labels ≡ false → (n ≤ length slots) × (n ≤ length labels)
+pub room : (n : ℕ) (slots labels : List ℕ) → tooShort n slots labels ≡ false → (n ≤ length slots) × (n ≤ length labels)
 room n slots labels e =
     let z = or-false (ltb (length slots) n) (ltb (length labels) n) e in
     (ltb-false _ _ (z .0), ltb-false _ _ (z .1))
@@ -71,16 +72,16 @@ module _ (q : Tables) (slots labels : List ℕ) where
           let s : tooShort (waiting q) slots labels ≡ true = ap (λ (k : ℕ). tooShort k slots labels) (sym (met-all .1)) ∙ h in
           rw (passed .0, passed .1, met-all .0, s)
 
-      pub writes : tooShort m slots labels ≡ false → (s l : List ℕ)
-          → s ≡ laid slotsOf (anchorOf (q .control .anchor)) m (q .lefts) (q .rights) (q .labels) slots
-          → l ≡ laid labelsOf (anchorOf (q .control .anchor)) m (q .lefts) (q .rights) (q .labels) labels
+      pub writes : (w : Way) → w ≡ wayOf (q .control) → tooShort m slots labels ≡ false → (s l : List ℕ)
+          → s ≡ laid (w .rightward) m 0 (slotsOf (trail (linksOn w (q .lefts) (q .rights)) (q .labels) m (w .first))) slots
+          → l ≡ laid (w .rightward) m 0 (labelsOf (trail (linksOn w (q .lefts) (q .rights)) (q .labels) m (w .first))) labels
           → _≡_ {A = Written} (record { reply = record { code = 0; count = m }; slots = s; labels = l }) (readOut q slots labels)
       unfolding readOut waitingRefusal waiting
-      writes h s l sets-s sets-l =
+      writes w e h s l sets-s sets-l =
           let g = all-counted (contents q) m t in
           let r = room m slots labels h in
           let enough : tooShort (waiting q) slots labels ≡ false = ap (λ (k : ℕ). tooShort k slots labels) (sym (g .1)) ∙ h in
-          let slotted = sets-s ∙ lays q (λ e. e .slot) m slots (g .0) (g .1) (r .0) in
-          let labelled = sets-l ∙ lays q (λ e. e .label) m labels (g .0) (g .1) (r .1) in
+          let slotted = sets-s ∙ lays q w e (λ e. e .slot) m slots (g .0) (g .1) (r .0) in
+          let labelled = sets-l ∙ lays q w e (λ e. e .label) m labels (g .0) (g .1) (r .1) in
           rw (passed .0, passed .1, g .0, enough)
           (λ i. record { reply = record { code = 0; count = g .1 i }; slots = slotted i; labels = labelled i })

@@ -1,20 +1,21 @@
 //! The labels waiting and their slots, written from left to right into lent tables.
 use model::Control;
 use walk::Tally;
-use word::Anchor;
+use walk::Way;
 use word::Link;
 ghost use mathlib.Core.Path.{_≡_};
 ghost use mathlib.Core.Bool.{false};
 ghost use mathlib.Core.List.{List};
-ghost use Prim.Native.Nat.{ℕ};
-ghost use lib.Seq.{sets};
-ghost use Rattle.word.specs.Anchor.{anchorOf};
+ghost use Prim.Native.Nat.{ℕ, _<_, _≤_};
+ghost use lib.ListN.{length, getD};
+ghost use Rattle.word.specs.Link.{linkOf};
 ghost use Rattle.model.specs.Tables.{tablesOf};
 ghost use Rattle.model.specs.Sound.{controlSound};
 ghost use Rattle.sound.specs.Lengths.{lengthsFit};
 ghost use Rattle.rows.specs.Rows.{controlOf};
+ghost use Rattle.walk.specs.Ways.{linksOn};
 ghost use Rattle.waiting.specs.Waiting.{readOut, refused, slotsOf, labelsOf};
-ghost use Rattle.waiting.specs.Trail.{trail, downward, laid, refusalBefore};
+ghost use Rattle.waiting.specs.Laid.{trail, place, laid, refusalBefore};
 
 /// The answer as C sees it.
 #[repr(C)]
@@ -25,60 +26,32 @@ pub struct WaitingReply {
     pub count: u64,
 }
 
-/// The first n slots from slot start along the links, and their labels, upwards from place 0.
-fn lay_up(n: u64, start: u64, links: &[u64], labels: &[u32], slots: &mut [u64], copies: &mut [u32])
-    ensures { λ _.
-        ⌜ now (slots .exit)
-        ≡ sets (now (slots .entry)) 0 (slotsOf (trail (now (links .entry)) (now (labels .entry)) n start)) ⌝ }
-    ensures { λ _.
-        ⌜ now (copies .exit)
-        ≡ sets (now (copies .entry)) 0 (labelsOf (trail (now (links .entry)) (now (labels .entry)) n start)) ⌝ }
+/// Where the i-th of n slots met goes: upwards from place 0, or downwards to it.
+fn place(up: bool, n: u64, i: u64) -> usize
+    requires { ⌜ i < n ⌝ }
+    ensures { λ r. ⌜ r ≡ place up n i ⌝ }
 {
-    let mut i: u64 = 0;
-    let mut x = start;
-    while i < n {
-        let label = table::label_at(labels, x);
-        table::put_word(slots, i, x);
-        table::put_label(copies, i, label);
-        let w = table::word_at(links, x);
-        let link = Link::unpack(w);
-        x = link.slot;
-        i += 1;
+    if up {
+        return i as usize;
     }
+    (n - 1 - i) as usize
 }
 
-/// The same downwards, the last slot at place 0.
-fn lay_down(
-    n: u64,
-    start: u64,
-    links: &[u64],
-    labels: &[u32],
-    slots: &mut [u64],
-    copies: &mut [u32],
-)
-    ensures { λ _.
-        ⌜ now (slots .exit)
-        ≡ downward (slotsOf (trail (now (links .entry)) (now (labels .entry)) n start)) (now (slots .entry)) ⌝ }
-    ensures { λ _.
-        ⌜ now (copies .exit)
-        ≡ downward (labelsOf (trail (now (links .entry)) (now (labels .entry)) n start)) (now (copies .entry)) ⌝ }
+/// The slot that the link word of slot x names, in a walk that is known to be sound.
+fn follow(w: Way, lefts: &[u64], rights: &[u64], x: u64) -> u64
+    ensures { λ r. ⌜ r ≡ linkOf (getD (linksOn w (now (lefts .entry)) (now (rights .entry))) x 0) .slot ⌝ }
 {
-    let mut i = n;
-    let mut x = start;
-    while 0 < i {
-        i -= 1;
-        let label = table::label_at(labels, x);
-        table::put_word(slots, i, x);
-        table::put_label(copies, i, label);
-        let w = table::word_at(links, x);
-        let link = Link::unpack(w);
-        x = link.slot;
+    if w.rightward {
+        let right = Link::unpack(table::word_at(rights, x));
+        return right.slot;
     }
+    let left = Link::unpack(table::word_at(lefts, x));
+    left.slot
 }
 
-/// n slots from the right end along Left links, or, under LPUSH, from the left end along Right links.
+/// n slots from the first one along the way, and their labels, so that they stand from left to right.
 fn lay(
-    c: Control,
+    w: Way,
     n: u64,
     lefts: &[u64],
     rights: &[u64],
@@ -86,31 +59,34 @@ fn lay(
     slots: &mut [u64],
     copies: &mut [u32],
 )
+    requires { ⌜ (n ≤ length (now slots)) × (n ≤ length (now copies)) ⌝ }
     ensures { λ _.
-        ⌜ now (slots .exit)
-        ≡ laid slotsOf (anchorOf (c .anchor)) n (now (lefts .entry)) (now (rights .entry)) (now (labels .entry)) (now (slots .entry)) ⌝ }
+        ⌜ now (slots .exit) ≡ laid (w .rightward) n 0
+        (slotsOf (trail (linksOn w (now (lefts .entry)) (now (rights .entry))) (now (labels .entry)) n (w .first))) (now (slots .entry)) ⌝ }
     ensures { λ _.
-        ⌜ now (copies .exit)
-        ≡ laid labelsOf (anchorOf (c .anchor)) n (now (lefts .entry)) (now (rights .entry)) (now (labels .entry)) (now (copies .entry)) ⌝ }
+        ⌜ now (copies .exit) ≡ laid (w .rightward) n 0
+        (labelsOf (trail (linksOn w (now (lefts .entry)) (now (rights .entry))) (now (labels .entry)) n (w .first))) (now (copies .entry)) ⌝ }
 {
-    let a = Anchor::unpack(c.anchor);
-    if a.status == 2 {
-        lay_up(n, a.left, rights, labels, slots, copies);
-        return;
+    let mut i: u64 = 0;
+    let mut x = w.first;
+    while i < n {
+        let k = place(w.rightward, n, i);
+        let label = table::label_at(labels, x);
+        slots[k] = x;
+        copies[k] = label;
+        x = follow(w, lefts, rights, x);
+        i += 1;
     }
-    lay_down(n, a.right, lefts, labels, slots, copies);
 }
 
 /// 34 for control and Anchor, 12. No records and no next table are lent, so none count.
 fn refusal(c: Control, lefts: usize, rights: usize, labels: usize, marks: usize) -> u32
     ensures { λ n. ⌜ n ≡ refusalBefore (controlSound c) (lengthsFit false (c .slots) lefts rights labels marks 0) ⌝ }
 {
-    let control = sound::control_sound(c);
-    let fits = sound::rows_fit(false, c.slots, lefts, rights, labels, marks, 0);
-    if !control {
+    if !sound::control_sound(c) {
         return 34;
     }
-    if !fits {
+    if !sound::rows_fit(false, c.slots, lefts, rights, labels, marks, 0) {
         return 12;
     }
     0
@@ -151,7 +127,8 @@ fn read_out(
     if ((slots.len() as u64) < n) | ((copies.len() as u64) < n) {
         return refused(12);
     }
-    lay(c, n, lefts, rights, labels, slots, copies);
+    let w = walk::begin(c);
+    lay(w, n, lefts, rights, labels, slots, copies);
     WaitingReply { code: 0, count: n }
 }
 

@@ -1,2 +1,2 @@
-pub mod SlotBySlot
+pub mod Along
 pub mod Counting

@@ -6,6 +6,7 @@ use crate::refusal::LAST_START_TAG;
 use crate::shift::{Crew, Shift};
 use crate::tables::MOST_TASKS;
 use crate::word::LAST_TAG;
+use std::io::{self, Write};
 
 struct Scenario {
     name: &'static str,
@@ -212,7 +213,15 @@ fn spoiled(dice: &mut Dice, crew: Crew) -> Vec<u8> {
 /// A steady load for measuring: eight tasks, 256 slots, any busy task moves next, and the
 /// queue stays about half full.
 pub fn load(dice: &mut Dice, steps: usize) -> Vec<u8> {
+    let mut file = Vec::new();
+    write_load(dice, steps, &mut file).expect("memory");
+    file
+}
+
+/// The same, written as it grows: a load of any length takes little memory.
+pub fn write_load(dice: &mut Dice, steps: usize, out: &mut impl Write) -> io::Result<()> {
     const SLOTS: u16 = 256;
+    const PIECE: usize = 1 << 16;
     let mut shift = Shift::open(dice, Crew { tasks: 8, pooled: false }, SLOTS, 0);
     shift.nonsense = 0;
     shift.lefts = 50;
@@ -223,6 +232,7 @@ pub fn load(dice: &mut Dice, steps: usize) -> Vec<u8> {
         if shift.script.is_idle(task) {
             shift.pops = if waiting > i32::from(SLOTS / 2) { 60 } else { 40 };
             shift.act(task);
+            shift.script.write_beyond(PIECE, out)?;
             continue;
         }
         left -= 1;
@@ -232,5 +242,5 @@ pub fn load(dice: &mut Dice, steps: usize) -> Vec<u8> {
             _ => {}
         }
     }
-    shift.script.finish()
+    out.write_all(&shift.script.finish())
 }

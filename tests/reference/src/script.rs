@@ -4,6 +4,7 @@
 use crate::machine::Answer;
 use crate::runfile::{append, MOST_STEPS, OPEN, OPEN_POOLED, POP, PUSH, PUSH_POOLED, STEPS};
 use crate::tables::{Record, Storage};
+use std::io::{self, Write};
 
 pub struct Script {
     file: Vec<u8>,
@@ -83,6 +84,15 @@ impl Script {
     pub fn no_steps(&mut self) {
         self.end_steps();
         append(&mut self.file, STEPS, &[]);
+    }
+
+    /// Hands the file so far on, once it is longer than this; the steps under way stay.
+    pub fn write_beyond(&mut self, length: usize, out: &mut impl Write) -> io::Result<()> {
+        if self.file.len() > length {
+            out.write_all(&self.file)?;
+            self.file.clear();
+        }
+        Ok(())
     }
 
     pub fn finish(mut self) -> Vec<u8> {

@@ -1,76 +1,73 @@
 -- 40, an order that is no rearrangement, or the replay.
-use mathlib.Core.Path.{_∙_}
+use mathlib.Core.Bool.{true}
+use mathlib.Core.Path.{_≡_, sym, _∙_}
 use mathlib.Core.List.{List}
-use Prim.Native.Nat.{ℕ, _/_, _≤_}
+use Prim.Native.Nat.{ℕ, _/_}
 use native.Mathlib.Omega.{arith}
 use borrow.Author.Needs.{needs}
+use borrow.Author.Tests.{not-false, not-true}
 use lib.ListN.{length}
+use Rattle.audit_model.specs.Audit.{accepted, rearranges}
 use Rattle.audit_model.specs.LentHistory.{callsIn}
-use Rattle.audit.proofs.Verdicts.{in-order-length, out-of-order, refused, replayed-so, too-many}
+use Rattle.audit.proofs.Verdicts.{at-most-64, out-of-order, rearranged, refused, replayed-so}
 use Rattle.audit.proofs.WordsRead.{count-is}
 use Rattle.audit.proofs.audit_words.Statement.{statement}
 use Rattle.audit.proofs.audit_words.Tie as tie
 
 returns : tie.Need-returns
 returns c =
-    let args = c .before .before .before .args in
-    let ws = args .words .now in
-    too-many (callsIn ws) (length ws / 7) (args .order .now) (count-is ws) (c .if1 .taken)
+    let all = c .before in
+    let args = all .before .before .before .args in
+    refused (callsIn (args .words .now)) (args .order .now) (sym (all .accepted .ensures) ∙ not-true (all .accepted .result) (c .if1 .taken))
 
--- No more calls than 64, and what was found of each and of each two.
-module _ (apart : tie.After-all-apart) where
-  abbrev formed : tie.After-all-formed
-  formed = apart .before
-
-  abbrev start : tie.Start
-  start = formed .before .before .before .before
-
+-- The calls are accepted.
+module _ (c : tie.Else1) where
   abbrev words : List ℕ
-  words = start .args .words .now
+  words = c .before .before .before .before .args .words .now
 
-  few : length words / 7 ≤ 64
-  few = let most = formed .before .if1 .left in omega arith
+  abbrev order : List ℕ
+  order = c .before .before .before .before .args .order .now
+
+  good : accepted (callsIn words) ≡ true
+  good = sym (c .before .accepted .ensures) ∙ not-false (c .before .accepted .result) (c .if1 .left)
+
+is-rearranged-requires : tie.Need-is-rearranged-requires
+is-rearranged-requires c κs = at-most-64 (callsIn (words c)) (length (words c) / 7) (count-is (words c)) (good c)
 
 returns-2 : tie.Need-returns-2
 returns-2 c =
-    let apart = c .before in
-    let ws = words apart in
-    refused (callsIn ws) (length ws / 7) (start apart .args .order .now) (count-is ws) (few apart) _ _ (formed apart .all-formed .ensures)
-    (apart .all-apart .ensures) (c .if2 .taken)
+    let some = c .before .before in
+    out-of-order (callsIn (words some)) (order some) (length (words some) / 7) (count-is (words some)) (good some)
+    (sym (c .before .is-rearranged .ensures) ∙ not-true (c .before .is-rearranged .result) (c .if2 .taken))
 
-returns-3 : tie.Need-returns-3
-returns-3 c =
-    let apart = c .before .before .before in
-    let ws = words apart in
-    out-of-order (callsIn ws) (length ws / 7) (start apart .args .order .now) (count-is ws) (few apart) _ _ (formed apart .all-formed .ensures)
-    (apart .all-apart .ensures) (c .before .before .if2 .left) _ (c .before .is-rearranged .ensures) (c .if3 .taken)
+-- The order names each of them once.
+fits : (c : tie.Else2) → rearranges (length (words (c .before .before)) / 7) (order (c .before .before)) ≡ true
+fits c = sym (c .before .is-rearranged .ensures) ∙ not-false (c .before .is-rearranged .result) (c .if2 .left)
+
+first-early-requires : tie.Need-first-early-requires
+first-early-requires c κs = let some = c .before .before in rearranged (order some) (length (words some) / 7) (fits c) .1
 
 served-requires : tie.Need-served-requires
 served-requires c κs =
-    let apart = c .before .before .before in
-    let ws = words apart in
-    let same = in-order-length (callsIn ws) (length ws / 7) (start apart .args .order .now) (count-is ws) (few apart) _ _
-    (formed apart .all-formed .ensures)
-    (apart .all-apart .ensures) (c .before .before .if2 .left) _ (c .before .is-rearranged .ensures) (c .if3 .left) in
-    omega (arith, few apart)
+    let some = c .before .before .before in
+    let ks = rearranged (order some) (length (words some) / 7) (fits (c .before)) in
+    let few = at-most-64 (callsIn (words some)) (length (words some) / 7) (count-is (words some)) (good some) in
+    (few, omega arith, ks .1, c .first-early .ensures)
 
-returns-4 : tie.Need-returns-4
-returns-4 c =
-    let apart = c .before .before .before .before in
-    let ws = words apart in
+returns-3 : tie.Need-returns-3
+returns-3 c =
+    let some = c .before .before .before .before in
     c .served .ensures
-    ∙ replayed-so (callsIn ws) (length ws / 7) (start apart .args .order .now) (count-is ws) (few apart) _ _ (formed apart .all-formed .ensures)
-    (apart .all-apart .ensures) (c .before .before .before .if2 .left) _ (c .before .before .is-rearranged .ensures) (c .before .if3 .left)
+    ∙ replayed-so (callsIn (words some)) (order some) (length (words some) / 7) (count-is (words some)) (good some) (fits (c .before .before))
 
 pub audit-words-spec : {M : Type 1} → statement M
 audit-words-spec =
     tie.close
     (tie.spec
+    (λ c κs. search needs)
     returns
-    (λ c κs. search needs)
-    (λ c κs. search needs)
+    is-rearranged-requires
     returns-2
-    (λ c κs. search needs)
-    returns-3
+    first-early-requires
     served-requires
-    returns-4)
+    returns-3)

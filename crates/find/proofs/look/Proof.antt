@@ -1,179 +1,163 @@
--- With n slots met: what the walk from x on counts and notes, beside what was counted and noted, is what the whole walk does.
+-- With n slots met: what comes of the positions noted along the rest of the walk is what the whole walk notes.
 use mathlib.Core.Path.{_≡_, refl, sym, ap, _∙_}
-use mathlib.Core.Bool.{Bool, true}
-use mathlib.Core.List.{List}
+use mathlib.Core.Bool.{true}
+use mathlib.Core.List.{List, []}
 use Prim.Native.Nat.{ℕ, _≤_, _+_, _-_}
 use native.Mathlib.Omega.{arith}
 use lib.ListN.{getD, length}
 use borrow.Author.Needs.{needs}
-use borrow.Author.Tests.{eq-eqb, ne-eqb, not-true, not-false}
-use Rattle.word.specs.declared.Link.{Link}
-use Rattle.word.specs.Link.{linkOf}
-use Rattle.model.specs.Sound.{from1, linkSound}
-use Rattle.model.specs.Walk.{Walk, along}
-use Rattle.walk.specs.declared.Tally.the-variants.{Broken}
-use Rattle.walk.specs.Counted.{counted}
-use Rattle.walk.proofs.Counting.{andCounted, Reaches, begins, full, out, astray}
-use Rattle.walk.proofs.Counting as counting
-use Rattle.find_model.specs.Noting.{note, noting}
-use Rattle.find.specs.Looked.{Looked}
+use Rattle.model.specs.Sound.{from1}
+use Rattle.walk.specs.declared.Way.{Way}
+use Rattle.walk.specs.Ways.{ahead}
+use Rattle.walk.specs.Over.{made, over}
+use Rattle.walk.proofs.Along.{comes, begins, full, breaks, stops, goes, real}
+use Rattle.find_model.specs.Noting.{note}
+use Rattle.find.specs.Sieve.{Ready}
+use Rattle.find.specs.Looked.{Noted, noteOn}
 use Rattle.find.proofs.Noted.{note-length}
-use Rattle.find.proofs.Looking.{Notes, owed, stops, onwards}
 use Rattle.find.proofs.look.Statement.{statement}
 use Rattle.find.proofs.look.Tie as tie
 
-record Kept (early : Bool) (slots last start : ℕ) (links labels asked before now : List ℕ) (n x : ℕ) : Type 0 where
-  few : n ≤ slots
-  reaches : Reaches slots links labels last n x (counted (along slots links labels last slots start))
+abbrev with : ℕ → List ℕ → Noted
+with n ps = record { count = n; positions = ps }
+
+record Kept (w : Way) (lefts rights labels asked before sieve now : List ℕ) (n x : ℕ) : Type 0 where
+  few : n ≤ w .slots
+  at : from1 (w .slots) x ≡ true
+  ready : Ready n asked sieve
   long : length now ≡ length before
-  notes : Notes slots links labels last early asked n x now (noting early asked 1 before (along slots links labels last slots start))
+  notes : comes (noteOn (w .rightward) asked) w lefts rights labels n (with n now) x
+      ≡ over (noteOn (w .rightward) asked) (with 0 before) (ahead w lefts rights labels)
 
 abbrev Inv-loop : tie.InvT-loop
-Inv-loop early slots last start links labels asked sieve positions₀ n₀ x₀ positions n x =
-    Kept early slots last start links labels asked positions₀ positions n x
+Inv-loop w lefts rights labels asked sieve₀ positions₀ n₀ x₀ sieve positions n x = Kept w lefts rights labels asked positions₀ sieve positions n x
 
 abbrev μ-loop : tie.MeasureT-loop
-μ-loop early slots last start links labels asked sieve positions₀ n₀ x₀ positions n x = slots - n
+μ-loop w lefts rights labels asked sieve₀ positions₀ n₀ x₀ sieve positions n x = w .slots - n
 
--- What the call was given, and its whole walk.
+-- What the call was given.
 abbrev given : tie.At-loop Inv-loop μ-loop → tie.Start Inv-loop μ-loop
-given l = let s = l .before .before .before in s .before .before .before
-
-abbrev whole : tie.At-loop Inv-loop μ-loop → Walk
-whole l = let a = given l .args in along (a .slots) (a .links .now) (a .labels .now) (a .last) (a .slots) (a .start)
+given l = let s = l .before .before .before in s .before .before .before .before
 
 loop-holds : tie.Need-loop-holds Inv-loop μ-loop
 loop-holds c =
-    let s = c .before .before in
-    let a = s .before .before .before .args in
-    let walk : ℕ → Walk = λ m. along (a .slots) (a .links .now) (a .labels .now) (a .last) m (a .start) in
-    let e : a .slots - 0 ≡ a .slots = omega arith in
+    let s = c .before .before .before .before .before in
+    let a = s .before .args in
     record {
       few = omega arith;
-      reaches = begins (a .slots) (a .links .now) (a .labels .now) (a .last) 0 (a .start) refl;
+      at = s .before .pre .at;
+      ready = record { size = s .before .pre .sieve-size; sifted = λ h. absurd (omega arith) };
       long = refl;
-      notes = ap (λ (m : ℕ). noting (a .early) (a .asked .now) 1 (a .positions .now) (walk m)) e;
+      notes = begins (noteOn (a .w .rightward) (a .asked .now)) (a .w) (a .lefts .now) (a .rights .now) (a .labels .now) (with 0 (a .positions .now));
     }
 
--- A walk that is broken, whatever was noted.
-lost : (l : tie.At-loop Inv-loop μ-loop) (now : List ℕ) → length now ≡ length (given l .args .positions .now)
-    → Reaches (given l .args .slots) (given l .args .links .now) (given l .args .labels .now) (given l .args .last) (l .loop .n) (l .loop .x) Broken
-    → Looked (given l .args .early) (given l .args .asked .now) (given l .args .positions .now) (whole l) Broken now
-lost l now long e =
-    let t = sym e ∙ l .loop .inv .reaches in
-    record { tally = t; kept = long; noted = λ f. owed (whole l) t f }
+-- At a slot that was met: where the turn began, and what is noted now.
+module _ (k : tie.After-slice-known4 Inv-loop μ-loop) where
+  abbrev m : tie.After-meet Inv-loop μ-loop
+  m = k .before .before
+
+  abbrev label : tie.After-label-at Inv-loop μ-loop
+  label = m .before .before .before
+
+  abbrev test : tie.Then1 Inv-loop μ-loop
+  test = let r = label .before .before in r .before .before .before
+
+  abbrev turn : tie.At-loop Inv-loop μ-loop
+  turn = test .before .before
+
+  abbrev now : List ℕ
+  now = m .meet .last .1 .1 .1 .1 .1 .0
+
+  noted-is : (let a = given turn .args in
+      now ≡ note (a .w .rightward) (getD (a .labels .now) (turn .loop .x) 0) (turn .loop .n + 1) (a .asked .now) (turn .loop .positions))
+  noted-is =
+      let a = given turn .args in
+      m .meet .ensures
+      ∙ ap (λ (y : ℕ). note (a .w .rightward) y (turn .loop .n + 1) (a .asked .now) (turn .loop .positions)) (label .label-at .ensures)
+
+  long-now : length now ≡ length (given turn .args .positions .now)
+  long-now =
+      let a = given turn .args in
+      ap length noted-is
+      ∙ note-length (a .w .rightward) (getD (a .labels .now) (turn .loop .x) 0) (turn .loop .n + 1) (a .asked .now) (turn .loop .positions)
+      ∙ turn .loop .inv .long
+
+  -- One slot on.
+  met : _≡_ {A = Noted} (with (turn .loop .n + 1) now)
+      (let a = given turn .args in noteOn (a .w .rightward) (a .asked .now) (with (turn .loop .n) (turn .loop .positions))
+      (record { slot = turn .loop .x; label = getD (a .labels .now) (turn .loop .x) 0 }))
+  met = ap (with (turn .loop .n + 1)) noted-is
 
 returns : tie.Need-returns Inv-loop μ-loop
 returns c =
-    let l = c .before .before .before in
-    let a = given l .args in
-    lost l (l .loop .positions) (l .loop .inv .long)
-    (out (a .slots) (a .links .now) (a .labels .now) (a .last) (l .loop .n) (l .loop .x) (sym (c .before .from1 .ensures) ∙ not-true _ (c .if1 .taken)))
-
-returns-4 : tie.Need-returns-4 Inv-loop μ-loop
-returns-4 c =
-    let l = c .before in
-    let a = given l .args in
-    lost l (l .loop .positions) (l .loop .inv .long) (full (a .slots) (a .links .now) (a .labels .now) (a .last) (l .loop .n) (l .loop .x) (c .loop-test .left))
-
--- At a slot that was met: where the turn began, and what is noted now.
-abbrev real-at : tie.After-slice-known2 Inv-loop μ-loop → tie.Else1 Inv-loop μ-loop
-real-at k = let m = k .before .before in m .before .before .before
-
-abbrev turn : tie.After-slice-known2 Inv-loop μ-loop → tie.At-loop Inv-loop μ-loop
-turn k = real-at k .before .before .before
-
-abbrev noted-now : tie.After-slice-known2 Inv-loop μ-loop → List ℕ
-noted-now k = k .before .before .meet .last .1 .1 .1 .1 .1 .0
-
-real : (k : tie.After-slice-known2 Inv-loop μ-loop) → from1 (given (turn k) .args .slots) (turn k .loop .x) ≡ true
-real k = let e = real-at k in sym (e .before .from1 .ensures) ∙ not-false _ (e .if1 .left)
-
--- The label and the link word of the slot.
-abbrev label : tie.At-loop Inv-loop μ-loop → ℕ
-label l = getD (given l .args .labels .now) (l .loop .x) 0
-
-abbrev word : tie.At-loop Inv-loop μ-loop → ℕ
-word l = getD (given l .args .links .now) (l .loop .x) 0
-
-noted-is : (k : tie.After-slice-known2 Inv-loop μ-loop)
-    → noted-now k
-    ≡ note (given (turn k) .args .early) (label (turn k)) (turn k .loop .n + 1) (given (turn k) .args .asked .now) (turn k .loop .positions)
-noted-is k =
+    let k = c .before .before in
     let l = turn k in
     let a = given l .args in
-    let m = k .before .before in
-    m .meet .ensures ∙ ap (λ (y : ℕ). note (a .early) y (l .loop .n + 1) (a .asked .now) (l .loop .positions)) (m .before .before .label-at .ensures)
+    ap made (met k)
+    ∙ sym (stops (noteOn (a .w .rightward) (a .asked .now)) (a .w) (a .lefts .now) (a .rights .now) (a .labels .now) (l .loop .n) (l .loop .x)
+    (with (l .loop .n) (l .loop .positions)) (test k .if1 .taken) (l .loop .inv .at) (c .if2 .taken))
+    ∙ l .loop .inv .notes
 
-long-now : (k : tie.After-slice-known2 Inv-loop μ-loop) → length (noted-now k) ≡ length (given (turn k) .args .positions .now)
-long-now k =
-    let l = turn k in
-    let a = given l .args in
-    ap length (noted-is k) ∙ note-length (a .early) (label l) (l .loop .n + 1) (a .asked .now) (l .loop .positions) ∙ l .loop .inv .long
+-- Where the link leads.
+module _ (v : tie.After-leads Inv-loop μ-loop) where
+  abbrev place : tie.After-slice-known4 Inv-loop μ-loop
+  place = v .before .before .before
+
+  onwards : (let l = turn place in let a = given l .args in let n = l .loop .n in
+      comes (noteOn (a .w .rightward) (a .asked .now)) (a .w) (a .lefts .now) (a .rights .now) (a .labels .now) (n + 1) (with (n + 1) (now place))
+      (v .leads .result)
+      ≡ over (noteOn (a .w .rightward) (a .asked .now)) (with 0 (a .positions .now)) (ahead (a .w) (a .lefts .now) (a .rights .now) (a .labels .now)))
+  onwards =
+      let l = turn place in
+      let a = given l .args in
+      let n = l .loop .n in
+      let f = noteOn (a .w .rightward) (a .asked .now) in
+      (λ i. comes f (a .w) (a .lefts .now) (a .rights .now) (a .labels .now) (n + 1) (met place i) (v .leads .ensures i))
+      ∙ sym (goes f (a .w) (a .lefts .now) (a .rights .now) (a .labels .now) n (l .loop .x) (with n (l .loop .positions)) (test place .if1 .taken)
+      (l .loop .inv .at) (v .before .if2 .left))
+      ∙ l .loop .inv .notes
 
 returns-2 : tie.Need-returns-2 Inv-loop μ-loop
 returns-2 c =
-    let k = c .before in
-    let l = turn k in
+    let v = c .before in
+    let l = turn (place v) in
     let a = given l .args in
-    let e = eq-eqb _ _ (c .if2 .taken) in
-    let h = real-at k .before .before .loop-test .taken in
-    let t = counting.stops (a .slots) (a .links .now) (a .labels .now) (a .last) (l .loop .n) (l .loop .x) in
-    let s = stops (a .slots) (a .links .now) (a .labels .now) (a .last) (a .early) (a .asked .now) (l .loop .n) (l .loop .x) (l .loop .positions) in
-    record {
-      tally = sym (t h (real k) e) ∙ l .loop .inv .reaches;
-      kept = long-now k;
-      noted = λ f. noted-is k ∙ s h (real k) _ (l .loop .inv .notes) e;
-    }
-
--- The link word that was read is sound or not.
-abbrev read-at : tie.After-link-sound Inv-loop μ-loop → tie.At-loop Inv-loop μ-loop
-read-at c = turn (c .before .before .before)
-
-judged : (c : tie.After-link-sound Inv-loop μ-loop) → c .link-sound .result ≡ linkSound (given (read-at c) .args .slots) (word (read-at c))
-judged c = c .link-sound .ensures ∙ ap (linkSound (given (read-at c) .args .slots)) (c .before .word-at .ensures)
-
-returns-3 : tie.Need-returns-3 Inv-loop μ-loop
-returns-3 c =
-    let i = c .before .before .before in
-    let k = i .before in
-    let l = turn k in
-    let a = given l .args in
-    let unsound = sym (judged (c .before)) ∙ not-true _ (c .if3 .taken) in
-    let lose = astray (a .slots) (a .links .now) (a .labels .now) (a .last) (l .loop .n) (l .loop .x) in
-    lost l (noted-now k) (long-now k) (lose (real-at k .before .before .loop-test .taken) (real k) (ne-eqb _ _ (i .if2 .left)) unsound)
+    sym (breaks (noteOn (a .w .rightward) (a .asked .now)) (a .w) (a .lefts .now) (a .rights .now) (a .labels .now) (l .loop .n + 1) _
+    (with (l .loop .n + 1) (now (place v))) (c .if3 .taken))
+    ∙ onwards v
 
 loop-again : tie.Need-loop-again Inv-loop μ-loop
 loop-again c =
-    let i = c .before .before .before .before in
-    let k = i .before in
+    let v = c .before in
+    let k = place v in
     let l = turn k in
     let a = given l .args in
-    let h = real-at k .before .before .loop-test .taken in
-    let ne = ne-eqb _ _ (i .if2 .left) in
-    let fine = sym (judged (c .before .before)) ∙ not-false _ (c .before .if3 .left) in
-    let next : c .unpack .result .slot ≡ linkOf (getD (a .links .now) (l .loop .x) 0) .slot =
-    ap (λ (r : Link). r .slot) (c .unpack .ensures) ∙ ap (λ (w : ℕ). linkOf w .slot) (c .before .before .before .word-at .ensures) in
-    let rest : ℕ → Walk = λ y. along (a .slots) (a .links .now) (a .labels .now) (a .last) (a .slots - (l .loop .n + 1)) y in
-    let more = onwards (a .slots) (a .links .now) (a .labels .now) (a .last) (a .early) (a .asked .now) (l .loop .n) (l .loop .x) (l .loop .positions) in
+    let s = label k .before .before in
     record {
-      few = omega arith;
-      reaches =
-          ap (λ (y : ℕ). andCounted (l .loop .n + 1) (rest y)) next
-          ∙ sym (counting.onwards (a .slots) (a .links .now) (a .labels .now) (a .last) (l .loop .n) (l .loop .x) h (real k) ne fine)
-          ∙ l .loop .inv .reaches;
+      few = omega (arith, test k .if1 .taken);
+      at = rw (v .leads .ensures) (real (a .w) (a .lefts .now) (a .rights .now) [] (l .loop .x) (rw (← v .leads .ensures) (c .if3 .left)));
+      ready = s .before .ready .ensures;
       long = long-now k;
-      notes =
-          (λ i. noting (a .early) (a .asked .now) (l .loop .n + 1 + 1) (noted-is k i) (rest (next i)))
-          ∙ more h (real k) _ (l .loop .inv .notes) ne fine;
+      notes = onwards v;
     }
 
--- The labels asked for pass the sieve, and have a position each.
+returns-3 : tie.Need-returns-3 Inv-loop μ-loop
+returns-3 c =
+    let l = c .before .before in
+    let a = given l .args in
+    sym (full (noteOn (a .w .rightward) (a .asked .now)) (a .w) (a .lefts .now) (a .rights .now) (a .labels .now) (l .loop .n) (l .loop .x)
+    (with (l .loop .n) (l .loop .positions)) (omega (arith, c .if1 .left)))
+    ∙ l .loop .inv .notes
+
 meet-requires : tie.Need-meet-requires Inv-loop μ-loop
 meet-requires c κs =
-    let e = c .before .before in
-    let l = e .before .before .before in
-    (given l .pre .0, omega (arith, given l .pre .1, l .loop .inv .long))
+    let s = c .before .before .before .before in
+    let l = s .before .before .before .before .before in
+    (s .before .ready .ensures, omega (arith, given l .pre .room, l .loop .inv .long))
+
+-- The sieve keeps its size.
+sized : (k : tie.After-slice-known4 Inv-loop μ-loop) → length (label k .before .before .before .ready .last .1 .1 .0) ≡ length (given (turn k) .args .sieve .now)
+sized k = label k .before .before .before .ready .ensures .size ∙ sym (given (turn k) .pre .sieve-size)
 
 pub look-spec : {M : Type 1} → statement M
 look-spec =
@@ -182,20 +166,19 @@ look-spec =
     Inv-loop
     μ-loop
     loop-holds
-    (λ _ _. tt)
-    (λ c. c .before .before .before .loop .inv .long)
-    returns
-    (λ c. search needs)
+    (λ c κs. c .before .before .before .loop .inv .ready)
+    (λ c. omega arith)
     (λ _ _. tt)
     meet-requires
-    (λ c. long-now (c .before))
+    (λ c. sized (c .before .before))
+    (λ c. long-now (c .before .before))
+    returns
+    (λ _ _. tt)
+    (λ c. sized (place (c .before)))
+    (λ c. long-now (place (c .before)))
     returns-2
-    (λ _ _. tt)
-    (λ _ _. tt)
-    (λ c. long-now (c .before .before .before .before))
-    returns-3
-    (λ _ _. tt)
     (λ c. omega arith)
     loop-again
-    (λ c. c .before .loop .inv .long)
-    returns-4)
+    (λ c. let l = c .before .before in l .loop .inv .ready .size ∙ sym (given l .pre .sieve-size))
+    (λ c. c .before .before .loop .inv .long)
+    returns-3)

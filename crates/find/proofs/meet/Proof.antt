@@ -1,27 +1,26 @@
--- A label whose mark is clear was not asked for, and nothing is noted.
-use mathlib.Core.Path.{_≡_, sym, ap, _∙_}
-use mathlib.Core.Bool.{false}
-use Prim.Native.Nat.{ℕ, _%_}
+-- A label that does not pass was not asked for, and nothing is noted.
+use mathlib.Core.Path.{_≡_, sym, _∙_}
+use mathlib.Core.Bool.{false, _||_}
+use Prim.Native.Nat.{_%_}
+use lib.Dec.{leb}
 use borrow.Author.Needs.{needs}
+use borrow.Author.Tests.{leb-false}
 use Rattle.model.specs.Tables.{marked}
+use Rattle.model.proofs.tests.Truth.{or-false}
 use Rattle.find.proofs.Noted.{none-noted}
 use Rattle.find.proofs.Sieve.{not-asked}
 use Rattle.find.proofs.meet.Statement.{statement}
 use Rattle.find.proofs.meet.Tie as tie
 
--- What the call was given.
-abbrev start : tie.After-wide → tie.Start
-start w = w .before .before .before .before
-
 returns-2 : tie.Need-returns-2
 returns-2 c =
-    let w = c .before .before in
-    let a = start w .args in
-    let clear : marked (a .sieve .now) (a .y % 1024) ≡ false =
-    ap (λ (v : ℕ). marked (a .sieve .now) (v % 1024)) (sym (w .wide .ensures)) ∙ sym (c .before .marked .ensures) ∙ c .if1 .left in
-    sym (none-noted (a .early) (a .y) (a .k) (a .asked .now) (a .positions .now) (not-asked (a .asked .now) (a .sieve .now) (a .y) (start w .pre .0) clear))
+    let s = c .before .before .before .before .before in
+    let a = s .args in
+    let clear = or-false (leb (a .k) 4) (marked (a .sieve .now) (a .y % 1024)) (sym (c .before .passes .ensures) ∙ c .if1 .left) in
+    let sifted = s .pre .0 .sifted (leb-false (a .k) 4 (clear .0)) in
+    sym (none-noted (a .early) (a .y) (a .k) (a .asked .now) (a .positions .now) (not-asked (a .asked .now) (a .sieve .now) (a .y) sifted (clear .1)))
 
 pub meet-spec : {M : Type 1} → statement M
 meet-spec =
     tie.close
-    (tie.spec (λ _ _. tt) (λ _ _. tt) (λ c κs. search needs) (λ c. search needs) (λ c. search needs) returns-2)
+    (tie.spec (λ _ _. tt) (λ c κs. search needs) (λ c. search needs) (λ c. search needs) returns-2)

@@ -32,14 +32,15 @@ room l = omega (arith, kept l, l .before .before .before .pre)
 
 loop-again : tie.Need-loop-again Inv-loop μ-loop
 loop-again c =
-    let l = c .before .before .before .before in
+    let p = c .before .before in
+    let l = p .before .before .before .before in
     let a = l .before .before .before .args in
     let i = l .loop .i in
     let asked = a .asked .now in
     let put : List ℕ → List ℕ = λ ps. set ps i (pick (a .early) (getD asked i 0) (a .y) (a .k) (getD ps i 0)) in
     let more = note-more (a .early) (a .y) (a .k) i asked (a .positions .now) (omega arith) (omega (arith, l .before .before .before .pre)) in (
       omega arith,
-      ap (set (l .loop .positions) i) (c .pick .ensures)
+      p .put .ensures
           ∙ ap put (l .loop .inv .1)
           ∙ sym more
           ∙ ap (λ (m : ℕ). note (a .early) (a .y) (a .k) (take m asked) (a .positions .now)) (sym (add-one i)),
@@ -62,11 +63,7 @@ note-spec =
     loop-holds
     (λ c. search needs)
     (λ c. search needs)
-    (λ c. search needs)
-    (λ c. omega (arith, room (c .before .before .before)))
-    (λ _ _. tt)
-    (λ c. search needs)
-    (λ c. omega (arith, room (c .before .before .before .before)))
+    (λ c κs. omega (arith, room (c .before .before .before)))
     (λ c. search needs)
     (λ c. omega arith)
     loop-again

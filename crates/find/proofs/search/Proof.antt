@@ -1,118 +1,111 @@
--- The walk begins and ends where the definition's does.
-use mathlib.Core.Path.{_≡_, sym, ap, subst, subst₂, _∙_}
-use mathlib.Core.Bool.{Bool, true, false}
-use mathlib.Core.List.{List, map}
-use Prim.Native.Nat.{ℕ, _≤_}
+-- Broken, found from the right end and turned, or found from the left.
+use mathlib.Core.Path.{_≡_, refl, sym, ap, _∙_}
+use mathlib.Core.Bool.{true, false}
+use mathlib.Core.List.{List}
+use Prim.Native.Nat.{ℕ}
 use native.Mathlib.Omega.{arith}
-use lib.Dec.{eqb}
-use lib.ListN.{length}
+use lib.ListN.{length, length-replicate, replicate}
 use borrow.Author.Needs.{needs}
-use borrow.Author.Tests.{eq-eqb, ne-eqb}
-use Rattle.word.specs.declared.Anchor.{Anchor}
-use Rattle.word.specs.Anchor.{anchorOf}
-use Rattle.model.specs.Tables.{Tables, tablesOf}
-use Rattle.model.specs.Walk.{Walk, along}
-use Rattle.model.specs.Sides.{isEmpty}
+use borrow.Author.Tests.{not-true, not-false}
+use Rattle.model.specs.Walk.{Walk}
 use Rattle.walk.specs.declared.Tally.{Tally}
 use Rattle.walk.specs.declared.Tally.the-variants.{Labels}
-use Rattle.walk.proofs.SlotBySlot.{empty, from-left, from-right}
-use Rattle.find_model.specs.Noting.{turned}
-use Rattle.find.specs.Sieve.{Sifted}
-use Rattle.find.specs.Looked.{Looked, Searched}
-use Rattle.find.proofs.Searching.{blank, full, nothing-waits, left-found, right-found}
+use Rattle.walk.specs.Ways.{ahead}
+use Rattle.walk.specs.Over.{over}
+use Rattle.find_model.specs.declared.FindReply.{FindReply}
+use Rattle.find.specs.Looked.{noteOn, noted}
+use Rattle.find.proofs.Searching.{blank, within, nothing-found, blanked, left-found, right-found}
 use Rattle.find.proofs.search.Statement.{statement}
 use Rattle.find.proofs.search.Tie as tie
 
--- What the call was given: the Anchor as it is, and the tables, whatever the marks and next rows.
-abbrev start : tie.After-unpack → tie.Start
-start u = let s = u .before .before .before .before in s .before .before .before
+-- The walk that was made, and what came of it.
+module _ (k : tie.After-look) where
+  abbrev start : tie.Start
+  start = let s = k .before .before .before .before in s .before .before .before .before
 
-abbrev anchor : tie.After-unpack → Anchor
-anchor u = anchorOf (start u .args .c .anchor)
+  abbrev walk : Walk
+  walk = let a = start .args in ahead (a .w) (a .lefts .now) (a .rights .now) (a .labels .now)
 
-abbrev tables : tie.After-unpack → List ℕ → List ℕ → Tables
-tables u marks next = let a = start u .args in tablesOf (a .c) (a .lefts .now) (a .rights .now) (a .labels .now) marks next
+  abbrev after : List ℕ
+  after = k .look .last .1 .1 .1 .1 .1 .1 .0
 
-abbrev walk : tie.After-unpack → List ℕ → (Anchor → ℕ) → (Anchor → ℕ) → Anchor → Walk
-walk u links last first r = let a = start u .args in along (a .c .slots) links (a .labels .now) (last r) (a .c .slots) (first r)
+  came : (t : Tally) → k .look .result ≡ t
+      → noted t after ≡ over (noteOn (start .args .w .rightward) (start .args .asked .now)) (record { count = 0; positions = blank }) walk
+  came t e =
+      let a = start .args in
+      ap (λ (r : Tally). noted r after) (sym e) ∙ k .look .ensures
+      ∙ ap (λ (ps : List ℕ). over (noteOn (a .w .rightward) (a .asked .now)) (record { count = 0; positions = ps }) walk) (start .pre .1 .1)
 
--- The walk of the Anchor as unpacked, on positions that are blank, is that of the Anchor as it is.
-looked : (u : tie.After-unpack) (early : Bool) (links : List ℕ) (last first : Anchor → ℕ) (r : Tally) (after : List ℕ)
-    → Looked early (start u .args .asked .now) (start u .args .positions .now) (walk u links last first (u .unpack .result)) r after
-    → Looked early (start u .args .asked .now) blank (walk u links last first (anchor u)) r after
-looked u early links last first r after k =
-    subst₂ (λ (ps : List ℕ) (w : Walk). Looked early (start u .args .asked .now) ps w r after)
-    (start u .pre .1 .1) (ap (walk u links last first) (u .unpack .ensures)) k
-
--- Where the ends are not null.
-abbrev unpacked : tie.Else1 → tie.After-unpack
-unpacked e = e .before .before .before
-
-filled : (e : tie.Else1) → isEmpty (anchor (unpacked e)) ≡ false
-filled e = sym (ap isEmpty (unpacked e .unpack .ensures)) ∙ e .if1 .left
-
-status : (u : tie.After-unpack) → eqb (u .unpack .result .status) 2 ≡ eqb (anchor u .status) 2
-status u = ap (λ (a : Anchor). eqb (a .status) 2) (u .unpack .ensures)
+  size : length (start .args .positions .now) ≡ 32
+  size = ap length (start .pre .1 .1) ∙ length-replicate {A = ℕ} 32 0
 
 returns : tie.Need-returns
-returns c marks next =
-    let u = c .before .before .before in
-    let a = start u .args in
-    let e = empty (tables u marks next) (sym (ap isEmpty (u .unpack .ensures)) ∙ c .if1 .taken) in
-    subst (λ (w : Walk). Searched (a .asked .now) w (Labels 0) (a .positions .now)) (sym e)
-    (nothing-waits (a .asked .now) (start u .pre .1 .0) (a .positions .now) (start u .pre .1 .1))
+returns c =
+    let z = c .before .before in
+    let t = z .before .before in
+    let s = t .before .before in
+    let k = s .before .before .before in
+    let a = start k .args in
+    let long : length (after k) ≡ 32 = omega (arith, size k) in
+    let lost = nothing-found (noteOn (a .w .rightward) (a .asked .now)) (record { count = 0; positions = blank }) (a .w) (walk k) (a .asked .now)
+    (came k _ (t .enum-told .given .1)) in
+    ap (λ (ps : List ℕ). record { code = 34; rows = 0; positions = ps }) (z .zero-words .ensures ∙ blanked (after k) long) ∙ lost
+
+-- All of the walk went into it.
+module _ (t : tie.After-known-told) where
+  abbrev looked : tie.After-look
+  looked = let s = t .before .before .before in s .before .before .before
+
+  abbrev rows : ℕ
+  rows = t .before .walked .given .0 .0
+
+  all-noted : noted (Labels rows) (after looked)
+      ≡ over (noteOn (start looked .args .w .rightward) (start looked .args .asked .now)) (record { count = 0; positions = blank }) (walk looked)
+  all-noted = came looked _ (t .before .walked .given .1)
+
+turn-requires : tie.Need-turn-requires
+turn-requires c κs =
+    let t = c .before .before .before in
+    let k = looked t in
+    let a = start k .args in
+    let few = start k .pre .1 .0 in
+    (omega (arith, size k), within (a .w .rightward) (a .asked .now) (rows t) (after k) (walk k) (all-noted t))
 
 returns-2 : tie.Need-returns-2
-returns-2 c marks next =
-    let k = c .before .before in
-    let t = k .before .before in
-    let e = t .before .before in
-    let u = unpacked e in
-    let a = start u .args in
-    let links = a .rights .now in
-    let way = from-left (tables u marks next) (filled e) (sym (status u) ∙ eq-eqb _ _ (t .if2 .taken)) in
-    let l = looked u true links (λ r. r .right) (λ r. r .left) (k .look .result) _ (k .look .ensures) in
-    subst (λ (w : Walk). Searched (a .asked .now) w (k .look .result) (k .look .last .1 .1 .1 .1 .1 .1 .1 .1 .0)) (sym way)
-    (left-found (a .asked .now) (start u .pre .1 .0) (walk u links (λ r. r .right) (λ r. r .left) (anchor u)) _ _ l)
+returns-2 c =
+    let v = c .before .before in
+    let n = v .before .before in
+    let t = n .before .before in
+    let k = looked t in
+    let a = start k .args in
+    ap (λ (ps : List ℕ). record { code = 0; rows = rows t; positions = ps }) (v .turn .ensures)
+    ∙ right-found (a .w) (a .asked .now) (start k .pre .1 .0) (rows t) (after k) (walk k) (not-true _ (n .if1 .taken)) (all-noted t)
 
 returns-3 : tie.Need-returns-3
-returns-3 c marks next =
-    let n = c .before .before in
-    let o = n .before .before in
-    let k = o .before .before .before in
-    let t = k .before .before in
-    let e = t .before .before in
-    let u = unpacked e in
-    let a = start u .args in
-    let links = a .lefts .now in
-    let mid = k .look2 .last .1 .1 .1 .1 .1 .1 .1 .1 .0 in
-    let way = from-right (tables u marks next) (filled e) (sym (status u) ∙ ne-eqb _ _ (t .if2 .left)) in
-    let l = looked u false links (λ r. r .left) (λ r. r .right) (k .look2 .result) _ (k .look2 .ensures) in
-    let z = n .turn .ensures ∙ ap (λ (m : ℕ). map (turned m) mid) (o .rows-of .ensures) in
-    subst (λ (w : Walk). Searched (a .asked .now) w (k .look2 .result) (n .turn .last .1 .0)) (sym way)
-    (right-found (a .asked .now) (start u .pre .1 .0) (walk u links (λ r. r .left) (λ r. r .right) (anchor u)) _ mid _ l z)
-
--- The labels asked for pass the sieve, and have a position each.
-ready : (s : tie.Start) → Sifted (s .args .asked .now) (s .args .sieve .now) × (length (s .args .asked .now) ≤ length (s .args .positions .now))
-ready s = (s .pre .0, omega (arith, s .pre .1 .0, ap length (s .pre .1 .1) ∙ full))
+returns-3 c =
+    let t = c .before .before in
+    let k = looked t in
+    let a = start k .args in
+    left-found (a .w) (a .asked .now) (start k .pre .1 .0) (rows t) (after k) (walk k) (not-false _ (c .if1 .left)) (all-noted t)
 
 look-requires : tie.Need-look-requires
-look-requires c κs = let e = c .before .before .before in ready (start (unpacked e))
-
-look-requires-2 : tie.Need-look-requires-2
-look-requires-2 c κs = let e = c .before .before .before in ready (start (unpacked e))
+look-requires c κs =
+    let s = c .before .before .before .before .before .before .before in
+    record { at = s .pre .0; sieve-size = refl; room = omega (arith, s .pre .1 .0, ap length (s .pre .1 .1) ∙ length-replicate {A = ℕ} 32 0) }
 
 pub search-spec : {M : Type 1} → statement M
 search-spec =
     tie.close
     (tie.spec
-    (λ _ _. tt)
-    returns
+    (λ c. search needs)
     look-requires
     (λ c. search needs)
+    (λ c. search needs)
+    (λ _ _. tt)
+    (λ c. search needs)
+    returns
+    turn-requires
+    (λ c. search needs)
     returns-2
-    look-requires-2
-    (λ _ _. tt)
-    (λ _ _. tt)
     (λ c. search needs)
     returns-3)

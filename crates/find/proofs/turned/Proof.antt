@@ -1,19 +1,18 @@
--- The test is the definition's, and keeps the sum within the rows.
-use Prim.Native.Nat.{_≤_}
+-- None, or a position within the rows.
+use mathlib.Core.Path.{sym}
 use native.Mathlib.Omega.{arith}
-use borrow.Author.Tests.{leb-true}
-use Rattle.model.proofs.tests.Truth.{and-true}
+use borrow.Author.Needs.{needs}
+use borrow.Author.Tests.{le-leb}
 use Rattle.find.proofs.turned.Statement.{statement}
 use Rattle.find.proofs.turned.Tie as tie
 
-within : (c : tie.Then1) → (1 ≤ c .before .args .p) × (c .before .args .p ≤ c .before .args .rows)
-within c = let h = and-true _ _ (c .if1 .taken) in (leb-true 1 _ (h .0), leb-true _ _ (h .1))
-
 returns : tie.Need-returns
-returns c = rw (c .if1 .taken) (omega (arith, within c))
+returns c = rw (c .if1 .taken)
 
 returns-2 : tie.Need-returns-2
-returns-2 c = rw (c .if1 .left)
+returns-2 c =
+    let a = c .before .args in
+    rw (le-leb 1 (a .p) (omega (arith, c .if1 .left)), le-leb (a .p) (a .rows) (c .before .pre)) (omega (arith, c .before .pre))
 
 pub turned-spec : {M : Type 1} → statement M
-turned-spec = tie.close (tie.spec (λ c. omega (arith, within c)) (λ c. omega (arith, within c)) returns returns-2)
+turned-spec = tie.close (tie.spec (λ c. search needs) (λ c. omega (arith, c .if1 .left, c .before .pre)) returns returns-2)

@@ -13,7 +13,7 @@ returns c =
     let sought = sought3 .before .before in
     let length1 = sought .before .before .before .before in
     let length = length1 .before .before .before in
-    no-more _ _ _ _ _ _ _ (length .memory-length .ensures) (sought .search .ensures) (c .if1 .taken)
+    no-more _ _ _ _ _ _ (length .memory-length .ensures) (sought .search .ensures) (c .if1 .taken)
 
 returns-2 : tie.Need-returns-2
 returns-2 c =
@@ -25,7 +25,7 @@ returns-2 c =
     let sought = sought3 .before .before in
     let length1 = sought .before .before .before .before in
     let length = length1 .before .before .before in
-    next-found _ _ _ _ _ _ _ (length .memory-length .ensures) (sought .search .ensures) _ (not-false _ (found .if1 .left)) (put .put-word .ensures)
+    next-found _ _ _ _ _ _ (length .memory-length .ensures) (sought .search .ensures) _ (not-false _ (found .if1 .left)) (put .put-word .ensures)
 
 pub hand-out-spec : {M : Type 1} → statement M
 hand-out-spec =

@@ -1,10 +1,10 @@
--- Equal ends or different ones; the first test that fails, or all.
+-- The left end no slot, equal ends, or different ones; the first test that fails, or the right end's.
 use mathlib.Core.Path.{_≡_, sym, ap, _∙_}
 use mathlib.Core.Bool.{Bool, true}
 use borrow.Author.Tests.{not-true, not-false}
 use Rattle.word.specs.Anchor.{anchorOf}
 use Rattle.sound.specs.Records.{earlySeen}
-use Rattle.sound.proofs.Early.{equal-late, equal-soon, left-out, right-out, apart-late, apart-soon}
+use Rattle.sound.proofs.Seen.{null-late, null-soon, equal-late, equal-soon, no-status, stable-late, apart-late, apart-soon}
 use Rattle.sound.proofs.early_seen.Statement.{statement}
 use Rattle.sound.proofs.early_seen.Tie as tie
 
@@ -16,64 +16,87 @@ module _ (u : tie.After-unpack) (b : Bool) where
 
 returns : tie.Need-returns
 returns c =
-    let ends = c .before .before in
-    of-word (ends .before .before) _ (equal-late _ _ _ (ends .if1 .taken) (c .if2 .taken))
+    let left = c .before .before in
+    of-word (left .before .before) _ (null-late _ _ _ (sym (left .before .from1 .ensures) ∙ not-true _ (left .if1 .taken)) (c .if2 .taken))
 
 returns-2 : tie.Need-returns-2
 returns-2 c =
-    let place = c .before .before in
-    let ends = place .before .before in
-    of-word (ends .before .before) _ (equal-soon _ _ _ (ends .if1 .taken) (place .if2 .left))
+    let soon = c .before in
+    let left = soon .before .before in
+    let u = left .before .before in
+    of-word u _ (null-soon _ _ _ _ (u .unpack .ensures) (sym (left .before .from1 .ensures) ∙ not-true _ (left .if1 .taken)) (soon .if2 .left))
+
+-- The left end is a slot.
+module _ (past : tie.Else1) where
+  abbrev word : tie.After-unpack
+  word = past .before .before
+
+  first : past .before .from1 .result ≡ true
+  first = not-false _ (past .if1 .left)
 
 returns-3 : tie.Need-returns-3
 returns-3 c =
     let ends = c .before .before in
-    of-word (ends .before .before) _ (left-out _ _ _ (ends .if1 .left) (sym (c .before .from1 .ensures) ∙ not-true _ (c .if3 .taken)))
-
--- Different ends, the left one a slot.
-module _ (left : tie.Else3) where
-  abbrev ends : tie.Else1
-  ends = left .before .before
-
-  first : left .before .from1 .result ≡ true
-  first = not-false _ (left .if3 .left)
+    let past = ends .before .before in
+    of-word (word past) _ (equal-late _ _ _ (ends .if3 .taken) (c .if4 .taken))
 
 returns-4 : tie.Need-returns-4
 returns-4 c =
-    let left = c .before .before in
-    of-word (ends left .before .before) _
-    (right-out _ _ _ (ends left .if1 .left) (sym (left .before .from1 .ensures) ∙ first left) (sym (c .before .from12 .ensures) ∙ not-true _ (c .if4 .taken)))
+    let soon = c .before in
+    let ends = soon .before .before in
+    let past = ends .before .before in
+    of-word (word past) _ (equal-soon _ _ _ (ends .if3 .taken) (sym (past .before .from1 .ensures) ∙ first past) (soon .if4 .left))
 
 returns-5 : tie.Need-returns-5
 returns-5 c =
-    let place = c .before in
-    let right = place .before .before in
-    let left = right .before .before in
-    of-word (ends left .before .before) _
-    (c .from13 .ensures
-    ∙ apart-late _ _ _ (ends left .if1 .left) (sym (left .before .from1 .ensures) ∙ first left)
-    (sym (right .before .from12 .ensures) ∙ not-false _ (right .if4 .left)) (place .if5 .taken))
+    let ends = c .before .before in
+    let past = ends .before .before in
+    of-word (word past) _ (no-status _ _ _ (sym (past .before .from1 .ensures) ∙ first past) (ends .if3 .left) (c .if5 .taken))
 
 returns-6 : tie.Need-returns-6
 returns-6 c =
-    let place = c .before in
-    let right = place .before .before in
-    let left = right .before .before in
-    of-word (ends left .before .before) _
-    (apart-soon _ _ _ (ends left .if1 .left) (sym (left .before .from1 .ensures) ∙ first left)
-    (sym (right .before .from12 .ensures) ∙ not-false _ (right .if4 .left)) (place .if5 .left))
+    let late = c .before .before in
+    let used = late .before .before in
+    let ends = used .before .before in
+    let past = ends .before .before in
+    of-word (word past) _ (stable-late _ _ _ (sym (past .before .from1 .ensures) ∙ first past) (ends .if3 .left) (c .if7 .taken) (late .if6 .taken))
+
+returns-7 : tie.Need-returns-7
+returns-7 c =
+    let status = c .before in
+    let late = status .before .before in
+    let used = late .before .before in
+    let ends = used .before .before in
+    let past = ends .before .before in
+    of-word (word past) _
+    (c .from12 .ensures
+    ∙ apart-late _ _ _ (sym (past .before .from1 .ensures) ∙ first past) (ends .if3 .left) _ (word past .unpack .ensures) (used .if5 .left)
+    (status .if7 .left) (late .if6 .taken))
+
+returns-8 : tie.Need-returns-8
+returns-8 c =
+    let late = c .before in
+    let used = late .before .before in
+    let ends = used .before .before in
+    let past = ends .before .before in
+    of-word (word past) _
+    (c .from13 .ensures
+    ∙ apart-soon _ _ _ (sym (past .before .from1 .ensures) ∙ first past) (ends .if3 .left) _ (word past .unpack .ensures) (used .if5 .left)
+    (late .if6 .left))
 
 pub early-seen-spec : {M : Type 1} → statement M
 early-seen-spec =
     tie.close
     (tie.spec
     (λ _ _. tt)
+    (λ _ _. tt)
     returns
     returns-2
-    (λ _ _. tt)
     returns-3
-    (λ _ _. tt)
     returns-4
-    (λ _ _. tt)
     returns-5
-    returns-6)
+    returns-6
+    (λ _ _. tt)
+    returns-7
+    (λ _ _. tt)
+    returns-8)

@@ -14,45 +14,30 @@ returns-2 : tie.Need-returns-2
 unfolding earlySound
 returns-2 c =
     let side = c .before .before in
-    rw (le-leb _ _ (side .if1 .left), lt-leb _ _ (c .if2 .taken))
+    rw (le-leb _ _ (side .if1 .left), sym (c .before .read-sound .ensures) ∙ not-true _ (c .if2 .taken))
 
 returns-3 : tie.Need-returns-3
 unfolding earlySound
 returns-3 c =
-    let near = c .before .before in
-    let side = near .before .before in
+    let reads = c .before .before in
+    let side = reads .before .before in
     rw (
       le-leb _ _ (side .if1 .left),
-      le-leb _ _ (near .if2 .left),
-      sym (c .before .link-sound .ensures) ∙ not-true _ (c .if3 .taken),
+      sym (reads .before .read-sound .ensures) ∙ not-false _ (reads .if2 .left),
+      sym (c .before .early-call .ensures) ∙ not-true _ (c .if3 .taken),
     )
 
 returns-4 : tie.Need-returns-4
 unfolding earlySound
 returns-4 c =
-    let link = c .before .before in
-    let near = link .before .before in
-    let side = near .before .before in
-    rw (
-      le-leb _ _ (side .if1 .left),
-      le-leb _ _ (near .if2 .left),
-      sym (link .before .link-sound .ensures) ∙ not-false _ (link .if3 .left),
-      sym (c .before .early-call .ensures) ∙ not-true _ (c .if4 .taken),
-    )
-
-returns-5 : tie.Need-returns-5
-unfolding earlySound
-returns-5 c =
     let call = c .before in
-    let link = call .before .before in
-    let near = link .before .before in
-    let side = near .before .before in
+    let reads = call .before .before in
+    let side = reads .before .before in
     c .early-seen .ensures
     ∙ (rw (
       le-leb _ _ (side .if1 .left),
-      le-leb _ _ (near .if2 .left),
-      sym (link .before .link-sound .ensures) ∙ not-false _ (link .if3 .left),
-      sym (call .before .early-call .ensures) ∙ not-false _ (call .if4 .left),
+      sym (reads .before .read-sound .ensures) ∙ not-false _ (reads .if2 .left),
+      sym (call .before .early-call .ensures) ∙ not-false _ (call .if3 .left),
     ))
 
 pub early-sound-spec : {M : Type 1} → statement M
@@ -60,10 +45,9 @@ early-sound-spec =
     tie.close
     (tie.spec
     returns
+    (λ _ _. tt)
     returns-2
     (λ _ _. tt)
     returns-3
     (λ _ _. tt)
-    returns-4
-    (λ _ _. tt)
-    returns-5)
+    returns-4)

@@ -14,62 +14,41 @@ returns-2 : tie.Need-returns-2
 unfolding lateSound
 returns-2 c =
     let side = c .before .before in
-    rw (le-leb _ _ (side .if1 .left), lt-leb _ _ (c .if2 .taken))
+    rw (le-leb _ _ (side .if1 .left), sym (c .before .read-sound .ensures) ∙ not-true _ (c .if2 .taken))
 
 returns-3 : tie.Need-returns-3
 unfolding lateSound
 returns-3 c =
-    let near = c .before .before in
-    let side = near .before .before in
-    rw (
-      le-leb _ _ (side .if1 .left),
-      le-leb _ _ (near .if2 .left),
-      sym (c .before .link-sound .ensures) ∙ not-true _ (c .if3 .taken),
-    )
+    let reads = c .before .before in
+    let side = reads .before .before in
+    rw (le-leb _ _ (side .if1 .left), sym (reads .before .read-sound .ensures) ∙ not-false _ (reads .if2 .left), ne-eqb _ _ (c .if3 .taken))
 
 returns-4 : tie.Need-returns-4
 unfolding lateSound
 returns-4 c =
-    let link = c .before .before in
-    let near = link .before .before in
-    let side = near .before .before in
+    let finishing = c .before .before in
+    let reads = finishing .before .before in
+    let side = reads .before .before in
     rw (
       le-leb _ _ (side .if1 .left),
-      le-leb _ _ (near .if2 .left),
-      sym (link .before .link-sound .ensures) ∙ not-false _ (link .if3 .left),
-      ne-eqb _ _ (c .if4 .taken),
+      sym (reads .before .read-sound .ensures) ∙ not-false _ (reads .if2 .left),
+      eq-eqb _ _ (finishing .if3 .left),
+      sym (c .before .anchor-sound .ensures) ∙ not-true _ (c .if4 .taken),
     )
 
 returns-5 : tie.Need-returns-5
 unfolding lateSound
 returns-5 c =
-    let finishing = c .before .before in
-    let link = finishing .before .before in
-    let near = link .before .before in
-    let side = near .before .before in
-    rw (
-      le-leb _ _ (side .if1 .left),
-      le-leb _ _ (near .if2 .left),
-      sym (link .before .link-sound .ensures) ∙ not-false _ (link .if3 .left),
-      eq-eqb _ _ (finishing .if4 .left),
-      sym (c .before .anchor-sound .ensures) ∙ not-true _ (c .if5 .taken),
-    )
-
-returns-6 : tie.Need-returns-6
-unfolding lateSound
-returns-6 c =
     let seen = c .before in
     let finishing = seen .before .before in
-    let link = finishing .before .before in
-    let near = link .before .before in
-    let side = near .before .before in
+    let reads = finishing .before .before in
+    let side = reads .before .before in
     c .late-call .ensures
     ∙ (rw (
       le-leb _ _ (side .if1 .left),
-      le-leb _ _ (near .if2 .left),
-      sym (link .before .link-sound .ensures) ∙ not-false _ (link .if3 .left),
-      eq-eqb _ _ (finishing .if4 .left),
-      sym (seen .before .anchor-sound .ensures) ∙ not-false _ (seen .if5 .left),
+      sym (reads .before .read-sound .ensures) ∙ not-false _ (reads .if2 .left),
+      eq-eqb _ _ (finishing .if3 .left),
+      sym (seen .before .anchor-sound .ensures) ∙ not-false _ (seen .if4 .left),
     ))
 
 pub late-sound-spec : {M : Type 1} → statement M
@@ -77,11 +56,10 @@ late-sound-spec =
     tie.close
     (tie.spec
     returns
-    returns-2
     (λ _ _. tt)
+    returns-2
     returns-3
+    (λ _ _. tt)
     returns-4
     (λ _ _. tt)
-    returns-5
-    (λ _ _. tt)
-    returns-6)
+    returns-5)

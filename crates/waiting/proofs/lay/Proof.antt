@@ -1,61 +1,110 @@
--- The end where the walk begins, and the way that it goes.
-use mathlib.Core.Path.{_≡_, sym, ap, _∙_}
-use Prim.Native.Nat.{ℕ}
-use lib.Dec.{eqb}
-use lib.Seq.{sets}
+-- With i slots stored: what is still to be stored, beside what is, comes to what the call owes.
+use mathlib.Core.Path.{_≡_, refl, sym, ap, subst, _∙_}
+use mathlib.Core.List.{List}
+use Prim.Native.Nat.{ℕ, _≤_, _<_, _-_}
+use native.Mathlib.Omega.{arith}
+use lib.ListN.{length, length-set, set}
 use borrow.Author.Needs.{needs}
-use borrow.Author.Tests.{eq-eqb, ne-eqb}
-use Rattle.word.specs.declared.Anchor.{Anchor}
-use Rattle.word.specs.Anchor.{anchorOf}
+use Rattle.walk.specs.declared.Way.{Way}
+use Rattle.walk.specs.Ways.{linksOn}
 use Rattle.waiting.specs.Waiting.{slotsOf, labelsOf}
-use Rattle.waiting.specs.Trail.{trail, downward, laid}
+use Rattle.waiting.specs.Laid.{trail, place, laid}
+use Rattle.waiting.proofs.Laid.{begins, more, ends, place-low}
 use Rattle.waiting.proofs.lay.Statement.{statement}
 use Rattle.waiting.proofs.lay.Tie as tie
 
-abbrev start : tie.After-unpack → tie.Start
-start u = let s = u .before .before .before in s .before .before .before
+record Kept (w : Way) (n : ℕ) (links labels slots₀ copies₀ slots copies : List ℕ) (i x : ℕ) : Type 0 where
+  long : length slots ≡ length slots₀
+  broad : length copies ≡ length copies₀
+  few : i ≤ n
+  owed : laid (w .rightward) n i (slotsOf (trail links labels (n - i) x)) slots ≡ laid (w .rightward) n 0 (slotsOf (trail links labels n (w .first))) slots₀
+  due : laid (w .rightward) n i (labelsOf (trail links labels (n - i) x)) copies ≡ laid (w .rightward) n 0 (labelsOf (trail links labels n (w .first))) copies₀
 
-status : (u : tie.After-unpack) → eqb (u .unpack .result .status) 2 ≡ eqb (anchorOf (start u .args .c .anchor) .status) 2
-status u = ap (λ (a : Anchor). eqb (a .status) 2) (u .unpack .ensures)
+abbrev Inv-loop : tie.InvT-loop
+Inv-loop w n lefts rights labels slots₀ copies₀ i₀ x₀ slots copies i x =
+    Kept w n (linksOn w lefts rights) labels slots₀ copies₀ slots copies i x
 
-returns : tie.Need-returns
-unfolding laid
+abbrev μ-loop : tie.MeasureT-loop
+μ-loop w n lefts rights labels slots₀ copies₀ i₀ x₀ slots copies i x = n - i
+
+loop-holds : tie.Need-loop-holds Inv-loop μ-loop
+loop-holds c =
+    let a = c .before .before .before .before .before .args in
+    record {
+      long = refl;
+      broad = refl;
+      few = omega arith;
+      owed = begins (λ e. e .slot) (linksOn (a .w) (a .lefts .now) (a .rights .now)) (a .labels .now) (a .w .rightward) (a .n) (a .w .first) (a .slots .now);
+      due = begins (λ e. e .label) (linksOn (a .w) (a .lefts .now) (a .rights .now)) (a .labels .now) (a .w .rightward) (a .n) (a .w .first) (a .copies .now);
+    }
+
+-- Where a turn began, and what the call was given.
+abbrev given : tie.At-loop Inv-loop μ-loop → tie.Start Inv-loop μ-loop
+given l = let s = l .before .before .before in s .before .before .before
+
+-- The place is one of both tables.
+module _ (p : tie.After-place Inv-loop μ-loop) where
+  abbrev turn : tie.At-loop Inv-loop μ-loop
+  turn = p .before .before
+
+  low : p .place .result < given turn .args .n
+  low =
+      subst (λ (k : ℕ). k < given turn .args .n) (sym (p .place .ensures))
+      (place-low (given turn .args .w .rightward) (given turn .args .n) (turn .loop .i) (p .before .loop-test .taken))
+
+  in-slots : p .place .result < length (turn .loop .slots)
+  in-slots = omega (arith, low, turn .loop .inv .long, given turn .pre .0)
+
+  in-copies : p .place .result < length (turn .loop .copies)
+  in-copies = omega (arith, low, turn .loop .inv .broad, given turn .pre .1)
+
+loop-again : tie.Need-loop-again Inv-loop μ-loop
+loop-again c =
+    let b = c .before in
+    let p = b .before in
+    let l = turn p in
+    let a = given l .args in
+    let links = linksOn (a .w) (a .lefts .now) (a .rights .now) in
+    let lt = p .before .loop-test .taken in
+    record {
+      long = length-set (l .loop .slots) (p .place .result) (l .loop .x) ∙ l .loop .inv .long;
+      broad = length-set (l .loop .copies) (p .place .result) (b .label-at .result) ∙ l .loop .inv .broad;
+      few = omega (arith, lt);
+      owed =
+          more (λ e. e .slot) links (a .labels .now) (a .w .rightward) (a .n) (l .loop .i) (l .loop .x) (l .loop .x) (c .follow .result)
+          (l .loop .slots) _ _ lt refl (c .follow .ensures) (ap (λ (k : ℕ). set (l .loop .slots) k (l .loop .x)) (p .place .ensures)) (l .loop .inv .owed);
+      due =
+          more (λ e. e .label) links (a .labels .now) (a .w .rightward) (a .n) (l .loop .i) (l .loop .x) (b .label-at .result) (c .follow .result)
+          (l .loop .copies) _ _ lt (b .label-at .ensures) (c .follow .ensures)
+          (ap (λ (k : ℕ). set (l .loop .copies) k (b .label-at .result)) (p .place .ensures)) (l .loop .inv .due);
+    }
+
+returns : tie.Need-returns Inv-loop μ-loop
 returns c =
-    let k = c .before .before .before .before in
-    let t = k .before .before .before in
-    let u = t .before .before in
-    let a = start u .args in
-    let way = sym (status u) ∙ eq-eqb _ _ (t .if1 .taken) in
-    let end = ap (λ (r : Anchor). r .left) (u .unpack .ensures) in
-    rw way (
-      k .lay-up .ensures .0 ∙ ap (λ (x : ℕ). sets (a .slots .now) 0 (slotsOf (trail (a .rights .now) (a .labels .now) (a .n) x))) end,
-      k .lay-up .ensures .1 ∙ ap (λ (x : ℕ). sets (a .copies .now) 0 (labelsOf (trail (a .rights .now) (a .labels .now) (a .n) x))) end,
-    )
-
-returns-2 : tie.Need-returns-2
-unfolding laid
-returns-2 c =
-    let k = c .before .before .before .before in
-    let t = k .before .before .before in
-    let u = t .before .before in
-    let a = start u .args in
-    let way = sym (status u) ∙ ne-eqb _ _ (t .if1 .left) in
-    let end = ap (λ (r : Anchor). r .right) (u .unpack .ensures) in
-    rw way (
-      k .lay-down .ensures .0 ∙ ap (λ (x : ℕ). downward (slotsOf (trail (a .lefts .now) (a .labels .now) (a .n) x)) (a .slots .now)) end,
-      k .lay-down .ensures .1 ∙ ap (λ (x : ℕ). downward (labelsOf (trail (a .lefts .now) (a .labels .now) (a .n) x)) (a .copies .now)) end,
+    let l = c .before in
+    let a = given l .args in
+    let links = linksOn (a .w) (a .lefts .now) (a .rights .now) in (
+      ends (λ e. e .slot) links (a .labels .now) (a .w .rightward) (a .n) (l .loop .i) (l .loop .x) _ _ (c .loop-test .left) (l .loop .inv .owed),
+      ends (λ e. e .label) links (a .labels .now) (a .w .rightward) (a .n) (l .loop .i) (l .loop .x) _ _ (c .loop-test .left) (l .loop .inv .due),
     )
 
 pub lay-spec : {M : Type 1} → statement M
 lay-spec =
     tie.close
     (tie.spec
+    Inv-loop
+    μ-loop
+    loop-holds
+    (λ c κs. c .loop-test .taken)
     (λ _ _. tt)
+    (λ c. let h = in-slots (c .before) in search needs)
+    (λ c. in-slots (c .before))
+    (λ c. let h = in-copies (c .before) in search needs)
+    (λ c. in-copies (c .before))
     (λ _ _. tt)
-    (λ c. search needs)
-    (λ c. search needs)
-    returns
-    (λ _ _. tt)
-    (λ c. search needs)
-    (λ c. search needs)
-    returns-2)
+    (λ c. omega arith)
+    (λ c. omega arith)
+    loop-again
+    (λ c. c .before .loop .inv .long)
+    (λ c. c .before .loop .inv .broad)
+    returns)

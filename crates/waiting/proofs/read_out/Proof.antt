@@ -10,7 +10,7 @@ use Rattle.sound.specs.Lengths.{lengthsFit}
 use Rattle.walk.specs.Counted.{counted}
 use Rattle.waiting.specs.declared.WaitingReply.{WaitingReply}
 use Rattle.waiting.specs.Waiting.{Written}
-use Rattle.waiting.proofs.ReadingOut.{why, turned-away, lost, short, writes}
+use Rattle.waiting.proofs.ReadingOut.{room, why, turned-away, lost, short, writes}
 use Rattle.waiting.proofs.read_out.Statement.{statement}
 use Rattle.waiting.proofs.read_out.Tie as tie
 
@@ -64,13 +64,22 @@ returns-3 c next =
 returns-4 : tie.Need-returns-4
 returns-4 c next =
     let l = c .before .before .before .before in
-    let e = l .before .before .before in
+    let b = l .before .before .before in
+    let e = b .before in
     let k = e .before .before in
     let w = k .before .before in
     let r = w .before .before in
     let all = sym (k .walked .given .1) ∙ walked-is w next in
-    writes (tables r next) (slots r) (copies r) _ (tried r next) (w .before .if1 .left) (k .walked .given .0 .0) all (e .if2 .left)
-    _ _ (l .lay .ensures .0) (l .lay .ensures .1)
+    writes (tables r next) (slots r) (copies r) _ (tried r next) (w .before .if1 .left) (k .walked .given .0 .0) all (b .begin .result) (b .begin .ensures)
+    (e .if2 .left) _ _ (l .lay .ensures .0) (l .lay .ensures .1)
+
+-- Both tables have room.
+lay-requires : tie.Need-lay-requires
+lay-requires c κs =
+    let e = c .before .before .before in
+    let k = e .before .before in
+    let r = k .before .before .before .before in
+    room (k .walked .given .0 .0) (slots r) (copies r) (e .if2 .left)
 
 pub read-out-spec : {M : Type 1} → statement M
 read-out-spec =
@@ -87,6 +96,7 @@ read-out-spec =
     (λ _ _. tt)
     returns-3
     (λ _ _. tt)
+    lay-requires
     (λ c. search needs)
     (λ c. search needs)
     returns-4)

@@ -1,29 +1,26 @@
 -- Tests made one after the other.
 use mathlib.Core.Path.{_≡_, sym, _∙_}
-use mathlib.Core.Bool.{true, false}
+use mathlib.Core.Bool.{true}
 use borrow.Author.Tests.{not-true, not-false}
 use Rattle.model.specs.Sound.{controlSound}
-use Rattle.waiting.specs.Trail.{refusalBefore}
+use Rattle.waiting.specs.Laid.{refusalBefore}
 use Rattle.waiting.proofs.refusal.Statement.{statement}
 use Rattle.waiting.proofs.refusal.Tie as tie
 
-unsound : (c : tie.Then1) → controlSound (c .before .before .before .args .c) ≡ false
-unsound c = sym (c .before .before .control-sound .ensures) ∙ not-true _ (c .if1 .taken)
-
-sound : (e : tie.Else1) → controlSound (e .before .before .before .args .c) ≡ true
-sound e = sym (e .before .before .control-sound .ensures) ∙ not-false _ (e .if1 .left)
-
 returns : tie.Need-returns
 unfolding refusalBefore
-returns c = rw (unsound c)
+returns c = rw (sym (c .before .control-sound .ensures) ∙ not-true _ (c .if1 .taken))
+
+sound : (e : tie.Else1) → controlSound (e .before .before .args .c) ≡ true
+sound e = sym (e .before .control-sound .ensures) ∙ not-false _ (e .if1 .left)
 
 returns-2 : tie.Need-returns-2
 unfolding refusalBefore
-returns-2 c = rw (sound (c .before), sym (c .before .before .rows-fit .ensures) ∙ not-true _ (c .if2 .taken))
+returns-2 c = rw (sound (c .before .before), sym (c .before .rows-fit .ensures) ∙ not-true _ (c .if2 .taken))
 
 returns-3 : tie.Need-returns-3
 unfolding refusalBefore
-returns-3 c = rw (sound (c .before), sym (c .before .before .rows-fit .ensures) ∙ not-false _ (c .if2 .left))
+returns-3 c = rw (sound (c .before .before), sym (c .before .rows-fit .ensures) ∙ not-false _ (c .if2 .left))
 
 pub refusal-spec : {M : Type 1} → statement M
-refusal-spec = tie.close (tie.spec (λ _ _. tt) (λ _ _. tt) returns returns-2 returns-3)
+refusal-spec = tie.close (tie.spec (λ _ _. tt) returns (λ _ _. tt) returns-2 returns-3)

@@ -8,54 +8,30 @@ mod uses;
 
 use std::fs::{read_dir, read_to_string};
 use std::process::ExitCode;
-use suite::{last_of, made, root, Checks};
+use suite::{last_of, made, made_within, root, Checks};
 
-/// Programs that compare the library with the same calls by hand: the sources, and the words of its runs.
-const BY_HAND: [(&str, &str, &[&str]); 9] = [
-    (
-        "the step",
-        "bench/main.c bench/reference.c bench/lean.c bench/bare.c",
-        &[
-            "check named 1 3 100000",
-            "check named 5 1023 100000",
-            "check named 16 3 100000",
-            "check pooled 1 3 100000",
-            "check pooled 5 3 100000",
-            "check pooled 16 1023 100000",
-        ],
-    ),
-    (
-        "the walks",
-        "bench/walks.c bench/reference.c",
-        &["check 0", "check 1", "check 2", "check 64", "check 1023"],
-    ),
-    ("audits", "bench/audit.c bench/audit_reference.c", &["check 200000"]),
-    ("order sheets", "bench/sheet_main.c bench/sheet.c", &["1"]),
-    ("lists", "bench/serve_main.c bench/serve.c bench/reference.c", &["100000 3"]),
-    ("schedules", "bench/schedules_main.c bench/schedules.c bench/reference.c", &["1"]),
-    ("shelves", "tests/library/shelf.c bench/reference.c bench/shelf_reference.c", &["20000 1"]),
-    ("joinings", "tests/library/join.c bench/reference.c bench/join_reference.c", &["20000 1"]),
-    ("the time of shelves", "bench/shelf.c bench/shelf_reference.c", &["16 1023 2"]),
+/// Programs that compare the library with the same calls by hand: the sources, and the words of its run.
+const BY_HAND: [(&str, &str, &str); 2] = [
+    ("shelves", "tests/library/shelf.c bench/reference.c bench/shelf_reference.c", "20000 1"),
+    ("joinings", "tests/library/join.c bench/reference.c bench/join_reference.c", "20000 1"),
 ];
 
+/// The benchmark's own test: answers, and what is counted.
+const BENCHMARK: &str = r#"bench/run.sh --check "$(dirname "$ARCHIVE")""#;
+
 fn by_hand(checks: &mut Checks) {
-    for (name, sources, runs) in BY_HAND {
-        let check = move || {
-            let runs: String =
-                runs.iter().map(|words| format!("\"$WORK/program\" {words}\n")).collect();
-            last_of(made(&format!(
-                "gcc -std=gnu11 -O2 -Iinclude -Ibench {sources} \"$ARCHIVE\" -o \"$WORK/program\"\n{runs}"
-            )))
-        };
-        match name {
-            // long, and both are held to the second program too: by `differential` and by `faults`
-            "schedules" => checks.long(&format!("by hand: {name}"), check),
-            _ => checks.tell(&format!("by hand: {name}"), check),
-        }
-    }
-    checks.tell("by hand: figures of bench/facts.txt", || {
-        last_of(made(r#"bench/facts.sh --check "$(dirname "$ARCHIVE")""#))
+    checks.tell("by hand: every call, and the figures of bench/facts.txt", || made(BENCHMARK));
+    checks.long("by hand: every call, at length", || {
+        last_of(made_within(3_600, &format!("LONG=1 {BENCHMARK}")))
     });
+    for (name, sources, words) in BY_HAND {
+        checks.tell(&format!("by hand: {name}"), move || {
+            last_of(made(&format!(
+                r#"gcc -std=gnu11 -O2 -Iinclude -Ibench {sources} "$ARCHIVE" -o "$WORK/program"
+                   "$WORK/program" {words}"#
+            )))
+        });
+    }
 }
 
 /// Every `tests/library/NAME.c` with a main that is linked with the library alone.

@@ -13,24 +13,22 @@ usage: generate seed SEED         the differential test's run file of that seed
 fn main() -> ExitCode {
     let arguments: Vec<String> = std::env::args().skip(1).collect();
     let arguments: Vec<&str> = arguments.iter().map(String::as_str).collect();
-    let Some(file) = generate(&arguments) else {
-        eprint!("{HELP}");
-        return ExitCode::from(2);
-    };
-    match io::stdout().lock().write_all(&file) {
-        Ok(()) => ExitCode::SUCCESS,
-        Err(error) => {
-            eprintln!("generate: writing: {error}");
-            ExitCode::from(2)
-        }
+    match generate(&arguments) {
+        None => eprint!("{HELP}"),
+        Some(Ok(())) => return ExitCode::SUCCESS,
+        Some(Err(error)) => eprintln!("generate: writing: {error}"),
     }
+    ExitCode::from(2)
 }
 
-fn generate(arguments: &[&str]) -> Option<Vec<u8>> {
+/// Nothing where the words are not those of `HELP`.
+fn generate(arguments: &[&str]) -> Option<io::Result<()>> {
+    let mut out = io::stdout().lock();
     match *arguments {
-        ["seed", seed] => Some(scenario::of_seed(seed.parse().ok()?).1),
+        ["seed", seed] => Some(out.write_all(&scenario::of_seed(seed.parse().ok()?).1)),
         ["load", steps, seed] => {
-            Some(scenario::load(&mut Dice::new(seed.parse().ok()?), steps.parse().ok()?))
+            let (mut dice, steps) = (Dice::new(seed.parse().ok()?), steps.parse().ok()?);
+            Some(scenario::write_load(&mut dice, steps, &mut out))
         }
         _ => None,
     }

@@ -1,10 +1,12 @@
--- At the right the label is stored behind the last, at the left before the first.
-use mathlib.Core.Path.{_∙_}
-use Prim.Native.Nat.{_-_}
+-- At the right the index is stored behind the last, at the left before the first.
+use mathlib.Core.Path.{ap, _∙_}
+use mathlib.Core.List.{map}
+use Prim.Native.Nat.{_+_, _-_}
 use native.Mathlib.Omega.{arith}
 use borrow.Author.Needs.{needs}
-use lib.ListN.{length-set}
-use Rattle.audit.proofs.Buffer.{push-left, push-right}
+use lib.ListN.{length-map}
+use lib.Seq.{slice}
+use Rattle.audit.proofs.Buffer.{holds-more, map-set, push-left, push-right}
 use Rattle.audit.proofs.labels.push_label.Statement.{statement}
 use Rattle.audit.proofs.labels.push_label.Tie as tie
 
@@ -12,23 +14,30 @@ returns : tie.Need-returns
 returns c =
     let start = c .before in
     let args = start .args in
-    let len = start .pre .3 in
-    let right = c .if1 .taken in (
-      push-right (args .buffer .now) (args .low) (args .high) (args .label) (args .side) right (start .pre .1) (omega arith),
-      record { ends = omega arith; left = omega arith; right = omega arith },
-      length-set (args .buffer .now) (args .high) (args .label) ∙ len,
-    )
+    let b = args .buffer .now in
+    let len = start .pre .4 in
+    let right = c .if1 .taken in
+    record {
+      queue-is = λ f. ap (slice (args .low) (args .high + 1)) (map-set f b (args .high) (args .k))
+          ∙ push-right (map f b) (args .low) (args .high) (f (args .k)) (args .side) right (start .pre .1) (let z = length-map b f in omega arith);
+      moved = record { ends = omega arith; left = omega arith; right = omega arith };
+      holds = λ n. holds-more n b (args .high) (args .k) (omega arith);
+    }
 
 returns-2 : tie.Need-returns-2
 returns-2 c =
     let start = c .before in
     let args = start .args in
-    let len = start .pre .3 in
-    let left = c .if1 .left in (
-      push-left (args .buffer .now) (args .low) (args .high) (args .label) (args .side) (args .low - 1) left (omega arith) (start .pre .1) (omega arith),
-      record { ends = omega arith; left = omega arith; right = omega arith },
-      length-set (args .buffer .now) (args .low - 1) (args .label) ∙ len,
-    )
+    let b = args .buffer .now in
+    let len = start .pre .4 in
+    let left = c .if1 .left in
+    record {
+      queue-is = λ f. ap (slice (args .low - 1) (args .high)) (map-set f b (args .low - 1) (args .k))
+          ∙ push-left (map f b) (args .low) (args .high) (f (args .k)) (args .side) (args .low - 1) left (omega arith) (start .pre .1)
+          (let z = length-map b f in omega arith);
+      moved = record { ends = omega arith; left = omega arith; right = omega arith };
+      holds = λ n. holds-more n b (args .low - 1) (args .k) (omega arith);
+    }
 
 pub push-label-spec : {M : Type 1} → statement M
 push-label-spec =

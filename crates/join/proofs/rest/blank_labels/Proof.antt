@@ -1,10 +1,9 @@
 -- After i turns the first i entries are looked at.
 use mathlib.Core.Path.{_≡_, refl, ap, _∙_}
-use mathlib.Core.Bool.{Bool, _&&_}
 use Prim.Native.Nat.{ℕ, _≤_, _-_}
 use native.Mathlib.Omega.{arith}
 use lib.Dec.{eqb}
-use lib.ListN.{getD, length}
+use lib.ListN.{length}
 use borrow.Author.Needs.{needs}
 use Rattle.join_model.specs.Join.{blank}
 use Rattle.join.proofs.Tested.{least-le, blank-more, blank-least}
@@ -12,10 +11,10 @@ use Rattle.join.proofs.rest.blank_labels.Statement.{statement}
 use Rattle.join.proofs.rest.blank_labels.Tie as tie
 
 abbrev Inv-loop : tie.InvT-loop
-Inv-loop t n end all₀ i₀ all i = (i ≤ end) × ((end ≤ length t) × (all ≡ blank i t))
+Inv-loop t n end any₀ i₀ any i = (i ≤ end) × ((end ≤ length t) × (eqb any 0 ≡ blank i t))
 
 abbrev μ-loop : tie.MeasureT-loop
-μ-loop t n end all₀ i₀ all i = end - i
+μ-loop t n end any₀ i₀ any i = end - i
 
 loop-holds : tie.Need-loop-holds Inv-loop μ-loop
 loop-holds c = (omega arith, (rw (c .least .ensures) (least-le _ _), refl))
@@ -25,7 +24,7 @@ loop-again c =
     let l = c .before .before in
     let t = l .before .before .before .args .t .now in (
       omega (arith, c .before .loop-test .taken),
-      (l .loop .inv .1 .0, ap (λ (b : Bool). b && eqb (getD t (l .loop .i) 0) 0) (l .loop .inv .1 .1) ∙ blank-more t (l .loop .i)),
+      (l .loop .inv .1 .0, blank-more t (l .loop .i) (l .loop .any) (l .loop .inv .1 .1)),
     )
 
 returns : tie.Need-returns Inv-loop μ-loop

@@ -1,8 +1,7 @@
 -- Refused by its number, or its place's contract and what is stored of it, by `early-place`.
 use mathlib.Core.Path.{_≡_, sym, subst, _∙_}
 use mathlib.Core.List.{List}
-use Prim.Native.Nat.{ℕ, _<_, _≤_}
-use native.Mathlib.Nat.{le-antisymm}
+use Prim.Native.Nat.{ℕ, suc, _<_, _≤_}
 use native.Mathlib.Omega.{arith}
 use borrow.Author.Needs.{needs}
 use borrow.Author.Tests.{not-true, not-false}
@@ -37,45 +36,43 @@ module _ (read : tie.After-control-of) where
 some : {n : ℕ} → (n ≡ 0 → ⊥) → 0 < n
 some busy = omega arith
 
+at : (n : ℕ) {x : ℕ} → x ≡ suc n → x ≡ 0 → ⊥
+at n e z = omega (arith, e, z)
+
 returns : tie.Need-returns
 returns c low labels marks next =
-    let read = c .before .before .before in
+    let idle = c .before in
+    let read = idle .before .before .before .before in
     refuses _ _ _ _ labels marks next _ _ (read .control-of .ensures) (called read .call-of .ensures) 31 _
-    (no-call _ _ _ (c .before .if1 .taken)) (λ (x : _≡_ {A = ℕ} 31 0). omega (arith, x)) (c .refuse .ensures)
+    (no-call _ _ _ (idle .if2 .taken)) (λ (x : _≡_ {A = ℕ} 31 0). omega (arith, x)) (c .refuse .ensures)
 
 returns-2 : tie.Need-returns-2
 returns-2 c low labels marks next =
-    let told = c .before .before in
-    let busy = told .before in
-    let read = busy .before .before in
+    let busy = c .before in
+    let told = busy .before .before in
+    let read = told .before .before in
     refuses _ _ _ _ labels marks next _ _ (read .control-of .ensures) (called read .call-of .ensures) 34 _
     (unsound _ _ _
-    (sym (early _ _ (low-place read low) (isPooled (c₀ read)) (some (busy .if1 .left))) ∙ sym (told .early-sound .ensures) ∙ not-true _ (c .before .if2 .taken)))
+    (sym (early _ _ (low-place read low) (isPooled (c₀ read)) (some (busy .if2 .left)))
+    ∙ sym (told .before .early-sound .ensures) ∙ not-true _ (told .if1 .taken)))
     (λ (x : _≡_ {A = ℕ} 34 0). omega (arith, x)) (c .refuse2 .ensures)
 
--- Past the refusals.
-module _ (left : tie.Else2) where
-  abbrev busy : tie.Else1
-  busy = left .before .before
-
+-- Past the tests.
+module _ (left : tie.Else1) where
   abbrev read₀ : tie.After-control-of
-  read₀ = busy .before .before
+  read₀ = left .before .before
 
-  passed : callOf (row₀ read₀) .place ≤ 10 → recordRefusal (isPooled (c₀ read₀)) (c₀ read₀ .slots) (r₀ read₀) ≡ 0
-  passed low =
-      passes _ _ _ (busy .if1 .left)
-      (sym (early _ _ (low-place read₀ low) (isPooled (c₀ read₀)) (some (busy .if1 .left))) ∙ sym (left .before .early-sound .ensures) ∙ not-false _ (left .if2 .left))
+  passed : (r₀ read₀ .place ≡ 0 → ⊥) → callOf (row₀ read₀) .place ≤ 10 → recordRefusal (isPooled (c₀ read₀)) (c₀ read₀ .slots) (r₀ read₀) ≡ 0
+  passed busy low =
+      passes _ _ _ busy
+      (sym (early _ _ (low-place read₀ low) (isPooled (c₀ read₀)) (some busy)) ∙ sym (left .before .early-sound .ensures) ∙ not-false _ (left .if1 .left))
 
 returns-3 : tie.Need-returns-3
 returns-3 c low labels marks next =
-    let made = c .before in
-    let place = made .before .before .before in
-    let left = place .before in
-    let read = read₀ left in
-    let put = c .put-early .ensures in
-    early-place _ _ _ _ labels marks next _ _ (read .control-of .ensures) (called read .call-of .ensures) _ _ _ _ labels marks next _
-    (put .1 .1 .1) 1 _
-    (passed left low) (place .match .keys1) (low-place read low) (λ k. made .at1 .ensures _ _ labels marks next k) (put .1 .0) (put .1 .1 .0) (put .0)
+    let place = c .before in
+    let read = read₀ (place .before) in
+    refuses _ _ _ _ labels marks next _ _ (read .control-of .ensures) (called read .call-of .ensures) 31 _
+    (no-call _ _ _ (place .match .keys1)) (λ (x : _≡_ {A = ℕ} 31 0). omega (arith, x)) (c .refuse3 .ensures)
 
 returns-4 : tie.Need-returns-4
 returns-4 c low labels marks next =
@@ -83,14 +80,27 @@ returns-4 c low labels marks next =
     let place = made .before .before .before in
     let left = place .before in
     let read = read₀ left in
-    let put = c .put-early2 .ensures in
+    let put = c .put-early .ensures in
     early-place _ _ _ _ labels marks next _ _ (read .control-of .ensures) (called read .call-of .ensures) _ _ _ _ labels marks next _
-    (put .1 .1 .1) 2 _
-    (passed left low) (place .match .keys2) (low-place read low) (λ k. made .at2 .ensures _ _ labels marks next k) (put .1 .0)
-    (put .1 .1 .0) (put .0)
+    (put .1 .1 .1) 1 _
+    (passed left (at 0 (place .match .keys2)) low) (place .match .keys2) (low-place read low)
+    (λ k. made .at1 .ensures _ _ labels marks next k) (put .1 .0) (put .1 .1 .0) (put .0)
 
 returns-5 : tie.Need-returns-5
 returns-5 c low labels marks next =
+    let made = c .before in
+    let place = made .before .before .before in
+    let left = place .before in
+    let read = read₀ left in
+    let put = c .put-early2 .ensures in
+    early-place _ _ _ _ labels marks next _ _ (read .control-of .ensures) (called read .call-of .ensures) _ _ _ _ labels marks next _
+    (put .1 .1 .1) 2 _
+    (passed left (at 1 (place .match .keys3)) low) (place .match .keys3) (low-place read low)
+    (λ k. made .at2 .ensures _ _ labels marks next k) (put .1 .0)
+    (put .1 .1 .0) (put .0)
+
+returns-6 : tie.Need-returns-6
+returns-6 c low labels marks next =
     let made0 = c .before .before .before .before in
     let made = made0 .before in
     let place0 = made .before .before .before .before in
@@ -100,10 +110,11 @@ returns-5 c low labels marks next =
     let put = c .put-early3 .ensures in
     early-place _ _ _ _ labels marks next _ _ (read .control-of .ensures) (called read .call-of .ensures) _ _ _ _ labels marks next _
     (put .1 .1 .1) 3 _
-    (passed left low) (place .match .keys3) (low-place read low) (λ k. made .at3 .ensures labels marks next k) (put .1 .0) (put .1 .1 .0) (put .0)
+    (passed left (at 2 (place .match .keys4)) low) (place .match .keys4) (low-place read low)
+    (λ k. made .at3 .ensures labels marks next k) (put .1 .0) (put .1 .1 .0) (put .0)
 
-returns-6 : tie.Need-returns-6
-returns-6 c low labels marks next =
+returns-7 : tie.Need-returns-7
+returns-7 c low labels marks next =
     let made = c .before in
     let place = made .before .before .before in
     let left = place .before in
@@ -111,11 +122,12 @@ returns-6 c low labels marks next =
     let put = c .put-early4 .ensures in
     early-place _ _ _ _ labels marks next _ _ (read .control-of .ensures) (called read .call-of .ensures) _ _ _ _ labels marks next _
     (put .1 .1 .1) 4 _
-    (passed left low) (place .match .keys4) (low-place read low) (λ k. made .at4 .ensures _ _ labels marks next k) (put .1 .0)
+    (passed left (at 3 (place .match .keys5)) low) (place .match .keys5) (low-place read low)
+    (λ k. made .at4 .ensures _ _ labels marks next k) (put .1 .0)
     (put .1 .1 .0) (put .0)
 
-returns-7 : tie.Need-returns-7
-returns-7 c low labels marks next =
+returns-8 : tie.Need-returns-8
+returns-8 c low labels marks next =
     let made = c .before in
     let place0 = made .before .before .before .before in
     let place = place0 .before in
@@ -124,10 +136,11 @@ returns-7 c low labels marks next =
     let put = c .put-early5 .ensures in
     early-place _ _ _ _ labels marks next _ _ (read .control-of .ensures) (called read .call-of .ensures) _ _ _ _ labels marks next _
     (put .1 .1 .1) 5 _
-    (passed left low) (place .match .keys5) (low-place read low) (λ k. made .at5 .ensures labels marks next k) (put .1 .0) (put .1 .1 .0) (put .0)
+    (passed left (at 4 (place .match .keys6)) low) (place .match .keys6) (low-place read low)
+    (λ k. made .at5 .ensures labels marks next k) (put .1 .0) (put .1 .1 .0) (put .0)
 
-returns-8 : tie.Need-returns-8
-returns-8 c low labels marks next =
+returns-9 : tie.Need-returns-9
+returns-9 c low labels marks next =
     let made = c .before in
     let place = made .before .before .before in
     let left = place .before in
@@ -135,10 +148,11 @@ returns-8 c low labels marks next =
     let put = c .put-early6 .ensures in
     early-place _ _ _ _ labels marks next _ _ (read .control-of .ensures) (called read .call-of .ensures) _ _ _ _ labels marks next _
     (put .1 .1 .1) 6 _
-    (passed left low) (place .match .keys6) (low-place read low) (λ k. made .at6 .ensures _ _ labels marks next k) (put .1 .0) (put .1 .1 .0) (put .0)
+    (passed left (at 5 (place .match .keys7)) low) (place .match .keys7) (low-place read low)
+    (λ k. made .at6 .ensures _ _ labels marks next k) (put .1 .0) (put .1 .1 .0) (put .0)
 
-returns-9 : tie.Need-returns-9
-returns-9 c low labels marks next =
+returns-10 : tie.Need-returns-10
+returns-10 c low labels marks next =
     let made = c .before in
     let place0 = made .before .before .before .before in
     let place = place0 .before in
@@ -147,10 +161,11 @@ returns-9 c low labels marks next =
     let put = c .put-early7 .ensures in
     early-place _ _ _ _ labels marks next _ _ (read .control-of .ensures) (called read .call-of .ensures) _ _ _ _ labels marks next _
     (put .1 .1 .1) 7 _
-    (passed left low) (place .match .keys7) (low-place read low) (λ k. made .at7 .ensures labels marks next k) (put .1 .0) (put .1 .1 .0) (put .0)
+    (passed left (at 6 (place .match .keys8)) low) (place .match .keys8) (low-place read low)
+    (λ k. made .at7 .ensures labels marks next k) (put .1 .0) (put .1 .1 .0) (put .0)
 
-returns-10 : tie.Need-returns-10
-returns-10 c low labels marks next =
+returns-11 : tie.Need-returns-11
+returns-11 c low labels marks next =
     let made = c .before in
     let place = made .before .before .before in
     let left = place .before in
@@ -158,10 +173,11 @@ returns-10 c low labels marks next =
     let put = c .put-early8 .ensures in
     early-place _ _ _ _ labels marks next _ _ (read .control-of .ensures) (called read .call-of .ensures) _ _ _ _ labels marks next _
     (put .1 .1 .1) 8 _
-    (passed left low) (place .match .keys8) (low-place read low) (λ k. made .at8 .ensures _ _ labels marks next k) (put .1 .0) (put .1 .1 .0) (put .0)
+    (passed left (at 7 (place .match .keys9)) low) (place .match .keys9) (low-place read low)
+    (λ k. made .at8 .ensures _ _ labels marks next k) (put .1 .0) (put .1 .1 .0) (put .0)
 
-returns-11 : tie.Need-returns-11
-returns-11 c low labels marks next =
+returns-12 : tie.Need-returns-12
+returns-12 c low labels marks next =
     let made0 = c .before .before .before .before in
     let made = made0 .before in
     let place0 = made .before .before .before .before in
@@ -171,25 +187,35 @@ returns-11 c low labels marks next =
     let put = c .put-early9 .ensures in
     early-place _ _ _ _ labels marks next _ _ (read .control-of .ensures) (called read .call-of .ensures) _ _ _ _ labels marks next _
     (put .1 .1 .1) 9 _
-    (passed left low) (place .match .keys9) (low-place read low) (λ k. made .at9 .ensures labels marks next k) (put .1 .0) (put .1 .1 .0) (put .0)
+    (passed left (at 8 (place .match .keys10)) low) (place .match .keys10) (low-place read low)
+    (λ k. made .at9 .ensures labels marks next k) (put .1 .0) (put .1 .1 .0) (put .0)
 
--- None of these, so 10.
-returns-12 : tie.Need-returns-12
-returns-12 c low labels marks next =
+returns-13 : tie.Need-returns-13
+returns-13 c low labels marks next =
     let made = c .before in
     let place = made .before .before .before in
     let left = place .before in
     let read = read₀ left in
     let put = c .put-early10 .ensures in
-    let h = place .match .rest in
-    let g = h .0 .0 .0 .0 in
-    let two = above (some (busy left .if1 .left)) (g .0 .0 .0 .0 .1) in
-    let six = above (above (above (above two (g .0 .0 .0 .1)) (g .0 .0 .1)) (g .0 .1)) (g .1) in
-    let ten = above (above (above (above six (h .0 .0 .0 .1)) (h .0 .0 .1)) (h .0 .1)) (h .1) in
     early-place _ _ _ _ labels marks next _ _ (read .control-of .ensures) (called read .call-of .ensures) _ _ _ _ labels marks next _
     (put .1 .1 .1) 10 _
-    (passed left low) (le-antisymm (low-place read low) ten) (low-place read low) (λ k. made .at10 .ensures _ _ labels marks next k) (put .1 .0)
+    (passed left (at 9 (place .match .keys11)) low) (place .match .keys11) (low-place read low)
+    (λ k. made .at10 .ensures _ _ labels marks next k) (put .1 .0)
     (put .1 .1 .0) (put .0)
+
+-- No other place is met here.
+returns-14 : tie.Need-returns-14
+returns-14 c low labels marks next =
+    let place = c .before in
+    let read = read₀ (place .before) in
+    let h = place .match .rest in
+    let g = h .0 .0 .0 .0 in
+    let f = g .0 .0 .0 .0 in
+    let three = above (above (some (f .0 .0 .1)) (f .0 .1)) (f .1) in
+    let seven = above (above (above (above three (g .0 .0 .0 .1)) (g .0 .0 .1)) (g .0 .1)) (g .1) in
+    let beyond = above (above (above (above seven (h .0 .0 .0 .1)) (h .0 .0 .1)) (h .0 .1)) (h .1) in
+    let within = low-place read low in
+    absurd (omega (arith, beyond, within))
 
 pub early-spec : {M : Type 1} → statement M
 early-spec =
@@ -198,8 +224,8 @@ early-spec =
     (λ c κs. search needs)
     (λ c κs. search needs)
     (λ c κs. search needs)
-    returns
     (λ c κs. search needs)
+    returns
     (λ c κs. search needs)
     returns-2
     (λ c κs. search needs)
@@ -222,21 +248,25 @@ early-spec =
     (λ c κs. search needs)
     (λ c κs. search needs)
     (λ c κs. search needs)
+    (λ c κs. search needs)
+    (λ c κs. search needs)
     returns-3
     returns-4
-    (λ c. search needs)
-    (λ c. search needs)
     returns-5
+    (λ c. search needs)
+    (λ c. search needs)
     returns-6
-    (λ c. search needs)
-    (λ c. search needs)
     returns-7
+    (λ c. search needs)
+    (λ c. search needs)
     returns-8
-    (λ c. search needs)
-    (λ c. search needs)
     returns-9
+    (λ c. search needs)
+    (λ c. search needs)
     returns-10
-    (λ c. search needs)
-    (λ c. search needs)
     returns-11
-    returns-12)
+    (λ c. search needs)
+    (λ c. search needs)
+    returns-12
+    returns-13
+    returns-14)

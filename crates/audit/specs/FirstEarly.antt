@@ -1,0 +1,11 @@
+-- The first position that stands too early.
+use mathlib.Core.Bool.{cond}
+use mathlib.Core.List.{List, [], _∷_}
+use Prim.Native.Nat.{ℕ, suc}
+use Rattle.audit_model.specs.declared.Finished.{Finished}
+use Rattle.audit_model.specs.Audit.{allOf, notEarlier}
+
+-- How many calls come before the first that stands before one answered before its start; all of them where none does.
+unfoldable pub firstEarly : List Finished → ℕ
+firstEarly [] = 0
+firstEarly (c ∷ cs) = cond (allOf (notEarlier c) cs) (suc (firstEarly cs)) 0

@@ -1,0 +1,44 @@
+-- The way of a walk, and where a link leads.
+use mathlib.Core.Bool.{Bool, _&&_, cond}
+use mathlib.Core.List.{List, [], _∷_}
+use Prim.Native.Nat.{ℕ, zero, suc}
+use lib.Dec.{eqb}
+use lib.ListN.{getD}
+use Rattle.word.specs.Anchor.{anchorOf}
+use Rattle.word.specs.Link.{linkOf}
+use Rattle.model.specs.declared.Control.{Control}
+use Rattle.model.specs.declared.Entry.{Entry}
+use Rattle.model.specs.Sides.{near, far}
+use Rattle.model.specs.Sound.{linkSound}
+use Rattle.model.specs.Walk.{Walk, along, walkFrom, whence}
+use Rattle.walk.specs.declared.Way.{Way}
+
+-- From the right end along Left links, or, under LPUSH, from the left end along Right links.
+unfoldable pub wayOf : Control → Way
+wayOf c =
+    let a = anchorOf (c .anchor) in
+    let side = whence (a .status) in
+    record { slots = c .slots; rightward = eqb (a .status) 2; first = near side a; last = far side a }
+
+abbrev pub noneOn : Way → Bool
+noneOn w = eqb (w .first) 0 && eqb (w .last) 0
+
+abbrev pub linksOn : Way → List ℕ → List ℕ → List ℕ
+linksOn w lefts rights = cond (w .rightward) rights lefts
+
+-- The slot that the link word of slot x leads to: 0 where the word is such as 34 names, or names none.
+unfoldable pub leadsTo : Way → List ℕ → List ℕ → ℕ → ℕ
+leadsTo w lefts rights x = let l = getD (linksOn w lefts rights) x 0 in cond (linkSound (w .slots) l) (linkOf l .slot) 0
+
+-- The walk that is ahead at the first slot.
+abbrev pub ahead : Way → List ℕ → List ℕ → List ℕ → Walk
+ahead w lefts rights labels = along (w .slots) (linksOn w lefts rights) labels (w .last) (w .slots) (w .first)
+
+-- A walk along a way, turned to run from left to right.
+abbrev pub turnedBack : Way → Walk → Walk
+turnedBack w v = walkFrom (cond (w .rightward) 0 1) v
+
+-- The entries of n slots from slot x on.
+unfoldable pub trail : Way → List ℕ → List ℕ → List ℕ → ℕ → ℕ → List Entry
+trail w lefts rights labels zero x = []
+trail w lefts rights labels (suc n) x = record { slot = x; label = getD labels x 0 } ∷ trail w lefts rights labels n (leadsTo w lefts rights x)
