@@ -14,7 +14,7 @@ use Rattle.model.specs.Sound.{controlSound, controlTests}
 use Rattle.model.specs.Tables.{Queue}
 use Rattle.model.specs.declared.Record.{Record}
 use Rattle.model.proofs.tests.Rules.{_and_, cleared, passes}
-use Rattle.model.proofs.tests.Truth.{by-test}
+use Rattle.model.proofs.tests.Truth.{by-test, not-both}
 use Rattle.model.proofs.machine.Laws.{stable-pushing}
 use Rattle.model.proofs.machine.Machine as M
 use Rattle.model.proofs.invariant.Fields.{Extra}
@@ -50,11 +50,11 @@ module _ (pooled : Bool) (q : Queue) (tasks slots tag : ℕ) where
 
     -- Nobody owes a change.
     open-cost : (t : ℕ) → cost (stateOf o .task t) ≤ 0
-    open-cost t = let z = ap (λ (p : M.Place). cond (spent p (stateOf o .task t .finishing)) 0 (owes (stateOf o .task t .kind)))
+    open-cost t = let z = ap (λ (p : M.Place). cond (spent (M.phase p) (stateOf o .task t .finishing)) 0 (owes (stateOf o .task t .kind)))
         (all-idle pooled q tasks slots tag t) in omega arith
 
     open-share : (t : ℕ) → share (stateOf o .task t) ≤ 1
-    open-share t = let z = ap (λ (p : M.Place). shares p (stateOf o .task t .finishing) (stateOf o .task t .kind))
+    open-share t = let z = ap (λ (p : M.Place). shares (M.phase p) (stateOf o .task t .finishing) (stateOf o .task t .kind))
         (all-idle pooled q tasks slots tag t) in omega arith
 
     pub open-safe : Safe o
@@ -62,7 +62,8 @@ module _ (pooled : Bool) (q : Queue) (tasks slots tag : ℕ) where
     open-safe = record {
       control = open-control;
       fine = λ t lt b. absurd (b (ap (λ (r : Record). r .place) (no-record pooled q tasks slots tag t lt)));
-      extra = λ t. subst (λ p. Extra p (stateOf o .task t)) (sym (all-idle pooled q tasks slots tag t)) tt;
+      extra = λ t. subst (λ p. Extra p (stateOf o .task t)) (sym (all-idle pooled q tasks slots tag t))
+          (record { kept = tt; near = λ b. absurd (not-both b refl) });
       tags = record {
         upper = zero-links pooled q tasks slots tag (λ w. linkOf w .tag ≤ anchorOf (packAnchor (emptyAnchor tag)) .tag) (omega arith);
         room = λ d st. absurd (stable-pushing (sym (empty-status pooled q tasks slots tag) ∙ st));

@@ -76,7 +76,7 @@ pub push-begins : (pooled : Bool) (slots side x y : ℕ) → side ≤ 1 → 1 �
 unfolding recOf
 push-begins pooled slots side x y hs some low = record {
   fine = started-fine pooled slots 0 side x y (omega arith) hs low;
-  extra = (λ e. absurd (not-both e refl), λ e z. omega arith, λ e. absurd (push-pop e));
+  extra = record { kept = (λ e. absurd (not-both e refl), λ e z. omega arith, λ e. absurd (push-pop e)); near = λ b. absurd (not-both b refl) };
   share = omega arith;
 }
 
@@ -84,13 +84,13 @@ pub pop-begins : (pooled : Bool) (slots side : ℕ) → side ≤ 1 → Begins po
 unfolding recOf
 pop-begins pooled slots side hs = record {
   fine = started-fine pooled slots 1 side 0 0 (omega arith) hs (omega arith);
-  extra = (λ e. absurd (not-both e refl), λ e. absurd (push-pop (sym e)), λ e. refl);
+  extra = record { kept = (λ e. absurd (not-both e refl), λ e. absurd (push-pop (sym e)), λ e. refl); near = λ b. absurd (not-both b refl) };
   share = omega arith;
 }
 
 pub put-begins : (pooled : Bool) (slots side y : ℕ) → pooled ≡ true → side ≤ 1 → Begins pooled slots (asking side y)
 unfolding recOf
-put-begins pooled slots side y p hs = record { fine = asking-fine pooled slots side y p hs; extra = refl; share = omega arith }
+put-begins pooled slots side y p hs = record { fine = asking-fine pooled slots side y p hs; extra = record { kept = refl; near = λ b. absurd (not-both b refl) }; share = omega arith }
 
 -- Anchor's tag has room for the changes that the new call will owe.
 abbrev pub Room : Queue → ℕ → Record → Type 0

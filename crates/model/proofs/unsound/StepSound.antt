@@ -127,7 +127,7 @@ module _ (n : ℕ) (q : Queue) (l : Ledger) (g : Matched n q l) (f : Safe q) (t 
     row3 : Says 3
     unfolding recOf row sideOf
     row3 y x = by-test (λ v. from1 (G .control .slots) v ≡ true) (eqb (r .kind) 0)
-        (λ e. real (r .own) (x .1 (rw e)) (h .own))
+        (λ e. real (r .own) (x .kept .1 (rw e)) (h .own))
         (λ e. let th : Three M.pop (anchorSeen (r .seen)) = subst (λ (b : Bool). Three (cond b M.push M.pop) (anchorSeen (r .seen))) e (y .1) in
         near-fine (r .side) (near-real (G .control .slots) (anchorOf (r .seen)) (h .seen) (th .1) (eqb (r .side) 1)))
 
@@ -139,7 +139,7 @@ module _ (n : ℕ) (q : Queue) (l : Ledger) (g : Matched n q l) (f : Safe q) (t 
 
     row11 : Says 11
     unfolding recOf row sideOf
-    row11 y x = near-fine (r .side) (subst (λ v. v ≢ 0) (tip-cond (eqb (r .side) 1)) (x .2))
+    row11 y x = near-fine (r .side) (subst (λ v. v ≢ 0) (tip-cond (eqb (r .side) 1)) (x .kept .2))
       where
         tip-cond : (d : Bool) → M.tip (anchorSeen (r .seen)) d ≡ cond d (anchorOf (r .seen) .right) (anchorOf (r .seen) .left)
         tip-cond false = refl
@@ -154,9 +154,9 @@ module _ (n : ℕ) (q : Queue) (l : Ledger) (g : Matched n q l) (f : Safe q) (t 
         (λ y x. refl)
         row5
         (λ y x. refl)
-        (λ y x. neighbour-fine (x .1))
+        (λ y x. neighbour-fine (x .near refl))
         (λ y x. refl)
-        (λ y x. neighbour-fine (x .1))
+        (λ y x. neighbour-fine (x .near refl))
         (λ y x. refl)
         row11
         (λ y x. refl)

@@ -49,13 +49,13 @@ module _ (s : Shared) (h : ℕ → Owner) (t : ℕ) (r : Rec) (c : Call) where
       (λ y x. low 8 (omega arith))
       (λ y x. low 9 (omega arith))
       (λ y x. low 10 (omega arith))
-      (λ y x. eleven (x .0))
+      (λ y x. eleven (x .kept .0))
       (λ y x. drawing 12 (omega arith) (omega arith) (y .0) (y .1 .kind))
       (λ y x. drawing 13 (omega arith) (omega arith) (y .0) (y .1 .kind))
       (λ y x. drawing 14 (omega arith) (omega arith) (y .0) (y .1 .kind))
-      (λ y x. giving 15 (omega arith) (y .0) (x .0))
-      (λ y x. giving 16 (omega arith) (y .0) (x .0))
-      (λ y x. giving 17 (omega arith) (y .0) (x .0))
+      (λ y x. giving 15 (omega arith) (y .0) (x .kept .0))
+      (λ y x. giving 16 (omega arith) (y .0) (x .kept .0))
+      (λ y x. giving 17 (omega arith) (y .0) (x .kept .0))
 
 -- The kind as a number.
 pub kind-pop : (k : ℕ) → k ≤ 1 → kindOf k ≡ pop → k ≡ 1
