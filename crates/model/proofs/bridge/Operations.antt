@@ -101,7 +101,7 @@ module _ (q : Queue) (b : B.Book) (i : Inv (record { state = stateOf q; book = b
         })
         ∙ (λ j. record {
           shared = view-touched g (s .lies .rows) (m .touch)
-              (move-fine (isPooled (g .control)) (g .control .slots) r (s .fine) (s .control .slots) (g .control) (wordFound g r) (s .busy)) j;
+              (move-fine (isPooled (g .control)) (g .control .slots) r (s .fine) (s .control .slots) (g .control) (wordFound g r)) j;
           task = task-set (g .control .tasks) (q .records) t r′ (omega (arith, s .lies .length, s .lies .known)) (s .lies .known) j;
         })
 
@@ -128,7 +128,7 @@ module _ (q : Queue) (b : B.Book) (i : Inv (record { state = stateOf q; book = b
         subst After (sym state-is) step-seen-keeps
 
     touch-fine : TouchFine (isPooled (g .control)) (g .control .slots) (m .touch)
-    touch-fine = move-fine (isPooled (g .control)) (g .control .slots) r (s .fine) (s .control .slots) (g .control) (wordFound g r) (s .busy)
+    touch-fine = move-fine (isPooled (g .control)) (g .control .slots) r (s .fine) (s .control .slots) (g .control) (wordFound g r)
 
     -- In a named queue no slot is drawn.
     pub step-grants : (c : B.Call) → isPooled (g .control) ≡ false → B.granted (touchSeen (m .touch)) c ≡ c
@@ -191,7 +191,7 @@ module _ (q : Queue) (b : B.Book) (i : Inv (record { state = stateOf q; book = b
     pub step-links : LinksFine (stepped .tables)
     unfolding finish
     step-links = links-touched g (s .lies .rows) k (m .touch)
-        (move-fine (isPooled (g .control)) (g .control .slots) r (s .fine) (s .control .slots) (g .control) (wordFound g r) (s .busy))
+        (move-fine (isPooled (g .control)) (g .control .slots) r (s .fine) (s .control .slots) (g .control) (wordFound g r))
 
   -- Accepted starts.
   module _ (z : Lies q t) (free : recordAt q t .place ≡ 0) where

@@ -94,7 +94,7 @@ module _ (n : ℕ) (q : Queue) (l : Ledger) (g : Matched n q l) (f : Safe q) (t 
   pub keeps : Keeps (G .control .slots) r (m .task)
   keeps = move-keeps (isPooled (G .control)) (G .control) r (wordFound G r) fine (control-is n q l g f t .anchor) (met-link n q l g f t z busy)
       (met-next n q l g f t z busy)
-      (g .links .head .0, g .links .head .1) busy (new-sound n q l g f t z busy)
+      (g .links .head .0, g .links .head .1) (new-sound n q l g f t z busy)
 
   -- The next place suits the kind and the queue: the invariant holds after the step.
   suit-of : (s : M.Shared) (o : ℕ → Owner) (c : Call) → Task (seenMove G r .rec .place) s o t (seenMove G r .rec) c → next r m ≢ 0 → next r m ≤ 17

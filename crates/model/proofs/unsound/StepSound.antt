@@ -210,7 +210,7 @@ module _ (n : ℕ) (q : Queue) (l : Ledger) (g : Matched n q l) (f : Safe q) (t 
 
     pub new-sound : leavesSound (G .control .slots) (m .touch) ≡ true
     new-sound = let a = step-seen-keeps q b (g .inv) (g .links) t stepping in
-        touch-sound G (m .touch) (a .owner) _ (a .whole) (move-status (isPooled (G .control)) (G .control) r (wordFound G r) h busy)
+        touch-sound G (m .touch) (a .owner) _ (a .whole) (move-status (isPooled (G .control)) (G .control) r (wordFound G r) h)
 
     pub step-sound : stepSound (G .control) r (wordFound G r) ≡ true
     unfolding stepSound
