@@ -7,11 +7,10 @@ use lib.Dec.{leb}
 use borrow.Author.Tests.{not-false}
 use Rattle.word.specs.Anchor.{anchorOf, emptyAnchor, packAnchor}
 use Rattle.word.specs.Link.{linkOf}
-use Rattle.model.specs.Calls.{opened}
+use Rattle.model.specs.{Calls.opened, Tables.Queue}
 use Rattle.model.specs.History.{Never34, NeverUnsound}
 use Rattle.model.specs.Refusals.{openRefusal, openRules}
 use Rattle.model.specs.Sound.{controlSound, controlTests}
-use Rattle.model.specs.Tables.{Queue}
 use Rattle.model.specs.declared.Record.{Record}
 use Rattle.model.proofs.tests.Rules.{_and_, cleared, passes}
 use Rattle.model.proofs.tests.Truth.{by-test, not-both}
@@ -22,9 +21,7 @@ use Rattle.model.proofs.invariant.Tags.{cost, owes, share, shares, spen
 use Rattle.model.proofs.bridge.View.{stateOf, view}
 use Rattle.model.proofs.ledger.Opened.{all-idle, empty-left, empty-right, empty-status, no-record, nobody, open-good, some-slots, zero-links}
 use Rattle.model.proofs.tags.Sum.{total-le}
-use Rattle.model.proofs.unsound.Runs.{run-safe}
-use Rattle.model.proofs.unsound.Safe.{Safe}
-use Rattle.model.proofs.unsound.Tests.{anchor-sound}
+use Rattle.model.proofs.unsound.{Runs.run-safe, Safe.Safe, Tests.anchor-sound}
 use Rattle.model.proofs.Openings.{after-opening}
 
 module _ (pooled : Bool) (q : Queue) (tasks slots tag : ℕ) where

@@ -12,26 +12,21 @@ use Rattle.model.specs.Places.{Move, Touch, clearMark, wordFound, move, 
 use Rattle.model.specs.Route.{answer, counted, goes}
 use Rattle.model.specs.Tables.{Queue, Tables, asking, isPooled, marked, recordAt, started, taskAt, unused, withCall, taken}
 use Rattle.model.specs.declared.Answer as answered
-use Rattle.model.specs.declared.Record.{Record}
-use Rattle.model.specs.declared.TaskRecord.{TaskRecord}
-use Rattle.model.proofs.tests.ByPlace.{by-place}
-use Rattle.model.proofs.tests.Truth.{not-both}
+use Rattle.model.specs.declared.{Record.Record, TaskRecord.TaskRecord}
+use Rattle.model.proofs.tests.{ByPlace.by-place, Truth.not-both}
 use Rattle.model.proofs.machine.Answers.{Ends, act-ends}
 use Rattle.model.proofs.machine.Book as B
 use Rattle.model.proofs.machine.Machine as M
 use Rattle.model.proofs.machine.Machine.{upd}
-use Rattle.model.proofs.invariant.Invariant.{Inv}
-use Rattle.model.proofs.invariant.Tasks.{Task}
+use Rattle.model.proofs.invariant.{Invariant.Inv, Tasks.Task}
 use Rattle.model.proofs.places.NoSlot.{Lacks, act-lacks}
 use Rattle.model.proofs.places.Start.{ask-inv, pop-inv, push-inv}
 use Rattle.model.proofs.places.Step.{step-inv, step-stands}
 use Rattle.model.proofs.places.Shown.{Stands}
 use Rattle.model.proofs.bridge.Accepted.{Lies, Stepping}
 use Rattle.model.proofs.bridge.Decoded.{next, seenMove}
-use Rattle.model.proofs.bridge.EveryPlace.{step-seen}
-use Rattle.model.proofs.bridge.Facts.{LinksFine}
+use Rattle.model.proofs.bridge.{EveryPlace.step-seen, Facts.LinksFine, Touches.move-fine}
 use Rattle.model.proofs.bridge.Stores.{TouchFine, links-touched, task-set, touched-pooled, touched-tasks, view-taken, view-touched}
-use Rattle.model.proofs.bridge.Touches.{move-fine}
 use Rattle.model.proofs.bridge.View.{answerSeen, placeOf, recOf, stateOf, touchSeen, view}
 
 pub not-idle : (p : ℕ) → p ≢ 0 → p ≤ 17 → M.isIdle (placeOf p) ≡ false

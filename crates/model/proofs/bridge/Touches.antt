@@ -6,11 +6,9 @@ use native.Mathlib.Omega.{arith}
 use lib.Dec.{eqb}
 use Rattle.word.specs.Link.{linkOf, packLink}
 use Rattle.model.specs.Places.{endSeen, linkSide, move, row, setLink, sideOf}
-use Rattle.model.specs.declared.Control.{Control}
-use Rattle.model.specs.declared.Record.{Record}
+use Rattle.model.specs.declared.{Control.Control, Record.Record}
 use Rattle.model.proofs.tests.Truth.{by-test, either, split}
-use Rattle.model.proofs.bridge.ByMove.{by-move}
-use Rattle.model.proofs.bridge.Facts.{RecordFine}
+use Rattle.model.proofs.bridge.{ByMove.by-move, Facts.RecordFine}
 use Rattle.model.proofs.bridge.Stores.{TouchFine, WordFine}
 use Rattle.model.specs.Kinds.{isPush}
 

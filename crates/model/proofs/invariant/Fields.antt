@@ -1,7 +1,6 @@
 -- What else holds of a record's fields at its place, so that no test of soundness fails.
 use mathlib.Core.Bool.{false, true}
-use mathlib.Core.Logic.{_≢_}
-use mathlib.Core.Path.{_≡_}
+use mathlib.Core.{Logic._≢_, Path._≡_}
 use Rattle.model.proofs.machine.Machine.{Phase, Place, Rec, beside, fetching, returning, inside, phase, pop, push, outside, leaving, tip}
 
 -- At 1 to 10 only a push is finishing, and only a push has a slot of its own.

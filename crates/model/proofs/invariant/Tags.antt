@@ -1,7 +1,6 @@
 -- The tag part of the invariant. (It serves the claim that 34 never occurs; linearizability needs no bound on tags.)
 use mathlib.Core.Bool.{Bool, cond, false, true}
-use mathlib.Core.Logic.{_⊎_}
-use mathlib.Core.Path.{_≡_}
+use mathlib.Core.{Logic._⊎_, Path._≡_}
 use Prim.Native.Nat.{_+_, _<_, _≤_, ℕ}
 use Rattle.model.proofs.machine.Machine.{Kind, Phase, Rec, Shared, Status, fetching, returning, inside, phase, pop, push, pushing, outside}
 use Rattle.model.proofs.machine.Machine.{stable, leaving}

@@ -8,19 +8,16 @@ use lib.Dec.{eqb, leb}
 use lib.ListN.{getD}
 use borrow.Author.Tests.{eqb-true, eqb-false, leb-true}
 use Rattle.word.specs.declared.Anchor.{Anchor}
-use Rattle.word.specs.Anchor.{anchorOf}
-use Rattle.word.specs.Link.{linkOf}
-use Rattle.model.specs.declared.Control.{Control}
-use Rattle.model.specs.declared.Record.{Record}
+use Rattle.word.specs.{Anchor.anchorOf, Link.linkOf}
+use Rattle.model.specs.declared.{Control.Control, Record.Record}
 use Rattle.model.specs.Tables.{atPlace, isPooled}
-use Rattle.model.specs.Sound.{recordSound}
+use Rattle.model.specs.{Sound.recordSound, Sides.isEmpty}
 use Rattle.model.specs.Places.{Move, endSeen, reading, at1, at2, at3, at4, at5, at6, at7, at9, at10, at11, at12, at13, at14, at15, at16, at17, move}
 use Rattle.model.specs.Places.{noneLeft}
 use Rattle.model.specs.Route.{leave, pushed, pushRoute, popRoute, route, onward}
 use Rattle.model.proofs.tests.ByPlace.{by-place}
 use Rattle.model.proofs.tests.Truth.{either, by-test}
 use Rattle.model.proofs.laws.SoundRecord.{implied, Sound, sound-record}
-use Rattle.model.specs.Sides.{isEmpty}
 use Rattle.model.specs.Kinds.{isPush, isPop}
 
 abbrev Leads : ℕ → ℕ → ℕ → Type 0

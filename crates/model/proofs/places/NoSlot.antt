@@ -5,13 +5,11 @@ use mathlib.Core.Logic.{_≢_, _⊎_, inl, inr}
 use mathlib.Core.Path.{_∙_, _≡_, refl, subst, sym}
 use Prim.Native.Nat.{_≤_, ℕ}
 use Rattle.model.proofs.tests.Truth.{not-both}
-use Rattle.model.proofs.lists.In.{In}
-use Rattle.model.proofs.lists.Slots.{slots}
+use Rattle.model.proofs.lists.{In.In, Slots.slots}
 use Rattle.model.proofs.machine.Book.{Both, Call, isNoSlot}
 use Rattle.model.proofs.machine.Machine.{Kind, Move, Phase, Place, Rec, Shared, act, at1, at10, at11, at2, at3, at4, at5, at6, at7, at8, at9}
 use Rattle.model.proofs.machine.Machine.{draw, fetching, give, idle, inside, leaving, outside, phase, pop, push, returning, tip}
-use Rattle.model.proofs.machine.ByStep.{by-step}
-use Rattle.model.proofs.machine.Laws.{exhausted-true}
+use Rattle.model.proofs.machine.{ByStep.by-step, Laws.exhausted-true}
 use Rattle.model.proofs.invariant.Invariant.{Inv}
 use Rattle.model.proofs.invariant.Owners.{Owner, Pool, Spare, free, held, queued}
 use Rattle.model.proofs.invariant.Tasks.{Own, Stage, Task}

@@ -5,8 +5,7 @@ use mathlib.Core.Logic.{_⊎_, inl, inr}
 use mathlib.Core.Path.{_∙_, _≡_, ap, refl, subst, sym}
 use Prim.Native.Nat.{_*_, _+_, _<_, _≤_, suc, ℕ}
 use native.Mathlib.Omega.{arith}
-use lib.Dec.{eqb}
-use lib.ListN.{set}
+use lib.{Dec.eqb, ListN.set}
 use borrow.Author.Tests.{eqb-true}
 use Rattle.model.specs.Calls.{Acted, Done, act, actOn, back, finish, popStart, pushStart, putStart, step}
 use Rattle.model.specs.History.{Event, Ledger, Request, isEffect, run}
@@ -16,29 +15,22 @@ use Rattle.model.specs.Progress.{any, pairs, stepping, steps, stretchLim
 use Rattle.model.specs.Refusals.{among, popRefusal, pushRefusal, putRefusal, stepRefusal}
 use Rattle.model.specs.Tables.{Queue, Tables, asking, isPooled, recordAt, started, tablesOf, taskAt, unused, withCall, taken}
 use Rattle.model.specs.declared.Answer.the-variants.{Empty, NoSlot, Popped, Pushed, Running}
-use Rattle.model.specs.declared.Answer.{Answer}
+use Rattle.model.specs.declared.{Answer.Answer, Op.Op, Record.Record, TaskRecord.TaskRecord}
 use Rattle.model.specs.declared.Op.the-variants.{Pop, Push, Put, Step}
-use Rattle.model.specs.declared.Op.{Op}
 use Rattle.model.specs.declared.Outcome.the-variants.{Moved, Refused}
-use Rattle.model.specs.declared.Record.{Record}
-use Rattle.model.specs.declared.TaskRecord.{TaskRecord}
 use Rattle.model.proofs.tests.Truth.{by-test, either, not-both, or-false, split}
 use Rattle.model.proofs.lists.Store.{set-back}
-use Rattle.model.proofs.machine.Book.{effect}
+use Rattle.model.proofs.machine.{Book.effect, Machine.upd}
 use Rattle.model.proofs.machine.Machine as M
-use Rattle.model.proofs.machine.Machine.{upd}
 use Rattle.model.proofs.invariant.Tasks.{Task}
 use Rattle.model.proofs.bridge.Accepted.{Lies, Stepping, pop-accepted, push-accepted, put-accepted, step-accepted}
-use Rattle.model.proofs.bridge.Decoded.{seenMove}
-use Rattle.model.proofs.bridge.EveryPlace.{step-seen}
+use Rattle.model.proofs.bridge.{Decoded.seenMove, EveryPlace.step-seen}
 use Rattle.model.proofs.bridge.Operations.{not-idle, put-back, reply, state-is, stepped, task-of}
 use Rattle.model.proofs.bridge.View.{answerSeen, placeOf, recOf, stateOf, view}
-use Rattle.model.proofs.ledger.Matched.{Matched}
-use Rattle.model.proofs.ledger.Served.{effect-is}
+use Rattle.model.proofs.ledger.{Matched.Matched, Served.effect-is}
 use Rattle.model.proofs.tags.Sum.{total-le}
 use Rattle.model.proofs.progress.AllOwed.{all, all-drawn, all-drop, all-keep, atHead, pairs-up}
-use Rattle.model.proofs.progress.Bounds.{owed-within}
-use Rattle.model.proofs.progress.Measure.{owedAt}
+use Rattle.model.proofs.progress.{Bounds.owed-within, Measure.owedAt}
 use Rattle.model.proofs.progress.Others.{heads, heads-most, keep}
 use Rattle.model.proofs.progress.Reached.{Reached, act-reached}
 use Rattle.model.proofs.progress.Scale.{scale, scale-most, scale-some, together}

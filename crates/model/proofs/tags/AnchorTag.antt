@@ -4,11 +4,9 @@ use mathlib.Core.Path.{_∙_, _≡_, ap, refl}
 use Prim.Native.Nat.{_*_, _+_, _<_, _≤_, suc, ℕ}
 use native.Mathlib.Omega.{arith}
 use Rattle.model.proofs.tests.Truth.{by-test}
-use Rattle.model.proofs.machine.Book.{Call}
-use Rattle.model.proofs.machine.Laws.{same-true}
+use Rattle.model.proofs.machine.{Book.Call, Laws.same-true, ByStep.by-step}
 use Rattle.model.proofs.machine.Machine.{Anchor, Kind, Move, Phase, Place, Rec, Shared, Status, act, aimed, apply, at10, at14, at2, at3}
 use Rattle.model.proofs.machine.Machine.{at4, at9, draw, inside, phase, pop, push, pushing, same, stable, upd}
-use Rattle.model.proofs.machine.ByStep.{by-step}
 use Rattle.model.proofs.invariant.Owners.{Owner}
 use Rattle.model.proofs.invariant.Tags.{cost, owes, spent, unsettled, weight}
 use Rattle.model.proofs.invariant.Tasks.{Task, Three}

@@ -6,15 +6,13 @@ use mathlib.Core.Path.{_∙_, _≡_, ap, refl}
 use Prim.Native.Nat.{_+_, _<_, _≤_, suc, zero, ℕ}
 use native.Mathlib.Omega.{arith}
 use Rattle.model.proofs.tests.Truth.{decide-eq, either}
-use Rattle.model.proofs.machine.Book.{Call}
+use Rattle.model.proofs.machine.{Book.Call, ByStep.by-step}
 use Rattle.model.proofs.machine.Laws.{aimed-tag, same-true, sameLink-true}
 use Rattle.model.proofs.machine.Machine.{Anchor, Kind, Link, Move, Phase, Place, Rec, Shared, act, apply, at10, at11, at12, at14, at16}
 use Rattle.model.proofs.machine.Machine.{at17, at2, at3, at4, at9, draw, fetching, give, idle, inside, leaving, outside, phase, pop, push}
 use Rattle.model.proofs.machine.Machine.{pushing, returning, same, sameLink, upd}
-use Rattle.model.proofs.machine.ByStep.{by-step}
-use Rattle.model.proofs.invariant.Owners.{Owner}
+use Rattle.model.proofs.invariant.{Owners.Owner, Tasks.Task}
 use Rattle.model.proofs.invariant.Tags.{claims, cost, owes, share, shares, spent}
-use Rattle.model.proofs.invariant.Tasks.{Task}
 use Rattle.model.proofs.tags.Sum.{total, total-at}
 
 -- A step raises the head's tag and the task's share by no more than Anchor's tag.

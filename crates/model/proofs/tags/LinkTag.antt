@@ -7,23 +7,17 @@ use Prim.Native.Nat.{_<_, _≤_, suc, ℕ}
 use native.Mathlib.Omega.{arith}
 use Rattle.model.specs.declared.Entry.{Entry}
 use Rattle.model.proofs.tests.Truth.{decide-eq}
-use Rattle.model.proofs.lists.All.{all-map}
-use Rattle.model.proofs.lists.Slots.{slots}
-use Rattle.model.proofs.machine.Book.{Call}
+use Rattle.model.proofs.lists.{All.all-map, Slots.slots}
+use Rattle.model.proofs.machine.{Book.Call, LinkTags.relink-keeps, ByStep.by-step}
 use Rattle.model.proofs.machine.Laws.{later, relink-across, relink-other, relink-same, same-side, same-true, sameLink-true}
-use Rattle.model.proofs.machine.LinkTags.{relink-keeps}
 use Rattle.model.proofs.machine.Machine.{Anchor, Kind, Link, Move, Place, Rec, Shared, Status, act, aimed, apply, at9, both, inner, ownLink}
 use Rattle.model.proofs.machine.Machine.{push, pushing, relink, same, settled, tip, withAnchor, withLink}
-use Rattle.model.proofs.machine.ByStep.{by-step}
 use Rattle.model.proofs.invariant.Owners.{Owner, Intact, held, queued}
 use Rattle.model.proofs.invariant.Rely.{Quiet, Turned}
-use Rattle.model.proofs.invariant.Shape.{Made}
-use Rattle.model.proofs.invariant.Tags.{Tags}
+use Rattle.model.proofs.invariant.{Shape.Made, Tags.Tags}
 use Rattle.model.proofs.invariant.Tasks.{Live, Own, Task, way}
 use Rattle.model.proofs.chain.Links.{inner-in}
-use Rattle.model.proofs.places.Owned.{queued-free}
-use Rattle.model.proofs.places.Place3.{own-rely}
-use Rattle.model.proofs.places.Place9.{back-made}
+use Rattle.model.proofs.places.{Owned.queued-free, Place3.own-rely, Place9.back-made}
 
 -- (A record, so that the Move can be read off where a test is split.)
 pub record Tagged (s : Shared) (m : Move) : Type 0 where

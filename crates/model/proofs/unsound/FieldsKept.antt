@@ -7,16 +7,13 @@ use Prim.Native.Nat.{ℕ}
 use Rattle.model.specs.declared.Entry.{Entry}
 use Rattle.model.proofs.tests.Truth.{not-both}
 use Rattle.model.proofs.lists.Slots.{slots}
-use Rattle.model.proofs.machine.Book.{Call}
-use Rattle.model.proofs.machine.Laws.{same-true}
+use Rattle.model.proofs.machine.{Book.Call, Laws.same-true, ByStep.by-step}
 use Rattle.model.proofs.machine.Machine.{Anchor, Link, Move, Phase, Place, Rec, Shared, act, at6, beside, fetching, inner, inside, isIdle}
 use Rattle.model.proofs.machine.Machine.{leaving, outside, phase, pop, pushing, reaches, returning, same, takes, tip}
-use Rattle.model.proofs.machine.ByStep.{by-step}
 use Rattle.model.proofs.invariant.Fields.{Extra, Kept}
 use Rattle.model.proofs.invariant.Owners.{Owner, Intact}
 use Rattle.model.proofs.invariant.Tasks.{Task, Three, Two, way}
-use Rattle.model.proofs.chain.Ends.{ends-real}
-use Rattle.model.proofs.chain.Links.{inner-in}
+use Rattle.model.proofs.chain.{Ends.ends-real, Links.inner-in}
 use Rattle.model.proofs.places.Owned.{push-pop}
 
 pub record Extras (m : Move) : Type 0 where

@@ -9,15 +9,11 @@ use borrow.Author.Tests.{leb-true}
 use Rattle.word.specs.Anchor.{anchorOf, packAnchor}
 use Rattle.word.specs.Link.{linkOf, spareOf}
 use Rattle.model.specs.Places.{Touch, clearMark, move, new4, nothing, row, setAnchor, setHead, setLink, setNext, sideOf, takeSlot}
-use Rattle.model.specs.Refusals.{leavesSound}
-use Rattle.model.specs.Route.{goes}
-use Rattle.model.specs.declared.Control.{Control}
-use Rattle.model.specs.declared.Record.{Record}
+use Rattle.model.specs.{Refusals.leavesSound, Route.goes}
+use Rattle.model.specs.declared.{Control.Control, Record.Record}
 use Rattle.model.proofs.tests.Truth.{by-test}
-use Rattle.model.proofs.bridge.ByMove.{by-move}
-use Rattle.model.proofs.bridge.View.{kindOf}
+use Rattle.model.proofs.bridge.{ByMove.by-move, View.kindOf, Touches.row-fine}
 use Rattle.model.proofs.unsound.Suits.{Suits, kind-pop, kind-push}
-use Rattle.model.proofs.bridge.Touches.{row-fine}
 use Rattle.model.proofs.bridge.Facts.{AnchorFine, RecordFine, anchor-fine}
 use Rattle.model.specs.Tables.{withLink, withNeighbour, withOwn, withSeen}
 

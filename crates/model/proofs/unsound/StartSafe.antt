@@ -11,8 +11,7 @@ use borrow.Author.Tests.{ltb-false}
 use Rattle.word.specs.Anchor.{anchorOf}
 use Rattle.model.specs.Refusals.{late}
 use Rattle.model.specs.Tables.{Queue, Tables, asking, isPooled, recordAt, started, tablesOf, taskAt, unused, withCall}
-use Rattle.model.specs.declared.Record.{Record}
-use Rattle.model.specs.declared.TaskRecord.{TaskRecord}
+use Rattle.model.specs.declared.{Record.Record, TaskRecord.TaskRecord}
 use Rattle.model.proofs.tests.Truth.{decide-eq, not-both}
 use Rattle.model.proofs.machine.Laws.{upd-other, upd-same}
 use Rattle.model.proofs.machine.Machine as M
@@ -24,9 +23,7 @@ use Rattle.model.proofs.bridge.Accepted.{Lies}
 use Rattle.model.proofs.bridge.Facts.{AnchorFine, RecordFine, control-fine}
 use Rattle.model.proofs.bridge.Operations.{put-back, task-of}
 use Rattle.model.proofs.bridge.View.{placeOf, recOf, stateOf, view}
-use Rattle.model.proofs.tags.AnchorTag.{start-bound}
-use Rattle.model.proofs.tags.HeadTag.{head-start}
-use Rattle.model.proofs.tags.Sum.{total}
+use Rattle.model.proofs.tags.{AnchorTag.start-bound, HeadTag.head-start, Sum.total}
 use Rattle.model.proofs.unsound.Safe.{Safe}
 
 zero-anchor : (slots : ℕ) → AnchorFine slots (anchorOf 0)

@@ -25,21 +25,17 @@ use Rattle.model.proofs.invariant.Tags.{cost, share}
 use Rattle.model.proofs.invariant.Tasks.{Task, Three}
 use Rattle.model.proofs.bridge.Accepted.{Lies, Stepping}
 use Rattle.model.proofs.bridge.Decoded.{RoomAt, seenMove}
-use Rattle.model.proofs.bridge.EveryPlace.{step-seen}
+use Rattle.model.proofs.bridge.{EveryPlace.step-seen, Room.room-testing}
 use Rattle.model.proofs.bridge.Facts.{AnchorFine, ControlFine, RecordFine, control-fine}
 use Rattle.model.proofs.bridge.Operations.{step-seen-keeps, task-of}
-use Rattle.model.proofs.bridge.Room.{room-testing}
 use Rattle.model.proofs.bridge.Touches.{beyond, row-fine}
 use Rattle.model.proofs.bridge.View.{anchorSeen, linkAt, placeOf, recOf, stateOf, view}
 use Rattle.model.proofs.ledger.Matched.{Matched}
 use Rattle.model.proofs.tags.AnchorTag.{Light, light}
-use Rattle.model.proofs.tags.Bounds.{room-bounded}
+use Rattle.model.proofs.tags.{Bounds.room-bounded, Sum.total-one}
 use Rattle.model.proofs.tags.HeadTag.{Even, fair, head-room}
 use Rattle.model.proofs.tags.LinkTag.{Tagged, tags}
-use Rattle.model.proofs.tags.Sum.{total-one}
-use Rattle.model.proofs.unsound.AnchorFields.{touch-sound}
-use Rattle.model.proofs.unsound.Moves.{move-status}
-use Rattle.model.proofs.unsound.Safe.{Safe}
+use Rattle.model.proofs.unsound.{AnchorFields.touch-sound, Moves.move-status, Safe.Safe}
 use Rattle.model.proofs.unsound.Tests.{link-sound, record-sound, unstable}
 use Rattle.model.specs.Sides.{named, near}
 

@@ -6,13 +6,10 @@ use Prim.Native.Nat.{_≤_, ℕ}
 use native.Mathlib.Omega.{arith}
 use lib.Dec.{eqb}
 use borrow.Author.Tests.{eqb-false, eqb-true}
-use Rattle.model.proofs.tests.ByPlace.{by-place}
-use Rattle.model.proofs.tests.Truth.{not-both}
+use Rattle.model.proofs.tests.{ByPlace.by-place, Truth.not-both}
 use Rattle.model.proofs.machine.Book.{Call}
 use Rattle.model.proofs.machine.Machine.{Kind, Rec, Shared, pop, push}
-use Rattle.model.proofs.invariant.Fields.{Extra}
-use Rattle.model.proofs.invariant.Owners.{Owner}
-use Rattle.model.proofs.invariant.Tasks.{Task}
+use Rattle.model.proofs.invariant.{Fields.Extra, Owners.Owner, Tasks.Task}
 use Rattle.model.proofs.bridge.View.{kindOf, placeOf}
 
 pub record Suits (pooled : Bool) (k : Kind) (n : ℕ) : Type 0 where

@@ -16,9 +16,7 @@ use Rattle.model.proofs.tests.Rules.{_and_, passes}
 use Rattle.model.proofs.tests.Truth.{agree, and-of, and-true, beq-of, or-cases, or-first, or-second, split}
 use Rattle.model.proofs.machine.Book.{Call}
 use Rattle.model.proofs.machine.Machine as M
-use Rattle.model.proofs.invariant.Fields.{Extra}
-use Rattle.model.proofs.invariant.Owners.{Owner}
-use Rattle.model.proofs.invariant.Tasks.{Task}
+use Rattle.model.proofs.invariant.{Fields.Extra, Owners.Owner, Tasks.Task}
 use Rattle.model.proofs.places.Owned.{push-pop}
 use Rattle.model.proofs.bridge.Facts.{AnchorFine, RecordFine}
 use Rattle.model.proofs.bridge.View.{kindOf, placeOf, recOf, statusOf}
