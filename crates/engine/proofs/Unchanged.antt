@@ -8,13 +8,10 @@ use native.Mathlib.Omega.{arith}
 use lib.Dec.{eqb, leb}
 use lib.ListN.{getD}
 use borrow.Author.Tests.{leb-true, eqb-true, eqb-false, ne-eqb}
-use Rattle.model.specs.declared.Record.{Record}
-use Rattle.model.specs.declared.TaskRecord.{TaskRecord}
-use Rattle.model.specs.declared.Entry.{Entry}
+use Rattle.model.specs.declared.{Record.Record, TaskRecord.TaskRecord, Entry.Entry}
 use Rattle.model.specs.declared.Outcome.the-variants.{Refused, Moved}
 use Rattle.model.specs.Tables.{Tables, idle}
-use Rattle.model.specs.Places.{Touch, nothing, setAnchor, setLink, clearMark, takeSlot, setNext, setHead, Move, wordFound}
-use Rattle.model.specs.Places.{apply}
+use Rattle.model.specs.Places.{Touch, nothing, setAnchor, setLink, clearMark, takeSlot, setNext, setHead, Move, wordFound, apply}
 use Rattle.model.specs.Route.{pushRoute, popRoute, route, onward, answer, goes}
 use Rattle.model.specs.Refusals.{Lent, stepSound}
 use Rattle.model.specs.Calls.{Acted, finish, step}

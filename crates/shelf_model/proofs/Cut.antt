@@ -7,12 +7,10 @@ use native.Mathlib.Omega.{arith}
 use lib.Dec.{eqb, ltb}
 use lib.ListN.{getD, length, set, take}
 use borrow.Author.Tests.{eqb-false, eqb-true, not-false}
-use Rattle.model.specs.declared.Record.{Record}
-use Rattle.model.specs.declared.TaskRecord.{TaskRecord}
+use Rattle.model.specs.declared.{Record.Record, TaskRecord.TaskRecord}
 use Rattle.model.specs.Tables.{Tables, bit, isPooled, marked, putBit, withMark, withHead, tablesOf}
 use Rattle.model.specs.Sound.{recordSound, rowsFit}
-use Rattle.model.specs.Places.{Touch, nothing, setAnchor, setLink, clearMark, takeSlot, setNext, setHead}
-use Rattle.model.specs.Places.{Move, apply, wordFound, linkSide, move, row}
+use Rattle.model.specs.Places.{Touch, nothing, setAnchor, setLink, clearMark, takeSlot, setNext, setHead, Move, apply, wordFound, linkSide, move, row}
 use Rattle.model.specs.declared.Outcome.the-variants.{Moved, Refused}
 use Rattle.model.specs.Route.{answer, onward, route}
 use Rattle.model.specs.Refusals.{Lent, admissionRules, first, fits, rule, stepRefusal, stepRules, stepSound}

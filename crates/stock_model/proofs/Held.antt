@@ -4,8 +4,7 @@ use mathlib.Core.List.{List, [], _∷_}
 use mathlib.Core.Logic.{_≢_, _⊎_, inl, inr}
 use mathlib.Core.Path.{_≡_, _∙_, ap, refl, sym}
 use Prim.Native.Nat.{ℕ, _≤_, _<_, suc}
-use native.Mathlib.Decide.{decLt}
-use native.Mathlib.Omega.{arith}
+use native.Mathlib.{Decide.decLt, Omega.arith}
 use lib.Dec.{eqb, ltb}
 use lib.ListN.{length, List·getD-eq-default}
 use borrow.Author.Tests.{eq-eqb, ltb-true}
@@ -121,7 +120,8 @@ module _ (n : ℕ) (q : Queue) (l : Ledger) (g : Matched n q l) where
   -- An open call is one of the queue's tasks'.
   pub every-known : All (λ (c : Call). isOpen (c .ending) ≡ true → c .task < q .tables .control .tasks) (l .calls)
   unfolding stateOf
-  every-known = all-map Busies (λ (c : Call). isOpen (c .ending) ≡ true → c .task < q .tables .control .tasks) (λ c b o. known (c .task) (ltb (c .task) (q .tables .control .tasks)) refl (b o))
+  every-known = all-map Busies (λ (c : Call). isOpen (c .ending) ≡ true → c .task < q .tables .control .tasks)
+      (λ c b o. known (c .task) (ltb (c .task) (q .tables .control .tasks)) refl (b o))
       (l .calls) (all-busy (l .calls) (λ t. omega arith))
     where
       known : (t : ℕ) (k : Bool) → ltb t (q .tables .control .tasks) ≡ k → M.isIdle (cond k (recOf (recordAt q t)) M.blank .place) ≡ false

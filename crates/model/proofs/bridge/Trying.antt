@@ -97,7 +97,8 @@ module _ (q : Tables) (r : Record) where
 
       popped-reads2 : Reads 2 1
       unfolding recOf view reading onward route pushRoute popRoute goes answer
-      popped-reads2 = pop-reads null (λ z. rw (z, none-right null z)) (λ z g. rw (z, g)) (λ g z y. rw (z, g, stable null, y)) (λ g z y. rw (z, g, stable null, y))
+      popped-reads2 = pop-reads null (λ z. rw (z, none-right null z)) (λ z g. rw (z, g)) (λ g z y. rw (z, g, stable null, y))
+          (λ g z y. rw (z, g, stable null, y))
 
       pushed-reads4 : Reads 4 0
       unfolding recOf view reading onward route pushRoute popRoute goes answer
@@ -105,7 +106,8 @@ module _ (q : Tables) (r : Record) where
 
       popped-reads4 : Reads 4 1
       unfolding recOf view reading onward route pushRoute popRoute goes answer
-      popped-reads4 = pop-reads null (λ z. rw (z, none-right null z)) (λ z g. rw (z, g)) (λ g z y. rw (z, g, stable null, y)) (λ g z y. rw (z, g, stable null, y))
+      popped-reads4 = pop-reads null (λ z. rw (z, none-right null z)) (λ z g. rw (z, g)) (λ g z y. rw (z, g, stable null, y))
+          (λ g z y. rw (z, g, stable null, y))
 
       pub place2-push : r .own < 2 ^ 15 → Seen q (at 2 0)
       unfolding recOf view move at2 reading row linkSide sideOf onward route pushRoute popRoute goes answer

@@ -87,7 +87,11 @@ pop-begins pooled slots side hs = record {
 
 pub put-begins : (pooled : Bool) (slots side y : ℕ) → pooled ≡ true → side ≤ 1 → Begins pooled slots (asking side y)
 unfolding recOf
-put-begins pooled slots side y p hs = record { fine = asking-fine pooled slots side y p hs; extra = record { kept = refl; near = λ b. absurd (not-both b refl) }; share = omega arith }
+put-begins pooled slots side y p hs = record {
+  fine = asking-fine pooled slots side y p hs;
+  extra = record { kept = refl; near = λ b. absurd (not-both b refl) };
+  share = omega arith;
+}
 
 -- Anchor's tag has room for the changes that the new call will owe.
 abbrev pub Room : Queue → ℕ → Record → Type 0
