@@ -2,17 +2,21 @@
 use mathlib.Core.Path.{_≡_, refl, ap, sym, subst, _∙_}
 use mathlib.Core.Bool.{Bool, true, false, _&&_, _||_, not, cond, and-eq-true-iff}
 use Prim.Native.Nat.{ℕ, suc, _+_, _≤_, _<_}
-use native.Mathlib.{Nat.le-antisymm, Omega.arith}
+use native.Mathlib.Nat.{le-antisymm}
+use native.Mathlib.Omega.{arith}
 use lib.Dec.{eqb, ltb}
 use borrow.Author.Tests.{eqb-true, eqb-false, ne-eqb, leb-true}
 use Rattle.word.specs.Anchor.{anchorOf, packAnchor}
 use Rattle.word.specs.Link.{linkOf}
-use Rattle.model.specs.declared.{Control.Control, Record.Record}
-use Rattle.model.specs.{Tables.isPooled, Sides.facing, Kinds.isPush}
+use Rattle.model.specs.declared.Control.{Control}
+use Rattle.model.specs.declared.Record.{Record}
+use Rattle.model.specs.Tables.{isPooled}
 use Rattle.model.specs.Sound.{anchorSound, recordSound}
 use Rattle.model.specs.Places.{Touch, nothing, setAnchor, Move, sideOf}
 use Rattle.model.specs.Places.{at1, at2, at3, at4, at5, at6, at7, at9, at10, at11, at12, at13, at14, at15, at16, at17, move}
 use Rattle.model.specs.Refusals.{leavesSound, hasRoom}
+use Rattle.model.specs.Sides.{facing}
+use Rattle.model.specs.Kinds.{isPush}
 use Rattle.model.proofs.tests.Truth.{by-test, either, or-first}
 use Rattle.asking.specs.Asked.{newAnchor, changeSound}
 

@@ -3,7 +3,8 @@ use mathlib.Core.Bool.{Bool, _&&_, cond}
 use Prim.Native.Nat.{ℕ, _+_}
 use lib.Dec.{eqb}
 use Rattle.word.specs.Anchor.{anchorOf, packAnchor}
-use Rattle.model.specs.declared.{Control.Control, Record.Record}
+use Rattle.model.specs.declared.Control.{Control}
+use Rattle.model.specs.declared.Record.{Record}
 use Rattle.model.specs.Places.{new4, move}
 use Rattle.model.specs.Refusals.{leavesSound, hasRoom}
 use Rattle.model.specs.Kinds.{isPush}

@@ -1,15 +1,19 @@
 -- The call over rows: what its parts say comes to what it means.
 use mathlib.Core.Path.{_≡_, sym, ap, _∙_}
-use mathlib.Core.{Bool.Bool, List.List}
+use mathlib.Core.Bool.{Bool}
+use mathlib.Core.List.{List}
 use Prim.Native.Nat.{ℕ}
 use lib.ListN.{length}
-use Rattle.model.specs.declared.{Control.Control, Outcome.Outcome, Reply.Reply}
+use Rattle.model.specs.declared.Control.{Control}
+use Rattle.model.specs.declared.Outcome.{Outcome}
 use Rattle.model.specs.declared.Outcome.the-variants.{Refused}
+use Rattle.model.specs.declared.Reply.{Reply}
 use Rattle.model.specs.Tables.{Tables, isPooled, tablesOf}
 use Rattle.model.specs.Sound.{rowsFit}
-use Rattle.model.specs.Refusals.{alone, admission}
+use Rattle.model.specs.Refusals.{alone}
 use Rattle.model.specs.Calls.{stepLent, replyOf}
 use Rattle.sound.specs.Lengths.{lengthsFit}
+use Rattle.model.specs.Refusals.{admission}
 use Rattle.engine.proofs.InParts.{turned-away, admitted}
 use Rattle.rows.specs.Rows.{controlOf, recordOf, upperOf}
 use Rattle.rows.specs.Moved.{RowMoved}

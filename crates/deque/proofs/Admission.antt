@@ -8,7 +8,8 @@ use mir.Syntax.{Name, Place, Opd as Operand, Body, seq, call, w32, w64}
 use mir.Val.{Val, vint}
 use base.Logic.{SProp, ent, id⊢}
 use base.Fml.{ftrue}
-use prog.{Memory.Memory, Routine.Routine}
+use prog.Memory.{Memory}
+use prog.Routine.{Routine}
 use prog.Wp.{Heap, Env, Calls, Loops}
 use ghost.Atoms.{Atoms}
 use contract.Monad.{Fun, fact}
@@ -22,13 +23,17 @@ use denote.Builtin.{u32, usize}
 use denote.Steps.{owned, facts, heard, nothing}
 use denote.Struct.Laws as LL
 use denote.Triple.Statement.{Contract, Triple}
-use denote.Triple.{Call.calls-at, Spec.tripleOf}
+use denote.Triple.Call.{calls-at}
 use denote.Triple.Clauses.{ensured, lasts}
-use Rattle.model.specs.declared.{Control.Control, Outcome.Outcome}
+use denote.Triple.Spec.{tripleOf}
+use Rattle.model.specs.declared.Control.{Control}
+use Rattle.model.specs.declared.Outcome.{Outcome}
 use Rattle.model.specs.declared.Outcome.the-variants.{Refused}
-use Rattle.model.specs.{Tables.isPooled, Refusals.admission}
+use Rattle.model.specs.Tables.{isPooled}
 use Rattle.sound.specs.Lengths.{lengthsFit}
-use Rattle.deque.proofs.{Walk.control-value, Engine.Five}
+use Rattle.model.specs.Refusals.{admission}
+use Rattle.deque.proofs.Walk.{control-value}
+use Rattle.deque.proofs.Engine.{Five}
 use Rattle.model.proofs.Control as K
 use Rattle.model.proofs.Control.Laws as K′
 use Rattle.model.proofs.Outcome as E

@@ -16,16 +16,19 @@ use types.Kit.{Given, Item, ‵, raw, some, later, _⊛_, ⋆, Post as PostOf, r
 use types.Kit.{join, pick, fsplit, fjoin, feqL, frame, await, done}
 use types.Run.{Opds}
 use sound.WpLaws.{FmC}
-use denote.{RattleType.owns, Ref.RefT}
+use denote.RattleType.{owns}
 use denote.Laws.{Is, shows}
 use denote.Builtin.{u32, u64}
+use denote.Ref.{RefT}
 use denote.Slice.{MutSlice, finally}
 use denote.Steps.{owned, facts, heard}
 use denote.Struct.Laws as LL
 use denote.Triple.Statement.{Contract, Triple}
-use denote.Triple.{Call.calls-at, Spec.tripleOf}
+use denote.Triple.Call.{calls-at}
 use denote.Triple.Clauses.{Clauses, closing, ensured, lasts}
-use Rattle.model.specs.declared.{Control.Control, TaskRecord.TaskRecord}
+use denote.Triple.Spec.{tripleOf}
+use Rattle.model.specs.declared.Control.{Control}
+use Rattle.model.specs.declared.TaskRecord.{TaskRecord}
 use Rattle.model.specs.Tables.{Tables, tablesOf}
 use Rattle.model.specs.Calls.{Acted}
 use Rattle.rows.specs.declared.value.Stepped.{Stepped}

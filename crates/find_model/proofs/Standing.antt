@@ -8,8 +8,11 @@ use lib.ListN.{length}
 use Rattle.model.specs.declared.Entry.{Entry}
 use Rattle.model.specs.Tables.{Queue, isPooled}
 use Rattle.model.specs.Sound.{rowTests, rowsFit}
-use Rattle.model.specs.{Report.waiting, Refusals.recordsFit, Standing.Standing}
-use Rattle.model.proofs.tests.{Truth.and-true, Rules.tests}
+use Rattle.model.specs.Report.{waiting}
+use Rattle.model.specs.Refusals.{recordsFit}
+use Rattle.model.proofs.tests.Truth.{and-true}
+use Rattle.model.proofs.tests.Rules.{tests}
+use Rattle.model.specs.Standing.{Standing}
 use Rattle.model.proofs.Standing.{standing}
 use Rattle.find_model.specs.Find.{Finds, RowsWaiting, find, findRefusal, found, refused}
 

@@ -6,9 +6,10 @@ use Prim.Native.Nat.{ℕ, _+_, _-_}
 use lib.Dec.{ltb, eqb}
 use lib.ListN.{length, replicate}
 use Rattle.model.specs.declared.Entry.{Entry}
-use Rattle.model.specs.{Tables.Tables, Report.waiting}
+use Rattle.model.specs.Tables.{Tables}
 use Rattle.model.specs.Sound.{controlSound, rowsFit}
 use Rattle.model.specs.Walk.{contents, isBroken, met}
+use Rattle.model.specs.Report.{waiting}
 use Rattle.model.specs.Refusals.{Rule, rule, first}
 use Rattle.model.specs.History.{AfterOpening, final, ledger, run}
 use Rattle.find_model.specs.declared.FindReply.{FindReply}

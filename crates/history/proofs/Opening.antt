@@ -10,7 +10,8 @@ use Rattle.model.specs.declared.Opening.the-variants.{Refused, Opened}
 use Rattle.model.specs.{Tables.Queue, Refusals.openRefusal}
 use Rattle.model.specs.Calls.{OpenDone, opened, openAs, openingCode}
 use Rattle.model.specs.History.{Request, run, final, NoSlotTrue}
-use Rattle.model.proofs.{Linearizable.linearizable, Never34.never-34, NoSlot.no-slot-right, Retries.retries-sum}
+use Rattle.model.proofs.{Linearizable.linearizable, Never34.never-34, Retries.retries-sum}
+use Rattle.model.proofs.NoSlot.{no-slot-right}
 use Rattle.model.proofs.tests.Truth.{split}
 use Rattle.stock_model.proofs.Accounts.{every-label, stock-taking}
 use Rattle.capi.specs.Replies.{uppersAt, Coded, coded}

@@ -6,7 +6,8 @@ use Prim.Native.Nat.{ℕ, _<_}
 use native.Mathlib.Omega.{arith}
 use lib.Dec.{eqb}
 use borrow.Author.Tests.{lt-ltb, not-true, not-false, eqb-true}
-use Rattle.model.specs.declared.{Record.Record, TaskRecord.TaskRecord}
+use Rattle.model.specs.declared.Record.{Record}
+use Rattle.model.specs.declared.TaskRecord.{TaskRecord}
 use Rattle.model.specs.declared.Outcome.the-variants.{Refused}
 use Rattle.model.specs.declared.Op.the-variants.{Step}
 use Rattle.model.specs.Tables.{Tables, Queue, isPooled, taskAt, recordAt}
@@ -18,7 +19,9 @@ use Rattle.model.specs.History.{final}
 use Rattle.model.proofs.laws.Sizes.{fits, act-fits, act-tasks}
 use Rattle.model.proofs.tests.Truth.{by-test}
 use Rattle.model.proofs.tests.Rules.{tests, passes, cleared}
-use Rattle.schedule_model.specs.{Schedules.atWork, Allowed.after, Claims.OnlyUnsound}
+use Rattle.schedule_model.specs.Schedules.{atWork}
+use Rattle.schedule_model.specs.Allowed.{after}
+use Rattle.schedule_model.specs.Claims.{OnlyUnsound}
 use Rattle.schedule_model.proofs.Admitted.{control, enough, tasks}
 
 -- A change that leaves Anchor sound leaves control sound.

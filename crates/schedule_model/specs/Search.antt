@@ -7,7 +7,8 @@ use lib.ListN.{getD}
 use Rattle.model.specs.declared.Outcome.{Outcome}
 use Rattle.model.specs.declared.Outcome.the-variants.{Refused, Moved}
 use Rattle.model.specs.declared.Op.the-variants.{Step}
-use Rattle.model.specs.{Tables.Queue, Calls.act}
+use Rattle.model.specs.Tables.{Queue}
+use Rattle.model.specs.Calls.{act}
 use Rattle.schedule_model.specs.Schedules.{Schedule, ends, begun, atWork, bothAnswered}
 use Rattle.schedule_model.specs.Next.{Next, given, noMore}
 

@@ -2,9 +2,12 @@
 use mathlib.Core.Path.{_≡_}
 use Prim.Native.Nat.{ℕ, _/_}
 use lib.ListN.{getD, set}
-use Rattle.model.specs.declared.{Control.Control, TaskRecord.TaskRecord}
+use Rattle.model.specs.declared.Control.{Control}
+use Rattle.model.specs.declared.TaskRecord.{TaskRecord}
 use Rattle.model.specs.Tables.{Tables, tablesOf}
-use Rattle.model.specs.{Places.row, Refusals.Lent, Calls.step}
+use Rattle.model.specs.Places.{row}
+use Rattle.model.specs.Refusals.{Lent}
+use Rattle.model.specs.Calls.{step}
 use Rattle.schedule_model.specs.declared.Saved.{Saved}
 
 -- Slot x's words.

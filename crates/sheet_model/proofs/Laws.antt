@@ -12,10 +12,11 @@ use Rattle.model.specs.Tables.{Queue, Tables, isPooled}
 use Rattle.model.specs.Walk.{contents, met}
 use Rattle.model.specs.Sound.{rowTests, rowsFit}
 use Rattle.model.specs.Refusals.{first, recordsFit}
-use Rattle.model.specs.{Calls.openAs, Standing.Standing}
+use Rattle.model.specs.Calls.{openAs}
 use Rattle.model.specs.History.{final, ledger, run}
 use Rattle.model.proofs.tests.Truth.{split, and-true}
 use Rattle.model.proofs.tests.Rules.{cleared, tests}
+use Rattle.model.specs.Standing.{Standing}
 use Rattle.model.proofs.Standing.{standing}
 use Rattle.sheet_model.specs.Sheet.{Sheet, malformed, chained}
 use Rattle.sheet_model.specs.Words.{listOf, bitsOf, linked, mark, wordsOf}

@@ -1,6 +1,7 @@
 -- What is promised of the sheets, beyond what each call answers.
-use mathlib.Core.{Path._≡_, List.List}
+use mathlib.Core.Path.{_≡_}
 use mathlib.Core.Bool.{true, false, cond}
+use mathlib.Core.List.{List}
 use Prim.Native.Nat.{ℕ, suc, _/_, _%_, _^_, _≤_, _<_}
 use lib.ListN.{length, getD}
 use Rattle.model.specs.declared.Entry.{Entry}

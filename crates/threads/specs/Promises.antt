@@ -3,16 +3,20 @@ use mathlib.Core.Path.{_≡_}
 use mathlib.Core.Bool.{Bool, true, false, _&&_, _||_, cond}
 use mathlib.Core.List.{List, _++_}
 use Prim.Native.Nat.{ℕ}
-use lib.{Dec.leb, ListN.getD}
-use Rattle.model.specs.declared.{Record.Record, TaskRecord.TaskRecord, Outcome.Outcome}
+use lib.Dec.{leb}
+use lib.ListN.{getD}
+use Rattle.model.specs.declared.Record.{Record}
+use Rattle.model.specs.declared.TaskRecord.{TaskRecord}
+use Rattle.model.specs.declared.Outcome.{Outcome}
 use Rattle.model.specs.declared.Outcome.the-variants.{Refused}
 use Rattle.model.specs.declared.Opening.the-variants.{Opened}
 use Rattle.model.specs.Tables.{Tables, Queue, taskAt, marked}
-use Rattle.model.specs.{Sound.from1, Lists.All}
+use Rattle.model.specs.Sound.{from1}
 use Rattle.model.specs.Refusals.{admission, alone, fits, late}
 use Rattle.model.specs.Calls.{act, openAs, stepLent}
 use Rattle.model.specs.History.{ledger, Call, Lawful}
 use Rattle.model.specs.Walk.{contents, entries}
+use Rattle.model.specs.Lists.{All}
 use Rattle.threads_model.specs.Split.{plan, splitStep}
 use Rattle.threads_model.specs.declared.Start.{Start}
 use Rattle.threads_model.specs.Starts.{isNamed, planStart}

@@ -5,9 +5,11 @@ use mathlib.Core.Bool.{true, false}
 use mathlib.Core.List.{List, [], _∷_, _++_}
 use Prim.Native.Nat.{ℕ}
 use lib.ListN.{getD, replicate}
-use Rattle.model.specs.declared.{Record.Record, Outcome.Outcome, Op.Op}
+use Rattle.model.specs.declared.Record.{Record}
 use Rattle.model.specs.declared.Answer.the-variants.{Pushed}
+use Rattle.model.specs.declared.Outcome.{Outcome}
 use Rattle.model.specs.declared.Outcome.the-variants.{Refused, Moved}
+use Rattle.model.specs.declared.Op.{Op}
 use Rattle.model.specs.declared.Op.the-variants.{Push, Pop, Put, Step}
 use Rattle.model.specs.Tables.{Tables, Queue, queueOf, unopened, unused, counting, openedControl, withWords, newCall, withSeen, withNeighbour}
 use Rattle.model.specs.Sound.{anchorSound, linkSound, recordSound, rowsFit}

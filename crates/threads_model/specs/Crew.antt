@@ -2,8 +2,10 @@
 use mathlib.Core.Bool.{Bool, cond}
 use mathlib.Core.List.{List, [], _∷_, _++_}
 use Prim.Native.Nat.{ℕ, _<_}
-use lib.{Dec.eqb, ListN.set}
-use Rattle.model.specs.declared.{Outcome.Outcome, Op.Op}
+use lib.Dec.{eqb}
+use lib.ListN.{set}
+use Rattle.model.specs.declared.Outcome.{Outcome}
+use Rattle.model.specs.declared.Op.{Op}
 use Rattle.model.specs.Tables.{Queue, taskAt}
 use Rattle.model.specs.History.{Event, Request}
 use Rattle.threads_model.specs.Turns.{Turn}

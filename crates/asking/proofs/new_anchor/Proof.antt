@@ -1,5 +1,6 @@
 -- By the place: 4, 2, or any other.
-use mathlib.Core.{Path.ap, Bool._&&_}
+use mathlib.Core.Path.{ap}
+use mathlib.Core.Bool.{_&&_}
 use native.Mathlib.Omega.{arith}
 use lib.Dec.{leb}
 use borrow.Author.Tests.{eq-eqb, ne-eqb}

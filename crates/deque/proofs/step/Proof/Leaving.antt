@@ -8,18 +8,27 @@ use mir.Syntax.{named, w64}
 use mir.Val.{Val, vint, vptr}
 use base.Logic.{SProp, ent}
 use base.Fml.{Lft, Share, flft}
-use prog.{Memory.Memory, Routine.Routine, Wp.Heap}
+use prog.Memory.{Memory}
+use prog.Routine.{Routine}
+use prog.Wp.{Heap}
 use ghost.Atoms.{Atoms}
 use contract.Monad.{Fun}
-use types.Kit.{Given, Item, ‵, ⋆, _$_, _∵_, !, qed, move, join, fjoin, suffices, frame, done}
-use denote.{Laws.Is, Plain.uint-makes, Signature.plain, Exit.yes}
+use types.Kit.{Given, Item, ‵, ⋆, _$_, _∵_, !, qed, move, join, fjoin}
+use types.Kit.{suffices, frame, done}
+use denote.Laws.{Is}
+use denote.Plain.{uint-makes}
 use denote.Builtin.{u32, u64, usize}
 use denote.Ref.{RefT, MutRef}
 use denote.Slice.{sliceVal, MutSlice}
+use denote.Signature.{plain}
 use denote.Steps.{owned, nothing}
 use denote.Enum.Laws as EL
-use denote.Triple.Walked.{says, Stays, walkOf, ends-at, stay-ref, stay-slice, stay-none, gave-slice}
-use Rattle.model.specs.declared.{Control.Control, TaskRecord.TaskRecord, Outcome.Outcome}
+use denote.Triple.Walked.{says, Stays, walkOf, ends-at, stay-ref, stay-slice, stay-none}
+use denote.Triple.Walked.{gave-slice}
+use denote.Exit.{yes}
+use Rattle.model.specs.declared.Control.{Control}
+use Rattle.model.specs.declared.TaskRecord.{TaskRecord}
+use Rattle.model.specs.declared.Outcome.{Outcome}
 use Rattle.deque.proofs.Walk.{kept}
 use Rattle.deque.proofs.Engine.{Five, Lengths, slices, returned}
 use Rattle.model.proofs.Control as K
