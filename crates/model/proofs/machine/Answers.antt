@@ -12,7 +12,6 @@ EndsAt empty b = b ≡ true
 EndsAt noSlot b = b ≡ true
 EndsAt (popped x l) b = b ≡ true
 
--- (A record, so that the Move can be read off where a test is split.)
 pub record Ends (m : Move) : Type 0 where
   pub ends : EndsAt (m .answer) (isIdle (m .rec .place))
 

@@ -9,7 +9,7 @@ use Rattle.model.proofs.machine.Machine as M
 
 -- Q is what is known of the record at its place.
 module _ (s : M.Shared) (r : M.Rec) (Q : M.Place → Type 0) (P : M.Move → Type 0) where
-  -- Anchor is as read; so is the head, and the link back.
+  -- Anchor is as read, and the head is; the side that the status as read names.
   abbrev now : Bool
   now = M.same (r .read) (s .anchor)
 

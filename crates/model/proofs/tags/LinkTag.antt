@@ -19,7 +19,6 @@ use Rattle.model.proofs.invariant.Tasks.{Live, Own, Task, way}
 use Rattle.model.proofs.chain.Links.{inner-in}
 use Rattle.model.proofs.places.{Owned.queued-free, Place3.own-rely, Place9.back-made}
 
--- (A record, so that the Move can be read off where a test is split.)
 pub record Tagged (s : Shared) (m : Move) : Type 0 where
   pub tagged : Tags (apply s (m .touch))
 
