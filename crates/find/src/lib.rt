@@ -1,6 +1,7 @@
 //! Where labels wait, found in one walk of the queue that reads each waiting slot's row once.
 use find_model::FindReply;
 use model::Control;
+use sound::Lengths;
 use walk::Tally;
 use word::Anchor;
 use word::Link;
@@ -190,18 +191,11 @@ fn search(
 }
 
 /// 34 for control and Anchor, 45, 12. No next table is lent, so none counts.
-fn refusal(
-    c: Control,
-    asked: usize,
-    lefts: usize,
-    rights: usize,
-    labels: usize,
-    marks: usize,
-) -> u32
-    ensures { λ n. ⌜ n ≡ refusalBefore (controlSound c) (ltb 32 asked) (lengthsFit false (c .slots) lefts rights labels marks 0) ⌝ }
+fn refusal(c: Control, asked: usize, t: Lengths) -> u32
+    ensures { λ n. ⌜ n ≡ refusalBefore (controlSound c) (ltb 32 asked) (lengthsFit false (c .slots) t) ⌝ }
 {
     let control = sound::control_sound(c);
-    let fits = sound::rows_fit(false, c.slots, lefts, rights, labels, marks, 0);
+    let fits = sound::rows_fit(false, c.slots, t);
     if !control {
         return 34;
     }
@@ -238,14 +232,15 @@ fn find(
         (tablesOf c (now (lefts .entry)) (now (rights .entry)) (now (labels .entry)) (now (marks .entry)) next)
         (now (asked .entry))) ⌝ }
 {
-    let why = refusal(
-        c,
-        asked.len(),
-        lefts.len(),
-        rights.len(),
-        labels.len(),
-        marks.len(),
-    );
+    let t = Lengths {
+        records: 0,
+        lefts: lefts.len(),
+        rights: rights.len(),
+        labels: labels.len(),
+        marks: marks.len(),
+        next: 0,
+    };
+    let why = refusal(c, asked.len(), t);
     if why != 0 {
         return refused(why);
     }

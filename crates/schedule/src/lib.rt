@@ -2,15 +2,16 @@
 use model::Control;
 use model::Record;
 use schedule_model::ScheduleReply;
+use sound::Lengths;
 use walk::Tally;
 ghost use mathlib.Core.Path.{_≡_};
 ghost use mathlib.Core.Bool.{_&&_, not, false};
 ghost use mathlib.Core.List.{List};
 ghost use Rattle.model.specs.declared.TaskRecord.{TaskRecord};
 ghost use lib.Dec.{eqb, leb};
-ghost use Rattle.model.specs.Tables.{isPooled, tablesOf};
+ghost use Rattle.model.specs.Tables.{tablesOf};
 ghost use Rattle.model.specs.Sound.{controlSound};
-ghost use Rattle.sound.specs.Lengths.{lengthsFit};
+ghost use Rattle.sound.specs.Lengths.{tablesFit};
 ghost use Rattle.rows.specs.Rows.{controlOf, recordsOf};
 ghost use Rattle.schedule_model.specs.Next.{memoryLength, handing};
 ghost use Rattle.schedule_model.specs.Search.{seekOf};
@@ -18,26 +19,13 @@ ghost use Rattle.schedule_search.specs.Sought.{pairOf};
 ghost use Rattle.schedule.specs.Answered.{refusalBefore, refusalAfter, Begins, Answered, answered};
 
 /// 34 for control and Anchor, and 12. The tables and the memory are given by their lengths.
-fn refusal(
-    c: Control,
-    records: usize,
-    memory: usize,
-    lefts: usize,
-    rights: usize,
-    labels: usize,
-    marks: usize,
-    next: usize,
-) -> u32
-    ensures { λ why.
-        ⌜ why ≡ refusalBefore (controlSound c)
-        (lengthsFit (isPooled c) (c .slots) lefts rights labels marks next && leb (c .tasks) records && leb 49 memory) ⌝ }
+fn refusal(c: Control, memory: usize, t: Lengths) -> u32
+    ensures { λ why. ⌜ why ≡ refusalBefore (controlSound c) (tablesFit c t && leb 49 memory) ⌝ }
 {
     if !sound::control_sound(c) {
         return 34;
     }
-    let pooled = c.pooled == 1;
-    let rows = sound::rows_fit(pooled, c.slots, lefts, rights, labels, marks, next);
-    let fits = rows & (c.tasks <= records as u64) & (49 <= memory);
+    let fits = sound::tables_fit(c, t) & (49 <= memory);
     if fits { 0 } else { 12 }
 }
 
@@ -132,16 +120,15 @@ fn next_schedule(
         (answered (tablesOf c (now (lefts .entry)) (now (rights .entry)) (now (labels .entry)) (now (marks .entry)) (now (next .entry)))
         rs (now (given .entry)))) ⌝ }
 {
-    let why = refusal(
-        c,
+    let t = Lengths {
         records,
-        given.len(),
-        lefts.len(),
-        rights.len(),
-        labels.len(),
-        marks.len(),
-        next.len(),
-    );
+        lefts: lefts.len(),
+        rights: rights.len(),
+        labels: labels.len(),
+        marks: marks.len(),
+        next: next.len(),
+    };
+    let why = refusal(c, given.len(), t);
     if why != 0 {
         return refused(why);
     }

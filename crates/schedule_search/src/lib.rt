@@ -4,6 +4,7 @@ use model::Record;
 use model::TaskRecord;
 use rows::value;
 use rows::value::Stepped;
+use sound::Lengths;
 use sound::admission;
 ghost use mathlib.Core.Path.{_≡_};
 ghost use mathlib.Core.Bool.{_&&_, not, cond, false};
@@ -110,16 +111,15 @@ fn step_of(
         call: r,
         retries: 0,
     };
-    let why = admission::admit(
-        c,
-        2,
-        t as usize,
-        lefts.len(),
-        rights.len(),
-        labels.len(),
-        marks.len(),
-        next.len(),
-    );
+    let lent = Lengths {
+        records: 2,
+        lefts: lefts.len(),
+        rights: rights.len(),
+        labels: labels.len(),
+        marks: marks.len(),
+        next: next.len(),
+    };
+    let why = admission::admit(c, t as usize, lent);
     if why != 0 {
         let outcome = engine::refuse(why);
         return Stepped {

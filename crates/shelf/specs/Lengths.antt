@@ -3,14 +3,13 @@ use mathlib.Core.Bool.{Bool, _&&_}
 use Prim.Native.Nat.{ℕ, _/_}
 use lib.Dec.{leb}
 use Rattle.model.specs.declared.Control.{Control}
-use Rattle.model.specs.Tables.{isPooled}
 use Rattle.model.specs.Refusals.{first}
 use Rattle.shelf_model.specs.Shelves.{saveTests, returnTests}
-use Rattle.sound.specs.Lengths.{lengthsFit}
-use Rattle.shelf.specs.declared.refusal.Extents.{Extents}
+use Rattle.sound.specs.declared.Lengths.{Lengths}
+use Rattle.sound.specs.Lengths.{tablesFit}
 
 -- A shelf's part of each table.
-abbrev pub eighth : Extents → Extents
+abbrev pub eighth : Lengths → Lengths
 eighth t = record {
   records = t .records / 8;
   lefts = t .lefts / 8;
@@ -20,16 +19,13 @@ eighth t = record {
   next = t .next / 8;
 }
 
--- 12, for one side, and for both.
-unfoldable pub extentsFit : Control → Extents → Bool
-extentsFit c t = lengthsFit (isPooled c) (c .slots) (t .lefts) (t .rights) (t .labels) (t .marks) (t .next) && leb (c .tasks) (t .records)
-
-unfoldable pub bothFit : Control → Extents → Extents → ℕ → Bool
-bothFit c queue shelves controls = extentsFit c queue && extentsFit c (eighth shelves) && leb 8 controls
+-- 12, for both sides.
+unfoldable pub bothFit : Control → Lengths → Lengths → ℕ → Bool
+bothFit c queue shelves controls = tablesFit c queue && tablesFit c (eighth shelves) && leb 8 controls
 
 -- The number of a refusal, by the lengths.
-unfoldable pub saveNumber : Control → ℕ → Extents → Extents → ℕ → ℕ
+unfoldable pub saveNumber : Control → ℕ → Lengths → Lengths → ℕ → ℕ
 saveNumber c n queue shelves controls = first (saveTests c n (bothFit c queue shelves controls))
 
-unfoldable pub returnNumber : Control → ℕ → Extents → Extents → ℕ → ℕ
+unfoldable pub returnNumber : Control → ℕ → Lengths → Lengths → ℕ → ℕ
 returnNumber c n queue shelves controls = first (returnTests c n (bothFit c queue shelves controls))

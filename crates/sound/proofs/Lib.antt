@@ -4,4 +4,4 @@ pub mod Places
 pub mod Early
 pub mod Late
 pub mod Links
-pub mod Lengths
+pub mod Measured
