@@ -21,7 +21,8 @@ module _ (asked : tie.After-start-refusal) (lefts rights next : List ℕ) where
   abbrev q : Tables
   q = let a = start .args in tablesOf (a .c) lefts rights (a .labels .now) (a .marks .now) next
 
-  found : (let a = start .args in Measures (a .t) q → asked .start-refusal .result ≡ pushRefusal q (amongMany (a .c) (a .t) (a .task)) (a .r) (a .side) (a .slot))
+  found : (let a = start .args in Measures (a .t) q
+      → asked .start-refusal .result ≡ pushRefusal q (amongMany (a .c) (a .t) (a .task)) (a .r) (a .side) (a .slot))
   found m =
       let a = start .args in
       let marks = asked .before .before in

@@ -23,7 +23,8 @@ passed : (c : tie.Else1) → (let a = c .before .before .args in
     ≡ first (rule 13 (not (ltb (a .task) (a .c .tasks))) ∷ []))
 passed c =
     let a = c .before .before .args in
-    first-passed (tableRules (a .c) (tablesFit (a .c) (a .t))) (rule 13 (not (ltb (a .task) (a .c .tasks))) ∷ []) refl (sym (c .before .table-refusal .ensures) ∙ c .if1 .left)
+    first-passed (tableRules (a .c) (tablesFit (a .c) (a .t))) (rule 13 (not (ltb (a .task) (a .c .tasks))) ∷ []) refl
+    (sym (c .before .table-refusal .ensures) ∙ c .if1 .left)
 
 returns-2 : tie.Need-returns-2
 unfolding admission
