@@ -3,6 +3,7 @@
 //! its steps back asks for the row.
 use model::Control;
 use model::Record;
+use sound::Lengths;
 use sound::admission;
 use word::Anchor;
 use word::Link;
@@ -151,16 +152,15 @@ pub fn refusal(
         (tablesOf c (now (lefts .entry)) (now (rights .entry)) (now (labels .entry)) (now (marks .entry)) (now (next .entry)))
         (record { enough = leb (c .tasks) records; known = ltb task (c .tasks) }) r ⌝ }
 {
-    let why = admission::admit(
-        c,
+    let t = Lengths {
         records,
-        task,
-        lefts.len(),
-        rights.len(),
-        labels.len(),
-        marks.len(),
-        next.len(),
-    );
+        lefts: lefts.len(),
+        rights: rights.len(),
+        labels: labels.len(),
+        marks: marks.len(),
+        next: next.len(),
+    };
+    let why = admission::admit(c, task, t);
     if why != 0 {
         return why;
     }
