@@ -4,7 +4,7 @@ use mathlib.Core.Bool.{Bool, true, false, _&&_, _||_, not, cond, and-eq-true-iff
 use Prim.Native.Nat.{ℕ, suc, _+_, _≤_, _<_}
 use native.Mathlib.Nat.{le-antisymm}
 use native.Mathlib.Omega.{arith}
-use lib.Dec.{eqb, ltb}
+use lib.Dec.{eqb, leb, ltb}
 use borrow.Author.Tests.{eqb-true, eqb-false, ne-eqb, leb-true}
 use Rattle.word.specs.Anchor.{anchorOf, packAnchor}
 use Rattle.word.specs.Link.{linkOf}
@@ -13,9 +13,9 @@ use Rattle.model.specs.declared.Record.{Record}
 use Rattle.model.specs.Tables.{isPooled}
 use Rattle.model.specs.Sound.{anchorSound, recordSound}
 use Rattle.model.specs.Places.{Touch, nothing, setAnchor, Move, sideOf}
-use Rattle.model.specs.Places.{at1, at2, at3, at4, at5, at6, at7, at9, at10, at11, at12, at13, at14, at15, at16, at17, move}
+use Rattle.model.specs.Places.{at1, at2, at3, new4, at4, at5, at6, at7, at9, at10, at11, at12, at13, at14, at15, at16, at17, move}
 use Rattle.model.specs.Refusals.{leavesSound, hasRoom}
-use Rattle.model.specs.Sides.{facing}
+use Rattle.model.specs.Sides.{facing, far, pushing}
 use Rattle.model.specs.Kinds.{isPush}
 use Rattle.model.proofs.tests.Truth.{by-test, either, or-first}
 use Rattle.asking.specs.Asked.{newAnchor, changeSound}
@@ -27,11 +27,11 @@ alone : (b : Bool) → b && true ≡ b
 alone true = refl
 alone false = refl
 
--- Equal ends are the same from either side.
-both : (b : Bool) (t s x : ℕ) → packAnchor (record { tag = t; status = s; left = x; right = x })
-    ≡ packAnchor (record { tag = t; status = s; left = cond b x x; right = cond b x x })
-both true t s x = refl
-both false t s x = refl
+-- The Anchor of a push, or of a pop, with its status and its end chosen first.
+chosen : (push : Bool) (d t p s o n f : ℕ) → packAnchor (facing d t (cond push p s) (cond push o n) f)
+    ≡ cond push (packAnchor (facing d t p o f)) (packAnchor (facing d t s n f))
+chosen true d t p s o n f = refl
+chosen false d t p s o n f = refl
 
 module _ (c : Control) (r : Record) (w : ℕ) where
   abbrev room : Bool
@@ -85,21 +85,30 @@ module _ (c : Control) (r : Record) (w : ℕ) where
   is : {p : ℕ} → r .place ≡ p → (k : ℕ) → eqb (r .place) k ≡ eqb p k
   is e k = ap (λ n. eqb n k) e
 
+  -- Before 5 the side is the task's.
+  own-side : {p : ℕ} → r .place ≡ p → leb 5 p && leb p 10 ≡ false → sideOf r ≡ r .side
+  unfolding sideOf
+  own-side e out = rw (e, out)
+
   two : r .place ≡ 2 → Told (at2 c r)
   unfolding at2 newAnchor
   two e =
       let a = anchorOf (r .seen) in
       let end : ℕ = cond (isPush r) (r .own) 0 in
       anchors 2 (packAnchor (facing (sideOf r) (a .tag + 1) (a .status) end end)) _ _ _ e (alone onAnchor)
-      (rw (is e 4, is e 2) (both (eqb (sideOf r) 1) (a .tag + 1) (a .status) end))
+      (rw (is e 2, own-side e refl))
 
   three : r .place ≡ 3 → Told (at3 r w)
   unfolding at3
   three e = either Told (isPush r) (here 3 e refl ∙ sym (or-first room (is e 3))) (here 3 e refl)
 
   four : r .place ≡ 4 → Told (at4 c r)
-  unfolding at4 newAnchor
-  four e = anchors 4 _ _ _ _ e (alone onAnchor) (rw (is e 4))
+  unfolding at4 new4 newAnchor
+  four e =
+      let a = anchorOf (r .seen) in
+      anchors 4 _ _ _ _ e (alone onAnchor)
+      (rw (is e 2, is e 4, own-side e refl)
+      (chosen (isPush r) (r .side) (a .tag + 1) (pushing (r .side)) (a .status) (r .own) (r .neighbour) (far (r .side) a)))
 
   nine : r .place ≡ 9 → Told (at9 r w)
   unfolding at9
@@ -107,7 +116,7 @@ module _ (c : Control) (r : Record) (w : ℕ) where
 
   ten : r .place ≡ 10 → Told (at10 c r)
   unfolding at10 newAnchor
-  ten e = anchors 10 _ _ _ _ e (alone onAnchor) (rw (is e 4, is e 2))
+  ten e = anchors 10 _ _ _ _ e (alone onAnchor) (rw (is e 2, is e 4))
 
   eleven : r .place ≡ 11 → Told (at11 c r w)
   unfolding at11

@@ -1,22 +1,16 @@
 -- What a step asks of the change that it would make, as the code asks it.
 use mathlib.Core.Bool.{Bool, _&&_, cond}
-use Prim.Native.Nat.{ℕ, _+_}
+use Prim.Native.Nat.{ℕ}
 use lib.Dec.{eqb}
-use Rattle.word.specs.Anchor.{anchorOf, packAnchor}
 use Rattle.model.specs.declared.Control.{Control}
 use Rattle.model.specs.declared.Record.{Record}
-use Rattle.model.specs.Places.{new4, move}
+use Rattle.model.specs.Places.{move}
 use Rattle.model.specs.Refusals.{leavesSound, hasRoom}
-use Rattle.model.specs.Kinds.{isPush}
+use Rattle.decide.specs.Decided.{new2, new4, new10}
 
--- The Anchor that a change makes at 4, at 2, and at 10.
+-- The Anchor that a change makes at 2, at 4, and at 10.
 unfoldable pub newAnchor : Record → ℕ
-newAnchor r =
-    let a = anchorOf (r .seen) in
-    let end : ℕ = cond (isPush r) (r .own) 0 in
-    cond (eqb (r .place) 4) (new4 r)
-    (cond (eqb (r .place) 2) (packAnchor (record { tag = a .tag + 1; status = a .status; left = end; right = end }))
-    (packAnchor (record { tag = a .tag + 1; status = 0; left = a .left; right = a .right })))
+newAnchor r = cond (eqb (r .place) 2) (new2 r) (cond (eqb (r .place) 4) (new4 r) (new10 r))
 
 -- The change that the place of a record makes leaves Anchor sound and raises no tag past 32 bits.
 unfoldable pub changeSound : Control → Record → ℕ → Bool

@@ -3,17 +3,17 @@
 //! its steps back asks for the row.
 use model::Control;
 use model::Record;
+use sound::Lengths;
 use sound::admission;
 use word::Anchor;
 use word::Link;
 ghost use mathlib.Core.Path.{_≡_};
-ghost use mathlib.Core.Bool.{cond};
 ghost use mathlib.Core.List.{List};
 ghost use Prim.Native.Nat.{ℕ, _<_, _≤_};
 ghost use lib.Dec.{eqb, leb, ltb};
 ghost use Rattle.word.specs.Link.{linkOf};
 ghost use Rattle.model.specs.Tables.{tablesOf};
-ghost use Rattle.model.specs.Places.{sideOf, endSeen, row, wordFound, new4};
+ghost use Rattle.model.specs.Places.{sideOf, endSeen, row, wordFound};
 ghost use Rattle.model.specs.Refusals.{stepSound, stepRefusal};
 ghost use Rattle.asking.specs.Asked.{newAnchor, changeSound};
 
@@ -90,55 +90,17 @@ fn found(r: Record, lefts: &[u64], rights: &[u64], labels: &[u32], next: &[u64])
     table::word_at(lefts, x)
 }
 
-fn choose(b: bool, x: u64, y: u64) -> u64
-    ensures { λ r. ⌜ r ≡ cond b x y ⌝ }
-{
-    if b { x } else { y }
-}
-
-/// The Anchor that a change at 4 makes.
-fn new_four(r: Record) -> u64
-    ensures { λ w. ⌜ (sideOf r ≡ r .side → w ≡ new4 r) ⌝ }
-{
-    let a = Anchor::unpack(r.seen);
-    let push = r.kind == 0;
-    let right = r.side == 1;
-    let pushing = choose(right, 1, 2);
-    let end = choose(push, r.own, r.neighbour);
-    let new = Anchor {
-        tag: a.tag + 1,
-        status: choose(push, pushing, a.status),
-        left: choose(right, a.left, end),
-        right: choose(right, end, a.right),
-    };
-    new.pack()
-}
-
 /// The Anchor that a change at 2, 4 or 10 makes.
 fn new_anchor(r: Record) -> u64
     ensures { λ w. ⌜ w ≡ newAnchor r ⌝ }
 {
-    if r.place == 4 {
-        return new_four(r);
-    }
-    let a = Anchor::unpack(r.seen);
     if r.place == 2 {
-        let end = choose(r.kind == 0, r.own, 0);
-        let new = Anchor {
-            tag: a.tag + 1,
-            status: a.status,
-            left: end,
-            right: end,
-        };
-        return new.pack();
+        return decide::new2(r);
     }
-    let new = Anchor {
-        tag: a.tag + 1,
-        status: 0,
-        left: a.left,
-        right: a.right,
-    };
-    new.pack()
+    if r.place == 4 {
+        return decide::new4(r);
+    }
+    decide::new10(r)
 }
 
 /// Whether the change at 2, 4 or 10, at 9, or at 14 or 17 leaves Anchor sound and raises no tag past 32 bits; w is the
@@ -190,16 +152,15 @@ pub fn refusal(
         (tablesOf c (now (lefts .entry)) (now (rights .entry)) (now (labels .entry)) (now (marks .entry)) (now (next .entry)))
         (record { enough = leb (c .tasks) records; known = ltb task (c .tasks) }) r ⌝ }
 {
-    let why = admission::admit(
-        c,
+    let t = Lengths {
         records,
-        task,
-        lefts.len(),
-        rights.len(),
-        labels.len(),
-        marks.len(),
-        next.len(),
-    );
+        lefts: lefts.len(),
+        rights: rights.len(),
+        labels: labels.len(),
+        marks: marks.len(),
+        next: next.len(),
+    };
+    let why = admission::admit(c, task, t);
     if why != 0 {
         return why;
     }

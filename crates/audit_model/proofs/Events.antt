@@ -7,10 +7,8 @@ use Prim.Native.Nat.{ℕ, suc, _<_, _≤_}
 use native.Mathlib.Omega.{arith}
 use lib.Dec.{eqb}
 use borrow.Author.Tests.{eqb-true}
-use Rattle.model.specs.declared.Answer.{Answer}
+use Rattle.model.specs.declared.{Answer.Answer, Entry.Entry, Op.Op}
 use Rattle.model.specs.declared.Answer.the-variants.{Running, Pushed, Empty, Popped, NoSlot}
-use Rattle.model.specs.declared.Entry.{Entry}
-use Rattle.model.specs.declared.Op.{Op}
 use Rattle.model.specs.declared.Op.the-variants.{Push, Pop, Put, Step}
 use Rattle.model.specs.Calls.{Acted, Done, act, actOn, back, finish, popStart, pushStart, putStart, step}
 use Rattle.model.specs.Refusals.{among, popRefusal, pushRefusal, putRefusal, stepRefusal}
@@ -21,9 +19,8 @@ use Rattle.model.proofs.tests.Truth.{by-test}
 use Rattle.model.proofs.bridge.Accepted.{pop-accepted, push-accepted, put-accepted}
 use Rattle.model.proofs.machine.Machine as M
 use Rattle.model.proofs.bridge.View.{stateOf}
-use Rattle.model.proofs.ledger.EveryOperation.{act-good}
+use Rattle.model.proofs.ledger.{EveryOperation.act-good, Matches.opens}
 use Rattle.model.proofs.ledger.Matched.{Matched, busyNo}
-use Rattle.model.proofs.ledger.Matches.{opens}
 use Rattle.model.specs.Lists.{All}
 use Rattle.audit_model.proofs.Lists.{Pairs, all-map, all-both}
 use Rattle.audit_model.proofs.Replayed.{attend-all}

@@ -7,16 +7,11 @@ use native.Mathlib.Omega.{arith}
 use lib.ListN.{length, length-map}
 use borrow.Author.Tests.{eq-eqb, le-leb, ne-eqb}
 use Rattle.model.specs.declared.Entry.{Entry}
-use Rattle.model.specs.Calls.{opened}
+use Rattle.model.specs.{Calls.opened, Refusals.openRefusal, Sound.from1, Tables.Queue, Lists.All}
 use Rattle.model.specs.History.{Call, Lawful, Request, ledger, run}
-use Rattle.model.specs.Refusals.{openRefusal}
-use Rattle.model.specs.Sound.{from1}
-use Rattle.model.specs.Tables.{Queue}
-use Rattle.model.proofs.Linearizable.{linearized}
-use Rattle.model.proofs.Openings.{after-opening}
+use Rattle.model.proofs.{Linearizable.linearized, Openings.after-opening}
 use Rattle.model.proofs.tests.Truth.{and-of}
 use Rattle.model.proofs.ledger.Opened as start
-use Rattle.model.specs.Lists.{All}
 use Rattle.audit_model.specs.declared.Finished.{Finished}
 use Rattle.audit_model.specs.declared.Verdict.the-variants.{Passed}
 use Rattle.audit_model.specs.Audit.{accepted, allOf, apart, differ, notEarlier, numbered, rearranges, replay, verdict, wellFormed}

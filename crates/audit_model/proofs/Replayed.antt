@@ -4,13 +4,9 @@ use mathlib.Core.List.{List, [], _∷_, _++_, append-assoc}
 use mathlib.Core.Path.{_≡_, refl, sym, ap, _∙_, subst}
 use Prim.Native.Nat.{ℕ, suc, _<_, _≤_}
 use native.Mathlib.Omega.{arith}
-use lib.Dec.{eqb}
-use lib.ListN.{length}
-use Rattle.model.specs.declared.Answer.{Answer}
-use Rattle.model.specs.declared.Entry.{Entry}
-use Rattle.model.specs.declared.Op.{Op}
+use lib.{Dec.eqb, ListN.length}
+use Rattle.model.specs.declared.{Answer.Answer, Entry.Entry, Op.Op, Outcome.Outcome}
 use Rattle.model.specs.declared.Op.the-variants.{Push, Pop, Put, Step}
-use Rattle.model.specs.declared.Outcome.{Outcome}
 use Rattle.model.specs.declared.Outcome.the-variants.{Refused, Moved}
 use Rattle.model.specs.Deque.{Served, saysNoSlot, serve, serveFor, servePop, servePush, takeFirst, seenFrom}
 use Rattle.model.specs.History.{Call, Effect, Ending, Event, Ledger}

@@ -6,9 +6,7 @@ use native.Mathlib.Omega.{arith}
 use lib.ListN.{length, getD}
 use Rattle.audit_model.specs.declared.Finished.{Finished}
 use Rattle.model.specs.History.{AfterOpening, Call, Request, ledger, run}
-use Rattle.model.specs.Calls.{openAs}
-use Rattle.model.specs.Tables.{Queue}
-use Rattle.model.specs.Lists.{All}
+use Rattle.model.specs.{Calls.openAs, Tables.Queue, Lists.All}
 use Rattle.audit_model.specs.declared.Verdict.the-variants.{Passed}
 use Rattle.audit_model.specs.Audit.{verdict}
 use Rattle.audit_model.specs.Written.{IsAnswered, effectOrder, finished}

@@ -1,7 +1,6 @@
 -- A call that took effect once, and how it is written down.
-use mathlib.Core.Bool.{true}
+use mathlib.Core.{Bool.true, Logic._≢_}
 use mathlib.Core.List.{[], _∷_}
-use mathlib.Core.Logic.{_≢_}
 use mathlib.Core.Path.{_≡_, refl, sym, subst, _∙_}
 use Prim.Native.Nat.{ℕ, _<_, _≤_}
 use native.Mathlib.Omega.{arith}

@@ -5,15 +5,13 @@ use mathlib.Core.Path.{_≡_, refl, sym, ap, _∙_, subst}
 use Prim.Native.Nat.{ℕ}
 use lib.Dec.{eqb}
 use borrow.Author.Tests.{eq-eqb}
-use Rattle.model.specs.declared.Answer.{Answer}
+use Rattle.model.specs.declared.{Answer.Answer, Entry.Entry}
 use Rattle.model.specs.declared.Answer.the-variants.{Running, Pushed, Empty, Popped, NoSlot}
-use Rattle.model.specs.declared.Entry.{Entry}
 use Rattle.model.specs.Deque.{Served, saysNoSlot, seenFrom, serve, serveFor, servePop, servePush, takeFirst}
 use Rattle.audit_model.specs.declared.Finished.{Finished}
 use Rattle.audit_model.specs.Audit.{Given, agrees, gives, serveLabel, takeLabel}
-use Rattle.audit_model.proofs.Taken.{Taken}
+use Rattle.audit_model.proofs.{Taken.Taken, Replayed.servedIn}
 use Rattle.audit_model.proofs.Settled.{Suits, SuitsReply}
-use Rattle.audit_model.proofs.Replayed.{servedIn}
 
 abbrev pub labelsOf : List Entry → List ℕ
 labelsOf l = map (λ (e : Entry). e .label) l

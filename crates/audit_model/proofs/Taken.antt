@@ -3,10 +3,8 @@ use mathlib.Core.Bool.{Bool, true, false, cond}
 use mathlib.Core.List.{List, [], _∷_, map}
 use mathlib.Core.Path.{_≡_, refl, sym, ap, _∙_}
 use Prim.Native.Nat.{ℕ}
-use lib.Dec.{ltb}
-use lib.ListN.{length}
-use Rattle.model.specs.declared.Answer.{Answer}
-use Rattle.model.specs.declared.Entry.{Entry}
+use lib.{Dec.ltb, ListN.length}
+use Rattle.model.specs.declared.{Answer.Answer, Entry.Entry}
 use Rattle.model.specs.History.{Call, Effect}
 use Rattle.audit_model.specs.Written.{Placed, effectOrder, effectsOf, insert, insertAll}
 

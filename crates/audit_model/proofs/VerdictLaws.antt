@@ -7,27 +7,13 @@ use native.Mathlib.Omega.{arith}
 use lib.Dec.{eqb, leb}
 use lib.ListN.{length}
 use borrow.Author.Tests.{eqb-false, eqb-true, leb-true, not-true}
-use Rattle.model.specs.Sound.{from1}
-use Rattle.model.proofs.lists.Deque.{Distinct}
-use Rattle.model.proofs.lists.Pigeonhole.{pigeon}
+use Rattle.model.specs.{Sound.from1, Lists.All}
+use Rattle.model.proofs.lists.{Deque.Distinct, Pigeonhole.pigeon}
 use Rattle.model.proofs.tests.Truth.{and-of, and-true, by-test}
-use Rattle.model.specs.Lists.{All}
-use Rattle.audit_model.specs.declared.Finished.{Finished}
-use Rattle.audit_model.specs.declared.Verdict.{Verdict}
+use Rattle.audit_model.specs.declared.{Finished.Finished, Verdict.Verdict}
 use Rattle.audit_model.specs.declared.Verdict.the-variants.{Refused, Failed, Passed}
 use Rattle.audit_model.specs.Audit.{accepted, allOf, differ, gives, inOrder, notEarlier, pairwise, rearranges, replay, verdict}
-use Rattle.audit_model.specs.Laws.{
-  AllRight,
-  Answered,
-  EveryCallNamed,
-  FirstWrong,
-  Meaning,
-  MeaningIsTold,
-  VerdictMeans,
-  answers,
-  queueAfter,
-  right,
-}
+use Rattle.audit_model.specs.Laws.{AllRight, Answered, EveryCallNamed, FirstWrong, Meaning, MeaningIsTold, VerdictMeans, answers, queueAfter, right}
 
 -- The calls are all right, or one is the first that is not; b positions were passed.
 pub data Told (b : ℕ) (cs : List Finished) (q : List ℕ) : Verdict → Type 0 where

@@ -12,9 +12,8 @@ use Rattle.model.specs.Refusals.{openRefusal, stepSound, stepRefusal, startRefu
 use Rattle.model.specs.Calls.{opened, openAs, openPooled, openQueue, pushStart, putStart, popStart, finish, step, actOn, act}
 use Rattle.model.specs.Deque.{serve, serveFor, servePop, servePush}
 use Rattle.model.specs.History.{Call, Request, accept, attend, isEffect, ledger, ledgerFrom, note, run, stepOf}
-use Rattle.audit_model.specs.declared.Finished.{Finished}
+use Rattle.audit_model.specs.declared.{Finished.Finished, VerdictReply.VerdictReply}
 use Rattle.audit_model.specs.declared.Verdict.the-variants.{Failed, Passed, Refused}
-use Rattle.audit_model.specs.declared.VerdictReply.{VerdictReply}
 use Rattle.audit_model.specs.Audit.{accepted, agrees, apart, notEarlier, rearranges, replay, serveLabel, verdict, wellFormed}
 use Rattle.audit_model.specs.LentHistory.{verdictReply}
 use Rattle.audit_model.specs.Written.{effectOrder, finished, insert}

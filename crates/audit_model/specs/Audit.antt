@@ -4,10 +4,8 @@ use mathlib.Core.List.{List, [], _∷_, map}
 use Prim.Native.Nat.{ℕ, suc}
 use lib.Dec.{eqb, leb, ltb}
 use lib.ListN.{length, getD}
-use Rattle.model.specs.Deque.{seenFrom}
-use Rattle.model.specs.Sound.{from1}
-use Rattle.audit_model.specs.declared.Finished.{Finished}
-use Rattle.audit_model.specs.declared.Verdict.{Verdict}
+use Rattle.model.specs.{Deque.seenFrom, Sound.from1}
+use Rattle.audit_model.specs.declared.{Finished.Finished, Verdict.Verdict}
 use Rattle.audit_model.specs.declared.Verdict.the-variants.{Refused, Failed, Passed}
 
 -- Each element passes a test; each passes it against every later one.

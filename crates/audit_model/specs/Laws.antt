@@ -4,8 +4,7 @@ use mathlib.Core.List.{List, [], _∷_, _++_}
 use mathlib.Core.Path.{_≡_}
 use Prim.Native.Nat.{ℕ, zero, suc, _≤_}
 use lib.ListN.{length}
-use Rattle.audit_model.specs.declared.Finished.{Finished}
-use Rattle.audit_model.specs.declared.Verdict.{Verdict}
+use Rattle.audit_model.specs.declared.{Finished.Finished, Verdict.Verdict}
 use Rattle.audit_model.specs.declared.Verdict.the-variants.{Refused, Failed, Passed}
 use Rattle.audit_model.specs.Audit.{accepted, agrees, allOf, differ, gives, inOrder, notEarlier, pairwise, rearranges, verdict}
 

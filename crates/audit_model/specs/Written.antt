@@ -1,18 +1,13 @@
 -- A list of demand 3 written as a history: its places as events, its effects as the order. (Document 02: #103.)
-use mathlib.Core.Path.{_≡_}
-use mathlib.Core.Bool.{cond}
+use mathlib.Core.{Path._≡_, Bool.cond}
 use mathlib.Core.List.{List, [], _∷_, map, reverse}
 use Prim.Native.Nat.{ℕ, _≤_}
-use lib.Dec.{ltb}
-use lib.ListN.{length}
-use Rattle.model.specs.declared.Answer.{Answer}
+use lib.{Dec.ltb, ListN.length}
+use Rattle.model.specs.declared.{Answer.Answer, Entry.Entry}
 use Rattle.model.specs.declared.Answer.the-variants.{Running, Pushed, Empty, Popped, NoSlot}
-use Rattle.model.specs.declared.Entry.{Entry}
 use Rattle.model.specs.declared.Outcome.the-variants.{Moved}
-use Rattle.model.specs.Calls.{replyOf}
-use Rattle.model.specs.Tables.{Queue}
+use Rattle.model.specs.{Calls.replyOf, Tables.Queue, Lists.All}
 use Rattle.model.specs.History.{AfterOpening, Call, Effect, Ending, Request, answered, ledger, pending, run}
-use Rattle.model.specs.Lists.{All}
 use Rattle.audit_model.specs.declared.Finished.{Finished}
 use Rattle.audit_model.specs.declared.Verdict.the-variants.{Passed}
 use Rattle.audit_model.specs.Audit.{nobody, verdict}

@@ -1,6 +1,7 @@
 // An opening, of a pooled queue or of a named one: all of it but the records, which the caller zeroes.
 use model::Control;
 use model::Opening;
+use sound::Lengths;
 use word::Anchor;
 ghost use mathlib.Core.Path.{_≡_};
 ghost use mathlib.Core.Bool.{_&&_, cond};
@@ -17,19 +18,8 @@ pub struct OpenedTables {
     pub outcome: Opening,
 }
 
-fn open_refusal(
-    pooled: bool,
-    tasks: u64,
-    slots: u64,
-    records: usize,
-    lefts: usize,
-    rights: usize,
-    labels: usize,
-    marks: usize,
-    next: usize,
-) -> u32
-    ensures { λ n.
-        ⌜ n ≡ openingRefusal tasks slots (lengthsFit pooled slots lefts rights labels marks next && leb tasks records) ⌝ }
+fn open_refusal(pooled: bool, tasks: u64, slots: u64, t: Lengths) -> u32
+    ensures { λ n. ⌜ n ≡ openingRefusal tasks slots (lengthsFit pooled slots t && leb tasks (t .records)) ⌝ }
 {
     if !sound::from1(16, tasks) {
         return 10;
@@ -37,8 +27,8 @@ fn open_refusal(
     if !sound::from1(1023, slots) {
         return 11;
     }
-    let fits = sound::rows_fit(pooled, slots, lefts, rights, labels, marks, next);
-    let enough = tasks <= records as u64;
+    let fits = sound::rows_fit(pooled, slots, t);
+    let enough = tasks <= t.records as u64;
     if !(fits & enough) {
         return 12;
     }
@@ -91,17 +81,15 @@ pub fn open_tables(
         (tablesOf c (now (lefts .entry)) (now (rights .entry)) (now (labels .entry)) (now (marks .entry)) (now (next .entry)))
         records tasks slots tag) ⌝ }
 {
-    let why = open_refusal(
-        pooled,
-        tasks,
-        slots,
+    let t = Lengths {
         records,
-        lefts.len(),
-        rights.len(),
-        labels.len(),
-        marks.len(),
-        next.len(),
-    );
+        lefts: lefts.len(),
+        rights: rights.len(),
+        labels: labels.len(),
+        marks: marks.len(),
+        next: next.len(),
+    };
+    let why = open_refusal(pooled, tasks, slots, t);
     if why != 0 {
         return OpenedTables {
             control: c,

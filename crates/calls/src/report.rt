@@ -3,6 +3,7 @@ use model::Control;
 use model::Record;
 use model::Report;
 use model::Reported;
+use sound::Lengths;
 use sound::admission;
 use walk::Tally;
 use word::Anchor;
@@ -48,16 +49,15 @@ pub fn told(
         (leb (c .tasks) records)
         busy ⌝ }
 {
-    let enough = c.tasks <= records as u64;
-    let why = admission::table_refusal(
-        c,
-        enough,
-        lefts.len(),
-        rights.len(),
-        labels.len(),
-        marks.len(),
-        next.len(),
-    );
+    let t = Lengths {
+        records,
+        lefts: lefts.len(),
+        rights: rights.len(),
+        labels: labels.len(),
+        marks: marks.len(),
+        next: next.len(),
+    };
+    let why = admission::table_refusal(c, t);
     if why != 0 {
         return Reported::Refused(why);
     }

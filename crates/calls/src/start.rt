@@ -1,15 +1,18 @@
 // The starts of a push that names its slot, of one that names none, and of a pop.
 use crate::refusal;
 use model::Answer;
+use model::Asked;
 use model::Control;
 use model::Outcome;
 use model::Record;
 use model::Transition;
+use sound::Lengths;
 ghost use mathlib.Core.Path.{_≡_};
+ghost use mathlib.Core.List.{List};
 ghost use Prim.Native.Nat.{ℕ};
-ghost use lib.Dec.{ltb, leb};
 ghost use Rattle.model.specs.Tables.{tablesOf, newCall};
 ghost use Rattle.model.specs.Calls.{pushStart, putStart, popStart};
+ghost use Rattle.sound.specs.Lengths.{Measures, amongMany};
 ghost use Rattle.table.specs.Lent.{withTables};
 ghost use Rattle.calls.specs.Starting.{decided};
 
@@ -52,39 +55,18 @@ fn decided(c: Control, r: Record, why: u32, task: Record) -> Transition
     }
 }
 
-pub fn pop_start(
-    c: Control,
-    r: Record,
-    records: usize,
-    task: usize,
-    side: u64,
-    lefts: &[u64],
-    rights: &[u64],
-    labels: &[u32],
-    marks: &[u64],
-    next: &[u64],
-) -> Transition
+pub fn pop_start(c: Control, r: Record, task: usize, side: u64, t: Lengths) -> Transition
     ensures { λ m.
-        ⌜ ((retries : ℕ) → withTables m (now (lefts .entry)) (now (rights .entry)) (now (labels .entry)) (now (marks .entry)) (now (next .entry)) retries
-        ≡ popStart
-        (tablesOf c (now (lefts .entry)) (now (rights .entry)) (now (labels .entry)) (now (marks .entry)) (now (next .entry)))
-        (record { enough = leb (c .tasks) records; known = ltb task (c .tasks) })
-        (record { call = r; retries = retries }) side) ⌝ }
+        ⌜ ((lefts rights labels marks next : List ℕ) (retries : ℕ) → (let q = tablesOf c lefts rights labels marks next in
+        Measures t q → withTables m lefts rights labels marks next retries
+        ≡ popStart q (amongMany c t task) (record { call = r; retries = retries }) side)) ⌝ }
 {
-    let enough = c.tasks <= records as u64;
-    let known = (task as u64) < c.tasks;
-    let why = refusal::pop_refusal(
-        c,
-        r,
-        enough,
-        known,
-        side,
-        lefts,
-        rights,
-        labels,
-        marks,
-        next,
-    );
+    let asked = Asked {
+        wrong: false,
+        outside: false,
+        taken: false,
+    };
+    let why = refusal::start_refusal(c, r, task, side, asked, t);
     let pop = new_call(1, 1, side, 0, 0);
     decided(c, r, why, pop)
 }
@@ -93,37 +75,22 @@ pub fn pop_start(
 pub fn put_start(
     c: Control,
     r: Record,
-    records: usize,
     task: usize,
     side: u64,
     label: u32,
-    lefts: &[u64],
-    rights: &[u64],
-    labels: &[u32],
-    marks: &[u64],
-    next: &[u64],
+    t: Lengths,
 ) -> Transition
     ensures { λ m.
-        ⌜ ((retries : ℕ) → withTables m (now (lefts .entry)) (now (rights .entry)) (now (labels .entry)) (now (marks .entry)) (now (next .entry)) retries
-        ≡ putStart
-        (tablesOf c (now (lefts .entry)) (now (rights .entry)) (now (labels .entry)) (now (marks .entry)) (now (next .entry)))
-        (record { enough = leb (c .tasks) records; known = ltb task (c .tasks) })
-        (record { call = r; retries = retries }) side label) ⌝ }
+        ⌜ ((lefts rights labels marks next : List ℕ) (retries : ℕ) → (let q = tablesOf c lefts rights labels marks next in
+        Measures t q → withTables m lefts rights labels marks next retries
+        ≡ putStart q (amongMany c t task) (record { call = r; retries = retries }) side label)) ⌝ }
 {
-    let enough = c.tasks <= records as u64;
-    let known = (task as u64) < c.tasks;
-    let why = refusal::put_refusal(
-        c,
-        r,
-        enough,
-        known,
-        side,
-        lefts,
-        rights,
-        labels,
-        marks,
-        next,
-    );
+    let asked = Asked {
+        wrong: c.pooled != 1,
+        outside: false,
+        taken: false,
+    };
+    let why = refusal::start_refusal(c, r, task, side, asked, t);
     let push = new_call(12, 0, side, 0, label);
     decided(c, r, why, push)
 }
@@ -131,39 +98,27 @@ pub fn put_start(
 pub fn push_start(
     c: Control,
     r: Record,
-    records: usize,
     task: usize,
     side: u64,
     slot: u64,
     label: u32,
-    lefts: &[u64],
-    rights: &[u64],
+    t: Lengths,
     labels: &mut [u32],
     marks: &mut [u64],
-    next: &[u64],
 ) -> Transition
     ensures { λ m.
-        ⌜ ((retries : ℕ) → withTables m (now (lefts .entry)) (now (rights .entry)) (now (labels .exit)) (now (marks .exit)) (now (next .entry)) retries
-        ≡ pushStart
-        (tablesOf c (now (lefts .entry)) (now (rights .entry)) (now (labels .entry)) (now (marks .entry)) (now (next .entry)))
-        (record { enough = leb (c .tasks) records; known = ltb task (c .tasks) })
-        (record { call = r; retries = retries }) side slot label) ⌝ }
+        ⌜ ((lefts rights next : List ℕ) (retries : ℕ) → (let q = tablesOf c lefts rights (now (labels .entry)) (now (marks .entry)) next in
+        Measures t q → withTables m lefts rights (now (labels .exit)) (now (marks .exit)) next retries
+        ≡ pushStart q (amongMany c t task) (record { call = r; retries = retries }) side slot label)) ⌝ }
 {
-    let enough = c.tasks <= records as u64;
-    let known = (task as u64) < c.tasks;
-    let why = refusal::push_refusal(
-        c,
-        r,
-        enough,
-        known,
-        side,
-        slot,
-        lefts,
-        rights,
-        labels,
-        marks,
-        next,
-    );
+    let inside = sound::from1(c.slots, slot);
+    let taken = table::marked(marks, slot);
+    let asked = Asked {
+        wrong: c.pooled == 1,
+        outside: !inside,
+        taken,
+    };
+    let why = refusal::start_refusal(c, r, task, side, asked, t);
     let push = new_call(1, 0, side, slot, label);
     if why != 0 {
         return decided(c, r, why, push);

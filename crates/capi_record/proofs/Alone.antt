@@ -3,7 +3,6 @@ use mathlib.Core.Path.{_≡_, sym, ap, _∙_}
 use mathlib.Core.Bool.{Bool}
 use mathlib.Core.List.{List}
 use Prim.Native.Nat.{ℕ}
-use lib.ListN.{length}
 use Rattle.model.specs.declared.Control.{Control}
 use Rattle.model.specs.declared.Outcome.{Outcome}
 use Rattle.model.specs.declared.Outcome.the-variants.{Refused}
@@ -12,7 +11,7 @@ use Rattle.model.specs.Tables.{Tables, isPooled, tablesOf}
 use Rattle.model.specs.Sound.{rowsFit}
 use Rattle.model.specs.Refusals.{alone}
 use Rattle.model.specs.Calls.{stepLent, replyOf}
-use Rattle.sound.specs.Lengths.{lengthsFit}
+use Rattle.sound.specs.Lengths.{lengthsOf, lengthsFit}
 use Rattle.model.specs.Refusals.{admission}
 use Rattle.engine.proofs.InParts.{turned-away, admitted}
 use Rattle.rows.specs.Rows.{controlOf, recordOf, upperOf}
@@ -25,7 +24,7 @@ module _ (ws row lefts rights labels marks next : List ℕ) (c : Control) (ec : 
 
   -- Whether tables of these lengths are long enough for a control.
   abbrev fit : Control → Bool
-  fit d = lengthsFit (isPooled d) (d .slots) (length lefts) (length rights) (length labels) (length marks) (length next)
+  fit d = lengthsFit (isPooled d) (d .slots) (lengthsOf before 1)
 
   abbrev Replies : Tables → List ℕ → Reply → Type 0
   Replies q′ row′ n =

@@ -1,6 +1,7 @@
 //! The step of one lent record for C and Rust. It has an archive of its own: a step that two calls
 //! of one archive share is compiled once and not into either, which makes both slower.
 use model::Reply;
+use sound::Lengths;
 use sound::admission;
 ghost use mathlib.Core.Path.{_≡_};
 ghost use Rattle.model.specs.Tables.{tablesOf};
@@ -35,14 +36,15 @@ pub extern "C" fn zc_step_record(
 {
     let words = *control;
     let c = rows::control_of(words);
-    let why = admission::admit_alone(
-        c,
-        lefts.len(),
-        rights.len(),
-        labels.len(),
-        marks.len(),
-        next.len(),
-    );
+    let t = Lengths {
+        records: 1,
+        lefts: lefts.len(),
+        rights: rights.len(),
+        labels: labels.len(),
+        marks: marks.len(),
+        next: next.len(),
+    };
+    let why = admission::admit_alone(c, t);
     if why != 0 {
         let o = engine::refuse(why);
         return engine::reply(o);

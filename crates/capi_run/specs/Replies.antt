@@ -1,14 +1,10 @@
 -- The answer of a run of steps in numbers, beside what each lent table then holds. The upper half of the label's word is in no field:
 -- the step that ends the call zeroes it with the record.
-use mathlib.Core.Bool.{cond}
-use mathlib.Core.List.{List}
+use mathlib.Core.{Bool.cond, List.List}
 use Prim.Native.Nat.{ℕ}
 use lib.ListN.{set}
 use Rattle.model.specs.declared.Outcome.{Outcome}
-use Rattle.model.specs.Tables.{Queue}
-use Rattle.model.specs.Calls.{replyOf}
-use Rattle.model.specs.Ends.{endsCall}
-use Rattle.model.specs.Solo.{SoloDone}
+use Rattle.model.specs.{Tables.Queue, Calls.replyOf, Ends.endsCall, Solo.SoloDone}
 use Rattle.capi_run.specs.declared.RunReply.{RunReply}
 
 abbrev pub runReplyOf : Outcome → ℕ → RunReply

@@ -6,17 +6,13 @@ use mathlib.Core.List.{List, [], _∷_, append-nil}
 use lib.Dec.{leb, eqb}
 use lib.ListN.{length}
 use borrow.Author.Tests.{leb-true, le-leb}
-use Rattle.model.specs.declared.Control.{Control}
-use Rattle.model.specs.declared.Outcome.{Outcome}
-use Rattle.model.specs.declared.TaskRecord.{TaskRecord}
-use Rattle.model.specs.declared.Op.{Op}
+use Rattle.model.specs.declared.{Control.Control, Outcome.Outcome, TaskRecord.TaskRecord, Op.Op}
 use Rattle.model.specs.declared.Opening.the-variants as opening
 use Rattle.model.specs.Tables.{Tables, Queue, queueOf, unused}
-use Rattle.model.specs.Refusals.{openRefusal}
+use Rattle.model.specs.{Refusals.openRefusal, Lists.zeroed}
 use Rattle.model.specs.Calls.{Done, OpenDone, act, openAs}
 use Rattle.model.specs.Calls as calls
 use Rattle.model.specs.History.{run, final}
-use Rattle.model.specs.Lists.{zeroed}
 use Rattle.rows.specs.Rows.{controlOf, recordsOf, queueIn}
 use Rattle.calls.specs.Opening.{OpenedParts, manyRecords, openTables, whole}
 use Rattle.calls.proofs.Openings.{open-parts}

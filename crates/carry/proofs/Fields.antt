@@ -9,10 +9,9 @@ use lib.ListN.{length, take, drop, getD, length-drop}
 use lib.Seq.{slice, take-add, drop-at, drop-drop, length-take-le}
 use borrow.Author.Tests.{eqb-true}
 use Rattle.runfile.specs.Field.{twoAt, formed, contentOf, fieldOf}
-use Rattle.runfile.specs.declared.Field.{Field}
+use Rattle.runfile.specs.declared.{Field.Field, Found.Found}
 use Rattle.runfile.specs.declared.Field.the-variants.{Each}
 use Rattle.model.specs.declared.Op.{Op}
-use Rattle.runfile.specs.declared.Found.{Found}
 use Rattle.runfile.proofs.Prefix.{Seen, seen, ended, cut, wrong, whole, formed-most, formed-push, formed-pop, formed-put}
 use Rattle.carry.specs.Page.{Page, written, carries, moved, fieldRoom, takes, BytesThere}
 use Rattle.carry.proofs.Pages.{cond-true, cond-false}

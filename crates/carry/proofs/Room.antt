@@ -4,13 +4,11 @@ use mathlib.Core.Path.{_≡_, refl, sym, ap, _∙_, subst}
 use mathlib.Core.Bool.{Bool, true, false}
 use mathlib.Core.List.{List, [], _∷_}
 use native.Mathlib.Omega.{arith}
-use lib.Dec.{leb}
+use lib.{Dec.leb, Seq.length-sets}
 use lib.ListN.{length, take, drop, length-append, length-take, length-map}
-use lib.Seq.{length-sets}
 use borrow.Author.Tests.{leb-true}
 use Rattle.model.specs.declared.Op.{Op}
-use Rattle.model.specs.Tables.{Queue}
-use Rattle.model.specs.Calls.{act}
+use Rattle.model.specs.{Tables.Queue, Calls.act}
 use Rattle.model.specs.History.{Request, Event, run}
 use Rattle.runfile.specs.Field.{fieldOf}
 use Rattle.runfile.specs.declared.Field.{Field}

@@ -2,14 +2,11 @@
 use mathlib.Core.Bool.{Bool, cond}
 use mathlib.Core.List.{List, [], _∷_}
 use Prim.Native.Nat.{ℕ, _+_, _*_, _≤_}
-use lib.Dec.{leb}
+use lib.{Dec.leb, Seq.sets}
 use lib.ListN.{length, take, drop, set}
-use lib.Seq.{sets}
 use Rattle.model.specs.declared.Op.{Op}
-use Rattle.model.specs.Tables.{queueOf}
+use Rattle.model.specs.{Tables.queueOf, History.Request, Lists.zeroed}
 use Rattle.model.specs.Calls.{Done, openAs}
-use Rattle.model.specs.History.{Request}
-use Rattle.model.specs.Lists.{zeroed}
 use Rattle.rows.specs.Rows.{recordsOf, uppersOf}
 use Rattle.runfile.specs.Field.{fieldOf}
 use Rattle.runfile.specs.declared.Field.{Field}

@@ -3,11 +3,9 @@ use mathlib.Core.Bool.{Bool, true, false, not}
 use mathlib.Core.List.{List, [], _∷_, _++_, map}
 use Prim.Native.Nat.{ℕ, _+_, _%_, _^_}
 use lib.ListN.{take, drop}
-use Rattle.model.specs.declared.Opening.{Opening}
+use Rattle.model.specs.declared.{Opening.Opening, Op.Op}
 use Rattle.model.specs.declared.Opening.the-variants.{Refused, Opened}
-use Rattle.model.specs.declared.Op.{Op}
-use Rattle.model.specs.Tables.{Queue}
-use Rattle.model.specs.Calls.{openAs}
+use Rattle.model.specs.{Tables.Queue, Calls.openAs}
 use Rattle.model.specs.History.{Request, Event, run, final}
 use Rattle.lines.specs.Line.{lineOf}
 use Rattle.lines.specs.declared.Line.the-variants as line

@@ -5,15 +5,11 @@ use Prim.Native.Nat.{ℕ, _+_}
 use lib.Dec.{eqb, leb, ltb}
 use Rattle.word.specs.Anchor.{anchorOf, packAnchor}
 use Rattle.word.specs.Link.{linkOf, packLink}
-use Rattle.model.specs.declared.Control.{Control}
-use Rattle.model.specs.declared.Record.{Record}
-use Rattle.model.specs.declared.Transition.{Transition}
-use Rattle.model.specs.Sound.{from1}
+use Rattle.model.specs.declared.{Control.Control, Record.Record, Transition.Transition}
+use Rattle.model.specs.{Sound.from1, Kinds.isPush, Ends.isMoved}
 use Rattle.model.specs.Sides.{far, facing, pushing}
-use Rattle.model.specs.Kinds.{isPush}
 use Rattle.model.specs.Route.{route, onlyWay, done, hasFailed, equal, unequal, namedQueue, pooledQueue}
 use Rattle.model.specs.Tables.{isPooled, withNeighbour, withOwn}
-use Rattle.model.specs.Ends.{isMoved}
 use Rattle.decide.specs.Ending.{refused, settled, noEntry, failing, headed, rowSound, neighbourRead, linkRead}
 
 -- The end as read: at the task's side, and at 5 to 10 at the side that the status names. The slot of the head as read.

@@ -2,18 +2,13 @@
 use mathlib.Core.Bool.{Bool, true, false, _&&_, cond}
 use Prim.Native.Nat.{ℕ}
 use lib.Dec.{eqb, ltb}
-use Rattle.word.specs.Anchor.{anchorOf}
-use Rattle.word.specs.Link.{linkOf}
-use Rattle.model.specs.declared.Control.{Control}
-use Rattle.model.specs.declared.Record.{Record}
-use Rattle.model.specs.declared.Entry.{Entry}
+use Rattle.word.specs.{Anchor.anchorOf, Link.linkOf}
+use Rattle.model.specs.declared.{Control.Control, Record.Record, Entry.Entry, Transition.Transition}
 use Rattle.model.specs.declared.Outcome.the-variants.{Refused, Moved}
 use Rattle.model.specs.Sound.{from1, anchorSound, linkSound}
-use Rattle.model.specs.Places.{reading}
+use Rattle.model.specs.{Places.reading, Kinds.isPop}
 use Rattle.model.specs.Route.{route, onward, goes, answer}
 use Rattle.model.specs.Tables.{withSeen, withNeighbour, withLink, withWords}
-use Rattle.model.specs.declared.Transition.{Transition}
-use Rattle.model.specs.Kinds.{isPop}
 
 abbrev pub refused : Control → Record → Transition
 refused c r = record { control = c; task = r; outcome = Refused 34; failed = false }

@@ -56,14 +56,9 @@ tabled c ls = tablesOf c (ls .0) (ls .1 .0) (ls .1 .1 .0) (ls .1 .1 .1 .0) (ls .
 abbrev pub unwritten : Five (RefT (List ℕ)) → Five (List ℕ)
 unwritten xs = (xs .0 .now, (xs .1 .0 .now, (xs .1 .1 .0 .now, (xs .1 .1 .1 .0 .now, (xs .1 .1 .1 .1 .0 .now, tt)))))
 
--- Their lengths.
-abbrev pub lengths : Five (RefT (List ℕ)) → Five ℕ
-lengths xs =
-    (length (xs .0 .now), (length (xs .1 .0 .now), (length (xs .1 .1 .0 .now), (length (xs .1 .1 .1 .0 .now), (length (xs .1 .1 .1 .1 .0 .now), tt)))))
-
 -- They keep their lengths.
-abbrev pub Lengths : Five (RefT (List ℕ)) → Five (List ℕ) → Type 0
-Lengths xs ls =
+abbrev pub KeepLengths : Five (RefT (List ℕ)) → Five (List ℕ) → Type 0
+KeepLengths xs ls =
     (length (ls .0) ≡ length (xs .0 .now)) × (length (ls .1 .0) ≡ length (xs .1 .0 .now)) × (length (ls .1 .1 .0) ≡ length (xs .1 .1 .0 .now))
     × (length (ls .1 .1 .1 .0) ≡ length (xs .1 .1 .1 .0 .now)) × (length (ls .1 .1 .1 .1 .0) ≡ length (xs .1 .1 .1 .1 .0 .now))
 
@@ -128,7 +123,7 @@ module _ {M : Type 1} {𝓤 : URA M} {H : Heap 𝓤} {A : Atoms 𝓤} {G : Type 
       {name : Name} {os : List Operand} {d : Place} {rest : Body}
       → FmC 𝓤 H (W .laws) C → Triple 𝓤 (C name) (Move 𝓤 H A f) → Is K.the-row c (control-value c ∷ []) → Is T.the-row r (record-value r ∷ [])
       → Opds G W (raw (Move 𝓤 H A f .pre (to-step 𝓤 H A f κs qs c r xs)) ∷ Γ) En os (Move 𝓤 H A f .args (to-step 𝓤 H A f κs qs c r xs))
-      → ((w : Val) (m : Stepped) (ls : Five (List ℕ)) → Leaves f c r xs m ls → Lengths xs ls → Is N.the-row m (w ∷ [])
+      → ((w : Val) (m : Stepped) (ls : Five (List ℕ)) → Leaves f c r xs m ls → KeepLengths xs ls → Is N.the-row m (w ∷ [])
       → Seq G W (returned 𝓤 κs qs xs ls Γ) (lands C Λ En d w rest q))
       → Seq G W (tokens 𝓤 κs qs xs ∷ lists 𝓤 κs qs xs ∷ Γ) (runs C Λ En (seq (call name os d) rest) q)
   moves t f κs qs c r xs fm known gc g os k =

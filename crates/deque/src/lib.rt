@@ -5,6 +5,7 @@ use model::Outcome;
 use model::TaskRecord;
 use rows::value;
 use rows::value::Stepped;
+use sound::Lengths;
 use sound::admission;
 ghost use mathlib.Core.Path.{_≡_};
 ghost use Rattle.model.specs.declared.Op.the-variants.{Step};
@@ -31,14 +32,15 @@ fn step_alone(
         })
         (stepLent (tablesOf c (now (lefts .entry)) (now (rights .entry)) (now (labels .entry)) (now (marks .entry)) (now (next .entry))) t) ⌝ }
 {
-    let why = admission::admit_alone(
-        c,
-        lefts.len(),
-        rights.len(),
-        labels.len(),
-        marks.len(),
-        next.len(),
-    );
+    let lent = Lengths {
+        records: 1,
+        lefts: lefts.len(),
+        rights: rights.len(),
+        labels: labels.len(),
+        marks: marks.len(),
+        next: next.len(),
+    };
+    let why = admission::admit_alone(c, lent);
     if why != 0 {
         let outcome = engine::refuse(why);
         return Stepped {
@@ -72,18 +74,16 @@ pub fn step(
         (now (lefts .entry)) (now (rights .entry)) (now (labels .entry)) (now (marks .entry)) (now (next .entry)))
         task Step) ⌝ }
 {
-    let n = records.len();
     let c = *control;
-    let why = admission::admit(
-        c,
-        n,
-        task,
-        lefts.len(),
-        rights.len(),
-        labels.len(),
-        marks.len(),
-        next.len(),
-    );
+    let lent = Lengths {
+        records: records.len(),
+        lefts: lefts.len(),
+        rights: rights.len(),
+        labels: labels.len(),
+        marks: marks.len(),
+        next: next.len(),
+    };
+    let why = admission::admit(c, task, lent);
     if why != 0 {
         return engine::refuse(why);
     }

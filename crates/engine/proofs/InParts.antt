@@ -10,12 +10,11 @@ use Rattle.model.specs.declared.Outcome.the-variants.{Refused}
 use Rattle.model.specs.Tables.{Tables, isPooled}
 use Rattle.model.specs.Sound.{controlSound, recordSound, rowsFit}
 use Rattle.model.specs.Places.{wordFound, move}
-use Rattle.model.specs.Refusals.{Lent, stepSound, stepRefusal}
+use Rattle.model.specs.Refusals.{Lent, stepSound, stepRefusal, admission, recordRefusal}
 use Rattle.model.specs.Calls.{decide, finish, step}
 use Rattle.model.proofs.tests.Truth.{split}
 use Rattle.places.specs.Arm.{stepAt}
 use Rattle.engine.specs.MoveOn.{moveOn}
-use Rattle.model.specs.Refusals.{admission, recordRefusal}
 
 pub above : {n x : ℕ} → n ≤ x → (x ≡ n → ⊥) → suc n ≤ x
 above low other = omega arith

@@ -3,16 +3,11 @@ use mathlib.Core.Path.{_≡_, refl, sym, ap, ap₂, subst, _∙_}
 use mathlib.Core.Bool.{true, false}
 use mathlib.Core.List.{List}
 use Prim.Native.Nat.{ℕ, _≤_}
-use Rattle.model.specs.declared.Control.{Control}
-use Rattle.model.specs.declared.Record.{Record}
-use Rattle.model.specs.declared.TaskRecord.{TaskRecord}
-use Rattle.model.specs.declared.Outcome.{Outcome}
+use Rattle.model.specs.declared.{Control.Control, Record.Record, TaskRecord.TaskRecord, Outcome.Outcome, Transition.Transition}
 use Rattle.model.specs.declared.Outcome.the-variants as outcome
 use Rattle.model.specs.Tables.{Tables, tablesOf, counting, idle, ofKind, withCall, withOwn, withWords}
-use Rattle.model.specs.Route.{counted}
-use Rattle.model.specs.Calls.{Acted}
+use Rattle.model.specs.{Route.counted, Calls.Acted}
 use Rattle.model.proofs.tests.Truth.{split, not-both}
-use Rattle.model.specs.declared.Transition.{Transition}
 use Rattle.model.specs.Ends.{endsCall, isMoved}
 use Rattle.engine.specs.MoveOn.{moveOn}
 use Rattle.engine.specs.Stored.{anchorMoved, callMoved, headMoved, ownMoved, anchorAfter, callAfter, headAfter, ownAfter}

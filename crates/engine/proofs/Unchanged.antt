@@ -8,22 +8,19 @@ use native.Mathlib.Omega.{arith}
 use lib.Dec.{eqb, leb}
 use lib.ListN.{getD}
 use borrow.Author.Tests.{leb-true, eqb-true, eqb-false, ne-eqb}
-use Rattle.model.specs.declared.Record.{Record}
-use Rattle.model.specs.declared.TaskRecord.{TaskRecord}
-use Rattle.model.specs.declared.Entry.{Entry}
+use Rattle.model.specs.declared.{Record.Record, TaskRecord.TaskRecord, Entry.Entry}
 use Rattle.model.specs.declared.Outcome.the-variants.{Refused, Moved}
 use Rattle.model.specs.Tables.{Tables, idle}
-use Rattle.model.specs.Places.{Touch, nothing, setAnchor, setLink, clearMark, takeSlot, setNext, setHead, Move, wordFound}
-use Rattle.model.specs.Places.{apply}
+use Rattle.model.specs.Places.{Touch, nothing, setAnchor, setLink, clearMark, takeSlot, setNext, setHead, Move, wordFound, apply}
 use Rattle.model.specs.Route.{pushRoute, popRoute, route, onward, answer, goes}
-use Rattle.model.specs.Refusals.{Lent, stepSound}
-use Rattle.model.specs.Calls.{Acted, finish, step}
+use Rattle.model.specs.Refusals.{stepSound}
+use Rattle.model.specs.Calls.{Acted, finish}
 use Rattle.places.specs.Arm.{stepAt}
 use Rattle.engine.specs.MoveOn.{moveOn}
 use Rattle.model.specs.Ends.{endsCall, isMoved}
 use Rattle.engine.proofs.ByPlace.{Keeps, Moves, heads, itself, moves}
 use Rattle.model.proofs.tests.Truth.{split}
-use Rattle.engine.proofs.InParts.{here, why, fault, placed, in-parts}
+use Rattle.engine.proofs.InParts.{here, fault, placed}
 
 clash : false ≡ true → ⊥
 clash h = let z : _≡_ {A = ℕ} 0 1 = cc in omega arith
@@ -178,8 +175,3 @@ module _ (q : Tables) (r : TaskRecord) where
   pub moved-on : Unchanged q r (moveOn q r)
   unfolding moveOn
   moved-on = whichever (eqb (fault q r) 0) _ _ (λ e. at-its-place (eqb-true _ _ e)) (same _)
-
-  pub step-kept : (p : Lent) → Unchanged q r (step q p r)
-  step-kept p =
-      subst (λ (a : Acted). Unchanged q r a) (sym (in-parts q p r))
-      (whichever (eqb (why q p r) 0) _ _ (λ _. moved-on) (same _))

@@ -4,8 +4,7 @@ use lib.Dec.{eqb}
 use Rattle.model.specs.declared.TaskRecord.{TaskRecord}
 use Rattle.model.specs.declared.Outcome.the-variants.{Refused}
 use Rattle.model.specs.Tables.{Tables, isPooled}
-use Rattle.model.specs.Refusals.{recordRefusal}
-use Rattle.model.specs.Calls.{Acted}
+use Rattle.model.specs.{Refusals.recordRefusal, Calls.Acted}
 use Rattle.places.specs.Arm.{stepAt}
 
 -- 34 and 31 for the record come first, then its place.

@@ -4,10 +4,7 @@ use mathlib.Core.List.{List, [], _∷_}
 use Prim.Native.Nat.{ℕ, zero, suc, _<_}
 use native.Mathlib.Omega.{arith}
 use lib.ListN.{length, getD, set}
-use Rattle.model.specs.declared.Control.{Control}
-use Rattle.model.specs.declared.TaskRecord.{TaskRecord}
-use Rattle.model.specs.declared.Outcome.{Outcome}
-use Rattle.model.specs.declared.Op.{Op}
+use Rattle.model.specs.declared.{Control.Control, TaskRecord.TaskRecord, Outcome.Outcome, Op.Op}
 use Rattle.model.specs.Tables.{Queue, queueOf, unused}
 use Rattle.model.specs.Calls.{Acted, Done, act, back, stepLent}
 use Rattle.model.specs.LentSteps.{takeTurn, lent}

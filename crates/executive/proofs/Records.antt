@@ -1,15 +1,11 @@
 -- The records of the executive as one machine value: an array of structs, by itself and as a field.
-use mathlib.Core.Path.{_≡_, refl, sym, ap, _∙_}
-use Prim.Native.Nat.{ℕ}
+use mathlib.Core.Path.{_≡_, refl, ap, _∙_}
 use mathlib.Core.List.{List, [], _∷_, map}
-use lib.Dec.{lit<}
-use lib.ListN.{length-map}
+use lib.{Dec.lit<, ListN.length-map}
 use mir.Val.{Val}
-use denote.RattleType.{RattleType}
+use denote.{RattleType.RattleType, Shadow.shadow, Slice.Room}
 use denote.Laws.{Is, Tells}
-use denote.Shadow.{shadow}
 use denote.Array.{Array, arrayVal, array-tells, each}
-use denote.Slice.{Room}
 use denote.Struct.Laws as LL
 use Rattle.model.specs.declared.TaskRecord.{TaskRecord}
 use Rattle.model.proofs.TaskRecord as T

@@ -1,6 +1,7 @@
 //! Where labels wait, found in one walk of the queue that reads each waiting slot's row once.
 use find_model::FindReply;
 use model::Control;
+use sound::Lengths;
 use walk::Tally;
 use walk::Way;
 ghost use mathlib.Core.Path.{_≡_};
@@ -153,18 +154,11 @@ fn turn(rows: u64, n: usize, positions: &mut [u64])
 }
 
 /// 34 for control and Anchor, 45, 12. No next table is lent, so none counts.
-fn refusal(
-    c: Control,
-    asked: usize,
-    lefts: usize,
-    rights: usize,
-    labels: usize,
-    marks: usize,
-) -> u32
-    ensures { λ n. ⌜ n ≡ refusalBefore (controlSound c) (ltb 32 asked) (lengthsFit false (c .slots) lefts rights labels marks 0) ⌝ }
+fn refusal(c: Control, asked: usize, t: Lengths) -> u32
+    ensures { λ n. ⌜ n ≡ refusalBefore (controlSound c) (ltb 32 asked) (lengthsFit false (c .slots) t) ⌝ }
 {
     let control = sound::control_sound(c);
-    let fits = sound::rows_fit(false, c.slots, lefts, rights, labels, marks, 0);
+    let fits = sound::rows_fit(false, c.slots, t);
     if !control {
         return 34;
     }
@@ -226,14 +220,15 @@ fn find(
         (tablesOf c (now (lefts .entry)) (now (rights .entry)) (now (labels .entry)) (now (marks .entry)) next)
         (now (asked .entry)))) ⌝ }
 {
-    let why = refusal(
-        c,
-        asked.len(),
-        lefts.len(),
-        rights.len(),
-        labels.len(),
-        marks.len(),
-    );
+    let t = Lengths {
+        records: 0,
+        lefts: lefts.len(),
+        rights: rights.len(),
+        labels: labels.len(),
+        marks: marks.len(),
+        next: 0,
+    };
+    let why = refusal(c, asked.len(), t);
     if why != 0 {
         return Sought {
             code: why as u64,

@@ -4,8 +4,7 @@ use mathlib.Core.Bool.{Bool, true, false, _&&_, cond}
 use mathlib.Core.List.{List, [], _∷_, _++_, map, map-append, map-map, reverse, reverse-cons}
 use mathlib.Core.Logic.{_≢_, _⊎_, inl, inr}
 use Prim.Native.Nat.{ℕ, zero, suc, _+_, _-_, _<_, _≤_}
-use native.Mathlib.Nat.{add-zero}
-use native.Mathlib.Omega.{arith}
+use native.Mathlib.{Nat.add-zero, Omega.arith}
 use lib.Dec.{eqb}
 use lib.ListN.{length, length-reverse, replicate}
 use borrow.Author.Tests.{le-leb, ne-eqb}

@@ -4,18 +4,14 @@ use mathlib.Core.Path.{_≡_, refl, sym, ap, _∙_}
 use mathlib.Core.Bool.{Bool, true, false}
 use mathlib.Core.List.{List}
 use native.Mathlib.Omega.{arith}
-use lib.Dec.{eqb}
-use lib.ListN.{length}
+use lib.{Dec.eqb, ListN.length}
 use Rattle.model.specs.declared.Opening.{Opening}
 use Rattle.model.specs.declared.Opening.the-variants.{Refused, Opened}
-use Rattle.model.specs.Tables.{Queue}
-use Rattle.model.specs.Refusals.{openRefusal}
+use Rattle.model.specs.{Tables.Queue, Refusals.openRefusal}
 use Rattle.model.specs.Calls.{OpenDone, opened, openAs, openingCode}
 use Rattle.model.specs.History.{Request, run, final, NoSlotTrue}
-use Rattle.model.proofs.Linearizable.{linearizable}
-use Rattle.model.proofs.Never34.{never-34}
+use Rattle.model.proofs.{Linearizable.linearizable, Never34.never-34, Retries.retries-sum}
 use Rattle.model.proofs.NoSlot.{no-slot-right}
-use Rattle.model.proofs.Retries.{retries-sum}
 use Rattle.model.proofs.tests.Truth.{split}
 use Rattle.stock_model.proofs.Accounts.{every-label, stock-taking}
 use Rattle.capi.specs.Replies.{uppersAt, Coded, coded}

@@ -2,8 +2,7 @@
 use Prim.Native.Nat.{ℕ, suc, _+_, _*_, _-_, _<_, _%_, _^_}
 use mathlib.Core.Path.{_≡_, sym, ap, _∙_}
 use mathlib.Core.List.{List, _∷_}
-use native.Mathlib.Numerals.{add-one}
-use native.Mathlib.Omega.{arith}
+use native.Mathlib.{Numerals.add-one, Omega.arith}
 use borrow.Author.Tests.{eq-eqb, ne-eqb}
 use lib.Seq.{sets}
 use Rattle.model.specs.declared.Op.the-variants.{Push, Pop, Put, Step}

@@ -7,12 +7,10 @@ use native.Mathlib.Omega.{arith}
 use lib.Dec.{eqb}
 use lib.ListN.{replicate, drop, set}
 use borrow.Author.Tests.{eqb-true}
-use Rattle.model.specs.declared.Op.{Op}
+use Rattle.model.specs.declared.{Op.Op, Outcome.Outcome, TaskRecord.TaskRecord}
 use Rattle.model.specs.declared.Op.the-variants.{Push, Pop, Put, Step}
-use Rattle.model.specs.declared.Outcome.{Outcome}
 use Rattle.model.specs.declared.Outcome.the-variants.{Refused, Moved}
 use Rattle.model.specs.Tables.{Tables, Queue, recordAt}
-use Rattle.model.specs.declared.TaskRecord.{TaskRecord}
 use Rattle.model.specs.Refusals.{among, pushRefusal, putRefusal, popRefusal, stepRefusal}
 use Rattle.model.specs.Calls.{Acted, decide, pushStart, putStart, popStart, step, actOn, act}
 use Rattle.model.specs.Ends.{isMoved, endsCall}

@@ -2,11 +2,9 @@
 use mathlib.Core.Bool.{cond}
 use mathlib.Core.List.{List, [], _∷_, _++_}
 use Prim.Native.Nat.{ℕ, zero, suc, _+_, _*_, _/_, _%_, _^_, min}
-use lib.Dec.{eqb}
-use lib.ListN.{getD}
-use Rattle.model.specs.declared.Op.{Op}
+use lib.{Dec.eqb, ListN.getD}
+use Rattle.model.specs.declared.{Op.Op, Reply.Reply}
 use Rattle.model.specs.declared.Op.the-variants.{Push, Pop, Put, Step}
-use Rattle.model.specs.declared.Reply.{Reply}
 use Rattle.model.specs.Calls.{replyOf}
 use Rattle.model.specs.History.{Request, Event}
 

@@ -3,20 +3,15 @@ use mathlib.Core.Bool.{Bool, true, cond}
 use mathlib.Core.List.{List, [], _∷_, _++_}
 use mathlib.Core.Path.{_≡_}
 use Prim.Native.Nat.{ℕ}
-use lib.Dec.{eqb}
+use lib.{Dec.eqb, Seq.sets}
 use lib.ListN.{length, set}
-use lib.Seq.{sets}
-use Rattle.model.specs.declared.Op.{Op}
+use Rattle.model.specs.declared.{Op.Op, Opening.Opening, Outcome.Outcome}
 use Rattle.model.specs.declared.Op.the-variants.{Push, Pop, Put, Step}
-use Rattle.model.specs.declared.Opening.{Opening}
 use Rattle.model.specs.declared.Opening.the-variants.{Refused, Opened}
-use Rattle.model.specs.declared.Outcome.{Outcome}
-use Rattle.model.specs.Tables.{Queue}
+use Rattle.model.specs.{Tables.Queue, Retries.SumIsOld, Lists.zeroed}
 use Rattle.model.specs.Calls.{OpenDone, openAs, openingCode}
 use Rattle.model.specs.Ends.{isMoved, endsCall}
 use Rattle.model.specs.History.{Request, Event, run, final, Linearized, NeverUnsound, NoSlotTrue}
-use Rattle.model.specs.Retries.{SumIsOld}
-use Rattle.model.specs.Lists.{zeroed}
 use Rattle.stock_model.specs.Accounts.{Accounted, StockSum}
 use Rattle.rows.specs.Rows.{queueIn, uppersOf}
 use Rattle.history.specs.declared.ServeReply.{ServeReply}

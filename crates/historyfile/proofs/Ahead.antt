@@ -8,13 +8,11 @@ use lib.Dec.{eqb}
 use lib.ListN.{length, getD, take, drop, drop-of-length-le, length-drop}
 use lib.Seq.{getD-drop, take-suc}
 use Rattle.model.proofs.tests.Truth.{by-test, split}
-use Rattle.historyfile.specs.declared.reading.Place.{Place}
-use Rattle.historyfile.specs.declared.reading.State.{State}
+use Rattle.historyfile.specs.declared.reading.{Place.Place, State.State}
 use Rattle.historyfile.specs.Buffer.{Within, ahead, held, reading, separated}
 use Rattle.historyfile.specs.Reading.{endedLine, readAll, readEnd, readWord}
 use Rattle.historyfile.specs.Text.{Piece, lineEnd, ofWord, pieces}
-use Rattle.historyfile.proofs.Digits.{next-of}
-use Rattle.historyfile.proofs.Held.{all-held}
+use Rattle.historyfile.proofs.{Digits.next-of, Held.all-held}
 
 abbrev part : List ℕ → ℕ → ℕ → List ℕ
 part text from to = take (to - from) (drop from text)

@@ -9,12 +9,13 @@ use lib.Dec.{ltb}
 use lib.ListN.{length, length-map}
 use Rattle.model.specs.declared.Control.{Control}
 use Rattle.model.specs.declared.Entry.{Entry}
-use Rattle.model.specs.Tables.{Queue, queueOf}
+use Rattle.model.specs.Tables.{Queue, tablesOf, queueOf}
 use Rattle.model.specs.Sound.{controlTests, controlSound}
 use Rattle.model.specs.Walk.{contents, met}
 use Rattle.model.proofs.tests.Rules.{tests}
 use Rattle.model.proofs.bridge.Facts.{from1-true}
 use Rattle.model.specs.Lists.{every}
+use Rattle.sound.specs.Lengths.{lengthsOf}
 use Rattle.walk.specs.declared.Tally.{Tally}
 use Rattle.walk.specs.declared.Tally.the-variants.{Broken, Labels}
 use Rattle.walk.specs.Counted.{counted}
@@ -30,7 +31,8 @@ use Rattle.join.specs.Admits.{walked, Admits}
 
 -- Long enough by the lengths is long enough.
 pub fits-is : (c : Control) (rows : List (List ℕ)) (lefts rights labels marks next : List ℕ)
-    → lengthsFit c (length rows) (length lefts) (length rights) (length labels) ≡ sourceFits (queueOf c (recordsOf rows) lefts rights labels marks next)
+    → lengthsFit c (lengthsOf (tablesOf c lefts rights labels marks next) (length rows))
+    ≡ sourceFits (queueOf c (recordsOf rows) lefts rights labels marks next)
 unfolding lengthsFit sourceFits
 fits-is c rows lefts rights labels marks next = rw length-records
 

@@ -6,15 +6,15 @@ use lib.Dec.{ltb, leb}
 use Rattle.model.specs.declared.Control.{Control}
 use Rattle.model.specs.Refusals.{rule, first}
 use Rattle.model.specs.Lists.{every}
+use Rattle.sound.specs.declared.Lengths.{Lengths}
 
 -- The smaller of two numbers.
 abbrev pub least : ℕ → ℕ → ℕ
 least n m = cond (ltb n m) n m
 
 -- Which tables of a source are long enough, by their lengths.
-unfoldable pub lengthsFit : Control → ℕ → ℕ → ℕ → ℕ → Bool
-lengthsFit c records lefts rights labels =
-    every (ltb (c .slots) lefts ∷ ltb (c .slots) rights ∷ ltb (c .slots) labels ∷ leb (c .tasks) records ∷ [])
+unfoldable pub lengthsFit : Control → Lengths → Bool
+lengthsFit c t = every (ltb (c .slots) (t .lefts) ∷ ltb (c .slots) (t .rights) ∷ ltb (c .slots) (t .labels) ∷ leb (c .tasks) (t .records) ∷ [])
 
 -- Before the walks: 34 for all controls and Anchors, and 12.
 unfoldable pub testsRefusal : Bool → Bool → Bool → Bool → ℕ

@@ -1,6 +1,7 @@
 // Whether two queues can be joined in a third: the tests, and the number of the first rule that applies.
 use crate::rest;
 use model::Control;
+use sound::Lengths;
 use walk::Tally;
 use word::Anchor;
 ghost use mathlib.Core.Path.{_≡_};
@@ -23,11 +24,11 @@ ghost use Rattle.join.specs.Admits.{walked, Admits};
 const LAST_TAG: u64 = 4294967262;
 
 /// Whether tables of these lengths have rows 0 to slots, and a record for each task.
-fn lengths_fit(c: Control, records: usize, lefts: usize, rights: usize, labels: usize) -> bool
-    ensures { λ r. ⌜ r ≡ lengthsFit c records lefts rights labels ⌝ }
+fn lengths_fit(c: Control, t: Lengths) -> bool
+    ensures { λ r. ⌜ r ≡ lengthsFit c t ⌝ }
 {
     let last = c.slots as usize;
-    (last < lefts) & (last < rights) & (last < labels) & (c.tasks <= records as u64)
+    (last < t.lefts) & (last < t.rights) & (last < t.labels) & (c.tasks <= t.records as u64)
 }
 
 /// 34 for the three controls and Anchors, and 12.
@@ -210,28 +211,34 @@ pub fn admit(
         (queueOf third (recordsOf (now (records .entry))) (now (lefts .entry)) (now (rights .entry)) (now (labels .entry)) (now (marks .entry)) [])
         r ⌝ }
 {
-    let a = lengths_fit(
-        first,
-        records1.len(),
-        lefts1.len(),
-        rights1.len(),
-        labels1.len(),
-    );
-    let b = lengths_fit(
-        second,
-        records2.len(),
-        lefts2.len(),
-        rights2.len(),
-        labels2.len(),
-    );
-    let c = lengths_fit(
-        third,
-        records.len(),
-        lefts.len(),
-        rights.len(),
-        labels.len(),
-    );
-    let enough = c & (third.slots / 64 < marks.len() as u64);
+    let one = Lengths {
+        records: records1.len(),
+        lefts: lefts1.len(),
+        rights: rights1.len(),
+        labels: labels1.len(),
+        marks: 0,
+        next: 0,
+    };
+    let two = Lengths {
+        records: records2.len(),
+        lefts: lefts2.len(),
+        rights: rights2.len(),
+        labels: labels2.len(),
+        marks: 0,
+        next: 0,
+    };
+    let into = Lengths {
+        records: records.len(),
+        lefts: lefts.len(),
+        rights: rights.len(),
+        labels: labels.len(),
+        marks: marks.len(),
+        next: 0,
+    };
+    let a = lengths_fit(first, one);
+    let b = lengths_fit(second, two);
+    let c = lengths_fit(third, into);
+    let enough = c & (third.slots / 64 < into.marks as u64);
     let why = early_rules(first, second, third, a, b, enough);
     if why != 0 {
         return refused(why);

@@ -3,17 +3,13 @@ use mathlib.Core.Path.{_≡_, refl, sym, ap, _∙_}
 use mathlib.Core.Bool.{Bool, true, false}
 use mathlib.Core.List.{List, [], _∷_, _++_}
 use Prim.Native.Nat.{ℕ, _≤_}
-use lib.Dec.{eqb}
-use lib.ListN.{length}
+use lib.{Dec.eqb, ListN.length}
 use borrow.Author.Tests.{eqb-true, ltb-false, not-false}
-use Rattle.model.specs.Tables.{Queue}
-use Rattle.model.specs.Report.{busy}
+use Rattle.model.specs.{Tables.Queue, Report.busy, History.run, Lists.All}
 use Rattle.model.specs.Walk.{contents, isBroken}
-use Rattle.model.specs.History.{run}
 use Rattle.model.specs.Refusals.{Rule, rule, first}
 use Rattle.model.proofs.tests.Rules.{tests, cleared}
 use Rattle.model.proofs.tests.Truth.{and-true, split}
-use Rattle.model.specs.Lists.{All}
 use Rattle.join_model.specs.Join.{anchorIn, lanes, pushes, outcomes, anyLate, sourceFits, thirdFits, atRest, fresh}
 use Rattle.join_model.specs.Join.{earlyRules, joinRules, joinRefusal, join}
 use Rattle.join_model.specs.Closed.{lateFor, holding, closedRefusal, joinClosed}

@@ -16,8 +16,7 @@ use Rattle.join_model.specs.Join.{anchorIn, pushAlone, pushes, outcomes,
 use Rattle.join_model.specs.Laws.{answersOne, answersNext, answersMore, answers}
 use Rattle.join_model.specs.Closed.{labelOf, tagAfter, held, holding, lateFor}
 use Rattle.join_model.proofs.Ran.{Ran, ran-none, ran-on}
-use Rattle.join_model.proofs.Pushed.{turned-away}
-use Rattle.join_model.proofs.Fresh.{Fresh}
+use Rattle.join_model.proofs.{Pushed.turned-away, Fresh.Fresh}
 use Rattle.join_model.proofs.Pushes.{ready, begins, prepared, held-reads, one-more}
 
 -- The labels l are those of f from k on.

@@ -4,26 +4,20 @@ use mathlib.Core.Bool.{false, not}
 use mathlib.Core.List.{List, [], _∷_, _++_}
 use Prim.Native.Nat.{ℕ, zero, suc, _-_, _≤_}
 use native.Mathlib.Omega.{arith}
-use lib.Dec.{ltb}
-use lib.ListN.{length}
+use lib.{Dec.ltb, ListN.length}
 use borrow.Author.Tests.{ne-eqb, ltb-false}
-use Rattle.model.specs.Tables.{Queue}
-use Rattle.model.specs.Calls.{openAs}
+use Rattle.model.specs.{Tables.Queue, Calls.openAs}
 use Rattle.model.specs.Walk.{contents, entries, isBroken, met}
 use Rattle.model.specs.History.{Request, final, run}
 use Rattle.model.proofs.tests.Rules.{_and_, never}
-use Rattle.model.proofs.Standing.{standing}
-use Rattle.model.proofs.Linearizable.{linearizable}
-use Rattle.model.proofs.Never34.{never-34}
+use Rattle.model.proofs.{Standing.standing, Linearizable.linearizable, Never34.never-34}
 use Rattle.stock_model.proofs.Accounts.{every-label, stock-taking}
 use Rattle.join_model.specs.Join.{anchorIn, anyLate, lane, lanes, outcomes, pushes, joinRefusal, joinRules, join}
 use Rattle.join_model.specs.Closed.{tagAfter, lateFor, holding, closedRefusal}
 use Rattle.join_model.specs.Laws.{OwnOrder, StaysAscending, TieToFirst, SameCopies, RefusalKeeps, Zeros, OnlyFresh, JoinedWait, numbered, Continues}
 use Rattle.join_model.specs.Laws.{JoinNever34, StandingNever34}
-use Rattle.join_model.proofs.Ran.{final-on}
-use Rattle.join_model.proofs.Fresh.{Fresh}
+use Rattle.join_model.proofs.{Ran.final-on, Fresh.Fresh, Waits.held-waits}
 use Rattle.join_model.proofs.Closed.{same-refusal, accepted, joins}
-use Rattle.join_model.proofs.Waits.{held-waits}
 use Rattle.join_model.proofs.Merged.{interleaved, ascending, tie, copies-merged}
 
 pub own-order : OwnOrder

@@ -18,11 +18,9 @@ use Rattle.model.specs.declared.Op.the-variants.{Push, Step}
 use Rattle.model.specs.Tables.{Tables, Queue, idle, withCall, taskAt, withAnchor}
 use Rattle.model.specs.Sound.{anchorSound, rowTests, rowsFit}
 use Rattle.model.specs.Places.{setLink, apply}
-use Rattle.model.proofs.tests.Rules.{tests}
-use Rattle.model.proofs.tests.Truth.{and-of}
+use Rattle.model.proofs.tests.{Rules.tests, Truth.and-of}
 use Rattle.model.proofs.unsound.Tests.{anchor-sound, link-sound}
-use Rattle.join_model.specs.Join.{anchorIn}
-use Rattle.join_model.specs.Closed.{rightOf}
+use Rattle.join_model.specs.{Join.anchorIn, Closed.rightOf}
 use Rattle.join_model.proofs.Alone.{Able, at, step1, step3, step4, step5, step6, step7, step8, step9, step10}
 use Rattle.join_model.proofs.Ran.{Ran, ran-none, ran-more, stands, steps}
 use Rattle.join_model.proofs.Pushed.{Ready, control-kept, tries, first, long, low, high, starts, sound, still, room}

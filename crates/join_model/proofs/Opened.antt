@@ -10,8 +10,7 @@ use borrow.Author.Tests.{eq-eqb}
 use Rattle.word.specs.Anchor.{anchorOf, packAnchor, emptyAnchor}
 use Rattle.model.specs.declared.TaskRecord.{TaskRecord}
 use Rattle.model.specs.Tables.{Queue, unused}
-use Rattle.model.specs.Calls.{opened}
-use Rattle.model.specs.Report.{busy}
+use Rattle.model.specs.{Calls.opened, Report.busy}
 use Rattle.model.proofs.Openings.{after-opening}
 use Rattle.model.proofs.tests.Rules.{_and_, passes}
 use Rattle.model.proofs.tests.Truth.{and-of}

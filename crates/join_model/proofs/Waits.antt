@@ -15,12 +15,9 @@ use Rattle.model.specs.Walk.{Walk, entries, along, contents, walkFrom, whence}
 use Rattle.model.proofs.tests.Rules.{tests}
 use Rattle.model.proofs.unsound.Tests.{link-sound}
 use Rattle.model.specs.Sides.{isEmpty, links, opposite, near, far}
-use Rattle.join_model.specs.Join.{anchorIn}
+use Rattle.join_model.specs.{Join.anchorIn, Laws.numbered}
 use Rattle.join_model.specs.Closed.{leftOf, labelOf, held, tagAfter}
-use Rattle.join_model.specs.Laws.{numbered}
-use Rattle.join_model.proofs.Fresh.{Fresh}
-use Rattle.join_model.proofs.Filling.{filled-at}
-use Rattle.join_model.proofs.Pushes.{held-reads}
+use Rattle.join_model.proofs.{Fresh.Fresh, Filling.filled-at, Pushes.held-reads}
 
 -- The entries of slots k down to 1.
 abbrev down : (ℕ → ℕ) → ℕ → List Entry

@@ -4,8 +4,7 @@ use mathlib.Core.List.{List, [], _∷_}
 use Prim.Native.Nat.{ℕ, zero, suc, _+_, _-_, _*_}
 use lib.Dec.{ltb, eqb}
 use lib.ListN.{length, getD, set}
-use Rattle.word.specs.Anchor.{packAnchor}
-use Rattle.word.specs.Link.{packLink}
+use Rattle.word.specs.{Anchor.packAnchor, Link.packLink}
 use Rattle.model.specs.Tables.{Queue, withMark, idle, withCall, taskAt, withAnchor, tablesOf}
 use Rattle.model.specs.Refusals.{first}
 use Rattle.join_model.specs.Join.{anchorIn, lanes, joinRules, Joined, joined}

@@ -6,18 +6,14 @@ use lib.Dec.{ltb, eqb}
 use lib.ListN.{length, getD, replicate}
 use Rattle.word.specs.declared.Anchor.{Anchor}
 use Rattle.word.specs.Anchor.{anchorOf}
-use Rattle.model.specs.declared.Entry.{Entry}
-use Rattle.model.specs.declared.Outcome.{Outcome}
+use Rattle.model.specs.declared.{Entry.Entry, Outcome.Outcome}
 use Rattle.model.specs.declared.Outcome.the-variants.{Refused, Moved}
 use Rattle.model.specs.declared.Op.the-variants.{Push, Step}
 use Rattle.model.specs.Tables.{Queue, isPooled}
-use Rattle.model.specs.Sound.{controlSound}
+use Rattle.model.specs.{Sound.controlSound, Report.busy, Sides.isEmpty, Lists.every}
 use Rattle.model.specs.Walk.{contents, isBroken, met}
-use Rattle.model.specs.Report.{busy}
 use Rattle.model.specs.Refusals.{Rule, rule, first, recordsFit}
 use Rattle.model.specs.History.{Request, Event, run, final}
-use Rattle.model.specs.Sides.{isEmpty}
-use Rattle.model.specs.Lists.{every}
 use Rattle.join_model.specs.Merge.{merge}
 
 abbrev pub anchorIn : Queue → Anchor

@@ -1,22 +1,17 @@
 -- What is promised of the joining, beyond what it answers.
-use mathlib.Core.Path.{_≡_}
+use mathlib.Core.{Path._≡_, Logic._≢_, Bool.true}
 use mathlib.Core.List.{List, [], _∷_, _++_}
-use mathlib.Core.Logic.{_≢_}
-use mathlib.Core.Bool.{true}
 use Prim.Native.Nat.{ℕ, suc, _+_, _/_, _≤_}
 use lib.ListN.{getD}
 use Rattle.model.specs.declared.Opening.the-variants.{Opened}
 use Rattle.model.specs.declared.Answer.the-variants.{Running, Pushed}
-use Rattle.model.specs.declared.Entry.{Entry}
-use Rattle.model.specs.declared.Outcome.{Outcome}
+use Rattle.model.specs.declared.{Entry.Entry, Outcome.Outcome}
 use Rattle.model.specs.declared.Outcome.the-variants.{Moved}
 use Rattle.model.specs.Tables.{Tables, Queue}
-use Rattle.model.specs.Calls.{openQueue}
+use Rattle.model.specs.{Calls.openQueue, Standing.Standing, Lists.copies}
 use Rattle.model.specs.Walk.{contents, entries}
-use Rattle.model.specs.Standing.{Standing}
 use Rattle.model.specs.History.{Request, run, final, ledger, Linearized, NeverUnsound, AfterOpening}
 use Rattle.stock_model.specs.Accounts.{Accounted, StockSum}
-use Rattle.model.specs.Lists.{copies}
 use Rattle.join_model.specs.Merge.{merge, Interleaved, Ascending}
 use Rattle.join_model.specs.Join.{fresh, lane, lanes, pushes, outcomes, joinRefusal, join}
 use Rattle.join_model.specs.Closed.{joinClosed}

@@ -13,8 +13,7 @@ use Rattle.audit_model.specs.declared.Finished.{Finished}
 use Rattle.audit_model.specs.declared.Verdict.the-variants.{Refused}
 use Rattle.audit_model.specs.Audit.{accepted, rearranges, verdict}
 use Rattle.audit_model.specs.LentHistory.{callsFrom, callsIn}
-use Rattle.historyfile.specs.Buffer.{held}
-use Rattle.historyfile.specs.Reading.{Reading}
+use Rattle.historyfile.specs.{Buffer.held, Reading.Reading}
 use Rattle.judge.specs.Judging.{told}
 use Rattle.judge.specs.declared.Judged.the-variants.{Told, Unread}
 

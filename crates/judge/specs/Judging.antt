@@ -3,8 +3,7 @@ use mathlib.Core.Bool.{_&&_, cond}
 use mathlib.Core.List.{List}
 use Prim.Native.Nat.{ℕ}
 use lib.Dec.{eqb}
-use Rattle.audit_model.specs.Audit.{verdict}
-use Rattle.audit_model.specs.LentHistory.{callsIn}
+use Rattle.audit_model.specs.{Audit.verdict, LentHistory.callsIn}
 use Rattle.historyfile.specs.Reading.{Reading, whole}
 use Rattle.judge.specs.declared.Judged.{Judged}
 use Rattle.judge.specs.declared.Judged.the-variants.{Unread, Told}

@@ -5,8 +5,7 @@ use Prim.Native.Nat.{ℕ}
 use lib.Dec.{eqb}
 use Rattle.audit_model.specs.declared.Verdict.{Verdict}
 use Rattle.audit_model.specs.declared.Verdict.the-variants.{Refused, Failed, Passed}
-use Rattle.lines.specs.Ascii.{ascii}
-use Rattle.lines.specs.Line.{numbered}
+use Rattle.lines.specs.{Ascii.ascii, Line.numbered}
 use Rattle.judge.specs.declared.Judged.{Judged}
 use Rattle.judge.specs.declared.Judged.the-variants.{Unread, Told}
 use Rattle.historyfile.specs.declared.reading.Place.{Place}

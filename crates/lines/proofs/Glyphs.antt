@@ -3,8 +3,7 @@ use Prim.Native.Nat.{ℕ, _+_, _*_, _/_, _%_, _^_, _<_, _≤_}
 use mathlib.Core.Path.{_≡_, refl, ap, ap₂, _∙_}
 use mathlib.Core.Bool.{Bool, true, false}
 use mathlib.Core.List.{List, [], _∷_, _++_, map}
-use native.Mathlib.Nat.{mul-div-cancel}
-use native.Mathlib.Omega.{arith}
+use native.Mathlib.{Nat.mul-div-cancel, Omega.arith}
 use lib.ListN.{length}
 use lib.Arith.{digits-div, digits-mod}
 use lib.Dec.{ltb, lit<, lit≤}

@@ -1,19 +1,13 @@
 -- A line of the trace, byte by byte. (Document 01: The run file and its trace.)
 use Prim.Native.Nat.{ℕ, zero, suc, _+_, _/_, _%_, _^_}
-use mathlib.Core.Path.{_≡_}
-use mathlib.Core.Bool.{cond}
+use mathlib.Core.{Path._≡_, Bool.cond}
 use mathlib.Core.List.{List, [], _∷_, _++_}
-use lib.ListN.{length}
-use lib.Seq.{sets}
+use lib.{ListN.length, Seq.sets}
 use lib.Dec.{ltb, leb}
-use Rattle.model.specs.declared.Entry.{Entry}
-use Rattle.model.specs.declared.Answer.{Answer}
+use Rattle.model.specs.declared.{Entry.Entry, Answer.Answer, Outcome.Outcome, Opening.Opening, Op.Op}
 use Rattle.model.specs.declared.Answer.the-variants.{Running, Pushed, Empty, Popped, NoSlot}
-use Rattle.model.specs.declared.Outcome.{Outcome}
 use Rattle.model.specs.declared.Outcome.the-variants.{Refused, Moved}
-use Rattle.model.specs.declared.Opening.{Opening}
 use Rattle.model.specs.declared.Opening.the-variants as opening
-use Rattle.model.specs.declared.Op.{Op}
 use Rattle.model.specs.declared.Op.the-variants as op
 use Rattle.model.specs.Refusals.{malformed}
 use Rattle.lines.specs.Ascii.{ascii}

@@ -6,13 +6,12 @@ use mathlib.Core.Bool.{true, false}
 use mathlib.Core.List.{List, [], _∷_, _++_, map}
 use Prim.Native.Nat.{ℕ}
 use lib.ListN.{replicate}
-use Rattle.model.specs.declared.Record.{Record}
+use Rattle.model.specs.declared.{Record.Record, Reply.Reply}
 use Rattle.model.specs.declared.Answer.the-variants.{Pushed, Empty, NoSlot}
 use Rattle.model.specs.declared.Outcome.the-variants.{Refused, Moved}
 use Rattle.model.specs.declared.Op.the-variants.{Put}
 use Rattle.model.specs.declared.Opening.the-variants as opening
 use Rattle.model.specs.declared.Reported.the-variants as reported
-use Rattle.model.specs.declared.Reply.{Reply}
 use Rattle.model.specs.Tables.{Tables, Queue, tablesOf, queueOf, unopened, openedControl, withWords, newCall, withSeen, withNeighbour, withLink}
 use Rattle.model.specs.Tables.{withMarks, counting, unused, started}
 use Rattle.model.specs.Sound.{anchorSound, linkSound, controlSound, recordSound, rowsFit}

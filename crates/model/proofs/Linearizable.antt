@@ -1,18 +1,12 @@
 -- Demand 3: after any accepted opening, on any tables, every list of starts and steps is linearized.
-use mathlib.Core.Bool.{Bool}
-use mathlib.Core.List.{List}
+use mathlib.Core.{Bool.Bool, List.List}
 use mathlib.Core.Path.{_∙_, _≡_, ap}
 use Prim.Native.Nat.{ℕ}
-use Rattle.model.specs.Calls.{opened}
+use Rattle.model.specs.{Calls.opened, Refusals.openRefusal, Walk.entries, Tables.Queue}
 use Rattle.model.specs.History.{Linearizable, Linearized, Request, final, ledger, run}
-use Rattle.model.specs.Refusals.{openRefusal}
-use Rattle.model.specs.Walk.{entries}
-use Rattle.model.specs.Tables.{Queue}
 use Rattle.model.proofs.bridge.View.{stateOf}
-use Rattle.model.proofs.ledger.EveryOperation.{run-good}
-use Rattle.model.proofs.ledger.Lawful.{all-lawful}
+use Rattle.model.proofs.ledger.{EveryOperation.run-good, Lawful.all-lawful, Waiting.waits}
 use Rattle.model.proofs.ledger.Opened.{nobody, open-good, some-slots}
-use Rattle.model.proofs.ledger.Waiting.{waits}
 use Rattle.model.proofs.Openings.{after-opening}
 
 module _ (pooled : Bool) (q : Queue) (tasks slots tag : ℕ) where

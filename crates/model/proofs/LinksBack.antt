@@ -9,9 +9,8 @@ use lib.Dec.{eqb}
 use borrow.Author.Tests.{eqb-true}
 use Rattle.word.specs.Anchor.{anchorOf}
 use Rattle.model.specs.declared.Entry.{Entry}
-use Rattle.model.specs.Tables.{Queue}
+use Rattle.model.specs.{Tables.Queue, Calls.opened}
 use Rattle.model.specs.Walk.{contents, entries}
-use Rattle.model.specs.Calls.{opened}
 use Rattle.model.specs.History.{Ledger, final}
 use Rattle.model.specs.Neighbours.{Joined, LinksBack, NeighboursJoined}
 use Rattle.model.proofs.tests.Truth.{split}
@@ -20,9 +19,7 @@ use Rattle.model.proofs.machine.Machine.{Status, code}
 use Rattle.model.proofs.invariant.Shape.{Linked}
 use Rattle.model.proofs.chain.Joints.{joined-at}
 use Rattle.model.proofs.bridge.View.{stateOf, statusOf, view}
-use Rattle.model.proofs.ledger.Matched.{Matched}
-use Rattle.model.proofs.ledger.Waiting.{waits}
-use Rattle.model.proofs.ledger.EveryOperation.{run-good}
+use Rattle.model.proofs.ledger.{Matched.Matched, Waiting.waits, EveryOperation.run-good}
 use Rattle.model.proofs.ledger.Opened.{nobody, open-good, some-slots}
 use Rattle.model.proofs.Openings.{after-opening}
 

@@ -8,25 +8,20 @@ use native.Mathlib.Omega.{arith}
 use lib.Dec.{eqb, leb}
 use borrow.Author.Tests.{eqb-true, leb-true, lt-leb}
 use Rattle.word.specs.Anchor.{anchorOf}
-use Rattle.model.specs.Calls.{opened}
+use Rattle.model.specs.{Calls.opened, Walk.entries, Lists.All, Sides.near}
 use Rattle.model.specs.History.{InUse, Ledger, MarkedWhile, MarksNamed, MarksRight, Taken, Waits, final, here}
 use Rattle.model.specs.History.{is-taken, later, pop-gives, pop-holds, popGives, popHolds, push-holds, pushHolds, waits}
 use Rattle.model.specs.Tables.{atPlace, Queue, Tables, isPooled, marked, recordAt}
-use Rattle.model.specs.Walk.{entries}
-use Rattle.model.specs.declared.Entry.{Entry}
-use Rattle.model.specs.declared.Record.{Record}
-use Rattle.model.proofs.tests.ByPlace.{by-place}
-use Rattle.model.proofs.tests.Rules.{tests}
+use Rattle.model.specs.declared.{Entry.Entry, Record.Record}
+use Rattle.model.proofs.tests.{ByPlace.by-place, Rules.tests}
 use Rattle.model.proofs.tests.Truth.{and-true, decide-eq, not-both}
-use Rattle.model.proofs.lists.In.{In}
-use Rattle.model.proofs.lists.Slots.{slots}
+use Rattle.model.proofs.lists.{In.In, Slots.slots}
 use Rattle.model.proofs.machine.Book.{Call}
 use Rattle.model.proofs.machine.Machine as M
 use Rattle.model.proofs.invariant.Owners.{Owner, held, queued, shows}
 use Rattle.model.proofs.invariant.Tasks.{Own, Stage, Task}
 use Rattle.model.proofs.places.NoSlot.{Holds, Pushes, used}
-use Rattle.model.proofs.places.Marking.{none-giving}
-use Rattle.model.proofs.places.Owned.{push-pop}
+use Rattle.model.proofs.places.{Marking.none-giving, Owned.push-pop}
 use Rattle.model.proofs.bridge.Operations.{task-of}
 use Rattle.model.proofs.bridge.View.{kindOf, placeOf, recOf, stateOf, view}
 use Rattle.model.proofs.ledger.Matched.{Matched}
@@ -35,9 +30,7 @@ use Rattle.model.proofs.unsound.Safe.{Safe}
 use Rattle.model.proofs.progress.Reached.{final-reached, open-reached}
 use Rattle.model.proofs.NoSlot.{Held, tip-near, used-is}
 use Rattle.model.proofs.Openings.{after-opening}
-use Rattle.model.specs.Lists.{All}
 use Rattle.model.specs.Kinds.{giving, isPop, isPush}
-use Rattle.model.specs.Sides.{near}
 
 -- What waits is in the sequential deque.
 waits-in : (l : List Entry) (x : ℕ) → Waits x (entries l) → In x (slots l)

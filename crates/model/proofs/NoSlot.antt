@@ -4,8 +4,7 @@ use mathlib.Core.List.{List, [], _∷_}
 use mathlib.Core.Logic.{_≢_, _⊎_, inl, inr}
 use mathlib.Core.Path.{_∙_, _≡_, ap, refl, subst, sym}
 use Prim.Native.Nat.{_<_, _≤_, ℕ}
-use native.Mathlib.Decide.{decLt}
-use native.Mathlib.Omega.{arith}
+use native.Mathlib.{Decide.decLt, Omega.arith}
 use lib.Dec.{eqb, leb, ltb}
 use lib.ListN.{List·getD-eq-default}
 use borrow.Author.Tests.{eq-eqb, eqb-false, eqb-true, ltb-true}
@@ -17,16 +16,13 @@ use Rattle.model.specs.Refusals.{among, stepRefusal}
 use Rattle.model.specs.Walk.{entries}
 use Rattle.model.specs.Tables.{atPlace, Queue, Tables, recordAt}
 use Rattle.model.specs.declared.Answer.the-variants.{NoSlot}
-use Rattle.model.specs.declared.Answer.{Answer}
-use Rattle.model.specs.declared.Entry.{Entry}
+use Rattle.model.specs.declared.{Answer.Answer, Entry.Entry, Record.Record}
 use Rattle.model.specs.declared.Op.the-variants.{Step}
 use Rattle.model.specs.declared.Outcome.the-variants.{Moved}
-use Rattle.model.specs.declared.Record.{Record}
 use Rattle.model.proofs.tests.ByPlace.{by-place}
 use Rattle.model.proofs.tests.Rules.{_and_, passes}
 use Rattle.model.proofs.tests.Truth.{and-of, by-test, decide-eq}
-use Rattle.model.proofs.lists.In.{In}
-use Rattle.model.proofs.lists.Slots.{slots}
+use Rattle.model.proofs.lists.{In.In, Slots.slots}
 use Rattle.model.proofs.machine.Book as B
 use Rattle.model.proofs.machine.Machine as M
 use Rattle.model.proofs.places.NoSlot.{Holds, Used, no-slot}
@@ -36,8 +32,7 @@ use Rattle.model.proofs.bridge.Operations.{reply, step-lacks}
 use Rattle.model.proofs.bridge.View.{anchorSeen, answerSeen, kindOf, placeList, placeOf, recOf, stateOf, view}
 use Rattle.model.proofs.ledger.Matched.{Matched}
 use Rattle.model.proofs.ledger.Waiting as waiting
-use Rattle.model.proofs.unsound.Safe.{Safe}
-use Rattle.model.proofs.unsound.Suits.{kind-push}
+use Rattle.model.proofs.unsound.{Safe.Safe, Suits.kind-push}
 use Rattle.model.proofs.progress.Reached.{final-reached, open-reached}
 use Rattle.model.proofs.Openings.{after-opening}
 

@@ -1,14 +1,11 @@
 -- What holds of the queue that every accepted opening leaves, and of any list after it.
-use mathlib.Core.Bool.{Bool}
-use mathlib.Core.List.{List}
-use mathlib.Core.Path.{_≡_}
+use mathlib.Core.{Bool.Bool, List.List, Path._≡_}
 use Prim.Native.Nat.{ℕ}
 use native.Mathlib.Omega.{arith}
 use lib.Dec.{eqb}
 use borrow.Author.Tests.{eqb-true}
 use Rattle.model.specs.declared.Opening.the-variants.{Opened, Refused}
-use Rattle.model.specs.Tables.{Queue}
-use Rattle.model.specs.Refusals.{openRefusal}
+use Rattle.model.specs.{Tables.Queue, Refusals.openRefusal}
 use Rattle.model.specs.Calls.{openAs, opened}
 use Rattle.model.specs.History.{AfterOpeningAs, Request}
 use Rattle.model.proofs.tests.Truth.{split}

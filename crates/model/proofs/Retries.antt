@@ -9,9 +9,8 @@ use lib.Dec.{eqb, ltb}
 use lib.ListN.{getD, length, set}
 use borrow.Author.Tests.{eqb-true, lt-ltb}
 use lib.Seq.{getD-set-same, getD-set-other}
-use Rattle.model.specs.declared.Op.{Op}
+use Rattle.model.specs.declared.{Op.Op, TaskRecord.TaskRecord}
 use Rattle.model.specs.declared.Op.the-variants.{Push, Pop, Put, Step}
-use Rattle.model.specs.declared.TaskRecord.{TaskRecord}
 use Rattle.model.specs.Tables.{Queue, recordAt, taskAt, unused}
 use Rattle.model.specs.Refusals.{among, popRefusal, pushRefusal, putRefusal, stepRefusal}
 use Rattle.model.specs.Route.{counted}

@@ -5,8 +5,7 @@ use mathlib.Core.List.{List, [], _∷_}
 use Prim.Native.Nat.{ℕ}
 use Rattle.model.specs.declared.Entry.{Entry}
 use Rattle.model.specs.declared.Reported.the-variants as reported
-use Rattle.model.specs.Tables.{Queue}
-use Rattle.model.specs.Standing.{Standing}
+use Rattle.model.specs.{Tables.Queue, Standing.Standing}
 use Rattle.model.specs.Refusals.{openRefusal, recordsFit, reportRefusal}
 use Rattle.model.specs.Calls.{act, opened}
 use Rattle.model.specs.Report.{busy, report, tell, told, waiting}
@@ -14,9 +13,7 @@ use Rattle.model.specs.History.{AfterOpening, Reports, Told, Request, fi
 use Rattle.model.proofs.laws.Sizes.{act-fits, fits, open-fits}
 use Rattle.model.proofs.ledger.Opened.{nobody, open-good, some-slots}
 use Rattle.model.proofs.unsound.Runs.{run-safe}
-use Rattle.model.proofs.Linearizable.{linearized}
-use Rattle.model.proofs.Never34.{open-safe}
-use Rattle.model.proofs.Openings.{after-opening}
+use Rattle.model.proofs.{Linearizable.linearized, Never34.open-safe, Openings.after-opening}
 
 final-fits : (os : List Request) (q : Queue) → fits (final q os) ≡ fits q
 unfolding final

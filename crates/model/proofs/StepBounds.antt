@@ -1,16 +1,13 @@
 -- Request #108: how long a call may hold up.
-use mathlib.Core.Bool.{Bool}
-use mathlib.Core.List.{List}
+use mathlib.Core.{Bool.Bool, List.List}
 use mathlib.Core.Path.{subst, subst₂, sym}
 use Prim.Native.Nat.{_≤_, ℕ}
-use Rattle.model.specs.Calls.{opened}
+use Rattle.model.specs.{Calls.opened, Solo.soloRun}
 use Rattle.model.specs.History.{AfterOpening, Request, final, run}
 use Rattle.model.specs.Progress.{AnsweredWithin, SoloBound, SoloWithin, StretchBound, StretchTells, limit, steps, stretchLimit}
-use Rattle.model.specs.Solo.{soloRun}
 use Rattle.model.specs.Tables.{Queue, recordAt}
-use Rattle.model.proofs.progress.AloneSteps.{solo-within}
+use Rattle.model.proofs.progress.{AloneSteps.solo-within, TogetherSteps.stretch-tells}
 use Rattle.model.proofs.progress.Reached.{Reached, final-reached, open-reached}
-use Rattle.model.proofs.progress.TogetherSteps.{stretch-tells}
 use Rattle.model.proofs.Openings.{after-opening}
 
 -- What holds of every reached queue.

@@ -4,4 +4,5 @@ pub mod Machine
 pub mod Book
 pub mod Laws
 pub mod LinkTags
+pub mod ByStep
 pub mod Answers

@@ -9,5 +9,6 @@ pub mod Alone
 pub mod AloneSteps
 pub mod Others
 pub mod Scale
+pub mod AllOwed
 pub mod Together
 pub mod TogetherSteps

@@ -4,17 +4,11 @@ use mathlib.Core.List.{List, _∷_, _++_}
 use Prim.Native.Nat.{ℕ, _+_, _/_}
 use lib.Dec.{eqb}
 use lib.ListN.{getD, set, drop}
-use Rattle.model.specs.declared.Record.{Record}
-use Rattle.model.specs.declared.TaskRecord.{TaskRecord}
-use Rattle.model.specs.declared.Entry.{Entry}
+use Rattle.model.specs.declared.{Record.Record, TaskRecord.TaskRecord, Entry.Entry, Outcome.Outcome, Opening.Opening, Op.Op, Reply.Reply}
 use Rattle.model.specs.declared.Answer.the-variants.{Running, Pushed, Empty, Popped, NoSlot}
-use Rattle.model.specs.declared.Outcome.{Outcome}
 use Rattle.model.specs.declared.Outcome.the-variants.{Refused, Moved}
-use Rattle.model.specs.declared.Opening.{Opening}
 use Rattle.model.specs.declared.Opening.the-variants as opening
-use Rattle.model.specs.declared.Op.{Op}
 use Rattle.model.specs.declared.Op.the-variants.{Push, Pop, Put, Step}
-use Rattle.model.specs.declared.Reply.{Reply}
 use Rattle.model.specs.Tables.{Tables, Queue, tablesOf, openedControl, unused, counting, withCall, started, asking, taskAt, taken}
 use Rattle.model.specs.Places.{row, wordFound, Move, move, apply}
 use Rattle.model.specs.Route.{route, onward, answer, goes, counted}

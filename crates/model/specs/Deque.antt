@@ -3,8 +3,7 @@ use mathlib.Core.Bool.{Bool, true, false, cond}
 use mathlib.Core.List.{List, [], _∷_, reverse}
 use Prim.Native.Nat.{ℕ}
 use lib.Dec.{eqb}
-use Rattle.model.specs.declared.Entry.{Entry}
-use Rattle.model.specs.declared.Answer.{Answer}
+use Rattle.model.specs.declared.{Entry.Entry, Answer.Answer}
 use Rattle.model.specs.declared.Answer.the-variants.{Running, Pushed, Empty, Popped, NoSlot}
 
 -- A deque is a list from left to right; seen from a side, the end there comes first.

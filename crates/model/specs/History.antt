@@ -6,23 +6,17 @@ use Prim.Native.Nat.{ℕ, suc, _<_, _≤_}
 use lib.Dec.{eqb, leb}
 use lib.ListN.{length}
 use Rattle.word.specs.Anchor.{anchorOf}
-use Rattle.model.specs.declared.Entry.{Entry}
-use Rattle.model.specs.declared.Answer.{Answer}
+use Rattle.model.specs.declared.{Entry.Entry, Answer.Answer, Outcome.Outcome, Op.Op, Record.Record, Report.Report}
 use Rattle.model.specs.declared.Answer.the-variants.{Running, Pushed, Empty, Popped, NoSlot}
-use Rattle.model.specs.declared.Outcome.{Outcome}
 use Rattle.model.specs.declared.Outcome.the-variants.{Refused, Moved}
-use Rattle.model.specs.declared.Op.{Op}
 use Rattle.model.specs.declared.Op.the-variants.{Push, Pop, Put, Step}
 use Rattle.model.specs.Tables.{Queue, marked, recordAt}
-use Rattle.model.specs.declared.Record.{Record}
 use Rattle.model.specs.declared.Opening.the-variants.{Opened}
-use Rattle.model.specs.declared.Report.{Report}
 use Rattle.model.specs.declared.Reported.the-variants as reported
 use Rattle.model.specs.Calls.{openAs, act}
 use Rattle.model.specs.Walk.{Walk, entries, contents}
-use Rattle.model.specs.Report.{report}
+use Rattle.model.specs.{Report.report, Sides.near}
 use Rattle.model.specs.Deque.{saysNoSlot, serveFor}
-use Rattle.model.specs.Sides.{near}
 use Rattle.model.specs.Lists.{every, All}
 use Rattle.model.specs.Kinds.{isPush, isPop, giving}
 

@@ -1,7 +1,6 @@
 -- Lists in which a step on one lent record takes the place of its task's step. (Document 01: The clerk.)
-use mathlib.Core.Path.{_≡_}
+use mathlib.Core.{Path._≡_, Logic._≢_}
 use mathlib.Core.List.{List, [], _∷_, map}
-use mathlib.Core.Logic.{_≢_}
 use Prim.Native.Nat.{ℕ, _<_, _≤_}
 use lib.ListN.{length}
 use Rattle.model.specs.declared.TaskRecord.{TaskRecord}

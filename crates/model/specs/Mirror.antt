@@ -1,15 +1,11 @@
 -- The mirror of a queue: left and right exchanged. (Document 01: Places, "for the left swap Left with Right, left end with right end, and RPUSH with LPUSH".)
-use mathlib.Core.Path.{_≡_}
+use mathlib.Core.{Path._≡_, List.map}
 use mathlib.Core.Bool.{Bool, cond}
-use mathlib.Core.List.{map}
 use Prim.Native.Nat.{ℕ}
 use lib.Dec.{eqb}
 use Rattle.word.specs.declared.Anchor.{Anchor}
 use Rattle.word.specs.Anchor.{anchorOf, anchorWord}
-use Rattle.model.specs.declared.Control.{Control}
-use Rattle.model.specs.declared.Record.{Record}
-use Rattle.model.specs.declared.TaskRecord.{TaskRecord}
-use Rattle.model.specs.declared.Op.{Op}
+use Rattle.model.specs.declared.{Control.Control, Record.Record, TaskRecord.TaskRecord, Op.Op}
 use Rattle.model.specs.declared.Op.the-variants.{Push, Pop, Put, Step}
 use Rattle.model.specs.Tables.{Tables, Queue, tablesOf, withWords, withSeen, ofKind, withCall}
 use Rattle.model.specs.Calls.{OpenDone, Acted, Done, openAs, act, stepLent}

@@ -1,10 +1,8 @@
 -- "Only at the end that the status names may the neighbour's link back be unfinished." (Document 01: labels waiting, in order.)
 use mathlib.Core.List.{List, [], _∷_, _++_}
-use mathlib.Core.Logic.{_≢_}
-use mathlib.Core.Path.{_≡_}
+use mathlib.Core.{Logic._≢_, Path._≡_}
 use lib.ListN.{getD}
-use Rattle.word.specs.Anchor.{anchorOf}
-use Rattle.word.specs.Link.{linkOf}
+use Rattle.word.specs.{Anchor.anchorOf, Link.linkOf}
 use Rattle.model.specs.declared.Entry.{Entry}
 use Rattle.model.specs.Tables.{Tables, Queue}
 use Rattle.model.specs.Walk.{entries, contents}

@@ -1,10 +1,8 @@
 -- One touch at a time: how far the shared tables may differ after a step. (Document 01: "moved one touch at a time".)
-use mathlib.Core.Path.{_≡_}
-use mathlib.Core.Logic.{_≢_}
+use mathlib.Core.{Path._≡_, Logic._≢_}
 use Prim.Native.Nat.{ℕ}
 use lib.ListN.{set}
-use Rattle.model.specs.declared.TaskRecord.{TaskRecord}
-use Rattle.model.specs.declared.Op.{Op}
+use Rattle.model.specs.declared.{TaskRecord.TaskRecord, Op.Op}
 use Rattle.model.specs.declared.Op.the-variants.{Step}
 use Rattle.model.specs.Tables.{Tables, Queue, recordAt, taskAt, withAnchor, withHead, linked, withMarks, withNext, taken}
 use Rattle.model.specs.Calls.{act, stepLent}

@@ -6,8 +6,7 @@ use lib.ListN.{getD, set}
 use Rattle.word.specs.declared.Anchor.{Anchor}
 use Rattle.word.specs.Anchor.{anchorOf, packAnchor}
 use Rattle.word.specs.Link.{linkOf, packLink}
-use Rattle.model.specs.declared.Control.{Control}
-use Rattle.model.specs.declared.Record.{Record}
+use Rattle.model.specs.declared.{Control.Control, Record.Record}
 use Rattle.model.specs.Tables.{Tables, isPooled, withMark}
 use Rattle.model.specs.Tables.{withOwn, withSeen, withNeighbour, withLink, withAnchor, withHead, linked, withMarks, withNext, taken}
 use Rattle.model.specs.Sides.{opposite, near, far, facing, links, pushing, named, isEmpty}

@@ -1,13 +1,11 @@
 -- How many steps may pass before a call takes effect or answers. (Request #108.)
 use mathlib.Core.Bool.{Bool, true, false, _||_, cond}
 use mathlib.Core.List.{List, [], _∷_}
-use mathlib.Core.Logic.{_≢_}
-use mathlib.Core.Path.{_≡_}
+use mathlib.Core.{Logic._≢_, Path._≡_}
 use Prim.Native.Nat.{ℕ, zero, suc, _+_, _*_, _<_, _≤_}
 use lib.Dec.{eqb}
-use Rattle.model.specs.declared.Outcome.{Outcome}
+use Rattle.model.specs.declared.{Outcome.Outcome, Op.Op}
 use Rattle.model.specs.declared.Outcome.the-variants.{Refused, Moved}
-use Rattle.model.specs.declared.Op.{Op}
 use Rattle.model.specs.declared.Op.the-variants.{Push, Pop, Put, Step}
 use Rattle.model.specs.Tables.{Queue, isPooled, recordAt}
 use Rattle.model.specs.Ends.{answerEnds, endsCall}

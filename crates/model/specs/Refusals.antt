@@ -4,11 +4,8 @@ use mathlib.Core.List.{List, [], _∷_, _++_}
 use Prim.Native.Nat.{ℕ}
 use lib.Dec.{ltb, leb, eqb}
 use lib.ListN.{length}
-use Rattle.word.specs.Anchor.{anchorOf}
-use Rattle.word.specs.Link.{linkOf}
-use Rattle.model.specs.declared.Control.{Control}
-use Rattle.model.specs.declared.Record.{Record}
-use Rattle.model.specs.declared.Asked.{Asked}
+use Rattle.word.specs.{Anchor.anchorOf, Link.linkOf}
+use Rattle.model.specs.declared.{Control.Control, Record.Record, Asked.Asked}
 use Rattle.model.specs.Tables.{Tables, Queue, isPooled, marked}
 use Rattle.model.specs.Sound.{from1, anchorSound, linkSound, controlSound, recordSound, rowsFit}
 use Rattle.model.specs.Walk.{contents, isBroken}

@@ -5,8 +5,7 @@ use Prim.Native.Nat.{ℕ, _+_}
 use lib.Dec.{eqb, ltb}
 use lib.ListN.{length}
 use Rattle.word.specs.Anchor.{anchorOf}
-use Rattle.model.specs.declared.Report.{Report}
-use Rattle.model.specs.declared.Reported.{Reported}
+use Rattle.model.specs.declared.{Report.Report, Reported.Reported}
 use Rattle.model.specs.declared.Reported.the-variants as reported
 use Rattle.model.specs.Tables.{Tables, Queue, marked, recordAt, taskAt}
 use Rattle.model.specs.Walk.{contents, met}

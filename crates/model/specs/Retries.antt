@@ -8,9 +8,8 @@ use Rattle.model.specs.declared.Op.{Op}
 use Rattle.model.specs.declared.Op.the-variants.{Push, Pop, Put, Step}
 use Rattle.model.specs.Tables.{Queue, taskAt, recordAt}
 use Rattle.model.specs.Places.{wordFound, move}
-use Rattle.model.specs.Route.{counted}
+use Rattle.model.specs.{Route.counted, Calls.act}
 use Rattle.model.specs.Refusals.{among, stepRefusal}
-use Rattle.model.specs.Calls.{act}
 use Rattle.model.specs.History.{Request, final, AfterOpening}
 
 -- A step that is carried out and whose change fails: at 2, 4, 9, 10, 14 or 17.

@@ -7,10 +7,8 @@ use lib.ListN.{length}
 use Rattle.word.specs.declared.Anchor.{Anchor}
 use Rattle.word.specs.Anchor.{anchorOf}
 use Rattle.word.specs.Link.{linkOf, spareOf}
-use Rattle.model.specs.declared.Control.{Control}
-use Rattle.model.specs.declared.Record.{Record}
-use Rattle.model.specs.Tables.{Tables}
-use Rattle.model.specs.Lists.{every}
+use Rattle.model.specs.declared.{Control.Control, Record.Record}
+use Rattle.model.specs.{Tables.Tables, Lists.every}
 use Rattle.model.specs.Kinds.{isPush, isPop, helping, drawing, giving, owning}
 
 -- x is 1 to n.

@@ -1,10 +1,8 @@
 -- What a call that walks relies on. (Document 02: #102, #107, #109, #110, #111.)
-use mathlib.Core.Path.{_≡_}
+use mathlib.Core.{Path._≡_, List.List}
 use mathlib.Core.Bool.{true, _&&_}
-use mathlib.Core.List.{List}
 use Rattle.model.specs.declared.Entry.{Entry}
-use Rattle.model.specs.Tables.{Queue}
-use Rattle.model.specs.Sound.{controlSound}
+use Rattle.model.specs.{Tables.Queue, Sound.controlSound}
 use Rattle.model.specs.Walk.{contents, entries}
 use Rattle.model.specs.Refusals.{fits, recordsFit}
 

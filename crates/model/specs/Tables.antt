@@ -5,9 +5,7 @@ use Prim.Native.Nat.{ℕ, _+_, _*_, _/_, _%_, _^_}
 use lib.Dec.{eqb}
 use lib.ListN.{getD, set}
 use Rattle.word.specs.Anchor.{packAnchor, emptyAnchor}
-use Rattle.model.specs.declared.Control.{Control}
-use Rattle.model.specs.declared.Record.{Record}
-use Rattle.model.specs.declared.TaskRecord.{TaskRecord}
+use Rattle.model.specs.declared.{Control.Control, Record.Record, TaskRecord.TaskRecord}
 
 -- What all tasks share: control, the slot rows (a Left and a Right link word and a label), the marks; in a pooled queue the next table too.
 pub record Tables : Type 0 where

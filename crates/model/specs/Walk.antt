@@ -2,14 +2,11 @@
 use mathlib.Core.Bool.{Bool, true, false, cond}
 use mathlib.Core.List.{List, [], _∷_}
 use Prim.Native.Nat.{ℕ, zero, suc}
-use lib.Dec.{eqb}
-use lib.ListN.{getD}
-use Rattle.word.specs.Anchor.{anchorOf}
-use Rattle.word.specs.Link.{linkOf}
+use lib.{Dec.eqb, ListN.getD}
+use Rattle.word.specs.{Anchor.anchorOf, Link.linkOf}
 use Rattle.model.specs.declared.Entry.{Entry}
-use Rattle.model.specs.Tables.{Tables}
+use Rattle.model.specs.{Tables.Tables, Deque.seenFrom}
 use Rattle.model.specs.Sound.{from1, linkSound}
-use Rattle.model.specs.Deque.{seenFrom}
 use Rattle.model.specs.Sides.{opposite, near, far, links, isEmpty}
 
 -- A walk of the queue: its entries, or broken.

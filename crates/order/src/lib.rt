@@ -1,13 +1,12 @@
 //! The order sheet: whether the labels waiting keep its chained rules.
 use model::Control;
 use sheet_model::SheetReply;
+use sound::Lengths;
 ghost use mathlib.Core.Path.{_≡_};
-ghost use mathlib.Core.Bool.{false, _&&_};
 ghost use mathlib.Core.List.{List};
 ghost use Prim.Native.Nat.{ℕ};
 ghost use Rattle.model.specs.Tables.{tablesOf};
 ghost use Rattle.model.specs.Sound.{controlSound};
-ghost use Rattle.sound.specs.Lengths.{lengthsFit};
 ghost use Rattle.sheet_model.specs.Sheet.{malformed};
 ghost use Rattle.sheet_model.specs.Verdict.{refused, sheet, Printed, sheetWords};
 ghost use Rattle.order.specs.Refusals.{early};
@@ -30,21 +29,12 @@ fn refused(number: u64) -> SheetReply
 }
 
 /// What stands before the walk: 34 for control and Anchor, 46, 12. No next table is lent, so none counts.
-fn early(
-    c: Control,
-    listed: &[u32],
-    rules: &[u32],
-    enough: bool,
-    lefts: usize,
-    rights: usize,
-    labels: usize,
-    marks: usize,
-) -> u64
+fn early(c: Control, listed: &[u32], rules: &[u32], fits: bool) -> u64
     ensures { λ r.
         ⌜ r ≡ early
         (controlSound c)
         (malformed (record { listed = now (listed .entry); rules = now (rules .entry) }))
-        (lengthsFit false (c .slots) lefts rights labels marks 0 && enough) ⌝ }
+        fits ⌝ }
 {
     if !sound::control_sound(c) {
         return 34;
@@ -52,11 +42,7 @@ fn early(
     if form::malformed(listed, rules) {
         return 46;
     }
-    let fits = sound::rows_fit(false, c.slots, lefts, rights, labels, marks, 0);
-    if !(fits & enough) {
-        return 12;
-    }
-    0
+    if fits { 0 } else { 12 }
 }
 
 /// Kept, or the first broken pair, by first then second place in the sheet; whatever the next rows.
@@ -74,16 +60,16 @@ pub fn sheet(
         (tablesOf c (now (lefts .entry)) (now (rights .entry)) (now (labels .entry)) (now (marks .entry)) next)
         (record { listed = now (listed .entry); rules = now (rules .entry) })) ⌝ }
 {
-    let why = early(
-        c,
-        listed,
-        rules,
-        true,
-        lefts.len(),
-        rights.len(),
-        labels.len(),
-        marks.len(),
-    );
+    let t = Lengths {
+        records: 0,
+        lefts: lefts.len(),
+        rights: rights.len(),
+        labels: labels.len(),
+        marks: marks.len(),
+        next: 0,
+    };
+    let fits = sound::rows_fit(false, c.slots, t);
+    let why = early(c, listed, rules, fits);
     if why != 0 {
         return refused(why);
     }
@@ -115,16 +101,16 @@ pub fn sheet_words(
         (record { listed = now (listed .entry); rules = now (rules .entry) })
         (now (lent .entry)))) ⌝ }
 {
-    let why = early(
-        c,
-        listed,
-        rules,
-        32 <= lent.len(),
-        lefts.len(),
-        rights.len(),
-        labels.len(),
-        marks.len(),
-    );
+    let t = Lengths {
+        records: 0,
+        lefts: lefts.len(),
+        rights: rights.len(),
+        labels: labels.len(),
+        marks: marks.len(),
+        next: 0,
+    };
+    let fits = sound::rows_fit(false, c.slots, t);
+    let why = early(c, listed, rules, fits & (32 <= lent.len()));
     if why != 0 {
         return refused(why);
     }

@@ -4,8 +4,7 @@ use mathlib.Core.Path.{_≡_, ap, _∙_}
 use mathlib.Core.List.{List}
 use mathlib.Core.Bool.{Bool, true, false, not, _||_}
 use native.Mathlib.Omega.{arith}
-use lib.Dec.{eqb}
-use lib.ListN.{length}
+use lib.{Dec.eqb, ListN.length}
 use borrow.Author.Tests.{eqb-true, eqb-false}
 use Rattle.carry.specs.Page.{Page}
 use Rattle.replay.specs.Pieces.{nextPage}

@@ -1,7 +1,5 @@
 -- Some pages of a piece, one after another: where a page cannot be written none comes after it.
-use mathlib.Core.Bool.{false}
-use mathlib.Core.List.{List}
-use mathlib.Core.Path.{_≡_}
+use mathlib.Core.{Bool.false, List.List, Path._≡_}
 use Prim.Native.Nat.{ℕ}
 use Rattle.carry.specs.Page.{Page}
 use Rattle.replay.specs.Pieces.{nextPage}

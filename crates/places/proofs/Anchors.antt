@@ -5,17 +5,15 @@ use Prim.Native.Nat.{ℕ, _+_, _/_, _^_}
 use lib.Dec.{eqb, ltb}
 use borrow.Author.Tests.{eq-eqb, ne-eqb}
 use Rattle.word.specs.Anchor.{anchorOf, packAnchor}
-use Rattle.model.specs.declared.Control.{Control}
-use Rattle.model.specs.declared.Record.{Record}
+use Rattle.model.specs.declared.{Control.Control, Record.Record, Transition.Transition}
 use Rattle.model.specs.Tables.{atPlace, tablesOf, withSeen}
-use Rattle.model.specs.Sound.{anchorSound}
+use Rattle.model.specs.{Sound.anchorSound, Kinds.isPop}
 use Rattle.model.specs.Places.{reading, sideOf, nothing, setAnchor, Move, compares, at1, at2, at4, at6, at10, move}
 use Rattle.model.specs.Places as model-places
 use Rattle.model.specs.Refusals.{needsRow, meetsLink, meetsHead, stepSound}
 use Rattle.model.specs.Route.{route, pushRoute, popRoute, goes, counted}
 use Rattle.model.specs.Calls.{entryOf, finish}
 use Rattle.model.proofs.laws.Onward.{reads-on}
-use Rattle.model.specs.declared.Transition.{Transition}
 use Rattle.table.specs.Lent.{withTables}
 use Rattle.places.specs.Arm.{stepAt, Steps}
 use Rattle.decide.specs.Ending.{refused, settled, noEntry, failing, anchored, anchorRead, mayChange, remembered, compared, changed}
@@ -23,7 +21,6 @@ use Rattle.decide.specs.Decided.{new2, new4, new10}
 use Rattle.decide.proofs.Routes.{kinds, readings, Quiet, quietly}
 use Rattle.model.proofs.tests.Truth.{split}
 use Rattle.model.specs.Sides.{far, facing, pushing}
-use Rattle.model.specs.Kinds.{isPop}
 
 -- The step at place n tries to change Anchor: the change fails, is denied or is made.
 pub record Tries (n : ℕ) (c : Control) (r : Record) (new : ℕ) (t : Record) (done : ℕ) (failed : Transition) : Type 0 where

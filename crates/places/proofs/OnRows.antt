@@ -7,15 +7,13 @@ use lib.Dec.{eqb, ltb}
 use lib.ListN.{getD, set}
 use Rattle.word.specs.Anchor.{anchorOf}
 use Rattle.word.specs.Link.{linkOf, packLink}
-use Rattle.model.specs.declared.Control.{Control}
-use Rattle.model.specs.declared.Record.{Record}
+use Rattle.model.specs.declared.{Control.Control, Record.Record, Transition.Transition}
 use Rattle.model.specs.Tables.{Tables, isPooled, withMark, tablesOf, withNeighbour, withLink, withOwn}
 use Rattle.model.specs.Sound.{from1, linkSound}
 use Rattle.model.specs.Places.{row, sideOf, linkSide, at3, at5, at7, at9, at11, move}
 use Rattle.model.specs.Refusals.{stepSound}
 use Rattle.model.specs.Route.{route, pushRoute, popRoute, goes, counted}
 use Rattle.model.specs.Calls.{Acted, finish}
-use Rattle.model.specs.declared.Transition.{Transition}
 use Rattle.table.specs.Lent.{withTables}
 use Rattle.places.specs.Arm.{stepAt}
 use Rattle.decide.specs.Ending.{refused, settled, noEntry, failing, rowSound, neighbourRead, linkRead}

@@ -1,20 +1,16 @@
 -- The model's step at the places that draw a slot from the stack and give it back, in the terms of this crate: 12 to 17.
 use mathlib.Core.Path.{_≡_, refl, ap, _∙_}
-use mathlib.Core.Bool.{cond}
-use mathlib.Core.List.{List}
+use mathlib.Core.{Bool.cond, List.List}
 use Prim.Native.Nat.{ℕ, _+_, _/_, _^_}
 use lib.Dec.{eqb, leb, ltb}
 use lib.ListN.{getD, set}
 use Rattle.word.specs.Link.{linkOf, packLink}
-use Rattle.model.specs.declared.Control.{Control}
-use Rattle.model.specs.declared.Record.{Record}
+use Rattle.model.specs.declared.{Control.Control, Record.Record, Transition.Transition}
 use Rattle.model.specs.Tables.{Tables, atPlace, withMark, tablesOf, withNeighbour, withLink, withOwn}
-use Rattle.model.specs.Sound.{linkSound}
+use Rattle.model.specs.{Sound.linkSound, Refusals.stepSound}
 use Rattle.model.specs.Places.{row, at12, at13, at14, at15, at16, at17, move}
-use Rattle.model.specs.Refusals.{stepSound}
 use Rattle.model.specs.Route.{route, pushRoute, popRoute, goes, counted}
 use Rattle.model.specs.Calls.{Acted, entryOf, finish}
-use Rattle.model.specs.declared.Transition.{Transition}
 use Rattle.table.specs.Lent.{withTables}
 use Rattle.places.specs.Arm.{stepAt}
 use Rattle.decide.specs.Ending.{refused, settled, noEntry, failing, headed, headRead}

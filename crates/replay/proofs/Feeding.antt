@@ -9,9 +9,8 @@ use lib.Dec.{leb}
 use borrow.Author.Tests.{leb-true, leb-false}
 use lib.Seq.{take-append-le, drop-append-le}
 use Rattle.runfile.specs.Field.{twoAt, longestField, contentOf, missing, fieldOf}
-use Rattle.runfile.specs.declared.Field.{Field}
+use Rattle.runfile.specs.declared.{Field.Field, Found.Found}
 use Rattle.runfile.specs.declared.Field.the-variants.{Open, Each, Malformed, Cut, End}
-use Rattle.runfile.specs.declared.Found.{Found}
 use Rattle.lines.specs.Line.{header}
 use Rattle.runfile.proofs.Prefix.{Seen, seen, ended, cut, wrong, whole, same-wrong, same-whole}
 use Rattle.carry.specs.Run.{Run, Told, malformed, carried}

@@ -3,8 +3,7 @@ use Prim.Native.Nat.{ℕ, zero, suc, _+_, _-_, _<_}
 use mathlib.Core.Path.{_≡_, refl, sym, ap, _∙_, subst}
 use mathlib.Core.Bool.{Bool, true, false}
 use mathlib.Core.List.{List, [], _++_, append-assoc}
-use native.Mathlib.Nat.{add-zero}
-use native.Mathlib.Omega.{arith}
+use native.Mathlib.{Nat.add-zero, Omega.arith}
 use lib.Dec.{leb, eqb}
 use lib.ListN.{length, drop, length-append}
 use lib.Seq.{sets, drop-drop}

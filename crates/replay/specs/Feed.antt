@@ -1,7 +1,6 @@
 -- A file fed to a run over lent tables: field by field, while the buffer has room.
 use mathlib.Core.Bool.{_&&_, _||_, cond}
-use mathlib.Core.List.{List}
-use mathlib.Core.Path.{_≡_}
+use mathlib.Core.{List.List, Path._≡_}
 use Prim.Native.Nat.{ℕ, zero, suc}
 use lib.Dec.{eqb}
 use lib.ListN.{length, replicate}

@@ -4,7 +4,6 @@ use mathlib.Core.Bool.{Bool, true, false, cond}
 use mathlib.Core.List.{List, []}
 use Prim.Native.Nat.{ℕ, _<_, _≤_}
 use native.Mathlib.Omega.{arith}
-use lib.Dec.{leb, ltb}
 use lib.ListN.{length, getD, set}
 use lib.Seq.{set-getD}
 use borrow.Author.Tests.{leb-true, ltb-true}
@@ -16,11 +15,12 @@ use Rattle.model.specs.declared.Op.the-variants.{Step}
 use Rattle.model.specs.Tables.{Tables, Queue, isPooled, tablesOf, taskAt, unused}
 use Rattle.model.specs.Ends.{endsCall}
 use Rattle.model.specs.Sound.{rowsFit}
-use Rattle.model.specs.Refusals.{Lent, among}
+use Rattle.model.specs.Refusals.{admission, among}
 use Rattle.model.specs.Calls.{Done, back, act, actOn}
-use Rattle.sound.specs.Lengths.{lengthsFit}
+use Rattle.sound.specs.declared.Lengths.{Lengths}
+use Rattle.sound.specs.Lengths.{lengthsOf, lengthsFit, amongMany}
+use Rattle.sound.proofs.Measured.{lengths-fit}
 use Rattle.engine.specs.MoveOn.{moveOn}
-use Rattle.model.specs.Refusals.{admission}
 use Rattle.engine.proofs.InParts.{turned-away, admitted, task-there}
 use Rattle.rows.specs.Rows.{controlOf, recordsOf, upperOf, uppersOf, queueIn}
 use Rattle.rows.specs.Moved.{RowMoved}
@@ -39,25 +39,27 @@ module _ (ws : List ℕ) (rows : List (List ℕ)) (lefts rights labels marks nex
   abbrev row₀ : List ℕ
   row₀ = getD rows task []
 
-  -- Whether tables of these lengths are long enough for a control; how the task's record is lent, seen from the rows.
+  -- The lengths, and how the task's record is lent, seen from the rows.
+  abbrev t : Lengths
+  t = lengthsOf entry (length rows)
+
+  pub lent-among : (c : Control) → c ≡ controlOf ws → amongMany c t task ≡ among queue task
+  lent-among c ec =
+      ap (λ (d : Control). amongMany d t task) ec
+      ∙ ap (λ (n : ℕ). amongMany (controlOf ws) (lengthsOf entry n) task) (sym (length-records rows))
+
   abbrev fit : Control → Bool
-  fit c = lengthsFit (isPooled c) (c .slots) (length lefts) (length rights) (length labels) (length marks) (length next)
-
-  abbrev pub lent : Control → ℕ → Lent
-  lent c n = record { enough = leb (c .tasks) n; known = ltb task (c .tasks) }
-
-  pub lent-among : (c : Control) (n : ℕ) → c ≡ controlOf ws → n ≡ length rows → lent c n ≡ among queue task
-  lent-among c n ec en =
-      ap (λ (d : Control). lent d n) ec ∙ ap (lent (controlOf ws)) (en ∙ sym (length-records rows))
+  fit c = lengthsFit (isPooled c) (c .slots) t
 
   abbrev pub fault : ℕ
-  fault = admission (controlOf ws) (fit (controlOf ws)) (among queue task)
+  fault = admission (controlOf ws) (rowsFit (isPooled (controlOf ws)) (controlOf ws .slots) entry) (among queue task)
 
-  pub asked : (c : Control) (n why : ℕ) → c ≡ controlOf ws → n ≡ length rows → why ≡ admission c (fit c) (lent c n) → why ≡ fault
-  asked c n why ec en e =
+  pub asked : (c : Control) (why : ℕ) → c ≡ controlOf ws → why ≡ admission c (fit c) (amongMany c t task) → why ≡ fault
+  asked c why ec e =
       e
-      ∙ ap (admission c (fit c)) (lent-among c n ec en)
+      ∙ ap (admission c (fit c)) (lent-among c ec)
       ∙ ap (λ (d : Control). admission d (fit d) (among queue task)) ec
+      ∙ ap (λ (b : Bool). admission (controlOf ws) b (among queue task)) (lengths-fit _ _ entry (length rows))
 
   -- Not admitted: the number alone.
   abbrev Steps : List ℕ → List (List ℕ) → List ℕ → List ℕ → List ℕ → List ℕ → List ℕ → Outcome → Type 0
@@ -66,7 +68,7 @@ module _ (ws : List ℕ) (rows : List (List ℕ)) (lefts rights labels marks nex
       × (uppersOf rows′ ≡ cond (endsCall o) (set (uppersOf rows) task 0) (uppersOf rows))
 
   pub refused : (why : ℕ) (o : Outcome) → why ≡ fault → (why ≡ 0 → ⊥) → o ≡ Refused why → Steps ws rows lefts rights labels marks next o
-  unfolding act actOn rowsFit lengthsFit
+  unfolding act actOn
   refused why o e h eo =
       let same : _≡_ {A = Done} (record { queue = queue; outcome = o }) (act queue task Step) =
       ap (λ (u : Outcome). record { queue = queue; outcome = u }) eo
@@ -77,7 +79,6 @@ module _ (ws : List ℕ) (rows : List (List ℕ)) (lefts rights labels marks nex
 
   -- An admitted task has a record.
   pub there : fault ≡ 0 → task < length rows
-  unfolding rowsFit lengthsFit
   there e =
       let both = task-there entry (among queue task) r₀ e in
       let enough : controlOf ws .tasks ≤ length (recordsOf rows) = leb-true _ _ (both .0) in
@@ -92,7 +93,7 @@ module _ (ws : List ℕ) (rows : List (List ℕ)) (lefts rights labels marks nex
   pub stepped : (ws′ row′ lefts′ rights′ labels′ marks′ next′ : List ℕ) (o : Outcome) → fault ≡ 0
       → RowMoved entry row₀ (tablesOf (controlOf ws′) lefts′ rights′ labels′ marks′ next′) row′ o
       → Steps ws′ (set rows task row′) lefts′ rights′ labels′ marks′ next′ o
-  unfolding act actOn rowsFit lengthsFit
+  unfolding act actOn
   stepped ws′ row′ lefts′ rights′ labels′ marks′ next′ o f moved =
       let left = moved .0 ∙ ap (moveOn entry) (record-read rows task) ∙ admitted entry (among queue task) r₀ f in (
         rw (record-put rows task row′) (ap (back queue task) left),

@@ -18,9 +18,11 @@ use Rattle.model.specs.Route.{counted}
 use Rattle.model.specs.Ends.{isMoved}
 use Rattle.model.specs.Calls.{Acted, Done, pushStart, putStart, popStart, back, act, actOn}
 use Rattle.model.proofs.tests.Truth.{split, not-both}
+use Rattle.sound.specs.declared.Lengths.{Lengths}
+use Rattle.sound.specs.Lengths.{lengthsOf, amongMany}
 use Rattle.table.specs.Lent.{withTables}
 use Rattle.rows.specs.Rows.{controlOf, recordsOf, queueIn, withCallAt}
-use Rattle.rows.proofs.OneStep.{lent, lent-among}
+use Rattle.rows.proofs.OneStep.{lent-among}
 
 set-twice : (l : List ℕ) (i : ℕ) → set (set l i 0) i 0 ≡ set l i 0
 set-twice [] i = refl
@@ -44,6 +46,9 @@ module _ (ws : List ℕ) (rows : List (List ℕ)) (lefts rights labels marks nex
 
   abbrev r₀ : TaskRecord
   r₀ = taskAt queue task
+
+  abbrev t : Lengths
+  t = lengthsOf entry (length rows)
 
   -- A start leaves control and the count as they are, and all where it is refused.
   abbrev Starts : TaskRecord → Acted → Type 0
@@ -75,21 +80,18 @@ module _ (ws : List ℕ) (rows : List (List ℕ)) (lefts rights labels marks nex
       outcome = m .outcome;
     }
 
-    pub started : (c : Control) (n : ℕ) (r : Record) (m : Transition) → c ≡ controlOf ws → n ≡ length rows → r ≡ r₀ .call
+    pub started : (c : Control) (r : Record) (m : Transition) → c ≡ controlOf ws → r ≡ r₀ .call
         → ((k : ℕ) → withTables m lefts rights labels′ marks′ next k
-        ≡ actOn (tablesOf c lefts rights labels marks next) (lent ws rows lefts rights labels marks next task c n) (record {
-          call = r;
-          retries = k;
-        }) o)
+        ≡ actOn (tablesOf c lefts rights labels marks next) (amongMany c t task) (record { call = r; retries = k }) o)
         → recordsOf rows′ ≡ cond (isMoved (m .outcome)) (withCallAt (recordsOf rows) task (m .task)) (recordsOf rows)
         → _≡_ {A = Done} (record { queue = queueIn ws rows′ lefts rights labels′ marks′ next; outcome = m .outcome }) (act queue task o)
     unfolding act
-    started c n r m ec en er e e2 =
+    started c r m ec er e e2 =
         let k = r₀ .retries in
         let left : withTables m lefts rights labels′ marks′ next k ≡ actOn entry (among queue task) r₀ o =
         e k
         ∙ ap (λ (p : Lent). actOn (tablesOf c lefts rights labels marks next) p (record { call = r; retries = k }) o)
-        (lent-among ws rows lefts rights labels marks next task c n ec en)
+        (lent-among ws rows lefts rights labels marks next task c ec)
         ∙ ap (λ (d : Control). actOn (tablesOf d lefts rights labels marks next) (among queue task) (record { call = r; retries = k }) o) ec
         ∙ ap (λ (t : Record). actOn entry (among queue task) (record { call = t; retries = k }) o) er in
         let s = subst (Starts r₀) (sym left) (starts (among queue task) r₀) in

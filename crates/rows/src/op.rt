@@ -4,6 +4,7 @@ use crate::RECORD_WORDS;
 use calls::start;
 use model::Op;
 use model::Outcome;
+use sound::Lengths;
 ghost use mathlib.Core.Path.{_≡_};
 ghost use mathlib.Core.Bool.{cond};
 ghost use lib.ListN.{set};
@@ -41,22 +42,16 @@ pub fn push(
 {
     let row = *control;
     let c = crate::control_of(row);
-    let n = records.len();
     let r = crate::call_at(records, task);
-    let m = start::push_start(
-        c,
-        r,
-        n,
-        task,
-        side,
-        slot,
-        label,
-        lefts,
-        rights,
-        labels,
-        marks,
-        next,
-    );
+    let t = Lengths {
+        records: records.len(),
+        lefts: lefts.len(),
+        rights: rights.len(),
+        labels: labels.len(),
+        marks: marks.len(),
+        next: next.len(),
+    };
+    let m = start::push_start(c, r, task, side, slot, label, t, labels, marks);
     crate::store_start(records, task, m);
     m.outcome
 }
@@ -89,21 +84,16 @@ pub fn put(
 {
     let row = *control;
     let c = crate::control_of(row);
-    let n = records.len();
     let r = crate::call_at(records, task);
-    let m = start::put_start(
-        c,
-        r,
-        n,
-        task,
-        side,
-        label,
-        lefts,
-        rights,
-        labels,
-        marks,
-        next,
-    );
+    let t = Lengths {
+        records: records.len(),
+        lefts: lefts.len(),
+        rights: rights.len(),
+        labels: labels.len(),
+        marks: marks.len(),
+        next: next.len(),
+    };
+    let m = start::put_start(c, r, task, side, label, t);
     crate::store_start(records, task, m);
     m.outcome
 }
@@ -135,9 +125,16 @@ pub fn pop(
 {
     let row = *control;
     let c = crate::control_of(row);
-    let n = records.len();
     let r = crate::call_at(records, task);
-    let m = start::pop_start(c, r, n, task, side, lefts, rights, labels, marks, next);
+    let t = Lengths {
+        records: records.len(),
+        lefts: lefts.len(),
+        rights: rights.len(),
+        labels: labels.len(),
+        marks: marks.len(),
+        next: next.len(),
+    };
+    let m = start::pop_start(c, r, task, side, t);
     crate::store_start(records, task, m);
     m.outcome
 }

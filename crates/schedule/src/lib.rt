@@ -2,6 +2,7 @@
 use model::Control;
 use model::Record;
 use schedule_model::ScheduleReply;
+use sound::Lengths;
 use walk::Tally;
 ghost use mathlib.Core.Path.{_≡_};
 ghost use mathlib.Core.Bool.{_&&_, not, false};
@@ -9,35 +10,22 @@ ghost use mathlib.Core.List.{List, [], _∷_};
 ghost use lib.Dec.{eqb, leb};
 ghost use lib.ListN.{getD};
 ghost use Rattle.model.specs.declared.TaskRecord.{TaskRecord};
-ghost use Rattle.model.specs.Tables.{isPooled, tablesOf, queueOf, unused};
+ghost use Rattle.model.specs.Tables.{tablesOf, queueOf, unused};
 ghost use Rattle.model.specs.Sound.{controlSound};
-ghost use Rattle.sound.specs.Lengths.{lengthsFit};
+ghost use Rattle.sound.specs.Lengths.{tablesFit};
 ghost use Rattle.rows.specs.Rows.{controlOf, recordOf, recordsOf, queueIn};
 ghost use Rattle.schedule_model.specs.Next.{memoryLength, scheduleRefusal, handing};
 ghost use Rattle.schedule_search.specs.Sought.{seeking};
 ghost use Rattle.schedule.specs.Answered.{refusalBefore, refusalAfter, Begins, Answered, answered};
 
 /// 34 for control and Anchor, and 12. The tables and the memory are given by their lengths.
-fn unfit_tables(
-    c: Control,
-    records: usize,
-    memory: usize,
-    lefts: usize,
-    rights: usize,
-    labels: usize,
-    marks: usize,
-    next: usize,
-) -> u32
-    ensures { λ why.
-        ⌜ why ≡ refusalBefore (controlSound c)
-        (lengthsFit (isPooled c) (c .slots) lefts rights labels marks next && leb (c .tasks) records && leb 49 memory) ⌝ }
+fn unfit_tables(c: Control, memory: usize, t: Lengths) -> u32
+    ensures { λ why. ⌜ why ≡ refusalBefore (controlSound c) (tablesFit c t && leb 49 memory) ⌝ }
 {
     if !sound::control_sound(c) {
         return 34;
     }
-    let pooled = c.pooled == 1;
-    let rows = sound::rows_fit(pooled, c.slots, lefts, rights, labels, marks, next);
-    let fits = rows & (c.tasks <= records as u64) & (49 <= memory);
+    let fits = sound::tables_fit(c, t) & (49 <= memory);
     if fits { 0 } else { 12 }
 }
 
@@ -70,16 +58,15 @@ fn refusal(
         → why ≡ scheduleRefusal (queueOf c rs (now (lefts .entry)) (now (rights .entry)) (now (labels .entry)) (now (marks .entry)) (now (next .entry)))
         (now (given .entry))) ⌝ }
 {
-    let why = unfit_tables(
-        c,
+    let t = Lengths {
         records,
-        given.len(),
-        lefts.len(),
-        rights.len(),
-        labels.len(),
-        marks.len(),
-        next.len(),
-    );
+        lefts: lefts.len(),
+        rights: rights.len(),
+        labels: labels.len(),
+        marks: marks.len(),
+        next: next.len(),
+    };
+    let why = unfit_tables(c, given.len(), t);
     if why != 0 {
         return why;
     }

@@ -6,13 +6,9 @@ use Prim.Native.Nat.{ℕ, _≤_}
 use lib.Dec.{leb, eqb}
 use lib.ListN.{length}
 use borrow.Author.Tests.{leb-true, eqb-true, not-false}
-use Rattle.model.specs.Tables.{Queue}
-use Rattle.model.specs.Sound.{controlSound}
-use Rattle.model.specs.Refusals.{Rule}
-use Rattle.model.proofs.tests.Rules.{cleared}
-use Rattle.model.proofs.tests.Truth.{and-true}
+use Rattle.model.specs.{Tables.Queue, Sound.controlSound, Refusals.Rule, Lists.All}
+use Rattle.model.proofs.tests.{Rules.cleared, Truth.and-true}
 use Rattle.model.proofs.laws.Sizes.{fits}
-use Rattle.model.specs.Lists.{All}
 use Rattle.schedule_model.specs.Schedules.{atWork, bothAnswered}
 use Rattle.schedule_model.specs.Next.{twoAtWork, scheduleRules, scheduleRefusal}
 

@@ -11,9 +11,7 @@ use lib.ListN.{length}
 use Rattle.model.specs.declared.Outcome.{Outcome}
 use Rattle.model.specs.declared.Outcome.the-variants.{Refused, Moved}
 use Rattle.model.specs.declared.Op.the-variants.{Step}
-use Rattle.model.specs.Tables.{Queue}
-use Rattle.model.specs.Calls.{act}
-use Rattle.model.specs.History.{final}
+use Rattle.model.specs.{Tables.Queue, Calls.act, History.final}
 use Rattle.schedule_model.specs.Schedules.{Schedule, ends, begun, atWork, bothAnswered, onwards, through, schedules}
 use Rattle.schedule_model.specs.Allowed.{Allowed, OnlyAllowed, EveryAllowed, after, isRefused, lastRefused, hasEnded, endingOf}
 

@@ -11,10 +11,8 @@ use borrow.Author.Tests.{le-leb, ne-eqb}
 use Rattle.model.specs.declared.Outcome.{Outcome}
 use Rattle.model.specs.declared.Outcome.the-variants.{Refused, Moved}
 use Rattle.model.specs.declared.Op.the-variants.{Step}
-use Rattle.model.specs.Tables.{Queue}
-use Rattle.model.specs.Calls.{act}
+use Rattle.model.specs.{Tables.Queue, Calls.act, Lists.All}
 use Rattle.model.proofs.lists.All.{all-map, all-append}
-use Rattle.model.specs.Lists.{All}
 use Rattle.schedule_model.specs.Schedules.{Schedule, ends, begun, atWork, bothAnswered, onwards, through, schedules, allSchedules}
 use Rattle.schedule_model.specs.Next.{Next, given, noMore, precedes, firstAfter, remembered, storing, scheduleRefusal, handing, nextSchedule}
 use Rattle.schedule_model.specs.Claims.{told, calls, Pairwise, Enumerates}

@@ -8,10 +8,8 @@ use borrow.Author.Tests.{le-ltb, eq-eqb}
 use Rattle.model.specs.declared.Outcome.{Outcome}
 use Rattle.model.specs.declared.Outcome.the-variants.{Refused, Moved}
 use Rattle.model.specs.declared.Op.the-variants.{Step}
-use Rattle.model.specs.Tables.{Queue}
-use Rattle.model.specs.Calls.{act}
+use Rattle.model.specs.{Tables.Queue, Calls.act, Lists.All}
 use Rattle.model.proofs.lists.All.{all-map, all-append}
-use Rattle.model.specs.Lists.{All}
 use Rattle.schedule_model.specs.Schedules.{Schedule, ends, begun, atWork, bothAnswered, onwards, through, schedules}
 use Rattle.schedule_model.specs.Next.{precedes}
 use Rattle.schedule_model.specs.Claims.{Pairwise, InOrder, begins, Apart}

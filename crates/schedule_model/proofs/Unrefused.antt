@@ -7,22 +7,18 @@ use Prim.Native.Nat.{ℕ, zero, suc, _<_}
 use native.Mathlib.Omega.{arith}
 use lib.Dec.{eqb}
 use borrow.Author.Tests.{eqb-true}
-use Rattle.model.specs.declared.Entry.{Entry}
-use Rattle.model.specs.declared.Outcome.{Outcome}
+use Rattle.model.specs.declared.{Entry.Entry, Outcome.Outcome}
 use Rattle.model.specs.declared.Outcome.the-variants.{Refused, Moved}
 use Rattle.model.specs.declared.Op.the-variants.{Step}
-use Rattle.model.specs.Tables.{Queue}
-use Rattle.model.specs.Walk.{isBroken}
+use Rattle.model.specs.{Tables.Queue, Walk.isBroken, Standing.Standing, Lists.All}
 use Rattle.model.specs.Calls.{act, openAs}
 use Rattle.model.specs.History.{Event, NeverUnsound, Request, final, run}
-use Rattle.model.specs.Standing.{Standing}
-use Rattle.model.specs.Lists.{All}
 use Rattle.model.proofs.tests.Rules.{_and_, never}
 use Rattle.model.proofs.tests.Truth.{by-test}
-use Rattle.model.proofs.Never34.{never-34}
-use Rattle.model.proofs.Standing.{standing}
+use Rattle.model.proofs.{Never34.never-34, Standing.standing}
 use Rattle.schedule_model.specs.Schedules.{Schedule, allSchedules, atWork, begun, bothAnswered, ends, onwards, schedules, through}
-use Rattle.schedule_model.specs.Next.{Handed, Next, firstAfter, given, handing, nextSchedule, noMore, precedes, remembered, scheduleRefusal, scheduleRules}
+use Rattle.schedule_model.specs.Next.{Handed, Next, firstAfter, given, handing, nextSchedule, noMore, precedes, remembered}
+use Rattle.schedule_model.specs.Next.{scheduleRefusal, scheduleRules}
 use Rattle.schedule_model.specs.Allowed.{tries}
 use Rattle.schedule_model.specs.Claims.{NeverRefused, StandingNever34, StandingUnrefused, Unrefused}
 use Rattle.schedule_model.proofs.OnlyUnsound.{only-unsound}

@@ -5,9 +5,8 @@ use Prim.Native.Nat.{ℕ}
 use lib.Dec.{ltb, leb, eqb}
 use lib.ListN.{length, getD, take, drop}
 use lib.Seq.{sets}
-use Rattle.model.specs.Tables.{Queue}
+use Rattle.model.specs.{Tables.Queue, Report.waiting}
 use Rattle.model.specs.Walk.{contents, isBroken}
-use Rattle.model.specs.Report.{waiting}
 use Rattle.model.specs.Refusals.{Rule, rule, first, fits, recordsFit, tableRules}
 use Rattle.schedule_model.specs.declared.ScheduleReply.{ScheduleReply}
 use Rattle.schedule_model.specs.Schedules.{Schedule, atWork, allSchedules}

@@ -6,8 +6,7 @@ use Rattle.model.specs.declared.Outcome.{Outcome}
 use Rattle.model.specs.declared.Outcome.the-variants.{Refused, Moved}
 use Rattle.model.specs.declared.Op.the-variants.{Step}
 use Rattle.model.specs.Tables.{Queue, recordAt}
-use Rattle.model.specs.Refusals.{isBusy}
-use Rattle.model.specs.Calls.{act}
+use Rattle.model.specs.{Refusals.isBusy, Calls.act}
 
 -- The numbers of the tasks stepped, and how it ends: 0 both calls answered, 1 cut, 2 its last step refused.
 pub record Schedule : Type 0 where

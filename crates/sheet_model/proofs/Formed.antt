@@ -2,8 +2,7 @@
 use mathlib.Core.Bool.{false, _||_}
 use mathlib.Core.Path.{_≡_}
 use Prim.Native.Nat.{_≤_}
-use lib.Dec.{ltb}
-use lib.ListN.{length}
+use lib.{Dec.ltb, ListN.length}
 use borrow.Author.Tests.{ltb-false}
 use Rattle.model.proofs.tests.Truth.{or-false}
 use Rattle.sheet_model.specs.Sheet.{Sheet, any, outside, twice, malformed}

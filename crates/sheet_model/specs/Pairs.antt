@@ -1,7 +1,6 @@
 -- Which pairs of a sheet are broken, and which is told, in the document's words. (Document 02, #111.)
-use mathlib.Core.Path.{_≡_}
+use mathlib.Core.{Path._≡_, Logic._⊎_}
 use mathlib.Core.List.{List, map}
-use mathlib.Core.Logic.{_⊎_}
 use Prim.Native.Nat.{ℕ, _<_}
 use lib.ListN.{length, getD}
 use Rattle.model.specs.declared.Entry.{Entry}

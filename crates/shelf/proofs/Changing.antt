@@ -16,6 +16,7 @@ use Rattle.model.specs.Refusals.{first}
 use Rattle.model.proofs.bridge.Facts.{control-fine}
 use Rattle.model.proofs.tests.Rules.{cleared}
 use Rattle.model.proofs.tests.Truth.{and-true}
+use Rattle.sound.specs.declared.Lengths.{Lengths}
 use Rattle.sound.specs.Lengths.{lengthsFit}
 use Rattle.rows.specs.Rows.{controlOf, queueIn, recordsOf, uppersOf}
 use Rattle.rows.proofs.Rows.{length-records, length-uppers}
@@ -23,22 +24,21 @@ use Rattle.shelf_model.specs.Shelves.{Shelves, bothHold, copied, holds, over, p
 use Rattle.shelf_model.specs.Shelves.{returnRules, returned, saveRefusal, saveRules, saved, shelfAt, withPart}
 use Rattle.shelf_model.proofs.Parts.{part-length}
 use Rattle.shelf_model.proofs.Copied.{Long, long}
-use Rattle.shelf.specs.declared.refusal.Extents.{Extents}
 use Rattle.shelf.specs.Pasting.{putBack, putOn}
 use Rattle.shelf_model.specs.Shelves.{returnTests, saveTests}
-use Rattle.shelf.specs.Extents.{bothFit, extentsFit, returnNumber, saveNumber}
+use Rattle.shelf.specs.Lengths.{bothFit, returnNumber, saveNumber}
 use Rattle.shelf.specs.Lent.{Returned, Saved, controlsOf, returning, saving, shelvesIn}
 use Rattle.shelf.proofs.Pasting.{back-is, put-is}
 use Rattle.shelf.proofs.Controls.{back-records, back-uppers, length-controls, put-records, put-uppers}
 
 -- A control that passed has at most 1,023 slots.
-pub save-low : (c : Control) (n : ℕ) (queue shelves : Extents) (controls why : ℕ)
+pub save-low : (c : Control) (n : ℕ) (queue shelves : Lengths) (controls why : ℕ)
     → why ≡ saveNumber c n queue shelves controls → why ≡ 0 → c .slots ≤ 1023
 unfolding saveNumber
 save-low c n queue shelves controls why w z =
     control-fine c (not-false _ (cleared (saveTests c n (bothFit c queue shelves controls)) refl (sym w ∙ z) .0)) .slots
 
-pub return-low : (c : Control) (n : ℕ) (queue shelves : Extents) (controls why : ℕ)
+pub return-low : (c : Control) (n : ℕ) (queue shelves : Lengths) (controls why : ℕ)
     → why ≡ returnNumber c n queue shelves controls → why ≡ 0 → c .slots ≤ 1023
 unfolding returnNumber
 return-low c n queue shelves controls why w z =
@@ -51,15 +51,15 @@ module _ (row : List ℕ) (rs : List (List ℕ)) (l r b m x : List ℕ) (cs8 rs8
   abbrev s : Shelves
   s = shelvesIn cs8 rs8 l8 r8 b8 m8 x8
 
-  abbrev here : Extents
+  abbrev here : Lengths
   here = record { records = length rs; lefts = length l; rights = length r; labels = length b; marks = length m; next = length x }
 
-  abbrev there : Extents
+  abbrev there : Lengths
   there = record { records = length rs8; lefts = length l8; rights = length r8; labels = length b8; marks = length m8; next = length x8 }
 
   -- The lengths tell what 12 asks.
   fit-is : (c : Control) → n ≤ 7 → bothFit c here there (length cs8) ≡ bothHold c q s n
-  unfolding bothFit extentsFit lengthsFit rowsFit
+  unfolding bothFit lengthsFit rowsFit
   fit-is c h = rw (
     length-records rs,
     part-length n l8 h,

@@ -1,6 +1,6 @@
 -- A table into which the first i of k entries are copied, and one entry more; and what that makes of shelves.
 use mathlib.Core.List.{List, [], _∷_, _++_, append-assoc, map}
-use mathlib.Core.Path.{_≡_, _∙_, ap, refl, sym}
+use mathlib.Core.Path.{_≡_, _∙_, ap, refl, subst, sym}
 use mathlib.Core.Bool.{Bool, true, false, cond, _&&_, _||_}
 use Prim.Native.Nat.{ℕ, zero, suc, _+_, _*_, _/_, _<_, _≤_}
 use native.Mathlib.Nat.{mul-le-mul-right, suc-mul}
@@ -12,7 +12,8 @@ use lib.Seq.{drop-drop, getD-drop, length-take-le, paste-suc, paste-zero, take-a
 use borrow.Author.Tests.{le-leb, leb-true, ltb-false}
 use Rattle.model.proofs.tests.Truth.{and-true, not-both}
 use Rattle.shelf_model.specs.Shelves.{over, part, share, withPart}
-use Rattle.shelf.specs.Pasting.{pasted, putBack, putOn}
+use Rattle.shelf.specs.declared.paste.Stretch.{Stretch}
+use Rattle.shelf.specs.Pasting.{ifFits, onShelf, pasted, putBack, putOn}
 
 module _ {A : Type 0} where
   abbrev pub Pasting : List A → ℕ → List A → ℕ → ℕ → List A → ℕ → Type 0
@@ -76,11 +77,11 @@ module _ {A : Type 0} where
   -- What is put at a shelf's part is put over that part.
   pub put-is : (n k : ℕ) (from to : List A) → n ≤ 7 → k ≤ length from
       → k ≤ share to → putOn n k from to ≡ withPart n to (over k from (part n to))
-  unfolding putOn pasted withPart part
+  unfolding putOn onShelf pasted withPart part
   put-is n k from to h f g =
       let a = n * share to in
       let s = share to in
-      rw (le-leb n 7 h, le-leb k (length from) f, le-leb k (share to) g) (
+      rw (le-leb n 7 h, le-leb k (share to) g, le-leb k (length from) f) (
       append-assoc (take a to) (take k from) (drop (a + k) to)
       ∙ ap (λ (m : List A). take a to ++ (take k from ++ m))
       (sym (drop-drop k a to) ∙ sym (rejoined k s (drop a to) g) ∙ ap (λ (m : List A). drop k (take s (drop a to)) ++ m) (drop-drop s a to))
@@ -88,7 +89,7 @@ module _ {A : Type 0} where
       )
 
   pub back-is : (n k : ℕ) (from to : List A) → n ≤ 7 → k ≤ share from → k ≤ length to → putBack n k from to ≡ over k (part n from) to
-  unfolding putBack pasted part
+  unfolding putBack onShelf pasted part
   back-is n k from to h f g =
       let a = n * share from in
       rw (le-leb n 7 h, le-leb k (share from) f, le-leb k (length to) g) (
@@ -105,23 +106,58 @@ small k e = go (ltb 1024 k) refl (eqb k 0) e
     go true f false e = absurd (not-both refl e)
     go false f a e = let z = ltb-false 1024 k f in omega arith
 
--- A shelf's part lies in the table: what a copy requires.
-room : (n k l : ℕ) → n ≤ 7 → k ≤ l / 8 → n * (l / 8) + k ≤ l
-room n k l h g = let a = mul-le-mul-right (l / 8) (let z : suc n ≤ 8 = omega arith in z) in let b = suc-mul n (l / 8) in omega arith
+-- A shelf's part lies in the table.
+pub room : (n k shelves table : ℕ) → leb n 7 && leb k (shelves / 8) && leb k table ≡ true → (n * (shelves / 8) + k ≤ shelves) × (0 + k ≤ table)
+room n k shelves table e =
+    let y = and-true (leb n 7 && leb k (shelves / 8)) (leb k table) e in
+    let x = and-true (leb n 7) (leb k (shelves / 8)) (y .0) in
+    let low = leb-true n 7 (x .0) in
+    let f = leb-true k (shelves / 8) (x .1) in
+    let g = leb-true k table (y .1) in
+    let a = mul-le-mul-right (shelves / 8) (let z : suc n ≤ 8 = omega arith in z) in
+    let b = suc-mul n (shelves / 8) in
+    (omega arith, omega arith)
 
-pub put-fits : (n k f t : ℕ) → leb n 7 && leb k f && leb k (t / 8) ≡ true → (0 + k ≤ f) × (n * (t / 8) + k ≤ t)
-put-fits n k f t e =
-    let y = and-true (leb n 7 && leb k f) (leb k (t / 8)) e in
-    let x = and-true (leb n 7) (leb k f) (y .0) in
-    let g = leb-true k f (x .1) in
-    (omega arith, room n k t (leb-true n 7 (x .0)) (leb-true k (t / 8) (y .1)))
+-- What a copy requires: a stretch that fits lies on the shelf, and is no longer than the table.
+pub stretch-fits : (n k shelves table : ℕ) (s : Stretch) → s ≡ onShelf n k shelves table → s .fits ≡ true
+    → (s .start + k ≤ shelves) × (0 + k ≤ table)
+unfolding onShelf
+stretch-fits n k shelves table s e = subst Lies (sym e) (go (leb n 7 && leb k (shelves / 8) && leb k table) refl)
+  where
+    Lies : Stretch → Type 0
+    Lies s = s .fits ≡ true → (s .start + k ≤ shelves) × (0 + k ≤ table)
 
-pub back-fits : (n k f t : ℕ) → leb n 7 && leb k (f / 8) && leb k t ≡ true → (n * (f / 8) + k ≤ f) × (0 + k ≤ t)
-back-fits n k f t e =
-    let y = and-true (leb n 7 && leb k (f / 8)) (leb k t) e in
-    let x = and-true (leb n 7) (leb k (f / 8)) (y .0) in
-    let g = leb-true k t (y .1) in
-    (room n k f (leb-true n 7 (x .0)) (leb-true k (f / 8) (x .1)), omega arith)
+    go : (b : Bool) → leb n 7 && leb k (shelves / 8) && leb k table ≡ b
+        → Lies (cond b (record { fits = true; start = n * (shelves / 8) }) (record { fits = false; start = 0 }))
+    go true h _ = room n k shelves table h
+    go false h z = absurd (not-both z refl)
+
+-- What a copy of the stretch leaves, and what is left where it does not fit.
+module _ {A : Type 0} (s s′ : Stretch) (e : s ≡ s′) (copied : ℕ → List A) (to : List A) where
+  done-by : (to′ : List A) → s .fits ≡ true → to′ ≡ copied (s .start) → to′ ≡ ifFits s′ copied to
+  done-by to′ t h =
+      subst (λ (s : Stretch). to′ ≡ ifFits s copied to) e (h ∙ sym (ap (λ (b : Bool). cond b (copied (s .start)) to) t))
+
+  left-by : s .fits ≡ false → to ≡ ifFits s′ copied to
+  left-by f = subst (λ (s : Stretch). to ≡ ifFits s copied to) e (sym (ap (λ (b : Bool). cond b (copied (s .start)) to) f))
+
+module _ {A : Type 0} (n k : ℕ) (from to : List A) (s : Stretch) where
+  pub put-by : s ≡ onShelf n k (length to) (length from) → (to′ : List A) → s .fits ≡ true → to′ ≡ pasted from 0 to (s .start) k → to′ ≡ putOn n k from to
+  unfolding putOn
+  put-by e = done-by s _ e (λ at. pasted from 0 to at k) to
+
+  pub unput : s ≡ onShelf n k (length to) (length from) → s .fits ≡ false → to ≡ putOn n k from to
+  unfolding putOn
+  unput e = left-by s _ e (λ at. pasted from 0 to at k) to
+
+  pub back-by : s ≡ onShelf n k (length from) (length to) → (to′ : List A) → s .fits ≡ true → to′ ≡ pasted from (s .start) to 0 k
+      → to′ ≡ putBack n k from to
+  unfolding putBack
+  back-by e = done-by s _ e (λ start. pasted from start to 0 k) to
+
+  pub unback : s ≡ onShelf n k (length from) (length to) → s .fits ≡ false → to ≡ putBack n k from to
+  unfolding putBack
+  unback e = left-by s _ e (λ start. pasted from start to 0 k) to
 
 -- Entry by entry.
 module _ {A B : Type 0} (f : A → B) where
@@ -149,20 +185,24 @@ module _ {A B : Type 0} (f : A → B) where
       ++ (map-take k (drop start from) ∙ ap (λ (m : List B). take k m) (map-drop start from)) i
       ++ map-drop (at + k) to i)
 
+  map-fits : (s : Stretch) (copied : ℕ → List A) (copied′ : ℕ → List B) (to : List A) → ((n : ℕ) → map f (copied n) ≡ copied′ n)
+      → map f (ifFits s copied to) ≡ ifFits s copied′ (map f to)
+  map-fits s copied copied′ to h = go (s .fits)
+    where
+      go : (b : Bool) → map f (cond b (copied (s .start)) to) ≡ cond b (copied′ (s .start)) (map f to)
+      go true = h (s .start)
+      go false = refl
+
   pub map-put : (n k : ℕ) (from to : List A) → map f (putOn n k from to) ≡ putOn n k (map f from) (map f to)
   unfolding putOn
-  map-put n k from to = rw (length-map from f, length-map to f) (go (leb n 7 && leb k (length from) && leb k (share to)))
-    where
-      go : (b : Bool) → map f (cond b (pasted from 0 to (n * share to) k) to)
-          ≡ cond b (pasted (map f from) 0 (map f to) (n * share to) k) (map f to)
-      go true = map-pasted from 0 to (n * share to) k
-      go false = refl
+  map-put n k from to =
+      rw (length-map from f, length-map to f)
+      (map-fits (onShelf n k (length to) (length from)) (λ at. pasted from 0 to at k) (λ at. pasted (map f from) 0 (map f to) at k) to
+      (λ at. map-pasted from 0 to at k))
 
   pub map-back : (n k : ℕ) (from to : List A) → map f (putBack n k from to) ≡ putBack n k (map f from) (map f to)
   unfolding putBack
-  map-back n k from to = rw (length-map from f, length-map to f) (go (leb n 7 && leb k (share from) && leb k (length to)))
-    where
-      go : (b : Bool) → map f (cond b (pasted from (n * share from) to 0 k) to)
-          ≡ cond b (pasted (map f from) (n * share from) (map f to) 0 k) (map f to)
-      go true = map-pasted from (n * share from) to 0 k
-      go false = refl
+  map-back n k from to =
+      rw (length-map from f, length-map to f)
+      (map-fits (onShelf n k (length from) (length to)) (λ x. pasted from x to 0 k) (λ x. pasted (map f from) x (map f to) 0 k) to
+      (λ x. map-pasted from x to 0 k))

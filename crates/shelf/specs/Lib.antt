@@ -1,3 +1,3 @@
 pub mod Pasting
-pub mod Extents
+pub mod Lengths
 pub mod Lent

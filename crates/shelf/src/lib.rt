@@ -5,7 +5,7 @@ mod paste;
 mod refusal;
 mod tables;
 
-use refusal::Extents;
+use sound::Lengths;
 ghost use mathlib.Core.Path.{_≡_};
 ghost use lib.ListN.{getD, set};
 ghost use Rattle.rows.specs.Rows.{controlOf, queueIn, uppersOf};
@@ -76,7 +76,7 @@ pub extern "C" fn zc_save(
 {
     let row = *control;
     let c = rows::control_of(row);
-    let queue = Extents {
+    let queue = Lengths {
         records: records.len(),
         lefts: lefts.len(),
         rights: rights.len(),
@@ -84,7 +84,7 @@ pub extern "C" fn zc_save(
         marks: marks.len(),
         next: next.len(),
     };
-    let shelves = Extents {
+    let shelves = Lengths {
         records: records8.len(),
         lefts: lefts8.len(),
         rights: rights8.len(),
@@ -153,7 +153,7 @@ pub extern "C" fn zc_return(
 {
     let row = control_at(controls8, shelf);
     let c = rows::control_of(row);
-    let queue = Extents {
+    let queue = Lengths {
         records: records.len(),
         lefts: lefts.len(),
         rights: rights.len(),
@@ -161,7 +161,7 @@ pub extern "C" fn zc_return(
         marks: marks.len(),
         next: next.len(),
     };
-    let shelves = Extents {
+    let shelves = Lengths {
         records: records8.len(),
         lefts: lefts8.len(),
         rights: rights8.len(),

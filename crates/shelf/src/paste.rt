@@ -2,10 +2,34 @@
 ghost use mathlib.Core.Path.{_≡_};
 ghost use Prim.Native.Nat.{_+_, _≤_};
 ghost use lib.ListN.{length};
-ghost use Rattle.shelf.specs.Pasting.{pasted, putOn, putBack};
+ghost use Rattle.shelf.specs.Pasting.{pasted, onShelf, putOn, putBack};
 
 /// Rows of the longest queue: 0 to 1,023.
 const MOST_ROWS: usize = 1024;
+
+/// Where a stretch of entries begins on a shelf, if it fits there and in the queue's table.
+struct Stretch {
+    fits: bool,
+    start: usize,
+}
+
+/// The first k entries of a table on a shelf; the shelves and the table are given by their lengths.
+fn on_shelf(shelf: u64, k: u64, shelves: usize, table: usize) -> Stretch
+    ensures { λ s. ⌜ s ≡ onShelf shelf k shelves table ⌝ }
+{
+    let n = k as usize;
+    let share = shelves / 8;
+    if (shelf <= 7) & (n <= share) & (n <= table) {
+        return Stretch {
+            fits: true,
+            start: shelf as usize * share,
+        };
+    }
+    Stretch {
+        fits: false,
+        start: 0,
+    }
+}
 
 fn copy_words(from: &[u64], start: usize, to: &mut [u64], at: usize, k: usize)
     requires { ⌜ (start + k ≤ length (now from)) × (at + k ≤ length (now to)) ⌝ }
@@ -36,10 +60,9 @@ fn move_words(from: &[u64], start: usize, to: &mut [u64], at: usize, k: usize)
 pub fn put_words(from: &[u64], to: &mut [u64], shelf: u64, k: u64)
     ensures { λ _. ⌜ now (to .exit) ≡ putOn shelf k (now (from .entry)) (now (to .entry)) ⌝ }
 {
-    let n = k as usize;
-    let share = to.len() / 8;
-    if (shelf <= 7) & (n <= from.len()) & (n <= share) {
-        move_words(from, 0, to, shelf as usize * share, n);
+    let s = on_shelf(shelf, k, to.len(), from.len());
+    if s.fits {
+        move_words(from, 0, to, s.start, k as usize);
     }
 }
 
@@ -47,10 +70,9 @@ pub fn put_words(from: &[u64], to: &mut [u64], shelf: u64, k: u64)
 pub fn take_words(from: &[u64], to: &mut [u64], shelf: u64, k: u64)
     ensures { λ _. ⌜ now (to .exit) ≡ putBack shelf k (now (from .entry)) (now (to .entry)) ⌝ }
 {
-    let n = k as usize;
-    let share = from.len() / 8;
-    if (shelf <= 7) & (n <= share) & (n <= to.len()) {
-        move_words(from, shelf as usize * share, to, 0, n);
+    let s = on_shelf(shelf, k, from.len(), to.len());
+    if s.fits {
+        move_words(from, s.start, to, 0, k as usize);
     }
 }
 
@@ -83,10 +105,9 @@ fn move_labels(from: &[u32], start: usize, to: &mut [u32], at: usize, k: usize)
 pub fn put_labels(from: &[u32], to: &mut [u32], shelf: u64, k: u64)
     ensures { λ _. ⌜ now (to .exit) ≡ putOn shelf k (now (from .entry)) (now (to .entry)) ⌝ }
 {
-    let n = k as usize;
-    let share = to.len() / 8;
-    if (shelf <= 7) & (n <= from.len()) & (n <= share) {
-        move_labels(from, 0, to, shelf as usize * share, n);
+    let s = on_shelf(shelf, k, to.len(), from.len());
+    if s.fits {
+        move_labels(from, 0, to, s.start, k as usize);
     }
 }
 
@@ -94,10 +115,9 @@ pub fn put_labels(from: &[u32], to: &mut [u32], shelf: u64, k: u64)
 pub fn take_labels(from: &[u32], to: &mut [u32], shelf: u64, k: u64)
     ensures { λ _. ⌜ now (to .exit) ≡ putBack shelf k (now (from .entry)) (now (to .entry)) ⌝ }
 {
-    let n = k as usize;
-    let share = from.len() / 8;
-    if (shelf <= 7) & (n <= share) & (n <= to.len()) {
-        move_labels(from, shelf as usize * share, to, 0, n);
+    let s = on_shelf(shelf, k, from.len(), to.len());
+    if s.fits {
+        move_labels(from, s.start, to, 0, k as usize);
     }
 }
 
@@ -128,10 +148,9 @@ pub fn put_rows(
 )
     ensures { λ _. ⌜ now (to .exit) ≡ putOn shelf k (now (from .entry)) (now (to .entry)) ⌝ }
 {
-    let n = k as usize;
-    let share = to.len() / 8;
-    if (shelf <= 7) & (n <= from.len()) & (n <= share) {
-        copy_rows(from, 0, to, shelf as usize * share, n);
+    let s = on_shelf(shelf, k, to.len(), from.len());
+    if s.fits {
+        copy_rows(from, 0, to, s.start, k as usize);
     }
 }
 
@@ -144,9 +163,8 @@ pub fn take_rows(
 )
     ensures { λ _. ⌜ now (to .exit) ≡ putBack shelf k (now (from .entry)) (now (to .entry)) ⌝ }
 {
-    let n = k as usize;
-    let share = from.len() / 8;
-    if (shelf <= 7) & (n <= share) & (n <= to.len()) {
-        copy_rows(from, shelf as usize * share, to, 0, n);
+    let s = on_shelf(shelf, k, from.len(), to.len());
+    if s.fits {
+        copy_rows(from, s.start, to, 0, k as usize);
     }
 }

@@ -1,23 +1,14 @@
 // Why a saving or a return is refused, by the lengths of the tables.
 use model::Control;
+use sound::Lengths;
 ghost use mathlib.Core.Path.{_≡_};
-ghost use Rattle.shelf.specs.Extents.{eighth, extentsFit, bothFit, saveNumber, returnNumber};
+ghost use Rattle.shelf.specs.Lengths.{eighth, bothFit, saveNumber, returnNumber};
 
-/// The lengths of a queue's tables, or of those in which the shelves lie.
-pub struct Extents {
-    pub records: usize,
-    pub lefts: usize,
-    pub rights: usize,
-    pub labels: usize,
-    pub marks: usize,
-    pub next: usize,
-}
-
-/// A shelf's part of each.
-fn eighth(t: Extents) -> Extents
+/// A shelf's part of each table.
+fn eighth(t: Lengths) -> Lengths
     ensures { λ r. ⌜ r ≡ eighth t ⌝ }
 {
-    Extents {
+    Lengths {
         records: t.records / 8,
         lefts: t.lefts / 8,
         rights: t.rights / 8,
@@ -27,28 +18,12 @@ fn eighth(t: Extents) -> Extents
     }
 }
 
-/// Whether a queue with this control fits into tables of these lengths.
-fn holds(c: Control, t: Extents) -> bool
-    ensures { λ r. ⌜ r ≡ extentsFit c t ⌝ }
-{
-    let rows = sound::rows_fit(
-        c.pooled == 1,
-        c.slots,
-        t.lefts,
-        t.rights,
-        t.labels,
-        t.marks,
-        t.next,
-    );
-    rows & (c.tasks <= t.records as u64)
-}
-
-fn both_hold(c: Control, queue: Extents, shelves: Extents, controls: usize) -> bool
+fn both_hold(c: Control, queue: Lengths, shelves: Lengths, controls: usize) -> bool
     ensures { λ r. ⌜ r ≡ bothFit c queue shelves controls ⌝ }
 {
-    let here = holds(c, queue);
+    let here = sound::tables_fit(c, queue);
     let part = eighth(shelves);
-    let there = holds(c, part);
+    let there = sound::tables_fit(c, part);
     here & there & (8 <= controls)
 }
 
@@ -56,8 +31,8 @@ fn both_hold(c: Control, queue: Extents, shelves: Extents, controls: usize) -> b
 pub fn save_refusal(
     c: Control,
     shelf: u64,
-    queue: Extents,
-    shelves: Extents,
+    queue: Lengths,
+    shelves: Lengths,
     controls: usize,
 ) -> u32
     ensures { λ n. ⌜ n ≡ saveNumber c shelf queue shelves controls ⌝ }
@@ -80,8 +55,8 @@ pub fn save_refusal(
 pub fn return_refusal(
     c: Control,
     shelf: u64,
-    queue: Extents,
-    shelves: Extents,
+    queue: Lengths,
+    shelves: Lengths,
     controls: usize,
 ) -> u32
     ensures { λ n. ⌜ n ≡ returnNumber c shelf queue shelves controls ⌝ }

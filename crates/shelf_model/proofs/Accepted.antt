@@ -3,14 +3,11 @@ use mathlib.Core.Bool.{true, _&&_}
 use mathlib.Core.Logic.{_≢_}
 use mathlib.Core.Path.{_≡_, refl}
 use Prim.Native.Nat.{ℕ, _≤_}
-use lib.Dec.{leb}
-use lib.ListN.{length}
+use lib.{Dec.leb, ListN.length}
 use borrow.Author.Tests.{eqb-false, leb-true, not-false}
 use Rattle.model.specs.declared.Control.{Control}
-use Rattle.model.specs.Tables.{Queue}
-use Rattle.model.specs.Sound.{controlSound}
-use Rattle.model.proofs.tests.Rules.{cleared}
-use Rattle.model.proofs.tests.Truth.{and-true}
+use Rattle.model.specs.{Tables.Queue, Sound.controlSound}
+use Rattle.model.proofs.tests.{Rules.cleared, Truth.and-true}
 use Rattle.shelf_model.specs.Shelves.{Shelves, bothHold, holds, returnRefusal, returnRules, saveRefusal, saveRules, shelfAt}
 use Rattle.shelf_model.proofs.Copied.{Long, long}
 

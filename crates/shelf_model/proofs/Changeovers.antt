@@ -7,17 +7,14 @@ use Prim.Native.Nat.{ℕ, _≤_}
 use lib.Dec.{eqb}
 use borrow.Author.Tests.{eq-eqb, eqb-true, ne-eqb}
 use Rattle.model.specs.declared.Opening.the-variants.{Opened}
-use Rattle.model.specs.Tables.{Queue}
-use Rattle.model.specs.Sound.{controlSound}
-use Rattle.model.specs.Refusals.{openRefusal}
+use Rattle.model.specs.{Tables.Queue, Sound.controlSound, Refusals.openRefusal}
 use Rattle.model.specs.Calls.{Done, act, openAs}
 use Rattle.model.specs.History.{Event, Request, final, run}
 use Rattle.model.proofs.tests.Truth.{decide-eq, not-both, split}
 use Rattle.shelf_model.specs.Cut.{cut}
 use Rattle.shelf_model.specs.Shelves.{Shelves, copied, returnRefusal, returned, saveRefusal, saved, shelfAt, withShelf}
-use Rattle.shelf_model.specs.Changeovers.{Action, asks, opens, returns, saves}
-use Rattle.shelf_model.specs.Changeovers.{Changeovers, Explained, Holds, Makings, Past, Station, Turn, World, after, begins, continues}
-use Rattle.shelf_model.specs.Changeovers.{does, eventOf, station, turned}
+use Rattle.shelf_model.specs.Changeovers.{Action, asks, opens, returns, saves, Changeovers, Explained, Holds, Makings, Past, Station, Turn}
+use Rattle.shelf_model.specs.Changeovers.{World, after, begins, continues, does, eventOf, station, turned}
 use Rattle.shelf_model.proofs.CutCalls.{act-cut}
 use Rattle.shelf_model.proofs.Copied.{cut-copied, shelf-other, shelf-same}
 use Rattle.shelf_model.proofs.Accepted.{Fits, return-filled, return-fits, save-fits, save-sound}

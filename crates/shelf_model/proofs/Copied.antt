@@ -13,8 +13,7 @@ use Rattle.model.specs.declared.Control.{Control}
 use Rattle.model.specs.Tables.{Queue, isPooled, tablesOf}
 use Rattle.model.specs.Sound.{rowTests, rowsFit}
 use Rattle.model.specs.Refusals.{recordsFit}
-use Rattle.model.proofs.tests.Rules.{tests}
-use Rattle.model.proofs.tests.Truth.{and-true}
+use Rattle.model.proofs.tests.{Rules.tests, Truth.and-true}
 use Rattle.shelf_model.specs.Cut.{cut}
 use Rattle.shelf_model.specs.Shelves.{Shelves, copied, holds, over, part, share, shelfAt, unfilled, withShelf}
 use Rattle.shelf_model.proofs.Parts.{length-over, part-length, part-other, part-same, take-over}

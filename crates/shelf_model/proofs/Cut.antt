@@ -1,19 +1,16 @@
 -- What lies beyond the lengths matters to nobody: a start or step of the queue cut to its lengths is the start or step of the queue, cut.
 use mathlib.Core.Bool.{Bool, true, false, _||_, cond, not}
 use mathlib.Core.List.{List, [], _∷_, _++_}
-use mathlib.Core.Logic.{_≢_}
 use mathlib.Core.Path.{_≡_, _∙_, ap, refl}
 use Prim.Native.Nat.{ℕ, suc, _≤_, _/_, _%_}
 use native.Mathlib.Omega.{arith}
 use lib.Dec.{eqb, ltb}
 use lib.ListN.{getD, length, set, take}
 use borrow.Author.Tests.{eqb-false, eqb-true, not-false}
-use Rattle.model.specs.declared.Record.{Record}
-use Rattle.model.specs.declared.TaskRecord.{TaskRecord}
+use Rattle.model.specs.declared.{Record.Record, TaskRecord.TaskRecord}
 use Rattle.model.specs.Tables.{Tables, bit, isPooled, marked, putBit, withMark, withHead, tablesOf}
 use Rattle.model.specs.Sound.{recordSound, rowsFit}
-use Rattle.model.specs.Places.{Touch, nothing, setAnchor, setLink, clearMark, takeSlot, setNext, setHead}
-use Rattle.model.specs.Places.{Move, apply, wordFound, linkSide, move, row}
+use Rattle.model.specs.Places.{Touch, nothing, setAnchor, setLink, clearMark, takeSlot, setNext, setHead, Move, apply, wordFound, linkSide, move, row}
 use Rattle.model.specs.declared.Outcome.the-variants.{Moved, Refused}
 use Rattle.model.specs.Route.{answer, onward, route}
 use Rattle.model.specs.Refusals.{Lent, admissionRules, first, fits, rule, stepRefusal, stepRules, stepSound}
@@ -156,7 +153,7 @@ abbrev pub cutActed : Acted → Acted
 cutActed a = record { tables = cutTables (a .tables); task = a .task; outcome = a .outcome }
 
 module _ (q : Tables) (r : TaskRecord) (h : RecordFine (isPooled (q .control)) (q .control .slots) (r .call))
-    (low : q .control .slots ≤ 1023) (busy : r .call .place ≢ 0) where
+    (low : q .control .slots ≤ 1023) where
   abbrev c : Record
   c = r .call
 
@@ -164,7 +161,7 @@ module _ (q : Tables) (r : TaskRecord) (h : RecordFine (isPooled (q .control)) (
   m = move (q .control) c (wordFound q c)
 
   touch-within : Within (q .control .slots) (m .touch)
-  touch-within = within _ _ (m .touch) (move-fine (isPooled (q .control)) (q .control .slots) c h low (q .control) (wordFound q c) busy)
+  touch-within = within _ _ (m .touch) (move-fine (isPooled (q .control)) (q .control .slots) c h low (q .control) (wordFound q c))
 
   label-cut : getD (cutTables q .labels) (row c) 0 ≡ getD (q .labels) (row c) 0
   label-cut = column-cut (q .control .slots) (q .labels) (row c) (row-fine (isPooled (q .control)) (q .control .slots) c h)
@@ -202,4 +199,4 @@ step-cut q p r =
         let z = cleared (stepRules q p (r .call)) refl e in
         let busy = eqb-false _ _ (z .1 .1 .1 .1 .0) in
         finish-cut q r (record-fine (isPooled (q .control)) (q .control .slots) (r .call) (not-false _ (z .1 .1 .1 .0)) busy)
-        (control-fine (q .control) (not-false _ (z .0)) .slots) busy
+        (control-fine (q .control) (not-false _ (z .0)) .slots)

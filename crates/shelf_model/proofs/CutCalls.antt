@@ -8,25 +8,19 @@ use lib.Dec.{eqb, ltb}
 use lib.ListN.{getD, set, take}
 use lib.Seq.{set-getD}
 use borrow.Author.Tests.{ltb-true, not-false}
-use Rattle.word.specs.Anchor.{anchorOf}
-use Rattle.word.specs.Link.{linkOf}
+use Rattle.word.specs.{Anchor.anchorOf, Link.linkOf}
 use Rattle.model.specs.declared.Answer.the-variants.{Running}
-use Rattle.model.specs.declared.Op.{Op}
+use Rattle.model.specs.declared.{Op.Op, Record.Record, TaskRecord.TaskRecord, Asked.Asked, Control.Control}
 use Rattle.model.specs.declared.Op.the-variants.{Push, Pop, Put, Step}
 use Rattle.model.specs.declared.Outcome.the-variants.{Moved, Refused}
-use Rattle.model.specs.declared.Record.{Record}
-use Rattle.model.specs.declared.TaskRecord.{TaskRecord}
 use Rattle.model.specs.Tables.{Queue, Tables, asking, isPooled, started, taskAt, unused, withCall, taken}
 use Rattle.model.specs.Sound.{controlSound, from1, linkSound}
-use Rattle.model.specs.declared.Asked.{Asked}
-use Rattle.model.specs.declared.Control.{Control}
 use Rattle.model.specs.Refusals.{Lent, admissionRules, among, first, fits, namedPush, nothingAsked, pooledPush, popRefusal, pushRefusal, putRefusal}
 use Rattle.model.specs.Refusals.{rule, startRules, startRefusal, stepRefusal}
 use Rattle.model.specs.Calls.{Acted, Done, act, actOn, back, decide, popStart, pushStart, putStart, step}
 use Rattle.model.specs.Walk.{Walk, along, andThen, broken, contents, entries, walkFrom, whence}
 use Rattle.model.specs.History.{Event, Request, final, run}
-use Rattle.model.proofs.tests.Rules.{cleared}
-use Rattle.model.proofs.tests.Truth.{split}
+use Rattle.model.proofs.tests.{Rules.cleared, Truth.split}
 use Rattle.model.proofs.bridge.Facts.{from1-true}
 use Rattle.model.proofs.laws.Sizes.{act-tasks}
 use Rattle.model.specs.Sides.{far, isEmpty, near, opposite}

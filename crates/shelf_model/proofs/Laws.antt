@@ -3,8 +3,7 @@ use mathlib.Core.Path.{_≡_, _∙_, ap, sym}
 use Prim.Native.Nat.{ℕ}
 use lib.Dec.{eqb}
 use borrow.Author.Tests.{eq-eqb, eqb-true, ne-eqb}
-use Rattle.model.specs.Tables.{Queue}
-use Rattle.model.specs.History.{run}
+use Rattle.model.specs.{Tables.Queue, History.run}
 use Rattle.model.proofs.tests.Truth.{split}
 use Rattle.shelf_model.specs.Cut.{cut}
 use Rattle.shelf_model.specs.Shelves.{Shelves, copied, returnRefusal, returned, saveRefusal, saved, shelfAt}

@@ -4,8 +4,7 @@ use mathlib.Core.Logic.{_≢_, _⊎_, inl, inr}
 use mathlib.Core.Path.{_≡_, _∙_, ap, refl, sym}
 use Prim.Native.Nat.{ℕ, zero, suc, _+_, _*_, _/_, _-_, _<_, _≤_}
 use native.Mathlib.Nat.{mul-le-mul-right, suc-mul}
-use native.Mathlib.Decide.{decLt}
-use native.Mathlib.Omega.{arith}
+use native.Mathlib.{Decide.decLt, Omega.arith}
 use lib.Arith.{lt-of-le-ne}
 use lib.ListN.{drop, length, length-append, length-drop, take}
 use lib.Seq.{drop-append-add, drop-append-le, drop-at, drop-drop, length-take-le, take-append-le, take-at, take-nil, take-take}

@@ -4,34 +4,24 @@ use mathlib.Core.List.{List, [], _∷_, _++_, map}
 use mathlib.Core.Path.{_≡_, _∙_, ap, ap₂, refl, subst, sym}
 use Prim.Native.Nat.{ℕ, zero, suc, _+_, _<_, _≤_}
 use native.Mathlib.Omega.{arith}
-use lib.Dec.{eqb}
-use lib.ListN.{length}
-use Rattle.model.specs.declared.Control.{Control}
-use Rattle.model.specs.declared.Entry.{Entry}
+use lib.{Dec.eqb, ListN.length}
+use Rattle.model.specs.declared.{Control.Control, Entry.Entry, TaskRecord.TaskRecord}
 use Rattle.model.specs.declared.Outcome.the-variants.{Refused}
-use Rattle.model.specs.declared.TaskRecord.{TaskRecord}
 use Rattle.model.specs.Tables.{Queue, isPooled, taskAt}
-use Rattle.model.specs.Sound.{controlSound}
-use Rattle.model.specs.Calls.{act}
+use Rattle.model.specs.{Sound.controlSound, Calls.act, Retries.retriesBelow, Standing.Standing}
 use Rattle.model.specs.Walk.{Walk, contents, entries, met}
 use Rattle.model.specs.History.{AfterOpeningAs, Call, Ending, Event, Lawful, Linearized, NeverUnsound, Request}
 use Rattle.model.specs.History.{answered, final, isOpen, ledger, pending, run}
-use Rattle.model.specs.Retries.{retriesBelow}
 use Rattle.model.proofs.laws.Sizes.{act-pooled, act-tasks, fits}
-use Rattle.model.proofs.Linearizable.{linearizable}
-use Rattle.model.proofs.Never34.{never-34}
-use Rattle.model.specs.Standing.{Standing}
-use Rattle.model.proofs.Standing.{standing}
+use Rattle.model.proofs.{Linearizable.linearizable, Never34.never-34, Standing.standing}
 use Rattle.model.specs.Lists.{All, copies}
 use Rattle.stock_model.specs.Accounts.{Accounted, AccountedIn, AddedUp, Stands, StockSum, answeredLabels, hasTaken, heldLabels, pushedLabels, takenLabels}
 use Rattle.stock_model.specs.Accounts.{waitingLabels}
 use Rattle.stock_model.proofs.Accounts.{OpenKnown, every-label, open-known, stock-taking}
 use Rattle.shelf_model.specs.Cut.{cut}
 use Rattle.shelf_model.specs.Changeovers.{Explained, FromOpening, Past}
-use Rattle.shelf_model.proofs.Lists.{enough-take}
-use Rattle.shelf_model.proofs.Cut.{fits-cut}
+use Rattle.shelf_model.proofs.{Lists.enough-take, Cut.fits-cut, Stretches.task-cut}
 use Rattle.shelf_model.proofs.CutCalls.{contents-cut, run-cut}
-use Rattle.shelf_model.proofs.Stretches.{task-cut}
 
 below-cut : (q : Queue) (n : ℕ) → n ≤ q .tables .control .tasks → retriesBelow (cut q) n ≡ retriesBelow q n
 unfolding retriesBelow

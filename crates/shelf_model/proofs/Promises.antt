@@ -7,21 +7,17 @@ use Prim.Native.Nat.{ℕ, _<_, _≤_}
 use native.Mathlib.Omega.{arith}
 use lib.Dec.{eqb, leb}
 use borrow.Author.Tests.{eqb-false, leb-true, not-false}
-use Rattle.model.specs.declared.Entry.{Entry}
+use Rattle.model.specs.declared.{Entry.Entry, TaskRecord.TaskRecord}
 use Rattle.model.specs.declared.Reported.the-variants as reported
-use Rattle.model.specs.declared.TaskRecord.{TaskRecord}
 use Rattle.model.specs.Tables.{Queue, isPooled}
-use Rattle.model.specs.Sound.{controlSound}
+use Rattle.model.specs.{Sound.controlSound, Solo.soloRun, Retries.SumIsOld, Standing.Standing}
 use Rattle.model.specs.Refusals.{first, recordsFit, reportRefusal, rule}
 use Rattle.model.specs.Report.{busy, report, tell, told, waiting}
 use Rattle.model.specs.History.{Event, final}
-use Rattle.model.specs.Solo.{soloRun}
 use Rattle.model.specs.Progress.{AnsweredWithin, Busy, SoloWithin, StretchTells, any, limit, steps, stretchLimit, tells}
-use Rattle.model.specs.Retries.{SumIsOld}
 use Rattle.model.proofs.tests.Rules.{_and_, never}
 use Rattle.model.proofs.tests.Truth.{not-both}
 use Rattle.model.proofs.Retries.{retries-sum}
-use Rattle.model.specs.Standing.{Standing}
 use Rattle.model.proofs.StepBounds.{solo-bound, stretch-bound}
 use Rattle.shelf_model.specs.Shelves.{bothHold, returnRefusal, saveRefusal, saveRules, shelfAt}
 use Rattle.shelf_model.specs.Changeovers.{Explained, Holds, Past, World, eventsOf}

@@ -10,12 +10,11 @@ use Rattle.model.specs.declared.Op.the-variants.{Step}
 use Rattle.model.specs.declared.Outcome.the-variants.{Moved}
 use Rattle.model.specs.declared.TaskRecord.{TaskRecord}
 use Rattle.model.specs.Tables.{Queue, taskAt, unused}
-use Rattle.model.specs.Refusals.{openRefusal}
+use Rattle.model.specs.{Refusals.openRefusal, Progress.AnsweredWithin}
 use Rattle.model.specs.Calls.{Done, act, openAs}
 use Rattle.model.specs.Ends.{isMoved, isRunning}
 use Rattle.model.specs.History.{Event, Request, run}
 use Rattle.model.specs.Solo.{SoloDone, lastStep, oneMore, resting, soloRun, soloSteps}
-use Rattle.model.specs.Progress.{AnsweredWithin}
 use Rattle.model.proofs.tests.Truth.{and-true, split}
 use Rattle.model.proofs.laws.Sizes.{act-tasks}
 use Rattle.shelf_model.specs.Cut.{cut}

@@ -4,8 +4,7 @@ use mathlib.Core.Bool.{false}
 use mathlib.Core.List.{List, [], _∷_}
 use Prim.Native.Nat.{ℕ, zero, suc}
 use lib.ListN.{getD, replicate}
-use Rattle.model.specs.declared.Control.{Control}
-use Rattle.model.specs.declared.TaskRecord.{TaskRecord}
+use Rattle.model.specs.declared.{Control.Control, TaskRecord.TaskRecord}
 use Rattle.model.specs.Tables.{Queue, openedControl, withWords}
 use Rattle.model.proofs.laws.Order.{numbers}
 use Rattle.shelf_model.specs.Shelves.{Shelves, unfilled, saveRules, returnRules, returnRefusal}

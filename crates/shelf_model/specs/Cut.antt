@@ -1,6 +1,5 @@
 -- A queue cut to its lengths. (Document 02, #109: entries beyond the length keep their values; what they hold matters to no call.)
-use mathlib.Core.Bool.{cond}
-use mathlib.Core.List.{[]}
+use mathlib.Core.{Bool.cond, List.[]}
 use Prim.Native.Nat.{suc, _/_}
 use lib.ListN.{take}
 use Rattle.model.specs.Tables.{Tables, Queue, isPooled, tablesOf}

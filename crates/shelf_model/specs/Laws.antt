@@ -1,7 +1,5 @@
 -- What saving and returning keep, for any queues and shelves. (Document 02, #109.)
-use mathlib.Core.List.{List}
-use mathlib.Core.Logic.{_≢_}
-use mathlib.Core.Path.{_≡_}
+use mathlib.Core.{List.List, Logic._≢_, Path._≡_}
 use Prim.Native.Nat.{ℕ, _≤_}
 use Rattle.model.specs.Tables.{Queue}
 use Rattle.model.specs.History.{Request, run}

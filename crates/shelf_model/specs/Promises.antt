@@ -1,8 +1,5 @@
 -- What is promised of a queue that was saved and returned to: what is promised of its past. (Document 02, #109.)
-use mathlib.Core.Path.{_≡_}
-use mathlib.Core.Bool.{true}
-use mathlib.Core.List.{List}
-use mathlib.Core.Logic.{_≢_}
+use mathlib.Core.{Path._≡_, Bool.true, List.List, Logic._≢_}
 use Prim.Native.Nat.{ℕ, _<_, _≤_}
 use lib.ListN.{length}
 use Rattle.model.specs.declared.Outcome.the-variants.{Refused}
@@ -10,13 +7,10 @@ use Rattle.model.specs.declared.Report.{Report}
 use Rattle.model.specs.declared.Reported.the-variants as reported
 use Rattle.model.specs.Tables.{Queue, isPooled, recordAt}
 use Rattle.model.specs.Walk.{contents, entries}
-use Rattle.model.specs.Standing.{Standing}
-use Rattle.model.specs.Report.{report}
+use Rattle.model.specs.{Standing.Standing, Report.report, Solo.soloRun, Lists.All}
 use Rattle.model.specs.History.{Call, Event, Lawful, Request, ledger, run}
-use Rattle.model.specs.Solo.{soloRun}
 use Rattle.model.specs.Progress.{AnsweredWithin, Busy, any, limit, steps, stretchLimit, tells}
 use Rattle.model.specs.Retries.{oldCount, retriesBelow}
-use Rattle.model.specs.Lists.{All}
 use Rattle.stock_model.specs.Accounts.{AccountedIn, AddedUp}
 use Rattle.shelf_model.specs.Shelves.{returnRefusal, saveRefusal}
 use Rattle.shelf_model.specs.Changeovers.{AfterTurns, Turn, World, eventsOf, unbroken}

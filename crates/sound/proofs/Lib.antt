@@ -5,4 +5,4 @@ pub mod Places
 pub mod Early
 pub mod Late
 pub mod Links
-pub mod Lengths
+pub mod Measured

@@ -1,15 +1,43 @@
 -- Which tables are long enough, by their lengths.
-use mathlib.Core.Bool.{Bool, _||_, not}
+use mathlib.Core.Path.{_≡_}
+use mathlib.Core.Bool.{Bool, _&&_, _||_, not}
 use mathlib.Core.List.{[], _∷_}
 use Prim.Native.Nat.{ℕ, _/_}
-use lib.Dec.{ltb}
+use lib.Dec.{leb, ltb}
+use lib.ListN.{length}
+use Rattle.model.specs.declared.Control.{Control}
+use Rattle.model.specs.Tables.{Tables, isPooled}
+use Rattle.model.specs.Refusals.{Lent}
 use Rattle.model.specs.Lists.{every}
+use Rattle.sound.specs.declared.Lengths.{Lengths}
 
-unfoldable pub lengthsFit : Bool → ℕ → ℕ → ℕ → ℕ → ℕ → ℕ → Bool
-lengthsFit pooled slots lefts rights labels marks next =
-    every (ltb slots lefts
-    ∷ ltb slots rights
-    ∷ ltb slots labels
-    ∷ ltb (slots / 64) marks
-    ∷ (not pooled || ltb slots next)
+-- The lengths of tables, with so many records; and that some lengths are those of the tables.
+abbrev pub lengthsOf : Tables → ℕ → Lengths
+lengthsOf q n = record {
+  records = n;
+  lefts = length (q .lefts);
+  rights = length (q .rights);
+  labels = length (q .labels);
+  marks = length (q .marks);
+  next = length (q .next);
+}
+
+abbrev pub Measures : Lengths → Tables → Type 0
+Measures t q = t ≡ lengthsOf q (t .records)
+
+unfoldable pub lengthsFit : Bool → ℕ → Lengths → Bool
+lengthsFit pooled slots t =
+    every (ltb slots (t .lefts)
+    ∷ ltb slots (t .rights)
+    ∷ ltb slots (t .labels)
+    ∷ ltb (slots / 64) (t .marks)
+    ∷ (not pooled || ltb slots (t .next))
     ∷ [])
+
+-- 12 for a queue with this control, records and all.
+abbrev pub tablesFit : Control → Lengths → Bool
+tablesFit c t = lengthsFit (isPooled c) (c .slots) t && leb (c .tasks) (t .records)
+
+-- What 12 and 13 see of the records that are lent, for one task.
+abbrev pub amongMany : Control → Lengths → ℕ → Lent
+amongMany c t task = record { enough = leb (c .tasks) (t .records); known = ltb task (c .tasks) }

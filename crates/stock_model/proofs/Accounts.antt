@@ -5,15 +5,12 @@ use mathlib.Core.Path.{_≡_, ap, subst, sym}
 use Prim.Native.Nat.{ℕ, _+_, _<_}
 use native.Mathlib.Omega.{arith}
 use Rattle.model.specs.declared.Entry.{Entry}
-use Rattle.model.specs.Tables.{Queue}
-use Rattle.model.specs.Walk.{met}
+use Rattle.model.specs.{Tables.Queue, Walk.met, Lists.All}
 use Rattle.model.specs.Calls.{openAs, opened}
 use Rattle.model.specs.History.{AfterOpening, Call, Ending, Lawful, Request, answered, final, isOpen, ledger, pending, run}
 use Rattle.model.proofs.ledger.EveryOperation.{run-good}
 use Rattle.model.proofs.ledger.Opened.{nobody, open-good, some-slots}
-use Rattle.model.proofs.Linearizable.{linearizable}
-use Rattle.model.proofs.Openings.{after-opening}
-use Rattle.model.specs.Lists.{All}
+use Rattle.model.proofs.{Linearizable.linearizable, Openings.after-opening}
 use Rattle.stock_model.specs.Accounts.{EveryLabel, Stands, StockTaking, answeredBy, answeredLabels, each, heldBy, heldLabels}
 use Rattle.stock_model.specs.Accounts.{pushedLabels, takenBy, takenLabels, waitingLabels}
 use Rattle.stock_model.proofs.Balance.{all-fit, balanced, only, weigh, weigh-all, weigh-more, weigh-only}

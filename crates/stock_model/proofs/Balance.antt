@@ -4,15 +4,11 @@ use mathlib.Core.List.{List, [], _∷_, _++_, map, reverse, reverse-cons}
 use mathlib.Core.Path.{_≡_, _∙_, ap, refl, sym}
 use Prim.Native.Nat.{ℕ, _+_}
 use native.Mathlib.Omega.{arith}
-use lib.Dec.{eqb}
-use lib.ListN.{length}
+use lib.{Dec.eqb, ListN.length}
 use borrow.Author.Tests.{eqb-true}
-use Rattle.model.specs.declared.Answer.{Answer}
+use Rattle.model.specs.declared.{Answer.Answer, Entry.Entry, Op.Op, Outcome.Outcome}
 use Rattle.model.specs.declared.Answer.the-variants.{Pushed}
-use Rattle.model.specs.declared.Entry.{Entry}
-use Rattle.model.specs.declared.Op.{Op}
 use Rattle.model.specs.declared.Op.the-variants.{Push, Pop, Put, Step}
-use Rattle.model.specs.declared.Outcome.{Outcome}
 use Rattle.model.specs.declared.Outcome.the-variants.{Refused, Moved}
 use Rattle.model.specs.Deque.{Served, seenFrom, serve, serveFor, servePop, servePush, takeFirst}
 use Rattle.model.specs.History.{Call, Effect, Event, Ledger, accept, attend, isEffect, isOpen, lacksSlot, ledgerFrom, note, stepOf, toldEntry}

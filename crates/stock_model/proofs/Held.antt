@@ -1,11 +1,10 @@
 -- A pop that hasn't answered yet took effect exactly where its record stands at 11 or, in a pooled queue, at 15 to 17.
-use mathlib.Core.Bool.{Bool, true, false, cond, _&&_}
+use mathlib.Core.Bool.{Bool, true, false, cond, _&&_, _||_}
 use mathlib.Core.List.{List, [], _∷_}
 use mathlib.Core.Logic.{_≢_, _⊎_, inl, inr}
 use mathlib.Core.Path.{_≡_, _∙_, ap, refl, sym}
 use Prim.Native.Nat.{ℕ, _≤_, _<_, suc}
-use native.Mathlib.Decide.{decLt}
-use native.Mathlib.Omega.{arith}
+use native.Mathlib.{Decide.decLt, Omega.arith}
 use lib.Dec.{eqb, ltb}
 use lib.ListN.{length, List·getD-eq-default}
 use borrow.Author.Tests.{eq-eqb, ltb-true}
@@ -29,20 +28,7 @@ use Rattle.stock_model.proofs.Balance.{AllFit}
 
 -- The places of a pop between its effect and its answer.
 abbrev taking : M.Place → Bool
-taking M.idle = false
-taking M.at1 = false
-taking M.at2 = false
-taking M.at3 = false
-taking M.at4 = false
-taking M.at5 = false
-taking M.at6 = false
-taking M.at7 = false
-taking M.at8 = false
-taking M.at9 = false
-taking M.at10 = false
-taking M.at11 = true
-taking (M.draw p) = false
-taking (M.give p) = true
+taking p = M.takes (M.phase p) || M.isGiving p
 
 -- A call that was not told *pushed* has had its effect just there.
 helped : (f : Bool) (g : ℕ → ℕ) (h : ℕ → Owner) (t : ℕ) (k : M.Kind) (d : Bool) (x l : ℕ) (c : B.Call)
@@ -134,7 +120,8 @@ module _ (n : ℕ) (q : Queue) (l : Ledger) (g : Matched n q l) where
   -- An open call is one of the queue's tasks'.
   pub every-known : All (λ (c : Call). isOpen (c .ending) ≡ true → c .task < q .tables .control .tasks) (l .calls)
   unfolding stateOf
-  every-known = all-map Busies (λ (c : Call). isOpen (c .ending) ≡ true → c .task < q .tables .control .tasks) (λ c b o. known (c .task) (ltb (c .task) (q .tables .control .tasks)) refl (b o))
+  every-known = all-map Busies (λ (c : Call). isOpen (c .ending) ≡ true → c .task < q .tables .control .tasks)
+      (λ c b o. known (c .task) (ltb (c .task) (q .tables .control .tasks)) refl (b o))
       (l .calls) (all-busy (l .calls) (λ t. omega arith))
     where
       known : (t : ℕ) (k : Bool) → ltb t (q .tables .control .tasks) ≡ k → M.isIdle (cond k (recOf (recordAt q t)) M.blank .place) ≡ false

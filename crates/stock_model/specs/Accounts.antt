@@ -3,11 +3,8 @@ use mathlib.Core.Path.{_≡_}
 use mathlib.Core.Bool.{Bool, _||_, cond}
 use mathlib.Core.List.{List, [], _∷_, _++_, map}
 use Prim.Native.Nat.{ℕ, _+_}
-use lib.Dec.{eqb}
-use lib.ListN.{length}
-use Rattle.model.specs.declared.Record.{Record}
-use Rattle.model.specs.declared.Entry.{Entry}
-use Rattle.model.specs.declared.Answer.{Answer}
+use lib.{Dec.eqb, ListN.length}
+use Rattle.model.specs.declared.{Record.Record, Entry.Entry, Answer.Answer}
 use Rattle.model.specs.declared.Answer.the-variants.{Running, Pushed, Empty, Popped, NoSlot}
 use Rattle.model.specs.Tables.{Tables, Queue, recordAt}
 use Rattle.model.specs.Walk.{contents, met}

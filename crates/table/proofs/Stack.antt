@@ -3,15 +3,12 @@ use mathlib.Core.Path.{_≡_, refl, sym, ap, _∙_}
 use mathlib.Core.Bool.{Bool, true, false, _&&_}
 use mathlib.Core.List.{List, [], _∷_, _++_}
 use Prim.Native.Nat.{ℕ, zero, suc, _+_, _<_, _≤_}
-use native.Mathlib.Numerals.{add-one}
-use native.Mathlib.Omega.{arith}
-use lib.Dec.{ltb}
+use native.Mathlib.{Numerals.add-one, Omega.arith}
+use lib.{Dec.ltb, Seq.take-all}
 use lib.ListN.{length, getD, set, take, drop, length-set, List·getD-append}
-use lib.Seq.{take-all}
 use borrow.Author.Tests.{ltb-true}
-use Rattle.model.specs.Calls.{stacked}
+use Rattle.model.specs.{Calls.stacked, Lists.climb}
 use Rattle.model.proofs.lists.Range.{length-climb, climb-step, climb-out}
-use Rattle.model.specs.Lists.{climb}
 
 -- What the test of a pooled table's length tells.
 pub long : (pooled : Bool) (n m : ℕ) → pooled && ltb n m ≡ true → n < m

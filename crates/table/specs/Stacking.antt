@@ -2,8 +2,7 @@
 use mathlib.Core.Bool.{Bool, _&&_, cond}
 use mathlib.Core.List.{List}
 use Prim.Native.Nat.{ℕ}
-use lib.Dec.{ltb}
-use lib.ListN.{length}
+use lib.{Dec.ltb, ListN.length}
 use Rattle.model.specs.Calls.{stacked}
 
 unfoldable pub stacking : Bool → ℕ → List ℕ → List ℕ

@@ -1,9 +1,7 @@
 -- A table's first n entries zeroed; a shorter table keeps its contents.
-use mathlib.Core.Bool.{cond}
-use mathlib.Core.List.{List}
+use mathlib.Core.{Bool.cond, List.List}
 use Prim.Native.Nat.{ℕ}
-use lib.Dec.{leb}
-use lib.ListN.{length}
+use lib.{Dec.leb, ListN.length}
 use Rattle.model.specs.Lists.{zeroed}
 
 unfoldable pub zeroing : ℕ → List ℕ → List ℕ

@@ -6,21 +6,15 @@ use lib.Dec.{eqb}
 use lib.ListN.{getD, set}
 use Rattle.word.specs.Anchor.{anchorOf}
 use Rattle.word.specs.Link.{linkOf, packLink}
-use Rattle.model.specs.declared.Control.{Control}
-use Rattle.model.specs.declared.Record.{Record}
-use Rattle.model.specs.declared.TaskRecord.{TaskRecord}
-use Rattle.model.specs.declared.Entry.{Entry}
-use Rattle.model.specs.declared.Outcome.{Outcome}
+use Rattle.model.specs.declared.{Control.Control, Record.Record, TaskRecord.TaskRecord, Entry.Entry, Outcome.Outcome}
 use Rattle.model.specs.declared.Outcome.the-variants.{Refused, Moved}
 use Rattle.model.specs.Tables.{Tables, atPlace, counting, withMark, withAnchor, withHead, linked, withMarks, withNext, taken}
-use Rattle.model.specs.Sides.{links}
+use Rattle.model.specs.{Sides.links, Calls.Acted}
 use Rattle.model.specs.Kinds.{drawing, giving}
 use Rattle.model.specs.Sound.{from1, anchorSound, linkSound}
-use Rattle.model.specs.Places.{endSeen, row, linkSide, Move, move}
-use Rattle.model.specs.Places.{Touch, nothing, setAnchor, setLink, clearMark, takeSlot, setNext, setHead}
+use Rattle.model.specs.Places.{endSeen, row, linkSide, Move, move, Touch, nothing, setAnchor, setLink, clearMark, takeSlot, setNext, setHead}
 use Rattle.model.specs.Route.{route, onward, answer, goes, counted}
 use Rattle.model.specs.Refusals.{needsRow, meetsLink, leavesSound, hasRoom, stepSound, recordRefusal}
-use Rattle.model.specs.Calls.{Acted}
 use Rattle.threads_model.specs.declared.PlannedTouch.{PlannedTouch}
 
 -- PLAN. What the executive is asked to do: `act` says what, side and slot where, the other fields with which words.

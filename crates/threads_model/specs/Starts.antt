@@ -5,16 +5,13 @@ use mathlib.Core.List.{List, [], _∷_}
 use Prim.Native.Nat.{ℕ}
 use lib.Dec.{eqb, leb, ltb}
 use Rattle.word.specs.Anchor.{anchorOf}
-use Rattle.model.specs.declared.Record.{Record}
-use Rattle.model.specs.declared.TaskRecord.{TaskRecord}
-use Rattle.model.specs.declared.Outcome.{Outcome}
+use Rattle.model.specs.declared.{Record.Record, TaskRecord.TaskRecord, Outcome.Outcome}
 use Rattle.model.specs.declared.Outcome.the-variants.{Refused, Moved}
 use Rattle.model.specs.declared.Answer.the-variants.{Running}
 use Rattle.model.specs.Tables.{withCall, started, asking}
 use Rattle.model.specs.Sound.{from1, recordSound}
 use Rattle.model.specs.Refusals.{Rule, rule, first, isBusy}
-use Rattle.threads_model.specs.declared.PlannedTouch.{PlannedTouch}
-use Rattle.threads_model.specs.declared.Start.{Start}
+use Rattle.threads_model.specs.declared.{PlannedTouch.PlannedTouch, Start.Start}
 use Rattle.threads_model.specs.Split.{planOf, refuses, loadsAnchor}
 
 -- The three starts: a push that names a slot, a pop, a push that names none.

@@ -7,16 +7,14 @@ use native.Mathlib.Omega.{arith}
 use lib.Dec.{eqb, leb}
 use borrow.Author.Tests.{eq-eqb, ne-eqb, le-leb}
 use Rattle.word.specs.Anchor.{anchorOf}
-use Rattle.model.specs.declared.Record.{Record}
-use Rattle.model.specs.declared.Reply.{Reply}
+use Rattle.model.specs.declared.{Record.Record, Reply.Reply}
 use Rattle.model.specs.Tables.{newCall, started, asking}
 use Rattle.model.specs.Sound.{from1, anchorSound, linkSound, recordSound}
 use Rattle.model.proofs.tests.Truth.{split, and-true, not-both}
 use Rattle.sound.proofs.Parts.{idle-sound}
 use Rattle.rows.specs.Rows.{callOf, recordOf, upperOf}
 use Rattle.rows.proofs.InItsRow.{unsound}
-use Rattle.threads_model.specs.declared.PlannedTouch.{PlannedTouch}
-use Rattle.threads_model.specs.declared.Start.{Start}
+use Rattle.threads_model.specs.declared.{PlannedTouch.PlannedTouch, Start.Start}
 use Rattle.threads_model.specs.Split.{refuses, loadsAnchor, loadsHead, plan}
 use Rattle.threads_model.specs.Starts.{Begins, ownRefusal, wrongPush, outside, planStart, firstCall, judged}
 use Rattle.threads_model.specs.Starts.{lateWord, loadsMark, takesSlot, settleStart}

@@ -7,9 +7,8 @@ use lib.Dec.{eqb}
 use borrow.Author.Tests.{eqb-false, ne-eqb}
 use Rattle.word.specs.Anchor.{anchorOf}
 use Rattle.model.specs.declared.Record.{Record}
-use Rattle.model.specs.Tables.{atPlace}
+use Rattle.model.specs.{Tables.atPlace, Refusals.recordRefusal}
 use Rattle.model.specs.Sound.{anchorSound, recordSound}
-use Rattle.model.specs.Refusals.{recordRefusal}
 use Rattle.model.proofs.tests.Truth.{split}
 use Rattle.rows.proofs.InItsRow.{unsound}
 use Rattle.threads_model.specs.declared.PlannedTouch.{PlannedTouch}

@@ -1,14 +1,10 @@
 -- A start in words, and what its settlement leaves and answers.
-use mathlib.Core.Bool.{cond}
-use mathlib.Core.List.{List}
+use mathlib.Core.{Bool.cond, List.List}
 use Prim.Native.Nat.{ℕ, _%_, _^_}
 use lib.ListN.{getD}
-use Rattle.model.specs.declared.TaskRecord.{TaskRecord}
-use Rattle.model.specs.declared.Reply.{Reply}
-use Rattle.model.specs.Calls.{replyOf}
-use Rattle.model.specs.Ends.{isMoved}
-use Rattle.threads_model.specs.declared.PlannedTouch.{PlannedTouch}
-use Rattle.threads_model.specs.declared.Start.{Start}
+use Rattle.model.specs.declared.{TaskRecord.TaskRecord, Reply.Reply}
+use Rattle.model.specs.{Calls.replyOf, Ends.isMoved}
+use Rattle.threads_model.specs.declared.{PlannedTouch.PlannedTouch, Start.Start}
 use Rattle.threads_model.specs.Split.{plan}
 use Rattle.threads_model.specs.Starts.{Begins, touches, answers}
 

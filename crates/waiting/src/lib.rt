@@ -1,5 +1,6 @@
 //! The labels waiting and their slots, written from left to right into lent tables.
 use model::Control;
+use sound::Lengths;
 use walk::Tally;
 use walk::Way;
 use word::Link;
@@ -80,13 +81,13 @@ fn lay(
 }
 
 /// 34 for control and Anchor, 12. No records and no next table are lent, so none count.
-fn refusal(c: Control, lefts: usize, rights: usize, labels: usize, marks: usize) -> u32
-    ensures { λ n. ⌜ n ≡ refusalBefore (controlSound c) (lengthsFit false (c .slots) lefts rights labels marks 0) ⌝ }
+fn refusal(c: Control, t: Lengths) -> u32
+    ensures { λ n. ⌜ n ≡ refusalBefore (controlSound c) (lengthsFit false (c .slots) t) ⌝ }
 {
     if !sound::control_sound(c) {
         return 34;
     }
-    if !sound::rows_fit(false, c.slots, lefts, rights, labels, marks, 0) {
+    if !sound::rows_fit(false, c.slots, t) {
         return 12;
     }
     0
@@ -116,7 +117,15 @@ fn read_out(
         (tablesOf c (now (lefts .entry)) (now (rights .entry)) (now (labels .entry)) (now (marks .entry)) next)
         (now (slots .entry)) (now (copies .entry))) ⌝ }
 {
-    let why = refusal(c, lefts.len(), rights.len(), labels.len(), marks.len());
+    let t = Lengths {
+        records: 0,
+        lefts: lefts.len(),
+        rights: rights.len(),
+        labels: labels.len(),
+        marks: marks.len(),
+        next: 0,
+    };
+    let why = refusal(c, t);
     if why != 0 {
         return refused(why);
     }

@@ -6,29 +6,23 @@ use mathlib.Core.Logic.{_≢_}
 use Prim.Native.Nat.{ℕ, zero, suc, _+_, _-_, _%_, _^_, _<_, _≤_}
 use native.Mathlib.Omega.{arith}
 use lib.Dec.{eqb, leb}
-use lib.ListN.{getD, length}
-use borrow.Author.Tests.{eqb-true, eqb-false, eq-eqb, ne-eqb, le-leb, leb-true}
+use lib.ListN.{getD}
+use borrow.Author.Tests.{eqb-true, eq-eqb, ne-eqb, le-leb, leb-true}
 use Rattle.word.specs.Anchor.{anchorOf}
 use Rattle.word.specs.Link.{linkOf, spareOf}
 use Rattle.model.specs.declared.Entry.{Entry}
 use Rattle.model.specs.Tables.{Tables}
 use Rattle.model.specs.Sound.{from1, linkSound}
-use Rattle.model.specs.Walk.{Walk, along, andThen, broken, contents, entries, isBroken, met, walkFrom}
-use Rattle.model.proofs.tests.Truth.{split, and-true, not-both}
+use Rattle.model.specs.Walk.{Walk, along, andThen, broken, contents, entries, walkFrom}
+use Rattle.model.proofs.tests.Truth.{split, and-true}
 use Rattle.walk.specs.declared.Way.{Way}
-use Rattle.walk.specs.Ways.{wayOf, noneOn, linksOn, leadsTo, ahead, turnedBack, trail}
+use Rattle.walk.specs.Ways.{wayOf, noneOn, linksOn, leadsTo, ahead, turnedBack}
 use Rattle.walk.specs.Over.{Made, made, lost, each, over}
 
 -- The lower half of a sound link word is its slot.
 pub half-slot : (slots l : ℕ) → linkSound slots l ≡ true → l % 2 ^ 32 ≡ linkOf l .slot
 unfolding linkSound
 half-slot slots l e = let z = eqb-true (spareOf l) 0 (and-true (eqb (spareOf l) 0) (leb (linkOf l .slot) slots) e .0) in omega arith
-
-stuck : {l : List Entry} {A : Type 0} → broken ≡ entries l → A
-stuck e = absurd (not-both (sym (ap isBroken e)) refl)
-
-same : {l m : List Entry} → entries l ≡ entries m → l ≡ m
-same e = ap met e
 
 module _ (w : Way) (lefts rights labels : List ℕ) where
   -- At most n slots more, from slot x on.
@@ -64,30 +58,6 @@ module _ (w : Way) (lefts rights labels : List ℕ) where
       go : (b : Bool) → linkSound (w .slots) word ≡ b → cond b slot 0 ≢ 0 → from1 (w .slots) (cond b slot 0) ≡ true
       go true e g = rw (le-leb 1 slot (omega (arith, g)), and-true (eqb (spareOf word) 0) (leb slot (w .slots)) e .1)
       go false e g = absurd (g refl)
-
-  -- A walk that is not broken meets as many slots, each where the link before it leads.
-  pub trodden : (n x : ℕ) (l : List Entry) → from1 (w .slots) x ≡ true → rest n x ≡ entries l → l ≡ trail w lefts rights labels (length l) x
-  unfolding trail along
-  trodden zero x l e f = stuck f
-  trodden (suc n) x l e f =
-      split (eqb x (w .last))
-      (λ g. let one = same {m = entry x ∷ []} (sym f ∙ turn n x e ∙ rw g) in one ∙ ap (λ (m : List Entry). trail w lefts rights labels (length m) x) (sym one))
-      (λ g. go (rest n y) refl (sym f ∙ turn n x e ∙ rw g) (λ m. trodden n y m))
-    where
-      y : ℕ
-      y = leadsTo w lefts rights x
-
-      on : (m : List Entry) → rest n y ≡ entries m → from1 (w .slots) y ≡ true
-      on m k = split (eqb y 0) (λ z. stuck (sym (nowhere n y (rw (eqb-true y 0 z))) ∙ k)) (λ z. real x (eqb-false y 0 z))
-
-      go : (v : Walk) → rest n y ≡ v → entries l ≡ andThen (entry x) v
-          → ((m : List Entry) → from1 (w .slots) y ≡ true → rest n y ≡ entries m → m ≡ trail w lefts rights labels (length m) y)
-          → l ≡ trail w lefts rights labels (length l) x
-      go (entries m) k z ih =
-          let all = same {m = entry x ∷ m} z in
-          let more = ap (λ (r : List Entry). entry x ∷ r) (ih m (on m k) k) in
-          all ∙ more ∙ ap (λ (r : List Entry). trail w lefts rights labels (length r) x) (sym all)
-      go broken k z ih = stuck (sym z)
 
 both : (a b : Bool) → a && b ≡ b && a
 both true true = refl

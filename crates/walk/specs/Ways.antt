@@ -1,13 +1,12 @@
 -- The way of a walk, and where a link leads.
 use mathlib.Core.Bool.{Bool, _&&_, cond}
-use mathlib.Core.List.{List, [], _∷_}
-use Prim.Native.Nat.{ℕ, zero, suc}
+use mathlib.Core.List.{List}
+use Prim.Native.Nat.{ℕ}
 use lib.Dec.{eqb}
 use lib.ListN.{getD}
 use Rattle.word.specs.Anchor.{anchorOf}
 use Rattle.word.specs.Link.{linkOf}
 use Rattle.model.specs.declared.Control.{Control}
-use Rattle.model.specs.declared.Entry.{Entry}
 use Rattle.model.specs.Sides.{near, far}
 use Rattle.model.specs.Sound.{linkSound}
 use Rattle.model.specs.Walk.{Walk, along, walkFrom, whence}
@@ -37,8 +36,3 @@ ahead w lefts rights labels = along (w .slots) (linksOn w lefts rights) labels (
 -- A walk along a way, turned to run from left to right.
 abbrev pub turnedBack : Way → Walk → Walk
 turnedBack w v = walkFrom (cond (w .rightward) 0 1) v
-
--- The entries of n slots from slot x on.
-unfoldable pub trail : Way → List ℕ → List ℕ → List ℕ → ℕ → ℕ → List Entry
-trail w lefts rights labels zero x = []
-trail w lefts rights labels (suc n) x = record { slot = x; label = getD labels x 0 } ∷ trail w lefts rights labels n (leadsTo w lefts rights x)

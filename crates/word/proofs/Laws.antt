@@ -2,8 +2,7 @@
 use mathlib.Core.Path.{_≡_, ap, _∙_}
 use Prim.Native.Nat.{ℕ, _^_, _<_}
 use native.Mathlib.Omega.{arith}
-use Rattle.word.specs.declared.Anchor.{Anchor}
-use Rattle.word.specs.declared.Link.{Link}
+use Rattle.word.specs.declared.{Anchor.Anchor, Link.Link}
 use Rattle.word.specs.Anchor.{anchorWord, anchorOf, cutAnchor, packAnchor, AnchorFits}
 use Rattle.word.specs.Link.{linkWord, linkOf, spareOf, cutLink, packLink, LinkFits}
 

@@ -4,8 +4,7 @@ use mathlib.Core.Bool.{Bool, true, false, _&&_, _||_, not, cond}
 use Prim.Native.Nat.{ℕ}
 use lib.Dec.{eqb}
 use Rattle.word.specs.Anchor.{anchorOf}
-use Rattle.model.specs.Places.{sideOf}
-use Rattle.model.specs.Kinds.{helping}
+use Rattle.model.specs.{Places.sideOf, Kinds.helping}
 use Rattle.asking.proofs.on_right.Statement.{statement}
 use Rattle.asking.proofs.on_right.Tie as tie
 

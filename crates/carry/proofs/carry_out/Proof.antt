@@ -4,8 +4,7 @@ use Prim.Native.Nat.{_+_, _≤_}
 use lib.ListN.{length}
 use native.Mathlib.Omega.{arith}
 use borrow.Author.Needs.{needs}
-use Rattle.carry.specs.Run.{carried}
-use Rattle.carry.specs.Page.{uppersAfter}
+use Rattle.carry.specs.{Run.carried, Page.uppersAfter}
 use Rattle.carry.proofs.Pages.{written-none, breaks-roomy}
 use Rattle.carry.proofs.Fields.{each-there, task-bytes}
 use Rattle.carry.proofs.carry_out.Statement.{statement}

@@ -1,8 +1,7 @@
 -- One line, and the run is over; or nothing, where the line does not fit.
 use mathlib.Core.Path.{sym, _∙_}
 use borrow.Author.Needs.{needs}
-use Rattle.carry.proofs.Pages.{breaks-short}
-use Rattle.carry.proofs.AfterActs.{break-page}
+use Rattle.carry.proofs.{Pages.breaks-short, AfterActs.break-page}
 use Rattle.carry.proofs.malformed.Statement.{statement}
 use Rattle.carry.proofs.malformed.Tie as tie
 

@@ -2,10 +2,8 @@
 use mathlib.Core.Path.{_≡_, refl, sym, subst, _∙_}
 use mathlib.Core.Bool.{true}
 use Prim.Native.Nat.{_+_}
-use lib.Dec.{leb}
-use borrow.Author.Needs.{needs}
-use borrow.Author.Tests.{leb-true}
-use lib.ListN.{length}
+use lib.{Dec.leb, ListN.length}
+use borrow.Author.{Needs.needs, Tests.leb-true}
 use Rattle.runfile.specs.declared.Found.{Found}
 use Rattle.carry.specs.Page.{BytesThere}
 use Rattle.carry.proofs.Fields.{field-there, next-fits, takes-page, takes-none}

@@ -2,8 +2,7 @@
 use borrow.Author.Needs.{needs}
 use mathlib.Core.Path.{ap, _∙_}
 use lib.ListN.{length}
-use Rattle.historyfile.specs.Buffer.{reading}
-use Rattle.historyfile.specs.Reading.{whole}
+use Rattle.historyfile.specs.{Buffer.reading, Reading.whole}
 use Rattle.judge.specs.Judging.{judged, told}
 use Rattle.judge.specs.declared.Judged.the-variants.{Told}
 use Rattle.judge.proofs.Enough.{enough, judged-so, unread}

@@ -1,11 +1,9 @@
 -- Before word k the marks of the slots below 64 k are counted.
 use mathlib.Core.Path.{_≡_, ap, _∙_, sym}
 use Prim.Native.Nat.{ℕ, _≤_, _+_, _-_, _*_, _/_, min}
-use native.Mathlib.Nat.{zero-min}
-use native.Mathlib.Omega.{arith}
+use native.Mathlib.{Nat.zero-min, Omega.arith}
 use lib.Count.{ones}
-use Rattle.model.specs.Report.{takenSlots}
-use Rattle.model.specs.Lists.{count}
+use Rattle.model.specs.{Report.takenSlots, Lists.count}
 use Rattle.marks.specs.Masked.{maskedWord}
 use Rattle.marks.proofs.Ones.{marks, word-step, marks-le}
 use Rattle.marks.proofs.taken.Statement.{statement}

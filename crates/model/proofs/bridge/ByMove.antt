@@ -1,22 +1,18 @@
--- What holds of the move of each place, done or failed, holds of every move of a busy record.
-use mathlib.Core.Bool.{cond}
-use mathlib.Core.Logic.{_≢_}
-use mathlib.Core.Path.{_≡_, refl}
-use Prim.Native.Nat.{ℕ, _+_, _≤_}
+-- What holds of the move of each place, done or failed, holds of every move.
+use mathlib.Core.Bool.{Bool, cond}
+use mathlib.Core.{Logic._≢_, Path._≡_}
+use Prim.Native.Nat.{ℕ, suc, _+_, _≤_}
 use native.Mathlib.Omega.{arith}
 use lib.Dec.{eqb}
+use borrow.Author.Tests.{eqb-false, eqb-true}
 use Rattle.word.specs.Anchor.{anchorOf, packAnchor}
 use Rattle.word.specs.Link.{linkOf, packLink}
-use Rattle.model.specs.Places.{Move, Touch, at1, at10, at11, at12, at13, at14, at15, at16, at17, at2, at3, at4, at5, at6, at7, at9}
-use Rattle.model.specs.Places.{clearMark, endSeen, linkSide, move, new4, nothing, raised, row, setAnchor, setHead, setLink, setNext}
-use Rattle.model.specs.Places.{sideOf, takeSlot}
-use Rattle.model.specs.Tables.{atPlace, isPooled, withLink, withNeighbour, withOwn, withSeen}
-use Rattle.model.specs.declared.Control.{Control}
-use Rattle.model.specs.declared.Record.{Record}
-use Rattle.model.proofs.tests.ByPlace.{by-place}
-use Rattle.model.proofs.tests.Truth.{by-test}
-use Rattle.model.specs.Kinds.{isPush}
-use Rattle.model.specs.Sides.{facing}
+use Rattle.model.specs.Places.{Move, Touch, at1, at10, at11, at12, at13, at14, at15, at16, at17, at2, at3, at4, at5, at6, at7, at9, clearMark}
+use Rattle.model.specs.Places.{endSeen, linkSide, move, new4, nothing, raised, row, setAnchor, setHead, setLink, setNext, sideOf, takeSlot}
+use Rattle.model.specs.Tables.{isPooled, withLink, withNeighbour, withOwn, withSeen}
+use Rattle.model.specs.declared.{Control.Control, Record.Record}
+use Rattle.model.proofs.tests.Truth.{by-test, either}
+use Rattle.model.specs.{Kinds.isPush, Sides.facing}
 
 -- The touches of a change of Anchor at 2 and 10, and of a link at 3 and 9.
 abbrev pub both : Record → ℕ
@@ -46,37 +42,47 @@ module _ (c : Control) (w : ℕ) (P : Touch → Record → Type 0) where
     pub ten : P (setAnchor (settled r)) r
     pub three : P (setLink (linkSide r) (row r) (named r (linkOf w .tag))) r
     pub nine : P (setLink (linkSide r) (row r) (named r (linkOf (r .link) .tag + 1))) r
-    pub eleven : P (clearMark (row r)) r
+    pub eleven : r .place ≡ 11 → P (clearMark (row r)) r
     pub keeps : r .place ≡ 11 → P (clearMark (row r)) (withOwn r (row r) w)
     pub head : 11 ≤ r .place → P nothing (withLink r (c .head))
     pub next : r .place ≡ 13 → P nothing (withNeighbour r w)
     pub draws : r .place ≡ 14 → P (takeSlot (raised r (r .neighbour)) (row r) (r .label)) (withOwn r (row r) (r .label))
     pub links : r .place ≡ 16 → P (setNext (row r) (linkOf (r .link) .slot)) r
-    pub gives : r .place ≡ 17 → P (setHead (raised r (r .own))) r
+    pub gives : (r .place ≢ 0 → 17 ≤ r .place) → P (setHead (raised r (r .own))) r
 
   module _ (r : Record) where
-    abbrev at : ℕ → Record
-    at p = atPlace r p
+    -- Anchor, or the head, is as read.
+    abbrev now : Bool
+    now = eqb (c .anchor) (r .seen)
 
-    pub by-move : r .place ≢ 0 → r .place ≤ 17 → Moves r → Holds (move c r w)
+    abbrev top : Bool
+    top = eqb (c .head) (r .link)
+
+    -- The place is i, or above it, if it is one.
+    turn : (i : ℕ) (x y : Move) → (r .place ≢ 0 → i ≤ r .place) → (r .place ≡ i → Holds x) → ((r .place ≢ 0 → suc i ≤ r .place) → Holds y)
+        → Holds (cond (eqb (r .place) i) x y)
+    turn i x y h here above =
+        by-test Holds (eqb (r .place) i) (λ e. here (eqb-true (r .place) i e)) (λ e. above (λ b. later (eqb-false (r .place) i e) (h b)))
+      where
+        later : r .place ≢ i → i ≤ r .place → suc i ≤ r .place
+        later n l = omega arith
+
+    pub by-move : Moves r → Holds (move c r w)
     unfolding move at1 at2 at3 at4 at5 at6 at7 at9 at10 at11 at12 at13 at14 at15 at16 at17
-    by-move busy h = by-place (λ p. Moves (at p) → Holds (move c (at p) w))
-        (λ m. m .read)
-        (λ m. by-test Holds (eqb (c .anchor) (r .seen)) (λ e. m .two) (λ e. m .read))
-        (λ m. by-test Holds (eqb (r .kind) 0) (λ e. m .three) (λ e. m .found (omega arith)))
-        (λ m. by-test Holds (eqb (c .anchor) (r .seen))
-        (λ e. by-test (P (setAnchor (new4 (at 4)))) (eqb (r .kind) 0) (λ e. m .four-push) (λ e. m .four-pop)) (λ e. m .read))
-        (λ m. m .found (omega arith))
-        (λ m. m .same)
-        (λ m. m .met (omega arith))
-        (λ m. m .same)
-        (λ m. by-test Holds (eqb w (r .link)) (λ e. m .nine) (λ e. m .same))
-        (λ m. by-test Holds (eqb (c .anchor) (r .seen)) (λ e. m .ten) (λ e. m .same))
-        (λ m. by-test Holds (isPooled c) (λ e. m .keeps refl) (λ e. m .eleven))
-        (λ m. m .head (omega arith))
-        (λ m. m .next refl)
-        (λ m. by-test Holds (eqb (c .head) (r .link)) (λ e. m .draws refl) (λ e. m .same))
-        (λ m. m .head (omega arith))
-        (λ m. m .links refl)
-        (λ m. by-test Holds (eqb (c .head) (r .link)) (λ e. m .gives refl) (λ e. m .same))
-        (r .place) busy h
+    by-move m =
+        turn 1 _ _ (λ b. omega arith) (λ _. m .read)
+        (λ h. turn 2 _ _ h (λ _. either Holds now (m .two) (m .read))
+        (λ h. turn 3 _ _ h (λ e. either Holds (eqb (r .kind) 0) (m .three) (m .found (omega arith)))
+        (λ h. turn 4 _ _ h (λ _. either Holds now (either (P (setAnchor (new4 r))) (eqb (r .kind) 0) (m .four-push) (m .four-pop)) (m .read))
+        (λ h. turn 5 _ _ h (λ e. m .found (omega arith))
+        (λ h. turn 6 _ _ h (λ _. m .same)
+        (λ h. turn 7 _ _ h (λ e. m .met (omega arith))
+        (λ h. turn 8 _ _ h (λ _. m .same)
+        (λ h. turn 9 _ _ h (λ _. either Holds (eqb w (r .link)) (m .nine) (m .same))
+        (λ h. turn 10 _ _ h (λ _. either Holds now (m .ten) (m .same))
+        (λ h. turn 11 _ _ h (λ e. either Holds (isPooled c) (m .keeps e) (m .eleven e))
+        (λ h. turn 12 _ _ h (λ e. m .head (omega arith))
+        (λ h. turn 13 _ _ h (λ e. m .next e)
+        (λ h. turn 14 _ _ h (λ e. either Holds top (m .draws e) (m .same))
+        (λ h. turn 15 _ _ h (λ e. m .head (omega arith))
+        (λ h. turn 16 _ _ h (λ e. m .links e) (λ h. either Holds top (m .gives h) (m .same)))))))))))))))))

@@ -1,15 +1,11 @@
 -- A step of the tables, decoded, and what it takes for it to be the machine's.
-use mathlib.Core.List.{[]}
-use mathlib.Core.Path.{_≡_}
+use mathlib.Core.{List.[], Path._≡_}
 use Prim.Native.Nat.{_<_, ℕ}
-use lib.Dec.{eqb}
-use lib.ListN.{getD}
-use Rattle.word.specs.Anchor.{anchorOf}
-use Rattle.word.specs.Link.{linkOf}
-use Rattle.model.specs.Calls.{entryOf}
+use lib.{Dec.eqb, ListN.getD}
+use Rattle.word.specs.{Anchor.anchorOf, Link.linkOf}
+use Rattle.model.specs.{Calls.entryOf, Tables.Tables}
 use Rattle.model.specs.Places.{Move, wordFound, move}
 use Rattle.model.specs.Route.{answer, goes, onward, popRoute, pushRoute, route}
-use Rattle.model.specs.Tables.{Tables}
 use Rattle.model.specs.declared.Record.{Record}
 use Rattle.model.proofs.tests.Truth.{split}
 use Rattle.model.proofs.machine.Machine as M

@@ -5,8 +5,7 @@ use Prim.Native.Nat.{_<_, _^_, _≤_, ℕ}
 use native.Mathlib.Omega.{arith}
 use Rattle.model.specs.Tables.{Tables, atPlace, isPooled, ofKind}
 use Rattle.model.specs.declared.Record.{Record}
-use Rattle.model.proofs.tests.ByPlace.{by-place}
-use Rattle.model.proofs.tests.Truth.{decide-eq}
+use Rattle.model.proofs.tests.{ByPlace.by-place, Truth.decide-eq}
 use Rattle.model.proofs.bridge.Decoded.{RoomAt, Seen}
 use Rattle.model.proofs.bridge.Facts.{ControlFine, LinksFine, RecordFine}
 use Rattle.model.proofs.bridge.Helping.{place10, place5, place6, place7, place8, place9}

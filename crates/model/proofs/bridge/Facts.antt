@@ -13,8 +13,7 @@ use Rattle.word.specs.declared.Anchor.{Anchor}
 use Rattle.model.specs.Sound.{anchorSound, anchorTests, controlSound, controlTests, from1, linkSound, recordSound}
 use Rattle.model.specs.Sound.{recordTests, rowTests, rowsFit}
 use Rattle.model.specs.Tables.{Tables, isPooled}
-use Rattle.model.specs.declared.Control.{Control}
-use Rattle.model.specs.declared.Record.{Record}
+use Rattle.model.specs.declared.{Control.Control, Record.Record}
 use Rattle.model.proofs.tests.Rules.{tests}
 use Rattle.model.proofs.tests.Truth.{and-of, and-true, beq-eq, not-both, or-first, or-left, or-right, or-second}
 use Rattle.model.proofs.bridge.View.{linkAt}

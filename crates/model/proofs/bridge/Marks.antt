@@ -3,8 +3,7 @@ use mathlib.Core.List.{List}
 use mathlib.Core.Path.{_∙_, _≡_, ap, subst⁻¹, sym}
 use Prim.Native.Nat.{_%_, _*_, _+_, _-_, _/_, _<_, _^_, ℕ}
 use native.Mathlib.Decide.{decLt, ℕ-discrete}
-use native.Mathlib.Nat.{mod-lt}
-use native.Mathlib.Omega.{arith}
+use native.Mathlib.{Nat.mod-lt, Omega.arith}
 use lib.Dec.{eqb}
 use lib.ListN.{getD, length}
 use lib.Pow.{field, high, low, mod-mod-pow, pow-pos, shr-shr}

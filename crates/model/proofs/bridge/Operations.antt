@@ -12,26 +12,21 @@ use Rattle.model.specs.Places.{Move, Touch, clearMark, wordFound, move, 
 use Rattle.model.specs.Route.{answer, counted, goes}
 use Rattle.model.specs.Tables.{Queue, Tables, asking, isPooled, marked, recordAt, started, taskAt, unused, withCall, taken}
 use Rattle.model.specs.declared.Answer as answered
-use Rattle.model.specs.declared.Record.{Record}
-use Rattle.model.specs.declared.TaskRecord.{TaskRecord}
-use Rattle.model.proofs.tests.ByPlace.{by-place}
-use Rattle.model.proofs.tests.Truth.{not-both}
+use Rattle.model.specs.declared.{Record.Record, TaskRecord.TaskRecord}
+use Rattle.model.proofs.tests.{ByPlace.by-place, Truth.not-both}
 use Rattle.model.proofs.machine.Answers.{Ends, act-ends}
 use Rattle.model.proofs.machine.Book as B
 use Rattle.model.proofs.machine.Machine as M
 use Rattle.model.proofs.machine.Machine.{upd}
-use Rattle.model.proofs.invariant.Invariant.{Inv}
-use Rattle.model.proofs.invariant.Tasks.{Task}
+use Rattle.model.proofs.invariant.{Invariant.Inv, Tasks.Task}
 use Rattle.model.proofs.places.NoSlot.{Lacks, act-lacks}
 use Rattle.model.proofs.places.Start.{ask-inv, pop-inv, push-inv}
 use Rattle.model.proofs.places.Step.{step-inv, step-stands}
 use Rattle.model.proofs.places.Shown.{Stands}
 use Rattle.model.proofs.bridge.Accepted.{Lies, Stepping}
 use Rattle.model.proofs.bridge.Decoded.{next, seenMove}
-use Rattle.model.proofs.bridge.EveryPlace.{step-seen}
-use Rattle.model.proofs.bridge.Facts.{LinksFine}
+use Rattle.model.proofs.bridge.{EveryPlace.step-seen, Facts.LinksFine, Touches.move-fine}
 use Rattle.model.proofs.bridge.Stores.{TouchFine, links-touched, task-set, touched-pooled, touched-tasks, view-taken, view-touched}
-use Rattle.model.proofs.bridge.Touches.{move-fine}
 use Rattle.model.proofs.bridge.View.{answerSeen, placeOf, recOf, stateOf, touchSeen, view}
 
 pub not-idle : (p : ℕ) → p ≢ 0 → p ≤ 17 → M.isIdle (placeOf p) ≡ false
@@ -101,7 +96,7 @@ module _ (q : Queue) (b : B.Book) (i : Inv (record { state = stateOf q; book = b
         })
         ∙ (λ j. record {
           shared = view-touched g (s .lies .rows) (m .touch)
-              (move-fine (isPooled (g .control)) (g .control .slots) r (s .fine) (s .control .slots) (g .control) (wordFound g r) (s .busy)) j;
+              (move-fine (isPooled (g .control)) (g .control .slots) r (s .fine) (s .control .slots) (g .control) (wordFound g r)) j;
           task = task-set (g .control .tasks) (q .records) t r′ (omega (arith, s .lies .length, s .lies .known)) (s .lies .known) j;
         })
 
@@ -128,7 +123,7 @@ module _ (q : Queue) (b : B.Book) (i : Inv (record { state = stateOf q; book = b
         subst After (sym state-is) step-seen-keeps
 
     touch-fine : TouchFine (isPooled (g .control)) (g .control .slots) (m .touch)
-    touch-fine = move-fine (isPooled (g .control)) (g .control .slots) r (s .fine) (s .control .slots) (g .control) (wordFound g r) (s .busy)
+    touch-fine = move-fine (isPooled (g .control)) (g .control .slots) r (s .fine) (s .control .slots) (g .control) (wordFound g r)
 
     -- In a named queue no slot is drawn.
     pub step-grants : (c : B.Call) → isPooled (g .control) ≡ false → B.granted (touchSeen (m .touch)) c ≡ c
@@ -191,7 +186,7 @@ module _ (q : Queue) (b : B.Book) (i : Inv (record { state = stateOf q; book = b
     pub step-links : LinksFine (stepped .tables)
     unfolding finish
     step-links = links-touched g (s .lies .rows) k (m .touch)
-        (move-fine (isPooled (g .control)) (g .control .slots) r (s .fine) (s .control .slots) (g .control) (wordFound g r) (s .busy))
+        (move-fine (isPooled (g .control)) (g .control .slots) r (s .fine) (s .control .slots) (g .control) (wordFound g r))
 
   -- Accepted starts.
   module _ (z : Lies q t) (free : recordAt q t .place ≡ 0) where

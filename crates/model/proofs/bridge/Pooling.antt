@@ -5,8 +5,7 @@ use native.Mathlib.Omega.{arith}
 use lib.Dec.{eqb}
 use borrow.Author.Tests.{eqb-true}
 use Rattle.word.specs.Link.{linkOf, packLink, spareOf}
-use Rattle.model.specs.Places.{at11, at12, at13, at14, at15, at16, at17, linkSide, move, row, sideOf}
-use Rattle.model.specs.Places.{noneLeft}
+use Rattle.model.specs.Places.{at11, at12, at13, at14, at15, at16, at17, linkSide, move, row, sideOf, noneLeft}
 use Rattle.model.specs.Route.{answer, goes, onward, popRoute, pushRoute, route}
 use Rattle.model.specs.Tables.{Tables, atPlace, isPooled, ofKind}
 use Rattle.model.specs.declared.Record.{Record}

@@ -5,15 +5,13 @@ use mathlib.Core.Path.{_∙_, _≡_, ap, refl}
 use Prim.Native.Nat.{_<_, _≤_, ℕ}
 use lib.Dec.{eqb, ltb}
 use borrow.Author.Tests.{eq-eqb, eqb-true, lt-ltb, ltb-true}
-use Rattle.word.specs.Anchor.{anchorOf}
-use Rattle.word.specs.Link.{linkOf}
+use Rattle.word.specs.{Anchor.anchorOf, Link.linkOf}
 use Rattle.model.specs.Places.{at1, at10, at11, at12, at13, at14, at15, at16, at17, at2, at3, at4, at5, at6, at7, at9, wordFound}
 use Rattle.model.specs.Places.{linkSide, move, row, sideOf}
 use Rattle.model.specs.Refusals.{hasRoom}
 use Rattle.model.specs.Tables.{atPlace, Tables, isPooled}
 use Rattle.model.specs.declared.Record.{Record}
-use Rattle.model.proofs.tests.ByPlace.{by-place}
-use Rattle.model.proofs.tests.Truth.{split}
+use Rattle.model.proofs.tests.{ByPlace.by-place, Truth.split}
 use Rattle.model.proofs.bridge.Decoded.{RoomAt}
 use Rattle.model.proofs.bridge.View.{linkAt, placeOf}
 

@@ -1,17 +1,14 @@
 -- What a place touches lies within the rows, and a link word that it writes is sound.
 use mathlib.Core.Bool.{Bool, true}
-use mathlib.Core.Logic.{_≢_}
 use mathlib.Core.Path.{_≡_}
 use Prim.Native.Nat.{_%_, _*_, _+_, _/_, _<_, _^_, _≤_, ℕ}
 use native.Mathlib.Omega.{arith}
 use lib.Dec.{eqb}
 use Rattle.word.specs.Link.{linkOf, packLink}
 use Rattle.model.specs.Places.{endSeen, linkSide, move, row, setLink, sideOf}
-use Rattle.model.specs.declared.Control.{Control}
-use Rattle.model.specs.declared.Record.{Record}
+use Rattle.model.specs.declared.{Control.Control, Record.Record}
 use Rattle.model.proofs.tests.Truth.{by-test, either, split}
-use Rattle.model.proofs.bridge.ByMove.{by-move}
-use Rattle.model.proofs.bridge.Facts.{RecordFine}
+use Rattle.model.proofs.bridge.{ByMove.by-move, Facts.RecordFine}
 use Rattle.model.proofs.bridge.Stores.{TouchFine, WordFine}
 use Rattle.model.specs.Kinds.{isPush}
 
@@ -50,8 +47,8 @@ module _ (pooled : Bool) (slots : ℕ) (r : Record) (h : RecordFine pooled slots
   pub beyond : 12 ≤ r .place → pooled ≡ true
   beyond l = split pooled (λ e. e) (λ e. absurd (let z = h .named e in omega arith))
 
-  pub move-fine : slots ≤ 1023 → (c : Control) (w : ℕ) → r .place ≢ 0 → TouchFine pooled slots (move c r w .touch)
-  move-fine low c w busy = by-move c w (λ t _. TouchFine pooled slots t) r busy (h .place) (record {
+  pub move-fine : slots ≤ 1023 → (c : Control) (w : ℕ) → TouchFine pooled slots (move c r w .touch)
+  move-fine low c w = by-move c w (λ t _. TouchFine pooled slots t) r (record {
     same = tt;
     read = tt;
     found = λ e. tt;
@@ -62,7 +59,7 @@ module _ (pooled : Bool) (slots : ℕ) (r : Record) (h : RecordFine pooled slots
     ten = tt;
     three = link-touch (linkOf w .tag);
     nine = link-touch (linkOf (r .link) .tag + 1);
-    eleven = row-fine;
+    eleven = λ e. row-fine;
     keeps = λ e. row-fine;
     head = λ e. tt;
     next = λ e. tt;

@@ -8,8 +8,7 @@ use borrow.Author.Tests.{eq-eqb, eqb-true}
 use Rattle.word.specs.declared.Anchor.{Anchor}
 use Rattle.word.specs.Anchor.{anchorOf, packAnchor}
 use Rattle.word.specs.Link.{linkOf}
-use Rattle.model.specs.Calls.{entryOf}
-use Rattle.model.specs.Kinds.{isPop}
+use Rattle.model.specs.{Calls.entryOf, Kinds.isPop, Sides.facing}
 use Rattle.model.specs.Places.{at1, at2, at3, at4, linkSide, move, new4, reading, row, sideOf}
 use Rattle.model.specs.Route.{answer, goes, onward, popRoute, pushRoute, route}
 use Rattle.model.specs.Tables.{Tables, atPlace, ofKind, withSeen}
@@ -19,7 +18,6 @@ use Rattle.model.proofs.machine.Machine as M
 use Rattle.model.proofs.bridge.Decoded.{AnchorRoom, Seen, same-touch}
 use Rattle.model.proofs.bridge.View.{anchorSeen, answerSeen, kindOf, linkAt, recOf, statusOf, view}
 use Rattle.model.proofs.bridge.Words.{anchor-back, link-back, same-word, stable-status}
-use Rattle.model.specs.Sides.{facing}
 
 module _ (q : Tables) (r : Record) where
   -- At a place and of a kind: 0 push, 1 pop.
@@ -99,7 +97,8 @@ module _ (q : Tables) (r : Record) where
 
       popped-reads2 : Reads 2 1
       unfolding recOf view reading onward route pushRoute popRoute goes answer
-      popped-reads2 = pop-reads null (λ z. rw (z, none-right null z)) (λ z g. rw (z, g)) (λ g z y. rw (z, g, stable null, y)) (λ g z y. rw (z, g, stable null, y))
+      popped-reads2 = pop-reads null (λ z. rw (z, none-right null z)) (λ z g. rw (z, g)) (λ g z y. rw (z, g, stable null, y))
+          (λ g z y. rw (z, g, stable null, y))
 
       pushed-reads4 : Reads 4 0
       unfolding recOf view reading onward route pushRoute popRoute goes answer
@@ -107,7 +106,8 @@ module _ (q : Tables) (r : Record) where
 
       popped-reads4 : Reads 4 1
       unfolding recOf view reading onward route pushRoute popRoute goes answer
-      popped-reads4 = pop-reads null (λ z. rw (z, none-right null z)) (λ z g. rw (z, g)) (λ g z y. rw (z, g, stable null, y)) (λ g z y. rw (z, g, stable null, y))
+      popped-reads4 = pop-reads null (λ z. rw (z, none-right null z)) (λ z g. rw (z, g)) (λ g z y. rw (z, g, stable null, y))
+          (λ g z y. rw (z, g, stable null, y))
 
       pub place2-push : r .own < 2 ^ 15 → Seen q (at 2 0)
       unfolding recOf view move at2 reading row linkSide sideOf onward route pushRoute popRoute goes answer

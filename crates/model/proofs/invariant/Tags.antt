@@ -1,10 +1,9 @@
 -- The tag part of the invariant. (It serves the claim that 34 never occurs; linearizability needs no bound on tags.)
 use mathlib.Core.Bool.{Bool, cond, false, true}
-use mathlib.Core.Logic.{_⊎_}
-use mathlib.Core.Path.{_≡_}
+use mathlib.Core.{Logic._⊎_, Path._≡_}
 use Prim.Native.Nat.{_+_, _<_, _≤_, ℕ}
-use Rattle.model.proofs.machine.Machine.{Kind, Place, Rec, Shared, Status, at1, at10, at11, at2, at3, at4, at5, at6, at7, at8, at9}
-use Rattle.model.proofs.machine.Machine.{draw, give, idle, pop, push, pushing, stable}
+use Rattle.model.proofs.machine.Machine.{Kind, Phase, Rec, Shared, Status, fetching, returning, inside, phase, pop, push, pushing, outside}
+use Rattle.model.proofs.machine.Machine.{stable, leaving}
 use Rattle.model.proofs.invariant.Shape.{Made}
 
 -- (3) Each link's tag is at most Anchor's; while the link back is not made, the tags of that side are below it.
@@ -18,24 +17,15 @@ abbrev pub claims : Kind → ℕ
 claims push = 0
 claims pop = 1
 
-abbrev pub shares : Place → Bool → Kind → ℕ
-shares idle f k = 1
-shares at1 f k = cond f 1 (claims k)
-shares at2 f k = cond f 1 (claims k)
-shares at3 f k = cond f 1 (claims k)
-shares at4 f k = cond f 1 (claims k)
-shares at5 f k = cond f 1 (claims k)
-shares at6 f k = cond f 1 (claims k)
-shares at7 f k = cond f 1 (claims k)
-shares at8 f k = cond f 1 (claims k)
-shares at9 f k = cond f 1 (claims k)
-shares at10 f k = cond f 1 (claims k)
-shares at11 f k = 2
-shares (draw p) f k = 1
-shares (give p) f k = 2
+abbrev pub shares : Phase → Bool → Kind → ℕ
+shares outside f k = 1
+shares inside f k = cond f 1 (claims k)
+shares leaving f k = 2
+shares fetching f k = 1
+shares returning f k = 2
 
 abbrev pub share : Rec → ℕ
-share r = shares (r .place) (r .finishing) (r .kind)
+share r = shares (phase (r .place)) (r .finishing) (r .kind)
 
 -- (4) The changes of Anchor that are still owed: a push before its effect two (place 4, then 10), a pop one, an unstable Anchor one.
 abbrev pub owes : Kind → ℕ
@@ -43,24 +33,15 @@ owes push = 2
 owes pop = 1
 
 -- The task owes nothing: it is idle, a pop at 11 or 15 to 17, or a push that is finishing.
-abbrev pub spent : Place → Bool → Bool
-spent idle f = true
-spent at1 f = f
-spent at2 f = f
-spent at3 f = f
-spent at4 f = f
-spent at5 f = f
-spent at6 f = f
-spent at7 f = f
-spent at8 f = f
-spent at9 f = f
-spent at10 f = f
-spent at11 f = true
-spent (draw p) f = false
-spent (give p) f = true
+abbrev pub spent : Phase → Bool → Bool
+spent outside f = true
+spent inside f = f
+spent leaving f = true
+spent fetching f = false
+spent returning f = true
 
 abbrev pub cost : Rec → ℕ
-cost r = cond (spent (r .place) (r .finishing)) 0 (owes (r .kind))
+cost r = cond (spent (phase (r .place)) (r .finishing)) 0 (owes (r .kind))
 
 abbrev pub unsettled : Status → ℕ
 unsettled stable = 0

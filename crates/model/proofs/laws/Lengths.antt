@@ -7,8 +7,7 @@ use native.Mathlib.Omega.{arith}
 use lib.Dec.{eqb, leb, ltb}
 use lib.ListN.{length, set, length-set, length-append, length-replicate, length-drop}
 use borrow.Author.Tests.{leb-true, ltb-true, not-false}
-use Rattle.model.specs.declared.TaskRecord.{TaskRecord}
-use Rattle.model.specs.declared.Op.{Op}
+use Rattle.model.specs.declared.{TaskRecord.TaskRecord, Op.Op}
 use Rattle.model.specs.declared.Op.the-variants.{Push, Pop, Put, Step}
 use Rattle.model.specs.Tables.{tablesOf, Tables, Queue, unused, taskAt}
 use Rattle.model.specs.Sound.{rowTests, rowsFit}

@@ -1,13 +1,10 @@
 -- Steps on lent records in the place of their tasks' steps.
 use mathlib.Core.Path.{_≡_, _∙_, ap, refl, subst, sym}
-use mathlib.Core.Bool.{true}
+use mathlib.Core.{Bool.true, Logic._≢_}
 use mathlib.Core.List.{List, [], _∷_}
-use mathlib.Core.Logic.{_≢_}
 use Prim.Native.Nat.{ℕ, _≤_}
 use native.Mathlib.Omega.{arith}
-use lib.Dec.{eqb}
-use lib.ListN.{length}
-use lib.Seq.{set-getD}
+use lib.{Dec.eqb, ListN.length, Seq.set-getD}
 use Rattle.model.specs.declared.Outcome.the-variants.{Refused}
 use Rattle.model.specs.declared.Op.the-variants.{Step}
 use Rattle.model.specs.Tables.{Queue, taskAt, unused}
@@ -16,9 +13,8 @@ use Rattle.model.specs.Calls.{Acted, Done, act, finish, step, stepLent}
 use Rattle.model.specs.History.{Event, Request, final, run}
 use Rattle.model.specs.LentSteps.{LentKnown, LentStand, Lendable, Turn, asked, finalTurns, lent, requestOf, runTurns, takeTurn}
 use Rattle.model.proofs.tests.Truth.{by-test, not-both}
-use Rattle.model.proofs.laws.Lengths.{act-lengths}
+use Rattle.model.proofs.laws.{Lengths.act-lengths, Sizes.act-tasks}
 use Rattle.model.proofs.laws.LentRecord.{lent-record, withRow}
-use Rattle.model.proofs.laws.Sizes.{act-tasks}
 use Rattle.model.specs.Lists.{All}
 
 -- A task's own record, put where it lies.

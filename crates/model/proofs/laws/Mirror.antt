@@ -14,23 +14,19 @@ use native.Mathlib.Omega.{arith}
 use lib.Dec.{eqb, leb, ltb}
 use lib.ListN.{set, drop, replicate, length-map, List·getD-map}
 use Rattle.word.specs.Anchor.{emptyAnchor}
-use Rattle.model.specs.declared.Record.{Record}
-use Rattle.model.specs.declared.TaskRecord.{TaskRecord}
+use Rattle.model.specs.declared.{Record.Record, TaskRecord.TaskRecord, Op.Op, Asked.Asked}
 use Rattle.model.specs.declared.Answer.the-variants.{Running}
 use Rattle.model.specs.declared.Outcome.the-variants.{Moved}
 use Rattle.model.specs.declared.Opening.the-variants as opening
-use Rattle.model.specs.declared.Op.{Op}
 use Rattle.model.specs.declared.Op.the-variants.{Push, Pop, Put, Step}
 use Rattle.model.specs.Tables.{Tables, Queue, asking, started, taskAt, unused, withAnchor, withCall, taken}
-use Rattle.model.specs.declared.Asked.{Asked}
 use Rattle.model.specs.Refusals.{openRefusal, Lent, among, alone, fits, startRefusal, namedPush, pooledPush, nothingAsked}
 use Rattle.model.specs.Calls.{opened, OpenDone, openAs, Acted, decide, pushStart, putStart, popStart, actOn, back, act, stepLent}
 use Rattle.model.specs.Mirror.{mirrorSide, mirrorStatus, mirrorWord, mirrorControl, mirrorTables, mirrorRecord, mirrorTask, mirrorQueue, mirrorOp}
 use Rattle.model.specs.Mirror.{mirrorActed, mirrorOpened, mirrorDone, Mirrored}
-use Rattle.model.proofs.laws.Mirror.Packed.{mirror-pack}
+use Rattle.model.proofs.laws.Mirror.{Packed.mirror-pack, Twice.mirror-twice}
 use Rattle.model.proofs.laws.Mirror.Sound.{rows-fit-mirror, start-refusal-mirror}
 use Rattle.model.proofs.laws.Mirror.Steps.{decide-mirror, step-mirror}
-use Rattle.model.proofs.laws.Mirror.Twice.{mirror-twice}
 use Rattle.model.specs.Lists.{zeroed}
 
 -- A start or step of one record.

@@ -4,23 +4,18 @@ use mathlib.Core.Logic.{_⊎_, inl, inr}
 use mathlib.Core.Path.{_≡_, refl, subst, sym}
 use mathlib.Core.Bool.{false}
 use Prim.Native.Nat.{ℕ}
-use lib.Dec.{eqb}
-use lib.Seq.{getD-set-other}
+use lib.{Dec.eqb, Seq.getD-set-other}
 use borrow.Author.Tests.{eqb-true}
-use Rattle.model.specs.declared.Control.{Control}
-use Rattle.model.specs.declared.Record.{Record}
-use Rattle.model.specs.declared.TaskRecord.{TaskRecord}
-use Rattle.model.specs.declared.Op.{Op}
+use Rattle.model.specs.declared.{Control.Control, Record.Record, TaskRecord.TaskRecord, Op.Op}
 use Rattle.model.specs.declared.Op.the-variants.{Step}
 use Rattle.model.specs.Tables.{Tables, Queue, isPooled, recordAt, taskAt, unused}
 use Rattle.model.specs.Places.{Touch, nothing, setAnchor, setLink, clearMark, takeSlot, setNext, setHead, Move, wordFound, move, apply}
 use Rattle.model.specs.Places.{at1, at2, at3, at4, at5, at6, at7, at9, at10, at11, at12, at13, at14, at15, at16, at17}
-use Rattle.model.specs.Route.{counted}
+use Rattle.model.specs.{Route.counted, Kinds.isPush}
 use Rattle.model.specs.Refusals.{Lent, among, alone, stepRefusal}
 use Rattle.model.specs.Calls.{Acted, finish, step, actOn, act, stepLent}
 use Rattle.model.specs.OneTouch.{TouchesOnce, OneTouch, untouched, anchor, link, mark, next, head, drawn}
 use Rattle.model.proofs.tests.Truth.{either, by-test}
-use Rattle.model.specs.Kinds.{isPush}
 
 -- A slot is drawn at 14 alone.
 abbrev Draws14 : ℕ → Touch → Type 0
@@ -38,90 +33,28 @@ data Single (place : ℕ) (m : Move) : Type 0 where
   counts : m .touch ≡ nothing → Single place m
 
 module _ (c : Control) (r : Record) (w : ℕ) where
-  single1 : Single (r .place) (at1 c r)
-  unfolding at1
-  single1 = touches refl tt
+  abbrev S : Move → Type 0
+  S m = Single (r .place) m
 
-  single2 : Single (r .place) (at2 c r)
-  unfolding at2
-  single2 = either (Single (r .place)) (eqb (c .anchor) (r .seen)) (touches refl tt) (counts refl)
-
-  single3 : Single (r .place) (at3 r w)
-  unfolding at3
-  single3 = either (Single (r .place)) (isPush r) (touches refl tt) (touches refl tt)
-
-  single4 : Single (r .place) (at4 c r)
-  unfolding at4
-  single4 = either (Single (r .place)) (eqb (c .anchor) (r .seen)) (touches refl tt) (counts refl)
-
-  single5 : Single (r .place) (at5 r w)
-  unfolding at5
-  single5 = touches refl tt
-
-  single6 : Single (r .place) (at6 c r)
-  unfolding at6
-  single6 = touches refl tt
-
-  single7 : Single (r .place) (at7 r w)
-  unfolding at7
-  single7 = touches refl tt
-
-  single9 : Single (r .place) (at9 r w)
-  unfolding at9
-  single9 = either (Single (r .place)) (eqb w (r .link)) (touches refl tt) (counts refl)
-
-  single10 : Single (r .place) (at10 c r)
-  unfolding at10
-  single10 = either (Single (r .place)) (eqb (c .anchor) (r .seen)) (touches refl tt) (counts refl)
-
-  single11 : Single (r .place) (at11 c r w)
-  unfolding at11
-  single11 = either (Single (r .place)) (isPooled c) (touches refl tt) (touches refl tt)
-
-  single12 : Single (r .place) (at12 c r)
-  unfolding at12
-  single12 = touches refl tt
-
-  single13 : Single (r .place) (at13 r w)
-  unfolding at13
-  single13 = touches refl tt
-
-  single14 : r .place ≡ 14 → Single (r .place) (at14 c r)
-  unfolding at14
-  single14 e = either (Single (r .place)) (eqb (c .head) (r .link)) (touches refl e) (counts refl)
-
-  single15 : Single (r .place) (at15 c r)
-  unfolding at15
-  single15 = touches refl tt
-
-  single16 : Single (r .place) (at16 r)
-  unfolding at16
-  single16 = touches refl tt
-
-  single17 : Single (r .place) (at17 c r)
-  unfolding at17
-  single17 = either (Single (r .place)) (eqb (c .head) (r .link)) (touches refl tt) (counts refl)
-
-  single : Single (r .place) (move c r w)
-  unfolding move
+  single : S (move c r w)
+  unfolding move at1 at2 at3 at4 at5 at6 at7 at9 at10 at11 at12 at13 at14 at15 at16 at17
   single =
-      either (Single (r .place)) (eqb (r .place) 1) single1
-      (either (Single (r .place)) (eqb (r .place) 2) single2
-      (either (Single (r .place)) (eqb (r .place) 3) single3
-      (either (Single (r .place)) (eqb (r .place) 4) single4
-      (either (Single (r .place)) (eqb (r .place) 5) single5
-      (either (Single (r .place)) (eqb (r .place) 6) single6
-      (either (Single (r .place)) (eqb (r .place) 7) single7
-      (either (Single (r .place)) (eqb (r .place) 8) single6
-      (either (Single (r .place)) (eqb (r .place) 9) single9
-      (either (Single (r .place)) (eqb (r .place) 10) single10
-      (either (Single (r .place)) (eqb (r .place) 11) single11
-      (either (Single (r .place)) (eqb (r .place) 12) single12
-      (either (Single (r .place)) (eqb (r .place) 13) single13
-      (by-test (Single (r .place)) (eqb (r .place) 14) (λ e. single14 (eqb-true (r .place) 14 e))
-      (λ _. either (Single (r .place)) (eqb (r .place) 15) single15
-      (either (Single (r .place)) (eqb (r .place) 16) single16
-      single17)))))))))))))))
+      either S (eqb (r .place) 1) (touches refl tt)
+      (either S (eqb (r .place) 2) (either S (eqb (c .anchor) (r .seen)) (touches refl tt) (counts refl))
+      (either S (eqb (r .place) 3) (either S (isPush r) (touches refl tt) (touches refl tt))
+      (either S (eqb (r .place) 4) (either S (eqb (c .anchor) (r .seen)) (touches refl tt) (counts refl))
+      (either S (eqb (r .place) 5) (touches refl tt)
+      (either S (eqb (r .place) 6) (touches refl tt)
+      (either S (eqb (r .place) 7) (touches refl tt)
+      (either S (eqb (r .place) 8) (touches refl tt)
+      (either S (eqb (r .place) 9) (either S (eqb w (r .link)) (touches refl tt) (counts refl))
+      (either S (eqb (r .place) 10) (either S (eqb (c .anchor) (r .seen)) (touches refl tt) (counts refl))
+      (either S (eqb (r .place) 11) (either S (isPooled c) (touches refl tt) (touches refl tt))
+      (either S (eqb (r .place) 12) (touches refl tt)
+      (either S (eqb (r .place) 13) (touches refl tt)
+      (by-test S (eqb (r .place) 14) (λ e. either S (eqb (c .head) (r .link)) (touches refl (eqb-true (r .place) 14 e)) (counts refl))
+      (λ _. either S (eqb (r .place) 15) (touches refl tt)
+      (either S (eqb (r .place) 16) (touches refl tt) (either S (eqb (c .head) (r .link)) (touches refl tt) (counts refl)))))))))))))))))
 
 applied : (place : ℕ) (t : Touch) (q : Tables) → Draws14 place t → OneTouch place q (apply t q)
 applied place nothing q d = untouched

@@ -4,9 +4,7 @@ use mathlib.Core.Path.{_≡_, refl}
 use mathlib.Core.Bool.{Bool, false}
 use mathlib.Core.List.{List, [], _∷_, map}
 use Prim.Native.Nat.{ℕ}
-use Rattle.model.specs.declared.Control.{Control}
-use Rattle.model.specs.declared.Record.{Record}
-use Rattle.model.specs.declared.Asked.{Asked}
+use Rattle.model.specs.declared.{Control.Control, Record.Record, Asked.Asked}
 use Rattle.model.specs.Tables.{Tables, Queue}
 use Rattle.model.specs.Refusals.{Rule, Lent, malformed, openRules, startRules, pooledPush, nothingAsked, stepRules, reportRules}
 

@@ -5,23 +5,18 @@ use mathlib.Core.Logic.{_≢_}
 use mathlib.Core.List.{List, [], _∷_}
 use Prim.Native.Nat.{ℕ}
 use native.Mathlib.Omega.{arith}
-use lib.Dec.{eqb}
-use lib.Seq.{set-getD}
+use lib.{Dec.eqb, Seq.set-getD}
 use borrow.Author.Tests.{eqb-false, ne-eqb, not-true}
-use Rattle.model.specs.declared.Record.{Record}
-use Rattle.model.specs.declared.TaskRecord.{TaskRecord}
-use Rattle.model.specs.declared.Answer.{Answer}
+use Rattle.model.specs.declared.{Record.Record, TaskRecord.TaskRecord, Answer.Answer, Op.Op}
 use Rattle.model.specs.declared.Answer.the-variants.{Running}
 use Rattle.model.specs.declared.Outcome.the-variants.{Refused, Moved}
 use Rattle.model.specs.declared.Opening.the-variants as opening
-use Rattle.model.specs.declared.Op.{Op}
 use Rattle.model.specs.declared.Op.the-variants.{Push, Pop, Put, Step}
 use Rattle.model.specs.Tables.{Tables, Queue, unused, taskAt}
 use Rattle.model.specs.Refusals.{Rule, rule, first, openRules, openRefusal, Lent, among, alone, fits, startRules, startRefusal}
 use Rattle.model.specs.Refusals.{namedPush, pooledPush, nothingAsked, stepRules, stepRefusal}
 use Rattle.model.specs.Calls.{opened, OpenDone, openAs, Acted, decide, pushStart, putStart, popStart, finish, step, actOn, back, act, stepLent}
-use Rattle.model.proofs.tests.Rules.{numbered}
-use Rattle.model.proofs.tests.Truth.{and-true}
+use Rattle.model.proofs.tests.{Rules.numbered, Truth.and-true}
 use Rattle.model.specs.Lists.{All}
 
 -- No rule of a list applies; and the first of a list to apply has number n.

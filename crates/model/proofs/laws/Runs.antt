@@ -5,8 +5,7 @@ use Prim.Native.Nat.{ℕ, zero, suc}
 use native.Mathlib.Omega.{arith}
 use Rattle.model.specs.declared.Op.the-variants.{Step}
 use Rattle.model.specs.declared.Outcome.the-variants.{Refused}
-use Rattle.model.specs.Tables.{Queue}
-use Rattle.model.specs.Calls.{act}
+use Rattle.model.specs.{Tables.Queue, Calls.act}
 use Rattle.model.specs.Ends.{isMoved, isRunning}
 use Rattle.model.specs.Solo.{SoloDone, soloSteps, soloRun}
 use Rattle.model.proofs.tests.Truth.{by-test, either, not-both}

@@ -5,13 +5,11 @@ use mathlib.Core.Logic.{_≢_}
 use mathlib.Core.Path.{_∙_, _≡_, ap, refl, subst, sym}
 use Prim.Native.Nat.{suc, ℕ}
 use native.Mathlib.Omega.{arith}
-use lib.Dec.{eqb}
-use lib.ListN.{length}
+use lib.{Dec.eqb, ListN.length}
 use borrow.Author.Tests.{eq-eqb, eqb-true, ne-eqb}
 use Rattle.model.specs.History.{Call, Effect, Ending, Event, Ledger, Once, answered, attend, ended, isOpen, over, pending, stepOf}
 use Rattle.model.specs.declared.Answer.the-variants.{Empty, NoSlot, Popped, Pushed, Running}
-use Rattle.model.specs.declared.Answer.{Answer}
-use Rattle.model.specs.declared.Entry.{Entry}
+use Rattle.model.specs.declared.{Answer.Answer, Entry.Entry}
 use Rattle.model.proofs.tests.Truth.{and-true, by-test, not-both}
 use Rattle.model.proofs.machine.Book as B
 use Rattle.model.proofs.machine.Laws.{upd-other, upd-same}

@@ -5,35 +5,28 @@ use mathlib.Core.Logic.{_≢_, _⊎_, inl, inr}
 use mathlib.Core.Path.{_∙_, _≡_, ap, refl, subst, sym}
 use Prim.Native.Nat.{_≤_, suc, ℕ}
 use native.Mathlib.Omega.{arith}
-use lib.Dec.{eqb}
-use lib.ListN.{set}
+use lib.{Dec.eqb, ListN.set}
 use borrow.Author.Tests.{eq-eqb, eqb-true, ne-eqb}
 use Rattle.word.specs.Anchor.{anchorOf}
 use Rattle.model.specs.Calls.{Acted, Done, act, actOn, back, finish, popStart, pushStart, putStart, step}
-use Rattle.model.specs.Deque.{saysNoSlot}
+use Rattle.model.specs.{Deque.saysNoSlot, Lists.All}
 use Rattle.model.specs.History.{Call, Event, Ledger, Request, accept, attend, begins, final, isEffect, ledgerFrom, note, over, run, toldEntry}
 use Rattle.model.specs.Places.{wordFound, move}
 use Rattle.model.specs.Refusals.{among, popRefusal, pushRefusal, putRefusal, stepRefusal}
 use Rattle.model.specs.Tables.{Queue, asking, isPooled, marked, recordAt, started, taskAt, unused, withCall, taken}
 use Rattle.model.specs.declared.Answer.the-variants.{Empty, NoSlot, Popped, Pushed, Running}
-use Rattle.model.specs.declared.Answer.{Answer}
-use Rattle.model.specs.declared.Entry.{Entry}
+use Rattle.model.specs.declared.{Answer.Answer, Entry.Entry, Op.Op, Record.Record, TaskRecord.TaskRecord}
 use Rattle.model.specs.declared.Op.the-variants.{Pop, Push, Put, Step}
-use Rattle.model.specs.declared.Op.{Op}
 use Rattle.model.specs.declared.Outcome.the-variants.{Moved, Refused}
-use Rattle.model.specs.declared.Record.{Record}
-use Rattle.model.specs.declared.TaskRecord.{TaskRecord}
 use Rattle.model.proofs.tests.Truth.{by-test, decide-eq, not-both}
 use Rattle.model.proofs.lists.Store.{set-back}
-use Rattle.model.proofs.machine.Answers.{EndsAt}
+use Rattle.model.proofs.machine.{Answers.EndsAt, Machine.upd}
 use Rattle.model.proofs.machine.Book as B
 use Rattle.model.proofs.machine.Laws.{upd-other, upd-same}
 use Rattle.model.proofs.machine.Machine as M
-use Rattle.model.proofs.machine.Machine.{upd}
 use Rattle.model.proofs.invariant.Invariant.{Inv}
 use Rattle.model.proofs.bridge.Accepted.{Lies, Stepping, pop-accepted, push-accepted, put-accepted, step-accepted}
-use Rattle.model.proofs.bridge.Decoded.{seenMove}
-use Rattle.model.proofs.bridge.Facts.{LinksFine}
+use Rattle.model.proofs.bridge.{Decoded.seenMove, Facts.LinksFine}
 use Rattle.model.proofs.bridge.Operations.{not-idle, pop-keeps, push-keeps, put-back, put-keeps, reply, step-ends, step-grants, step-lacks}
 use Rattle.model.proofs.bridge.Operations.{step-keeps, step-links, step-pooled, step-task, step-told, stepped, task-of}
 use Rattle.model.proofs.bridge.View.{anchorSeen, answerSeen, kindOf, placeOf, recOf, stateOf, touchSeen, view}
@@ -42,7 +35,6 @@ use Rattle.model.proofs.ledger.Matched.{Matched, busyNo}
 use Rattle.model.proofs.ledger.Matches.{Final, Matches, Names, Tracks, matches-granted, opens, rest-keeps, tracks-mono}
 use Rattle.model.proofs.ledger.Served.{Told, effect-is, no-slot-is}
 use Rattle.model.proofs.unsound.Suits.{kind-push}
-use Rattle.model.specs.Lists.{All}
 
 goes-on : (a : Answer) (b : Bool) → EndsAt (answerSeen a) b → goingOn a ≡ busyNo b
 goes-on (Running p) b e = rw e

@@ -7,8 +7,7 @@ use Rattle.model.specs.Tables.{Queue, isPooled}
 use Rattle.model.proofs.machine.Book as B
 use Rattle.model.proofs.machine.Machine as M
 use Rattle.model.proofs.invariant.Invariant.{Inv}
-use Rattle.model.proofs.bridge.Facts.{LinksFine}
-use Rattle.model.proofs.bridge.View.{stateOf}
+use Rattle.model.proofs.bridge.{Facts.LinksFine, View.stateOf}
 use Rattle.model.proofs.ledger.Matches.{Tracks, opens}
 
 abbrev pub busyNo : Bool → ℕ

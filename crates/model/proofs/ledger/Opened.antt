@@ -4,19 +4,17 @@ use mathlib.Core.Logic.{_≢_, _⊎_, inl, inr}
 use mathlib.Core.List.{List, []}
 use mathlib.Core.Path.{_∙_, _≡_, ap, refl, subst, sym}
 use Prim.Native.Nat.{_%_, _*_, _+_, _/_, _<_, _^_, _≤_, suc, zero, ℕ}
-use native.Mathlib.Nat.{zero-div}
-use native.Mathlib.Omega.{arith}
+use native.Mathlib.{Nat.zero-div, Omega.arith}
 use lib.Dec.{eqb, ltb}
 use lib.ListN.{List·getD-append, drop, getD, getD-replicate, length-replicate, replicate}
 use borrow.Author.Tests.{ltb-true, not-false}
 use Rattle.word.specs.Anchor.{emptyAnchor, packAnchor}
 use Rattle.word.specs.Link.{linkOf, spareOf}
 use Rattle.model.specs.Calls.{opened, stacked}
-use Rattle.model.specs.History.{Ledger}
+use Rattle.model.specs.{History.Ledger, Lists.zeroed}
 use Rattle.model.specs.Refusals.{openRefusal, openRules}
 use Rattle.model.specs.Tables.{Queue, idle, isPooled, marked, recordAt, unused}
-use Rattle.model.specs.declared.Record.{Record}
-use Rattle.model.specs.declared.TaskRecord.{TaskRecord}
+use Rattle.model.specs.declared.{Record.Record, TaskRecord.TaskRecord}
 use Rattle.model.proofs.tests.Rules.{cleared}
 use Rattle.model.proofs.tests.Truth.{by-test, decide-eq}
 use Rattle.model.proofs.lists.Range.{climb-last, climb-step}
@@ -27,7 +25,6 @@ use Rattle.model.proofs.places.Opening.{all-stacked, fresh}
 use Rattle.model.proofs.bridge.Facts.{from1-true}
 use Rattle.model.proofs.bridge.View.{anchorSeen, linkAt, placeOf, recOf, stateOf, statusOf, view}
 use Rattle.model.proofs.ledger.Matched.{Matched, busyNo}
-use Rattle.model.specs.Lists.{zeroed}
 
 abbrev pub nobody : Ledger
 nobody = record { deque = []; calls = [] }

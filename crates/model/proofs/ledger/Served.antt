@@ -8,8 +8,7 @@ use lib.Dec.{eqb}
 use Rattle.model.specs.Deque.{Served, saysNoSlot, serve, serveFor, servePop, servePush, takeFirst}
 use Rattle.model.specs.History.{Call, Effect, Ending, Event, Ledger, continued, ended, isEffect, lacksSlot, stepOf, toldEntry}
 use Rattle.model.specs.declared.Answer.the-variants.{Empty, NoSlot, Popped, Pushed, Running}
-use Rattle.model.specs.declared.Answer.{Answer}
-use Rattle.model.specs.declared.Entry.{Entry}
+use Rattle.model.specs.declared.{Answer.Answer, Entry.Entry}
 use Rattle.model.proofs.tests.Truth.{split}
 use Rattle.model.proofs.lists.Deque.{put, rest, seen, took}
 use Rattle.model.proofs.lists.Ends.{seen-nil}

@@ -8,11 +8,10 @@ use native.Mathlib.Omega.{arith}
 use lib.Dec.{eqb}
 use lib.ListN.{getD, length, length-map, length-reverse}
 use borrow.Author.Tests.{eq-eqb, eqb-false, eqb-true, le-leb, ne-eqb}
-use Rattle.word.specs.Anchor.{anchorOf}
-use Rattle.word.specs.Link.{linkOf}
+use Rattle.word.specs.{Anchor.anchorOf, Link.linkOf}
 use Rattle.model.specs.Walk.{Walk, along, andThen, broken, contents, entries, walkFrom, whence as side-of}
 use Rattle.model.specs.Sound.{from1, linkSound}
-use Rattle.model.specs.Tables.{Tables}
+use Rattle.model.specs.{Tables.Tables, Lists.All}
 use Rattle.model.specs.declared.Entry.{Entry}
 use Rattle.model.proofs.tests.Truth.{and-of, and-true, by-test, not-both, split}
 use Rattle.model.proofs.lists.All.{all-far, all-map, all-seen}
@@ -31,7 +30,6 @@ use Rattle.model.proofs.places.Owned.{queued-free}
 use Rattle.model.proofs.bridge.Facts.{LinksFine}
 use Rattle.model.proofs.unsound.Tests.{link-sound}
 use Rattle.model.proofs.bridge.View.{anchorSeen, linkAt, statusOf, view}
-use Rattle.model.specs.Lists.{All}
 use Rattle.model.specs.Sides.{far, isEmpty, links, near, opposite}
 
 abbrev Real : Tables → Entry → Type 0

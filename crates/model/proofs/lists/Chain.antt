@@ -1,8 +1,7 @@
 -- Chains of entries: turned round, mapped, without repetition.
 use mathlib.Core.Bool.{Bool, false, true}
 use mathlib.Core.List.{List, [], _++_, _∷_, reverse, reverse-cons}
-use mathlib.Core.Logic.{_≢_}
-use mathlib.Core.Path.{sym}
+use mathlib.Core.{Logic._≢_, Path.sym}
 use Rattle.model.proofs.lists.All.{all-append, all-reverse}
 use Rattle.model.proofs.lists.Deque.{Chain, Distinct, From, seen}
 use Rattle.model.specs.Lists.{All}

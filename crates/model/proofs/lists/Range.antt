@@ -6,9 +6,7 @@ use Prim.Native.Nat.{_+_, _<_, _≤_, suc, zero, ℕ}
 use native.Mathlib.Omega.{arith}
 use lib.ListN.{length, getD}
 use Rattle.model.proofs.tests.Truth.{decide-eq}
-use Rattle.model.proofs.lists.All.{all-map}
-use Rattle.model.proofs.lists.Deque.{Distinct}
-use Rattle.model.proofs.lists.In.{In}
+use Rattle.model.proofs.lists.{All.all-map, Deque.Distinct, In.In}
 use Rattle.model.specs.Lists.{All, climb}
 
 abbrev pub range : ℕ → ℕ → List ℕ

@@ -7,7 +7,7 @@ pub use Rattle.model.proofs.machine.Records.{Status, code, towards, Anc
 pub use Rattle.model.proofs.machine.Records.{Rec, noAnchor, noLink, started, asking, blank, goes, reads, finds, holds, owns, finishes, Shared}
 pub use Rattle.model.proofs.machine.Records.{withAnchor, withLink, withMark, withLabel, withHead, withNext, stable, pushing, at12, at13, at14}
 pub use Rattle.model.proofs.machine.Records.{at15, at16, at17, idle, at1, at2, at3, at4, at5, at6, at7, at8, at9, at10, at11, draw, give, push}
-pub use Rattle.model.proofs.machine.Records.{pop}
+pub use Rattle.model.proofs.machine.Records.{pop, Phase, phase, outside, inside, leaving, fetching, returning, beside, reaches}
 unfoldable pub use Rattle.model.proofs.machine.Records.{same, sameLink, upd, relink}
 
 pub data Answer : Type 0 where
@@ -136,38 +136,34 @@ pub record State : Type 0 where
   pub shared : Shared
   pub task : ℕ → Rec
 
+abbrev pub rests : Phase → Bool
+rests outside = true
+rests inside = false
+rests leaving = false
+rests fetching = false
+rests returning = false
+
 abbrev pub isIdle : Place → Bool
-isIdle idle = true
-isIdle at1 = false
-isIdle at2 = false
-isIdle at3 = false
-isIdle at4 = false
-isIdle at5 = false
-isIdle at6 = false
-isIdle at7 = false
-isIdle at8 = false
-isIdle at9 = false
-isIdle at10 = false
-isIdle at11 = false
-isIdle (draw p) = false
-isIdle (give p) = false
+isIdle p = rests (phase p)
+
+-- A pop that has taken its slot.
+abbrev pub takes : Phase → Bool
+takes outside = false
+takes inside = false
+takes leaving = true
+takes fetching = false
+takes returning = false
 
 -- A pop that gives its slot back.
+abbrev givesBack : Phase → Bool
+givesBack outside = false
+givesBack inside = false
+givesBack leaving = false
+givesBack fetching = false
+givesBack returning = true
+
 abbrev pub isGiving : Place → Bool
-isGiving idle = false
-isGiving at1 = false
-isGiving at2 = false
-isGiving at3 = false
-isGiving at4 = false
-isGiving at5 = false
-isGiving at6 = false
-isGiving at7 = false
-isGiving at8 = false
-isGiving at9 = false
-isGiving at10 = false
-isGiving at11 = false
-isGiving (draw p) = false
-isGiving (give p) = true
+isGiving p = givesBack (phase p)
 
 abbrev pub moved : State → ℕ → Shared → Rec → State
 moved s t g r = record { shared = g; task = upd (s .task) t r }

@@ -64,6 +64,43 @@ pub data Place : Type 0 where
   draw : Draw → Place
   give : Give → Place
 
+-- What a task is about: nothing, the ends of the queue (1 to 10), the slot that a pop took (11), drawing a slot (12 to 14), giving it back (15 to 17).
+pub data Phase : Type 0 where
+  outside inside leaving fetching returning : Phase
+
+abbrev pub phase : Place → Phase
+phase idle = outside
+phase at1 = inside
+phase at2 = inside
+phase at3 = inside
+phase at4 = inside
+phase at5 = inside
+phase at6 = inside
+phase at7 = inside
+phase at8 = inside
+phase at9 = inside
+phase at10 = inside
+phase at11 = leaving
+phase (draw p) = fetching
+phase (give p) = returning
+
+-- At 7 to 9 a task has a neighbour, found where Anchor was as read.
+abbrev pub beside : Place → Bool
+beside idle = false
+beside at1 = false
+beside at2 = false
+beside at3 = false
+beside at4 = false
+beside at5 = false
+beside at6 = false
+beside at7 = true
+beside at8 = true
+beside at9 = true
+beside at10 = false
+beside at11 = false
+beside (draw p) = false
+beside (give p) = false
+
 pub data Kind : Type 0 where
   push pop : Kind
 
@@ -95,57 +132,31 @@ asking d l = record { place = draw at12; kind = push; side = d; own = 0; label =
 abbrev pub blank : Rec
 blank = record { place = idle; kind = push; side = false; own = 0; label = 0; read = noAnchor; near = 0; link = noLink; finishing = false }
 
-abbrev pub goes : Rec → Place → Rec
-goes r p = record {
-  place = p;
-  kind = r .kind;
-  side = r .side;
-  own = r .own;
-  label = r .label;
-  read = r .read;
-  near = r .near;
-  link = r .link;
-  finishing = r .finishing;
-}
-
-abbrev pub reads : Rec → Anchor → Place → Rec
-reads r a p = record {
+-- A record that has gone on to a place, with what it has read on its way; its call stays.
+abbrev pub reaches : Rec → Place → Anchor → ℕ → Link → Rec
+reaches r p a n w = record {
   place = p;
   kind = r .kind;
   side = r .side;
   own = r .own;
   label = r .label;
   read = a;
-  near = r .near;
-  link = r .link;
-  finishing = r .finishing;
-}
-
-abbrev pub finds : Rec → ℕ → Place → Rec
-finds r x p = record {
-  place = p;
-  kind = r .kind;
-  side = r .side;
-  own = r .own;
-  label = r .label;
-  read = r .read;
-  near = x;
-  link = r .link;
-  finishing = r .finishing;
-}
-
-abbrev pub holds : Rec → Link → Place → Rec
-holds r w p = record {
-  place = p;
-  kind = r .kind;
-  side = r .side;
-  own = r .own;
-  label = r .label;
-  read = r .read;
-  near = r .near;
+  near = n;
   link = w;
   finishing = r .finishing;
 }
+
+abbrev pub goes : Rec → Place → Rec
+goes r p = reaches r p (r .read) (r .near) (r .link)
+
+abbrev pub reads : Rec → Anchor → Place → Rec
+reads r a p = reaches r p a (r .near) (r .link)
+
+abbrev pub finds : Rec → ℕ → Place → Rec
+finds r x p = reaches r p (r .read) x (r .link)
+
+abbrev pub holds : Rec → Link → Place → Rec
+holds r w p = reaches r p (r .read) (r .near) w
 
 abbrev pub owns : Rec → ℕ → ℕ → Place → Rec
 owns r x l p = record {

@@ -4,8 +4,7 @@ use Prim.Native.Nat.{_≤_, ℕ}
 use native.Mathlib.Omega.{arith}
 use Rattle.model.proofs.machine.Book.{Both, Call}
 use Rattle.model.proofs.machine.Machine.{Kind, Place, Rec, Shared, at1, at10, at11, at2, at3, at4, at5, at6, at7, at8, at9, draw, give, idle}
-use Rattle.model.proofs.invariant.Invariant.{Inv}
-use Rattle.model.proofs.invariant.Owners.{Owner}
+use Rattle.model.proofs.invariant.{Invariant.Inv, Owners.Owner}
 use Rattle.model.proofs.invariant.Tasks.{Stage, Task}
 
 staged : (f : Bool) (g : ℕ → ℕ) (h : ℕ → Owner) (t : ℕ) (k : Kind) (d : Bool) (x l : ℕ) (c : Call) → Stage f g h t k d x l c → c .effects ≤ 1

@@ -8,9 +8,8 @@ use Rattle.model.proofs.lists.All.{all-map}
 use Rattle.model.proofs.lists.Range.{in-range, range, range-bounds, range-distinct}
 use Rattle.model.proofs.machine.Book.{noBook, noCall}
 use Rattle.model.proofs.machine.Machine.{Rec, Shared, idle, stable}
-use Rattle.model.proofs.invariant.Invariant.{Inv}
+use Rattle.model.proofs.invariant.{Invariant.Inv, Tasks.Task}
 use Rattle.model.proofs.invariant.Owners.{Pool, Spare, Stack, free}
-use Rattle.model.proofs.invariant.Tasks.{Task}
 use Rattle.model.proofs.chain.Sides.{under}
 use Rattle.model.proofs.places.Owned.{held-free, queued-free}
 use Rattle.model.specs.Lists.{All}

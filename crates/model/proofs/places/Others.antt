@@ -8,9 +8,8 @@ use native.Mathlib.Omega.{arith}
 use Rattle.model.specs.declared.Entry.{Entry}
 use Rattle.model.proofs.lists.Slots.{slots}
 use Rattle.model.proofs.machine.Book.{Call}
-use Rattle.model.proofs.machine.Machine.{Anchor, Draw, Give, Kind, Link, Place, Rec, Shared, at1, at10, at11, at12, at13, at14, at15}
-use Rattle.model.proofs.machine.Machine.{at16, at17, at2, at3, at4, at5, at6, at7, at8, at9, draw, give, idle, inner, pop, push}
-use Rattle.model.proofs.machine.Machine.{pushing, tip}
+use Rattle.model.proofs.machine.Machine.{Anchor, Draw, Give, Kind, Link, Place, Rec, Shared, at1, at10, at11, at12, at13, at14, at15, at16}
+use Rattle.model.proofs.machine.Machine.{at17, at2, at3, at4, at5, at6, at7, at8, at9, draw, give, idle, inner, pop, push, pushing, tip}
 use Rattle.model.proofs.invariant.Owners.{Owner, Intact, held, queued}
 use Rattle.model.proofs.invariant.Rely.{Faces, Quiet, Rely, Turned}
 use Rattle.model.proofs.invariant.Shape.{Made}

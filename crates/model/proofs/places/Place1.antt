@@ -17,8 +17,7 @@ use Rattle.model.proofs.invariant.Owners.{Owner, Intact}
 use Rattle.model.proofs.invariant.Tasks.{Before, Own, Stage, Task, Three, Tries, Two}
 use Rattle.model.proofs.chain.Ends.{no-entry}
 use Rattle.model.proofs.places.Effects.{empty-effect, noted-pop}
-use Rattle.model.proofs.places.Marking.{marked-kept}
-use Rattle.model.proofs.places.Owned.{push-pop}
+use Rattle.model.proofs.places.{Marking.marked-kept, Owned.push-pop}
 use Rattle.model.proofs.places.Shown.{Shown, effective, read-now, rely-refl, still}
 
 -- A status that is not stable.

@@ -1,7 +1,6 @@
 -- Place 11: the label of the slot taken is read. In a named queue the slot is given up; in a pooled queue the task keeps it for 15 to 17.
 use mathlib.Core.Bool.{false, true}
-use mathlib.Core.List.{List}
-use mathlib.Core.Logic.{_≢_}
+use mathlib.Core.{List.List, Logic._≢_}
 use mathlib.Core.Path.{_∙_, _≡_, ap, refl, subst, sym}
 use Prim.Native.Nat.{ℕ}
 use Rattle.model.specs.declared.Entry.{Entry}

@@ -17,9 +17,7 @@ use Rattle.model.proofs.invariant.Shape.{Shape}
 use Rattle.model.proofs.invariant.Tasks.{Own, Task, Two}
 use Rattle.model.proofs.chain.Changes.{first-shape, last-shape}
 use Rattle.model.proofs.chain.Ends.{both-null, no-entry, single, small}
-use Rattle.model.proofs.places.Effects.{left-effect}
-use Rattle.model.proofs.places.Place1.{place1}
-use Rattle.model.proofs.places.Shown.{Shown}
+use Rattle.model.proofs.places.{Effects.left-effect, Place1.place1, Shown.Shown}
 use Rattle.model.proofs.places.Taking.{pop-good, push-good, put-bare}
 
 module _ (t : ℕ) (s : Shared) (h : ℕ → Owner) (q : List Entry) (c : Call) (all : Intact s h q) (r : Rec) where

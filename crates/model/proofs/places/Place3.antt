@@ -7,18 +7,15 @@ use Prim.Native.Nat.{ℕ}
 use native.Mathlib.Omega.{arith}
 use Rattle.model.specs.declared.Entry.{Entry}
 use Rattle.model.proofs.lists.All.{all-front, all-map, all-seen}
-use Rattle.model.proofs.lists.Deque.{seen}
-use Rattle.model.proofs.lists.Slots.{slots}
-use Rattle.model.proofs.machine.Book.{Call}
+use Rattle.model.proofs.lists.{Deque.seen, Slots.slots}
+use Rattle.model.proofs.machine.{Book.Call, LinkTags.relink-keeps}
 use Rattle.model.proofs.machine.Laws.{relink-other, relink-same}
-use Rattle.model.proofs.machine.LinkTags.{relink-keeps}
 use Rattle.model.proofs.machine.Machine.{Kind, Link, Rec, Shared, at3, inner, ownLink, pop, push, relink, running, three, tip, withLink}
 use Rattle.model.proofs.invariant.Owners.{Owner, Intact, held, queued}
 use Rattle.model.proofs.invariant.Rely.{Rely}
 use Rattle.model.proofs.invariant.Tasks.{Four, Own, Task}
 use Rattle.model.proofs.chain.Links.{frame-shape, inner-in}
-use Rattle.model.proofs.places.Effects.{no-effect}
-use Rattle.model.proofs.places.Marking.{marked-kept}
+use Rattle.model.proofs.places.{Effects.no-effect, Marking.marked-kept}
 use Rattle.model.proofs.places.Owned.{held-inj, queued-held}
 use Rattle.model.proofs.places.Shown.{Shown, plain, stack-same, still}
 

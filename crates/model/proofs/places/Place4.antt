@@ -1,7 +1,6 @@
 -- Place 4: an entry is put at an end, the entry at an end is taken.
 use mathlib.Core.Bool.{false, true}
-use mathlib.Core.List.{List}
-use mathlib.Core.Logic.{_≢_}
+use mathlib.Core.{List.List, Logic._≢_}
 use mathlib.Core.Path.{_∙_, _≡_, ap, refl, subst, sym}
 use Prim.Native.Nat.{_<_, suc, ℕ}
 use Rattle.model.specs.declared.Entry.{Entry}
@@ -17,9 +16,7 @@ use Rattle.model.proofs.invariant.Shape.{Shape}
 use Rattle.model.proofs.invariant.Tasks.{Four, Own, Task, Three}
 use Rattle.model.proofs.chain.Changes.{inner-apart, pop-shape, push-shape}
 use Rattle.model.proofs.chain.Ends.{both-null, ends-real}
-use Rattle.model.proofs.places.Effects.{aimed-effect}
-use Rattle.model.proofs.places.Place1.{place1}
-use Rattle.model.proofs.places.Owned.{queued-held}
+use Rattle.model.proofs.places.{Effects.aimed-effect, Place1.place1, Owned.queued-held}
 use Rattle.model.proofs.places.Shown.{Shown, read-now}
 use Rattle.model.proofs.places.Taking.{end-entry, not-in, pop-good, push-good, put-bare}
 

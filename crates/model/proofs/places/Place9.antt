@@ -14,14 +14,10 @@ use Rattle.model.proofs.machine.LinkTags.{grows-le, relink-grows}
 use Rattle.model.proofs.machine.Machine.{Anchor, Link, Rec, Shared, act, at10, at9, goes, inner, pushing, putLink, relink, running}
 use Rattle.model.proofs.machine.Machine.{runs, sameLink, stable, tip, withLink}
 use Rattle.model.proofs.invariant.Owners.{Owner, Intact, queued}
-use Rattle.model.proofs.invariant.Rely.{Rely}
-use Rattle.model.proofs.invariant.Shape.{Made}
+use Rattle.model.proofs.invariant.{Rely.Rely, Shape.Made}
 use Rattle.model.proofs.invariant.Tasks.{Live, Task, way}
 use Rattle.model.proofs.chain.Links.{back-shape, inner-in}
-use Rattle.model.proofs.places.Effects.{no-effect}
-use Rattle.model.proofs.places.Marking.{marked-kept}
-use Rattle.model.proofs.places.Owned.{queued-held}
-use Rattle.model.proofs.places.Places5to8.{away}
+use Rattle.model.proofs.places.{Effects.no-effect, Marking.marked-kept, Owned.queued-held, Places5to8.away}
 use Rattle.model.proofs.places.Shown.{Shown, plain, stack-same}
 
 module _ (t : ℕ) (s : Shared) (h : ℕ → Owner) (q : List Entry) (c : Call) (all : Intact s h q) (r : Rec) where

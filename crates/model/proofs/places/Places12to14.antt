@@ -1,6 +1,5 @@
 -- Places 12 to 14: a push draws its slot from the stack. *No slot* is an effect without a change of the queue.
-use mathlib.Core.Bool.{true}
-use mathlib.Core.List.{List}
+use mathlib.Core.{Bool.true, List.List}
 use mathlib.Core.Logic.{inl, inr}
 use mathlib.Core.Path.{_≡_, ap, refl, subst, sym}
 use Prim.Native.Nat.{_<_, suc, ℕ}
@@ -9,9 +8,8 @@ use Rattle.model.specs.declared.Entry.{Entry}
 use Rattle.model.proofs.tests.Truth.{by-test, not-both}
 use Rattle.model.proofs.machine.Book.{Call, told}
 use Rattle.model.proofs.machine.Laws.{exhausted-false, sameLink-true, upd-same}
-use Rattle.model.proofs.machine.Machine.{Draw, Link, Rec, Shared, at1, at12, at13, at14, draw, draws, ends, noSlot, none, owns, push}
-use Rattle.model.proofs.machine.Machine.{running, runs, sameLink, take, upd}
-use Rattle.model.proofs.machine.Machine.{exhausted}
+use Rattle.model.proofs.machine.Machine.{Draw, Link, Rec, Shared, at1, at12, at13, at14, draw, draws, ends, noSlot, none, owns, push, running}
+use Rattle.model.proofs.machine.Machine.{runs, sameLink, take, upd, exhausted}
 use Rattle.model.proofs.invariant.Owners.{Owner, Pool, Spare, Intact, held}
 use Rattle.model.proofs.invariant.Tasks.{Fourteenth, Own, Task, Thirteenth}
 use Rattle.model.proofs.places.Effects.{no-effect, noted-none}

@@ -12,13 +12,11 @@ use Rattle.model.proofs.machine.Laws.{sameLink-true, upd-other, upd-sam
 use Rattle.model.proofs.machine.Machine.{Give, Link, Rec, Shared, at15, at16, at17, blank, ends, give, gives, goes, popped, putHead}
 use Rattle.model.proofs.machine.Machine.{putNext, running, runs, sameLink, upd, withNext}
 use Rattle.model.proofs.invariant.Owners.{Owner, Pool, Spare, Intact, free, held, shows}
-use Rattle.model.proofs.invariant.Rely.{Rely}
-use Rattle.model.proofs.invariant.Tasks.{Task}
-use Rattle.model.proofs.places.Effects.{no-effect}
+use Rattle.model.proofs.invariant.{Rely.Rely, Tasks.Task}
+use Rattle.model.proofs.places.{Effects.no-effect, Places12to14.pool}
 use Rattle.model.proofs.places.Marking.{marked-at, marked-kept}
 use Rattle.model.proofs.places.Owned.{held-free, held-inj}
 use Rattle.model.proofs.places.Owning.{frees-bare, frees-rely, frees-whole}
-use Rattle.model.proofs.places.Places12to14.{pool}
 use Rattle.model.proofs.places.Shown.{ShownAs, plain, still}
 use Rattle.model.proofs.places.Stack.{given, linked, top-apart}
 

@@ -1,15 +1,13 @@
 -- Places 5 to 8: a helping task reads the neighbour and its link, and looks at Anchor before and after.
 -- Place 8 gives place 9 its right: Anchor was current after the link was read.
-use mathlib.Core.List.{List}
-use mathlib.Core.Logic.{inl}
+use mathlib.Core.{List.List, Logic.inl}
 use mathlib.Core.Path.{_∙_, ap, refl}
 use Prim.Native.Nat.{ℕ}
 use lib.Dec.{eqb}
 use borrow.Author.Tests.{eqb-false, eqb-true}
 use Rattle.model.specs.declared.Entry.{Entry}
 use Rattle.model.proofs.tests.Truth.{by-test}
-use Rattle.model.proofs.machine.Book.{Call}
-use Rattle.model.proofs.machine.Laws.{same-true}
+use Rattle.model.proofs.machine.{Book.Call, Laws.same-true}
 use Rattle.model.proofs.machine.Machine.{Rec, Shared, act, at5, at6, at7, at8, leave, none, same, tip}
 use Rattle.model.proofs.invariant.Owners.{Owner, Intact}
 use Rattle.model.proofs.invariant.Tasks.{Eighth, Helps, Ninth, Task, way}

@@ -8,8 +8,7 @@ use Prim.Native.Nat.{_+_, _<_, _≤_, suc, ℕ}
 use native.Mathlib.Omega.{arith}
 use Rattle.model.specs.declared.Entry.{Entry}
 use Rattle.model.proofs.tests.Truth.{by-test, not-both}
-use Rattle.model.proofs.machine.Book.{Call}
-use Rattle.model.proofs.machine.Laws.{sameLink-true}
+use Rattle.model.proofs.machine.{Book.Call, Laws.sameLink-true}
 use Rattle.model.proofs.machine.Machine.{Kind, Link, Move, Place, Rec, Shared, act, at1, at10, at11, at12, at13, at14, at15, at16, at17, at2}
 use Rattle.model.proofs.machine.Machine.{at3, at4, at5, at6, at7, at8, at9, draw, four, give, goes, idle, isIdle, isStable, pop, push, putLink}
 use Rattle.model.proofs.machine.Machine.{runs, same, sameLink, tip, two}

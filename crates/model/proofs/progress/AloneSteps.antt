@@ -16,22 +16,18 @@ use Rattle.model.specs.Refusals.{among, stepRefusal}
 use Rattle.model.specs.Route.{goes, counted}
 use Rattle.model.specs.Tables.{Queue, Tables, recordAt, taskAt, unused}
 use Rattle.model.specs.declared.Answer.the-variants.{Empty, NoSlot, Popped, Pushed, Running}
-use Rattle.model.specs.declared.Answer.{Answer}
+use Rattle.model.specs.declared.{Answer.Answer, Record.Record, TaskRecord.TaskRecord}
 use Rattle.model.specs.declared.Op.the-variants.{Step}
 use Rattle.model.specs.declared.Outcome.the-variants.{Moved}
-use Rattle.model.specs.declared.Record.{Record}
-use Rattle.model.specs.declared.TaskRecord.{TaskRecord}
 use Rattle.model.proofs.tests.Truth.{by-test, not-both, split}
-use Rattle.model.proofs.machine.Answers.{EndsAt}
-use Rattle.model.proofs.machine.Laws.{upd-same}
+use Rattle.model.proofs.machine.{Answers.EndsAt, Laws.upd-same}
 use Rattle.model.proofs.machine.Machine as M
 use Rattle.model.proofs.bridge.Accepted.{Lies}
 use Rattle.model.proofs.bridge.Decoded.{next, seenMove}
 use Rattle.model.proofs.bridge.Operations.{not-idle, reply, state-is, step-ends, stepped, task-of}
 use Rattle.model.proofs.bridge.View.{answerSeen, kindOf, placeOf, recOf, stateOf, view}
 use Rattle.model.proofs.ledger.Matched.{Matched}
-use Rattle.model.proofs.unsound.Safe.{Safe}
-use Rattle.model.proofs.unsound.StepSafe.{keeps}
+use Rattle.model.proofs.unsound.{Safe.Safe, StepSafe.keeps}
 use Rattle.model.proofs.unsound.StepSound.{h, own-task, seen, stepping}
 use Rattle.model.proofs.progress.Alone.{alone, alone-falls, alone-within, draws, spend}
 use Rattle.model.proofs.progress.Falls.{Falls}

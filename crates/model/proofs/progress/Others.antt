@@ -4,8 +4,8 @@ use mathlib.Core.Bool.{Bool, _&&_, cond, false, true}
 use Prim.Native.Nat.{_*_, _+_, _≤_, ℕ}
 use native.Mathlib.Omega.{arith}
 use Rattle.model.proofs.tests.Truth.{either}
-use Rattle.model.proofs.machine.Machine.{Draw, Give, Place, at1, at10, at11, at12, at13, at14, at15, at16, at17, at2, at3, at4, at5, at6, at7}
-use Rattle.model.proofs.machine.Machine.{at8, at9, draw, give, idle}
+use Rattle.model.proofs.machine.Machine.{Draw, Give, Phase, Place, at1, at10, at11, at12, at13, at14, at15, at16, at17, at2, at3, at4, at5, at6, at7}
+use Rattle.model.proofs.machine.Machine.{at8, at9, draw, fetching, give, idle, inside, leaving, outside, phase, returning}
 use Rattle.model.proofs.progress.Measure.{drawing, due, giving, home}
 
 -- Branches on one test, arm by arm; and on two, past a number between.
@@ -92,27 +92,18 @@ module _ (draws pooled ends now now′ : Bool) where
   stable-le grown top (give p) = omega arith
 
 -- A task that may find the head changed before its next effect or answer: it is idle, draws its slot, or has one to give back.
-abbrev minds : Place → Bool
-minds idle = true
-minds at1 = false
-minds at2 = false
-minds at3 = false
-minds at4 = false
-minds at5 = false
-minds at6 = false
-minds at7 = false
-minds at8 = false
-minds at9 = false
-minds at10 = false
-minds at11 = true
-minds (draw p) = true
-minds (give p) = true
+abbrev minds : Phase → Bool
+minds outside = true
+minds inside = false
+minds leaving = true
+minds fetching = true
+minds returning = true
 
 abbrev pub heads : Place → ℕ
-heads p = cond (minds p) 1 0
+heads p = cond (minds (phase p)) 1 0
 
 pub heads-most : (p : Place) → heads p ≤ 1
-heads-most p = either (λ z. z ≤ 1) (minds p) (omega arith) (omega arith)
+heads-most p = either (λ z. z ≤ 1) (minds (phase p)) (omega arith) (omega arith)
 
 -- The head is changed (place 14): who had read it goes back, and owes 3 more.
 module _ (top top′ : Bool) where

@@ -1,18 +1,14 @@
 -- What holds of every queue that an accepted opening and a list of operations have made.
-use mathlib.Core.Bool.{Bool}
+use mathlib.Core.{Bool.Bool, Path._≡_}
 use mathlib.Core.List.{List, [], _∷_}
-use mathlib.Core.Path.{_≡_}
 use Prim.Native.Nat.{suc, ℕ}
 use Rattle.model.specs.Calls.{act, opened}
 use Rattle.model.specs.History.{Ledger, Request, final}
-use Rattle.model.specs.Refusals.{openRefusal}
-use Rattle.model.specs.Tables.{Queue}
+use Rattle.model.specs.{Refusals.openRefusal, Tables.Queue}
 use Rattle.model.specs.declared.Op.{Op}
-use Rattle.model.proofs.ledger.EveryOperation.{act-good}
-use Rattle.model.proofs.ledger.Matched.{Matched}
+use Rattle.model.proofs.ledger.{EveryOperation.act-good, Matched.Matched}
 use Rattle.model.proofs.ledger.Opened.{nobody, open-good, some-slots}
-use Rattle.model.proofs.unsound.Runs.{act-safe}
-use Rattle.model.proofs.unsound.Safe.{Safe}
+use Rattle.model.proofs.unsound.{Runs.act-safe, Safe.Safe}
 use Rattle.model.proofs.Never34.{open-safe}
 use Rattle.model.proofs.progress.Taken.{Roomy, act-roomy, open-roomy}
 

@@ -7,21 +7,18 @@ use lib.Dec.{eqb, ltb}
 use lib.ListN.{length}
 use borrow.Author.Tests.{eq-eqb, le-leb, leb-true, lt-ltb, ltb-true, ne-eqb, not-false}
 use Rattle.model.specs.Calls.{act, openAs, opened}
-use Rattle.model.specs.History.{Ledger}
-use Rattle.model.specs.Progress.{Busy}
+use Rattle.model.specs.{History.Ledger, Progress.Busy}
 use Rattle.model.specs.Refusals.{among, openRefusal, openRules, recordsFit, stepRefusal}
 use Rattle.model.specs.Sound.{rowTests, rowsFit}
 use Rattle.model.specs.Tables.{Queue, Tables, isPooled, recordAt}
-use Rattle.model.specs.declared.Op.{Op}
-use Rattle.model.specs.declared.Record.{Record}
+use Rattle.model.specs.declared.{Op.Op, Record.Record}
 use Rattle.model.proofs.tests.Rules.{_and_, cleared, passes, tests}
 use Rattle.model.proofs.tests.Truth.{and-of, and-true, or-first, or-right, or-second, split}
 use Rattle.model.proofs.laws.Sizes.{act-pooled, act-slots, act-tasks}
 use Rattle.model.proofs.laws.Lengths.{Lengths, SameLengths, act-lengths, open-lengths}
 use Rattle.model.proofs.bridge.Accepted.{Lies}
 use Rattle.model.proofs.bridge.Facts.{RowsFine, from1-true}
-use Rattle.model.proofs.ledger.Matched.{Matched}
-use Rattle.model.proofs.ledger.Opened.{flag}
+use Rattle.model.proofs.ledger.{Matched.Matched, Opened.flag}
 use Rattle.model.proofs.unsound.Safe.{Safe}
 use Rattle.model.proofs.unsound.StepSound.{own-sound, step-sound}
 

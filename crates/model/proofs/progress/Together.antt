@@ -19,12 +19,7 @@ use Rattle.model.proofs.invariant.Owners.{Owner, Intact}
 use Rattle.model.proofs.invariant.Rely.{Quiet, Turned}
 use Rattle.model.proofs.invariant.Shape.{Made}
 use Rattle.model.proofs.invariant.Tasks.{Grown, Live, Task, way}
-use Rattle.model.proofs.places.Effects.{noted-false}
-use Rattle.model.proofs.places.Place2.{place2}
-use Rattle.model.proofs.places.Place3.{place3}
-use Rattle.model.proofs.places.Place4.{place4}
-use Rattle.model.proofs.places.Place9.{place9}
-use Rattle.model.proofs.places.Shown.{Shown}
+use Rattle.model.proofs.places.{Effects.noted-false, Place2.place2, Place3.place3, Place4.place4, Place9.place9, Shown.Shown}
 use Rattle.model.proofs.progress.Falls.{Falls, empty-running, fall1, fall10-done, fall10-failed, fall11, fall12, fall13, fall14-done, fall14-failed}
 use Rattle.model.proofs.progress.Falls.{fall15, fall16, fall17-failed, fall2-failed, fall3, fall4-failed, fall5, fall6, fall7, fall8, fall9-done}
 use Rattle.model.proofs.progress.Falls.{fall9-failed, none-running, popped-running, pushed-running}

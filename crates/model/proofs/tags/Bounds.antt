@@ -6,12 +6,10 @@ use Prim.Native.Nat.{_+_, _<_, _≤_, suc, ℕ}
 use native.Mathlib.Omega.{arith}
 use lib.Dec.{eqb}
 use borrow.Author.Tests.{eq-eqb}
-use Rattle.word.specs.Anchor.{anchorOf}
-use Rattle.word.specs.Link.{linkOf}
+use Rattle.word.specs.{Anchor.anchorOf, Link.linkOf}
 use Rattle.model.specs.Tables.{atPlace, Tables, isPooled}
 use Rattle.model.specs.declared.Record.{Record}
-use Rattle.model.proofs.tests.ByPlace.{by-place}
-use Rattle.model.proofs.tests.Truth.{by-test}
+use Rattle.model.proofs.tests.{ByPlace.by-place, Truth.by-test}
 use Rattle.model.proofs.machine.Laws.{aimed-tag, relink-same}
 use Rattle.model.proofs.machine.Machine as M
 use Rattle.model.proofs.invariant.Tags.{Tags, cost, owes, share, weight}
@@ -19,8 +17,7 @@ use Rattle.model.proofs.bridge.Decoded.{RoomAt}
 use Rattle.model.proofs.bridge.Facts.{ControlFine, LinksFine, RecordFine}
 use Rattle.model.proofs.bridge.View.{anchorSeen, kindOf, linkAt, linkSeen, placeOf, recOf, view}
 use Rattle.model.proofs.bridge.Words.{same-link-word, same-word, towards-status}
-use Rattle.model.proofs.tags.AnchorTag.{Light}
-use Rattle.model.proofs.tags.LinkTag.{Tagged}
+use Rattle.model.proofs.tags.{AnchorTag.Light, LinkTag.Tagged}
 
 leave-touch : (g : M.Touch) (r : M.Rec) → M.leave g r .touch ≡ g
 leave-touch g r = by-test (λ (m : M.Move). m .touch ≡ g) (r .finishing) (λ e. refl) (λ e. refl)

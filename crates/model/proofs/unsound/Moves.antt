@@ -9,15 +9,11 @@ use borrow.Author.Tests.{leb-true}
 use Rattle.word.specs.Anchor.{anchorOf, packAnchor}
 use Rattle.word.specs.Link.{linkOf, spareOf}
 use Rattle.model.specs.Places.{Touch, clearMark, move, new4, nothing, row, setAnchor, setHead, setLink, setNext, sideOf, takeSlot}
-use Rattle.model.specs.Refusals.{leavesSound}
-use Rattle.model.specs.Route.{goes}
-use Rattle.model.specs.declared.Control.{Control}
-use Rattle.model.specs.declared.Record.{Record}
+use Rattle.model.specs.{Refusals.leavesSound, Route.goes}
+use Rattle.model.specs.declared.{Control.Control, Record.Record}
 use Rattle.model.proofs.tests.Truth.{by-test}
-use Rattle.model.proofs.bridge.ByMove.{by-move}
-use Rattle.model.proofs.bridge.View.{kindOf}
+use Rattle.model.proofs.bridge.{ByMove.by-move, View.kindOf, Touches.row-fine}
 use Rattle.model.proofs.unsound.Suits.{Suits, kind-pop, kind-push}
-use Rattle.model.proofs.bridge.Touches.{row-fine}
 use Rattle.model.proofs.bridge.Facts.{AnchorFine, RecordFine, anchor-fine}
 use Rattle.model.specs.Tables.{withLink, withNeighbour, withOwn, withSeen}
 
@@ -98,8 +94,8 @@ module _ (pooled : Bool) (c : Control) (r : Record) (w : ℕ) (h : RecordFine po
     finishing = e;
   }
 
-  pub move-keeps : r .place ≢ 0 → leavesSound (c .slots) (move c r w .touch) ≡ true → Keeps (c .slots) r (move c r w .task)
-  move-keeps busy = by-move c w (λ t r′. leavesSound (c .slots) t ≡ true → Keeps (c .slots) r r′) r busy (h .place) (record {
+  pub move-keeps : leavesSound (c .slots) (move c r w .touch) ≡ true → Keeps (c .slots) r (move c r w .task)
+  move-keeps = by-move c w (λ t r′. leavesSound (c .slots) t ≡ true → Keeps (c .slots) r r′) r (record {
     same = λ k. same;
     read = λ k. remembers (c .anchor) (r .finishing) (h .finishing) hc;
     found = λ e k. finds (linkOf w .slot) (hw e .1);
@@ -110,7 +106,7 @@ module _ (pooled : Bool) (c : Control) (r : Record) (w : ℕ) (h : RecordFine po
     ten = λ k. same;
     three = λ k. same;
     nine = λ k. same;
-    eleven = λ k. same;
+    eleven = λ e k. same;
     keeps = λ e k. owns (row r) w (row-fine pooled (c .slots) r h);
     head = λ e k. holds (c .head) hh;
     next = λ e k. finds w (hn e);
@@ -167,8 +163,8 @@ module _ (pooled : Bool) (c : Control) (r : Record) (w : ℕ) (h : RecordFine po
       (λ e. status-back _ _ _ _ (by-test (λ v. v ≤ 2) (eqb (sideOf r) 1) (λ e. omega arith) (λ e. omega arith)))
       (λ e. status-back _ _ _ _ (h .seen .status))
 
-  pub move-status : r .place ≢ 0 → StatusFine (move c r w .touch)
-  move-status busy = by-move c w (λ t _. StatusFine t) r busy (h .place) (record {
+  pub move-status : StatusFine (move c r w .touch)
+  move-status = by-move c w (λ t _. StatusFine t) r (record {
     same = tt;
     read = tt;
     found = λ e. tt;
@@ -179,7 +175,7 @@ module _ (pooled : Bool) (c : Control) (r : Record) (w : ℕ) (h : RecordFine po
     ten = status-back _ 0 _ _ (omega arith);
     three = tt;
     nine = tt;
-    eleven = tt;
+    eleven = λ e. tt;
     keeps = λ e. tt;
     head = λ e. tt;
     next = λ e. tt;

@@ -10,25 +10,19 @@ use borrow.Author.Tests.{eq-eqb, eqb-false, eqb-true, not-false}
 use Rattle.model.specs.Calls.{Acted, Done, act, actOn, back, finish, popStart, pushStart, putStart, step}
 use Rattle.model.specs.History.{Ledger, NeverUnsound, Request, final, run}
 use Rattle.model.specs.Places.{wordFound}
-use Rattle.model.specs.declared.Asked.{Asked}
+use Rattle.model.specs.declared.{Asked.Asked, Answer.Answer, Op.Op, Record.Record, TaskRecord.TaskRecord}
 use Rattle.model.specs.Refusals.{among, fits, late, namedPush, nothingAsked, pooledPush}
 use Rattle.model.specs.Refusals.{popRefusal, pushRefusal, putRefusal, startRefusal, stepRefusal, stepSound}
 use Rattle.model.specs.Sound.{controlSound, recordSound}
 use Rattle.model.specs.Tables.{Queue, Tables, asking, isPooled, recordAt, started, taskAt, unused}
-use Rattle.model.specs.declared.Answer.{Answer}
 use Rattle.model.specs.declared.Op.the-variants.{Pop, Push, Put, Step}
-use Rattle.model.specs.declared.Op.{Op}
 use Rattle.model.specs.declared.Outcome.the-variants.{Moved, Refused}
-use Rattle.model.specs.declared.Record.{Record}
-use Rattle.model.specs.declared.TaskRecord.{TaskRecord}
 use Rattle.model.proofs.tests.Truth.{by-test, decide-eq, not-both}
 use Rattle.model.proofs.lists.Store.{set-back}
 use Rattle.model.proofs.bridge.Accepted.{Lies, lies, pop-accepted, push-accepted, put-accepted, step-accepted}
-use Rattle.model.proofs.ledger.EveryOperation.{act-good}
-use Rattle.model.proofs.ledger.Matched.{Matched}
-use Rattle.model.proofs.unsound.Safe.{Safe}
+use Rattle.model.proofs.ledger.{EveryOperation.act-good, Matched.Matched}
+use Rattle.model.proofs.unsound.{Safe.Safe, StepSafe.step-safe}
 use Rattle.model.proofs.unsound.StartSafe.{early-room, pop-begins, push-begins, put-begins, start-safe}
-use Rattle.model.proofs.unsound.StepSafe.{step-safe}
 use Rattle.model.proofs.unsound.StepSound.{own-sound, step-sound}
 
 module _ (n : ℕ) (q : Queue) (l : Ledger) (g : Matched n q l) (f : Safe q) (t : ℕ) where

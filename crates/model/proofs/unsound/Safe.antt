@@ -1,7 +1,5 @@
 -- What holds between two operations besides the invariant, so that no test of soundness ever fails.
-use mathlib.Core.Bool.{true}
-use mathlib.Core.Logic.{_≢_}
-use mathlib.Core.Path.{_≡_}
+use mathlib.Core.{Bool.true, Logic._≢_, Path._≡_}
 use Prim.Native.Nat.{_+_, _<_, _≤_, ℕ}
 use Rattle.model.specs.Sound.{controlSound}
 use Rattle.model.specs.Tables.{Queue, isPooled, recordAt}

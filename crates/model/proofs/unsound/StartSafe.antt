@@ -11,8 +11,7 @@ use borrow.Author.Tests.{ltb-false}
 use Rattle.word.specs.Anchor.{anchorOf}
 use Rattle.model.specs.Refusals.{late}
 use Rattle.model.specs.Tables.{Queue, Tables, asking, isPooled, recordAt, started, tablesOf, taskAt, unused, withCall}
-use Rattle.model.specs.declared.Record.{Record}
-use Rattle.model.specs.declared.TaskRecord.{TaskRecord}
+use Rattle.model.specs.declared.{Record.Record, TaskRecord.TaskRecord}
 use Rattle.model.proofs.tests.Truth.{decide-eq, not-both}
 use Rattle.model.proofs.machine.Laws.{upd-other, upd-same}
 use Rattle.model.proofs.machine.Machine as M
@@ -24,9 +23,7 @@ use Rattle.model.proofs.bridge.Accepted.{Lies}
 use Rattle.model.proofs.bridge.Facts.{AnchorFine, RecordFine, control-fine}
 use Rattle.model.proofs.bridge.Operations.{put-back, task-of}
 use Rattle.model.proofs.bridge.View.{placeOf, recOf, stateOf, view}
-use Rattle.model.proofs.tags.AnchorTag.{start-bound}
-use Rattle.model.proofs.tags.HeadTag.{head-start}
-use Rattle.model.proofs.tags.Sum.{total}
+use Rattle.model.proofs.tags.{AnchorTag.start-bound, HeadTag.head-start, Sum.total}
 use Rattle.model.proofs.unsound.Safe.{Safe}
 
 zero-anchor : (slots : ℕ) → AnchorFine slots (anchorOf 0)
@@ -76,7 +73,7 @@ pub push-begins : (pooled : Bool) (slots side x y : ℕ) → side ≤ 1 → 1 �
 unfolding recOf
 push-begins pooled slots side x y hs some low = record {
   fine = started-fine pooled slots 0 side x y (omega arith) hs low;
-  extra = (λ e. absurd (not-both e refl), λ e z. omega arith, λ e. absurd (push-pop e));
+  extra = record { kept = (λ e. absurd (not-both e refl), λ e z. omega arith, λ e. absurd (push-pop e)); near = λ b. absurd (not-both b refl) };
   share = omega arith;
 }
 
@@ -84,13 +81,17 @@ pub pop-begins : (pooled : Bool) (slots side : ℕ) → side ≤ 1 → Begins po
 unfolding recOf
 pop-begins pooled slots side hs = record {
   fine = started-fine pooled slots 1 side 0 0 (omega arith) hs (omega arith);
-  extra = (λ e. absurd (not-both e refl), λ e. absurd (push-pop (sym e)), λ e. refl);
+  extra = record { kept = (λ e. absurd (not-both e refl), λ e. absurd (push-pop (sym e)), λ e. refl); near = λ b. absurd (not-both b refl) };
   share = omega arith;
 }
 
 pub put-begins : (pooled : Bool) (slots side y : ℕ) → pooled ≡ true → side ≤ 1 → Begins pooled slots (asking side y)
 unfolding recOf
-put-begins pooled slots side y p hs = record { fine = asking-fine pooled slots side y p hs; extra = refl; share = omega arith }
+put-begins pooled slots side y p hs = record {
+  fine = asking-fine pooled slots side y p hs;
+  extra = record { kept = refl; near = λ b. absurd (not-both b refl) };
+  share = omega arith;
+}
 
 -- Anchor's tag has room for the changes that the new call will owe.
 abbrev pub Room : Queue → ℕ → Record → Type 0

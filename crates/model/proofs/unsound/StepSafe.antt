@@ -8,36 +8,28 @@ use lib.Dec.{eqb}
 use lib.ListN.{getD, set}
 use lib.Seq.{getD-set-other, getD-set-same}
 use borrow.Author.Tests.{le-leb}
-use Rattle.model.specs.Calls.{finish}
-use Rattle.model.specs.History.{Ledger}
+use Rattle.model.specs.{Calls.finish, History.Ledger, Refusals.leavesSound}
 use Rattle.model.specs.Places.{Move, Touch, apply, clearMark, wordFound, move, nothing, setAnchor, setHead, setLink, setNext, takeSlot}
-use Rattle.model.specs.Refusals.{leavesSound}
 use Rattle.model.specs.Route.{counted, goes}
 use Rattle.model.specs.Sound.{controlSound, controlTests}
 use Rattle.model.specs.Tables.{atPlace, Queue, Tables, idle, isPooled, recordAt, taskAt, unused}
-use Rattle.model.specs.declared.Record.{Record}
-use Rattle.model.specs.declared.TaskRecord.{TaskRecord}
+use Rattle.model.specs.declared.{Record.Record, TaskRecord.TaskRecord}
 use Rattle.model.proofs.tests.Rules.{_and_, passes, tests}
 use Rattle.model.proofs.tests.Truth.{decide-eq}
-use Rattle.model.proofs.machine.Book.{Call}
+use Rattle.model.proofs.machine.{Book.Call, Machine.upd}
 use Rattle.model.proofs.machine.Laws.{upd-other, upd-same}
 use Rattle.model.proofs.machine.Machine as M
-use Rattle.model.proofs.machine.Machine.{upd}
-use Rattle.model.proofs.invariant.Fields.{Extra}
-use Rattle.model.proofs.invariant.Owners.{Owner}
+use Rattle.model.proofs.invariant.{Fields.Extra, Owners.Owner, Tasks.Task}
 use Rattle.model.proofs.invariant.Tags.{Tags, cost, share, weight}
-use Rattle.model.proofs.invariant.Tasks.{Task}
-use Rattle.model.proofs.bridge.Accepted.{Lies}
+use Rattle.model.proofs.bridge.{Accepted.Lies, Facts.RecordFine}
 use Rattle.model.proofs.bridge.Decoded.{next, seenMove}
-use Rattle.model.proofs.bridge.Facts.{RecordFine}
 use Rattle.model.proofs.bridge.Operations.{not-idle, state-is, step-seen-keeps, step-task, stepped, task-of}
 use Rattle.model.proofs.bridge.Stores.{touched-pooled, touched-slots, touched-tasks}
 use Rattle.model.proofs.bridge.View.{kindOf, placeOf, recOf, stateOf, view}
 use Rattle.model.proofs.ledger.Matched.{Matched}
 use Rattle.model.proofs.tags.AnchorTag.{Light, step-bound}
 use Rattle.model.proofs.tags.HeadTag.{Even, head-step}
-use Rattle.model.proofs.tags.LinkTag.{Tagged}
-use Rattle.model.proofs.tags.Sum.{total}
+use Rattle.model.proofs.tags.{LinkTag.Tagged, Sum.total}
 use Rattle.model.proofs.unsound.FieldsKept.{Extras, act-extra}
 use Rattle.model.proofs.unsound.Moves.{Keeps, goes-fine, move-keeps}
 use Rattle.model.proofs.unsound.Safe.{Safe}
@@ -94,7 +86,7 @@ module _ (n : ℕ) (q : Queue) (l : Ledger) (g : Matched n q l) (f : Safe q) (t 
   pub keeps : Keeps (G .control .slots) r (m .task)
   keeps = move-keeps (isPooled (G .control)) (G .control) r (wordFound G r) fine (control-is n q l g f t .anchor) (met-link n q l g f t z busy)
       (met-next n q l g f t z busy)
-      (g .links .head .0, g .links .head .1) busy (new-sound n q l g f t z busy)
+      (g .links .head .0, g .links .head .1) (new-sound n q l g f t z busy)
 
   -- The next place suits the kind and the queue: the invariant holds after the step.
   suit-of : (s : M.Shared) (o : ℕ → Owner) (c : Call) → Task (seenMove G r .rec .place) s o t (seenMove G r .rec) c → next r m ≢ 0 → next r m ≤ 17

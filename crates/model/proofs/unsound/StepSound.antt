@@ -25,21 +25,17 @@ use Rattle.model.proofs.invariant.Tags.{cost, share}
 use Rattle.model.proofs.invariant.Tasks.{Task, Three}
 use Rattle.model.proofs.bridge.Accepted.{Lies, Stepping}
 use Rattle.model.proofs.bridge.Decoded.{RoomAt, seenMove}
-use Rattle.model.proofs.bridge.EveryPlace.{step-seen}
+use Rattle.model.proofs.bridge.{EveryPlace.step-seen, Room.room-testing}
 use Rattle.model.proofs.bridge.Facts.{AnchorFine, ControlFine, RecordFine, control-fine}
 use Rattle.model.proofs.bridge.Operations.{step-seen-keeps, task-of}
-use Rattle.model.proofs.bridge.Room.{room-testing}
 use Rattle.model.proofs.bridge.Touches.{beyond, row-fine}
 use Rattle.model.proofs.bridge.View.{anchorSeen, linkAt, placeOf, recOf, stateOf, view}
 use Rattle.model.proofs.ledger.Matched.{Matched}
 use Rattle.model.proofs.tags.AnchorTag.{Light, light}
-use Rattle.model.proofs.tags.Bounds.{room-bounded}
+use Rattle.model.proofs.tags.{Bounds.room-bounded, Sum.total-one}
 use Rattle.model.proofs.tags.HeadTag.{Even, fair, head-room}
 use Rattle.model.proofs.tags.LinkTag.{Tagged, tags}
-use Rattle.model.proofs.tags.Sum.{total-one}
-use Rattle.model.proofs.unsound.AnchorFields.{touch-sound}
-use Rattle.model.proofs.unsound.Moves.{move-status}
-use Rattle.model.proofs.unsound.Safe.{Safe}
+use Rattle.model.proofs.unsound.{AnchorFields.touch-sound, Moves.move-status, Safe.Safe}
 use Rattle.model.proofs.unsound.Tests.{link-sound, record-sound, unstable}
 use Rattle.model.specs.Sides.{named, near}
 
@@ -127,7 +123,7 @@ module _ (n : ℕ) (q : Queue) (l : Ledger) (g : Matched n q l) (f : Safe q) (t 
     row3 : Says 3
     unfolding recOf row sideOf
     row3 y x = by-test (λ v. from1 (G .control .slots) v ≡ true) (eqb (r .kind) 0)
-        (λ e. real (r .own) (x .1 (rw e)) (h .own))
+        (λ e. real (r .own) (x .kept .1 (rw e)) (h .own))
         (λ e. let th : Three M.pop (anchorSeen (r .seen)) = subst (λ (b : Bool). Three (cond b M.push M.pop) (anchorSeen (r .seen))) e (y .1) in
         near-fine (r .side) (near-real (G .control .slots) (anchorOf (r .seen)) (h .seen) (th .1) (eqb (r .side) 1)))
 
@@ -139,7 +135,7 @@ module _ (n : ℕ) (q : Queue) (l : Ledger) (g : Matched n q l) (f : Safe q) (t 
 
     row11 : Says 11
     unfolding recOf row sideOf
-    row11 y x = near-fine (r .side) (subst (λ v. v ≢ 0) (tip-cond (eqb (r .side) 1)) (x .2))
+    row11 y x = near-fine (r .side) (subst (λ v. v ≢ 0) (tip-cond (eqb (r .side) 1)) (x .kept .2))
       where
         tip-cond : (d : Bool) → M.tip (anchorSeen (r .seen)) d ≡ cond d (anchorOf (r .seen) .right) (anchorOf (r .seen) .left)
         tip-cond false = refl
@@ -154,9 +150,9 @@ module _ (n : ℕ) (q : Queue) (l : Ledger) (g : Matched n q l) (f : Safe q) (t 
         (λ y x. refl)
         row5
         (λ y x. refl)
-        (λ y x. neighbour-fine (x .1))
+        (λ y x. neighbour-fine (x .near refl))
         (λ y x. refl)
-        (λ y x. neighbour-fine (x .1))
+        (λ y x. neighbour-fine (x .near refl))
         (λ y x. refl)
         row11
         (λ y x. refl)
@@ -210,7 +206,7 @@ module _ (n : ℕ) (q : Queue) (l : Ledger) (g : Matched n q l) (f : Safe q) (t 
 
     pub new-sound : leavesSound (G .control .slots) (m .touch) ≡ true
     new-sound = let a = step-seen-keeps q b (g .inv) (g .links) t stepping in
-        touch-sound G (m .touch) (a .owner) _ (a .whole) (move-status (isPooled (G .control)) (G .control) r (wordFound G r) h busy)
+        touch-sound G (m .touch) (a .owner) _ (a .whole) (move-status (isPooled (G .control)) (G .control) r (wordFound G r) h)
 
     pub step-sound : stepSound (G .control) r (wordFound G r) ≡ true
     unfolding stepSound

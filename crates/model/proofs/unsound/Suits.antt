@@ -6,13 +6,10 @@ use Prim.Native.Nat.{_≤_, ℕ}
 use native.Mathlib.Omega.{arith}
 use lib.Dec.{eqb}
 use borrow.Author.Tests.{eqb-false, eqb-true}
-use Rattle.model.proofs.tests.ByPlace.{by-place}
-use Rattle.model.proofs.tests.Truth.{not-both}
+use Rattle.model.proofs.tests.{ByPlace.by-place, Truth.not-both}
 use Rattle.model.proofs.machine.Book.{Call}
 use Rattle.model.proofs.machine.Machine.{Kind, Rec, Shared, pop, push}
-use Rattle.model.proofs.invariant.Fields.{Extra}
-use Rattle.model.proofs.invariant.Owners.{Owner}
-use Rattle.model.proofs.invariant.Tasks.{Task}
+use Rattle.model.proofs.invariant.{Fields.Extra, Owners.Owner, Tasks.Task}
 use Rattle.model.proofs.bridge.View.{kindOf, placeOf}
 
 pub record Suits (pooled : Bool) (k : Kind) (n : ℕ) : Type 0 where
@@ -49,13 +46,13 @@ module _ (s : Shared) (h : ℕ → Owner) (t : ℕ) (r : Rec) (c : Call) where
       (λ y x. low 8 (omega arith))
       (λ y x. low 9 (omega arith))
       (λ y x. low 10 (omega arith))
-      (λ y x. eleven (x .0))
+      (λ y x. eleven (x .kept .0))
       (λ y x. drawing 12 (omega arith) (omega arith) (y .0) (y .1 .kind))
       (λ y x. drawing 13 (omega arith) (omega arith) (y .0) (y .1 .kind))
       (λ y x. drawing 14 (omega arith) (omega arith) (y .0) (y .1 .kind))
-      (λ y x. giving 15 (omega arith) (y .0) (x .0))
-      (λ y x. giving 16 (omega arith) (y .0) (x .0))
-      (λ y x. giving 17 (omega arith) (y .0) (x .0))
+      (λ y x. giving 15 (omega arith) (y .0) (x .kept .0))
+      (λ y x. giving 16 (omega arith) (y .0) (x .kept .0))
+      (λ y x. giving 17 (omega arith) (y .0) (x .kept .0))
 
 -- The kind as a number.
 pub kind-pop : (k : ℕ) → k ≤ 1 → kindOf k ≡ pop → k ≡ 1

@@ -16,9 +16,7 @@ use Rattle.model.proofs.tests.Rules.{_and_, passes}
 use Rattle.model.proofs.tests.Truth.{agree, and-of, and-true, beq-of, or-cases, or-first, or-second, split}
 use Rattle.model.proofs.machine.Book.{Call}
 use Rattle.model.proofs.machine.Machine as M
-use Rattle.model.proofs.invariant.Fields.{Extra}
-use Rattle.model.proofs.invariant.Owners.{Owner}
-use Rattle.model.proofs.invariant.Tasks.{Task}
+use Rattle.model.proofs.invariant.{Fields.Extra, Owners.Owner, Tasks.Task}
 use Rattle.model.proofs.places.Owned.{push-pop}
 use Rattle.model.proofs.bridge.Facts.{AnchorFine, RecordFine}
 use Rattle.model.proofs.bridge.View.{kindOf, placeOf, recOf, statusOf}
@@ -117,23 +115,23 @@ module _ (pooled : Bool) (slots : ℕ) (r : Record) (h : RecordFine pooled slots
     placed : r .place ≢ 0 → Says (r .place)
     unfolding recOf
     placed b = by-place Says
-        (λ y x. (early 1 refl (y .0), own-trying (x .1) (x .2), refl))
-        (λ y x. (early 2 refl (y .0 .early), own-trying (x .1) (x .2), refl))
-        (λ y x. (early 3 refl (y .0 .early), own-trying (x .1) (x .2), refl))
-        (λ y x. (early 4 refl (y .0 .early), own-trying (x .1) (x .2), refl))
-        (λ y x. (late 5 refl (x .0) _ (y .status), own-trying (x .1) (x .2), refl))
-        (λ y x. (late 6 refl (x .0) _ (y .0 .status), own-trying (x .1) (x .2), refl))
-        (λ y x. (late 7 refl (x .0 .0) _ (y .0 .status), own-trying (x .0 .1) (x .0 .2), refl))
-        (λ y x. (late 8 refl (x .0 .0) _ (y .0 .status), own-trying (x .0 .1) (x .0 .2), refl))
-        (λ y x. (late 9 refl (x .0 .0) _ (y .0 .status), own-trying (x .0 .1) (x .0 .2), refl))
-        (λ y x. (late 10 refl (x .0) _ (y .0 .status), own-trying (x .1) (x .2), refl))
-        (λ y x. (early 11 refl (x .1), own-trying (λ e. absurd (push-pop (sym e ∙ x .0))) (λ e. x .3), refl))
-        (λ y x. (early 12 refl (y .1 .early), own-drawing x, refl))
-        (λ y x. (early 13 refl (y .1 .early), own-drawing x, topped (y .2 .0)))
-        (λ y x. (early 14 refl (y .1 .early), own-drawing x, topped (y .2 .0)))
-        (λ y x. (early 15 refl (x .1), own-giving (x .2), refl))
-        (λ y x. (early 16 refl (x .1), own-giving (x .2), refl))
-        (λ y x. (early 17 refl (x .1), own-giving (x .2), refl))
+        (λ y x. (early 1 refl (y .0), own-trying (x .kept .1) (x .kept .2), refl))
+        (λ y x. (early 2 refl (y .0 .early), own-trying (x .kept .1) (x .kept .2), refl))
+        (λ y x. (early 3 refl (y .0 .early), own-trying (x .kept .1) (x .kept .2), refl))
+        (λ y x. (early 4 refl (y .0 .early), own-trying (x .kept .1) (x .kept .2), refl))
+        (λ y x. (late 5 refl (x .kept .0) _ (y .status), own-trying (x .kept .1) (x .kept .2), refl))
+        (λ y x. (late 6 refl (x .kept .0) _ (y .0 .status), own-trying (x .kept .1) (x .kept .2), refl))
+        (λ y x. (late 7 refl (x .kept .0) _ (y .0 .status), own-trying (x .kept .1) (x .kept .2), refl))
+        (λ y x. (late 8 refl (x .kept .0) _ (y .0 .status), own-trying (x .kept .1) (x .kept .2), refl))
+        (λ y x. (late 9 refl (x .kept .0) _ (y .0 .status), own-trying (x .kept .1) (x .kept .2), refl))
+        (λ y x. (late 10 refl (x .kept .0) _ (y .0 .status), own-trying (x .kept .1) (x .kept .2), refl))
+        (λ y x. (early 11 refl (x .kept .1), own-trying (λ e. absurd (push-pop (sym e ∙ x .kept .0))) (λ e. x .kept .3), refl))
+        (λ y x. (early 12 refl (y .1 .early), own-drawing (x .kept), refl))
+        (λ y x. (early 13 refl (y .1 .early), own-drawing (x .kept), topped (y .2 .0)))
+        (λ y x. (early 14 refl (y .1 .early), own-drawing (x .kept), topped (y .2 .0)))
+        (λ y x. (early 15 refl (x .kept .1), own-giving (x .kept .2), refl))
+        (λ y x. (early 16 refl (x .kept .1), own-giving (x .kept .2), refl))
+        (λ y x. (early 17 refl (x .kept .1), own-giving (x .kept .2), refl))
         (r .place) b (h .place)
 
     pub record-sound : r .place ≢ 0 → Task (placeOf (r .place)) s o t (recOf r) c → Extra (placeOf (r .place)) (recOf r)

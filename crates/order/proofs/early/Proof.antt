@@ -1,5 +1,4 @@
-use mathlib.Core.Bool.{_&&_}
-use mathlib.Core.Path.{sym, ap, _∙_}
+use mathlib.Core.Path.{sym, _∙_}
 use borrow.Author.Tests.{not-true, not-false}
 use Rattle.order.proofs.Judged.{early-34, early-46, early-12, early-0}
 use borrow.Author.Needs.{needs}
@@ -16,19 +15,15 @@ returns-2 c =
 
 returns-3 : tie.Need-returns-3
 returns-3 c =
-    let sound = c .before .before .before .before in
-    let start = sound .before .before .before .before in
-    early-12 _ _ _ (sym (sound .before .control-sound .ensures) ∙ not-false _ (sound .if1 .left))
-    (sym (c .before .before .before .malformed .ensures) ∙ c .before .before .if2 .left)
-    (ap (λ b. b && start .args .enough) (sym (c .before .rows-fit .ensures)) ∙ not-true _ (c .if3 .taken))
+    let sound = c .before .before .before in
+    early-0 _ _ _ (sym (sound .before .control-sound .ensures) ∙ not-false _ (sound .if1 .left))
+    (sym (c .before .before .malformed .ensures) ∙ c .before .if2 .left) (c .if3 .taken)
 
 returns-4 : tie.Need-returns-4
 returns-4 c =
-    let sound = c .before .before .before .before in
-    let start = sound .before .before .before .before in
-    early-0 _ _ _ (sym (sound .before .control-sound .ensures) ∙ not-false _ (sound .if1 .left))
-    (sym (c .before .before .before .malformed .ensures) ∙ c .before .before .if2 .left)
-    (ap (λ b. b && start .args .enough) (sym (c .before .rows-fit .ensures)) ∙ not-false _ (c .if3 .left))
+    let sound = c .before .before .before in
+    early-12 _ _ _ (sym (sound .before .control-sound .ensures) ∙ not-false _ (sound .if1 .left))
+    (sym (c .before .before .malformed .ensures) ∙ c .before .if2 .left) (c .if3 .left)
 
 pub early-spec : {M : Type 1} → statement M
 early-spec =
@@ -38,6 +33,5 @@ early-spec =
     returns
     (λ c κs. search needs)
     returns-2
-    (λ c κs. search needs)
     returns-3
     returns-4)

@@ -1,14 +1,15 @@
-use mathlib.Core.Bool.{true}
+use mathlib.Core.Bool.{Bool, true, false, _&&_}
 use mathlib.Core.List.{List, []}
-use mathlib.Core.Path.{sym, ap, _∙_}
+use mathlib.Core.Path.{_≡_, refl, sym, ap, _∙_}
 use Prim.Native.Nat.{ℕ}
 use lib.ListN.{length}
 use borrow.Author.Tests.{not-true, not-false}
 use Rattle.model.specs.Tables.{Tables, tablesOf}
-use Rattle.model.specs.Sound.{rowsFit}
+use Rattle.model.specs.Sound.{controlSound, rowsFit}
 use Rattle.sound.specs.Lengths.{lengthsFit}
+use Rattle.order.specs.Refusals.{early}
 use Rattle.order.specs.Extents.{Extents}
-use Rattle.sheet_model.specs.Sheet.{Sheet}
+use Rattle.sheet_model.specs.Sheet.{Sheet, malformed}
 use Rattle.sheet_model.specs.Words.{linked}
 use Rattle.order.specs.Squares.{byteRow, crossed}
 use Rattle.sheet_model.specs.Verdict.{refused, sheet}
@@ -20,10 +21,14 @@ use borrow.Author.Needs.{needs}
 use Rattle.order.proofs.sheet.Statement.{statement}
 use Rattle.order.proofs.sheet.Tie as tie
 
+with-true : (b : Bool) → b && true ≡ b
+with-true true = refl
+with-true false = refl
+
 -- The sheet, the queue whatever its next rows, and the beginning.
 module _ (why : tie.After-early) where
   abbrev start : tie.Start
-  start = let lists = why .before .before .before .before in lists .before .before .before
+  start = let lists = why .before .before .before .before in lists .before .before .before .before
 
   abbrev asked : Sheet
   asked = record { listed = start .args .listed .now; rules = start .args .rules .now }
@@ -31,15 +36,21 @@ module _ (why : tie.After-early) where
   abbrev queue : List ℕ → Tables
   queue next = let a = start .args in tablesOf (a .c) (a .lefts .now) (a .rights .now) (a .labels .now) (a .marks .now) next
 
+  -- What was tried before the walk, in the model's terms.
+  tried : (next : List ℕ)
+      → (let c = start .args .c in why .early .result ≡ early (controlSound c) (malformed asked) (rowsFit false (c .slots) (queue next) && true))
+  unfolding lengthsFit rowsFit
+  tried next = why .early .ensures
+      ∙ ap (early (controlSound (start .args .c)) (malformed asked)) (why .before .rows-fit .ensures ∙ sym (with-true _))
+
 fine : (go : tie.Else1) (next : List ℕ) → Accepted (queue (go .before) next) (asked (go .before)) true
-unfolding lengthsFit rowsFit
-fine go next = accepted (queue (go .before) next) (asked (go .before)) true (sym (go .before .early .ensures) ∙ go .if1 .left)
+fine go next = accepted (queue (go .before) next) (asked (go .before)) true (sym (tried (go .before) next) ∙ go .if1 .left)
 
 returns : tie.Need-returns
-unfolding sheet lengthsFit rowsFit
+unfolding sheet
 returns c next =
     let why = c .before .before in
-    let e = why .early .ensures in
+    let e = tried why next in
     c .refused .ensures ∙ ap refused e ∙ judge-early (queue why next) (asked why) true (λ z. c .before .if1 .taken (e ∙ z))
 
 extents-requires : tie.Need-extents-requires
@@ -78,6 +89,7 @@ pub sheet-spec : {M : Type 1} → statement M
 sheet-spec =
     tie.close
     (tie.spec
+    (λ c κs. search needs)
     (λ c κs. search needs)
     (λ c κs. search needs)
     returns

@@ -1,4 +1,4 @@
-use mathlib.Core.Bool.{Bool, false}
+use mathlib.Core.Bool.{Bool, false, _&&_}
 use mathlib.Core.List.{List, []}
 use mathlib.Core.Path.{_≡_, sym, ap, subst, _∙_}
 use Prim.Native.Nat.{ℕ, _≤_}
@@ -7,12 +7,13 @@ use lib.Dec.{leb}
 use lib.ListN.{length, drop}
 use borrow.Author.Tests.{leb-true, not-true, not-false}
 use Rattle.model.specs.Tables.{Tables, tablesOf}
-use Rattle.model.specs.Sound.{rowsFit}
+use Rattle.model.specs.Sound.{controlSound, rowsFit}
 use Rattle.model.proofs.tests.Truth.{and-true}
 use Rattle.sound.specs.Lengths.{lengthsFit}
+use Rattle.order.specs.Refusals.{early}
 use Rattle.order.specs.Extents.{Extents}
 use Rattle.sheet_model.specs.declared.SheetReply.{SheetReply}
-use Rattle.sheet_model.specs.Sheet.{Sheet}
+use Rattle.sheet_model.specs.Sheet.{Sheet, malformed}
 use Rattle.sheet_model.specs.Words.{wordsOf}
 use Rattle.order.specs.Squares.{bitRow, crossed}
 use Rattle.sheet_model.specs.Verdict.{refused}
@@ -28,7 +29,7 @@ use Rattle.order.proofs.sheet_words.Tie as tie
 -- The sheet, the queue whatever its next rows, the lent words, and the beginning.
 module _ (why : tie.After-early) where
   abbrev start : tie.Start
-  start = let lists = why .before .before .before .before in lists .before .before .before .before
+  start = let lists = why .before .before .before .before in let first = lists .before .before .before .before in first .before
 
   abbrev asked : Sheet
   asked = record { listed = start .args .listed .now; rules = start .args .rules .now }
@@ -42,15 +43,20 @@ module _ (why : tie.After-early) where
   abbrev enough : Bool
   enough = leb 32 (length words)
 
+  -- What was tried before the walk, in the model's terms.
+  tried : (next : List ℕ)
+      → (let c = start .args .c in why .early .result ≡ early (controlSound c) (malformed asked) (rowsFit false (c .slots) (queue next) && enough))
+  unfolding lengthsFit rowsFit
+  tried next = why .early .ensures
+      ∙ ap (λ (b : Bool). early (controlSound (start .args .c)) (malformed asked) (b && enough)) (why .before .rows-fit .ensures)
+
 fine : (go : tie.Else1) (next : List ℕ) → Accepted (queue (go .before) next) (asked (go .before)) (enough (go .before))
-unfolding lengthsFit rowsFit
-fine go next = accepted (queue (go .before) next) (asked (go .before)) (enough (go .before)) (sym (go .before .early .ensures) ∙ go .if1 .left)
+fine go next = accepted (queue (go .before) next) (asked (go .before)) (enough (go .before)) (sym (tried (go .before) next) ∙ go .if1 .left)
 
 returns : tie.Need-returns
-unfolding lengthsFit rowsFit
 returns c next =
     let why = c .before .before in
-    let e = why .early .ensures in
+    let e = tried why next in
     printed-refused (queue why next) (asked why) (words why) (c .refused .result)
     (c .refused .ensures ∙ ap refused e ∙ judge-early (queue why next) (asked why) (enough why) (λ z. c .before .if1 .taken (e ∙ z)))
     (λ z. c .before .if1 .taken (sym (ap (λ (r : SheetReply). r .code) (c .refused .ensures)) ∙ z))
@@ -110,6 +116,7 @@ pub sheet-words-spec : {M : Type 1} → statement M
 sheet-words-spec =
     tie.close
     (tie.spec
+    (λ c κs. search needs)
     (λ c κs. search needs)
     (λ c κs. search needs)
     returns

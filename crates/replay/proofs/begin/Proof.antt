@@ -2,8 +2,7 @@
 use borrow.Author.Needs.{needs}
 use Rattle.rows.specs.Rows.{callOf, recordOf, recordsOf, upperOf, uppersOf}
 use Rattle.carry.specs.Page.{written}
-use Rattle.replay.specs.Trace.{fresh}
-use Rattle.replay.specs.Feed.{firstPage}
+use Rattle.replay.specs.{Trace.fresh, Feed.firstPage}
 use Rattle.replay.proofs.begin.Statement.{statement}
 use Rattle.replay.proofs.begin.Tie as tie
 

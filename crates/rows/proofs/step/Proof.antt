@@ -1,5 +1,5 @@
 -- Not admitted: the number alone. Admitted: the task has a record, and what its step may change is stored.
-use mathlib.Core.Path.{_≡_, refl, sym, _∙_}
+use mathlib.Core.Path.{_≡_, sym, _∙_}
 use Prim.Native.Nat.{_<_}
 use lib.ListN.{length}
 use Rattle.rows.proofs.OneStep.{fault, asked, refused, there, stepped}
@@ -17,8 +17,8 @@ module _ (told : tie.After-admit) where
       (a .args .marks .now) (a .args .next .now) (a .args .task)
   why =
       asked (a .args .control .now) (a .args .records .now) (a .args .lefts .now) (a .args .rights .now) (a .args .labels .now)
-      (a .args .marks .now) (a .args .next .now) (a .args .task) _ _ _
-      (told .before .control-of .ensures) refl (told .admit .ensures)
+      (a .args .marks .now) (a .args .next .now) (a .args .task) _ _
+      (told .before .control-of .ensures) (told .admit .ensures)
 
   known : told .admit .result ≡ 0 → a .args .task < length (a .args .records .now)
   known none =

@@ -12,14 +12,14 @@ returns c = let s = c .before in rw (sym (s .control-sound .ensures) ∙ not-tru
 returns-2 : tie.Need-returns-2
 unfolding refusalBefore
 returns-2 c =
-    let s = c .before .before .before .before in
-    rw (sym (s .before .control-sound .ensures) ∙ not-false _ (s .if1 .left), sym (c .before .before .rows-fit .ensures), c .if2 .taken) refl
+    let s = c .before .before in
+    rw (sym (s .before .control-sound .ensures) ∙ not-false _ (s .if1 .left), sym (c .before .tables-fit .ensures), c .if2 .taken) refl
 
 returns-3 : tie.Need-returns-3
 unfolding refusalBefore
 returns-3 c =
-    let s = c .before .before .before .before in
-    rw (sym (s .before .control-sound .ensures) ∙ not-false _ (s .if1 .left), sym (c .before .before .rows-fit .ensures), c .if2 .left) refl
+    let s = c .before .before in
+    rw (sym (s .before .control-sound .ensures) ∙ not-false _ (s .if1 .left), sym (c .before .tables-fit .ensures), c .if2 .left) refl
 
 pub unfit-tables-spec : {M : Type 1} → statement M
 unfit-tables-spec = tie.close (tie.spec (λ _ _. tt) returns (λ _ _. tt) returns-2 returns-3)

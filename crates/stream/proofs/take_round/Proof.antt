@@ -5,8 +5,7 @@ use mathlib.Core.List.{List}
 use native.Mathlib.Omega.{arith}
 use lib.ListN.{length, take}
 use lib.Seq.{slice, length-take-le, length-slice}
-use borrow.Author.Needs.{needs}
-use borrow.Author.Tests.{not-false}
+use borrow.Author.{Needs.needs, Tests.not-false}
 use Rattle.stream.proofs.Reading.{never, end-round, piece-round, none-read, some-read}
 use Rattle.stream.proofs.take_round.Statement.{statement}
 use Rattle.stream.proofs.take_round.Tie as tie

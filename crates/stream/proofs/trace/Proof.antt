@@ -5,8 +5,7 @@ use mathlib.Core.Bool.{true}
 use native.Mathlib.Omega.{arith}
 use lib.Dec.{leb}
 use lib.ListN.{length, replicate, length-replicate}
-use borrow.Author.Needs.{needs}
-use borrow.Author.Tests.{leb-true}
+use borrow.Author.{Needs.needs, Tests.leb-true}
 use Rattle.runfile.specs.Field.{longestField}
 use Rattle.carry.specs.Page.{fieldRoom}
 use Rattle.stream.proofs.trace.Statement.{statement}

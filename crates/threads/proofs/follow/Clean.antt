@@ -5,15 +5,12 @@ use Prim.Native.Nat.{ℕ, _<_, _≤_, _/_}
 use lib.Dec.{eqb}
 use lib.ListN.{length, getD}
 use borrow.Author.Tests.{eqb-true, eqb-false}
-use Rattle.model.specs.declared.TaskRecord.{TaskRecord}
-use Rattle.model.specs.declared.Outcome.{Outcome}
-use Rattle.model.specs.declared.Op.{Op}
+use Rattle.model.specs.declared.{TaskRecord.TaskRecord, Outcome.Outcome, Op.Op}
 use Rattle.model.specs.Tables.{Tables, Queue, taskAt, marked, withMark}
 use Rattle.model.specs.Calls.{act, back}
 use Rattle.model.proofs.tests.Truth.{split}
 use Rattle.model.proofs.bridge.Marks.{marked-same, marked-other}
-use Rattle.threads_model.specs.Instructions.{Hand, labels, marks, ends, Ticked, quiet, decided}
-use Rattle.threads_model.specs.Instructions.{written, tells}
+use Rattle.threads_model.specs.Instructions.{Hand, labels, marks, ends, Ticked, quiet, decided, written, tells}
 use Rattle.threads_model.specs.Crew.{Crew, withHand, owed}
 use Rattle.threads.specs.Promises.{recordOf, OwesLabel, OwesMark}
 use Rattle.threads.proofs.follow.Good as own

@@ -8,13 +8,9 @@ use lib.Dec.{eqb}
 use lib.ListN.{length, getD, set, length-set}
 use lib.Seq.{getD-set-same, getD-set-other}
 use borrow.Author.Tests.{eqb-true, eqb-false, eq-eqb}
-use Rattle.model.specs.declared.TaskRecord.{TaskRecord}
-use Rattle.model.specs.declared.Outcome.{Outcome}
-use Rattle.model.specs.declared.Op.{Op}
+use Rattle.model.specs.declared.{TaskRecord.TaskRecord, Outcome.Outcome, Op.Op}
 use Rattle.model.specs.Tables.{Tables, Queue, taskAt, recordAt, marked, unused}
-use Rattle.model.specs.Places.{row}
-use Rattle.model.specs.Lists.{All}
-use Rattle.model.specs.History.{Event}
+use Rattle.model.specs.{Places.row, Lists.All, History.Event}
 use Rattle.model.specs.Calls.{Acted, Done, act, back}
 use Rattle.model.specs.declared.Outcome.the-variants.{Refused}
 use Rattle.model.proofs.tests.Truth.{split}
@@ -25,11 +21,9 @@ use Rattle.threads_model.specs.Instructions.{Hand, free, begun, loaded, knows, 
 use Rattle.threads_model.specs.Instructions.{written, tells}
 use Rattle.threads_model.specs.Crew.{Crew, withHand, turnsOf, outcomesOf, owed}
 use Rattle.threads.specs.Promises.{recordOf, OwesLabel, OwesMark}
-use Rattle.threads.proofs.follow.Overlay.{overlay}
-use Rattle.threads.proofs.follow.Plans.{says}
+use Rattle.threads.proofs.follow.{Overlay.overlay, Plans.says, Good.Good}
 use Rattle.threads.proofs.lists.EarlyPush.{shown}
 use Rattle.threads.proofs.follow.Good as own
-use Rattle.threads.proofs.follow.Good.{Good}
 use Rattle.threads.proofs.follow.Relation.{Extra, Holds, Moment, Sim, Wrote, none, one}
 
 module _ (now : Moment) where

@@ -4,19 +4,13 @@ use mathlib.Core.Bool.{Bool, true, false, not}
 use mathlib.Core.List.{List}
 use Prim.Native.Nat.{ℕ, _<_, _≤_}
 use native.Mathlib.Omega.{arith}
-use lib.Dec.{eqb}
-use lib.ListN.{getD}
+use lib.{Dec.eqb, ListN.getD}
 use borrow.Author.Tests.{eqb-true, ltb-true, lt-ltb}
 use Rattle.word.specs.Anchor.{anchorOf}
-use Rattle.model.specs.declared.Record.{Record}
-use Rattle.model.specs.declared.TaskRecord.{TaskRecord}
-use Rattle.model.specs.declared.Outcome.{Outcome}
-use Rattle.model.specs.declared.Op.{Op}
+use Rattle.model.specs.declared.{Record.Record, TaskRecord.TaskRecord, Outcome.Outcome, Op.Op}
 use Rattle.model.specs.declared.Op.the-variants.{Push, Pop, Put, Step}
 use Rattle.model.specs.Tables.{Tables, taskAt, marked, withAnchor, started, asking}
-use Rattle.model.specs.Sides.{links}
-use Rattle.model.specs.Sound.{linkSound}
-use Rattle.model.specs.Refusals.{late}
+use Rattle.model.specs.{Sides.links, Sound.linkSound, Refusals.late}
 use Rattle.model.proofs.tests.Truth.{either, by-test, not-both}
 use Rattle.threads_model.specs.declared.PlannedTouch.{PlannedTouch}
 use Rattle.threads_model.specs.Split.{Touched, perform, plan}

@@ -8,17 +8,13 @@ use lib.ListN.{length, getD, set}
 use borrow.Author.Tests.{eqb-false}
 use Rattle.model.specs.declared.TaskRecord.{TaskRecord}
 use Rattle.model.specs.Tables.{Tables, Queue, taskAt, marked}
-use Rattle.model.specs.Sound.{linkSound}
-use Rattle.model.specs.Calls.{Acted}
+use Rattle.model.specs.{Sound.linkSound, Calls.Acted}
 use Rattle.model.proofs.invariant.Owners.{Owner, held}
-use Rattle.threads_model.specs.Split.{plan}
+use Rattle.threads_model.specs.{Split.plan, Crew.Crew}
 use Rattle.threads_model.specs.Instructions.{Hand, free, begun, loaded, knows, claims, looks, labels, marks, ends}
-use Rattle.threads_model.specs.Crew.{Crew}
 use Rattle.threads.specs.Promises.{recordOf, OwesLabel, OwesMark, Agrees}
-use Rattle.threads.proofs.follow.Overlay.{overlay}
-use Rattle.threads.proofs.follow.Starting.{namedOwn}
+use Rattle.threads.proofs.follow.{Overlay.overlay, Starting.namedOwn, Good.Good}
 use Rattle.threads.proofs.follow.Good as own
-use Rattle.threads.proofs.follow.Good.{Good}
 
 -- A push at place 1 with slot x.
 pub record Holds (r : TaskRecord) (x : ℕ) : Type 0 where

@@ -6,8 +6,7 @@ use Prim.Native.Nat.{ℕ}
 use lib.Dec.{eqb}
 use Rattle.model.specs.declared.Op.{Op}
 use Rattle.model.specs.Tables.{Queue, taskAt, marked, started}
-use Rattle.model.specs.Refusals.{late}
-use Rattle.model.specs.Calls.{act}
+use Rattle.model.specs.{Refusals.late, Calls.act}
 use Rattle.model.proofs.tests.Truth.{either, split, not-both}
 use Rattle.model.proofs.unsound.StartSafe.{Room}
 use Rattle.threads_model.specs.Turns.{take, finalTurns}

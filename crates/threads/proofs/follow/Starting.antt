@@ -4,15 +4,12 @@ use mathlib.Core.Bool.{true, false, not, cond}
 use mathlib.Core.List.{[], _∷_}
 use Prim.Native.Nat.{ℕ}
 use lib.Dec.{eqb}
-use Rattle.model.specs.declared.Record.{Record}
-use Rattle.model.specs.declared.TaskRecord.{TaskRecord}
+use Rattle.model.specs.declared.{Record.Record, TaskRecord.TaskRecord, Op.Op}
 use Rattle.model.specs.declared.Answer.the-variants.{Running}
 use Rattle.model.specs.declared.Outcome.the-variants.{Refused, Moved}
-use Rattle.model.specs.declared.Op.{Op}
 use Rattle.model.specs.declared.Op.the-variants.{Push, Pop, Put}
 use Rattle.model.specs.Tables.{Tables, marked, withMark, withMarks, withCall, started, asking}
-use Rattle.model.specs.Sound.{from1}
-use Rattle.model.specs.Refusals.{late}
+use Rattle.model.specs.{Sound.from1, Refusals.late}
 use Rattle.model.proofs.tests.Truth.{split}
 use Rattle.threads_model.specs.Starts.{names, pops, puts, ownRefusal, planStart, settleStart}
 use Rattle.threads_model.specs.Instructions.{Hand, claims, looks, labels, ends, Ticked, quiet, decided, startFirst, claimsMark, looksMark}

@@ -3,13 +3,9 @@ use mathlib.Core.Path.{_≡_, refl, ap, sym, subst, _∙_}
 use mathlib.Core.Bool.{Bool, true, false, not, cond}
 use Prim.Native.Nat.{ℕ, _<_, _/_}
 use native.Mathlib.Omega.{arith}
-use lib.Dec.{eqb}
-use lib.ListN.{length-set}
-use lib.Seq.{getD-set-other}
+use lib.{Dec.eqb, ListN.length-set, Seq.getD-set-other}
 use borrow.Author.Tests.{eqb-true, eq-eqb, not-false}
-use Rattle.model.specs.declared.Record.{Record}
-use Rattle.model.specs.declared.TaskRecord.{TaskRecord}
-use Rattle.model.specs.declared.Op.{Op}
+use Rattle.model.specs.declared.{Record.Record, TaskRecord.TaskRecord, Op.Op, Asked.Asked}
 use Rattle.model.specs.declared.Op.the-variants.{Push, Pop, Put}
 use Rattle.model.specs.Tables.{Tables, Queue, taskAt, recordAt, marked, withMark, withMarks, withCall, started, asking, taken}
 use Rattle.model.specs.Sound.{from1}
@@ -17,14 +13,12 @@ use Rattle.model.specs.Refusals.{among, late, namedPush, pooledPush, nothingAsk
 use Rattle.model.specs.Calls.{Acted, act, actOn, back, decide, pushStart, popStart, putStart}
 use Rattle.model.specs.declared.Outcome.the-variants.{Refused, Moved}
 use Rattle.model.specs.declared.Answer.the-variants.{Running}
-use Rattle.model.specs.declared.Asked.{Asked}
 use Rattle.model.proofs.tests.Rules.{cleared}
 use Rattle.model.proofs.tests.Truth.{split, by-test, not-both}
 use Rattle.model.proofs.bridge.Facts.{from1-true}
 use Rattle.threads_model.specs.Turns.{actEarly, take}
 use Rattle.threads_model.specs.Starts.{ownRules, ownRefusal, names, pops, puts}
-use Rattle.threads_model.specs.Instructions.{Hand, claims, looks, labels, ends, Ticked}
-use Rattle.threads_model.specs.Instructions.{startFirst, claimsMark, looksMark}
+use Rattle.threads_model.specs.Instructions.{Hand, claims, looks, labels, ends, Ticked, startFirst, claimsMark, looksMark}
 use Rattle.threads_model.specs.Crew.{Crew}
 use Rattle.threads.specs.Promises.{OwesLabel}
 use Rattle.threads.proofs.follow.Starting.{plainStart, namedOwn, first-pop, first-put, first-push, claims-is, looks-is}

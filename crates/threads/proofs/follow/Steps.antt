@@ -4,26 +4,21 @@ use mathlib.Core.Bool.{Bool, true, false, cond}
 use mathlib.Core.List.{List, [], _∷_}
 use Prim.Native.Nat.{ℕ, _<_, _≤_, _/_}
 use native.Mathlib.Omega.{arith}
-use lib.Dec.{eqb}
+use lib.{Dec.eqb, Seq.getD-set-other}
 use lib.ListN.{length, getD, length-set}
-use lib.Seq.{getD-set-other}
 use borrow.Author.Tests.{eqb-true}
-use Rattle.model.specs.declared.Control.{Control}
-use Rattle.model.specs.declared.TaskRecord.{TaskRecord}
+use Rattle.model.specs.declared.{Control.Control, TaskRecord.TaskRecord}
 use Rattle.model.specs.declared.Op.the-variants.{Step}
 use Rattle.model.specs.Tables.{Tables, Queue, taskAt, recordAt, marked, linked, withMark, withMarks, withHead, taken}
-use Rattle.model.specs.Places.{row}
-use Rattle.model.specs.Sides.{links}
-use Rattle.model.specs.Sound.{linkSound}
+use Rattle.model.specs.{Places.row, Sides.links, Sound.linkSound}
 use Rattle.word.specs.Link.{linkOf, packLink}
 use Rattle.model.specs.Calls.{Acted, act, back}
 use Rattle.model.proofs.tests.Truth.{by-test}
-use Rattle.model.proofs.bridge.Marks.{marked-other}
+use Rattle.model.proofs.bridge.{Marks.marked-other, Facts.from1-true}
 use Rattle.model.proofs.invariant.Owners.{Owner, held}
 use Rattle.threads_model.specs.Split.{plan, perform, settle, splitStep, Touched, Settled}
 use Rattle.threads_model.specs.declared.PlannedTouch.{PlannedTouch}
 use Rattle.threads.proofs.split.Within.{plans-within}
-use Rattle.model.proofs.bridge.Facts.{from1-true}
 use Rattle.threads_model.specs.Instructions.{Hand, loaded, knows, labels, ends, Ticked, quiet, decided}
 use Rattle.threads_model.specs.Instructions.{isAsRead, loadsOwn, putsOwn, stepFirst, clears}
 use Rattle.threads_model.specs.Crew.{Crew}

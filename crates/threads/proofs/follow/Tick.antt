@@ -8,8 +8,7 @@ use lib.Dec.{eqb}
 use lib.ListN.{length, getD, set, length-set}
 use lib.Seq.{getD-set-same, getD-set-other}
 use borrow.Author.Tests.{eqb-true, eqb-false}
-use Rattle.model.specs.declared.TaskRecord.{TaskRecord}
-use Rattle.model.specs.declared.Outcome.{Outcome}
+use Rattle.model.specs.declared.{TaskRecord.TaskRecord, Outcome.Outcome}
 use Rattle.model.specs.declared.Op.the-variants.{Push, Pop, Put, Step}
 use Rattle.model.specs.Tables.{Tables, Queue, taskAt, marked, withMark, withMarks, started}
 use Rattle.model.proofs.tests.Truth.{split, not-both}
@@ -18,10 +17,9 @@ use Rattle.threads_model.specs.Instructions.{Hand, free, begun, loaded, knows, 
 use Rattle.threads_model.specs.Instructions.{withLabels, tick, written, tells}
 use Rattle.threads_model.specs.Crew.{Crew, owed}
 use Rattle.threads.specs.Promises.{recordOf, OwesLabel, OwesMark}
-use Rattle.threads.proofs.follow.LateStays.{Late}
+use Rattle.threads.proofs.follow.{LateStays.Late, Good.Good}
 use Rattle.model.proofs.unsound.StartSafe.{Room}
 use Rattle.threads.proofs.follow.Good as own
-use Rattle.threads.proofs.follow.Good.{Good}
 use Rattle.threads.proofs.follow.Instruction as I
 use Rattle.threads.proofs.follow.Relation as R
 use Rattle.threads.proofs.follow.Relation.{Extra, Holds, Moment, Sim}

@@ -4,16 +4,12 @@ use mathlib.Core.Bool.{Bool, false, cond}
 use mathlib.Core.List.{List, [], _∷_, _++_}
 use Prim.Native.Nat.{ℕ}
 use lib.Dec.{eqb}
-use Rattle.model.specs.declared.Outcome.{Outcome}
+use Rattle.model.specs.declared.{Outcome.Outcome, Op.Op}
 use Rattle.model.specs.declared.Outcome.the-variants.{Refused}
-use Rattle.model.specs.declared.Op.{Op}
-use Rattle.model.specs.Tables.{Queue}
-use Rattle.model.specs.History.{Event}
-use Rattle.model.specs.Lists.{All}
+use Rattle.model.specs.{Tables.Queue, History.Event, Lists.All}
 use Rattle.model.proofs.tests.Truth.{split}
 use Rattle.threads_model.specs.Turns.{Turn, take, runTurns, finalTurns}
-use Rattle.threads_model.specs.Crew.{asTurns}
-use Rattle.threads_model.specs.Crew.{outcomesOf}
+use Rattle.threads_model.specs.Crew.{asTurns, outcomesOf}
 
 pub assoc : (a b c : List Outcome) → (a ++ b) ++ c ≡ a ++ (b ++ c)
 assoc [] b c = refl

@@ -8,17 +8,14 @@ use native.Mathlib.Omega.{arith}
 use lib.Dec.{eqb}
 use borrow.Author.Tests.{eqb-true, eq-eqb, ne-eqb, ltb-false}
 use Rattle.word.specs.Anchor.{anchorOf}
-use Rattle.model.specs.declared.Record.{Record}
-use Rattle.model.specs.declared.TaskRecord.{TaskRecord}
-use Rattle.model.specs.declared.Op.{Op}
+use Rattle.model.specs.declared.{Record.Record, TaskRecord.TaskRecord, Op.Op}
 use Rattle.model.specs.declared.Op.the-variants.{Push, Pop, Put, Step}
 use Rattle.model.specs.declared.Outcome.the-variants.{Refused}
 use Rattle.model.specs.Tables.{Tables, Queue, recordAt, started, taskAt, unused, withCall}
-use Rattle.model.specs.Sound.{controlSound}
+use Rattle.model.specs.{Sound.controlSound, History.Ledger}
 use Rattle.model.specs.Places.{move, wordFound}
 use Rattle.model.specs.Refusals.{among, late, popRefusal, pushRefusal, putRefusal, stepRefusal}
 use Rattle.model.specs.Calls.{Acted, Done, act, actOn, back, finish, popStart, pushStart, putStart, step}
-use Rattle.model.specs.History.{Ledger}
 use Rattle.model.proofs.tests.Truth.{by-test, decide-eq, not-both, split}
 use Rattle.model.proofs.lists.Store.{set-back}
 use Rattle.model.proofs.machine.Laws.{upd-other, upd-same}
@@ -26,16 +23,13 @@ use Rattle.model.proofs.machine.Machine as M
 use Rattle.model.proofs.machine.Machine.{upd}
 use Rattle.model.proofs.invariant.Tags.{cost, weight}
 use Rattle.model.proofs.bridge.Accepted.{Lies, pop-accepted, push-accepted, put-accepted, step-accepted}
-use Rattle.model.proofs.bridge.Decoded.{seenMove}
-use Rattle.model.proofs.bridge.Facts.{control-fine}
+use Rattle.model.proofs.bridge.{Decoded.seenMove, Facts.control-fine, Stores.touched-tasks}
 use Rattle.model.proofs.bridge.Operations.{put-back, state-is, task-of}
-use Rattle.model.proofs.bridge.Stores.{touched-tasks}
 use Rattle.model.proofs.bridge.View.{recOf, stateOf, view}
 use Rattle.model.proofs.ledger.Matched.{Matched}
 use Rattle.model.proofs.tags.AnchorTag.{Light, cost-small, unsettled-small}
 use Rattle.model.proofs.tags.Sum.{total, total-keep, total-le, total-upd}
-use Rattle.model.proofs.unsound.Safe.{Safe}
-use Rattle.model.proofs.unsound.StartSafe.{Room}
+use Rattle.model.proofs.unsound.{Safe.Safe, StartSafe.Room}
 use Rattle.model.proofs.unsound.StepSound.{lighter, seen, stepping}
 use Rattle.threads_model.specs.Turns.{actEarly, take}
 use Rattle.threads.proofs.lists.EarlyPush.{pushed, waited}

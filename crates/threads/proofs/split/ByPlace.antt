@@ -7,15 +7,12 @@ use lib.Dec.{eqb, leb}
 use lib.ListN.{getD}
 use borrow.Author.Tests.{eqb-true, eqb-false}
 use Rattle.word.specs.Anchor.{anchorOf}
-use Rattle.model.specs.declared.Control.{Control}
-use Rattle.model.specs.declared.Record.{Record}
+use Rattle.model.specs.declared.{Control.Control, Record.Record}
 use Rattle.model.specs.Tables.{Tables, isPooled, atPlace, withOwn}
 use Rattle.model.specs.Sound.{from1, anchorSound, linkSound}
-use Rattle.model.specs.Places.{row, noneLeft, raised, move}
-use Rattle.model.specs.Places.{at12, at13, at14, at15, at16, at17}
-use Rattle.model.specs.Refusals.{stepSound}
+use Rattle.model.specs.Places.{row, noneLeft, raised, move, at12, at13, at14, at15, at16, at17}
+use Rattle.model.specs.{Refusals.stepSound, Calls.finish}
 use Rattle.model.specs.Route.{route, pushRoute, popRoute}
-use Rattle.model.specs.Calls.{finish}
 use Rattle.model.proofs.tests.Truth.{split}
 use Rattle.places.specs.Arm.{stepAt}
 use Rattle.decide.proofs.Routes.{Quiet}

@@ -1,14 +1,12 @@
 -- The plan of a record that is refused, idle or sound.
 use mathlib.Core.Path.{_≡_, ap, sym, _∙_}
-use mathlib.Core.Bool.{true}
-use mathlib.Core.List.{[]}
+use mathlib.Core.{Bool.true, List.[]}
 use Prim.Native.Nat.{ℕ, _≤_}
 use lib.Dec.{eqb}
 use borrow.Author.Tests.{eq-eqb, ne-eqb}
 use Rattle.model.specs.declared.Record.{Record}
 use Rattle.model.specs.Tables.{tablesOf, atPlace, counting}
-use Rattle.model.specs.Sound.{recordSound}
-use Rattle.model.specs.Refusals.{recordRefusal}
+use Rattle.model.specs.{Sound.recordSound, Refusals.recordRefusal}
 use Rattle.engine.proofs.InParts.{placed, below-18}
 use Rattle.threads_model.specs.declared.PlannedTouch.{PlannedTouch}
 use Rattle.threads_model.specs.Split.{knowing, refuses, planned, plan}

@@ -2,19 +2,16 @@
 use mathlib.Core.Path.{_≡_, refl, ap, sym, _∙_}
 use mathlib.Core.Bool.{Bool, true, false, _&&_, not, cond}
 use Prim.Native.Nat.{ℕ, _+_}
-use lib.Dec.{eqb}
-use lib.ListN.{getD}
+use lib.{Dec.eqb, ListN.getD}
 use Rattle.word.specs.Anchor.{anchorOf}
 use Rattle.word.specs.Link.{linkOf, packLink}
-use Rattle.model.specs.declared.Control.{Control}
-use Rattle.model.specs.declared.Record.{Record}
+use Rattle.model.specs.declared.{Control.Control, Record.Record}
 use Rattle.model.specs.Tables.{Tables, atPlace, withSeen, withNeighbour, counting}
 use Rattle.model.specs.Sides.{links}
 use Rattle.model.specs.Kinds.{isPush, isPop}
 use Rattle.model.specs.Sound.{from1, anchorSound, linkSound}
-use Rattle.model.specs.Places.{Touch, nothing, setAnchor, Move, apply}
-use Rattle.model.specs.Places.{reading, row, linkSide, endSeen, new4, move}
-use Rattle.model.specs.Places.{at1, at2, at3, at4, at5, at6, at7, at9, at10}
+use Rattle.model.specs.Places.{Touch, nothing, setAnchor, Move, apply, reading, row, linkSide, endSeen, new4, move, at1, at2, at3, at4, at5, at6, at7}
+use Rattle.model.specs.Places.{at9, at10}
 use Rattle.model.specs.Refusals.{leavesSound, hasRoom, stepSound}
 use Rattle.model.specs.Route.{route, pushRoute, popRoute}
 use Rattle.model.specs.Calls.{Acted, decide, finish}

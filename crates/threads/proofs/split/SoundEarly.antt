@@ -7,14 +7,12 @@ use lib.Dec.{eqb, leb}
 use borrow.Author.Tests.{eq-eqb, ne-eqb}
 use Rattle.word.specs.Anchor.{anchorOf, packAnchor}
 use Rattle.word.specs.Link.{linkOf}
-use Rattle.model.specs.declared.Control.{Control}
-use Rattle.model.specs.declared.Record.{Record}
+use Rattle.model.specs.declared.{Control.Control, Record.Record}
 use Rattle.model.specs.Tables.{atPlace, withSeen, withNeighbour, withLink}
 use Rattle.model.specs.Kinds.{isPush, isPop}
 use Rattle.model.specs.Sides.{pushing, isEmpty, facing, far}
 use Rattle.model.specs.Sound.{from1, anchorSound, linkSound, recordSound}
-use Rattle.model.specs.Places.{Move, reading, sideOf, endSeen, new4}
-use Rattle.model.specs.Places.{at1, at2, at3, at4, at5, at6, at7, at9, at10}
+use Rattle.model.specs.Places.{Move, reading, sideOf, endSeen, new4, at1, at2, at3, at4, at5, at6, at7, at9, at10}
 use Rattle.model.specs.Route.{route, onward, goes, pushRoute, popRoute}
 use Rattle.model.specs.Refusals.{leavesSound}
 use Rattle.model.proofs.tests.Truth.{either, by-test, and-of, or-first}

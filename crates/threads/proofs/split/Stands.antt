@@ -8,11 +8,10 @@ use borrow.Author.Tests.{eqb-true}
 use Rattle.word.specs.Anchor.{anchorOf}
 use Rattle.model.specs.declared.TaskRecord.{TaskRecord}
 use Rattle.model.specs.Tables.{Tables, isPooled}
-use Rattle.model.proofs.tests.Rules.{tests}
+use Rattle.model.proofs.tests.{Rules.tests, Truth.split}
 use Rattle.model.specs.Sound.{anchorSound, controlTests, controlSound}
 use Rattle.model.specs.Refusals.{admission, alone, fits, recordRefusal}
 use Rattle.model.specs.Calls.{stepLent}
-use Rattle.model.proofs.tests.Truth.{split}
 use Rattle.engine.specs.MoveOn.{moveOn}
 use Rattle.engine.proofs.InParts.{admitted, placed, below-18}
 use Rattle.threads_model.specs.Split.{perform, plan, settle, splitStep}

@@ -6,8 +6,7 @@ use lib.Dec.{eqb}
 use borrow.Author.Tests.{eq-eqb}
 use Rattle.word.specs.Anchor.{anchorOf, packAnchor}
 use Rattle.word.specs.Link.{linkOf, packLink}
-use Rattle.model.specs.declared.Control.{Control}
-use Rattle.model.specs.declared.Record.{Record}
+use Rattle.model.specs.declared.{Control.Control, Record.Record}
 use Rattle.model.specs.Tables.{isPooled, atPlace, withSeen, withOwn, withNeighbour}
 use Rattle.model.specs.Sides.{facing}
 use Rattle.model.specs.Kinds.{isPush, isPop}

@@ -10,9 +10,8 @@ use Rattle.word.specs.Link.{linkOf, spareOf}
 use Rattle.model.specs.Sides.{far, facing, pushing}
 use Rattle.decide.specs.Ending.{mayChange}
 use Rattle.model.specs.declared.Record.{Record}
-use Rattle.model.specs.Tables.{atPlace}
+use Rattle.model.specs.{Tables.atPlace, Refusals.recordRefusal}
 use Rattle.model.specs.Sound.{from1, linkSound, recordTests, recordSound}
-use Rattle.model.specs.Refusals.{recordRefusal}
 use Rattle.model.proofs.tests.Rules.{cleared, tests}
 use Rattle.model.proofs.tests.Truth.{split, either, by-test, and-true, and-of, not-both}
 use Rattle.threads_model.specs.declared.PlannedTouch.{PlannedTouch}

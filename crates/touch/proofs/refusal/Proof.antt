@@ -4,8 +4,7 @@ use native.Mathlib.Omega.{arith}
 use lib.Dec.{eqb}
 use Rattle.model.specs.Refusals.{recordRefusal}
 use Rattle.rows.specs.Rows.{callOf}
-use Rattle.sound.proofs.Early.{early}
-use Rattle.sound.proofs.Late.{late}
+use Rattle.sound.proofs.{Early.early, Late.late}
 use Rattle.rows.proofs.InItsRow.{no-call, unsound, passes}
 use borrow.Author.Needs.{needs}
 use Rattle.touch.proofs.refusal.Statement.{statement}

@@ -3,8 +3,7 @@ use mathlib.Core.Path.{_≡_, refl, _∙_}
 use Prim.Native.Nat.{_-_, _≤_}
 use native.Mathlib.Omega.{arith}
 use lib.ListN.{length}
-use borrow.Author.Needs.{needs}
-use borrow.Author.Tests.{leb-false}
+use borrow.Author.{Needs.needs, Tests.leb-false}
 use Rattle.model.proofs.tests.Truth.{or-false}
 use Rattle.verdict.proofs.read_all.Statement.{statement}
 use Rattle.verdict.proofs.read_all.Tie as tie

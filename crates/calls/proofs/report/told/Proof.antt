@@ -14,7 +14,7 @@ use Rattle.calls.proofs.report.told.Tie as tie
 
 -- What the call was given, where the first two rules have been tried.
 abbrev start : tie.After-table-refusal → tie.Start
-start r = let lists = r .before .before .before in lists .before .before .before .before
+start r = let lists = r .before .before .before in lists .before .before .before
 
 abbrev tables : tie.After-table-refusal → Tables
 tables r = let a = start r .args in tablesOf (a .c) (a .lefts .now) (a .rights .now) (a .labels .now) (a .marks .now) (a .next .now)

@@ -3,8 +3,7 @@ use mathlib.Core.Path.{_≡_, refl, _∙_}
 use Prim.Native.Nat.{_+_, _-_, _*_, _<_, _≤_}
 use native.Mathlib.Omega.{arith}
 use borrow.Author.Needs.{needs}
-use lib.ListN.{length}
-use lib.Seq.{slice}
+use lib.{ListN.length, Seq.slice}
 use Rattle.carry.specs.Run.{eachOf}
 use Rattle.carry.specs.Page.{pageOf, operates}
 use Rattle.carry.proofs.Pages.{each-end, each-more}

@@ -3,8 +3,7 @@ use mathlib.Core.Path.{_≡_, ap, sym, _∙_}
 use mathlib.Core.List.{List, []}
 use Prim.Native.Nat.{ℕ, _<_}
 use lib.ListN.{getD}
-use borrow.Author.Needs.{needs}
-use borrow.Author.Tests.{ne-eqb}
+use borrow.Author.{Needs.needs, Tests.ne-eqb}
 use Rattle.model.specs.Route.{route, pushRoute, popRoute}
 use Rattle.decide.specs.Constants.{routeApart}
 use Rattle.decide.proofs.Table.{at, table}

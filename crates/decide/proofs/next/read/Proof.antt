@@ -1,8 +1,7 @@
 -- A row of the constant computes to the branches of place 1 in the model's route.
 use mathlib.Core.Path.{ap, sym, _∙_}
 use Prim.Native.Nat.{ℕ}
-use borrow.Author.Needs.{needs}
-use borrow.Author.Tests.{ne-eqb}
+use borrow.Author.{Needs.needs, Tests.ne-eqb}
 use Rattle.model.specs.Route.{route, pushRoute, popRoute}
 use Rattle.decide.proofs.Table.{at}
 use Rattle.decide.proofs.next.read.Statement.{statement}

@@ -5,9 +5,7 @@ use Prim.Native.Nat.{ℕ}
 use lib.Dec.{eqb}
 use Rattle.word.specs.declared.Link.{Link}
 use Rattle.word.specs.Link.{linkOf}
-use Rattle.model.specs.declared.Control.{Control}
-use Rattle.model.specs.declared.Record.{Record}
-use Rattle.model.specs.declared.Transition.{Transition}
+use Rattle.model.specs.declared.{Control.Control, Record.Record, Transition.Transition}
 use Rattle.decide.specs.Ending.{headRead, settled, noEntry}
 use Rattle.decide.proofs.step.reads_head.Statement.{statement}
 use Rattle.decide.proofs.step.reads_head.Tie as tie

@@ -30,7 +30,7 @@ use Rattle.model.specs.declared.Control.{Control}
 use Rattle.model.specs.declared.TaskRecord.{TaskRecord}
 use Rattle.model.specs.declared.Outcome.{Outcome}
 use Rattle.deque.proofs.Walk.{kept}
-use Rattle.deque.proofs.Engine.{Five, Lengths, slices, returned}
+use Rattle.deque.proofs.Engine.{Five, KeepLengths, slices, returned}
 use Rattle.model.proofs.Control as K
 use Rattle.model.proofs.TaskRecord as T
 use Rattle.model.proofs.Outcome as E
@@ -82,7 +82,7 @@ module _ {M : Type 1} (𝓤 : URA M) (H : Heap 𝓤) (A : Atoms 𝓤) (W : Given
 
   -- out of the function, at what is lent then holds
   pub exits : (r′ : Outcome) (w : Val) (z : Control) (zr : List TaskRecord) (ls : Five (List ℕ))
-      → Said (xc .now) (xr .now) task xs r′ z zr ls → length zr ≡ n → Lengths xs ls → Is E.the-row r′ (w ∷ [])
+      → Said (xc .now) (xr .now) task xs r′ z zr ls → length zr ≡ n → KeepLengths xs ls → Is E.the-row r′ (w ∷ [])
       → ent 𝓤 (⋆ 𝓤 H A (leaving z zr ls)) (Post w)
   exits r′ w z zr ls e e0 eqs g =
       qed W (leaving z zr ls) ∵

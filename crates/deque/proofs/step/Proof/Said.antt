@@ -19,12 +19,13 @@ use Rattle.model.specs.Tables.{Tables, Queue, taskAt, unused}
 use Rattle.model.specs.Sound.{rowsFit}
 use Rattle.model.specs.Refusals.{among}
 use Rattle.model.specs.Calls.{Done, back, act, actOn}
-use Rattle.sound.specs.Lengths.{lengthsFit}
+use Rattle.sound.specs.declared.Lengths.{Lengths}
+use Rattle.sound.specs.Lengths.{lengthsOf, lengthsFit}
 use Rattle.engine.specs.MoveOn.{moveOn}
 use Rattle.engine.proofs.InParts.{turned-away, admitted, task-there}
 use Rattle.deque.proofs.Walk.{fails}
 use Rattle.deque.proofs.Admission.{reason}
-use Rattle.deque.proofs.Engine.{Five, lengths, tabled, unwritten, Leaves}
+use Rattle.deque.proofs.Engine.{Five, tabled, unwritten, Leaves}
 
 -- The test `why != 0`.
 pub nonzero : (why : ℕ) → T (not (eqb why 0)) → why ≡ 0 → ⊥
@@ -43,9 +44,12 @@ module _ (c : Control) (rs : List TaskRecord) (task : ℕ) (xs : Five (RefT (Lis
   abbrev pub r : TaskRecord
   r = taskAt queue task
 
-  -- Why the step is not admitted, or 0.
+  -- The lengths, and why the step is not admitted, or 0.
+  abbrev pub sizes : Lengths
+  sizes = lengthsOf entry (length rs)
+
   abbrev pub fault : ℕ
-  fault = reason c (length rs) task (lengths xs)
+  fault = reason c task sizes
 
   abbrev pub Said : Outcome → Control → List TaskRecord → Five (List ℕ) → Type 0
   Said r′ z zr ls = _≡_ {A = Done} (record { queue = record { tables = tabled z ls; records = zr }; outcome = r′ }) (act queue task Step)

@@ -41,11 +41,12 @@ use Rattle.model.specs.declared.Control.{Control}
 use Rattle.model.specs.declared.TaskRecord.{TaskRecord}
 use Rattle.model.specs.declared.Outcome.{Outcome}
 use Rattle.model.specs.Tables.{unused}
+use Rattle.sound.specs.declared.Lengths.{Lengths}
 use Rattle.engine.specs.MoveOn.{moveOn}
 use Rattle.deque.proofs.Walk.{control-value, record-value, slice-value, kept, var, part, lets, receive, valued}
 use Rattle.deque.proofs.Walk.{fits-scaled, gives-up}
-use Rattle.deque.proofs.Admission.{Admit, Refuse, admits, refuses}
-use Rattle.deque.proofs.Engine.{Five, lengths, unwritten, Move, slices, moves}
+use Rattle.deque.proofs.Admission.{Admit, Refuse, lengths-are, admits, refuses}
+use Rattle.deque.proofs.Engine.{Five, unwritten, Move, slices, moves}
 use Rattle.deque.proofs.Stored.{control-of, task-of, outcome-of}
 use Rattle.deque.proofs.Frame.{env-of, full, bare, allocates, frees-all}
 use Rattle.model.proofs.Control as K
@@ -56,6 +57,8 @@ use Rattle.model.proofs.Outcome as E
 use Rattle.model.proofs.Outcome.Laws as E′
 use Rattle.rows.proofs.value.Stepped as N
 use Rattle.rows.proofs.value.Stepped.Laws as N′
+use Rattle.sound.proofs.Lengths as L
+use Rattle.sound.proofs.Lengths.Laws as L′
 use Rattle.sound.proofs.admission.admit.Symbol.{name as #sound·admission·admit}
 use Rattle.engine.proofs.refuse.Symbol.{name as #engine·refuse}
 use Rattle.rows.proofs.value.move_on.Symbol.{name as #rows·value·move-on}
@@ -111,6 +114,9 @@ module _ {M : Type 1} (𝓤 : URA M) (H : Heap 𝓤) (A : Atoms 𝓤) (W : Given
   abbrev r : TaskRecord
   r = said.r c rs task xs
 
+  abbrev sizes : Lengths
+  sizes = said.sizes c rs task xs
+
   abbrev fault : ℕ
   fault = said.fault c rs task xs
 
@@ -146,8 +152,8 @@ module _ {M : Type 1} (𝓤 : URA M) (H : Heap 𝓤) (A : Atoms 𝓤) (W : Given
           (init ! 14 refl (tt, (tt, (record { fits = room4 .0 }, tt)))) $
           pass1 ! (init ! 16 refl (tt, (tt, (record { fits = room5 .0 }, tt)))) $ pass0 ! $
           -- the control is opened
-          move ! (65 ∷ []) $ fsplit ! $ fsplit3 ! $ drop ! $
-          move ! (67 ∷ []) $ split ! $
+          move ! (67 ∷ []) $ fsplit ! $ fsplit3 ! $ drop ! $
+          move ! (69 ∷ []) $ split ! $
           move ! (2 ∷ 3 ∷ 0 ∷ []) $
           opens ! tt K.the-row {h = c} (xc .ptr .0) (xc .ptr .1)
           (λ vK. spelt ! K.the-row (Is K.the-row) (shows 𝓤 H A K.the-row) (LL.vals K.the-type K′.the-laws)
@@ -155,24 +161,25 @@ module _ {M : Type 1} (𝓤 : URA M) (H : Heap 𝓤) (A : Atoms 𝓤) (W : Given
           (xc .ptr .0) (xc .ptr .1) $
           move ! (1 ∷ []) $ facts ! K.the-row (Is K.the-row) (shows 𝓤 H A K.the-row) c (control-value c ∷ []) (λ gc.
           -- [cellc; oborc; obsc; authc; toks; rest; local i at position 6 + 2 i]
-          lets ! (of-opd ! (part ! 10 1 refl refl refl)) (init ! 24 refl (tt, record { fits = room .0 })) $
           lets ! (of-opd ! (load ! (from ! (hop ! (look ! 8 refl) (stop !))) (look-raw ! 0 refl)))
-          (init ! 26 refl (LL.lawful K.the-type K′.the-laws 𝓤 H A W .typed c _ gc .0)) $
-          lets ! (of-opd ! (part ! 14 1 refl refl refl)) (init ! 36 refl (tt, record { fits = room1 .0 })) $
-          lets ! (of-opd ! (part ! 16 1 refl refl refl)) (init ! 38 refl (tt, record { fits = room2 .0 })) $
-          lets ! (of-opd ! (part ! 18 1 refl refl refl)) (init ! 40 refl (tt, record { fits = room3 .0 })) $
-          lets ! (of-opd ! (part ! 20 1 refl refl refl)) (init ! 42 refl (tt, record { fits = room4 .0 })) $
-          lets ! (of-opd ! (part ! 22 1 refl refl refl)) (init ! 44 refl (tt, record { fits = room5 .0 })) $
+          (init ! 24 refl (LL.lawful K.the-type K′.the-laws 𝓤 H A W .typed c _ gc .0)) $
+          lets ! (of-opd ! (part ! 10 1 refl refl refl)) (init ! 36 refl (tt, record { fits = room .0 })) $
+          lets ! (of-opd ! (part ! 14 1 refl refl refl)) (init ! 38 refl (tt, record { fits = room1 .0 })) $
+          lets ! (of-opd ! (part ! 16 1 refl refl refl)) (init ! 40 refl (tt, record { fits = room2 .0 })) $
+          lets ! (of-opd ! (part ! 18 1 refl refl refl)) (init ! 42 refl (tt, record { fits = room3 .0 })) $
+          lets ! (of-opd ! (part ! 20 1 refl refl refl)) (init ! 44 refl (tt, record { fits = room4 .0 })) $
+          lets ! (of-opd ! (part ! 22 1 refl refl refl)) (init ! 46 refl (tt, record { fits = room5 .0 })) $
+          (let sized = lengths-are sizes (room .0, room1 .0, room2 .0, room3 .0, room4 .0, room5 .0) in
+          lets ! (agg ! (and-then ! (var ! 36 refl) (and-then ! (var ! 38 refl) (and-then ! (var ! 40 refl) (and-then ! (var ! 42 refl)
+          (and-then ! (var ! 44 refl) (and-then ! (var ! 46 refl) (no-more !))))))))
+          (init ! 26 refl (LL.lawful L.the-type L′.the-laws 𝓤 H A W .typed sizes _ sized .0)) $
           -- whether the step is admitted
-          admits ! at-mem run c n task (lengths xs) fm known-admit gc (room .0) task-fits
-          (room1 .0, room2 .0, room3 .0, room4 .0, room5 .0)
-          (and-then ! (var ! 27 refl) (and-then ! (var ! 25 refl)
-          (and-then ! (var ! 13 refl) (and-then ! (var ! 37 refl)
-          (and-then ! (var ! 39 refl) (and-then ! (var ! 41 refl) (and-then ! (var ! 43 refl) (and-then ! (var ! 45 refl) (no-more !)))))))))
+          admits ! at-mem run c task sizes fm known-admit gc task-fits sized
+          (and-then ! (var ! 25 refl) (and-then ! (var ! 13 refl) (and-then ! (var ! 27 refl) (no-more !))))
           (λ w-why why e-why is-why.
           receive ! 28 refl (uint-lawful 𝓤 H A W w32 .typed why _ is-why .0) (ap only (is-why .0)) $
-          lets ! (bin ! (var ! 28 refl) (lit ! tt) tt) (init ! 46 refl (tt, tt)) $
-          first ! $ branches ! (var ! 46 refl)
+          lets ! (bin ! (var ! 28 refl) (lit ! tt) tt) (init ! 48 refl (tt, tt)) $
+          first ! $ branches ! (var ! 48 refl)
           (λ away.
           -- it is not: the number is answered
           refuses ! at-mem run why fm known-refuse (is-why .1) (and-then ! (var ! 29 refl) (no-more !)) (λ w o e-o is-o.
@@ -182,7 +189,7 @@ module _ {M : Type 1} (𝓤 : URA M) (H : Heap 𝓤) (A : Atoms 𝓤) (W : Given
           -- the locals are freed, and the tables given up
           returns-within ! Post refl (look ! 5 refl) $
           frees-all ! 5 (full _ ∷ full _ ∷ full _ ∷ full _ ∷ full _ ∷ full _ ∷ full _ ∷ full _ ∷ full _ ∷ full _ ∷ full _ ∷ full _ ∷ bare ∷ bare
-          ∷ bare ∷ full _ ∷ full _ ∷ full _ ∷ full _ ∷ full _ ∷ full _ ∷ bare ∷ bare ∷ bare ∷ bare ∷ bare ∷ bare ∷ bare ∷ bare ∷ bare ∷ bare
+          ∷ bare ∷ full _ ∷ full _ ∷ full _ ∷ full _ ∷ full _ ∷ full _ ∷ full _ ∷ bare ∷ bare ∷ bare ∷ bare ∷ bare ∷ bare ∷ bare ∷ bare ∷ bare ∷ bare
           ∷ bare ∷ []) refl $
           move ! (0 ∷ 1 ∷ []) $ feqI ! (List Val) (pc ∷ []) (pc ∷ []) refl $ fjoin3 ! $
           move ! (2 ∷ []) $ split ! $ move ! (4 ∷ []) $ fsplit ! $ move ! (1 ∷ []) $ fsplit ! $ drop ! $
@@ -198,7 +205,7 @@ module _ {M : Type 1} (𝓤 : URA M) (H : Heap 𝓤) (A : Atoms 𝓤) (W : Given
           (λ let-in.
           -- the records are opened, and the task's record is taken out
           skips ! $
-          exec ! C Λ (env-of (code.function .locals) bs) body.t-11 (atRet (env-of (code.function .locals) bs) Post) $
+          exec ! C Λ (env-of (code.function .locals) bs) body.t-12 (atRet (env-of (code.function .locals) bs) Post) $
           (let none : fault ≡ 0 = sym e-why ∙ said.iszero why let-in in
           let here : task < n = said.there c rs task xs none in
           move ! (5 ∷ []) $ fsplit ! $ fsplit ! $ drop ! $ fsplit ! $
@@ -213,32 +220,32 @@ module _ {M : Type 1} (𝓤 : URA M) (H : Heap 𝓤) (A : Atoms 𝓤) (W : Given
           lets ! (bin ! (var ! 17 refl) (lit ! tt) (record { fits = fits-scaled (room .1) here }))
           (store ! 41 refl (tt, record { fits = fits-scaled (room .1) here })) $
           lets ! (valued ! (ap (vptr (xr .ptr .0)) (sym (place-is (mem T.the-row .size) (xr .ptr .1) task)))
-          (bin ! (part ! 15 0 refl refl refl) (var ! 41 refl) tt)) (init ! 53 refl (tt, tt)) $
-          lets ! (addr ! (from ! (hop ! (look ! 53 refl) (stop !)))) (init ! 35 refl (tt, tt)) $
+          (bin ! (part ! 15 0 refl refl refl) (var ! 41 refl) tt)) (init ! 55 refl (tt, tt)) $
+          lets ! (addr ! (from ! (hop ! (look ! 55 refl) (stop !)))) (init ! 35 refl (tt, tt)) $
           lets ! (of-opd ! (load ! (from ! (hop ! (look ! 35 refl) (stop !))) (look-raw ! 0 refl)))
           (init ! 37 refl (LL.lawful T.the-type T′.the-laws 𝓤 H A W .typed r _ g .0)) $
           -- the tables are lent on
-          lets ! (addr ! (from ! (fld ! refl (hop ! (look-in ! 19 (sub ! 0 refl (whole !))) (stop !))))) (init ! 55 refl (tt, tt)) $
-          lets ! (agg ! (and-then ! (var ! 55 refl) (and-then ! (part ! 19 1 refl refl refl) (no-more !))))
-          (init ! 57 refl (tt, (tt, (record { fits = room1 .0 }, tt)))) $
-          lets ! (addr ! (from ! (fld ! refl (hop ! (look-in ! 21 (sub ! 0 refl (whole !))) (stop !))))) (init ! 59 refl (tt, tt)) $
-          lets ! (agg ! (and-then ! (var ! 59 refl) (and-then ! (part ! 21 1 refl refl refl) (no-more !))))
-          (init ! 61 refl (tt, (tt, (record { fits = room2 .0 }, tt)))) $
-          lets ! (addr ! (from ! (fld ! refl (hop ! (look-in ! 23 (sub ! 0 refl (whole !))) (stop !))))) (init ! 63 refl (tt, tt)) $
-          lets ! (agg ! (and-then ! (var ! 63 refl) (and-then ! (part ! 23 1 refl refl refl) (no-more !))))
-          (init ! 65 refl (tt, (tt, (record { fits = room3 .0 }, tt)))) $
-          lets ! (addr ! (from ! (fld ! refl (hop ! (look-in ! 25 (sub ! 0 refl (whole !))) (stop !))))) (init ! 67 refl (tt, tt)) $
-          lets ! (agg ! (and-then ! (var ! 67 refl) (and-then ! (part ! 25 1 refl refl refl) (no-more !))))
-          (init ! 69 refl (tt, (tt, (record { fits = room4 .0 }, tt)))) $
-          lets ! (addr ! (from ! (fld ! refl (hop ! (look-in ! 27 (sub ! 0 refl (whole !))) (stop !))))) (init ! 71 refl (tt, tt)) $
-          lets ! (agg ! (and-then ! (var ! 71 refl) (and-then ! (part ! 27 1 refl refl refl) (no-more !))))
-          (init ! 73 refl (tt, (tt, (record { fits = room5 .0 }, tt)))) $
+          lets ! (addr ! (from ! (fld ! refl (hop ! (look-in ! 19 (sub ! 0 refl (whole !))) (stop !))))) (init ! 57 refl (tt, tt)) $
+          lets ! (agg ! (and-then ! (var ! 57 refl) (and-then ! (part ! 19 1 refl refl refl) (no-more !))))
+          (init ! 59 refl (tt, (tt, (record { fits = room1 .0 }, tt)))) $
+          lets ! (addr ! (from ! (fld ! refl (hop ! (look-in ! 21 (sub ! 0 refl (whole !))) (stop !))))) (init ! 61 refl (tt, tt)) $
+          lets ! (agg ! (and-then ! (var ! 61 refl) (and-then ! (part ! 21 1 refl refl refl) (no-more !))))
+          (init ! 63 refl (tt, (tt, (record { fits = room2 .0 }, tt)))) $
+          lets ! (addr ! (from ! (fld ! refl (hop ! (look-in ! 23 (sub ! 0 refl (whole !))) (stop !))))) (init ! 65 refl (tt, tt)) $
+          lets ! (agg ! (and-then ! (var ! 65 refl) (and-then ! (part ! 23 1 refl refl refl) (no-more !))))
+          (init ! 67 refl (tt, (tt, (record { fits = room3 .0 }, tt)))) $
+          lets ! (addr ! (from ! (fld ! refl (hop ! (look-in ! 25 (sub ! 0 refl (whole !))) (stop !))))) (init ! 69 refl (tt, tt)) $
+          lets ! (agg ! (and-then ! (var ! 69 refl) (and-then ! (part ! 25 1 refl refl refl) (no-more !))))
+          (init ! 71 refl (tt, (tt, (record { fits = room4 .0 }, tt)))) $
+          lets ! (addr ! (from ! (fld ! refl (hop ! (look-in ! 27 (sub ! 0 refl (whole !))) (stop !))))) (init ! 73 refl (tt, tt)) $
+          lets ! (agg ! (and-then ! (var ! 73 refl) (and-then ! (part ! 27 1 refl refl refl) (no-more !))))
+          (init ! 75 refl (tt, (tt, (record { fits = room5 .0 }, tt)))) $
           -- the call
           move ! (5 ∷ 6 ∷ []) $
           moves ! moveOn κs qs c r xs fm known gc g
-          (and-then ! (var ! 30 refl) (and-then ! (var ! 36 refl)
-          (and-then ! (var ! 56 refl) (and-then ! (var ! 60 refl)
-          (and-then ! (var ! 64 refl) (and-then ! (var ! 68 refl) (and-then ! (var ! 72 refl) (no-more !)))))))) (λ w m ls e eqs is.
+          (and-then ! (var ! 28 refl) (and-then ! (var ! 36 refl)
+          (and-then ! (var ! 58 refl) (and-then ! (var ! 62 refl)
+          (and-then ! (var ! 66 refl) (and-then ! (var ! 70 refl) (and-then ! (var ! 74 refl) (no-more !)))))))) (λ w m ls e eqs is.
           -- [toks1; fin5 to fin1; cell; others; obor; obs; auth; cellc; oborc; obsc; authc; local i at position 15 + 2 i]
           receive ! 43 refl (LL.lawful N.the-type N′.the-laws 𝓤 H A W .typed m _ is .0) (ap only (LL.tells N.the-type N′.the-laws m (w ∷ []) is)) $
           -- what comes back is stored
@@ -259,10 +266,10 @@ module _ {M : Type 1} (𝓤 : URA M) (H : Heap 𝓤) (A : Atoms 𝓤) (W : Given
           returns ! (look ! 12 refl) $
           frees-all ! 12 (full _ ∷ full _ ∷ full _ ∷ full _ ∷ full _ ∷ full _ ∷ full _ ∷ full _ ∷ full _ ∷ full _ ∷ full _ ∷ full _
           ∷ full _ ∷ full _ ∷ full _ ∷ full _ ∷ full _ ∷ full _ ∷ full _ ∷ full _ ∷ full _ ∷ full _ ∷ full _ ∷ full _
-          ∷ full _ ∷ full _ ∷ full _ ∷ full _ ∷ full _ ∷ full _ ∷ full _ ∷ full _ ∷ []) refl $
+          ∷ full _ ∷ full _ ∷ full _ ∷ full _ ∷ full _ ∷ full _ ∷ full _ ∷ full _ ∷ full _ ∷ []) refl $
           move ! (3 ∷ 4 ∷ []) $ fjoin ! $
           pureI ! (at-slice T.the-row (kept xr (set rs task (m .task))) (s ∷ [])) (tt, (tt, tt))
           (ap (λ (k : ℕ). sliceVal (xr .ptr) k ∷ []) (sym same), subst (Room T.the-row) (sym same) room) $ fjoin ! $
           move ! (1 ∷ 2 ∷ []) $ feqI ! (List Val) (pc ∷ []) (pc ∷ []) refl $ fjoin3 ! $
           by ! (leaving.exits 𝓤 H A W at-mem run κc κr κs qc qr qs xc xr task task-fits xs (m .outcome) _ (m .control)
-          (set rs task (m .task)) ls (said.moved c rs task xs m ls none e) same eqs (outcome-of m is)))))))))))
+          (set rs task (m .task)) ls (said.moved c rs task xs m ls none e) same eqs (outcome-of m is))))))))))))

@@ -1,8 +1,7 @@
 -- Three stores one behind the other.
 use Prim.Native.Nat.{suc, _+_, _*_}
 use mathlib.Core.Path.{_≡_}
-use native.Mathlib.Omega.{arith}
-use native.Mathlib.Numerals.{add-one}
+use native.Mathlib.{Omega.arith, Numerals.add-one}
 use lib.ListN.{length-set}
 use borrow.Author.Needs.{needs}
 use Rattle.history.proofs.reply.write_reply.Statement.{statement}

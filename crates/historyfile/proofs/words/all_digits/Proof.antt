@@ -1,10 +1,9 @@
 -- A word is of digits where what is left of it is.
 use borrow.Author.Needs.{needs}
 use borrow.Author.Tests.{not-false, not-true}
-use lib.ListN.{drop-of-length-le}
+use lib.ListN.{drop-of-length-le, length, drop}
 use Rattle.historyfile.proofs.Digits.{digits-more}
 use Rattle.historyfile.specs.Words.{allDigits}
-use lib.ListN.{length, drop}
 use Prim.Native.Nat.{_-_, _≤_}
 use mathlib.Core.Path.{_≡_, refl, sym, ap, _∙_}
 use native.Mathlib.Omega.{arith}

@@ -1,7 +1,6 @@
 -- One column after the other.
-use borrow.Author.Tests.{ne-eqb}
+use borrow.Author.{Tests.ne-eqb, Needs.needs}
 use Rattle.historyfile.specs.Words.{name}
-use borrow.Author.Needs.{needs}
 use Rattle.historyfile.proofs.words.name.Statement.{statement}
 use Rattle.historyfile.proofs.words.name.Tie as tie
 

@@ -1,7 +1,6 @@
 -- One column after the other.
-use borrow.Author.Tests.{ne-eqb}
+use borrow.Author.{Tests.ne-eqb, Needs.needs}
 use Rattle.judge.specs.Saying.{wanted}
-use borrow.Author.Needs.{needs}
 use Rattle.judge.proofs.say.put_wanted.Statement.{statement}
 use Rattle.judge.proofs.say.put_wanted.Tie as tie
 

@@ -1,6 +1,5 @@
 -- The verdict on the text, in its words, where there is room for them.
-use borrow.Author.Needs.{needs}
-use borrow.Author.Tests.{leb-true}
+use borrow.Author.{Needs.needs, Tests.leb-true}
 use mathlib.Core.Path.{sym, ap, subst, _∙_}
 use native.Mathlib.Nat.{le-trans}
 use lib.ListN.{length}

@@ -1,6 +1,5 @@
 -- Four bytes one after the other.
-use Rattle.lines.proofs.Puts.{put-more}
-use Rattle.lines.proofs.Glyphs.{bytes-four}
+use Rattle.lines.proofs.{Puts.put-more, Glyphs.bytes-four}
 use borrow.Author.Needs.{needs}
 use Rattle.lines.proofs.number.put_bytes.Statement.{statement}
 use Rattle.lines.proofs.number.put_bytes.Tie as tie

@@ -1,6 +1,5 @@
 -- The four low bytes of the glyphs, then the four high ones.
-use Rattle.lines.proofs.Puts.{put-more}
-use Rattle.lines.proofs.Glyphs.{bytes-eight}
+use Rattle.lines.proofs.{Puts.put-more, Glyphs.bytes-eight}
 use borrow.Author.Needs.{needs}
 use Rattle.lines.proofs.number.put_glyphs.Statement.{statement}
 use Rattle.lines.proofs.number.put_glyphs.Tie as tie

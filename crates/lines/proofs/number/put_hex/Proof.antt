@@ -1,6 +1,5 @@
 -- Eight digits, twice.
-use Rattle.lines.proofs.Puts.{put-more}
-use Rattle.lines.proofs.Glyphs.{hex-halves}
+use Rattle.lines.proofs.{Puts.put-more, Glyphs.hex-halves}
 use borrow.Author.Needs.{needs}
 use Rattle.lines.proofs.number.put_hex.Statement.{statement}
 use Rattle.lines.proofs.number.put_hex.Tie as tie

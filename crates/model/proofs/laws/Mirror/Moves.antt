@@ -3,13 +3,11 @@ use mathlib.Core.Path.{_≡_, refl, ap, ap₂, _∙_}
 use mathlib.Core.Bool.{Bool, true, false, cond, and-comm}
 use Prim.Native.Nat.{ℕ, _+_, _<_}
 use native.Mathlib.Omega.{arith}
-use lib.Dec.{eqb}
-use lib.ListN.{set}
+use lib.{Dec.eqb, ListN.set}
 use Rattle.word.specs.declared.Anchor.{Anchor}
 use Rattle.word.specs.Anchor.{anchorOf, packAnchor}
 use Rattle.word.specs.Link.{linkOf, packLink}
-use Rattle.model.specs.declared.Control.{Control}
-use Rattle.model.specs.declared.Record.{Record}
+use Rattle.model.specs.declared.{Control.Control, Record.Record}
 use Rattle.model.specs.Tables.{tablesOf, Tables, isPooled, withSeen, withLink, withOwn}
 use Rattle.model.specs.Places.{sideOf, Touch, nothing, setAnchor, setLink, clearMark, takeSlot, setNext, setHead, Move}
 use Rattle.model.specs.Places.{reads, changes, reading, replaces}

@@ -8,8 +8,7 @@ use lib.Dec.{eqb, leb}
 use lib.ListN.{getD}
 use borrow.Author.Tests.{leb-true}
 use Rattle.word.specs.declared.Anchor.{Anchor}
-use Rattle.word.specs.Anchor.{anchorOf}
-use Rattle.word.specs.Link.{linkOf}
+use Rattle.word.specs.{Anchor.anchorOf, Link.linkOf}
 use Rattle.model.specs.declared.Record.{Record}
 use Rattle.model.specs.Tables.{Tables}
 use Rattle.model.specs.Places.{sideOf, endSeen, row, linkSide, wordFound}

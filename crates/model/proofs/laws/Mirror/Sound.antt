@@ -8,11 +8,9 @@ use lib.ListN.{length}
 use borrow.Author.Tests.{eqb-true, eqb-false, eq-eqb, ne-eqb}
 use Rattle.word.specs.declared.Anchor.{Anchor}
 use Rattle.word.specs.Anchor.{anchorOf}
-use Rattle.model.specs.declared.Control.{Control}
-use Rattle.model.specs.declared.Record.{Record}
+use Rattle.model.specs.declared.{Control.Control, Record.Record, Asked.Asked}
 use Rattle.model.specs.Tables.{Tables, isPooled}
 use Rattle.model.specs.Sound.{from1, anchorSound, controlSound, recordSound, rowsFit}
-use Rattle.model.specs.declared.Asked.{Asked}
 use Rattle.model.specs.Refusals.{Lent, fits, startRefusal}
 use Rattle.model.specs.Mirror.{mirrorSide, mirrorAnchor, mirrorWord, mirrorControl, mirrorTables, mirrorBusy, mirrorRecord}
 use Rattle.model.proofs.laws.Mirror.Packed.{status-stable, status-range, mirror-fields}

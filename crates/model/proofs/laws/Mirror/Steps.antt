@@ -6,9 +6,7 @@ use Prim.Native.Nat.{ℕ}
 use lib.Dec.{eqb, leb, ltb}
 use lib.ListN.{getD}
 use borrow.Author.Tests.{eqb-true, not-false}
-use Rattle.model.specs.declared.Control.{Control}
-use Rattle.model.specs.declared.Record.{Record}
-use Rattle.model.specs.declared.TaskRecord.{TaskRecord}
+use Rattle.model.specs.declared.{Control.Control, Record.Record, TaskRecord.TaskRecord}
 use Rattle.model.specs.declared.Outcome.the-variants.{Refused, Moved}
 use Rattle.model.specs.Tables.{atPlace, Tables, isPooled, idle, withCall}
 use Rattle.model.specs.Sound.{from1, linkSound, controlSound, recordSound, rowsFit}
@@ -17,14 +15,12 @@ use Rattle.model.specs.Route.{route, onward, answer, goes, counted}
 use Rattle.model.specs.Refusals.{Lent, rule, first, needsRow, meetsLink, meetsHead, leavesSound, hasRoom, stepSound, stepRules, stepRefusal}
 use Rattle.model.specs.Calls.{Acted, decide, finish, step}
 use Rattle.model.specs.Mirror.{mirrorTask, mirrorControl, mirrorTables, mirrorBusy, mirrorRecord, mirrorActed}
-use Rattle.model.proofs.laws.SoundRecord.{sound-record}
+use Rattle.model.proofs.laws.{SoundRecord.sound-record, Onward.leads-on}
 use Rattle.model.proofs.tests.Rules.{cleared}
-use Rattle.model.proofs.laws.Onward.{leads-on}
 use Rattle.model.proofs.laws.Mirror.Sides.{side-mirror, row-mirror, link-met-mirror}
 use Rattle.model.proofs.laws.Mirror.Sound.{word-sound-mirror, tag-mirror, control-sound-mirror, record-sound-mirror, place-mirror, rows-fit-mirror}
 use Rattle.model.proofs.laws.Mirror.Moves.{mirrorTouch, mirrorMove, apply-mirror, move-mirror}
-use Rattle.model.specs.Sides.{opposite}
-use Rattle.model.specs.Lists.{every}
+use Rattle.model.specs.{Sides.opposite, Lists.every}
 
 pub busy-record : (r : Record) → eqb (r .place) 0 ≡ false → mirrorRecord r ≡ mirrorBusy r
 unfolding mirrorRecord

@@ -6,12 +6,10 @@ use Prim.Native.Nat.{ℕ, zero, suc}
 use native.Mathlib.Omega.{arith}
 use lib.Dec.{eqb}
 use borrow.Author.Tests.{ne-eqb}
-use Rattle.model.specs.declared.Record.{Record}
-use Rattle.model.specs.declared.TaskRecord.{TaskRecord}
+use Rattle.model.specs.declared.{Record.Record, TaskRecord.TaskRecord}
 use Rattle.model.specs.Tables.{Queue, ofKind, withAnchor, withCall, withSeen}
 use Rattle.model.specs.Mirror.{mirrorSide, mirrorBusy, mirrorRecord, mirrorTask, mirrorQueue}
-use Rattle.model.proofs.laws.Mirror.Packed.{mirror-involutive}
-use Rattle.model.proofs.laws.Mirror.Steps.{busy-record}
+use Rattle.model.proofs.laws.Mirror.{Packed.mirror-involutive, Steps.busy-record}
 
 side-twice : (side : ℕ) → mirrorSide (mirrorSide side) ≡ side
 unfolding mirrorSide

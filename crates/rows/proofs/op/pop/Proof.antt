@@ -1,6 +1,5 @@
 -- The start, and its record stored.
 use mathlib.Core.Path.{refl}
-use lib.ListN.{length}
 use Rattle.model.specs.Calls.{actOn}
 use Rattle.rows.proofs.Starting.{started, pop-starts}
 use borrow.Author.Needs.{needs}
@@ -16,8 +15,8 @@ returns c =
     let told = read .before .before in
     let lists = told .before .before .before in
     let a = lists .before .before .before .before .args in (
-      started _ (a .records .now) _ _ _ _ _ _ _ (pop-starts _ (a .records .now) _ _ _ _ _ (a .task) _) _ _ _ _ (length (a .records .now)) _ _
-          (told .control-of .ensures) refl (read .call-at .ensures) (begun .pop-start .ensures) (put .store-start .ensures .0),
+      started _ (a .records .now) _ _ _ _ _ _ _ (pop-starts _ (a .records .now) _ _ _ _ _ (a .task) _) _ _ _ _ _ _
+          (told .control-of .ensures) (read .call-at .ensures) (λ k. begun .pop-start .ensures _ _ _ _ _ k refl) (put .store-start .ensures .0),
       put .store-start .ensures .1,
     )
 

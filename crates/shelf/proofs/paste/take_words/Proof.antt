@@ -1,32 +1,20 @@
--- The test is the definition's.
-use Prim.Native.Nat.{_+_, _*_, _/_, _≤_}
-use lib.ListN.{length}
+-- The stretch on the shelf is copied, where it fits.
 use borrow.Author.Needs.{needs}
-use Rattle.shelf.specs.Pasting.{putBack}
-use Rattle.shelf.proofs.Pasting.{back-fits}
+use Rattle.shelf.proofs.Pasting.{stretch-fits, back-by, unback}
 use Rattle.shelf.proofs.paste.take_words.Statement.{statement}
 use Rattle.shelf.proofs.paste.take_words.Tie as tie
 
-fits : (c : tie.Then1) → let a = c .before .before .before .args in
-    (a .shelf * (length (a .from .now) / 8) + a .k ≤ length (a .from .now)) × (0 + a .k ≤ length (a .to .now))
-fits c =
-    let a = c .before .before .before .args in
-    back-fits (a .shelf) (a .k) (length (a .from .now)) (length (a .to .now)) (c .if1 .taken)
+fits : tie.Need-move-words-requires
+fits c κs = let h = stretch-fits _ _ _ _ _ (c .before .before .on-shelf .ensures) (c .before .if1 .taken) in h
 
 returns : tie.Need-returns
-unfolding putBack
-returns c = let copied = c .before .before in rw (copied .before .before .if1 .taken) (copied .move-words .ensures)
+returns c =
+    let copied = c .before .before in
+    let test = copied .before .before in
+    back-by _ _ _ _ _ (test .before .on-shelf .ensures) _ (test .if1 .taken) (copied .move-words .ensures)
 
 returns-2 : tie.Need-returns-2
-unfolding putBack
-returns-2 c = rw (c .if1 .left)
+returns-2 c = unback _ _ _ _ _ (c .before .on-shelf .ensures) (c .if1 .left)
 
 pub take-words-spec : {M : Type 1} → statement M
-take-words-spec =
-    tie.close
-    (tie.spec
-    (λ c. let here = fits (c) in search needs)
-    (λ c _. fits (c .before))
-    (λ c. search needs)
-    returns
-    returns-2)
+take-words-spec = tie.close (tie.spec (λ _ _. tt) fits (λ c. search needs) returns returns-2)

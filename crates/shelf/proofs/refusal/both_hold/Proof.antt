@@ -2,8 +2,9 @@
 use mathlib.Core.Bool.{Bool, _&&_}
 use mathlib.Core.Path.{ap₂, ap, _∙_}
 use lib.Dec.{leb}
-use Rattle.shelf.specs.declared.refusal.Extents.{Extents}
-use Rattle.shelf.specs.Extents.{bothFit, extentsFit}
+use Rattle.sound.specs.declared.Lengths.{Lengths}
+use Rattle.sound.specs.Lengths.{tablesFit}
+use Rattle.shelf.specs.Lengths.{bothFit}
 use Rattle.shelf.proofs.refusal.both_hold.Statement.{statement}
 use Rattle.shelf.proofs.refusal.both_hold.Tie as tie
 
@@ -13,8 +14,8 @@ returns c =
     let part = c .before in
     let here = part .before in
     let a = here .before .args in
-    ap₂ (λ (x y : Bool). x && y && leb 8 (a .controls)) (here .holds .ensures)
-    (c .holds2 .ensures ∙ ap (λ (t : Extents). extentsFit (a .c) t) (part .eighth .ensures))
+    ap₂ (λ (x y : Bool). x && y && leb 8 (a .controls)) (here .tables-fit .ensures)
+    (c .tables-fit2 .ensures ∙ ap (λ (t : Lengths). tablesFit (a .c) t) (part .eighth .ensures))
 
 pub both-hold-spec : {M : Type 1} → statement M
 both-hold-spec = tie.close (tie.spec (λ _ _. tt) (λ _ _. tt) (λ _ _. tt) returns)

@@ -1,7 +1,7 @@
 -- Tests made one after the other.
 use mathlib.Core.Path.{sym, _∙_}
 use borrow.Author.Tests.{eq-eqb, le-leb, lt-leb, ne-eqb, not-true, not-false}
-use Rattle.shelf.specs.Extents.{returnNumber}
+use Rattle.shelf.specs.Lengths.{returnNumber}
 use Rattle.shelf.proofs.refusal.return_refusal.Statement.{statement}
 use Rattle.shelf.proofs.refusal.return_refusal.Tie as tie
 

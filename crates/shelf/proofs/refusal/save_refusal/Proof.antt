@@ -3,7 +3,7 @@ use mathlib.Core.Path.{_≡_, sym, _∙_}
 use mathlib.Core.Bool.{true, false}
 use borrow.Author.Tests.{lt-leb, le-leb, not-true, not-false}
 use Rattle.model.specs.Sound.{controlSound}
-use Rattle.shelf.specs.Extents.{saveNumber}
+use Rattle.shelf.specs.Lengths.{saveNumber}
 use Rattle.shelf.proofs.refusal.save_refusal.Statement.{statement}
 use Rattle.shelf.proofs.refusal.save_refusal.Tie as tie
 

@@ -1,10 +1,7 @@
-use mathlib.Core.Path.{_≡_, sym, ap, _∙_}
-use lib.Dec.{eqb}
+use mathlib.Core.Path.{sym, ap, _∙_}
 use borrow.Author.Tests.{le-leb, lt-leb}
 use Rattle.model.specs.declared.Record.{Record}
-use Rattle.model.specs.Sound.{recordSound}
 use Rattle.rows.specs.Rows.{callOf}
-use Rattle.threads_model.specs.declared.PlannedTouch.{PlannedTouch}
 use Rattle.threads_model.specs.Starts.{planStart}
 use Rattle.touch.proofs.Starting as by
 use borrow.Author.Needs.{needs}

@@ -37,7 +37,7 @@ use Rattle.model.specs.declared.Op.the-variants.{Step}
 use Rattle.model.specs.Tables.{Queue}
 use Rattle.model.specs.Calls.{Done, act}
 use Rattle.deque.proofs.Walk.{slice-value}
-use Rattle.deque.proofs.Engine.{Five, Lengths, tabled, unwritten, slices}
+use Rattle.deque.proofs.Engine.{Five, KeepLengths, tabled, unwritten, slices}
 use Rattle.model.proofs.Control as K
 use Rattle.model.proofs.TaskRecord as T
 use Rattle.model.proofs.Outcome as E
@@ -105,7 +105,7 @@ module _ {M : Type 1} (𝓤 : URA M) (H : Heap 𝓤) (A : Atoms 𝓤) (W : Given
       pub called : G → {name : Name} {os : List Operand} {d : Place} {rest : Code} → length rs ≡ 2 → task < 2 ^ 64 → FmC 𝓤 H (W .laws) C → Triple 𝓤
           (C name) (CalledStep 𝓤 H A at-mem run)
           → Opds G W (raw (CalledStep 𝓤 H A at-mem run .pre to-callee) ∷ Γ) En os (CalledStep 𝓤 H A at-mem run .args to-callee)
-          → ((w : Val) (o : Outcome) (c′ : Control) (rs′ : List TaskRecord) (ls : Five (List ℕ)) → Said o c′ rs′ ls → Lengths xs ls → Is E.the-row o (w
+          → ((w : Val) (o : Outcome) (c′ : Control) (rs′ : List TaskRecord) (ls : Five (List ℕ)) → Said o c′ rs′ ls → KeepLengths xs ls → Is E.the-row o (w
           ∷ [])
           → Seq G W (‵ (flft (αc ∷ []) fullShare) ∷ ‵ (flft (αr ∷ []) fullShare) ∷ tokens
           ∷ ‵ (finally u64 (xs .1 .1 .1 .1 .0 .name) (ls .1 .1 .1 .1 .0)) ∷ ‵ (finally u64 (xs .1 .1 .1 .0 .name) (ls .1 .1 .1 .0))

@@ -32,7 +32,7 @@ use Rattle.model.specs.declared.Control.{Control}
 use Rattle.model.specs.declared.TaskRecord.{TaskRecord}
 use Rattle.model.specs.declared.Outcome.{Outcome}
 use Rattle.model.specs.Calls.{Acted, stepLent}
-use Rattle.deque.proofs.Engine.{Five, Lengths, tabled, unwritten, slices}
+use Rattle.deque.proofs.Engine.{Five, KeepLengths, tabled, unwritten, slices}
 use Rattle.model.proofs.Control as K
 use Rattle.model.proofs.TaskRecord as T
 use Rattle.model.proofs.Outcome as E
@@ -93,7 +93,7 @@ module _ {M : Type 1} (𝓤 : URA M) (H : Heap 𝓤) (A : Atoms 𝓤) (W : Given
     module _ {G : Type 0} {Γ : List (Item 𝓤)} {En : Env 𝓤 H} {C : Calls 𝓤 H} {Λ : Loops 𝓤 H} {q : PostOf 𝓤 H} where
       pub called : G → {name : Name} {os : List Operand} {d : Place} {rest : Code} → FmC 𝓤 H (W .laws) C → Triple 𝓤 (C name) (StepRecord 𝓤 H A at-mem run)
           → Opds G W (raw (StepRecord 𝓤 H A at-mem run .pre to-callee) ∷ Γ) En os (StepRecord 𝓤 H A at-mem run .args to-callee)
-          → ((w : Val) (o : Outcome) (c′ : Control) (r′ : TaskRecord) (ls : Five (List ℕ)) → Said o c′ r′ ls → Lengths xs ls → Is E.the-row o (w ∷ [])
+          → ((w : Val) (o : Outcome) (c′ : Control) (r′ : TaskRecord) (ls : Five (List ℕ)) → Said o c′ r′ ls → KeepLengths xs ls → Is E.the-row o (w ∷ [])
           → Seq G W (‵ (flft (αc ∷ []) fullShare) ∷ ‵ (flft (αr ∷ []) fullShare) ∷ tokens
           ∷ ‵ (finally u64 (xs .1 .1 .1 .1 .0 .name) (ls .1 .1 .1 .1 .0)) ∷ ‵ (finally u64 (xs .1 .1 .1 .0 .name) (ls .1 .1 .1 .0))
           ∷ ‵ (finally u32 (xs .1 .1 .0 .name) (ls .1 .1 .0)) ∷ ‵ (finally u64 (xs .1 .0 .name) (ls .1 .0)) ∷ ‵ (finally u64 (xs .0 .name) (ls .0))
