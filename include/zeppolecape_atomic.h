@@ -18,13 +18,21 @@
  *     zc_atomic_push_pooled(&shared, own, ZC_RIGHT, 700);        answers ZC_PUSHED
  *     zc_atomic_pop(&shared, own, ZC_LEFT);                      answers ZC_POPPED: label 700
  *
+ *     cc -Iinclude main.c target/lib/libzeppolecape.a -pthread
+ *
+ * A call answers a zc_reply, whose code is to be looked at: a push may find no free slot
+ * (ZC_NO_FREE_SLOT), a pop may find nothing (ZC_EMPTY). Both are told at once, since nobody is waited
+ * for; make the call again later. Codes from 10 on are refusals. A whole program with five threads is
+ * examples/c/threads.c, one with a signal handler examples/c/interrupt.c.
+ *
  * YOUR DUTY
  *  - A record belongs to one thread, core or handler: no other makes calls with it or looks at it.
  *    It is idle, place 0, at first. There are at most as many as tasks were opened, or refusal 33
  *    comes too late. Take one of the queue's, of which the report then tells, or one that lies
  *    elsewhere, zeroed; in cache lines of its own it is faster. A thread with two records may be in
  *    the middle of two calls, and a handler needs one of its own: it may then make whole calls in
- *    the middle of anybody's step, its own thread's too.
+ *    the middle of anybody's step, its own thread's too. A handler of an interrupt saves the SSE
+ *    state and leaves the red zone alone (zeppolecape.h, FACTS); for one of a signal the system does.
  *  - Every call of zeppolecape.h on this queue (report, walks, shelves, joinings, openings, starts
  *    and steps), and reading its tables, wants the queue at rest: no thread is in a call of this
  *    file, and what synchronises (a join, a barrier, a lock) lies between it and their last call.
@@ -35,8 +43,9 @@
  *    of its push or the one that its pop had won. Nobody waits for it. Another thread may go on with
  *    its record only if it died between two steps: in the middle of one it can't be told whether the
  *    touch was made.
- *  - 33: an opening has tags for 4,294,967,262 changes of Anchor; a pair of push and pop makes two or
- *    three, so that threads at full speed use them up in ten minutes to an hour. Then every start is
+ *  - 33: an opening with first tag 0 has tags for 4,294,967,262 changes of Anchor; a pair of push and
+ *    pop makes two or three. Threads that do nothing else use them up within minutes (bench/README.md
+ *    has pairs a second), ten labels a second in four and a half years. Then every start is
  *    refused. Bring the threads to rest, zc_queue_drain, open again, zc_queue_refill, and let them go
  *    on (examples/c/renew.c). Tags never wrap, so that a word is never taken for an older one.
  *  - Lock-free is not wait-free: one call may try again as long as others are faster.

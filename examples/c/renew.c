@@ -45,7 +45,7 @@ static void take(size_t task, zc_reply reply)
         stop("out of order, label", zc_label(reply));
 }
 
-/* After 33. A program in service opens with tag 0 and comes here once in a long life. */
+/* After 33. A program in service opens with first tag 0, and comes here after four thousand million changes. */
 static void renew(void)
 {
     zc_reply answers[TASKS];

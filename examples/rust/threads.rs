@@ -1,7 +1,7 @@
 //! Five threads share one label queue without a lock: two scales push at the right, the reprint desk
 //! pushes at the left, the print head pops at the left, and a cancel pops at the right. Slots come from
-//! the queue's pool; a push that finds none is made again. At the end every label was printed once,
-//! cancelled once, or still waits.
+//! the queue's pool; a push that finds none is made again. At the end every label was printed once
+//! or cancelled once, and none waits.
 //!
 //! ```text
 //! make

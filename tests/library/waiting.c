@@ -1,6 +1,6 @@
 /*
  * zc_waiting: the order under each status, tables with just enough room and with one entry less,
- * and links that lead astray. zc_report: waiting where links lead astray, and, on tables of any
+ * and links to wrong slots. zc_report: waiting where links are wrong, and, on tables of any
  * contents, the same code and count as zc_waiting.
  */
 #include "check.h"

@@ -34,7 +34,7 @@ inline void seed(uint64_t number, uint64_t thread)
     random_state = (number * 7919 + thread * 104729 + 1) * 0x9e3779b97f4a7c15u | 1;
 }
 
-// Threads of another kind, which hang on no processor and no load: each member has a stack of its own,
+// Threads of another kind, which depend on no processor and no load: each member has a stack of its own,
 // and between any two instructions it is drawn who goes on; some sleep for a while, so that slots are
 // used again meanwhile. The same seed gives the same run.
 class Fibers {

@@ -15,7 +15,7 @@ pub enum Stop {
     Usage(String),
     /// The work cannot be done.
     Failed(String),
-    /// Whoever read the output has had enough, which is no fault.
+    /// The reader of the output has closed it, which is no fault.
     Enough,
 }
 
@@ -69,8 +69,8 @@ pub fn main(
     ExitCode::from(status)
 }
 
-/// Bytes as text, those that cannot be printed, and the backslash, in octal: a message cannot drive the
-/// terminal.
+/// Bytes as text, those that cannot be printed, and the backslash, in octal: none of them reaches the
+/// terminal as a command.
 pub fn printable(bytes: &[u8]) -> String {
     let shown = |&byte: &u8| match byte {
         b'\\' => "\\134".to_string(),

@@ -37,8 +37,9 @@ use core::sync::atomic::{AtomicU32, AtomicU64};
 /// of it are proved calls; the touch between them is made here. That this is linearizable, down to
 /// single instructions, is proved; the crate is not.
 ///
-/// Refusal 33, [`Refusal::Worn`], comes after 4,294,967,262 changes, which threads at full speed make
-/// within some ten minutes: `into_queue`, [`Queue::renew`], and share it again.
+/// Refusal 33, [`Refusal::Worn`], comes after 4,294,967,262 changes of Anchor, two or three for each
+/// push with its pop: threads that do nothing else make them within minutes. Then `into_queue`,
+/// [`Queue::renew`], and share it again.
 #[derive(Debug)]
 pub struct SharedQueue {
     cells: Cells,

@@ -3,8 +3,8 @@
 mod names;
 mod prose;
 
-pub use names::Names;
-pub use prose::{sentences, spans, without_code};
+pub use names::{Names, TOPS};
+pub use prose::{code_lines, sentences, spans, without_code};
 
 use std::fs;
 use std::path::{Path, PathBuf};

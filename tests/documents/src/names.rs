@@ -3,7 +3,7 @@
 use std::collections::{HashMap, HashSet};
 
 /// Folders that a path of the repository begins with, for words in commands.
-const TOPS: [&str; 12] = [
+pub const TOPS: [&str; 11] = [
     "bench/",
     "bindings/",
     "crates/",
@@ -15,7 +15,6 @@ const TOPS: [&str; 12] = [
     "tools/",
     ".ci/",
     ".cargo/",
-    "./",
 ];
 const ENDINGS: [&str; 15] = [
     ".md", ".c", ".h", ".cc", ".rs", ".rt", ".antt", ".txt", ".sh", ".svg", ".js", ".toml",

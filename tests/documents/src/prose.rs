@@ -15,6 +15,20 @@ pub fn without_code(text: &str) -> String {
     kept
 }
 
+/// The lines of fenced and indented code, each with its number.
+pub fn code_lines(text: &str) -> Vec<(usize, &str)> {
+    let mut fenced = false;
+    let mut found = Vec::new();
+    for (at, line) in text.lines().enumerate() {
+        let fence = line.trim_start().starts_with("```");
+        if !fence && (fenced || line.starts_with("    ")) {
+            found.push((at + 1, line));
+        }
+        fenced ^= fence;
+    }
+    found
+}
+
 /// What stands in backticks outside code, with the number of its line.
 pub fn spans(text: &str) -> Vec<(usize, String)> {
     let mut found = Vec::new();

@@ -1,6 +1,6 @@
 //! Every path, name and command that a document has in backticks is there; sentences and notes are short.
 
-use documents::{allowed, content, files, is_document, sentences, spans, Names};
+use documents::{allowed, code_lines, content, files, is_document, sentences, spans, Names, TOPS};
 use std::sync::OnceLock;
 
 const LONGEST_SENTENCE: usize = 300;
@@ -44,27 +44,14 @@ fn what_stands_in_backticks_is_there() {
 #[test]
 fn paths_in_commands_are_there() {
     let names = names();
-    let tops = [
-        "bench/",
-        "bindings/",
-        "crates/",
-        "docs/",
-        "examples/",
-        "include/",
-        "tests/",
-        "tools/",
-        ".ci/",
-    ];
     let mut found = Vec::new();
     for path in documents() {
-        for (at, line) in
-            content(&path).lines().enumerate().filter(|(_, line)| line.starts_with("    "))
-        {
+        for (number, line) in code_lines(&content(&path)) {
             let words =
                 line.split(|letter: char| letter.is_whitespace() || "'\"`;(),=".contains(letter));
-            for word in words.filter(|word| tops.iter().any(|top| word.starts_with(top))) {
+            for word in words.filter(|word| TOPS.iter().any(|top| word.starts_with(top))) {
                 if !names.has_path(word.trim_end_matches(['.', ':'])) {
-                    found.push(format!("{path}:{}: no such file or folder: {word}", at + 1));
+                    found.push(format!("{path}:{number}: no such file or folder: {word}"));
                 }
             }
         }

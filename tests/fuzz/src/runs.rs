@@ -1,4 +1,4 @@
-//! A run file through `trace`, and through the second program with its judge looking on.
+//! A run file through `trace`, and through the second program with each event judged.
 
 use crate::programs::{said, Said};
 use reference::check::Judge;

@@ -1,5 +1,5 @@
 /*
- * The helpers with a mind of their own: a free slot, finish, drain and refill. What they must do is said
+ * The helpers that decide something: a free slot, finish, drain and refill. What they must do is said
  * again here by the calls, from the words that stand with them; of a sound queue, by what waits before
  * and after.
  */
@@ -98,7 +98,7 @@ static uint32_t refilled(const zc_queue *q, size_t task, const uint32_t *labels,
         if (reply.code == 5)
             return 32;
         if (reply.code != 2)
-            return reply.code < 10 ? 34 : reply.code; /* no answer after 21 steps: nobody's queue */
+            return reply.code < 10 ? 34 : reply.code; /* no answer after 21 steps: the tables are damaged */
     }
     return 0;
 }

@@ -46,7 +46,7 @@ pub fn done(command: &mut Command) -> String {
     said
 }
 
-/// A program of the inline functions, which goes with the value.
+/// A program of the inline functions, which is removed when the value is dropped.
 pub struct Program(PathBuf);
 
 impl Program {

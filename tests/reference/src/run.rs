@@ -1,4 +1,4 @@
-//! A run file carried out, event by event, with somebody looking on.
+//! A run file carried out, event by event, each told to a watcher.
 
 use crate::machine::Moved;
 use crate::refusal::Refusal;

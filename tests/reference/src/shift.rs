@@ -1,5 +1,5 @@
 //! A crew at work on a script: what idle tasks start, how often at which side, and how
-//! often somebody talks nonsense. Who moves next is up to the scenario.
+//! often a number is out of range. Who moves next is up to the scenario.
 
 use crate::dice::Dice;
 use crate::script::Script;

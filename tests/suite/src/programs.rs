@@ -46,7 +46,7 @@ pub fn archive() -> PathBuf {
     archive
 }
 
-/// A folder of one check's own; it goes with the value.
+/// A folder of one check's own; it is removed when the value is dropped.
 pub struct Scratch(PathBuf);
 
 impl Scratch {
@@ -142,7 +142,7 @@ pub fn shell(line: &str, names: &[(&str, &Path)]) -> Said {
     plain_shell(line, &[&programs, names].concat())
 }
 
-/// A run in its text form through `tools/runfile` and the program; both must be content.
+/// A run in its text form through `tools/runfile` and the program; both must end with status 0 and say nothing.
 pub fn run_text(text: &Path) -> Result<Vec<u8>, String> {
     let scratch = Scratch::make();
     let names = [("TEXT", text), ("RUN", &scratch.path("run"))];

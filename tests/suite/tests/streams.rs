@@ -37,8 +37,8 @@ fn with_run(line: &str) -> Said {
     shell(line, &[("RUN", &run), ("FOLDER", &scratch.path(""))])
 }
 
-/// Where the program complains its status is its own affair (a Rattle program has none), but not to
-/// be stopped: 124 is a program that hangs, above 128 one that crashed.
+/// Where the program complains any status will do (a Rattle program has none), but it must not be
+/// stopped: 124 is a program that hangs, above 128 one that crashed.
 fn complains(said: &Said, words: &str) -> Verdict {
     same((true, words), (said.status < 124, said.noise.as_str()))
 }
@@ -271,7 +271,7 @@ fn main() -> ExitCode {
     progress(&mut checks);
     failures(&mut checks);
     for seed in [8, 9] {
-        // Worn tags and nonsense: short runs with many starts and refusals.
+        // Tags used up and random numbers: short runs with many starts and refusals.
         checks.add(&format!("pieces: seed {seed}"), move || in_pieces(seed));
     }
     checks.add("memory: 20 MB in 16 MB", little_memory);

@@ -1,5 +1,5 @@
 //! The wrong queues: of each example about one, the second program's judge, which judges the product in the
-//! differential test, is content with the right queue and objects to the wrong one.
+//! differential test, objects to nothing in the right queue and to the wrong one.
 
 use reference::check::Judge;
 use reference::run::{Call, Event, Reply, Watcher};
@@ -17,7 +17,7 @@ const FAULTS: [(&str, Fault); 5] = [
     ("once", Fault::PushedTwice),
 ];
 
-/// A run under the judge's eyes, with a fault or without.
+/// A judged run, with a fault or without.
 struct Trial {
     storage: Storage,
     judge: Judge,

@@ -1,6 +1,6 @@
 //! Looks for an order of a history's calls that passes: Wing and Gong's search. A call may come next if
 //! no call that is left was answered before it started and the plain queue gives it its answer; what was
-//! tried in vain, the calls left with the labels waiting, is not tried again.
+//! tried without success, the calls left with the labels waiting, is not tried again.
 
 use super::plain::{serve, Labels};
 use std::collections::HashSet;

@@ -1,5 +1,5 @@
 //! Threads on one queue, through `zeppolecape_atomic.h` (tests/threads): some seconds each, and with
-//! `--ignored --test-threads 1` an hour.
+//! `--ignored --test-threads 1 threads:` an hour.
 
 use suite::{last_of, made_within, Checks, Told};
 
