@@ -9,7 +9,7 @@ use borrow.Author.Tests.{eqb-true, eqb-false, ne-eqb, leb-true}
 use Rattle.word.specs.Anchor.{anchorOf, packAnchor}
 use Rattle.word.specs.Link.{linkOf}
 use Rattle.model.specs.declared.Control.{Control}
-use Rattle.model.specs.declared.Record.{Record}
+use Rattle.model.specs.declared.Call.{Call}
 use Rattle.model.specs.Tables.{isPooled}
 use Rattle.model.specs.Sound.{anchorSound, recordSound}
 use Rattle.model.specs.Places.{Touch, nothing, setAnchor, Move, sideOf}
@@ -33,7 +33,7 @@ chosen : (push : Bool) (d t p s o n f : ℕ) → packAnchor (facing d t (cond pu
 chosen true d t p s o n f = refl
 chosen false d t p s o n f = refl
 
-module _ (c : Control) (r : Record) (w : ℕ) where
+module _ (c : Control) (r : Call) (w : ℕ) where
   abbrev room : Bool
   room = ltb (linkOf (r .link) .tag) 4294967295
 
@@ -62,7 +62,7 @@ module _ (c : Control) (r : Record) (w : ℕ) where
   here p {b} e a = subst (λ k. asked k ≡ b) (sym e) a
 
   -- A change of Anchor to n, at 2, 4 and 10.
-  anchors : (p n : ℕ) (t u : Record) (k : ℕ) → r .place ≡ p → asked p ≡ onAnchor → newAnchor r ≡ n
+  anchors : (p n : ℕ) (t u : Call) (k : ℕ) → r .place ≡ p → asked p ≡ onAnchor → newAnchor r ≡ n
       → Told (cond (eqb (c .anchor) (r .seen)) (record { touch = setAnchor n; task = t; branch = 0; failed = false })
       (record { touch = nothing; task = u; branch = k; failed = true }))
   anchors p n t u k e a new =
@@ -71,7 +71,7 @@ module _ (c : Control) (r : Record) (w : ℕ) where
       (λ s. here p e (a ∙ rw s))
 
   -- A change of a link word or of the head.
-  words : (p now : ℕ) (touch : Touch) (t u : Record) (k : ℕ) → r .place ≡ p → asked p ≡ unless now → owed touch ≡ room
+  words : (p now : ℕ) (touch : Touch) (t u : Call) (k : ℕ) → r .place ≡ p → asked p ≡ unless now → owed touch ≡ room
       → Told (cond (eqb now (r .link)) (record { touch = touch; task = t; branch = 0; failed = false })
       (record { touch = nothing; task = u; branch = k; failed = true }))
   words p now touch t u k e a o =
@@ -144,7 +144,7 @@ module _ (c : Control) (r : Record) (w : ℕ) where
       (λ h. words 17 (c .head) _ _ _ _ (le-antisymm high h) refl refl))))))))))))))))
 
 -- A busy record that is sound is at 1 to 17.
-pub within : (pooled : Bool) (slots : ℕ) (r : Record) → recordSound pooled slots r ≡ true → (r .place ≡ 0 → ⊥) → r .place ≤ 17
+pub within : (pooled : Bool) (slots : ℕ) (r : Call) → recordSound pooled slots r ≡ true → (r .place ≡ 0 → ⊥) → r .place ≤ 17
 unfolding recordSound
 within pooled slots r s busy = go pooled (leb-true _ _ (and-eq-true-iff _ _ .0 (rw (ne-eqb _ 0 busy) at s) .0))
   where

@@ -1,8 +1,8 @@
 //! What a step asks, without the step: the slot whose row it looks at, the word that it finds there,
 //! and what it would be refused by. Nothing is written. A run of no steps asks it, and a search that takes
 //! its steps back asks for the row.
+use model::Call;
 use model::Control;
-use model::Record;
 use sound::Lengths;
 use sound::admission;
 use word::Anchor;
@@ -18,7 +18,7 @@ ghost use Rattle.model.specs.Refusals.{stepSound, stepRefusal};
 ghost use Rattle.asking.specs.Asked.{newAnchor, changeSound};
 
 /// Whether the side at the record's place is the right one.
-fn on_right(r: Record) -> bool
+fn on_right(r: Call) -> bool
     ensures { λ b. ⌜ b ≡ eqb (sideOf r) 1 ⌝ }
 {
     let a = Anchor::unpack(r.seen);
@@ -27,7 +27,7 @@ fn on_right(r: Record) -> bool
 }
 
 /// The end of the Anchor as read that the place looks at.
-fn end_seen(r: Record) -> u64
+fn end_seen(r: Call) -> u64
     ensures { λ x. ⌜ x ≡ endSeen r ⌝ }
 {
     let a = Anchor::unpack(r.seen);
@@ -35,7 +35,7 @@ fn end_seen(r: Record) -> u64
 }
 
 /// The slot of the head as read.
-fn slot_read(r: Record) -> u64
+fn slot_read(r: Call) -> u64
     ensures { λ x. ⌜ x ≡ linkOf (r .link) .slot ⌝ }
 {
     let head = Link::unpack(r.link);
@@ -43,7 +43,7 @@ fn slot_read(r: Record) -> u64
 }
 
 /// The slot whose row or mark the record's place touches, at 17 the one that it gives back; 0: none.
-pub fn row_of(r: Record) -> u64
+pub fn row_of(r: Call) -> u64
     ensures { λ x. ⌜ x ≡ row r ⌝ }
 {
     let place = r.place;
@@ -67,7 +67,7 @@ pub fn row_of(r: Record) -> u64
 }
 
 /// What the place finds in that row: the label at 11, the next slot at 13, a link word at 3, 5, 7 and 9; else 0.
-fn found(r: Record, lefts: &[u64], rights: &[u64], labels: &[u32], next: &[u64]) -> u64
+fn found(r: Call, lefts: &[u64], rights: &[u64], labels: &[u32], next: &[u64]) -> u64
     ensures { λ w.
         ⌜ ((c : Control) (marks : List ℕ)
         → w ≡ wordFound (tablesOf c (now (lefts .entry)) (now (rights .entry)) (now (labels .entry)) marks (now (next .entry))) r) ⌝ }
@@ -91,7 +91,7 @@ fn found(r: Record, lefts: &[u64], rights: &[u64], labels: &[u32], next: &[u64])
 }
 
 /// The Anchor that a change at 2, 4 or 10 makes.
-fn new_anchor(r: Record) -> u64
+fn new_anchor(r: Call) -> u64
     ensures { λ w. ⌜ w ≡ newAnchor r ⌝ }
 {
     if r.place == 2 {
@@ -105,7 +105,7 @@ fn new_anchor(r: Record) -> u64
 
 /// Whether the change at 2, 4 or 10, at 9, or at 14 or 17 leaves Anchor sound and raises no tag past 32 bits; w is the
 /// word found. Where the word is not as read none is made.
-fn change_sound(c: Control, r: Record, w: u64) -> bool
+fn change_sound(c: Control, r: Call, w: u64) -> bool
     ensures { λ b. ⌜ (0 < r .place → r .place ≤ 17 → b ≡ changeSound c r w) ⌝ }
 {
     let on_anchor = (r.place == 2) | (r.place == 4) | (r.place == 10);
@@ -121,7 +121,7 @@ fn change_sound(c: Control, r: Record, w: u64) -> bool
 }
 
 /// Whether what the step touches is sound; w is the word found in its row.
-fn touch_sound(c: Control, r: Record, w: u64) -> bool
+fn touch_sound(c: Control, r: Call, w: u64) -> bool
     ensures { λ b. ⌜ (0 < r .place → r .place ≤ 17 → b ≡ stepSound c r w) ⌝ }
 {
     let meets = (r.place == 3) | (r.place == 5) | (r.place == 7);
@@ -138,7 +138,7 @@ fn touch_sound(c: Control, r: Record, w: u64) -> bool
 /// What a step of task `task` among `records` lent records would be refused by, where `r` is its record; 0: by nothing.
 pub fn refusal(
     c: Control,
-    r: Record,
+    r: Call,
     records: usize,
     task: usize,
     lefts: &[u64],

@@ -8,12 +8,12 @@ use native.Mathlib.Omega.{arith}
 use lib.Dec.{eqb}
 use borrow.Author.Tests.{eqb-true}
 use Rattle.model.specs.declared.{Answer.Answer, Entry.Entry, Op.Op}
-use Rattle.model.specs.declared.Answer.the-variants.{Running, Pushed, Empty, Popped, NoSlot}
-use Rattle.model.specs.declared.Op.the-variants.{Push, Pop, Put, Step}
+use Rattle.model.specs.declared.Answer.the-variants.{Running, Pushed, Empty, Popped, NoFreeSlot}
+use Rattle.model.specs.declared.Op.the-variants.{Push, Pop, PushPooled, Step}
 use Rattle.model.specs.Calls.{Acted, Done, act, actOn, back, finish, popStart, pushStart, putStart, step}
 use Rattle.model.specs.Refusals.{among, popRefusal, pushRefusal, putRefusal, stepRefusal}
 use Rattle.model.specs.Tables.{Queue, recordAt}
-use Rattle.model.specs.History.{Call, Effect, Ending, Event, Ledger, Request, answered, pending}
+use Rattle.model.specs.History.{LedgerCall, Effect, Ending, Event, Ledger, Request, answered, pending}
 use Rattle.model.specs.History.{accept, attend, begins, continued, ended, isEffect, isOpen, ledgerFrom, note, over, run, stepOf}
 use Rattle.model.proofs.tests.Truth.{by-test}
 use Rattle.model.proofs.bridge.Accepted.{pop-accepted, push-accepted, put-accepted}
@@ -39,19 +39,19 @@ NotTogether pending e = Unit {0}
 NotTogether (answered m a) e = NotAt m e
 
 -- A call before position n.
-pub record Past (n : ℕ) (c : Call) : Type 0 where
+pub record Past (n : ℕ) (c : LedgerCall) : Type 0 where
   pub kind : c .kind ≤ 1
   pub side : c .side ≤ 1
   pub begun : c .start < n
   pub done : EndsBefore n (c .ending)
 
-pub record Apart (c d : Call) : Type 0 where
+pub record Apart (c d : LedgerCall) : Type 0 where
   pub starts : c .start ≢ d .start
   pub later : NotAt (c .start) (d .ending)
   pub earlier : NotAt (d .start) (c .ending)
   pub ends : NotTogether (c .ending) (d .ending)
 
-pub record Tidy (n : ℕ) (cs : List Call) : Type 0 where
+pub record Tidy (n : ℕ) (cs : List LedgerCall) : Type 0 where
   pub past : All (Past n) cs
   pub apart : Pairs Apart cs
 
@@ -59,7 +59,7 @@ ends-later : (n : ℕ) (e : Ending) → EndsBefore n e → EndsBefore (suc n) e
 ends-later n pending h = tt
 ends-later n (answered m a) h = omega arith
 
-past-later : (n : ℕ) (c : Call) → Past n c → Past (suc n) c
+past-later : (n : ℕ) (c : LedgerCall) → Past n c → Past (suc n) c
 past-later n c h = record { kind = h .kind; side = h .side; begun = omega (arith, h .begun); done = ends-later n (c .ending) (h .done) }
 
 -- Position n is none of those before.
@@ -72,35 +72,35 @@ not-ended n m (Running p) h = tt
 not-ended n m Pushed h = λ z. omega arith
 not-ended n m Empty h = λ z. omega arith
 not-ended n m (Popped e) h = λ z. omega arith
-not-ended n m NoSlot h = λ z. omega arith
+not-ended n m NoFreeSlot h = λ z. omega arith
 
 ended-later : (n : ℕ) (a : Answer) → EndsBefore (suc n) (ended n a)
 ended-later n (Running p) = tt
 ended-later n Pushed = omega arith
 ended-later n Empty = omega arith
 ended-later n (Popped e) = omega arith
-ended-later n NoSlot = omega arith
+ended-later n NoFreeSlot = omega arith
 
 together-first : (n : ℕ) (a : Answer) (e : Ending) → EndsBefore n e → NotTogether (ended n a) e
 together-first n (Running p) e h = tt
 together-first n Pushed e h = not-now n e h
 together-first n Empty e h = not-now n e h
 together-first n (Popped x) e h = not-now n e h
-together-first n NoSlot e h = not-now n e h
+together-first n NoFreeSlot e h = not-now n e h
 
 together-second : (n : ℕ) (a : Answer) (e : Ending) → EndsBefore n e → NotTogether e (ended n a)
 together-second n a pending h = tt
 together-second n a (answered m b) h = not-ended n m a h
 
 module _ (n : ℕ) (ev : Event) (a : Answer) where
-  abbrev Gone : Call → List Effect → Call
+  abbrev Gone : LedgerCall → List Effect → LedgerCall
   Gone c es = continued c es (ended n a)
 
-  past-gone : (c : Call) (es : List Effect) → Past n c → Past (suc n) (Gone c es)
+  past-gone : (c : LedgerCall) (es : List Effect) → Past n c → Past (suc n) (Gone c es)
   past-gone c es h = record { kind = h .kind; side = h .side; begun = omega (arith, h .begun); done = ended-later n a }
 
   -- The first or the second of two calls goes on.
-  apart-first : (c d : Call) (es : List Effect) → Past n c → Past n d → Apart c d → Apart (Gone c es) d
+  apart-first : (c d : LedgerCall) (es : List Effect) → Past n c → Past n d → Apart c d → Apart (Gone c es) d
   apart-first c d es p q h = record {
     starts = h .starts;
     later = h .later;
@@ -108,7 +108,7 @@ module _ (n : ℕ) (ev : Event) (a : Answer) where
     ends = together-first n a (d .ending) (q .done);
   }
 
-  apart-second : (c d : Call) (es : List Effect) → Past n c → Apart c d → Apart c (Gone d es)
+  apart-second : (c d : LedgerCall) (es : List Effect) → Past n c → Apart c d → Apart c (Gone d es)
   apart-second c d es p h = record {
     starts = h .starts;
     later = not-ended n (c .start) a (p .begun);
@@ -116,7 +116,7 @@ module _ (n : ℕ) (ev : Event) (a : Answer) where
     ends = together-second n a (c .ending) (p .done);
   }
 
-  attend-none : (d : List Entry) (cs : List Call) → opens (ev .task) cs ≡ 0 → attend n ev a d cs ≡ record { deque = d; calls = cs }
+  attend-none : (d : List Entry) (cs : List LedgerCall) → opens (ev .task) cs ≡ 0 → attend n ev a d cs ≡ record { deque = d; calls = cs }
   unfolding attend
   attend-none d [] e = refl
   attend-none d (c ∷ cs) e = by-test (λ (l : Ledger). l ≡ record { deque = d; calls = c ∷ cs }) (eqb (c .task) (ev .task) && isOpen (c .ending))
@@ -124,7 +124,7 @@ module _ (n : ℕ) (ev : Event) (a : Answer) where
       (λ z. ap (over c) (attend-none d cs (ap (λ (b : Bool). cond b (suc (opens (ev .task) cs)) (opens (ev .task) cs)) (sym z) ∙ e)))
 
   -- At most one call goes on, so at most one is answered here.
-  attend-apart : (d : List Entry) (cs : List Call) → opens (ev .task) cs ≤ 1 → All (Past n) cs → Pairs Apart cs
+  attend-apart : (d : List Entry) (cs : List LedgerCall) → opens (ev .task) cs ≤ 1 → All (Past n) cs → Pairs Apart cs
       → Pairs Apart (attend n ev a d cs .calls)
   unfolding attend stepOf
   attend-apart d [] o p h = tt
@@ -132,28 +132,28 @@ module _ (n : ℕ) (ev : Event) (a : Answer) where
       (λ z. let f : opens (ev .task) cs ≡ 0 = let s = ap (λ (b : Bool). cond b (suc (opens (ev .task) cs)) (opens (ev .task) cs)) z in omega arith in
       let e = ap (λ (l : Ledger). l .calls) (attend-none d cs f) in
       let first : (es : List Effect) → Pairs Apart (Gone c es ∷ attend n ev a d cs .calls) =
-      λ es. subst (λ (l : List Call). Pairs Apart (Gone c es ∷ l)) (sym e)
-      (all-both (λ (x : Call) q r. apart-first c x es (p .0) q r) cs (p .1) (h .0), h .1) in
+      λ es. subst (λ (l : List LedgerCall). Pairs Apart (Gone c es ∷ l)) (sym e)
+      (all-both (λ (x : LedgerCall) q r. apart-first c x es (p .0) q r) cs (p .1) (h .0), h .1) in
       by-test (λ (l : Ledger). Pairs Apart (l .calls)) (isEffect ev a) (λ _. first _) (λ _. first _))
       (λ z. let f : opens (ev .task) cs ≤ 1 = let s = ap (λ (b : Bool). cond b (suc (opens (ev .task) cs)) (opens (ev .task) cs)) z in omega arith in (
         attend-all n ev a (Apart c) (Apart c) (λ x r. r) (λ x r. apart-second c x (x .effects) (p .0) r) (λ x y r. apart-second c x _ (p .0) r) d cs (h .0),
         attend-apart d cs f (p .1) (h .1),
       ))
 
-  attend-tidy : (d : List Entry) (cs : List Call) → opens (ev .task) cs ≤ 1 → Tidy n cs → Tidy (suc n) (attend n ev a d cs .calls)
+  attend-tidy : (d : List Entry) (cs : List LedgerCall) → opens (ev .task) cs ≤ 1 → Tidy n cs → Tidy (suc n) (attend n ev a d cs .calls)
   attend-tidy d cs o h = record {
     past = attend-all n ev a (Past n) (Past (suc n)) (past-later n) (λ c p. past-gone c (c .effects) p) (λ c r p. past-gone c _ p) d cs (h .past);
     apart = attend-apart d cs o (h .past) (h .apart);
   }
 
-begin-tidy : (n t kind side : ℕ) (named : Bool) (e : Entry) (cs : List Call) → kind ≤ 1 → side ≤ 1 → Tidy n cs
+begin-tidy : (n t kind side : ℕ) (named : Bool) (e : Entry) (cs : List LedgerCall) → kind ≤ 1 → side ≤ 1 → Tidy n cs
     → Tidy (suc n) (begins n t kind side named e ∷ cs)
 begin-tidy n t kind side named e cs k s h = record {
   past = (record { kind = k; side = s; begun = omega arith; done = tt }, all-map (past-later n) cs (h .past));
   apart = (all-map fresh cs (h .past), h .apart);
 }
   where
-    fresh : (d : Call) → Past n d → Apart (begins n t kind side named e) d
+    fresh : (d : LedgerCall) → Past n d → Apart (begins n t kind side named e) d
     fresh d p = record { starts = λ z. omega (arith, p .begun); later = not-now n (d .ending) (p .done); earlier = tt; ends = tt }
 
 module _ (n : ℕ) (q : Queue) (l : Ledger) (g : Matched n q l) (h : Tidy n (l .calls)) (t : ℕ) where
@@ -182,7 +182,7 @@ module _ (n : ℕ) (q : Queue) (l : Ledger) (g : Matched n q l) (h : Tidy n (l .
       (λ e. begin-tidy n t 0 side true _ (l .calls) (omega arith) (push-accepted q t side x (eqb-true _ _ e) .starting .side) h) (λ e. unchanged)
   act-tidy (Pop side) = by-test (Back (Pop side)) (eqb (popRefusal (q .tables) (among q t) (recordAt q t) side) 0)
       (λ e. begin-tidy n t 1 side false _ (l .calls) (omega arith) (pop-accepted q t side (eqb-true _ _ e) .side) h) (λ e. unchanged)
-  act-tidy (Put side y) = by-test (Back (Put side y)) (eqb (putRefusal (q .tables) (among q t) (recordAt q t) side) 0)
+  act-tidy (PushPooled side y) = by-test (Back (PushPooled side y)) (eqb (putRefusal (q .tables) (among q t) (recordAt q t) side) 0)
       (λ e. begin-tidy n t 0 side false _ (l .calls) (omega arith) (put-accepted q t side (eqb-true _ _ e) .0 .side) h) (λ e. unchanged)
   act-tidy Step = by-test (Back Step) (eqb (stepRefusal (q .tables) (among q t) (recordAt q t)) 0)
       (λ e. attend-tidy n _ _ (l .deque) (l .calls) one-open h) (λ e. unchanged)

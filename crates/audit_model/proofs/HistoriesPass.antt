@@ -8,7 +8,7 @@ use lib.ListN.{length, length-map}
 use borrow.Author.Tests.{eq-eqb, le-leb, ne-eqb}
 use Rattle.model.specs.declared.Entry.{Entry}
 use Rattle.model.specs.{Calls.opened, Refusals.openRefusal, Sound.from1, Tables.Queue, Lists.All}
-use Rattle.model.specs.History.{Call, Lawful, Request, ledger, run}
+use Rattle.model.specs.History.{LedgerCall, Lawful, Request, ledger, run}
 use Rattle.model.proofs.{Linearizable.linearized, Openings.after-opening}
 use Rattle.model.proofs.tests.Truth.{and-of}
 use Rattle.model.proofs.ledger.Opened as start
@@ -32,33 +32,33 @@ Formed f = wellFormed f ≡ true
 abbrev Differ : Finished → Finished → Type 0
 Differ f g = apart f g ≡ true
 
-abbrev Done : Call → Type 0
+abbrev Done : LedgerCall → Type 0
 Done c = IsAnswered (c .ending)
 
-abbrev Law : Call → Type 0
+abbrev Law : LedgerCall → Type 0
 Law c = Lawful c (c .ending)
 
-all-finished : (P : Finished → Type 0) (cs : List Call) → All (λ (c : Call). P (written c (c .ending))) cs → All P (finished cs)
+all-finished : (P : Finished → Type 0) (cs : List LedgerCall) → All (λ (c : LedgerCall). P (written c (c .ending))) cs → All P (finished cs)
 all-finished P [] h = tt
 all-finished P (c ∷ cs) h =
     subst (All P) (sym (finished-cons c cs))
     (all-append P (finished cs) (written c (c .ending) ∷ []) (all-finished P cs (h .1)) (h .0, tt))
 
-pairs-finished : (cs : List Call) → All Done cs → Pairs Apart cs → Pairs Differ (finished cs)
+pairs-finished : (cs : List LedgerCall) → All Done cs → Pairs Apart cs → Pairs Differ (finished cs)
 pairs-finished [] d h = tt
 pairs-finished (c ∷ cs) d h = subst (Pairs Differ) (sym (finished-cons c cs))
     (pairs-snoc Differ (finished cs) (written c (c .ending)) (pairs-finished cs (d .1) (h .1))
     (all-finished (λ (f : Finished). Differ f (written c (c .ending))) cs
-    (all-both (λ (x : Call) i a. apart-written c x (d .0) i a) cs (d .1) (h .0))))
+    (all-both (λ (x : LedgerCall) i a. apart-written c x (d .0) i a) cs (d .1) (h .0))))
 
-all-formed : (n : ℕ) (cs : List Call) → All Done cs → All (Past n) cs → All Law cs → All Formed (finished cs)
+all-formed : (n : ℕ) (cs : List LedgerCall) → All Done cs → All (Past n) cs → All Law cs → All Formed (finished cs)
 all-formed n cs d p l = all-finished Formed cs (go cs d p l)
   where
-    go : (cs : List Call) → All Done cs → All (Past n) cs → All Law cs → All (λ (c : Call). Formed (written c (c .ending))) cs
+    go : (cs : List LedgerCall) → All Done cs → All (Past n) cs → All Law cs → All (λ (c : LedgerCall). Formed (written c (c .ending))) cs
     go [] d p l = tt
     go (c ∷ cs) d p l = (formed c n (c .ending) (d .0) (p .0) (l .0), go cs (d .1) (p .1) (l .1))
 
-is-accepted : (n : ℕ) (cs : List Call) → length cs ≤ 64 → All Done cs → Tidy n cs → All Law cs → accepted (finished cs) ≡ true
+is-accepted : (n : ℕ) (cs : List LedgerCall) → length cs ≤ 64 → All Done cs → Tidy n cs → All Law cs → accepted (finished cs) ≡ true
 unfolding accepted
 is-accepted n cs s d t l =
     and-of
@@ -106,7 +106,7 @@ module _ (fs : List Finished) where
       rw (and-of (g .agrees) (none-earlier t l (s .0) (s .1) (o .0)))
       (ap (replay (suc p) (map at l)) (g .queue) ∙ passes (suc p) l (servedIn (r .0) t d .deque) d′ (s .1) (o .1) (r .1 .1))
 
-all-settled : (cs : List Call) → All Done cs → All Law cs → All IsSettled cs
+all-settled : (cs : List LedgerCall) → All Done cs → All Law cs → All IsSettled cs
 all-settled [] d l = tt
 all-settled (c ∷ cs) d l = (settled c (c .ending) (d .0) (l .0), all-settled cs (d .1) (l .1))
 

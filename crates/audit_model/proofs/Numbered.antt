@@ -6,7 +6,7 @@ use Prim.Native.Nat.{ℕ, suc, _≤_}
 use native.Mathlib.Omega.{arith}
 use lib.ListN.{length, length-reverse, length-map, List·getD-append}
 use lib.Seq.{getD-at}
-use Rattle.model.specs.History.{Call, Effect}
+use Rattle.model.specs.History.{LedgerCall, Effect}
 use Rattle.model.specs.Lists.{All}
 use Rattle.audit_model.specs.declared.Finished.{Finished}
 use Rattle.audit_model.specs.Audit.{nobody, numbered}
@@ -16,7 +16,7 @@ use Rattle.audit_model.proofs.Lists.{Pairs, all-both, all-map}
 use Rattle.audit_model.proofs.Order.{NotAfter, insert-all, insert-length, insert-pairs, insert-sorted}
 use Rattle.audit_model.proofs.Settled.{Settled, Suits}
 
-abbrev pub IsSettled : Call → Type 0
+abbrev pub IsSettled : LedgerCall → Type 0
 IsSettled c = Settled c (written c (c .ending))
 
 pub record Within (n : ℕ) (t : Taken) : Type 0 where
@@ -33,13 +33,13 @@ pub record Ordered (fs : List Finished) (n : ℕ) (l : List Taken) : Type 0 wher
   pub sorted : Pairs NotAfter l
   pub suits : All (λ (t : Taken). Suits (numbered fs (t .number)) t) l
 
-pub finished-cons : (c : Call) (cs : List Call) → finished (c ∷ cs) ≡ finished cs ++ (written c (c .ending) ∷ [])
-finished-cons c cs = reverse-cons (written c (c .ending)) (map (λ (c : Call). written c (c .ending)) cs)
+pub finished-cons : (c : LedgerCall) (cs : List LedgerCall) → finished (c ∷ cs) ≡ finished cs ++ (written c (c .ending) ∷ [])
+finished-cons c cs = reverse-cons (written c (c .ending)) (map (λ (c : LedgerCall). written c (c .ending)) cs)
 
-pub finished-length : (cs : List Call) → length (finished cs) ≡ length cs
+pub finished-length : (cs : List LedgerCall) → length (finished cs) ≡ length cs
 finished-length cs =
-    length-reverse (map (λ (c : Call). written c (c .ending)) cs)
-    ∙ length-map cs (λ (c : Call). written c (c .ending))
+    length-reverse (map (λ (c : LedgerCall). written c (c .ending)) cs)
+    ∙ length-map cs (λ (c : LedgerCall). written c (c .ending))
 
 -- A call more: the numbers of the others stay, and the next number is its own.
 numbered-old : (fs : List Finished) (f : Finished) (k : ℕ) → k ≤ length fs → numbered (fs ++ (f ∷ [])) k ≡ numbered fs k
@@ -74,7 +74,7 @@ inserted fs f n l t e k s o = record {
     kept : (u : Taken) → Within n u → Suits (numbered fs (u .number)) u → Suits (numbered (fs ++ (f ∷ [])) (u .number)) u
     kept u w v = subst (λ (x : Finished). Suits x u) (sym (numbered-old fs f (u .number) (omega (arith, w .high)))) v
 
-pub ordered : (cs : List Call) → All IsSettled cs → Ordered (finished cs) (length cs) (takenOf cs)
+pub ordered : (cs : List LedgerCall) → All IsSettled cs → Ordered (finished cs) (length cs) (takenOf cs)
 ordered [] h = record { count = refl; known = tt; differ = tt; sorted = tt; suits = tt }
 ordered (c ∷ cs) h =
     let s = h .0 in

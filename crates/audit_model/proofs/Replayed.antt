@@ -6,10 +6,10 @@ use Prim.Native.Nat.{ℕ, suc, _<_, _≤_}
 use native.Mathlib.Omega.{arith}
 use lib.{Dec.eqb, ListN.length}
 use Rattle.model.specs.declared.{Answer.Answer, Entry.Entry, Op.Op, Outcome.Outcome}
-use Rattle.model.specs.declared.Op.the-variants.{Push, Pop, Put, Step}
+use Rattle.model.specs.declared.Op.the-variants.{Push, Pop, PushPooled, Step}
 use Rattle.model.specs.declared.Outcome.the-variants.{Refused, Moved}
 use Rattle.model.specs.Deque.{Served, saysNoSlot, serve, serveFor, servePop, servePush, takeFirst, seenFrom}
-use Rattle.model.specs.History.{Call, Effect, Ending, Event, Ledger}
+use Rattle.model.specs.History.{LedgerCall, Effect, Ending, Event, Ledger}
 use Rattle.model.specs.History.{accept, attend, begins, continued, ended, isEffect, isOpen, lacksSlot, ledgerFrom, note, over, stepOf, toldEntry}
 use Rattle.model.proofs.tests.Truth.{by-test}
 use Rattle.model.specs.Lists.{All}
@@ -47,7 +47,7 @@ reply-tells lacks kind side e d = by-test (λ (s : Served). serveFor (saysNoSlot
     (λ _. rw (never-no-slot kind side e d))
 
 -- Effects before position n.
-abbrev pub EffectsBefore : ℕ → Call → Type 0
+abbrev pub EffectsBefore : ℕ → LedgerCall → Type 0
 EffectsBefore n c = All (λ (e : Effect). e .at < n) (c .effects)
 
 abbrev AtOrBefore : ℕ → Taken → Type 0
@@ -71,7 +71,7 @@ all-inserted : (n : ℕ) (f : Effect → Taken) → ((e : Effect) → f e .at �
 all-inserted n f p [] l h z = z
 all-inserted n f p (e ∷ es) l h z = insert-all (AtOrBefore n) (f e) (putAll f es l) (omega (arith, h .0, p e)) (all-inserted n f p es l (h .1) z)
 
-pub effects-before : (n : ℕ) (cs : List Call) → All (EffectsBefore n) cs → All (AtOrBefore n) (takenOf cs)
+pub effects-before : (n : ℕ) (cs : List LedgerCall) → All (EffectsBefore n) cs → All (AtOrBefore n) (takenOf cs)
 effects-before n [] h = tt
 effects-before n (c ∷ cs) h =
     all-inserted n (taken (length (c ∷ cs)) (c .kind) (c .side) (c .entry)) (λ e. refl) (c .effects) (takenOf cs)
@@ -79,7 +79,7 @@ effects-before n (c ∷ cs) h =
 
 module _ (n : ℕ) (ev : Event) (a : Answer) (d : List Entry) where
   -- Calls cs attended to are ledger l: the new effects lie behind the others.
-  pub record Adds (cs : List Call) (l : Ledger) : Type 0 where
+  pub record Adds (cs : List LedgerCall) (l : Ledger) : Type 0 where
     pub new : List Taken
     pub count : length (l .calls) ≡ length cs
     pub effects : takenOf (l .calls) ≡ takenOf cs ++ new
@@ -87,16 +87,17 @@ module _ (n : ℕ) (ev : Event) (a : Answer) (d : List Entry) where
     pub replays : Replays new d (l .deque)
 
   -- A call before others that were attended to keeps its effects where they were.
-  keeps : (c : Call) (cs : List Call) (l : Ledger) → EffectsBefore n c → (g : Adds cs l)
+  keeps : (c : LedgerCall) (cs : List LedgerCall) (l : Ledger) → EffectsBefore n c → (g : Adds cs l)
       → putAll (taken (suc (length (l .calls))) (c .kind) (c .side) (c .entry)) (c .effects) (takenOf (l .calls)) ≡ takenOf (c ∷ cs) ++ g .new
   keeps c cs l h g = (λ i. putAll (taken (suc (g .count i)) (c .kind) (c .side) (c .entry)) (c .effects) (g .effects i))
       ∙ insert-earlier n (taken (length (c ∷ cs)) (c .kind) (c .side) (c .entry)) (λ e. refl) (c .effects) (takenOf cs) (g .new) h (g .here)
 
-  skips : (c : Call) (e : Ending) (cs : List Call) (l : Ledger) → EffectsBefore n c → Adds cs l → Adds (c ∷ cs) (over (continued c (c .effects) e) l)
+  skips : (c : LedgerCall) (e : Ending) (cs : List LedgerCall) (l : Ledger) → EffectsBefore n c → Adds cs l → Adds (c ∷ cs) (over (continued c
+      (c .effects) e) l)
   skips c e cs l h g = record { new = g .new; count = ap suc (g .count); effects = keeps c cs l h g; here = g .here; replays = g .replays }
 
   -- It takes effect behind them.
-  takes : (c : Call) (cs : List Call) (l : Ledger) → EffectsBefore n c → All (EffectsBefore n) cs → Adds cs l
+  takes : (c : LedgerCall) (cs : List LedgerCall) (l : Ledger) → EffectsBefore n c → All (EffectsBefore n) cs → Adds cs l
       → let s = serveFor (lacksSlot c a) (c .kind) (c .side) (toldEntry c ev) (l .deque) in
       Adds (c ∷ cs) (record { deque = s .deque; calls = continued c (record { at = n; reply = s .reply } ∷ c .effects) (ended n a) ∷ l .calls })
   takes c cs l h hs g =
@@ -118,7 +119,7 @@ module _ (n : ℕ) (ev : Event) (a : Answer) (d : List Entry) where
             (toldEntry c ev .slot, (ap (λ (s : Served). s .reply) same, ap (λ (s : Served). s .deque) same));
       }
 
-  pub attend-adds : (cs : List Call) → All (EffectsBefore n) cs → Adds cs (attend n ev a d cs)
+  pub attend-adds : (cs : List LedgerCall) → All (EffectsBefore n) cs → Adds cs (attend n ev a d cs)
   unfolding attend stepOf
   attend-adds [] h = record { new = []; count = refl; effects = refl; here = tt; replays = refl }
   attend-adds (c ∷ cs) h =
@@ -131,10 +132,10 @@ module _ (n : ℕ) (ev : Event) (a : Answer) (d : List Entry) where
       (λ _. skips c (c .ending) cs l (h .0) g)
 
 -- What an attended call has, by what it was: untouched, gone on, or gone on with an effect.
-pub attend-all : (n : ℕ) (ev : Event) (a : Answer) (P Q : Call → Type 0) → ((c : Call) → P c → Q c)
-    → ((c : Call) → P c → Q (continued c (c .effects) (ended n a)))
-    → ((c : Call) (r : Answer) → P c → Q (continued c (record { at = n; reply = r } ∷ c .effects) (ended n a)))
-    → (d : List Entry) (cs : List Call) → All P cs → All Q (attend n ev a d cs .calls)
+pub attend-all : (n : ℕ) (ev : Event) (a : Answer) (P Q : LedgerCall → Type 0) → ((c : LedgerCall) → P c → Q c)
+    → ((c : LedgerCall) → P c → Q (continued c (c .effects) (ended n a)))
+    → ((c : LedgerCall) (r : Answer) → P c → Q (continued c (record { at = n; reply = r } ∷ c .effects) (ended n a)))
+    → (d : List Entry) (cs : List LedgerCall) → All P cs → All Q (attend n ev a d cs .calls)
 unfolding attend stepOf
 attend-all n ev a P Q f g k d [] h = tt
 attend-all n ev a P Q f g k d (c ∷ cs) h =
@@ -148,7 +149,7 @@ pub record Replayed (n : ℕ) (l : Ledger) : Type 0 where
   pub before : All (EffectsBefore n) (l .calls)
   pub replays : Replays (takenOf (l .calls)) [] (l .deque)
 
-later : (n : ℕ) (c : Call) → EffectsBefore n c → EffectsBefore (suc n) c
+later : (n : ℕ) (c : LedgerCall) → EffectsBefore n c → EffectsBefore (suc n) c
 later n c h = all-map (λ (e : Effect) w. omega arith) (c .effects) h
 
 begun : (n t kind side : ℕ) (named : Bool) (e : Entry) (l : Ledger) → Replayed n l → Replayed (suc n) (over (begins n t kind side named e) l)
@@ -158,7 +159,7 @@ accepted : (n : ℕ) (ev : Event) (o : Op) (a : Answer) (l : Ledger) → Replaye
 unfolding accept
 accepted n ev (Push side slot label) a l g = begun n (ev .task) 0 side true _ l g
 accepted n ev (Pop side) a l g = begun n (ev .task) 1 side false _ l g
-accepted n ev (Put side label) a l g = begun n (ev .task) 0 side false _ l g
+accepted n ev (PushPooled side label) a l g = begun n (ev .task) 0 side false _ l g
 accepted n ev Step a l g =
     let z = attend-adds n ev a (l .deque) (l .calls) (g .before) in
     record {

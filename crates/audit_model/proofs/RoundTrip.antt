@@ -5,7 +5,7 @@ use Prim.Native.Nat.{ℕ, zero, suc, _+_, _*_, _/_, _≤_}
 use native.Mathlib.Omega.{arith}
 use lib.ListN.{length, getD}
 use Rattle.audit_model.specs.declared.Finished.{Finished}
-use Rattle.model.specs.History.{AfterOpening, Call, Request, ledger, run}
+use Rattle.model.specs.History.{AfterOpening, LedgerCall, Request, ledger, run}
 use Rattle.model.specs.{Calls.openAs, Tables.Queue, Lists.All}
 use Rattle.audit_model.specs.declared.Verdict.the-variants.{Passed}
 use Rattle.audit_model.specs.Audit.{verdict}
@@ -49,7 +49,7 @@ read-back cs =
 
 -- So a list of demand 3 passes as the words that are lent.
 pub words-pass : AfterOpening (λ (q : Queue) (os : List Request). let cs = ledger (run q os) .calls in
-    All (λ (c : Call). IsAnswered (c .ending)) cs → length cs ≤ 64 → verdict (callsIn (wordsOf (finished cs))) (effectOrder cs) ≡ Passed)
+    All (λ (c : LedgerCall). IsAnswered (c .ending)) cs → length cs ≤ 64 → verdict (callsIn (wordsOf (finished cs))) (effectOrder cs) ≡ Passed)
 words-pass pooled q tasks slots tag e os done small =
     let cs = ledger (run (openAs pooled q tasks slots tag .queue) os) .calls in
     ap (λ (fs : List Finished). verdict fs (effectOrder cs)) (read-back (finished cs)) ∙ histories-pass pooled q tasks slots tag e os done small

@@ -6,10 +6,10 @@ use Prim.Native.Nat.{ℕ, _<_, _≤_}
 use native.Mathlib.Omega.{arith}
 use borrow.Author.Tests.{le-leb, lt-ltb, ne-eqb}
 use Rattle.model.specs.declared.Answer.{Answer}
-use Rattle.model.specs.declared.Answer.the-variants.{Running, Pushed, Empty, Popped, NoSlot}
+use Rattle.model.specs.declared.Answer.the-variants.{Running, Pushed, Empty, Popped, NoFreeSlot}
 use Rattle.model.specs.declared.Outcome.the-variants.{Moved}
 use Rattle.model.specs.Calls.{replyOf}
-use Rattle.model.specs.History.{Call, Effect, Ending, Lawful, answered, pending}
+use Rattle.model.specs.History.{LedgerCall, Effect, Ending, Lawful, answered, pending}
 use Rattle.audit_model.specs.declared.Finished.{Finished}
 use Rattle.audit_model.specs.Audit.{apart, wellFormed}
 use Rattle.audit_model.specs.Written.{IsAnswered, IsTold, written}
@@ -22,7 +22,7 @@ SuitsReply f x (Running p) = ⊥
 SuitsReply f x Pushed = (f .answer ≡ 2) × (f .label ≡ x)
 SuitsReply f x Empty = f .answer ≡ 3
 SuitsReply f x (Popped e) = (f .answer ≡ 4) × (f .label ≡ e .label)
-SuitsReply f x NoSlot = ⊥
+SuitsReply f x NoFreeSlot = ⊥
 
 -- A written call and its effect.
 pub record Suits (f : Finished) (t : Taken) : Type 0 where
@@ -32,26 +32,26 @@ pub record Suits (f : Finished) (t : Taken) : Type 0 where
   pub within : t .at ≤ f .end
   pub reply : SuitsReply f (t .entry .label) (t .reply)
 
-pub record Settled (c : Call) (f : Finished) : Type 0 where
+pub record Settled (c : LedgerCall) (f : Finished) : Type 0 where
   pub effect : Effect
   pub only : c .effects ≡ effect ∷ []
   pub suits : (k : ℕ) → Suits f (taken k (c .kind) (c .side) (c .entry) effect)
 
-suits-reply : (c : Call) (n : ℕ) (a : Answer) → IsTold a → SuitsReply (written c (answered n a)) (c .entry .label) a
+suits-reply : (c : LedgerCall) (n : ℕ) (a : Answer) → IsTold a → SuitsReply (written c (answered n a)) (c .entry .label) a
 suits-reply c n (Running p) i = absurd i
 suits-reply c n Pushed i = (refl, refl)
 suits-reply c n Empty i = refl
 suits-reply c n (Popped x) i = (refl, refl)
-suits-reply c n NoSlot i = absurd i
+suits-reply c n NoFreeSlot i = absurd i
 
 known : (a : Answer) → IsTold a → (2 ≤ replyOf (Moved a) .code) × (replyOf (Moved a) .code ≤ 4)
 known (Running p) i = absurd i
 known Pushed i = (omega arith, omega arith)
 known Empty i = (omega arith, omega arith)
 known (Popped x) i = (omega arith, omega arith)
-known NoSlot i = absurd i
+known NoFreeSlot i = absurd i
 
-module _ (c : Call) where
+module _ (c : LedgerCall) where
   pub settled : (e : Ending) → IsAnswered e → Lawful c e → Settled c (written c e)
   settled pending i o = absurd i
   settled (answered n a) i o = record {
@@ -83,7 +83,7 @@ module _ (c : Call) where
   not-end n pending i h = absurd i
   not-end n (answered m a) i h = h
 
-not-ends : (c d : Call) (e f : Ending) → IsAnswered e → IsAnswered f → NotTogether e f → written c e .end ≢ written d f .end
+not-ends : (c d : LedgerCall) (e f : Ending) → IsAnswered e → IsAnswered f → NotTogether e f → written c e .end ≢ written d f .end
 not-ends c d pending f i j h = absurd i
 not-ends c d (answered n a) f i j h = not-end d n f j h
 
@@ -94,7 +94,7 @@ apart-as x y p q r s =
     (rw (ne-eqb (x .end) (y .start) (λ z. r (sym z)), ne-eqb (x .end) (y .end) s))
 
 -- The later call is the first of the pair in the ledger, and the second in the history.
-pub apart-written : (c d : Call) → IsAnswered (c .ending) → IsAnswered (d .ending) → Apart c d
+pub apart-written : (c d : LedgerCall) → IsAnswered (c .ending) → IsAnswered (d .ending) → Apart c d
     → apart (written d (d .ending)) (written c (c .ending)) ≡ true
 apart-written c d i j h =
     apart-as (written d (d .ending)) (written c (c .ending))

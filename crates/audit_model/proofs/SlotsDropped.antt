@@ -6,7 +6,7 @@ use Prim.Native.Nat.{ℕ}
 use lib.Dec.{eqb}
 use borrow.Author.Tests.{eq-eqb}
 use Rattle.model.specs.declared.{Answer.Answer, Entry.Entry}
-use Rattle.model.specs.declared.Answer.the-variants.{Running, Pushed, Empty, Popped, NoSlot}
+use Rattle.model.specs.declared.Answer.the-variants.{Running, Pushed, Empty, Popped, NoFreeSlot}
 use Rattle.model.specs.Deque.{Served, saysNoSlot, seenFrom, serve, serveFor, servePop, servePush, takeFirst}
 use Rattle.audit_model.specs.declared.Finished.{Finished}
 use Rattle.audit_model.specs.Audit.{Given, agrees, gives, serveLabel, takeLabel}
@@ -60,7 +60,7 @@ is-served f x (Running p) s = absurd s
 is-served f x Pushed s = refl
 is-served f x Empty s = refl
 is-served f x (Popped e) s = refl
-is-served f x NoSlot s = absurd s
+is-served f x NoFreeSlot s = absurd s
 
 pub label-gives : (f : Finished) (slot : ℕ) (t : Taken) (d : List Entry) → Suits f t → servedIn slot t d .reply ≡ t .reply
     → Gives f (servedIn slot t d) (gives f (labelsOf d))

@@ -5,7 +5,7 @@ use mathlib.Core.Path.{_≡_, refl, sym, ap, _∙_}
 use Prim.Native.Nat.{ℕ}
 use lib.{Dec.ltb, ListN.length}
 use Rattle.model.specs.declared.{Answer.Answer, Entry.Entry}
-use Rattle.model.specs.History.{Call, Effect}
+use Rattle.model.specs.History.{LedgerCall, Effect}
 use Rattle.audit_model.specs.Written.{Placed, effectOrder, effectsOf, insert, insertAll}
 
 pub record Taken : Type 0 where
@@ -26,7 +26,7 @@ abbrev pub putAll : (Effect → Taken) → List Effect → List Taken → List T
 putAll f [] l = l
 putAll f (e ∷ es) l = put (f e) (putAll f es l)
 
-abbrev pub takenOf : List Call → List Taken
+abbrev pub takenOf : List LedgerCall → List Taken
 takenOf [] = []
 takenOf (c ∷ cs) = putAll (taken (length (c ∷ cs)) (c .kind) (c .side) (c .entry)) (c .effects) (takenOf cs)
 
@@ -51,7 +51,7 @@ all-placed n kind side x (e ∷ es) l =
     put-placed (taken n kind side x e) (putAll (taken n kind side x) es l)
     ∙ ap (insert (λ (p : Placed). p .at) (record { at = e .at; number = n })) (all-placed n kind side x es l)
 
-effects-placed : (cs : List Call) → map placed (takenOf cs) ≡ effectsOf cs
+effects-placed : (cs : List LedgerCall) → map placed (takenOf cs) ≡ effectsOf cs
 effects-placed [] = refl
 effects-placed (c ∷ cs) =
     all-placed (length (c ∷ cs)) (c .kind) (c .side) (c .entry) (c .effects) (takenOf cs)
@@ -61,5 +61,5 @@ map-placed : (l : List Taken) → map (λ (p : Placed). p .number) (map placed l
 map-placed [] = refl
 map-placed (t ∷ l) = ap (λ (x : List ℕ). t .number ∷ x) (map-placed l)
 
-pub order-is : (cs : List Call) → effectOrder cs ≡ map (λ (t : Taken). t .number) (takenOf cs)
+pub order-is : (cs : List LedgerCall) → effectOrder cs ≡ map (λ (t : Taken). t .number) (takenOf cs)
 order-is cs = ap (map (λ (p : Placed). p .number)) (sym (effects-placed cs)) ∙ map-placed (takenOf cs)

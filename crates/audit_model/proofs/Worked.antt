@@ -3,7 +3,7 @@ use mathlib.Core.Path.{_≡_, refl}
 use mathlib.Core.List.{List, [], _∷_, _++_, map}
 use Prim.Native.Nat.{ℕ, zero, suc, _+_, _*_}
 use lib.ListN.{replicate}
-use Rattle.model.specs.declared.Op.the-variants.{Push, Pop, Put, Step}
+use Rattle.model.specs.declared.Op.the-variants.{Push, Pop, PushPooled, Step}
 use Rattle.model.specs.Tables.{Queue, unused, tablesOf, unopened}
 use Rattle.model.specs.Sound.{anchorSound, linkSound, controlSound, recordSound, rowsFit}
 use Rattle.model.specs.Places.{sideOf, row, linkSide, reading, at1, at2, at3, new4, at4, at5, at6, at7, at9, at10, at11, at12, at13, at14, move}
@@ -11,7 +11,7 @@ use Rattle.model.specs.Route.{pushRoute, popRoute, route, onward, answer, goes,
 use Rattle.model.specs.Refusals.{openRefusal, stepSound, stepRefusal, startRefusal}
 use Rattle.model.specs.Calls.{opened, openAs, openPooled, openQueue, pushStart, putStart, popStart, finish, step, actOn, act}
 use Rattle.model.specs.Deque.{serve, serveFor, servePop, servePush}
-use Rattle.model.specs.History.{Call, Request, accept, attend, isEffect, ledger, ledgerFrom, note, run, stepOf}
+use Rattle.model.specs.History.{LedgerCall, Request, accept, attend, isEffect, ledger, ledgerFrom, note, run, stepOf}
 use Rattle.audit_model.specs.declared.{Finished.Finished, VerdictReply.VerdictReply}
 use Rattle.audit_model.specs.declared.Verdict.the-variants.{Failed, Passed, Refused}
 use Rattle.audit_model.specs.Audit.{accepted, agrees, apart, notEarlier, rearranges, replay, serveLabel, verdict, wellFormed}
@@ -37,14 +37,14 @@ list =
     (record { task = 0; op = Push 1 1 700 } ∷ steps (0 ∷ 0 ∷ []))
     ++ (record { task = 0; op = Pop 0 } ∷ record { task = 1; op = Pop 1 } ∷ steps (1 ∷ 0 ∷ 1 ∷ 0 ∷ 1 ∷ 0 ∷ []))
 
-abbrev calls : List Call
+abbrev calls : List LedgerCall
 calls = ledger (run (openQueue zeros 2 3 0 .queue) list) .calls
 
 -- A push, and another while its label waits.
 abbrev two : List Request
-two = (record { task = 0; op = Put 1 700 } ∷ steps (0 ∷ 0 ∷ 0 ∷ 0 ∷ 0 ∷ [])) ++ (record { task = 1; op = Put 0 701 } ∷ steps (1 ∷ []))
+two = (record { task = 0; op = PushPooled 1 700 } ∷ steps (0 ∷ 0 ∷ 0 ∷ 0 ∷ 0 ∷ [])) ++ (record { task = 1; op = PushPooled 0 701 } ∷ steps (1 ∷ []))
 
-abbrev pooledCalls : List Call
+abbrev pooledCalls : List LedgerCall
 pooledCalls = ledger (run (openPooled zeros 2 1 0 .queue) two) .calls
 
 abbrev drawn : Finished

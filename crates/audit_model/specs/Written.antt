@@ -4,10 +4,10 @@ use mathlib.Core.List.{List, [], _∷_, map, reverse}
 use Prim.Native.Nat.{ℕ, _≤_}
 use lib.{Dec.ltb, ListN.length}
 use Rattle.model.specs.declared.{Answer.Answer, Entry.Entry}
-use Rattle.model.specs.declared.Answer.the-variants.{Running, Pushed, Empty, Popped, NoSlot}
+use Rattle.model.specs.declared.Answer.the-variants.{Running, Pushed, Empty, Popped, NoFreeSlot}
 use Rattle.model.specs.declared.Outcome.the-variants.{Moved}
 use Rattle.model.specs.{Calls.replyOf, Tables.Queue, Lists.All}
-use Rattle.model.specs.History.{AfterOpening, Call, Effect, Ending, Request, answered, ledger, pending, run}
+use Rattle.model.specs.History.{AfterOpening, LedgerCall, Effect, Ending, Request, answered, ledger, pending, run}
 use Rattle.audit_model.specs.declared.Finished.{Finished}
 use Rattle.audit_model.specs.declared.Verdict.the-variants.{Passed}
 use Rattle.audit_model.specs.Audit.{nobody, verdict}
@@ -18,9 +18,9 @@ labelTold e (Running p) = 0
 labelTold e Pushed = e .label
 labelTold e Empty = 0
 labelTold e (Popped x) = x .label
-labelTold e NoSlot = 0
+labelTold e NoFreeSlot = 0
 
-abbrev pub written : Call → Ending → Finished
+abbrev pub written : LedgerCall → Ending → Finished
 written c pending = nobody
 written c (answered n a) = record {
   task = c .task;
@@ -33,8 +33,8 @@ written c (answered n a) = record {
 }
 
 -- The ledger has the latest call first; a history has the first call first, as number 1.
-abbrev pub finished : List Call → List Finished
-finished cs = reverse (map (λ (c : Call). written c (c .ending)) cs)
+abbrev pub finished : List LedgerCall → List Finished
+finished cs = reverse (map (λ (c : LedgerCall). written c (c .ending)) cs)
 
 -- An effect: its place in the list, and its call's number.
 pub record Placed : Type 0 where
@@ -52,11 +52,11 @@ insertAll n [] l = l
 insertAll n (e ∷ es) l = insert (λ (p : Placed). p .at) (record { at = e .at; number = n }) (insertAll n es l)
 
 -- All effects, in the order of their places.
-abbrev pub effectsOf : List Call → List Placed
+abbrev pub effectsOf : List LedgerCall → List Placed
 effectsOf [] = []
 effectsOf (c ∷ cs) = insertAll (length (c ∷ cs)) (c .effects) (effectsOf cs)
 
-abbrev pub effectOrder : List Call → List ℕ
+abbrev pub effectOrder : List LedgerCall → List ℕ
 effectOrder cs = map (λ (p : Placed). p .number) (effectsOf cs)
 
 -- Pushed, empty or popped: no history can tell *no slot*.
@@ -65,7 +65,7 @@ IsTold (Running p) = ⊥
 IsTold Pushed = Unit {0}
 IsTold Empty = Unit {0}
 IsTold (Popped e) = Unit {0}
-IsTold NoSlot = ⊥
+IsTold NoFreeSlot = ⊥
 
 abbrev pub IsAnswered : Ending → Type 0
 IsAnswered pending = ⊥
@@ -75,7 +75,7 @@ IsAnswered (answered n a) = IsTold a
 abbrev pub Passes : Queue → List Request → Type 0
 Passes q os =
     let cs = ledger (run q os) .calls in
-    All (λ (c : Call). IsAnswered (c .ending)) cs → length cs ≤ 64 → verdict (finished cs) (effectOrder cs) ≡ Passed
+    All (λ (c : LedgerCall). IsAnswered (c .ending)) cs → length cs ≤ 64 → verdict (finished cs) (effectOrder cs) ≡ Passed
 
 abbrev pub HistoriesPass : Type 0
 HistoriesPass = AfterOpening Passes

@@ -7,13 +7,13 @@ use native.Mathlib.Omega.{arith}
 use lib.Dec.{eqb, leb}
 use borrow.Author.Tests.{lt-ltb, leb-true}
 use Rattle.model.specs.declared.Control.{Control}
-use Rattle.model.specs.declared.Record.{Record}
+use Rattle.model.specs.declared.Call.{Call}
 use Rattle.calls.specs.Telling.{countable, countBusy}
 use Rattle.model.proofs.tests.Truth.{and-true}
 use Rattle.model.specs.Lists.{count}
 
 -- One record's turn, as long as fewer than 16 were busy.
-pub count-turn : (n : ℕ) (r : Record) → n < 16 → countBusy n r ≡ n + cond (not (eqb (r .place) 0)) 1 0
+pub count-turn : (n : ℕ) (r : Call) → n < 16 → countBusy n r ≡ n + cond (not (eqb (r .place) 0)) 1 0
 unfolding countBusy
 count-turn n r h = rw (lt-ltb n 16 h) (go (eqb (r .place) 0))
   where

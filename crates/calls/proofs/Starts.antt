@@ -5,8 +5,8 @@ use mathlib.Core.List.{List}
 use Prim.Native.Nat.{ℕ}
 use lib.Dec.{eqb}
 use Rattle.model.specs.declared.Control.{Control}
+use Rattle.model.specs.declared.Call.{Call}
 use Rattle.model.specs.declared.Record.{Record}
-use Rattle.model.specs.declared.TaskRecord.{TaskRecord}
 use Rattle.model.specs.declared.Asked.{Asked}
 use Rattle.model.specs.declared.Answer.the-variants.{Running}
 use Rattle.model.specs.declared.Outcome.the-variants.{Refused, Moved}
@@ -23,12 +23,12 @@ use Rattle.sound.proofs.Measured.{measured}
 use Rattle.table.specs.Lent.{withTables}
 use Rattle.calls.specs.Starting.{decided}
 
-module _ (c : Control) (t : Lengths) (q : Tables) (p : Lent) (r : Record) (side : ℕ) (a : Asked) where
+module _ (c : Control) (t : Lengths) (q : Tables) (p : Lent) (r : Call) (side : ℕ) (a : Asked) where
   pub refused-by : {why : ℕ} → Measures t q → why ≡ startRefusal c (lengthsFit (isPooled c) (c .slots) t) p r side a
       → why ≡ startRefusal c (rowsFit (isPooled c) (c .slots) q) p r side a
   refused-by m e = e ∙ ap (λ (b : Bool). startRefusal c b p r side a) (measured (isPooled c) (c .slots) t q m)
 
-module _ (c : Control) (r : TaskRecord) (why : ℕ) (task : Record) (lefts rights labels marks next : List ℕ) where
+module _ (c : Control) (r : Record) (why : ℕ) (task : Call) (lefts rights labels marks next : List ℕ) where
   abbrev q : Tables
   q = tablesOf c lefts rights labels marks next
 

@@ -4,7 +4,7 @@ use mathlib.Core.List.{List}
 use Prim.Native.Nat.{ℕ}
 use lib.Dec.{eqb}
 use lib.ListN.{replicate}
-use Rattle.model.specs.declared.TaskRecord.{TaskRecord}
+use Rattle.model.specs.declared.Record.{Record}
 use Rattle.model.specs.declared.Opening.{Opening}
 use Rattle.model.specs.Tables.{Tables, Queue, unused}
 use Rattle.model.specs.Refusals.{first, openingRules, openRefusal}
@@ -31,5 +31,5 @@ openTables pooled q records tasks slots tag =
     record { tables = done .queue .tables; clear = clear; outcome = done .outcome }
 
 -- The parts with the lent records make the whole.
-abbrev pub whole : List TaskRecord → OpenedParts → OpenDone
+abbrev pub whole : List Record → OpenedParts → OpenDone
 whole rs o = record { queue = record { tables = o .tables; records = zeroed (o .clear) unused rs }; outcome = o .outcome }

@@ -3,7 +3,7 @@ use mathlib.Core.Bool.{cond, false}
 use Prim.Native.Nat.{ℕ}
 use lib.Dec.{eqb}
 use Rattle.model.specs.declared.Control.{Control}
-use Rattle.model.specs.declared.Record.{Record}
+use Rattle.model.specs.declared.Call.{Call}
 use Rattle.model.specs.declared.Asked.{Asked}
 use Rattle.model.specs.Refusals.{first, askedRules}
 use Rattle.model.specs.declared.Answer.the-variants.{Running}
@@ -11,11 +11,11 @@ use Rattle.model.specs.declared.Outcome.the-variants.{Refused, Moved}
 use Rattle.model.specs.declared.Transition.{Transition}
 
 -- Why an admitted start is refused.
-unfoldable pub askedRefusal : Control → Record → ℕ → Asked → ℕ
+unfoldable pub askedRefusal : Control → Call → ℕ → Asked → ℕ
 askedRefusal c r side a = first (askedRules c r side a)
 
 -- Refused: the number alone. Accepted: the record at its first place.
-abbrev pub decided : Control → Record → ℕ → Record → Transition
+abbrev pub decided : Control → Call → ℕ → Call → Transition
 decided c r why task =
     cond (eqb why 0) (record { control = c; task = task; outcome = Moved (Running (task .place)); failed = false })
     (record { control = c; task = r; outcome = Refused why; failed = false })

@@ -3,10 +3,10 @@ use mathlib.Core.Bool.{_&&_, cond}
 use Prim.Native.Nat.{ℕ, _+_}
 use lib.Dec.{eqb, ltb, leb}
 use Rattle.model.specs.declared.Control.{Control}
-use Rattle.model.specs.declared.Record.{Record}
+use Rattle.model.specs.declared.Call.{Call}
 
 unfoldable pub countable : Control → ℕ → ℕ
 countable c records = cond (leb (c .tasks) 16 && leb (c .tasks) records) (c .tasks) 0
 
-unfoldable pub countBusy : ℕ → Record → ℕ
+unfoldable pub countBusy : ℕ → Call → ℕ
 countBusy n r = cond (eqb (r .place) 0) n (cond (ltb n 16) (n + 1) n)

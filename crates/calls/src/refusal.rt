@@ -1,7 +1,7 @@
 // Why a start is refused: the number of the first rule that applies, or 0.
 use model::Asked;
+use model::Call;
 use model::Control;
-use model::Record;
 use sound::Lengths;
 use sound::admission;
 use word::Anchor;
@@ -22,7 +22,7 @@ pub fn late(anchor: u64) -> bool
 }
 
 /// What a start is asked once it is admitted.
-fn asked_refusal(c: Control, r: Record, side: u64, asked: Asked) -> u32
+fn asked_refusal(c: Control, r: Call, side: u64, asked: Asked) -> u32
     ensures { λ n. ⌜ n ≡ askedRefusal c r side asked ⌝ }
 {
     if 1 < side {
@@ -48,7 +48,7 @@ fn asked_refusal(c: Control, r: Record, side: u64, asked: Asked) -> u32
 }
 
 /// All that a start of task `task` is asked. The tables are given by their lengths.
-pub fn start_refusal(c: Control, r: Record, task: usize, side: u64, asked: Asked, t: Lengths) -> u32
+pub fn start_refusal(c: Control, r: Call, task: usize, side: u64, asked: Asked, t: Lengths) -> u32
     ensures { λ n. ⌜ n ≡ startRefusal c (lengthsFit (isPooled c) (c .slots) t) (amongMany c t task) r side asked ⌝ }
 {
     let why = admission::admit(c, task, t);

@@ -1,6 +1,6 @@
 // The report: all of it but the look at each record.
+use model::Call;
 use model::Control;
-use model::Record;
 use model::Report;
 use model::Reported;
 use sound::Lengths;
@@ -23,7 +23,7 @@ pub fn to_count(c: Control, records: usize) -> usize
 }
 
 /// One more where the record is busy; there are 16 tasks at the most.
-pub fn count_busy(n: u64, r: Record) -> u64
+pub fn count_busy(n: u64, r: Call) -> u64
     ensures { λ m. ⌜ m ≡ countBusy n r ⌝ }
 {
     if r.place == 0 {

@@ -2,9 +2,9 @@
 use crate::refusal;
 use model::Answer;
 use model::Asked;
+use model::Call;
 use model::Control;
 use model::Outcome;
-use model::Record;
 use model::Transition;
 use sound::Lengths;
 ghost use mathlib.Core.Path.{_≡_};
@@ -17,10 +17,10 @@ ghost use Rattle.table.specs.Lent.{withTables};
 ghost use Rattle.calls.specs.Starting.{decided};
 
 /// The whole record of a call at its first place.
-pub fn new_call(place: u64, kind: u64, side: u64, own: u64, label: u32) -> Record
+pub fn new_call(place: u64, kind: u64, side: u64, own: u64, label: u32) -> Call
     ensures { λ r. ⌜ r ≡ newCall place kind side own label ⌝ }
 {
-    Record {
+    Call {
         place,
         kind,
         side,
@@ -34,7 +34,7 @@ pub fn new_call(place: u64, kind: u64, side: u64, own: u64, label: u32) -> Recor
 }
 
 /// A start that writes nothing but its record.
-fn decided(c: Control, r: Record, why: u32, task: Record) -> Transition
+fn decided(c: Control, r: Call, why: u32, task: Call) -> Transition
     ensures { λ m. ⌜ m ≡ decided c r why task ⌝ }
 {
     if why == 0 {
@@ -55,7 +55,7 @@ fn decided(c: Control, r: Record, why: u32, task: Record) -> Transition
     }
 }
 
-pub fn pop_start(c: Control, r: Record, task: usize, side: u64, t: Lengths) -> Transition
+pub fn pop_start(c: Control, r: Call, task: usize, side: u64, t: Lengths) -> Transition
     ensures { λ m.
         ⌜ ((lefts rights labels marks next : List ℕ) (retries : ℕ) → (let q = tablesOf c lefts rights labels marks next in
         Measures t q → withTables m lefts rights labels marks next retries
@@ -72,14 +72,7 @@ pub fn pop_start(c: Control, r: Record, task: usize, side: u64, t: Lengths) -> T
 }
 
 /// A push that names no slot: it draws one from the stack, at 12 to 14.
-pub fn put_start(
-    c: Control,
-    r: Record,
-    task: usize,
-    side: u64,
-    label: u32,
-    t: Lengths,
-) -> Transition
+pub fn put_start(c: Control, r: Call, task: usize, side: u64, label: u32, t: Lengths) -> Transition
     ensures { λ m.
         ⌜ ((lefts rights labels marks next : List ℕ) (retries : ℕ) → (let q = tablesOf c lefts rights labels marks next in
         Measures t q → withTables m lefts rights labels marks next retries
@@ -97,7 +90,7 @@ pub fn put_start(
 
 pub fn push_start(
     c: Control,
-    r: Record,
+    r: Call,
     task: usize,
     side: u64,
     slot: u64,

@@ -7,7 +7,7 @@ use native.Mathlib.Omega.{arith}
 use lib.Dec.{eqb, ltb}
 use lib.ListN.{getD, set, replicate}
 use borrow.Author.Tests.{eq-eqb, eqb-true, eqb-false, ne-eqb, lt-ltb, le-ltb, ltb-true, ltb-false}
-use Rattle.model.specs.declared.TaskRecord.{TaskRecord}
+use Rattle.model.specs.declared.Record.{Record}
 use Rattle.model.specs.Tables.{unused}
 use Rattle.model.proofs.tests.Truth.{split}
 use Rattle.model.specs.Lists.{listed}
@@ -46,7 +46,7 @@ listed-put f (suc n) (suc i) v = rw (not-last i)
     (ap (λ (l : List ℕ). f 0 ∷ l)
     (listed-put (λ t. f (suc t)) n i v ∙ listed-same (put (λ t. f (suc t)) i v) (λ t. put f (suc i) v (suc t)) n (λ t. rw (same-test t i))))
 
-module _ (rs : List TaskRecord) where
+module _ (rs : List Record) where
   abbrev own : ℕ → ℕ
   own t = getD rs t unused .retries
 

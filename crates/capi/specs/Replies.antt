@@ -10,7 +10,7 @@ use Rattle.model.specs.declared.Outcome.{Outcome}
 use Rattle.model.specs.declared.Reply.{Reply}
 use Rattle.model.specs.declared.Reported.{Reported}
 use Rattle.model.specs.declared.Reported.the-variants as reported
-use Rattle.model.specs.declared.TaskRecord.{TaskRecord}
+use Rattle.model.specs.declared.Record.{Record}
 use Rattle.model.specs.Tables.{Queue, unused}
 use Rattle.model.specs.Report.{reportCode}
 use Rattle.model.specs.Calls.{OpenDone, Done, openingCode, replyOf}
@@ -35,7 +35,7 @@ reportReplyOf (reported.Told r) retries =
     }
 
 -- The counts of the first n records.
-abbrev pub countsIn : ℕ → List TaskRecord → List ℕ
+abbrev pub countsIn : ℕ → List Record → List ℕ
 countsIn n rs = listed (λ t. cond (ltb t n) (getD rs t unused .retries) 0) 16
 
 -- What an opening answers, and what each lent table then holds. The upper halves of the labels' words are in no field: an opening

@@ -11,7 +11,7 @@ ghost use mathlib.Core.Bool.{not};
 ghost use Prim.Native.Nat.{_≤_};
 ghost use lib.Dec.{eqb};
 ghost use lib.ListN.{length, getD};
-ghost use Rattle.model.specs.declared.Op.the-variants.{Push, Pop, Put, Step};
+ghost use Rattle.model.specs.declared.Op.the-variants.{Push, Pop, PushPooled, Step};
 ghost use Rattle.model.specs.Tables.{unused};
 ghost use Rattle.model.specs.Calls.{act};
 ghost use Rattle.model.specs.Report.{report, retryCounts};
@@ -134,7 +134,7 @@ pub extern "C" fn zc_push_pooled(
         (replied isMoved task (uppersOf (now (records .entry)))
         (act (queueIn (now (control .entry)) (now (records .entry))
         (now (lefts .entry)) (now (rights .entry)) (now (labels .entry)) (now (marks .entry)) (now (next .entry)))
-        task (Put side label))) ⌝ }
+        task (PushPooled side label))) ⌝ }
 {
     let o = op::put(
         control,

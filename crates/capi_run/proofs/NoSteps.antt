@@ -6,7 +6,7 @@ use Prim.Native.Nat.{ℕ}
 use lib.Dec.{leb, ltb}
 use lib.ListN.{length, set}
 use borrow.Author.Tests.{eq-eqb, ne-eqb}
-use Rattle.model.specs.declared.{Control.Control, Record.Record}
+use Rattle.model.specs.declared.{Control.Control, Call.Call}
 use Rattle.model.specs.declared.Answer.the-variants.{Running}
 use Rattle.model.specs.declared.Outcome.the-variants.{Refused, Moved}
 use Rattle.model.specs.declared.Op.the-variants.{Step}
@@ -54,7 +54,7 @@ module _ (q : Queue) (t : ℕ) where
       ∙ ap (λ k. ran t us (soloRun k q t)) (sym z)
 
 -- The same of lent rows.
-pub met : (ws : List ℕ) (rows : List (List ℕ)) (ls rs bs ms ns : List ℕ) (t : ℕ) (c : Control) (r : Record) (n why : ℕ)
+pub met : (ws : List ℕ) (rows : List (List ℕ)) (ls rs bs ms ns : List ℕ) (t : ℕ) (c : Control) (r : Call) (n why : ℕ)
     → c ≡ controlOf ws → r ≡ recordAt (queueIn ws rows ls rs bs ms ns) t → n ≡ length rows
     → why ≡ stepRefusal (tablesOf c ls rs bs ms ns) (record { enough = leb (c .tasks) n; known = ltb t (c .tasks) }) r
     → why ≡ fault (queueIn ws rows ls rs bs ms ns) t

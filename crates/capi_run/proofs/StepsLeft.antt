@@ -6,7 +6,7 @@ use Prim.Native.Nat.{ℕ, zero, suc, _+_, _-_, _<_, _≤_}
 use native.Mathlib.Omega.{arith}
 use lib.{Dec.eqb, ListN.set}
 use borrow.Author.Tests.{eq-eqb, ne-eqb}
-use Rattle.model.specs.declared.Answer.the-variants.{Running, Pushed, Empty, Popped, NoSlot}
+use Rattle.model.specs.declared.Answer.the-variants.{Running, Pushed, Empty, Popped, NoFreeSlot}
 use Rattle.model.specs.declared.Outcome.{Outcome}
 use Rattle.model.specs.declared.Outcome.the-variants.{Refused, Moved}
 use Rattle.model.specs.declared.Op.the-variants.{Step}
@@ -34,7 +34,7 @@ runs-on (Moved (Running p)) h = (refl, refl)
 runs-on (Moved Pushed) h = absurd (not-both h refl)
 runs-on (Moved Empty) h = absurd (not-both h refl)
 runs-on (Moved (Popped e)) h = absurd (not-both h refl)
-runs-on (Moved NoSlot) h = absurd (not-both h refl)
+runs-on (Moved NoFreeSlot) h = absurd (not-both h refl)
 
 pub not-made : (o : Outcome) → isMoved o ≡ false → (isRunning o ≡ false) × (endsCall o ≡ false)
 not-made (Refused w) h = (refl, refl)

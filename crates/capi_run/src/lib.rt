@@ -44,7 +44,7 @@ fn resting(records: &[[u64; rows::RECORD_WORDS]], task: usize, steps: u64) -> Ru
 }
 
 /// A run of no steps: what its first step would be refused by, else the task is running at its place.
-fn asked(
+fn run_of_none(
     control: &[u64; rows::CONTROL_WORDS],
     records: &[[u64; rows::RECORD_WORDS]],
     task: usize,
@@ -110,7 +110,7 @@ pub extern "C" fn zc_run(
         task)) ⌝ }
 {
     if most == 0 {
-        return asked(control, records, task, lefts, rights, labels, marks, next);
+        return run_of_none(control, records, task, lefts, rights, labels, marks, next);
     }
     let mut steps: u64 = 0;
     while steps < most {

@@ -4,7 +4,7 @@ use mathlib.Core.Bool.{Bool, false, _&&_}
 use Prim.Native.Nat.{ℕ}
 use lib.{Dec.eqb, ListN.getD}
 use Rattle.word.specs.declared.Anchor.{Anchor}
-use Rattle.model.specs.declared.{Control.Control, Record.Record, Entry.Entry}
+use Rattle.model.specs.declared.{Control.Control, Call.Call, Entry.Entry}
 use Rattle.model.specs.{Places.reading, Sides.isEmpty}
 use Rattle.model.specs.Route.{route, popped, leave, onward, answer}
 use Rattle.decide.specs.Ending.{settled, noEntry}
@@ -32,7 +32,7 @@ abbrev pub entry : ℕ → List ℕ → Entry
 entry x labels = record { slot = x; label = getD labels x 0 }
 
 -- A step that pops nothing answers the same for every entry.
-pub quietly : (c : Control) (t : Record) (n : ℕ) (e : Entry) → Quiet n → settled c t n noEntry ≡ settled c t n e
+pub quietly : (c : Control) (t : Call) (n : ℕ) (e : Entry) → Quiet n → settled c t n noEntry ≡ settled c t n e
 unfolding settled onward answer
 quietly c t n e h =
     split (eqb n leave)

@@ -5,7 +5,7 @@ use Prim.Native.Nat.{ℕ, _+_}
 use lib.Dec.{eqb, leb, ltb}
 use Rattle.word.specs.Anchor.{anchorOf, packAnchor}
 use Rattle.word.specs.Link.{linkOf, packLink}
-use Rattle.model.specs.declared.{Control.Control, Record.Record, Transition.Transition}
+use Rattle.model.specs.declared.{Control.Control, Call.Call, Transition.Transition}
 use Rattle.model.specs.{Sound.from1, Kinds.isPush, Ends.isMoved}
 use Rattle.model.specs.Sides.{far, facing, pushing}
 use Rattle.model.specs.Route.{route, onlyWay, done, hasFailed, equal, unequal, namedQueue, pooledQueue}
@@ -13,60 +13,60 @@ use Rattle.model.specs.Tables.{isPooled, withNeighbour, withOwn}
 use Rattle.decide.specs.Ending.{refused, settled, noEntry, failing, headed, rowSound, neighbourRead, linkRead}
 
 -- The end as read: at the task's side, and at 5 to 10 at the side that the status names. The slot of the head as read.
-abbrev pub ownEnd : Record → ℕ
+abbrev pub ownEnd : Call → ℕ
 ownEnd r = cond (eqb (r .side) 1) (anchorOf (r .seen) .right) (anchorOf (r .seen) .left)
 
-abbrev pub namedEnd : Record → ℕ
+abbrev pub namedEnd : Call → ℕ
 namedEnd r = cond (eqb (anchorOf (r .seen) .status) 1) (anchorOf (r .seen) .right) (anchorOf (r .seen) .left)
 
-abbrev pub top : Record → ℕ
+abbrev pub top : Call → ℕ
 top r = linkOf (r .link) .slot
 
 -- NEW WORDS, each with the tag as read raised by 1.
-abbrev pub new2 : Record → ℕ
+abbrev pub new2 : Call → ℕ
 new2 r =
     let a = anchorOf (r .seen) in
     let end : ℕ = cond (isPush r) (r .own) 0 in
     packAnchor (facing (r .side) (a .tag + 1) (a .status) end end)
 
-abbrev pub new4 : Record → ℕ
+abbrev pub new4 : Call → ℕ
 new4 r =
     let a = anchorOf (r .seen) in
     let status : ℕ = cond (isPush r) (pushing (r .side)) (a .status) in
     let end : ℕ = cond (isPush r) (r .own) (r .neighbour) in
     packAnchor (facing (r .side) (a .tag + 1) status end (far (r .side) a))
 
-abbrev pub new9 : Record → ℕ
+abbrev pub new9 : Call → ℕ
 new9 r = packLink (record { tag = linkOf (r .link) .tag + 1; slot = namedEnd r })
 
-abbrev pub new10 : Record → ℕ
+abbrev pub new10 : Call → ℕ
 new10 r =
     let a = anchorOf (r .seen) in
     packAnchor (record { tag = a .tag + 1; status = 0; left = a .left; right = a .right })
 
-abbrev pub new14 : Record → ℕ
+abbrev pub new14 : Call → ℕ
 new14 r = packLink (record { tag = linkOf (r .link) .tag + 1; slot = r .neighbour })
 
-abbrev pub new17 : Record → ℕ
+abbrev pub new17 : Call → ℕ
 new17 r = packLink (record { tag = linkOf (r .link) .tag + 1; slot = r .own })
 
 -- DECISIONS. A step that was carried out and whose change, if it makes one, has not failed.
 abbrev pub madeOf : Transition → Bool
 madeOf m = isMoved (m .outcome) && not (m .failed)
 
-unfoldable pub found3 : Control → Record → ℕ → Transition
+unfoldable pub found3 : Control → Call → ℕ → Transition
 found3 c r w =
     cond (isPush r)
     (cond (rowSound (c .slots) (r .own) w) (settled c r (route 3 (r .kind) onlyWay) noEntry) (refused c r))
     (neighbourRead c r (ownEnd r) w (route 3 (r .kind) onlyWay))
 
-unfoldable pub found5 : Control → Record → ℕ → Transition
+unfoldable pub found5 : Control → Call → ℕ → Transition
 found5 c r w = neighbourRead c r (namedEnd r) w (route 5 (r .kind) onlyWay)
 
-unfoldable pub found7 : Control → Record → ℕ → Transition
+unfoldable pub found7 : Control → Call → ℕ → Transition
 found7 c r w = linkRead c r (namedEnd r) w (route 7 (r .kind) equal) (route 7 (r .kind) unequal)
 
-unfoldable pub found9 : Control → Record → ℕ → Transition
+unfoldable pub found9 : Control → Call → ℕ → Transition
 found9 c r w =
     cond (from1 (c .slots) (r .neighbour))
     (cond (eqb w (r .link))
@@ -74,7 +74,7 @@ found9 c r w =
     (failing (settled c r (route 9 (r .kind) hasFailed) noEntry)))
     (refused c r)
 
-unfoldable pub found11 : Control → Record → ℕ → Transition
+unfoldable pub found11 : Control → Call → ℕ → Transition
 found11 c r l =
     cond (from1 (c .slots) (ownEnd r))
     (cond (isPooled c)
@@ -82,10 +82,10 @@ found11 c r l =
     (settled c r (route 11 (r .kind) namedQueue) (record { slot = ownEnd r; label = l })))
     (refused c r)
 
-unfoldable pub found13 : Control → Record → ℕ → Transition
+unfoldable pub found13 : Control → Call → ℕ → Transition
 found13 c r n = cond (leb n (c .slots)) (settled c (withNeighbour r n) (route 13 (r .kind) onlyWay) noEntry) (refused c r)
 
-unfoldable pub found14 : Control → Record → Transition
+unfoldable pub found14 : Control → Call → Transition
 found14 c r =
     cond (eqb (c .head) (r .link))
     (cond (ltb (linkOf (r .link) .tag) 4294967295)

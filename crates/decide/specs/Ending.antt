@@ -3,18 +3,18 @@ use mathlib.Core.Bool.{Bool, true, false, _&&_, cond}
 use Prim.Native.Nat.{ℕ}
 use lib.Dec.{eqb, ltb}
 use Rattle.word.specs.{Anchor.anchorOf, Link.linkOf}
-use Rattle.model.specs.declared.{Control.Control, Record.Record, Entry.Entry, Transition.Transition}
+use Rattle.model.specs.declared.{Control.Control, Call.Call, Entry.Entry, Transition.Transition}
 use Rattle.model.specs.declared.Outcome.the-variants.{Refused, Moved}
 use Rattle.model.specs.Sound.{from1, anchorSound, linkSound}
 use Rattle.model.specs.{Places.reading, Kinds.isPop}
 use Rattle.model.specs.Route.{route, onward, goes, answer}
 use Rattle.model.specs.Tables.{withSeen, withNeighbour, withLink, withWords}
 
-abbrev pub refused : Control → Record → Transition
+abbrev pub refused : Control → Call → Transition
 refused c r = record { control = c; task = r; outcome = Refused 34; failed = false }
 
 -- The record gone on by the route's n, and the answer, with e the entry popped.
-unfoldable pub settled : Control → Record → ℕ → Entry → Transition
+unfoldable pub settled : Control → Call → ℕ → Entry → Transition
 settled c t n e =
     let m = onward n (t .finishing) in
     record { control = c; task = goes t m; outcome = Moved (answer m e); failed = false }
@@ -37,7 +37,7 @@ abbrev pub noEntry : Entry
 noEntry = record { slot = 0; label = 0 }
 
 -- Anchor is taken for the word as read, and the record goes on by it as at place 1.
-unfoldable pub anchorRead : Control → Record → Transition
+unfoldable pub anchorRead : Control → Call → Transition
 anchorRead c r =
     settled c (withSeen r (c .anchor) (r .finishing)) (route 1 (r .kind) (reading (isPop r) (anchorOf (c .anchor)))) noEntry
 
@@ -46,7 +46,7 @@ unfoldable pub mayChange : ℕ → ℕ → ℕ → Bool
 mayChange slots seen new = anchorSound slots (anchorOf new) && ltb (anchorOf seen .tag) 4294967295
 
 -- A change of Anchor from the word as read to new: done leads the record t on; failed is what a failed one comes to.
-unfoldable pub changed : Control → Record → ℕ → Record → ℕ → Transition → Transition
+unfoldable pub changed : Control → Call → ℕ → Call → ℕ → Transition → Transition
 changed c r new t done failed =
     let sound = anchorSound (c .slots) (anchorOf new) && ltb (anchorOf (r .seen) .tag) 4294967295 in
     cond (eqb (c .anchor) (r .seen))
@@ -54,11 +54,11 @@ changed c r new t done failed =
     failed
 
 -- A push whose change of Anchor at place 4 is done remembers the new word, and is finishing.
-unfoldable pub remembered : Record → ℕ → Record
+unfoldable pub remembered : Call → ℕ → Call
 remembered r new = cond (eqb (r .kind) 0) (withSeen r new 1) r
 
 -- Anchor compared with the word as read.
-unfoldable pub compared : Control → Record → ℕ → ℕ → Transition
+unfoldable pub compared : Control → Call → ℕ → ℕ → Transition
 compared c r same other = cond (eqb (c .anchor) (r .seen)) (settled c r same noEntry) (settled c r other noEntry)
 
 -- Slot x may be touched, and w, the link word met there, is sound.
@@ -66,19 +66,19 @@ unfoldable pub rowSound : ℕ → ℕ → ℕ → Bool
 rowSound slots x w = from1 slots x && linkSound slots w
 
 -- The slot that w, slot x's inward link, names is the neighbour.
-unfoldable pub neighbourRead : Control → Record → ℕ → ℕ → ℕ → Transition
+unfoldable pub neighbourRead : Control → Call → ℕ → ℕ → ℕ → Transition
 neighbourRead c r x w n =
     cond (rowSound (c .slots) x w) (settled c (withNeighbour r (linkOf w .slot)) n noEntry) (refused c r)
 
 -- The neighbour's outward link w is remembered; it may name the end.
-unfoldable pub linkRead : Control → Record → ℕ → ℕ → ℕ → ℕ → Transition
+unfoldable pub linkRead : Control → Call → ℕ → ℕ → ℕ → ℕ → Transition
 linkRead c r end w same other =
     cond (rowSound (c .slots) (r .neighbour) w)
     (cond (eqb (linkOf w .slot) end) (settled c (withLink r w) same noEntry) (settled c (withLink r w) other noEntry))
     (refused c r)
 
 -- The head is remembered; its slot may be 0.
-unfoldable pub headRead : Control → Record → ℕ → ℕ → Transition
+unfoldable pub headRead : Control → Call → ℕ → ℕ → Transition
 headRead c r none other =
     let t = withLink r (c .head) in
     cond (linkSound (c .slots) (c .head))

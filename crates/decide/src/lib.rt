@@ -7,10 +7,10 @@ pub mod next;
 pub mod side;
 pub mod step;
 
+use model::Call;
 use model::Control;
 use model::Entry;
 use model::Outcome;
-use model::Record;
 use model::Transition;
 use word::Anchor;
 use word::Link;
@@ -19,7 +19,7 @@ ghost use Rattle.decide.specs.Decided.{madeOf, found3, found5, found7, f
 ghost use Rattle.decide.specs.Decided.{new2, new4, new9, new10, new14, new17};
 
 /// Place 2: own, own, s; of a pop null, null, s.
-pub fn new2(r: Record) -> u64
+pub fn new2(r: Call) -> u64
     ensures { λ w. ⌜ w ≡ new2 r ⌝ }
 {
     let a = Anchor::unpack(r.seen);
@@ -28,7 +28,7 @@ pub fn new2(r: Record) -> u64
 }
 
 /// Place 4: l, own, RPUSH; of a pop l, neighbour, s.
-pub fn new4(r: Record) -> u64
+pub fn new4(r: Call) -> u64
     ensures { λ w. ⌜ w ≡ new4 r ⌝ }
 {
     let right = r.side == 1;
@@ -42,7 +42,7 @@ pub fn new4(r: Record) -> u64
 }
 
 /// Place 9: the neighbour's outward link, which names the end.
-pub fn new9(r: Record) -> u64
+pub fn new9(r: Call) -> u64
     ensures { λ w. ⌜ w ≡ new9 r ⌝ }
 {
     let a = Anchor::unpack(r.seen);
@@ -51,7 +51,7 @@ pub fn new9(r: Record) -> u64
 }
 
 /// Place 10: l, r, STABLE.
-pub fn new10(r: Record) -> u64
+pub fn new10(r: Call) -> u64
     ensures { λ w. ⌜ w ≡ new10 r ⌝ }
 {
     let a = Anchor::unpack(r.seen);
@@ -65,14 +65,14 @@ pub fn new10(r: Record) -> u64
 }
 
 /// Place 14: the head, which names the next of the slot drawn.
-pub fn new14(r: Record) -> u64
+pub fn new14(r: Call) -> u64
     ensures { λ w. ⌜ w ≡ new14 r ⌝ }
 {
     step::link_word(step::raised(r.link), r.neighbour)
 }
 
 /// Place 17: the head, which names the own slot.
-pub fn new17(r: Record) -> u64
+pub fn new17(r: Call) -> u64
     ensures { λ w. ⌜ w ≡ new17 r ⌝ }
 {
     step::link_word(step::raised(r.link), r.own)
@@ -90,7 +90,7 @@ pub fn made(m: Transition) -> bool
 }
 
 /// Place 3: a push goes on, with the end put into its own slot's link; a pop takes the slot that w names for neighbour.
-pub fn at3(c: Control, r: Record, w: u64) -> Transition
+pub fn at3(c: Control, r: Call, w: u64) -> Transition
     ensures { λ m. ⌜ m ≡ found3 c r w ⌝ }
 {
     if r.kind == 0 {
@@ -105,7 +105,7 @@ pub fn at3(c: Control, r: Record, w: u64) -> Transition
 }
 
 /// Place 5: the slot that w names is the neighbour.
-pub fn at5(c: Control, r: Record, w: u64) -> Transition
+pub fn at5(c: Control, r: Call, w: u64) -> Transition
     ensures { λ m. ⌜ m ≡ found5 c r w ⌝ }
 {
     let a = Anchor::unpack(r.seen);
@@ -114,7 +114,7 @@ pub fn at5(c: Control, r: Record, w: u64) -> Transition
 }
 
 /// Place 7: w is remembered; it may name the end.
-pub fn at7(c: Control, r: Record, w: u64) -> Transition
+pub fn at7(c: Control, r: Call, w: u64) -> Transition
     ensures { λ m. ⌜ m ≡ found7 c r w ⌝ }
 {
     let a = Anchor::unpack(r.seen);
@@ -125,7 +125,7 @@ pub fn at7(c: Control, r: Record, w: u64) -> Transition
 }
 
 /// Place 9: the link is as read, and is changed; or it is another.
-pub fn at9(c: Control, r: Record, w: u64) -> Transition
+pub fn at9(c: Control, r: Call, w: u64) -> Transition
     ensures { λ m. ⌜ m ≡ found9 c r w ⌝ }
 {
     let link = Link::unpack(r.link);
@@ -144,7 +144,7 @@ pub fn at9(c: Control, r: Record, w: u64) -> Transition
 
 /// Place 11: the label of the end taken is the answer's; in a pooled queue slot and label are kept in the record, and
 /// the slot is given back first.
-pub fn at11(c: Control, r: Record, label: u32) -> Transition
+pub fn at11(c: Control, r: Call, label: u32) -> Transition
     ensures { λ m. ⌜ m ≡ found11 c r label ⌝ }
 {
     let a = Anchor::unpack(r.seen);
@@ -163,7 +163,7 @@ pub fn at11(c: Control, r: Record, label: u32) -> Transition
 }
 
 /// Place 13: the next of the head's slot is remembered.
-pub fn at13(c: Control, r: Record, w: u64) -> Transition
+pub fn at13(c: Control, r: Call, w: u64) -> Transition
     ensures { λ m. ⌜ m ≡ found13 c r w ⌝ }
 {
     if w <= c.slots {
@@ -175,7 +175,7 @@ pub fn at13(c: Control, r: Record, w: u64) -> Transition
 }
 
 /// Place 14: the head is as read, and is changed, and its slot is the push's own; or it is another.
-pub fn at14(c: Control, r: Record) -> Transition
+pub fn at14(c: Control, r: Call) -> Transition
     ensures { λ m. ⌜ m ≡ found14 c r ⌝ }
 {
     let head = Link::unpack(r.link);

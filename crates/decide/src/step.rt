@@ -1,10 +1,10 @@
 //! How a step ends: refused, made, or a change of Anchor tried.
 use crate::next;
 use model::Answer;
+use model::Call;
 use model::Control;
 use model::Entry;
 use model::Outcome;
-use model::Record;
 use model::Transition;
 use word::Anchor;
 use word::Link;
@@ -21,7 +21,7 @@ ghost use Rattle.decide.specs.Ending.{compared, rowSound, neighbourRead,
 pub const NO_ENTRY: Entry = Entry { slot: 0, label: 0 };
 
 /// 34: nothing is changed.
-pub fn refused(c: Control, r: Record) -> Transition
+pub fn refused(c: Control, r: Call) -> Transition
     ensures { λ m. ⌜ m ≡ refused c r ⌝ }
 {
     Transition {
@@ -33,7 +33,7 @@ pub fn refused(c: Control, r: Record) -> Transition
 }
 
 /// The call goes on at place n.
-fn goes(c: Control, t: Record, n: u8) -> Transition
+fn goes(c: Control, t: Call, n: u8) -> Transition
     ensures { λ m. ⌜ m ≡ record { control = c; task = goes t n; outcome = Outcome.Moved (Answer.Running n); failed = false } ⌝ }
 {
     let place = n as u64;
@@ -56,7 +56,7 @@ fn ends(c: Control, a: Answer) -> Transition
 {
     Transition {
         control: c,
-        task: Record {
+        task: Call {
             place: 0,
             kind: 0,
             side: 0,
@@ -73,7 +73,7 @@ fn ends(c: Control, a: Answer) -> Transition
 }
 
 /// A step made: its record goes where the route leads, n; e is the entry popped.
-pub fn settles(c: Control, t: Record, n: u8, e: Entry) -> Transition
+pub fn settles(c: Control, t: Call, n: u8, e: Entry) -> Transition
     ensures { λ m. ⌜ m ≡ settled c t n e ⌝ }
 {
     if n == next::LEAVE {
@@ -89,14 +89,14 @@ pub fn settles(c: Control, t: Record, n: u8, e: Entry) -> Transition
     } else if n == next::POPPED {
         ends(c, Answer::Popped(e))
     } else if n == next::NO_SLOT {
-        ends(c, Answer::NoSlot)
+        ends(c, Answer::NoFreeSlot)
     } else {
         goes(c, t, n)
     }
 }
 
 /// Takes Anchor for the word as read and goes on by it: place 1, and a failed change at 2 or 4.
-pub fn reads_anchor(c: Control, r: Record) -> Transition
+pub fn reads_anchor(c: Control, r: Call) -> Transition
     ensures { λ m. ⌜ m ≡ anchorRead c r ⌝ }
 {
     let a = Anchor::unpack(c.anchor);
@@ -150,7 +150,7 @@ pub fn with_head(c: Control, new: u64) -> Control
 }
 
 /// The record once Anchor is changed at place 4: a push remembers the new word, and is finishing.
-pub fn remembers(r: Record, new: u64) -> Record
+pub fn remembers(r: Call, new: u64) -> Call
     ensures { λ t. ⌜ t ≡ remembered r new ⌝ }
 {
     let mut t = r;
@@ -162,7 +162,7 @@ pub fn remembers(r: Record, new: u64) -> Record
 }
 
 /// Compares Anchor with the word as read.
-pub fn compares(c: Control, r: Record, same: u8, other: u8) -> Transition
+pub fn compares(c: Control, r: Call, same: u8, other: u8) -> Transition
     ensures { λ m. ⌜ m ≡ compared c r same other ⌝ }
 {
     if c.anchor == r.seen {
@@ -187,7 +187,7 @@ pub fn link_word(tag: u64, slot: u64) -> u64
 }
 
 /// Takes the slot that w, slot x's inward link, names for the neighbour.
-pub fn reads_neighbour(c: Control, r: Record, x: u64, w: u64, n: u8) -> Transition
+pub fn reads_neighbour(c: Control, r: Call, x: u64, w: u64, n: u8) -> Transition
     ensures { λ m. ⌜ m ≡ neighbourRead c r x w n ⌝ }
 {
     if row_sound(c.slots, x, w) {
@@ -200,7 +200,7 @@ pub fn reads_neighbour(c: Control, r: Record, x: u64, w: u64, n: u8) -> Transiti
 }
 
 /// Remembers w, the neighbour's outward link, which may name the end.
-pub fn reads_link(c: Control, r: Record, end: u64, w: u64, same: u8, other: u8) -> Transition
+pub fn reads_link(c: Control, r: Call, end: u64, w: u64, same: u8, other: u8) -> Transition
     ensures { λ m. ⌜ m ≡ linkRead c r end w same other ⌝ }
 {
     if row_sound(c.slots, r.neighbour, w) {
@@ -223,7 +223,7 @@ fn either(b: bool, x: u8, y: u8) -> u8
 }
 
 /// Remembers the head, whose slot may be 0.
-pub fn reads_head(c: Control, r: Record, none: u8, other: u8) -> Transition
+pub fn reads_head(c: Control, r: Call, none: u8, other: u8) -> Transition
     ensures { λ m. ⌜ m ≡ headRead c r none other ⌝ }
 {
     if sound::link_sound(c.slots, c.head) {

@@ -28,15 +28,15 @@ use denote.Triple.Call.{calls-at}
 use denote.Triple.Clauses.{Clauses, closing, ensured, lasts}
 use denote.Triple.Spec.{tripleOf}
 use Rattle.model.specs.declared.Control.{Control}
-use Rattle.model.specs.declared.TaskRecord.{TaskRecord}
+use Rattle.model.specs.declared.Record.{Record}
 use Rattle.model.specs.Tables.{Tables, tablesOf}
 use Rattle.model.specs.Calls.{Acted}
 use Rattle.rows.specs.declared.value.Stepped.{Stepped}
 use Rattle.deque.proofs.Walk.{control-value, record-value, slice-value}
 use Rattle.model.proofs.Control as K
 use Rattle.model.proofs.Control.Laws as K′
-use Rattle.model.proofs.TaskRecord as T
-use Rattle.model.proofs.TaskRecord.Laws as T′
+use Rattle.model.proofs.Record as T
+use Rattle.model.proofs.Record.Laws as T′
 use Rattle.rows.proofs.value.Stepped as N
 use Rattle.rows.proofs.value.move_on as move-on
 
@@ -63,19 +63,19 @@ KeepLengths xs ls =
     × (length (ls .1 .1 .1 .0) ≡ length (xs .1 .1 .1 .0 .now)) × (length (ls .1 .1 .1 .1 .0) ≡ length (xs .1 .1 .1 .1 .0 .now))
 
 -- What a step leaves is what f says.
-abbrev pub Leaves : (Tables → TaskRecord → Acted) → Control → TaskRecord → Five (RefT (List ℕ)) → Stepped → Five (List ℕ) → Type 0
+abbrev pub Leaves : (Tables → Record → Acted) → Control → Record → Five (RefT (List ℕ)) → Stepped → Five (List ℕ) → Type 0
 Leaves f c r xs m ls = _≡_ {A = Acted} (record { tables = tabled (m .control) ls; task = m .task; outcome = m .outcome })
     (f (tabled c (unwritten xs)) r)
 
 -- The contract of a step f: `step_alone` and `move_on` differ in f alone.
-abbrev stepped : {M : Type 1} (𝓤 : URA M) (f : Tables → TaskRecord → Acted) → Clauses 𝓤 move-on.ended
+abbrev stepped : {M : Type 1} (𝓤 : URA M) (f : Tables → Record → Acted) → Clauses 𝓤 move-on.ended
 stepped 𝓤 f κs a = record {
   ghost = Unit {0};
   requires = λ _. emp 𝓤;
   ensures = λ _ m e. fact 𝓤 (Leaves f (a .0) (a .1 .0) (a .1 .1) m (unwritten (e .1 .1)));
 }
 
-abbrev pub Move : {M : Type 1} (𝓤 : URA M) (H : Heap 𝓤) (A : Atoms 𝓤) (f : Tables → TaskRecord → Acted) → Contract 𝓤
+abbrev pub Move : {M : Type 1} (𝓤 : URA M) (H : Heap 𝓤) (A : Atoms 𝓤) (f : Tables → Record → Acted) → Contract 𝓤
 Move 𝓤 H A f = tripleOf 𝓤 H A move-on.signature (closing 𝓤 H A move-on.ended (stepped 𝓤 f))
 
 abbrev pub slices : Five (RefT (List ℕ)) → Five (List Val)
@@ -101,8 +101,8 @@ module _ {M : Type 1} (𝓤 : URA M) (κs : Five Lft) (qs : Five Share) (xs : Fi
       ∷ ‵ (finally u32 (xs .1 .1 .0 .name) (ls .1 .1 .0))
       ∷ ‵ (finally u64 (xs .1 .0 .name) (ls .1 .0)) ∷ ‵ (finally u64 (xs .0 .name) (ls .0)) ∷ Γ
 
-module _ {M : Type 1} (𝓤 : URA M) (H : Heap 𝓤) (A : Atoms 𝓤) (f : Tables → TaskRecord → Acted) (κs : Five Lft) (qs : Five Share) (c : Control)
-    (r : TaskRecord) (xs : Five (RefT (List ℕ))) where
+module _ {M : Type 1} (𝓤 : URA M) (H : Heap 𝓤) (A : Atoms 𝓤) (f : Tables → Record → Acted) (κs : Five Lft) (qs : Five Share) (c : Control)
+    (r : Record) (xs : Five (RefT (List ℕ))) where
   abbrev to-step : Move 𝓤 H A f .Ghost
   to-step = ((κs, qs, tt, (c, (r, xs)), (control-value c ∷ [], (record-value r ∷ [], slices xs))), tt)
 
@@ -119,7 +119,7 @@ module _ {M : Type 1} (𝓤 : URA M) (H : Heap 𝓤) (A : Atoms 𝓤) (f : Table
 -- A step is called.
 module _ {M : Type 1} {𝓤 : URA M} {H : Heap 𝓤} {A : Atoms 𝓤} {G : Type 0} {W : Given 𝓤 H A} {Γ : List (Item 𝓤)} {En : Env 𝓤 H} {C : Calls 𝓤 H}
     {Λ : Loops 𝓤 H} {q : PostOf 𝓤 H} where
-  pub moves : G → (f : Tables → TaskRecord → Acted) (κs : Five Lft) (qs : Five Share) (c : Control) (r : TaskRecord) (xs : Five (RefT (List ℕ)))
+  pub moves : G → (f : Tables → Record → Acted) (κs : Five Lft) (qs : Five Share) (c : Control) (r : Record) (xs : Five (RefT (List ℕ)))
       {name : Name} {os : List Operand} {d : Place} {rest : Body}
       → FmC 𝓤 H (W .laws) C → Triple 𝓤 (C name) (Move 𝓤 H A f) → Is K.the-row c (control-value c ∷ []) → Is T.the-row r (record-value r ∷ [])
       → Opds G W (raw (Move 𝓤 H A f .pre (to-step 𝓤 H A f κs qs c r xs)) ∷ Γ) En os (Move 𝓤 H A f .args (to-step 𝓤 H A f κs qs c r xs))

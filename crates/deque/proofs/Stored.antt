@@ -6,7 +6,7 @@ use denote.Struct.Laws as LL
 use Rattle.rows.specs.declared.value.Stepped.{Stepped}
 use Rattle.deque.proofs.Walk.{control-value, record-value, outcome-value}
 use Rattle.model.proofs.Control as K
-use Rattle.model.proofs.TaskRecord as T
+use Rattle.model.proofs.Record as T
 use Rattle.model.proofs.Outcome as E
 use Rattle.rows.proofs.value.Stepped as N
 use Rattle.rows.proofs.value.Stepped.Laws as N′

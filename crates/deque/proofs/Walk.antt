@@ -27,11 +27,11 @@ use denote.{Ref.RefT, RattleType.RattleType}
 use denote.Slice.{sliceVal, MutSlice, finally, res-finally, codedHoleys, heres}
 use denote.Struct.Laws as LL
 use denote.Enum.Laws as EL
-use Rattle.model.specs.declared.{Control.Control, TaskRecord.TaskRecord, Outcome.Outcome}
+use Rattle.model.specs.declared.{Control.Control, Record.Record, Outcome.Outcome}
 use Rattle.model.proofs.Control as K
 use Rattle.model.proofs.Control.Laws as K′
-use Rattle.model.proofs.TaskRecord as T
-use Rattle.model.proofs.TaskRecord.Laws as T′
+use Rattle.model.proofs.Record as T
+use Rattle.model.proofs.Record.Laws as T′
 use Rattle.model.proofs.Outcome as E
 use Rattle.model.proofs.Outcome.Laws as E′
 
@@ -39,7 +39,7 @@ use Rattle.model.proofs.Outcome.Laws as E′
 abbrev pub control-value : Control → Val
 control-value = LL.val K.the-type K′.the-laws
 
-abbrev pub record-value : TaskRecord → Val
+abbrev pub record-value : Record → Val
 record-value = LL.val T.the-type T′.the-laws
 
 abbrev pub outcome-value : Outcome → Val

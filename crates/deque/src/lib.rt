@@ -2,7 +2,7 @@
 //! record. Rows of words (crate `rows`) take the same way without a proof by hand.
 use model::Control;
 use model::Outcome;
-use model::TaskRecord;
+use model::Record;
 use rows::value;
 use rows::value::Stepped;
 use sound::Lengths;
@@ -16,7 +16,7 @@ ghost use Rattle.model.specs.Calls.{Done, act, stepLent};
 /// The step of a record lent alone.
 fn step_alone(
     c: Control,
-    t: TaskRecord,
+    t: Record,
     lefts: &mut [u64],
     rights: &mut [u64],
     labels: &mut [u32],
@@ -55,7 +55,7 @@ fn step_alone(
 /// Moves a task by one step.
 pub fn step(
     control: &mut Control,
-    records: &mut [TaskRecord],
+    records: &mut [Record],
     task: usize,
     lefts: &mut [u64],
     rights: &mut [u64],
@@ -98,7 +98,7 @@ pub fn step(
 /// Moves the task of one lent record by one step.
 pub fn step_record(
     control: &mut Control,
-    task: &mut TaskRecord,
+    task: &mut Record,
     lefts: &mut [u64],
     rights: &mut [u64],
     labels: &mut [u32],

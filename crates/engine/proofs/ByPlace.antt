@@ -3,13 +3,13 @@ use mathlib.Core.Path.{_≡_, refl}
 use mathlib.Core.Bool.{Bool, true, false}
 use Prim.Native.Nat.{ℕ, _≤_}
 use native.Mathlib.Omega.{arith}
-use Rattle.model.specs.declared.{Control.Control, Record.Record}
+use Rattle.model.specs.declared.{Control.Control, Call.Call}
 use Rattle.model.specs.Tables.{withOwn}
 use Rattle.model.specs.Places.{Touch, nothing, setAnchor, setLink, clearMark, takeSlot, setNext, setHead, Move, row, move}
 use Rattle.model.proofs.bridge.ByMove.{by-move}
 
 -- What a step leaves of a record; at an `early` place slot and label too.
-pub record Keeps (early : Type 0) (r t : Record) : Type 0 where
+pub record Keeps (early : Type 0) (r t : Call) : Type 0 where
   pub kind : t .kind ≡ r .kind
   pub side : t .side ≡ r .side
   pub own : early → t .own ≡ r .own
@@ -25,7 +25,7 @@ heads (takeSlot w x l) = true
 heads (setNext x v) = false
 heads (setHead w) = true
 
-module _ (c : Control) (r : Record) where
+module _ (c : Control) (r : Call) where
   abbrev early : Type 0
   early = r .place ≤ 10
 
@@ -35,7 +35,7 @@ module _ (c : Control) (r : Record) where
   pub itself : Keeps early r r
   itself = record { kind = refl; side = refl; own = λ _. refl; label = λ _. refl }
 
-  reading : (t : Record) → t .kind ≡ r .kind → t .side ≡ r .side → t .own ≡ r .own → t .label ≡ r .label → Keeps early r t
+  reading : (t : Call) → t .kind ≡ r .kind → t .side ≡ r .side → t .own ≡ r .own → t .label ≡ r .label → Keeps early r t
   reading t k s o l = record { kind = k; side = s; own = λ _. o; label = λ _. l }
 
   -- A slot is drawn, and kept for the answer, beyond place 10 alone.

@@ -5,7 +5,7 @@ use Prim.Native.Nat.{ℕ, suc, _≤_}
 use native.Mathlib.Omega.{arith}
 use lib.Dec.{eqb}
 use borrow.Author.Tests.{leb-true, eqb-false, ne-eqb}
-use Rattle.model.specs.declared.TaskRecord.{TaskRecord}
+use Rattle.model.specs.declared.Record.{Record}
 use Rattle.model.specs.declared.Outcome.the-variants.{Refused}
 use Rattle.model.specs.Tables.{Tables, isPooled}
 use Rattle.model.specs.Sound.{controlSound, recordSound, rowsFit}
@@ -23,13 +23,13 @@ pub below : {n x : ℕ} → x ≤ suc n → (x ≡ suc n → ⊥) → x ≤ n
 below high other = omega arith
 
 -- The step at a record's own place.
-pub here : (q : Tables) (r : TaskRecord)
+pub here : (q : Tables) (r : Record)
     → (let t = r .call in
     stepAt (t .place) q t (r .retries) ≡ decide (cond (stepSound (q .control) t (wordFound q t)) 0 34) q r (finish q r (move (q .control) t (wordFound q t))))
 unfolding stepAt
 here q r = refl
 
-module _ (q : Tables) (p : Lent) (r : TaskRecord) where
+module _ (q : Tables) (p : Lent) (r : Record) where
   abbrev pub why : ℕ
   why = admission (q .control) (rowsFit (isPooled (q .control)) (q .control .slots) q) p
 
@@ -67,7 +67,7 @@ module _ (q : Tables) (p : Lent) (r : TaskRecord) where
       (λ b. absurd (let h : _≡_ {A = ℕ} 12 0 = simp (a, b) at none in omega arith)))
       (λ a. absurd (let h : _≡_ {A = ℕ} 34 0 = simp a at none in omega arith))
 
-module _ (q : Tables) (r : TaskRecord) where
+module _ (q : Tables) (r : Record) where
   abbrev pub fault : ℕ
   fault = recordRefusal (isPooled (q .control)) (q .control .slots) (r .call)
 

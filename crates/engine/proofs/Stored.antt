@@ -3,7 +3,7 @@ use mathlib.Core.Path.{_≡_, refl, sym, ap, ap₂, subst, _∙_}
 use mathlib.Core.Bool.{true, false}
 use mathlib.Core.List.{List}
 use Prim.Native.Nat.{ℕ, _≤_}
-use Rattle.model.specs.declared.{Control.Control, Record.Record, TaskRecord.TaskRecord, Outcome.Outcome, Transition.Transition}
+use Rattle.model.specs.declared.{Control.Control, Call.Call, Record.Record, Outcome.Outcome, Transition.Transition}
 use Rattle.model.specs.declared.Outcome.the-variants as outcome
 use Rattle.model.specs.Tables.{Tables, tablesOf, counting, idle, ofKind, withCall, withOwn, withWords}
 use Rattle.model.specs.{Route.counted, Calls.Acted}
@@ -20,9 +20,9 @@ refused-goes (outcome.Refused n) h = refl
 refused-goes (outcome.Moved a) h = absurd (not-both (sym h) refl)
 
 -- By the outcome: what is stored.
-module _ (c : Control) (r : TaskRecord) (m : Transition) where
+module _ (c : Control) (r : Record) (m : Transition) where
   -- The record with another call, and its failed change counted.
-  abbrev pub goneOn : Record → TaskRecord
+  abbrev pub goneOn : Call → Record
   goneOn t = counting t (counted (r .retries) (m .failed))
 
   pub early-end : isMoved (m .outcome) ≡ true → endsCall (m .outcome) ≡ true
@@ -58,28 +58,28 @@ module _ (c : Control) (r : TaskRecord) (m : Transition) where
 abbrev controlMoved : Control → Control → Control
 controlMoved old c = withWords old (c .anchor) (c .head)
 
-abbrev recordMoved : Record → Record → Record
+abbrev recordMoved : Call → Call → Call
 recordMoved old r = ofKind r (old .kind) (old .side)
 
 -- A control or record whose kept fields are its own.
 whole-control : (c old : Control) → c .tasks ≡ old .tasks → c .slots ≡ old .slots → c .pooled ≡ old .pooled → controlMoved old c ≡ c
 whole-control c old e1 e2 e3 = rw (← e1, ← e2, ← e3)
 
-whole-record : (named : Type 0) (r old : Record) → Keeps named old r → recordMoved old r ≡ r
+whole-record : (named : Type 0) (r old : Call) → Keeps named old r → recordMoved old r ≡ r
 whole-record named r old k = rw (← (k .kind), ← (k .side))
 
 -- At places 1 to 10 head, own slot and label are too.
 same-head : (c old : Control) → c .head ≡ old .head → anchorMoved old c ≡ controlMoved old c
 same-head c old e = ap (withWords old (c .anchor)) (sym e)
 
-same-call : (r old : Record) → r .own ≡ old .own → r .label ≡ old .label → callMoved old r ≡ recordMoved old r
+same-call : (r old : Call) → r .own ≡ old .own → r .label ≡ old .label → callMoved old r ≡ recordMoved old r
 same-call r old e1 e2 = ap₂ (withOwn (recordMoved old r)) (sym e1) (sym e2)
 
-module _ (q : Tables) (r : TaskRecord) (m : Transition) (lefts rights labels marks next : List ℕ) where
-  abbrev pub leaves : Control → TaskRecord → Acted
+module _ (q : Tables) (r : Record) (m : Transition) (lefts rights labels marks next : List ℕ) where
+  abbrev pub leaves : Control → Record → Acted
   leaves c t = record { tables = tablesOf c lefts rights labels marks next; task = t; outcome = m .outcome }
 
-  abbrev pub gone : Record → TaskRecord
+  abbrev pub gone : Call → Record
   gone = goneOn (q .control) r m
 
   module _ (a : Acted) (keeps : Unchanged q r a) (e : leaves (m .control) (gone (m .task)) ≡ a) where
@@ -90,12 +90,12 @@ module _ (q : Tables) (r : TaskRecord) (m : Transition) (lefts rights labels mar
     same-control = whole-control (m .control) (q .control) (kept .tasks) (kept .slots) (kept .pooled)
 
     over : endsCall (m .outcome) ≡ true → leaves (controlMoved (q .control) (m .control)) (gone idle) ≡ a
-    over h = ap (λ (c : Control). leaves c (gone idle)) same-control ∙ ap (λ (t : Record). leaves (m .control) (gone t)) (sym (kept .zero h)) ∙ e
+    over h = ap (λ (c : Control). leaves c (gone idle)) same-control ∙ ap (λ (t : Call). leaves (m .control) (gone t)) (sym (kept .zero h)) ∙ e
 
     going : endsCall (m .outcome) ≡ false → leaves (controlMoved (q .control) (m .control)) (gone (recordMoved (r .call) (m .task))) ≡ a
     going h =
         ap (λ (c : Control). leaves c (gone (recordMoved (r .call) (m .task)))) same-control
-        ∙ ap (λ (t : Record). leaves (m .control) (gone t)) (whole-record _ (m .task) (r .call) (kept .keeps h)) ∙ e
+        ∙ ap (λ (t : Call). leaves (m .control) (gone t)) (whole-record _ (m .task) (r .call) (kept .keeps h)) ∙ e
 
     unmoved : isMoved (m .outcome) ≡ false → leaves (q .control) r ≡ a
     unmoved h =

@@ -8,7 +8,7 @@ use native.Mathlib.Omega.{arith}
 use lib.Dec.{eqb, leb}
 use lib.ListN.{getD}
 use borrow.Author.Tests.{leb-true, eqb-true, eqb-false, ne-eqb}
-use Rattle.model.specs.declared.{Record.Record, TaskRecord.TaskRecord, Entry.Entry}
+use Rattle.model.specs.declared.{Call.Call, Record.Record, Entry.Entry}
 use Rattle.model.specs.declared.Outcome.the-variants.{Refused, Moved}
 use Rattle.model.specs.Tables.{Tables, idle}
 use Rattle.model.specs.Places.{Touch, nothing, setAnchor, setLink, clearMark, takeSlot, setNext, setHead, Move, wordFound, apply}
@@ -61,7 +61,7 @@ route-known place kind outcome =
     (λ k. rw k (some-known (getD popRoute place []) outcome (some-line popRoute place refl)))
 
 -- ---- the step
-pub record Unchanged (q : Tables) (r : TaskRecord) (a : Acted) : Type 0 where
+pub record Unchanged (q : Tables) (r : Record) (a : Acted) : Type 0 where
   pub tasks : a .tables .control .tasks ≡ q .control .tasks
   pub slots : a .tables .control .slots ≡ q .control .slots
   pub pooled : a .tables .control .pooled ≡ q .control .pooled
@@ -89,7 +89,7 @@ touches (setHead w) q = record { tasks = refl; slots = refl; pooled = refl; head
 
 -- Where the route leads on to n, a record goes on with the fields that it kept, or the answer ends the call.
 module _ (n : ℕ) (e : Entry) where
-  stays : (early : Type 0) (r t : Record) → Keeps early r t → known n ≡ true → (n ≡ 20 → ⊥) → endsCall (Moved (answer n e)) ≡ false → Keeps early r (goes t n)
+  stays : (early : Type 0) (r t : Call) → Keeps early r t → known n ≡ true → (n ≡ 20 → ⊥) → endsCall (Moved (answer n e)) ≡ false → Keeps early r (goes t n)
   unfolding goes answer known
   stays early r t k ok live h =
       split (leb n 17)
@@ -104,7 +104,7 @@ module _ (n : ℕ) (e : Entry) where
       (λ f. absurd (clash (sym (simp (a, b, d, f) at h))))
       (λ f. absurd (clash (simp (high, ne-eqb n 20 live, a, b, d, f) at ok)))))))
 
-  leaves : (t : Record) → endsCall (Moved (answer n e)) ≡ true → goes t n ≡ idle
+  leaves : (t : Call) → endsCall (Moved (answer n e)) ≡ true → goes t n ≡ idle
   unfolding goes answer
   leaves t h =
       split (leb n 17)
@@ -131,7 +131,7 @@ onward-live n finishing h =
     (λ b. let x : _≡_ {A = ℕ} 1 20 = simp (a, b) at h in omega arith))
     (λ a. eqb-false n 20 a (simp a at h))
 
-module _ (q : Tables) (r : TaskRecord) where
+module _ (q : Tables) (r : Record) where
   finishes : (m : Move) → Moves (q .control) (r .call) m → Unchanged q r (finish q r m)
   unfolding finish
   finishes m k =

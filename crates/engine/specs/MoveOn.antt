@@ -1,14 +1,14 @@
 -- The second part of a step: what an admitted record does.
 use mathlib.Core.Bool.{cond}
 use lib.Dec.{eqb}
-use Rattle.model.specs.declared.TaskRecord.{TaskRecord}
+use Rattle.model.specs.declared.Record.{Record}
 use Rattle.model.specs.declared.Outcome.the-variants.{Refused}
 use Rattle.model.specs.Tables.{Tables, isPooled}
 use Rattle.model.specs.{Refusals.recordRefusal, Calls.Acted}
 use Rattle.places.specs.Arm.{stepAt}
 
 -- 34 and 31 for the record come first, then its place.
-unfoldable pub moveOn : Tables → TaskRecord → Acted
+unfoldable pub moveOn : Tables → Record → Acted
 moveOn q r =
     let why = recordRefusal (isPooled (q .control)) (q .control .slots) (r .call) in
     cond (eqb why 0) (stepAt (r .call .place) q (r .call) (r .retries)) (record { tables = q; task = r; outcome = Refused why })

@@ -14,7 +14,7 @@ fn answer_ends(a: Answer) -> bool
         Answer::Pushed => true,
         Answer::Empty => true,
         Answer::Popped(_) => true,
-        Answer::NoSlot => true,
+        Answer::NoFreeSlot => true,
     }
 }
 
@@ -80,7 +80,7 @@ fn answer_reply(a: Answer) -> Reply
             label: entry.label,
             value: entry.slot,
         },
-        Answer::NoSlot => Reply {
+        Answer::NoFreeSlot => Reply {
             code: 5,
             label: 0,
             value: 0,

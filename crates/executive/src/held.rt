@@ -4,7 +4,7 @@ use crate::lent::TASKS;
 use model::Control;
 use model::Op;
 use model::Outcome;
-use model::TaskRecord;
+use model::Record;
 use rows::op;
 ghost use mathlib.Core.Path.{_≡_};
 ghost use Rattle.model.specs.declared.Op.the-variants.{Step};
@@ -18,7 +18,7 @@ ghost use Rattle.executive.specs.Held.{queueIn, doneOf};
 /// Control, records and tables of a queue of 3 slots.
 pub struct Held {
     pub control: Control,
-    pub records: [TaskRecord; TASKS],
+    pub records: [Record; TASKS],
     pub lefts: [u64; 4],
     pub rights: [u64; 4],
     pub labels: [u32; 4],
@@ -32,22 +32,22 @@ pub struct Done {
     pub outcome: Outcome,
 }
 
-fn row_of(t: TaskRecord) -> [u64; rows::RECORD_WORDS]
+fn row_of(t: Record) -> [u64; rows::RECORD_WORDS]
     ensures { λ row. ⌜ recordOf row ≡ t ⌝ }
 {
     let call = t.call;
     rows::record_row(call, t.retries)
 }
 
-fn record_of(row: [u64; rows::RECORD_WORDS]) -> TaskRecord
+fn record_of(row: [u64; rows::RECORD_WORDS]) -> Record
     ensures { λ t. ⌜ t ≡ recordOf row ⌝ }
 {
     let call = rows::call_of(row);
     let retries = rows::retries_of(row);
-    TaskRecord { call, retries }
+    Record { call, retries }
 }
 
-fn rows_of(records: [TaskRecord; TASKS]) -> [[u64; rows::RECORD_WORDS]; TASKS]
+fn rows_of(records: [Record; TASKS]) -> [[u64; rows::RECORD_WORDS]; TASKS]
     ensures { λ r. ⌜ recordsOf r ≡ records ⌝ }
 {
     let first = records[0];
@@ -57,7 +57,7 @@ fn rows_of(records: [TaskRecord; TASKS]) -> [[u64; rows::RECORD_WORDS]; TASKS]
     [a, b]
 }
 
-fn records_of(rows: [[u64; rows::RECORD_WORDS]; TASKS]) -> [TaskRecord; TASKS]
+fn records_of(rows: [[u64; rows::RECORD_WORDS]; TASKS]) -> [Record; TASKS]
     ensures { λ rs. ⌜ rs ≡ recordsOf rows ⌝ }
 {
     let first = rows[0];
@@ -141,13 +141,13 @@ pub fn step(h: Held, task: usize) -> Done
     Done { held, outcome }
 }
 
-fn second(records: [TaskRecord; TASKS]) -> TaskRecord
+fn second(records: [Record; TASKS]) -> Record
     ensures { λ t. ⌜ t ≡ getD records 1 unused ⌝ }
 {
     records[1]
 }
 
-fn with_second(records: [TaskRecord; TASKS], t: TaskRecord) -> [TaskRecord; TASKS]
+fn with_second(records: [Record; TASKS], t: Record) -> [Record; TASKS]
     ensures { λ rs. ⌜ rs ≡ set records 1 t ⌝ }
 {
     let mut rs = records;

@@ -1,7 +1,7 @@
 //! The two loans of document 01: the records as a slice, and one record. Whoever calls has them by value.
 use model::Control;
 use model::Outcome;
-use model::TaskRecord;
+use model::Record;
 use rows::value::Stepped;
 ghost use mathlib.Core.Path.{_≡_};
 ghost use Rattle.model.specs.declared.Op.the-variants.{Step};
@@ -14,14 +14,14 @@ pub const TASKS: usize = 2;
 /// What a step leaves of control and the records, and its outcome.
 pub struct Moved {
     pub control: Control,
-    pub records: [TaskRecord; TASKS],
+    pub records: [Record; TASKS],
     pub outcome: Outcome,
 }
 
 /// Moves a task by one step, the records lent side by side.
 pub fn step(
     control: Control,
-    records: [TaskRecord; TASKS],
+    records: [Record; TASKS],
     task: usize,
     lefts: &mut [u64],
     rights: &mut [u64],
@@ -53,7 +53,7 @@ pub fn step(
 /// Moves a task by one step, its record lent alone.
 pub fn step_record(
     control: Control,
-    task: TaskRecord,
+    task: Record,
     lefts: &mut [u64],
     rights: &mut [u64],
     labels: &mut [u32],

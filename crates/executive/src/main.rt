@@ -9,7 +9,7 @@ use held::Held;
 use lines::Line;
 use model::Control;
 use model::Op;
-use model::TaskRecord;
+use model::Record;
 
 /// A queue of 2 tasks and 3 slots, opened with tag 0.
 fn open() -> Held {
@@ -42,7 +42,7 @@ fn open() -> Held {
     let outcome = o.outcome;
     print::line(1, Line::Open(outcome), control.anchor);
     let call = calls::start::new_call(0, 0, 0, 0, 0);
-    let idle = TaskRecord { call, retries: 0 };
+    let idle = Record { call, retries: 0 };
     let records = [idle; lent::TASKS];
     Held {
         control,

@@ -11,7 +11,7 @@ use borrow.Author.Tests.{eqb-false, ne-eqb, ltb-true}
 use Rattle.word.specs.Anchor.{anchorOf}
 use Rattle.model.specs.declared.Control.{Control}
 use Rattle.model.specs.declared.Entry.{Entry}
-use Rattle.model.specs.declared.TaskRecord.{TaskRecord}
+use Rattle.model.specs.declared.Record.{Record}
 use Rattle.model.specs.Tables.{Tables, Queue, queueOf, idle, withCall, taskAt, tablesOf}
 use Rattle.model.specs.Sound.{rowTests, rowsFit}
 use Rattle.model.specs.Walk.{Walk, entries, broken, along, contents, isBroken, met, walkFrom}
@@ -209,7 +209,7 @@ module _ (a b q : Queue) where
 
 -- Stored: the rows hold what the joining by value left.
 module _ (a b q : Queue) (d : Done) (lefts rights labels marks : List ℕ) (j : Joins a b q d lefts rights labels marks) where
-  pub stored : d .laid ≡ true → (c : Control) (rs : List TaskRecord) → c ≡ d .control → rs ≡ set (q .records) 0 (withCall (taskAt q 0) idle)
+  pub stored : d .laid ≡ true → (c : Control) (rs : List Record) → c ≡ d .control → rs ≡ set (q .records) 0 (withCall (taskAt q 0) idle)
       → _≡_ {A = Joined} (record { code = d .code; third = queueOf c rs lefts rights labels marks (q .tables .next) }) (join a b q)
   stored e c rs ec er =
       (λ i. record {

@@ -10,7 +10,7 @@ use lib.Bits.{bitOr, or-zero-l, or-add-and, and-le-r}
 use lib.Dec.{eqb, ltb}
 use lib.ListN.{length, getD, List·getD-eq-default}
 use borrow.Author.Tests.{ne-eqb, eqb-true, eqb-false, ltb-true, ltb-false}
-use Rattle.model.specs.declared.TaskRecord.{TaskRecord}
+use Rattle.model.specs.declared.Record.{Record}
 use Rattle.model.specs.Tables.{unused}
 use Rattle.model.proofs.tests.Truth.{split, not-both}
 use Rattle.model.specs.Lists.{every, count}
@@ -61,18 +61,18 @@ blank-least l n = split (ltb n (length l)) (λ e. rw e) (λ e. rw e (past (ltb-f
     past : length l ≤ n → blank (length l) l ≡ blank n l
     past h = let e : length l + (n - length l) ≡ n = omega arith in sym (blank-past l (n - length l)) ∙ ap (λ (k : ℕ). blank k l) e
 
-abbrev pub busyIn : List TaskRecord → ℕ → ℕ
+abbrev pub busyIn : List Record → ℕ → ℕ
 busyIn rs n = count (λ t. not (eqb (getD rs t unused .call .place) 0)) n
 
-pub idle-none : (rs : List TaskRecord) → busyIn rs 0 ≡ 0
+pub idle-none : (rs : List Record) → busyIn rs 0 ≡ 0
 unfolding count
 idle-none rs = refl
 
-pub idle-more : (rs : List TaskRecord) (i : ℕ) → busyIn rs i ≡ 0 → getD rs i unused .call .place ≡ 0 → busyIn rs (i + 1) ≡ 0
+pub idle-more : (rs : List Record) (i : ℕ) → busyIn rs i ≡ 0 → getD rs i unused .call .place ≡ 0 → busyIn rs (i + 1) ≡ 0
 unfolding count
 idle-more rs i h e = ap (busyIn rs) (add-one i) ∙ rw (h, e)
 
-pub idle-less : (rs : List TaskRecord) (n i : ℕ) → i < n → getD rs i unused .call .place ≢ 0 → eqb (busyIn rs n) 0 ≡ false
+pub idle-less : (rs : List Record) (n i : ℕ) → i < n → getD rs i unused .call .place ≢ 0 → eqb (busyIn rs n) 0 ≡ false
 idle-less rs n i h e = split (eqb (busyIn rs n) 0)
     (λ z. absurd (not-both (ap not (ne-eqb _ _ e)) (none-pass (λ t. not (eqb (getD rs t unused .call .place) 0)) n (eqb-true _ _ z) i h)))
     (λ z. z)

@@ -9,7 +9,7 @@ use borrow.Author.Tests.{eq-eqb, le-leb}
 use Rattle.word.specs.declared.Anchor.{Anchor}
 use Rattle.word.specs.Anchor.{anchorOf, packAnchor}
 use Rattle.word.specs.Link.{linkOf, packLink}
-use Rattle.model.specs.declared.TaskRecord.{TaskRecord}
+use Rattle.model.specs.declared.Record.{Record}
 use Rattle.model.specs.declared.Answer.the-variants.{Running, Pushed}
 use Rattle.model.specs.declared.Outcome.the-variants.{Moved}
 use Rattle.model.specs.Tables.{Tables, isPooled, idle, withAnchor, withSeen, withNeighbour, newCall, counting}
@@ -20,7 +20,7 @@ use Rattle.model.specs.Refusals.{stepRefusal, stepSound}
 use Rattle.model.specs.Calls.{Acted, step, finish, stepLent}
 
 -- The record of a push at the right, with its task's count: no change of a task alone fails.
-abbrev pub at : ℕ → ℕ → ℕ → ℕ → ℕ → ℕ → ℕ → TaskRecord
+abbrev pub at : ℕ → ℕ → ℕ → ℕ → ℕ → ℕ → ℕ → Record
 at retries place own label seen neighbour finishing =
     counting (withNeighbour (withSeen (newCall place 0 1 own label) seen finishing) neighbour) retries
 
@@ -33,7 +33,7 @@ pub record Able (t : Tables) (own word : ℕ) : Type 0 where
   pub high : leb own (t .control .slots) ≡ true
   pub seen : anchorSound (t .control .slots) (anchorOf word) ≡ true
 
-abbrev pub runs : Tables → TaskRecord → ℕ → Acted
+abbrev pub runs : Tables → Record → ℕ → Acted
 runs t r p = record { tables = t; task = r; outcome = Moved (Running p) }
 
 abbrev pub ends : Tables → ℕ → Acted

@@ -8,7 +8,7 @@ use lib.Dec.{eqb}
 use lib.ListN.{getD, replicate, drop, getD-replicate, length-replicate, List·getD-append}
 use borrow.Author.Tests.{eq-eqb}
 use Rattle.word.specs.Anchor.{anchorOf, packAnchor, emptyAnchor}
-use Rattle.model.specs.declared.TaskRecord.{TaskRecord}
+use Rattle.model.specs.declared.Record.{Record}
 use Rattle.model.specs.Tables.{Queue, unused}
 use Rattle.model.specs.{Calls.opened, Report.busy}
 use Rattle.model.proofs.Openings.{after-opening}
@@ -25,11 +25,11 @@ zeroed-blank : (n m : ℕ) (l : List ℕ) → m ≤ n → blank m (zeroed n 0 l)
 zeroed-blank n zero l h = refl
 zeroed-blank n (suc m) l h = and-of (zeroed-blank n m l (omega arith)) (eq-eqb _ _ (zeroed-at n 0 0 l m h))
 
-none-busy : (n m : ℕ) (l : List TaskRecord) → m ≤ n → count (λ t. not (eqb (getD (zeroed n unused l) t unused .call .place) 0)) m ≡ 0
+none-busy : (n m : ℕ) (l : List Record) → m ≤ n → count (λ t. not (eqb (getD (zeroed n unused l) t unused .call .place) 0)) m ≡ 0
 unfolding count
 none-busy n zero l h = refl
 none-busy n (suc m) l h =
-    let z = ap {B = ℕ} (λ (r : TaskRecord). cond (not (eqb (r .call .place) 0)) 1 0) (zeroed-at n unused unused l m h) in
+    let z = ap {B = ℕ} (λ (r : Record). cond (not (eqb (r .call .place) 0)) 1 0) (zeroed-at n unused unused l m h) in
     omega (arith, none-busy n m l (omega arith), z)
 
 opened-fresh : (q : Queue) (tasks slots tag : ℕ) → fresh (opened false q tasks slots tag) ≡ true

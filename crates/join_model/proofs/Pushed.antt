@@ -12,7 +12,7 @@ use Rattle.word.proofs.Laws.{unpack-pack}
 use Rattle.model.specs.declared.Answer.the-variants.{Running, Pushed}
 use Rattle.model.specs.declared.Outcome.the-variants.{Moved, Refused}
 use Rattle.model.specs.declared.Op.the-variants.{Push, Step}
-use Rattle.model.specs.Tables.{Tables, Queue, isPooled, idle, withCall, marked, recordAt, taskAt, withAnchor, taken}
+use Rattle.model.specs.Tables.{Tables, Queue, isPooled, idle, withCall, marked, recordAt, taskAt, withAnchor, withTaken}
 use Rattle.model.specs.Sound.{anchorSound, controlTests, controlSound, recordSound, rowsFit}
 use Rattle.model.specs.Refusals.{recordsFit, startRefusal}
 use Rattle.model.specs.Calls.{pushStart, actOn, act}
@@ -56,7 +56,7 @@ tries q = taskAt q 0 .retries
 
 -- A label in its slot.
 abbrev pub labelled : Queue → ℕ → ℕ → Tables
-labelled q own label = taken (q .tables) own label
+labelled q own label = withTaken (q .tables) own label
 
 module _ (q : Queue) (k label : ℕ) (r : Ready q k) where
   abbrev pub own : ℕ

@@ -11,9 +11,9 @@ use borrow.Author.Tests.{ne-eqb, ltb-true, leb-true}
 use Rattle.word.specs.declared.Anchor.{Anchor}
 use Rattle.word.specs.Anchor.{packAnchor}
 use Rattle.word.proofs.Laws.{unpack-pack}
-use Rattle.model.specs.declared.TaskRecord.{TaskRecord}
+use Rattle.model.specs.declared.Record.{Record}
 use Rattle.model.specs.declared.Op.the-variants.{Push, Step}
-use Rattle.model.specs.Tables.{Queue, idle, unused, withCall, taskAt, withAnchor, taken, tablesOf}
+use Rattle.model.specs.Tables.{Queue, idle, unused, withCall, taskAt, withAnchor, withTaken, tablesOf}
 use Rattle.model.specs.Sound.{anchorSound, rowTests, rowsFit}
 use Rattle.model.specs.History.{Request}
 use Rattle.model.proofs.laws.Lengths.{lengths}
@@ -36,7 +36,7 @@ module _ (q : Queue) (fresh : Fresh q) (f : ℕ → ℕ) where
   tag = anchorIn q .tag
 
   -- Record 0 once its call is answered.
-  abbrev rested : TaskRecord
+  abbrev rested : Record
   rested = withCall (taskAt q 0) idle
 
   -- The first label.
@@ -66,7 +66,7 @@ module _ (q : Queue) (fresh : Fresh q) (f : ℕ → ℕ) where
       tags : tag + 1 ≡ tagAfter tag 1
       tags = omega arith
 
-      is-held : stands (withAnchor (taken (q .tables) 1 (f 1))
+      is-held : stands (withAnchor (withTaken (q .tables) 1 (f 1))
           (packAnchor (record { tag = tag + 1; status = anchorIn q .status; left = 1; right = 1 }))) (q .records) rested
           ≡ held q 0 f
       is-held = λ i. record {
@@ -134,7 +134,7 @@ module _ (q : Queue) (fresh : Fresh q) (f : ℕ → ℕ) where
       named = fresh .named;
       rows = (λ i. fitting slots (sizes i)) ∙ fresh .rows;
       records = ap (leb (q .tables .control .tasks)) (length-set (q .records) 0 rested) ∙ fresh .records;
-      rests = ap (λ (r : TaskRecord). r .call .place) rested-there;
+      rests = ap (λ (r : Record). r .call .place) rested-there;
       status = ap (λ (a : Anchor). a .status) reads;
       right = ap (λ (a : Anchor). a .right) reads;
       more = h;
@@ -173,7 +173,7 @@ module _ (q : Queue) (fresh : Fresh q) (f : ℕ → ℕ) where
       unfolding held
       is-held =
           let left : count ≡ leftOf (suc count) = omega arith in
-          let same = ap (λ (r : TaskRecord). set (before .records) 0 (withCall r idle)) rested-there ∙ set-set (q .records) 0 rested rested in
+          let same = ap (λ (r : Record). set (before .records) 0 (withCall r idle)) rested-there ∙ set-set (q .records) 0 rested rested in
           λ i. record {
             tables = withAnchor (tablesOf (q .tables .control)
                 (set (filled leftOf count (q .tables .lefts)) (suc count) (left i))

@@ -3,7 +3,7 @@ use mathlib.Core.Path.{_≡_, refl, ap, ap₂, _∙_}
 use mathlib.Core.List.{List, [], _∷_, _++_}
 use Prim.Native.Nat.{_<_, _≤_}
 use lib.ListN.{length}
-use Rattle.model.specs.declared.{TaskRecord.TaskRecord, Outcome.Outcome}
+use Rattle.model.specs.declared.{Record.Record, Outcome.Outcome}
 use Rattle.model.specs.declared.Op.the-variants.{Step}
 use Rattle.model.specs.Tables.{Tables, Queue}
 use Rattle.model.specs.Calls.{Done, back, act, stepLent}
@@ -44,11 +44,11 @@ ran-on {q} os ps r s = record {
 }
 
 -- The queue of some tables, with r as the row of task 0.
-abbrev pub stands : Tables → List TaskRecord → TaskRecord → Queue
+abbrev pub stands : Tables → List Record → Record → Queue
 stands t rs r = withRow (record { tables = t; records = rs }) 0 r
 
 -- A step of task 0, from the step of its record.
-pub steps : (t : Tables) (rs : List TaskRecord) (r : TaskRecord) {after : Tables} {r′ : TaskRecord} {o : Outcome}
+pub steps : (t : Tables) (rs : List Record) (r : Record) {after : Tables} {r′ : Record} {o : Outcome}
     → 0 < t .control .tasks → t .control .tasks ≤ length rs → stepLent t r ≡ record { tables = after; task = r′; outcome = o }
     → act (stands t rs r) 0 Step ≡ record { queue = stands after rs r′; outcome = o }
 steps t rs r h g e =

@@ -7,7 +7,7 @@ use lib.Dec.{ltb}
 use lib.ListN.{length, length-append}
 use Rattle.model.specs.Refusals.{malformed}
 use Rattle.model.specs.declared.{Entry.Entry, Answer.Answer, Outcome.Outcome, Opening.Opening, Op.Op}
-use Rattle.model.specs.declared.Answer.the-variants.{Running, Pushed, Empty, Popped, NoSlot}
+use Rattle.model.specs.declared.Answer.the-variants.{Running, Pushed, Empty, Popped, NoFreeSlot}
 use Rattle.model.specs.declared.Outcome.the-variants.{Refused, Moved}
 use Rattle.model.specs.declared.Opening.the-variants as opening
 use Rattle.model.specs.declared.Op.the-variants as op
@@ -42,7 +42,7 @@ numbered-most word n = both-most word (decimal n) (length word) 20 (omega arith)
 word-most : (o : Op) → length (callWord o) ≤ 6
 word-most (op.Push side slot label) = omega arith
 word-most (op.Pop side) = omega arith
-word-most (op.Put side label) = omega arith
+word-most (op.PushPooled side label) = omega arith
 word-most op.Step = omega arith
 
 call-most : (task : ℕ) (o : Op) → length (callOf task o) ≤ 27
@@ -61,12 +61,12 @@ answer-most (Running p) = omega (arith, numbered-most (ascii "at") p)
 answer-most Pushed = omega arith
 answer-most Empty = omega arith
 answer-most (Popped e) = entry-most e
-answer-most NoSlot = omega arith
+answer-most NoFreeSlot = omega arith
 
 moved-most : (o : Op) (a : Answer) → length (moved o a) ≤ 45
 moved-most (op.Push side slot label) a = omega arith
 moved-most (op.Pop side) a = omega arith
-moved-most (op.Put side label) a = omega arith
+moved-most (op.PushPooled side label) a = omega arith
 moved-most op.Step a = answer-most a
 
 outcome-most : (o : Op) (x : Outcome) → length (outcomeOf o x) ≤ 45

@@ -5,7 +5,7 @@ use mathlib.Core.List.{List, [], _∷_, _++_}
 use lib.{ListN.length, Seq.sets}
 use lib.Dec.{ltb, leb}
 use Rattle.model.specs.declared.{Entry.Entry, Answer.Answer, Outcome.Outcome, Opening.Opening, Op.Op}
-use Rattle.model.specs.declared.Answer.the-variants.{Running, Pushed, Empty, Popped, NoSlot}
+use Rattle.model.specs.declared.Answer.the-variants.{Running, Pushed, Empty, Popped, NoFreeSlot}
 use Rattle.model.specs.declared.Outcome.the-variants.{Refused, Moved}
 use Rattle.model.specs.declared.Opening.the-variants as opening
 use Rattle.model.specs.declared.Op.the-variants as op
@@ -55,7 +55,7 @@ no = ascii "no"
 abbrev pub callWord : Op → List ℕ
 callWord (op.Push side slot label) = ascii " push "
 callWord (op.Pop side) = ascii " pop "
-callWord (op.Put side label) = ascii " push "
+callWord (op.PushPooled side label) = ascii " push "
 callWord op.Step = ascii " step "
 
 unfoldable pub callOf : ℕ → Op → List ℕ
@@ -71,13 +71,13 @@ answerOf (Running p) = numbered (ascii "at") p
 answerOf Pushed = ascii "pushed"
 answerOf Empty = ascii "empty"
 answerOf (Popped e) = entryOf e
-answerOf NoSlot = ascii "noslot"
+answerOf NoFreeSlot = ascii "noslot"
 
 -- A start carried out, or a step's answer.
 abbrev pub moved : Op → Answer → List ℕ
 moved (op.Push side slot label) a = ok
 moved (op.Pop side) a = ok
-moved (op.Put side label) a = ok
+moved (op.PushPooled side label) a = ok
 moved op.Step a = answerOf a
 
 -- A refusal has its number.

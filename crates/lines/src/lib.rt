@@ -37,7 +37,7 @@ fn put_word(out: &mut [u8], at: usize, op: Op) -> usize
     match op {
         Op::Push { .. } => number::put_text(out, at, b" push "),
         Op::Pop { .. } => number::put_text(out, at, b" pop "),
-        Op::Put { .. } => number::put_text(out, at, b" push "),
+        Op::PushPooled { .. } => number::put_text(out, at, b" push "),
         Op::Step => number::put_text(out, at, b" step "),
     }
 }
@@ -70,7 +70,7 @@ fn put_answer(out: &mut [u8], at: usize, answer: Answer) -> usize
         Answer::Pushed => number::put_text(out, at, b"pushed"),
         Answer::Empty => number::put_text(out, at, b"empty"),
         Answer::Popped(e) => put_entry(out, at, e),
-        Answer::NoSlot => number::put_text(out, at, b"noslot"),
+        Answer::NoFreeSlot => number::put_text(out, at, b"noslot"),
     }
 }
 
@@ -82,7 +82,7 @@ fn put_moved(out: &mut [u8], at: usize, op: Op, answer: Answer) -> usize
     match op {
         Op::Push { .. } => number::put_text(out, at, b"ok"),
         Op::Pop { .. } => number::put_text(out, at, b"ok"),
-        Op::Put { .. } => number::put_text(out, at, b"ok"),
+        Op::PushPooled { .. } => number::put_text(out, at, b"ok"),
         Op::Step => put_answer(out, at, answer),
     }
 }

@@ -6,10 +6,10 @@ use mathlib.Core.Bool.{true, false}
 use mathlib.Core.List.{List, [], _∷_, _++_, map}
 use Prim.Native.Nat.{ℕ}
 use lib.ListN.{replicate}
-use Rattle.model.specs.declared.{Record.Record, Reply.Reply}
-use Rattle.model.specs.declared.Answer.the-variants.{Pushed, Empty, NoSlot}
+use Rattle.model.specs.declared.{Call.Call, Reply.Reply}
+use Rattle.model.specs.declared.Answer.the-variants.{Pushed, Empty, NoFreeSlot}
 use Rattle.model.specs.declared.Outcome.the-variants.{Refused, Moved}
-use Rattle.model.specs.declared.Op.the-variants.{Put}
+use Rattle.model.specs.declared.Op.the-variants.{PushPooled}
 use Rattle.model.specs.declared.Opening.the-variants as opening
 use Rattle.model.specs.declared.Reported.the-variants as reported
 use Rattle.model.specs.Tables.{Tables, Queue, tablesOf, queueOf, unopened, openedControl, withWords, newCall, withSeen, withNeighbour, withLink}
@@ -33,7 +33,7 @@ largest = queueOf unopened (replicate 16 unused) (replicate 1024 0) (replicate 1
 
 -- A push that names no slot; a pooled queue of one slot, with a first tag.
 abbrev put : ℕ → ℕ → ℕ → Request
-put t side label = record { task = t; op = Put side label }
+put t side label = record { task = t; op = PushPooled side label }
 
 abbrev pooledAt : ℕ → Queue
 pooledAt tag =
@@ -77,15 +77,15 @@ pool head next1 =
     (replicate 4 0) (replicate 4 0) (replicate 4 0) (0 ∷ []) (0 ∷ next1 ∷ 0 ∷ 0 ∷ [])
 
 -- A record at a place, at the right: kind, own slot, Anchor as read, neighbour, link word as read.
-abbrev doing : ℕ → ℕ → ℕ → ℕ → ℕ → ℕ → Record
+abbrev doing : ℕ → ℕ → ℕ → ℕ → ℕ → ℕ → Call
 doing place kind own seen neighbour link =
     withLink (withNeighbour (withSeen (newCall place kind 1 own 7) seen 0) neighbour) link
 
-abbrev why : Tables → Record → ℕ
+abbrev why : Tables → Call → ℕ
 why q r = stepRefusal q alone r
 
 -- The count that a step leaves, 5 before it.
-abbrev counts : Tables → Record → ℕ
+abbrev counts : Tables → Call → ℕ
 counts q r = step q alone (counting r 5) .task .retries
 
 -- The walk from the right end 2 to the left end 1, where Left of 2 and of 3 are these; under LPUSH from 1 to 2, where Right of 1 is this.
@@ -156,7 +156,7 @@ pub record Cases : Type 0 where
   pub start-order : outcomes worn (push 1 1 1 5 ∷ push 0 1 1 5 ∷ push 0 1 2 5 ∷ []) ≡ Refused 30 ∷ Refused 32 ∷ Refused 33 ∷ []
   -- the first push draws the one slot, the second finds none
   pub drawn : outcomes single (put 0 1 5 ∷ steps (replicate 3 0) ++ put 1 1 6 ∷ steps (1 ∷ []))
-      ≡ at 12 ∷ at 13 ∷ at 14 ∷ at 1 ∷ at 12 ∷ Moved NoSlot ∷ []
+      ≡ at 12 ∷ at 13 ∷ at 14 ∷ at 1 ∷ at 12 ∷ Moved NoFreeSlot ∷ []
   -- 14 marks and labels the slot drawn; a pop clears the mark at 11, before it gives the slot back; each change of the head raises its tag
   pub marked-at-14 : map (λ n. drawing n .marks) (2 ∷ 3 ∷ 5 ∷ []) ≡ (0 ∷ []) ∷ (2 ∷ []) ∷ (2 ∷ []) ∷ []
   pub labelled-at-14 : map (λ n. drawing n .labels) (2 ∷ 3 ∷ []) ≡ (0 ∷ 0 ∷ []) ∷ (0 ∷ 5 ∷ []) ∷ []
@@ -204,7 +204,7 @@ pub record Cases : Type 0 where
   pub no-more-told : report crowded ≡ report halfway
   pub no-more-counts : retryCounts crowded ≡ replicate 16 0
   -- the number and values of each outcome, of openings and of reports
-  pub numbers : map replyOf (at 7 ∷ Moved Pushed ∷ Moved Empty ∷ got 2 800 ∷ Moved NoSlot ∷ Refused 34 ∷ [])
+  pub numbers : map replyOf (at 7 ∷ Moved Pushed ∷ Moved Empty ∷ got 2 800 ∷ Moved NoFreeSlot ∷ Refused 34 ∷ [])
       ≡ reply 1 0 7 ∷ reply 2 0 0 ∷ reply 3 0 0 ∷ reply 4 800 2 ∷ reply 5 0 0 ∷ reply 34 0 0 ∷ []
   pub opening-numbers : map openingCode (opening.Opened ∷ opening.Refused 11 ∷ []) ≡ 0 ∷ 11 ∷ []
   pub report-numbers : reportCode (report two) ≡ 0

@@ -12,11 +12,11 @@ use Rattle.model.specs.{Calls.opened, Walk.entries, Lists.All, Sides.nea
 use Rattle.model.specs.History.{InUse, Ledger, MarkedWhile, MarksNamed, MarksRight, Taken, Waits, final, here}
 use Rattle.model.specs.History.{is-taken, later, pop-gives, pop-holds, popGives, popHolds, push-holds, pushHolds, waits}
 use Rattle.model.specs.Tables.{atPlace, Queue, Tables, isPooled, marked, recordAt}
-use Rattle.model.specs.declared.{Entry.Entry, Record.Record}
+use Rattle.model.specs.declared.{Entry.Entry, Call.Call}
 use Rattle.model.proofs.tests.{ByPlace.by-place, Rules.tests}
 use Rattle.model.proofs.tests.Truth.{and-true, decide-eq, not-both}
 use Rattle.model.proofs.lists.{In.In, Slots.slots}
-use Rattle.model.proofs.machine.Book.{Call}
+use Rattle.model.proofs.machine.Book.{BookCall}
 use Rattle.model.proofs.machine.Machine as M
 use Rattle.model.proofs.invariant.Owners.{Owner, held, queued, shows}
 use Rattle.model.proofs.invariant.Tasks.{Own, Stage, Task}
@@ -43,7 +43,7 @@ all-in P (y ∷ l) x a (inl z) = subst P (sym z) (a .0)
 all-in P (y ∷ l) x a (inr i) = all-in P l x (a .1) i
 
 -- What a task's record holds, the task has.
-module _ (s : M.Shared) (h : ℕ → Owner) (t : ℕ) (r : M.Rec) (c : Call) (x : ℕ) where
+module _ (s : M.Shared) (h : ℕ → Owner) (t : ℕ) (r : M.Rec) (c : BookCall) (x : ℕ) where
   tries : (k : M.Kind) → k ≡ M.push → r .own ≡ x → Own k (s .label) h t (r .own) (r .label) → h x ≡ held t
   tries M.push k e o = subst (λ y. h y ≡ held t) e (o .1)
   tries M.pop k e o = absurd (push-pop (sym k))
@@ -69,7 +69,7 @@ module _ (s : M.Shared) (h : ℕ → Owner) (t : ℕ) (r : M.Rec) (c : Call) (x 
   has (M.give p) w k = subst (λ y. h y ≡ held t) k (w .1 .holds)
 
 -- What a record holds, the decoded record holds.
-module _ (r : Record) (x : ℕ) where
+module _ (r : Call) (x : ℕ) where
   abbrev There : ℕ → Type 0
   There p = Held (atPlace r p) x → Holds (placeOf p) (recOf r) x
 

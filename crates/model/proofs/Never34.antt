@@ -11,7 +11,7 @@ use Rattle.model.specs.{Calls.opened, Tables.Queue}
 use Rattle.model.specs.History.{Never34, NeverUnsound}
 use Rattle.model.specs.Refusals.{openRefusal, openRules}
 use Rattle.model.specs.Sound.{controlSound, controlTests}
-use Rattle.model.specs.declared.Record.{Record}
+use Rattle.model.specs.declared.Call.{Call}
 use Rattle.model.proofs.tests.Rules.{_and_, cleared, passes}
 use Rattle.model.proofs.tests.Truth.{by-test, not-both}
 use Rattle.model.proofs.machine.Laws.{stable-pushing}
@@ -58,7 +58,7 @@ module _ (pooled : Bool) (q : Queue) (tasks slots tag : ℕ) where
     unfolding view opened
     open-safe = record {
       control = open-control;
-      fine = λ t lt b. absurd (b (ap (λ (r : Record). r .place) (no-record pooled q tasks slots tag t lt)));
+      fine = λ t lt b. absurd (b (ap (λ (r : Call). r .place) (no-record pooled q tasks slots tag t lt)));
       extra = λ t. subst (λ p. Extra p (stateOf o .task t)) (sym (all-idle pooled q tasks slots tag t))
           (record { kept = tt; near = λ b. absurd (not-both b refl) });
       tags = record {

@@ -15,8 +15,8 @@ use Rattle.model.specs.History.{popHolds, push-holds, pushHolds, waits}
 use Rattle.model.specs.Refusals.{among, stepRefusal}
 use Rattle.model.specs.Walk.{entries}
 use Rattle.model.specs.Tables.{atPlace, Queue, Tables, recordAt}
-use Rattle.model.specs.declared.Answer.the-variants.{NoSlot}
-use Rattle.model.specs.declared.{Answer.Answer, Entry.Entry, Record.Record}
+use Rattle.model.specs.declared.Answer.the-variants.{NoFreeSlot}
+use Rattle.model.specs.declared.{Answer.Answer, Entry.Entry, Call.Call}
 use Rattle.model.specs.declared.Op.the-variants.{Step}
 use Rattle.model.specs.declared.Outcome.the-variants.{Moved}
 use Rattle.model.proofs.tests.ByPlace.{by-place}
@@ -43,12 +43,12 @@ in-waits (e ∷ l) x (inl z) = here e l z
 in-waits (e ∷ l) x (inr i) = later e l (in-waits l x i)
 
 -- A record holds slot x, as a push or as a pop.
-abbrev pub Held : Record → ℕ → Type 0
+abbrev pub Held : Call → ℕ → Type 0
 Held r x = (pushHolds r x ≡ true) ⊎ ((popHolds r x ≡ true) ⊎ (popGives r x ≡ true))
 
 -- What a decoded record holds, the record holds.
-module _ (r : Record) (x : ℕ) where
-  abbrev at : ℕ → Record
+module _ (r : Call) (x : ℕ) where
+  abbrev at : ℕ → Call
   at p = atPlace r p
 
   abbrev Here : ℕ → Type 0
@@ -122,20 +122,20 @@ module _ (n : ℕ) (q : Queue) (l : _) (g : Matched n q l) (f : Safe q) (t : ℕ
   abbrev G : Tables
   G = q .tables
 
-  abbrev r : Record
+  abbrev r : Call
   r = recordAt q t
 
   -- The step that answers so has read an empty head.
-  module _ (s : Stepping q t) (e : reply q (g .book) (g .inv) (g .links) t s ≡ NoSlot) where
+  module _ (s : Stepping q t) (e : reply q (g .book) (g .inv) (g .links) t s ≡ NoFreeSlot) where
     all-used : (x : ℕ) → 1 ≤ x → x ≤ G .control .slots → InUse q x
     unfolding stateOf view
     all-used x some low =
         let z = step-lacks q (g .book) (g .inv) (g .links) t s (ap (λ (a : Answer). B.isNoSlot (answerSeen a)) e) in
         used-is n q l g f x (no-slot (record { state = stateOf q; book = g .book }) (g .inv) (z .0) (z .1) x (λ z. omega arith) low)
 
-  pub told-truly : act q t Step .outcome ≡ Moved NoSlot → (x : ℕ) → 1 ≤ x → x ≤ G .control .slots → InUse q x
+  pub told-truly : act q t Step .outcome ≡ Moved NoFreeSlot → (x : ℕ) → 1 ≤ x → x ≤ G .control .slots → InUse q x
   unfolding act actOn step finish
-  told-truly = by-test (λ (a : Acted). a .outcome ≡ Moved NoSlot → (x : ℕ) → 1 ≤ x → x ≤ G .control .slots → InUse q x)
+  told-truly = by-test (λ (a : Acted). a .outcome ≡ Moved NoFreeSlot → (x : ℕ) → 1 ≤ x → x ≤ G .control .slots → InUse q x)
       (eqb (stepRefusal G (among q t) r) 0)
       (λ z e. all-used (step-accepted q t (eqb-true _ _ z)) cc)
       (λ z e. absurd (let w : _≡_ {A = ℕ} 0 1 = cc in omega arith))

@@ -9,8 +9,8 @@ use lib.Dec.{eqb, ltb}
 use lib.ListN.{getD, length, set}
 use borrow.Author.Tests.{eqb-true, lt-ltb}
 use lib.Seq.{getD-set-same, getD-set-other}
-use Rattle.model.specs.declared.{Op.Op, TaskRecord.TaskRecord}
-use Rattle.model.specs.declared.Op.the-variants.{Push, Pop, Put, Step}
+use Rattle.model.specs.declared.{Op.Op, Record.Record}
+use Rattle.model.specs.declared.Op.the-variants.{Push, Pop, PushPooled, Step}
 use Rattle.model.specs.Tables.{Queue, recordAt, taskAt, unused}
 use Rattle.model.specs.Refusals.{among, popRefusal, pushRefusal, putRefusal, stepRefusal}
 use Rattle.model.specs.Route.{counted}
@@ -42,12 +42,12 @@ count-of q t (Push side slot label) =
     by-test (λ (a : Acted). a .task .retries ≡ own q t) (eqb (pushRefusal (q .tables) (among q t) (recordAt q t) side slot) 0) (λ e. refl) (λ e. refl)
 count-of q t (Pop side) = by-test (λ (a : Acted). a .task .retries ≡ own q t) (eqb (popRefusal (q .tables) (among q t) (recordAt q t) side) 0)
     (λ e. refl) (λ e. refl)
-count-of q t (Put side label) = by-test (λ (a : Acted). a .task .retries ≡ own q t) (eqb (putRefusal (q .tables) (among q t) (recordAt q t) side) 0)
+count-of q t (PushPooled side label) = by-test (λ (a : Acted). a .task .retries ≡ own q t) (eqb (putRefusal (q .tables) (among q t) (recordAt q t) side) 0)
     (λ e. refl) (λ e. refl)
 count-of q t Step = split (eqb (stepRefusal (q .tables) (among q t) (recordAt q t)) 0) (λ e. rw e) (λ e. rw e)
 
 -- A record put back with the same count.
-same-column : (l : List TaskRecord) (t : ℕ) (x : TaskRecord) → x .retries ≡ getD l t unused .retries → (u : ℕ)
+same-column : (l : List Record) (t : ℕ) (x : Record) → x .retries ≡ getD l t unused .retries → (u : ℕ)
     → getD (set l t x) u unused .retries ≡ getD l u unused .retries
 same-column [] t x e u = refl
 same-column (r ∷ l) zero x e zero = e
@@ -56,15 +56,15 @@ same-column (r ∷ l) (suc t) x e zero = refl
 same-column (r ∷ l) (suc t) x e (suc u) = same-column l t x e u
 
 -- One with another.
-other-column : (l : List TaskRecord) (t : ℕ) (x : TaskRecord) → t < length l
+other-column : (l : List Record) (t : ℕ) (x : Record) → t < length l
     → (λ (u : ℕ). getD (set l t x) u unused .retries) ≡ upd (λ u. getD l u unused .retries) t (x .retries)
 other-column l t x h = fun-ext (λ u. go u (decide-eq u t))
   where
     go : (u : ℕ) → (u ≡ t) ⊎ (u ≢ t) → getD (set l t x) u unused .retries ≡ upd (λ u. getD l u unused .retries) t (x .retries) u
     go u (inl e) =
         subst (λ u. getD (set l t x) u unused .retries ≡ upd (λ u. getD l u unused .retries) t (x .retries) u) (sym e)
-        (ap (λ (r : TaskRecord). r .retries) (getD-set-same l t x unused h) ∙ sym (upd-same (λ u. getD l u unused .retries) t (x .retries)))
-    go u (inr e) = ap (λ (r : TaskRecord). r .retries) (getD-set-other l t u x unused e)
+        (ap (λ (r : Record). r .retries) (getD-set-same l t x unused h) ∙ sym (upd-same (λ u. getD l u unused .retries) t (x .retries)))
+    go u (inr e) = ap (λ (r : Record). r .retries) (getD-set-other l t u x unused e)
         ∙ sym (upd-other (λ u. getD l u unused .retries) t (x .retries) u e)
 
 sum : Queue → ℕ
@@ -75,7 +75,7 @@ found : (q : Queue) (t : ℕ) (o : Op) → fails q t o ≡ true → Lies q t
 unfolding fails
 found q t (Push side slot label) e = absurd (not-both e refl)
 found q t (Pop side) e = absurd (not-both e refl)
-found q t (Put side label) e = absurd (not-both e refl)
+found q t (PushPooled side label) e = absurd (not-both e refl)
 found q t Step e = step-accepted q t (eqb-true _ _ (and-true _ _ e .0)) .lies
 
 -- The sum goes with the old count, as long as that is below its ceiling.
@@ -87,7 +87,7 @@ module _ (q : Queue) (t : ℕ) (o : Op) where
   unfolding act
   same-tasks = act-tasks q t o
 
-  abbrev new : TaskRecord
+  abbrev new : Record
   new = actOn (q .tables) (among q t) (taskAt q t) o .task
 
   kept : fails q t o ≡ false → sum q′ ≡ sum q
@@ -143,7 +143,7 @@ total-zero f (suc n) h = omega (arith, h n (omega arith), total-zero f n (λ t l
 
 open-sum : (pooled : Bool) (q : Queue) (tasks slots tag : ℕ) → sum (opened pooled q tasks slots tag) ≡ 0
 unfolding sum opened
-open-sum pooled q tasks slots tag = total-zero _ tasks (λ t l. ap (λ (r : TaskRecord). r .retries) (zeroed-at tasks unused (q .records) t l))
+open-sum pooled q tasks slots tag = total-zero _ tasks (λ t l. ap (λ (r : Record). r .retries) (zeroed-at tasks unused (q .records) t l))
 
 pub retries-sum : RetriesSum
 unfolding sum

@@ -4,12 +4,12 @@ use mathlib.Core.List.{List, _∷_, _++_}
 use Prim.Native.Nat.{ℕ, _+_, _/_}
 use lib.Dec.{eqb}
 use lib.ListN.{getD, set, drop}
-use Rattle.model.specs.declared.{Record.Record, TaskRecord.TaskRecord, Entry.Entry, Outcome.Outcome, Opening.Opening, Op.Op, Reply.Reply}
-use Rattle.model.specs.declared.Answer.the-variants.{Running, Pushed, Empty, Popped, NoSlot}
+use Rattle.model.specs.declared.{Call.Call, Record.Record, Entry.Entry, Outcome.Outcome, Opening.Opening, Op.Op, Reply.Reply}
+use Rattle.model.specs.declared.Answer.the-variants.{Running, Pushed, Empty, Popped, NoFreeSlot}
 use Rattle.model.specs.declared.Outcome.the-variants.{Refused, Moved}
 use Rattle.model.specs.declared.Opening.the-variants as opening
-use Rattle.model.specs.declared.Op.the-variants.{Push, Pop, Put, Step}
-use Rattle.model.specs.Tables.{Tables, Queue, tablesOf, openedControl, unused, counting, withCall, started, asking, taskAt, taken}
+use Rattle.model.specs.declared.Op.the-variants.{Push, Pop, PushPooled, Step}
+use Rattle.model.specs.Tables.{Tables, Queue, tablesOf, openedControl, unused, counting, withCall, started, asking, taskAt, withTaken}
 use Rattle.model.specs.Places.{row, wordFound, Move, move, apply}
 use Rattle.model.specs.Route.{route, onward, answer, goes, counted}
 use Rattle.model.specs.Refusals.{openRefusal, Lent, among, alone, pushRefusal, putRefusal, popRefusal, stepRefusal}
@@ -53,36 +53,36 @@ openPooled q tasks slots tag = openAs true q tasks slots tag
 -- What a start or step of one record leaves of tables and record, and its outcome.
 pub record Acted : Type 0 where
   pub tables : Tables
-  pub task : TaskRecord
+  pub task : Record
   pub outcome : Outcome
 
 -- A refusal is its number alone; everything keeps its contents.
-abbrev pub decide : ℕ → Tables → TaskRecord → Acted → Acted
+abbrev pub decide : ℕ → Tables → Record → Acted → Acted
 decide why q r done = cond (eqb why 0) done (record { tables = q; task = r; outcome = Refused why })
 
 -- A push start also stores the label in the named slot's row and sets its mark.
-unfoldable pub pushStart : Tables → Lent → TaskRecord → ℕ → ℕ → ℕ → Acted
+unfoldable pub pushStart : Tables → Lent → Record → ℕ → ℕ → ℕ → Acted
 pushStart q p r side slot label =
     decide (pushRefusal q p (r .call) side slot) q r
-    (record { tables = taken q slot label; task = withCall r (started 0 side slot label); outcome = Moved (Running 1) })
+    (record { tables = withTaken q slot label; task = withCall r (started 0 side slot label); outcome = Moved (Running 1) })
 
 -- One that names no slot only writes the record.
-unfoldable pub putStart : Tables → Lent → TaskRecord → ℕ → ℕ → Acted
+unfoldable pub putStart : Tables → Lent → Record → ℕ → ℕ → Acted
 putStart q p r side label =
     decide (putRefusal q p (r .call) side) q r
     (record { tables = q; task = withCall r (asking side label); outcome = Moved (Running 12) })
 
-unfoldable pub popStart : Tables → Lent → TaskRecord → ℕ → Acted
+unfoldable pub popStart : Tables → Lent → Record → ℕ → Acted
 popStart q p r side =
     decide (popRefusal q p (r .call) side) q r
     (record { tables = q; task = withCall r (started 1 side 0 0); outcome = Moved (Running 1) })
 
 -- The entry that a pop answers: the end taken with the label found, or, once the slot is given back, the record's.
-abbrev pub entryOf : Tables → Record → Entry
+abbrev pub entryOf : Tables → Call → Entry
 entryOf q r = record { slot = row r; label = cond (eqb (r .place) 17) (r .label) (getD (q .labels) (row r) 0) }
 
 -- A place's move made: its touch, the call gone on, a failed change counted, the answer.
-unfoldable pub finish : Tables → TaskRecord → Move → Acted
+unfoldable pub finish : Tables → Record → Move → Acted
 finish q r m =
     let n = onward (route (r .call .place) (r .call .kind) (m .branch)) (m .task .finishing) in
     record {
@@ -91,14 +91,14 @@ finish q r m =
       outcome = Moved (answer n (entryOf q (r .call)));
     }
 
-unfoldable pub step : Tables → Lent → TaskRecord → Acted
+unfoldable pub step : Tables → Lent → Record → Acted
 step q p r = decide (stepRefusal q p (r .call)) q r (finish q r (move (q .control) (r .call) (wordFound q (r .call))))
 
 -- A start or step of one record.
-unfoldable pub actOn : Tables → Lent → TaskRecord → Op → Acted
+unfoldable pub actOn : Tables → Lent → Record → Op → Acted
 actOn q p r (Push side slot label) = pushStart q p r side slot label
 actOn q p r (Pop side) = popStart q p r side
-actOn q p r (Put side label) = putStart q p r side label
+actOn q p r (PushPooled side label) = putStart q p r side label
 actOn q p r Step = step q p r
 
 -- A start or step of task t: its record is put back where it lay.
@@ -113,7 +113,7 @@ unfoldable pub act : Queue → ℕ → Op → Done
 act q t o = back q t (actOn (q .tables) (among q t) (taskAt q t) o)
 
 -- A step on one lent record.
-unfoldable pub stepLent : Tables → TaskRecord → Acted
+unfoldable pub stepLent : Tables → Record → Acted
 stepLent q r = step q alone r
 
 -- The number of an opening: 0 carried out, or that of a refusal.
@@ -128,4 +128,4 @@ replyOf (Moved (Running p)) = record { code = 1; label = 0; value = p }
 replyOf (Moved Pushed) = record { code = 2; label = 0; value = 0 }
 replyOf (Moved Empty) = record { code = 3; label = 0; value = 0 }
 replyOf (Moved (Popped e)) = record { code = 4; label = e .label; value = e .slot }
-replyOf (Moved NoSlot) = record { code = 5; label = 0; value = 0 }
+replyOf (Moved NoFreeSlot) = record { code = 5; label = 0; value = 0 }

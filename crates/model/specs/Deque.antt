@@ -4,7 +4,7 @@ use mathlib.Core.List.{List, [], _∷_, reverse}
 use Prim.Native.Nat.{ℕ}
 use lib.Dec.{eqb}
 use Rattle.model.specs.declared.{Entry.Entry, Answer.Answer}
-use Rattle.model.specs.declared.Answer.the-variants.{Running, Pushed, Empty, Popped, NoSlot}
+use Rattle.model.specs.declared.Answer.the-variants.{Running, Pushed, Empty, Popped, NoFreeSlot}
 
 -- A deque is a list from left to right; seen from a side, the end there comes first.
 abbrev pub seenFrom : {A : Type 0} → ℕ → List A → List A
@@ -36,8 +36,8 @@ saysNoSlot (Running p) = false
 saysNoSlot Pushed = false
 saysNoSlot Empty = false
 saysNoSlot (Popped e) = false
-saysNoSlot NoSlot = true
+saysNoSlot NoFreeSlot = true
 
 -- To a push that lacks a slot it replies *no slot*, and stays. (Request #104.)
 unfoldable pub serveFor : Bool → ℕ → ℕ → Entry → List Entry → Served
-serveFor lacks kind side e l = cond lacks (record { reply = NoSlot; deque = l }) (serve kind side e l)
+serveFor lacks kind side e l = cond lacks (record { reply = NoFreeSlot; deque = l }) (serve kind side e l)

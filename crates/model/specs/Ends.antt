@@ -1,7 +1,7 @@
 -- Which outcomes are no refusals, and which of them end a call: pushed, empty, popped and no slot.
 use mathlib.Core.Bool.{Bool, true, false, not}
 use Rattle.model.specs.declared.{Answer.Answer, Outcome.Outcome}
-use Rattle.model.specs.declared.Answer.the-variants.{Running, Pushed, Empty, Popped, NoSlot}
+use Rattle.model.specs.declared.Answer.the-variants.{Running, Pushed, Empty, Popped, NoFreeSlot}
 use Rattle.model.specs.declared.Outcome.the-variants.{Refused, Moved}
 
 abbrev pub answerEnds : Answer → Bool
@@ -9,7 +9,7 @@ answerEnds (Running n) = false
 answerEnds Pushed = true
 answerEnds Empty = true
 answerEnds (Popped e) = true
-answerEnds NoSlot = true
+answerEnds NoFreeSlot = true
 
 abbrev pub isMoved : Outcome → Bool
 isMoved (Refused n) = false

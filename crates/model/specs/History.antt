@@ -6,10 +6,10 @@ use Prim.Native.Nat.{ℕ, suc, _<_, _≤_}
 use lib.Dec.{eqb, leb}
 use lib.ListN.{length}
 use Rattle.word.specs.Anchor.{anchorOf}
-use Rattle.model.specs.declared.{Entry.Entry, Answer.Answer, Outcome.Outcome, Op.Op, Record.Record, Report.Report}
-use Rattle.model.specs.declared.Answer.the-variants.{Running, Pushed, Empty, Popped, NoSlot}
+use Rattle.model.specs.declared.{Entry.Entry, Answer.Answer, Outcome.Outcome, Op.Op, Call.Call, Report.Report}
+use Rattle.model.specs.declared.Answer.the-variants.{Running, Pushed, Empty, Popped, NoFreeSlot}
 use Rattle.model.specs.declared.Outcome.the-variants.{Refused, Moved}
-use Rattle.model.specs.declared.Op.the-variants.{Push, Pop, Put, Step}
+use Rattle.model.specs.declared.Op.the-variants.{Push, Pop, PushPooled, Step}
 use Rattle.model.specs.Tables.{Queue, marked, recordAt}
 use Rattle.model.specs.declared.Opening.the-variants.{Opened}
 use Rattle.model.specs.declared.Reported.the-variants as reported
@@ -56,7 +56,7 @@ pub data Ending : Type 0 where
 
 -- A call begins with an accepted start; kind, side, slot and label are as its start named them; `named` says whether it named a slot.
 -- Its latest effect comes first.
-pub record Call : Type 0 where
+pub record LedgerCall : Type 0 where
   pub task : ℕ
   pub kind : ℕ
   pub side : ℕ
@@ -69,12 +69,12 @@ pub record Call : Type 0 where
 -- The sequential deque and the calls, the latest first.
 pub record Ledger : Type 0 where
   pub deque : List Entry
-  pub calls : List Call
+  pub calls : List LedgerCall
 
-abbrev pub begins : ℕ → ℕ → ℕ → ℕ → Bool → Entry → Call
+abbrev pub begins : ℕ → ℕ → ℕ → ℕ → Bool → Entry → LedgerCall
 begins n t kind side named e = record { task = t; kind = kind; side = side; named = named; entry = e; start = n; effects = []; ending = pending }
 
-abbrev pub continued : Call → List Effect → Ending → Call
+abbrev pub continued : LedgerCall → List Effect → Ending → LedgerCall
 continued c es e = record {
   task = c .task;
   kind = c .kind;
@@ -86,7 +86,7 @@ continued c es e = record {
   ending = e;
 }
 
-abbrev pub over : Call → Ledger → Ledger
+abbrev pub over : LedgerCall → Ledger → Ledger
 over c l = record { deque = l .deque; calls = c ∷ l .calls }
 
 abbrev pub isOpen : Ending → Bool
@@ -99,7 +99,7 @@ saysNone (Running p) = false
 saysNone Pushed = false
 saysNone Empty = true
 saysNone (Popped e) = false
-saysNone NoSlot = true
+saysNone NoFreeSlot = true
 
 -- The first answer other than running ends the call.
 abbrev pub ended : ℕ → Answer → Ending
@@ -107,7 +107,7 @@ ended n (Running p) = pending
 ended n Pushed = answered n Pushed
 ended n Empty = answered n Empty
 ended n (Popped e) = answered n (Popped e)
-ended n NoSlot = answered n NoSlot
+ended n NoFreeSlot = answered n NoFreeSlot
 
 -- A step is an effect if it leaves one or both ends of Anchor other than before, or answers empty or no slot.
 unfoldable pub isEffect : Event → Answer → Bool
@@ -117,15 +117,15 @@ isEffect e a =
     not (eqb (b .left) (c .left) && eqb (b .right) (c .right)) || saysNone a
 
 -- A push that named no slot is told, at its effect, with the end at its side of Anchor after that step.
-abbrev pub toldEntry : Call → Event → Entry
+abbrev pub toldEntry : LedgerCall → Event → Entry
 toldEntry c e = record { slot = cond (c .named) (c .entry .slot) (near (c .side) (anchorOf (e .after))); label = c .entry .label }
 
 -- *No slot* is for pushes that named none. To any other call so answered the deque replies as ever: the answer is then not its reply.
-abbrev pub lacksSlot : Call → Answer → Bool
+abbrev pub lacksSlot : LedgerCall → Answer → Bool
 lacksSlot c a = saysNoSlot a && (eqb (c .kind) 0 && not (c .named))
 
 -- The step at position n of call c: at an effect the sequential deque serves the call.
-unfoldable pub stepOf : ℕ → Event → Answer → List Entry → Call → List Call → Ledger
+unfoldable pub stepOf : ℕ → Event → Answer → List Entry → LedgerCall → List LedgerCall → Ledger
 stepOf n e a d c cs =
     let s = serveFor (lacksSlot c a) (c .kind) (c .side) (toldEntry c e) d in
     cond (isEffect e a)
@@ -133,7 +133,7 @@ stepOf n e a d c cs =
     (record { deque = d; calls = continued c (c .effects) (ended n a) ∷ cs })
 
 -- A step belongs to every call of its task that has begun and is not answered.
-unfoldable pub attend : ℕ → Event → Answer → List Entry → List Call → Ledger
+unfoldable pub attend : ℕ → Event → Answer → List Entry → List LedgerCall → Ledger
 attend n e a d [] = record { deque = d; calls = [] }
 attend n e a d (c ∷ cs) =
     let l = attend n e a d cs in
@@ -143,7 +143,7 @@ attend n e a d (c ∷ cs) =
 unfoldable pub accept : ℕ → Event → Op → Answer → Ledger → Ledger
 accept n e (Push side slot label) a l = over (begins n (e .task) 0 side true (record { slot = slot; label = label })) l
 accept n e (Pop side) a l = over (begins n (e .task) 1 side false (record { slot = 0; label = 0 })) l
-accept n e (Put side label) a l = over (begins n (e .task) 0 side false (record { slot = 0; label = label })) l
+accept n e (PushPooled side label) a l = over (begins n (e .task) 0 side false (record { slot = 0; label = label })) l
 accept n e Step a l = attend n e a (l .deque) (l .calls)
 
 unfoldable pub note : ℕ → Event → Outcome → Ledger → Ledger
@@ -160,7 +160,7 @@ ledger es = ledgerFrom 1 (record { deque = []; calls = [] }) es
 
 -- An answered call took effect exactly once, after its start and no later than its answer, which is the sequential deque's reply.
 -- (The positions hold by how the ledger is kept; they are what later requests ask of a history.)
-pub record Once (c : Call) (n : ℕ) (a : Answer) : Type 0 where
+pub record Once (c : LedgerCall) (n : ℕ) (a : Answer) : Type 0 where
   pub effect : Effect
   pub only : c .effects ≡ effect ∷ []
   pub begun : c .start < effect .at
@@ -168,18 +168,18 @@ pub record Once (c : Call) (n : ℕ) (a : Answer) : Type 0 where
   pub agrees : effect .reply ≡ a
 
 -- Any other call took effect at most once, after its start.
-abbrev pub AtMostOnce : Call → List Effect → Type 0
+abbrev pub AtMostOnce : LedgerCall → List Effect → Type 0
 AtMostOnce c [] = Unit {0}
 AtMostOnce c (e ∷ []) = c .start < e .at
 AtMostOnce c (e ∷ f ∷ l) = ⊥
 
-abbrev pub Lawful : Call → Ending → Type 0
+abbrev pub Lawful : LedgerCall → Ending → Type 0
 Lawful c pending = AtMostOnce c (c .effects)
 Lawful c (answered n a) = Once c n a
 
 -- Every call is lawful, and the labels waiting are the sequential deque's queue.
 pub record Linearized (q : Queue) (os : List Request) : Type 0 where
-  pub calls : All (λ (c : Call). Lawful c (c .ending)) (ledger (run q os) .calls)
+  pub calls : All (λ (c : LedgerCall). Lawful c (c .ending)) (ledger (run q os) .calls)
   pub waits : contents (final q os .tables) ≡ entries (ledger (run q os) .deque)
 
 -- No operation is refused as unsound.
@@ -216,14 +216,14 @@ pub data Waits (x : ℕ) : Walk → Type 0 where
   later : (e : Entry) (l : List Entry) → Waits x (entries l) → Waits x (entries (e ∷ l))
 
 -- A push holds its own slot between 14, or a start that names it, and its effect: at 1 to 10, and not finishing.
-unfoldable pub pushHolds : Record → ℕ → Bool
+unfoldable pub pushHolds : Call → ℕ → Bool
 pushHolds r x = every (leb 1 (r .place) ∷ leb (r .place) 10 ∷ isPush r ∷ eqb (r .finishing) 0 ∷ eqb (r .own) x ∷ [])
 
 -- A pop holds the end that it took between its effect and 17: at 11, where its mark is cleared, and, as its own slot, at 15 to 17.
-unfoldable pub popHolds : Record → ℕ → Bool
+unfoldable pub popHolds : Call → ℕ → Bool
 popHolds r x = every (eqb (r .place) 11 ∷ isPop r ∷ eqb (near (r .side) (anchorOf (r .seen))) x ∷ [])
 
-unfoldable pub popGives : Record → ℕ → Bool
+unfoldable pub popGives : Call → ℕ → Bool
 popGives r x = every (giving r ∷ isPop r ∷ eqb (r .own) x ∷ [])
 
 -- Slot x is taken: it waits, a push holds it, or a pop at 11 does.
@@ -239,7 +239,7 @@ pub data InUse (q : Queue) (x : ℕ) : Type 0 where
 
 -- *No slot* is true: if a step after the list answers so, every slot was in use. (Request #104. Without it a program that loses slots passes.)
 abbrev pub NoSlotTrue : Queue → List Request → Type 0
-NoSlotTrue q os = (t : ℕ) → act (final q os) t Step .outcome ≡ Moved NoSlot → (x : ℕ) → 1 ≤ x → x ≤ final q os .tables .control .slots
+NoSlotTrue q os = (t : ℕ) → act (final q os) t Step .outcome ≡ Moved NoFreeSlot → (x : ℕ) → 1 ≤ x → x ≤ final q os .tables .control .slots
     → InUse (final q os) x
 
 abbrev pub NoSlotRight : Type 0

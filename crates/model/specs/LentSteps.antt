@@ -3,7 +3,7 @@ use mathlib.Core.{Path._≡_, Logic._≢_}
 use mathlib.Core.List.{List, [], _∷_, map}
 use Prim.Native.Nat.{ℕ, _<_, _≤_}
 use lib.ListN.{length}
-use Rattle.model.specs.declared.TaskRecord.{TaskRecord}
+use Rattle.model.specs.declared.Record.{Record}
 use Rattle.model.specs.declared.Outcome.the-variants.{Refused}
 use Rattle.model.specs.declared.Op.the-variants.{Step}
 use Rattle.model.specs.Tables.{Tables, Queue, taskAt}
@@ -13,16 +13,16 @@ use Rattle.model.specs.Lists.{All}
 
 -- An operation of the list; or a task's record is lent, moved on by one step, and put back as the task's row.
 pub data Turn : Type 0 where
-  asked : Request → Turn
+  listed : Request → Turn
   lent : (task : ℕ) → Turn
 
 -- What it stands for in the list.
 abbrev pub requestOf : Turn → Request
-requestOf (asked o) = o
+requestOf (listed o) = o
 requestOf (lent t) = record { task = t; op = Step }
 
 unfoldable pub takeTurn : Queue → Turn → Done
-takeTurn q (asked o) = act q (o .task) (o .op)
+takeTurn q (listed o) = act q (o .task) (o .op)
 takeTurn q (lent t) = back q t (stepLent (q .tables) (taskAt q t))
 
 -- The events of such a list, and the queue after it, as `run` and `final` of one without.
@@ -40,7 +40,7 @@ finalTurns q (u ∷ us) = finalTurns (takeTurn q u .queue) us
 
 -- A record can be lent for a task that there is.
 abbrev pub Lendable : ℕ → Turn → Type 0
-Lendable tasks (asked o) = Unit {0}
+Lendable tasks (listed o) = Unit {0}
 Lendable tasks (lent t) = t < tasks
 
 -- The events and the queue are those of the list without lent records; so every promise of such lists holds.
@@ -53,4 +53,4 @@ LentStand = (q : Queue) (us : List Turn) → q .tables .control .tasks ≤ lengt
 
 -- 13 can't occur on a lent record.
 abbrev pub LentKnown : Type 0
-LentKnown = (q : Tables) (r : TaskRecord) → stepLent q r .outcome ≢ Refused 13
+LentKnown = (q : Tables) (r : Record) → stepLent q r .outcome ≢ Refused 13

@@ -5,8 +5,8 @@ use Prim.Native.Nat.{ℕ}
 use lib.Dec.{eqb}
 use Rattle.word.specs.declared.Anchor.{Anchor}
 use Rattle.word.specs.Anchor.{anchorOf, anchorWord}
-use Rattle.model.specs.declared.{Control.Control, Record.Record, TaskRecord.TaskRecord, Op.Op}
-use Rattle.model.specs.declared.Op.the-variants.{Push, Pop, Put, Step}
+use Rattle.model.specs.declared.{Control.Control, Call.Call, Record.Record, Op.Op}
+use Rattle.model.specs.declared.Op.the-variants.{Push, Pop, PushPooled, Step}
 use Rattle.model.specs.Tables.{Tables, Queue, tablesOf, withWords, withSeen, ofKind, withCall}
 use Rattle.model.specs.Calls.{OpenDone, Acted, Done, openAs, act, stepLent}
 
@@ -30,13 +30,13 @@ abbrev pub mirrorTables : Tables → Tables
 mirrorTables q = tablesOf (mirrorControl (q .control)) (q .rights) (q .lefts) (q .labels) (q .marks) (q .next)
 
 -- A record's side and its Anchor as read. An idle record has no side.
-abbrev pub mirrorBusy : Record → Record
+abbrev pub mirrorBusy : Call → Call
 mirrorBusy r = ofKind (withSeen r (mirrorWord (r .seen)) (r .finishing)) (r .kind) (mirrorSide (r .side))
 
-unfoldable pub mirrorRecord : Record → Record
+unfoldable pub mirrorRecord : Call → Call
 mirrorRecord r = cond (eqb (r .place) 0) r (mirrorBusy r)
 
-abbrev pub mirrorTask : TaskRecord → TaskRecord
+abbrev pub mirrorTask : Record → Record
 mirrorTask r = withCall r (mirrorRecord (r .call))
 
 abbrev pub mirrorQueue : Queue → Queue
@@ -45,7 +45,7 @@ mirrorQueue q = record { tables = mirrorTables (q .tables); records = map mirror
 abbrev pub mirrorOp : Op → Op
 mirrorOp (Push side slot label) = Push (mirrorSide side) slot label
 mirrorOp (Pop side) = Pop (mirrorSide side)
-mirrorOp (Put side label) = Put (mirrorSide side) label
+mirrorOp (PushPooled side label) = PushPooled (mirrorSide side) label
 mirrorOp Step = Step
 
 -- What a call leaves.
@@ -64,5 +64,5 @@ pub record Mirrored : Type 0 where
   pub opening : (pooled : Bool) (q : Queue) (tasks slots tag : ℕ)
       → openAs pooled (mirrorQueue q) tasks slots tag ≡ mirrorOpened (openAs pooled q tasks slots tag)
   pub operation : (q : Queue) (t : ℕ) (o : Op) → act (mirrorQueue q) t (mirrorOp o) ≡ mirrorDone (act q t o)
-  pub lent : (q : Tables) (r : TaskRecord) → stepLent (mirrorTables q) (mirrorTask r) ≡ mirrorActed (stepLent q r)
+  pub lent : (q : Tables) (r : Record) → stepLent (mirrorTables q) (mirrorTask r) ≡ mirrorActed (stepLent q r)
   pub twice : (q : Queue) → mirrorQueue (mirrorQueue q) ≡ q

@@ -2,9 +2,9 @@
 use mathlib.Core.{Path._≡_, Logic._≢_}
 use Prim.Native.Nat.{ℕ}
 use lib.ListN.{set}
-use Rattle.model.specs.declared.{TaskRecord.TaskRecord, Op.Op}
+use Rattle.model.specs.declared.{Record.Record, Op.Op}
 use Rattle.model.specs.declared.Op.the-variants.{Step}
-use Rattle.model.specs.Tables.{Tables, Queue, recordAt, taskAt, withAnchor, withHead, linked, withMarks, withNext, taken}
+use Rattle.model.specs.Tables.{Tables, Queue, recordAt, taskAt, withAnchor, withHead, linked, withMarks, withNext, withTaken}
 use Rattle.model.specs.Calls.{act, stepLent}
 
 -- After a step at a place: tables q, or those that differ from q in one word: Anchor, a link word, a word of marks, a next, the head.
@@ -16,10 +16,10 @@ pub data OneTouch (place : ℕ) (q : Tables) : Tables → Type 0 where
   mark : (x w : ℕ) → OneTouch place q (withMarks q (set (q .marks) x w))
   next : (x v : ℕ) → OneTouch place q (withNext q (set (q .next) x v))
   head : (w : ℕ) → OneTouch place q (withHead q w)
-  drawn : (w x l : ℕ) → place ≡ 14 → OneTouch place q (taken (withHead q w) x l)
+  drawn : (w x l : ℕ) → place ≡ 14 → OneTouch place q (withTaken (withHead q w) x l)
 
 -- What is promised of every step, of a task and of a lent record; and that no start or step changes the record of another task.
 pub record TouchesOnce : Type 0 where
   pub operation : (q : Queue) (t : ℕ) → OneTouch (recordAt q t .place) (q .tables) (act q t Step .queue .tables)
-  pub lent : (q : Tables) (r : TaskRecord) → OneTouch (r .call .place) q (stepLent q r .tables)
+  pub lent : (q : Tables) (r : Record) → OneTouch (r .call .place) q (stepLent q r .tables)
   pub others : (q : Queue) (t u : ℕ) (o : Op) → u ≢ t → taskAt (act q t o .queue) u ≡ taskAt q u

@@ -6,24 +6,24 @@ use lib.ListN.{getD, set}
 use Rattle.word.specs.declared.Anchor.{Anchor}
 use Rattle.word.specs.Anchor.{anchorOf, packAnchor}
 use Rattle.word.specs.Link.{linkOf, packLink}
-use Rattle.model.specs.declared.{Control.Control, Record.Record}
+use Rattle.model.specs.declared.{Control.Control, Call.Call}
 use Rattle.model.specs.Tables.{Tables, isPooled, withMark}
-use Rattle.model.specs.Tables.{withOwn, withSeen, withNeighbour, withLink, withAnchor, withHead, linked, withMarks, withNext, taken}
-use Rattle.model.specs.Sides.{opposite, near, far, facing, links, pushing, named, isEmpty}
+use Rattle.model.specs.Tables.{withOwn, withSeen, withNeighbour, withLink, withAnchor, withHead, linked, withMarks, withNext, withTaken}
+use Rattle.model.specs.Sides.{opposite, near, far, facing, links, pushing, sideNamed, isEmpty}
 use Rattle.model.specs.Kinds.{isPush, isPop, helping}
 use Rattle.model.specs.Route.{done, equal, failedReading, hasFailed, namedQueue, noneFree, onlyWay, pooledQueue, readEmpty, readSingle}
 use Rattle.model.specs.Route.{readStable, readUnstable, someFree, unequal}
 
 -- The side: at 1 to 4 and 11 the task's, at 5 to 10 the one that the status as read names.
-unfoldable pub sideOf : Record → ℕ
-sideOf r = cond (helping r) (named (anchorOf (r .seen) .status)) (r .side)
+unfoldable pub sideOf : Call → ℕ
+sideOf r = cond (helping r) (sideNamed (anchorOf (r .seen) .status)) (r .side)
 
 -- The end as read at that side: the table's r.
-abbrev pub endSeen : Record → ℕ
+abbrev pub endSeen : Call → ℕ
 endSeen r = near (sideOf r) (anchorOf (r .seen))
 
 -- The slot whose row or mark a place touches, and at 17 the one that it gives back, a line a place; 0: none.
-unfoldable pub row : Record → ℕ
+unfoldable pub row : Call → ℕ
 row r =
     cond (eqb (r .place) 3) (cond (isPush r) (r .own) (endSeen r))
     (cond (eqb (r .place) 5) (endSeen r)
@@ -37,11 +37,11 @@ row r =
     0))))))))
 
 -- The link word of that row: Left at 3 and 5, Right at 7 and 9.
-unfoldable pub linkSide : Record → ℕ
+unfoldable pub linkSide : Call → ℕ
 linkSide r = cond (eqb (r .place) 3 || eqb (r .place) 5) (opposite (sideOf r)) (sideOf r)
 
 -- What a place finds in that row, a line a place: a link word, the label, the next slot; 0: it reads none.
-abbrev pub wordFound : Tables → Record → ℕ
+abbrev pub wordFound : Tables → Call → ℕ
 wordFound q r =
     let link = getD (links q (linkSide r)) (row r) 0 in
     cond (eqb (r .place) 3) link
@@ -65,20 +65,20 @@ pub data Touch : Type 0 where
 -- What a place does: its touch, the call with its new fields, the branch of the route that it takes, whether a change failed.
 pub record Move : Type 0 where
   pub touch : Touch
-  pub task : Record
+  pub task : Call
   pub branch : ℕ
   pub failed : Bool
 
 -- A place that only reads.
-abbrev pub reads : Record → ℕ → Move
+abbrev pub reads : Call → ℕ → Move
 reads r branch = record { touch = nothing; task = r; branch = branch; failed = false }
 
 -- A comparison of the word as it is with the word as read.
-abbrev pub compares : ℕ → ℕ → Record → Move
+abbrev pub compares : ℕ → ℕ → Call → Move
 compares now read r = reads r (cond (eqb now read) equal unequal)
 
 -- A change: the word is replaced only if it still equals the word as read. Done, with the record r′; failed, with r.
-abbrev pub changes : ℕ → ℕ → Touch → Record → Record → Move
+abbrev pub changes : ℕ → ℕ → Touch → Call → Call → Move
 changes now read touch r′ r =
     cond (eqb now read) (record { touch = touch; task = r′; branch = done; failed = false })
     (record { touch = nothing; task = r; branch = hasFailed; failed = true })
@@ -91,12 +91,12 @@ reading pop a =
     (cond (eqb (a .status) 0) readStable
     readUnstable))
 
-unfoldable pub at1 : Control → Record → Move
+unfoldable pub at1 : Control → Call → Move
 at1 c r = reads (withSeen r (c .anchor) (r .finishing)) (reading (isPop r) (anchorOf (c .anchor)))
 
 -- A change of Anchor at 2 or 4: done, with the record r′. A failed one takes the word found as its reading and goes on as place 1.
 -- (Document 02: #106.)
-abbrev pub replaces : Control → ℕ → Record → Record → Move
+abbrev pub replaces : Control → ℕ → Call → Call → Move
 replaces c word r′ r =
     cond (eqb (c .anchor) (r .seen)) (record { touch = setAnchor word; task = r′; branch = done; failed = false })
     (record {
@@ -107,14 +107,14 @@ replaces c word r′ r =
     })
 
 -- 2: change Anchor to own, own, s; a pop to null, null, s.
-unfoldable pub at2 : Control → Record → Move
+unfoldable pub at2 : Control → Call → Move
 at2 c r =
     let a = anchorOf (r .seen) in
     let end : ℕ = cond (isPush r) (r .own) 0 in
     replaces c (packAnchor (facing (sideOf r) (a .tag + 1) (a .status) end end)) r r
 
 -- 3: put r into own slot's Left, its tag kept; a pop reads r's Left as neighbour. w is the link word met.
-unfoldable pub at3 : Record → ℕ → Move
+unfoldable pub at3 : Call → ℕ → Move
 at3 r w =
     cond (isPush r)
     (record {
@@ -126,7 +126,7 @@ at3 r w =
     (reads (withNeighbour r (linkOf w .slot)) onlyWay)
 
 -- 4: change Anchor to l, own, RPUSH, and remember it, finishing; a pop to l, neighbour, s.
-unfoldable pub new4 : Record → ℕ
+unfoldable pub new4 : Call → ℕ
 new4 r =
     let a = anchorOf (r .seen) in
     let d = sideOf r in
@@ -134,41 +134,41 @@ new4 r =
     (packAnchor (facing d (a .tag + 1) (pushing d) (r .own) (far d a)))
     (packAnchor (facing d (a .tag + 1) (a .status) (r .neighbour) (far d a)))
 
-unfoldable pub at4 : Control → Record → Move
+unfoldable pub at4 : Control → Call → Move
 at4 c r = replaces c (new4 r) (cond (isPush r) (withSeen r (new4 r) 1) r) r
 
 -- 5: read r's Left as neighbour.
-unfoldable pub at5 : Record → ℕ → Move
+unfoldable pub at5 : Call → ℕ → Move
 at5 r w = reads (withNeighbour r (linkOf w .slot)) onlyWay
 
 -- 6 and 8: compare Anchor.
-unfoldable pub at6 : Control → Record → Move
+unfoldable pub at6 : Control → Call → Move
 at6 c r = compares (c .anchor) (r .seen) r
 
 -- 7: read neighbour's Right: it names r, or not.
-unfoldable pub at7 : Record → ℕ → Move
+unfoldable pub at7 : Call → ℕ → Move
 at7 r w = reads (withLink r w) (cond (eqb (linkOf w .slot) (endSeen r)) equal unequal)
 
 -- 9: change neighbour's Right to r.
-unfoldable pub at9 : Record → ℕ → Move
+unfoldable pub at9 : Call → ℕ → Move
 at9 r w = changes w (r .link) (setLink (linkSide r) (row r) (packLink (record { tag = linkOf (r .link) .tag + 1; slot = endSeen r }))) r r
 
 -- 10: change Anchor to l, r, STABLE.
-unfoldable pub at10 : Control → Record → Move
+unfoldable pub at10 : Control → Call → Move
 at10 c r =
     let a = anchorOf (r .seen) in
     changes (c .anchor) (r .seen) (setAnchor (packAnchor (record { tag = a .tag + 1; status = 0; left = a .left; right = a .right }))) r r
 
 -- 11: read the label of r, the end taken (it goes into the answer, below in `Calls`), and clear its mark.
 -- In a pooled queue slot and label go into the record, and the slot is given back first.
-unfoldable pub at11 : Control → Record → ℕ → Move
+unfoldable pub at11 : Control → Call → ℕ → Move
 at11 c r l =
     cond (isPooled c)
     (record { touch = clearMark (row r); task = withOwn r (row r) l; branch = pooledQueue; failed = false })
     (record { touch = clearMark (row r); task = r; branch = namedQueue; failed = false })
 
 -- The head as read with its tag raised, which names slot x.
-abbrev pub raised : Record → ℕ → ℕ
+abbrev pub raised : Call → ℕ → ℕ
 raised r x = packLink (record { tag = linkOf (r .link) .tag + 1; slot = x })
 
 -- The empty stack: a head with slot 0.
@@ -176,31 +176,31 @@ abbrev pub noneLeft : ℕ → Bool
 noneLeft head = eqb (linkOf head .slot) 0
 
 -- 12: read the head: the stack is empty, or not.
-unfoldable pub at12 : Control → Record → Move
+unfoldable pub at12 : Control → Call → Move
 at12 c r = reads (withLink r (c .head)) (cond (noneLeft (c .head)) noneFree someFree)
 
 -- 13: read the next of its slot.
-unfoldable pub at13 : Record → ℕ → Move
+unfoldable pub at13 : Call → ℕ → Move
 at13 r n = reads (withNeighbour r n) onlyWay
 
 -- 14: change the head to that next; the slot is the push's, marked and with its label.
-unfoldable pub at14 : Control → Record → Move
+unfoldable pub at14 : Control → Call → Move
 at14 c r = changes (c .head) (r .link) (takeSlot (raised r (r .neighbour)) (row r) (r .label)) (withOwn r (row r) (r .label)) r
 
 -- 15: read the head.
-unfoldable pub at15 : Control → Record → Move
+unfoldable pub at15 : Control → Call → Move
 at15 c r = reads (withLink r (c .head)) onlyWay
 
 -- 16: put its slot into the own slot's next.
-unfoldable pub at16 : Record → Move
+unfoldable pub at16 : Call → Move
 at16 r = record { touch = setNext (row r) (linkOf (r .link) .slot); task = r; branch = onlyWay; failed = false }
 
 -- 17: change the head to the own slot.
-unfoldable pub at17 : Control → Record → Move
+unfoldable pub at17 : Control → Call → Move
 at17 c r = changes (c .head) (r .link) (setHead (raised r (r .own))) r r
 
 -- What the place of a record does, where w is what it finds in its row.
-unfoldable pub move : Control → Record → ℕ → Move
+unfoldable pub move : Control → Call → ℕ → Move
 move c r w =
     cond (eqb (r .place) 1) (at1 c r)
     (cond (eqb (r .place) 2) (at2 c r)
@@ -226,6 +226,6 @@ apply nothing q = q
 apply (setAnchor w) q = withAnchor q w
 apply (setLink side x w) q = linked q side x w
 apply (clearMark x) q = withMarks q (withMark (q .marks) x 0)
-apply (takeSlot w x l) q = taken (withHead q w) x l
+apply (takeSlot w x l) q = withTaken (withHead q w) x l
 apply (setNext x v) q = withNext q (set (q .next) x v)
 apply (setHead w) q = withHead q w

@@ -6,22 +6,22 @@ use Prim.Native.Nat.{ℕ, zero, suc, _+_, _*_, _<_, _≤_}
 use lib.Dec.{eqb}
 use Rattle.model.specs.declared.{Outcome.Outcome, Op.Op}
 use Rattle.model.specs.declared.Outcome.the-variants.{Refused, Moved}
-use Rattle.model.specs.declared.Op.the-variants.{Push, Pop, Put, Step}
+use Rattle.model.specs.declared.Op.the-variants.{Push, Pop, PushPooled, Step}
 use Rattle.model.specs.Tables.{Queue, isPooled, recordAt}
 use Rattle.model.specs.Ends.{answerEnds, endsCall}
 use Rattle.model.specs.History.{Request, Event, run, final, isEffect, AfterOpening}
 use Rattle.model.specs.Solo.{SoloDone, soloRun}
 
 -- A call takes effect or answers: only an accepted step does.
-abbrev pub tellsBy : Event → Op → Outcome → Bool
-tellsBy e (Push side slot label) o = false
-tellsBy e (Pop side) o = false
-tellsBy e (Put side label) o = false
-tellsBy e Step (Refused why) = false
-tellsBy e Step (Moved a) = isEffect e a || answerEnds a
+abbrev pub tookEffectOrAnsweredBy : Event → Op → Outcome → Bool
+tookEffectOrAnsweredBy e (Push side slot label) o = false
+tookEffectOrAnsweredBy e (Pop side) o = false
+tookEffectOrAnsweredBy e (PushPooled side label) o = false
+tookEffectOrAnsweredBy e Step (Refused why) = false
+tookEffectOrAnsweredBy e Step (Moved a) = isEffect e a || answerEnds a
 
-abbrev pub tells : Event → Bool
-tells e = tellsBy e (e .op) (e .outcome)
+abbrev pub tookEffectOrAnswered : Event → Bool
+tookEffectOrAnswered e = tookEffectOrAnsweredBy e (e .op) (e .outcome)
 
 -- Some event of a list passes a test.
 unfoldable pub any : (Event → Bool) → List Event → Bool
@@ -32,7 +32,7 @@ any test (e ∷ es) = test e || any test es
 abbrev pub stepping : Op → Outcome → ℕ
 stepping (Push side slot label) o = 0
 stepping (Pop side) o = 0
-stepping (Put side label) o = 0
+stepping (PushPooled side label) o = 0
 stepping Step (Refused why) = 0
 stepping Step (Moved a) = 1
 
@@ -77,7 +77,7 @@ abbrev pub StretchTells : Queue → List Request → Type 0
 StretchTells q os =
     let now = final q os in
     let c = q .tables .control in
-    (stretch : List Request) → stretchLimit (isPooled c) (c .tasks) ≤ steps (run now stretch) → any tells (run now stretch) ≡ true
+    (stretch : List Request) → stretchLimit (isPooled c) (c .tasks) ≤ steps (run now stretch) → any tookEffectOrAnswered (run now stretch) ≡ true
 
 abbrev pub SoloBound : Type 0
 SoloBound = AfterOpening SoloWithin

@@ -5,7 +5,7 @@ use Prim.Native.Nat.{ℕ}
 use lib.Dec.{ltb, leb, eqb}
 use lib.ListN.{length}
 use Rattle.word.specs.{Anchor.anchorOf, Link.linkOf}
-use Rattle.model.specs.declared.{Control.Control, Record.Record, Asked.Asked}
+use Rattle.model.specs.declared.{Control.Control, Call.Call, Asked.Asked}
 use Rattle.model.specs.Tables.{Tables, Queue, isPooled, marked}
 use Rattle.model.specs.Sound.{from1, anchorSound, linkSound, controlSound, recordSound, rowsFit}
 use Rattle.model.specs.Walk.{contents, isBroken}
@@ -57,7 +57,7 @@ abbrev pub alone : Lent
 alone = record { enough = true; known = true }
 
 -- 30: the task is busy.
-abbrev pub isBusy : Record → Bool
+abbrev pub isBusy : Call → Bool
 isBusy r = not (eqb (r .place) 0)
 
 -- 33: the Anchor tag is above 4,294,967,262.
@@ -80,7 +80,7 @@ abbrev pub fits : Tables → Bool
 fits q = rowsFit (isPooled (q .control)) (q .control .slots) q
 
 -- Then a start's, in the document's order; 41, 15 and 32 are what a push alone is asked (`Asked`).
-abbrev pub askedRules : Control → Record → ℕ → Asked → List Rule
+abbrev pub askedRules : Control → Call → ℕ → Asked → List Rule
 askedRules c r side a =
     rule 14 (not (leb side 1))
     ∷ rule 41 (a .wrong)
@@ -91,10 +91,10 @@ askedRules c r side a =
     ∷ rule 33 (late c)
     ∷ []
 
-abbrev pub startRules : Control → Bool → Lent → Record → ℕ → Asked → List Rule
+abbrev pub startRules : Control → Bool → Lent → Call → ℕ → Asked → List Rule
 startRules c fit p r side a = admissionRules c fit p ++ askedRules c r side a
 
-unfoldable pub startRefusal : Control → Bool → Lent → Record → ℕ → Asked → ℕ
+unfoldable pub startRefusal : Control → Bool → Lent → Call → ℕ → Asked → ℕ
 startRefusal c fit p r side a = first (startRules c fit p r side a)
 
 -- A push that names a slot; one that names none, which has neither 15 nor 32 and does not look at the head; a pop.
@@ -108,24 +108,24 @@ pooledPush q = record { wrong = not (isPooled (q .control)); outside = false; ta
 abbrev pub nothingAsked : Asked
 nothingAsked = record { wrong = false; outside = false; taken = false }
 
-abbrev pub pushRefusal : Tables → Lent → Record → ℕ → ℕ → ℕ
+abbrev pub pushRefusal : Tables → Lent → Call → ℕ → ℕ → ℕ
 pushRefusal q p r side slot = startRefusal (q .control) (fits q) p r side (namedPush q slot)
 
-abbrev pub putRefusal : Tables → Lent → Record → ℕ → ℕ
+abbrev pub putRefusal : Tables → Lent → Call → ℕ → ℕ
 putRefusal q p r side = startRefusal (q .control) (fits q) p r side (pooledPush q)
 
-abbrev pub popRefusal : Tables → Lent → Record → ℕ → ℕ
+abbrev pub popRefusal : Tables → Lent → Call → ℕ → ℕ
 popRefusal q p r side = startRefusal (q .control) (fits q) p r side nothingAsked
 
 -- 34 for what the step touches. It needs a slot row at 3, 5, 7, 9 and 11, and looks at a link word's soundness at 3, 5 and 7.
-abbrev pub needsRow : Record → Bool
+abbrev pub needsRow : Call → Bool
 needsRow r = eqb (r .place) 3 || eqb (r .place) 5 || eqb (r .place) 7 || eqb (r .place) 9 || eqb (r .place) 11
 
-abbrev pub meetsLink : Record → Bool
+abbrev pub meetsLink : Call → Bool
 meetsLink r = eqb (r .place) 3 || eqb (r .place) 5 || eqb (r .place) 7
 
 -- It looks at the head's soundness at 12 and 15, and at a next slot at 13.
-abbrev pub meetsHead : Record → Bool
+abbrev pub meetsHead : Call → Bool
 meetsHead r = eqb (r .place) 12 || eqb (r .place) 15
 
 -- A change leaves Anchor sound.
@@ -139,7 +139,7 @@ leavesSound slots (setNext x v) = true
 leavesSound slots (setHead w) = true
 
 -- A change raises no tag past 32 bits; place 3 raises none.
-abbrev pub hasRoom : Record → Touch → Bool
+abbrev pub hasRoom : Call → Touch → Bool
 hasRoom r nothing = true
 hasRoom r (setAnchor w) = ltb (anchorOf (r .seen) .tag) 4294967295
 hasRoom r (setLink side x w) = eqb (r .place) 3 || ltb (linkOf (r .link) .tag) 4294967295
@@ -148,7 +148,7 @@ hasRoom r (takeSlot w x l) = ltb (linkOf (r .link) .tag) 4294967295
 hasRoom r (setNext x v) = true
 hasRoom r (setHead w) = ltb (linkOf (r .link) .tag) 4294967295
 
-abbrev pub stepTests : Control → Record → ℕ → List Bool
+abbrev pub stepTests : Control → Call → ℕ → List Bool
 stepTests c r w =
     (not (needsRow r) || from1 (c .slots) (row r))
     ∷ (not (meetsLink r) || linkSound (c .slots) w)
@@ -158,22 +158,22 @@ stepTests c r w =
     ∷ (not (eqb (r .place) 13) || leb w (c .slots))
     ∷ []
 
-unfoldable pub stepSound : Control → Record → ℕ → Bool
+unfoldable pub stepSound : Control → Call → ℕ → Bool
 stepSound c r w = every (stepTests c r w)
 
 -- A step's: 34 and 31 for the record, then 34 for what it touches.
-abbrev pub recordRules : Bool → ℕ → Record → List Rule
+abbrev pub recordRules : Bool → ℕ → Call → List Rule
 recordRules pooled slots r = rule 34 (not (recordSound pooled slots r)) ∷ rule 31 (eqb (r .place) 0) ∷ []
 
-unfoldable pub recordRefusal : Bool → ℕ → Record → ℕ
+unfoldable pub recordRefusal : Bool → ℕ → Call → ℕ
 recordRefusal pooled slots r = first (recordRules pooled slots r)
 
-abbrev pub stepRules : Tables → Lent → Record → List Rule
+abbrev pub stepRules : Tables → Lent → Call → List Rule
 stepRules q p r =
     admissionRules (q .control) (fits q) p
     ++ (recordRules (isPooled (q .control)) (q .control .slots) r ++ (rule 34 (not (stepSound (q .control) r (wordFound q r))) ∷ []))
 
-unfoldable pub stepRefusal : Tables → Lent → Record → ℕ
+unfoldable pub stepRefusal : Tables → Lent → Call → ℕ
 stepRefusal q p r = first (stepRules q p r)
 
 -- The report names no task and no slot; 34 for the walk comes last.

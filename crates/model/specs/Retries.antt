@@ -5,7 +5,7 @@ use mathlib.Core.List.{List, [], _∷_}
 use Prim.Native.Nat.{ℕ, zero, suc, _+_, _<_}
 use lib.Dec.{eqb}
 use Rattle.model.specs.declared.Op.{Op}
-use Rattle.model.specs.declared.Op.the-variants.{Push, Pop, Put, Step}
+use Rattle.model.specs.declared.Op.the-variants.{Push, Pop, PushPooled, Step}
 use Rattle.model.specs.Tables.{Queue, taskAt, recordAt}
 use Rattle.model.specs.Places.{wordFound, move}
 use Rattle.model.specs.{Route.counted, Calls.act}
@@ -16,7 +16,7 @@ use Rattle.model.specs.History.{Request, final, AfterOpening}
 unfoldable pub fails : Queue → ℕ → Op → Bool
 fails q t (Push side slot label) = false
 fails q t (Pop side) = false
-fails q t (Put side label) = false
+fails q t (PushPooled side label) = false
 fails q t Step =
     let r = recordAt q t in
     eqb (stepRefusal (q .tables) (among q t) r) 0 && move (q .tables .control) r (wordFound (q .tables) r) .failed

@@ -4,8 +4,8 @@ use mathlib.Core.List.{List, [], _∷_}
 use Prim.Native.Nat.{ℕ, _+_}
 use lib.Dec.{ltb, leb, eqb}
 use lib.ListN.{getD}
-use Rattle.model.specs.declared.{Record.Record, Entry.Entry, Answer.Answer}
-use Rattle.model.specs.declared.Answer.the-variants.{Running, Pushed, Empty, Popped, NoSlot}
+use Rattle.model.specs.declared.{Call.Call, Entry.Entry, Answer.Answer}
+use Rattle.model.specs.declared.Answer.the-variants.{Running, Pushed, Empty, Popped, NoFreeSlot}
 use Rattle.model.specs.Tables.{atPlace, idle}
 
 -- Where a route leads: to a place, 1 to 17, or to one of these.
@@ -134,11 +134,11 @@ answer n e =
     cond (eqb n pushed) Pushed
     (cond (eqb n empty) Empty
     (cond (eqb n popped) (Popped e)
-    (cond (eqb n noSlot) NoSlot
+    (cond (eqb n noSlot) NoFreeSlot
     (Running n))))
 
 -- The record at its next place; after an answer it is all zero.
-unfoldable pub goes : Record → ℕ → Record
+unfoldable pub goes : Call → ℕ → Call
 goes r n =
     cond (leb n 17)
     (atPlace r n)

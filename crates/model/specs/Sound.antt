@@ -7,7 +7,7 @@ use lib.ListN.{length}
 use Rattle.word.specs.declared.Anchor.{Anchor}
 use Rattle.word.specs.Anchor.{anchorOf}
 use Rattle.word.specs.Link.{linkOf, spareOf}
-use Rattle.model.specs.declared.{Control.Control, Record.Record}
+use Rattle.model.specs.declared.{Control.Control, Call.Call}
 use Rattle.model.specs.{Tables.Tables, Lists.every}
 use Rattle.model.specs.Kinds.{isPush, isPop, helping, drawing, giving, owning}
 
@@ -45,11 +45,11 @@ unfoldable pub controlSound : Control → Bool
 controlSound c = every (controlTests c)
 
 -- At 13 and 14 the head as read names a slot.
-abbrev pub headNamed : Record → Bool
+abbrev pub headNamed : Call → Bool
 headNamed r = not (eqb (r .place) 13 || eqb (r .place) 14) || not (eqb (linkOf (r .link) .slot) 0)
 
 -- Record: idle, or each field within its meaning, in a pooled queue or in a named one: what the place asks of the call, and what was read.
-abbrev pub callTests : Bool → ℕ → Record → List Bool
+abbrev pub callTests : Bool → ℕ → Call → List Bool
 callTests pooled slots r =
     leb (r .place) (cond pooled 17 11)
     ∷ leb (r .kind) 1
@@ -62,7 +62,7 @@ callTests pooled slots r =
     ∷ headNamed r
     ∷ []
 
-abbrev pub readTests : ℕ → Record → List Bool
+abbrev pub readTests : ℕ → Call → List Bool
 readTests slots r =
     leb (r .neighbour) slots
     ∷ linkSound slots (r .link)
@@ -70,10 +70,10 @@ readTests slots r =
     ∷ (not (helping r) || not (eqb (anchorOf (r .seen) .status) 0))
     ∷ []
 
-abbrev pub recordTests : Bool → ℕ → Record → List Bool
+abbrev pub recordTests : Bool → ℕ → Call → List Bool
 recordTests pooled slots r = callTests pooled slots r ++ readTests slots r
 
-unfoldable pub recordSound : Bool → ℕ → Record → Bool
+unfoldable pub recordSound : Bool → ℕ → Call → Bool
 recordSound pooled slots r = eqb (r .place) 0 || every (recordTests pooled slots r)
 
 -- Long enough: rows slots + 1, mark words (slots div 64) + 1; the next table counts in a pooled queue alone.

@@ -5,7 +5,7 @@ use Prim.Native.Nat.{ℕ, _+_, _*_, _/_, _%_, _^_}
 use lib.Dec.{eqb}
 use lib.ListN.{getD, set}
 use Rattle.word.specs.Anchor.{packAnchor, emptyAnchor}
-use Rattle.model.specs.declared.{Control.Control, Record.Record, TaskRecord.TaskRecord}
+use Rattle.model.specs.declared.{Control.Control, Call.Call, Record.Record}
 
 -- What all tasks share: control, the slot rows (a Left and a Right link word and a label), the marks; in a pooled queue the next table too.
 pub record Tables : Type 0 where
@@ -19,14 +19,14 @@ pub record Tables : Type 0 where
 -- The tables with the task records, one for each task.
 pub record Queue : Type 0 where
   pub tables : Tables
-  pub records : List TaskRecord
+  pub records : List Record
 
 -- Both, as a call is lent them.
 abbrev pub tablesOf : Control → List ℕ → List ℕ → List ℕ → List ℕ → List ℕ → Tables
 tablesOf control lefts rights labels marks next =
     record { control = control; lefts = lefts; rights = rights; labels = labels; marks = marks; next = next }
 
-abbrev pub queueOf : Control → List TaskRecord → List ℕ → List ℕ → List ℕ → List ℕ → List ℕ → Queue
+abbrev pub queueOf : Control → List Record → List ℕ → List ℕ → List ℕ → List ℕ → List ℕ → Queue
 queueOf control records lefts rights labels marks next =
     record { tables = tablesOf control lefts rights labels marks next; records = records }
 
@@ -50,24 +50,24 @@ abbrev pub withWords : Control → ℕ → ℕ → Control
 withWords c anchor head = record { tasks = c .tasks; slots = c .slots; anchor = anchor; pooled = c .pooled; head = head }
 
 -- A call at its first place: kind, side, own slot and label, the rest zero.
-abbrev pub newCall : ℕ → ℕ → ℕ → ℕ → ℕ → Record
+abbrev pub newCall : ℕ → ℕ → ℕ → ℕ → ℕ → Call
 newCall place kind side own label =
     record { place = place; kind = kind; side = side; own = own; label = label; seen = 0; neighbour = 0; link = 0; finishing = 0 }
 
 -- No call: all zero.
-abbrev pub idle : Record
+abbrev pub idle : Call
 idle = newCall 0 0 0 0 0
 
 -- A start writes the whole call: place 1, kind, side, own slot and label; a push start that names no slot place 12, side and label.
-abbrev pub started : ℕ → ℕ → ℕ → ℕ → Record
+abbrev pub started : ℕ → ℕ → ℕ → ℕ → Call
 started kind side own label = newCall 1 kind side own label
 
-abbrev pub asking : ℕ → ℕ → Record
+abbrev pub asking : ℕ → ℕ → Call
 asking side label = newCall 12 0 side 0 label
 
 -- A call with another place; kind and side; own slot and label; what it has read: Anchor, with finishing, the neighbour, a link word.
 -- A place keeps the fields it doesn't name.
-abbrev pub atPlace : Record → ℕ → Record
+abbrev pub atPlace : Call → ℕ → Call
 atPlace r p =
     record {
       place = p;
@@ -81,7 +81,7 @@ atPlace r p =
       finishing = r .finishing;
     }
 
-abbrev pub ofKind : Record → ℕ → ℕ → Record
+abbrev pub ofKind : Call → ℕ → ℕ → Call
 ofKind r k d =
     record {
       place = r .place;
@@ -95,7 +95,7 @@ ofKind r k d =
       finishing = r .finishing;
     }
 
-abbrev pub withOwn : Record → ℕ → ℕ → Record
+abbrev pub withOwn : Call → ℕ → ℕ → Call
 withOwn r x l =
     record {
       place = r .place;
@@ -109,7 +109,7 @@ withOwn r x l =
       finishing = r .finishing;
     }
 
-abbrev pub withSeen : Record → ℕ → ℕ → Record
+abbrev pub withSeen : Call → ℕ → ℕ → Call
 withSeen r a f =
     record {
       place = r .place;
@@ -123,7 +123,7 @@ withSeen r a f =
       finishing = f;
     }
 
-abbrev pub withNeighbour : Record → ℕ → Record
+abbrev pub withNeighbour : Call → ℕ → Call
 withNeighbour r n =
     record {
       place = r .place;
@@ -137,7 +137,7 @@ withNeighbour r n =
       finishing = r .finishing;
     }
 
-abbrev pub withLink : Record → ℕ → Record
+abbrev pub withLink : Call → ℕ → Call
 withLink r w =
     record {
       place = r .place;
@@ -152,21 +152,21 @@ withLink r w =
     }
 
 -- A task's record: its call and the count of its failed changes, which is 0 at opening. (Request #101.)
-abbrev pub counting : Record → ℕ → TaskRecord
+abbrev pub counting : Call → ℕ → Record
 counting call retries = record { call = call; retries = retries }
 
-abbrev pub unused : TaskRecord
+abbrev pub unused : Record
 unused = counting idle 0
 
 -- A record with another call; a start and an answer keep the count.
-abbrev pub withCall : TaskRecord → Record → TaskRecord
+abbrev pub withCall : Record → Call → Record
 withCall r c = counting c (r .retries)
 
 -- The record of task t, and its call.
-abbrev pub taskAt : Queue → ℕ → TaskRecord
+abbrev pub taskAt : Queue → ℕ → Record
 taskAt q t = getD (q .records) t unused
 
-abbrev pub recordAt : Queue → ℕ → Record
+abbrev pub recordAt : Queue → ℕ → Call
 recordAt q t = taskAt q t .call
 
 -- Marks: bit n mod 64 of word n div 64. A set bit means taken.
@@ -204,5 +204,5 @@ abbrev pub withNext : Tables → List ℕ → Tables
 withNext q l = tablesOf (q .control) (q .lefts) (q .rights) (q .labels) (q .marks) l
 
 -- A label stored in a slot's row, and its mark set.
-abbrev pub taken : Tables → ℕ → ℕ → Tables
-taken q slot label = tablesOf (q .control) (q .lefts) (q .rights) (set (q .labels) slot label) (withMark (q .marks) slot 1) (q .next)
+abbrev pub withTaken : Tables → ℕ → ℕ → Tables
+withTaken q slot label = tablesOf (q .control) (q .lefts) (q .rights) (set (q .labels) slot label) (withMark (q .marks) slot 1) (q .next)

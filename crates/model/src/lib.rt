@@ -15,7 +15,7 @@ pub struct Control {
 
 /// Where a task stands in its call; all zero while it has none.
 #[repr(C)]
-pub struct Record {
+pub struct Call {
     /// 0 idle, or the place of the next step, 1 to 17.
     pub place: u64,
     /// 0 push, 1 pop.
@@ -38,8 +38,8 @@ pub struct Record {
 
 /// A task's record: its call, and what outlives it.
 #[repr(C)]
-pub struct TaskRecord {
-    pub call: Record,
+pub struct Record {
+    pub call: Call,
     /// The task's failed changes since the opening.
     pub retries: u64,
 }
@@ -58,7 +58,7 @@ pub enum Answer {
     Empty,
     Popped(Entry),
     /// Every slot was in use.
-    NoSlot,
+    NoFreeSlot,
 }
 
 /// What a start or step answers. A start that is carried out is `Moved` and running, with its first place
@@ -73,7 +73,7 @@ pub enum Outcome {
 /// which the task's record counts.
 pub struct Transition {
     pub control: Control,
-    pub task: Record,
+    pub task: Call,
     pub outcome: Outcome,
     pub failed: bool,
 }
@@ -104,7 +104,7 @@ pub enum Op {
     Push { side: u64, slot: u64, label: u32 },
     Pop { side: u64 },
     /// A push that names no slot.
-    Put { side: u64, label: u32 },
+    PushPooled { side: u64, label: u32 },
     Step,
 }
 

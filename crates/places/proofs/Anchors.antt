@@ -5,7 +5,7 @@ use Prim.Native.Nat.{ℕ, _+_, _/_, _^_}
 use lib.Dec.{eqb, ltb}
 use borrow.Author.Tests.{eq-eqb, ne-eqb}
 use Rattle.word.specs.Anchor.{anchorOf, packAnchor}
-use Rattle.model.specs.declared.{Control.Control, Record.Record, Transition.Transition}
+use Rattle.model.specs.declared.{Control.Control, Call.Call, Transition.Transition}
 use Rattle.model.specs.Tables.{atPlace, tablesOf, withSeen}
 use Rattle.model.specs.{Sound.anchorSound, Kinds.isPop}
 use Rattle.model.specs.Places.{reading, sideOf, nothing, setAnchor, Move, compares, at1, at2, at4, at6, at10, move}
@@ -23,10 +23,10 @@ use Rattle.model.proofs.tests.Truth.{split}
 use Rattle.model.specs.Sides.{far, facing, pushing}
 
 -- The step at place n tries to change Anchor: the change fails, is denied or is made.
-pub record Tries (n : ℕ) (c : Control) (r : Record) (new : ℕ) (t : Record) (done : ℕ) (failed : Transition) : Type 0 where
+pub record Tries (n : ℕ) (c : Control) (r : Call) (new : ℕ) (t : Call) (done : ℕ) (failed : Transition) : Type 0 where
   pub steps : Steps n c r (changed c r new t done failed)
 
-module _ {n : ℕ} {c : Control} {r : Record} {new : ℕ} {t : Record} {done : ℕ} {failed : Transition} (tried : Tries n c r new t done failed) where
+module _ {n : ℕ} {c : Control} {r : Call} {new : ℕ} {t : Call} {done : ℕ} {failed : Transition} (tried : Tries n c r new t done failed) where
   pub fails : (c .anchor ≡ r .seen → ⊥) → Steps n c r failed
   unfolding changed
   fails h = rw (ne-eqb _ _ h) at (tried .steps)
@@ -39,12 +39,12 @@ module _ {n : ℕ} {c : Control} {r : Record} {new : ℕ} {t : Record} {done : �
   unfolding changed mayChange
   makes h s = rw (eq-eqb _ _ h, s) at (tried .steps)
 
-module _ (c : Control) (r : Record) where
+module _ (c : Control) (r : Call) where
   -- The outcome of reading Anchor, and the record with the word read.
   abbrev outcome : ℕ
   outcome = reading (isPop r) (anchorOf (c .anchor))
 
-  abbrev seeing : Record
+  abbrev seeing : Call
   seeing = withSeen r (c .anchor) (r .finishing)
 
   read-quiet : Quiet (route 1 (r .kind) outcome)
@@ -87,13 +87,13 @@ module _ (c : Control) (r : Record) where
         (λ h. rw (moves, p .needs, p .meets, p .heads, p .nexts, h) (ap (λ m. withTables m ls rs ns ms xs k) (quietly c r (leads 1) e second)))
 
     -- A change of Anchor, places 2, 4 and 10: done, with the record t; failed, with the record u and the branch o.
-    abbrev trying : ℕ → Record → Record → ℕ → Move
+    abbrev trying : ℕ → Call → Call → ℕ → Move
     trying new t u o =
         cond (eqb (c .anchor) (r .seen)) (record { touch = setAnchor new; task = atPlace t n; branch = 0; failed = false })
         (record { touch = nothing; task = atPlace u n; branch = o; failed = true })
 
     changing :
-        (new : ℕ) (t u : Record) (o : ℕ)
+        (new : ℕ) (t u : Call) (o : ℕ)
         → Quiet (leads 0)
         → Quiet (leads o)
         → ((w : ℕ) → move c (atPlace r n) w ≡ trying new t u o)
@@ -114,7 +114,7 @@ module _ (c : Control) (r : Record) where
 
     -- Where a failed change reads on: places 2 and 4.
     replacing :
-        (new : ℕ) (t : Record)
+        (new : ℕ) (t : Call)
         → Quiet (leads 0)
         → leads (outcome + 1) ≡ route 1 (r .kind) outcome
         → ((w : ℕ) → move c (atPlace r n) w ≡ trying new t seeing (outcome + 1))

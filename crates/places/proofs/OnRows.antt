@@ -7,7 +7,7 @@ use lib.Dec.{eqb, ltb}
 use lib.ListN.{getD, set}
 use Rattle.word.specs.Anchor.{anchorOf}
 use Rattle.word.specs.Link.{linkOf, packLink}
-use Rattle.model.specs.declared.{Control.Control, Record.Record, Transition.Transition}
+use Rattle.model.specs.declared.{Control.Control, Call.Call, Transition.Transition}
 use Rattle.model.specs.Tables.{Tables, isPooled, withMark, tablesOf, withNeighbour, withLink, withOwn}
 use Rattle.model.specs.Sound.{from1, linkSound}
 use Rattle.model.specs.Places.{row, sideOf, linkSide, at3, at5, at7, at9, at11, move}
@@ -30,7 +30,7 @@ turn : (b : Bool) → eqb (cond b 0 1) 1 ≡ not b
 turn true = refl
 turn false = refl
 
-module _ (c : Control) (r : Record) where
+module _ (c : Control) (r : Call) where
   -- The end as read at a side, and the side: the task's, and at places 5 to 10 the one that the status names.
   abbrev pub end : Bool → ℕ
   end right = cond right (anchorOf (r .seen) .right) (anchorOf (r .seen) .left)

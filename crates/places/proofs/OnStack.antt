@@ -5,7 +5,7 @@ use Prim.Native.Nat.{ℕ, _+_, _/_, _^_}
 use lib.Dec.{eqb, leb, ltb}
 use lib.ListN.{getD, set}
 use Rattle.word.specs.Link.{linkOf, packLink}
-use Rattle.model.specs.declared.{Control.Control, Record.Record, Transition.Transition}
+use Rattle.model.specs.declared.{Control.Control, Call.Call, Transition.Transition}
 use Rattle.model.specs.Tables.{Tables, atPlace, withMark, tablesOf, withNeighbour, withLink, withOwn}
 use Rattle.model.specs.{Sound.linkSound, Refusals.stepSound}
 use Rattle.model.specs.Places.{row, at12, at13, at14, at15, at16, at17, move}
@@ -18,7 +18,7 @@ use Rattle.decide.specs.Decided.{madeOf, top, new17, found13, found14}
 use Rattle.decide.proofs.Routes.{kinds, Quiet, quietly}
 use Rattle.model.proofs.tests.Truth.{split}
 
-module _ (c : Control) (r : Record) (ls rs ns ms xs : List ℕ) (k : ℕ) where
+module _ (c : Control) (r : Call) (ls rs ns ms xs : List ℕ) (k : ℕ) where
   abbrev lent : Transition → Acted
   lent m = withTables m ls rs ns ms xs k
 

@@ -12,8 +12,8 @@ pub mod pool;
 use decide::next;
 use decide::side;
 use decide::step;
+use model::Call;
 use model::Control;
-use model::Record;
 use model::Transition;
 use word::Anchor;
 use word::Link;
@@ -21,14 +21,14 @@ ghost use mathlib.Core.Path.{_≡_};
 ghost use Rattle.places.specs.Arm.{Steps, StepsOnLinks, StepsOnMarks};
 
 /// Place 1: read Anchor. (Figure 3, line 1; figure 5, line 11.)
-pub fn at1(c: Control, r: Record) -> Transition
+pub fn at1(c: Control, r: Call) -> Transition
     ensures { λ m. ⌜ Steps 1 c r m ⌝ }
 {
     step::reads_anchor(c, r)
 }
 
 /// Place 2: the change, tried. A failed one is counted, takes the word found for its reading, and goes on as place 1.
-pub fn at2(c: Control, r: Record) -> Transition
+pub fn at2(c: Control, r: Call) -> Transition
     ensures { λ m. ⌜ Steps 2 c r m ⌝ }
 {
     if c.anchor == r.seen {
@@ -39,7 +39,7 @@ pub fn at2(c: Control, r: Record) -> Transition
 }
 
 /// Place 2, Anchor as read: change it to own, own, s; a pop to null, null, s. (Figure 3, line 2; figure 5, line 12.)
-fn change2(c: Control, r: Record) -> Transition
+fn change2(c: Control, r: Call) -> Transition
     ensures { λ m. ⌜ (c .anchor ≡ r .seen → Steps 2 c r m) ⌝ }
 {
     let new = decide::new2(r);
@@ -52,7 +52,7 @@ fn change2(c: Control, r: Record) -> Transition
 
 /// Place 3: put the end into the own slot's inward link, its tag kept; a pop reads the end's
 /// inward link as neighbour. (Figure 3, line 3; figure 5, line 13.)
-pub fn at3(c: Control, r: Record, lefts: &mut [u64], rights: &mut [u64]) -> Transition
+pub fn at3(c: Control, r: Call, lefts: &mut [u64], rights: &mut [u64]) -> Transition
     ensures { λ m.
         ⌜ StepsOnLinks 3 c r (now (lefts .entry)) (now (rights .entry)) m (now (lefts .exit)) (now (rights .exit)) ⌝ }
 {
@@ -74,7 +74,7 @@ pub fn at3(c: Control, r: Record, lefts: &mut [u64], rights: &mut [u64]) -> Tran
 }
 
 /// Place 4: the change, tried, as at 2.
-pub fn at4(c: Control, r: Record) -> Transition
+pub fn at4(c: Control, r: Call) -> Transition
     ensures { λ m. ⌜ Steps 4 c r m ⌝ }
 {
     if c.anchor == r.seen {
@@ -86,7 +86,7 @@ pub fn at4(c: Control, r: Record) -> Transition
 
 /// Place 4, Anchor as read: change it to l, own, RPUSH, and remember it, finishing; a pop to
 /// l, neighbour, s. (Figure 3, line 4; figure 5, line 14.)
-fn change4(c: Control, r: Record) -> Transition
+fn change4(c: Control, r: Call) -> Transition
     ensures { λ m. ⌜ (c .anchor ≡ r .seen → Steps 4 c r m) ⌝ }
 {
     let new = decide::new4(r);
@@ -99,7 +99,7 @@ fn change4(c: Control, r: Record) -> Transition
 }
 
 /// Place 5: read the end's inward link as neighbour. (Figure 4, line 5.)
-pub fn at5(c: Control, r: Record, lefts: &[u64], rights: &[u64]) -> Transition
+pub fn at5(c: Control, r: Call, lefts: &[u64], rights: &[u64]) -> Transition
     ensures { λ m.
         ⌜ StepsOnLinks 5 c r (now (lefts .entry)) (now (rights .entry)) m (now (lefts .entry)) (now (rights .entry)) ⌝ }
 {
@@ -111,7 +111,7 @@ pub fn at5(c: Control, r: Record, lefts: &[u64], rights: &[u64]) -> Transition
 }
 
 /// Place 6: compare Anchor. (Figure 4, line 6.)
-pub fn at6(c: Control, r: Record) -> Transition
+pub fn at6(c: Control, r: Call) -> Transition
     ensures { λ m. ⌜ Steps 6 c r m ⌝ }
 {
     let same = next::next(6, r.kind, next::EQUAL);
@@ -120,7 +120,7 @@ pub fn at6(c: Control, r: Record) -> Transition
 }
 
 /// Place 7: read the neighbour's outward link. (Figure 4, line 7.)
-pub fn at7(c: Control, r: Record, lefts: &[u64], rights: &[u64]) -> Transition
+pub fn at7(c: Control, r: Call, lefts: &[u64], rights: &[u64]) -> Transition
     ensures { λ m.
         ⌜ StepsOnLinks 7 c r (now (lefts .entry)) (now (rights .entry)) m (now (lefts .entry)) (now (rights .entry)) ⌝ }
 {
@@ -131,7 +131,7 @@ pub fn at7(c: Control, r: Record, lefts: &[u64], rights: &[u64]) -> Transition
 }
 
 /// Place 8: compare Anchor again. (Figure 4, line 8.)
-pub fn at8(c: Control, r: Record) -> Transition
+pub fn at8(c: Control, r: Call) -> Transition
     ensures { λ m. ⌜ Steps 8 c r m ⌝ }
 {
     let same = next::next(8, r.kind, next::EQUAL);
@@ -140,7 +140,7 @@ pub fn at8(c: Control, r: Record) -> Transition
 }
 
 /// Place 9: change the neighbour's outward link to the end. (Figure 4, line 9.)
-pub fn at9(c: Control, r: Record, lefts: &mut [u64], rights: &mut [u64]) -> Transition
+pub fn at9(c: Control, r: Call, lefts: &mut [u64], rights: &mut [u64]) -> Transition
     ensures { λ m.
         ⌜ StepsOnLinks 9 c r (now (lefts .entry)) (now (rights .entry)) m (now (lefts .exit)) (now (rights .exit)) ⌝ }
 {
@@ -157,7 +157,7 @@ pub fn at9(c: Control, r: Record, lefts: &mut [u64], rights: &mut [u64]) -> Tran
 }
 
 /// Place 10: change Anchor to l, r, STABLE. (Figure 4, line 10.)
-pub fn at10(c: Control, r: Record) -> Transition
+pub fn at10(c: Control, r: Call) -> Transition
     ensures { λ m. ⌜ Steps 10 c r m ⌝ }
 {
     if c.anchor != r.seen {
@@ -174,7 +174,7 @@ pub fn at10(c: Control, r: Record) -> Transition
 
 /// Place 11: read the label of the end taken and clear its mark. (Figure 5, after the loop.) In a
 /// pooled queue slot and label are kept in the record, and the slot is given back first.
-pub fn at11(c: Control, r: Record, labels: &[u32], marks: &mut [u64]) -> Transition
+pub fn at11(c: Control, r: Call, labels: &[u32], marks: &mut [u64]) -> Transition
     ensures { λ m.
         ⌜ StepsOnMarks 11 c r (now (labels .entry)) (now (marks .entry)) m (now (labels .entry)) (now (marks .exit)) ⌝ }
 {

@@ -3,15 +3,15 @@
 //! (Document 02, #104: the tagged compare-and-swap stack of 003's references.)
 use decide::next;
 use decide::step;
+use model::Call;
 use model::Control;
 use model::Entry;
-use model::Record;
 use model::Transition;
 use word::Link;
 ghost use Rattle.places.specs.Arm.{Steps, StepsOnMarks, StepsOnNext};
 
 /// Place 12: read the head; an empty one is *no slot*.
-pub fn at12(c: Control, r: Record) -> Transition
+pub fn at12(c: Control, r: Call) -> Transition
     ensures { λ m. ⌜ Steps 12 c r m ⌝ }
 {
     let none = next::next(12, r.kind, next::NONE_FREE);
@@ -20,7 +20,7 @@ pub fn at12(c: Control, r: Record) -> Transition
 }
 
 /// Place 13: read the next of the head's slot.
-pub fn at13(c: Control, r: Record, nexts: &[u64]) -> Transition
+pub fn at13(c: Control, r: Call, nexts: &[u64]) -> Transition
     ensures { λ m. ⌜ StepsOnNext 13 c r (now (nexts .entry)) m (now (nexts .entry)) ⌝ }
 {
     let head = Link::unpack(r.link);
@@ -29,7 +29,7 @@ pub fn at13(c: Control, r: Record, nexts: &[u64]) -> Transition
 }
 
 /// Place 14: change the head to that next. The slot is then the push's own, marked and with its label.
-pub fn at14(c: Control, r: Record, labels: &mut [u32], marks: &mut [u64]) -> Transition
+pub fn at14(c: Control, r: Call, labels: &mut [u32], marks: &mut [u64]) -> Transition
     ensures { λ m.
         ⌜ StepsOnMarks 14 c r (now (labels .entry)) (now (marks .entry)) m (now (labels .exit)) (now (marks .exit)) ⌝ }
 {
@@ -44,7 +44,7 @@ pub fn at14(c: Control, r: Record, labels: &mut [u32], marks: &mut [u64]) -> Tra
 }
 
 /// Place 15: read the head.
-pub fn at15(c: Control, r: Record) -> Transition
+pub fn at15(c: Control, r: Call) -> Transition
     ensures { λ m. ⌜ Steps 15 c r m ⌝ }
 {
     let n = next::next(15, r.kind, next::ONLY_WAY);
@@ -52,7 +52,7 @@ pub fn at15(c: Control, r: Record) -> Transition
 }
 
 /// Place 16: put the head's slot into the own slot's next.
-pub fn at16(c: Control, r: Record, nexts: &mut [u64]) -> Transition
+pub fn at16(c: Control, r: Call, nexts: &mut [u64]) -> Transition
     ensures { λ m. ⌜ StepsOnNext 16 c r (now (nexts .entry)) m (now (nexts .exit)) ⌝ }
 {
     let head = Link::unpack(r.link);
@@ -61,7 +61,7 @@ pub fn at16(c: Control, r: Record, nexts: &mut [u64]) -> Transition
 }
 
 /// Place 17: change the head to the own slot, and answer with it and its label.
-pub fn at17(c: Control, r: Record) -> Transition
+pub fn at17(c: Control, r: Call) -> Transition
     ensures { λ m. ⌜ Steps 17 c r m ⌝ }
 {
     let head = Link::unpack(r.link);

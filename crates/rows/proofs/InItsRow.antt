@@ -5,7 +5,7 @@ use mathlib.Core.List.{List}
 use Prim.Native.Nat.{ℕ, _≤_}
 use borrow.Author.Tests.{eq-eqb, ne-eqb}
 use Rattle.model.specs.declared.Control.{Control}
-use Rattle.model.specs.declared.Record.{Record}
+use Rattle.model.specs.declared.Call.{Call}
 use Rattle.model.specs.declared.Outcome.{Outcome}
 use Rattle.model.specs.declared.Outcome.the-variants.{Refused}
 use Rattle.model.specs.Tables.{Tables, isPooled, tablesOf}
@@ -25,7 +25,7 @@ use Rattle.rows.specs.Moved.{RowMoved}
 use Rattle.rows.proofs.Rows.{counting}
 
 -- Why a record is refused before its place is looked at, or not.
-module _ (pooled : Bool) (slots : ℕ) (r : Record) where
+module _ (pooled : Bool) (slots : ℕ) (r : Call) where
   pub no-call : r .place ≡ 0 → 31 ≡ recordRefusal pooled slots r
   unfolding recordRefusal
   no-call idle = simp (idle-sound pooled slots r (eq-eqb _ _ idle), eq-eqb _ _ idle)
@@ -38,7 +38,7 @@ module _ (pooled : Bool) (slots : ℕ) (r : Record) where
   unfolding recordRefusal
   passes busy e = simp (e, ne-eqb _ _ busy)
 
-module _ (ws row lefts rights labels marks next : List ℕ) (c : Control) (r : Record) (ec : c ≡ controlOf ws) (er : r ≡ callOf row) where
+module _ (ws row lefts rights labels marks next : List ℕ) (c : Control) (r : Call) (ec : c ≡ controlOf ws) (er : r ≡ callOf row) where
   abbrev q : Control → Tables
   q d = tablesOf d lefts rights labels marks next
 
@@ -49,7 +49,7 @@ module _ (ws row lefts rights labels marks next : List ℕ) (c : Control) (r : R
   refuses why o e h eo =
       let number =
       e ∙ ap (λ (d : Control). recordRefusal (isPooled d) (d .slots) r) ec
-      ∙ ap (λ (t : Record). recordRefusal (isPooled (controlOf ws)) (controlOf ws .slots) t) er in (
+      ∙ ap (λ (t : Call). recordRefusal (isPooled (controlOf ws)) (controlOf ws .slots) t) er in (
         ap (λ (u : Outcome). record { tables = q (controlOf ws); task = recordOf row; outcome = u }) eo
             ∙ stopped (q (controlOf ws)) (recordOf row) why number h,
         rw eo,
@@ -66,7 +66,7 @@ module _ (ws row lefts rights labels marks next : List ℕ) (c : Control) (r : R
       unfolding recordOf
       of-row =
           let k = recordOf row .retries in
-          e k ∙ ap (λ (d : Control). moveOn (q d) (counting r k)) ec ∙ ap (λ (t : Record). moveOn (q (controlOf ws)) (counting t k)) er
+          e k ∙ ap (λ (d : Control). moveOn (q d) (counting r k)) ec ∙ ap (λ (t : Call). moveOn (q (controlOf ws)) (counting t k)) er
 
       -- All that a step may change is stored; at 1 to 10 the first layer is all.
       stores : controlOf ws′ ≡ headAfter (anchorAfter (controlOf ws) m) m → recordOf row′ ≡ ownAfter (callAfter (recordOf row) m) m
@@ -77,7 +77,7 @@ module _ (ws row lefts rights labels marks next : List ℕ) (c : Control) (r : R
           → RowMoved (q (controlOf ws)) row (q′ (controlOf ws′)) row′ (m .outcome)
       unfolding recordOf
       stores-early low e1 e2 =
-          let early : callOf row .place ≤ 10 = subst (λ (t : Record). t .place ≤ 10) er low in
+          let early : callOf row .place ≤ 10 = subst (λ (t : Call). t .place ≤ 10) er low in
           (rw (e1, e2) (early-stored (q (controlOf ws)) (recordOf row) m lefts′ rights′ labels′ marks′ next′ of-row early), up)
 
     -- The step at place n, which is the record's.

@@ -8,7 +8,7 @@ use lib.ListN.{length, getD, set}
 use lib.Seq.{set-getD}
 use borrow.Author.Tests.{leb-true, ltb-true}
 use Rattle.model.specs.declared.Control.{Control}
-use Rattle.model.specs.declared.TaskRecord.{TaskRecord}
+use Rattle.model.specs.declared.Record.{Record}
 use Rattle.model.specs.declared.Outcome.{Outcome}
 use Rattle.model.specs.declared.Outcome.the-variants.{Refused}
 use Rattle.model.specs.declared.Op.the-variants.{Step}
@@ -33,7 +33,7 @@ module _ (ws : List ℕ) (rows : List (List ℕ)) (lefts rights labels marks nex
   abbrev queue : Queue
   queue = queueIn ws rows lefts rights labels marks next
 
-  abbrev r₀ : TaskRecord
+  abbrev r₀ : Record
   r₀ = taskAt queue task
 
   abbrev row₀ : List ℕ
@@ -72,7 +72,7 @@ module _ (ws : List ℕ) (rows : List (List ℕ)) (lefts rights labels marks nex
   refused why o e h eo =
       let same : _≡_ {A = Done} (record { queue = queue; outcome = o }) (act queue task Step) =
       ap (λ (u : Outcome). record { queue = queue; outcome = u }) eo
-      ∙ ap (λ (l : List TaskRecord). record { queue = record { tables = entry; records = l }; outcome = Refused why })
+      ∙ ap (λ (l : List Record). record { queue = record { tables = entry; records = l }; outcome = Refused why })
       (sym (set-getD (recordsOf rows) task unused))
       ∙ ap (back queue task) (turned-away entry (among queue task) r₀ why e h) in
       (same, rw eo)

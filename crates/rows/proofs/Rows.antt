@@ -5,8 +5,8 @@ use Prim.Native.Nat.{ℕ, zero, suc, _+_, _<_, _≤_, min}
 use native.Mathlib.Numerals.{add-one}
 use native.Mathlib.Omega.{arith}
 use lib.ListN.{length, getD, set}
+use Rattle.model.specs.declared.Call.{Call}
 use Rattle.model.specs.declared.Record.{Record}
-use Rattle.model.specs.declared.TaskRecord.{TaskRecord}
 use Rattle.model.specs.Tables.{unused, withOwn}
 use Rattle.model.specs.Lists.{zeroed}
 use Rattle.rows.specs.Rows.{callOf, recordOf, recordsOf, upperOf, uppersOf}
@@ -37,7 +37,7 @@ pub record-put : (rows : List (List ℕ)) (i : ℕ) (ws : List ℕ) → recordsO
 unfolding recordsOf
 record-put [] i ws = refl
 record-put (us ∷ rows) zero ws = refl
-record-put (us ∷ rows) (suc i) ws = ap (λ (l : List TaskRecord). recordOf us ∷ l) (record-put rows i ws)
+record-put (us ∷ rows) (suc i) ws = ap (λ (l : List Record). recordOf us ∷ l) (record-put rows i ws)
 
 pub upper-put : (rows : List (List ℕ)) (i : ℕ) (ws : List ℕ) → uppersOf (set rows i ws) ≡ set (uppersOf rows) i (upperOf ws)
 unfolding uppersOf
@@ -46,11 +46,11 @@ upper-put (us ∷ rows) zero ws = refl
 upper-put (us ∷ rows) (suc i) ws = ap (λ (l : List ℕ). upperOf us ∷ l) (upper-put rows i ws)
 
 -- A call and a count.
-abbrev pub counting : Record → ℕ → TaskRecord
+abbrev pub counting : Call → ℕ → Record
 counting r n = record { call = r; retries = n }
 
 -- A call with another label.
-abbrev pub labelled : Record → ℕ → Record
+abbrev pub labelled : Call → ℕ → Call
 labelled r n = withOwn r (r .own) n
 
 -- One more entry zeroed.

@@ -7,10 +7,10 @@ use lib.Dec.{eqb}
 use lib.ListN.{length, set}
 use lib.Seq.{set-getD}
 use Rattle.model.specs.declared.Control.{Control}
+use Rattle.model.specs.declared.Call.{Call}
 use Rattle.model.specs.declared.Record.{Record}
-use Rattle.model.specs.declared.TaskRecord.{TaskRecord}
 use Rattle.model.specs.declared.Op.{Op}
-use Rattle.model.specs.declared.Op.the-variants.{Push, Pop, Put}
+use Rattle.model.specs.declared.Op.the-variants.{Push, Pop, PushPooled}
 use Rattle.model.specs.declared.Transition.{Transition}
 use Rattle.model.specs.Tables.{Tables, Queue, tablesOf, queueOf, taskAt, unused}
 use Rattle.model.specs.Refusals.{Lent, among, pushRefusal, putRefusal, popRefusal}
@@ -44,35 +44,35 @@ module _ (ws : List ℕ) (rows : List (List ℕ)) (lefts rights labels marks nex
   abbrev queue : Queue
   queue = queueIn ws rows lefts rights labels marks next
 
-  abbrev r₀ : TaskRecord
+  abbrev r₀ : Record
   r₀ = taskAt queue task
 
   abbrev t : Lengths
   t = lengthsOf entry (length rows)
 
   -- A start leaves control and the count as they are, and all where it is refused.
-  abbrev Starts : TaskRecord → Acted → Type 0
+  abbrev Starts : Record → Acted → Type 0
   Starts r a = (a .tables .control ≡ controlOf ws) × (isMoved (a .outcome) ≡ false → a .task ≡ r) × (a .task .retries ≡ r .retries)
 
-  kept : (b : Bool) (r : TaskRecord) (x y : Acted) → Starts r x → Starts r y → Starts r (cond b x y)
+  kept : (b : Bool) (r : Record) (x y : Acted) → Starts r x → Starts r y → Starts r (cond b x y)
   kept true r x y h _ = h
   kept false r x y _ h = h
 
-  pub push-starts : (side slot label : ℕ) (p : Lent) (r : TaskRecord) → Starts r (actOn entry p r (Push side slot label))
+  pub push-starts : (side slot label : ℕ) (p : Lent) (r : Record) → Starts r (actOn entry p r (Push side slot label))
   unfolding actOn pushStart
   push-starts side slot label p r = kept (eqb (pushRefusal entry p (r .call) side slot) 0) r _ _ (refl, λ h. absurd (not-both refl h), refl)
       (refl, λ _. refl, refl)
 
-  pub put-starts : (side label : ℕ) (p : Lent) (r : TaskRecord) → Starts r (actOn entry p r (Put side label))
+  pub put-starts : (side label : ℕ) (p : Lent) (r : Record) → Starts r (actOn entry p r (PushPooled side label))
   unfolding actOn putStart
   put-starts side label p r = kept (eqb (putRefusal entry p (r .call) side) 0) r _ _ (refl, λ h. absurd (not-both refl h), refl)
       (refl, λ _. refl, refl)
 
-  pub pop-starts : (side : ℕ) (p : Lent) (r : TaskRecord) → Starts r (actOn entry p r (Pop side))
+  pub pop-starts : (side : ℕ) (p : Lent) (r : Record) → Starts r (actOn entry p r (Pop side))
   unfolding actOn popStart
   pop-starts side p r = kept (eqb (popRefusal entry p (r .call) side) 0) r _ _ (refl, λ h. absurd (not-both refl h), refl) (refl, λ _. refl, refl)
 
-  module _ (o : Op) (starts : (p : Lent) (r : TaskRecord) → Starts r (actOn entry p r o)) (rows′ : List (List ℕ)) (labels′ marks′ : List ℕ) where
+  module _ (o : Op) (starts : (p : Lent) (r : Record) → Starts r (actOn entry p r o)) (rows′ : List (List ℕ)) (labels′ marks′ : List ℕ) where
     abbrev leaving : Transition → Control → Done
     leaving m c = record {
       queue = queueOf c (set (recordsOf rows) task
@@ -80,7 +80,7 @@ module _ (ws : List ℕ) (rows : List (List ℕ)) (lefts rights labels marks nex
       outcome = m .outcome;
     }
 
-    pub started : (c : Control) (r : Record) (m : Transition) → c ≡ controlOf ws → r ≡ r₀ .call
+    pub started : (c : Control) (r : Call) (m : Transition) → c ≡ controlOf ws → r ≡ r₀ .call
         → ((k : ℕ) → withTables m lefts rights labels′ marks′ next k
         ≡ actOn (tablesOf c lefts rights labels marks next) (amongMany c t task) (record { call = r; retries = k }) o)
         → recordsOf rows′ ≡ cond (isMoved (m .outcome)) (withCallAt (recordsOf rows) task (m .task)) (recordsOf rows)
@@ -93,7 +93,7 @@ module _ (ws : List ℕ) (rows : List (List ℕ)) (lefts rights labels marks nex
         ∙ ap (λ (p : Lent). actOn (tablesOf c lefts rights labels marks next) p (record { call = r; retries = k }) o)
         (lent-among ws rows lefts rights labels marks next task c ec)
         ∙ ap (λ (d : Control). actOn (tablesOf d lefts rights labels marks next) (among queue task) (record { call = r; retries = k }) o) ec
-        ∙ ap (λ (t : Record). actOn entry (among queue task) (record { call = t; retries = k }) o) er in
+        ∙ ap (λ (t : Call). actOn entry (among queue task) (record { call = t; retries = k }) o) er in
         let s = subst (Starts r₀) (sym left) (starts (among queue task) r₀) in
         let put : recordsOf rows′ ≡ set (recordsOf rows) task (record { call = m .task; retries = counted k (m .failed) }) =
         split (isMoved (m .outcome))

@@ -3,8 +3,8 @@ use mathlib.Core.List.{List, [], _∷_}
 use Prim.Native.Nat.{ℕ, _/_, _%_, _^_}
 use lib.ListN.{getD, set}
 use Rattle.model.specs.declared.Control.{Control}
+use Rattle.model.specs.declared.Call.{Call}
 use Rattle.model.specs.declared.Record.{Record}
-use Rattle.model.specs.declared.TaskRecord.{TaskRecord}
 use Rattle.model.specs.Tables.{Queue, queueOf, unused, withCall}
 
 unfoldable pub controlOf : List ℕ → Control
@@ -17,7 +17,7 @@ controlOf ws = record {
 }
 
 -- A task's call; a label has 32 bits.
-unfoldable pub callOf : List ℕ → Record
+unfoldable pub callOf : List ℕ → Call
 callOf ws = record {
   place = getD ws 0 0;
   kind = getD ws 1 0;
@@ -31,7 +31,7 @@ callOf ws = record {
 }
 
 -- The whole record: the call, and the task's count of failed changes.
-unfoldable pub recordOf : List ℕ → TaskRecord
+unfoldable pub recordOf : List ℕ → Record
 recordOf ws = record { call = callOf ws; retries = getD ws 9 0 }
 
 -- The upper half of the label's word is in no field: with the record it makes up the whole row.
@@ -39,7 +39,7 @@ unfoldable pub upperOf : List ℕ → ℕ
 upperOf ws = getD ws 4 0 / 2 ^ 32
 
 -- The same of each row.
-unfoldable pub recordsOf : List (List ℕ) → List TaskRecord
+unfoldable pub recordsOf : List (List ℕ) → List Record
 recordsOf [] = []
 recordsOf (ws ∷ rows) = recordOf ws ∷ recordsOf rows
 
@@ -52,5 +52,5 @@ abbrev pub queueIn : List ℕ → List (List ℕ) → List ℕ → List ℕ → 
 queueIn control rows = queueOf (controlOf control) (recordsOf rows)
 
 -- Records in which a task has another call and its own count.
-abbrev pub withCallAt : List TaskRecord → ℕ → Record → List TaskRecord
+abbrev pub withCallAt : List Record → ℕ → Call → List Record
 withCallAt rs t r = set rs t (withCall (getD rs t unused) r)

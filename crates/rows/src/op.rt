@@ -8,7 +8,7 @@ use sound::Lengths;
 ghost use mathlib.Core.Path.{_≡_};
 ghost use mathlib.Core.Bool.{cond};
 ghost use lib.ListN.{set};
-ghost use Rattle.model.specs.declared.Op.the-variants.{Push, Pop, Put};
+ghost use Rattle.model.specs.declared.Op.the-variants.{Push, Pop, PushPooled};
 ghost use Rattle.model.specs.Calls.{Done, act};
 ghost use Rattle.model.specs.Ends.{isMoved};
 ghost use Rattle.rows.specs.Rows.{uppersOf, queueIn};
@@ -78,7 +78,7 @@ pub fn put(
         })
         (act (queueIn (now (control .entry)) (now (records .entry))
         (now (lefts .entry)) (now (rights .entry)) (now (labels .entry)) (now (marks .entry)) (now (next .entry)))
-        task (Put side label)) ⌝ }
+        task (PushPooled side label)) ⌝ }
     ensures { λ o.
         ⌜ uppersOf (now (records .exit)) ≡ cond (isMoved o) (set (uppersOf (now (records .entry))) task 0) (uppersOf (now (records .entry))) ⌝ }
 {
@@ -190,7 +190,7 @@ pub fn operate(
             marks,
             next,
         ),
-        Op::Put { side, label } => put(
+        Op::PushPooled { side, label } => put(
             control,
             records,
             task,

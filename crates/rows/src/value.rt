@@ -1,7 +1,7 @@
 //! The step of one admitted record for callers that hold control and record by value: in rows of its own, and back.
 use model::Control;
 use model::Outcome;
-use model::TaskRecord;
+use model::Record;
 ghost use mathlib.Core.Path.{_≡_};
 ghost use Rattle.model.specs.Tables.{tablesOf};
 ghost use Rattle.model.specs.Calls as calls;
@@ -10,14 +10,14 @@ ghost use Rattle.engine.specs.MoveOn.{moveOn};
 /// What a step leaves of control and its task's record, and its outcome.
 pub struct Stepped {
     pub control: Control,
-    pub task: TaskRecord,
+    pub task: Record,
     pub outcome: Outcome,
 }
 
 /// The step of a record once it is admitted.
 pub fn move_on(
     c: Control,
-    t: TaskRecord,
+    t: Record,
     lefts: &mut [u64],
     rights: &mut [u64],
     labels: &mut [u32],
@@ -42,7 +42,7 @@ pub fn move_on(
     let retries = crate::retries_of(row);
     Stepped {
         control,
-        task: TaskRecord { call, retries },
+        task: Record { call, retries },
         outcome,
     }
 }

@@ -4,7 +4,7 @@ use mathlib.Core.{Path._≡_, List.List}
 use mathlib.Core.Bool.{Bool, _&&_, _||_, cond}
 use lib.ListN.{length, getD, drop}
 use lib.Dec.{ltb, leb, eqb}
-use Rattle.model.specs.declared.Op.the-variants.{Push, Pop, Put, Step}
+use Rattle.model.specs.declared.Op.the-variants.{Push, Pop, PushPooled, Step}
 use Rattle.model.specs.Refusals.{malformed}
 use Rattle.runfile.specs.declared.{Field.Field, Found.Found}
 use Rattle.runfile.specs.declared.Field.the-variants.{Open, Each, Malformed, Cut, End}
@@ -34,7 +34,7 @@ contentOf tag len b =
     cond (eqb tag 1 || eqb tag 5) (Open (eqb tag 5) (getD b 0 0) (twoAt b 1) (fourAt b 3))
     (cond (eqb tag 2) (Each (Push (getD b 1 0) (twoAt b 2) (fourAt b 4)) 1)
     (cond (eqb tag 3) (Each (Pop (getD b 1 0)) 1)
-    (cond (eqb tag 6) (Each (Put (getD b 1 0) (fourAt b 2)) 1)
+    (cond (eqb tag 6) (Each (PushPooled (getD b 1 0) (fourAt b 2)) 1)
     (Each Step len))))
 
 -- The number of a field: its tag, or that of the refusal; 0 where no field is there.
@@ -43,7 +43,7 @@ fieldNumber (Open pooled tasks slots tag) = cond pooled 5 1
 fieldNumber (Each (Push side slot label) n) = 2
 fieldNumber (Each (Pop side) n) = 3
 fieldNumber (Each Step n) = 4
-fieldNumber (Each (Put side label) n) = 6
+fieldNumber (Each (PushPooled side label) n) = 6
 fieldNumber Malformed = malformed
 fieldNumber Cut = 0
 fieldNumber End = 0

@@ -99,7 +99,7 @@ fn content(s: &[u8], from: usize, tag: u64, len: usize) -> Field
         let side = byte_at(s, from + 1);
         let label = four_at(s, from + 2);
         Field::Each {
-            op: Op::Put { side, label },
+            op: Op::PushPooled { side, label },
             count: 1,
         }
     } else {

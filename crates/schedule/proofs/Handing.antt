@@ -8,8 +8,8 @@ use lib.Dec.{eqb, leb}
 use lib.ListN.{length, getD, set}
 use lib.Seq.{sets}
 use borrow.Author.Tests.{ne-eqb, leb-true, not-true}
+use Rattle.model.specs.declared.Call.{Call}
 use Rattle.model.specs.declared.Record.{Record}
-use Rattle.model.specs.declared.TaskRecord.{TaskRecord}
 use Rattle.model.specs.Tables.{Tables, Queue, isPooled, unused}
 use Rattle.model.specs.Sound.{controlSound, rowsFit}
 use Rattle.model.specs.Walk.{Walk, entries, broken, contents, isBroken, met}
@@ -79,11 +79,11 @@ module _ (ws ws′ : List ℕ) (len : ℕ) (q q′ : Queue) (f : Found) (whole :
       ∙ some-told f ws ws′ q q′ (seeking ws (memoryLength ws) 48 false q) all h
 
 -- Two records with the tables.
-abbrev pub pairOf : Tables → TaskRecord → TaskRecord → Queue
+abbrev pub pairOf : Tables → Record → Record → Queue
 pairOf q a b = record { tables = q; records = a ∷ b ∷ [] }
 
 -- The records beyond the first two do not count.
-same-search : (ws : List ℕ) (q : Tables) (rs : List TaskRecord) → 49 ≤ length ws → q .control .tasks ≡ 2 → q .control .tasks ≤ length rs
+same-search : (ws : List ℕ) (q : Tables) (rs : List Record) → 49 ≤ length ws → q .control .tasks ≡ 2 → q .control .tasks ≤ length rs
     → seekOf ws (memoryLength ws) 48 false (pairOf q (getD rs 0 unused) (getD rs 1 unused))
     ≡ firstAfter (remembered ws) (allSchedules (record { tables = q; records = rs }))
 same-search ws q [] m two few = absurd (omega (arith, two, few))
@@ -109,7 +109,7 @@ last-part two (entries l) = go (two && leb (length l) 4)
     go true = refl
     go false = refl
 
-module _ (q : Tables) (rs : List TaskRecord) (n : ℕ) (a b : Record) (ws : List ℕ) (these : Begins rs n a b) where
+module _ (q : Tables) (rs : List Record) (n : ℕ) (a b : Call) (ws : List ℕ) (these : Begins rs n a b) where
   abbrev Q : Queue
   Q = record { tables = q; records = rs }
 
@@ -143,7 +143,7 @@ module _ (q : Tables) (rs : List TaskRecord) (n : ℕ) (a b : Record) (ws : List
       → last ≡ scheduleRefusal Q ws
   refused-after first last walk e z w l = sym (rules ∙ rw (sym e, z) (ap (refusalAfter two) (sym w) ∙ sym l))
 
-module _ (q : Tables) (rs : List TaskRecord) (ws : List ℕ) where
+module _ (q : Tables) (rs : List Record) (ws : List ℕ) where
   abbrev whole : Queue
   whole = record { tables = q; records = rs }
 
@@ -154,7 +154,7 @@ module _ (q : Tables) (rs : List TaskRecord) (ws : List ℕ) where
   turned-away why r e n h = rw (sym e, ne-eqb why 0 n) (ap (λ (z : ScheduleReply). told z ws q) h)
 
   -- None applies: the search is the definition.
-  pub accepted : (a b : TaskRecord) → scheduleRefusal whole ws ≡ 0 → a ≡ getD rs 0 unused → b ≡ getD rs 1 unused
+  pub accepted : (a b : Record) → scheduleRefusal whole ws ≡ 0 → a ≡ getD rs 0 unused → b ≡ getD rs 1 unused
       → record { handed = handing ws (seeking ws (memoryLength ws) 48 false (pairOf q a b)); tables = q } ≡ answered q rs ws
   unfolding nextSchedule
   accepted a b ok ea eb =

@@ -5,8 +5,8 @@ use mathlib.Core.List.{List, [], _∷_}
 use Prim.Native.Nat.{ℕ}
 use lib.Dec.{leb}
 use lib.ListN.{length, getD}
+use Rattle.model.specs.declared.Call.{Call}
 use Rattle.model.specs.declared.Record.{Record}
-use Rattle.model.specs.declared.TaskRecord.{TaskRecord}
 use Rattle.model.specs.Tables.{Tables, unused}
 use Rattle.model.specs.Refusals.{rule, first}
 use Rattle.walk.specs.declared.Tally.{Tally}
@@ -22,7 +22,7 @@ refusalAfter two Broken = 34
 refusalAfter two (Labels n) = cond (two && leb n 4) 0 42
 
 -- So many records, of which the first two have these calls.
-pub record Begins (records : List TaskRecord) (n : ℕ) (a b : Record) : Type 0 where
+pub record Begins (records : List Record) (n : ℕ) (a b : Call) : Type 0 where
   pub count : length records ≡ n
   pub first : getD records 0 unused .call ≡ a
   pub second : getD records 1 unused .call ≡ b
@@ -33,5 +33,5 @@ pub record Answered : Type 0 where
   pub tables : Tables
 
 -- The tables are as before.
-abbrev pub answered : Tables → List TaskRecord → List ℕ → Answered
+abbrev pub answered : Tables → List Record → List ℕ → Answered
 answered q records ws = record { handed = nextSchedule (record { tables = q; records = records }) ws; tables = q }

@@ -1,6 +1,6 @@
 //! Every order for two tasks: the schedule after the one that the lent memory holds.
+use model::Call;
 use model::Control;
-use model::Record;
 use schedule_model::ScheduleReply;
 use sound::Lengths;
 use walk::Tally;
@@ -9,7 +9,7 @@ ghost use mathlib.Core.Bool.{_&&_, not, false};
 ghost use mathlib.Core.List.{List, [], _∷_};
 ghost use lib.Dec.{eqb, leb};
 ghost use lib.ListN.{getD};
-ghost use Rattle.model.specs.declared.TaskRecord.{TaskRecord};
+ghost use Rattle.model.specs.declared.Record.{Record};
 ghost use Rattle.model.specs.Tables.{tablesOf, queueOf, unused};
 ghost use Rattle.model.specs.Sound.{controlSound};
 ghost use Rattle.sound.specs.Lengths.{tablesFit};
@@ -30,7 +30,7 @@ fn unfit_tables(c: Control, memory: usize, t: Lengths) -> u32
 }
 
 /// 34 for the walk, and 42.
-fn unfit(c: Control, a: Record, b: Record, walked: Tally) -> u32
+fn unfit(c: Control, a: Call, b: Call, walked: Tally) -> u32
     ensures { λ why. ⌜ why ≡ refusalAfter (eqb (c .tasks) 2 && not (eqb (a .place) 0) && not (eqb (b .place) 0)) walked ⌝ }
 {
     let two = (c.tasks == 2) & !(a.place == 0) & !(b.place == 0);
@@ -43,8 +43,8 @@ fn unfit(c: Control, a: Record, b: Record, walked: Tally) -> u32
 /// Why a call is refused; 0: it is not. a and b are the calls of the first two of so many records.
 fn refusal(
     c: Control,
-    a: Record,
-    b: Record,
+    a: Call,
+    b: Call,
     records: usize,
     given: &[u64],
     lefts: &[u64],
@@ -54,7 +54,7 @@ fn refusal(
     next: &[u64],
 ) -> u32
     ensures { λ why.
-        ⌜ ((rs : List TaskRecord) → Begins rs records a b
+        ⌜ ((rs : List Record) → Begins rs records a b
         → why ≡ scheduleRefusal (queueOf c rs (now (lefts .entry)) (now (rights .entry)) (now (labels .entry)) (now (marks .entry)) (now (next .entry)))
         (now (given .entry))) ⌝ }
 {

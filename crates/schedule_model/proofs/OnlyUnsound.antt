@@ -6,8 +6,8 @@ use Prim.Native.Nat.{ℕ, _<_}
 use native.Mathlib.Omega.{arith}
 use lib.Dec.{eqb}
 use borrow.Author.Tests.{lt-ltb, not-true, not-false, eqb-true}
+use Rattle.model.specs.declared.Call.{Call}
 use Rattle.model.specs.declared.Record.{Record}
-use Rattle.model.specs.declared.TaskRecord.{TaskRecord}
 use Rattle.model.specs.declared.Outcome.the-variants.{Refused}
 use Rattle.model.specs.declared.Op.the-variants.{Step}
 use Rattle.model.specs.Tables.{Tables, Queue, isPooled, taskAt, recordAt}
@@ -40,14 +40,14 @@ touched (setNext x v) q h s = h
 touched (setHead w) q h s = h
 
 -- The move of a step that is not refused leaves Anchor sound.
-lawful : (q : Tables) (p : Lent) (r : Record) → stepRefusal q p r ≡ 0
+lawful : (q : Tables) (p : Lent) (r : Call) → stepRefusal q p r ≡ 0
     → leavesSound (q .control .slots) (move (q .control) r (wordFound q r) .touch) ≡ true
 unfolding stepRefusal stepSound
 lawful q p r e =
     let rules = cleared (stepRules q p r) refl e in
     tests (stepTests (q .control) r (wordFound q r)) (not-false _ (rules .1 .1 .1 .1 .1 .0)) .1 .1 .0
 
-sound-after : (q : Tables) (p : Lent) (r : TaskRecord) → controlSound (q .control) ≡ true → controlSound (step q p r .tables .control) ≡ true
+sound-after : (q : Tables) (p : Lent) (r : Record) → controlSound (q .control) ≡ true → controlSound (step q p r .tables .control) ≡ true
 unfolding step finish controlSound
 sound-after q p r h =
     by-test (λ (a : Acted). controlSound (a .tables .control) ≡ true) (eqb (stepRefusal q p (r .call)) 0)
@@ -85,13 +85,13 @@ busy-refusal : (q : Queue) (t : ℕ) → Ready q → t < 2 → atWork q t ≡ tr
 unfolding stepRefusal
 busy-refusal q t h low busy = rw (h .sound, h .enough, h .tasks, lt-ltb t 2 low, not-true (eqb (recordAt q t .place) 0) busy) refl
 
-refused-by : (a b : Bool) (q : Tables) (r : TaskRecord) (done : Acted) (n : ℕ) → (done .outcome ≡ Refused n → ⊥)
+refused-by : (a b : Bool) (q : Tables) (r : Record) (done : Acted) (n : ℕ) → (done .outcome ≡ Refused n → ⊥)
     → decide (cond a 34 (cond b 34 0)) q r done .outcome ≡ Refused n → n ≡ 34
 refused-by true b q r done n f e = let z : _≡_ {A = ℕ} 34 n = cc in sym z
 refused-by false true q r done n f e = let z : _≡_ {A = ℕ} 34 n = cc in sym z
 refused-by false false q r done n f e = absurd (f e)
 
-moved : (q : Tables) (r : TaskRecord) (m : Move) (n : ℕ) → finish q r m .outcome ≡ Refused n → ⊥
+moved : (q : Tables) (r : Record) (m : Move) (n : ℕ) → finish q r m .outcome ≡ Refused n → ⊥
 unfolding finish
 moved q r m n e = let z : _≡_ {A = ℕ} 0 1 = cc in omega arith
 

@@ -7,7 +7,7 @@ use lib.Dec.{eqb}
 use lib.ListN.{getD, set}
 use lib.Seq.{set-getD, set-set}
 use Rattle.model.specs.declared.Control.{Control}
-use Rattle.model.specs.declared.Record.{Record}
+use Rattle.model.specs.declared.Call.{Call}
 use Rattle.model.specs.Tables.{Tables, isPooled, tablesOf}
 use Rattle.model.specs.Places.{Touch, nothing, setAnchor, setLink, clearMark, takeSlot, setNext, setHead, Move, row, wordFound, apply}
 use Rattle.model.specs.Places.{at1, at2, at3, at4, at5, at6, at7, at9, at10, at11, at12, at13, at14, at15, at16, at17, move}
@@ -25,7 +25,7 @@ data At (x : ℕ) : Touch → Type 0 where
   given : (v : ℕ) → At x (setNext x v)
   head : (w : ℕ) → At x (setHead w)
 
-module _ (c : Control) (r : Record) (w : ℕ) where
+module _ (c : Control) (r : Call) (w : ℕ) where
   abbrev P : Move → Type 0
   P m = At (row r) (m .touch)
 

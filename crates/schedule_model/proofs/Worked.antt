@@ -5,7 +5,7 @@ use mathlib.Core.List.{List, [], _∷_}
 use Prim.Native.Nat.{ℕ}
 use lib.{Dec.eqb, ListN.replicate}
 use Rattle.word.specs.Anchor.{packAnchor}
-use Rattle.model.specs.declared.TaskRecord.{TaskRecord}
+use Rattle.model.specs.declared.Record.{Record}
 use Rattle.model.specs.Tables.{Queue, queueOf, unused, withCall, started, openedControl, withWords}
 use Rattle.model.specs.Sound.{anchorSound, linkSound, controlSound, recordSound, rowsFit}
 use Rattle.model.specs.Places.{sideOf, row, linkSide, reading, at1, at2, move}
@@ -18,7 +18,7 @@ use Rattle.schedule_model.specs.Schedules.{schedules}
 use Rattle.schedule_model.specs.Next.{Handed, noMore, given, handing, nextSchedule, scheduleRefusal, storing}
 
 -- A queue of 7 slots: so many waiting, in slots 1 to last where the Left links lead that way.
-abbrev lane : ℕ → ℕ → List ℕ → ℕ → List TaskRecord → Queue
+abbrev lane : ℕ → ℕ → List ℕ → ℕ → List Record → Queue
 lane tasks last lefts marks records =
     let anchor = packAnchor (record { tag = 1; status = 0; left = cond (eqb last 0) 0 1; right = last }) in
     queueOf (withWords (openedControl false tasks 7 0) anchor 0)
@@ -33,11 +33,11 @@ links = 0 ∷ 0 ∷ 1 ∷ 2 ∷ 3 ∷ 4 ∷ 5 ∷ 6 ∷ []
 abbrev astray : List ℕ
 astray = replicate 8 0
 
-abbrev pop : TaskRecord
+abbrev pop : Record
 pop = withCall unused (started 1 0 0 0)
 
 -- A record of no kind.
-abbrev damaged : TaskRecord
+abbrev damaged : Record
 damaged = withCall unused (started 2 0 0 0)
 
 abbrev why : Queue → List ℕ → ℕ

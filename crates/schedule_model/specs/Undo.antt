@@ -2,7 +2,7 @@
 use mathlib.Core.Path.{_≡_}
 use Prim.Native.Nat.{ℕ, _/_}
 use lib.ListN.{getD, set}
-use Rattle.model.specs.declared.Record.{Record}
+use Rattle.model.specs.declared.Call.{Call}
 use Rattle.model.specs.Tables.{Tables, tablesOf, withWords}
 use Rattle.model.specs.Places.{row, wordFound, move, apply}
 use Rattle.schedule_model.specs.declared.Saved.{Saved}
@@ -31,5 +31,5 @@ putBack s q = tablesOf (withWords (q .control) (s .anchor) (s .head))
 -- A call's next step, refused or made, and what it can write put back.
 abbrev pub Undoes : Type 0
 Undoes =
-    (q : Tables) (r : Record)
+    (q : Tables) (r : Call)
     → (putBack (saved (row r) q) q ≡ q) × (putBack (saved (row r) q) (apply (move (q .control) r (wordFound q r) .touch) q) ≡ q)

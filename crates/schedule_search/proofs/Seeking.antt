@@ -27,7 +27,8 @@ ends-as : (f : Found) (left e : ℕ) (free : Bool) (ws : List ℕ) (q : Queue) (
 unfolding sought
 ends-as f left e free ws q m k h = (λ i. handed (h i) (sym (stops free (49 - left) e ws) i) q) ∙ ap (λ (x : Next). sought left ws x q) (sym k)
 
-pub none-here : (f : Found) (left : ℕ) (ws : List ℕ) (q : Queue) → f ≡ record { found = false; length = 0; ending = 0 } → handed f ws q ≡ sought left ws noMore q
+pub none-here : (f : Found) (left : ℕ) (ws : List ℕ) (q : Queue) → f ≡ record { found = false; length = 0; ending = 0 } → handed f ws q
+    ≡ sought left ws noMore q
 unfolding sought
 none-here f left ws q h = λ i. handed (h i) ws q
 
@@ -141,7 +142,8 @@ module _ (ws : List ℕ) (len : ℕ) (free : Bool) (q : Queue) (left : ℕ) wher
   past (suc zero) h = absurd (omega (arith, h))
   past (suc (suc t)) h = refl
 
-module _ (ws : List ℕ) (len : ℕ) (free : Bool) (q : Queue) (left t : ℕ) (m : Next) (ws₁ : List ℕ) (q₁ : Queue) (so-far : Turn ws ws₁ len free q q₁ left t m) where
+module _ (ws : List ℕ) (len : ℕ) (free : Bool) (q : Queue) (left t : ℕ) (m : Next) (ws₁ : List ℕ) (q₁ : Queue)
+    (so-far : Turn ws ws₁ len free q q₁ left t m) where
   -- The turn of task t, told of what the turns before left.
   at-first : (f : Found) (ws′ : List ℕ) (q′ : Queue) → handed f ws′ q′ ≡ sought left ws₁ (branch ws₁ len left free q₁ t) q₁
       → handed f ws′ q′ ≡ sought left ws (branch ws len left free q t) q

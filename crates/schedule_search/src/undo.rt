@@ -1,6 +1,6 @@
 //! A step, and back: what it can write is kept and put back.
+use model::Call;
 use model::Control;
-use model::Record;
 use rows::moving;
 use schedule_model::Saved;
 ghost use mathlib.Core.Path.{_≡_};
@@ -22,7 +22,7 @@ pub struct Kept {
 /// Anchor, the head, and the words of the row that the next step of the record can write.
 fn keep(
     control: &[u64; rows::CONTROL_WORDS],
-    r: Record,
+    r: Call,
     lefts: &[u64],
     rights: &[u64],
     labels: &[u32],

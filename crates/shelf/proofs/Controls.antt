@@ -4,7 +4,7 @@ use mathlib.Core.Path.{_≡_, _∙_, ap, refl, sym}
 use Prim.Native.Nat.{ℕ, zero, suc}
 use lib.ListN.{getD, length, set}
 use Rattle.model.specs.declared.Control.{Control}
-use Rattle.model.specs.declared.TaskRecord.{TaskRecord}
+use Rattle.model.specs.declared.Record.{Record}
 use Rattle.rows.specs.Rows.{controlOf, recordOf, recordsOf, upperOf, uppersOf}
 use Rattle.shelf_model.specs.Shelves.{unfilled}
 use Rattle.shelf.specs.Pasting.{putBack, putOn}
@@ -31,7 +31,7 @@ control-put (us ∷ rows) (suc i) ws = ap (λ (l : List Control). controlOf us �
 records-map : (rows : List (List ℕ)) → recordsOf rows ≡ map recordOf rows
 unfolding recordsOf
 records-map [] = refl
-records-map (ws ∷ rows) = ap (λ (l : List TaskRecord). recordOf ws ∷ l) (records-map rows)
+records-map (ws ∷ rows) = ap (λ (l : List Record). recordOf ws ∷ l) (records-map rows)
 
 uppers-map : (rows : List (List ℕ)) → uppersOf rows ≡ map upperOf rows
 unfolding uppersOf

@@ -7,7 +7,7 @@ use native.Mathlib.Omega.{arith}
 use lib.Dec.{eqb, ltb}
 use lib.ListN.{getD, length, set, take}
 use borrow.Author.Tests.{eqb-false, eqb-true, not-false}
-use Rattle.model.specs.declared.{Record.Record, TaskRecord.TaskRecord}
+use Rattle.model.specs.declared.{Call.Call, Record.Record}
 use Rattle.model.specs.Tables.{Tables, bit, isPooled, marked, putBit, withMark, withHead, tablesOf}
 use Rattle.model.specs.Sound.{recordSound, rowsFit}
 use Rattle.model.specs.Places.{Touch, nothing, setAnchor, setLink, clearMark, takeSlot, setNext, setHead, Move, apply, wordFound, linkSide, move, row}
@@ -96,7 +96,7 @@ apply-cut (setHead w) q h = refl
 column-cut : (n : ℕ) (l : List ℕ) (x : ℕ) → x ≤ n → getD (take (suc n) l) x 0 ≡ getD l x 0
 column-cut n l x h = get-take (suc n) l x 0 (omega arith)
 
-met-cut : (q : Tables) (r : Record) → RecordFine (isPooled (q .control)) (q .control .slots) r → wordFound (cutTables q) r ≡ wordFound q r
+met-cut : (q : Tables) (r : Call) → RecordFine (isPooled (q .control)) (q .control .slots) r → wordFound (cutTables q) r ≡ wordFound q r
 met-cut q r h = λ i.
     cond (eqb (r .place) 3) (side (eqb (linkSide r) 1) i)
     (cond (eqb (r .place) 5) (side (eqb (linkSide r) 1) i)
@@ -129,7 +129,7 @@ last-three false idles x y h = refl
 last-three true true x y h = refl
 last-three true false x y h = ap (λ (b : Bool). first (rule 34 (not b) ∷ [])) (h refl refl)
 
-step-refusal-cut : (q : Tables) (p : Lent) (r : Record) → stepRefusal (cutTables q) p r ≡ stepRefusal q p r
+step-refusal-cut : (q : Tables) (p : Lent) (r : Call) → stepRefusal (cutTables q) p r ≡ stepRefusal q p r
 unfolding stepRefusal
 step-refusal-cut q p r =
     let pooled = isPooled (q .control) in
@@ -152,9 +152,9 @@ within pooled n (setHead w) h = tt
 abbrev pub cutActed : Acted → Acted
 cutActed a = record { tables = cutTables (a .tables); task = a .task; outcome = a .outcome }
 
-module _ (q : Tables) (r : TaskRecord) (h : RecordFine (isPooled (q .control)) (q .control .slots) (r .call))
+module _ (q : Tables) (r : Record) (h : RecordFine (isPooled (q .control)) (q .control .slots) (r .call))
     (low : q .control .slots ≤ 1023) where
-  abbrev c : Record
+  abbrev c : Call
   c = r .call
 
   abbrev m : Move
@@ -177,7 +177,7 @@ module _ (q : Tables) (r : TaskRecord) (h : RecordFine (isPooled (q .control)) (
             (record { slot = row c; label = cond (eqb (c .place) 17) (c .label) (label-cut i) }));
       })
 
-pub decide-cut : (why : ℕ) (q : Tables) (r : TaskRecord) (done done′ : Acted)
+pub decide-cut : (why : ℕ) (q : Tables) (r : Record) (done done′ : Acted)
     → (why ≡ 0 → done′ ≡ cutActed done) → decide why (cutTables q) r done′ ≡ cutActed (decide why q r done)
 decide-cut why q r done done′ h = go (eqb why 0) refl
   where
@@ -186,7 +186,7 @@ decide-cut why q r done done′ h = go (eqb why 0) refl
     go true e = h (eqb-true why 0 e)
     go false e = refl
 
-pub step-cut : (q : Tables) (p : Lent) (r : TaskRecord) → step (cutTables q) p r ≡ cutActed (step q p r)
+pub step-cut : (q : Tables) (p : Lent) (r : Record) → step (cutTables q) p r ≡ cutActed (step q p r)
 unfolding step stepRefusal
 step-cut q p r =
     ap (λ (why : ℕ). decide why (cutTables q) r

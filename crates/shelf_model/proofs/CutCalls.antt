@@ -10,10 +10,10 @@ use lib.Seq.{set-getD}
 use borrow.Author.Tests.{ltb-true, not-false}
 use Rattle.word.specs.{Anchor.anchorOf, Link.linkOf}
 use Rattle.model.specs.declared.Answer.the-variants.{Running}
-use Rattle.model.specs.declared.{Op.Op, Record.Record, TaskRecord.TaskRecord, Asked.Asked, Control.Control}
-use Rattle.model.specs.declared.Op.the-variants.{Push, Pop, Put, Step}
+use Rattle.model.specs.declared.{Op.Op, Call.Call, Record.Record, Asked.Asked, Control.Control}
+use Rattle.model.specs.declared.Op.the-variants.{Push, Pop, PushPooled, Step}
 use Rattle.model.specs.declared.Outcome.the-variants.{Moved, Refused}
-use Rattle.model.specs.Tables.{Queue, Tables, asking, isPooled, started, taskAt, unused, withCall, taken}
+use Rattle.model.specs.Tables.{Queue, Tables, asking, isPooled, started, taskAt, unused, withCall, withTaken}
 use Rattle.model.specs.Sound.{controlSound, from1, linkSound}
 use Rattle.model.specs.Refusals.{Lent, admissionRules, among, first, fits, namedPush, nothingAsked, pooledPush, popRefusal, pushRefusal, putRefusal}
 use Rattle.model.specs.Refusals.{rule, startRules, startRefusal, stepRefusal}
@@ -29,11 +29,11 @@ use Rattle.shelf_model.proofs.Lists.{enough-take, get-take, set-take}
 use Rattle.shelf_model.proofs.Cut.{columns, cutActed, decide-cut, fits-cut, mark-cut, marked-cut, step-cut}
 
 -- A start looks at the lengths, which the cut keeps; a push also at its slot's mark, which lies within them once 15 has passed.
-start-refusal-cut : (q : Tables) (p : Lent) (r : Record) (side : ℕ) (a : Asked)
+start-refusal-cut : (q : Tables) (p : Lent) (r : Call) (side : ℕ) (a : Asked)
     → startRefusal (q .control) (fits (cutTables q)) p r side a ≡ startRefusal (q .control) (fits q) p r side a
 start-refusal-cut q p r side a = ap (λ (b : Bool). startRefusal (q .control) b p r side a) (fits-cut q)
 
-same-mark : (c : Control) (fit : Bool) (p : Lent) (r : Record) (side : ℕ) (wrong outside x y : Bool) → (outside ≡ false → x ≡ y)
+same-mark : (c : Control) (fit : Bool) (p : Lent) (r : Call) (side : ℕ) (wrong outside x y : Bool) → (outside ≡ false → x ≡ y)
     → startRefusal c fit p r side (record { wrong = wrong; outside = outside; taken = x })
     ≡ startRefusal c fit p r side (record { wrong = wrong; outside = outside; taken = y })
 unfolding startRefusal
@@ -41,7 +41,7 @@ same-mark c fit p r side wrong true x y h = refl
 same-mark c fit p r side wrong false x y h =
     ap (λ (b : Bool). startRefusal c fit p r side (record { wrong = wrong; outside = false; taken = b })) (h refl)
 
-push-refusal-cut : (q : Tables) (p : Lent) (r : Record) (side slot : ℕ)
+push-refusal-cut : (q : Tables) (p : Lent) (r : Call) (side slot : ℕ)
     → pushRefusal (cutTables q) p r side slot ≡ pushRefusal q p r side slot
 push-refusal-cut q p r side slot =
     let inside = from1 (q .control .slots) slot in
@@ -49,28 +49,28 @@ push-refusal-cut q p r side slot =
     ∙ same-mark (q .control) (fits q) p r side (isPooled (q .control)) (not inside) _ _
     (λ e. marked-cut (q .control .slots) (q .marks) slot (from1-true (q .control .slots) slot (not-false inside e) .1))
 
-taken-cut : (q : Tables) (x l : ℕ) → x ≤ q .control .slots → taken (cutTables q) x l ≡ cutTables (taken q x l)
+taken-cut : (q : Tables) (x l : ℕ) → x ≤ q .control .slots → withTaken (cutTables q) x l ≡ cutTables (withTaken q x l)
 taken-cut q x l h = λ i. columns q (cutTables q .lefts) (cutTables q .rights)
     (set-take (suc (q .control .slots)) (q .labels) x l i) (mark-cut (q .control .slots) (q .marks) x 1 h i) (cutTables q .next)
 
-push-within : (q : Tables) (p : Lent) (r : Record) (side slot : ℕ) → pushRefusal q p r side slot ≡ 0 → slot ≤ q .control .slots
+push-within : (q : Tables) (p : Lent) (r : Call) (side slot : ℕ) → pushRefusal q p r side slot ≡ 0 → slot ≤ q .control .slots
 unfolding startRefusal
 push-within q p r side slot e =
     let z = cleared (startRules (q .control) (fits q) p r side (namedPush q slot)) refl e in
     from1-true (q .control .slots) slot (not-false _ (z .1 .1 .1 .1 .1 .0)) .1
 
-act-on-cut : (q : Tables) (p : Lent) (r : TaskRecord) (o : Op) → actOn (cutTables q) p r o ≡ cutActed (actOn q p r o)
+act-on-cut : (q : Tables) (p : Lent) (r : Record) (o : Op) → actOn (cutTables q) p r o ≡ cutActed (actOn q p r o)
 unfolding actOn pushStart putStart popStart
 act-on-cut q p r (Push side slot label) =
     let begun : (Tables → Acted) = λ t. record { tables = t; task = withCall r (started 0 side slot label); outcome = Moved (Running 1) } in
-    ap (λ (why : ℕ). decide why (cutTables q) r (begun (taken (cutTables q) slot label))) (push-refusal-cut q p (r .call) side slot)
-    ∙ decide-cut (pushRefusal q p (r .call) side slot) q r (begun (taken q slot label)) (begun (taken (cutTables q) slot label))
+    ap (λ (why : ℕ). decide why (cutTables q) r (begun (withTaken (cutTables q) slot label))) (push-refusal-cut q p (r .call) side slot)
+    ∙ decide-cut (pushRefusal q p (r .call) side slot) q r (begun (withTaken q slot label)) (begun (withTaken (cutTables q) slot label))
     (λ e. ap begun (taken-cut q slot label (push-within q p (r .call) side slot e)))
 act-on-cut q p r (Pop side) =
     let begun : (Tables → Acted) = λ t. record { tables = t; task = withCall r (started 1 side 0 0); outcome = Moved (Running 1) } in
     ap (λ (why : ℕ). decide why (cutTables q) r (begun (cutTables q))) (start-refusal-cut q p (r .call) side nothingAsked)
     ∙ decide-cut (popRefusal q p (r .call) side) q r (begun q) (begun (cutTables q)) (λ e. refl)
-act-on-cut q p r (Put side label) =
+act-on-cut q p r (PushPooled side label) =
     let begun : (Tables → Acted) = λ t. record { tables = t; task = withCall r (asking side label); outcome = Moved (Running 12) } in
     ap (λ (why : ℕ). decide why (cutTables q) r (begun (cutTables q))) (start-refusal-cut q p (r .call) side (pooledPush q))
     ∙ decide-cut (putRefusal q p (r .call) side) q r (begun q) (begun (cutTables q)) (λ e. refl)
@@ -85,12 +85,12 @@ not-zero true b = refl
 not-zero false true = refl
 not-zero false false = refl
 
-unknown : (q : Tables) (p : Lent) (r : TaskRecord) (o : Op) → p .known ≡ false
+unknown : (q : Tables) (p : Lent) (r : Record) (o : Op) → p .known ≡ false
     → actOn q p r o ≡ record { tables = q; task = r; outcome = Refused (unknownBy q p) }
 unfolding actOn pushStart putStart popStart step startRefusal stepRefusal
 unknown q p r (Push side slot label) e = rw (e, not-zero (not (controlSound (q .control))) (not (fits q && p .enough)))
 unknown q p r (Pop side) e = rw (e, not-zero (not (controlSound (q .control))) (not (fits q && p .enough)))
-unknown q p r (Put side label) e = rw (e, not-zero (not (controlSound (q .control))) (not (fits q && p .enough)))
+unknown q p r (PushPooled side label) e = rw (e, not-zero (not (controlSound (q .control))) (not (fits q && p .enough)))
 unknown q p r Step e = rw (e, not-zero (not (controlSound (q .control))) (not (fits q && p .enough)))
 
 among-cut : (q : Queue) (t : ℕ) → among (cut q) t ≡ among q t
@@ -136,7 +136,7 @@ act-cut q t o = split (ltb t (q .tables .control .tasks)) known absent
 
     known : ltb t (q .tables .control .tasks) ≡ true → act (cut q) t o ≡ cutDone (act q t o)
     known e =
-        ap₂ (λ (p : Lent) (r : TaskRecord). back (cut q) t (actOn (cutTables (q .tables)) p r o))
+        ap₂ (λ (p : Lent) (r : Record). back (cut q) t (actOn (cutTables (q .tables)) p r o))
         (among-cut q t) (get-take (q .tables .control .tasks) (q .records) t unused (ltb-true _ _ e))
         ∙ ap (back (cut q) t) (act-on-cut (q .tables) (among q t) (taskAt q t) o)
         ∙ back-cut q t (actOn (q .tables) (among q t) (taskAt q t) o) same

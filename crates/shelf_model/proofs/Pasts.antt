@@ -5,12 +5,12 @@ use mathlib.Core.Path.{_≡_, _∙_, ap, ap₂, refl, subst, sym}
 use Prim.Native.Nat.{ℕ, zero, suc, _+_, _<_, _≤_}
 use native.Mathlib.Omega.{arith}
 use lib.{Dec.eqb, ListN.length}
-use Rattle.model.specs.declared.{Control.Control, Entry.Entry, TaskRecord.TaskRecord}
+use Rattle.model.specs.declared.{Control.Control, Entry.Entry, Record.Record}
 use Rattle.model.specs.declared.Outcome.the-variants.{Refused}
 use Rattle.model.specs.Tables.{Queue, isPooled, taskAt}
 use Rattle.model.specs.{Sound.controlSound, Calls.act, Retries.retriesBelow, Standing.Standing}
 use Rattle.model.specs.Walk.{Walk, contents, entries, met}
-use Rattle.model.specs.History.{AfterOpeningAs, Call, Ending, Event, Lawful, Linearized, NeverUnsound, Request}
+use Rattle.model.specs.History.{AfterOpeningAs, LedgerCall, Ending, Event, Lawful, Linearized, NeverUnsound, Request}
 use Rattle.model.specs.History.{answered, final, isOpen, ledger, pending, run}
 use Rattle.model.proofs.laws.Sizes.{act-pooled, act-tasks, fits}
 use Rattle.model.proofs.{Linearizable.linearizable, Never34.never-34, Standing.standing}
@@ -27,7 +27,7 @@ below-cut : (q : Queue) (n : ℕ) → n ≤ q .tables .control .tasks → retrie
 unfolding retriesBelow
 below-cut q zero h = refl
 below-cut q (suc n) h =
-    ap₂ (λ (r : TaskRecord) (k : ℕ). r .retries + k) (task-cut q n (omega arith)) (below-cut q n (omega arith))
+    ap₂ (λ (r : Record) (k : ℕ). r .retries + k) (task-cut q n (omega arith)) (below-cut q n (omega arith))
 
 long-cut : (q : Queue) → fits (cut q) ≡ fits q
 long-cut q = ap₂ _&&_ (fits-cut (q .tables)) (enough-take (q .tables .control .tasks) (q .records))
@@ -87,9 +87,9 @@ module _ (p : Past) (q : Queue) (h : Explained p q) where
         walk = same-walk ∙ s .walk ∙ ap (λ (es : List Event). entries (ledger es .deque)) (sym (t .events));
       }
 
-  pub all-served : All (λ (c : Call). Lawful c (c .ending)) (ledger (p .events) .calls)
+  pub all-served : All (λ (c : LedgerCall). Lawful c (c .ending)) (ledger (p .events) .calls)
   all-served =
-      subst (λ (es : List Event). All (λ (c : Call). Lawful c (c .ending)) (ledger es .calls)) (sym (t .events))
+      subst (λ (es : List Event). All (λ (c : LedgerCall). Lawful c (c .ending)) (ledger es .calls)) (sym (t .events))
       (past-has Linearized (linearizable (t .pooled)) .calls)
 
   pub operations-sound : All (λ (e : Event). e .outcome ≡ Refused 34 → ⊥) (p .events)
@@ -106,13 +106,13 @@ module _ (p : Past) (q : Queue) (h : Explained p q) where
       (subst (λ (o : Queue). All (λ (e : Event). e .outcome ≡ Refused 34 → ⊥) (run o (p .since ++ os))) (sym (t .opened)) sound))
 
   -- An open call stands in the queue where it stands after the past.
-  stands-alike : (c : Call) (e : Ending) → (isOpen e ≡ true → c .task < now .tables .control .tasks) → Stands now c e → Stands q c e
-  stands-alike c pending k s = λ kind. s kind ∙ ap (λ (r : TaskRecord). cond (hasTaken (r .call)) 1 0)
+  stands-alike : (c : LedgerCall) (e : Ending) → (isOpen e ≡ true → c .task < now .tables .control .tasks) → Stands now c e → Stands q c e
+  stands-alike c pending k s = λ kind. s kind ∙ ap (λ (r : Record). cond (hasTaken (r .call)) 1 0)
       (sym (same-task (c .task) (subst (λ n. c .task < n) (sym same-tasks) (k refl))))
   stands-alike c (answered n a) k s = tt
 
-  all-alike : (cs : List Call) → All (λ (c : Call). isOpen (c .ending) ≡ true → c .task < now .tables .control .tasks) cs
-      → All (λ (c : Call). Stands now c (c .ending)) cs → All (λ (c : Call). Stands q c (c .ending)) cs
+  all-alike : (cs : List LedgerCall) → All (λ (c : LedgerCall). isOpen (c .ending) ≡ true → c .task < now .tables .control .tasks) cs
+      → All (λ (c : LedgerCall). Stands now c (c .ending)) cs → All (λ (c : LedgerCall). Stands q c (c .ending)) cs
   all-alike [] k s = tt
   all-alike (c ∷ cs) k s = (stands-alike c (c .ending) (k .0) (s .0), all-alike cs (k .1) (s .1))
 

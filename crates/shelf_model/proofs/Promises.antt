@@ -7,14 +7,14 @@ use Prim.Native.Nat.{ℕ, _<_, _≤_}
 use native.Mathlib.Omega.{arith}
 use lib.Dec.{eqb, leb}
 use borrow.Author.Tests.{eqb-false, leb-true, not-false}
-use Rattle.model.specs.declared.{Entry.Entry, TaskRecord.TaskRecord}
+use Rattle.model.specs.declared.{Entry.Entry, Record.Record}
 use Rattle.model.specs.declared.Reported.the-variants as reported
 use Rattle.model.specs.Tables.{Queue, isPooled}
 use Rattle.model.specs.{Sound.controlSound, Solo.soloRun, Retries.SumIsOld, Standing.Standing}
 use Rattle.model.specs.Refusals.{first, recordsFit, reportRefusal, rule}
 use Rattle.model.specs.Report.{busy, report, tell, told, waiting}
 use Rattle.model.specs.History.{Event, final}
-use Rattle.model.specs.Progress.{AnsweredWithin, Busy, SoloWithin, StretchTells, any, limit, steps, stretchLimit, tells}
+use Rattle.model.specs.Progress.{AnsweredWithin, Busy, SoloWithin, StretchTells, any, limit, steps, stretchLimit, tookEffectOrAnswered}
 use Rattle.model.proofs.tests.Rules.{_and_, never}
 use Rattle.model.proofs.tests.Truth.{not-both}
 use Rattle.model.proofs.Retries.{retries-sum}
@@ -60,16 +60,16 @@ module _ (w : World) (h : Holds w) (i : ℕ) (made : w .pasts i .made ≡ true) 
     solo = λ t n b more.
         let same = same-task p q told-by t (b .known) in
         let known = subst (λ k. t < k) (same-tasks p q told-by) (b .known) in
-        let busy : Busy then t = record { known = known; place = subst (λ (r : TaskRecord). r .call .place ≢ 0) same (b .place) } in
-        let less = subst₂ (λ way (r : TaskRecord). limit way (r .call .kind) ≤ n) pooled same more in
+        let busy : Busy then t = record { known = known; place = subst (λ (r : Record). r .call .place ≢ 0) same (b .place) } in
+        let less = subst₂ (λ way (r : Record). limit way (r .call .kind) ≤ n) pooled same more in
         let z = past-has p q told-by SoloWithin (solo-bound (told-by .begun .pooled)) t n busy less in
         solo-alike n _ q then t (b .known) known (told-by .leaves)
-        (subst₂ (λ way (r : TaskRecord). AnsweredWithin (limit way (r .call .kind)) (soloRun n then t)) (sym pooled) (sym same) z);
+        (subst₂ (λ way (r : Record). AnsweredWithin (limit way (r .call .kind)) (soloRun n then t)) (sym pooled) (sym same) z);
     stretch = λ l u enough.
         let same = events-are i l w u ∙ same-run p q told-by (asked i l) in
         let tasks = same-tasks p q told-by ∙ final-tasks (p .since) (p .opened) in
         let long = subst₂ (λ way n. stretchLimit way n ≤ steps (eventsOf i w l)) pooled tasks enough in
-        subst (λ (es : List Event). any tells es ≡ true) (sym same)
+        subst (λ (es : List Event). any tookEffectOrAnswered es ≡ true) (sym same)
         (past-has p q told-by StretchTells (stretch-bound (told-by .begun .pooled)) (asked i l)
         (subst (λ (es : List Event). stretchLimit (isPooled (p .opened .tables .control)) (p .opened .tables .control .tasks) ≤ steps es) same long));
   }

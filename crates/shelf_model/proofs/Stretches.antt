@@ -8,7 +8,7 @@ use borrow.Author.Tests.{eq-eqb, eqb-true, not-true}
 use Rattle.model.specs.declared.Answer.the-variants.{Running}
 use Rattle.model.specs.declared.Op.the-variants.{Step}
 use Rattle.model.specs.declared.Outcome.the-variants.{Moved}
-use Rattle.model.specs.declared.TaskRecord.{TaskRecord}
+use Rattle.model.specs.declared.Record.{Record}
 use Rattle.model.specs.Tables.{Queue, taskAt, unused}
 use Rattle.model.specs.{Refusals.openRefusal, Progress.AnsweredWithin}
 use Rattle.model.specs.Calls.{Done, act, openAs}
@@ -37,7 +37,7 @@ either false d e = refl
 
 rests-cut : (q : Queue) (t : ℕ) → t < q .tables .control .tasks → resting (cut q) t ≡ cutSolo (resting q t)
 rests-cut q t h =
-    ap (λ (r : TaskRecord). record { queue = cut q; outcome = Moved (Running (r .call .place)); steps = 0 }) (task-cut q t h)
+    ap (λ (r : Record). record { queue = cut q; outcome = Moved (Running (r .call .place)); steps = 0 }) (task-cut q t h)
 
 -- What a step d comes to, where `more` comes after it and `none` in place of it.
 abbrev onceMore : SoloDone → SoloDone → Done → SoloDone

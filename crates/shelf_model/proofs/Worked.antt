@@ -4,7 +4,7 @@ use mathlib.Core.Bool.{false}
 use mathlib.Core.List.{List, [], _∷_}
 use Prim.Native.Nat.{ℕ, zero, suc}
 use lib.ListN.{getD, replicate}
-use Rattle.model.specs.declared.{Control.Control, TaskRecord.TaskRecord}
+use Rattle.model.specs.declared.{Control.Control, Record.Record}
 use Rattle.model.specs.Tables.{Queue, openedControl, withWords}
 use Rattle.model.proofs.laws.Order.{numbers}
 use Rattle.shelf_model.specs.Shelves.{Shelves, unfilled, saveRules, returnRules, returnRefusal}
@@ -20,7 +20,7 @@ order-of-returning q s n = refl
 abbrev zero-control : Control
 zero-control = withWords (openedControl false 0 0 0) 0 0
 
-abbrev lent : ℕ → List TaskRecord → List ℕ → List ℕ → List ℕ → List ℕ → List ℕ → Shelves
+abbrev lent : ℕ → List Record → List ℕ → List ℕ → List ℕ → List ℕ → List ℕ → Shelves
 lent k rs ls ts bs ms ns =
     record { controls = replicate k zero-control; records = rs; lefts = ls; rights = ts; labels = bs; marks = ms; next = ns }
 
@@ -30,11 +30,11 @@ tasks-zero zero n = refl
 tasks-zero (suc k) zero = refl
 tasks-zero (suc k) (suc n) = tasks-zero k n
 
-pub zeros-unfilled : (k : ℕ) (rs : List TaskRecord) (ls ts bs ms ns : List ℕ) → Unfilled (lent k rs ls ts bs ms ns)
+pub zeros-unfilled : (k : ℕ) (rs : List Record) (ls ts bs ms ns : List ℕ) → Unfilled (lent k rs ls ts bs ms ns)
 zeros-unfilled k rs ls ts bs ms ns n = tasks-zero k n
 
 -- A return to one of them is 44, and so is one to a shelf whose control is not lent.
-pub never-filled : (q : Queue) (rs : List TaskRecord) (ls ts bs ms ns : List ℕ)
+pub never-filled : (q : Queue) (rs : List Record) (ls ts bs ms ns : List ℕ)
     → (returnRefusal q (lent 8 rs ls ts bs ms ns) 7 ≡ 44) × (returnRefusal q (lent 7 rs ls ts bs ms ns) 7 ≡ 44)
 unfolding returnRefusal
 never-filled q rs ls ts bs ms ns = (refl, refl)

@@ -8,8 +8,8 @@ use Rattle.model.specs.declared.Reported.the-variants as reported
 use Rattle.model.specs.Tables.{Queue, isPooled, recordAt}
 use Rattle.model.specs.Walk.{contents, entries}
 use Rattle.model.specs.{Standing.Standing, Report.report, Solo.soloRun, Lists.All}
-use Rattle.model.specs.History.{Call, Event, Lawful, Request, ledger, run}
-use Rattle.model.specs.Progress.{AnsweredWithin, Busy, any, limit, steps, stretchLimit, tells}
+use Rattle.model.specs.History.{LedgerCall, Event, Lawful, Request, ledger, run}
+use Rattle.model.specs.Progress.{AnsweredWithin, Busy, any, limit, steps, stretchLimit, tookEffectOrAnswered}
 use Rattle.model.specs.Retries.{oldCount, retriesBelow}
 use Rattle.stock_model.specs.Accounts.{AccountedIn, AddedUp}
 use Rattle.shelf_model.specs.Shelves.{returnRefusal, saveRefusal}
@@ -17,7 +17,7 @@ use Rattle.shelf_model.specs.Changeovers.{AfterTurns, Turn, World, event
 
 -- Demand 3: the sequential deque has served what was done up to the saving and what follows the return.
 pub record Served (w : World) (i : ℕ) : Type 0 where
-  pub calls : All (λ (c : Call). Lawful c (c .ending)) (ledger (w .pasts i .events) .calls)
+  pub calls : All (λ (c : LedgerCall). Lawful c (c .ending)) (ledger (w .pasts i .events) .calls)
   pub waits : contents (w .queues i .tables) ≡ entries (ledger (w .pasts i .events) .deque)
 
 -- 34 never occurs: not at a start or step, not at those that may follow, not at a call that walks, not at a report, which tells the length of
@@ -36,7 +36,7 @@ pub record Progresses (w : World) (i : ℕ) : Type 0 where
   pub solo : let q = w .queues i in (t n : ℕ) → Busy q t → let most = limit (isPooled (q .tables .control)) (recordAt q t .kind) in
       most ≤ n → AnsweredWithin most (soloRun n q t)
   pub stretch : let c = w .queues i .tables .control in (l : List Turn) → unbroken i w l ≡ true
-      → stretchLimit (isPooled c) (c .tasks) ≤ steps (eventsOf i w l) → any tells (eventsOf i w l) ≡ true
+      → stretchLimit (isPooled c) (c .tasks) ≤ steps (eventsOf i w l) → any tookEffectOrAnswered (eventsOf i w l) ≡ true
 
 pub record Promised (w : World) (i : ℕ) : Type 0 where
   pub served : Served w i

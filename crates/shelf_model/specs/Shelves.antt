@@ -4,7 +4,7 @@ use mathlib.Core.List.{List, [], _∷_, _++_}
 use Prim.Native.Nat.{ℕ, suc, _+_, _*_, _/_}
 use lib.Dec.{eqb, leb}
 use lib.ListN.{getD, length, set, take, drop}
-use Rattle.model.specs.declared.{Control.Control, TaskRecord.TaskRecord}
+use Rattle.model.specs.declared.{Control.Control, Record.Record}
 use Rattle.model.specs.Tables.{Queue, isPooled, tablesOf, queueOf, unopened}
 use Rattle.model.specs.Sound.{controlSound, rowsFit}
 use Rattle.model.specs.Refusals.{Rule, first, recordsFit, rule}
@@ -12,7 +12,7 @@ use Rattle.model.specs.Refusals.{Rule, first, recordsFit, rule}
 -- Eight shelves, lent as flat tables; of controls there is one a shelf.
 pub record Shelves : Type 0 where
   pub controls : List Control
-  pub records : List TaskRecord
+  pub records : List Record
   pub lefts : List ℕ
   pub rights : List ℕ
   pub labels : List ℕ

@@ -7,7 +7,7 @@ use lib.Dec.{leb, eqb}
 use borrow.Author.Tests.{eq-eqb, ne-eqb, eqb-true, eqb-false, le-leb, lt-leb}
 use Rattle.word.specs.declared.Anchor.{Anchor}
 use Rattle.word.specs.Anchor.{anchorOf}
-use Rattle.model.specs.declared.Record.{Record}
+use Rattle.model.specs.declared.Call.{Call}
 use Rattle.model.specs.Sound.{from1, linkSound, anchorSound, recordSound}
 use Rattle.sound.specs.Records.{readSound, earlyCall, earlySeen, earlySound}
 use Rattle.sound.proofs.Parts.{callSound, readsSound, busy-sound}
@@ -55,11 +55,11 @@ all-order true true false c r = simp and-false
 all-order true false l c r = simp and-false
 
 -- The tests of a pop.
-pub pops : (slots : ℕ) (r : Record) → (r .kind ≡ 0 → ⊥) → r .kind ≡ 1 → (eqb (r .own) 0 && eqb (r .finishing) 0) ≡ earlyCall slots r
+pub pops : (slots : ℕ) (r : Call) → (r .kind ≡ 0 → ⊥) → r .kind ≡ 1 → (eqb (r .own) 0 && eqb (r .finishing) 0) ≡ earlyCall slots r
 unfolding earlyCall
 pops slots r other pop = rw (ne-eqb _ _ other, eq-eqb _ _ pop)
 
-module _ (slots : ℕ) (r : Record) (high : r .place ≤ 10) where
+module _ (slots : ℕ) (r : Call) (high : r .place ≤ 10) where
   call-early : (pooled : Bool) → (leb (r .side) 1 && earlyCall slots r) ≡ callSound pooled slots r
   unfolding earlyCall
   call-early pooled = by-kind (eqb (r .kind) 0) refl

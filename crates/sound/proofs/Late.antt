@@ -7,7 +7,7 @@ use lib.Dec.{leb, eqb}
 use borrow.Author.Tests.{eq-eqb, ne-eqb, eqb-true, eqb-false, le-leb, lt-leb, leb-true, leb-false}
 use Rattle.word.specs.Anchor.{anchorOf}
 use Rattle.word.specs.Link.{linkOf}
-use Rattle.model.specs.declared.Record.{Record}
+use Rattle.model.specs.declared.Call.{Call}
 use Rattle.model.specs.Sound.{from1, linkSound, anchorSound, recordSound}
 use Rattle.model.specs.Kinds.{helping}
 use Rattle.sound.specs.Records.{readSound, lateCall, lateSound}
@@ -49,7 +49,7 @@ give-order true true true false l o = simp and-false
 give-order true true false k l o = refl
 
 -- The tests of a pop that gives its slot back, but the last.
-pub gives : (pooled : Bool) (slots : ℕ) (r : Record) → (r .place ≡ 11 → ⊥) → pooled ≡ true → 14 < r .place → r .kind ≡ 1 → r .place ≤ 17
+pub gives : (pooled : Bool) (slots : ℕ) (r : Call) → (r .place ≡ 11 → ⊥) → pooled ≡ true → 14 < r .place → r .kind ≡ 1 → r .place ≤ 17
     → from1 slots (r .own) ≡ lateCall pooled slots r
 unfolding lateCall
 gives pooled slots r other pool far pop high = rw (ne-eqb _ _ other, pool, lt-leb _ _ far, eq-eqb _ _ pop, le-leb _ _ high)
@@ -62,7 +62,7 @@ all-order true true true true false c = simp and-false
 all-order true true false true a c = simp and-false
 all-order true false l true a c = simp and-false
 
-module _ (pooled : Bool) (slots : ℕ) (r : Record) (low : 10 < r .place) where
+module _ (pooled : Bool) (slots : ℕ) (r : Call) (low : 10 < r .place) where
   abbrev named : Bool
   named = eqb (r .place) 12 || not (eqb (linkOf (r .link) .slot) 0)
 

@@ -3,26 +3,26 @@ use mathlib.Core.Path.{_≡_, sym}
 use mathlib.Core.Bool.{Bool, true, false, _&&_, _||_, and-assoc}
 use Prim.Native.Nat.{ℕ}
 use lib.Dec.{eqb}
-use Rattle.model.specs.declared.Record.{Record}
+use Rattle.model.specs.declared.Call.{Call}
 use Rattle.model.specs.Sound.{callTests, readTests, recordSound}
 use Rattle.model.specs.Lists.{every}
 
-unfoldable pub callSound : Bool → ℕ → Record → Bool
+unfoldable pub callSound : Bool → ℕ → Call → Bool
 callSound pooled slots r = every (callTests pooled slots r)
 
-unfoldable pub readsSound : ℕ → Record → Bool
+unfoldable pub readsSound : ℕ → Call → Bool
 readsSound slots r = every (readTests slots r)
 
 -- A record is sound if it is idle, or both parts are.
-pub parts : (pooled : Bool) (slots : ℕ) (r : Record)
+pub parts : (pooled : Bool) (slots : ℕ) (r : Call)
     → (eqb (r .place) 0 || (callSound pooled slots r && readsSound slots r)) ≡ recordSound pooled slots r
 unfolding callSound readsSound recordSound
 parts pooled slots r = simp and-assoc
 
 -- An idle record is sound; a busy one is if both parts are.
-pub idle-sound : (pooled : Bool) (slots : ℕ) (r : Record) → eqb (r .place) 0 ≡ true → recordSound pooled slots r ≡ true
+pub idle-sound : (pooled : Bool) (slots : ℕ) (r : Call) → eqb (r .place) 0 ≡ true → recordSound pooled slots r ≡ true
 idle-sound pooled slots r idle = rw idle at (sym (parts pooled slots r))
 
-pub busy-sound : (pooled : Bool) (slots : ℕ) (r : Record)
+pub busy-sound : (pooled : Bool) (slots : ℕ) (r : Call)
     → eqb (r .place) 0 ≡ false → (callSound pooled slots r && readsSound slots r) ≡ recordSound pooled slots r
 busy-sound pooled slots r busy = rw busy at (parts pooled slots r)

@@ -6,7 +6,7 @@ use native.Mathlib.Omega.{arith}
 use lib.Dec.{leb, eqb}
 use borrow.Author.Tests.{eq-eqb, ne-eqb, eqb-true, eqb-false, le-leb, lt-leb}
 use Rattle.word.specs.Link.{linkOf}
-use Rattle.model.specs.declared.Record.{Record}
+use Rattle.model.specs.declared.Call.{Call}
 use Rattle.model.specs.Sound.{from1}
 use Rattle.model.specs.Kinds.{helping}
 use Rattle.sound.proofs.Parts.{callSound}
@@ -31,7 +31,7 @@ first-of-three p low high = go (eqb p 13) (eqb p 14) refl refl
         let k : p ≡ 14 → ⊥ = eqb-false p 14 f in
         rw (eq-eqb p 12 (omega arith))
 
-module _ (slots : ℕ) (r : Record) where
+module _ (slots : ℕ) (r : Call) where
   abbrev within : Bool
   within = leb (r .place) 17 && leb (r .side) 1 && eqb (r .finishing) 0
 

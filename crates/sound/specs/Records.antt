@@ -5,12 +5,12 @@ use lib.Dec.{leb, eqb}
 use Rattle.word.specs.declared.Anchor.{Anchor}
 use Rattle.word.specs.Anchor.{anchorOf}
 use Rattle.word.specs.Link.{linkOf}
-use Rattle.model.specs.declared.Record.{Record}
+use Rattle.model.specs.declared.Call.{Call}
 use Rattle.model.specs.Sound.{from1, linkSound, anchorSound}
 use Rattle.model.specs.Kinds.{isPush, isPop}
 
 -- The tests of a record at 1 to 10 of its kind, own slot and finishing, and of the Anchor word that it has read.
-unfoldable pub earlyCall : ℕ → Record → Bool
+unfoldable pub earlyCall : ℕ → Call → Bool
 earlyCall slots r =
     cond (isPush r)
     (from1 slots (r .own) && (eqb (r .finishing) 0 || (eqb (r .finishing) 1 && leb 5 (r .place))))
@@ -26,13 +26,13 @@ earlySeen slots place a =
 unfoldable pub readSound : ℕ → ℕ → ℕ → Bool
 readSound slots neighbour link = leb neighbour slots && linkSound slots link
 
-unfoldable pub earlySound : ℕ → Record → Bool
+unfoldable pub earlySound : ℕ → Call → Bool
 earlySound slots r =
     leb (r .side) 1
     && (readSound slots (r .neighbour) (r .link) && (earlyCall slots r && earlySeen slots (r .place) (anchorOf (r .seen))))
 
 -- The tests of a record beyond 10 of its kind and own slot, and of the head that it has read.
-unfoldable pub lateCall : Bool → ℕ → Record → Bool
+unfoldable pub lateCall : Bool → ℕ → Call → Bool
 lateCall pooled slots r =
     cond (eqb (r .place) 11) (eqb (r .kind) 1 && eqb (r .own) 0)
     (pooled
@@ -40,7 +40,7 @@ lateCall pooled slots r =
     (eqb (r .kind) 0 && (eqb (r .own) 0 && (eqb (r .place) 12 || not (eqb (linkOf (r .link) .slot) 0))))
     (eqb (r .kind) 1 && (leb (r .place) 17 && from1 slots (r .own))))
 
-unfoldable pub lateSound : Bool → ℕ → Record → Bool
+unfoldable pub lateSound : Bool → ℕ → Call → Bool
 lateSound pooled slots r =
     leb (r .side) 1
     && (readSound slots (r .neighbour) (r .link)

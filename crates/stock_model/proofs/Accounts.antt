@@ -7,7 +7,7 @@ use native.Mathlib.Omega.{arith}
 use Rattle.model.specs.declared.Entry.{Entry}
 use Rattle.model.specs.{Tables.Queue, Walk.met, Lists.All}
 use Rattle.model.specs.Calls.{openAs, opened}
-use Rattle.model.specs.History.{AfterOpening, Call, Ending, Lawful, Request, answered, final, isOpen, ledger, pending, run}
+use Rattle.model.specs.History.{AfterOpening, LedgerCall, Ending, Lawful, Request, answered, final, isOpen, ledger, pending, run}
 use Rattle.model.proofs.ledger.EveryOperation.{run-good}
 use Rattle.model.proofs.ledger.Opened.{nobody, open-good, some-slots}
 use Rattle.model.proofs.{Linearizable.linearizable, Openings.after-opening}
@@ -18,12 +18,12 @@ use Rattle.stock_model.proofs.Held.{every-known, every-stands}
 
 module _ (w : ℕ → ℕ) where
   -- A lawful call: what its effect took is what it answered, or what it holds.
-  split-one : (c : Call) (e : Ending) → Lawful c e → weigh w (takenBy c) ≡ weigh w (answeredBy e) + weigh w (heldBy c e)
+  split-one : (c : LedgerCall) (e : Ending) → Lawful c e → weigh w (takenBy c) ≡ weigh w (answeredBy e) + weigh w (heldBy c e)
   unfolding each weigh
   split-one c pending h = omega arith
   split-one c (answered n a) h = rw (h .only, h .agrees) (simp weigh-more (omega arith))
 
-  split-all : (cs : List Call) → All (λ (c : Call). Lawful c (c .ending)) cs
+  split-all : (cs : List LedgerCall) → All (λ (c : LedgerCall). Lawful c (c .ending)) cs
       → weigh w (takenLabels cs) ≡ weigh w (answeredLabels cs) + weigh w (heldLabels cs)
   unfolding each weigh
   split-all [] h = omega arith
@@ -49,7 +49,7 @@ module _ (w : ℕ → ℕ) where
 
 -- Every call of the ledger that is open stands where its record does.
 abbrev AllStand : Queue → List Request → Type 0
-AllStand q os = All (λ (c : Call). Stands (final q os) c (c .ending)) (ledger (run q os) .calls)
+AllStand q os = All (λ (c : LedgerCall). Stands (final q os) c (c .ending)) (ledger (run q os) .calls)
 
 all-stand : AfterOpening AllStand
 all-stand pooled = after-opening pooled AllStand (λ q tasks slots tag e os.
@@ -60,7 +60,7 @@ all-stand pooled = after-opening pooled AllStand (λ q tasks slots tag e os.
 
 -- An open call is one of the queue's tasks'.
 abbrev pub OpenKnown : Queue → List Request → Type 0
-OpenKnown q os = All (λ (c : Call). isOpen (c .ending) ≡ true → c .task < final q os .tables .control .tasks) (ledger (run q os) .calls)
+OpenKnown q os = All (λ (c : LedgerCall). isOpen (c .ending) ≡ true → c .task < final q os .tables .control .tasks) (ledger (run q os) .calls)
 
 pub open-known : AfterOpening OpenKnown
 open-known pooled = after-opening pooled OpenKnown (λ q tasks slots tag e os.

@@ -8,10 +8,10 @@ use lib.{Dec.eqb, ListN.length}
 use borrow.Author.Tests.{eqb-true}
 use Rattle.model.specs.declared.{Answer.Answer, Entry.Entry, Op.Op, Outcome.Outcome}
 use Rattle.model.specs.declared.Answer.the-variants.{Pushed}
-use Rattle.model.specs.declared.Op.the-variants.{Push, Pop, Put, Step}
+use Rattle.model.specs.declared.Op.the-variants.{Push, Pop, PushPooled, Step}
 use Rattle.model.specs.declared.Outcome.the-variants.{Refused, Moved}
 use Rattle.model.specs.Deque.{Served, seenFrom, serve, serveFor, servePop, servePush, takeFirst}
-use Rattle.model.specs.History.{Call, Effect, Event, Ledger, accept, attend, isEffect, isOpen, lacksSlot, ledgerFrom, note, stepOf, toldEntry}
+use Rattle.model.specs.History.{LedgerCall, Effect, Event, Ledger, accept, attend, isEffect, isOpen, lacksSlot, ledgerFrom, note, stepOf, toldEntry}
 use Rattle.stock_model.specs.Accounts.{each, labelPopped, labelPushed, pushedLabels, takenLabels}
 use Rattle.model.proofs.tests.Truth.{by-test}
 use Rattle.model.specs.Lists.{All, copies}
@@ -78,23 +78,23 @@ module _ (w : ℕ → ℕ) where
       (λ z. pop-fair (e .label) side d (seenFrom side d) refl))
 
   -- The balance of a ledger: a step keeps it, whatever the calls and the deque.
-  abbrev put : List Call → ℕ
+  abbrev put : List LedgerCall → ℕ
   put cs = weigh w (pushedLabels cs)
 
-  abbrev out : List Call → ℕ
+  abbrev out : List LedgerCall → ℕ
   out cs = weigh w (takenLabels cs)
 
-  abbrev Level : List Call → List Entry → Ledger → Type 0
+  abbrev Level : List LedgerCall → List Entry → Ledger → Type 0
   Level cs d l = put (l .calls) + (out cs + load d) ≡ put cs + (out (l .calls) + load (l .deque))
 
-  step-level : (n : ℕ) (e : Event) (a : Answer) (c : Call) (cs : List Call) (d : List Entry) (l : Ledger) → Level cs d l
+  step-level : (n : ℕ) (e : Event) (a : Answer) (c : LedgerCall) (cs : List LedgerCall) (d : List Entry) (l : Ledger) → Level cs d l
       → Level (c ∷ cs) d (stepOf n e a (l .deque) c (l .calls))
   unfolding stepOf each
   step-level n e a c cs d l h =
       let f = serve-fair (lacksSlot c a) (c .kind) (c .side) (toldEntry c e) (l .deque) in
       by-test (Level (c ∷ cs) d) (isEffect e a) (λ z. simp weigh-more (omega (arith, f, h))) (λ z. simp weigh-more (omega (arith, h)))
 
-  attend-level : (n : ℕ) (e : Event) (a : Answer) (d : List Entry) (cs : List Call) → Level cs d (attend n e a d cs)
+  attend-level : (n : ℕ) (e : Event) (a : Answer) (d : List Entry) (cs : List LedgerCall) → Level cs d (attend n e a d cs)
   unfolding attend each
   attend-level n e a d [] = refl
   attend-level n e a d (c ∷ cs) =
@@ -110,7 +110,7 @@ module _ (w : ℕ → ℕ) where
   unfolding accept each
   accept-balanced n e (Push side slot label) a l h = h
   accept-balanced n e (Pop side) a l h = h
-  accept-balanced n e (Put side label) a l h = h
+  accept-balanced n e (PushPooled side label) a l h = h
   accept-balanced n e Step a l h = omega (arith, h, attend-level n e a (l .deque) (l .calls))
 
   note-balanced : (n : ℕ) (e : Event) (o : Outcome) (l : Ledger) → Balanced l → Balanced (note n e o l)
@@ -124,11 +124,11 @@ module _ (w : ℕ → ℕ) where
   balanced n l (e ∷ es) h = balanced _ (note n e (e .outcome) l) es (note-balanced n e (e .outcome) l h)
 
 -- A call that is replied *pushed* is a push.
-abbrev Fits : Call → Effect → Type 0
+abbrev Fits : LedgerCall → Effect → Type 0
 Fits c e = e .reply ≡ Pushed → c .kind ≡ 0
 
-abbrev pub AllFit : List Call → Type 0
-AllFit cs = All (λ (c : Call). All (Fits c) (c .effects)) cs
+abbrev pub AllFit : List LedgerCall → Type 0
+AllFit cs = All (λ (c : LedgerCall). All (Fits c) (c .effects)) cs
 
 serve-fits : (lacks : Bool) (kind side : ℕ) (e : Entry) (d : List Entry) → serveFor lacks kind side e d .reply ≡ Pushed → kind ≡ 0
 unfolding serveFor serve servePush servePop
@@ -143,7 +143,7 @@ serve-fits lacks kind side e d =
     first [] p = absurd (let w : _≡_ {A = ℕ} 0 1 = cc in omega arith)
     first (f ∷ l) p = absurd (let w : _≡_ {A = ℕ} 0 1 = cc in omega arith)
 
-attend-fits : (n : ℕ) (e : Event) (a : Answer) (d : List Entry) (cs : List Call) → AllFit cs → AllFit (attend n e a d cs .calls)
+attend-fits : (n : ℕ) (e : Event) (a : Answer) (d : List Entry) (cs : List LedgerCall) → AllFit cs → AllFit (attend n e a d cs .calls)
 unfolding attend stepOf
 attend-fits n e a d [] h = tt
 attend-fits n e a d (c ∷ cs) h =
@@ -162,7 +162,7 @@ note-fits n e (Moved a) l h = go (e .op)
     go : (o : Op) → AllFit (accept n e o a l .calls)
     go (Push side slot label) = (tt, h)
     go (Pop side) = (tt, h)
-    go (Put side label) = (tt, h)
+    go (PushPooled side label) = (tt, h)
     go Step = attend-fits n e a (l .deque) (l .calls) h
 
 pub all-fit : (n : ℕ) (l : Ledger) (es : List Event) → AllFit (l .calls) → AllFit (ledgerFrom n l es .calls)

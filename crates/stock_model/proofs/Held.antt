@@ -9,9 +9,9 @@ use lib.Dec.{eqb, ltb}
 use lib.ListN.{length, List·getD-eq-default}
 use borrow.Author.Tests.{eq-eqb, ltb-true}
 use Rattle.model.specs.declared.Answer.the-variants.{Pushed}
-use Rattle.model.specs.declared.Record.{Record}
+use Rattle.model.specs.declared.Call.{Call}
 use Rattle.model.specs.Tables.{Queue, atPlace, isPooled, recordAt}
-use Rattle.model.specs.History.{Call, Effect, Ending, Ledger, answered, isOpen, pending}
+use Rattle.model.specs.History.{LedgerCall, Effect, Ending, Ledger, answered, isOpen, pending}
 use Rattle.model.proofs.lists.All.{all-map}
 use Rattle.model.proofs.tests.ByPlace.{by-place}
 use Rattle.model.proofs.tests.Truth.{by-test, decide-eq, not-both, split}
@@ -31,12 +31,12 @@ abbrev taking : M.Place → Bool
 taking p = M.takes (M.phase p) || M.isGiving p
 
 -- A call that was not told *pushed* has had its effect just there.
-helped : (f : Bool) (g : ℕ → ℕ) (h : ℕ → Owner) (t : ℕ) (k : M.Kind) (d : Bool) (x l : ℕ) (c : B.Call)
+helped : (f : Bool) (g : ℕ → ℕ) (h : ℕ → Owner) (t : ℕ) (k : M.Kind) (d : Bool) (x l : ℕ) (c : B.BookCall)
     → Stage f g h t k d x l c → (c .told ≡ M.pushed → c .effects ≡ 0) → c .effects ≡ 0
 helped false g h t k d x l c s n = s .none
 helped true g h t k d x l c s n = n (s .0 .told)
 
-effects-at : (p : M.Place) (s : M.Shared) (h : ℕ → Owner) (t : ℕ) (r : M.Rec) (c : B.Call)
+effects-at : (p : M.Place) (s : M.Shared) (h : ℕ → Owner) (t : ℕ) (r : M.Rec) (c : B.BookCall)
     → Task p s h t r c → (c .told ≡ M.pushed → c .effects ≡ 0)
     → c .effects ≡ cond (taking p) 1 0
 effects-at M.idle s h t r c w n = w .0
@@ -54,7 +54,7 @@ effects-at M.at11 s h t r c w n = w .after .once
 effects-at (M.draw p) s h t r c w n = w .1 .none
 effects-at (M.give p) s h t r c w n = w .1 .after .once
 
-taking-is : (r : Record) → M.isIdle (placeOf (r .place)) ≡ false → taking (placeOf (r .place)) ≡ hasTaken r
+taking-is : (r : Call) → M.isIdle (placeOf (r .place)) ≡ false → taking (placeOf (r .place)) ≡ hasTaken r
 taking-is r b = go (decide-eq (r .place) 0) (decLt 17 (r .place))
   where
     go : (r .place ≡ 0) ⊎ (r .place ≢ 0) → Dec (17 < r .place) → taking (placeOf (r .place)) ≡ hasTaken r
@@ -68,12 +68,12 @@ module _ (n : ℕ) (q : Queue) (l : Ledger) (g : Matched n q l) where
   pooled = isPooled (q .tables .control)
 
   -- A pop is never told *pushed*.
-  told-other : (c : Call) (k : B.Call) (es : List Effect) → c .kind ≡ 1 → All (λ (e : Effect). e .reply ≡ Pushed → c .kind ≡ 0) es
+  told-other : (c : LedgerCall) (k : B.BookCall) (es : List Effect) → c .kind ≡ 1 → All (λ (e : Effect). e .reply ≡ Pushed → c .kind ≡ 0) es
       → k .effects ≡ length es → Last n c k es → k .told ≡ M.pushed → k .effects ≡ 0
   told-other c k [] kind f e h p = e
   told-other c k (x ∷ es) kind f e h p = absurd (let z = f .0 (sym (same-answer Pushed (x .reply) tt (sym (h .told) ∙ p))) in omega arith)
 
-  stands : (c : Call) → M.isIdle (stateOf q .task (c .task) .place) ≡ false → All (λ (e : Effect). e .reply ≡ Pushed → c .kind ≡ 0) (c .effects)
+  stands : (c : LedgerCall) → M.isIdle (stateOf q .task (c .task) .place) ≡ false → All (λ (e : Effect). e .reply ≡ Pushed → c .kind ≡ 0) (c .effects)
       → (e : Ending) → Tracked pooled n (g .book .calls) c e → Stands q c e
   unfolding stateOf recOf
   stands c b f (answered m a) h = tt
@@ -90,10 +90,10 @@ module _ (n : ℕ) (q : Queue) (l : Ledger) (g : Matched n q l) where
       taken t false b = absurd (not-both refl b)
 
   -- An open call's task is busy.
-  abbrev Busies : Call → Type 0
+  abbrev Busies : LedgerCall → Type 0
   Busies c = isOpen (c .ending) ≡ true → M.isIdle (stateOf q .task (c .task) .place) ≡ false
 
-  all-stand : (cs : List Call) → All Busies cs → AllFit cs → Tracks pooled n (g .book .calls) cs → All (λ (c : Call). Stands q c (c .ending)) cs
+  all-stand : (cs : List LedgerCall) → All Busies cs → AllFit cs → Tracks pooled n (g .book .calls) cs → All (λ (c : LedgerCall). Stands q c (c .ending)) cs
   all-stand [] b f h = tt
   all-stand (c ∷ cs) b f h = (go (c .ending) (b .0) (h .0), all-stand cs (b .1) (f .1) (h .1))
     where
@@ -106,7 +106,7 @@ module _ (n : ℕ) (q : Queue) (l : Ledger) (g : Matched n q l) where
   opens-some t h = split (M.isIdle (stateOf q .task t .place))
       (λ z. absurd (let w : opens t (l .calls) ≡ 0 = g .busy t ∙ ap (λ (b : Bool). cond b 0 1) z in omega arith)) (λ z. z)
 
-  all-busy : (cs : List Call) → ((t : ℕ) → opens t cs ≤ opens t (l .calls)) → All Busies cs
+  all-busy : (cs : List LedgerCall) → ((t : ℕ) → opens t cs ≤ opens t (l .calls)) → All Busies cs
   all-busy [] h = tt
   all-busy (c ∷ cs) h = (λ o. opens-some (c .task) (first o), all-busy cs (λ t. rest t))
     where
@@ -118,9 +118,9 @@ module _ (n : ℕ) (q : Queue) (l : Ledger) (g : Matched n q l) where
           (λ z k. omega arith) (λ z k. k) (h t)
 
   -- An open call is one of the queue's tasks'.
-  pub every-known : All (λ (c : Call). isOpen (c .ending) ≡ true → c .task < q .tables .control .tasks) (l .calls)
+  pub every-known : All (λ (c : LedgerCall). isOpen (c .ending) ≡ true → c .task < q .tables .control .tasks) (l .calls)
   unfolding stateOf
-  every-known = all-map Busies (λ (c : Call). isOpen (c .ending) ≡ true → c .task < q .tables .control .tasks)
+  every-known = all-map Busies (λ (c : LedgerCall). isOpen (c .ending) ≡ true → c .task < q .tables .control .tasks)
       (λ c b o. known (c .task) (ltb (c .task) (q .tables .control .tasks)) refl (b o))
       (l .calls) (all-busy (l .calls) (λ t. omega arith))
     where
@@ -129,5 +129,5 @@ module _ (n : ℕ) (q : Queue) (l : Ledger) (g : Matched n q l) where
       known t true e b = ltb-true _ _ e
       known t false e b = absurd (not-both refl b)
 
-  pub every-stands : AllFit (l .calls) → All (λ (c : Call). Stands q c (c .ending)) (l .calls)
+  pub every-stands : AllFit (l .calls) → All (λ (c : LedgerCall). Stands q c (c .ending)) (l .calls)
   every-stands f = all-stand (l .calls) (all-busy (l .calls) (λ t. omega arith)) f (g .tracks)

@@ -4,11 +4,11 @@ use mathlib.Core.Bool.{Bool, _||_, cond}
 use mathlib.Core.List.{List, [], _∷_, _++_, map}
 use Prim.Native.Nat.{ℕ, _+_}
 use lib.{Dec.eqb, ListN.length}
-use Rattle.model.specs.declared.{Record.Record, Entry.Entry, Answer.Answer}
-use Rattle.model.specs.declared.Answer.the-variants.{Running, Pushed, Empty, Popped, NoSlot}
+use Rattle.model.specs.declared.{Call.Call, Entry.Entry, Answer.Answer}
+use Rattle.model.specs.declared.Answer.the-variants.{Running, Pushed, Empty, Popped, NoFreeSlot}
 use Rattle.model.specs.Tables.{Tables, Queue, recordAt}
 use Rattle.model.specs.Walk.{contents, met}
-use Rattle.model.specs.History.{Event, Request, run, final, Effect, Ending, pending, answered, Call, ledger, AfterOpening}
+use Rattle.model.specs.History.{Event, Request, run, final, Effect, Ending, pending, answered, LedgerCall, ledger, AfterOpening}
 use Rattle.model.specs.Kinds.{giving}
 use Rattle.model.specs.Lists.{All, copies}
 
@@ -23,24 +23,24 @@ labelPushed x (Running p) = []
 labelPushed x Pushed = x ∷ []
 labelPushed x Empty = []
 labelPushed x (Popped e) = []
-labelPushed x NoSlot = []
+labelPushed x NoFreeSlot = []
 
 abbrev pub labelPopped : Answer → List ℕ
 labelPopped (Running p) = []
 labelPopped Pushed = []
 labelPopped Empty = []
 labelPopped (Popped e) = e .label ∷ []
-labelPopped NoSlot = []
+labelPopped NoFreeSlot = []
 
 -- The labels whose push took effect.
-abbrev pub pushedLabels : List Call → List ℕ
-pushedLabels cs = each (λ (c : Call). each (λ (e : Effect). labelPushed (c .entry .label) (e .reply)) (c .effects)) cs
+abbrev pub pushedLabels : List LedgerCall → List ℕ
+pushedLabels cs = each (λ (c : LedgerCall). each (λ (e : Effect). labelPushed (c .entry .label) (e .reply)) (c .effects)) cs
 
 -- The labels taken by a pop's effect.
-abbrev pub takenBy : Call → List ℕ
+abbrev pub takenBy : LedgerCall → List ℕ
 takenBy c = each (λ (e : Effect). labelPopped (e .reply)) (c .effects)
 
-abbrev pub takenLabels : List Call → List ℕ
+abbrev pub takenLabels : List LedgerCall → List ℕ
 takenLabels cs = each takenBy cs
 
 -- The labels of pops answered *popped*.
@@ -48,27 +48,27 @@ abbrev pub answeredBy : Ending → List ℕ
 answeredBy pending = []
 answeredBy (answered n a) = labelPopped a
 
-abbrev pub answeredLabels : List Call → List ℕ
-answeredLabels cs = each (λ (c : Call). answeredBy (c .ending)) cs
+abbrev pub answeredLabels : List LedgerCall → List ℕ
+answeredLabels cs = each (λ (c : LedgerCall). answeredBy (c .ending)) cs
 
 -- The labels of pops that took effect but haven't answered yet.
-abbrev pub heldBy : Call → Ending → List ℕ
+abbrev pub heldBy : LedgerCall → Ending → List ℕ
 heldBy c pending = takenBy c
 heldBy c (answered n a) = []
 
-abbrev pub heldLabels : List Call → List ℕ
-heldLabels cs = each (λ (c : Call). heldBy c (c .ending)) cs
+abbrev pub heldLabels : List LedgerCall → List ℕ
+heldLabels cs = each (λ (c : LedgerCall). heldBy c (c .ending)) cs
 
 -- The labels waiting, from left to right.
 abbrev pub waitingLabels : Tables → List ℕ
 waitingLabels q = map (λ (e : Entry). e .label) (met (contents q))
 
 -- A pop between its effect and its answer: at 11, in a pooled queue also at 15 to 17.
-abbrev pub hasTaken : Record → Bool
+abbrev pub hasTaken : Call → Bool
 hasTaken r = eqb (r .place) 11 || giving r
 
 -- A pop that hasn't answered yet took effect exactly where its record stands there.
-abbrev pub Stands : Queue → Call → Ending → Type 0
+abbrev pub Stands : Queue → LedgerCall → Ending → Type 0
 Stands q c pending = c .kind ≡ 1 → length (c .effects) ≡ cond (hasTaken (recordAt q (c .task))) 1 0
 Stands q c (answered n a) = Unit {0}
 
@@ -77,7 +77,7 @@ Stands q c (answered n a) = Unit {0}
 pub record AccountedIn (es : List Event) (q : Queue) : Type 0 where
   pub every-push : (x : ℕ) → let cs = ledger es .calls in copies x (pushedLabels cs) ≡ copies x (takenLabels cs) + copies x (waitingLabels (q .tables))
   pub every-pop : (x : ℕ) → let cs = ledger es .calls in copies x (takenLabels cs) ≡ copies x (answeredLabels cs) + copies x (heldLabels cs)
-  pub stands : All (λ (c : Call). Stands q c (c .ending)) (ledger es .calls)
+  pub stands : All (λ (c : LedgerCall). Stands q c (c .ending)) (ledger es .calls)
 
 -- All labels added up, as stock control does.
 abbrev pub AddedUp : List Event → Queue → Type 0

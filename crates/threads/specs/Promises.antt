@@ -6,8 +6,8 @@ use mathlib.Core.Logic.{_≢_}
 use Prim.Native.Nat.{ℕ, _<_}
 use lib.Dec.{leb}
 use lib.ListN.{getD, set}
+use Rattle.model.specs.declared.Call.{Call}
 use Rattle.model.specs.declared.Record.{Record}
-use Rattle.model.specs.declared.TaskRecord.{TaskRecord}
 use Rattle.model.specs.declared.Outcome.{Outcome}
 use Rattle.model.specs.declared.Outcome.the-variants.{Refused}
 use Rattle.model.specs.declared.Opening.the-variants.{Opened}
@@ -15,7 +15,7 @@ use Rattle.model.specs.Tables.{Tables, Queue, taskAt, marked}
 use Rattle.model.specs.Sound.{from1}
 use Rattle.model.specs.Refusals.{admission, alone, fits, late}
 use Rattle.model.specs.Calls.{act, openAs, stepLent}
-use Rattle.model.specs.History.{ledger, Call, Lawful}
+use Rattle.model.specs.History.{ledger, LedgerCall, Lawful}
 use Rattle.model.specs.Walk.{contents, entries}
 use Rattle.model.specs.Lists.{All}
 use Rattle.threads_model.specs.Split.{plan, splitStep}
@@ -29,18 +29,18 @@ use Rattle.threads_model.specs.Crew.{Crew, Act, allFree, Known, goOn, turns, to
 -- For any tables and any record: where the tables are admitted (34 for control and Anchor, 12), plan, touch and settlement are the step on the lent
 -- record, refusals and all.
 abbrev pub SplitStands : Type 0
-SplitStands = (q : Tables) (r : TaskRecord) → admission (q .control) (fits q) alone ≡ 0 → splitStep q r ≡ stepLent q r
+SplitStands = (q : Tables) (r : Record) → admission (q .control) (fits q) alone ≡ 0 → splitStep q r ≡ stepLent q r
 
 -- The touches of a slot's row, its label or its mark: 3 to 6 and 9 to 11. They name a slot, 1 to slots, whatever the record holds.
 abbrev pub onRow : ℕ → Bool
 onRow act = (leb 3 act && leb act 6) || leb 9 act
 
 abbrev pub PlansWithin : Type 0
-PlansWithin = (pooled slots : ℕ) (r : Record) → onRow (plan pooled slots r .act) ≡ true → from1 slots (plan pooled slots r .slot) ≡ true
+PlansWithin = (pooled slots : ℕ) (r : Call) → onRow (plan pooled slots r .act) ≡ true → from1 slots (plan pooled slots r .slot) ≡ true
 
 -- A start that gets as far as its touches is for a slot of 1 to slots, if it names one (12 and 13 are of that slot).
 abbrev pub StartsWithin : Type 0
-StartsWithin = (pooled slots : ℕ) (r : Record) (s : Start) → planStart pooled slots r s .act ≡ 1 → isNamed s ≡ true → from1 slots (s .slot) ≡ true
+StartsWithin = (pooled slots : ℕ) (r : Call) (s : Start) → planStart pooled slots r s .act ≡ 1 → isNamed s ≡ true → from1 slots (s .slot) ≡ true
 
 -- A turn that was early is one as ever where Anchor is not late.
 abbrev pub EarlyAsEver : Type 0
@@ -70,7 +70,7 @@ OwesMark (marks slot task o) x = x ≡ slot
 OwesMark (ends task o) x = ⊥
 
 -- The record that a thread has, or will have written by its last instruction.
-abbrev pub recordOf : Hand → TaskRecord → TaskRecord
+abbrev pub recordOf : Hand → Record → Record
 recordOf free r = r
 recordOf (begun op) r = r
 recordOf (loaded w) r = r
@@ -109,7 +109,7 @@ InstructionsStand = AfterOpening AsList
 
 -- So they are linearizable, in the words of `History`.
 pub record Linearized (pooled slots : ℕ) (q : Queue) (l : List Act) : Type 0 where
-  pub calls : All (λ (c : Call). Lawful c (c .ending)) (ledger (runTurns q (turns pooled slots (allFree q) l)) .calls)
+  pub calls : All (λ (c : LedgerCall). Lawful c (c .ending)) (ledger (runTurns q (turns pooled slots (allFree q) l)) .calls)
   pub waits : contents (finalTurns q (turns pooled slots (allFree q) l) .tables) ≡ entries (ledger (runTurns q (turns pooled slots (allFree q) l)) .deque)
 
 abbrev pub InstructionsLinearizable : Type 0
@@ -129,7 +129,7 @@ relabelled k x v =
     record { tables = withLabels (k .tables) (set (k .tables .labels) x v); hand = k .hand; decides = k .decides; early = k .early }
 
 abbrev pub TouchesOneLabel : Type 0
-TouchesOneLabel = (pooled slots : ℕ) (q : Tables) (r : TaskRecord) (k : Hand) (x v : ℕ) → labelTouched pooled slots r k ≢ x
+TouchesOneLabel = (pooled slots : ℕ) (q : Tables) (r : Record) (k : Hand) (x v : ℕ) → labelTouched pooled slots r k ≢ x
     → tick pooled slots (withLabels q (set (q .labels) x v)) r k ≡ relabelled (tick pooled slots q r k) x v
 
 -- A label has one thread at a time: no two of the threads of the tasks opened have before them an instruction on the label of one slot. So loads and

@@ -5,12 +5,12 @@ use mathlib.Core.Bool.{true, false}
 use mathlib.Core.List.{List, [], _∷_, _++_}
 use Prim.Native.Nat.{ℕ}
 use lib.ListN.{getD, replicate}
-use Rattle.model.specs.declared.Record.{Record}
+use Rattle.model.specs.declared.Call.{Call}
 use Rattle.model.specs.declared.Answer.the-variants.{Pushed}
 use Rattle.model.specs.declared.Outcome.{Outcome}
 use Rattle.model.specs.declared.Outcome.the-variants.{Refused, Moved}
 use Rattle.model.specs.declared.Op.{Op}
-use Rattle.model.specs.declared.Op.the-variants.{Push, Pop, Put, Step}
+use Rattle.model.specs.declared.Op.the-variants.{Push, Pop, PushPooled, Step}
 use Rattle.model.specs.Tables.{Tables, Queue, queueOf, unopened, unused, counting, openedControl, withWords, newCall, withSeen, withNeighbour}
 use Rattle.model.specs.Sound.{anchorSound, linkSound, recordSound, rowsFit}
 use Rattle.model.specs.Places.{sideOf, row, linkSide, reading, at1, at2, at3, new4, at4, at5, at6, at7, at9, at10, at11, at12, at13, at14}
@@ -76,7 +76,7 @@ abbrev pool : Queue
 pool = openPooled (queueOf unopened (replicate 3 unused) (replicate 3 0) (replicate 3 0) (replicate 3 0) (0 ∷ []) (replicate 3 0)) 3 2 0 .queue
 
 abbrev before14 : ℕ → ℕ → List Act
-before14 t label = whole t (Put 1 label) ++ steps (replicate 2 t)
+before14 t label = whole t (PushPooled 1 label) ++ steps (replicate 2 t)
 
 -- Both threads name slot 1. Thread 1 loads Anchor first; thread 0 sets the mark first; thread 1 finds it set.
 abbrev bothName : List Act
@@ -92,8 +92,8 @@ abbrev at3and9 : Queue
 at3and9 =
     let stable : ℕ = 0x0000000100008002 in
     let pushing : ℕ = 0x0000000240008002 in
-    let puts : Record = withSeen (newCall 3 0 0 3 900) stable 0 in
-    let helps : Record = withNeighbour (withSeen (newCall 9 1 1 0 0) pushing 0) 3 in
+    let puts : Call = withSeen (newCall 3 0 0 3 900) stable 0 in
+    let helps : Call = withNeighbour (withSeen (newCall 9 1 1 0 0) pushing 0) 3 in
     queueOf (withWords (openedControl false 2 3 0) stable 0) (counting puts 0 ∷ counting helps 0 ∷ [])
     (replicate 4 0) (replicate 4 0) (replicate 4 0) (0 ∷ []) []
 

@@ -9,7 +9,7 @@ use Rattle.model.specs.declared.Op.{Op}
 use Rattle.model.specs.Tables.{Queue, taskAt}
 use Rattle.model.specs.History.{Event, Request}
 use Rattle.threads_model.specs.Turns.{Turn}
-use Rattle.threads_model.specs.Instructions.{Hand, free, begun, loaded, knows, claims, looks, labels, marks, ends, Ticked, tick, written, tells}
+use Rattle.threads_model.specs.Instructions.{Hand, free, begun, loaded, knows, claims, looks, labels, marks, ends, Ticked, tick, written, toldAtEnd}
 use Rattle.threads_model.specs.Instructions.{labelTouched}
 
 -- Memory, and the threads' hands; the number of slots and the kind of queue are what each thread copied at the beginning.
@@ -80,7 +80,7 @@ turns pooled slots m (a ∷ l) = decides pooled slots m a ++ turns pooled slots 
 -- What thread u is told, in its order.
 abbrev pub tellsTo : Crew → Act → ℕ → List Outcome
 tellsTo m (calls o) u = []
-tellsTo m (next t) u = cond (eqb t u) (tells (m .hands t)) []
+tellsTo m (next t) u = cond (eqb t u) (toldAtEnd (m .hands t)) []
 
 unfoldable pub told : ℕ → ℕ → Crew → List Act → ℕ → List Outcome
 told pooled slots m [] u = []

@@ -6,9 +6,9 @@ use lib.Dec.{eqb}
 use lib.ListN.{getD, set}
 use Rattle.word.specs.Anchor.{anchorOf}
 use Rattle.word.specs.Link.{linkOf, packLink}
-use Rattle.model.specs.declared.{Control.Control, Record.Record, TaskRecord.TaskRecord, Entry.Entry, Outcome.Outcome}
+use Rattle.model.specs.declared.{Control.Control, Call.Call, Record.Record, Entry.Entry, Outcome.Outcome}
 use Rattle.model.specs.declared.Outcome.the-variants.{Refused, Moved}
-use Rattle.model.specs.Tables.{Tables, atPlace, counting, withMark, withAnchor, withHead, linked, withMarks, withNext, taken}
+use Rattle.model.specs.Tables.{Tables, atPlace, counting, withMark, withAnchor, withHead, linked, withMarks, withNext, withTaken}
 use Rattle.model.specs.{Sides.links, Calls.Acted}
 use Rattle.model.specs.Kinds.{drawing, giving}
 use Rattle.model.specs.Sound.{from1, anchorSound, linkSound}
@@ -69,18 +69,18 @@ abbrev pub knowing : ℕ → ℕ → ℕ → ℕ → Control
 knowing pooled slots anchor head = record { tasks = 1; slots = slots; anchor = anchor; pooled = pooled; head = head }
 
 -- The touch of a place that finds every word as it was read: what it writes where it writes.
-abbrev pub touchAsRead : ℕ → ℕ → Record → Touch
+abbrev pub touchAsRead : ℕ → ℕ → Call → Touch
 touchAsRead pooled slots r = move (knowing pooled slots (r .seen) (r .link)) r (r .link) .touch
 
 -- The word that a place reads: a link word at 3, 5, 7 and 9, a next at 13, the head at 12, 14, 15 and 17, else Anchor.
-unfoldable pub loads : Record → PlannedTouch
+unfoldable pub loads : Call → PlannedTouch
 loads r =
     cond (meetsLink r || eqb (r .place) 9) (loadsLink (linkSide r) (row r))
     (cond (eqb (r .place) 13) (loadsNext (row r))
     (cond (drawing r || giving r) loadsHead
     loadsAnchor))
 
-abbrev pub asks : Record → Touch → PlannedTouch
+abbrev pub asks : Call → Touch → PlannedTouch
 asks r nothing = loads r
 asks r (setAnchor w) = swapsAnchor (r .seen) w
 asks r (setLink side x w) = cond (eqb (r .place) 3) (putsLink side x (endSeen r)) (swapsLink side x (r .link) w)
@@ -91,16 +91,16 @@ asks r (setHead w) = swapsHead (r .link) w
 
 -- 34 for a row outside 1 to slots. A change that may not be made, since it would leave Anchor unsound or raise a tag past 32 bits, is only a reading:
 -- where the word is still as read the step is refused (`settle`), else the change has failed.
-abbrev pub planFor : ℕ → Record → Touch → PlannedTouch
+abbrev pub planFor : ℕ → Call → Touch → PlannedTouch
 planFor slots r t =
     cond (needsRow r && not (from1 slots (row r))) (refuses 34)
     (cond (leavesSound slots t && hasRoom r t) (asks r t) (loads r))
 
-unfoldable pub planned : ℕ → ℕ → Record → PlannedTouch
+unfoldable pub planned : ℕ → ℕ → Call → PlannedTouch
 planned pooled slots r = planFor slots r (touchAsRead pooled slots r)
 
 -- 34 and 31 for the record come first.
-unfoldable pub plan : ℕ → ℕ → Record → PlannedTouch
+unfoldable pub plan : ℕ → ℕ → Call → PlannedTouch
 plan pooled slots r =
     let why = recordRefusal (eqb pooled 1) slots r in
     cond (eqb why 0) (planned pooled slots r) (refuses why)
@@ -136,25 +136,25 @@ perform q p =
     (cond (eqb (p .act) 6) (record { tables = withMarks q (withMark (q .marks) (p .slot) 0); found = getD (q .labels) (p .slot) 0 })
     (cond (eqb (p .act) 7) (found q head)
     (cond (eqb (p .act) 8) (swapped q head (p .expected) (withHead q (p .word)))
-    (cond (eqb (p .act) 9) (swapped q head (p .expected) (taken (withHead q (p .word)) (p .slot) (p .label)))
+    (cond (eqb (p .act) 9) (swapped q head (p .expected) (withTaken (withHead q (p .word)) (p .slot) (p .label)))
     (cond (eqb (p .act) 10) (found q (getD (q .next) (p .slot) 0))
     (cond (eqb (p .act) 11) (found (withNext q (set (q .next) (p .slot) (p .word))) 0)
     (found q 0)))))))))))
 
 -- SETTLE. What is left of the record, and the outcome.
 pub record Settled : Type 0 where
-  pub task : TaskRecord
+  pub task : Record
   pub outcome : Outcome
 
-abbrev pub refusing : TaskRecord → ℕ → Settled
+abbrev pub refusing : Record → ℕ → Settled
 refusing r why = record { task = r; outcome = Refused why }
 
 -- The entry that a pop answers: w is the label found at 11; at 17 the record has it.
-abbrev pub entryFound : Record → ℕ → Entry
+abbrev pub entryFound : Call → ℕ → Entry
 entryFound r w = record { slot = row r; label = cond (eqb (r .place) 17) (r .label) w }
 
 -- The call gone on after its place's move.
-unfoldable pub gone : TaskRecord → ℕ → Move → Settled
+unfoldable pub gone : Record → ℕ → Move → Settled
 gone r w m =
     let n = onward (route (r .call .place) (r .call .kind) (m .branch)) (m .task .finishing) in
     record {
@@ -163,17 +163,17 @@ gone r w m =
     }
 
 -- At place n: 34 for what the step has met, else its move, with w for the word found, wherever it stood.
-unfoldable pub settledAt : ℕ → Control → Record → ℕ → ℕ → Settled
+unfoldable pub settledAt : ℕ → Control → Call → ℕ → ℕ → Settled
 settledAt n c r w retries =
     let s = atPlace r n in
     cond (stepSound c s w) (gone (counting s retries) w (move c s w)) (refusing (counting r retries) 34)
 
 -- The word found is Anchor's.
-unfoldable pub meetsAnchor : Record → Bool
+unfoldable pub meetsAnchor : Call → Bool
 meetsAnchor r = not (needsRow r) && not (drawing r || giving r)
 
 -- 34 and 31 for the record, then 34 for an Anchor found that is unsound; the record stays.
-unfoldable pub settle : ℕ → ℕ → TaskRecord → ℕ → Settled
+unfoldable pub settle : ℕ → ℕ → Record → ℕ → Settled
 settle pooled slots r w =
     let why = recordRefusal (eqb pooled 1) slots (r .call) in
     cond (eqb why 0)
@@ -182,7 +182,7 @@ settle pooled slots r w =
     (refusing r why)
 
 -- The three in one.
-unfoldable pub splitStep : Tables → TaskRecord → Acted
+unfoldable pub splitStep : Tables → Record → Acted
 splitStep q r =
     let c = q .control in
     let d = perform q (plan (c .pooled) (c .slots) (r .call)) in
@@ -190,5 +190,5 @@ splitStep q r =
     record { tables = d .tables; task = s .task; outcome = s .outcome }
 
 -- A label has 32 bits: of a word handed back as one, the lower half.
-abbrev pub heardAs : Record → ℕ → ℕ
+abbrev pub heardAs : Call → ℕ → ℕ
 heardAs r w = cond (eqb (r .place) 11) (w % 2 ^ 32) w

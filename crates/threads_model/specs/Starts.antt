@@ -5,7 +5,7 @@ use mathlib.Core.List.{List, [], _∷_}
 use Prim.Native.Nat.{ℕ}
 use lib.Dec.{eqb, leb, ltb}
 use Rattle.word.specs.Anchor.{anchorOf}
-use Rattle.model.specs.declared.{Record.Record, TaskRecord.TaskRecord, Outcome.Outcome}
+use Rattle.model.specs.declared.{Call.Call, Record.Record, Outcome.Outcome}
 use Rattle.model.specs.declared.Outcome.the-variants.{Refused, Moved}
 use Rattle.model.specs.declared.Answer.the-variants.{Running}
 use Rattle.model.specs.Tables.{withCall, started, asking}
@@ -31,7 +31,7 @@ abbrev pub isPlainPop : Start → Bool
 isPlainPop s = eqb (s .operation) 1
 
 -- PLAN. What a start is asked of its own numbers and record, before it looks at a shared word: 14, 41, 15, 34 and 30.
-abbrev pub ownRules : ℕ → ℕ → Record → ℕ → Bool → Bool → List Rule
+abbrev pub ownRules : ℕ → ℕ → Call → ℕ → Bool → Bool → List Rule
 ownRules pooled slots r side wrong outside =
     rule 14 (not (leb side 1))
     ∷ rule 41 wrong
@@ -40,7 +40,7 @@ ownRules pooled slots r side wrong outside =
     ∷ rule 30 (isBusy r)
     ∷ []
 
-unfoldable pub ownRefusal : ℕ → ℕ → Record → ℕ → Bool → Bool → ℕ
+unfoldable pub ownRefusal : ℕ → ℕ → Call → ℕ → Bool → Bool → ℕ
 ownRefusal pooled slots r side wrong outside = first (ownRules pooled slots r side wrong outside)
 
 -- 41: the wrong kind of push for the queue. 15: no such slot.
@@ -50,11 +50,11 @@ wrongPush pooled s = cond (isNamed s) (eqb pooled 1) (cond (isPlainPop s) false 
 abbrev pub outside : ℕ → Start → Bool
 outside slots s = cond (isNamed s) (not (from1 slots (s .slot))) false
 
-abbrev pub startWhy : ℕ → ℕ → Record → Start → ℕ
+abbrev pub startWhy : ℕ → ℕ → Call → Start → ℕ
 startWhy pooled slots r s = ownRefusal pooled slots r (s .side) (wrongPush pooled s) (outside slots s)
 
 -- Else it loads Anchor, for 33.
-unfoldable pub planStart : ℕ → ℕ → Record → Start → PlannedTouch
+unfoldable pub planStart : ℕ → ℕ → Call → Start → PlannedTouch
 planStart pooled slots r s =
     let why = startWhy pooled slots r s in
     cond (eqb why 0) loadsAnchor (refuses why)
@@ -67,16 +67,16 @@ abbrev pub loadsMark : ℕ → PlannedTouch
 loadsMark slot = planOf 13 0 slot 0 0 0
 
 -- SETTLE. The call that a start writes.
-abbrev pub firstCall : Start → Record
+abbrev pub firstCall : Start → Call
 firstCall s =
     cond (isNamed s) (started 0 (s .side) (s .slot) (s .label)) (cond (isPlainPop s) (started 1 (s .side) 0 0) (asking (s .side) (s .label)))
 
 -- One more touch; or the record, and the outcome.
 pub data Begins : Type 0 where
   touches : PlannedTouch → Begins
-  answers : TaskRecord → Outcome → Begins
+  answers : Record → Outcome → Begins
 
-abbrev pub judged : TaskRecord → Start → ℕ → Begins
+abbrev pub judged : Record → Start → ℕ → Begins
 judged r s why =
     cond (eqb why 0) (answers (withCall r (firstCall s)) (Moved (Running (firstCall s .place)))) (answers r (Refused why))
 
@@ -86,7 +86,7 @@ lateWord w = ltb 4294967262 (anchorOf w .tag)
 
 -- Anchor found (1): a pop, and a push that names no slot, are refused 33 or carried out. A push that names a slot then takes it (12), or, since 32 comes
 -- before 33, only looks at it (13). The mark found: 32 where it was set.
-unfoldable pub settleStart : TaskRecord → Start → ℕ → ℕ → Begins
+unfoldable pub settleStart : Record → Start → ℕ → ℕ → Begins
 settleStart r s act w =
     cond (eqb act 1)
     (cond (isNamed s) (touches (cond (lateWord w) (loadsMark (s .slot)) (takesSlot (s .slot) (s .label)))) (judged r s (cond (lateWord w) 33 0)))

@@ -6,8 +6,8 @@ use lib.Dec.{eqb}
 use Rattle.model.specs.declared.Answer.the-variants.{Running}
 use Rattle.model.specs.declared.Outcome.the-variants.{Moved}
 use Rattle.model.specs.declared.Op.{Op}
-use Rattle.model.specs.declared.Op.the-variants.{Push, Pop, Put, Step}
-use Rattle.model.specs.Tables.{Queue, taskAt, recordAt, taken, withCall, started}
+use Rattle.model.specs.declared.Op.the-variants.{Push, Pop, PushPooled, Step}
+use Rattle.model.specs.Tables.{Queue, taskAt, recordAt, withTaken, withCall, started}
 use Rattle.model.specs.Refusals.{among, pushRefusal}
 use Rattle.model.specs.Calls.{Done, act, back}
 use Rattle.model.specs.History.{Event}
@@ -23,13 +23,13 @@ unfoldable pub actEarly : Queue → ℕ → Op → Done
 actEarly q t (Push side slot label) =
     cond (eqb (pushRefusal (q .tables) (among q t) (recordAt q t) side slot) 33)
     (back q t (record {
-      tables = taken (q .tables) slot label;
+      tables = withTaken (q .tables) slot label;
       task = withCall (taskAt q t) (started 0 side slot label);
       outcome = Moved (Running 1);
     }))
     (act q t (Push side slot label))
 actEarly q t (Pop side) = act q t (Pop side)
-actEarly q t (Put side label) = act q t (Put side label)
+actEarly q t (PushPooled side label) = act q t (PushPooled side label)
 actEarly q t Step = act q t Step
 
 unfoldable pub take : Queue → Turn → Done

@@ -7,7 +7,7 @@ use native.Mathlib.Omega.{arith}
 use lib.Dec.{eqb, leb}
 use borrow.Author.Tests.{eq-eqb, ne-eqb, le-leb}
 use Rattle.word.specs.Anchor.{anchorOf}
-use Rattle.model.specs.declared.{Record.Record, Reply.Reply}
+use Rattle.model.specs.declared.{Call.Call, Reply.Reply}
 use Rattle.model.specs.Tables.{newCall, started, asking}
 use Rattle.model.specs.Sound.{from1, anchorSound, linkSound, recordSound}
 use Rattle.model.proofs.tests.Truth.{split, and-true, not-both}
@@ -25,7 +25,7 @@ use Rattle.touch.specs.Started.{Started, startedBy}
 use Rattle.touch.proofs.Tested.{plans}
 
 -- What a start does first, by its tests one after the other.
-module _ (pooled slots : ℕ) (r : Record) (s : Start) where
+module _ (pooled slots : ℕ) (r : Call) (s : Start) where
   abbrev Plans : PlannedTouch → Type 0
   Plans p = p ≡ planStart pooled slots r s
 
@@ -58,7 +58,7 @@ module _ (pooled slots : ℕ) (r : Record) (s : Start) where
 
 -- The first step of a call as a start writes it.
 module _ (pooled slots : ℕ) where
-  abbrev sounds : Record → Bool
+  abbrev sounds : Call → Bool
   sounds r = recordSound (eqb pooled 1) slots r
 
   zero-low : leb 0 slots ≡ true
@@ -94,12 +94,12 @@ module _ (pooled slots : ℕ) where
       (base 12 0 side 0 label refl a)) 12 refl refl _
       (plan12 pooled slots r)
 
-  refused-34 : (r : Record) → (sounds r ≡ true → ⊥) → refuses 34 ≡ plan pooled slots r
+  refused-34 : (r : Call) → (sounds r ≡ true → ⊥) → refuses 34 ≡ plan pooled slots r
   refused-34 r h =
       refuses-plan pooled slots r 34 (unsound (eqb pooled 1) slots r (split (sounds r) (λ t. absurd (h t)) (λ f. f))) (λ
       (z : _≡_ {A = ℕ} 34 0). omega (arith, z))
 
-  pub bad-side : (r : Record) → eqb (r .place) 0 ≡ false → leb (r .side) 1 ≡ false → refuses 34 ≡ plan pooled slots r
+  pub bad-side : (r : Call) → eqb (r .place) 0 ≡ false → leb (r .side) 1 ≡ false → refuses 34 ≡ plan pooled slots r
   bad-side r busy a = refused-34 r (λ t. not-both (F.fit pooled slots r busy t .base .side) a)
 
   pub bad-slot : (side slot label : ℕ) → from1 slots slot ≡ false → refuses 34 ≡ plan pooled slots (started 0 side slot label)
@@ -122,13 +122,13 @@ module _ (pooled slots : ℕ) (was : List ℕ) (s : Start) where
   unfolding recordOf
   refused why p h e = rw (ne-eqb why 0 h) (ap (leaves was (record { code = why; label = 0; value = 0 })) e)
 
-  pub begun : (row : List ℕ) (call : Record) (why : ℕ) (p : PlannedTouch) → why ≡ 0 → call ≡ firstCall s
+  pub begun : (row : List ℕ) (call : Call) (why : ℕ) (p : PlannedTouch) → why ≡ 0 → call ≡ firstCall s
       → (recordOf row ≡ record { call = call; retries = recordOf was .retries }) × (upperOf row ≡ 0) → p ≡ plan pooled slots call
       → leaves row (record { code = 1; label = 0; value = call .place }) p ≡ by (judged (recordOf was) s why)
   begun row call why p none is e ep =
       rw (eq-eqb why 0 none)
       (λ i. record {
-        task = (e .0 ∙ ap (λ (c : Record). record { call = c; retries = recordOf was .retries }) is) i;
+        task = (e .0 ∙ ap (λ (c : Call). record { call = c; retries = recordOf was .retries }) is) i;
         upper = e .1 i;
         reply = record { code = 1; label = 0; value = is i .place };
         touch = (ep ∙ ap (plan pooled slots) is) i;

@@ -6,7 +6,7 @@ use native.Mathlib.Omega.{arith}
 use lib.Dec.{eqb}
 use borrow.Author.Tests.{eqb-false, ne-eqb}
 use Rattle.word.specs.Anchor.{anchorOf}
-use Rattle.model.specs.declared.Record.{Record}
+use Rattle.model.specs.declared.Call.{Call}
 use Rattle.model.specs.{Tables.atPlace, Refusals.recordRefusal}
 use Rattle.model.specs.Sound.{anchorSound, recordSound}
 use Rattle.model.proofs.tests.Truth.{split}
@@ -16,11 +16,11 @@ use Rattle.threads_model.specs.Split.{planned, plan}
 use Rattle.threads.proofs.split.ByRecord.{low, plans-at, sound-none}
 use Rattle.threads.proofs.split.SoundFields.{fit}
 
-pub sound-of : (pooled : Bool) (slots : ℕ) (r : Record) → recordRefusal pooled slots r ≡ 0 → recordSound pooled slots r ≡ true
+pub sound-of : (pooled : Bool) (slots : ℕ) (r : Call) → recordRefusal pooled slots r ≡ 0 → recordSound pooled slots r ≡ true
 sound-of pooled slots r none =
     split (recordSound pooled slots r) (λ s. s) (λ b. let z : 34 ≡ 0 = unsound pooled slots r b ∙ none in absurd (omega (arith, z)))
 
-module _ (pooled slots : ℕ) (r : Record) where
+module _ (pooled slots : ℕ) (r : Call) where
   busy : (n : ℕ) → eqb n 0 ≡ false → r .place ≡ n → r .place ≡ 0 → ⊥
   busy n other at zero = eqb-false n 0 other (sym at ∙ zero)
 

@@ -2,7 +2,7 @@
 use mathlib.Core.{Bool.cond, List.List}
 use Prim.Native.Nat.{ℕ, _%_, _^_}
 use lib.ListN.{getD}
-use Rattle.model.specs.declared.{TaskRecord.TaskRecord, Reply.Reply}
+use Rattle.model.specs.declared.{Record.Record, Reply.Reply}
 use Rattle.model.specs.{Calls.replyOf, Ends.isMoved}
 use Rattle.threads_model.specs.declared.{PlannedTouch.PlannedTouch, Start.Start}
 use Rattle.threads_model.specs.Split.{plan}
@@ -14,13 +14,13 @@ startOf ws = record { operation = getD ws 0 0; side = getD ws 1 0; slot = getD w
 
 -- What a settlement leaves of the record and of the upper half of its label's word, and what it answers.
 pub record Started : Type 0 where
-  pub task : TaskRecord
+  pub task : Record
   pub upper : ℕ
   pub reply : Reply
   pub touch : PlannedTouch
 
 -- A start that has a touch to make leaves the record and answers 0. One that is decided answers its outcome, and the plan of the record as it then is.
-abbrev pub startedBy : ℕ → ℕ → ℕ → TaskRecord → Begins → Started
+abbrev pub startedBy : ℕ → ℕ → ℕ → Record → Begins → Started
 startedBy pooled slots upper r (touches p) = record { task = r; upper = upper; reply = record { code = 0; label = 0; value = 0 }; touch = p }
 startedBy pooled slots upper r (answers task o) =
     record { task = task; upper = cond (isMoved o) 0 upper; reply = replyOf o; touch = plan pooled slots (task .call) }

@@ -3,7 +3,7 @@
 use crate::Onward;
 use crate::asks;
 use calls::refusal;
-use model::Record;
+use model::Call;
 use model::Reply;
 use threads_model::PlannedTouch;
 use threads_model::Start;
@@ -86,7 +86,7 @@ pub fn plan_start(
 }
 
 /// The call that a start writes.
-fn first_call(s: Start) -> Record
+fn first_call(s: Start) -> Call
     ensures { λ r. ⌜ r ≡ firstCall s ⌝ }
 {
     if s.operation == 0 {

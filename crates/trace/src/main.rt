@@ -7,5 +7,5 @@ fn main() {
     ) {
         return;
     }
-    stream::trace();
+    trace_stream::trace();
 }

@@ -6,7 +6,7 @@ use Prim.Native.Nat.{ℕ}
 use lib.{Dec.eqb, ListN.getD}
 use borrow.Author.Needs.{needs}
 use borrow.Author.Tests.{eqb-true, ne-eqb, not-true}
-use Rattle.model.specs.declared.{Control.Control, Record.Record}
+use Rattle.model.specs.declared.{Control.Control, Call.Call}
 use Rattle.model.specs.Tables.{Tables, tablesOf}
 use Rattle.model.specs.Sides.{links}
 use Rattle.model.specs.Places.{sideOf, linkSide, row, wordFound}
@@ -27,7 +27,7 @@ toward s false = go (eqb s 1)
     go false = refl
 
 -- What is read in row x, the one that the record's place touches.
-module _ (q : Tables) (r : Record) {x : ℕ} (here : x ≡ row r) where
+module _ (q : Tables) (r : Call) {x : ℕ} (here : x ≡ row r) where
   abbrev at : ℕ → Bool
   at n = eqb (r .place) n
 
@@ -72,7 +72,7 @@ module _ (slot : tie.After-row-of) where
   abbrev start : tie.Start
   start = slot .before .before .before .before .before
 
-  abbrev task : Record
+  abbrev task : Call
   task = start .args .r
 
   abbrev tables : Control → List ℕ → Tables

@@ -5,14 +5,14 @@ use Prim.Native.Nat.{ℕ}
 use lib.Dec.{eqb}
 use borrow.Author.Tests.{eqb-true}
 use Rattle.word.specs.Link.{linkOf}
-use Rattle.model.specs.declared.Record.{Record}
+use Rattle.model.specs.declared.Call.{Call}
 use Rattle.model.specs.Kinds.{isPush}
 use Rattle.model.specs.Places.{endSeen, row}
 use Rattle.model.proofs.tests.Truth.{and-of, and-true, not-both, or-cases, or-false, split}
 use Rattle.asking.proofs.row_of.Statement.{statement}
 use Rattle.asking.proofs.row_of.Tie as tie
 
-module _ (r : Record) where
+module _ (r : Call) where
   abbrev at : ℕ → Bool
   at n = eqb (r .place) n
 

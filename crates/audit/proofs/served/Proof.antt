@@ -41,7 +41,8 @@ loop-holds c =
       search needs,
       record { size = refl; calls = zeros-hold (length (start .args .words .now) / 7 - 1) 128 },
       omega arith,
-      ap (replay 1 (inOrder (callsIn (start .args .words .now)) (start .args .order .now))) (slice-empty 64 (map (labelAt (start .args .words .now)) (replicate 128 0))),
+      ap (replay 1 (inOrder (callsIn (start .args .words .now)) (start .args .order .now))) (slice-empty 64 (map (labelAt (start .args .words .now))
+          (replicate 128 0))),
     )
 
 -- The number at index i is a call's.

@@ -4,7 +4,7 @@ use Prim.Native.Nat.{ℕ, _-_, _≤_}
 use native.Mathlib.Numerals.{add-one}
 use native.Mathlib.Omega.{arith}
 use Rattle.calls.specs.Telling.{countBusy}
-use Rattle.model.specs.declared.TaskRecord.{TaskRecord}
+use Rattle.model.specs.declared.Record.{Record}
 use Rattle.rows.specs.Rows.{recordOf, recordsOf}
 use Rattle.rows.proofs.Rows.{record-read}
 use Rattle.capi.proofs.Count.{busyIn, busy-none, busy-more}
@@ -30,7 +30,7 @@ loop-again c =
       omega arith,
       c .count-busy .ensures
           ∙ ap (λ (k : ℕ). countBusy k (c .before .call-of .result)) (turn .inv .1)
-          ∙ ap (countBusy (busyIn (turn .i) rs)) (c .before .call-of .ensures ∙ ap (λ (r : TaskRecord). r .call) (record-read _ _))
+          ∙ ap (countBusy (busyIn (turn .i) rs)) (c .before .call-of .ensures ∙ ap (λ (r : Record). r .call) (record-read _ _))
           ∙ busy-more (turn .i) rs (omega arith)
           ∙ ap (λ (k : ℕ). busyIn k rs) (sym (add-one (turn .i))),
     )

@@ -5,7 +5,7 @@ use Prim.Native.Nat.{ℕ, _-_, _≤_}
 use native.Mathlib.Numerals.{add-one}
 use native.Mathlib.Omega.{arith}
 use lib.ListN.{set}
-use Rattle.model.specs.declared.TaskRecord.{TaskRecord}
+use Rattle.model.specs.declared.Record.{Record}
 use Rattle.rows.specs.Rows.{recordsOf}
 use Rattle.rows.proofs.Rows.{record-read}
 use Rattle.capi.specs.Replies.{countsIn}
@@ -25,7 +25,7 @@ loop-again c =
     let turn = c .before .before .before .loop in
     let less = c .before .before .loop-test .taken in
     let rs = recordsOf (c .before .before .before .before .args .records .now) in
-    let own = c .retries-of .ensures ∙ ap (λ (r : TaskRecord). r .retries) (record-read _ _) in (
+    let own = c .retries-of .ensures ∙ ap (λ (r : Record). r .retries) (record-read _ _) in (
       omega arith,
       ap (λ (l : List ℕ). set l (turn .i) (c .retries-of .result)) (turn .inv .1)
           ∙ ap (set (countsIn (turn .i) rs) (turn .i)) own

@@ -39,7 +39,7 @@ returns c =
     let none = c .before .before .before .before .before .before .before .before in
     let a = none .before .before .before .before .before .before .args in
     let q = queueIn (a .control .now) (a .records .now) (a .lefts .now) (a .rights .now) (a .labels .now) (a .marks .now) (a .next .now) in
-    none-ran q (a .task) _ (uppersOf (a .records .now)) _ (none .if1 .taken) (c .asked .ensures)
+    none-ran q (a .task) _ (uppersOf (a .records .now)) _ (none .if1 .taken) (c .run-of-none .ensures)
 
 returns-2 : tie.Need-returns-2 Inv-loop μ-loop
 returns-2 c =

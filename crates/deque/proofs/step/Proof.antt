@@ -26,7 +26,7 @@ use Rattle.engine.specs.MoveOn.{moveOn}
 use Rattle.deque.proofs.Admission.{Admit, Refuse}
 use Rattle.deque.proofs.Engine.{Move}
 use Rattle.model.proofs.Control as K
-use Rattle.model.proofs.TaskRecord as T
+use Rattle.model.proofs.Record as T
 use Rattle.sound.proofs.admission.admit.Symbol as admit-def
 use Rattle.sound.proofs.admission.admit.Symbol.{name as #sound·admission·admit}
 use Rattle.sound.proofs.admission.admit.Met as admit-thm

@@ -31,7 +31,7 @@ use denote.Triple.{Statement.Triple, Entry.onEntry}
 use denote.Triple.Spec.{Meets, tripleOf}
 use denote.Triple.Table.{entered, cited}
 use denote.Triple.Walked.{says, Stays, walkOf, Walks, ends-at, walked, walk-meets, stay-ref, goes-ref, gave-slice, goes-gave-slice}
-use Rattle.model.specs.declared.{Control.Control, TaskRecord.TaskRecord, Outcome.Outcome}
+use Rattle.model.specs.declared.{Control.Control, Record.Record, Outcome.Outcome}
 use Rattle.model.specs.Tables.{Tables}
 use Rattle.model.specs.Calls.{Acted, stepLent}
 use Rattle.deque.proofs.Walk.{control-value, record-value, slice-value, var, part, lets, receive}
@@ -40,8 +40,8 @@ use Rattle.deque.proofs.Stored.{control-of, task-of, outcome-of}
 use Rattle.deque.proofs.Frame.{full, allocates, frees-all}
 use Rattle.model.proofs.Control as K
 use Rattle.model.proofs.Control.Laws as K′
-use Rattle.model.proofs.TaskRecord as T
-use Rattle.model.proofs.TaskRecord.Laws as T′
+use Rattle.model.proofs.Record as T
+use Rattle.model.proofs.Record.Laws as T′
 use Rattle.model.proofs.Outcome as E
 use Rattle.model.proofs.Outcome.Laws as E′
 use Rattle.rows.proofs.value.Stepped as N
@@ -70,12 +70,12 @@ stayed = (
 )
 
 module _ {M : Type 1} (𝓤 : URA M) (H : Heap 𝓤) (A : Atoms 𝓤) (W : Given 𝓤 H A) (at-mem : Memory → SProp 𝓤) (run : Routine → Fun 𝓤)
-    (κc κr κ1 κ2 κ3 κ4 κ5 : Lft) (qc qr q1 q2 q3 q4 q5 : Share) (xc : RefT Control) (xr : RefT TaskRecord) (x1 x2 x3 x4 x5 : RefT (List ℕ)) where
+    (κc κr κ1 κ2 κ3 κ4 κ5 : Lft) (qc qr q1 q2 q3 q4 q5 : Share) (xc : RefT Control) (xr : RefT Record) (x1 x2 x3 x4 x5 : RefT (List ℕ)) where
   -- what is lent, at entry
   abbrev c : Control
   c = xc .now
 
-  abbrev r : TaskRecord
+  abbrev r : Record
   r = xr .now
 
   abbrev pc : Val
@@ -93,7 +93,7 @@ module _ {M : Type 1} (𝓤 : URA M) (H : Heap 𝓤) (A : Atoms 𝓤) (W : Given
   abbrev xs : Five (RefT (List ℕ))
   xs = (x1, (x2, (x3, (x4, (x5, tt)))))
 
-  abbrev a : RefT Control × (RefT TaskRecord × Five (RefT (List ℕ)))
+  abbrev a : RefT Control × (RefT Record × Five (RefT (List ℕ)))
   a = (xc, (xr, xs))
 
   abbrev vals : List Val × (List Val × Five (List Val))
@@ -102,7 +102,7 @@ module _ {M : Type 1} (𝓤 : URA M) (H : Heap 𝓤) (A : Atoms 𝓤) (W : Given
   abbrev entry : Tables
   entry = tabled c (unwritten xs)
 
-  abbrev Said : Outcome → Control → TaskRecord → Five (List ℕ) → Type 0
+  abbrev Said : Outcome → Control → Record → Five (List ℕ) → Type 0
   Said r′ z h ls = _≡_ {A = Acted} (record { tables = tabled z ls; task = h; outcome = r′ }) (stepLent entry r)
 
   abbrev bound : walkOf 𝓤 H A self.ended stayed (self.clauses 𝓤 H A at-mem run) .Ghost

@@ -156,7 +156,8 @@ meet-requires c κs =
     (s .before .ready .ensures, omega (arith, given l .pre .room, l .loop .inv .long))
 
 -- The sieve keeps its size.
-sized : (k : tie.After-slice-known4 Inv-loop μ-loop) → length (label k .before .before .before .ready .last .1 .1 .0) ≡ length (given (turn k) .args .sieve .now)
+sized : (k : tie.After-slice-known4 Inv-loop μ-loop) → length (label k .before .before .before .ready .last .1 .1 .0) ≡ length (given
+    (turn k) .args .sieve .now)
 sized k = label k .before .before .before .ready .ensures .size ∙ sym (given (turn k) .pre .sieve-size)
 
 pub look-spec : {M : Type 1} → statement M

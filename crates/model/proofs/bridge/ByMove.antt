@@ -10,28 +10,28 @@ use Rattle.word.specs.Link.{linkOf, packLink}
 use Rattle.model.specs.Places.{Move, Touch, at1, at10, at11, at12, at13, at14, at15, at16, at17, at2, at3, at4, at5, at6, at7, at9, clearMark}
 use Rattle.model.specs.Places.{endSeen, linkSide, move, new4, nothing, raised, row, setAnchor, setHead, setLink, setNext, sideOf, takeSlot}
 use Rattle.model.specs.Tables.{isPooled, withLink, withNeighbour, withOwn, withSeen}
-use Rattle.model.specs.declared.{Control.Control, Record.Record}
+use Rattle.model.specs.declared.{Control.Control, Call.Call}
 use Rattle.model.proofs.tests.Truth.{by-test, either}
 use Rattle.model.specs.{Kinds.isPush, Sides.facing}
 
 -- The touches of a change of Anchor at 2 and 10, and of a link at 3 and 9.
-abbrev pub both : Record → ℕ
+abbrev pub both : Call → ℕ
 both r = let a = anchorOf (r .seen) in
     let end : ℕ = cond (isPush r) (r .own) 0 in
     packAnchor (facing (sideOf r) (a .tag + 1) (a .status) end end)
 
-abbrev pub settled : Record → ℕ
+abbrev pub settled : Call → ℕ
 settled r = let a = anchorOf (r .seen) in packAnchor (record { tag = a .tag + 1; status = 0; left = a .left; right = a .right })
 
-abbrev pub named : Record → ℕ → ℕ
+abbrev pub named : Call → ℕ → ℕ
 named r tag = packLink (record { tag = tag; slot = endSeen r })
 
-module _ (c : Control) (w : ℕ) (P : Touch → Record → Type 0) where
+module _ (c : Control) (w : ℕ) (P : Touch → Call → Type 0) where
   abbrev Holds : Move → Type 0
   Holds m = P (m .touch) (m .task)
 
   -- One fact for each kind of move; those that only some places make have the place as an equation.
-  pub record Moves (r : Record) : Type 0 where
+  pub record Moves (r : Call) : Type 0 where
     pub same : P nothing r
     pub read : P nothing (withSeen r (c .anchor) (r .finishing))
     pub found : r .place ≤ 10 → P nothing (withNeighbour r (linkOf w .slot))
@@ -50,7 +50,7 @@ module _ (c : Control) (w : ℕ) (P : Touch → Record → Type 0) where
     pub links : r .place ≡ 16 → P (setNext (row r) (linkOf (r .link) .slot)) r
     pub gives : (r .place ≢ 0 → 17 ≤ r .place) → P (setHead (raised r (r .own))) r
 
-  module _ (r : Record) where
+  module _ (r : Call) where
     -- Anchor, or the head, is as read.
     abbrev now : Bool
     now = eqb (c .anchor) (r .seen)

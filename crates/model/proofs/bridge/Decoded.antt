@@ -6,16 +6,16 @@ use Rattle.word.specs.{Anchor.anchorOf, Link.linkOf}
 use Rattle.model.specs.{Calls.entryOf, Tables.Tables}
 use Rattle.model.specs.Places.{Move, wordFound, move}
 use Rattle.model.specs.Route.{answer, goes, onward, popRoute, pushRoute, route}
-use Rattle.model.specs.declared.Record.{Record}
+use Rattle.model.specs.declared.Call.{Call}
 use Rattle.model.proofs.tests.Truth.{split}
 use Rattle.model.proofs.machine.Machine as M
 use Rattle.model.proofs.bridge.View.{answerSeen, linkAt, placeOf, recOf, touchSeen, view}
 
 -- Where a record goes with a place's move.
-abbrev pub next : Record → Move → ℕ
+abbrev pub next : Call → Move → ℕ
 next r m = onward (route (r .place) (r .kind) (m .branch)) (m .task .finishing)
 
-abbrev pub seenMove : Tables → Record → M.Move
+abbrev pub seenMove : Tables → Call → M.Move
 seenMove q r =
     let m = move (q .control) r (wordFound q r) in
     record {
@@ -25,20 +25,20 @@ seenMove q r =
     }
 
 -- The step of a record is that of the decoded machine.
-abbrev pub Seen : Tables → Record → Type 0
+abbrev pub Seen : Tables → Call → Type 0
 Seen q r = M.act (placeOf (r .place)) (view q) (recOf r) ≡ seenMove q r
 
 -- The tag that a change would raise has room.
-abbrev pub AnchorRoom : Tables → Record → Type 0
+abbrev pub AnchorRoom : Tables → Call → Type 0
 AnchorRoom q r = q .control .anchor ≡ r .seen → anchorOf (r .seen) .tag < 4294967295
 
-abbrev pub LinkRoom : Tables → Record → Type 0
+abbrev pub LinkRoom : Tables → Call → Type 0
 LinkRoom q r = linkAt q (eqb (anchorOf (r .seen) .status) 1) (r .neighbour) ≡ r .link → linkOf (r .link) .tag < 4294967295
 
-abbrev pub HeadRoom : Tables → Record → Type 0
+abbrev pub HeadRoom : Tables → Call → Type 0
 HeadRoom q r = q .control .head ≡ r .link → linkOf (r .link) .tag < 4294967295
 
-abbrev pub RoomAt : Tables → Record → M.Place → Type 0
+abbrev pub RoomAt : Tables → Call → M.Place → Type 0
 RoomAt q r M.idle = Unit {0}
 RoomAt q r M.at1 = Unit {0}
 RoomAt q r M.at2 = AnchorRoom q r

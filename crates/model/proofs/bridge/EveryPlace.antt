@@ -4,7 +4,7 @@ use mathlib.Core.Path.{_≡_, refl, subst, sym}
 use Prim.Native.Nat.{_<_, _^_, _≤_, ℕ}
 use native.Mathlib.Omega.{arith}
 use Rattle.model.specs.Tables.{Tables, atPlace, isPooled, ofKind}
-use Rattle.model.specs.declared.Record.{Record}
+use Rattle.model.specs.declared.Call.{Call}
 use Rattle.model.proofs.tests.{ByPlace.by-place, Truth.decide-eq}
 use Rattle.model.proofs.bridge.Decoded.{RoomAt, Seen}
 use Rattle.model.proofs.bridge.Facts.{ControlFine, LinksFine, RecordFine}
@@ -20,9 +20,9 @@ by-kind P k h f g = go (decide-eq k 0)
     go (inl z) = subst P (sym z) (f z)
     go (inr z) = let e : k ≡ 1 = omega arith in subst P (sym e) (g e)
 
-module _ (q : Tables) (c : ControlFine (q .control)) (k : LinksFine q) (r : Record)
+module _ (q : Tables) (c : ControlFine (q .control)) (k : LinksFine q) (r : Call)
     (h : RecordFine (isPooled (q .control)) (q .control .slots) r) where
-  abbrev at : ℕ → ℕ → Record
+  abbrev at : ℕ → ℕ → Call
   at p j = atPlace (ofKind r j (r .side)) p
 
   abbrev Here : ℕ → Type 0

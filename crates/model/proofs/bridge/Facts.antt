@@ -13,7 +13,7 @@ use Rattle.word.specs.declared.Anchor.{Anchor}
 use Rattle.model.specs.Sound.{anchorSound, anchorTests, controlSound, controlTests, from1, linkSound, recordSound}
 use Rattle.model.specs.Sound.{recordTests, rowTests, rowsFit}
 use Rattle.model.specs.Tables.{Tables, isPooled}
-use Rattle.model.specs.declared.{Control.Control, Record.Record}
+use Rattle.model.specs.declared.{Control.Control, Call.Call}
 use Rattle.model.proofs.tests.Rules.{tests}
 use Rattle.model.proofs.tests.Truth.{and-of, and-true, beq-eq, not-both, or-first, or-left, or-right, or-second}
 use Rattle.model.proofs.bridge.View.{linkAt}
@@ -42,7 +42,7 @@ anchor-fine slots a e =
     }
 
 -- A busy record's fields are within their ranges, and its kind suits its place. (What its own slot is, Task and Extra say.)
-pub record RecordFine (pooled : Bool) (slots : ℕ) (r : Record) : Type 0 where
+pub record RecordFine (pooled : Bool) (slots : ℕ) (r : Call) : Type 0 where
   pub place : r .place ≤ 17
   pub named : pooled ≡ false → r .place ≤ 11
   pub kind : r .kind ≤ 1
@@ -72,7 +72,7 @@ pub link-fine : (slots w : ℕ) → linkSound slots w ≡ true → (spareOf w �
 unfolding linkSound
 link-fine slots w e = let z = and-true (eqb (spareOf w) 0) (leb (linkOf w .slot) slots) e in (eqb-true _ _ (z .0), leb-true _ _ (z .1))
 
-pub record-fine : (pooled : Bool) (slots : ℕ) (r : Record) → recordSound pooled slots r ≡ true → r .place ≢ 0 → RecordFine pooled slots r
+pub record-fine : (pooled : Bool) (slots : ℕ) (r : Call) → recordSound pooled slots r ≡ true → r .place ≢ 0 → RecordFine pooled slots r
 unfolding recordSound
 record-fine pooled slots r e n =
     let z = tests (recordTests pooled slots r) (or-right _ _ e (ne-eqb _ _ n)) in

@@ -11,15 +11,15 @@ use Rattle.word.specs.Link.{linkOf, packLink, spareOf}
 use Rattle.model.specs.Places.{at10, at5, at6, at7, at9, endSeen, linkSide, move, row, setLink, sideOf, wordFound}
 use Rattle.model.specs.Route.{answer, goes, onward, popRoute, pushRoute}
 use Rattle.model.specs.Tables.{Tables, atPlace}
-use Rattle.model.specs.declared.Record.{Record}
+use Rattle.model.specs.declared.Call.{Call}
 use Rattle.model.proofs.tests.Truth.{split}
 use Rattle.model.proofs.machine.Machine as M
 use Rattle.model.proofs.bridge.Decoded.{AnchorRoom, LinkRoom, Seen, route-shared, same-touch}
 use Rattle.model.proofs.bridge.View.{anchorSeen, linkAt, linkSeen, recOf, touchSeen, view}
 use Rattle.model.proofs.bridge.Words.{anchor-back, link-back, same-link-word, same-word, towards-status}
 
-module _ (q : Tables) (r : Record) where
-  abbrev at : ℕ → Record
+module _ (q : Tables) (r : Call) where
+  abbrev at : ℕ → Call
   at p = atPlace r p
 
   abbrev now : ℕ

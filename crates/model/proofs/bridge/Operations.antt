@@ -10,9 +10,9 @@ use borrow.Author.Tests.{lt-ltb}
 use Rattle.model.specs.Calls.{entryOf, finish}
 use Rattle.model.specs.Places.{Move, Touch, clearMark, wordFound, move, nothing, setAnchor, setHead, setLink, setNext, takeSlot}
 use Rattle.model.specs.Route.{answer, counted, goes}
-use Rattle.model.specs.Tables.{Queue, Tables, asking, isPooled, marked, recordAt, started, taskAt, unused, withCall, taken}
+use Rattle.model.specs.Tables.{Queue, Tables, asking, isPooled, marked, recordAt, started, taskAt, unused, withCall, withTaken}
 use Rattle.model.specs.declared.Answer as answered
-use Rattle.model.specs.declared.{Record.Record, TaskRecord.TaskRecord}
+use Rattle.model.specs.declared.{Call.Call, Record.Record}
 use Rattle.model.proofs.tests.{ByPlace.by-place, Truth.not-both}
 use Rattle.model.proofs.machine.Answers.{Ends, act-ends}
 use Rattle.model.proofs.machine.Book as B
@@ -38,7 +38,7 @@ unfolding stateOf
 task-of q t lt = rw (lt-ltb t (q .tables .control .tasks) lt)
 
 -- A record put back is a record of the machine replaced.
-pub put-back : (q : Queue) (t : ℕ) → Lies q t → (r : TaskRecord)
+pub put-back : (q : Queue) (t : ℕ) → Lies q t → (r : Record)
     → (λ (u : ℕ). stateOf (record { tables = q .tables; records = set (q .records) t r }) .task u) ≡ upd (stateOf q .task) t (recOf (r .call))
 unfolding stateOf
 put-back q t z r = task-set (q .tables .control .tasks) (q .records) t r (omega (arith, z .length, z .known)) (z .known)
@@ -47,11 +47,11 @@ module _ (q : Queue) (b : B.Book) (i : Inv (record { state = stateOf q; book = b
   abbrev g : Tables
   g = q .tables
 
-  abbrev r : Record
+  abbrev r : Call
   r = recordAt q t
 
   -- The task's record with another call.
-  abbrev put : Record → TaskRecord
+  abbrev put : Call → Record
   put c = withCall (taskAt q t) c
 
   -- An accepted step.
@@ -89,7 +89,7 @@ module _ (q : Queue) (b : B.Book) (i : Inv (record { state = stateOf q; book = b
     pub state-is : stateOf stepped ≡ record { shared = M.apply (view g) (seenMove g r .touch); task = upd (stateOf q .task) t (seenMove g r .rec) }
     unfolding stateOf finish
     state-is =
-        let r′ : TaskRecord = record { call = goes (m .task) (next r m); retries = counted (taskAt q t .retries) (m .failed) } in
+        let r′ : Record = record { call = goes (m .task) (next r m); retries = counted (taskAt q t .retries) (m .failed) } in
         (λ j. record {
           shared = view (finish g (taskAt q t) m .tables);
           task = λ u. cond (ltb u (touched-tasks (m .touch) g j)) (recOf (getD (set (q .records) t r′) u unused .call)) M.blank;
@@ -126,7 +126,7 @@ module _ (q : Queue) (b : B.Book) (i : Inv (record { state = stateOf q; book = b
     touch-fine = move-fine (isPooled (g .control)) (g .control .slots) r (s .fine) (s .control .slots) (g .control) (wordFound g r)
 
     -- In a named queue no slot is drawn.
-    pub step-grants : (c : B.Call) → isPooled (g .control) ≡ false → B.granted (touchSeen (m .touch)) c ≡ c
+    pub step-grants : (c : B.BookCall) → isPooled (g .control) ≡ false → B.granted (touchSeen (m .touch)) c ≡ c
     step-grants c e = go (m .touch) touch-fine
       where
         go : (w : Touch) → TouchFine (isPooled (g .control)) (g .control .slots) w → B.granted (touchSeen w) c ≡ c
@@ -222,7 +222,7 @@ module _ (q : Queue) (b : B.Book) (i : Inv (record { state = stateOf q; book = b
         (ask-inv (record { state = stateOf q; book = b }) i t (eqb side 1) l ready pooled)
 
     pub push-keeps : (side x l : ℕ) → 1 ≤ x → x ≤ g .control .slots → isPooled (g .control) ≡ false → marked (g .marks) x ≡ false → Inv (record {
-      state = stateOf (record { tables = taken g x l; records = set (q .records) t (put (started 0 side x l)) });
+      state = stateOf (record { tables = withTaken g x l; records = set (q .records) t (put (started 0 side x l)) });
       book = B.begun b t (B.bookedCall M.push (eqb side 1) x l);
     })
     unfolding stateOf view

@@ -10,13 +10,13 @@ use Rattle.model.specs.Places.{at1, at10, at11, at12, at13, at14, at15, 
 use Rattle.model.specs.Places.{linkSide, move, row, sideOf}
 use Rattle.model.specs.Refusals.{hasRoom}
 use Rattle.model.specs.Tables.{atPlace, Tables, isPooled}
-use Rattle.model.specs.declared.Record.{Record}
+use Rattle.model.specs.declared.Call.{Call}
 use Rattle.model.proofs.tests.{ByPlace.by-place, Truth.split}
 use Rattle.model.proofs.bridge.Decoded.{RoomAt}
 use Rattle.model.proofs.bridge.View.{linkAt, placeOf}
 
-module _ (q : Tables) (r : Record) where
-  abbrev at : ℕ → Record
+module _ (q : Tables) (r : Call) where
+  abbrev at : ℕ → Call
   at p = atPlace r p
 
   abbrev Test : ℕ → Type 0

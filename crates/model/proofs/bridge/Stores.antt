@@ -11,8 +11,8 @@ use lib.Seq.{getD-set-other, getD-set-same}
 use borrow.Author.Tests.{eqb-false, eqb-true, lt-ltb}
 use Rattle.word.specs.Link.{linkOf, spareOf}
 use Rattle.model.specs.Places.{Touch, apply, clearMark, nothing, setAnchor, setHead, setLink, setNext, takeSlot}
-use Rattle.model.specs.Tables.{Tables, isPooled, marked, withMark, unused, taken}
-use Rattle.model.specs.declared.TaskRecord.{TaskRecord}
+use Rattle.model.specs.Tables.{Tables, isPooled, marked, withMark, unused, withTaken}
+use Rattle.model.specs.declared.Record.{Record}
 use Rattle.model.proofs.tests.Truth.{by-test, decide-eq, split}
 use Rattle.model.proofs.machine.Machine as M
 use Rattle.model.proofs.machine.Machine.{relink, upd}
@@ -35,15 +35,15 @@ upd-mark ws x b hb hx = fun-ext (λ y. by-test (λ v. marked (withMark ws x b) y
     (λ e. marked-other ws x b hb hx y (eqb-false y x e)))
 
 -- A record put back, where the records beyond the tasks count as idle.
-pub task-set : (n : ℕ) (l : List TaskRecord) (t : ℕ) (r : TaskRecord) → t < length l → t < n
+pub task-set : (n : ℕ) (l : List Record) (t : ℕ) (r : Record) → t < length l → t < n
     → (λ (u : ℕ). cond (ltb u n) (recOf (getD (set l t r) u unused .call)) M.blank)
     ≡ upd (λ u. cond (ltb u n) (recOf (getD l u unused .call)) M.blank) t (recOf (r .call))
 unfolding upd
 task-set n l t r h g = fun-ext (λ u. by-test (λ v. cond (ltb u n) (recOf (getD (set l t r) u unused .call)) M.blank ≡ v) (eqb u t)
     (λ e. let z = eqb-true u t e in
     ap (λ (b : Bool). cond b (recOf (getD (set l t r) u unused .call)) M.blank) (lt-ltb u n (omega arith))
-    ∙ ap (λ (v : ℕ). recOf (getD (set l t r) v unused .call)) z ∙ ap (λ (x : TaskRecord). recOf (x .call)) (getD-set-same l t r unused h))
-    (λ e. ap (λ (v : TaskRecord). cond (ltb u n) (recOf (v .call)) M.blank) (getD-set-other l t u r unused (eqb-false u t e))))
+    ∙ ap (λ (v : ℕ). recOf (getD (set l t r) v unused .call)) z ∙ ap (λ (x : Record). recOf (x .call)) (getD-set-same l t r unused h))
+    (λ e. ap (λ (v : Record). cond (ltb u n) (recOf (v .call)) M.blank) (getD-set-other l t u r unused (eqb-false u t e))))
 
 -- No touch changes the numbers of tasks and slots.
 pub touched-tasks : (t : Touch) (q : Tables) → apply t q .control .tasks ≡ q .control .tasks
@@ -146,7 +146,7 @@ module _ (q : Tables) (h : RowsFine q) where
   }
   view-touched (setHead w) f = refl
 
-  pub view-taken : (x l : ℕ) → x ≤ q .control .slots → view (taken q x l) ≡ M.withLabel (view q) x l
+  pub view-taken : (x l : ℕ) → x ≤ q .control .slots → view (withTaken q x l) ≡ M.withLabel (view q) x l
   unfolding view
   view-taken x l hx = λ i. record {
     slots = q .control .slots;

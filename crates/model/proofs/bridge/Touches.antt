@@ -6,7 +6,7 @@ use native.Mathlib.Omega.{arith}
 use lib.Dec.{eqb}
 use Rattle.word.specs.Link.{linkOf, packLink}
 use Rattle.model.specs.Places.{endSeen, linkSide, move, row, setLink, sideOf}
-use Rattle.model.specs.declared.{Control.Control, Record.Record}
+use Rattle.model.specs.declared.{Control.Control, Call.Call}
 use Rattle.model.proofs.tests.Truth.{by-test, either, split}
 use Rattle.model.proofs.bridge.{ByMove.by-move, Facts.RecordFine}
 use Rattle.model.proofs.bridge.Stores.{TouchFine, WordFine}
@@ -20,7 +20,7 @@ word-fine slots t n g s =
     let u : (t % 4294967296 * 4294967296 + n % 32768) / 4294967296 < 4294967296 = omega arith in
     (p, o, u)
 
-module _ (pooled : Bool) (slots : ℕ) (r : Record) (h : RecordFine pooled slots r) where
+module _ (pooled : Bool) (slots : ℕ) (r : Call) (h : RecordFine pooled slots r) where
   end-fine : endSeen r ≤ slots
   end-fine = by-test (λ v. v ≤ slots) (eqb (sideOf r) 1) (λ e. h .seen .right) (λ e. h .seen .left)
 

@@ -12,16 +12,16 @@ use Rattle.model.specs.{Calls.entryOf, Kinds.isPop, Sides.facing}
 use Rattle.model.specs.Places.{at1, at2, at3, at4, linkSide, move, new4, reading, row, sideOf}
 use Rattle.model.specs.Route.{answer, goes, onward, popRoute, pushRoute, route}
 use Rattle.model.specs.Tables.{Tables, atPlace, ofKind, withSeen}
-use Rattle.model.specs.declared.Record.{Record}
+use Rattle.model.specs.declared.Call.{Call}
 use Rattle.model.proofs.tests.Truth.{split}
 use Rattle.model.proofs.machine.Machine as M
 use Rattle.model.proofs.bridge.Decoded.{AnchorRoom, Seen, same-touch}
 use Rattle.model.proofs.bridge.View.{anchorSeen, answerSeen, kindOf, linkAt, recOf, statusOf, view}
 use Rattle.model.proofs.bridge.Words.{anchor-back, link-back, same-word, stable-status}
 
-module _ (q : Tables) (r : Record) where
+module _ (q : Tables) (r : Call) where
   -- At a place and of a kind: 0 push, 1 pop.
-  abbrev at : ℕ → ℕ → Record
+  abbrev at : ℕ → ℕ → Call
   at p k = atPlace (ofKind r k (r .side)) p
 
   abbrev now : ℕ

@@ -8,7 +8,7 @@ use Rattle.word.specs.{Anchor.anchorOf, Link.linkOf}
 use Rattle.model.specs.Places as place
 use Rattle.model.specs.Tables.{Queue, Tables, isPooled, marked, recordAt}
 use Rattle.model.specs.declared.Answer as answer
-use Rattle.model.specs.declared.Record.{Record}
+use Rattle.model.specs.declared.Call.{Call}
 use Rattle.model.proofs.machine.Machine.{Anchor, Answer, Kind, Link, Place, Rec, Shared, State, Status, Touch, at1, at10, at11, at12}
 use Rattle.model.proofs.machine.Machine.{at13, at14, at15, at16, at17, at2, at3, at4, at5, at6, at7, at8, at9, blank, clear, draw}
 use Rattle.model.proofs.machine.Machine.{empty, give, idle, noSlot, none, pop, popped, push, pushed, pushing, putAnchor, putHead}
@@ -33,7 +33,7 @@ placeList = idle ∷ at1 ∷ at2 ∷ at3 ∷ at4 ∷ at5 ∷ at6 ∷ at7 ∷ at8
 abbrev pub placeOf : ℕ → Place
 placeOf n = getD placeList n idle
 
-unfoldable pub recOf : Record → Rec
+unfoldable pub recOf : Call → Rec
 recOf r = record {
   place = placeOf (r .place);
   kind = kindOf (r .kind);
@@ -71,7 +71,7 @@ answerSeen (answer.the-variants.Running p) = running
 answerSeen answer.the-variants.Pushed = pushed
 answerSeen answer.the-variants.Empty = empty
 answerSeen (answer.the-variants.Popped e) = popped (e .slot) (e .label)
-answerSeen answer.the-variants.NoSlot = noSlot
+answerSeen answer.the-variants.NoFreeSlot = noSlot
 
 abbrev pub touchSeen : place.Touch → Touch
 touchSeen place.nothing = none

@@ -5,7 +5,7 @@ use mathlib.Core.Bool.{Bool, false, true}
 use mathlib.Core.Logic.{_≢_, _⊎_}
 use mathlib.Core.Path.{_≡_}
 use Prim.Native.Nat.{_<_, _≤_, ℕ}
-use Rattle.model.proofs.machine.Book.{Call}
+use Rattle.model.proofs.machine.Book.{BookCall}
 use Rattle.model.proofs.machine.Machine.{Anchor, Answer, Draw, Give, Kind, Link, Place, Rec, Shared, at1, at10, at11, at12, at13}
 use Rattle.model.proofs.machine.Machine.{at14, at15, at16, at17, at2, at3, at4, at5, at6, at7, at8, at9, draw, give, idle, inner}
 use Rattle.model.proofs.machine.Machine.{pop, popped, push, pushed, pushing, stable, tip, towards}
@@ -13,7 +13,7 @@ use Rattle.model.proofs.invariant.Owners.{Owner, held}
 use Rattle.model.proofs.invariant.Shape.{Made}
 
 -- The call is the one that the record works at: kind, side, slot and label are as its start named them.
-pub record Agrees (k : Kind) (d : Bool) (x l : ℕ) (c : Call) : Type 0 where
+pub record Agrees (k : Kind) (d : Bool) (x l : ℕ) (c : BookCall) : Type 0 where
   pub kind : c .kind ≡ k
   pub side : c .side ≡ d
   pub slot : c .slot ≡ x
@@ -32,18 +32,18 @@ Own push g h t x l = (x ≢ 0) × (h x ≡ held t) × (g x ≡ l) × Sole h t x
 Own pop g h t x l = Bare h t
 
 -- Before its effect a call has none.
-pub record Before (g : ℕ → ℕ) (h : ℕ → Owner) (t : ℕ) (k : Kind) (d : Bool) (x l : ℕ) (c : Call) : Type 0 where
+pub record Before (g : ℕ → ℕ) (h : ℕ → Owner) (t : ℕ) (k : Kind) (d : Bool) (x l : ℕ) (c : BookCall) : Type 0 where
   pub agrees : Agrees k d x l c
   pub none : c .effects ≡ 0
   pub own : Own k g h t x l
 
 -- After it, just one, to which the sequential deque replied what the call will answer.
-pub record After (c : Call) (a : Answer) : Type 0 where
+pub record After (c : BookCall) (a : Answer) : Type 0 where
   pub once : c .effects ≡ 1
   pub told : c .told ≡ a
 
 -- At 5 to 10 a finishing push is after its effect, any other task before it.
-abbrev pub Stage : Bool → (ℕ → ℕ) → (ℕ → Owner) → ℕ → Kind → Bool → ℕ → ℕ → Call → Type 0
+abbrev pub Stage : Bool → (ℕ → ℕ) → (ℕ → Owner) → ℕ → Kind → Bool → ℕ → ℕ → BookCall → Type 0
 Stage false g h t k d x l c = Before g h t k d x l c
 Stage true g h t k d x l c = After c pushed × Bare h t
 
@@ -68,13 +68,13 @@ Four push s d x a n = inner s d x ≡ tip a d
 Four pop s d x a n = a ≡ s .anchor → inner s d (tip a d) ≡ n
 
 -- Places 2 to 4.
-pub record Tries (g : ℕ → ℕ) (b : Anchor) (h : ℕ → Owner) (t : ℕ) (f : Bool) (k : Kind) (d : Bool) (x l : ℕ) (a : Anchor) (c : Call) : Type 0 where
+pub record Tries (g : ℕ → ℕ) (b : Anchor) (h : ℕ → Owner) (t : ℕ) (f : Bool) (k : Kind) (d : Bool) (x l : ℕ) (a : Anchor) (c : BookCall) : Type 0 where
   pub early : f ≡ false
   pub before : Before g h t k d x l c
   pub read : Read b a
 
 -- Places 5 to 10. (6) They read unstable.
-pub record Helps (g : ℕ → ℕ) (b : Anchor) (h : ℕ → Owner) (t : ℕ) (f : Bool) (k : Kind) (d : Bool) (x l : ℕ) (a : Anchor) (c : Call) : Type 0 where
+pub record Helps (g : ℕ → ℕ) (b : Anchor) (h : ℕ → Owner) (t : ℕ) (f : Bool) (k : Kind) (d : Bool) (x l : ℕ) (a : Anchor) (c : BookCall) : Type 0 where
   pub stage : Stage f g h t k d x l c
   pub read : Read b a
   pub status : a .status ≡ pushing (towards (a .status))
@@ -100,7 +100,7 @@ abbrev pub Fresh : Shared → Anchor → ℕ → Link → Type 0
 Fresh s a n w = (w ≡ s .link (way a) n) ⊎ Grown s a n w
 
 -- Place 8: all that is known of the link as read holds if A is current.
-pub record Eighth (s : Shared) (a : Anchor) (n : ℕ) (w : Link) : Type 0 where
+pub record At8 (s : Shared) (a : Anchor) (n : ℕ) (w : Link) : Type 0 where
   pub other : Other a w
   pub near : a ≡ s .anchor → Near s a n
   pub fresh : a ≡ s .anchor → Fresh s a n w
@@ -111,18 +111,18 @@ pub record Live (s : Shared) (a : Anchor) (n : ℕ) (w : Link) : Type 0 where
   pub near : Near s a n
   pub fresh : Fresh s a n w
 
-pub record Ninth (s : Shared) (a : Anchor) (n : ℕ) (w : Link) : Type 0 where
+pub record At9 (s : Shared) (a : Anchor) (n : ℕ) (w : Link) : Type 0 where
   pub other : Other a w
   pub chance : Live s a n w ⊎ Grown s a n w
 
 -- (8) Place 11: the pop owns the end that it took, and its row has the label that the sequential deque replied.
-pub record Eleventh (g : ℕ → ℕ) (h : ℕ → Owner) (t x : ℕ) (c : Call) : Type 0 where
+pub record Eleventh (g : ℕ → ℕ) (h : ℕ → Owner) (t x : ℕ) (c : BookCall) : Type 0 where
   pub after : After c (popped x (g x))
   pub holds : h x ≡ held t
   pub sole : Sole h t x
 
 -- Places 12 to 14: a push that has no slot yet.
-pub record Draws (h : ℕ → Owner) (t : ℕ) (f : Bool) (k : Kind) (d : Bool) (x l : ℕ) (c : Call) : Type 0 where
+pub record Draws (h : ℕ → Owner) (t : ℕ) (f : Bool) (k : Kind) (d : Bool) (x l : ℕ) (c : BookCall) : Type 0 where
   pub early : f ≡ false
   pub kind : k ≡ push
   pub agrees : Agrees k d x l c
@@ -130,8 +130,8 @@ pub record Draws (h : ℕ → Owner) (t : ℕ) (f : Bool) (k : Kind) (d : Bool) 
   pub bare : Bare h t
 
 -- (18) Place 13: the head as read, a, is the head, b, or its tag is past for good.
-abbrev pub Thirteenth : Link → Link → Type 0
-Thirteenth b a = (a ≡ b) ⊎ (a .tag < b .tag)
+abbrev pub At13 : Link → Link → Type 0
+At13 b a = (a ≡ b) ⊎ (a .tag < b .tag)
 
 -- (19) Place 14: it is the head, and n the next of its slot; or its tag is past for good.
 abbrev pub Fourteenth : (ℕ → ℕ) → Link → Link → ℕ → Type 0
@@ -139,11 +139,11 @@ Fourteenth f b a n = ((a ≡ b) × (f (a .slot) ≡ n)) ⊎ (a .tag < b .tag)
 
 abbrev pub Drawing : Draw → Shared → Rec → Type 0
 Drawing at12 s r = Unit {0}
-Drawing at13 s r = (r .link .slot ≢ 0) × Thirteenth (s .head) (r .link)
+Drawing at13 s r = (r .link .slot ≢ 0) × At13 (s .head) (r .link)
 Drawing at14 s r = (r .link .slot ≢ 0) × Fourteenth (s .next) (s .head) (r .link) (r .near)
 
 -- (8) Places 15 to 17: the pop owns its slot still, and will answer what its record holds.
-pub record Gives (h : ℕ → Owner) (t x l : ℕ) (c : Call) : Type 0 where
+pub record Gives (h : ℕ → Owner) (t x l : ℕ) (c : BookCall) : Type 0 where
   pub after : After c (popped x l)
   pub holds : h x ≡ held t
   pub sole : Sole h t x
@@ -154,17 +154,17 @@ Giving at15 s r = Unit {0}
 Giving at16 s r = Unit {0}
 Giving at17 s r = s .next (r .own) ≡ r .link .slot
 
-abbrev Begins : Shared → (ℕ → Owner) → ℕ → Rec → Call → Type 0
+abbrev Begins : Shared → (ℕ → Owner) → ℕ → Rec → BookCall → Type 0
 Begins s h t r c = Before (s .label) h t (r .kind) (r .side) (r .own) (r .label) c
 
-abbrev Trying : Shared → (ℕ → Owner) → ℕ → Rec → Call → Type 0
+abbrev Trying : Shared → (ℕ → Owner) → ℕ → Rec → BookCall → Type 0
 Trying s h t r c = Tries (s .label) (s .anchor) h t (r .finishing) (r .kind) (r .side) (r .own) (r .label) (r .read) c
 
-abbrev Helping : Shared → (ℕ → Owner) → ℕ → Rec → Call → Type 0
+abbrev Helping : Shared → (ℕ → Owner) → ℕ → Rec → BookCall → Type 0
 Helping s h t r c = Helps (s .label) (s .anchor) h t (r .finishing) (r .kind) (r .side) (r .own) (r .label) (r .read) c
 
 -- The task part of the invariant, place by place. (9) At 6 and 7 the neighbour is e's if current. (13) At 10, if current, the link back is made.
-abbrev pub Task : Place → Shared → (ℕ → Owner) → ℕ → Rec → Call → Type 0
+abbrev pub Task : Place → Shared → (ℕ → Owner) → ℕ → Rec → BookCall → Type 0
 Task idle s h t r c = (c .effects ≡ 0) × Bare h t
 Task at1 s h t r c = (r .finishing ≡ false) × Begins s h t r c
 Task at2 s h t r c = Trying s h t r c × Two (r .kind) (r .read)
@@ -173,8 +173,8 @@ Task at4 s h t r c = Trying s h t r c × Three (r .kind) (r .read) × Four (r .k
 Task at5 s h t r c = Helping s h t r c
 Task at6 s h t r c = Helping s h t r c × (r .read ≡ s .anchor → Near s (r .read) (r .near))
 Task at7 s h t r c = Helping s h t r c × (r .read ≡ s .anchor → Near s (r .read) (r .near))
-Task at8 s h t r c = Helping s h t r c × Eighth s (r .read) (r .near) (r .link)
-Task at9 s h t r c = Helping s h t r c × Ninth s (r .read) (r .near) (r .link)
+Task at8 s h t r c = Helping s h t r c × At8 s (r .read) (r .near) (r .link)
+Task at9 s h t r c = Helping s h t r c × At9 s (r .read) (r .near) (r .link)
 Task at10 s h t r c = Helping s h t r c × (r .read ≡ s .anchor → Made (s .link) (r .read) (way (r .read)))
 Task at11 s h t r c = Eleventh (s .label) h t (tip (r .read) (r .side)) c
 Task (draw p) s h t r c = (s .pooled ≡ true) × Draws h t (r .finishing) (r .kind) (r .side) (r .own) (r .label) c × Drawing p s r

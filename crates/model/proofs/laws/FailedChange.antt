@@ -5,7 +5,7 @@ use mathlib.Core.Logic.{_⊎_, inl, inr}
 use Prim.Native.Nat.{ℕ}
 use lib.Dec.{eqb}
 use Rattle.word.specs.Anchor.{anchorOf}
-use Rattle.model.specs.declared.{Record.Record, TaskRecord.TaskRecord}
+use Rattle.model.specs.declared.{Call.Call, Record.Record}
 use Rattle.model.specs.Tables.{Tables, isPooled, atPlace, withCall}
 use Rattle.model.specs.Sound.{controlSound, recordSound, rowsFit}
 use Rattle.model.specs.Places.{sideOf, row, reading, at1, at2, at4, move}
@@ -16,15 +16,15 @@ use Rattle.model.proofs.tests.Truth.{split}
 use Rattle.model.proofs.laws.Onward.{reads-on}
 use Rattle.model.specs.Kinds.{isPop}
 
-module _ (q : Tables) (p : Lent) (t : TaskRecord) where
-  abbrev r : Record
+module _ (q : Tables) (p : Lent) (t : Record) where
+  abbrev r : Call
   r = t .call
 
   -- The call at another place, and at 1 with one more failed change.
-  abbrev at : ℕ → TaskRecord
+  abbrev at : ℕ → Record
   at place = withCall t (atPlace r place)
 
-  abbrev retried : TaskRecord
+  abbrev retried : Record
   retried = record { call = atPlace r 1; retries = counted (t .retries) true }
 
   -- A step at this place that is not refused is place 1's.

@@ -7,8 +7,8 @@ use native.Mathlib.Omega.{arith}
 use lib.Dec.{eqb, leb, ltb}
 use lib.ListN.{length, set, length-set, length-append, length-replicate, length-drop}
 use borrow.Author.Tests.{leb-true, ltb-true, not-false}
-use Rattle.model.specs.declared.{TaskRecord.TaskRecord, Op.Op}
-use Rattle.model.specs.declared.Op.the-variants.{Push, Pop, Put, Step}
+use Rattle.model.specs.declared.{Record.Record, Op.Op}
+use Rattle.model.specs.declared.Op.the-variants.{Push, Pop, PushPooled, Step}
 use Rattle.model.specs.Tables.{tablesOf, Tables, Queue, unused, taskAt}
 use Rattle.model.specs.Sound.{rowTests, rowsFit}
 use Rattle.model.specs.Places.{Touch, nothing, setAnchor, setLink, clearMark, takeSlot, setNext, setHead, wordFound, move, apply}
@@ -54,18 +54,18 @@ touched (setNext x v) q = simp length-set
 touched (setHead w) q = refl
 
 -- Refused or carried out.
-settled : (why : ℕ) (q : Tables) (r : TaskRecord) (done : Acted) → lengths (done .tables) ≡ lengths q → lengths (decide why q r done .tables) ≡ lengths q
+settled : (why : ℕ) (q : Tables) (r : Record) (done : Acted) → lengths (done .tables) ≡ lengths q → lengths (decide why q r done .tables) ≡ lengths q
 settled why q r done e = either (λ (a : Acted). lengths (a .tables) ≡ lengths q) (eqb why 0) e refl
 
-act-on : (q : Tables) (p : Lent) (r : TaskRecord) (o : Op) → lengths (actOn q p r o .tables) ≡ lengths q
+act-on : (q : Tables) (p : Lent) (r : Record) (o : Op) → lengths (actOn q p r o .tables) ≡ lengths q
 unfolding actOn pushStart putStart popStart step finish
 act-on q p r (Push side slot label) = settled (pushRefusal q p (r .call) side slot) q r _ (simp length-set)
 act-on q p r (Pop side) = settled (popRefusal q p (r .call) side) q r _ refl
-act-on q p r (Put side label) = settled (putRefusal q p (r .call) side) q r _ refl
+act-on q p r (PushPooled side label) = settled (putRefusal q p (r .call) side) q r _ refl
 act-on q p r Step = settled (stepRefusal q p (r .call)) q r _ (touched (move (q .control) (r .call) (wordFound q (r .call)) .touch) _)
 
 -- The laws.
-pub lent-lengths : (q : Tables) (r : TaskRecord) → lengths (stepLent q r .tables) ≡ lengths q
+pub lent-lengths : (q : Tables) (r : Record) → lengths (stepLent q r .tables) ≡ lengths q
 unfolding stepLent actOn
 lent-lengths q r = act-on q alone r Step
 

@@ -5,17 +5,17 @@ use native.Mathlib.Omega.{arith}
 use lib.ListN.{length, set, length-set}
 use lib.Seq.{set-set, getD-set-same}
 use borrow.Author.Tests.{lt-ltb, le-leb}
-use Rattle.model.specs.declared.TaskRecord.{TaskRecord}
+use Rattle.model.specs.declared.Record.{Record}
 use Rattle.model.specs.declared.Op.the-variants.{Step}
 use Rattle.model.specs.Tables.{Queue, unused, taskAt}
 use Rattle.model.specs.Refusals.{Lent, among, alone}
 use Rattle.model.specs.Calls.{Acted, step, actOn, back, act, stepLent}
 
 -- The queue with a record as the row of task t.
-abbrev pub withRow : Queue → ℕ → TaskRecord → Queue
+abbrev pub withRow : Queue → ℕ → Record → Queue
 withRow q t r = record { tables = q .tables; records = set (q .records) t r }
 
-module _ (q : Queue) (t : ℕ) (r : TaskRecord) (task : t < q .tables .control .tasks) (long : q .tables .control .tasks ≤ length (q .records)) where
+module _ (q : Queue) (t : ℕ) (r : Record) (task : t < q .tables .control .tasks) (long : q .tables .control .tasks ≤ length (q .records)) where
   row-lent : taskAt (withRow q t r) t ≡ r
   row-lent = getD-set-same (q .records) t r unused (omega arith)
 
@@ -28,7 +28,7 @@ module _ (q : Queue) (t : ℕ) (r : TaskRecord) (task : t < q .tables .control .
 
   pub lent-record : act (withRow q t r) t Step ≡ back q t (stepLent (q .tables) r)
   unfolding act actOn stepLent
-  lent-record = ap₂ (λ (p : Lent) (x : TaskRecord). back (withRow q t r) t (step (q .tables) p x)) seen-lent row-lent ∙ put-back (stepLent (q .tables) r)
+  lent-record = ap₂ (λ (p : Lent) (x : Record). back (withRow q t r) t (step (q .tables) p x)) seen-lent row-lent ∙ put-back (stepLent (q .tables) r)
     where
       put-back : (a : Acted) → back (withRow q t r) t a ≡ back q t a
       put-back a = λ i. record { queue = record { tables = a .tables; records = set-set (q .records) t r (a .task) i }; outcome = a .outcome }

@@ -14,12 +14,12 @@ use native.Mathlib.Omega.{arith}
 use lib.Dec.{eqb, leb, ltb}
 use lib.ListN.{set, drop, replicate, length-map, List·getD-map}
 use Rattle.word.specs.Anchor.{emptyAnchor}
-use Rattle.model.specs.declared.{Record.Record, TaskRecord.TaskRecord, Op.Op, Asked.Asked}
+use Rattle.model.specs.declared.{Call.Call, Record.Record, Op.Op, Asked.Asked}
 use Rattle.model.specs.declared.Answer.the-variants.{Running}
 use Rattle.model.specs.declared.Outcome.the-variants.{Moved}
 use Rattle.model.specs.declared.Opening.the-variants as opening
-use Rattle.model.specs.declared.Op.the-variants.{Push, Pop, Put, Step}
-use Rattle.model.specs.Tables.{Tables, Queue, asking, started, taskAt, unused, withAnchor, withCall, taken}
+use Rattle.model.specs.declared.Op.the-variants.{Push, Pop, PushPooled, Step}
+use Rattle.model.specs.Tables.{Tables, Queue, asking, started, taskAt, unused, withAnchor, withCall, withTaken}
 use Rattle.model.specs.Refusals.{openRefusal, Lent, among, alone, fits, startRefusal, namedPush, pooledPush, nothingAsked}
 use Rattle.model.specs.Calls.{opened, OpenDone, openAs, Acted, decide, pushStart, putStart, popStart, actOn, back, act, stepLent}
 use Rattle.model.specs.Mirror.{mirrorSide, mirrorStatus, mirrorWord, mirrorControl, mirrorTables, mirrorRecord, mirrorTask, mirrorQueue, mirrorOp}
@@ -30,11 +30,11 @@ use Rattle.model.proofs.laws.Mirror.Steps.{decide-mirror, step-mirror}
 use Rattle.model.specs.Lists.{zeroed}
 
 -- A start or step of one record.
-abbrev starts : Tables → TaskRecord → ℕ → Record → Acted
+abbrev starts : Tables → Record → ℕ → Call → Acted
 starts q r first call = record { tables = q; task = withCall r call; outcome = Moved (Running first) }
 
 -- A start that is carried out leaves the mirror, where its call is the mirror.
-start-mirror : (q t : Tables) (p : Lent) (r : TaskRecord) (side first : ℕ) (a : Asked) (call mirrored : Record) → mirrored ≡ mirrorRecord call
+start-mirror : (q t : Tables) (p : Lent) (r : Record) (side first : ℕ) (a : Asked) (call mirrored : Call) → mirrored ≡ mirrorRecord call
     → decide (startRefusal (mirrorControl (q .control)) (fits (mirrorTables q)) p (mirrorRecord (r .call)) (mirrorSide side) a)
     (mirrorTables q) (mirrorTask r) (starts (mirrorTables t) r first mirrored)
     ≡ mirrorActed (decide (startRefusal (q .control) (fits q) p (r .call) side a) q r (starts t r first call))
@@ -43,15 +43,15 @@ start-mirror q t p r side first a call mirrored e =
     ap (λ (why : ℕ). decide why (mirrorTables q) (mirrorTask r) (done mirrored)) (start-refusal-mirror q p (r .call) side a)
     ∙ decide-mirror (startRefusal (q .control) (fits q) p (r .call) side a) q r (starts t r first call) (done mirrored) (λ _. ap done e)
 
-act-on-mirror : (q : Tables) (p : Lent) (r : TaskRecord) (o : Op) → actOn (mirrorTables q) p (mirrorTask r) (mirrorOp o) ≡ mirrorActed (actOn q p r o)
+act-on-mirror : (q : Tables) (p : Lent) (r : Record) (o : Op) → actOn (mirrorTables q) p (mirrorTask r) (mirrorOp o) ≡ mirrorActed (actOn q p r o)
 unfolding actOn pushStart putStart popStart mirrorRecord mirrorWord mirrorStatus
 act-on-mirror q p r (Push side slot label) =
-    start-mirror q (taken q slot label) p r side 1 (namedPush q slot) (started 0 side slot label) (started 0 (mirrorSide side) slot label) refl
+    start-mirror q (withTaken q slot label) p r side 1 (namedPush q slot) (started 0 side slot label) (started 0 (mirrorSide side) slot label) refl
 act-on-mirror q p r (Pop side) = start-mirror q q p r side 1 nothingAsked (started 1 side 0 0) (started 1 (mirrorSide side) 0 0) refl
-act-on-mirror q p r (Put side label) = start-mirror q q p r side 12 (pooledPush q) (asking side label) (asking (mirrorSide side) label) refl
+act-on-mirror q p r (PushPooled side label) = start-mirror q q p r side 12 (pooledPush q) (asking side label) (asking (mirrorSide side) label) refl
 act-on-mirror q p r Step = step-mirror q p r
 
-pub lent-mirror : (q : Tables) (r : TaskRecord) → stepLent (mirrorTables q) (mirrorTask r) ≡ mirrorActed (stepLent q r)
+pub lent-mirror : (q : Tables) (r : Record) → stepLent (mirrorTables q) (mirrorTask r) ≡ mirrorActed (stepLent q r)
 unfolding stepLent
 lent-mirror q r = step-mirror q alone r
 
@@ -79,7 +79,7 @@ back-mirror q t a = λ i. record
 pub act-mirror : (q : Queue) (t : ℕ) (o : Op) → act (mirrorQueue q) t (mirrorOp o) ≡ mirrorDone (act q t o)
 unfolding act
 act-mirror q t o =
-    ap₂ (λ (p : Lent) (r : TaskRecord). back (mirrorQueue q) t (actOn (mirrorTables (q .tables)) p r (mirrorOp o))) (among-mirror q t)
+    ap₂ (λ (p : Lent) (r : Record). back (mirrorQueue q) t (actOn (mirrorTables (q .tables)) p r (mirrorOp o))) (among-mirror q t)
     (record-at-mirror q t)
     ∙ ap (back (mirrorQueue q) t) (act-on-mirror (q .tables) (among q t) (taskAt q t) o)
     ∙ back-mirror q t (actOn (q .tables) (among q t) (taskAt q t) o)

@@ -6,7 +6,7 @@ use mathlib.Core.Bool.{false}
 use Prim.Native.Nat.{ℕ}
 use lib.{Dec.eqb, Seq.getD-set-other}
 use borrow.Author.Tests.{eqb-true}
-use Rattle.model.specs.declared.{Control.Control, Record.Record, TaskRecord.TaskRecord, Op.Op}
+use Rattle.model.specs.declared.{Control.Control, Call.Call, Record.Record, Op.Op}
 use Rattle.model.specs.declared.Op.the-variants.{Step}
 use Rattle.model.specs.Tables.{Tables, Queue, isPooled, recordAt, taskAt, unused}
 use Rattle.model.specs.Places.{Touch, nothing, setAnchor, setLink, clearMark, takeSlot, setNext, setHead, Move, wordFound, move, apply}
@@ -32,7 +32,7 @@ data Single (place : ℕ) (m : Move) : Type 0 where
   touches : m .failed ≡ false → Draws14 place (m .touch) → Single place m
   counts : m .touch ≡ nothing → Single place m
 
-module _ (c : Control) (r : Record) (w : ℕ) where
+module _ (c : Control) (r : Call) (w : ℕ) where
   abbrev S : Move → Type 0
   S m = Single (r .place) m
 
@@ -65,7 +65,7 @@ applied place (takeSlot w x l) q d = drawn w x l d
 applied place (setNext x v) q d = next x v
 applied place (setHead w) q d = head w
 
-abbrev moved : Tables → TaskRecord → Move
+abbrev moved : Tables → Record → Move
 moved q r = move (q .control) (r .call) (wordFound q (r .call))
 
 -- What a single move touches is drawn at 14 alone, if at all.
@@ -73,29 +73,29 @@ drawn14 : (place : ℕ) (m : Move) → Single place m → Draws14 place (m .touc
 drawn14 place m (touches e d) = d
 drawn14 place m (counts e) = subst (Draws14 place) (sym e) tt
 
-step-touch : (q : Tables) (p : Lent) (r : TaskRecord) → OneTouch (r .call .place) q (step q p r .tables)
+step-touch : (q : Tables) (p : Lent) (r : Record) → OneTouch (r .call .place) q (step q p r .tables)
 unfolding step finish
 step-touch q p r =
     either (λ (a : Acted). OneTouch (r .call .place) q (a .tables)) (eqb (stepRefusal q p (r .call)) 0)
     (applied (r .call .place) (moved q r .touch) q (drawn14 (r .call .place) (moved q r) (single (q .control) (r .call) (wordFound q (r .call))))) untouched
 
 -- Where a failed change is counted no shared word is touched.
-abbrev Uncounted : Tables → TaskRecord → Acted → Type 0
+abbrev Uncounted : Tables → Record → Acted → Type 0
 Uncounted q r a = (a .task .retries ≡ r .retries) ⊎ (a .tables ≡ q)
 
-uncounted : (q : Tables) (r : TaskRecord) (m : Move) → Single (r .call .place) m → Uncounted q r (finish q r m)
+uncounted : (q : Tables) (r : Record) (m : Move) → Single (r .call .place) m → Uncounted q r (finish q r m)
 unfolding finish counted
 uncounted q r m (touches e d) = inl (rw e)
 uncounted q r m (counts e) = inr (rw e)
 
-step-uncounted : (q : Tables) (p : Lent) (r : TaskRecord) → Uncounted q r (step q p r)
+step-uncounted : (q : Tables) (p : Lent) (r : Record) → Uncounted q r (step q p r)
 unfolding step
 step-uncounted q p r =
     either (Uncounted q r) (eqb (stepRefusal q p (r .call)) 0)
     (uncounted q r (moved q r) (single (q .control) (r .call) (wordFound q (r .call)))) (inl refl)
 
 -- The laws, for all arguments.
-pub lent-touch : (q : Tables) (r : TaskRecord) → OneTouch (r .call .place) q (stepLent q r .tables)
+pub lent-touch : (q : Tables) (r : Record) → OneTouch (r .call .place) q (stepLent q r .tables)
 unfolding stepLent
 lent-touch q r = step-touch q alone r
 
@@ -103,7 +103,7 @@ pub act-touch : (q : Queue) (t : ℕ) → OneTouch (recordAt q t .place) (q .tab
 unfolding act actOn
 act-touch q t = step-touch (q .tables) (among q t) (taskAt q t)
 
-pub lent-uncounted : (q : Tables) (r : TaskRecord) → (stepLent q r .task .retries ≡ r .retries) ⊎ (stepLent q r .tables ≡ q)
+pub lent-uncounted : (q : Tables) (r : Record) → (stepLent q r .task .retries ≡ r .retries) ⊎ (stepLent q r .tables ≡ q)
 unfolding stepLent
 lent-uncounted q r = step-uncounted q alone r
 

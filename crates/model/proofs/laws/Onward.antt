@@ -9,7 +9,7 @@ use lib.ListN.{getD}
 use borrow.Author.Tests.{eqb-true, eqb-false, leb-true}
 use Rattle.word.specs.declared.Anchor.{Anchor}
 use Rattle.word.specs.{Anchor.anchorOf, Link.linkOf}
-use Rattle.model.specs.declared.{Control.Control, Record.Record}
+use Rattle.model.specs.declared.{Control.Control, Call.Call}
 use Rattle.model.specs.Tables.{atPlace, isPooled}
 use Rattle.model.specs.{Sound.recordSound, Sides.isEmpty}
 use Rattle.model.specs.Places.{Move, endSeen, reading, at1, at2, at3, at4, at5, at6, at7, at9, at10, at11, at12, at13, at14, at15, at16, at17, move}
@@ -60,7 +60,7 @@ data From (kind p : ℕ) (m : Move) : Type 0 where
 leads-from : {kind p : ℕ} {m : Move} → From kind p m → Leads p kind (m .branch)
 leads-from (from h) = h
 
-module _ (c : Control) (r : Record) (w : ℕ) (kind : leb (r .kind) 1 ≡ true) where
+module _ (c : Control) (r : Call) (w : ℕ) (kind : leb (r .kind) 1 ≡ true) where
   entry : (p outcome : ℕ) → Leads p 0 outcome → Leads p 1 outcome → Leads p (r .kind) outcome
   entry p outcome h g = by-kind p outcome (r .kind) kind h g
 
@@ -107,7 +107,7 @@ module _ (c : Control) (r : Record) (w : ℕ) (kind : leb (r .kind) 1 ≡ true) 
       (implied _ (isPush r) (sound .pushes))
 
 -- The law.
-pub leads-on : (pooled : Bool) (slots : ℕ) (c : Control) (r : Record) (w : ℕ) → recordSound pooled slots r ≡ true → eqb (r .place) 0 ≡ false
+pub leads-on : (pooled : Bool) (slots : ℕ) (c : Control) (r : Call) (w : ℕ) → recordSound pooled slots r ≡ true → eqb (r .place) 0 ≡ false
     → let m = move c r w in eqb (onward (route (r .place) (r .kind) (m .branch)) (m .task .finishing)) 0 ≡ false
 leads-on pooled slots c r w sound busy =
     let facts = sound-record pooled slots r sound busy in

@@ -4,7 +4,7 @@ use mathlib.Core.Path.{_≡_, refl}
 use mathlib.Core.Bool.{Bool, false}
 use mathlib.Core.List.{List, [], _∷_, map}
 use Prim.Native.Nat.{ℕ}
-use Rattle.model.specs.declared.{Control.Control, Record.Record, Asked.Asked}
+use Rattle.model.specs.declared.{Control.Control, Call.Call, Asked.Asked}
 use Rattle.model.specs.Tables.{Tables, Queue}
 use Rattle.model.specs.Refusals.{Rule, Lent, malformed, openRules, startRules, pooledPush, nothingAsked, stepRules, reportRules}
 
@@ -14,11 +14,11 @@ numbers l = map (λ (r : Rule). r .number) l
 pub record Order : Type 0 where
   pub opening : (pooled : Bool) (q : Queue) (tasks slots : ℕ) → numbers (openRules pooled q tasks slots) ≡ 10 ∷ 11 ∷ 12 ∷ []
   -- A push that names no slot, and a pop, are asked less: what they are not asked never applies.
-  pub start : (c : Control) (fit : Bool) (p : Lent) (r : Record) (side : ℕ) (a : Asked)
+  pub start : (c : Control) (fit : Bool) (p : Lent) (r : Call) (side : ℕ) (a : Asked)
       → numbers (startRules c fit p r side a) ≡ 34 ∷ 12 ∷ 13 ∷ 14 ∷ 41 ∷ 15 ∷ 34 ∷ 30 ∷ 32 ∷ 33 ∷ []
   pub put : (q : Tables) → (pooledPush q .outside ≡ false) × (pooledPush q .taken ≡ false)
   pub pop : (nothingAsked .wrong ≡ false) × (nothingAsked .outside ≡ false) × (nothingAsked .taken ≡ false)
-  pub step : (q : Tables) (p : Lent) (r : Record) → numbers (stepRules q p r) ≡ 34 ∷ 12 ∷ 13 ∷ 34 ∷ 31 ∷ 34 ∷ []
+  pub step : (q : Tables) (p : Lent) (r : Call) → numbers (stepRules q p r) ≡ 34 ∷ 12 ∷ 13 ∷ 34 ∷ 31 ∷ 34 ∷ []
   pub report : (q : Tables) (enough : Bool) → numbers (reportRules q enough) ≡ 34 ∷ 12 ∷ 34 ∷ []
   pub file : malformed ≡ 16
 

@@ -7,11 +7,11 @@ use Prim.Native.Nat.{ℕ}
 use native.Mathlib.Omega.{arith}
 use lib.{Dec.eqb, Seq.set-getD}
 use borrow.Author.Tests.{eqb-false, ne-eqb, not-true}
-use Rattle.model.specs.declared.{Record.Record, TaskRecord.TaskRecord, Answer.Answer, Op.Op}
+use Rattle.model.specs.declared.{Call.Call, Record.Record, Answer.Answer, Op.Op}
 use Rattle.model.specs.declared.Answer.the-variants.{Running}
 use Rattle.model.specs.declared.Outcome.the-variants.{Refused, Moved}
 use Rattle.model.specs.declared.Opening.the-variants as opening
-use Rattle.model.specs.declared.Op.the-variants.{Push, Pop, Put, Step}
+use Rattle.model.specs.declared.Op.the-variants.{Push, Pop, PushPooled, Step}
 use Rattle.model.specs.Tables.{Tables, Queue, unused, taskAt}
 use Rattle.model.specs.Refusals.{Rule, rule, first, openRules, openRefusal, Lent, among, alone, fits, startRules, startRefusal}
 use Rattle.model.specs.Refusals.{namedPush, pooledPush, nothingAsked, stepRules, stepRefusal}
@@ -44,11 +44,11 @@ find (r ∷ l) h =
     find-from (r .applies) (r .number) (eqb-false _ _ (not-true _ (z .0))) (find l (z .1))
 
 -- A start or step is carried out if no rule applies; else it answers the first one's number, and record and tables are as they were.
-pub data Decided (rules : List Rule) (q : Tables) (r : TaskRecord) : Acted → Type 0 where
+pub data Decided (rules : List Rule) (q : Tables) (r : Record) : Acted → Type 0 where
   accepted : {done : Acted} (a : Answer) → NoneApplies rules → done .outcome ≡ Moved a → Decided rules q r done
   refused : (n : ℕ) → FirstApplies n rules → Decided rules q r (record { tables = q; task = r; outcome = Refused n })
 
-decided-by : (rules : List Rule) → numbered rules ≡ true → (q : Tables) (r : TaskRecord) (done : Acted) (a : Answer) → done .outcome ≡ Moved a
+decided-by : (rules : List Rule) → numbered rules ≡ true → (q : Tables) (r : Record) (done : Acted) (a : Answer) → done .outcome ≡ Moved a
     → Decided rules q r (decide (first rules) q r done)
 decided-by rules h q r done a e = go (first rules) (find rules h)
   where
@@ -57,21 +57,21 @@ decided-by rules h q r done a e = go (first rules) (find rules h)
     go _ (some n h f) = rw (ne-eqb n 0 h) (refused n f)
 
 -- The rules of a start or step, in order.
-abbrev pub rulesOf : Tables → Lent → Record → Op → List Rule
+abbrev pub rulesOf : Tables → Lent → Call → Op → List Rule
 rulesOf q p r (Push side slot label) = startRules (q .control) (fits q) p r side (namedPush q slot)
 rulesOf q p r (Pop side) = startRules (q .control) (fits q) p r side nothingAsked
-rulesOf q p r (Put side label) = startRules (q .control) (fits q) p r side (pooledPush q)
+rulesOf q p r (PushPooled side label) = startRules (q .control) (fits q) p r side (pooledPush q)
 rulesOf q p r Step = stepRules q p r
 
-pub decided : (q : Tables) (p : Lent) (r : TaskRecord) (o : Op) → Decided (rulesOf q p (r .call) o) q r (actOn q p r o)
+pub decided : (q : Tables) (p : Lent) (r : Record) (o : Op) → Decided (rulesOf q p (r .call) o) q r (actOn q p r o)
 unfolding actOn pushStart putStart popStart step finish startRefusal stepRefusal
 decided q p r (Push side slot label) = decided-by (rulesOf q p (r .call) (Push side slot label)) refl q r _ (Running 1) refl
 decided q p r (Pop side) = decided-by (rulesOf q p (r .call) (Pop side)) refl q r _ (Running 1) refl
-decided q p r (Put side label) = decided-by (rulesOf q p (r .call) (Put side label)) refl q r _ (Running 12) refl
+decided q p r (PushPooled side label) = decided-by (rulesOf q p (r .call) (PushPooled side label)) refl q r _ (Running 12) refl
 decided q p r Step = decided-by (stepRules q p (r .call)) refl q r _ _ refl
 
 -- What a refused start or step of a record leaves.
-unmoved : {rules : List Rule} {q : Tables} {r : TaskRecord} {done : Acted} → Decided rules q r done → (n : ℕ) → done .outcome ≡ Refused n
+unmoved : {rules : List Rule} {q : Tables} {r : Record} {done : Acted} → Decided rules q r done → (n : ℕ) → done .outcome ≡ Refused n
     → done ≡ record { tables = q; task = r; outcome = Refused n }
 unmoved (accepted a f e) n h = absurd (let z : _≡_ {A = ℕ} 0 1 = cc in omega arith)
 unmoved {q = q} {r = r} (refused m f) n h = λ i. record { tables = q; task = r; outcome = h i }
@@ -82,7 +82,7 @@ act-refused q t o n h =
     let e = unmoved (decided (q .tables) (among q t) (taskAt q t) o) n h in
     ap (λ (a : Acted). back q t a .queue) e ∙ λ i. record { tables = q .tables; records = set-getD (q .records) t unused i }
 
-pub lent-refused : (q : Tables) (r : TaskRecord) (n : ℕ) → stepLent q r .outcome ≡ Refused n → stepLent q r ≡ record {
+pub lent-refused : (q : Tables) (r : Record) (n : ℕ) → stepLent q r .outcome ≡ Refused n → stepLent q r ≡ record {
   tables = q;
   task = r;
   outcome = Refused n;

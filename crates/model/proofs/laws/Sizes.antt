@@ -7,8 +7,8 @@ use native.Mathlib.Omega.{arith}
 use lib.Dec.{eqb, leb, ltb}
 use lib.ListN.{length, length-append, length-replicate}
 use borrow.Author.Tests.{le-leb, lt-ltb}
-use Rattle.model.specs.declared.{TaskRecord.TaskRecord, Op.Op}
-use Rattle.model.specs.declared.Op.the-variants.{Push, Pop, Put, Step}
+use Rattle.model.specs.declared.{Record.Record, Op.Op}
+use Rattle.model.specs.declared.Op.the-variants.{Push, Pop, PushPooled, Step}
 use Rattle.model.specs.Tables.{Tables, Queue, isPooled, taskAt, unused}
 use Rattle.model.specs.Sound.{rowsFit}
 use Rattle.model.specs.Places.{Touch, nothing, setAnchor, setLink, clearMark, takeSlot, setNext, setHead, wordFound, move, apply}
@@ -36,14 +36,14 @@ touched (takeSlot w x l) q = refl
 touched (setNext x v) q = refl
 touched (setHead w) q = refl
 
-settled : (why : ℕ) (q : Tables) (r : TaskRecord) (done : Acted) → sizes (done .tables) ≡ sizes q → sizes (decide why q r done .tables) ≡ sizes q
+settled : (why : ℕ) (q : Tables) (r : Record) (done : Acted) → sizes (done .tables) ≡ sizes q → sizes (decide why q r done .tables) ≡ sizes q
 settled why q r done e = either (λ (a : Acted). sizes (a .tables) ≡ sizes q) (eqb why 0) e refl
 
-act-on : (q : Tables) (p : Lent) (r : TaskRecord) (o : Op) → sizes (actOn q p r o .tables) ≡ sizes q
+act-on : (q : Tables) (p : Lent) (r : Record) (o : Op) → sizes (actOn q p r o .tables) ≡ sizes q
 unfolding actOn pushStart popStart putStart step finish
 act-on q p r (Push side slot label) = settled (pushRefusal q p (r .call) side slot) q r _ refl
 act-on q p r (Pop side) = settled (popRefusal q p (r .call) side) q r _ refl
-act-on q p r (Put side label) = settled (putRefusal q p (r .call) side) q r _ refl
+act-on q p r (PushPooled side label) = settled (putRefusal q p (r .call) side) q r _ refl
 act-on q p r Step = settled (stepRefusal q p (r .call)) q r _ (touched (move (q .control) (r .call) (wordFound q (r .call)) .touch) _)
 
 pub act-sizes : (q : Queue) (t : ℕ) (o : Op) → sizes (act q t o .queue .tables) ≡ sizes (q .tables)
@@ -79,7 +79,7 @@ act-fits q t o =
 row-left : (n : ℕ) (l : List ℕ) → ltb n (length (zeroed (n + 1) 0 l)) ≡ true
 row-left n l = lt-ltb n _ (simp (length-append, length-replicate) (omega arith))
 
-records-left : (n : ℕ) (l : List TaskRecord) → leb n (length (zeroed n unused l)) ≡ true
+records-left : (n : ℕ) (l : List Record) → leb n (length (zeroed n unused l)) ≡ true
 records-left n l = le-leb n _ (simp (length-append, length-replicate) (omega arith))
 
 -- All slots stacked.

@@ -6,7 +6,7 @@ use native.Mathlib.Omega.{arith}
 use lib.Dec.{eqb, leb}
 use borrow.Author.Tests.{le-leb, leb-true}
 use Rattle.word.specs.Anchor.{anchorOf}
-use Rattle.model.specs.declared.Record.{Record}
+use Rattle.model.specs.declared.Call.{Call}
 use Rattle.model.specs.Sound.{anchorTests, anchorSound, recordTests, recordSound}
 use Rattle.model.proofs.tests.Rules.{tests}
 use Rattle.model.specs.Lists.{every}
@@ -21,7 +21,7 @@ otherwise true b e h = absurd (let z : _≡_ {A = ℕ} 0 1 = cc in omega arith)
 otherwise false b e h = e
 
 -- What the laws use of a busy, sound record.
-pub record Sound (r : Record) : Type 0 where
+pub record Sound (r : Call) : Type 0 where
   pub place : leb (r .place) 17 ≡ true
   pub kind : leb (r .kind) 1 ≡ true
   pub side : leb (r .side) 1 ≡ true
@@ -34,7 +34,7 @@ at-most : (pooled : Bool) (p : ℕ) → leb p (cond pooled 17 11) ≡ true → l
 at-most true p e = e
 at-most false p e = le-leb p 17 (omega (arith, leb-true p 11 e))
 
-pub sound-record : (pooled : Bool) (slots : ℕ) (r : Record) → recordSound pooled slots r ≡ true → eqb (r .place) 0 ≡ false → Sound r
+pub sound-record : (pooled : Bool) (slots : ℕ) (r : Call) → recordSound pooled slots r ≡ true → eqb (r .place) 0 ≡ false → Sound r
 unfolding recordSound anchorSound
 sound-record pooled slots r sound busy =
     let all = tests (recordTests pooled slots r) (otherwise (eqb (r .place) 0) (every (recordTests pooled slots r)) sound busy) in

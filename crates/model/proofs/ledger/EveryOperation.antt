@@ -10,13 +10,13 @@ use borrow.Author.Tests.{eq-eqb, eqb-true, ne-eqb}
 use Rattle.word.specs.Anchor.{anchorOf}
 use Rattle.model.specs.Calls.{Acted, Done, act, actOn, back, finish, popStart, pushStart, putStart, step}
 use Rattle.model.specs.{Deque.saysNoSlot, Lists.All}
-use Rattle.model.specs.History.{Call, Event, Ledger, Request, accept, attend, begins, final, isEffect, ledgerFrom, note, over, run, toldEntry}
+use Rattle.model.specs.History.{LedgerCall, Event, Ledger, Request, accept, attend, begins, final, isEffect, ledgerFrom, note, over, run, toldEntry}
 use Rattle.model.specs.Places.{wordFound, move}
 use Rattle.model.specs.Refusals.{among, popRefusal, pushRefusal, putRefusal, stepRefusal}
-use Rattle.model.specs.Tables.{Queue, asking, isPooled, marked, recordAt, started, taskAt, unused, withCall, taken}
-use Rattle.model.specs.declared.Answer.the-variants.{Empty, NoSlot, Popped, Pushed, Running}
-use Rattle.model.specs.declared.{Answer.Answer, Entry.Entry, Op.Op, Record.Record, TaskRecord.TaskRecord}
-use Rattle.model.specs.declared.Op.the-variants.{Pop, Push, Put, Step}
+use Rattle.model.specs.Tables.{Queue, asking, isPooled, marked, recordAt, started, taskAt, unused, withCall, withTaken}
+use Rattle.model.specs.declared.Answer.the-variants.{Empty, NoFreeSlot, Popped, Pushed, Running}
+use Rattle.model.specs.declared.{Answer.Answer, Entry.Entry, Op.Op, Call.Call, Record.Record}
+use Rattle.model.specs.declared.Op.the-variants.{Pop, Push, PushPooled, Step}
 use Rattle.model.specs.declared.Outcome.the-variants.{Moved, Refused}
 use Rattle.model.proofs.tests.Truth.{by-test, decide-eq, not-both}
 use Rattle.model.proofs.lists.Store.{set-back}
@@ -41,7 +41,7 @@ goes-on (Running p) b e = rw e
 goes-on Pushed b e = rw e
 goes-on Empty b e = rw e
 goes-on (Popped x) b e = rw e
-goes-on NoSlot b e = rw e
+goes-on NoFreeSlot b e = rw e
 
 kept-head : (b : B.Book) (t : ℕ) (w : B.Noted) (a : Answer) → All B.Honoured (B.stepped b t w (answerSeen a) .closed) → Final a → B.Honoured (record {
   call =
@@ -52,10 +52,10 @@ kept-head b t w (Running p) h f = absurd f
 kept-head b t w Pushed h f = h .0
 kept-head b t w Empty h f = h .0
 kept-head b t w (Popped e) h f = h .0
-kept-head b t w NoSlot h f = h .0
+kept-head b t w NoFreeSlot h f = h .0
 
 -- The end that an effect sets at a push's side is the slot that the ledger tells: the one named, if one was.
-told-end : (c : Call) (k : B.Call) (ev : Event) (a : Answer) (p : Bool) → k .side ≡ eqb (c .side) 1
+told-end : (c : LedgerCall) (k : B.BookCall) (ev : Event) (a : Answer) (p : Bool) → k .side ≡ eqb (c .side) 1
     → Names p (c .named) (k .slot) (c .entry .slot)
     → (B.effect (anchorSeen (ev .before)) (anchorSeen (ev .after)) (answerSeen a) ≡ true → B.isNoSlot (answerSeen a) ≡ false → k .kind ≡ M.push
     → M.tip (anchorSeen (ev .after)) (k .side) ≡ k .slot)
@@ -73,16 +73,16 @@ told-end c k ev a p side names f e z y = by-test (λ x. k .slot ≡ x) (c .named
     named true w n = absurd (not-both w n)
 
 -- In a pooled queue no start names a slot.
-unnamed-call : (c : Call) (k : B.Call) (p : Bool) → p ≡ true → Names p (c .named) (k .slot) (c .entry .slot) → c .named ≡ false
+unnamed-call : (c : LedgerCall) (k : B.BookCall) (p : Bool) → p ≡ true → Names p (c .named) (k .slot) (c .entry .slot) → c .named ≡ false
 unnamed-call c k false e n = absurd (not-both e refl)
 unnamed-call c k true e n = n
 
 module _ (n : ℕ) (q : Queue) (l : Ledger) (g : Matched n q l) (t : ℕ) where
-  abbrev r : Record
+  abbrev r : Call
   r = recordAt q t
 
   -- The task's record with another call.
-  abbrev put : Record → TaskRecord
+  abbrev put : Call → Record
   put c = withCall (taskAt q t) c
 
   abbrev After : Op → Done → Type 0
@@ -101,7 +101,7 @@ module _ (n : ℕ) (q : Queue) (l : Ledger) (g : Matched n q l) (t : ℕ) where
   -- A refused operation puts the record back as it was.
   refused : (o : Op) (why : ℕ) → Puts o (record { tables = q .tables; task = taskAt q t; outcome = Refused why })
   unfolding note
-  refused o why = subst (λ (x : List TaskRecord). Matched (suc n) (record { tables = q .tables; records = x }) l)
+  refused o why = subst (λ (x : List Record). Matched (suc n) (record { tables = q .tables; records = x }) l)
       (sym (set-back (q .records) t unused))
       (record {
         book = g .book;
@@ -126,7 +126,7 @@ module _ (n : ℕ) (q : Queue) (l : Ledger) (g : Matched n q l) (t : ℕ) where
     b = g .book
 
     -- The call, with its slot if that is drawn now.
-    abbrev k : B.Call
+    abbrev k : B.BookCall
     k = B.granted (touchSeen (move (q .tables .control) r (wordFound (q .tables) r) .touch)) (b .calls t)
 
     kept : Inv (record { state = stateOf q′; book = bookAfter b t k ev a })
@@ -138,7 +138,7 @@ module _ (n : ℕ) (q : Queue) (l : Ledger) (g : Matched n q l) (t : ℕ) where
     was-busy = ap (λ (x : M.Rec). M.isIdle (x .place)) (task-of q t (s .lies .known)) ∙ not-idle (r .place) (s .busy) (s .fine .place)
 
     -- In a named queue no slot is drawn, and a push that has its effect stands at the end of its side.
-    ready : (c : Call) → Matches (isPooled (q .tables .control)) n c (b .calls t) → Matches (isPooled (q .tables .control)) n c k × Told c k ev a
+    ready : (c : LedgerCall) → Matches (isPooled (q .tables .control)) n c (b .calls t) → Matches (isPooled (q .tables .control)) n c k × Told c k ev a
     unfolding view
     ready c m =
         let m′ = matches-granted (isPooled (q .tables .control)) n c (b .calls t)
@@ -187,7 +187,7 @@ module _ (n : ℕ) (q : Queue) (l : Ledger) (g : Matched n q l) (t : ℕ) where
     was-idle = g .busy t ∙ ap (λ (x : M.Rec). busyNo (M.isIdle (x .place))) (task-of q t (z .known))
         ∙ ap (λ (p : ℕ). busyNo (M.isIdle (placeOf p))) free
 
-    begun : (q′ : Queue) (new : Record) (kind side : ℕ) (named : Bool) (e : Entry) → M.isIdle (recOf new .place) ≡ false
+    begun : (q′ : Queue) (new : Call) (kind side : ℕ) (named : Bool) (e : Entry) → M.isIdle (recOf new .place) ≡ false
         → isPooled (q′ .tables .control) ≡ isPooled (q .tables .control)
         → ((u : ℕ) → stateOf q′ .task u ≡ upd (stateOf q .task) t (recOf new) u) → Names (isPooled (q .tables .control)) named (e .slot) (e .slot)
         → Inv (record { state = stateOf q′; book = B.begun (g .book) t (B.bookedCall (kindOf kind) (eqb side 1) (e .slot) (e .label)) })
@@ -225,7 +225,7 @@ module _ (n : ℕ) (q : Queue) (l : Ledger) (g : Matched n q l) (t : ℕ) where
     unnamed false = refl
     unnamed true = refl
 
-    replaced : (x : Record) (u : ℕ) → stateOf (record { tables = q .tables; records = set (q .records) t (put x) }) .task u
+    replaced : (x : Call) (u : ℕ) → stateOf (record { tables = q .tables; records = set (q .records) t (put x) }) .task u
         ≡ upd (stateOf q .task) t (recOf x) u
     replaced x u = ap (λ (f : ℕ → M.Rec). f u) (put-back q t z (put x))
 
@@ -235,7 +235,7 @@ module _ (n : ℕ) (q : Queue) (l : Ledger) (g : Matched n q l) (t : ℕ) where
         (record { slot = 0; label = 0 }) refl refl
         (replaced (started 1 side 0 0)) (unnamed (isPooled (q .tables .control))) (pop-keeps q (g .book) (g .inv) (g .links) t z free side) (g .links)
 
-    put-good : (side y : ℕ) → isPooled (q .tables .control) ≡ true → Puts (Put side y) (record {
+    put-good : (side y : ℕ) → isPooled (q .tables .control) ≡ true → Puts (PushPooled side y) (record {
       tables = q .tables;
       task = put (asking side y);
       outcome = Moved (Running 12);
@@ -247,9 +247,13 @@ module _ (n : ℕ) (q : Queue) (l : Ledger) (g : Matched n q l) (t : ℕ) where
 
     -- No tag is looked at: it is the other tests of a push that keep the ledger matched.
     pub push-good : (side x y : ℕ) → 1 ≤ x → x ≤ q .tables .control .slots → isPooled (q .tables .control) ≡ false → marked (q .tables .marks) x ≡ false
-        → Puts (Push side x y) (record { tables = taken (q .tables) x y; task = put (started 0 side x y); outcome = Moved (Running 1) })
+        → Puts (Push side x y) (record { tables = withTaken (q .tables) x y; task = put (started 0 side x y); outcome = Moved (Running 1) })
     unfolding note accept stateOf recOf
-    push-good side x y real within named unmarked = begun (record { tables = taken (q .tables) x y; records = set (q .records) t (put (started 0 side x y)) })
+    push-good side x y real within named unmarked = begun (record {
+      tables = withTaken (q .tables) x y;
+      records = set (q .records) t (put
+          (started 0 side x y));
+    })
         (started 0 side x y) 0 side true (record { slot = x; label = y }) refl refl
         (replaced (started 0 side x y)) (subst (λ b. Names b true x x) (sym named) refl)
         (push-keeps q (g .book) (g .inv) (g .links) t z free side x y real within named unmarked)
@@ -264,9 +268,9 @@ module _ (n : ℕ) (q : Queue) (l : Ledger) (g : Matched n q l) (t : ℕ) where
   act-good (Pop side) = by-test (Puts (Pop side)) (eqb (popRefusal (q .tables) (among q t) r side) 0)
       (λ e. let p = pop-accepted q t side (eqb-true _ _ e) in pop-good (p .lies) (p .free) side)
       (λ e. refused (Pop side) (popRefusal (q .tables) (among q t) r side))
-  act-good (Put side y) = by-test (Puts (Put side y)) (eqb (putRefusal (q .tables) (among q t) r side) 0)
+  act-good (PushPooled side y) = by-test (Puts (PushPooled side y)) (eqb (putRefusal (q .tables) (among q t) r side) 0)
       (λ e. let p = put-accepted q t side (eqb-true _ _ e) in put-good (p .0 .lies) (p .0 .free) side y (p .1))
-      (λ e. refused (Put side y) (putRefusal (q .tables) (among q t) r side))
+      (λ e. refused (PushPooled side y) (putRefusal (q .tables) (among q t) r side))
   act-good Step = by-test (Puts Step) (eqb (stepRefusal (q .tables) (among q t) r) 0)
       (λ e. step-good (step-accepted q t (eqb-true _ _ e))) (λ e. refused Step (stepRefusal (q .tables) (among q t) r))
 

@@ -7,8 +7,8 @@ use Prim.Native.Nat.{_<_, suc, ℕ}
 use native.Mathlib.Omega.{arith}
 use lib.{Dec.eqb, ListN.length}
 use borrow.Author.Tests.{eq-eqb}
-use Rattle.model.specs.History.{Call, Effect, Ending, Once, answered, isOpen, pending}
-use Rattle.model.specs.declared.Answer.the-variants.{Empty, NoSlot, Popped, Pushed, Running}
+use Rattle.model.specs.History.{LedgerCall, Effect, Ending, Once, answered, isOpen, pending}
+use Rattle.model.specs.declared.Answer.the-variants.{Empty, NoFreeSlot, Popped, Pushed, Running}
 use Rattle.model.specs.declared.Answer.{Answer}
 use Rattle.model.proofs.tests.Truth.{not-both}
 use Rattle.model.proofs.machine.Book as B
@@ -22,7 +22,7 @@ Final (Running p) = ⊥
 Final Pushed = Unit {0}
 Final Empty = Unit {0}
 Final (Popped e) = Unit {0}
-Final NoSlot = Unit {0}
+Final NoFreeSlot = Unit {0}
 
 pub same-answer : (a b : Answer) → Final a → answerSeen b ≡ answerSeen a → a ≡ b
 same-answer (Running p) b f e = absurd f
@@ -30,32 +30,32 @@ same-answer Pushed (Running p) f e = absurd (let z : _≡_ {A = ℕ} 0 1 = cc in
 same-answer Pushed Pushed f e = refl
 same-answer Pushed Empty f e = absurd (let z : _≡_ {A = ℕ} 0 1 = cc in omega arith)
 same-answer Pushed (Popped d) f e = absurd (let z : _≡_ {A = ℕ} 0 1 = cc in omega arith)
-same-answer Pushed NoSlot f e = absurd (let z : _≡_ {A = ℕ} 0 1 = cc in omega arith)
+same-answer Pushed NoFreeSlot f e = absurd (let z : _≡_ {A = ℕ} 0 1 = cc in omega arith)
 same-answer Empty (Running p) f e = absurd (let z : _≡_ {A = ℕ} 0 1 = cc in omega arith)
 same-answer Empty Pushed f e = absurd (let z : _≡_ {A = ℕ} 0 1 = cc in omega arith)
 same-answer Empty Empty f e = refl
 same-answer Empty (Popped d) f e = absurd (let z : _≡_ {A = ℕ} 0 1 = cc in omega arith)
-same-answer Empty NoSlot f e = absurd (let z : _≡_ {A = ℕ} 0 1 = cc in omega arith)
+same-answer Empty NoFreeSlot f e = absurd (let z : _≡_ {A = ℕ} 0 1 = cc in omega arith)
 same-answer (Popped c) (Running p) f e = absurd (let z : _≡_ {A = ℕ} 0 1 = cc in omega arith)
 same-answer (Popped c) Pushed f e = absurd (let z : _≡_ {A = ℕ} 0 1 = cc in omega arith)
 same-answer (Popped c) Empty f e = absurd (let z : _≡_ {A = ℕ} 0 1 = cc in omega arith)
 same-answer (Popped c) (Popped d) f e =
     let p : c .slot ≡ d .slot = cc in let r : c .label ≡ d .label = cc in λ i. Popped (record { slot = p i; label = r i })
-same-answer (Popped c) NoSlot f e = absurd (let z : _≡_ {A = ℕ} 0 1 = cc in omega arith)
-same-answer NoSlot (Running p) f e = absurd (let z : _≡_ {A = ℕ} 0 1 = cc in omega arith)
-same-answer NoSlot Pushed f e = absurd (let z : _≡_ {A = ℕ} 0 1 = cc in omega arith)
-same-answer NoSlot Empty f e = absurd (let z : _≡_ {A = ℕ} 0 1 = cc in omega arith)
-same-answer NoSlot (Popped d) f e = absurd (let z : _≡_ {A = ℕ} 0 1 = cc in omega arith)
-same-answer NoSlot NoSlot f e = refl
+same-answer (Popped c) NoFreeSlot f e = absurd (let z : _≡_ {A = ℕ} 0 1 = cc in omega arith)
+same-answer NoFreeSlot (Running p) f e = absurd (let z : _≡_ {A = ℕ} 0 1 = cc in omega arith)
+same-answer NoFreeSlot Pushed f e = absurd (let z : _≡_ {A = ℕ} 0 1 = cc in omega arith)
+same-answer NoFreeSlot Empty f e = absurd (let z : _≡_ {A = ℕ} 0 1 = cc in omega arith)
+same-answer NoFreeSlot (Popped d) f e = absurd (let z : _≡_ {A = ℕ} 0 1 = cc in omega arith)
+same-answer NoFreeSlot NoFreeSlot f e = refl
 
 -- The latest effect.
-pub record Latest (n : ℕ) (c : Call) (k : B.Call) (e : Effect) : Type 0 where
+pub record Latest (n : ℕ) (c : LedgerCall) (k : B.BookCall) (e : Effect) : Type 0 where
   pub told : k .told ≡ answerSeen (e .reply)
   pub final : Final (e .reply)
   pub begun : c .start < e .at
   pub past : e .at < n
 
-abbrev pub Last : ℕ → Call → B.Call → List Effect → Type 0
+abbrev pub Last : ℕ → LedgerCall → B.BookCall → List Effect → Type 0
 Last n c k [] = Unit {0}
 Last n c k (e ∷ l) = Latest n c k e
 
@@ -66,7 +66,7 @@ Names false named x y = x ≡ y
 Names true named x y = named ≡ false
 
 -- An open call, before position n, and the one in the book.
-pub record Matches (p : Bool) (n : ℕ) (c : Call) (k : B.Call) : Type 0 where
+pub record Matches (p : Bool) (n : ℕ) (c : LedgerCall) (k : B.BookCall) : Type 0 where
   pub kind : k .kind ≡ kindOf (c .kind)
   pub side : k .side ≡ eqb (c .side) 1
   pub slot : Names p (c .named) (k .slot) (c .entry .slot)
@@ -75,22 +75,22 @@ pub record Matches (p : Bool) (n : ℕ) (c : Call) (k : B.Call) : Type 0 where
   pub count : k .effects ≡ length (c .effects)
   pub last : Last n c k (c .effects)
 
-abbrev pub Tracked : Bool → ℕ → (ℕ → B.Call) → Call → Ending → Type 0
+abbrev pub Tracked : Bool → ℕ → (ℕ → B.BookCall) → LedgerCall → Ending → Type 0
 Tracked p n f c pending = Matches p n c (f (c .task))
 Tracked p n f c (answered m a) = Once c m a
 
-abbrev pub Tracks : Bool → ℕ → (ℕ → B.Call) → List Call → Type 0
-Tracks p n f cs = All (λ (c : Call). Tracked p n f c (c .ending)) cs
+abbrev pub Tracks : Bool → ℕ → (ℕ → B.BookCall) → List LedgerCall → Type 0
+Tracks p n f cs = All (λ (c : LedgerCall). Tracked p n f c (c .ending)) cs
 
-abbrev pub opens : ℕ → List Call → ℕ
+abbrev pub opens : ℕ → List LedgerCall → ℕ
 opens t [] = 0
 opens t (c ∷ cs) = cond (eqb (c .task) t && isOpen (c .ending)) (suc (opens t cs)) (opens t cs)
 
-last-mono : (n : ℕ) (c : Call) (k : B.Call) (l : List Effect) → Last n c k l → Last (suc n) c k l
+last-mono : (n : ℕ) (c : LedgerCall) (k : B.BookCall) (l : List Effect) → Last n c k l → Last (suc n) c k l
 last-mono n c k [] h = tt
 last-mono n c k (e ∷ l) h = record { told = h .told; final = h .final; begun = h .begun; past = omega (arith, h .past) }
 
-pub matches-mono : (p : Bool) (n : ℕ) (c : Call) (k : B.Call) → Matches p n c k → Matches p (suc n) c k
+pub matches-mono : (p : Bool) (n : ℕ) (c : LedgerCall) (k : B.BookCall) → Matches p n c k → Matches p (suc n) c k
 matches-mono p n c k h = record {
   kind = h .kind;
   side = h .side;
@@ -101,7 +101,7 @@ matches-mono p n c k h = record {
   last = last-mono n c k (c .effects) (h .last);
 }
 
-pub tracks-mono : (p : Bool) (n : ℕ) (f : ℕ → B.Call) (cs : List Call) → Tracks p n f cs → Tracks p (suc n) f cs
+pub tracks-mono : (p : Bool) (n : ℕ) (f : ℕ → B.BookCall) (cs : List LedgerCall) → Tracks p n f cs → Tracks p (suc n) f cs
 tracks-mono p n f [] h = tt
 tracks-mono p n f (c ∷ cs) h = (go (c .ending) (h .0), tracks-mono p n f cs (h .1))
   where
@@ -109,14 +109,14 @@ tracks-mono p n f (c ∷ cs) h = (go (c .ending) (h .0), tracks-mono p n f cs (h
     go pending m = matches-mono p n c (f (c .task)) m
     go (answered m a) o = o
 
-module _ (p : Bool) (n : ℕ) (f g : ℕ → B.Call) (t : ℕ) (same : (u : ℕ) → u ≢ t → g u ≡ f u) where
+module _ (p : Bool) (n : ℕ) (f g : ℕ → B.BookCall) (t : ℕ) (same : (u : ℕ) → u ≢ t → g u ≡ f u) where
   -- A call that is not the open one of the task.
-  pub apart : (c : Call) (e : Ending) → eqb (c .task) t && isOpen e ≡ false → Tracked p n f c e → Tracked p (suc n) g c e
+  pub apart : (c : LedgerCall) (e : Ending) → eqb (c .task) t && isOpen e ≡ false → Tracked p n f c e → Tracked p (suc n) g c e
   apart c pending z h = subst (Matches p (suc n) c) (sym (same (c .task) (λ y. not-both (ap (λ (b : Bool). b && true) (eq-eqb _ _ y)) z)))
       (matches-mono p n c (f (c .task)) h)
   apart c (answered m a) z h = h
 
-  pub rest-keeps : (cs : List Call) → opens t cs ≡ 0 → Tracks p n f cs → Tracks p (suc n) g cs
+  pub rest-keeps : (cs : List LedgerCall) → opens t cs ≡ 0 → Tracks p n f cs → Tracks p (suc n) g cs
   rest-keeps [] z h = tt
   rest-keeps (c ∷ cs) z h = go (eqb (c .task) t && isOpen (c .ending)) refl (λ w. rest-keeps cs w (h .1))
     where
@@ -125,7 +125,7 @@ module _ (p : Bool) (n : ℕ) (f g : ℕ → B.Call) (t : ℕ) (same : (u : ℕ)
       go false e r = (apart c (c .ending) e (h .0), r (ap (λ (b : Bool). cond b (suc (opens t cs)) (opens t cs)) (sym e) ∙ z))
 
 -- A slot drawn from the pool.
-pub matches-granted : (p : Bool) (n : ℕ) (c : Call) (k : B.Call) (g : Touch) → (p ≡ false → B.granted g k ≡ k) → Matches p n c k
+pub matches-granted : (p : Bool) (n : ℕ) (c : LedgerCall) (k : B.BookCall) (g : Touch) → (p ≡ false → B.granted g k ≡ k) → Matches p n c k
     → Matches p n c (B.granted g k)
 matches-granted false n c k g e h = subst (Matches false n c) (sym (e refl)) h
 matches-granted true n c k g e h = go g

@@ -14,7 +14,7 @@ use Rattle.model.specs.Calls.{opened, stacked}
 use Rattle.model.specs.{History.Ledger, Lists.zeroed}
 use Rattle.model.specs.Refusals.{openRefusal, openRules}
 use Rattle.model.specs.Tables.{Queue, idle, isPooled, marked, recordAt, unused}
-use Rattle.model.specs.declared.{Record.Record, TaskRecord.TaskRecord}
+use Rattle.model.specs.declared.{Call.Call, Record.Record}
 use Rattle.model.proofs.tests.Rules.{cleared}
 use Rattle.model.proofs.tests.Truth.{by-test, decide-eq}
 use Rattle.model.proofs.lists.Range.{climb-last, climb-step}
@@ -52,12 +52,12 @@ module _ (pooled : Bool) (q : Queue) (tasks slots tag : ℕ) where
 
   pub no-record : (t : ℕ) → t < tasks → recordAt o t ≡ idle
   unfolding opened
-  no-record t lt = ap (λ (r : TaskRecord). r .call) (zeroed-at tasks unused (q .records) t lt)
+  no-record t lt = ap (λ (r : Record). r .call) (zeroed-at tasks unused (q .records) t lt)
 
   pub all-idle : (t : ℕ) → stateOf o .task t .place ≡ M.idle
   unfolding stateOf opened recOf
   all-idle t = by-test (λ (r : M.Rec). r .place ≡ M.idle) (ltb t tasks)
-      (λ e. ap (λ (r : Record). placeOf (r .place)) (no-record t (ltb-true t tasks e))) (λ e. refl)
+      (λ e. ap (λ (r : Call). placeOf (r .place)) (no-record t (ltb-true t tasks e))) (λ e. refl)
 
   -- A property of 0 holds of each link word in the rows.
   pub zero-links : (P : ℕ → Type 0) → P 0 → (d : Bool) (x : ℕ) → x ≤ slots → P (linkAt (o .tables) d x)

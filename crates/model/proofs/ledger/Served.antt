@@ -6,8 +6,8 @@ use Prim.Native.Nat.{suc, ℕ}
 use native.Mathlib.Omega.{arith}
 use lib.Dec.{eqb}
 use Rattle.model.specs.Deque.{Served, saysNoSlot, serve, serveFor, servePop, servePush, takeFirst}
-use Rattle.model.specs.History.{Call, Effect, Ending, Event, Ledger, continued, ended, isEffect, lacksSlot, stepOf, toldEntry}
-use Rattle.model.specs.declared.Answer.the-variants.{Empty, NoSlot, Popped, Pushed, Running}
+use Rattle.model.specs.History.{LedgerCall, Effect, Ending, Event, Ledger, continued, ended, isEffect, lacksSlot, stepOf, toldEntry}
+use Rattle.model.specs.declared.Answer.the-variants.{Empty, NoFreeSlot, Popped, Pushed, Running}
 use Rattle.model.specs.declared.{Answer.Answer, Entry.Entry}
 use Rattle.model.proofs.tests.Truth.{split}
 use Rattle.model.proofs.lists.Deque.{put, rest, seen, took}
@@ -23,30 +23,30 @@ effect-is ev (Running p) = refl
 effect-is ev Pushed = refl
 effect-is ev Empty = refl
 effect-is ev (Popped e) = refl
-effect-is ev NoSlot = refl
+effect-is ev NoFreeSlot = refl
 
 pub no-slot-is : (a : Answer) → B.isNoSlot (answerSeen a) ≡ saysNoSlot a
 no-slot-is (Running p) = refl
 no-slot-is Pushed = refl
 no-slot-is Empty = refl
 no-slot-is (Popped e) = refl
-no-slot-is NoSlot = refl
+no-slot-is NoFreeSlot = refl
 
-pub record Agrees (c : Call) (k : B.Call) (d : List Entry) (s : Served) (w : B.Noted) : Type 0 where
+pub record Agrees (c : LedgerCall) (k : B.BookCall) (d : List Entry) (s : Served) (w : B.Noted) : Type 0 where
   pub deque : w .queue ≡ s .deque
   pub told : w .call .told ≡ answerSeen (s .reply)
   pub final : Final (s .reply)
   pub call : w .call ≡ B.told k (w .call .told)
 
 -- A pop is served the same, whether the deque is empty or not.
-serve-pop : (c : Call) (k : B.Call) (d : List Entry) (side : ℕ) (m : List Entry) → seen (eqb side 1) d ≡ m
+serve-pop : (c : LedgerCall) (k : B.BookCall) (d : List Entry) (side : ℕ) (m : List Entry) → seen (eqb side 1) d ≡ m
     → Agrees c k d (takeFirst side m) (record { call = B.told k (B.given m); queue = took (eqb side 1) d })
 unfolding took
 serve-pop c k d side [] e = record
     { deque = ap (λ (l : List Entry). seen (eqb side 1) (rest l)) e ∙ seen-nil (eqb side 1); told = refl; final = tt; call = refl }
 serve-pop c k d side (x ∷ m) e = record { deque = ap (λ (l : List Entry). seen (eqb side 1) (rest l)) e; told = refl; final = tt; call = refl }
 
-serve-is : (c : Call) (k : B.Call) (e : Entry) → k .side ≡ eqb (c .side) 1 → k .label ≡ e .label → (d : List Entry) (b : Bool)
+serve-is : (c : LedgerCall) (k : B.BookCall) (e : Entry) → k .side ≡ eqb (c .side) 1 → k .label ≡ e .label → (d : List Entry) (b : Bool)
     → (b ≡ true → k .slot ≡ e .slot)
     → Agrees c k d (cond b (servePush (c .side) e d) (servePop (c .side) d)) (B.served (cond b M.push M.pop) k d)
 unfolding servePush servePop put
@@ -57,24 +57,24 @@ serve-is c k e side label d false slot =
     (serve-pop c k d (c .side) (seen (eqb (c .side) 1) d) refl)
 
 -- The call after the step.
-pub record Stepped (p : Bool) (n : ℕ) (a : Answer) (c : Call) (cs : List Call) (w : B.Noted) (l : Ledger) : Type 0 where
-  pub call : Call
+pub record Stepped (p : Bool) (n : ℕ) (a : Answer) (c : LedgerCall) (cs : List LedgerCall) (w : B.Noted) (l : Ledger) : Type 0 where
+  pub call : LedgerCall
   pub calls : l .calls ≡ call ∷ cs
   pub task : call .task ≡ c .task
   pub ending : call .ending ≡ ended n a
   pub deque : w .queue ≡ l .deque
   pub matches : Matches p (suc n) call (w .call)
 
-last-other : (n : ℕ) (c : Call) (k : B.Call) (l : List Effect) (e : Ending) (m : List Effect) → Last n c k l → Last n (continued c m e) k l
+last-other : (n : ℕ) (c : LedgerCall) (k : B.BookCall) (l : List Effect) (e : Ending) (m : List Effect) → Last n c k l → Last n (continued c m e) k l
 last-other n c k [] e m h = tt
 last-other n c k (x ∷ l) e m h = record { told = h .told; final = h .final; begun = h .begun; past = h .past }
 
 -- A push that the deque serves has the slot that the ledger tells, and who is answered *no slot* is a push that named none.
-pub record Told (c : Call) (k : B.Call) (ev : Event) (a : Answer) : Type 0 where
+pub record Told (c : LedgerCall) (k : B.BookCall) (ev : Event) (a : Answer) : Type 0 where
   pub slot : isEffect ev a ≡ true → saysNoSlot a ≡ false → k .kind ≡ M.push → k .slot ≡ toldEntry c ev .slot
   pub lacks : saysNoSlot a ≡ true → (eqb (c .kind) 0 ≡ true) × (c .named ≡ false)
 
-module _ (p : Bool) (n : ℕ) (ev : Event) (a : Answer) (d : List Entry) (c : Call) (k : B.Call) (h : Matches p n c k) (cs : List Call)
+module _ (p : Bool) (n : ℕ) (ev : Event) (a : Answer) (d : List Entry) (c : LedgerCall) (k : B.BookCall) (h : Matches p n c k) (cs : List LedgerCall)
     (t : Told c k ev a) where
   abbrev s : Served
   s = serveFor (lacksSlot c a) (c .kind) (c .side) (toldEntry c ev) d

@@ -10,7 +10,7 @@ use Rattle.model.proofs.machine.Machine.{Anchor, Answer, Kind, State, S
 use Rattle.model.proofs.machine.Machine.{pushed, pushing, putAnchor, putHead, putLink, putNext, running, stable, take, upd}
 
 -- A call: what its start named, the number of its effects so far, and what the sequential deque replied last.
-pub record Call : Type 0 where
+pub record BookCall : Type 0 where
   pub kind : Kind
   pub side : Bool
   pub slot : ℕ
@@ -19,25 +19,25 @@ pub record Call : Type 0 where
   pub told : Answer
 
 pub record Closed : Type 0 where
-  pub call : Call
+  pub call : BookCall
   pub answer : Answer
 
 pub record Book : Type 0 where
   pub queue : List Entry
-  pub calls : ℕ → Call
+  pub calls : ℕ → BookCall
   pub closed : List Closed
 
-abbrev pub bookedCall : Kind → Bool → ℕ → ℕ → Call
+abbrev pub bookedCall : Kind → Bool → ℕ → ℕ → BookCall
 bookedCall k d x l = record { kind = k; side = d; slot = x; label = l; effects = 0; told = running }
 
-abbrev pub noCall : Call
+abbrev pub noCall : BookCall
 noCall = bookedCall push false 0 0
 
 pub record Noted : Type 0 where
-  pub call : Call
+  pub call : BookCall
   pub queue : List Entry
 
-abbrev pub told : Call → Answer → Call
+abbrev pub told : BookCall → Answer → BookCall
 told c a = record { kind = c .kind; side = c .side; slot = c .slot; label = c .label; effects = suc (c .effects); told = a }
 
 abbrev pub given : List Entry → Answer
@@ -45,7 +45,7 @@ given [] = empty
 given (e ∷ q) = popped (e .slot) (e .label)
 
 -- The sequential deque serves one call.
-abbrev pub served : Kind → Call → List Entry → Noted
+abbrev pub served : Kind → BookCall → List Entry → Noted
 served push c q = record { call = told c pushed; queue = put (c .side) (record { slot = c .slot; label = c .label }) q }
 served pop c q = record { call = told c (given (seen (c .side) q)); queue = took (c .side) q }
 
@@ -69,12 +69,12 @@ abbrev pub effect : Anchor → Anchor → Answer → Bool
 effect a b w = not (eqb (a .left) (b .left) && eqb (a .right) (b .right)) || unmoving w
 
 -- To *no slot* the sequential deque replies the same, and stays as it is.
-unfoldable pub noted : Call → List Entry → Anchor → Anchor → Answer → Noted
+unfoldable pub noted : BookCall → List Entry → Anchor → Anchor → Answer → Noted
 noted c q a b w =
     cond (effect a b w) (cond (isNoSlot w) (record { call = told c noSlot; queue = q }) (served (c .kind) c q)) (record { call = c; queue = q })
 
 -- A push that draws its slot has named it from then on.
-abbrev pub granted : Touch → Call → Call
+abbrev pub granted : Touch → BookCall → BookCall
 granted none c = c
 granted (putAnchor a) c = c
 granted (putLink d x v) c = c
@@ -97,7 +97,7 @@ stepped b t n empty = closes b t n empty
 stepped b t n noSlot = closes b t n noSlot
 stepped b t n (popped x l) = closes b t n (popped x l)
 
-abbrev pub begun : Book → ℕ → Call → Book
+abbrev pub begun : Book → ℕ → BookCall → Book
 begun b t c = record { queue = b .queue; calls = upd (b .calls) t c; closed = b .closed }
 
 -- The machine and the book side by side.

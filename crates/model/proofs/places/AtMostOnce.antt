@@ -2,16 +2,16 @@
 use mathlib.Core.Bool.{Bool, false, true}
 use Prim.Native.Nat.{_≤_, ℕ}
 use native.Mathlib.Omega.{arith}
-use Rattle.model.proofs.machine.Book.{Both, Call}
+use Rattle.model.proofs.machine.Book.{Both, BookCall}
 use Rattle.model.proofs.machine.Machine.{Kind, Place, Rec, Shared, at1, at10, at11, at2, at3, at4, at5, at6, at7, at8, at9, draw, give, idle}
 use Rattle.model.proofs.invariant.{Invariant.Inv, Owners.Owner}
 use Rattle.model.proofs.invariant.Tasks.{Stage, Task}
 
-staged : (f : Bool) (g : ℕ → ℕ) (h : ℕ → Owner) (t : ℕ) (k : Kind) (d : Bool) (x l : ℕ) (c : Call) → Stage f g h t k d x l c → c .effects ≤ 1
+staged : (f : Bool) (g : ℕ → ℕ) (h : ℕ → Owner) (t : ℕ) (k : Kind) (d : Bool) (x l : ℕ) (c : BookCall) → Stage f g h t k d x l c → c .effects ≤ 1
 staged false g h t k d x l c w = omega (arith, w .none)
 staged true g h t k d x l c w = omega (arith, w .0 .once)
 
-at-most-one : (p : Place) (s : Shared) (h : ℕ → Owner) (t : ℕ) (r : Rec) (c : Call) → Task p s h t r c → c .effects ≤ 1
+at-most-one : (p : Place) (s : Shared) (h : ℕ → Owner) (t : ℕ) (r : Rec) (c : BookCall) → Task p s h t r c → c .effects ≤ 1
 at-most-one idle s h t r c w = omega (arith, w .0)
 at-most-one at1 s h t r c w = omega (arith, w .1 .none)
 at-most-one at2 s h t r c w = omega (arith, w .0 .before .none)

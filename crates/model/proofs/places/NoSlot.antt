@@ -6,7 +6,7 @@ use mathlib.Core.Path.{_∙_, _≡_, refl, subst, sym}
 use Prim.Native.Nat.{_≤_, ℕ}
 use Rattle.model.proofs.tests.Truth.{not-both}
 use Rattle.model.proofs.lists.{In.In, Slots.slots}
-use Rattle.model.proofs.machine.Book.{Both, Call, isNoSlot}
+use Rattle.model.proofs.machine.Book.{Both, BookCall, isNoSlot}
 use Rattle.model.proofs.machine.Machine.{Kind, Move, Phase, Place, Rec, Shared, act, at1, at10, at11, at2, at3, at4, at5, at6, at7, at8, at9}
 use Rattle.model.proofs.machine.Machine.{draw, fetching, give, idle, inside, leaving, outside, phase, pop, push, returning, tip}
 use Rattle.model.proofs.machine.{ByStep.by-step, Laws.exhausted-true}
@@ -30,7 +30,7 @@ Holding returning r x = r .own ≡ x
 abbrev pub Holds : Place → Rec → ℕ → Type 0
 Holds p r x = Holding (phase p) r x
 
-module _ (s : Shared) (h : ℕ → Owner) (t : ℕ) (r : Rec) (c : Call) (x : ℕ) (e : h x ≡ held t) where
+module _ (s : Shared) (h : ℕ → Owner) (t : ℕ) (r : Rec) (c : BookCall) (x : ℕ) (e : h x ≡ held t) where
   trying : (k : Kind) → r .kind ≡ k → r .finishing ≡ false → Own k (s .label) h t (r .own) (r .label) → Pushes r x
   trying push k f o = (k, f, sym (o .3 x e))
   trying pop k f o = absurd (o x e)
@@ -79,13 +79,13 @@ no-slot p i e z x nz le = used p i x (λ g. none-free pool z x nz le g)
     pool = subst (λ b. Spare b (s .slots) (s .next) (s .head .slot) (i .owner)) e (i .whole .spare)
 
 -- Who answers *no slot* is a push, and has just read a head that names none.
-abbrev Lacking : Shared → Call → Type 0
+abbrev Lacking : Shared → BookCall → Type 0
 Lacking s c = (s .pooled ≡ true) × (s .head .slot ≡ 0) × (c .kind ≡ push)
 
-pub record Lacks (s : Shared) (c : Call) (m : Move) : Type 0 where
+pub record Lacks (s : Shared) (c : BookCall) (m : Move) : Type 0 where
   pub lacks : isNoSlot (m .answer) ≡ true → Lacking s c
 
-pub act-lacks : (s : Shared) (r : Rec) (c : Call) (h : ℕ → Owner) (t : ℕ) (p : Place) → Task p s h t r c → Lacks s c (act p s r)
+pub act-lacks : (s : Shared) (r : Rec) (c : BookCall) (h : ℕ → Owner) (t : ℕ) (p : Place) → Task p s h t r c → Lacks s c (act p s r)
 act-lacks s r c h t p w = record {
   lacks = by-step s r (λ p. Task p s h t r c) (λ m. isNoSlot (m .answer) ≡ true → Lacking s c) (record {
     still = λ _. other refl;

@@ -7,14 +7,14 @@ use Prim.Native.Nat.{_<_, ℕ}
 use native.Mathlib.Omega.{arith}
 use Rattle.model.specs.declared.Entry.{Entry}
 use Rattle.model.proofs.lists.Slots.{slots}
-use Rattle.model.proofs.machine.Book.{Call}
+use Rattle.model.proofs.machine.Book.{BookCall}
 use Rattle.model.proofs.machine.Machine.{Anchor, Draw, Give, Kind, Link, Place, Rec, Shared, at1, at10, at11, at12, at13, at14, at15, at16}
 use Rattle.model.proofs.machine.Machine.{at17, at2, at3, at4, at5, at6, at7, at8, at9, draw, give, idle, inner, pop, push, pushing, tip}
 use Rattle.model.proofs.invariant.Owners.{Owner, Intact, held, queued}
 use Rattle.model.proofs.invariant.Rely.{Faces, Quiet, Rely, Turned}
 use Rattle.model.proofs.invariant.Shape.{Made}
-use Rattle.model.proofs.invariant.Tasks.{Bare, Before, Drawing, Eighth, Four, Fourteenth, Fresh, Giving, Grown, Helps, Live, Near}
-use Rattle.model.proofs.invariant.Tasks.{Ninth, Other, Own, Read, Stage, Task, Thirteenth, Three, Tries, way}
+use Rattle.model.proofs.invariant.Tasks.{Bare, Before, Drawing, At8, Four, Fourteenth, Fresh, Giving, Grown, Helps, Live, Near}
+use Rattle.model.proofs.invariant.Tasks.{At9, Other, Own, Read, Stage, Task, At13, Three, Tries, way}
 use Rattle.model.proofs.chain.Links.{inner-in}
 
 module _ (u : ℕ) (s : Shared) (h : ℕ → Owner) (s′ : Shared) (h′ : ℕ → Owner) (y : Rely u s h s′ h′) where
@@ -25,10 +25,10 @@ module _ (u : ℕ) (s : Shared) (h : ℕ → Owner) (s′ : Shared) (h′ : ℕ 
   keep-own push x l o = (o .0, y .spared x (o .1) .owner, y .spared x (o .1) .label ∙ o .2, λ z e. o .3 z (y .back z e))
   keep-own pop x l o = keep-bare o
 
-  keep-before : {k : Kind} {d : Bool} {x l : ℕ} {c : Call} → Before (s .label) h u k d x l c → Before (s′ .label) h′ u k d x l c
+  keep-before : {k : Kind} {d : Bool} {x l : ℕ} {c : BookCall} → Before (s .label) h u k d x l c → Before (s′ .label) h′ u k d x l c
   keep-before {k} {x = x} {l} b = record { agrees = b .agrees; none = b .none; own = keep-own k x l (b .own) }
 
-  keep-stage : (f : Bool) (k : Kind) (d : Bool) (x l : ℕ) (c : Call) → Stage f (s .label) h u k d x l c → Stage f (s′ .label) h′ u k d x l c
+  keep-stage : (f : Bool) (k : Kind) (d : Bool) (x l : ℕ) (c : BookCall) → Stage f (s .label) h u k d x l c → Stage f (s′ .label) h′ u k d x l c
   keep-stage false k d x l c b = keep-before b
   keep-stage true k d x l c b = (b .0, keep-bare (b .1))
 
@@ -49,11 +49,11 @@ module _ (u : ℕ) (s : Shared) (h : ℕ → Owner) (s′ : Shared) (h′ : ℕ 
             record { past = omega (arith, v .past); present = λ p. v .present (p ∙ e) ∙ sym (q .kept) }
         go (inr q) = record { past = omega (arith, v .past, q .later); present = λ p. absurd (omega (arith, v .past, q .later)) }
 
-    keep-tries : {f : Bool} {k : Kind} {d : Bool} {x l : ℕ} {c : Call} → Tries (s .label) (s .anchor) h u f k d x l a c
+    keep-tries : {f : Bool} {k : Kind} {d : Bool} {x l : ℕ} {c : BookCall} → Tries (s .label) (s .anchor) h u f k d x l a c
         → Tries (s′ .label) (s′ .anchor) h′ u f k d x l a c
     keep-tries w = record { early = w .early; before = keep-before (w .before); read = keep-read (w .read) }
 
-    keep-helps : {f : Bool} {k : Kind} {d : Bool} {x l : ℕ} {c : Call} → Helps (s .label) (s .anchor) h u f k d x l a c
+    keep-helps : {f : Bool} {k : Kind} {d : Bool} {x l : ℕ} {c : BookCall} → Helps (s .label) (s .anchor) h u f k d x l a c
         → Helps (s′ .label) (s′ .anchor) h′ u f k d x l a c
     keep-helps {f} {k} {d} {x} {l} {c} w = record { stage = keep-stage f k d x l c (w .stage); read = keep-read (w .read); status = w .status }
 
@@ -97,8 +97,8 @@ module _ (u : ℕ) (s : Shared) (h : ℕ → Owner) (s′ : Shared) (h′ : ℕ 
             go (inl f) = inl (e ∙ sym f)
             go (inr g) = inr (omega (arith, ap (λ (w : Link). w .tag) e))
 
-        keep-eighth : Read (s .anchor) a → a .status ≡ pushing (way a) → Eighth s a n w → Eighth s′ a n w
-        keep-eighth v st z =
+        keep-at8 : Read (s .anchor) a → a .status ≡ pushing (way a) → At8 s a n w → At8 s′ a n w
+        keep-at8 v st z =
             record {
               other = z .other;
               near = keep-near v st (z .near);
@@ -120,8 +120,8 @@ module _ (u : ℕ) (s : Shared) (h : ℕ → Owner) (s′ : Shared) (h′ : ℕ 
             go (inl e) = absurd (o (ap (λ (w : Link). w .slot) e ∙ named))
             go (inr g) = keep-grown g
 
-        keep-ninth : a .status ≡ pushing (way a) → Ninth s a n w → Ninth s′ a n w
-        keep-ninth st v = record { other = v .other; chance = go (v .chance) (y .anchor) }
+        keep-at9 : a .status ≡ pushing (way a) → At9 s a n w → At9 s′ a n w
+        keep-at9 st v = record { other = v .other; chance = go (v .chance) (y .anchor) }
           where
             go : Live s a n w ⊎ Grown s a n w → Quiet s s′ ⊎ Turned s s′ → Live s′ a n w ⊎ Grown s′ a n w
             go (inr g) z = inr (keep-grown g)
@@ -134,11 +134,11 @@ module _ (u : ℕ) (s : Shared) (h : ℕ → Owner) (s′ : Shared) (h′ : ℕ 
             go (inl l) (inr z) = inr (outrun z (v .other) l st)
 
   -- A head as read that is the head was it before; one that is past stays past.
-  keep-thirteenth : (a : Link) → Thirteenth (s .head) a → Thirteenth (s′ .head) a
-  keep-thirteenth a w = go w (y .stack .head)
+  keep-at13 : (a : Link) → At13 (s .head) a → At13 (s′ .head) a
+  keep-at13 a w = go w (y .stack .head)
     where
-      go : Thirteenth (s .head) a → ((s′ .head ≡ s .head) × (s′ .next (s .head .slot) ≡ s .next (s .head .slot))) ⊎ (s .head .tag < s′ .head .tag)
-          → Thirteenth (s′ .head) a
+      go : At13 (s .head) a → ((s′ .head ≡ s .head) × (s′ .next (s .head .slot) ≡ s .next (s .head .slot))) ⊎ (s .head .tag < s′ .head .tag)
+          → At13 (s′ .head) a
       go (inl e) (inl k) = inl (e ∙ sym (k .0))
       go (inl e) (inr l) = inr (omega (arith, ap (λ (w : Link). w .tag) e))
       go (inr g) (inl k) = inr (omega (arith, ap (λ (w : Link). w .tag) (k .0)))
@@ -161,7 +161,7 @@ module _ (u : ℕ) (s : Shared) (h : ℕ → Owner) (s′ : Shared) (h′ : ℕ 
 
   keep-drawing : (p : Draw) (r : Rec) → Drawing p s r → Drawing p s′ r
   keep-drawing at12 r w = tt
-  keep-drawing at13 r w = (w .0, keep-thirteenth (r .link) (w .1))
+  keep-drawing at13 r w = (w .0, keep-at13 (r .link) (w .1))
   keep-drawing at14 r w = (w .0, keep-fourteenth (r .link) (r .near) (w .1))
 
   keep-giving : (p : Give) (r : Rec) → h (r .own) ≡ held u → Giving p s r → Giving p s′ r
@@ -169,7 +169,7 @@ module _ (u : ℕ) (s : Shared) (h : ℕ → Owner) (s′ : Shared) (h′ : ℕ 
   keep-giving at16 r e w = tt
   keep-giving at17 r e w = y .spared (r .own) e .next ∙ w
 
-  pub keep : (q : List Entry) → Intact s h q → (p : Place) (r : Rec) (c : Call) → Task p s h u r c → Task p s′ h′ u r c
+  pub keep : (q : List Entry) → Intact s h q → (p : Place) (r : Rec) (c : BookCall) → Task p s h u r c → Task p s′ h′ u r c
   keep q all idle r c w = (w .0, keep-bare (w .1))
   keep q all at1 r c w = (w .0, keep-before (w .1))
   keep q all at2 r c w = (keep-tries (r .read) (w .0), w .1)
@@ -182,8 +182,8 @@ module _ (u : ℕ) (s : Shared) (h : ℕ → Owner) (s′ : Shared) (h′ : ℕ 
   keep q all at5 r c w = keep-helps (r .read) w
   keep q all at6 r c w = (keep-helps (r .read) (w .0), keep-near (r .read) q all (r .near) (w .0 .read) (w .0 .status) (w .1))
   keep q all at7 r c w = (keep-helps (r .read) (w .0), keep-near (r .read) q all (r .near) (w .0 .read) (w .0 .status) (w .1))
-  keep q all at8 r c w = (keep-helps (r .read) (w .0), keep-eighth (r .read) q all (r .near) (r .link) (w .0 .read) (w .0 .status) (w .1))
-  keep q all at9 r c w = (keep-helps (r .read) (w .0), keep-ninth (r .read) q all (r .near) (r .link) (w .0 .status) (w .1))
+  keep q all at8 r c w = (keep-helps (r .read) (w .0), keep-at8 (r .read) q all (r .near) (r .link) (w .0 .read) (w .0 .status) (w .1))
+  keep q all at9 r c w = (keep-helps (r .read) (w .0), keep-at9 (r .read) q all (r .near) (r .link) (w .0 .status) (w .1))
   keep q all at10 r c w = (keep-helps (r .read) (w .0), keep-made (r .read) (w .0 .read) (w .0 .status) (w .1))
   keep q all at11 r c w =
       let z = y .spared (tip (r .read) (r .side)) (w .holds) in

@@ -10,7 +10,7 @@ use Rattle.model.proofs.tests.Truth.{by-test}
 use Rattle.model.proofs.lists.Deque.{seen, took}
 use Rattle.model.proofs.lists.Ends.{seen-nil, took-nil}
 use Rattle.model.proofs.lists.Slots.{slots, slots-nil}
-use Rattle.model.proofs.machine.Book.{Call, given, told}
+use Rattle.model.proofs.machine.Book.{BookCall, given, told}
 use Rattle.model.proofs.machine.Machine.{Kind, Rec, Shared, Status, at1, at5, empty, ends, isStable, none, one, pop, push, pushing}
 use Rattle.model.proofs.machine.Machine.{reads, runs, stable, towards}
 use Rattle.model.proofs.invariant.Owners.{Owner, Intact}
@@ -29,7 +29,7 @@ steady : (st : Status) → isStable st ≡ true → st ≡ stable
 steady stable e = refl
 steady (pushing d) e = cc
 
-module _ (t : ℕ) (s : Shared) (h : ℕ → Owner) (q : List Entry) (c : Call) (all : Intact s h q) (r : Rec) where
+module _ (t : ℕ) (s : Shared) (h : ℕ → Owner) (q : List Entry) (c : BookCall) (all : Intact s h q) (r : Rec) where
   none-left : s .anchor .left ≡ 0 → q ≡ []
   none-left e = slots-nil q (no-entry (s .link) (s .anchor) (slots q) (all .shape) e)
 

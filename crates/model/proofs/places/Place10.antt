@@ -6,7 +6,7 @@ use native.Mathlib.Omega.{arith}
 use Rattle.model.specs.declared.Entry.{Entry}
 use Rattle.model.proofs.tests.Truth.{by-test}
 use Rattle.model.proofs.lists.Slots.{slots}
-use Rattle.model.proofs.machine.Book.{Call}
+use Rattle.model.proofs.machine.Book.{BookCall}
 use Rattle.model.proofs.machine.Laws.{same-side, same-true}
 use Rattle.model.proofs.machine.Machine.{Anchor, Rec, Shared, act, at10, leave, pushing, putAnchor, same, settled}
 use Rattle.model.proofs.invariant.Owners.{Owner, Intact}
@@ -16,7 +16,7 @@ use Rattle.model.proofs.chain.Links.{settled-shape}
 use Rattle.model.proofs.places.Places5to8.{away}
 use Rattle.model.proofs.places.Shown.{Shown, leaves, rely-turn}
 
-module _ (t : ℕ) (s : Shared) (h : ℕ → Owner) (q : List Entry) (c : Call) (all : Intact s h q) (r : Rec) where
+module _ (t : ℕ) (s : Shared) (h : ℕ → Owner) (q : List Entry) (c : BookCall) (all : Intact s h q) (r : Rec) where
   pub place10 : Task at10 s h t r c → Shown t s h q c (act at10 s r)
   place10 w = by-test (Shown t s h q c) (same (r .read) (s .anchor)) ok (λ e. away t s h q c all r (w .0))
     where

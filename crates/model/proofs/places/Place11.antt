@@ -5,7 +5,7 @@ use mathlib.Core.Path.{_∙_, _≡_, ap, refl, subst, sym}
 use Prim.Native.Nat.{ℕ}
 use Rattle.model.specs.declared.Entry.{Entry}
 use Rattle.model.proofs.tests.Truth.{by-test}
-use Rattle.model.proofs.machine.Book.{Call}
+use Rattle.model.proofs.machine.Book.{BookCall}
 use Rattle.model.proofs.machine.Laws.{upd-other, upd-same}
 use Rattle.model.proofs.machine.Machine.{Move, Rec, Shared, act, apply, at11, at15, clear, ends, give, owns, popped, running, runs, tip, upd}
 use Rattle.model.proofs.invariant.Owners.{Owner, Spare, Intact, free, shows}
@@ -15,7 +15,7 @@ use Rattle.model.proofs.places.Marking.{marked-at, shows-own}
 use Rattle.model.proofs.places.Owning.{frees-bare, frees-rely, frees-whole}
 use Rattle.model.proofs.places.Shown.{Shown, plain, rely-marks, stack-same}
 
-module _ (t : ℕ) (s : Shared) (h : ℕ → Owner) (q : List Entry) (c : Call) (all : Intact s h q) (r : Rec) where
+module _ (t : ℕ) (s : Shared) (h : ℕ → Owner) (q : List Entry) (c : BookCall) (all : Intact s h q) (r : Rec) where
   pub place11 : Task at11 s h t r c → Shown t s h q c (act at11 s r)
   place11 w = by-test (Shown t s h q c) (s .pooled) keeps frees
     where

@@ -9,7 +9,7 @@ use Rattle.model.proofs.tests.Truth.{by-test}
 use Rattle.model.proofs.lists.Deque.{put, rest, took}
 use Rattle.model.proofs.lists.Ends.{put-nil, took-one}
 use Rattle.model.proofs.lists.Slots.{slots}
-use Rattle.model.proofs.machine.Book.{Call}
+use Rattle.model.proofs.machine.Book.{BookCall}
 use Rattle.model.proofs.machine.Laws.{both-tip, later, same-true}
 use Rattle.model.proofs.machine.Machine.{Anchor, Kind, Rec, Shared, at11, at2, both, ends, goes, pop, push, pushed, putAnchor, running, runs, same, two}
 use Rattle.model.proofs.invariant.Owners.{Owner, Intact}
@@ -20,7 +20,7 @@ use Rattle.model.proofs.chain.Ends.{both-null, no-entry, single, small}
 use Rattle.model.proofs.places.{Effects.left-effect, Place1.place1, Shown.Shown}
 use Rattle.model.proofs.places.Taking.{pop-good, push-good, put-bare}
 
-module _ (t : ℕ) (s : Shared) (h : ℕ → Owner) (q : List Entry) (c : Call) (all : Intact s h q) (r : Rec) where
+module _ (t : ℕ) (s : Shared) (h : ℕ → Owner) (q : List Entry) (c : BookCall) (all : Intact s h q) (r : Rec) where
   pub place2 : (k : Kind) → r .kind ≡ k → Task at2 s h t r c → Shown t s h q c (two k s r)
   place2 push k w = by-test (Shown t s h q c) (same (r .read) (s .anchor)) ok (λ e. place1 t s h q c all r push k (w .0 .early, w .0 .before))
     where

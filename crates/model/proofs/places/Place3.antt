@@ -8,7 +8,7 @@ use native.Mathlib.Omega.{arith}
 use Rattle.model.specs.declared.Entry.{Entry}
 use Rattle.model.proofs.lists.All.{all-front, all-map, all-seen}
 use Rattle.model.proofs.lists.{Deque.seen, Slots.slots}
-use Rattle.model.proofs.machine.{Book.Call, LinkTags.relink-keeps}
+use Rattle.model.proofs.machine.{Book.BookCall, LinkTags.relink-keeps}
 use Rattle.model.proofs.machine.Laws.{relink-other, relink-same}
 use Rattle.model.proofs.machine.Machine.{Kind, Link, Rec, Shared, at3, inner, ownLink, pop, push, relink, running, three, tip, withLink}
 use Rattle.model.proofs.invariant.Owners.{Owner, Intact, held, queued}
@@ -19,7 +19,7 @@ use Rattle.model.proofs.places.{Effects.no-effect, Marking.marked-kept}
 use Rattle.model.proofs.places.Owned.{held-inj, queued-held}
 use Rattle.model.proofs.places.Shown.{Shown, plain, stack-same, still}
 
-module _ (t : ℕ) (s : Shared) (h : ℕ → Owner) (q : List Entry) (c : Call) (all : Intact s h q) (r : Rec) where
+module _ (t : ℕ) (s : Shared) (h : ℕ → Owner) (q : List Entry) (c : BookCall) (all : Intact s h q) (r : Rec) where
   module _ (x : ℕ) (o : (x ≢ 0) × (h x ≡ held t)) (d : Bool) (v : Link) (g : v .tag ≡ s .link d x .tag) where
     not-own : (y : ℕ) → h y ≡ queued → y ≢ x
     not-own y e z = queued-held (sym e ∙ ap h z ∙ o .1)

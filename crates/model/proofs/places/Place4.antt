@@ -7,7 +7,7 @@ use Rattle.model.specs.declared.Entry.{Entry}
 use Rattle.model.proofs.tests.Truth.{by-test}
 use Rattle.model.proofs.lists.Deque.{put, took}
 use Rattle.model.proofs.lists.Slots.{slots}
-use Rattle.model.proofs.machine.Book.{Call, effect}
+use Rattle.model.proofs.machine.Book.{BookCall, effect}
 use Rattle.model.proofs.machine.Laws.{aimed-near, aimed-tag, aimed-way, later, same-true}
 use Rattle.model.proofs.machine.Machine.{Anchor, Kind, Rec, Shared, aimed, at11, at4, finishes, four, goes, inner, pop, push}
 use Rattle.model.proofs.machine.Machine.{pushing, putAnchor, running, runs, same, stable, tip}
@@ -20,7 +20,7 @@ use Rattle.model.proofs.places.{Effects.aimed-effect, Place1.place1, Ow
 use Rattle.model.proofs.places.Shown.{Shown, read-now}
 use Rattle.model.proofs.places.Taking.{end-entry, not-in, pop-good, push-good, put-bare}
 
-module _ (t : ℕ) (s : Shared) (h : ℕ → Owner) (q : List Entry) (c : Call) (all : Intact s h q) (r : Rec) where
+module _ (t : ℕ) (s : Shared) (h : ℕ → Owner) (q : List Entry) (c : BookCall) (all : Intact s h q) (r : Rec) where
   pub place4 : (k : Kind) → r .kind ≡ k → Task at4 s h t r c → Shown t s h q c (four k s r)
   place4 push k w = by-test (Shown t s h q c) (same (r .read) (s .anchor)) ok (λ e. place1 t s h q c all r push k (w .0 .early, w .0 .before))
     where

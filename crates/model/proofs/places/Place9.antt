@@ -8,7 +8,7 @@ use native.Mathlib.Omega.{arith}
 use Rattle.model.specs.declared.Entry.{Entry}
 use Rattle.model.proofs.tests.Truth.{by-test}
 use Rattle.model.proofs.lists.Slots.{slots}
-use Rattle.model.proofs.machine.Book.{Call}
+use Rattle.model.proofs.machine.Book.{BookCall}
 use Rattle.model.proofs.machine.Laws.{relink-across, relink-other, relink-same, same-side, sameLink-true, stable-pushing}
 use Rattle.model.proofs.machine.LinkTags.{grows-le, relink-grows}
 use Rattle.model.proofs.machine.Machine.{Anchor, Link, Rec, Shared, act, at10, at9, goes, inner, pushing, putLink, relink, running}
@@ -20,7 +20,7 @@ use Rattle.model.proofs.chain.Links.{back-shape, inner-in}
 use Rattle.model.proofs.places.{Effects.no-effect, Marking.marked-kept, Owned.queued-held, Places5to8.away}
 use Rattle.model.proofs.places.Shown.{Shown, plain, stack-same}
 
-module _ (t : ℕ) (s : Shared) (h : ℕ → Owner) (q : List Entry) (c : Call) (all : Intact s h q) (r : Rec) where
+module _ (t : ℕ) (s : Shared) (h : ℕ → Owner) (q : List Entry) (c : BookCall) (all : Intact s h q) (r : Rec) where
   module _ (e : Bool) (st : s .anchor .status ≡ pushing e) (v : Link) (names : v .slot ≡ tip (s .anchor) e) where
     abbrev back-at : ℕ
     back-at = s .link (not e) (tip (s .anchor) e) .slot

@@ -7,7 +7,7 @@ use Prim.Native.Nat.{_<_, _≤_, ℕ}
 use native.Mathlib.Omega.{arith}
 use Rattle.model.specs.declared.Entry.{Entry}
 use Rattle.model.proofs.tests.Truth.{by-test}
-use Rattle.model.proofs.machine.Book.{Call}
+use Rattle.model.proofs.machine.Book.{BookCall}
 use Rattle.model.proofs.machine.Laws.{sameLink-true, upd-other, upd-same}
 use Rattle.model.proofs.machine.Machine.{Give, Link, Rec, Shared, at15, at16, at17, blank, ends, give, gives, goes, popped, putHead}
 use Rattle.model.proofs.machine.Machine.{putNext, running, runs, sameLink, upd, withNext}
@@ -20,7 +20,7 @@ use Rattle.model.proofs.places.Owning.{frees-bare, frees-rely, frees-wh
 use Rattle.model.proofs.places.Shown.{ShownAs, plain, still}
 use Rattle.model.proofs.places.Stack.{given, linked, top-apart}
 
-module _ (t : ℕ) (s : Shared) (h : ℕ → Owner) (q : List Entry) (c : Call) (all : Intact s h q) (r : Rec) where
+module _ (t : ℕ) (s : Shared) (h : ℕ → Owner) (q : List Entry) (c : BookCall) (all : Intact s h q) (r : Rec) where
   abbrev x : ℕ
   x = r .own
 

@@ -7,7 +7,7 @@ use Prim.Native.Nat.{_<_, ℕ}
 use native.Mathlib.Omega.{arith}
 use Rattle.model.specs.declared.Entry.{Entry}
 use Rattle.model.proofs.tests.Truth.{by-test, not-both}
-use Rattle.model.proofs.machine.Book.{Call, Honoured, effect, granted, isNoSlot, noted}
+use Rattle.model.proofs.machine.Book.{BookCall, Honoured, effect, granted, isNoSlot, noted}
 use Rattle.model.proofs.machine.Machine.{Anchor, Answer, Move, Rec, Shared, Touch, apply, at1, blank, empty, ends, goes, isGiving, leave}
 use Rattle.model.proofs.machine.Machine.{noSlot, none, popped, push, pushed, pushing, running, runs, tip, withAnchor}
 use Rattle.model.proofs.invariant.Owners.{Owner, Intact, held}
@@ -18,7 +18,7 @@ use Rattle.model.proofs.places.Effects.{no-effect, noted-false}
 use Rattle.model.proofs.places.Marking.{Marked, marked-kept}
 
 -- The record and the call after an answer.
-abbrev pub Finish : Answer → Shared → (ℕ → Owner) → ℕ → Rec → Call → Type 0
+abbrev pub Finish : Answer → Shared → (ℕ → Owner) → ℕ → Rec → BookCall → Type 0
 Finish running s h t r c = Task (r .place) s h t r c
 Finish pushed s h t r c = (r ≡ blank) × Honoured (record { call = c; answer = pushed }) × Bare h t
 Finish empty s h t r c = (r ≡ blank) × Honoured (record { call = c; answer = empty }) × Bare h t
@@ -26,12 +26,12 @@ Finish noSlot s h t r c = (r ≡ blank) × Honoured (record { call = c; answer =
 Finish (popped x l) s h t r c = (r ≡ blank) × Honoured (record { call = c; answer = popped x l }) × Bare h t
 
 -- A push that has its effect stands at the end of its side.
-abbrev pub Stands : Shared → Call → Move → Type 0
+abbrev pub Stands : Shared → BookCall → Move → Type 0
 Stands s c m = effect (s .anchor) (apply s (m .touch) .anchor) (m .answer) ≡ true → isNoSlot (m .answer) ≡ false → c .kind ≡ push
     → tip (apply s (m .touch) .anchor) (c .side) ≡ granted (m .touch) c .slot
 
 -- b tells whether the task stands at 15 to 17.
-pub record ShownAs (b : Bool) (t : ℕ) (s : Shared) (h : ℕ → Owner) (q : List Entry) (c : Call) (m : Move) : Type 0 where
+pub record ShownAs (b : Bool) (t : ℕ) (s : Shared) (h : ℕ → Owner) (q : List Entry) (c : BookCall) (m : Move) : Type 0 where
   pub owner : ℕ → Owner
   pub whole : Intact (apply s (m .touch)) owner (noted (granted (m .touch) c) q (s .anchor) (apply s (m .touch) .anchor) (m .answer) .queue)
   pub rely : (u : ℕ) → u ≢ t → Rely u s h (apply s (m .touch)) owner
@@ -41,7 +41,7 @@ pub record ShownAs (b : Bool) (t : ℕ) (s : Shared) (h : ℕ → Owner) (q : Li
   pub marks : Marked b t s h m owner
 
 -- At any other place.
-abbrev pub Shown : ℕ → Shared → (ℕ → Owner) → List Entry → Call → Move → Type 0
+abbrev pub Shown : ℕ → Shared → (ℕ → Owner) → List Entry → BookCall → Move → Type 0
 Shown t s h q c m = ShownAs false t s h q c m
 
 -- The stack is left alone.
@@ -90,7 +90,7 @@ rely-turn a h′ later closed kept back u n =
       stack = stack-same refl refl refl;
     }
 
-module _ {b : Bool} {t : ℕ} {s : Shared} {h : ℕ → Owner} {q : List Entry} {c : Call} where
+module _ {b : Bool} {t : ℕ} {s : Shared} {h : ℕ → Owner} {q : List Entry} {c : BookCall} where
   -- A step with no effect.
   pub plain : (m : Move) (h′ : ℕ → Owner) → effect (s .anchor) (apply s (m .touch) .anchor) (m .answer) ≡ false → Intact (apply s (m .touch)) h′ q
       → ((u : ℕ) → u ≢ t → Rely u s h (apply s (m .touch)) h′) → Finish (m .answer) (apply s (m .touch)) h′ t (m .rec) (granted (m .touch) c)
@@ -100,7 +100,7 @@ module _ {b : Bool} {t : ℕ} {s : Shared} {h : ℕ → Owner} {q : List Entry} 
       record { owner = h′; whole = rw n w; rely = y; finish = rw n f; stands = λ z. absurd (not-both z e); marks = k }
 
   -- A step with its effect.
-  pub effective : (m : Move) (h′ : ℕ → Owner) (c′ : Call) (q′ : List Entry)
+  pub effective : (m : Move) (h′ : ℕ → Owner) (c′ : BookCall) (q′ : List Entry)
       → noted (granted (m .touch) c) q (s .anchor) (apply s (m .touch) .anchor) (m .answer) ≡ record {
         call =
             c′;
@@ -115,7 +115,7 @@ module _ {b : Bool} {t : ℕ} {s : Shared} {h : ℕ → Owner} {q : List Entry} 
   still {r} e w f = plain (runs none r) h (no-effect (s .anchor) (s .anchor) running refl refl refl) w (λ u n. rely-refl u) f
       (marked-kept (runs none r) e (λ x. refl))
 
-module _ {t : ℕ} {s : Shared} {h : ℕ → Owner} {q : List Entry} {c : Call} where
+module _ {t : ℕ} {s : Shared} {h : ℕ → Owner} {q : List Entry} {c : BookCall} where
   pub leaves : (g : Touch) (r : Rec) → s .anchor .left ≡ apply s g .anchor .left → s .anchor .right ≡ apply s g .anchor .right
       → ((x : ℕ) → apply s g .mark x ≡ s .mark x) → Intact (apply s g) h q → ((u : ℕ) → u ≢ t → Rely u s h (apply s g) h)
       → Stage (r .finishing) (apply s g .label) h t (r .kind) (r .side) (r .own) (r .label) (granted g c) → Shown t s h q c (leave g r)

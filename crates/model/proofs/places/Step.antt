@@ -5,7 +5,7 @@ use mathlib.Core.Path.{_≡_, refl, subst, subst₂, sym}
 use Prim.Native.Nat.{_≤_, ℕ}
 use Rattle.model.specs.declared.Entry.{Entry}
 use Rattle.model.proofs.tests.Truth.{decide-eq, not-both}
-use Rattle.model.proofs.machine.Book.{Both, Call, Honoured, Noted, closes, granted, noCall, noted, stepped}
+use Rattle.model.proofs.machine.Book.{Both, BookCall, Honoured, Noted, closes, granted, noCall, noted, stepped}
 use Rattle.model.proofs.machine.Laws.{upd-other, upd-same}
 use Rattle.model.proofs.machine.Machine.{Answer, Place, Rec, Shared, Touch, act, apply, at1, at10, at11, at2, at3, at4, at5, at6, at7, at8}
 use Rattle.model.proofs.machine.Machine.{at9, blank, clear, draw, empty, give, idle, isGiving, isIdle, moved, noSlot, none, popped, pushed, putAnchor}
@@ -19,7 +19,7 @@ use Rattle.model.proofs.places.Places5to8.{place5, place6, place7, plac
 use Rattle.model.proofs.places.Shown.{Finish, ShownAs, Stands}
 
 -- One step, by places.
-places : (t : ℕ) (s : Shared) (h : ℕ → Owner) (q : List Entry) (c : Call) → Intact s h q → (r : Rec) (p : Place) → isIdle p ≡ false → Task p s h t r c
+places : (t : ℕ) (s : Shared) (h : ℕ → Owner) (q : List Entry) (c : BookCall) → Intact s h q → (r : Rec) (p : Place) → isIdle p ≡ false → Task p s h t r c
     → ShownAs (isGiving p) t s h q c (act p s r)
 places t s h q c all r idle i w = absurd (not-both refl i)
 places t s h q c all r at1 i w = place1 t s h q c all r (r .kind) refl w
@@ -46,15 +46,15 @@ slots-kept s (putNext x v) = refl
 slots-kept s (putHead w) = refl
 
 -- One record and one call are replaced, and the others keep what they have.
-pub tasks-upd : (s : Shared) (h : ℕ → Owner) (f : ℕ → Rec) (g : ℕ → Call) (t : ℕ) (r : Rec) (c : Call)
+pub tasks-upd : (s : Shared) (h : ℕ → Owner) (f : ℕ → Rec) (g : ℕ → BookCall) (t : ℕ) (r : Rec) (c : BookCall)
     → ((u : ℕ) → u ≢ t → Task (f u .place) s h u (f u) (g u)) → Task (r .place) s h t r c
     → (u : ℕ) → Task (upd f t r u .place) s h u (upd f t r u) (upd g t c u)
 tasks-upd s h f g t r c others own u = go (decide-eq u t)
   where
     go : (u ≡ t) ⊎ (u ≢ t) → Task (upd f t r u .place) s h u (upd f t r u) (upd g t c u)
     go (inl z) = subst (λ v. Task (upd f t r v .place) s h v (upd f t r v) (upd g t c v)) (sym z)
-        (subst₂ (λ (x : Rec) (y : Call). Task (x .place) s h t x y) (sym (upd-same f t r)) (sym (upd-same g t c)) own)
-    go (inr z) = subst₂ (λ (x : Rec) (y : Call). Task (x .place) s h u x y) (sym (upd-other f t r u z)) (sym (upd-other g t c u z)) (others u z)
+        (subst₂ (λ (x : Rec) (y : BookCall). Task (x .place) s h t x y) (sym (upd-same f t r)) (sym (upd-same g t c)) own)
+    go (inr z) = subst₂ (λ (x : Rec) (y : BookCall). Task (x .place) s h u x y) (sym (upd-other f t r u z)) (sym (upd-other g t c u z)) (others u z)
 
 module _ (p : Both) (i : Inv p) where
   pub others : (t : ℕ) (s : Shared) (h : ℕ → Owner) → ((u : ℕ) → u ≢ t → Rely u (p .state .shared) (i .owner) s h)

@@ -11,7 +11,7 @@ use Rattle.model.proofs.lists.Chain.{distinct-seen}
 use Rattle.model.proofs.lists.Deque.{Distinct, front, put, rest, seen, took}
 use Rattle.model.proofs.lists.In.{In, in-put, in-took}
 use Rattle.model.proofs.lists.Slots.{map-seen, slots, slots-put, slots-took}
-use Rattle.model.proofs.machine.Book.{Call, effect, given, granted, isNoSlot, noted, told}
+use Rattle.model.proofs.machine.Book.{BookCall, effect, given, granted, isNoSlot, noted, told}
 use Rattle.model.proofs.machine.Laws.{stable-pushing, upd-other, upd-same}
 use Rattle.model.proofs.machine.Machine.{Anchor, Move, Rec, Shared, Touch, apply, at1, at11, goes, isGiving, none, pop, popped, push, pushed}
 use Rattle.model.proofs.machine.Machine.{pushing, putAnchor, running, runs, stable, tip, upd, withAnchor}
@@ -102,7 +102,7 @@ module _ {s : Shared} {h : ℕ → Owner} {q : List Entry} (all : Intact s h q) 
 pub put-bare : (h : ℕ → Owner) (t x : ℕ) → Sole h t x → Bare (upd h x queued) t
 put-bare h t x o y f = let b = owner-back h x queued (held t) queued-held y f in b .0 (o y (b .1))
 
-module _ {t : ℕ} {s : Shared} {h : ℕ → Owner} {q : List Entry} {c : Call} (all : Intact s h q) (r : Rec) where
+module _ {t : ℕ} {s : Shared} {h : ℕ → Owner} {q : List Entry} {c : BookCall} (all : Intact s h q) (r : Rec) where
   -- A push has its effect.
   pub push-good : (m : Move) → r .kind ≡ push → Before (s .label) h t (r .kind) (r .side) (r .own) (r .label) c
       → effect (s .anchor) (apply s (m .touch) .anchor) (m .answer) ≡ true

@@ -8,7 +8,7 @@ use Prim.Native.Nat.{_+_, _<_, _≤_, suc, ℕ}
 use native.Mathlib.Omega.{arith}
 use Rattle.model.specs.declared.Entry.{Entry}
 use Rattle.model.proofs.tests.Truth.{by-test, not-both}
-use Rattle.model.proofs.machine.{Book.Call, Laws.sameLink-true}
+use Rattle.model.proofs.machine.{Book.BookCall, Laws.sameLink-true}
 use Rattle.model.proofs.machine.Machine.{Kind, Link, Move, Place, Rec, Shared, act, at1, at10, at11, at12, at13, at14, at15, at16, at17, at2}
 use Rattle.model.proofs.machine.Machine.{at3, at4, at5, at6, at7, at8, at9, draw, four, give, goes, idle, isIdle, isStable, pop, push, putLink}
 use Rattle.model.proofs.machine.Machine.{runs, same, sameLink, tip, two}
@@ -66,7 +66,7 @@ module _ (s : Shared) (r : Rec) where
   eleventh : cond (s .pooled) 4 1 < c pop
   eleventh = drop (s .pooled) (λ _. omega arith) (λ _. omega arith)
 
-  module _ (h : ℕ → Owner) (t : ℕ) (q : List Entry) (b : Call) (all : Intact s h q) where
+  module _ (h : ℕ → Owner) (t : ℕ) (q : List Entry) (b : BookCall) (all : Intact s h q) where
     alone2 : (k : Kind) → r .finishing ≡ false → Own k at2 (two k s r)
     alone2 push f = by-test (Own push at2) now (λ e. record { less = λ z. absurd (pushed-running z) })
         (λ e. fall2-failed _ _ _ (gap push) s r h q all f e push)

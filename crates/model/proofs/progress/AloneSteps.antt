@@ -15,8 +15,8 @@ use Rattle.model.specs.Solo.{soloRun, soloSteps}
 use Rattle.model.specs.Refusals.{among, stepRefusal}
 use Rattle.model.specs.Route.{goes, counted}
 use Rattle.model.specs.Tables.{Queue, Tables, recordAt, taskAt, unused}
-use Rattle.model.specs.declared.Answer.the-variants.{Empty, NoSlot, Popped, Pushed, Running}
-use Rattle.model.specs.declared.{Answer.Answer, Record.Record, TaskRecord.TaskRecord}
+use Rattle.model.specs.declared.Answer.the-variants.{Empty, NoFreeSlot, Popped, Pushed, Running}
+use Rattle.model.specs.declared.{Answer.Answer, Call.Call, Record.Record}
 use Rattle.model.specs.declared.Op.the-variants.{Step}
 use Rattle.model.specs.declared.Outcome.the-variants.{Moved}
 use Rattle.model.proofs.tests.Truth.{by-test, not-both, split}
@@ -49,7 +49,7 @@ pub record Nearer (pooled : Bool) (q : Queue) (t : ℕ) (d : Done) : Type 0 wher
 
 module _ (n : ℕ) (q : Queue) (l : Ledger) (g : Matched n q l) (f : Safe q) (pooled : Bool) (tasks : ℕ) (y : Roomy pooled tasks q) (t : ℕ)
     (b : Busy q t) where
-  abbrev r : Record
+  abbrev r : Call
   r = recordAt q t
 
   abbrev G : Tables
@@ -61,10 +61,10 @@ module _ (n : ℕ) (q : Queue) (l : Ledger) (g : Matched n q l) (f : Safe q) (po
   abbrev m : Move
   m = move (G .control) r (wordFound G r)
 
-  abbrev r′ : Record
+  abbrev r′ : Call
   r′ = goes (m .task) (next r m)
 
-  abbrev moved : TaskRecord
+  abbrev moved : Record
   moved = record { call = r′; retries = counted (taskAt q t .retries) (m .failed) }
 
   abbrev z : Lies q t
@@ -88,7 +88,7 @@ module _ (n : ℕ) (q : Queue) (l : Ledger) (g : Matched n q l) (f : Safe q) (po
   -- The record that is put back.
   own : recordAt q′ t ≡ r′
   unfolding finish
-  own = ap (λ (x : TaskRecord). x .call) (getD-set-same (q .records) t moved unused (omega (arith, z .length, z .known)))
+  own = ap (λ (x : Record). x .call) (getD-set-same (q .records) t moved unused (omega (arith, z .length, z .known)))
 
   still : answerSeen a ≡ M.running → r′ .place ≢ 0
   unfolding recOf
@@ -99,7 +99,7 @@ module _ (n : ℕ) (q : Queue) (l : Ledger) (g : Matched n q l) (f : Safe q) (po
   -- A record gone on keeps its kind.
   same-kind : r′ .place ≢ 0 → r′ .kind ≡ r .kind
   unfolding goes
-  same-kind = by-test (λ (x : Record). x .place ≢ 0 → x .kind ≡ r .kind) (leb (next r m) 17) (λ _ _. keeps n q l g f t z (b .place) .kind)
+  same-kind = by-test (λ (x : Call). x .place ≢ 0 → x .kind ≡ r .kind) (leb (next r m) 17) (λ _ _. keeps n q l g f t z (b .place) .kind)
       (λ _ e. absurd (e refl))
 
   nearer : answerSeen a ≡ M.running → aloneOf pooled k t (stateOf q′) < aloneOf pooled k t (stateOf q)
@@ -119,8 +119,8 @@ module _ (n : ℕ) (q : Queue) (l : Ledger) (g : Matched n q l) (f : Safe q) (po
       (λ _. record {
         answer = a;
         moved = refl;
-        busy = λ e. subst (λ (x : Record). x .place ≢ 0) (sym own) (still e);
-        kind = λ e. ap (λ (x : Record). x .kind) own ∙ same-kind (still e);
+        busy = λ e. subst (λ (x : Call). x .place ≢ 0) (sym own) (still e);
+        kind = λ e. ap (λ (x : Call). x .kind) own ∙ same-kind (still e);
         less = nearer;
       })
       (λ e. absurd (not-both (eq-eqb _ _ (taken n q l g f pooled tasks y t b)) e))
@@ -160,7 +160,7 @@ module _ (pooled : Bool) (tasks : ℕ) where
       run-on Pushed e ih = rw (x .moved ∙ ap Moved e) (record { answered = refl; within = omega arith })
       run-on Empty e ih = rw (x .moved ∙ ap Moved e) (record { answered = refl; within = omega arith })
       run-on (Popped v) e ih = rw (x .moved ∙ ap Moved e) (record { answered = refl; within = omega arith })
-      run-on NoSlot e ih = rw (x .moved ∙ ap Moved e) (record { answered = refl; within = omega arith })
+      run-on NoFreeSlot e ih = rw (x .moved ∙ ap Moved e) (record { answered = refl; within = omega arith })
 
   -- 18 steps for a push, 13 for a pop, in a pooled queue 21 and 16.
   pub solo-within : (q : Queue) → Reached pooled tasks q → (t n : ℕ) → Busy q t → limit pooled (recordAt q t .kind) ≤ n

@@ -17,7 +17,7 @@ use Rattle.model.proofs.machine.Machine.{at16, at17, at2, at3, at4, at5
 use Rattle.model.proofs.machine.Machine.{noSlot, none, one, owns, pop, popped, push, pushed, putAnchor, putLink, raised, reads, running, runs}
 use Rattle.model.proofs.machine.Machine.{same, sameLink, settled, take, three, tip, towards}
 use Rattle.model.proofs.invariant.Owners.{Owner, Intact}
-use Rattle.model.proofs.invariant.Tasks.{Fresh, Grown, Live, Ninth, way}
+use Rattle.model.proofs.invariant.Tasks.{Fresh, Grown, Live, At9, way}
 use Rattle.model.proofs.chain.Ends.{alike-stable, both-null}
 use Rattle.model.proofs.progress.Measure.{home, outgrown, owed, owedAt}
 
@@ -112,7 +112,7 @@ module _ (c g : ℕ) (draws : Bool) (gap : c + 2 ≤ g) (s : Shared) (r : Rec) w
       (λ e. leaves 3 (stale _ e))
 
   -- 9, failed: the link was outgrown.
-  pub fall9-failed : Ninth s (r .read) (r .near) (r .link) → sameLink (r .link) (s .link (way (r .read)) (r .near)) ≡ false → At at9 (leave none r)
+  pub fall9-failed : At9 s (r .read) (r .near) (r .link) → sameLink (r .link) (s .link (way (r .read)) (r .near)) ≡ false → At at9 (leave none r)
   fall9-failed n z = leaves 2 (by-test (λ v. here < v) (outgrown s r) (λ _. omega arith) (λ f. absurd (not-both grown f)))
     where
       fresh : Fresh s (r .read) (r .near) (r .link) → outgrown s r ≡ true

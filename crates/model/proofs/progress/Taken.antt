@@ -11,7 +11,7 @@ use Rattle.model.specs.{History.Ledger, Progress.Busy}
 use Rattle.model.specs.Refusals.{among, openRefusal, openRules, recordsFit, stepRefusal}
 use Rattle.model.specs.Sound.{rowTests, rowsFit}
 use Rattle.model.specs.Tables.{Queue, Tables, isPooled, recordAt}
-use Rattle.model.specs.declared.{Op.Op, Record.Record}
+use Rattle.model.specs.declared.{Op.Op, Call.Call}
 use Rattle.model.proofs.tests.Rules.{_and_, cleared, passes, tests}
 use Rattle.model.proofs.tests.Truth.{and-of, and-true, or-first, or-right, or-second, split}
 use Rattle.model.proofs.laws.Sizes.{act-pooled, act-slots, act-tasks}
@@ -81,7 +81,7 @@ module _ (pooled : Bool) (q : Queue) (tasks slots tag : ℕ) (e : openRefusal po
 -- A busy task's step passes every rule.
 module _ (n : ℕ) (q : Queue) (l : Ledger) (g : Matched n q l) (f : Safe q) (pooled : Bool) (tasks : ℕ) (y : Roomy pooled tasks q) (t : ℕ)
     (b : Busy q t) where
-  abbrev r : Record
+  abbrev r : Call
   r = recordAt q t
 
   abbrev G : Tables

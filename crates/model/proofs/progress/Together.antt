@@ -9,7 +9,7 @@ use native.Mathlib.Omega.{arith}
 use lib.Dec.{eqb}
 use Rattle.model.specs.declared.Entry.{Entry}
 use Rattle.model.proofs.tests.Truth.{by-test, not-both, either}
-use Rattle.model.proofs.machine.Book.{Call, Noted, effect, noted}
+use Rattle.model.proofs.machine.Book.{BookCall, Noted, effect, noted}
 use Rattle.model.proofs.machine.Laws.{same-true, sameLink-true}
 use Rattle.model.proofs.machine.Machine.{Anchor, Kind, Link, Move, Place, Rec, Shared, Touch, act, aimed, apply, at1, at10, at11, at12, at13}
 use Rattle.model.proofs.machine.Machine.{at14, at15, at16, at17, at2, at3, at4, at5, at6, at7, at8, at9, both, draw, exhausted, finishes, four}
@@ -32,7 +32,7 @@ abbrev pub Silent : Shared → Move → Type 0
 Silent s m = (m .answer ≡ running) × (effect (s .anchor) (apply s (m .touch) .anchor) (m .answer) ≡ false)
 
 -- x is what the task owed at its place p.
-pub record Calmer (x : ℕ) (p : Place) (s : Shared) (m : Move) : Type 0 where
+pub record SilentFalls (x : ℕ) (p : Place) (s : Shared) (m : Move) : Type 0 where
   pub own : Silent s m → together (apply s (m .touch)) (m .rec) < x
   pub fewer : Silent s m → heads (m .rec .place) ≤ heads p
   pub others : Silent s m → (u : Rec) → together (apply s (m .touch)) u ≤ together s u
@@ -50,7 +50,7 @@ abbrev Plain : Place → Move → Type 0
 Plain p m = (m .touch ≡ none) × (m .answer ≡ running → heads (m .rec .place) ≤ heads p)
 
 module _ (x : ℕ) (p : Place) (s : Shared) where
-  still : (m : Move) → Plain p m → Falls 1 (scale s) (s .pooled) x s m → Calmer x p s m
+  still : (m : Move) → Plain p m → Falls 1 (scale s) (s .pooled) x s m → SilentFalls x p s m
   still m e f = record {
     own = λ z. subst (λ (w : Touch). owed 1 (scale (apply s w)) (apply s w .pooled) (apply s (m .touch)) (m .rec) < x) (sym (e .0)) (f .less (z .0));
     fewer = λ z. e .1 (z .0);
@@ -58,7 +58,7 @@ module _ (x : ℕ) (p : Place) (s : Shared) where
   }
 
   -- An effect or an answer.
-  loud : (m : Move) → (Silent s m → ⊥) → Calmer x p s m
+  loud : (m : Move) → (Silent s m → ⊥) → SilentFalls x p s m
   loud m n = record { own = λ z. absurd (n z); fewer = λ z. absurd (n z); others = λ z u. absurd (n z) }
 
 module _ (s : Shared) (r : Rec) where
@@ -70,7 +70,7 @@ module _ (s : Shared) (r : Rec) where
   top = sameLink (r .link) (s .head)
 
   abbrev At : Place → Move → Type 0
-  At p m = Calmer (owedAt 1 (scale s) (s .pooled) p s r) p s m
+  At p m = SilentFalls (owedAt 1 (scale s) (s .pooled) p s r) p s m
 
   -- To 1 to 10, or to an answer.
   abbrev Inside : Move → Type 0
@@ -86,7 +86,7 @@ module _ (s : Shared) (r : Rec) where
       (either Inside (eqb (s .anchor .left) (s .anchor .right)) (refl, λ _. omega arith)
       (either Inside (isStable (s .anchor .status)) (refl, λ _. omega arith) (refl, λ _. omega arith)))
 
-  module _ (t : ℕ) (h : ℕ → Owner) (q : List Entry) (b : Call) (all : Intact s h q) where
+  module _ (t : ℕ) (h : ℕ → Owner) (q : List Entry) (b : BookCall) (all : Intact s h q) where
     abbrev after : Move → Noted
     after m = noted b q (s .anchor) (apply s (m .touch) .anchor) (m .answer)
 
@@ -199,36 +199,37 @@ module _ (s : Shared) (r : Rec) where
         }
 
     -- A step of the task.
-    pub calmer : (p : Place) → isIdle p ≡ false → Task p s h t r b → At p (act p s r) ⊎ Drawn (owedAt 1 (scale s) (s .pooled) p s r) p s (act p s r)
-    calmer idle i w = absurd (not-both refl i)
-    calmer at1 i w = inl (still _ _ s (one (r .kind) s r) (one-none (r .kind)) (fall1 1 (scale s) (s .pooled) (scale-some s) s r h q all (w .0) (r .kind)))
-    calmer at2 i w = inl (calm2 (r .kind) refl w)
-    calmer at3 i w = inl (calm3 (r .kind) refl w)
-    calmer at4 i w = inl (calm4 (r .kind) refl w)
-    calmer at5 i w = inl (still _ _ s (act at5 s r) (refl, λ _. omega arith) (fall5 1 (scale s) (s .pooled) (scale-some s) s r))
-    calmer at6 i w = inl (still _ _ s (act at6 s r) (either Inside now (refl, λ _. omega arith) leave-none)
+    pub silent-falls : (p : Place) → isIdle p ≡ false → Task p s h t r b → At p (act p s r) ⊎ Drawn (owedAt 1 (scale s) (s .pooled) p s r) p s (act p s r)
+    silent-falls idle i w = absurd (not-both refl i)
+    silent-falls at1 i w = inl (still _ _ s (one (r .kind) s r) (one-none (r .kind)) (fall1 1 (scale s) (s .pooled) (scale-some s) s r h q all (w .0)
+        (r .kind)))
+    silent-falls at2 i w = inl (calm2 (r .kind) refl w)
+    silent-falls at3 i w = inl (calm3 (r .kind) refl w)
+    silent-falls at4 i w = inl (calm4 (r .kind) refl w)
+    silent-falls at5 i w = inl (still _ _ s (act at5 s r) (refl, λ _. omega arith) (fall5 1 (scale s) (s .pooled) (scale-some s) s r))
+    silent-falls at6 i w = inl (still _ _ s (act at6 s r) (either Inside now (refl, λ _. omega arith) leave-none)
         (fall6 1 (scale s) (s .pooled) (scale-some s) s r))
-    calmer at7 i w = inl (still _ _ s (act at7 s r)
+    silent-falls at7 i w = inl (still _ _ s (act at7 s r)
         (either Inside (eqb (s .link (towards (r .read .status)) (r .near) .slot) (tip (r .read) (towards (r .read .status))))
         (refl, λ _. omega arith) (refl, λ _. omega arith))
         (fall7 1 (scale s) (s .pooled) (scale-some s) s r))
-    calmer at8 i w = inl (still _ _ s (act at8 s r) (either Inside now (refl, λ _. omega arith) leave-none)
+    silent-falls at8 i w = inl (still _ _ s (act at8 s r) (either Inside now (refl, λ _. omega arith) leave-none)
         (fall8 1 (scale s) (s .pooled) (scale-some s) s r))
-    calmer at9 i w = inl (calm9 w)
-    calmer at10 i w = inl (calm10 w)
-    calmer at11 i w = inl (by-test (At at11) (s .pooled)
+    silent-falls at9 i w = inl (calm9 w)
+    silent-falls at10 i w = inl (calm10 w)
+    silent-falls at11 i w = inl (by-test (At at11) (s .pooled)
         (λ e. record {
           own = λ z. fall11 1 (scale s) (s .pooled) (scale-some s) s r e .less (z .0);
           fewer = λ z. omega arith;
           others = λ z u. omega arith;
         })
         (λ _. loud _ _ s _ (λ z. popped-running (z .0))))
-    calmer (draw at12) i w = inl (still _ _ s (act (draw at12) s r)
+    silent-falls (draw at12) i w = inl (still _ _ s (act (draw at12) s r)
         (either (Plain (draw at12)) (exhausted (s .head)) (refl, λ e. absurd (none-running e)) (refl, λ _. omega arith))
         (fall12 1 (scale s) (s .pooled) (scale-some s) s r (w .0)))
-    calmer (draw at13) i w = inl (still _ _ s (act (draw at13) s r) (refl, λ _. omega arith)
+    silent-falls (draw at13) i w = inl (still _ _ s (act (draw at13) s r) (refl, λ _. omega arith)
         (fall13 1 (scale s) (s .pooled) (scale-some s) s r (w .0)))
-    calmer (draw at14) i w =
+    silent-falls (draw at14) i w =
         by-test (λ m. At (draw at14) m ⊎ Drawn (owedAt 1 (scale s) (s .pooled) (draw at14) s r) (draw at14) s m) top
         (λ _. inr (record {
           own = fall14-done 1 (scale s) (s .pooled) (scale-some s) s r (w .0) .less refl;
@@ -238,12 +239,12 @@ module _ (s : Shared) (r : Rec) where
           others = λ u. drawn-le s (raised r (r .near)) (r .link .slot) (r .label) u;
         }))
         (λ n. inl (still _ _ s _ (refl, λ _. omega arith) (fall14-failed 1 (scale s) (s .pooled) (scale-some s) s r (w .0) n)))
-    calmer (give at15) i w = inl (still _ _ s (act (give at15) s r) (refl, λ _. omega arith)
+    silent-falls (give at15) i w = inl (still _ _ s (act (give at15) s r) (refl, λ _. omega arith)
         (fall15 1 (scale s) (s .pooled) (scale-some s) s r))
-    calmer (give at16) i w = inl (record {
+    silent-falls (give at16) i w = inl (record {
       own = λ z. fall16 1 (scale s) (s .pooled) (scale-some s) s r .less (z .0);
       fewer = λ z. omega arith;
       others = λ z u. omega arith;
     })
-    calmer (give at17) i w = inl (by-test (At (give at17)) top (λ _. loud _ _ s _ (λ z. popped-running (z .0)))
+    silent-falls (give at17) i w = inl (by-test (At (give at17)) top (λ _. loud _ _ s _ (λ z. popped-running (z .0)))
         (λ n. still _ _ s _ (refl, λ _. omega arith) (fall17-failed 1 (scale s) (s .pooled) (scale-some s) s r n)))

@@ -11,12 +11,12 @@ use Rattle.model.specs.Calls.{Acted, Done, act, actOn, back, finish, pop
 use Rattle.model.specs.History.{Event, Ledger, Request, isEffect, run}
 use Rattle.model.specs.Places.{wordFound, move}
 use Rattle.model.specs.Ends.{answerEnds}
-use Rattle.model.specs.Progress.{any, pairs, stepping, steps, stretchLimit, tells, tellsBy}
+use Rattle.model.specs.Progress.{any, pairs, stepping, steps, stretchLimit, tookEffectOrAnswered, tookEffectOrAnsweredBy}
 use Rattle.model.specs.Refusals.{among, popRefusal, pushRefusal, putRefusal, stepRefusal}
-use Rattle.model.specs.Tables.{Queue, Tables, asking, isPooled, recordAt, started, tablesOf, taskAt, unused, withCall, taken}
-use Rattle.model.specs.declared.Answer.the-variants.{Empty, NoSlot, Popped, Pushed, Running}
-use Rattle.model.specs.declared.{Answer.Answer, Op.Op, Record.Record, TaskRecord.TaskRecord}
-use Rattle.model.specs.declared.Op.the-variants.{Pop, Push, Put, Step}
+use Rattle.model.specs.Tables.{Queue, Tables, asking, isPooled, recordAt, started, tablesOf, taskAt, unused, withCall, withTaken}
+use Rattle.model.specs.declared.Answer.the-variants.{Empty, NoFreeSlot, Popped, Pushed, Running}
+use Rattle.model.specs.declared.{Answer.Answer, Op.Op, Call.Call, Record.Record}
+use Rattle.model.specs.declared.Op.the-variants.{Pop, Push, PushPooled, Step}
 use Rattle.model.specs.declared.Outcome.the-variants.{Moved, Refused}
 use Rattle.model.proofs.tests.Truth.{by-test, either, not-both, or-false, split}
 use Rattle.model.proofs.lists.Store.{set-back}
@@ -34,7 +34,7 @@ use Rattle.model.proofs.progress.{Bounds.owed-within, Measure.owedAt}
 use Rattle.model.proofs.progress.Others.{heads, heads-most, keep}
 use Rattle.model.proofs.progress.Reached.{Reached, act-reached}
 use Rattle.model.proofs.progress.Scale.{scale, scale-most, scale-some, together}
-use Rattle.model.proofs.progress.Together.{Calmer, Drawn, Silent, calmer}
+use Rattle.model.proofs.progress.Together.{SilentFalls, Drawn, Silent, silent-falls}
 
 -- A step that tells nothing is silent.
 runs-on : (a : Answer) → answerEnds a ≡ false → answerSeen a ≡ M.running
@@ -42,10 +42,10 @@ runs-on (Running p) e = refl
 runs-on Pushed e = absurd (not-both refl e)
 runs-on Empty e = absurd (not-both refl e)
 runs-on (Popped v) e = absurd (not-both refl e)
-runs-on NoSlot e = absurd (not-both refl e)
+runs-on NoFreeSlot e = absurd (not-both refl e)
 
 module _ (n : ℕ) (q : Queue) (l : Ledger) (g : Matched n q l) (pooled : Bool) (way : isPooled (q .tables .control) ≡ pooled) (t : ℕ) where
-  abbrev r : Record
+  abbrev r : Call
   r = recordAt q t
 
   abbrev G : Tables
@@ -55,27 +55,28 @@ module _ (n : ℕ) (q : Queue) (l : Ledger) (g : Matched n q l) (pooled : Bool) 
   tasks = G .control .tasks
 
   -- An operation that tells nothing.
-  abbrev Hushed : Op → Done → Type 0
-  Hushed o d = tellsBy (record { task = t; op = o; outcome = d .outcome; before = G .control .anchor; after = d .queue .tables .control .anchor }) o
+  abbrev FallsUnlessTold : Op → Done → Type 0
+  FallsUnlessTold o d = tookEffectOrAnsweredBy
+      (record { task = t; op = o; outcome = d .outcome; before = G .control .anchor; after = d .queue .tables .control .anchor }) o
       (d .outcome) ≡ false
       → stepping o (d .outcome) + all pooled tasks (stateOf (d .queue)) ≤ all pooled tasks (stateOf q)
 
   abbrev Puts : Op → Acted → Type 0
-  Puts o a = Hushed o (back q t a)
+  Puts o a = FallsUnlessTold o (back q t a)
 
   refused : (o : Op) (why : ℕ) → Puts o (record { tables = G; task = taskAt q t; outcome = Refused why })
-  refused o why z = subst (λ (x : List TaskRecord). stepping o (Refused why) + all pooled tasks
+  refused o why z = subst (λ (x : List Record). stepping o (Refused why) + all pooled tasks
       (stateOf (record { tables = G; records = x })) ≤ all pooled tasks (stateOf q))
       (sym (set-back (q .records) t unused)) (go o)
     where
       go : (o : Op) → stepping o (Refused why) + all pooled tasks (stateOf q) ≤ all pooled tasks (stateOf q)
       go (Push side x y) = omega arith
       go (Pop side) = omega arith
-      go (Put side label) = omega arith
+      go (PushPooled side label) = omega arith
       go Step = omega arith
 
   -- A start: an idle task owes as much as one at place 1, in a pooled queue as one at 12.
-  module _ (z : Lies q t) (free : r .place ≡ 0) (labels marks : List ℕ) (new : Record) where
+  module _ (z : Lies q t) (free : r .place ≡ 0) (labels marks : List ℕ) (new : Call) where
     abbrev begun : Queue
     begun = record {
       tables = tablesOf (G .control) (G .lefts) (G .rights) labels marks (G .next);
@@ -116,12 +117,12 @@ module _ (n : ℕ) (q : Queue) (l : Ledger) (g : Matched n q l) (pooled : Bool) 
     owes = together (view G) (recOf r)
 
     abbrev Calms : M.Move → Type 0
-    Calms m = Calmer owes (placeOf (r .place)) (view G) m ⊎ Drawn owes (placeOf (r .place)) (view G) m
+    Calms m = SilentFalls owes (placeOf (r .place)) (view G) m ⊎ Drawn owes (placeOf (r .place)) (view G) m
 
     calm : Calms (seenMove G r)
     unfolding recOf stateOf view
     calm = subst Calms (step-seen G (s .control) (g .links) r (s .fine) (s .busy) (s .room))
-        (calmer (view G) (recOf r) t (g .inv .owner) (g .book .queue) (g .book .calls t) (g .inv .whole) (placeOf (r .place))
+        (silent-falls (view G) (recOf r) t (g .inv .owner) (g .book .queue) (g .book .calls t) (g .inv .whole) (placeOf (r .place))
         (not-idle (r .place) (s .busy) (s .fine .place))
         (subst (λ (x : M.Rec). Task (x .place) (view G) (g .inv .owner) t x (g .book .calls t)) (task-of q t (s .lies .known)) (g .inv .tasks t)))
 
@@ -143,7 +144,7 @@ module _ (n : ℕ) (q : Queue) (l : Ledger) (g : Matched n q l) (pooled : Bool) 
         (all-drawn (view G) (stateOf q .task) t (next .shared) (seenMove G r .rec) tasks (s .lies .known) (place ∙ c .before) (c .after) (c .others)
         (omega (arith, c .own, same)))
 
-    step-all : tellsBy ev Step (Moved a) ≡ false → suc (all pooled tasks (stateOf q′)) ≤ all pooled tasks (stateOf q)
+    step-all : tookEffectOrAnsweredBy ev Step (Moved a) ≡ false → suc (all pooled tasks (stateOf q′)) ≤ all pooled tasks (stateOf q)
     unfolding stateOf view
     step-all z =
         let w = or-false (isEffect ev a) (answerEnds a) z in
@@ -153,9 +154,9 @@ module _ (n : ℕ) (q : Queue) (l : Ledger) (g : Matched n q l) (pooled : Bool) 
         subst (λ (x : M.State). suc (all pooled tasks x) ≤ all pooled tasks (stateOf q)) (sym is) (omega (arith, calms silent calm))
 
   push-put : (side x y : ℕ) → Lies q t → r .place ≡ 0
-      → Puts (Push side x y) (record { tables = taken G x y; task = withCall (taskAt q t) (started 0 side x y); outcome = Moved (Running 1) })
+      → Puts (Push side x y) (record { tables = withTaken G x y; task = withCall (taskAt q t) (started 0 side x y); outcome = Moved (Running 1) })
   unfolding recOf
-  push-put side x y z free _ = omega (arith, start-all z free (taken G x y .labels) (taken G x y .marks) (started 0 side x y) (omega arith))
+  push-put side x y z free _ = omega (arith, start-all z free (withTaken G x y .labels) (withTaken G x y .marks) (started 0 side x y) (omega arith))
 
   pop-put : (side : ℕ) → Lies q t → r .place ≡ 0 → Puts (Pop side) (record {
     tables = G;
@@ -165,7 +166,7 @@ module _ (n : ℕ) (q : Queue) (l : Ledger) (g : Matched n q l) (pooled : Bool) 
   unfolding recOf
   pop-put side z free _ = omega (arith, start-all z free (G .labels) (G .marks) (started 1 side 0 0) (omega arith))
 
-  put-put : (side y : ℕ) → Lies q t → r .place ≡ 0 → Puts (Put side y) (record {
+  put-put : (side y : ℕ) → Lies q t → r .place ≡ 0 → Puts (PushPooled side y) (record {
     tables = G;
     task = withCall (taskAt q t) (asking side y);
     outcome = Moved (Running 12);
@@ -177,7 +178,7 @@ module _ (n : ℕ) (q : Queue) (l : Ledger) (g : Matched n q l) (pooled : Bool) 
   unfolding finish
   step-put s z = omega (arith, step-all s z)
 
-  pub act-all : (o : Op) → Hushed o (act q t o)
+  pub act-all : (o : Op) → FallsUnlessTold o (act q t o)
   unfolding act actOn pushStart putStart popStart step
   act-all (Push side x y) = by-test (Puts (Push side x y)) (eqb (pushRefusal G (among q t) r side x) 0)
       (λ e. let p = push-accepted q t side x (eqb-true _ _ e) in push-put side x y (p .starting .lies) (p .starting .free))
@@ -185,9 +186,9 @@ module _ (n : ℕ) (q : Queue) (l : Ledger) (g : Matched n q l) (pooled : Bool) 
   act-all (Pop side) = by-test (Puts (Pop side)) (eqb (popRefusal G (among q t) r side) 0)
       (λ e. let p = pop-accepted q t side (eqb-true _ _ e) in pop-put side (p .lies) (p .free))
       (λ e. refused (Pop side) (popRefusal G (among q t) r side))
-  act-all (Put side y) = by-test (Puts (Put side y)) (eqb (putRefusal G (among q t) r side) 0)
+  act-all (PushPooled side y) = by-test (Puts (PushPooled side y)) (eqb (putRefusal G (among q t) r side) 0)
       (λ e. let p = put-accepted q t side (eqb-true _ _ e) .0 in put-put side y (p .lies) (p .free))
-      (λ e. refused (Put side y) (putRefusal G (among q t) r side))
+      (λ e. refused (PushPooled side y) (putRefusal G (among q t) r side))
   act-all Step = by-test (Puts Step) (eqb (stepRefusal G (among q t) r) 0)
       (λ e. step-put (step-accepted q t (eqb-true _ _ e))) (λ e. refused Step (stepRefusal G (among q t) r))
 
@@ -198,13 +199,13 @@ enough false tasks some = omega arith
 
 module _ (pooled : Bool) (tasks : ℕ) where
   -- A list of operations that tells nothing has no more accepted steps than the tasks owe at its beginning.
-  pub run-all : (os : List Request) (q : Queue) → Reached pooled tasks q → any tells (run q os) ≡ false
+  pub run-all : (os : List Request) (q : Queue) → Reached pooled tasks q → any tookEffectOrAnswered (run q os) ≡ false
       → steps (run q os) ≤ all pooled tasks (stateOf q)
   unfolding run any steps
   run-all [] q z e = omega arith
   run-all (o ∷ os) q z e =
       let d = act q (o .task) (o .op) in
-      let w = or-false _ (any tells (run (d .queue) os)) e in
+      let w = or-false _ (any tookEffectOrAnswered (run (d .queue) os)) e in
       let a : stepping (o .op) (d .outcome) + all pooled tasks (stateOf (d .queue)) ≤ all pooled tasks (stateOf q) =
       subst (λ n. stepping (o .op) (d .outcome) + all pooled n (stateOf (d .queue)) ≤ all pooled n (stateOf q)) (z .roomy .tasks-are)
       (act-all (z .position) q (z .ledger) (z .matched) pooled (z .roomy .way) (o .task) (o .op) (w .0)) in
@@ -225,6 +226,6 @@ module _ (pooled : Bool) (tasks : ℕ) where
       omega (arith, total-le _ 19 tasks one)
 
   pub stretch-tells : (q : Queue) → Reached pooled tasks q → (os : List Request) → stretchLimit pooled tasks ≤ steps (run q os)
-      → any tells (run q os) ≡ true
-  stretch-tells q z os le = split (any tells (run q os)) (λ e. e)
+      → any tookEffectOrAnswered (run q os) ≡ true
+  stretch-tells q z os le = split (any tookEffectOrAnswered (run q os)) (λ e. e)
       (λ e. absurd (omega (arith, le, run-all os q z e, all-bound q, enough pooled tasks (z .roomy .some))))

@@ -4,7 +4,7 @@ use mathlib.Core.Path.{_∙_, _≡_, ap, refl}
 use Prim.Native.Nat.{_*_, _+_, _<_, _≤_, suc, ℕ}
 use native.Mathlib.Omega.{arith}
 use Rattle.model.proofs.tests.Truth.{by-test}
-use Rattle.model.proofs.machine.{Book.Call, Laws.same-true, ByStep.by-step}
+use Rattle.model.proofs.machine.{Book.BookCall, Laws.same-true, ByStep.by-step}
 use Rattle.model.proofs.machine.Machine.{Anchor, Kind, Move, Phase, Place, Rec, Shared, Status, act, aimed, apply, at10, at14, at2, at3}
 use Rattle.model.proofs.machine.Machine.{at4, at9, draw, inside, phase, pop, push, pushing, same, stable, upd}
 use Rattle.model.proofs.invariant.Owners.{Owner}
@@ -12,7 +12,7 @@ use Rattle.model.proofs.invariant.Tags.{cost, owes, spent, unsettled, w
 use Rattle.model.proofs.invariant.Tasks.{Task, Three}
 use Rattle.model.proofs.tags.Sum.{total, total-at, total-le}
 
-pub record Light (s : Shared) (r : Rec) (m : Move) : Type 0 where
+pub record WeightKept (s : Shared) (r : Rec) (m : Move) : Type 0 where
   pub less : weight (apply s (m .touch)) + cost (m .rec) ≤ weight s + cost r
 
 pub unsettled-small : (st : Status) → unsettled st ≤ 1
@@ -26,7 +26,7 @@ cost-small r = by-test (λ n. n ≤ 2) (spent (phase (r .place)) (r .finishing))
     go push = omega arith
     go pop = omega arith
 
-module _ (s : Shared) (h : ℕ → Owner) (t : ℕ) (r : Rec) (c : Call) where
+module _ (s : Shared) (h : ℕ → Owner) (t : ℕ) (r : Rec) (c : BookCall) where
   costs : Phase → ℕ
   costs f = cond (spent f (r .finishing)) 0 (owes (r .kind))
 
@@ -55,7 +55,7 @@ module _ (s : Shared) (h : ℕ → Owner) (t : ℕ) (r : Rec) (c : Call) where
   abbrev Stands : Place → Type 0
   Stands p = (r .place ≡ p) × Task p s h t r c
 
-  pub light : (p : Place) → r .place ≡ p → Task p s h t r c → Light s r (act p s r)
+  pub light : (p : Place) → r .place ≡ p → Task p s h t r c → WeightKept s r (act p s r)
   unfolding costs
   light p e w = record {
     less = by-step s r Stands (λ m. weight (apply s (m .touch)) + cost (m .rec) ≤ weight s + cost r) (record {
@@ -95,7 +95,7 @@ module _ (s : Shared) (h : ℕ → Owner) (t : ℕ) (r : Rec) (c : Call) where
 -- Over all tasks.
 module _ (s : Shared) (f : ℕ → Rec) (n t : ℕ) (lt : t < n) where
   -- A step.
-  pub step-bound : (m : Move) (b : ℕ) → Light s (f t) m → weight s + total (λ u. cost (f u)) n ≤ b
+  pub step-bound : (m : Move) (b : ℕ) → WeightKept s (f t) m → weight s + total (λ u. cost (f u)) n ≤ b
       → weight (apply s (m .touch)) + total (λ u. cost (upd f t (m .rec) u)) n ≤ b
   step-bound m b l h = omega (arith, l .less, total-at cost f t (m .rec) n lt)
 

@@ -8,7 +8,7 @@ use lib.Dec.{eqb}
 use borrow.Author.Tests.{eq-eqb}
 use Rattle.word.specs.{Anchor.anchorOf, Link.linkOf}
 use Rattle.model.specs.Tables.{atPlace, Tables, isPooled}
-use Rattle.model.specs.declared.Record.{Record}
+use Rattle.model.specs.declared.Call.{Call}
 use Rattle.model.proofs.tests.{ByPlace.by-place, Truth.by-test}
 use Rattle.model.proofs.machine.Laws.{aimed-tag, relink-same}
 use Rattle.model.proofs.machine.Machine as M
@@ -17,22 +17,22 @@ use Rattle.model.proofs.bridge.Decoded.{RoomAt}
 use Rattle.model.proofs.bridge.Facts.{ControlFine, LinksFine, RecordFine}
 use Rattle.model.proofs.bridge.View.{anchorSeen, kindOf, linkAt, linkSeen, placeOf, recOf, view}
 use Rattle.model.proofs.bridge.Words.{same-link-word, same-word, towards-status}
-use Rattle.model.proofs.tags.{AnchorTag.Light, LinkTag.Tagged}
+use Rattle.model.proofs.tags.{AnchorTag.WeightKept, LinkTag.Tagged}
 
 leave-touch : (g : M.Touch) (r : M.Rec) → M.leave g r .touch ≡ g
 leave-touch g r = by-test (λ (m : M.Move). m .touch ≡ g) (r .finishing) (λ e. refl) (λ e. refl)
 
 -- The changes of the decoded machine.
 module _ (s : M.Shared) (r : M.Rec) where
-  room2 : (k : M.Kind) → M.same (r .read) (s .anchor) ≡ true → Light s r (M.two k s r) → suc (r .read .tag) ≤ weight s + cost r
+  room2 : (k : M.Kind) → M.same (r .read) (s .anchor) ≡ true → WeightKept s r (M.two k s r) → suc (r .read .tag) ≤ weight s + cost r
   room2 M.push e l = let z = rw e at (l .less) in omega arith
   room2 M.pop e l = let z = rw e at (l .less) in omega arith
 
-  room4 : (k : M.Kind) → M.same (r .read) (s .anchor) ≡ true → Light s r (M.four k s r) → suc (r .read .tag) ≤ weight s + cost r
+  room4 : (k : M.Kind) → M.same (r .read) (s .anchor) ≡ true → WeightKept s r (M.four k s r) → suc (r .read .tag) ≤ weight s + cost r
   room4 M.push e l = let z = rw e at (l .less) in omega (arith, aimed-tag (r .read) (r .side) (r .own) (M.pushing (r .side)))
   room4 M.pop e l = let z = rw e at (l .less) in omega (arith, aimed-tag (r .read) (r .side) (r .near) (r .read .status))
 
-  room10 : M.same (r .read) (s .anchor) ≡ true → Light s r (M.act M.at10 s r) → suc (r .read .tag) ≤ weight s + cost r
+  room10 : M.same (r .read) (s .anchor) ≡ true → WeightKept s r (M.act M.at10 s r) → suc (r .read .tag) ≤ weight s + cost r
   room10 e l = let z = rw e at (l .less) in
       let y = ap (λ (t : M.Touch). weight (M.apply s t)) (leave-touch (M.putAnchor (M.settled (r .read))) r) in omega arith
 
@@ -45,14 +45,14 @@ module _ (s : M.Shared) (r : M.Rec) where
       let z = ap (λ (w : M.Link). w .tag) (relink-same (s .link) d (r .near) v) in
       omega (arith, y .upper d (r .near) h)
 
-module _ (q : Tables) (c : ControlFine (q .control)) (k : LinksFine q) (r : Record) (h : RecordFine (isPooled (q .control)) (q .control .slots) r)
+module _ (q : Tables) (c : ControlFine (q .control)) (k : LinksFine q) (r : Call) (h : RecordFine (isPooled (q .control)) (q .control .slots) r)
     (low : anchorOf (q .control .anchor) .tag ≤ 4294967295) where
-  abbrev at : ℕ → Record
+  abbrev at : ℕ → Call
   at p = atPlace r p
 
   abbrev Bounds : ℕ → Type 0
   Bounds p = (12 ≤ p → p ≤ 14 → r .kind ≡ 0) → (2 ≤ share (recOf (at p)) + cost (recOf (at p)) → suc (linkOf (q .control .head) .tag) ≤ 4294967295)
-      → weight (view q) + cost (recOf (at p)) ≤ 4294967295 → Light (view q) (recOf (at p)) (M.act (placeOf p) (view q) (recOf (at p)))
+      → weight (view q) + cost (recOf (at p)) ≤ 4294967295 → WeightKept (view q) (recOf (at p)) (M.act (placeOf p) (view q) (recOf (at p)))
       → Tagged (view q) (M.act (placeOf p) (view q) (recOf (at p))) → RoomAt q (at p) (placeOf p)
 
   current : q .control .anchor ≡ r .seen → M.same (anchorSeen (r .seen)) (anchorSeen (q .control .anchor)) ≡ true

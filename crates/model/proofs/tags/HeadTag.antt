@@ -6,7 +6,7 @@ use mathlib.Core.Path.{_∙_, _≡_, ap, refl}
 use Prim.Native.Nat.{_+_, _<_, _≤_, suc, zero, ℕ}
 use native.Mathlib.Omega.{arith}
 use Rattle.model.proofs.tests.Truth.{decide-eq, either}
-use Rattle.model.proofs.machine.{Book.Call, ByStep.by-step}
+use Rattle.model.proofs.machine.{Book.BookCall, ByStep.by-step}
 use Rattle.model.proofs.machine.Laws.{aimed-tag, same-true, sameLink-true}
 use Rattle.model.proofs.machine.Machine.{Anchor, Kind, Link, Move, Phase, Place, Rec, Shared, act, apply, at10, at11, at12, at14, at16}
 use Rattle.model.proofs.machine.Machine.{at17, at2, at3, at4, at9, draw, fetching, give, idle, inside, leaving, outside, phase, pop, push}
@@ -16,10 +16,10 @@ use Rattle.model.proofs.invariant.Tags.{claims, cost, owes, share, shar
 use Rattle.model.proofs.tags.Sum.{total, total-at}
 
 -- A step raises the head's tag and the task's share by no more than Anchor's tag.
-pub record Even (s : Shared) (r : Rec) (m : Move) : Type 0 where
+pub record HeadBalanced (s : Shared) (r : Rec) (m : Move) : Type 0 where
   pub even : apply s (m .touch) .head .tag + share (m .rec) + s .anchor .tag ≤ s .head .tag + share r + apply s (m .touch) .anchor .tag
 
-module _ (s : Shared) (h : ℕ → Owner) (t : ℕ) (r : Rec) (c : Call) where
+module _ (s : Shared) (h : ℕ → Owner) (t : ℕ) (r : Rec) (c : BookCall) where
   part : Phase → ℕ
   part f = shares f (r .finishing) (r .kind)
 
@@ -52,7 +52,7 @@ module _ (s : Shared) (h : ℕ → Owner) (t : ℕ) (r : Rec) (c : Call) where
   abbrev Evens : Move → Type 0
   Evens m = apply s (m .touch) .head .tag + share (m .rec) + s .anchor .tag ≤ s .head .tag + share r + apply s (m .touch) .anchor .tag
 
-  pub fair : (p : Place) → r .place ≡ p → Task p s h t r c → Even s r (act p s r)
+  pub fair : (p : Place) → r .place ≡ p → Task p s h t r c → HeadBalanced s r (act p s r)
   unfolding part
   fair p e w = record {
     even = by-step s r Stands Evens (record {
@@ -91,7 +91,7 @@ module _ (s : Shared) (h : ℕ → Owner) (t : ℕ) (r : Rec) (c : Call) where
   }
 
 -- Over all tasks.
-pub head-step : (s : Shared) (f : ℕ → Rec) (n t : ℕ) → t < n → (m : Move) → Even s (f t) m
+pub head-step : (s : Shared) (f : ℕ → Rec) (n t : ℕ) → t < n → (m : Move) → HeadBalanced s (f t) m
     → s .head .tag + total (λ u. share (f u)) n ≤ s .anchor .tag + n
     → apply s (m .touch) .head .tag + total (λ u. share (upd f t (m .rec) u)) n ≤ apply s (m .touch) .anchor .tag + n
 head-step s f n t lt m e b = omega (arith, e .even, total-at share f t (m .rec) n lt)

@@ -8,7 +8,7 @@ use native.Mathlib.Omega.{arith}
 use Rattle.model.specs.declared.Entry.{Entry}
 use Rattle.model.proofs.tests.Truth.{decide-eq}
 use Rattle.model.proofs.lists.{All.all-map, Slots.slots}
-use Rattle.model.proofs.machine.{Book.Call, LinkTags.relink-keeps, ByStep.by-step}
+use Rattle.model.proofs.machine.{Book.BookCall, LinkTags.relink-keeps, ByStep.by-step}
 use Rattle.model.proofs.machine.Laws.{later, relink-across, relink-other, relink-same, same-side, same-true, sameLink-true}
 use Rattle.model.proofs.machine.Machine.{Anchor, Kind, Link, Move, Place, Rec, Shared, Status, act, aimed, apply, at9, both, inner, ownLink}
 use Rattle.model.proofs.machine.Machine.{push, pushing, relink, same, settled, tip, withAnchor, withLink}
@@ -45,7 +45,7 @@ module _ (s : Shared) (g : Tags s) where
   aimed-tags a false x st p = turned (aimed a false x st) (later a (s .anchor) p)
   aimed-tags a true x st p = turned (aimed a true x st) (later a (s .anchor) p)
 
-  module _ (h : ℕ → Owner) (t : ℕ) (r : Rec) (c : Call) (q : List Entry) (all : Intact s h q) where
+  module _ (h : ℕ → Owner) (t : ℕ) (r : Rec) (c : BookCall) (q : List Entry) (all : Intact s h q) where
     own-tags : (x : ℕ) → (x ≢ 0) × (h x ≡ held t) → (d : Bool) (v : Link) → v .tag ≡ s .link d x .tag → Tags (withLink s d x v)
     own-tags x o d v e = record {
       upper = λ b y l. let z = relink-keeps (s .link) d x v e b y in omega (arith, g .upper b y l);

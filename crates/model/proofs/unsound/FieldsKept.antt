@@ -7,7 +7,7 @@ use Prim.Native.Nat.{ℕ}
 use Rattle.model.specs.declared.Entry.{Entry}
 use Rattle.model.proofs.tests.Truth.{not-both}
 use Rattle.model.proofs.lists.Slots.{slots}
-use Rattle.model.proofs.machine.{Book.Call, Laws.same-true, ByStep.by-step}
+use Rattle.model.proofs.machine.{Book.BookCall, Laws.same-true, ByStep.by-step}
 use Rattle.model.proofs.machine.Machine.{Anchor, Link, Move, Phase, Place, Rec, Shared, act, at6, beside, fetching, inner, inside, isIdle}
 use Rattle.model.proofs.machine.Machine.{leaving, outside, phase, pop, pushing, reaches, returning, same, takes, tip}
 use Rattle.model.proofs.invariant.Fields.{Extra, Kept}
@@ -23,7 +23,7 @@ both-tip : (a : Anchor) (d : Bool) → a .left ≡ a .right → a .left ≢ 0 �
 both-tip a false e n z = n z
 both-tip a true e n z = n (e ∙ z)
 
-module _ (t : ℕ) (s : Shared) (h : ℕ → Owner) (q : List Entry) (c : Call) (w : Intact s h q) (r : Rec) where
+module _ (t : ℕ) (s : Shared) (h : ℕ → Owner) (q : List Entry) (c : BookCall) (w : Intact s h q) (r : Rec) where
   abbrev Stands : Place → Type 0
   Stands p = (isIdle p ≡ false) × Task p s h t r c × Extra p r
 

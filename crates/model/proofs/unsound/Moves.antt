@@ -10,7 +10,7 @@ use Rattle.word.specs.Anchor.{anchorOf, packAnchor}
 use Rattle.word.specs.Link.{linkOf, spareOf}
 use Rattle.model.specs.Places.{Touch, clearMark, move, new4, nothing, row, setAnchor, setHead, setLink, setNext, sideOf, takeSlot}
 use Rattle.model.specs.{Refusals.leavesSound, Route.goes}
-use Rattle.model.specs.declared.{Control.Control, Record.Record}
+use Rattle.model.specs.declared.{Control.Control, Call.Call}
 use Rattle.model.proofs.tests.Truth.{by-test}
 use Rattle.model.proofs.bridge.{ByMove.by-move, View.kindOf, Touches.row-fine}
 use Rattle.model.proofs.unsound.Suits.{Suits, kind-pop, kind-push}
@@ -18,7 +18,7 @@ use Rattle.model.proofs.bridge.Facts.{AnchorFine, RecordFine, anchor-fi
 use Rattle.model.specs.Tables.{withLink, withNeighbour, withOwn, withSeen}
 
 -- What a move leaves of a record.
-pub record Keeps (slots : ℕ) (r r′ : Record) : Type 0 where
+pub record Keeps (slots : ℕ) (r r′ : Call) : Type 0 where
   pub kind : r′ .kind ≡ r .kind
   pub side : r′ .side ≡ r .side
   pub own : r′ .own ≤ slots
@@ -32,7 +32,7 @@ pub record Keeps (slots : ℕ) (r r′ : Record) : Type 0 where
 abbrev Fine : ℕ → ℕ → Type 0
 Fine slots w = (spareOf w ≡ 0) × (linkOf w .slot ≤ slots)
 
-module _ (pooled : Bool) (c : Control) (r : Record) (w : ℕ) (h : RecordFine pooled (c .slots) r) (hc : AnchorFine (c .slots) (anchorOf (c .anchor)))
+module _ (pooled : Bool) (c : Control) (r : Call) (w : ℕ) (h : RecordFine pooled (c .slots) r) (hc : AnchorFine (c .slots) (anchorOf (c .anchor)))
     (hw : r .place ≤ 10 → Fine (c .slots) w) (hn : r .place ≡ 13 → w ≤ c .slots) (hh : Fine (c .slots) (c .head)) where
   same : Keeps (c .slots) r r
   same = record {
@@ -116,11 +116,11 @@ module _ (pooled : Bool) (c : Control) (r : Record) (w : ℕ) (h : RecordFine po
   })
 
 -- The record goes to its next place.
-pub goes-fine : (pooled : Bool) (slots : ℕ) (r r′ : Record) (n : ℕ) → RecordFine pooled slots r → Keeps slots r r′
+pub goes-fine : (pooled : Bool) (slots : ℕ) (r r′ : Call) (n : ℕ) → RecordFine pooled slots r → Keeps slots r r′
     → (n ≢ 0 → n ≤ 17 → Suits pooled (kindOf (r′ .kind)) n)
     → goes r′ n .place ≢ 0 → RecordFine pooled slots (goes r′ n)
 unfolding goes
-goes-fine pooled slots r r′ n h k suit = by-test (λ (z : Record). z .place ≢ 0 → RecordFine pooled slots z) (leb n 17)
+goes-fine pooled slots r r′ n h k suit = by-test (λ (z : Call). z .place ≢ 0 → RecordFine pooled slots z) (leb n 17)
     (λ e b. let low = leb-true n 17 e in
     let w = suit b low in
     let small = subst (λ x. x ≤ 1) (sym (k .kind)) (h .kind) in
@@ -156,7 +156,7 @@ status-back t c x y h =
     let e : v / 1073741824 % 4 ≡ c % 4 = omega arith in
     let p : v / 1073741824 % 4 ≤ 2 = omega arith in p
 
-module _ (pooled : Bool) (c : Control) (r : Record) (w : ℕ) (h : RecordFine pooled (c .slots) r) where
+module _ (pooled : Bool) (c : Control) (r : Call) (w : ℕ) (h : RecordFine pooled (c .slots) r) where
   new-status : anchorOf (new4 r) .status ≤ 2
   unfolding new4
   new-status = by-test (λ v. anchorOf v .status ≤ 2) (eqb (r .kind) 0)

@@ -10,12 +10,12 @@ use borrow.Author.Tests.{eq-eqb, eqb-false, eqb-true, not-false}
 use Rattle.model.specs.Calls.{Acted, Done, act, actOn, back, finish, popStart, pushStart, putStart, step}
 use Rattle.model.specs.History.{Ledger, NeverUnsound, Request, final, run}
 use Rattle.model.specs.Places.{wordFound}
-use Rattle.model.specs.declared.{Asked.Asked, Answer.Answer, Op.Op, Record.Record, TaskRecord.TaskRecord}
+use Rattle.model.specs.declared.{Asked.Asked, Answer.Answer, Op.Op, Call.Call, Record.Record}
 use Rattle.model.specs.Refusals.{among, fits, late, namedPush, nothingAsked, pooledPush}
 use Rattle.model.specs.Refusals.{popRefusal, pushRefusal, putRefusal, startRefusal, stepRefusal, stepSound}
 use Rattle.model.specs.Sound.{controlSound, recordSound}
 use Rattle.model.specs.Tables.{Queue, Tables, asking, isPooled, recordAt, started, taskAt, unused}
-use Rattle.model.specs.declared.Op.the-variants.{Pop, Push, Put, Step}
+use Rattle.model.specs.declared.Op.the-variants.{Pop, Push, PushPooled, Step}
 use Rattle.model.specs.declared.Outcome.the-variants.{Moved, Refused}
 use Rattle.model.proofs.tests.Truth.{by-test, decide-eq, not-both}
 use Rattle.model.proofs.lists.Store.{set-back}
@@ -26,7 +26,7 @@ use Rattle.model.proofs.unsound.StartSafe.{early-room, pop-begins, push
 use Rattle.model.proofs.unsound.StepSound.{own-sound, step-sound}
 
 module _ (n : ℕ) (q : Queue) (l : Ledger) (g : Matched n q l) (f : Safe q) (t : ℕ) where
-  abbrev r : Record
+  abbrev r : Call
   r = recordAt q t
 
   abbrev G : Tables
@@ -86,7 +86,7 @@ module _ (n : ℕ) (q : Queue) (l : Ledger) (g : Matched n q l) (f : Safe q) (t 
   Puts a = After (back q t a)
 
   refused : (why : ℕ) → Not34 why → Puts (record { tables = G; task = taskAt q t; outcome = Refused why })
-  refused why h = (λ e. h cc, subst (λ (x : List TaskRecord). Safe (record { tables = G; records = x })) (sym (set-back (q .records) t unused)) f)
+  refused why h = (λ e. h cc, subst (λ (x : List Record). Safe (record { tables = G; records = x })) (sym (set-back (q .records) t unused)) f)
 
   moved : (a : Answer) → Moved a ≡ Refused 34 → ⊥
   moved a e = let w : _≡_ {A = ℕ} 0 1 = cc in omega arith
@@ -108,7 +108,7 @@ module _ (n : ℕ) (q : Queue) (l : Ledger) (g : Matched n q l) (f : Safe q) (t 
             (early-room q f t (p .lies .known) (started 1 side 0 0) (p .early)),
       ))
       (λ e. refused (popRefusal G (among q t) r side) (start-34 side nothingAsked))
-  act-safe (Put side y) = by-test Puts (eqb (putRefusal G (among q t) r side) 0)
+  act-safe (PushPooled side y) = by-test Puts (eqb (putRefusal G (among q t) r side) 0)
       (λ e. let p = put-accepted q t side (eqb-true _ _ e) in (
         moved _,
         start-safe q f t (p .0 .lies) (p .0 .free) _ _ (asking side y) (put-begins (isPooled (G .control)) (G .control .slots) side y (p .1) (p .0 .side))

@@ -11,7 +11,7 @@ use borrow.Author.Tests.{ltb-false}
 use Rattle.word.specs.Anchor.{anchorOf}
 use Rattle.model.specs.Refusals.{late}
 use Rattle.model.specs.Tables.{Queue, Tables, asking, isPooled, recordAt, started, tablesOf, taskAt, unused, withCall}
-use Rattle.model.specs.declared.{Record.Record, TaskRecord.TaskRecord}
+use Rattle.model.specs.declared.{Call.Call, Record.Record}
 use Rattle.model.proofs.tests.Truth.{decide-eq, not-both}
 use Rattle.model.proofs.machine.Laws.{upd-other, upd-same}
 use Rattle.model.proofs.machine.Machine as M
@@ -64,7 +64,7 @@ asking-fine pooled slots side y p hs = record {
 }
 
 -- A record that a start may write: sound, with a share of 1 at the most.
-pub record Begins (pooled : Bool) (slots : ℕ) (new : Record) : Type 0 where
+pub record Begins (pooled : Bool) (slots : ℕ) (new : Call) : Type 0 where
   pub fine : RecordFine pooled slots new
   pub extra : Extra (recOf new .place) (recOf new)
   pub share : share (recOf new) ≤ 1
@@ -94,11 +94,11 @@ put-begins pooled slots side y p hs = record {
 }
 
 -- Anchor's tag has room for the changes that the new call will owe.
-abbrev pub Room : Queue → ℕ → Record → Type 0
+abbrev pub Room : Queue → ℕ → Call → Type 0
 Room q t new = weight (view (q .tables)) + total (λ u. cost (upd (stateOf q .task) t (recOf new) u)) (q .tables .control .tasks) ≤ 4294967295
 
 -- It has at a tag up to 4,294,967,262, whatever the tasks owe.
-pub early-room : (q : Queue) → Safe q → (t : ℕ) → t < q .tables .control .tasks → (new : Record) → late (q .tables .control) ≡ false → Room q t new
+pub early-room : (q : Queue) → Safe q → (t : ℕ) → t < q .tables .control .tasks → (new : Call) → late (q .tables .control) ≡ false → Room q t new
 unfolding view
 early-room q f t known new early =
     let c = q .tables .control in
@@ -106,7 +106,7 @@ early-room q f t known new early =
     start-bound (view (q .tables)) (stateOf q .task) (c .tasks) t known (view (q .tables)) (recOf new) 4294967295 refl
     (omega (arith, control-fine c (f .control) .tasks))
 
-module _ (q : Queue) (f : Safe q) (t : ℕ) (z : Lies q t) (free : recordAt q t .place ≡ 0) (labels marks : List ℕ) (new : Record)
+module _ (q : Queue) (f : Safe q) (t : ℕ) (z : Lies q t) (free : recordAt q t .place ≡ 0) (labels marks : List ℕ) (new : Call)
     (h : Begins (isPooled (q .tables .control)) (q .tables .control .slots) new) (room : Room q t new) where
   abbrev G : Tables
   G = q .tables
@@ -125,11 +125,11 @@ module _ (q : Queue) (f : Safe q) (t : ℕ) (z : Lies q t) (free : recordAt q t 
   fine′ u lu = go (decide-eq u t)
     where
       go : (u ≡ t) ⊎ (u ≢ t) → recordAt q′ u .place ≢ 0 → RecordFine (isPooled (G .control)) (G .control .slots) (recordAt q′ u)
-      go (inl e) = subst (λ (v : Record). v .place ≢ 0 → RecordFine (isPooled (G .control)) (G .control .slots) v)
+      go (inl e) = subst (λ (v : Call). v .place ≢ 0 → RecordFine (isPooled (G .control)) (G .control .slots) v)
           (sym (ap (λ (v : ℕ). getD (set (q .records) t (withCall (taskAt q t) new)) v unused .call) e
-          ∙ ap (λ (x : TaskRecord). x .call)
+          ∙ ap (λ (x : Record). x .call)
           (getD-set-same (q .records) t (withCall (taskAt q t) new) unused (omega (arith, z .length, z .known))))) (λ b. h .fine)
-      go (inr e) = subst (λ (v : TaskRecord). v .call .place ≢ 0 → RecordFine (isPooled (G .control)) (G .control .slots) (v .call))
+      go (inr e) = subst (λ (v : Record). v .call .place ≢ 0 → RecordFine (isPooled (G .control)) (G .control .slots) (v .call))
           (sym (getD-set-other (q .records) t u (withCall (taskAt q t) new) unused e)) (f .fine u lu)
 
   extra′ : (u : ℕ) → Extra (stateOf q′ .task u .place) (stateOf q′ .task u)

@@ -13,10 +13,10 @@ use Rattle.model.specs.Places.{Move, Touch, apply, clearMark, wordFound,
 use Rattle.model.specs.Route.{counted, goes}
 use Rattle.model.specs.Sound.{controlSound, controlTests}
 use Rattle.model.specs.Tables.{atPlace, Queue, Tables, idle, isPooled, recordAt, taskAt, unused}
-use Rattle.model.specs.declared.{Record.Record, TaskRecord.TaskRecord}
+use Rattle.model.specs.declared.{Call.Call, Record.Record}
 use Rattle.model.proofs.tests.Rules.{_and_, passes, tests}
 use Rattle.model.proofs.tests.Truth.{decide-eq}
-use Rattle.model.proofs.machine.{Book.Call, Machine.upd}
+use Rattle.model.proofs.machine.{Book.BookCall, Machine.upd}
 use Rattle.model.proofs.machine.Laws.{upd-other, upd-same}
 use Rattle.model.proofs.machine.Machine as M
 use Rattle.model.proofs.invariant.{Fields.Extra, Owners.Owner, Tasks.Task}
@@ -27,14 +27,15 @@ use Rattle.model.proofs.bridge.Operations.{not-idle, state-is, step-see
 use Rattle.model.proofs.bridge.Stores.{touched-pooled, touched-slots, touched-tasks}
 use Rattle.model.proofs.bridge.View.{kindOf, placeOf, recOf, stateOf, view}
 use Rattle.model.proofs.ledger.Matched.{Matched}
-use Rattle.model.proofs.tags.AnchorTag.{Light, step-bound}
-use Rattle.model.proofs.tags.HeadTag.{Even, head-step}
+use Rattle.model.proofs.tags.AnchorTag.{WeightKept, step-bound}
+use Rattle.model.proofs.tags.HeadTag.{HeadBalanced, head-step}
 use Rattle.model.proofs.tags.{LinkTag.Tagged, Sum.total}
 use Rattle.model.proofs.unsound.FieldsKept.{Extras, act-extra}
 use Rattle.model.proofs.unsound.Moves.{Keeps, goes-fine, move-keeps}
 use Rattle.model.proofs.unsound.Safe.{Safe}
 use Rattle.model.proofs.unsound.Suits.{Suits, suits}
-use Rattle.model.proofs.unsound.StepSound.{control-is, evener, h, lighter, met-link, met-next, new-sound, own-extra, own-task, seen, stepping, tagged}
+use Rattle.model.proofs.unsound.StepSound.{control-is, head-balanced, h, weight-kept, met-link, met-next, new-sound, own-extra, own-task, seen}
+use Rattle.model.proofs.unsound.StepSound.{stepping, tagged}
 
 -- No touch changes the way of the queue.
 apply-pooled : (s : M.Shared) (w : M.Touch) → M.apply s w .pooled ≡ s .pooled
@@ -59,7 +60,7 @@ control-touched (setNext x v) q s c = c
 control-touched (setHead w) q s c = c
 
 module _ (n : ℕ) (q : Queue) (l : Ledger) (g : Matched n q l) (f : Safe q) (t : ℕ) (z : Lies q t) (busy : recordAt q t .place ≢ 0) where
-  abbrev r : Record
+  abbrev r : Call
   r = recordAt q t
 
   abbrev G : Tables
@@ -68,7 +69,7 @@ module _ (n : ℕ) (q : Queue) (l : Ledger) (g : Matched n q l) (f : Safe q) (t 
   abbrev m : Move
   m = move (G .control) r (wordFound G r)
 
-  abbrev moved : TaskRecord
+  abbrev moved : Record
   moved = record { call = goes (m .task) (next r m); retries = counted (taskAt q t .retries) (m .failed) }
 
   abbrev q′ : Queue
@@ -89,7 +90,7 @@ module _ (n : ℕ) (q : Queue) (l : Ledger) (g : Matched n q l) (f : Safe q) (t 
       (g .links .head .0, g .links .head .1) (new-sound n q l g f t z busy)
 
   -- The next place suits the kind and the queue: the invariant holds after the step.
-  suit-of : (s : M.Shared) (o : ℕ → Owner) (c : Call) → Task (seenMove G r .rec .place) s o t (seenMove G r .rec) c → next r m ≢ 0 → next r m ≤ 17
+  suit-of : (s : M.Shared) (o : ℕ → Owner) (c : BookCall) → Task (seenMove G r .rec .place) s o t (seenMove G r .rec) c → next r m ≢ 0 → next r m ≤ 17
       → Suits (s .pooled) (kindOf (m .task .kind)) (next r m)
   unfolding recOf goes
   suit-of s o c y some low =
@@ -102,7 +103,7 @@ module _ (n : ℕ) (q : Queue) (l : Ledger) (g : Matched n q l) (f : Safe q) (t 
   unfolding view
   suit some low =
       let i = step-seen-keeps q (g .book) (g .inv) (g .links) t (stepping n q l g f t z busy) in
-      let Says : M.Rec → Type 0 = λ x. (c : Call) → Task (x .place) (M.apply (view G) (seenMove G r .touch)) (i .owner) t x c
+      let Says : M.Rec → Type 0 = λ x. (c : BookCall) → Task (x .place) (M.apply (view G) (seenMove G r .touch)) (i .owner) t x c
       → Suits (M.apply (view G) (seenMove G r .touch) .pooled) (kindOf (m .task .kind)) (next r m) in
       let says : Says (upd (stateOf q .task) t (seenMove G r .rec) t) = subst Says (sym (upd-same (stateOf q .task) t (seenMove G r .rec)))
       (λ c y. suit-of (M.apply (view G) (seenMove G r .touch)) (i .owner) c y some low) in
@@ -113,11 +114,11 @@ module _ (n : ℕ) (q : Queue) (l : Ledger) (g : Matched n q l) (f : Safe q) (t 
   fine′ u lu = go (decide-eq u t)
     where
       go : (u ≡ t) ⊎ (u ≢ t) → recordAt q′ u .place ≢ 0 → RecordFine (isPooled (G .control)) (G .control .slots) (recordAt q′ u)
-      go (inl e) = subst (λ (x : Record). x .place ≢ 0 → RecordFine (isPooled (G .control)) (G .control .slots) x)
+      go (inl e) = subst (λ (x : Call). x .place ≢ 0 → RecordFine (isPooled (G .control)) (G .control .slots) x)
           (sym (ap (λ (v : ℕ). getD (set (q .records) t moved) v unused .call) e
-          ∙ ap (λ (x : TaskRecord). x .call) (getD-set-same (q .records) t moved unused (omega (arith, z .length, z .known)))))
+          ∙ ap (λ (x : Record). x .call) (getD-set-same (q .records) t moved unused (omega (arith, z .length, z .known)))))
           (goes-fine (isPooled (G .control)) (G .control .slots) r (m .task) (next r m) fine keeps suit)
-      go (inr e) = subst (λ (x : TaskRecord). x .call .place ≢ 0 → RecordFine (isPooled (G .control)) (G .control .slots) (x .call))
+      go (inr e) = subst (λ (x : Record). x .call .place ≢ 0 → RecordFine (isPooled (G .control)) (G .control .slots) (x .call))
           (sym (getD-set-other (q .records) t u moved unused e)) (f .fine u lu)
 
   extra′ : (u : ℕ) → Extra (stateOf q′ .task u .place) (stateOf q′ .task u)
@@ -137,11 +138,11 @@ module _ (n : ℕ) (q : Queue) (l : Ledger) (g : Matched n q l) (f : Safe q) (t 
   fits′ = subst Fits (sym (state-is q (g .book) (g .inv) (g .links) t (stepping n q l g f t z busy))) (
     subst (Tagged (view G)) (seen n q l g f t z busy) (tagged n q l g f t z busy) .tagged,
     step-bound (view G) (stateOf q .task) (G .control .tasks) t (z .known) (seenMove G r) 4294967295
-        (subst (λ (x : M.Rec). Light (view G) x (seenMove G r)) (sym (task-of q t (z .known)))
-        (subst (Light (view G) (recOf r)) (seen n q l g f t z busy) (lighter n q l g f t z busy))) (f .bound),
+        (subst (λ (x : M.Rec). WeightKept (view G) x (seenMove G r)) (sym (task-of q t (z .known)))
+        (subst (WeightKept (view G) (recOf r)) (seen n q l g f t z busy) (weight-kept n q l g f t z busy))) (f .bound),
     head-step (view G) (stateOf q .task) (G .control .tasks) t (z .known) (seenMove G r)
-        (subst (λ (x : M.Rec). Even (view G) x (seenMove G r)) (sym (task-of q t (z .known)))
-        (subst (Even (view G) (recOf r)) (seen n q l g f t z busy) (evener n q l g f t z busy))) (f .head),
+        (subst (λ (x : M.Rec). HeadBalanced (view G) x (seenMove G r)) (sym (task-of q t (z .known)))
+        (subst (HeadBalanced (view G) (recOf r)) (seen n q l g f t z busy) (head-balanced n q l g f t z busy))) (f .head),
   )
 
   pub step-safe : Safe q′

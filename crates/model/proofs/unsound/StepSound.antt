@@ -14,7 +14,7 @@ use Rattle.model.specs.Places.{Move, wordFound, linkSide, move, row, sid
 use Rattle.model.specs.Refusals.{leavesSound, meetsHead, meetsLink, needsRow, stepSound, stepTests}
 use Rattle.model.specs.Sound.{from1, linkSound, recordSound}
 use Rattle.model.specs.Tables.{atPlace, Queue, Tables, isPooled, recordAt}
-use Rattle.model.specs.declared.Record.{Record}
+use Rattle.model.specs.declared.Call.{Call}
 use Rattle.model.proofs.tests.ByPlace.{by-place}
 use Rattle.model.proofs.tests.Rules.{_and_, passes}
 use Rattle.model.proofs.tests.Truth.{by-test, not-both, or-cases, or-first, or-second, split}
@@ -31,20 +31,20 @@ use Rattle.model.proofs.bridge.Operations.{step-seen-keeps, task-of}
 use Rattle.model.proofs.bridge.Touches.{beyond, row-fine}
 use Rattle.model.proofs.bridge.View.{anchorSeen, linkAt, placeOf, recOf, stateOf, view}
 use Rattle.model.proofs.ledger.Matched.{Matched}
-use Rattle.model.proofs.tags.AnchorTag.{Light, light}
+use Rattle.model.proofs.tags.AnchorTag.{WeightKept, light}
 use Rattle.model.proofs.tags.{Bounds.room-bounded, Sum.total-one}
-use Rattle.model.proofs.tags.HeadTag.{Even, fair, head-room}
+use Rattle.model.proofs.tags.HeadTag.{HeadBalanced, fair, head-room}
 use Rattle.model.proofs.tags.LinkTag.{Tagged, tags}
 use Rattle.model.proofs.unsound.{AnchorFields.touch-sound, Moves.move-status, Safe.Safe}
 use Rattle.model.proofs.unsound.Tests.{link-sound, record-sound, unstable}
-use Rattle.model.specs.Sides.{named, near}
+use Rattle.model.specs.Sides.{sideNamed, near}
 
 near-real : (n : ℕ) (a : word.Anchor) → AnchorFine n a → a .left ≢ a .right → (b : Bool) → cond b (a .right) (a .left) ≢ 0
 near-real n a h ne true z = ne (h .full z ∙ sym z)
 near-real n a h ne false z = ne (z ∙ sym (h .null z))
 
 module _ (n : ℕ) (q : Queue) (l : Ledger) (g : Matched n q l) (f : Safe q) (t : ℕ) where
-  abbrev r : Record
+  abbrev r : Call
   r = recordAt q t
 
   abbrev G : Tables
@@ -71,17 +71,17 @@ module _ (n : ℕ) (q : Queue) (l : Ledger) (g : Matched n q l) (f : Safe q) (t 
     pub own-sound : recordSound (isPooled (G .control)) (G .control .slots) r ≡ true
     own-sound = record-sound (isPooled (G .control)) (G .control .slots) r h (view G) (g .inv .owner) t (b .calls t) busy own-task own-extra
 
-    pub lighter : Light (view G) (recOf r) (M.act (placeOf (r .place)) (view G) (recOf r))
+    pub weight-kept : WeightKept (view G) (recOf r) (M.act (placeOf (r .place)) (view G) (recOf r))
     unfolding recOf
-    lighter = light (view G) (g .inv .owner) t (recOf r) (b .calls t) (placeOf (r .place)) refl own-task
+    weight-kept = light (view G) (g .inv .owner) t (recOf r) (b .calls t) (placeOf (r .place)) refl own-task
 
     pub tagged : Tagged (view G) (M.act (placeOf (r .place)) (view G) (recOf r))
     unfolding stateOf
     tagged = tags (view G) (f .tags) (g .inv .owner) t (recOf r) (b .calls t) (b .queue) (g .inv .whole) (placeOf (r .place)) own-task
 
-    pub evener : Even (view G) (recOf r) (M.act (placeOf (r .place)) (view G) (recOf r))
+    pub head-balanced : HeadBalanced (view G) (recOf r) (M.act (placeOf (r .place)) (view G) (recOf r))
     unfolding recOf
-    evener = fair (view G) (g .inv .owner) t (recOf r) (b .calls t) (placeOf (r .place)) refl own-task
+    head-balanced = fair (view G) (g .inv .owner) t (recOf r) (b .calls t) (placeOf (r .place)) refl own-task
 
     -- The tags have room.
     head-fits : 2 ≤ share (recOf r) + cost (recOf r) → suc (linkOf (G .control .head) .tag) ≤ 4294967295
@@ -93,7 +93,7 @@ module _ (n : ℕ) (q : Queue) (l : Ledger) (g : Matched n q l) (f : Safe q) (t 
     unfolding view
     room = room-bounded G control-is (g .links) r h (omega (arith, f .bound)) busy (h .draws) head-fits
         (let y = total-one (λ u. cost (stateOf q .task u)) t (G .control .tasks) (z .known) in let v = ap cost (task-of q t (z .known)) in
-        omega (arith, f .bound)) lighter tagged
+        omega (arith, f .bound)) weight-kept tagged
 
     pub stepping : Stepping q t
     stepping = record { lies = z; control = control-is; fine = h; busy = busy; room = room }
@@ -102,7 +102,7 @@ module _ (n : ℕ) (q : Queue) (l : Ledger) (g : Matched n q l) (f : Safe q) (t 
     seen = step-seen G control-is (g .links) r h busy room
 
     -- The row that a place needs.
-    abbrev at : ℕ → Record
+    abbrev at : ℕ → Call
     at p = atPlace r p
 
     abbrev Rowed : ℕ → Type 0
@@ -129,9 +129,9 @@ module _ (n : ℕ) (q : Queue) (l : Ledger) (g : Matched n q l) (f : Safe q) (t 
 
     row5 : Says 5
     unfolding recOf row sideOf
-    row5 y x = near-fine (named (anchorOf (r .seen) .status)) (near-real (G .control .slots) (anchorOf (r .seen)) (h .seen)
+    row5 y x = near-fine (sideNamed (anchorOf (r .seen) .status)) (near-real (G .control .slots) (anchorOf (r .seen)) (h .seen)
         (λ z. not-both (eq-eqb _ _ (h .seen .single z)) (unstable (anchorOf (r .seen) .status) _ (y .status)))
-        (eqb (named (anchorOf (r .seen) .status)) 1))
+        (eqb (sideNamed (anchorOf (r .seen) .status)) 1))
 
     row11 : Says 11
     unfolding recOf row sideOf

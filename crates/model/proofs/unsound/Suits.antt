@@ -7,7 +7,7 @@ use native.Mathlib.Omega.{arith}
 use lib.Dec.{eqb}
 use borrow.Author.Tests.{eqb-false, eqb-true}
 use Rattle.model.proofs.tests.{ByPlace.by-place, Truth.not-both}
-use Rattle.model.proofs.machine.Book.{Call}
+use Rattle.model.proofs.machine.Book.{BookCall}
 use Rattle.model.proofs.machine.Machine.{Kind, Rec, Shared, pop, push}
 use Rattle.model.proofs.invariant.{Fields.Extra, Owners.Owner, Tasks.Task}
 use Rattle.model.proofs.bridge.View.{kindOf, placeOf}
@@ -18,7 +18,7 @@ pub record Suits (pooled : Bool) (k : Kind) (n : ℕ) : Type 0 where
   pub gives : 15 ≤ n → k ≡ pop
   pub draws : 12 ≤ n → n ≤ 14 → k ≡ push
 
-module _ (s : Shared) (h : ℕ → Owner) (t : ℕ) (r : Rec) (c : Call) where
+module _ (s : Shared) (h : ℕ → Owner) (t : ℕ) (r : Rec) (c : BookCall) where
   abbrev Says : ℕ → Type 0
   Says n = Task (placeOf n) s h t r c → Extra (placeOf n) r → Suits (s .pooled) (r .kind) n
 

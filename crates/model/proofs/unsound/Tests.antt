@@ -10,11 +10,11 @@ use Rattle.word.specs.Anchor.{anchorOf}
 use Rattle.word.specs.Link.{linkOf, spareOf}
 use Rattle.word.specs.declared.Anchor.{Anchor}
 use Rattle.model.specs.Sound.{anchorSound, anchorTests, from1, linkSound, recordSound, recordTests}
-use Rattle.model.specs.declared.Record.{Record}
+use Rattle.model.specs.declared.Call.{Call}
 use Rattle.model.proofs.tests.ByPlace.{by-place}
 use Rattle.model.proofs.tests.Rules.{_and_, passes}
 use Rattle.model.proofs.tests.Truth.{agree, and-of, and-true, beq-of, or-cases, or-first, or-second, split}
-use Rattle.model.proofs.machine.Book.{Call}
+use Rattle.model.proofs.machine.Book.{BookCall}
 use Rattle.model.proofs.machine.Machine as M
 use Rattle.model.proofs.invariant.{Fields.Extra, Owners.Owner, Tasks.Task}
 use Rattle.model.proofs.places.Owned.{push-pop}
@@ -55,7 +55,7 @@ unstable n d e = split (eqb n 0) (λ z. absurd (go n (eqb-true n 0 z) e)) (λ z.
     go : (n : ℕ) → n ≡ 0 → statusOf n ≡ M.pushing d → ⊥
     go n z e = let f : M.stable ≡ M.pushing d = subst (λ n. statusOf n ≡ M.pushing d) z e in let w : _≡_ {A = ℕ} 0 1 = cc in omega arith
 
-module _ (pooled : Bool) (slots : ℕ) (r : Record) (h : RecordFine pooled slots r) where
+module _ (pooled : Bool) (slots : ℕ) (r : Call) (h : RecordFine pooled slots r) where
   early : (p : ℕ) → leb 5 p && leb p 10 ≡ false → eqb (r .finishing) 1 ≡ false → Placed (r .finishing) (r .kind) (anchorOf (r .seen) .status) p
   early p z e = (or-first _ (small-zero (r .finishing) (h .finishing) e), rw z)
 
@@ -107,7 +107,7 @@ module _ (pooled : Bool) (slots : ℕ) (r : Record) (h : RecordFine pooled slots
       or-second (not (leb 12 (r .place) && leb (r .place) 14)) (eq-eqb _ _ (h .draws (leb-true _ _ (z .0)) (leb-true _ _ (z .1)))))
       (λ e. or-first _ (ap not e))
 
-  module _ (s : M.Shared) (o : ℕ → Owner) (t : ℕ) (c : Call) where
+  module _ (s : M.Shared) (o : ℕ → Owner) (t : ℕ) (c : BookCall) where
     abbrev Says : ℕ → Type 0
     Says p = Task (placeOf p) s o t (recOf r) c → Extra (placeOf p) (recOf r) → Placed (r .finishing) (r .kind) (anchorOf (r .seen) .status) p
         × Owned p × Topped p

@@ -3,7 +3,7 @@ use mathlib.Core.Path.{sym, ap, _∙_}
 use native.Mathlib.Omega.{arith}
 use lib.ListN.{set}
 use lib.Seq.{set-out}
-use Rattle.model.specs.declared.TaskRecord.{TaskRecord}
+use Rattle.model.specs.declared.Record.{Record}
 use Rattle.model.specs.Tables.{withCall}
 use Rattle.rows.specs.Rows.{recordOf, recordsOf, uppersOf}
 use Rattle.rows.proofs.Rows.{length-records, length-uppers, record-put, record-read, upper-put}
@@ -16,7 +16,7 @@ unfolding recordOf
 returns c =
     let a = c .before .before .before .args in
     let row = c .record-row .ensures in
-    let same = ap (λ (r : TaskRecord). withCall r (a .r)) (record-read (a .rows .now) (a .task)) in (
+    let same = ap (λ (r : Record). withCall r (a .r)) (record-read (a .rows .now) (a .task)) in (
       record-put _ _ _ ∙ ap (set (recordsOf (a .rows .now)) (a .task)) (row .0 ∙ same),
       upper-put _ _ _ ∙ ap (set (uppersOf (a .rows .now)) (a .task)) (row .1),
     )

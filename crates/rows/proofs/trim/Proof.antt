@@ -5,7 +5,7 @@ use mathlib.Core.List.{[]}
 use lib.ListN.{getD, set}
 use lib.Seq.{set-out, set-getD}
 use Rattle.model.specs.Tables.{unused}
-use Rattle.model.specs.declared.Record.{Record}
+use Rattle.model.specs.declared.Call.{Call}
 use Rattle.rows.specs.Rows.{recordOf, recordsOf, uppersOf}
 use Rattle.rows.proofs.Rows.{length-uppers, record-put, record-read, upper-put, counting}
 use borrow.Author.Needs.{needs}
@@ -20,7 +20,8 @@ returns c =
     let row = c .record-row .ensures in (
       record-put _ _ _
           ∙ ap (set (recordsOf (a .rows .now)) (a .task))
-          (row .0 ∙ ap (λ (r : Record). counting r (recordOf (getD (a .rows .now) (a .task) []) .retries)) (call .call-of .ensures) ∙ record-read (a .rows .now) (a .task))
+          (row .0 ∙ ap (λ (r : Call). counting r (recordOf (getD (a .rows .now) (a .task) []) .retries)) (call .call-of .ensures) ∙ record-read
+          (a .rows .now) (a .task))
           ∙ set-getD (recordsOf (a .rows .now)) (a .task) unused,
       upper-put _ _ _ ∙ ap (set (uppersOf (a .rows .now)) (a .task)) (row .1),
     )

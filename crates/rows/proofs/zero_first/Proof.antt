@@ -4,7 +4,7 @@ use mathlib.Core.List.{List}
 use Prim.Native.Nat.{ℕ, _-_, _<_, _≤_}
 use native.Mathlib.Omega.{arith}
 use lib.ListN.{length, set, length-set}
-use Rattle.model.specs.declared.TaskRecord.{TaskRecord}
+use Rattle.model.specs.declared.Record.{Record}
 use Rattle.model.specs.Tables.{unused}
 use Rattle.model.specs.Lists.{zeroed}
 use Rattle.rows.specs.Rows.{callOf, recordOf, recordsOf, upperOf, uppersOf}
@@ -35,7 +35,7 @@ loop-again c =
     let here : turn .i < length (uppersOf rows₀) = omega (arith, length-uppers rows₀) in (
       omega arith,
       length-set (turn .rows) (turn .i) _ ∙ turn .inv .1,
-      record-put _ _ _ ∙ ap (λ (l : List TaskRecord). set l (turn .i) unused) (turn .inv .2) ∙ one-more (turn .i) unused (recordsOf rows₀) there,
+      record-put _ _ _ ∙ ap (λ (l : List Record). set l (turn .i) unused) (turn .inv .2) ∙ one-more (turn .i) unused (recordsOf rows₀) there,
       upper-put _ _ _ ∙ ap (λ (l : List ℕ). set l (turn .i) 0) (turn .inv .3) ∙ one-more (turn .i) 0 (uppersOf rows₀) here,
     )
 

@@ -3,7 +3,7 @@ use mathlib.Core.Path.{_≡_, sym, ap, _∙_}
 use mathlib.Core.List.{List}
 use borrow.Author.Needs.{needs}
 use Rattle.model.specs.declared.Control.{Control}
-use Rattle.model.specs.declared.TaskRecord.{TaskRecord}
+use Rattle.model.specs.declared.Record.{Record}
 use Rattle.model.specs.Tables.{Tables, Queue, tablesOf}
 use Rattle.rows.specs.Rows.{controlOf, recordOf, recordsOf}
 use Rattle.rows.proofs.Rows.{length-records}
@@ -25,7 +25,7 @@ module _ (told : tie.After-refusal) where
       let lent = words .before .before .before .before in
       lent .before .before .before
 
-  abbrev rs : List TaskRecord
+  abbrev rs : List Record
   rs = recordsOf (a .args .records .now)
 
   abbrev q : Control → Tables

@@ -7,7 +7,7 @@ use lib.Dec.{eqb, ltb}
 use lib.ListN.{getD}
 use borrow.Author.Needs.{needs}
 use borrow.Author.Tests.{eq-eqb, ne-eqb, lt-ltb, le-ltb}
-use Rattle.model.specs.declared.Record.{Record}
+use Rattle.model.specs.declared.Call.{Call}
 use Rattle.model.specs.Tables.{Tables, unused}
 use Rattle.rows.specs.Rows.{recordsOf}
 use Rattle.schedule_model.specs.Search.{bound, least}
@@ -16,12 +16,12 @@ use Rattle.schedule_search.proofs.choose.Statement.{statement}
 use Rattle.schedule_search.proofs.choose.Tie as tie
 
 -- idle: the task is; b: the list binds; early: the task comes too early; same: it stands next in the list. r: its call.
-told : (q : Tables) (pair : List (List ℕ)) (ws : List ℕ) (len left : ℕ) (free : Bool) (t : ℕ) (idle b early same : Bool) (c : ℕ) (r : Record)
+told : (q : Tables) (pair : List (List ℕ)) (ws : List ℕ) (len left : ℕ) (free : Bool) (t : ℕ) (idle b early same : Bool) (c : ℕ) (r : Call)
     → r ≡ getD (recordsOf pair) t unused .call → eqb (r .place) 0 ≡ idle → bound len left free ≡ b → ltb t (least ws left) ≡ early
     → eqb t (least ws left) ≡ same → c ≡ cond (not (not idle) || (b && early)) 0 (cond (not b || not same) 2 1)
     → c ≡ choice ws len left free (record { tables = q; records = recordsOf pair }) t
 told q pair ws len left free t idle b early same c r whose i₁ i₂ i₃ i₄ e =
-    let place = ap (λ (x : Record). eqb (x .place) 0) (sym whose) ∙ i₁ in
+    let place = ap (λ (x : Call). eqb (x .place) 0) (sym whose) ∙ i₁ in
     e ∙ sym (λ i. cond (not (not (place i)) || (i₂ i && i₃ i)) 0 (cond (not (i₂ i) || not (i₄ i)) 2 1))
 
 -- The list binds, or not.

@@ -6,7 +6,7 @@ use Prim.Native.Nat.{ℕ}
 use lib.Dec.{eqb}
 use lib.ListN.{getD}
 use borrow.Author.Tests.{eq-eqb, ne-eqb}
-use Rattle.model.specs.declared.Record.{Record}
+use Rattle.model.specs.declared.Call.{Call}
 use Rattle.model.specs.Tables.{Tables, Queue, unused}
 use Rattle.rows.specs.Rows.{recordsOf}
 use Rattle.schedule_model.specs.Schedules.{bothAnswered}
@@ -19,7 +19,7 @@ module _ (q : Tables) (pair : List (List ℕ)) where
   Q = record { tables = q; records = recordsOf pair }
 
   -- No step was refused; x: whether both calls are answered.
-  made : (s x : Bool) (left e : ℕ) (a b : Record) → s ≡ false → a ≡ getD (recordsOf pair) 0 unused .call → b ≡ getD (recordsOf pair) 1 unused .call
+  made : (s x : Bool) (left e : ℕ) (a b : Call) → s ≡ false → a ≡ getD (recordsOf pair) 0 unused .call → b ≡ getD (recordsOf pair) 1 unused .call
       → not (not (eqb (a .place) 0) || not (eqb (b .place) 0)) ≡ x → e ≡ endsHere false x left → e ≡ endsHere s (bothAnswered Q) left
   made s x left e a b hs ea eb hx he =
       let both : bothAnswered Q ≡ x = (λ i. not (not (eqb (sym ea i .place) 0) || not (eqb (sym eb i .place) 0))) ∙ hx in

@@ -5,12 +5,12 @@ use Prim.Native.Nat.{ℕ, _<_, _≤_, _/_}
 use lib.Dec.{eqb}
 use lib.ListN.{length, getD}
 use borrow.Author.Tests.{eqb-true, eqb-false}
-use Rattle.model.specs.declared.{TaskRecord.TaskRecord, Outcome.Outcome, Op.Op}
+use Rattle.model.specs.declared.{Record.Record, Outcome.Outcome, Op.Op}
 use Rattle.model.specs.Tables.{Tables, Queue, taskAt, marked, withMark}
 use Rattle.model.specs.Calls.{act, back}
 use Rattle.model.proofs.tests.Truth.{split}
 use Rattle.model.proofs.bridge.Marks.{marked-same, marked-other}
-use Rattle.threads_model.specs.Instructions.{Hand, labels, marks, ends, Ticked, quiet, decided, written, tells}
+use Rattle.threads_model.specs.Instructions.{Hand, labels, marks, ends, Ticked, quiet, decided, written, toldAtEnd}
 use Rattle.threads_model.specs.Crew.{Crew, withHand, owed}
 use Rattle.threads.specs.Promises.{recordOf, OwesLabel, OwesMark}
 use Rattle.threads.proofs.follow.Good as own
@@ -49,7 +49,7 @@ module _ (now : Moment) where
   abbrev G : Tables
   G = now .queue .tables
 
-  abbrev r : TaskRecord
+  abbrev r : Record
   r = taskAt (now .crew .queue) (now .thread)
 
   abbrev Goal : Hand → Ticked → Type 0
@@ -59,7 +59,7 @@ module _ (now : Moment) where
   pub record Clean (k₀ : Hand) : Type 0 where
     pub at : m .hands t ≡ k₀
     pub owes : owed k₀ ≡ []
-    pub tells : tells k₀ ≡ []
+    pub tells : toldAtEnd k₀ ≡ []
     pub writes : written k₀ r ≡ r
     pub reads : r ≡ taskAt q t
     pub labels : (x : ℕ) → OwesLabel k₀ x → ⊥
@@ -81,14 +81,14 @@ module _ (now : Moment) where
       labels = no-label k;
       marks = no-mark k;
       long = f .long;
-      task = subst (λ (x : TaskRecord). recordOf k x ≡ taskAt q t) (sym (c .writes)) (e ∙ c .reads);
-      extra = subst (λ (x : TaskRecord). Extra tasks pooled slots t x (G .labels) k) (sym (c .writes)) z;
+      task = subst (λ (x : Record). recordOf k x ≡ taskAt q t) (sym (c .writes)) (e ∙ c .reads);
+      extra = subst (λ (x : Record). Extra tasks pooled slots t x (G .labels) k) (sym (c .writes)) z;
       others = λ u ne. refl;
       kept = I.stays now;
     })
 
     -- It is decided, and no shared word is changed.
-    pub plain : (op : Op) (task : TaskRecord) (o : Outcome) → act q t op ≡ back q t (record { tables = G; task = task; outcome = o })
+    pub plain : (op : Op) (task : Record) (o : Outcome) → act q t op ≡ back q t (record { tables = G; task = task; outcome = o })
         → Goal k₀ (decided op T (ends task o))
     plain op task o is =
         I.deciding now op (record { tables = G; task = task; outcome = o }) is k₀ (c .owes) (c .tells) (c .writes) T (ends task o) (record {

@@ -8,7 +8,7 @@ use lib.Dec.{eqb}
 use lib.ListN.{length, getD, set, length-set}
 use lib.Seq.{getD-set-same, getD-set-other}
 use borrow.Author.Tests.{eqb-true, eqb-false, eq-eqb}
-use Rattle.model.specs.declared.{TaskRecord.TaskRecord, Outcome.Outcome, Op.Op}
+use Rattle.model.specs.declared.{Record.Record, Outcome.Outcome, Op.Op}
 use Rattle.model.specs.Tables.{Tables, Queue, taskAt, recordAt, marked, unused}
 use Rattle.model.specs.{Places.row, Lists.All, History.Event}
 use Rattle.model.specs.Calls.{Acted, Done, act, back}
@@ -18,7 +18,7 @@ use Rattle.model.proofs.invariant.Owners.{held}
 use Rattle.threads_model.specs.Split.{plan}
 use Rattle.threads_model.specs.Turns.{Turn, take, runTurns, finalTurns}
 use Rattle.threads_model.specs.Instructions.{Hand, free, begun, loaded, knows, claims, looks, labels, marks, ends, Ticked, quiet, decided}
-use Rattle.threads_model.specs.Instructions.{written, tells}
+use Rattle.threads_model.specs.Instructions.{written, toldAtEnd}
 use Rattle.threads_model.specs.Crew.{Crew, withHand, turnsOf, outcomesOf, owed}
 use Rattle.threads.specs.Promises.{recordOf, OwesLabel, OwesMark}
 use Rattle.threads.proofs.follow.{Overlay.overlay, Plans.says, Good.Good}
@@ -60,10 +60,10 @@ module _ (now : Moment) where
   abbrev G : Tables
   G = now .queue .tables
 
-  abbrev r : TaskRecord
+  abbrev r : Record
   r = taskAt (now .crew .queue) (now .thread)
 
-  abbrev pub after : Tables → TaskRecord → Hand → Crew
+  abbrev pub after : Tables → Record → Hand → Crew
   after T′ r′ k = record { queue = record { tables = T′; records = set (m .queue .records) t r′ }; hands = withHand (m .hands) t k }
 
   low : t < length (m .queue .records)
@@ -79,7 +79,7 @@ module _ (now : Moment) where
     pub own-owed : ((u : ℕ) → O (withHand (m .hands) t k u) x → ⊥) → O k x → ⊥
     own-owed never o = never t (subst (λ (b : Bool). O (cond b k (m .hands t)) x) (sym (eq-eqb t t refl)) o)
 
-  pub record Next (T′ : Tables) (r′ : TaskRecord) (k : Hand) (q′ : Queue) : Type 0 where
+  pub record Next (T′ : Tables) (r′ : Record) (k : Hand) (q′ : Queue) : Type 0 where
     pub rest : T′ ≡ overlay (q′ .tables) (T′ .labels) (T′ .marks)
     pub labels-long : length (T′ .labels) ≡ length (q′ .tables .labels)
     pub marks-long : length (T′ .marks) ≡ length (q′ .tables .marks)
@@ -92,7 +92,7 @@ module _ (now : Moment) where
     pub kept : (u : ℕ) → (u ≡ t → ⊥) → (k : Hand) → m .hands u ≡ k → Extra tasks pooled slots u (taskAt (m .queue) u) (G .labels) k
         → Extra tasks pooled slots u (taskAt (m .queue) u) (q′ .tables .labels) k
 
-  pub build : (T′ : Tables) (r′ : TaskRecord) (k : Hand) (q′ : Queue) → Next T′ r′ k q′ → Sim tasks pooled slots (after T′ r′ k) q′
+  pub build : (T′ : Tables) (r′ : Record) (k : Hand) (q′ : Queue) → Next T′ r′ k q′ → Sim tasks pooled slots (after T′ r′ k) q′
   build T′ r′ k q′ n = record {
     rest = n .rest;
     labels-long = n .labels-long;
@@ -103,19 +103,19 @@ module _ (now : Moment) where
     records = λ u. split (eqb u t)
         (λ e. subst (λ (u : ℕ). recordOf (withHand (m .hands) t k u) (getD (set (m .queue .records) t r′) u unused) ≡ taskAt q′ u) (sym (eqb-true u t e))
         (subst (λ (b : Bool). recordOf (cond b k (m .hands t)) (getD (set (m .queue .records) t r′) t unused) ≡ taskAt q′ t) (sym (eq-eqb t t refl))
-        (subst (λ (r : TaskRecord). recordOf k r ≡ taskAt q′ t) (sym (getD-set-same (m .queue .records) t r′ unused low)) (n .task))))
+        (subst (λ (r : Record). recordOf k r ≡ taskAt q′ t) (sym (getD-set-same (m .queue .records) t r′ unused low)) (n .task))))
         (λ e. subst (λ (b : Bool). recordOf (cond b k (m .hands u)) (getD (set (m .queue .records) t r′) u unused) ≡ taskAt q′ u) (sym e)
-        (subst (λ (r : TaskRecord). recordOf (m .hands u) r ≡ taskAt q′ u) (sym (getD-set-other (m .queue .records) t u r′ unused (eqb-false u t e)))
+        (subst (λ (r : Record). recordOf (m .hands u) r ≡ taskAt q′ u) (sym (getD-set-other (m .queue .records) t u r′ unused (eqb-false u t e)))
         (f .records u ∙ sym (n .others u (eqb-false u t e)))));
     extra = λ u. split (eqb u t)
         (λ e. subst (λ (u : ℕ). Extra tasks pooled slots u (getD (set (m .queue .records) t r′) u unused) (q′ .tables .labels) (withHand (m .hands) t k u))
         (sym (eqb-true u t e))
         (subst (λ (b : Bool). Extra tasks pooled slots t (getD (set (m .queue .records) t r′) t unused) (q′ .tables .labels) (cond b k (m .hands t)))
         (sym (eq-eqb t t refl))
-        (subst (λ (r : TaskRecord). Extra tasks pooled slots t r (q′ .tables .labels) k) (sym (getD-set-same (m .queue .records) t r′ unused low)) (n .extra))))
+        (subst (λ (r : Record). Extra tasks pooled slots t r (q′ .tables .labels) k) (sym (getD-set-same (m .queue .records) t r′ unused low)) (n .extra))))
         (λ e. subst (λ (b : Bool). Extra tasks pooled slots u (getD (set (m .queue .records) t r′) u unused) (q′ .tables .labels) (cond b k (m .hands u)))
         (sym e)
-        (subst (λ (r : TaskRecord). Extra tasks pooled slots u r (q′ .tables .labels) (m .hands u))
+        (subst (λ (r : Record). Extra tasks pooled slots u r (q′ .tables .labels) (m .hands u))
         (sym (getD-set-other (m .queue .records) t u r′ unused (eqb-false u t e)))
         (n .kept u (eqb-false u t e) (m .hands u) refl (f .extra u))));
   }
@@ -123,12 +123,12 @@ module _ (now : Moment) where
   -- What an instruction must show: the tables as of the list, and what is owed to the thread.
   pub record Goal (k₀ : Hand) (k : Ticked) : Type 0 where
     pub sim : Sim tasks pooled slots (after (k .tables) (written k₀ r) (k .hand)) (finalTurns q (turnsOf t k))
-    pub owes : owed k₀ ++ outcomesOf t (runTurns q (turnsOf t k)) ≡ tells k₀ ++ owed (k .hand)
+    pub owes : owed k₀ ++ outcomesOf t (runTurns q (turnsOf t k)) ≡ toldAtEnd k₀ ++ owed (k .hand)
     pub good : Good tasks pooled slots (finalTurns q (turnsOf t k))
     pub sound : All (λ (e : Event). e .outcome ≡ Refused 34 → ⊥) (runTurns q (turnsOf t k))
 
   -- An instruction that decides nothing.
-  pub quietly : (k₀ : Hand) (T′ : Tables) (k : Hand) → owed k₀ ≡ tells k₀ ++ owed k → Next T′ (written k₀ r) k q → Goal k₀ (quiet T′ k)
+  pub quietly : (k₀ : Hand) (T′ : Tables) (k : Hand) → owed k₀ ≡ toldAtEnd k₀ ++ owed k → Next T′ (written k₀ r) k q → Goal k₀ (quiet T′ k)
   unfolding runTurns finalTurns outcomesOf
   quietly k₀ T′ k e n = record { sim = build T′ (written k₀ r) k q n; owes = append-none (owed k₀) ∙ e; good = g; sound = tt }
     where
@@ -170,10 +170,10 @@ module _ (now : Moment) where
     read-stays (one slot label e k) u lu ne _ same six =
         let s = says pooled slots (taskAt (m .queue) u .call) .six six in
         let same′ : taskAt (m .queue) u ≡ taskAt q′ u = same ∙ sym (other-task u ne) in
-        let at11 : recordAt q′ u .place ≡ 11 = ap (λ (r : TaskRecord). r .call .place) (sym same′) ∙ s .place in
+        let at11 : recordAt q′ u .place ≡ 11 = ap (λ (r : Record). r .call .place) (sym same′) ∙ s .place in
         let hu : good .matched .inv .owner (row (recordAt q′ u)) ≡ held u = own.own11 tasks pooled slots q′ good u lu at11 in
-        let kt : Holds (taskAt q′ t) slot = subst (λ (r : TaskRecord). Holds r slot) (sym put-task) k in
-        let is-row : plan pooled slots (taskAt (m .queue) u .call) .slot ≡ row (recordAt q′ u) = s .slot ∙ ap (λ (r : TaskRecord). row (r .call)) same′ in
+        let kt : Holds (taskAt q′ t) slot = subst (λ (r : Record). Holds r slot) (sym put-task) k in
+        let is-row : plan pooled slots (taskAt (m .queue) u .call) .slot ≡ row (recordAt q′ u) = s .slot ∙ ap (λ (r : Record). row (r .call)) same′ in
         ap (λ (l : List ℕ). getD l (plan pooled slots (taskAt (m .queue) u .call) .slot) 0) e
         ∙ getD-set-other (G .labels) slot (plan pooled slots (taskAt (m .queue) u .call) .slot) label 0
         (λ same-slot. ne (sym (own.apart-1-11 tasks pooled slots q′ good t lt u lu slot (kt .place) (kt .kind) (kt .slot)
@@ -206,14 +206,14 @@ module _ (now : Moment) where
       pub extra : Extra tasks pooled slots t r (a .tables .labels) k
       pub owes : owed k ≡ a .outcome ∷ []
 
-    pub turning : (k₀ : Hand) → owed k₀ ≡ [] → tells k₀ ≡ [] → written k₀ r ≡ r → (T′ : Tables) (k : Hand) → Decided T′ k
+    pub turning : (k₀ : Hand) → owed k₀ ≡ [] → toldAtEnd k₀ ≡ [] → written k₀ r ≡ r → (T′ : Tables) (k : Hand) → Decided T′ k
         → Goal k₀ (record { tables = T′; hand = k; decides = op ∷ []; early = early })
     unfolding runTurns finalTurns outcomesOf
     turning k₀ o₀ t₀ w₀ T′ k d =
         let turned = take q (turn op early) in
         record {
           sim =
-              subst (λ (r : TaskRecord). Sim tasks pooled slots (after T′ r k) (turned .queue)) (sym w₀)
+              subst (λ (r : Record). Sim tasks pooled slots (after T′ r k) (turned .queue)) (sym w₀)
               (subst (λ (x : Done). Sim tasks pooled slots (after T′ r k) (x .queue)) (sym is)
               (build T′ r k q′ (record {
                 rest = d .rest;
@@ -250,6 +250,6 @@ module _ (now : Moment) where
   unfolding take
   now-never op = own.act-never tasks pooled slots q t op g
 
-  pub deciding : (op : Op) (a : Acted) (is : act q t op ≡ back q t a) (k₀ : Hand) → owed k₀ ≡ [] → tells k₀ ≡ [] → written k₀ r ≡ r
+  pub deciding : (op : Op) (a : Acted) (is : act q t op ≡ back q t a) (k₀ : Hand) → owed k₀ ≡ [] → toldAtEnd k₀ ≡ [] → written k₀ r ≡ r
       → (T′ : Tables) (k : Hand) → Decided op false a (now-is op a is) (now-good op) (now-never op) T′ k → Goal k₀ (decided op T′ k)
   deciding op a is = turning op false a (now-is op a is) (now-good op) (now-never op)

@@ -5,8 +5,8 @@ use mathlib.Core.Logic.{_≢_}
 use Prim.Native.Nat.{ℕ, _<_}
 use lib.Dec.{eqb}
 use borrow.Author.Tests.{eqb-true}
-use Rattle.model.specs.declared.TaskRecord.{TaskRecord}
-use Rattle.model.specs.declared.Op.the-variants.{Push, Pop, Put, Step}
+use Rattle.model.specs.declared.Record.{Record}
+use Rattle.model.specs.declared.Op.the-variants.{Push, Pop, PushPooled, Step}
 use Rattle.model.specs.Tables.{Queue, taskAt}
 use Rattle.model.specs.Places.{row}
 use Rattle.model.proofs.tests.Truth.{by-test}
@@ -26,22 +26,22 @@ module _ (tasks pooled slots : ℕ) (m : Crew) (q : Queue) (f : Sim tasks pooled
   h = g .matched .inv .owner
 
   module _ (t : ℕ) (lt : t < tasks) where
-    abbrev r : TaskRecord
+    abbrev r : Record
     r = taskAt (m .queue) t
 
     -- At 11 it owns the end that it took.
     taking : r ≡ taskAt q t → plan pooled slots (r .call) .act ≡ 6 → h (plan pooled slots (r .call) .slot) ≡ held t
     taking reads six =
         let n = says pooled slots (r .call) .six six in
-        subst (λ (x : ℕ). h x ≡ held t) (sym (n .slot ∙ ap (λ (r : TaskRecord). row (r .call)) reads))
-        (own.own11 tasks pooled slots q g t lt (ap (λ (r : TaskRecord). r .call .place) (sym reads) ∙ n .place))
+        subst (λ (x : ℕ). h x ≡ held t) (sym (n .slot ∙ ap (λ (r : Record). row (r .call)) reads))
+        (own.own11 tasks pooled slots q g t lt (ap (λ (r : Record). r .call .place) (sym reads) ∙ n .place))
 
     owned : (k : Hand) → recordOf k r ≡ taskAt q t → Extra tasks pooled slots t r (q .tables .labels) k
         → labelTouched pooled slots r k ≢ 0 → h (labelTouched pooled slots r k) ≡ held t
     owned free e z some = absurd (some refl)
     owned (begun (Push side slot label)) e z some = absurd (some refl)
     owned (begun (Pop side)) e z some = absurd (some refl)
-    owned (begun (Put side label)) e z some = absurd (some refl)
+    owned (begun (PushPooled side label)) e z some = absurd (some refl)
     owned (begun Step) e z some =
         by-test (λ (x : ℕ). x ≢ 0 → h x ≡ held t) (eqb (plan pooled slots (r .call) .act) 6)
         (λ six _. taking e (eqb-true _ _ six)) (λ _ some. absurd (some refl)) some

@@ -7,8 +7,8 @@ use native.Mathlib.Omega.{arith}
 use lib.{Dec.eqb, ListN.getD}
 use borrow.Author.Tests.{eqb-true, ltb-true, lt-ltb}
 use Rattle.word.specs.Anchor.{anchorOf}
-use Rattle.model.specs.declared.{Record.Record, TaskRecord.TaskRecord, Outcome.Outcome, Op.Op}
-use Rattle.model.specs.declared.Op.the-variants.{Push, Pop, Put, Step}
+use Rattle.model.specs.declared.{Call.Call, Record.Record, Outcome.Outcome, Op.Op}
+use Rattle.model.specs.declared.Op.the-variants.{Push, Pop, PushPooled, Step}
 use Rattle.model.specs.Tables.{Tables, taskAt, marked, withAnchor, started, asking}
 use Rattle.model.specs.{Sides.links, Sound.linkSound, Refusals.late}
 use Rattle.model.proofs.tests.Truth.{either, by-test, not-both}
@@ -83,7 +83,7 @@ module _ (q : Tables) (l : IsLate q) where
       (either Leaves (eqb (p .act) 10) l
       (either Leaves (eqb (p .act) 11) l l))))))))))
 
-  module _ (pooled slots : ℕ) (r : TaskRecord) where
+  module _ (pooled slots : ℕ) (r : Record) where
     abbrev Ticks : Ticked → Type 0
     Ticks k = IsLate (k .tables)
 
@@ -115,7 +115,7 @@ module _ (q : Tables) (l : IsLate q) where
     ticks (begun (Pop side)) =
         subst Ticks (sym (first-pop q r pooled slots side))
         (either Ticks (eqb (ownRefusal pooled slots (r .call) side false false) 0) (either Ticks (late (q .control)) l l) l)
-    ticks (begun (Put side label)) =
+    ticks (begun (PushPooled side label)) =
         subst Ticks (sym (first-put q r pooled slots side label))
         (either Ticks (eqb (ownRefusal pooled slots (r .call) side (not (eqb pooled 1)) false) 0) (either Ticks (late (q .control)) l l) l)
     ticks (begun Step) = steps
@@ -164,69 +164,70 @@ module _ (pooled slots : ℕ) where
   taken-up m (ends task o) op h = tt
 
   -- What an instruction of a hand k₀ leaves: a hand that looks has found Anchor late, one that claims a slot early; only one that claims passes 33.
-  pub record Left (k₀ : Hand) (k : Ticked) : Type 0 where
+  pub record LateAfter (k₀ : Hand) (k : Ticked) : Type 0 where
     pub hand : HandLate (k .tables) (k .hand)
     pub claim : isClaims (k .hand) ≡ true → late (k .tables .control) ≡ false
     pub early : isClaims k₀ ≡ false → k .early ≡ false
 
-  module _ (q : Tables) (r : TaskRecord) where
+  module _ (q : Tables) (r : Record) where
     abbrev asked : PlannedTouch
     asked = plan pooled slots (r .call)
 
-    ending : (k₀ : Hand) (q : Tables) (task : TaskRecord) (o : Outcome) (ds : List Op) → Left k₀
+    ending : (k₀ : Hand) (q : Tables) (task : Record) (o : Outcome) (ds : List Op) → LateAfter k₀
         (record { tables = q; hand = ends task o; decides = ds; early = false })
     ending k₀ q task o ds = record { hand = tt; claim = λ e. absurd (not-both e refl); early = λ _. refl }
 
-    loads-left : (k₀ : Hand) → Left k₀ (loadsOwn pooled slots q r)
+    loads-left : (k₀ : Hand) → LateAfter k₀ (loadsOwn pooled slots q r)
     unfolding loadsOwn
     loads-left k₀ =
-        either (Left k₀) (linkSound slots (getD (links q (asked .side)) (asked .slot) 0))
+        either (LateAfter k₀) (linkSound slots (getD (links q (asked .side)) (asked .slot) 0))
         (record { hand = tt; claim = λ e. absurd (not-both e refl); early = λ _. refl })
         (ending k₀ _ _ _ _)
 
-    puts-left : (k₀ : Hand) (w : ℕ) → Left k₀ (putsOwn pooled slots q r w)
+    puts-left : (k₀ : Hand) (w : ℕ) → LateAfter k₀ (putsOwn pooled slots q r w)
     unfolding putsOwn
-    puts-left k₀ w = either (Left k₀) (isAsRead q asked w) (ending k₀ _ _ _ _) (loads-left k₀)
+    puts-left k₀ w = either (LateAfter k₀) (isAsRead q asked w) (ending k₀ _ _ _ _) (loads-left k₀)
 
-    step-left : (k₀ : Hand) → Left k₀ (stepFirst pooled slots q r)
+    step-left : (k₀ : Hand) → LateAfter k₀ (stepFirst pooled slots q r)
     unfolding stepFirst
     step-left k₀ =
-        either (Left k₀) (eqb (asked .act) 5) (loads-left k₀)
-        (either (Left k₀) (eqb (asked .act) 6) (record { hand = tt; claim = λ e. absurd (not-both e refl); early = λ _. refl })
-        (either (Left k₀) (eqb (asked .act) 9)
-        (either (Left k₀) (eqb (q .control .head) (asked .expected))
+        either (LateAfter k₀) (eqb (asked .act) 5) (loads-left k₀)
+        (either (LateAfter k₀) (eqb (asked .act) 6) (record { hand = tt; claim = λ e. absurd (not-both e refl); early = λ _. refl })
+        (either (LateAfter k₀) (eqb (asked .act) 9)
+        (either (LateAfter k₀) (eqb (q .control .head) (asked .expected))
         (record { hand = tt; claim = λ e. absurd (not-both e refl); early = λ _. refl }) (ending k₀ _ _ _ _))
         (ending k₀ _ _ _ _)))
 
-    plain-left : (k₀ : Hand) (op : Op) (why : ℕ) (call : Record) (place : ℕ) → Left k₀ (plainStart q r op why call place)
+    plain-left : (k₀ : Hand) (op : Op) (why : ℕ) (call : Call) (place : ℕ) → LateAfter k₀ (plainStart q r op why call place)
     plain-left k₀ op why call place =
-        either (Left k₀) (eqb why 0) (either (Left k₀) (late (q .control)) (ending k₀ _ _ _ _) (ending k₀ _ _ _ _)) (ending k₀ _ _ _ _)
+        either (LateAfter k₀) (eqb why 0) (either (LateAfter k₀) (late (q .control)) (ending k₀ _ _ _ _) (ending k₀ _ _ _ _)) (ending k₀ _ _ _ _)
 
-    pub tick-left : (k : Hand) → Left k (tick pooled slots q r k)
+    pub tick-left : (k : Hand) → LateAfter k (tick pooled slots q r k)
     unfolding clears
     tick-left free = record { hand = tt; claim = λ e. absurd (not-both e refl); early = λ _. refl }
     tick-left (begun (Push side slot label)) =
         let k₀ = begun (Push side slot label) in
-        subst (Left k₀) (sym (first-push q r pooled slots side slot label))
-        (either (Left k₀) (eqb (namedOwn pooled slots (r .call) side slot) 0)
-        (by-test (Left k₀) (late (q .control)) (λ e. record { hand = e; claim = λ e. absurd (not-both e refl); early = λ _. refl })
+        subst (LateAfter k₀) (sym (first-push q r pooled slots side slot label))
+        (either (LateAfter k₀) (eqb (namedOwn pooled slots (r .call) side slot) 0)
+        (by-test (LateAfter k₀) (late (q .control)) (λ e. record { hand = e; claim = λ e. absurd (not-both e refl); early = λ _. refl })
         (λ e. record { hand = tt; claim = λ _. e; early = λ _. refl }))
         (ending k₀ _ _ _ _))
-    tick-left (begun (Pop side)) = subst (Left (begun (Pop side))) (sym (first-pop q r pooled slots side))
+    tick-left (begun (Pop side)) = subst (LateAfter (begun (Pop side))) (sym (first-pop q r pooled slots side))
         (plain-left (begun (Pop side)) (Pop side) (ownRefusal pooled slots (r .call) side false false) (started 1 side 0 0) 1)
-    tick-left (begun (Put side label)) =
-        subst (Left (begun (Put side label))) (sym (first-put q r pooled slots side label))
-        (plain-left (begun (Put side label)) (Put side label) (ownRefusal pooled slots (r .call) side (not (eqb pooled 1)) false) (asking side label) 12)
+    tick-left (begun (PushPooled side label)) =
+        subst (LateAfter (begun (PushPooled side label))) (sym (first-put q r pooled slots side label))
+        (plain-left (begun (PushPooled side label)) (PushPooled side label) (ownRefusal pooled slots (r .call) side (not (eqb pooled 1)) false)
+        (asking side label) 12)
     tick-left (begun Step) = step-left (begun Step)
     tick-left (loaded w) = puts-left (loaded w) w
     tick-left (knows label) = ending (knows label) _ _ _ _
     tick-left (claims side slot label) =
         let k₀ = claims side slot label in
-        subst (Left k₀) (sym (claims-is q r side slot label))
-        (either (Left k₀) (marked (q .marks) slot)
+        subst (LateAfter k₀) (sym (claims-is q r side slot label))
+        (either (LateAfter k₀) (marked (q .marks) slot)
         (record { hand = tt; claim = λ e. absurd (not-both e refl); early = λ e. absurd (not-both refl e) })
         (record { hand = tt; claim = λ e. absurd (not-both e refl); early = λ e. absurd (not-both refl e) }))
-    tick-left (looks side slot label) = subst (Left (looks side slot label)) (sym (looks-is q r side slot label)) (ending (looks side slot label) q _ _ _)
+    tick-left (looks side slot label) = subst (LateAfter (looks side slot label)) (sym (looks-is q r side slot label)) (ending (looks side slot label) q _ _ _)
     tick-left (labels true slot label task o) = record { hand = tt; claim = λ e. absurd (not-both e refl); early = λ _. refl }
     tick-left (labels false slot label task o) = record { hand = tt; claim = λ e. absurd (not-both e refl); early = λ _. refl }
     tick-left (marks slot task o) = record { hand = tt; claim = λ e. absurd (not-both e refl); early = λ _. refl }

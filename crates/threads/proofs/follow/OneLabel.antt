@@ -8,10 +8,10 @@ use lib.Dec.{eqb}
 use lib.ListN.{getD, set}
 use lib.Seq.{getD-set-other, set-comm}
 use borrow.Author.Tests.{eqb-true}
-use Rattle.model.specs.declared.TaskRecord.{TaskRecord}
+use Rattle.model.specs.declared.Record.{Record}
 use Rattle.model.specs.declared.Outcome.{Outcome}
 use Rattle.model.specs.declared.Op.{Op}
-use Rattle.model.specs.declared.Op.the-variants.{Push, Pop, Put, Step}
+use Rattle.model.specs.declared.Op.the-variants.{Push, Pop, PushPooled, Step}
 use Rattle.model.specs.Tables.{Tables, marked, withMark, withMarks}
 use Rattle.model.specs.Sides.{links}
 use Rattle.model.specs.Sound.{linkSound}
@@ -25,7 +25,7 @@ use Rattle.threads_model.specs.Instructions.{startFirst, claimsMark, looksMark}
 use Rattle.threads.specs.Promises.{relabelled, TouchesOneLabel}
 use Rattle.threads.proofs.follow.Overlay.{overlay, both, over}
 
-module _ (pooled slots : ℕ) (q : Tables) (r : TaskRecord) (x v : ℕ) where
+module _ (pooled slots : ℕ) (q : Tables) (r : Record) (x v : ℕ) where
   abbrev l : List ℕ
   l = set (q .labels) x v
 
@@ -39,7 +39,7 @@ module _ (pooled slots : ℕ) (q : Tables) (r : TaskRecord) (x v : ℕ) where
   Same a b = b ≡ relabelled a x v
 
   -- Starts look at Anchor and a mark.
-  settles : (op : Op) (early : Bool) (t : Tables) (waiting : PlannedTouch → Hand) (done : TaskRecord → Outcome → Hand) (b : Begins)
+  settles : (op : Op) (early : Bool) (t : Tables) (waiting : PlannedTouch → Hand) (done : Record → Outcome → Hand) (b : Begins)
       → Same (settled op early t waiting done b) (settled op early (withLabels t (set (t .labels) x v)) waiting done b)
   settles op early t waiting done (touches p) = refl
   settles op early t waiting done (answers task o) = refl
@@ -99,7 +99,7 @@ module _ (pooled slots : ℕ) (q : Tables) (r : TaskRecord) (x v : ℕ) where
   ticks free ne = refl
   ticks (begun (Push side slot label)) ne = starts (Push side slot label) (names side slot label)
   ticks (begun (Pop side)) ne = starts (Pop side) (pops side)
-  ticks (begun (Put side label)) ne = starts (Put side label) (puts side label)
+  ticks (begun (PushPooled side label)) ne = starts (PushPooled side label) (puts side label)
   ticks (begun Step) ne = stepping ne
   ticks (loaded w) ne = putting w
   ticks (knows label) ne = refl

@@ -6,7 +6,7 @@ use Prim.Native.Nat.{ℕ, _<_}
 use lib.Dec.{eqb}
 use lib.ListN.{length, getD, set}
 use borrow.Author.Tests.{eqb-false}
-use Rattle.model.specs.declared.TaskRecord.{TaskRecord}
+use Rattle.model.specs.declared.Record.{Record}
 use Rattle.model.specs.Tables.{Tables, Queue, taskAt, marked}
 use Rattle.model.specs.{Sound.linkSound, Calls.Acted}
 use Rattle.model.proofs.invariant.Owners.{Owner, held}
@@ -17,7 +17,7 @@ use Rattle.threads.proofs.follow.{Overlay.overlay, Starting.namedOwn, G
 use Rattle.threads.proofs.follow.Good as own
 
 -- A push at place 1 with slot x.
-pub record Holds (r : TaskRecord) (x : ℕ) : Type 0 where
+pub record Holds (r : Record) (x : ℕ) : Type 0 where
   pub place : r .call .place ≡ 1
   pub kind : r .call .kind ≡ 0
   pub slot : r .call .own ≡ x
@@ -29,7 +29,7 @@ pub data Wrote (before : List ℕ) (a : Acted) : Type 0 where
 
 module _ (tasks pooled slots : ℕ) where
   -- What is known besides, of thread t with the record r, where l are the labels of the list.
-  abbrev pub Extra : ℕ → TaskRecord → List ℕ → Hand → Type 0
+  abbrev pub Extra : ℕ → Record → List ℕ → Hand → Type 0
   Extra t r l free = Unit {0}
   Extra t r l (begun op) = Unit {0}
   Extra t r l (loaded w) = (plan pooled slots (r .call) .act ≡ 5) × (linkSound slots w ≡ true)
@@ -88,7 +88,7 @@ module _ (tasks pooled slots : ℕ) where
     owes-label u x (claims s y l) e z o = absurd o
     owes-label u x (looks s y l) e z o = absurd o
     owes-label u x (labels both y l r p) e z o =
-        subst (λ (x : ℕ). h x ≡ held u) (sym o) (holds-held u (z .0) y (subst (λ (r : TaskRecord). Holds r y) e (z .1)))
+        subst (λ (x : ℕ). h x ≡ held u) (sym o) (holds-held u (z .0) y (subst (λ (r : Record). Holds r y) e (z .1)))
     owes-label u x (marks y r p) e z o = absurd o
     owes-label u x (ends r p) e z o = absurd o
 

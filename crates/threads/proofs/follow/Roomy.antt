@@ -14,7 +14,7 @@ use Rattle.threads_model.specs.Instructions.{Hand, free, begun, loaded, knows, 
 use Rattle.threads_model.specs.Crew.{Crew, next, withHand, ticked, go, asTurns, turnsOf}
 use Rattle.threads.proofs.lists.TagRoom.{Roomy, act-roomy, early-room, early-roomy, fewer-roomy, turn-roomy}
 use Rattle.threads.proofs.follow.Good.{Good, good-act}
-use Rattle.threads.proofs.follow.LateStays.{Left, isClaims, tick-left}
+use Rattle.threads.proofs.follow.LateStays.{LateAfter, isClaims, tick-left}
 use Rattle.threads.proofs.follow.Starting.{claims-is}
 
 -- Pushes that have passed 33 and had no turn yet.
@@ -64,7 +64,7 @@ module _ (tasks pooled slots t : ℕ) where
             (λ x. ap (λ (c : Bool). cond c false (passed m u)) x ∙ sym (ap (λ (c : Bool). isClaims (cond c (k .hand) (m .hands u))) x) ∙ e)
 
     module _ (g′ : Good tasks pooled slots q′) (control : k .tables .control ≡ q′ .tables .control) where
-      left : Left pooled slots (m .hands t) k
+      left : LateAfter pooled slots (m .hands t) k
       left = tick-left pooled slots (m .queue .tables) (taskAt (m .queue) t) (m .hands t)
 
       plainly : isClaims (m .hands t) ≡ false → Roomy (passed m′) q′

@@ -4,10 +4,10 @@ use mathlib.Core.Bool.{true, false, not, cond}
 use mathlib.Core.List.{[], _∷_}
 use Prim.Native.Nat.{ℕ}
 use lib.Dec.{eqb}
-use Rattle.model.specs.declared.{Record.Record, TaskRecord.TaskRecord, Op.Op}
+use Rattle.model.specs.declared.{Call.Call, Record.Record, Op.Op}
 use Rattle.model.specs.declared.Answer.the-variants.{Running}
 use Rattle.model.specs.declared.Outcome.the-variants.{Refused, Moved}
-use Rattle.model.specs.declared.Op.the-variants.{Push, Pop, Put}
+use Rattle.model.specs.declared.Op.the-variants.{Push, Pop, PushPooled}
 use Rattle.model.specs.Tables.{Tables, marked, withMark, withMarks, withCall, started, asking}
 use Rattle.model.specs.{Sound.from1, Refusals.late}
 use Rattle.model.proofs.tests.Truth.{split}
@@ -15,17 +15,17 @@ use Rattle.threads_model.specs.Starts.{names, pops, puts, ownRefusal, planStart
 use Rattle.threads_model.specs.Instructions.{Hand, claims, looks, labels, ends, Ticked, quiet, decided, startFirst, claimsMark, looksMark}
 
 -- A pop, or a push that names no slot: refused by its own numbers and record, refused 33, or carried out.
-abbrev pub plainStart : Tables → TaskRecord → Op → ℕ → Record → ℕ → Ticked
+abbrev pub plainStart : Tables → Record → Op → ℕ → Call → ℕ → Ticked
 plainStart q r op why call place =
     cond (eqb why 0)
     (cond (late (q .control)) (decided op q (ends r (Refused 33))) (decided op q (ends (withCall r call) (Moved (Running place)))))
     (decided op q (ends r (Refused why)))
 
-abbrev pub namedOwn : ℕ → ℕ → Record → ℕ → ℕ → ℕ
+abbrev pub namedOwn : ℕ → ℕ → Call → ℕ → ℕ → ℕ
 namedOwn pooled slots r side slot = ownRefusal pooled slots r side (eqb pooled 1) (not (from1 slots slot))
 
 -- A push that names a slot: refused by its own numbers and record, or it goes on.
-abbrev pub namedStart : ℕ → ℕ → Tables → TaskRecord → ℕ → ℕ → ℕ → Ticked
+abbrev pub namedStart : ℕ → ℕ → Tables → Record → ℕ → ℕ → ℕ → Ticked
 namedStart pooled slots q r side slot label =
     let why = namedOwn pooled slots (r .call) side slot in
     cond (eqb why 0)
@@ -36,7 +36,7 @@ namedStart pooled slots q r side slot label =
 abbrev pub passing : Op → Tables → Hand → Ticked
 passing op q k = record { tables = q; hand = k; decides = op ∷ []; early = true }
 
-module _ (q : Tables) (r : TaskRecord) where
+module _ (q : Tables) (r : Record) where
   module _ (pooled slots : ℕ) where
     pub first-pop : (side : ℕ)
         → startFirst pooled slots q r (Pop side) (pops side)
@@ -48,8 +48,8 @@ module _ (q : Tables) (r : TaskRecord) where
         (λ e. rw e)
 
     pub first-put : (side label : ℕ)
-        → startFirst pooled slots q r (Put side label) (puts side label)
-        ≡ plainStart q r (Put side label) (ownRefusal pooled slots (r .call) side (not (eqb pooled 1)) false) (asking side label) 12
+        → startFirst pooled slots q r (PushPooled side label) (puts side label)
+        ≡ plainStart q r (PushPooled side label) (ownRefusal pooled slots (r .call) side (not (eqb pooled 1)) false) (asking side label) 12
     unfolding startFirst planStart settleStart
     first-put side label =
         split (eqb (ownRefusal pooled slots (r .call) side (not (eqb pooled 1)) false) 0)

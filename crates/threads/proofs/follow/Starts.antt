@@ -5,9 +5,9 @@ use Prim.Native.Nat.{ℕ, _<_, _/_}
 use native.Mathlib.Omega.{arith}
 use lib.{Dec.eqb, ListN.length-set, Seq.getD-set-other}
 use borrow.Author.Tests.{eqb-true, eq-eqb, not-false}
-use Rattle.model.specs.declared.{Record.Record, TaskRecord.TaskRecord, Op.Op, Asked.Asked}
-use Rattle.model.specs.declared.Op.the-variants.{Push, Pop, Put}
-use Rattle.model.specs.Tables.{Tables, Queue, taskAt, recordAt, marked, withMark, withMarks, withCall, started, asking, taken}
+use Rattle.model.specs.declared.{Call.Call, Record.Record, Op.Op, Asked.Asked}
+use Rattle.model.specs.declared.Op.the-variants.{Push, Pop, PushPooled}
+use Rattle.model.specs.Tables.{Tables, Queue, taskAt, recordAt, marked, withMark, withMarks, withCall, started, asking, withTaken}
 use Rattle.model.specs.Sound.{from1}
 use Rattle.model.specs.Refusals.{among, late, namedPush, pooledPush, nothingAsked, pushRefusal}
 use Rattle.model.specs.Calls.{Acted, act, actOn, back, decide, pushStart, popStart, putStart}
@@ -31,7 +31,7 @@ use Rattle.threads.proofs.follow.Relation as R
 use Rattle.threads.proofs.follow.Relation.{Holds, Moment, Sim, none, one}
 
 -- Refusals in their order.
-module _ (own : ℕ) (q : Tables) (r : TaskRecord) (done : Acted) where
+module _ (own : ℕ) (q : Tables) (r : Record) (done : Acted) where
   abbrev refusedBy : ℕ → Acted
   refusedBy why = record { tables = q; task = r; outcome = Refused why }
 
@@ -41,15 +41,15 @@ module _ (own : ℕ) (q : Tables) (r : TaskRecord) (done : Acted) where
   decide-next : (x : ℕ) → eqb own 0 ≡ true → decide (cond (eqb own 0) x own) q r done ≡ decide x q r done
   decide-next x e = rw e
 
-  decide-taken : (taken late : Bool) → taken ≡ true → decide (cond taken 32 (cond late 33 0)) q r done ≡ refusedBy 32
-  decide-taken taken late e = rw e
+  decide-taken : (withTaken late : Bool) → withTaken ≡ true → decide (cond withTaken 32 (cond late 33 0)) q r done ≡ refusedBy 32
+  decide-taken withTaken late e = rw e
 
-  decide-late : (taken late : Bool) → late ≡ true → decide (cond taken 32 (cond late 33 0)) q r done ≡ refusedBy (cond taken 32 33)
+  decide-late : (withTaken late : Bool) → late ≡ true → decide (cond withTaken 32 (cond late 33 0)) q r done ≡ refusedBy (cond withTaken 32 33)
   decide-late true late e = refl
   decide-late false late e = rw e
 
-  decide-done : (taken late : Bool) → taken ≡ false → late ≡ false → decide (cond taken 32 (cond late 33 0)) q r done ≡ done
-  decide-done taken late e l = rw (e, l)
+  decide-done : (withTaken late : Bool) → withTaken ≡ false → late ≡ false → decide (cond withTaken 32 (cond late 33 0)) q r done ≡ done
+  decide-done withTaken late e l = rw (e, l)
 
 module _ (now : Moment) where
   abbrev tasks : ℕ
@@ -85,7 +85,7 @@ module _ (now : Moment) where
   abbrev G : Tables
   G = now .queue .tables
 
-  abbrev r : TaskRecord
+  abbrev r : Record
   r = taskAt (now .crew .queue) (now .thread)
 
   abbrev Goal : Hand → Ticked → Type 0
@@ -97,17 +97,17 @@ module _ (now : Moment) where
 
     start-is : (side : ℕ) (a : Asked) (n : ℕ)
         → ownRefusal pooled slots (recordAt q t) side (a .wrong) (a .outside) ≡ n
-        → (done : TaskRecord → Acted) (op : Op)
+        → (done : Record → Acted) (op : Op)
         → act q t op ≡ back q t (decide (own.refusal tasks pooled slots q g t lt side a) G (taskAt q t) (done (taskAt q t)))
         → act q t op ≡ back q t (decide (cond (eqb n 0) (cond (a .taken) 32 (cond (late (G .control)) 33 0)) n) G r (done r))
     start-is side a n e done op is =
         is
         ∙ ap (λ (w : ℕ). back q t (decide w G (taskAt q t) (done (taskAt q t)))) (own.start-why tasks pooled slots q g t lt side a)
         ∙ ap (λ (n : ℕ). back q t (decide (cond (eqb n 0) (cond (a .taken) 32 (cond (late (G .control)) 33 0)) n) G (taskAt q t) (done (taskAt q t)))) e
-        ∙ ap (λ (x : TaskRecord). back q t (decide (cond (eqb n 0) (cond (a .taken) 32 (cond (late (G .control)) 33 0)) n) G x (done x))) (sym (c .reads))
+        ∙ ap (λ (x : Record). back q t (decide (cond (eqb n 0) (cond (a .taken) 32 (cond (late (G .control)) 33 0)) n) G x (done x))) (sym (c .reads))
 
     -- A pop, or a push that names no slot.
-    plain-goal : (op : Op) (n : ℕ) (call : Record) (place : ℕ)
+    plain-goal : (op : Op) (n : ℕ) (call : Call) (place : ℕ)
         → act q t op ≡ back q t (decide (cond (eqb n 0) (cond false 32 (cond (late (G .control)) 33 0)) n) G r
         (record { tables = G; task = withCall r call; outcome = Moved (Running place) }))
         → Goal k₀ (plainStart T r op n call place)
@@ -128,17 +128,17 @@ module _ (now : Moment) where
         subst (Goal k₀) (sym (first-pop T r pooled slots side))
         (plain-goal (Pop side) (ownRefusal pooled slots (r .call) side false false) (started 1 side 0 0) 1
         (start-is side nothingAsked (ownRefusal pooled slots (r .call) side false false)
-        (ap (λ (x : TaskRecord). ownRefusal pooled slots (x .call) side false false) (sym (c .reads)))
-        (λ (x : TaskRecord). record { tables = G; task = withCall x (started 1 side 0 0); outcome = Moved (Running 1) }) (Pop side) refl))
+        (ap (λ (x : Record). ownRefusal pooled slots (x .call) side false false) (sym (c .reads)))
+        (λ (x : Record). record { tables = G; task = withCall x (started 1 side 0 0); outcome = Moved (Running 1) }) (Pop side) refl))
 
-    pub put-goal : (side label : ℕ) → Goal k₀ (startFirst pooled slots T r (Put side label) (puts side label))
+    pub put-goal : (side label : ℕ) → Goal k₀ (startFirst pooled slots T r (PushPooled side label) (puts side label))
     unfolding act actOn putStart
     put-goal side label =
         subst (Goal k₀) (sym (first-put T r pooled slots side label))
-        (plain-goal (Put side label) (ownRefusal pooled slots (r .call) side (not (eqb pooled 1)) false) (asking side label) 12
+        (plain-goal (PushPooled side label) (ownRefusal pooled slots (r .call) side (not (eqb pooled 1)) false) (asking side label) 12
         (start-is side (pooledPush G) (ownRefusal pooled slots (r .call) side (not (eqb pooled 1)) false)
         (λ i. ownRefusal pooled slots (sym (c .reads) i .call) side (not (eqb (g .pool i) 1)) false)
-        (λ (x : TaskRecord). record { tables = G; task = withCall x (asking side label); outcome = Moved (Running 12) }) (Put side label) refl))
+        (λ (x : Record). record { tables = G; task = withCall x (asking side label); outcome = Moved (Running 12) }) (PushPooled side label) refl))
 
     -- A push that names a slot.
     module _ (side slot label : ℕ) where
@@ -148,8 +148,8 @@ module _ (now : Moment) where
       abbrev n : ℕ
       n = namedOwn pooled slots (r .call) side slot
 
-      abbrev pushed : TaskRecord → Acted
-      pushed x = record { tables = taken G slot label; task = withCall x (started 0 side slot label); outcome = Moved (Running 1) }
+      abbrev pushed : Record → Acted
+      pushed x = record { tables = withTaken G slot label; task = withCall x (started 0 side slot label); outcome = Moved (Running 1) }
 
       abbrev x : ℕ
       x = cond (marked (G .marks) slot) 32 (cond (late (G .control)) 33 0)
@@ -207,7 +207,7 @@ module _ (now : Moment) where
         turn-done b = split (late (G .control))
             (λ l. let why : pushRefusal G (among q t) (recordAt q t) side slot ≡ 33 = why-is ∙ (λ i. cond (b i) 32 (cond (l i) 33 0)) in
             ap (λ (w : ℕ). cond (eqb w 33) (back q t (pushed (taskAt q t))) (act q t op)) why
-            ∙ ap (λ (y : TaskRecord). back q t (pushed y)) (sym (c .reads)))
+            ∙ ap (λ (y : Record). back q t (pushed y)) (sym (c .reads)))
             (λ l. let why : pushRefusal G (among q t) (recordAt q t) side slot ≡ 0 = why-is ∙ (λ i. cond (b i) 32 (cond (l i) 33 0)) in
             ap (λ (w : ℕ). cond (eqb w 33) (back q t (pushed (taskAt q t))) (act q t op)) why
             ∙ to-next ∙ ap (back q t) (decide-done n G r (pushed r) (marked (G .marks) slot) (late (G .control)) b l))

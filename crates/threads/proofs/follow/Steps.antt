@@ -7,9 +7,9 @@ use native.Mathlib.Omega.{arith}
 use lib.{Dec.eqb, Seq.getD-set-other}
 use lib.ListN.{length, getD, length-set}
 use borrow.Author.Tests.{eqb-true}
-use Rattle.model.specs.declared.{Control.Control, TaskRecord.TaskRecord}
+use Rattle.model.specs.declared.{Control.Control, Record.Record}
 use Rattle.model.specs.declared.Op.the-variants.{Step}
-use Rattle.model.specs.Tables.{Tables, Queue, taskAt, recordAt, marked, linked, withMark, withMarks, withHead, taken}
+use Rattle.model.specs.Tables.{Tables, Queue, taskAt, recordAt, marked, linked, withMark, withMarks, withHead, withTaken}
 use Rattle.model.specs.{Places.row, Sides.links, Sound.linkSound}
 use Rattle.word.specs.Link.{linkOf, packLink}
 use Rattle.model.specs.Calls.{Acted, act, back}
@@ -66,7 +66,7 @@ module _ (now : Moment) where
   abbrev G : Tables
   G = now .queue .tables
 
-  abbrev r : TaskRecord
+  abbrev r : Record
   r = taskAt (now .crew .queue) (now .thread)
 
   abbrev h : ℕ → Owner
@@ -82,7 +82,7 @@ module _ (now : Moment) where
     abbrev stepped : Touched → Acted
     stepped d = record { tables = d .tables; task = settle pooled slots r (d .found) .task; outcome = settle pooled slots r (d .found) .outcome }
 
-    abbrev splitAt : ℕ → ℕ → TaskRecord → Acted
+    abbrev splitAt : ℕ → ℕ → Record → Acted
     splitAt pooled slots r =
         let d = perform G (plan pooled slots (r .call)) in
         let s = settle pooled slots r (d .found) in
@@ -120,7 +120,7 @@ module _ (now : Moment) where
 
     -- 14: the swap of the head decides; the label and the mark are owed.
     abbrev drawn : Tables
-    drawn = taken (withHead G (p .word)) (p .slot) (p .label)
+    drawn = withTaken (withHead G (p .word)) (p .slot) (p .label)
 
     abbrev head : ℕ
     head = T .control .head
@@ -149,13 +149,13 @@ module _ (now : Moment) where
     swap-done nine e =
         let n = says pooled slots (r .call) .nine nine in
         let k = labels true (p .slot) (p .label) (s .task) (s .outcome) in
-        let at14 : recordAt q t .place ≡ 14 = ap (λ (r : TaskRecord). r .call .place) (sym (c .reads)) ∙ n .place in
-        let push : r .call .kind ≡ 0 = ap (λ (r : TaskRecord). r .call .kind) (c .reads) ∙ own.push14 tasks pooled slots q g t lt at14 in
+        let at14 : recordAt q t .place ≡ 14 = ap (λ (r : Record). r .call .place) (sym (c .reads)) ∙ n .place in
+        let push : r .call .kind ≡ 0 = ap (λ (r : Record). r .call .kind) (c .reads) ∙ own.push14 tasks pooled slots q g t lt at14 in
         let is-drawn = settle14 pooled slots r nine push head (eqb-true _ _ e) in
         let holds : Holds (s .task) (p .slot) = record {
-          place = ap (λ (r : TaskRecord). r .call .place) is-drawn;
-          kind = ap (λ (r : TaskRecord). r .call .kind) is-drawn ∙ push;
-          slot = ap (λ (r : TaskRecord). r .call .own) is-drawn ∙ sym (n .slot);
+          place = ap (λ (r : Record). r .call .place) is-drawn;
+          kind = ap (λ (r : Record). r .call .kind) is-drawn ∙ push;
+          slot = ap (λ (r : Record). r .call .own) is-drawn ∙ sym (n .slot);
         } in
         let room = own.mark-room tasks pooled slots q g (p .slot) (row-within (ap onRow nine)) in
         I.deciding now Step (record { tables = drawn; task = s .task; outcome = s .outcome }) (swap-is nine true e) k₀ (c .owes) (c .tells) (c .writes)
@@ -172,7 +172,7 @@ module _ (now : Moment) where
           extra = (
             lt,
             holds,
-            ap (λ (r : TaskRecord). r .call .label) is-drawn ∙ sym (n .label),
+            ap (λ (r : Record). r .call .label) is-drawn ∙ sym (n .label),
             λ _. own.pool14 tasks pooled slots q g t lt at14,
           );
           owes = refl;
@@ -182,9 +182,9 @@ module _ (now : Moment) where
     reads-label : p .act ≡ 6 → Goal k₀ (quiet T (knows (getD (T .labels) (p .slot) 0)))
     reads-label six =
         let n = says pooled slots (r .call) .six six in
-        let at11 : recordAt q t .place ≡ 11 = ap (λ (r : TaskRecord). r .call .place) (sym (c .reads)) ∙ n .place in
+        let at11 : recordAt q t .place ≡ 11 = ap (λ (r : Record). r .call .place) (sym (c .reads)) ∙ n .place in
         let mine : h (p .slot) ≡ held t =
-        subst (λ (x : ℕ). h x ≡ held t) (sym (n .slot ∙ ap (λ (r : TaskRecord). row (r .call)) (c .reads))) (own.own11 tasks pooled slots q g t lt at11) in
+        subst (λ (x : ℕ). h x ≡ held t) (sym (n .slot ∙ ap (λ (r : Record). row (r .call)) (c .reads))) (own.own11 tasks pooled slots q g t lt at11) in
         C.waits now k₀ c (knows (getD (T .labels) (p .slot) 0)) refl refl (
           lt,
           six,

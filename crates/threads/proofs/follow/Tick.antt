@@ -8,13 +8,13 @@ use lib.Dec.{eqb}
 use lib.ListN.{length, getD, set, length-set}
 use lib.Seq.{getD-set-same, getD-set-other}
 use borrow.Author.Tests.{eqb-true, eqb-false}
-use Rattle.model.specs.declared.{TaskRecord.TaskRecord, Outcome.Outcome}
-use Rattle.model.specs.declared.Op.the-variants.{Push, Pop, Put, Step}
+use Rattle.model.specs.declared.{Record.Record, Outcome.Outcome}
+use Rattle.model.specs.declared.Op.the-variants.{Push, Pop, PushPooled, Step}
 use Rattle.model.specs.Tables.{Tables, Queue, taskAt, marked, withMark, withMarks, started}
 use Rattle.model.proofs.tests.Truth.{split, not-both}
 use Rattle.model.proofs.bridge.Marks.{marked-same, marked-other}
 use Rattle.threads_model.specs.Instructions.{Hand, free, begun, loaded, knows, claims, looks, labels, marks, ends, Ticked, quiet}
-use Rattle.threads_model.specs.Instructions.{withLabels, tick, written, tells}
+use Rattle.threads_model.specs.Instructions.{withLabels, tick, written, toldAtEnd}
 use Rattle.threads_model.specs.Crew.{Crew, owed}
 use Rattle.threads.specs.Promises.{recordOf, OwesLabel, OwesMark}
 use Rattle.threads.proofs.follow.{LateStays.Late, Good.Good}
@@ -60,7 +60,7 @@ module _ (now : Moment) where
   abbrev G : Tables
   G = now .queue .tables
 
-  abbrev r : TaskRecord
+  abbrev r : Record
   r = taskAt (now .crew .queue) (now .thread)
 
   abbrev Goal : Hand → Ticked → Type 0
@@ -72,9 +72,9 @@ module _ (now : Moment) where
   known-of : (k₀ : Hand) → m .hands t ≡ k₀ → Extra tasks pooled slots t r (G .labels) k₀
   known-of k₀ at = subst (λ (k : Hand). Extra tasks pooled slots t r (G .labels) k) at (f .extra t)
 
-  module _ (slot : ℕ) (task : TaskRecord) (o : Outcome) (same : task ≡ taskAt q t) (holds : Holds task slot) where
+  module _ (slot : ℕ) (task : Record) (o : Outcome) (same : task ≡ taskAt q t) (holds : Holds task slot) where
     held-here : Holds (taskAt q t) slot
-    held-here = subst (λ (x : TaskRecord). Holds x slot) same holds
+    held-here = subst (λ (x : Record). Holds x slot) same holds
 
     le : slot ≤ slots
     le = own.within tasks pooled slots q g t lt slot (R.holds-held tasks pooled slots m q f g t lt slot held-here) .1
@@ -83,7 +83,7 @@ module _ (now : Moment) where
     label-there =
         ap (λ (x : ℕ). getD (G .labels) x 0) (sym (held-here .slot))
         ∙ own.own1 tasks pooled slots q g t lt (held-here .place) (held-here .kind) .1
-        ∙ ap (λ (x : TaskRecord). x .call .label) (sym same)
+        ∙ ap (λ (x : Record). x .call .label) (sym same)
 
     mark-there : marked (G .marks) slot ≡ true
     mark-there = ap (marked (G .marks)) (sym (held-here .slot)) ∙ own.marked1 tasks pooled slots q g t lt (held-here .place) (held-here .kind)
@@ -134,7 +134,7 @@ module _ (now : Moment) where
         })
 
   -- The tables stay, and nothing is owed of them.
-  settles : (k₀ : Hand) → m .hands t ≡ k₀ → ((x : ℕ) → OwesLabel k₀ x → ⊥) → ((x : ℕ) → OwesMark k₀ x → ⊥) → owed k₀ ≡ tells k₀ ++ []
+  settles : (k₀ : Hand) → m .hands t ≡ k₀ → ((x : ℕ) → OwesLabel k₀ x → ⊥) → ((x : ℕ) → OwesMark k₀ x → ⊥) → owed k₀ ≡ toldAtEnd k₀ ++ []
       → written k₀ r ≡ taskAt q t → Goal k₀ (quiet T free)
   settles k₀ at nl nm o w = I.quietly now k₀ T free o (record {
     rest = f .rest;
@@ -167,8 +167,8 @@ module _ (now : Moment) where
       side slot label
   tick-goal (begun (Pop side)) at y w = B.pop-goal now (begun (Pop side))
       (record { at = at; owes = refl; tells = refl; writes = refl; reads = as-listed (begun (Pop side)) at; labels = λ x z. z; marks = λ x z. z }) side
-  tick-goal (begun (Put side label)) at y w = B.put-goal now (begun (Put side label))
-      (record { at = at; owes = refl; tells = refl; writes = refl; reads = as-listed (begun (Put side label)) at; labels = λ x z. z; marks = λ x z. z })
+  tick-goal (begun (PushPooled side label)) at y w = B.put-goal now (begun (PushPooled side label))
+      (record { at = at; owes = refl; tells = refl; writes = refl; reads = as-listed (begun (PushPooled side label)) at; labels = λ x z. z; marks = λ x z. z })
       side label
   tick-goal (begun Step) at y w = S.step-goal now (begun Step)
       (record { at = at; owes = refl; tells = refl; writes = refl; reads = as-listed (begun Step) at; labels = λ x z. z; marks = λ x z. z })

@@ -10,8 +10,8 @@ use borrow.Author.Tests.{eqb-true, eqb-false, leb-true, not-false, not-true}
 use Rattle.model.specs.declared.Answer.the-variants.{Running}
 use Rattle.model.specs.declared.Outcome.the-variants.{Moved}
 use Rattle.model.specs.declared.Op.{Op}
-use Rattle.model.specs.declared.Op.the-variants.{Push, Pop, Put, Step}
-use Rattle.model.specs.Tables.{Tables, Queue, isPooled, marked, putBit, recordAt, taskAt, taken, withCall, started}
+use Rattle.model.specs.declared.Op.the-variants.{Push, Pop, PushPooled, Step}
+use Rattle.model.specs.Tables.{Tables, Queue, isPooled, marked, putBit, recordAt, taskAt, withTaken, withCall, started}
 use Rattle.model.specs.Sound.{from1, controlSound, recordSound, rowsFit}
 use Rattle.model.specs.Refusals.{Rule, rule, first, among, fits, isBusy, late, namedPush, pushRefusal, startRefusal, startRules}
 use Rattle.model.specs.Calls.{Acted, Done, act, back}
@@ -87,7 +87,7 @@ module _ (q : Queue) (t side slot : ℕ) where
 
   -- What it leaves.
   abbrev pub pushed : ℕ → Acted
-  pushed label = record { tables = taken G slot label; task = withCall (taskAt q t) (started 0 side slot label); outcome = Moved (Running 1) }
+  pushed label = record { tables = withTaken G slot label; task = withCall (taskAt q t) (started 0 side slot label); outcome = Moved (Running 1) }
 
   pub early-fits : (label : ℕ) → sizes.fits (back q t (pushed label) .queue) ≡ sizes.fits q
   unfolding rowsFit
@@ -114,7 +114,7 @@ module _ (n : ℕ) (q : Queue) (l : Ledger) (g : Matched n q l) (t : ℕ) where
       push-good n q l g t (w .lies) (w .free) side slot label (w .real) (w .within) (w .named) (w .unmarked))
       (λ _. act-good n q l g t (Push side slot label))
   early-good (Pop side) = act-good n q l g t (Pop side)
-  early-good (Put side label) = act-good n q l g t (Put side label)
+  early-good (PushPooled side label) = act-good n q l g t (PushPooled side label)
   early-good Step = act-good n q l g t Step
 
   pub take-good : (o : Op) (early : Bool)
@@ -143,7 +143,7 @@ module _ (q : Queue) (t : ℕ) (l : late (q .tables .control) ≡ false) where
       by-test (λ (d : Done). d ≡ act q t (Push side slot label)) (eqb (pushRefusal (q .tables) (among q t) (recordAt q t) side slot) 33)
       (λ e. absurd (not-33 side slot (eqb-true _ _ e))) (λ _. refl)
   as-ever (Pop side) = refl
-  as-ever (Put side label) = refl
+  as-ever (PushPooled side label) = refl
   as-ever Step = refl
 
 pub early-as-ever : EarlyAsEver

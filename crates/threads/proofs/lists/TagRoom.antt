@@ -8,8 +8,8 @@ use native.Mathlib.Omega.{arith}
 use lib.Dec.{eqb}
 use borrow.Author.Tests.{eqb-true, eq-eqb, ne-eqb, ltb-false}
 use Rattle.word.specs.Anchor.{anchorOf}
-use Rattle.model.specs.declared.{Record.Record, TaskRecord.TaskRecord, Op.Op}
-use Rattle.model.specs.declared.Op.the-variants.{Push, Pop, Put, Step}
+use Rattle.model.specs.declared.{Call.Call, Record.Record, Op.Op}
+use Rattle.model.specs.declared.Op.the-variants.{Push, Pop, PushPooled, Step}
 use Rattle.model.specs.declared.Outcome.the-variants.{Refused}
 use Rattle.model.specs.Tables.{Tables, Queue, recordAt, started, taskAt, unused, withCall}
 use Rattle.model.specs.{Sound.controlSound, History.Ledger}
@@ -27,10 +27,10 @@ use Rattle.model.proofs.bridge.{Decoded.seenMove, Facts.control-fine, Stores.to
 use Rattle.model.proofs.bridge.Operations.{put-back, state-is, task-of}
 use Rattle.model.proofs.bridge.View.{recOf, stateOf, view}
 use Rattle.model.proofs.ledger.Matched.{Matched}
-use Rattle.model.proofs.tags.AnchorTag.{Light, cost-small, unsettled-small}
+use Rattle.model.proofs.tags.AnchorTag.{WeightKept, cost-small, unsettled-small}
 use Rattle.model.proofs.tags.Sum.{total, total-keep, total-le, total-upd}
 use Rattle.model.proofs.unsound.{Safe.Safe, StartSafe.Room}
-use Rattle.model.proofs.unsound.StepSound.{lighter, seen, stepping}
+use Rattle.model.proofs.unsound.StepSound.{weight-kept, seen, stepping}
 use Rattle.threads_model.specs.Turns.{actEarly, take}
 use Rattle.threads.proofs.lists.EarlyPush.{pushed, waited}
 
@@ -86,16 +86,16 @@ module _ (n : ℕ) (q : Queue) (l : Ledger) (g : Matched n q l) (s : Safe q) (t 
   After a = Roomy early (back q t a .queue)
 
   refused : (why : ℕ) → After (record { tables = G; task = taskAt q t; outcome = Refused why })
-  refused why = subst (λ (x : List TaskRecord). Roomy early (record { tables = G; records = x })) (sym (set-back (q .records) t unused)) r
+  refused why = subst (λ (x : List Record). Roomy early (record { tables = G; records = x })) (sym (set-back (q .records) t unused)) r
 
   module _ (z : Lies q t) (busy : recordAt q t .place ≢ 0) where
     abbrev m : M.Move
     m = seenMove G (recordAt q t)
 
-    light : Light (view G) (stateOf q .task t) m
+    light : WeightKept (view G) (stateOf q .task t) m
     light =
-        subst (λ (x : M.Rec). Light (view G) x m) (sym (task-of q t (z .known)))
-        (subst (Light (view G) (recOf (recordAt q t))) (seen n q l g s t z busy) (lighter n q l g s t z busy))
+        subst (λ (x : M.Rec). WeightKept (view G) x m) (sym (task-of q t (z .known)))
+        (subst (WeightKept (view G) (recOf (recordAt q t))) (seen n q l g s t z busy) (weight-kept n q l g s t z busy))
 
     swaps : total (debt early (upd (stateOf q .task) t (m .rec))) (G .control .tasks) + cost (stateOf q .task t)
         ≡ total (debt early (stateOf q .task)) (G .control .tasks) + cost (m .rec)
@@ -124,7 +124,7 @@ module _ (n : ℕ) (q : Queue) (l : Ledger) (g : Matched n q l) (s : Safe q) (t 
   act-roomy (Pop side) = by-test After (eqb (popRefusal G (among q t) (recordAt q t) side) 0)
       (λ e. early-roomy early _ (s .control) (pop-accepted q t side (eqb-true _ _ e) .early))
       (λ _. refused (popRefusal G (among q t) (recordAt q t) side))
-  act-roomy (Put side y) = by-test After (eqb (putRefusal G (among q t) (recordAt q t) side) 0)
+  act-roomy (PushPooled side y) = by-test After (eqb (putRefusal G (among q t) (recordAt q t) side) 0)
       (λ e. early-roomy early _ (s .control) (put-accepted q t side (eqb-true _ _ e) .0 .early))
       (λ _. refused (putRefusal G (among q t) (recordAt q t) side))
   act-roomy Step = by-test After (eqb (stepRefusal G (among q t) (recordAt q t)) 0)
@@ -144,7 +144,7 @@ module _ (q : Queue) (s : Safe q) (t : ℕ) (early : ℕ → Bool) (has : early 
   not-self : without t ≡ false
   not-self = ap (λ (b : Bool). cond b false (early t)) (eq-eqb t t refl)
 
-  new-debt : (new : Record) (u : ℕ) → debt without (upd (stateOf q .task) t (recOf new)) u ≤ debt early (stateOf q .task) u
+  new-debt : (new : Call) (u : ℕ) → debt without (upd (stateOf q .task) t (recOf new)) u ≤ debt early (stateOf q .task) u
   new-debt new u = go (decide-eq u t)
     where
       go : (u ≡ t) ⊎ (u ≢ t) → debt without (upd (stateOf q .task) t (recOf new)) u ≤ debt early (stateOf q .task) u
@@ -159,13 +159,13 @@ module _ (q : Queue) (s : Safe q) (t : ℕ) (early : ℕ → Bool) (has : early 
           (λ i. cond (a i) 2 (cost (upd-other (stateOf q .task) t (recOf new) u e i))) in
           omega (arith, b)
 
-  early-debts : (new : Record) → weight (view (q .tables)) + total (debt without (upd (stateOf q .task) t (recOf new))) (q .tables .control .tasks) ≤ 4294967295
+  early-debts : (new : Call) → weight (view (q .tables)) + total (debt without (upd (stateOf q .task) t (recOf new))) (q .tables .control .tasks) ≤ 4294967295
   unfolding stateOf
   early-debts new =
       let le = total-keep (debt without (upd (stateOf q .task) t (recOf new))) (debt early (stateOf q .task)) (q .tables .control .tasks) (new-debt new) in
       omega (arith, le, r)
 
-  pub early-room : (new : Record) → Room q t new
+  pub early-room : (new : Call) → Room q t new
   early-room new =
       let f = upd (stateOf q .task) t (recOf new) in
       let le = total-keep (λ u. cost (f u)) (debt without f) (q .tables .control .tasks)

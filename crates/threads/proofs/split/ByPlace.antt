@@ -7,7 +7,7 @@ use lib.Dec.{eqb, leb}
 use lib.ListN.{getD}
 use borrow.Author.Tests.{eqb-true, eqb-false}
 use Rattle.word.specs.Anchor.{anchorOf}
-use Rattle.model.specs.declared.{Control.Control, Record.Record}
+use Rattle.model.specs.declared.{Control.Control, Call.Call}
 use Rattle.model.specs.Tables.{Tables, isPooled, atPlace, withOwn}
 use Rattle.model.specs.Sound.{from1, anchorSound, linkSound}
 use Rattle.model.specs.Places.{row, noneLeft, raised, move, at12, at13, at14, at15, at16, at17}
@@ -28,7 +28,7 @@ module _ (q : Tables) (k : ℕ) where
   abbrev c′ : ℕ → Control
   c′ w = knowing (c .pooled) (c .slots) w w
 
-  module _ (sound : anchorSound (c .slots) (anchorOf (c .anchor)) ≡ true) (r : Record) where
+  module _ (sound : anchorSound (c .slots) (anchorOf (c .anchor)) ≡ true) (r : Call) where
     split11 : E.Splits q k (atPlace r 11)
     unfolding loads perform meetsAnchor settledAt gone stepAt stepSound finish
     split11 =
@@ -68,7 +68,7 @@ module _ (q : Tables) (k : ℕ) where
     split14 : E.Splits q k (atPlace r 14)
     unfolding loads perform meetsAnchor settledAt stepAt stepSound move at14
     split14 =
-        let s : Record = atPlace r 14 in
+        let s : Call = atPlace r 14 in
         E.by-touch q k sound r 14 (touches.touch14 r (c .pooled) (c .slots))
         (change-splits q k s (touches.draw14 r) (withOwn s (row s) (r .label)) s 1 (c .head) (r .link)
         (drawsSlot (r .link) (raised s (r .neighbour)) (row s) (r .label)) loadsHead refl refl
@@ -96,7 +96,7 @@ module _ (q : Tables) (k : ℕ) where
     split17 : E.Splits q k (atPlace r 17)
     unfolding loads perform meetsAnchor settledAt stepAt stepSound move at17
     split17 =
-        let s : Record = atPlace r 17 in
+        let s : Call = atPlace r 17 in
         E.by-touch q k sound r 17 (touches.touch17 r (c .pooled) (c .slots))
         (change-splits q k s (touches.swap17 r) s s 1 (c .head) (r .link) (swapsHead (r .link) (raised s (r .own))) loadsHead refl refl
         refl refl refl refl)

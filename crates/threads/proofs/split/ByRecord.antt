@@ -4,14 +4,14 @@ use mathlib.Core.{Bool.true, List.[]}
 use Prim.Native.Nat.{ℕ, _≤_}
 use lib.Dec.{eqb}
 use borrow.Author.Tests.{eq-eqb, ne-eqb}
-use Rattle.model.specs.declared.Record.{Record}
+use Rattle.model.specs.declared.Call.{Call}
 use Rattle.model.specs.Tables.{tablesOf, atPlace, counting}
 use Rattle.model.specs.{Sound.recordSound, Refusals.recordRefusal}
 use Rattle.engine.proofs.InParts.{placed, below-18}
 use Rattle.threads_model.specs.declared.PlannedTouch.{PlannedTouch}
 use Rattle.threads_model.specs.Split.{knowing, refuses, planned, plan}
 
-module _ (pooled slots : ℕ) (r : Record) where
+module _ (pooled slots : ℕ) (r : Call) where
   abbrev why : ℕ
   why = recordRefusal (eqb pooled 1) slots r
 

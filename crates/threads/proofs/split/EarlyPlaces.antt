@@ -5,7 +5,7 @@ use Prim.Native.Nat.{ℕ, _+_}
 use lib.{Dec.eqb, ListN.getD}
 use Rattle.word.specs.Anchor.{anchorOf}
 use Rattle.word.specs.Link.{linkOf, packLink}
-use Rattle.model.specs.declared.{Control.Control, Record.Record}
+use Rattle.model.specs.declared.{Control.Control, Call.Call}
 use Rattle.model.specs.Tables.{Tables, atPlace, withSeen, withNeighbour, counting}
 use Rattle.model.specs.Sides.{links}
 use Rattle.model.specs.Kinds.{isPush, isPop}
@@ -28,13 +28,13 @@ module _ (q : Tables) (k : ℕ) where
   abbrev pub c : Control
   c = q .control
 
-  abbrev pub split-with : Record → PlannedTouch → Acted
+  abbrev pub split-with : Call → PlannedTouch → Acted
   split-with r p = settled-with q k r (perform q p .tables) (perform q p .found)
 
-  abbrev pub Splits : Record → Type 0
+  abbrev pub Splits : Call → Type 0
   Splits r = split-with r (planned (c .pooled) (c .slots) r) ≡ stepAt (r .place) q r k
 
-  module _ (sound : anchorSound (c .slots) (anchorOf (c .anchor)) ≡ true) (r : Record) where
+  module _ (sound : anchorSound (c .slots) (anchorOf (c .anchor)) ≡ true) (r : Call) where
     -- The plan by its touch.
     pub by-touch : (n : ℕ) {t : Touch} → touchAsRead (c .pooled) (c .slots) (atPlace r n) ≡ t
         → split-with (atPlace r n) (planFor (c .slots) (atPlace r n) t) ≡ stepAt n q (atPlace r n) k → Splits (atPlace r n)
@@ -75,13 +75,13 @@ module _ (q : Tables) (k : ℕ) where
     done2 = quiet 2 0 refl refl
 
     -- A change of Anchor that fails at 2 or 4 takes the word found as its reading.
-    abbrev reread : ℕ → Record
+    abbrev reread : ℕ → Call
     reread n = withSeen (atPlace r n) (c .anchor) (r .finishing)
 
     pub split2 : Splits (atPlace r 2)
     unfolding loads perform meetsAnchor settledAt stepAt stepSound move at2
     split2 =
-        let s : Record = atPlace r 2 in
+        let s : Call = atPlace r 2 in
         let w = touches.new2 r in
         by-touch 2 (touches.touch2 r (c .pooled) (c .slots))
         (change-splits q k s (setAnchor w) s (reread 2) (seen + 1) (c .anchor) (r .seen) (swapsAnchor (r .seen) w) loadsAnchor refl refl
@@ -108,7 +108,7 @@ module _ (q : Tables) (k : ℕ) where
         → split-with (atPlace r 3) (cond (not (from1 (c .slots) (row (atPlace r 3)))) (refuses 34) p) ≡ stepAt 3 q (atPlace r 3) k
     unfolding meetsAnchor settledAt stepAt stepSound move at3
     split3-as push e p finds left =
-        let s : Record = atPlace r 3 in
+        let s : Call = atPlace r 3 in
         let there = from1 (c .slots) (row s) in
         row-splits q k s p (met 3) (way3 push) there (fine3 push) _ _ finds left refl refl
         (ap (λ (b : Bool). cond (there && fine3 b) (gone (counting s k) (met 3) (way3 b)) (refusing (counting s k) 34)) e)
@@ -118,7 +118,7 @@ module _ (q : Tables) (k : ℕ) where
     pub split3 : Splits (atPlace r 3)
     unfolding loads perform
     split3 =
-        let s : Record = atPlace r 3 in
+        let s : Call = atPlace r 3 in
         split (eqb (r .kind) 0)
         (λ e. by-touch 3 (touches.touch3 r (c .pooled) (c .slots) e)
         (split3-as true e (putsLink (linkSide s) (row s) (endSeen s)) refl (one (linkSound (c .slots) (met 3)) _ _)))
@@ -132,7 +132,7 @@ module _ (q : Tables) (k : ℕ) where
     pub split4 : Splits (atPlace r 4)
     unfolding loads perform meetsAnchor settledAt stepAt stepSound move at4
     split4 =
-        let s : Record = atPlace r 4 in
+        let s : Call = atPlace r 4 in
         let w = new4 s in
         by-touch 4 (touches.touch4 r (c .pooled) (c .slots))
         (change-splits q k s (setAnchor w) (cond (isPush r) (withSeen s w 1) s) (reread 4) (seen + 1) (c .anchor) (r .seen)
@@ -188,7 +188,7 @@ module _ (q : Tables) (k : ℕ) where
     pub split9 : Splits (atPlace r 9)
     unfolding loads perform meetsAnchor settledAt stepAt stepSound move at9
     split9 =
-        let s : Record = atPlace r 9 in
+        let s : Call = atPlace r 9 in
         let w : ℕ = packLink (record { tag = linkOf (r .link) .tag + 1; slot = endSeen s }) in
         by-touch 9 (touches.touch9 r (c .pooled) (c .slots))
         (row-change-splits q k s (touches.swap9 r) s s 1 (met 9) (r .link)
@@ -202,7 +202,7 @@ module _ (q : Tables) (k : ℕ) where
     pub split10 : Splits (atPlace r 10)
     unfolding loads perform meetsAnchor settledAt stepAt stepSound move at10
     split10 =
-        let s : Record = atPlace r 10 in
+        let s : Call = atPlace r 10 in
         let w = touches.new10 r in
         by-touch 10 (touches.touch10 r (c .pooled) (c .slots))
         (change-splits q k s (setAnchor w) s s 1 (c .anchor) (r .seen) (swapsAnchor (r .seen) w) loadsAnchor refl refl

@@ -5,7 +5,7 @@ use Prim.Native.Nat.{ℕ, _+_, _/_, _^_}
 use lib.Dec.{eqb, ltb}
 use Rattle.word.specs.Anchor.{anchorOf, packAnchor}
 use Rattle.word.specs.Link.{linkOf, packLink}
-use Rattle.model.specs.declared.Record.{Record}
+use Rattle.model.specs.declared.Call.{Call}
 use Rattle.model.specs.{Tables.atPlace, Sound.from1}
 use Rattle.model.specs.Sides.{far, facing, pushing}
 use Rattle.model.specs.Places.{Touch, nothing, setAnchor, row, sideOf, linkSide, new4, move, at1, at2, at3, at4, at5, at6, at7, at9, at10, at11, at12}
@@ -21,7 +21,7 @@ mirror : (b : Bool) → eqb (cond b 1 0) 1 ≡ b
 mirror true = refl
 mirror false = refl
 
-module _ (pooled slots : ℕ) (r : Record) where
+module _ (pooled slots : ℕ) (r : Call) where
   abbrev pub own : Bool
   own = eqb (r .side) 1
 

@@ -4,7 +4,7 @@ use mathlib.Core.Bool.{Bool, true, false, _&&_, not, cond}
 use Prim.Native.Nat.{ℕ}
 use lib.Dec.{eqb}
 use Rattle.word.specs.Anchor.{anchorOf}
-use Rattle.model.specs.declared.{Control.Control, Record.Record, TaskRecord.TaskRecord, Entry.Entry, Answer.Answer}
+use Rattle.model.specs.declared.{Control.Control, Call.Call, Record.Record, Entry.Entry, Answer.Answer}
 use Rattle.model.specs.declared.Outcome.the-variants.{Moved}
 use Rattle.model.specs.Tables.{Tables, counting}
 use Rattle.model.specs.Sound.{anchorSound}
@@ -26,7 +26,7 @@ hush n f e e′ h =
     (λ l. split (eqb f 1) (λ g. simp (l, g)) (λ g. simp (l, g)))
     (λ l. simp (l, h))
 
-pub told : (q : Tables) (r : TaskRecord) {a b : Answer} → a ≡ b
+pub told : (q : Tables) (r : Record) {a b : Answer} → a ≡ b
     → _≡_ {A = Acted} (record { tables = q; task = r; outcome = Moved a }) (record { tables = q; task = r; outcome = Moved b })
 told q r e = ap (λ (a : Answer). record { tables = q; task = r; outcome = Moved a }) e
 
@@ -56,31 +56,31 @@ module _ (q : Tables) (k : ℕ) where
   c = q .control
 
   -- The settlement of a record at its place once it has found w.
-  abbrev settlement : Record → ℕ → Settled
+  abbrev settlement : Call → ℕ → Settled
   settlement r w = settledAt (r .place) (knowing (c .pooled) (c .slots) w w) r w k
 
-  abbrev refused : Record → Settled
+  abbrev refused : Call → Settled
   refused r = refusing (counting r k) 34
 
   -- Past what is asked of the record: with the tables that the touch has left and the word that it has found.
-  abbrev pub settled-with : Record → Tables → ℕ → Acted
+  abbrev pub settled-with : Call → Tables → ℕ → Acted
   settled-with r q′ w = leaving q′ (cond (meetsAnchor r && not (anchorSound (c .slots) (anchorOf w))) (refused r) (settlement r w))
 
   -- The answer after a move names the same entry, or none.
-  abbrev pub Same : Record → ℕ → Move → Type 0
+  abbrev pub Same : Call → ℕ → Move → Type 0
   Same s w m =
       let n = onward (route (s .place) (s .kind) (m .branch)) (m .task .finishing) in
       answer n (entryFound s w) ≡ answer n (entryOf q s)
 
   -- Where the step is sound it makes its move.
-  ends-as : (s : Record) (q′ : Tables) (w : ℕ) (m : Move) (b : Bool) → q′ ≡ cond b (apply (m .touch) q) q → Same s w m
+  ends-as : (s : Call) (q′ : Tables) (w : ℕ) (m : Move) (b : Bool) → q′ ≡ cond b (apply (m .touch) q) q → Same s w m
       → leaving q′ (cond b (gone (counting s k) w m) (refused s)) ≡ decide (cond b 0 34) q (counting s k) (finish q (counting s k) m)
   unfolding gone finish
   ends-as s q′ w m true e h = ap (λ (x : Tables). leaving x (gone (counting s k) w m)) e ∙ told _ _ h
   ends-as s q′ w m false e h = ap (λ (x : Tables). leaving x (refused s)) e
 
   -- The three parts, where p is the plan, w the word found and m the move: they are the step.
-  splits-as : (s : Record) (p : PlannedTouch) (w : ℕ) (m : Move) (good : Bool)
+  splits-as : (s : Call) (p : PlannedTouch) (w : ℕ) (m : Move) (good : Bool)
       → perform q p .found ≡ w → perform q p .tables ≡ cond good (apply (m .touch) q) q
       → meetsAnchor s && not (anchorSound (c .slots) (anchorOf w)) ≡ false
       → settlement s w ≡ cond good (gone (counting s k) w m) (refused s) → Same s w m
@@ -91,7 +91,7 @@ module _ (q : Tables) (k : ℕ) where
       ∙ ends-as s (perform q p .tables) w m good left same
 
   -- The same at a place that needs a row: 34 without one.
-  pub row-splits : (s : Record) (p : PlannedTouch) (w : ℕ) (m : Move) (row good other : Bool) (else : Settled)
+  pub row-splits : (s : Call) (p : PlannedTouch) (w : ℕ) (m : Move) (row good other : Bool) (else : Settled)
       → perform q p .found ≡ w → perform q p .tables ≡ cond good (apply (m .touch) q) q → meetsAnchor s ≡ false
       → settlement s 0 ≡ cond (row && other) else (refused s)
       → settlement s w ≡ cond (row && good) (gone (counting s k) w m) (refused s) → Same s w m
@@ -104,7 +104,7 @@ module _ (q : Tables) (k : ℕ) where
       λ i. leaving q (cond (meets i && not (anchorSound (c .slots) (anchorOf 0))) (refused s) (without i))
 
   -- A change: touch t is made where the word found, w, is the one as read, `was`. Where it may not be made the word is only loaded.
-  module _ (s : Record) (t : Touch) (there here : Record) (branch w was : ℕ) (swap load : PlannedTouch)
+  module _ (s : Call) (t : Touch) (there here : Call) (branch w was : ℕ) (swap load : PlannedTouch)
       (swaps : perform q swap ≡ swapped q w was (apply t q)) (loads : perform q load ≡ found q w) where
     abbrev way : Bool → Move
     way b = cond b (done t there) (failed here branch)

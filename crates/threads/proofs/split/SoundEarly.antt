@@ -7,7 +7,7 @@ use lib.Dec.{eqb, leb}
 use borrow.Author.Tests.{eq-eqb, ne-eqb}
 use Rattle.word.specs.Anchor.{anchorOf, packAnchor}
 use Rattle.word.specs.Link.{linkOf}
-use Rattle.model.specs.declared.{Control.Control, Record.Record}
+use Rattle.model.specs.declared.{Control.Control, Call.Call}
 use Rattle.model.specs.Tables.{atPlace, withSeen, withNeighbour, withLink}
 use Rattle.model.specs.Kinds.{isPush, isPop}
 use Rattle.model.specs.Sides.{pushing, isEmpty, facing, far}
@@ -28,9 +28,9 @@ module _ (pooled slots w : ℕ) where
   c = knowing pooled slots w w
 
   -- After a reading of Anchor, as at 1.
-  module _ (x : Record) (b : F.Base pooled slots (withSeen x w (x .finishing))) (f : eqb (x .finishing) 0 ≡ true)
+  module _ (x : Call) (b : F.Base pooled slots (withSeen x w (x .finishing))) (f : eqb (x .finishing) 0 ≡ true)
       (o : cond (cond (isPush x) true false) (from1 slots (x .own)) (eqb (x .own) 0) ≡ true) where
-    abbrev s : Record
+    abbrev s : Call
     s = withSeen x w (x .finishing)
 
     abbrev To : ℕ → ℕ → Type 0
@@ -63,21 +63,21 @@ module _ (pooled slots w : ℕ) where
         (λ k. subst (λ (k : ℕ). To k (reading (eqb k 1) (anchorOf w))) (sym k) reads0)
         (λ k. subst (λ (k : ℕ). To k (reading (eqb k 1) (anchorOf w))) (sym k) reads1)
 
-  module _ (r : Record) where
-    abbrev pub After : ℕ → Record → ℕ → Type 0
+  module _ (r : Call) where
+    abbrev pub After : ℕ → Call → ℕ → Type 0
     After n s branch = recordSound P slots (goes s (onward (route n (r .kind) branch) (s .finishing))) ≡ true
 
     abbrev pub Goes : ℕ → Move → Type 0
     Goes n m = After n (m .task) (m .branch)
 
-    abbrev pub at : ℕ → Record
+    abbrev pub at : ℕ → Call
     at n = atPlace r n
 
     abbrev pub Sounds : ℕ → Type 0
     Sounds n = recordSound P slots (at n) ≡ true
 
     -- By kind, at a branch that is known.
-    pub by-kind : (n branch : ℕ) (s : Record) → leb (r .kind) 1 ≡ true
+    pub by-kind : (n branch : ℕ) (s : Call) → leb (r .kind) 1 ≡ true
         → (r .kind ≡ 0 → recordSound P slots (goes s (onward (route n 0 branch) (s .finishing))) ≡ true)
         → (r .kind ≡ 1 → recordSound P slots (goes s (onward (route n 1 branch) (s .finishing))) ≡ true)
         → After n s branch
@@ -95,7 +95,7 @@ module _ (pooled slots w : ℕ) where
     unfolding at1
     p1 a e = let z = F.fit pooled slots (at 1) refl e in read-on (at 1) (seen-now 1 a (z .base)) (early (z .final)) (z .owns)
 
-    pub to11 : (n : ℕ) (s : Record) → r .kind ≡ 1 → eqb (r .finishing) 0 ≡ true
+    pub to11 : (n : ℕ) (s : Call) → r .kind ≡ 1 → eqb (r .finishing) 0 ≡ true
         → cond (cond (isPush r) true false) (from1 slots (r .own)) (eqb (r .own) 0) ≡ true → F.Base pooled slots (at n) → recordSound P slots
         (atPlace (at n) 11) ≡ true
     to11 n s k f o b = F.put pooled slots 11 (at n) (F.low pooled slots 11 refl refl) (eq-eqb _ _ k) refl (or-first _ f) o refl refl b
@@ -118,7 +118,7 @@ module _ (pooled slots w : ℕ) where
         (λ _. again 2 (λ o. reads-on (r .kind) o .0) a (z .base) f (z .owns))
 
     -- Places 3 and 4.
-    pub to4 : (s : Record) → eqb (s .finishing) 0 ≡ true → cond (cond (isPush s) true false) (from1 slots (s .own)) (eqb (s .own) 0) ≡ true
+    pub to4 : (s : Call) → eqb (s .finishing) 0 ≡ true → cond (cond (isPush s) true false) (from1 slots (s .own)) (eqb (s .own) 0) ≡ true
         → F.Base pooled slots s
         → recordSound P slots (atPlace s 4) ≡ true
     to4 s f o b = F.put pooled slots 4 s (F.low pooled slots 4 refl refl) refl refl (or-first _ f) o refl refl b
@@ -173,7 +173,7 @@ module _ (pooled slots w : ℕ) where
         clash a b = omega arith
 
     -- Places 5 to 10.
-    module _ (s : Record) (b : F.Base pooled slots s) (t7 : eqb (s .finishing) 0 || (isPush s && true) ≡ true)
+    module _ (s : Call) (b : F.Base pooled slots s) (t7 : eqb (s .finishing) 0 || (isPush s && true) ≡ true)
         (t8 : cond (cond (isPush s) true false) (from1 slots (s .own)) (eqb (s .own) 0) ≡ true)
         (t13 : not (eqb (anchorOf (s .seen) .status) 0) ≡ true) where
       to6 : recordSound P slots (atPlace s 6) ≡ true

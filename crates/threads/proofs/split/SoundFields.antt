@@ -7,7 +7,7 @@ use lib.Dec.{eqb, leb}
 use borrow.Author.Tests.{eqb-true, eqb-false, ne-eqb, leb-true, le-leb, not-true}
 use Rattle.word.specs.Anchor.{anchorOf, packAnchor}
 use Rattle.word.specs.Link.{linkOf, spareOf}
-use Rattle.model.specs.declared.Record.{Record}
+use Rattle.model.specs.declared.Call.{Call}
 use Rattle.model.specs.Tables.{atPlace}
 use Rattle.model.specs.Kinds.{isPush, isPop, helping, drawing, giving}
 use Rattle.model.specs.Sound.{from1, anchorSound, linkSound, recordSound, recordTests}
@@ -18,7 +18,7 @@ module _ (pooled slots : ℕ) where
   abbrev pub P : Bool
   P = eqb pooled 1
 
-  pub record Base (s : Record) : Type 0 where
+  pub record Base (s : Call) : Type 0 where
     pub kind : leb (s .kind) 1 ≡ true
     pub side : leb (s .side) 1 ≡ true
     pub fin : leb (s .finishing) 1 ≡ true
@@ -26,7 +26,7 @@ module _ (pooled slots : ℕ) where
     pub link : linkSound slots (s .link) ≡ true
     pub seen : anchorSound slots (anchorOf (s .seen)) ≡ true
 
-  pub put : (n : ℕ) (s : Record)
+  pub put : (n : ℕ) (s : Call)
       → leb n (cond P 17 11) ≡ true
       → not (eqb n 11 || leb 15 n) || isPop s ≡ true
       → not (leb 12 n && leb n 14) || isPush s ≡ true
@@ -82,7 +82,7 @@ module _ (pooled slots : ℕ) where
       clash : n ≤ 1 → (n ≡ 1 → ⊥) → (n ≡ 0 → ⊥) → ⊥
       clash a b c = omega arith
 
-  pub record Fit (s : Record) : Type 0 where
+  pub record Fit (s : Call) : Type 0 where
     pub base : Base s
     pub pops : not (eqb (s .place) 11 || giving s) || isPop s ≡ true
     pub pushes : not (drawing s) || isPush s ≡ true
@@ -96,7 +96,7 @@ module _ (pooled slots : ℕ) where
   otherwise true b e h = absurd (not-both e h)
   otherwise false b e h = e
 
-  pub fit : (s : Record) → eqb (s .place) 0 ≡ false → recordSound P slots s ≡ true → Fit s
+  pub fit : (s : Call) → eqb (s .place) 0 ≡ false → recordSound P slots s ≡ true → Fit s
   unfolding recordSound
   fit s busy e =
       let z = tests (recordTests P slots s) (otherwise (eqb (s .place) 0) _ e busy) in

@@ -6,7 +6,7 @@ use native.Mathlib.Omega.{arith}
 use lib.Dec.{eqb}
 use borrow.Author.Tests.{eqb-true}
 use Rattle.word.specs.Anchor.{anchorOf}
-use Rattle.model.specs.declared.TaskRecord.{TaskRecord}
+use Rattle.model.specs.declared.Record.{Record}
 use Rattle.model.specs.Tables.{Tables, isPooled}
 use Rattle.model.proofs.tests.{Rules.tests, Truth.split}
 use Rattle.model.specs.Sound.{anchorSound, controlTests, controlSound}
@@ -19,7 +19,7 @@ use Rattle.threads.specs.Promises.{SplitStands}
 use Rattle.threads.proofs.split.ByPlace.{splits}
 
 -- Where the Anchor is sound, the three parts are what an admitted record does.
-moves : (q : Tables) (r : TaskRecord) → anchorSound (q .control .slots) (anchorOf (q .control .anchor)) ≡ true → splitStep q r ≡ moveOn q r
+moves : (q : Tables) (r : Record) → anchorSound (q .control .slots) (anchorOf (q .control .anchor)) ≡ true → splitStep q r ≡ moveOn q r
 unfolding splitStep plan perform settle moveOn
 moves q r sound =
     split (eqb (recordRefusal (isPooled (q .control)) (q .control .slots) (r .call)) 0)

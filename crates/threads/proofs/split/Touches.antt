@@ -6,7 +6,7 @@ use lib.Dec.{eqb}
 use borrow.Author.Tests.{eq-eqb}
 use Rattle.word.specs.Anchor.{anchorOf, packAnchor}
 use Rattle.word.specs.Link.{linkOf, packLink}
-use Rattle.model.specs.declared.{Control.Control, Record.Record}
+use Rattle.model.specs.declared.{Control.Control, Call.Call}
 use Rattle.model.specs.Tables.{isPooled, atPlace, withSeen, withOwn, withNeighbour}
 use Rattle.model.specs.Sides.{facing}
 use Rattle.model.specs.Kinds.{isPush, isPop}
@@ -19,13 +19,13 @@ use Rattle.threads_model.specs.Split.{knowing, touchAsRead}
 pub same : (n : ℕ) → eqb n n ≡ true
 same n = eq-eqb n n refl
 
-abbrev pub done : Touch → Record → Move
+abbrev pub done : Touch → Call → Move
 done t s = record { touch = t; task = s; branch = 0; failed = false }
 
-abbrev pub failed : Record → ℕ → Move
+abbrev pub failed : Call → ℕ → Move
 failed s branch = record { touch = nothing; task = s; branch = branch; failed = true }
 
-module _ (r : Record) where
+module _ (r : Call) where
   -- A failed change at 2 or 4 reads on.
   abbrev again : ℕ → Control → Move
   again n c = failed (withSeen (atPlace r n) (c .anchor) (r .finishing)) (reading (isPop r) (anchorOf (c .anchor)) + 1)

@@ -9,7 +9,7 @@ use Rattle.word.specs.Anchor.{anchorOf, packAnchor}
 use Rattle.word.specs.Link.{linkOf, spareOf}
 use Rattle.model.specs.Sides.{far, facing, pushing}
 use Rattle.decide.specs.Ending.{mayChange}
-use Rattle.model.specs.declared.Record.{Record}
+use Rattle.model.specs.declared.Call.{Call}
 use Rattle.model.specs.{Tables.atPlace, Refusals.recordRefusal}
 use Rattle.model.specs.Sound.{from1, linkSound, recordTests, recordSound}
 use Rattle.model.proofs.tests.Rules.{cleared, tests}
@@ -27,7 +27,7 @@ Within slots p = onRow (p .act) ≡ true → from1 slots (p .slot) ≡ true
 never : {P : Type 0} {b : Bool} → b ≡ true → b ≡ false → P
 never h k = absurd (not-both h k)
 
-module _ (pooled slots : ℕ) (r : Record) where
+module _ (pooled slots : ℕ) (r : Call) where
   abbrev ok : ℕ → Type 0
   ok n = Within slots (planned pooled slots (atPlace r n))
 

@@ -1,5 +1,5 @@
 use mathlib.Core.Path.{_≡_, refl, sym, ap, _∙_}
-use Rattle.model.specs.declared.Record.{Record}
+use Rattle.model.specs.declared.Call.{Call}
 use Rattle.rows.specs.Rows.{callOf}
 use Rattle.threads.proofs.split.ByRecord.{idle-plan}
 use borrow.Author.Needs.{needs}
@@ -8,7 +8,7 @@ use Rattle.touch.proofs.ahead.Tie as tie
 
 -- The call's place is that of the row.
 placed : (co : tie.After-call-of) → (let a = co .before .before .args in callOf (a .task .now) .place ≡ co .call-of .result .place)
-placed co = sym (ap (λ (r : Record). r .place) (co .call-of .ensures))
+placed co = sym (ap (λ (r : Call). r .place) (co .call-of .ensures))
 
 returns : tie.Need-returns
 returns c = (refl, c .arms-row .ensures (placed (c .before .before .before) ∙ c .before .if1 .taken))

@@ -1,6 +1,6 @@
 use mathlib.Core.Path.{ap, _∙_}
 use lib.Dec.{eqb}
-use Rattle.model.specs.declared.Record.{Record}
+use Rattle.model.specs.declared.Call.{Call}
 use Rattle.model.specs.Sound.{recordSound}
 use Rattle.threads_model.specs.Split.{plan}
 use borrow.Author.Needs.{needs}
@@ -11,7 +11,7 @@ returns : tie.Need-returns
 returns c at pooled sound =
     let co = c .before in
     let a = co .before .before .args in
-    c .arms .ensures (ap (λ (r : Record). r .place) (co .call-of .ensures) ∙ at) pooled
+    c .arms .ensures (ap (λ (r : Call). r .place) (co .call-of .ensures) ∙ at) pooled
     (ap (recordSound (eqb pooled 1) (a .slots)) (co .call-of .ensures) ∙ sound)
     ∙ ap (plan pooled (a .slots)) (co .call-of .ensures)
 

@@ -25,12 +25,12 @@ as-called co e = let a = co .before .before .args in e ∙ ap (recordRefusal (eq
 returns : tie.Need-returns
 returns c =
     let h = c .before .before .if1 .taken in
-    as-called (c .before .before .before .before) (sym (passes _ _ _ (beyond h) (sym (late _ _ _ h) ∙ sym (c .before .late-sound .ensures) ∙ c .if2 .taken)))
+    as-called (c .before .before .before .before) (sym (passes _ _ _ (beyond h) (sym (late _ _ _ h) ∙ sym (c .before .slot-sound .ensures) ∙ c .if2 .taken)))
 
 returns-2 : tie.Need-returns-2
 returns-2 c =
     let h = c .before .before .if1 .taken in
-    as-called (c .before .before .before .before) (unsound _ _ _ (sym (late _ _ _ h) ∙ sym (c .before .late-sound .ensures) ∙ c .if2 .left))
+    as-called (c .before .before .before .before) (unsound _ _ _ (sym (late _ _ _ h) ∙ sym (c .before .slot-sound .ensures) ∙ c .if2 .left))
 
 returns-3 : tie.Need-returns-3
 returns-3 c = as-called (c .before .before .before .before) (no-call _ _ _ (c .if3 .taken))
@@ -39,14 +39,14 @@ returns-4 : tie.Need-returns-4
 returns-4 c =
     let busy = c .before .before .if3 .left in
     as-called (c .before .before .before .before .before .before)
-    (sym (passes _ _ _ busy (sym (early _ _ (c .before .before .before .before .if1 .left) _ (some busy)) ∙ sym (c .before .early-sound .ensures)
+    (sym (passes _ _ _ busy (sym (early _ _ (c .before .before .before .before .if1 .left) _ (some busy)) ∙ sym (c .before .deque-sound .ensures)
     ∙ c .if4 .taken)))
 
 returns-5 : tie.Need-returns-5
 returns-5 c =
     as-called (c .before .before .before .before .before .before)
     (unsound _ _ _ (sym (early _ _ (c .before .before .before .before .if1 .left) _ (some (c .before .before .if3 .left))) ∙ sym
-    (c .before .early-sound .ensures) ∙ c .if4 .left))
+    (c .before .deque-sound .ensures) ∙ c .if4 .left))
 
 pub refusal-spec : {M : Type 1} → statement M
 refusal-spec =

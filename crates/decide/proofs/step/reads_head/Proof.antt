@@ -5,19 +5,19 @@ use Prim.Native.Nat.{ℕ}
 use lib.Dec.{eqb}
 use Rattle.word.specs.declared.Link.{Link}
 use Rattle.word.specs.Link.{linkOf}
-use Rattle.model.specs.declared.{Control.Control, Record.Record, Transition.Transition}
+use Rattle.model.specs.declared.{Control.Control, Call.Call, Transition.Transition}
 use Rattle.decide.specs.Ending.{headRead, settled, noEntry}
 use Rattle.decide.proofs.step.reads_head.Statement.{statement}
 use Rattle.decide.proofs.step.reads_head.Tie as tie
 
 -- Settled by whichever route.
-by-either : (b : Bool) (c : Control) (t : Record) (x y : ℕ)
+by-either : (b : Bool) (c : Control) (t : Call) (x y : ℕ)
     → settled c t (cond b x y) noEntry ≡ cond b (settled c t x noEntry) (settled c t y noEntry)
 by-either true c t x y = refl
 by-either false c t x y = refl
 
 -- What was settled, by the head unpacked.
-led : (c : Control) (t : Record) (none other n : ℕ) (head : Link) (m : Transition)
+led : (c : Control) (t : Call) (none other n : ℕ) (head : Link) (m : Transition)
     → m ≡ settled c t n noEntry → n ≡ cond (eqb (head .slot) 0) none other → head ≡ linkOf (c .head)
     → m ≡ cond (eqb (linkOf (c .head) .slot) 0) (settled c t none noEntry) (settled c t other noEntry)
 led c t none other n head m em en eh =

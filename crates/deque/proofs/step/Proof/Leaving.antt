@@ -27,12 +27,12 @@ use denote.Triple.Walked.{says, Stays, walkOf, ends-at, stay-ref, stay-slice, st
 use denote.Triple.Walked.{gave-slice}
 use denote.Exit.{yes}
 use Rattle.model.specs.declared.Control.{Control}
-use Rattle.model.specs.declared.TaskRecord.{TaskRecord}
+use Rattle.model.specs.declared.Record.{Record}
 use Rattle.model.specs.declared.Outcome.{Outcome}
 use Rattle.deque.proofs.Walk.{kept}
 use Rattle.deque.proofs.Engine.{Five, KeepLengths, slices, returned}
 use Rattle.model.proofs.Control as K
-use Rattle.model.proofs.TaskRecord as T
+use Rattle.model.proofs.Record as T
 use Rattle.model.proofs.Outcome as E
 use Rattle.model.proofs.Outcome.Laws as E′
 use Rattle.deque.proofs.step as self
@@ -57,7 +57,7 @@ stayed = (
 )
 
 module _ {M : Type 1} (𝓤 : URA M) (H : Heap 𝓤) (A : Atoms 𝓤) (W : Given 𝓤 H A) (at-mem : Memory → SProp 𝓤) (run : Routine → Fun 𝓤)
-    (κc κr : Lft) (κs : Five Lft) (qc qr : Share) (qs : Five Share) (xc : RefT Control) (xr : RefT (List TaskRecord)) (task : ℕ)
+    (κc κr : Lft) (κs : Five Lft) (qc qr : Share) (qs : Five Share) (xc : RefT Control) (xr : RefT (List Record)) (task : ℕ)
     (task-fits : task < 2 ^ 64) (xs : Five (RefT (List ℕ))) where
   abbrev n : ℕ
   n = length (xr .now)
@@ -74,14 +74,14 @@ module _ {M : Type 1} (𝓤 : URA M) (H : Heap 𝓤) (A : Atoms 𝓤) (W : Given
   abbrev pub Post : Val → SProp 𝓤
   Post = walkOf 𝓤 H A self.ended stayed (self.clauses 𝓤 H A at-mem run) .post bound
 
-  abbrev leaving : Control → List TaskRecord → Five (List ℕ) → List (Item 𝓤)
+  abbrev leaving : Control → List Record → Five (List ℕ) → List (Item 𝓤)
   leaving z zr ls =
       ‵ (MutRef (named 0) κc K.the-row .own (kept xc z) (pc ∷ [])) ∷ ‵ (MutSlice (named 1) κr T.the-row .own (kept xr zr) (s ∷ []))
       ∷ ‵ (flft κc qc) ∷ ‵
       (flft κr qr) ∷ returned 𝓤 κs qs xs ls []
 
   -- out of the function, at what is lent then holds
-  pub exits : (r′ : Outcome) (w : Val) (z : Control) (zr : List TaskRecord) (ls : Five (List ℕ))
+  pub exits : (r′ : Outcome) (w : Val) (z : Control) (zr : List Record) (ls : Five (List ℕ))
       → Said (xc .now) (xr .now) task xs r′ z zr ls → length zr ≡ n → KeepLengths xs ls → Is E.the-row r′ (w ∷ [])
       → ent 𝓤 (⋆ 𝓤 H A (leaving z zr ls)) (Post w)
   exits r′ w z zr ls e e0 eqs g =

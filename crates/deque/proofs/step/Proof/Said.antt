@@ -10,7 +10,7 @@ use lib.Seq.{set-getD}
 use borrow.Author.Tests.{leb-true, ltb-true, eqb-true, not-false}
 use denote.Ref.{RefT}
 use Rattle.model.specs.declared.Control.{Control}
-use Rattle.model.specs.declared.TaskRecord.{TaskRecord}
+use Rattle.model.specs.declared.Record.{Record}
 use Rattle.model.specs.declared.Outcome.{Outcome}
 use Rattle.model.specs.declared.Outcome.the-variants.{Refused}
 use Rattle.model.specs.declared.Op.the-variants.{Step}
@@ -34,14 +34,14 @@ nonzero why h e = rw e at h
 pub iszero : (why : ℕ) → T (not (not (eqb why 0))) → why ≡ 0
 iszero why h = eqb-true why 0 (not-false _ (fails _ (T-not (not (eqb why 0)) h)))
 
-module _ (c : Control) (rs : List TaskRecord) (task : ℕ) (xs : Five (RefT (List ℕ))) where
+module _ (c : Control) (rs : List Record) (task : ℕ) (xs : Five (RefT (List ℕ))) where
   abbrev entry : Tables
   entry = tabled c (unwritten xs)
 
   abbrev pub queue : Queue
   queue = record { tables = entry; records = rs }
 
-  abbrev pub r : TaskRecord
+  abbrev pub r : Record
   r = taskAt queue task
 
   -- The lengths, and why the step is not admitted, or 0.
@@ -51,13 +51,13 @@ module _ (c : Control) (rs : List TaskRecord) (task : ℕ) (xs : Five (RefT (Lis
   abbrev pub fault : ℕ
   fault = reason c task sizes
 
-  abbrev pub Said : Outcome → Control → List TaskRecord → Five (List ℕ) → Type 0
+  abbrev pub Said : Outcome → Control → List Record → Five (List ℕ) → Type 0
   Said r′ z zr ls = _≡_ {A = Done} (record { queue = record { tables = tabled z ls; records = zr }; outcome = r′ }) (act queue task Step)
 
   pub refused : (why : ℕ) → why ≡ fault → (why ≡ 0 → ⊥) → Said (Refused why) c rs (unwritten xs)
   unfolding act actOn rowsFit lengthsFit
   refused why e h =
-      ap (λ (l : List TaskRecord). record { queue = record { tables = entry; records = l }; outcome = Refused why }) (sym (set-getD rs task unused))
+      ap (λ (l : List Record). record { queue = record { tables = entry; records = l }; outcome = Refused why }) (sym (set-getD rs task unused))
       ∙ ap (back queue task) (turned-away entry (among queue task) r why e h)
 
   -- An admitted task has a record.

@@ -38,7 +38,7 @@ use denote.Enum.Laws as EL
 use denote.Triple.Statement.{Triple}
 use denote.Triple.Entry.{onEntry}
 use Rattle.model.specs.declared.Control.{Control}
-use Rattle.model.specs.declared.TaskRecord.{TaskRecord}
+use Rattle.model.specs.declared.Record.{Record}
 use Rattle.model.specs.declared.Outcome.{Outcome}
 use Rattle.model.specs.Tables.{unused}
 use Rattle.sound.specs.declared.Lengths.{Lengths}
@@ -51,8 +51,8 @@ use Rattle.deque.proofs.Stored.{control-of, task-of, outcome-of}
 use Rattle.deque.proofs.Frame.{env-of, full, bare, allocates, frees-all}
 use Rattle.model.proofs.Control as K
 use Rattle.model.proofs.Control.Laws as K′
-use Rattle.model.proofs.TaskRecord as T
-use Rattle.model.proofs.TaskRecord.Laws as T′
+use Rattle.model.proofs.Record as T
+use Rattle.model.proofs.Record.Laws as T′
 use Rattle.model.proofs.Outcome as E
 use Rattle.model.proofs.Outcome.Laws as E′
 use Rattle.rows.proofs.value.Stepped as N
@@ -69,14 +69,14 @@ use Rattle.deque.proofs.step.Proof.Said as said
 use Rattle.deque.proofs.step.Proof.Leaving as leaving
 
 module _ {M : Type 1} (𝓤 : URA M) (H : Heap 𝓤) (A : Atoms 𝓤) (W : Given 𝓤 H A) (at-mem : Memory → SProp 𝓤) (run : Routine → Fun 𝓤)
-    (κc κr κ1 κ2 κ3 κ4 κ5 : Lft) (qc qr q1 q2 q3 q4 q5 : Share) (xc : RefT Control) (xr : RefT (List TaskRecord)) (task : ℕ)
+    (κc κr κ1 κ2 κ3 κ4 κ5 : Lft) (qc qr q1 q2 q3 q4 q5 : Share) (xc : RefT Control) (xr : RefT (List Record)) (task : ℕ)
     (task-fits : task < 2 ^ 64)
     (x1 x2 x3 x4 x5 : RefT (List ℕ)) where
   -- what is lent, at entry
   abbrev c : Control
   c = xc .now
 
-  abbrev rs : List TaskRecord
+  abbrev rs : List Record
   rs = xr .now
 
   abbrev n : ℕ
@@ -104,14 +104,14 @@ module _ {M : Type 1} (𝓤 : URA M) (H : Heap 𝓤) (A : Atoms 𝓤) (W : Given
   abbrev xs : Five (RefT (List ℕ))
   xs = (x1, (x2, (x3, (x4, (x5, tt)))))
 
-  abbrev a : RefT Control × (RefT (List TaskRecord) × (ℕ × Five (RefT (List ℕ))))
+  abbrev a : RefT Control × (RefT (List Record) × (ℕ × Five (RefT (List ℕ))))
   a = (xc, (xr, (task, xs)))
 
   abbrev vals : List Val × (List Val × (List Val × Five (List Val)))
   vals = (pc ∷ [], (s ∷ [], (vint w64 task ∷ [], slices xs)))
 
   -- the task's record, and whether it is admitted
-  abbrev r : TaskRecord
+  abbrev r : Record
   r = said.r c rs task xs
 
   abbrev sizes : Lengths

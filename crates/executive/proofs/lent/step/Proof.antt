@@ -30,7 +30,7 @@ use denote.Triple.{Statement.Triple, Entry.onEntry}
 use denote.Triple.Spec.{Meets, tripleOf}
 use denote.Triple.Table.{entered, cited}
 use denote.Triple.Walked.{says, Stays, walkOf, Walks, ends-at, walked, walk-meets, stay-dropped, goes-dropped, gave-slice, goes-gave-slice}
-use Rattle.model.specs.declared.{Control.Control, TaskRecord.TaskRecord, Outcome.Outcome}
+use Rattle.model.specs.declared.{Control.Control, Record.Record, Outcome.Outcome}
 use Rattle.executive.specs.declared.lent.Moved.{Moved}
 use Rattle.deque.proofs.Walk.{control-value, slice-value, var, part, lets, valued, receive}
 use Rattle.deque.proofs.Engine.{Five, slices}
@@ -39,8 +39,8 @@ use Rattle.executive.proofs.Loan.{lends, comes-back, lends-all, all-bac
 use Rattle.executive.proofs.Records.{Records, records-value, records-tells, is-in-field, room as two}
 use Rattle.model.proofs.Control as K
 use Rattle.model.proofs.Control.Laws as K′
-use Rattle.model.proofs.TaskRecord as T
-use Rattle.model.proofs.TaskRecord.Laws as T′
+use Rattle.model.proofs.Record as T
+use Rattle.model.proofs.Record.Laws as T′
 use Rattle.model.proofs.Outcome as E
 use Rattle.model.proofs.Outcome.Laws as E′
 use Rattle.executive.proofs.lent.Moved as N
@@ -73,17 +73,17 @@ stayed = (
 )
 
 -- What is returned.
-abbrev made : Outcome → Control → List TaskRecord → Moved
+abbrev made : Outcome → Control → List Record → Moved
 made o c rs = record { control = c; records = rs; outcome = o }
 
-made-is : (o : Outcome) (c : Control) (rs : List TaskRecord) (w : Val) → Is K.the-row c (control-value c ∷ []) → Is Records rs (records-value rs ∷ [])
+made-is : (o : Outcome) (c : Control) (rs : List Record) (w : Val) → Is K.the-row c (control-value c ∷ []) → Is Records rs (records-value rs ∷ [])
     → Is E.the-row o (w ∷ []) → Is N.the-row (made o c rs) (LL.val N.the-type N′.the-laws (made o c rs) ∷ [])
 made-is o c rs w gc gr is =
     LL.owes N.the-type N′.the-laws (made o c rs) (gc, (is-in-field rs gr, (subst (Is E.the-row o) (EL.tells E.the-type E′.the-laws o (w ∷ []) is) is, tt)))
 
 module _ {M : Type 1} (𝓤 : URA M) (H : Heap 𝓤) (A : Atoms 𝓤) (W : Given 𝓤 H A) (at-mem : Memory → SProp 𝓤) (run : Routine → Fun 𝓤)
-    (κs : Five Lft) (qs : Five Share) (c : Control) (rs : List TaskRecord) (task : ℕ) (xs : Five (RefT (List ℕ))) where
-  abbrev a : Control × (List TaskRecord × (ℕ × Five (RefT (List ℕ))))
+    (κs : Five Lft) (qs : Five Share) (c : Control) (rs : List Record) (task : ℕ) (xs : Five (RefT (List ℕ))) where
+  abbrev a : Control × (List Record × (ℕ × Five (RefT (List ℕ))))
   a = (c, (rs, (task, xs)))
 
   abbrev vals : List Val × (List Val × (List Val × Five (List Val)))

@@ -28,7 +28,7 @@ use denote.Triple.{Statement.Triple, Entry.onEntry}
 use denote.Triple.Spec.{Meets, tripleOf}
 use denote.Triple.Table.{entered, cited}
 use denote.Triple.Walked.{says, Stays, walkOf, Walks, ends-at, walked, walk-meets, stay-dropped, goes-dropped, gave-slice, goes-gave-slice}
-use Rattle.model.specs.declared.{Control.Control, TaskRecord.TaskRecord, Outcome.Outcome}
+use Rattle.model.specs.declared.{Control.Control, Record.Record, Outcome.Outcome}
 use Rattle.rows.specs.declared.value.Stepped.{Stepped}
 use Rattle.deque.proofs.Walk.{control-value, record-value, slice-value, var, part, lets, receive}
 use Rattle.deque.proofs.Engine.{Five, slices}
@@ -36,8 +36,8 @@ use Rattle.deque.proofs.Frame.{full, allocates, frees-all}
 use Rattle.executive.proofs.Loan.{lends, comes-back}
 use Rattle.model.proofs.Control as K
 use Rattle.model.proofs.Control.Laws as K′
-use Rattle.model.proofs.TaskRecord as T
-use Rattle.model.proofs.TaskRecord.Laws as T′
+use Rattle.model.proofs.Record as T
+use Rattle.model.proofs.Record.Laws as T′
 use Rattle.model.proofs.Outcome as E
 use Rattle.model.proofs.Outcome.Laws as E′
 use Rattle.rows.proofs.value.Stepped as N
@@ -67,17 +67,17 @@ stayed = (
 )
 
 -- What is returned.
-abbrev made : Outcome → Control → TaskRecord → Stepped
+abbrev made : Outcome → Control → Record → Stepped
 made o c r = record { control = c; task = r; outcome = o }
 
-made-is : (o : Outcome) (c : Control) (r : TaskRecord) (w : Val) → Is K.the-row c (control-value c ∷ []) → Is T.the-row r (record-value r ∷ [])
+made-is : (o : Outcome) (c : Control) (r : Record) (w : Val) → Is K.the-row c (control-value c ∷ []) → Is T.the-row r (record-value r ∷ [])
     → Is E.the-row o (w ∷ []) → Is N.the-row (made o c r) (LL.val N.the-type N′.the-laws (made o c r) ∷ [])
 made-is o c r w gc gr is =
     LL.owes N.the-type N′.the-laws (made o c r) (gc, (gr, (subst (Is E.the-row o) (EL.tells E.the-type E′.the-laws o (w ∷ []) is) is, tt)))
 
 module _ {M : Type 1} (𝓤 : URA M) (H : Heap 𝓤) (A : Atoms 𝓤) (W : Given 𝓤 H A) (at-mem : Memory → SProp 𝓤) (run : Routine → Fun 𝓤)
-    (κs : Five Lft) (qs : Five Share) (c : Control) (r : TaskRecord) (xs : Five (RefT (List ℕ))) where
-  abbrev a : Control × (TaskRecord × Five (RefT (List ℕ)))
+    (κs : Five Lft) (qs : Five Share) (c : Control) (r : Record) (xs : Five (RefT (List ℕ))) where
+  abbrev a : Control × (Record × Five (RefT (List ℕ)))
   a = (c, (r, xs))
 
   abbrev vals : List Val × (List Val × Five (List Val))

@@ -3,7 +3,7 @@ use mathlib.Core.Path.{_≡_, sym, ap, _∙_}
 use Prim.Native.Nat.{_≤_, _-_}
 use native.Mathlib.Omega.{arith}
 use borrow.Author.Tests.{eq-eqb}
-use Rattle.model.specs.declared.Record.{Record}
+use Rattle.model.specs.declared.Call.{Call}
 use Rattle.rows.specs.Rows.{recordsOf}
 use Rattle.join.proofs.Tested.{busyIn, idle-none, idle-more, idle-less}
 use Rattle.join.proofs.rest.idle.Statement.{statement}
@@ -20,7 +20,7 @@ returns c =
     let l = c .before .before .before .before in
     let a = l .before .args in
     sym (idle-less (recordsOf (a .records .now)) (a .n) (l .loop .i) (omega arith)
-    (λ e. c .if1 .taken (ap (λ (r : Record). r .place) (c .before .before .call-at .ensures) ∙ e)))
+    (λ e. c .if1 .taken (ap (λ (r : Call). r .place) (c .before .before .call-at .ensures) ∙ e)))
 
 loop-again : tie.Need-loop-again Inv-loop μ-loop
 loop-again c =
@@ -28,7 +28,7 @@ loop-again c =
     let a = l .before .args in (
       omega arith,
       idle-more (recordsOf (a .records .now)) (l .loop .i) (l .loop .inv .1)
-          (sym (ap (λ (r : Record). r .place) (c .before .before .call-at .ensures)) ∙ c .if1 .left),
+          (sym (ap (λ (r : Call). r .place) (c .before .before .call-at .ensures)) ∙ c .if1 .left),
     )
 
 returns-2 : tie.Need-returns-2 Inv-loop μ-loop

@@ -7,7 +7,7 @@ use lib.{Dec.eqb, ListN.set}
 use Rattle.word.specs.declared.Anchor.{Anchor}
 use Rattle.word.specs.Anchor.{anchorOf, packAnchor}
 use Rattle.word.specs.Link.{linkOf, packLink}
-use Rattle.model.specs.declared.{Control.Control, Record.Record}
+use Rattle.model.specs.declared.{Control.Control, Call.Call}
 use Rattle.model.specs.Tables.{tablesOf, Tables, isPooled, withSeen, withLink, withOwn}
 use Rattle.model.specs.Places.{sideOf, Touch, nothing, setAnchor, setLink, clearMark, takeSlot, setNext, setHead, Move}
 use Rattle.model.specs.Places.{reads, changes, reading, replaces}
@@ -67,7 +67,7 @@ reading-mirror : (pop : Bool) (a : Anchor) → reading pop (mirrorAnchor a) ≡ 
 unfolding reading
 reading-mirror pop a = rw (and-comm (eqb (a .right) 0) (eqb (a .left) 0), eqb-sym (a .right) (a .left), status-stable (a .status)) refl
 
-module _ (c : Control) (r : Record) (w : ℕ) (turned : sideOf (mirrorBusy r) ≡ opposite (sideOf r)) where
+module _ (c : Control) (r : Call) (w : ℕ) (turned : sideOf (mirrorBusy r) ≡ opposite (sideOf r)) where
   -- The parts of the words that are written.
   status-read : anchorOf (mirrorWord (r .seen)) .status ≡ mirrorStatus (anchorOf (r .seen) .status)
   status-read = ap (λ (a : Anchor). a .status) (mirror-fields (r .seen))
@@ -85,21 +85,21 @@ module _ (c : Control) (r : Record) (w : ℕ) (turned : sideOf (mirrorBusy r) �
       ∙ mirror-pack (facing (sideOf r) (anchorOf (r .seen) .tag + 1) s n f) small
 
   -- A change of Anchor.
-  anchor-change : (v v′ : ℕ) (s s′ : Record) → v′ ≡ mirrorWord v → s′ ≡ mirrorBusy s
+  anchor-change : (v v′ : ℕ) (s s′ : Call) → v′ ≡ mirrorWord v → s′ ≡ mirrorBusy s
       → changes (mirrorWord (c .anchor)) (mirrorWord (r .seen)) (setAnchor v′) s′ (mirrorBusy r)
       ≡ mirrorMove (changes (c .anchor) (r .seen) (setAnchor v) s r)
   anchor-change v v′ s s′ e h =
-      ap₂ (λ (t : Touch) (x : Record). changes (mirrorWord (c .anchor)) (mirrorWord (r .seen)) t x (mirrorBusy r)) (ap setAnchor e) h
+      ap₂ (λ (t : Touch) (x : Call). changes (mirrorWord (c .anchor)) (mirrorWord (r .seen)) t x (mirrorBusy r)) (ap setAnchor e) h
       ∙ rw (mirror-equal (c .anchor) (r .seen)) (through mirrorMove (eqb (c .anchor) (r .seen)) refl refl)
 
   -- A change at 2 or 4, which reads on where it fails.
   anchor-replace :
-      (v v′ : ℕ) (s s′ : Record)
+      (v v′ : ℕ) (s s′ : Call)
       → v′ ≡ mirrorWord v
       → s′ ≡ mirrorBusy s
       → replaces (mirrorControl c) v′ s′ (mirrorBusy r) ≡ mirrorMove (replaces c v s r)
   anchor-replace v v′ s s′ e h =
-      ap₂ (λ (t : ℕ) (x : Record). replaces (mirrorControl c) t x (mirrorBusy r)) e h
+      ap₂ (λ (t : ℕ) (x : Call). replaces (mirrorControl c) t x (mirrorBusy r)) e h
       ∙ rw (mirror-equal (c .anchor) (r .seen)) (through mirrorMove (eqb (c .anchor) (r .seen)) refl
       (ap (λ (o : ℕ). record {
         touch = nothing;

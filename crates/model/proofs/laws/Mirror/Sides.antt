@@ -9,12 +9,12 @@ use lib.ListN.{getD}
 use borrow.Author.Tests.{leb-true}
 use Rattle.word.specs.declared.Anchor.{Anchor}
 use Rattle.word.specs.{Anchor.anchorOf, Link.linkOf}
-use Rattle.model.specs.declared.Record.{Record}
+use Rattle.model.specs.declared.Call.{Call}
 use Rattle.model.specs.Tables.{Tables}
 use Rattle.model.specs.Places.{sideOf, endSeen, row, linkSide, wordFound}
 use Rattle.model.specs.Mirror.{mirrorSide, mirrorStatus, mirrorAnchor, mirrorTables, mirrorBusy}
 use Rattle.model.proofs.laws.Mirror.Packed.{mirror-fields}
-use Rattle.model.specs.Sides.{opposite, near, far, facing, links, pushing, named}
+use Rattle.model.specs.Sides.{opposite, near, far, facing, links, pushing, sideNamed}
 use Rattle.model.specs.Kinds.{helping, isPush}
 
 -- A side enters by one test alone.
@@ -69,7 +69,7 @@ module _ (d : ℕ) where
 
 -- The side of a step, where the record is sound: its side is 0 or 1, and a record that helps has read RPUSH or LPUSH.
 side-or-named : (h : Bool) (s d : ℕ) → leb d 1 ≡ true → leb s 2 ≡ true → not h || not (eqb s 0) ≡ true
-    → cond h (named (mirrorStatus s)) (mirrorSide d) ≡ opposite (cond h (named s) d)
+    → cond h (sideNamed (mirrorStatus s)) (mirrorSide d) ≡ opposite (cond h (sideNamed s) d)
 unfolding mirrorStatus mirrorSide
 side-or-named false s zero f g e = refl
 side-or-named false s (suc zero) f g e = refl
@@ -79,13 +79,13 @@ side-or-named true (suc zero) d f g e = refl
 side-or-named true (suc (suc zero)) d f g e = refl
 side-or-named true (suc (suc (suc s))) d f g e = absurd (omega (arith, leb-true (suc (suc (suc s))) 2 g))
 
-module _ (r : Record) where
+module _ (r : Call) where
   pub side-mirror : leb (r .side) 1 ≡ true → leb (anchorOf (r .seen) .status) 2 ≡ true
       → not (helping r) || not (eqb (anchorOf (r .seen) .status) 0) ≡ true
       → sideOf (mirrorBusy r) ≡ opposite (sideOf r)
   unfolding sideOf
   side-mirror f g e =
-      ap (λ (a : Anchor). cond (helping r) (named (a .status)) (mirrorSide (r .side))) (mirror-fields (r .seen))
+      ap (λ (a : Anchor). cond (helping r) (sideNamed (a .status)) (mirrorSide (r .side))) (mirror-fields (r .seen))
       ∙ side-or-named (helping r) (anchorOf (r .seen) .status) (r .side) f g e
 
   module _ (turned : sideOf (mirrorBusy r) ≡ opposite (sideOf r)) where

@@ -8,7 +8,7 @@ use lib.ListN.{length}
 use borrow.Author.Tests.{eqb-true, eqb-false, eq-eqb, ne-eqb}
 use Rattle.word.specs.declared.Anchor.{Anchor}
 use Rattle.word.specs.Anchor.{anchorOf}
-use Rattle.model.specs.declared.{Control.Control, Record.Record, Asked.Asked}
+use Rattle.model.specs.declared.{Control.Control, Call.Call, Asked.Asked}
 use Rattle.model.specs.Tables.{Tables, isPooled}
 use Rattle.model.specs.Sound.{from1, anchorSound, controlSound, recordSound, rowsFit}
 use Rattle.model.specs.Refusals.{Lent, fits, startRefusal}
@@ -60,11 +60,11 @@ unfolding controlSound
 control-sound-mirror c = ap (λ (b : Bool). from1 16 (c .tasks) && (from1 1023 (c .slots) && (b && leb (c .pooled) 1)))
     (word-sound-mirror (c .slots) (c .anchor))
 
-pub busy-sound-mirror : (pooled : Bool) (slots : ℕ) (r : Record) → recordSound pooled slots (mirrorBusy r) ≡ recordSound pooled slots r
+pub busy-sound-mirror : (pooled : Bool) (slots : ℕ) (r : Call) → recordSound pooled slots (mirrorBusy r) ≡ recordSound pooled slots r
 unfolding recordSound
 busy-sound-mirror pooled slots r = rw (side-range (r .side), word-sound-mirror slots (r .seen), stable-mirror (r .seen)) refl
 
-pub record-sound-mirror : (pooled : Bool) (slots : ℕ) (r : Record) → recordSound pooled slots (mirrorRecord r) ≡ recordSound pooled slots r
+pub record-sound-mirror : (pooled : Bool) (slots : ℕ) (r : Call) → recordSound pooled slots (mirrorRecord r) ≡ recordSound pooled slots r
 unfolding mirrorRecord
 record-sound-mirror pooled slots r = go (eqb (r .place) 0)
   where
@@ -72,7 +72,7 @@ record-sound-mirror pooled slots r = go (eqb (r .place) 0)
     go true = refl
     go false = busy-sound-mirror pooled slots r
 
-pub place-mirror : (r : Record) → mirrorRecord r .place ≡ r .place
+pub place-mirror : (r : Call) → mirrorRecord r .place ≡ r .place
 unfolding mirrorRecord
 place-mirror r = go (eqb (r .place) 0)
   where
@@ -91,7 +91,7 @@ rows-fit-mirror pooled slots q = go (ltb slots (length (q .lefts))) (ltb slots (
     go false true rest = refl
     go false false rest = refl
 
-pub start-refusal-mirror : (q : Tables) (p : Lent) (r : Record) (side : ℕ) (a : Asked)
+pub start-refusal-mirror : (q : Tables) (p : Lent) (r : Call) (side : ℕ) (a : Asked)
     → startRefusal (mirrorControl (q .control)) (fits (mirrorTables q)) p (mirrorRecord r) (mirrorSide side) a
     ≡ startRefusal (q .control) (fits q) p r side a
 unfolding startRefusal

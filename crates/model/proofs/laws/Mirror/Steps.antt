@@ -6,7 +6,7 @@ use Prim.Native.Nat.{ℕ}
 use lib.Dec.{eqb, leb, ltb}
 use lib.ListN.{getD}
 use borrow.Author.Tests.{eqb-true, not-false}
-use Rattle.model.specs.declared.{Control.Control, Record.Record, TaskRecord.TaskRecord}
+use Rattle.model.specs.declared.{Control.Control, Call.Call, Record.Record}
 use Rattle.model.specs.declared.Outcome.the-variants.{Refused, Moved}
 use Rattle.model.specs.Tables.{atPlace, Tables, isPooled, idle, withCall}
 use Rattle.model.specs.Sound.{from1, linkSound, controlSound, recordSound, rowsFit}
@@ -22,12 +22,12 @@ use Rattle.model.proofs.laws.Mirror.Sound.{word-sound-mirror, tag-mirro
 use Rattle.model.proofs.laws.Mirror.Moves.{mirrorTouch, mirrorMove, apply-mirror, move-mirror}
 use Rattle.model.specs.{Sides.opposite, Lists.every}
 
-pub busy-record : (r : Record) → eqb (r .place) 0 ≡ false → mirrorRecord r ≡ mirrorBusy r
+pub busy-record : (r : Call) → eqb (r .place) 0 ≡ false → mirrorRecord r ≡ mirrorBusy r
 unfolding mirrorRecord
 busy-record r e = ap (λ (b : Bool). cond b r (mirrorBusy r)) e
 
 -- A busy, sound record steps on the opposite side.
-turned : (pooled : Bool) (slots : ℕ) (r : Record) → recordSound pooled slots r ≡ true → eqb (r .place) 0 ≡ false
+turned : (pooled : Bool) (slots : ℕ) (r : Call) → recordSound pooled slots r ≡ true → eqb (r .place) 0 ≡ false
     → sideOf (mirrorBusy r) ≡ opposite (sideOf r)
 turned pooled slots r sound busy = let facts = sound-record pooled slots r sound busy in side-mirror r (facts .side) (facts .status) (facts .unstable)
 
@@ -40,7 +40,7 @@ leaves-mirror slots (takeSlot w x l) = refl
 leaves-mirror slots (setNext x v) = refl
 leaves-mirror slots (setHead w) = refl
 
-room-mirror : (r : Record) (t : Touch) → hasRoom (mirrorBusy r) (mirrorTouch t) ≡ hasRoom r t
+room-mirror : (r : Call) (t : Touch) → hasRoom (mirrorBusy r) (mirrorTouch t) ≡ hasRoom r t
 room-mirror r nothing = refl
 room-mirror r (setAnchor w) = ap (λ (n : ℕ). ltb n 4294967295) (tag-mirror (r .seen))
 room-mirror r (setLink side x w) = refl
@@ -49,7 +49,7 @@ room-mirror r (takeSlot w x l) = refl
 room-mirror r (setNext x v) = refl
 room-mirror r (setHead w) = refl
 
-step-sound-mirror : (c : Control) (r : Record) (w : ℕ) → sideOf (mirrorBusy r) ≡ opposite (sideOf r)
+step-sound-mirror : (c : Control) (r : Call) (w : ℕ) → sideOf (mirrorBusy r) ≡ opposite (sideOf r)
     → stepSound (mirrorControl c) (mirrorBusy r) w ≡ stepSound c r w
 unfolding stepSound
 step-sound-mirror c r w side =
@@ -66,13 +66,13 @@ step-sound-mirror c r w side =
     ∷ []
     )
 
-module _ (q : Tables) (r : Record) where
+module _ (q : Tables) (r : Call) where
   -- The last rule is asked of busy, sound records alone.
   last-rule : recordSound (isPooled (q .control)) (q .control .slots) r ≡ true → eqb (r .place) 0 ≡ false
       → stepSound (mirrorControl (q .control)) (mirrorRecord r) (wordFound (mirrorTables q) (mirrorRecord r)) ≡ stepSound (q .control) r (wordFound q r)
   last-rule sound busy =
       let side = turned (isPooled (q .control)) (q .control .slots) r sound busy in
-      ap (λ (x : Record). stepSound (mirrorControl (q .control)) x (wordFound (mirrorTables q) x)) (busy-record r busy)
+      ap (λ (x : Call). stepSound (mirrorControl (q .control)) x (wordFound (mirrorTables q) x)) (busy-record r busy)
       ∙ ap (stepSound (mirrorControl (q .control)) (mirrorBusy r)) (link-met-mirror r side q)
       ∙ step-sound-mirror (q .control) r (wordFound q r) side
 
@@ -96,7 +96,7 @@ module _ (q : Tables) (r : Record) where
       (last-three (recordSound (isPooled (q .control)) (q .control .slots) r) (eqb (r .place) 0) _ _ last-rule))
 
 -- The record gone on.
-goes-mirror : (r : Record) (n : ℕ) → eqb n 0 ≡ false → goes (mirrorBusy r) n ≡ mirrorRecord (goes r n)
+goes-mirror : (r : Call) (n : ℕ) → eqb n 0 ≡ false → goes (mirrorBusy r) n ≡ mirrorRecord (goes r n)
 unfolding goes mirrorRecord
 goes-mirror r n h = go (leb n 17)
   where
@@ -104,7 +104,7 @@ goes-mirror r n h = go (leb n 17)
     go true = sym (busy-record (atPlace r n) h)
     go false = refl
 
-finish-mirror : (q : Tables) (r : TaskRecord) (m : Move) → row (mirrorBusy (r .call)) ≡ row (r .call)
+finish-mirror : (q : Tables) (r : Record) (m : Move) → row (mirrorBusy (r .call)) ≡ row (r .call)
     → eqb (onward (route (r .call .place) (r .call .kind) (m .branch)) (m .task .finishing)) 0 ≡ false
     → finish (mirrorTables q) (withCall r (mirrorBusy (r .call))) (mirrorMove m) ≡ mirrorActed (finish q r m)
 unfolding finish
@@ -118,7 +118,7 @@ finish-mirror q r m same on =
     }
 
 -- Refused, or carried out.
-pub decide-mirror : (why : ℕ) (q : Tables) (r : TaskRecord) (done done′ : Acted) → (why ≡ 0 → done′ ≡ mirrorActed done)
+pub decide-mirror : (why : ℕ) (q : Tables) (r : Record) (done done′ : Acted) → (why ≡ 0 → done′ ≡ mirrorActed done)
     → decide why (mirrorTables q) (mirrorTask r) done′ ≡ mirrorActed (decide why q r done)
 decide-mirror why q r done done′ h = go (eqb why 0) refl
   where
@@ -127,23 +127,23 @@ decide-mirror why q r done done′ h = go (eqb why 0) refl
     go true e = h (eqb-true why 0 e)
     go false e = refl
 
-abbrev carried : Tables → TaskRecord → Acted
+abbrev carried : Tables → Record → Acted
 carried q r = finish q r (move (q .control) (r .call) (wordFound q (r .call)))
 
-carried-mirror : (q : Tables) (r : TaskRecord) → recordSound (isPooled (q .control)) (q .control .slots) (r .call) ≡ true
+carried-mirror : (q : Tables) (r : Record) → recordSound (isPooled (q .control)) (q .control .slots) (r .call) ≡ true
     → eqb (r .call .place) 0 ≡ false
     → carried (mirrorTables q) (mirrorTask r) ≡ mirrorActed (carried q r)
 carried-mirror q r sound busy =
     let c = r .call in
     let side = turned (isPooled (q .control)) (q .control .slots) c sound busy in
-    ap (λ (x : Record). carried (mirrorTables q) (withCall r x)) (busy-record c busy)
+    ap (λ (x : Call). carried (mirrorTables q) (withCall r x)) (busy-record c busy)
     ∙ ap (λ (w : ℕ). finish (mirrorTables q) (withCall r (mirrorBusy c)) (move (mirrorControl (q .control)) (mirrorBusy c) w))
     (link-met-mirror c side q)
     ∙ ap (finish (mirrorTables q) (withCall r (mirrorBusy c))) (move-mirror (q .control) c (wordFound q c) side)
     ∙ finish-mirror q r (move (q .control) c (wordFound q c)) (row-mirror c side)
     (leads-on (isPooled (q .control)) (q .control .slots) (q .control) c (wordFound q c) sound busy)
 
-pub step-mirror : (q : Tables) (p : Lent) (r : TaskRecord) → step (mirrorTables q) p (mirrorTask r) ≡ mirrorActed (step q p r)
+pub step-mirror : (q : Tables) (p : Lent) (r : Record) → step (mirrorTables q) p (mirrorTask r) ≡ mirrorActed (step q p r)
 unfolding step stepRefusal
 step-mirror q p r =
     ap (λ (why : ℕ). decide why (mirrorTables q) (mirrorTask r) (carried (mirrorTables q) (mirrorTask r))) (step-refusal-mirror q (r .call) p)

@@ -6,7 +6,7 @@ use Prim.Native.Nat.{ℕ, zero, suc}
 use native.Mathlib.Omega.{arith}
 use lib.Dec.{eqb}
 use borrow.Author.Tests.{ne-eqb}
-use Rattle.model.specs.declared.{Record.Record, TaskRecord.TaskRecord}
+use Rattle.model.specs.declared.{Call.Call, Record.Record}
 use Rattle.model.specs.Tables.{Queue, ofKind, withAnchor, withCall, withSeen}
 use Rattle.model.specs.Mirror.{mirrorSide, mirrorBusy, mirrorRecord, mirrorTask, mirrorQueue}
 use Rattle.model.proofs.laws.Mirror.{Packed.mirror-involutive, Steps.busy-record}
@@ -20,7 +20,7 @@ side-twice (suc (suc side)) = ap mirrorSide kept ∙ kept
     kept : mirrorSide (suc (suc side)) ≡ suc (suc side)
     kept = rw (ne-eqb (suc (suc side)) 0 (λ e. omega arith), ne-eqb (suc (suc side)) 1 (λ e. omega arith))
 
-record-twice : (r : Record) → mirrorRecord (mirrorRecord r) ≡ r
+record-twice : (r : Call) → mirrorRecord (mirrorRecord r) ≡ r
 unfolding mirrorRecord
 record-twice r = go (eqb (r .place) 0) refl
   where
@@ -31,9 +31,9 @@ record-twice r = go (eqb (r .place) 0) refl
         ∙ ap₂ (λ (d w : ℕ). ofKind (withSeen r w (r .finishing)) (r .kind) d)
         (side-twice (r .side)) (mirror-involutive (r .seen))
 
-records-twice : (l : List TaskRecord) → map mirrorTask (map mirrorTask l) ≡ l
+records-twice : (l : List Record) → map mirrorTask (map mirrorTask l) ≡ l
 records-twice [] = refl
-records-twice (r ∷ l) = ap₂ (λ (x : Record) (m : List TaskRecord). withCall r x ∷ m) (record-twice (r .call)) (records-twice l)
+records-twice (r ∷ l) = ap₂ (λ (x : Call) (m : List Record). withCall r x ∷ m) (record-twice (r .call)) (records-twice l)
 
 pub mirror-twice : (q : Queue) → mirrorQueue (mirrorQueue q) ≡ q
 mirror-twice q = λ i. record {

@@ -11,7 +11,7 @@ returns c =
     let made = made0 .before .before in
     let high0 = made .before .before .before .before in
     let high = high0 .before .before in
-    made .late .ensures (high .if1 .taken) _ _
+    made .slot-step .ensures (high .if1 .taken) _ _
 
 returns-2 : tie.Need-returns-2
 unfolding callOf
@@ -19,7 +19,7 @@ returns-2 c =
     let made = c .before .before .before .before in
     let low0 = made .before .before .before .before in
     let low = low0 .before in
-    made .early .ensures (low .if1 .left) _ _ _
+    made .deque-step .ensures (low .if1 .left) _ _ _
 
 pub move-row-spec : {M : Type 1} → statement M
 move-row-spec =

@@ -19,22 +19,31 @@ returns c =
     let labels = c .before .before .before .before in
     let done = labels .before in
     let lent = done .before .before .before .before in
-    let told = lent .before .before .before .before in
-    (rw (told .before .op .given .1) (done .push .ensures .0), zeroed-once (isMoved (done .push .result)) (uppersOf (lent-rows (told .before .before .before))) _ _ (done .push .ensures .1))
+    let told = lent .before .before .before .before in (
+      rw (told .before .op .given .1) (done .push .ensures .0),
+      zeroed-once (isMoved (done .push .result)) (uppersOf (lent-rows
+          (told .before .before .before))) _ _ (done .push .ensures .1),
+    )
 
 returns-2 : tie.Need-returns-2
 returns-2 c =
     let done = c .before in
     let lent = done .before .before .before .before in
-    let told = lent .before .before .before .before in
-    (rw (told .before .op2 .given .1) (done .pop .ensures .0), zeroed-once (isMoved (done .pop .result)) (uppersOf (lent-rows (told .before .before .before))) _ _ (done .pop .ensures .1))
+    let told = lent .before .before .before .before in (
+      rw (told .before .op2 .given .1) (done .pop .ensures .0),
+      zeroed-once (isMoved (done .pop .result)) (uppersOf (lent-rows
+          (told .before .before .before))) _ _ (done .pop .ensures .1),
+    )
 
 returns-3 : tie.Need-returns-3
 returns-3 c =
     let done = c .before in
     let lent = done .before .before .before .before in
-    let told = lent .before .before .before .before in
-    (rw (told .before .op3 .given .1) (done .put .ensures .0), zeroed-once (isMoved (done .put .result)) (uppersOf (lent-rows (told .before .before .before))) _ _ (done .put .ensures .1))
+    let told = lent .before .before .before .before in (
+      rw (told .before .op3 .given .1) (done .put .ensures .0),
+      zeroed-once (isMoved (done .put .result)) (uppersOf (lent-rows
+          (told .before .before .before))) _ _ (done .put .ensures .1),
+    )
 
 returns-4 : tie.Need-returns-4
 returns-4 c =
@@ -42,8 +51,11 @@ returns-4 c =
     let lefts = labels .before .before .before .before in
     let done = lefts .before .before .before in
     let lent = done .before .before .before .before in
-    let told = lent .before .before .before .before in
-    (rw (told .enum-told .given .1) (done .step .ensures .0), zeroed-once (endsCall (done .step .result)) (uppersOf (lent-rows (told .before .before))) _ _ (done .step .ensures .1))
+    let told = lent .before .before .before .before in (
+      rw (told .enum-told .given .1) (done .step .ensures .0),
+      zeroed-once (endsCall (done .step .result)) (uppersOf (lent-rows
+          (told .before .before))) _ _ (done .step .ensures .1),
+    )
 
 pub operate-spec : {M : Type 1} → statement M
 operate-spec =

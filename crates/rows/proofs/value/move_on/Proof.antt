@@ -4,8 +4,8 @@ use mathlib.Core.List.{List}
 use Prim.Native.Nat.{ℕ}
 use borrow.Author.Needs.{needs}
 use Rattle.model.specs.declared.Control.{Control}
+use Rattle.model.specs.declared.Call.{Call}
 use Rattle.model.specs.declared.Record.{Record}
-use Rattle.model.specs.declared.TaskRecord.{TaskRecord}
 use Rattle.model.specs.declared.Outcome.{Outcome}
 use Rattle.model.specs.Tables.{tablesOf}
 use Rattle.model.specs.Calls.{Acted}
@@ -16,7 +16,7 @@ use Rattle.rows.proofs.value.move_on.Statement.{statement}
 use Rattle.rows.proofs.value.move_on.Tie as tie
 
 -- Control and record made rows, the rows moved on, and control and record made of them again.
-in-rows : (c d : Control) (t : TaskRecord) (call : Record) (retries : ℕ) (ws row ws′ row′ ls rs bs ms ns ls′ rs′ bs′ ms′ ns′ : List ℕ) (o : Outcome)
+in-rows : (c d : Control) (t : Record) (call : Call) (retries : ℕ) (ws row ws′ row′ ls rs bs ms ns ls′ rs′ bs′ ms′ ns′ : List ℕ) (o : Outcome)
     → controlOf ws ≡ c → recordOf row ≡ t
     → RowMoved (tablesOf (controlOf ws) ls rs bs ms ns) row (tablesOf (controlOf ws′) ls′ rs′ bs′ ms′ ns′) row′ o
     → d ≡ controlOf ws′ → call ≡ callOf row′ → retries ≡ recordOf row′ .retries

@@ -3,7 +3,7 @@ use mathlib.Core.Bool.{false}
 use Prim.Native.Nat.{ℕ}
 use lib.Dec.{eqb, leb}
 use borrow.Author.Tests.{eq-eqb, ne-eqb, le-leb, lt-leb}
-use Rattle.model.specs.declared.Record.{Record}
+use Rattle.model.specs.declared.Call.{Call}
 use Rattle.model.specs.Tables.{started, asking}
 use Rattle.model.proofs.tests.Truth.{either}
 use Rattle.threads_model.specs.declared.Start.{Start}
@@ -27,7 +27,7 @@ draw s h k = rw (ne-eqb (s .operation) 0 h, ne-eqb (s .operation) 1 k)
 -- Whatever the operation, the call is busy, and its side the start's.
 bad : (pooled slots : ℕ) (s : Start) → leb (s .side) 1 ≡ false → refuses 34 ≡ plan pooled slots (firstCall s)
 bad pooled slots s a =
-    let P : Record → Type 0 = λ r. refuses 34 ≡ plan pooled slots r in
+    let P : Call → Type 0 = λ r. refuses 34 ≡ plan pooled slots r in
     either P (eqb (s .operation) 0) (by.bad-side pooled slots (started 0 (s .side) (s .slot) (s .label)) refl a)
     (either P (eqb (s .operation) 1) (by.bad-side pooled slots (started 1 (s .side) 0 0) refl a)
     (by.bad-side pooled slots (asking (s .side) (s .label)) refl a))

@@ -1,6 +1,6 @@
 use mathlib.Core.Path.{sym, ap, _∙_}
 use borrow.Author.Tests.{le-leb, lt-leb}
-use Rattle.model.specs.declared.Record.{Record}
+use Rattle.model.specs.declared.Call.{Call}
 use Rattle.rows.specs.Rows.{callOf}
 use Rattle.threads_model.specs.Starts.{planStart}
 use Rattle.touch.proofs.Starting as by
@@ -35,7 +35,7 @@ returns-4 c =
     (sym (c .before .before .before .before .before .before .before .wrong-push .ensures)
     ∙ c .before .before .before .before .before .before .if2 .left) (sym (c .before .before .before .before .before .outside .ensures)
     ∙ c .before .before .before .before .if3 .left)
-    (sym (ap (λ (r : Record). r .place) (c .before .before .call-of .ensures)) ∙ c .if4 .taken)
+    (sym (ap (λ (r : Call). r .place) (c .before .before .call-of .ensures)) ∙ c .if4 .taken)
 
 returns-5 : tie.Need-returns-5
 returns-5 c =
@@ -49,7 +49,7 @@ returns-5 c =
     (c .before .before .before .before .before .before .before .before .outside .ensures)
     ∙ c .before .before .before .before .before .before .before .if3 .left)
     (c .before .before .before .if4 .left) (sym (c .before .before .record-sound .ensures) ∙ c .before .if5 .taken)
-    ∙ ap (λ (r : Record). planStart (a .pooled) (a .slots) r (a .s)) (co .ensures)
+    ∙ ap (λ (r : Call). planStart (a .pooled) (a .slots) r (a .s)) (co .ensures)
 
 returns-6 : tie.Need-returns-6
 returns-6 c =
@@ -63,7 +63,7 @@ returns-6 c =
     (c .before .before .before .before .before .before .before .before .outside .ensures)
     ∙ c .before .before .before .before .before .before .before .if3 .left)
     (sym (c .before .before .record-sound .ensures) ∙ c .before .if5 .left)
-    ∙ ap (λ (r : Record). planStart (a .pooled) (a .slots) r (a .s)) (co .ensures)
+    ∙ ap (λ (r : Call). planStart (a .pooled) (a .slots) r (a .s)) (co .ensures)
 
 pub plan-start-spec : {M : Type 1} → statement M
 plan-start-spec =

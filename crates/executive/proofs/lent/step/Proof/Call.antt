@@ -31,7 +31,7 @@ use denote.Triple.Call.{calls-at}
 use denote.Triple.Clauses.{ensured, lasts}
 use denote.Triple.Spec.{tripleOf}
 use Rattle.model.specs.declared.Control.{Control}
-use Rattle.model.specs.declared.TaskRecord.{TaskRecord}
+use Rattle.model.specs.declared.Record.{Record}
 use Rattle.model.specs.declared.Outcome.{Outcome}
 use Rattle.model.specs.declared.Op.the-variants.{Step}
 use Rattle.model.specs.Tables.{Queue}
@@ -39,7 +39,7 @@ use Rattle.model.specs.Calls.{Done, act}
 use Rattle.deque.proofs.Walk.{slice-value}
 use Rattle.deque.proofs.Engine.{Five, KeepLengths, tabled, unwritten, slices}
 use Rattle.model.proofs.Control as K
-use Rattle.model.proofs.TaskRecord as T
+use Rattle.model.proofs.Record as T
 use Rattle.model.proofs.Outcome as E
 use Rattle.deque.proofs.step as callee
 use Rattle.executive.proofs.lent.step.Code as code
@@ -48,7 +48,7 @@ abbrev pub CalledStep : {M : Type 1} (𝓤 : URA M) (H : Heap 𝓤) (A : Atoms �
 CalledStep 𝓤 H A mem run = tripleOf 𝓤 H A callee.signature (callee.spec 𝓤 H A mem run)
 
 module _ {M : Type 1} (𝓤 : URA M) (H : Heap 𝓤) (A : Atoms 𝓤) (W : Given 𝓤 H A) (at-mem : Memory → SProp 𝓤) (run : Routine → Fun 𝓤)
-    (κs : Five Lft) (qs : Five Share) (c : Control) (rs : List TaskRecord) (task : ℕ) (xs : Five (RefT (List ℕ))) where
+    (κs : Five Lft) (qs : Five Share) (c : Control) (rs : List Record) (task : ℕ) (xs : Five (RefT (List ℕ))) where
   abbrev pub tokens : Item 𝓤
   tokens = ‵ (flft (κs .0) (qs .0)) ⊛ ‵ (flft (κs .1 .0) (qs .1 .0)) ⊛ ‵ (flft (κs .1 .1 .0) (qs .1 .1 .0)) ⊛ ‵
       (flft (κs .1 .1 .1 .0) (qs .1 .1 .1 .0)) ⊛ ‵ (flft (κs .1 .1 .1 .1 .0) (qs .1 .1 .1 .1 .0)) ⊛ ‵ ftrue
@@ -57,10 +57,10 @@ module _ {M : Type 1} (𝓤 : URA M) (H : Heap 𝓤) (A : Atoms 𝓤) (W : Given
   lists = ‵ (owns (MutSlice (named 0) (κs .0) u64 ∷ MutSlice (named 1) (κs .1 .0) u64 ∷ MutSlice (named 2) (κs .1 .1 .0) u32
       ∷ MutSlice (named 3) (κs .1 .1 .1 .0) u64 ∷ MutSlice (named 4) (κs .1 .1 .1 .1 .0) u64 ∷ []) xs (slices xs))
 
-  abbrev queued : Control → List TaskRecord → Five (List ℕ) → Queue
+  abbrev queued : Control → List Record → Five (List ℕ) → Queue
   queued z hs ls = record { tables = tabled z ls; records = hs }
 
-  abbrev Said : Outcome → Control → List TaskRecord → Five (List ℕ) → Type 0
+  abbrev Said : Outcome → Control → List Record → Five (List ℕ) → Type 0
   Said o z hs ls = _≡_ {A = Done} (record { queue = queued z hs ls; outcome = o }) (act (queued c rs (unwritten xs)) task Step)
 
   -- the call, with control and the records lent at the addresses bc and br
@@ -68,7 +68,7 @@ module _ {M : Type 1} (𝓤 : URA M) (H : Heap 𝓤) (A : Atoms 𝓤) (W : Given
     abbrev xc : RefT Control
     xc = record { ptr = (bc, 0); name = γc; now = c }
 
-    abbrev xr : RefT (List TaskRecord)
+    abbrev xr : RefT (List Record)
     xr = record { ptr = (br, 0); name = γr; now = rs }
 
     abbrev to-callee : CalledStep 𝓤 H A at-mem run .Ghost
@@ -99,13 +99,13 @@ module _ {M : Type 1} (𝓤 : URA M) (H : Heap 𝓤) (A : Atoms 𝓤) (W : Given
     goes-in = qed W (all-tokens ∷ (refc ⊛ refr ⊛ number ⊛ lists) ∷ []) ∵ join ! $ frame ! $ done !
 
     abbrev Lasts : Type 0
-    Lasts = Control × (List TaskRecord × (Unit {0} × Five (List ℕ)))
+    Lasts = Control × (List Record × (Unit {0} × Five (List ℕ)))
 
     module _ {G : Type 0} {Γ : List (Item 𝓤)} {En : Env 𝓤 H} {C : Calls 𝓤 H} {Λ : Loops 𝓤 H} {q : PostOf 𝓤 H} where
       pub called : G → {name : Name} {os : List Operand} {d : Place} {rest : Code} → length rs ≡ 2 → task < 2 ^ 64 → FmC 𝓤 H (W .laws) C → Triple 𝓤
           (C name) (CalledStep 𝓤 H A at-mem run)
           → Opds G W (raw (CalledStep 𝓤 H A at-mem run .pre to-callee) ∷ Γ) En os (CalledStep 𝓤 H A at-mem run .args to-callee)
-          → ((w : Val) (o : Outcome) (c′ : Control) (rs′ : List TaskRecord) (ls : Five (List ℕ)) → Said o c′ rs′ ls → KeepLengths xs ls → Is E.the-row o (w
+          → ((w : Val) (o : Outcome) (c′ : Control) (rs′ : List Record) (ls : Five (List ℕ)) → Said o c′ rs′ ls → KeepLengths xs ls → Is E.the-row o (w
           ∷ [])
           → Seq G W (‵ (flft (αc ∷ []) fullShare) ∷ ‵ (flft (αr ∷ []) fullShare) ∷ tokens
           ∷ ‵ (finally u64 (xs .1 .1 .1 .1 .0 .name) (ls .1 .1 .1 .1 .0)) ∷ ‵ (finally u64 (xs .1 .1 .1 .0 .name) (ls .1 .1 .1 .0))

@@ -29,12 +29,12 @@ use denote.Triple.Call.{calls-at}
 use denote.Triple.Clauses.{ensured, lasts}
 use denote.Triple.Spec.{tripleOf}
 use Rattle.model.specs.declared.Control.{Control}
-use Rattle.model.specs.declared.TaskRecord.{TaskRecord}
+use Rattle.model.specs.declared.Record.{Record}
 use Rattle.model.specs.declared.Outcome.{Outcome}
 use Rattle.model.specs.Calls.{Acted, stepLent}
 use Rattle.deque.proofs.Engine.{Five, KeepLengths, tabled, unwritten, slices}
 use Rattle.model.proofs.Control as K
-use Rattle.model.proofs.TaskRecord as T
+use Rattle.model.proofs.Record as T
 use Rattle.model.proofs.Outcome as E
 use Rattle.deque.proofs.step_record as callee
 use Rattle.executive.proofs.lent.step_record.Code as code
@@ -43,7 +43,7 @@ abbrev pub StepRecord : {M : Type 1} (𝓤 : URA M) (H : Heap 𝓤) (A : Atoms �
 StepRecord 𝓤 H A mem run = tripleOf 𝓤 H A callee.signature (callee.spec 𝓤 H A mem run)
 
 module _ {M : Type 1} (𝓤 : URA M) (H : Heap 𝓤) (A : Atoms 𝓤) (W : Given 𝓤 H A) (at-mem : Memory → SProp 𝓤) (run : Routine → Fun 𝓤)
-    (κs : Five Lft) (qs : Five Share) (c : Control) (r : TaskRecord) (xs : Five (RefT (List ℕ))) where
+    (κs : Five Lft) (qs : Five Share) (c : Control) (r : Record) (xs : Five (RefT (List ℕ))) where
   abbrev pub tokens : Item 𝓤
   tokens = ‵ (flft (κs .0) (qs .0)) ⊛ ‵ (flft (κs .1 .0) (qs .1 .0)) ⊛ ‵ (flft (κs .1 .1 .0) (qs .1 .1 .0)) ⊛ ‵
       (flft (κs .1 .1 .1 .0) (qs .1 .1 .1 .0)) ⊛ ‵ (flft (κs .1 .1 .1 .1 .0) (qs .1 .1 .1 .1 .0)) ⊛ ‵ ftrue
@@ -52,7 +52,7 @@ module _ {M : Type 1} (𝓤 : URA M) (H : Heap 𝓤) (A : Atoms 𝓤) (W : Given
   lists = ‵ (owns (MutSlice (named 0) (κs .0) u64 ∷ MutSlice (named 1) (κs .1 .0) u64 ∷ MutSlice (named 2) (κs .1 .1 .0) u32
       ∷ MutSlice (named 3) (κs .1 .1 .1 .0) u64 ∷ MutSlice (named 4) (κs .1 .1 .1 .1 .0) u64 ∷ []) xs (slices xs))
 
-  abbrev Said : Outcome → Control → TaskRecord → Five (List ℕ) → Type 0
+  abbrev Said : Outcome → Control → Record → Five (List ℕ) → Type 0
   Said o z h ls = _≡_ {A = Acted} (record { tables = tabled z ls; task = h; outcome = o }) (stepLent (tabled c (unwritten xs)) r)
 
   -- the call, with control and record lent at the addresses bc and br
@@ -60,7 +60,7 @@ module _ {M : Type 1} (𝓤 : URA M) (H : Heap 𝓤) (A : Atoms 𝓤) (W : Given
     abbrev xc : RefT Control
     xc = record { ptr = (bc, 0); name = γc; now = c }
 
-    abbrev xr : RefT TaskRecord
+    abbrev xr : RefT Record
     xr = record { ptr = (br, 0); name = γr; now = r }
 
     abbrev to-callee : StepRecord 𝓤 H A at-mem run .Ghost
@@ -88,12 +88,12 @@ module _ {M : Type 1} (𝓤 : URA M) (H : Heap 𝓤) (A : Atoms 𝓤) (W : Given
     goes-in = qed W (all-tokens ∷ (refc ⊛ refr ⊛ lists) ∷ []) ∵ join ! $ frame ! $ done !
 
     abbrev Lasts : Type 0
-    Lasts = Control × (TaskRecord × Five (List ℕ))
+    Lasts = Control × (Record × Five (List ℕ))
 
     module _ {G : Type 0} {Γ : List (Item 𝓤)} {En : Env 𝓤 H} {C : Calls 𝓤 H} {Λ : Loops 𝓤 H} {q : PostOf 𝓤 H} where
       pub called : G → {name : Name} {os : List Operand} {d : Place} {rest : Code} → FmC 𝓤 H (W .laws) C → Triple 𝓤 (C name) (StepRecord 𝓤 H A at-mem run)
           → Opds G W (raw (StepRecord 𝓤 H A at-mem run .pre to-callee) ∷ Γ) En os (StepRecord 𝓤 H A at-mem run .args to-callee)
-          → ((w : Val) (o : Outcome) (c′ : Control) (r′ : TaskRecord) (ls : Five (List ℕ)) → Said o c′ r′ ls → KeepLengths xs ls → Is E.the-row o (w ∷ [])
+          → ((w : Val) (o : Outcome) (c′ : Control) (r′ : Record) (ls : Five (List ℕ)) → Said o c′ r′ ls → KeepLengths xs ls → Is E.the-row o (w ∷ [])
           → Seq G W (‵ (flft (αc ∷ []) fullShare) ∷ ‵ (flft (αr ∷ []) fullShare) ∷ tokens
           ∷ ‵ (finally u64 (xs .1 .1 .1 .1 .0 .name) (ls .1 .1 .1 .1 .0)) ∷ ‵ (finally u64 (xs .1 .1 .1 .0 .name) (ls .1 .1 .1 .0))
           ∷ ‵ (finally u32 (xs .1 .1 .0 .name) (ls .1 .1 .0)) ∷ ‵ (finally u64 (xs .1 .0 .name) (ls .1 .0)) ∷ ‵ (finally u64 (xs .0 .name) (ls .0))
