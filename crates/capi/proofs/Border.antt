@@ -27,8 +27,7 @@ use Rattle.calls.proofs.Counts.{countable-fits}
 use Rattle.calls.proofs.Tells.{all-looked-at, report-parts}
 use Rattle.rows.specs.Rows.{controlOf, recordsOf, uppersOf, queueIn}
 use Rattle.rows.proofs.Rows.{length-records, all-zeroed}
-use Rattle.capi.specs.Replies.{uppersAt, Coded, coded, Replied, replied, countsIn, reportReplyOf}
-use Rattle.capi.proofs.Count.{busyIn}
+use Rattle.capi.specs.Replies.{uppersAt, Coded, coded, Replied, replied, busyIn, countsIn, reportReplyOf}
 
 -- A start or step, its outcome in numbers. zeroes: after which outcomes the upper half of the label's word is zero.
 pub answered : (zeroes : Outcome → Bool) (op : Op) (q q′ : Queue) (task : ℕ) (us us′ : List ℕ) (o : Outcome) (r : Reply)

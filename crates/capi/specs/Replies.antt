@@ -1,8 +1,8 @@
 -- Answers in numbers, beside what each lent table then holds.
-use mathlib.Core.Bool.{Bool, cond}
+use mathlib.Core.Bool.{Bool, not, cond}
 use mathlib.Core.List.{List}
 use Prim.Native.Nat.{ℕ}
-use lib.Dec.{ltb}
+use lib.Dec.{eqb, ltb}
 use lib.ListN.{getD, replicate, set}
 use Rattle.model.specs.declared.Opening.{Opening}
 use Rattle.model.specs.declared.Opening.the-variants as opening
@@ -14,7 +14,7 @@ use Rattle.model.specs.declared.Record.{Record}
 use Rattle.model.specs.Tables.{Queue, unused}
 use Rattle.model.specs.Report.{reportCode}
 use Rattle.model.specs.Calls.{OpenDone, Done, openingCode, replyOf}
-use Rattle.model.specs.Lists.{zeroed, listed}
+use Rattle.model.specs.Lists.{count, zeroed, listed}
 use Rattle.capi.specs.declared.ReportReply.{ReportReply}
 
 -- A report with the tasks' counts beside it; all 0 in a refusal.
@@ -33,6 +33,10 @@ reportReplyOf (reported.Told r) retries =
       taken = r .taken;
       retries = retries;
     }
+
+-- How many of the first n records are busy tasks'.
+abbrev pub busyIn : ℕ → List Record → ℕ
+busyIn n rs = count (λ t. not (eqb (getD rs t unused .call .place) 0)) n
 
 -- The counts of the first n records.
 abbrev pub countsIn : ℕ → List Record → List ℕ

@@ -7,18 +7,14 @@ use model::Reply;
 use model::Reported;
 use rows::op;
 ghost use mathlib.Core.Path.{_≡_};
-ghost use mathlib.Core.Bool.{not};
 ghost use Prim.Native.Nat.{_≤_};
-ghost use lib.Dec.{eqb};
-ghost use lib.ListN.{length, getD};
+ghost use lib.ListN.{length};
 ghost use Rattle.model.specs.declared.Op.the-variants.{Push, Pop, PushPooled, Step};
-ghost use Rattle.model.specs.Tables.{unused};
 ghost use Rattle.model.specs.Calls.{act};
 ghost use Rattle.model.specs.Report.{report, retryCounts};
 ghost use Rattle.model.specs.Ends.{endsCall, isMoved};
-ghost use Rattle.model.specs.Lists.{count};
 ghost use Rattle.rows.specs.Rows.{queueIn, recordsOf, uppersOf};
-ghost use Rattle.capi.specs.Replies.{reportReplyOf, countsIn, Replied, replied};
+ghost use Rattle.capi.specs.Replies.{reportReplyOf, busyIn, countsIn, Replied, replied};
 
 /// A report in numbers.
 #[repr(C)]
@@ -220,35 +216,29 @@ pub extern "C" fn zc_step(
     engine::reply(o)
 }
 
-// How many of the first n records are busy tasks'.
-fn busy(records: &[[u64; rows::RECORD_WORDS]], n: usize) -> u64
+// What the report tells of the records.
+struct Looked {
+    busy: u64,
+    retries: [u64; 16],
+}
+
+// Of the first n records: how many are busy tasks', and all counts, 0 beyond. One loop, so that each record is read once.
+fn look(records: &[[u64; rows::RECORD_WORDS]], n: usize) -> Looked
     requires { ⌜ (n ≤ length (now records)) × (n ≤ 16) ⌝ }
-    ensures { λ k. ⌜ k ≡ count (λ t. not (eqb (getD (recordsOf (now (records .entry))) t unused .call .place) 0)) n ⌝ }
+    ensures { λ l.
+        ⌜ (l .busy ≡ busyIn n (recordsOf (now (records .entry)))) × (l .retries ≡ countsIn n (recordsOf (now (records .entry)))) ⌝ }
 {
-    let mut k: u64 = 0;
+    let mut busy: u64 = 0;
+    let mut retries: [u64; 16] = [0; 16];
     let mut i: usize = 0;
     while i < n {
         let row = records[i];
         let r = rows::call_of(row);
-        k = report::count_busy(k, r);
+        busy += (r.place != 0) as u64;
+        retries[i] = rows::retries_of(row);
         i += 1;
     }
-    k
-}
-
-// The counts of the first n tasks, and 0 beyond.
-fn retry_counts(records: &[[u64; rows::RECORD_WORDS]], n: usize) -> [u64; 16]
-    requires { ⌜ (n ≤ length (now records)) × (n ≤ 16) ⌝ }
-    ensures { λ out. ⌜ out ≡ countsIn n (recordsOf (now (records .entry))) ⌝ }
-{
-    let mut out: [u64; 16] = [0; 16];
-    let mut i: usize = 0;
-    while i < n {
-        let row = records[i];
-        out[i] = rows::retries_of(row);
-        i += 1;
-    }
-    out
+    Looked { busy, retries }
 }
 
 /// Tells the fields of Anchor, the busy tasks, the labels waiting, the slots taken and each task's retries.
@@ -271,8 +261,8 @@ pub extern "C" fn zc_report(
     let c = rows::control_of(row);
     let n = records.len();
     let k = report::to_count(c, n);
-    let b = busy(records, k);
-    let t = report::told(c, n, b, lefts, rights, labels, marks, next);
-    let retries = retry_counts(records, k);
+    let l = look(records, k);
+    let t = report::told(c, n, l.busy, lefts, rights, labels, marks, next);
+    let retries = l.retries;
     report_reply(t, retries)
 }

@@ -14,21 +14,18 @@ use Rattle.sheet_model.specs.declared.SheetReply.{SheetReply}
 use Rattle.sheet_model.specs.Sheet.{Sheet, chained, waits, leftOf, breaks}
 use Rattle.sheet_model.specs.Words.{linked}
 use Rattle.order.specs.Squares.{Row, crossed}
-use Rattle.order.specs.Extents.{Extents, placeOf}
+use Rattle.order.specs.Extents.{Noting, placeOf, firstAt}
 use Rattle.sheet_model.specs.Verdict.{brokenBy, verdict}
 use Rattle.order.specs.Search.{inRow, inRows}
 use Rattle.sheet_model.proofs.Formed.{Formed}
 use Rattle.order.proofs.Searched.{verdict-is}
 use Rattle.order.proofs.Rounds.{Shows, marks, row-at}
 use Rattle.order.proofs.Crossing.{meets, lowest, highest, crosses-up, crosses-down, meets-reverse, meets-left, meets-self}
-use Rattle.order.proofs.Noted.{unseen, notedAll, label-place, low-noted, high-noted}
+use Rattle.order.proofs.Noted.{notedAll, label-place, low-noted, high-noted}
 
--- The entries met, from left to right, and the first position, of a walk from the left or from the right.
+-- The entries met, from left to right, of a walk from the left or from the right.
 abbrev pub turned : Bool → List Entry → List Entry
 turned up l = cond up l (reverse l)
-
-abbrev pub firstAt : Bool → ℕ
-firstAt up = cond up 1 1023
 
 crosses : (up : Bool) (y x : ℕ) (l : List Entry) → length l ≤ 1023
     → leb (lowest up (firstAt up) y l) (highest up (firstAt up) x l) ≡ meets y x (turned up l)
@@ -54,8 +51,8 @@ module _ (s : Sheet) (form : Formed s) (up : Bool) (l : List Entry) (short : len
   abbrev n : ℕ
   n = length (s .listed)
 
-  abbrev e : Extents
-  e = notedAll (s .listed) up (firstAt up) l unseen
+  abbrev e : Noting
+  e = notedAll up (s .listed) l
 
   -- Different places have different labels.
   apart : (a b : ℕ) → a < n → b < n → (a ≡ b → ⊥) → getD (s .listed) a 0 ≡ getD (s .listed) b 0 → ⊥
@@ -66,8 +63,8 @@ module _ (s : Sheet) (form : Formed s) (up : Bool) (l : List Entry) (short : len
       → leb (getD (e .low) b 0) (getD (e .high) a 0)
       ≡ cond (eqb (suc a) (suc b)) (waits (getD (s .listed) a 0) (turned up l)) (leftOf (getD (s .listed) b 0) (getD (s .listed) a 0) (turned up l))
   pair a b f g =
-      (λ i. leb (low-noted (s .listed) (form .once) b g (form .few) up (firstAt up) l i)
-      (high-noted (s .listed) (form .once) a f (form .few) up (firstAt up) l i))
+      (λ i. leb (low-noted (s .listed) (form .once) b g (form .few) up l i)
+      (high-noted (s .listed) (form .once) a f (form .few) up l i))
       ∙ crosses up (getD (s .listed) b 0) (getD (s .listed) a 0) l short
       ∙ go (decide-eq a b)
     where

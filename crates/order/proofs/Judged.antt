@@ -1,36 +1,36 @@
 -- The call's steps, one after the other, make up its meaning.
 use mathlib.Core.Bool.{Bool, true, false, not, _&&_, cond}
-use mathlib.Core.List.{List, [], _∷_}
-use mathlib.Core.Path.{_≡_, refl, sym, ap, _∙_}
+use mathlib.Core.List.{List, []}
+use mathlib.Core.Path.{_≡_, refl, sym, ap, subst, _∙_}
 use Prim.Native.Nat.{ℕ, _≤_}
 use native.Mathlib.Omega.{arith}
 use lib.Dec.{eqb, leb}
 use lib.ListN.{length}
-use borrow.Author.Tests.{leb-true, not-true, not-false}
-use Rattle.word.specs.declared.Anchor.{Anchor}
-use Rattle.word.specs.Anchor.{anchorOf}
+use borrow.Author.Tests.{leb-true}
 use Rattle.model.specs.declared.Control.{Control}
-use Rattle.model.specs.declared.Entry.{Entry}
 use Rattle.model.specs.Tables.{Tables}
-use Rattle.model.specs.Sound.{controlTests, controlSound, rowsFit}
-use Rattle.model.specs.Walk.{Walk, entries, broken, along, walkFrom, contents, isBroken, met}
-use Rattle.model.proofs.tests.Truth.{split, and-true, not-both}
+use Rattle.model.specs.Sound.{controlTests, controlSound, from1, rowsFit}
+use Rattle.model.specs.Walk.{Walk, entries, broken, walkFrom, contents, isBroken, met}
+use Rattle.model.proofs.tests.Truth.{split, and-true}
 use Rattle.model.proofs.tests.Rules.{tests}
-use Rattle.model.specs.Sides.{isEmpty}
 use Rattle.sheet_model.specs.declared.SheetReply.{SheetReply}
 use Rattle.sheet_model.specs.Sheet.{Sheet, malformed}
 use Rattle.sheet_model.specs.Words.{linked}
 use Rattle.order.specs.Squares.{Row, byteRow, crossed}
-use Rattle.order.specs.Extents.{Extents, noted, nextAt, gather, extents}
+use Rattle.walk.specs.declared.Way.{Way}
+use Rattle.walk.specs.Ways.{wayOf, noneOn, linksOn, ahead}
+use Rattle.walk.specs.Over.{Made, made, lost}
+use Rattle.walk.proofs.Along.{nowhere, nothing, waits, off}
+use Rattle.order.specs.Extents.{Extents, gathered, extents, told}
 use Rattle.sheet_model.specs.Verdict.{refused, verdict, judge}
 use Rattle.order.specs.Refusals.{early}
 use Rattle.order.specs.Search.{inRows}
 use Rattle.sheet_model.proofs.Formed.{Formed, formed}
-use Rattle.order.proofs.Broken.{firstAt, found-verdict}
+use Rattle.order.proofs.Broken.{found-verdict}
 use Rattle.order.proofs.Rounds.{Shows, marks}
 use Rattle.order.proofs.ByteRows.{bytes, bytes-show}
-use Rattle.order.proofs.Gather.{Follows, Short, gather-walk, along-short}
-use Rattle.order.proofs.Noted.{unseen, notedAll}
+use Rattle.order.proofs.Gather.{Short, along-short}
+use Rattle.order.proofs.Noted.{unseen}
 
 pub slots-few : (c : Control) → controlSound c ≡ true → c .slots ≤ 1023
 unfolding controlSound
@@ -38,14 +38,17 @@ slots-few c e =
     let slots = tests (controlTests c) e .1 .0 in
     leb-true (c .slots) 1023 (and-true (leb 1 (c .slots)) (leb (c .slots) 1023) slots .1)
 
-stays-sound : (listed : List ℕ) (up : Bool) (at : ℕ) (l : List Entry) (e : Extents) → e .sound ≡ true → notedAll listed up at l e .sound ≡ true
-unfolding notedAll
-stays-sound listed up at [] e h = h
-stays-sound listed up at (x ∷ l) e h = stays-sound listed up (nextAt up at) l (noted listed (x .label) at e) refl
-
 -- The extents as the call finds them.
-abbrev pub extentsIn : Sheet → Tables → Extents
-extentsIn s q = extents (q .control .slots) (anchorOf (q .control .anchor)) (s .listed) (q .lefts) (q .rights) (q .labels) unseen
+abbrev pub extentsIn : Sheet → Tables → Made Extents
+extentsIn s q = extents (wayOf (q .control)) (s .listed) (q .lefts) (q .rights) (q .labels) unseen
+
+-- As the code tells them.
+module _ (sound : Bool) (low high : List ℕ) {m : Made Extents} where
+  pub tells-made : sound ≡ true → told sound low high ≡ m → made (record { low = low; high = high }) ≡ m
+  tells-made e h = ap (λ (b : Bool). told b low high) (sym e) ∙ h
+
+  pub tells-lost : sound ≡ false → told sound low high ≡ m → lost ≡ m
+  tells-lost e h = ap (λ (b : Bool). told b low high) (sym e) ∙ h
 
 -- A square of the chained rules and the extents of a walk w tell the verdict on its entries.
 module _ (s : Sheet) {A : Type 0} (r : Row A) (R : (ℕ → Bool) → A) (law : Shows r R) (beyond : List A) where
@@ -54,51 +57,36 @@ module _ (s : Sheet) {A : Type 0} (r : Row A) (R : (ℕ → Bool) → A) (law : 
       inRows (crossed r (marks r R law beyond (linked (s .rules) (length (s .listed)))) (e .low) (e .high)) (length (s .listed)) 1
       (length (s .listed))
 
-  pub record Tells (e : Extents) (w : Walk) : Type 0 where
-    pub sound : e .sound ≡ not (isBroken w)
-    pub answer : Formed s → e .sound ≡ true → found e ≡ verdict s (met w)
+  abbrev pub Tells : Made Extents → Walk → Type 0
+  Tells (made e) w = (isBroken w ≡ false) × (Formed s → found e ≡ verdict s (met w))
+  Tells lost w = isBroken w ≡ true
 
-  abbrev side : Bool → ℕ
-  side up = cond up 0 1
-
-  of-walk : (up : Bool) (w : Walk) (e : Extents) → Short 1023 w → Follows (s .listed) up (firstAt up) unseen w e → Tells e (walkFrom (side up) w)
-  of-walk true (entries l) e h k = record {
-    sound = ap (λ (x : Extents). x .sound) k ∙ stays-sound (s .listed) true 1 l unseen refl;
-    answer = λ f _. ap found k ∙ found-verdict s f true l h r R law beyond;
-  }
-  of-walk false (entries l) e h k = record {
-    sound = ap (λ (x : Extents). x .sound) k ∙ stays-sound (s .listed) false 1023 l unseen refl;
-    answer = λ f _. ap found k ∙ found-verdict s f false l h r R law beyond;
-  }
-  of-walk up broken e h k = record { sound = k; answer = λ f z. absurd (not-both z k) }
+  of-walk : (up : Bool) (w : Walk) → Short 1023 w → Tells (gathered up (s .listed) unseen w) (walkFrom (cond up 0 1) w)
+  of-walk true (entries l) h = (refl, λ f. found-verdict s f true l h r R law beyond)
+  of-walk false (entries l) h = (refl, λ f. found-verdict s f false l h r R law beyond)
+  of-walk up broken h = refl
 
   shorter : (n : ℕ) (w : Walk) → n ≤ 1023 → Short n w → Short 1023 w
   shorter n (entries l) h g = omega arith
   shorter n broken h g = tt
 
   module _ (q : Tables) (few : q .control .slots ≤ 1023) where
-    abbrev a : Anchor
-    a = anchorOf (q .control .anchor)
+    abbrev w : Way
+    w = wayOf (q .control)
 
-    abbrev slots : ℕ
-    slots = q .control .slots
-
-    walked : (up : Bool) (links : List ℕ) (last x : ℕ)
-        → Tells (gather slots links (q .labels) (s .listed) up last slots x (firstAt up) unseen)
-        (walkFrom (side up) (along slots links (q .labels) last slots x))
-    walked up links last x =
-        of-walk up (along slots links (q .labels) last slots x) (gather slots links (q .labels) (s .listed) up last slots x (firstAt up) unseen)
-        (shorter slots (along slots links (q .labels) last slots x) few (along-short slots links (q .labels) last slots x))
-        (gather-walk slots links (q .labels) (s .listed) up last slots x (firstAt up) unseen)
+    short : Short 1023 (ahead w (q .lefts) (q .rights) (q .labels))
+    unfolding wayOf
+    short = shorter (w .slots) (ahead w (q .lefts) (q .rights) (q .labels)) few
+        (along-short (w .slots) (linksOn w (q .lefts) (q .rights)) (q .labels) (w .last) (w .slots) (w .first))
 
     pub tells : Tells (extentsIn s q) (contents q)
-    unfolding extents contents notedAll
+    unfolding extents
     tells =
-        split (isEmpty a)
-        (λ e. rw e (of-walk true (entries []) unseen (omega arith) refl))
-        (λ e. split (eqb (a .status) 2)
-        (λ f. rw (e, f) (walked true (q .rights) (a .right) (a .left)))
-        (λ f. rw (e, f) (walked false (q .lefts) (a .left) (a .right))))
+        split (noneOn w)
+        (λ y. rw (y, nothing q w refl y) (of-walk true (entries []) (omega arith)))
+        (λ y. split (from1 (w .slots) (w .first))
+        (λ z. rw (y, waits q w refl z) (of-walk (w .rightward) (ahead w (q .lefts) (q .rights) (q .labels)) short))
+        (λ z. rw (y, off q w refl z y, nowhere w (q .lefts) (q .rights) (q .labels) (w .slots) (w .first) z) refl))
 
 -- What stands before the walk applies, or doesn't.
 early-none : (a b c : Bool) → early a b c ≡ 0 → (a ≡ true) × (b ≡ false) × (c ≡ true)
@@ -140,18 +128,19 @@ module _ (q : Tables) (s : Sheet) (enough : Bool) where
     few : q .control .slots ≤ 1023
     few = slots-few (q .control) (ok .control)
 
-    pub judge-lost : extentsIn s q .sound ≡ false → refused 34 ≡ judge q s enough
+    pub judge-lost : lost ≡ extentsIn s q → refused 34 ≡ judge q s enough
     unfolding judge
     judge-lost h =
-        rw (ok .control, ok .form, ok .long, not-false (isBroken (contents q)) (sym (tells s byteRow bytes bytes-show [] q few .sound) ∙ h))
+        let t = subst (λ (m : Made Extents). Tells s byteRow bytes bytes-show [] m (contents q)) (sym h) (tells s byteRow bytes bytes-show [] q few) in
+        rw (ok .control, ok .form, ok .long, t)
 
     -- With a square of either kind.
-    pub judge-told : {A : Type 0} (r : Row A) (R : (ℕ → Bool) → A) (law : Shows r R) (beyond : List A) → extentsIn s q .sound ≡ true
-        → found s r R law beyond (extentsIn s q) ≡ judge q s enough
+    pub judge-told : {A : Type 0} (r : Row A) (R : (ℕ → Bool) → A) (law : Shows r R) (beyond : List A) (e : Extents) → made e ≡ extentsIn s q
+        → found s r R law beyond e ≡ judge q s enough
     unfolding judge
-    judge-told r R law beyond h =
-        rw (ok .control, ok .form, ok .long, not-true (isBroken (contents q)) (sym (tells s r R law beyond q few .sound) ∙ h))
-        (tells s r R law beyond q few .answer (formed s (ok .form)) h)
+    judge-told r R law beyond e h =
+        let t = subst (λ (m : Made Extents). Tells s r R law beyond m (contents q)) (sym h) (tells s r R law beyond q few) in
+        rw (ok .control, ok .form, ok .long, t .0) (t .1 (formed s (ok .form)))
 
 -- The tests before the walk, one after the other.
 module _ (a b c : Bool) where

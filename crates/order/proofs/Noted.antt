@@ -11,17 +11,17 @@ use borrow.Author.Tests.{eqb-true, eqb-false, eq-eqb, ne-eqb}
 use Rattle.model.specs.declared.Entry.{Entry}
 use Rattle.model.proofs.tests.Truth.{or-false}
 use Rattle.sheet_model.specs.Sheet.{any, twice}
-use Rattle.order.specs.Extents.{Extents, placeOf, lower, higher, noted, nextAt}
+use Rattle.walk.specs.Over.{each}
+use Rattle.order.specs.Extents.{Extents, Noting, placeOf, lower, higher, noted, begun, firstAt, nextAt}
 use Rattle.order.proofs.Crossing.{lowest, highest, low-bound, lower-is, lower-min, higher-max}
 
 -- No label waits.
 abbrev pub unseen : Extents
-unseen = record { sound = true; low = replicate 32 1024; high = replicate 32 0 }
+unseen = record { low = replicate 32 1024; high = replicate 32 0 }
 
 -- Some entries noted one after the other.
-unfoldable pub notedAll : List ℕ → Bool → ℕ → List Entry → Extents → Extents
-notedAll listed up at [] e = e
-notedAll listed up at (x ∷ l) e = notedAll listed up (nextAt up at) l (noted listed (x .label) at e)
+abbrev pub notedAll : Bool → List ℕ → List Entry → Noting
+notedAll up listed l = each (noted up listed) (begun up unseen) l
 
 any-at : (p : ℕ → Bool) (l : List ℕ) (i : ℕ) → any p l ≡ false → i < length l → p (getD l i 0) ≡ false
 any-at p [] i e h = absurd (omega arith)
@@ -62,72 +62,76 @@ module _ (listed : List ℕ) (once : twice listed ≡ false) (k : ℕ) (here : k
   put-other : (x v : ℕ) (t : List ℕ) → (x ≡ own → ⊥) → getD (set t (placeOf x listed) v) k 0 ≡ getD t k 0
   put-other x v t e = getD-set-other t (placeOf x listed) k v 0 (λ z. e (place-label x listed k (sym z) here))
 
-  low-one : (x at : ℕ) (e : Extents) → k < length (e .low)
-      → getD (noted listed x at e .low) k 0 ≡ cond (eqb x own) (lower at (getD (e .low) k 0)) (getD (e .low) k 0)
-  low-one x at e h = go (eqb x own) refl
+  low-one : (up : Bool) (s : Noting) (y : Entry) → k < length (s .low)
+      → getD (noted up listed s y .low) k 0 ≡ cond (eqb (y .label) own) (lower (s .at) (getD (s .low) k 0)) (getD (s .low) k 0)
+  low-one up s y h = go (eqb x own) refl
     where
+      x : ℕ
+      x = y .label
+
       at-place : x ≡ own → placeOf x listed ≡ k
       at-place z = ap (λ (y : ℕ). placeOf y listed) z ∙ label-place listed k once here
 
-      go : (b : Bool) → eqb x own ≡ b → getD (noted listed x at e .low) k 0 ≡ cond b (lower at (getD (e .low) k 0)) (getD (e .low) k 0)
-      go true z =
-          put-at x _ (e .low) h (eqb-true x own z) ∙ ap (λ (p : ℕ). lower at (getD (e .low) p 0)) (at-place (eqb-true x own z))
-      go false z = put-other x _ (e .low) (eqb-false x own z)
+      go : (b : Bool) → eqb x own ≡ b → getD (noted up listed s y .low) k 0 ≡ cond b (lower (s .at) (getD (s .low) k 0)) (getD (s .low) k 0)
+      go true z = put-at x _ (s .low) h (eqb-true x own z) ∙ ap (λ (p : ℕ). lower (s .at) (getD (s .low) p 0)) (at-place (eqb-true x own z))
+      go false z = put-other x _ (s .low) (eqb-false x own z)
 
-  high-one : (x at : ℕ) (e : Extents) → k < length (e .high)
-      → getD (noted listed x at e .high) k 0 ≡ cond (eqb x own) (higher at (getD (e .high) k 0)) (getD (e .high) k 0)
-  high-one x at e h = go (eqb x own) refl
+  high-one : (up : Bool) (s : Noting) (y : Entry) → k < length (s .high)
+      → getD (noted up listed s y .high) k 0 ≡ cond (eqb (y .label) own) (higher (s .at) (getD (s .high) k 0)) (getD (s .high) k 0)
+  high-one up s y h = go (eqb x own) refl
     where
+      x : ℕ
+      x = y .label
+
       at-place : x ≡ own → placeOf x listed ≡ k
       at-place z = ap (λ (y : ℕ). placeOf y listed) z ∙ label-place listed k once here
 
-      go : (b : Bool) → eqb x own ≡ b → getD (noted listed x at e .high) k 0 ≡ cond b (higher at (getD (e .high) k 0)) (getD (e .high) k 0)
-      go true z =
-          put-at x _ (e .high) h (eqb-true x own z) ∙ ap (λ (p : ℕ). higher at (getD (e .high) p 0)) (at-place (eqb-true x own z))
-      go false z = put-other x _ (e .high) (eqb-false x own z)
+      go : (b : Bool) → eqb x own ≡ b → getD (noted up listed s y .high) k 0 ≡ cond b (higher (s .at) (getD (s .high) k 0)) (getD (s .high) k 0)
+      go true z = put-at x _ (s .high) h (eqb-true x own z) ∙ ap (λ (p : ℕ). higher (s .at) (getD (s .high) p 0)) (at-place (eqb-true x own z))
+      go false z = put-other x _ (s .high) (eqb-false x own z)
 
-  low-from : (up : Bool) (at : ℕ) (l : List Entry) (e : Extents) → k < length (e .low) → getD (e .low) k 0 ≤ 1024
-      → getD (notedAll listed up at l e .low) k 0 ≡ min (lowest up at own l) (getD (e .low) k 0)
-  unfolding notedAll lowest
-  low-from up at [] e h g = omega arith
-  low-from up at (x ∷ l) e h g =
-      let z = low-one (x .label) at e h in
+  low-from : (up : Bool) (l : List Entry) (s : Noting) → k < length (s .low) → getD (s .low) k 0 ≤ 1024
+      → getD (each (noted up listed) s l .low) k 0 ≡ min (lowest up (s .at) own l) (getD (s .low) k 0)
+  unfolding lowest
+  low-from up [] s h g = omega arith
+  low-from up (x ∷ l) s h g =
+      let z = low-one up s x h in
       let t =
-      low-from up (nextAt up at) l (noted listed (x .label) at e)
-      (omega (arith, length-set (e .low) (placeOf (x .label) listed) (lower at (getD (e .low) (placeOf (x .label) listed) 0))))
+      low-from up l (noted up listed s x)
+      (omega (arith, length-set (s .low) (placeOf (x .label) listed) (lower (s .at) (getD (s .low) (placeOf (x .label) listed) 0))))
       (bound (eqb (x .label) own) z) in
-      t ∙ ap (min (lowest up (nextAt up at) own l)) z ∙ go (eqb (x .label) own) (getD (e .low) k 0) (lowest up (nextAt up at) own l)
+      t ∙ ap (min (lowest up (nextAt up (s .at)) own l)) z ∙ go (eqb (x .label) own) (getD (s .low) k 0) (lowest up (nextAt up (s .at)) own l)
     where
-      bound : (b : Bool) {r : ℕ} → r ≡ cond b (lower at (getD (e .low) k 0)) (getD (e .low) k 0) → r ≤ 1024
-      bound true z = let w = lower-is at (getD (e .low) k 0) .two in omega arith
+      bound : (b : Bool) {r : ℕ} → r ≡ cond b (lower (s .at) (getD (s .low) k 0)) (getD (s .low) k 0) → r ≤ 1024
+      bound true z = let w = lower-is (s .at) (getD (s .low) k 0) .two in omega arith
       bound false z = omega arith
 
-      go : (b : Bool) (v r : ℕ) → min r (cond b (lower at v) v) ≡ min (cond b (lower at r) r) v
-      go true v r = rw (lower-min at v, lower-min at r) (omega arith)
+      go : (b : Bool) (v r : ℕ) → min r (cond b (lower (s .at) v) v) ≡ min (cond b (lower (s .at) r) r) v
+      go true v r = rw (lower-min (s .at) v, lower-min (s .at) r) (omega arith)
       go false v r = refl
 
-  high-from : (up : Bool) (at : ℕ) (l : List Entry) (e : Extents) → k < length (e .high)
-      → getD (notedAll listed up at l e .high) k 0 ≡ max (highest up at own l) (getD (e .high) k 0)
-  unfolding notedAll highest
-  high-from up at [] e h = omega arith
-  high-from up at (x ∷ l) e h =
-      let z = high-one (x .label) at e h in
+  high-from : (up : Bool) (l : List Entry) (s : Noting) → k < length (s .high)
+      → getD (each (noted up listed) s l .high) k 0 ≡ max (highest up (s .at) own l) (getD (s .high) k 0)
+  unfolding highest
+  high-from up [] s h = omega arith
+  high-from up (x ∷ l) s h =
+      let z = high-one up s x h in
       let t =
-      high-from up (nextAt up at) l (noted listed (x .label) at e)
-      (omega (arith, length-set (e .high) (placeOf (x .label) listed) (higher at (getD (e .high) (placeOf (x .label) listed) 0)))) in
-      t ∙ ap (max (highest up (nextAt up at) own l)) z ∙ go (eqb (x .label) own) (getD (e .high) k 0) (highest up (nextAt up at) own l)
+      high-from up l (noted up listed s x)
+      (omega (arith, length-set (s .high) (placeOf (x .label) listed) (higher (s .at) (getD (s .high) (placeOf (x .label) listed) 0)))) in
+      t ∙ ap (max (highest up (nextAt up (s .at)) own l)) z ∙ go (eqb (x .label) own) (getD (s .high) k 0) (highest up (nextAt up (s .at)) own l)
     where
-      go : (b : Bool) (v r : ℕ) → max r (cond b (higher at v) v) ≡ max (cond b (higher at r) r) v
-      go true v r = rw (higher-max at v, higher-max at r) (omega arith)
+      go : (b : Bool) (v r : ℕ) → max r (cond b (higher (s .at) v) v) ≡ max (cond b (higher (s .at) r) r) v
+      go true v r = rw (higher-max (s .at) v, higher-max (s .at) r) (omega arith)
       go false v r = refl
 
-  module _ (small : length listed ≤ 32) (up : Bool) (at : ℕ) (l : List Entry) where
-    pub low-noted : getD (notedAll listed up at l unseen .low) k 0 ≡ lowest up at own l
+  module _ (small : length listed ≤ 32) (up : Bool) (l : List Entry) where
+    pub low-noted : getD (notedAll up listed l .low) k 0 ≡ lowest up (firstAt up) own l
     low-noted =
         let v : _≡_ {A = ℕ} (getD (replicate 32 1024) k 0) 1024 = getD-replicate 32 k 1024 0 (omega arith) in
-        low-from up at l unseen (omega arith) (omega arith) ∙ (let b = low-bound up at own l in omega arith)
+        low-from up l (begun up unseen) (omega arith) (omega arith) ∙ (let b = low-bound up (firstAt up) own l in omega arith)
 
-    pub high-noted : getD (notedAll listed up at l unseen .high) k 0 ≡ highest up at own l
+    pub high-noted : getD (notedAll up listed l .high) k 0 ≡ highest up (firstAt up) own l
     high-noted =
         let v : _≡_ {A = ℕ} (getD (replicate 32 0) k 0) 0 = getD-replicate 32 k 0 0 (omega arith) in
-        high-from up at l unseen (omega arith) ∙ omega arith
+        high-from up l (begun up unseen) (omega arith) ∙ omega arith

@@ -13,7 +13,7 @@ use Rattle.model.specs.Sound.{from1}
 use Rattle.model.proofs.tests.Truth.{and-true, or-false, split}
 use Rattle.sheet_model.specs.declared.SheetReply.{SheetReply}
 use Rattle.sheet_model.specs.Sheet.{Sheet, before, after, any, twice, outside, malformed}
-use Rattle.order.specs.Extents.{placeOf, lower, higher, nextAt, position}
+use Rattle.order.specs.Extents.{placeOf, lower, higher, firstAt, nextAt}
 use Rattle.order.specs.Squares.{Row, crossed, sweep, ruleMarked, rulesMarked, rounds, joinVia}
 use Rattle.sheet_model.specs.Verdict.{brokenBy, kept}
 use Rattle.order.specs.Search.{inRow, inRows}
@@ -205,10 +205,17 @@ higher-put t k at h = ap (λ b. set t k (cond b at (getD t k 0))) (sym (lt-ltb (
 pub higher-kept : (t : List ℕ) (k at : ℕ) → at ≤ getD t k 0 → t ≡ set t k (higher at (getD t k 0))
 higher-kept t k at h = sym (ap (λ b. set t k (cond b at (getD t k 0))) (le-ltb (getD t k 0) at h) ∙ set-getD t k 0)
 
--- Positions along a walk.
-pub position-on : (up : Bool) (k : ℕ) → k < 1023 → nextAt up (position up k) ≡ position up (k + 1)
-position-on true k h = omega arith
-position-on false k h = omega arith
+-- The position after k steps of a walk.
+abbrev pub position : Bool → ℕ → ℕ
+position up k = cond up (1 + k) (1023 - k)
+
+pub position-first : (up : Bool) → firstAt up ≡ position up 0
+position-first true = omega arith
+position-first false = omega arith
+
+pub position-on : (up : Bool) (k : ℕ) → nextAt up (position up k) ≡ position up (k + 1)
+position-on true k = omega arith
+position-on false k = omega arith
 
 pub position-low : (up : Bool) (k : ℕ) → k < 1023 → 1 ≤ position up k
 position-low true k h = omega arith

@@ -1,18 +1,23 @@
 -- Where each listed label waits: the lowest and the highest of its positions, as one walk finds them.
 use mathlib.Core.Bool.{Bool, true, false, cond}
 use mathlib.Core.List.{List, [], _∷_}
-use Prim.Native.Nat.{ℕ, zero, suc, _+_, _-_}
+use Prim.Native.Nat.{ℕ, suc, _+_, _-_}
 use lib.Dec.{ltb, eqb}
 use lib.ListN.{getD, set}
-use Rattle.word.specs.declared.Anchor.{Anchor}
-use Rattle.word.specs.Link.{linkOf}
-use Rattle.model.specs.Sound.{from1, linkSound}
-use Rattle.model.specs.Sides.{isEmpty}
+use Rattle.model.specs.declared.Entry.{Entry}
+use Rattle.model.specs.Walk.{Walk, entries}
+use Rattle.walk.specs.declared.Way.{Way}
+use Rattle.walk.specs.Ways.{noneOn, ahead}
+use Rattle.walk.specs.Over.{Made, made, lost, over}
 
--- Whether the walk met no unsound link, and each listed label's lowest and highest position, 1 to 1,023 from the left;
--- 1,024 and 0 where it doesn't wait.
+-- Each listed label's lowest and highest position, 1 to 1,023 from the left; 1,024 and 0 where it doesn't wait.
 pub record Extents : Type 0 where
-  pub sound : Bool
+  pub low : List ℕ
+  pub high : List ℕ
+
+-- The same on the way, with the position of the next label met.
+pub record Noting : Type 0 where
+  pub at : ℕ
   pub low : List ℕ
   pub high : List ℕ
 
@@ -27,37 +32,39 @@ lower at x = cond (ltb at x) at x
 abbrev pub higher : ℕ → ℕ → ℕ
 higher at x = cond (ltb x at) at x
 
--- A broken walk; what it had noted stays.
-abbrev pub lost : Extents → Extents
-lost e = record { sound = false; low = e .low; high = e .high }
-
--- A waiting label x at a position. A label that isn't listed counts at the place after the last.
-abbrev pub noted : List ℕ → ℕ → ℕ → Extents → Extents
-noted listed x at e =
-    let k = placeOf x listed in
-    record { sound = true; low = set (e .low) k (lower at (getD (e .low) k 0)); high = set (e .high) k (higher at (getD (e .high) k 0)) }
-
 -- Positions rise along a walk from the left and fall along one from the right.
+abbrev pub firstAt : Bool → ℕ
+firstAt up = cond up 1 1023
+
 abbrev pub nextAt : Bool → ℕ → ℕ
 nextAt up at = cond up (at + 1) (at - 1)
 
--- The position after k steps.
-abbrev pub position : Bool → ℕ → ℕ
-position up k = cond up (1 + k) (1023 - k)
+abbrev pub begun : Bool → Extents → Noting
+begun up e = record { at = firstAt up; low = e .low; high = e .high }
 
--- One walk over the words that it reads, from slot x to the slot last, n of them at the most: each label is noted.
-unfoldable pub gather : ℕ → List ℕ → List ℕ → List ℕ → Bool → ℕ → ℕ → ℕ → ℕ → Extents → Extents
-gather slots links labels listed up last zero x at e = lost e
-gather slots links labels listed up last (suc n) x at e =
-    let f = noted listed (getD labels x 0) at e in
-    let w = getD links x 0 in
-    let onwards = cond (linkSound slots w) (gather slots links labels listed up last n (linkOf w .slot) (nextAt up at) f) (lost f) in
-    cond (from1 slots x) (cond (eqb x last) f onwards) (lost e)
+-- A label met. One that isn't listed counts at the place after the last.
+abbrev pub noted : Bool → List ℕ → Noting → Entry → Noting
+noted up listed s y =
+    let k = placeOf (y .label) listed in
+    record {
+      at = nextAt up (s .at);
+      low = set (s .low) k (lower (s .at) (getD (s .low) k 0));
+      high = set (s .high) k (higher (s .at) (getD (s .high) k 0));
+    }
 
--- The walk from the right end along Left links or, under LPUSH, from the left end along Right links.
-unfoldable pub extents : ℕ → Anchor → List ℕ → List ℕ → List ℕ → List ℕ → Extents → Extents
-extents slots a listed lefts rights labels e =
-    cond (isEmpty a) e
-    (cond (eqb (a .status) 2)
-    (gather slots rights labels listed true (a .right) slots (a .left) 1 e)
-    (gather slots lefts labels listed false (a .left) slots (a .right) 1023 e))
+abbrev pub ended : Made Noting → Made Extents
+ended (made s) = made (record { low = s .low; high = s .high })
+ended lost = lost
+
+-- Of a walk, from the left or from the right.
+abbrev pub gathered : Bool → List ℕ → Extents → Walk → Made Extents
+gathered up listed e v = ended (over (noted up listed) (begun up e) v)
+
+-- Of the labels waiting.
+unfoldable pub extents : Way → List ℕ → List ℕ → List ℕ → List ℕ → Extents → Made Extents
+extents w listed lefts rights labels e = gathered (w .rightward) listed e (cond (noneOn w) (entries []) (ahead w lefts rights labels))
+
+-- As the code tells it; of a broken walk nothing counts.
+abbrev pub told : Bool → List ℕ → List ℕ → Made Extents
+told true low high = made (record { low = low; high = high })
+told false low high = lost

@@ -1,14 +1,14 @@
 // Where the listed labels wait, by one walk of the queue.
 use crate::form::place_from;
 use model::Control;
-use word::Anchor;
-use word::Link;
+use walk::Way;
 ghost use mathlib.Core.Path.{_≡_};
 ghost use mathlib.Core.Bool.{true};
 ghost use Prim.Native.Nat.{_≤_};
 ghost use lib.ListN.{getD, set};
-ghost use Rattle.word.specs.Anchor.{anchorOf};
-ghost use Rattle.order.specs.Extents.{Extents, lower, higher, nextAt, position, gather, extents};
+ghost use Rattle.model.specs.Sound.{from1};
+ghost use Rattle.walk.specs.Ways.{wayOf, ahead};
+ghost use Rattle.order.specs.Extents.{lower, higher, firstAt, nextAt, told, gathered, extents};
 
 /// Puts a position at k if it is lower than the one there.
 fn lower(t: &mut [u16], k: usize, at: u16)
@@ -34,6 +34,15 @@ fn raise(t: &mut [u16], k: usize, at: u16)
     }
 }
 
+fn first_at(up: bool) -> u16
+    ensures { λ r. ⌜ r ≡ firstAt up ⌝ }
+{
+    if up {
+        return 1;
+    }
+    1023
+}
+
 /// Positions rise along a walk from the left and fall along one from the right.
 fn next_at(up: bool, at: u16) -> u16
     requires { ⌜ (1 ≤ at) × (at ≤ 1023) ⌝ }
@@ -45,51 +54,42 @@ fn next_at(up: bool, at: u16) -> u16
     at - 1
 }
 
-/// From slot `from` to the slot `last` along the links, the positions noted; false where a link is unsound.
+/// Along the way, noting where each listed label waits; false where a link is unsound.
 fn gather(
-    slots: u64,
-    links: &[u64],
+    w: Way,
+    lefts: &[u64],
+    rights: &[u64],
     labels: &[u32],
     listed: &[u32],
-    up: bool,
-    first: u16,
-    from: u64,
-    last: u64,
     low: &mut [u16],
     high: &mut [u16],
 ) -> bool
-    requires { ⌜ (slots ≤ 1023) × (first ≡ position up 0) ⌝ }
+    requires { ⌜ (w .slots ≤ 1023) × (from1 (w .slots) (w .first) ≡ true) ⌝ }
     ensures { λ r.
-        ⌜ _≡_ {A = Extents} (record { sound = r; low = now (low .exit); high = now (high .exit) })
-        (gather slots (now (links .entry)) (now (labels .entry)) (now (listed .entry)) up last slots from first
-        (record { sound = true; low = now (low .entry); high = now (high .entry) })) ⌝ }
+        ⌜ told r (now (low .exit)) (now (high .exit)) ≡ gathered (w .rightward) (now (listed .entry))
+        (record { low = now (low .entry); high = now (high .entry) })
+        (ahead w (now (lefts .entry)) (now (rights .entry)) (now (labels .entry))) ⌝ }
 {
-    let mut at = first;
-    let mut left = slots;
-    let mut x = from;
+    let mut at = first_at(w.rightward);
+    let mut left = w.slots;
+    let mut x = w.first;
     while 0 < left {
-        if !sound::from1(slots, x) {
-            return false;
-        }
         let k = place_from(listed, 0, table::label_at(labels, x));
         lower(low, k, at);
         raise(high, k, at);
-        if x == last {
+        if x == w.last {
             return true;
         }
-        let w = table::word_at(links, x);
-        if !sound::link_sound(slots, w) {
+        x = walk::leads(w, lefts, rights, x);
+        if x == 0 {
             return false;
         }
-        let link = Link::unpack(w);
-        x = link.slot;
-        at = next_at(up, at);
+        at = next_at(w.rightward, at);
         left -= 1;
     }
     false
 }
 
-/// The walk from the right end along Left links or, under LPUSH, from the left end along Right links.
 /// Positions go into the caller's arrays, which hold 1,024 and 0 for a label that doesn't wait.
 pub fn extents(
     c: Control,
@@ -102,38 +102,13 @@ pub fn extents(
 ) -> bool
     requires { ⌜ c .slots ≤ 1023 ⌝ }
     ensures { λ r.
-        ⌜ _≡_ {A = Extents} (record { sound = r; low = now (low .exit); high = now (high .exit) })
-        (extents (c .slots) (anchorOf (c .anchor)) (now (listed .entry)) (now (lefts .entry)) (now (rights .entry)) (now (labels .entry))
-        (record { sound = true; low = now (low .entry); high = now (high .entry) })) ⌝ }
+        ⌜ told r (now (low .exit)) (now (high .exit)) ≡ extents (wayOf c)
+        (now (listed .entry)) (now (lefts .entry)) (now (rights .entry)) (now (labels .entry))
+        (record { low = now (low .entry); high = now (high .entry) }) ⌝ }
 {
-    let a = Anchor::unpack(c.anchor);
-    if (a.left == 0) & (a.right == 0) {
-        return true;
+    let w = walk::begin(c);
+    if sound::from1(w.slots, w.first) {
+        return gather(w, lefts, rights, labels, listed, low, high);
     }
-    if a.status == 2 {
-        return gather(
-            c.slots,
-            rights,
-            labels,
-            listed,
-            true,
-            1,
-            a.left,
-            a.right,
-            low,
-            high,
-        );
-    }
-    gather(
-        c.slots,
-        lefts,
-        labels,
-        listed,
-        false,
-        1023,
-        a.right,
-        a.left,
-        low,
-        high,
-    )
+    walk::none_on(w)
 }

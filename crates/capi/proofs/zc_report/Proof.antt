@@ -1,4 +1,4 @@
--- The records to look at, how many of them are busy, what is told.
+-- The records to look at, what they tell, and what is told of all.
 use mathlib.Core.Path.{refl, _∙_}
 use Rattle.capi.proofs.Border.{few, reported}
 use borrow.Author.Needs.{needs}
@@ -12,13 +12,13 @@ module _ (told : tie.After-control-of) where
 
 returns : tie.Need-returns
 returns c =
-    let counted = c .before .before .before .before in
-    let told = counted .before in
-    let s = a told .args in
+    let looked = c .before .before .before in
+    let counted = looked .before in
+    let s = a (counted .before) .args in
     c .report-reply .ensures
     ∙ reported (s .control .now) (s .records .now) (s .lefts .now) (s .rights .now) (s .labels .now) (s .marks .now) (s .next .now) _ _ _ _ _ _
-    (told .control-of .ensures) refl (counted .to-count .ensures)
-    (c .before .before .before .busy .ensures) (c .before .before .told .ensures) (c .before .retry-counts .ensures)
+    (counted .before .control-of .ensures) refl (counted .to-count .ensures)
+    (looked .look .ensures .0) (c .before .before .told .ensures) (looked .look .ensures .1)
 
 pub zc-report-spec : {M : Type 1} → statement M
 zc-report-spec =
@@ -28,6 +28,5 @@ zc-report-spec =
     (λ c κs. search needs)
     (λ c κs. few (a (c .before) .args .records .now) _ _ _ refl (c .to-count .ensures))
     (λ c κs. search needs)
-    (λ c κs. few (a (c .before .before .before) .args .records .now) _ _ _ refl (c .before .before .to-count .ensures))
     (λ c κs. search needs)
     returns)

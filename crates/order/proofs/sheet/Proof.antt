@@ -8,7 +8,6 @@ use Rattle.model.specs.Tables.{Tables, tablesOf}
 use Rattle.model.specs.Sound.{controlSound, rowsFit}
 use Rattle.sound.specs.Lengths.{lengthsFit}
 use Rattle.order.specs.Refusals.{early}
-use Rattle.order.specs.Extents.{Extents}
 use Rattle.sheet_model.specs.Sheet.{Sheet, malformed}
 use Rattle.sheet_model.specs.Words.{linked}
 use Rattle.order.specs.Squares.{byteRow, crossed}
@@ -16,7 +15,7 @@ use Rattle.sheet_model.specs.Verdict.{refused, sheet}
 use Rattle.order.specs.Search.{inRows}
 use Rattle.order.proofs.ByteRows.{bytes, bytes-show, square-marks}
 use Rattle.sheet_model.proofs.Formed.{formed}
-use Rattle.order.proofs.Judged.{Accepted, slots-few, accepted, judge-early, judge-lost, judge-told}
+use Rattle.order.proofs.Judged.{Accepted, slots-few, accepted, judge-early, judge-lost, judge-told, tells-lost, tells-made}
 use borrow.Author.Needs.{needs}
 use Rattle.order.proofs.sheet.Statement.{statement}
 use Rattle.order.proofs.sheet.Tie as tie
@@ -53,6 +52,14 @@ returns c next =
     let e = tried why next in
     c .refused .ensures ∙ ap refused e ∙ judge-early (queue why next) (asked why) true (λ z. c .before .if1 .taken (e ∙ z))
 
+-- What the walk noted.
+module _ (walked : tie.After-extents) where
+  abbrev low : List ℕ
+  low = walked .extents .last .1 .1 .1 .1 .1 .0
+
+  abbrev high : List ℕ
+  high = walked .extents .last .1 .1 .1 .1 .1 .1 .0
+
 extents-requires : tie.Need-extents-requires
 extents-requires c κs = let go = c .before .before in slots-few (start (go .before) .args .c) (fine go [] .control)
 
@@ -62,7 +69,7 @@ returns-2 c next =
     let walked = c .before .before .before .before in
     let go = walked .before .before .before in
     c .refused2 .ensures ∙ judge-lost (queue (go .before) next) (asked (go .before)) true (fine go next)
-    (ap (λ (x : Extents). x .sound) (sym (walked .extents .ensures)) ∙ not-true _ (c .before .if2 .taken))
+    (tells-lost (walked .extents .result) (low walked) (high walked) (not-true _ (c .before .if2 .taken)) (walked .extents .ensures))
 
 first-broken-requires : tie.Need-first-broken-requires
 first-broken-requires c κs =
@@ -81,9 +88,9 @@ returns-3 c next =
     let n = length (s .listed) in
     let x = walked .extents .ensures in
     let f = square-marks (linked (s .rules) n) in
-    c .first-broken .ensures ∙ (λ i. inRows (crossed byteRow (f i) (x i .low) (x i .high)) n 1 n)
+    c .first-broken .ensures ∙ ap (λ (m : List (List ℕ)). inRows (crossed byteRow m (low walked) (high walked)) n 1 n) f
     ∙ judge-told (queue (go .before) next) s true (fine go next) byteRow bytes bytes-show []
-    (ap (λ (y : Extents). y .sound) (sym x) ∙ not-false _ (sound .if2 .left))
+    _ (tells-made (walked .extents .result) (low walked) (high walked) (not-false _ (sound .if2 .left)) x)
 
 pub sheet-spec : {M : Type 1} → statement M
 sheet-spec =

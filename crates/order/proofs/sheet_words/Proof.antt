@@ -11,7 +11,6 @@ use Rattle.model.specs.Sound.{controlSound, rowsFit}
 use Rattle.model.proofs.tests.Truth.{and-true}
 use Rattle.sound.specs.Lengths.{lengthsFit}
 use Rattle.order.specs.Refusals.{early}
-use Rattle.order.specs.Extents.{Extents}
 use Rattle.sheet_model.specs.declared.SheetReply.{SheetReply}
 use Rattle.sheet_model.specs.Sheet.{Sheet, malformed}
 use Rattle.sheet_model.specs.Words.{wordsOf}
@@ -20,7 +19,7 @@ use Rattle.sheet_model.specs.Verdict.{refused}
 use Rattle.order.specs.Search.{inRows}
 use Rattle.order.proofs.BitRows.{bits, bits-show, words-long}
 use Rattle.sheet_model.proofs.Formed.{formed}
-use Rattle.order.proofs.Judged.{Accepted, slots-few, accepted, judge-early, judge-lost, judge-told}
+use Rattle.order.proofs.Judged.{Accepted, slots-few, accepted, judge-early, judge-lost, judge-told, tells-lost, tells-made}
 use Rattle.order.proofs.Printed.{rows-code, printed-refused, printed-told}
 use borrow.Author.Needs.{needs}
 use Rattle.order.proofs.sheet_words.Statement.{statement}
@@ -61,6 +60,14 @@ returns c next =
     (c .refused .ensures ∙ ap refused e ∙ judge-early (queue why next) (asked why) (enough why) (λ z. c .before .if1 .taken (e ∙ z)))
     (λ z. c .before .if1 .taken (sym (ap (λ (r : SheetReply). r .code) (c .refused .ensures)) ∙ z))
 
+-- What the walk noted.
+module _ (walked : tie.After-extents) where
+  abbrev low : List ℕ
+  low = walked .extents .last .1 .1 .1 .1 .1 .0
+
+  abbrev high : List ℕ
+  high = walked .extents .last .1 .1 .1 .1 .1 .1 .0
+
 extents-requires : tie.Need-extents-requires
 extents-requires c κs = let go = c .before .before in slots-few (start (go .before) .args .c) (fine go [] .control)
 
@@ -72,7 +79,7 @@ returns-2 c next =
     let x = walked .extents .ensures in
     printed-refused (queue why next) (asked why) (words why) (c .refused2 .result)
     (c .refused2 .ensures ∙ judge-lost (queue why next) (asked why) (enough why) (fine go next)
-    (ap (λ (y : Extents). y .sound) (sym x) ∙ not-true _ (c .before .if2 .taken)))
+    (tells-lost (walked .extents .result) (low walked) (high walked) (not-true _ (c .before .if2 .taken)) x))
     (λ z. let y : _≡_ {A = ℕ} 34 0 = sym (ap (λ (r : SheetReply). r .code) (c .refused2 .ensures)) ∙ z in omega arith)
 
 closure-requires : tie.Need-closure-requires
@@ -107,9 +114,9 @@ returns-3 c next =
     let f = closed .closure .ensures in
     let told = c .first-broken .ensures in
     printed-told (queue why next) (asked why) (words why) (c .first-broken .result) (closed .closure .last .0)
-    (told ∙ (λ i. inRows (crossed bitRow (f i) (x i .low) (x i .high)) n 1 n)
+    (told ∙ ap (λ (m : List ℕ). inRows (crossed bitRow m (low walked) (high walked)) n 1 n) f
     ∙ judge-told (queue why next) (asked why) (enough why) (fine go next) bitRow bits bits-show (drop 32 (words why))
-    (ap (λ (y : Extents). y .sound) (sym x) ∙ not-false _ (sound .if2 .left)))
+    _ (tells-made (walked .extents .result) (low walked) (high walked) (not-false _ (sound .if2 .left)) x))
     (ap (λ (r : SheetReply). r .code) told ∙ rows-code _ n 1 n) f
 
 pub sheet-words-spec : {M : Type 1} → statement M

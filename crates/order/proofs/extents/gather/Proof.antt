@@ -1,41 +1,66 @@
--- What is left of the walk leads from here to where the whole walk leads.
-use Prim.Native.Nat.{ℕ, _≤_, _-_, _+_, _<_}
+-- With so many slots left: what comes of the positions noted along the rest of the walk is what the whole walk notes.
 use mathlib.Core.Path.{_≡_, refl, sym, ap, subst, _∙_}
+use mathlib.Core.Bool.{true}
+use mathlib.Core.List.{List, []}
+use Prim.Native.Nat.{ℕ, _≤_, _-_, _+_, _<_}
 use native.Mathlib.Omega.{arith}
 use lib.ListN.{length, getD}
-use borrow.Author.Tests.{not-true, not-false}
-use Rattle.word.specs.Link.{linkOf}
 use borrow.Author.Needs.{needs}
-use mathlib.Core.Bool.{true}
-use Rattle.model.specs.Sound.{from1, linkSound}
-use Rattle.order.specs.Extents.{Extents, lost, noted, nextAt, position, gather}
-use Rattle.order.proofs.Turns.{position-on, position-low, position-high}
-use Rattle.order.proofs.Gather.{none-left, no-slot, at-last, bad-link, onwards, noted-is}
+use Rattle.model.specs.Sound.{from1}
+use Rattle.walk.specs.declared.Way.{Way}
+use Rattle.walk.specs.Ways.{ahead}
+use Rattle.walk.specs.Over.{made, over}
+use Rattle.walk.proofs.Along.{comes, begins, full, breaks, stops, goes, real}
+use Rattle.order.specs.Extents.{Noting, noted, firstAt, nextAt, ended}
+use Rattle.order.proofs.Turns.{position, position-first, position-on, position-low, position-high}
+use Rattle.order.proofs.Gather.{noted-is}
 use Rattle.order.proofs.extents.gather.Statement.{statement}
 use Rattle.order.proofs.extents.gather.Tie as tie
 
+abbrev with : ℕ → List ℕ → List ℕ → Noting
+with at low high = record { at = at; low = low; high = high }
+
+record Kept (w : Way) (lefts rights labels listed low₀ high₀ low high : List ℕ) (at left x : ℕ) : Type 0 where
+  few : left ≤ w .slots
+  on : from1 (w .slots) x ≡ true
+  place : at ≡ position (w .rightward) (w .slots - left)
+  lows : length low ≡ length low₀
+  highs : length high ≡ length high₀
+  notes : comes (noted (w .rightward) listed) w lefts rights labels (w .slots - left) (with at low high) x
+      ≡ over (noted (w .rightward) listed) (with (firstAt (w .rightward)) low₀ high₀) (ahead w lefts rights labels)
+
 abbrev Inv-loop : tie.InvT-loop
-Inv-loop slots links labels listed up first from last low₀ high₀ at₀ left₀ x₀ low high at left x =
-    (at ≡ position up (slots - left)) × (left ≤ slots) × (length low ≡ length low₀) × (length high ≡ length high₀) ×
-    (gather slots links labels listed up last left x at
-    (record { sound = true; low = low; high = high }) ≡ gather slots links labels listed up last slots from first
-    (record { sound = true; low = low₀; high = high₀ }))
+Inv-loop w lefts rights labels listed low₀ high₀ at₀ left₀ x₀ low high at left x = Kept w lefts rights labels listed low₀ high₀ low high at left x
 
 abbrev μ-loop : tie.MeasureT-loop
-μ-loop slots links labels listed up first from last low₀ high₀ at₀ left₀ x₀ low high at left x = left
+μ-loop w lefts rights labels listed low₀ high₀ at₀ left₀ x₀ low high at left x = left
 
-none : (n : ℕ) → 0 ≡ n - n
+none : (n : ℕ) → n - n ≡ 0
 none n = omega arith
 
--- A turn, and the beginning.
-module _ (turn : tie.At-loop Inv-loop μ-loop) where
-  abbrev start : tie.Start Inv-loop μ-loop
-  start = let lists = turn .before .before in lists .before .before .before .before
+loop-holds : tie.Need-loop-holds Inv-loop μ-loop
+loop-holds c =
+    let lists = c .before .before in
+    let s = lists .before .before .before .before .before in
+    let a = s .args in
+    let f = noted (a .w .rightward) (a .listed .now) in
+    record {
+      few = omega arith;
+      on = s .pre .1;
+      place = c .first-at .ensures ∙ position-first (a .w .rightward) ∙ ap (position (a .w .rightward)) (sym (none (a .w .slots)));
+      lows = refl;
+      highs = refl;
+      notes =
+          (λ i. comes f (a .w) (a .lefts .now) (a .rights .now) (a .labels .now) (none (a .w .slots) i)
+          (with (c .first-at .ensures i) (a .low .now) (a .high .now)) (a .w .first))
+          ∙ begins f (a .w) (a .lefts .now) (a .rights .now) (a .labels .now) (with (firstAt (a .w .rightward)) (a .low .now) (a .high .now));
+    }
 
-  abbrev so-far : Extents
-  so-far = record { sound = true; low = turn .loop .low; high = turn .loop .high }
+-- What the call was given.
+abbrev given : tie.At-loop Inv-loop μ-loop → tie.Start Inv-loop μ-loop
+given l = let s = l .before .before .before in s .before .before .before .before .before
 
--- The label of its slot is noted.
+-- The label of a slot is noted.
 module _ (raised : tie.After-raise Inv-loop μ-loop) where
   abbrev lowered : tie.After-lower Inv-loop μ-loop
   lowered = raised .before .before .before .before
@@ -43,114 +68,104 @@ module _ (raised : tie.After-raise Inv-loop μ-loop) where
   abbrev place : tie.After-place-from Inv-loop μ-loop
   place = lowered .before .before
 
-  abbrev slot : tie.Else1 Inv-loop μ-loop
-  slot = place .before .before
-
   abbrev turn : tie.At-loop Inv-loop μ-loop
-  turn = slot .before .before .before
+  turn = place .before .before .before
 
   some : 0 < turn .loop .left
-  some = slot .before .before .loop-test .taken
+  some = place .before .before .loop-test .taken
 
-  is-slot : from1 (start turn .args .slots) (turn .loop .x) ≡ true
-  is-slot = sym (slot .before .from1 .ensures) ∙ not-false _ (slot .if1 .left)
+  abbrev met : ℕ
+  met = given turn .args .w .slots - turn .loop .left
 
-  here :
-      (let a = start turn .args in
-      _≡_ {A = Extents} (record { sound = true; low = lowered .lower .last .0; high = raised .raise .last .0 })
-      (noted (a .listed .now) (getD (a .labels .now) (turn .loop .x) 0) (turn .loop .at) (so-far turn)))
+  near : met < given turn .args .w .slots
+  near = omega (arith, some, turn .loop .inv .few)
+
+  here : (let a = given turn .args in
+      _≡_ {A = Noting} (with (nextAt (a .w .rightward) (turn .loop .at)) (lowered .lower .last .0) (raised .raise .last .0))
+      (noted (a .w .rightward) (a .listed .now) (with (turn .loop .at) (turn .loop .low) (turn .loop .high))
+      (record { slot = turn .loop .x; label = getD (a .labels .now) (turn .loop .x) 0 })))
   here =
-      noted-is _ (place .place-from .result) (place .before .label-at .result) _ (turn .loop .at) (turn .loop .low) (turn .loop .high) _ _
+      let a = given turn .args in
+      noted-is (a .w .rightward) (a .listed .now) (place .place-from .result) (place .before .label-at .result) _ (turn .loop .x)
+      (turn .loop .at) (turn .loop .low) (turn .loop .high) _ _
       (place .place-from .ensures) (place .before .label-at .ensures) (lowered .lower .ensures) (raised .raise .ensures)
-
-  -- The next position is one of the queue's.
-  near : start turn .args .slots - turn .loop .left < 1023
-  near =
-      let few = start turn .pre .0 in
-      let most = turn .loop .inv .1 in
-      omega (arith, some)
-
-loop-holds : tie.Need-loop-holds Inv-loop μ-loop
-loop-holds c =
-    let lists = c .before in
-    let begun = lists .before .before .before .before in
-    (begun .pre .1 ∙ ap (position (begun .args .up)) (none (begun .args .slots)), search needs, refl, refl, refl)
 
 returns : tie.Need-returns Inv-loop μ-loop
 returns c =
-    let turn = c .before .before .before in
-    let a = start turn .args in
-    let at = turn .loop in
-    no-slot (a .slots) (a .links .now) (a .labels .now) (a .listed .now) (a .up) (a .last) (at .left) (at .x) (at .at) (so-far turn)
-    (search needs) (sym (c .before .from1 .ensures) ∙ not-true _ (c .if1 .taken))
-    ∙ at .inv .4
+    let raised = c .before .before .before .before in
+    let l = turn raised in
+    let a = given l .args in
+    ap ended
+    (ap made (here raised)
+    ∙ sym (stops (noted (a .w .rightward) (a .listed .now)) (a .w) (a .lefts .now) (a .rights .now) (a .labels .now) (met raised) (l .loop .x)
+    (with (l .loop .at) (l .loop .low) (l .loop .high)) (near raised) (l .loop .inv .on) (c .if1 .taken))
+    ∙ l .loop .inv .notes)
+
+-- Where the link leads.
+module _ (v : tie.After-leads Inv-loop μ-loop) where
+  abbrev raise : tie.After-raise Inv-loop μ-loop
+  raise = v .before .before .before .before .before
+
+  onwards : (let l = turn raise in let a = given l .args in let f = noted (a .w .rightward) (a .listed .now) in
+      comes f (a .w) (a .lefts .now) (a .rights .now) (a .labels .now) (met raise + 1)
+      (with (nextAt (a .w .rightward) (l .loop .at)) (lowered raise .lower .last .0) (raise .raise .last .0)) (v .leads .result)
+      ≡ over f (with (firstAt (a .w .rightward)) (a .low .now) (a .high .now)) (ahead (a .w) (a .lefts .now) (a .rights .now) (a .labels .now)))
+  onwards =
+      let l = turn raise in
+      let a = given l .args in
+      let f = noted (a .w .rightward) (a .listed .now) in
+      (λ i. comes f (a .w) (a .lefts .now) (a .rights .now) (a .labels .now) (met raise + 1) (here raise i) (v .leads .ensures i))
+      ∙ sym (goes f (a .w) (a .lefts .now) (a .rights .now) (a .labels .now) (met raise) (l .loop .x) (with (l .loop .at) (l .loop .low) (l .loop .high))
+      (near raise) (l .loop .inv .on) (v .before .if1 .left))
+      ∙ l .loop .inv .notes
 
 returns-2 : tie.Need-returns-2 Inv-loop μ-loop
 returns-2 c =
-    let raised = c .before .before .before in
-    let t = turn raised in
-    let a = start t .args in
-    let at = t .loop in
-    here raised
-    ∙ at-last (a .slots) (a .links .now) (a .labels .now) (a .listed .now) (a .up) (a .last) (at .left) (at .x) (at .at) (so-far t)
-    (some raised) (is-slot raised) (c .if2 .taken)
-    ∙ at .inv .4
-
-returns-3 : tie.Need-returns-3 Inv-loop μ-loop
-returns-3 c =
-    let link = c .before .before in
-    let raised = link .before .before .before .before in
-    let t = turn raised in
-    let a = start t .args in
-    let at = t .loop in
-    ap lost (here raised)
-    ∙ bad-link (a .slots) (a .links .now) (a .labels .now) (a .listed .now) (a .up) (a .last) (at .left) (at .x) (at .at) (so-far t)
-    (some raised) (is-slot raised) (link .before .if2 .left)
-    (ap (linkSound _) (sym (link .word-at .ensures)) ∙ sym (c .before .link-sound .ensures) ∙ not-true _ (c .if3 .taken))
-    ∙ at .inv .4
+    let v = c .before in
+    let l = turn (raise v) in
+    let a = given l .args in
+    ap ended
+    (sym (breaks (noted (a .w .rightward) (a .listed .now)) (a .w) (a .lefts .now) (a .rights .now) (a .labels .now) (met (raise v) + 1) _ _ (c .if2 .taken))
+    ∙ onwards v)
 
 next-at-requires : tie.Need-next-at-requires Inv-loop μ-loop
 next-at-requires c κs =
-    let link = c .before .before .before in
-    let raised = link .before .before .before .before in
-    let a = start (turn raised) .args in
-    let at = turn raised .loop in
-    let k = a .slots - at .left in (
-      subst (λ (n : ℕ). 1 ≤ n) (sym (at .inv .0)) (position-low (a .up) k (near raised)),
-      subst (λ (n : ℕ). n ≤ 1023) (sym (at .inv .0)) (position-high (a .up) k (near raised)),
+    let r = raise (c .before) in
+    let l = turn r in
+    let up = given l .args .w .rightward in
+    let h : met r < 1023 = omega (arith, near r, given l .pre .0) in (
+      subst (λ (n : ℕ). 1 ≤ n) (sym (l .loop .inv .place)) (position-low up (met r) h),
+      subst (λ (n : ℕ). n ≤ 1023) (sym (l .loop .inv .place)) (position-high up (met r) h),
     )
 
 loop-again : tie.Need-loop-again Inv-loop μ-loop
 loop-again c =
-    let sound = c .before .before in
-    let link = sound .before .before in
-    let raised = link .before .before .before .before in
-    let t = turn raised in
-    let a = start t .args in
-    let at = t .loop in
-    let k = (a .slots - at .left) in
-    let more = some raised in
-    let most = at .inv .1 in
-    let z : k + 1 ≡ a .slots - (at .left - 1) = omega arith in (
-      c .next-at .ensures ∙ ap (nextAt (a .up)) (at .inv .0) ∙ position-on (a .up) k (near raised) ∙ ap (position (a .up)) z,
-      omega arith,
-      search needs,
-      search needs,
-      (λ i. gather (a .slots) (a .links .now) (a .labels .now) (a .listed .now) (a .up) (a .last) (at .left - 1)
-          ((c .before .unpack .ensures ∙ ap linkOf (link .word-at .ensures)) i .slot) (c .next-at .ensures i) (here raised i))
-          ∙ onwards (a .slots) (a .links .now) (a .labels .now) (a .listed .now) (a .up) (a .last) (at .left) (at .x) (at .at) (so-far t)
-          (some raised) (is-slot raised) (link .before .if2 .left)
-          (ap (linkSound _) (sym (link .word-at .ensures)) ∙ sym (sound .before .link-sound .ensures) ∙ not-false _ (sound .if3 .left))
-          ∙ at .inv .4,
-    )
+    let v = c .before .before in
+    let r = raise v in
+    let l = turn r in
+    let a = given l .args in
+    let up = a .w .rightward in
+    let z : met r + 1 ≡ a .w .slots - (l .loop .left - 1) = omega (arith, some r, l .loop .inv .few) in
+    record {
+      few = omega (arith, l .loop .inv .few);
+      on = rw (v .leads .ensures) (real (a .w) (a .lefts .now) (a .rights .now) [] (l .loop .x) (rw (← v .leads .ensures) (c .before .if2 .left)));
+      place = c .next-at .ensures ∙ ap (nextAt up) (l .loop .inv .place) ∙ position-on up (met r) ∙ ap (position up) z;
+      lows = search needs;
+      highs = search needs;
+      notes =
+          (λ i. comes (noted up (a .listed .now)) (a .w) (a .lefts .now) (a .rights .now) (a .labels .now) (sym z i)
+          (with (c .next-at .ensures i) (lowered r .lower .last .0) (r .raise .last .0)) (v .leads .result))
+          ∙ onwards v;
+    }
 
-returns-4 : tie.Need-returns-4 Inv-loop μ-loop
-returns-4 c =
-    let turn = c .before in
-    let a = start turn .args in
-    let at = turn .loop in
-    none-left (a .slots) (a .links .now) (a .labels .now) (a .listed .now) (a .up) (a .last) (at .left) (at .x) (at .at) (so-far turn) (search needs)
-    ∙ at .inv .4
+returns-3 : tie.Need-returns-3 Inv-loop μ-loop
+returns-3 c =
+    let l = c .before in
+    let a = given l .args in
+    ap ended
+    (sym (full (noted (a .w .rightward) (a .listed .now)) (a .w) (a .lefts .now) (a .rights .now) (a .labels .now) (a .w .slots - l .loop .left) (l .loop .x)
+    (with (l .loop .at) (l .loop .low) (l .loop .high)) (omega (arith, c .loop-test .left)))
+    ∙ l .loop .inv .notes)
 
 pub gather-spec : {M : Type 1} → statement M
 gather-spec =
@@ -158,28 +173,23 @@ gather-spec =
     (tie.spec
     Inv-loop
     μ-loop
+    (λ c κs. search needs)
     loop-holds
+    (λ c κs. search needs)
+    (λ c κs. search needs)
+    (λ c κs. search needs)
     (λ c κs. search needs)
     (λ c. search needs)
     (λ c. search needs)
     returns
     (λ c κs. search needs)
-    (λ c κs. search needs)
-    (λ c κs. search needs)
-    (λ c κs. search needs)
     (λ c. search needs)
     (λ c. search needs)
     returns-2
-    (λ c κs. search needs)
-    (λ c κs. search needs)
-    (λ c. search needs)
-    (λ c. search needs)
-    returns-3
-    (λ c κs. search needs)
     next-at-requires
     (λ c. search needs)
     (λ c. search needs)
     loop-again
     (λ c. search needs)
     (λ c. search needs)
-    returns-4)
+    returns-3)
