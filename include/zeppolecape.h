@@ -64,19 +64,19 @@
  *                  bytes      1, 3     5, 12  16, 1023
  *   zc_open            88        78        78        78
  *   zc_open_pooled     88       111       167      6241
- *   zc_push           368       247       247       247
- *   zc_push_pooled    368       236       236       236
- *   zc_pop            368       191       191       191
- *   zc_step           120       210       210       210
- *   zc_step_record    144       199       199       199
- *   zc_run            152      1788      2887      3026
- *   zc_report         320       214       353     13063
+ *   zc_push           280       217       217       217
+ *   zc_push_pooled    280       206       206       206
+ *   zc_pop            280       160       160       160
+ *   zc_step           112       210       210       210
+ *   zc_step_record    128       201       201       201
+ *   zc_run            160      1844      2982      3125
+ *   zc_report         328       218       365     14088
  *   table bytes         -       240       816     30120
- *   stack bytes of the others: zc_waiting 56, zc_find 472, zc_sheet 1576, zc_sheet_words 552,
- *   zc_join 176, zc_save 152, zc_return 104, zc_next_schedule 26632, zc_serve 480,
+ *   stack bytes of the others: zc_waiting 64, zc_find 488, zc_sheet 1576, zc_sheet_words 552,
+ *   zc_join 184, zc_save 152, zc_return 104, zc_next_schedule 26632, zc_serve 392,
  *   zc_audit 176, zc_plan 192, zc_settle_plan 208, zc_plan_start 128, zc_settle_start 48
- *   code bytes: audit 711, capi 8943, capi_record 4368, capi_run 7074, find 1716, join 3337,
- *   schedule 7808, serve 8611, sheet 3995, shelf 4916, touch 10012, waiting 646
+ *   code bytes: audit 711, capi 8806, capi_record 4535, capi_run 7229, find 1716, join 3377,
+ *   schedule 7831, serve 8519, sheet 3987, shelf 3713, touch 10012, waiting 668
  * As to the machine: x86-64, System V calling convention. The code uses the red zone (128 bytes
  * below the stack pointer) and SSE registers, no AVX: an interrupt handler that makes a call saves
  * the SSE state first, and an interrupt that is not masked during a call leaves the red zone alone.
