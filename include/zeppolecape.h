@@ -63,20 +63,20 @@
  *                  stack,   instructions at most, by tasks and slots
  *                  bytes      1, 3     5, 12  16, 1023
  *   zc_open            88        78        78        78
- *   zc_open_pooled     88       117       173      6247
- *   zc_push           296       218       218       218
- *   zc_push_pooled    280       209       209       209
- *   zc_pop            280       166       166       166
- *   zc_step           120       224       224       224
- *   zc_step_record    144       217       217       217
- *   zc_run            160      1866      3013      3159
- *   zc_report         352       251       443     16244
+ *   zc_open_pooled     88       111       167      6241
+ *   zc_push           280       217       217       217
+ *   zc_push_pooled    280       206       206       206
+ *   zc_pop            280       160       160       160
+ *   zc_step           112       210       210       210
+ *   zc_step_record    128       201       201       201
+ *   zc_run            160      1844      2982      3125
+ *   zc_report         328       218       365     14088
  *   table bytes         -       240       816     30120
- *   stack bytes of the others: zc_waiting 72, zc_find 968, zc_sheet 1568, zc_sheet_words 560,
- *   zc_join 184, zc_save 120, zc_return 120, zc_next_schedule 84744, zc_serve 408,
- *   zc_audit 1144, zc_plan 192, zc_settle_plan 208, zc_plan_start 128, zc_settle_start 48
- *   code bytes: audit 711, capi 9195, capi_record 4586, capi_run 7263, find 3227,
- *   history 8386, join 3397, schedule 7903, sheet 3587, shelf 3874, touch 10514, waiting 797
+ *   stack bytes of the others: zc_waiting 64, zc_find 488, zc_sheet 1576, zc_sheet_words 552,
+ *   zc_join 184, zc_save 152, zc_return 104, zc_next_schedule 26632, zc_serve 392,
+ *   zc_audit 176, zc_plan 192, zc_settle_plan 208, zc_plan_start 128, zc_settle_start 48
+ *   code bytes: audit 711, capi 8806, capi_record 4535, capi_run 7229, find 1716, join 3377,
+ *   schedule 7831, serve 8519, sheet 3987, shelf 3713, touch 10012, waiting 668
  * As to the machine: x86-64, System V calling convention. The code uses the red zone (128 bytes
  * below the stack pointer) and SSE registers, no AVX: an interrupt handler that makes a call saves
  * the SSE state first, and an interrupt that is not masked during a call leaves the red zone alone.

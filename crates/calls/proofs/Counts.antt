@@ -1,25 +1,14 @@
--- The counts of the report, one turn on.
-use mathlib.Core.Path.{_≡_, refl, sym}
-use mathlib.Core.Bool.{Bool, true, false, _&&_, not, cond}
-use Prim.Native.Nat.{ℕ, zero, suc, _+_, _<_, _≤_}
-use native.Mathlib.Nat.{add-zero}
+-- What the report counts is bounded.
+use mathlib.Core.Path.{_≡_, refl}
+use mathlib.Core.Bool.{Bool, true, false, _&&_, cond}
+use Prim.Native.Nat.{ℕ, zero, suc, _≤_}
 use native.Mathlib.Omega.{arith}
-use lib.Dec.{eqb, leb}
-use borrow.Author.Tests.{lt-ltb, leb-true}
+use lib.Dec.{leb}
+use borrow.Author.Tests.{leb-true}
 use Rattle.model.specs.declared.Control.{Control}
-use Rattle.model.specs.declared.Call.{Call}
-use Rattle.calls.specs.Telling.{countable, countBusy}
+use Rattle.calls.specs.Telling.{countable}
 use Rattle.model.proofs.tests.Truth.{and-true}
 use Rattle.model.specs.Lists.{count}
-
--- One record's turn, as long as fewer than 16 were busy.
-pub count-turn : (n : ℕ) (r : Call) → n < 16 → countBusy n r ≡ n + cond (not (eqb (r .place) 0)) 1 0
-unfolding countBusy
-count-turn n r h = rw (lt-ltb n 16 h) (go (eqb (r .place) 0))
-  where
-    go : (b : Bool) → cond b n (n + 1) ≡ n + cond (not b) 1 0
-    go true = sym (add-zero n)
-    go false = refl
 
 one-at-most : (b : Bool) → cond b 1 0 ≤ 1
 one-at-most true = omega arith

@@ -1,5 +1,4 @@
 // The report: all of it but the look at each record.
-use model::Call;
 use model::Control;
 use model::Report;
 use model::Reported;
@@ -11,7 +10,7 @@ ghost use mathlib.Core.Path.{_≡_};
 ghost use lib.Dec.{leb};
 ghost use Rattle.model.specs.Tables.{tablesOf};
 ghost use Rattle.model.specs.Report.{tell};
-ghost use Rattle.calls.specs.Telling.{countable, countBusy};
+ghost use Rattle.calls.specs.Telling.{countable};
 
 /// How many records the report looks at: one for each task, or none where it will be refused.
 pub fn to_count(c: Control, records: usize) -> usize
@@ -20,16 +19,6 @@ pub fn to_count(c: Control, records: usize) -> usize
     let tasks = c.tasks as usize;
     let few = (tasks <= 16) & (tasks <= records);
     if few { tasks } else { 0 }
-}
-
-/// One more where the record is busy; there are 16 tasks at the most.
-pub fn count_busy(n: u64, r: Call) -> u64
-    ensures { λ m. ⌜ m ≡ countBusy n r ⌝ }
-{
-    if r.place == 0 {
-        return n;
-    }
-    if n < 16 { n + 1 } else { n }
 }
 
 /// The report, when busy is how many tasks are.
