@@ -24,5 +24,6 @@ pub mod MarksRight
 pub mod LinksBack
 -- Laws of single calls, and the worked cases of the document.
 pub mod laws
+pub mod RunSteps
 pub mod Bench
 pub mod Cases
