@@ -237,10 +237,13 @@ pub data InUse (q : Queue) (x : ℕ) : Type 0 where
   is-taken : Taken q x → InUse q x
   pop-gives : (t : ℕ) → t < q .tables .control .tasks → popGives (recordAt q t) x ≡ true → InUse q x
 
--- *No slot* is true: if a step after the list answers so, every slot was in use. (Request #104. Without it a program that loses slots passes.)
+-- *No slot* is true of a queue: if a step answers so, every slot is in use. (Request #104. Without it a program that loses slots passes.)
+abbrev pub NoSlotIn : Queue → Type 0
+NoSlotIn q = (t : ℕ) → act q t Step .outcome ≡ Moved NoFreeSlot → (x : ℕ) → 1 ≤ x → x ≤ q .tables .control .slots → InUse q x
+
+-- It is true of the queue after the list.
 abbrev pub NoSlotTrue : Queue → List Request → Type 0
-NoSlotTrue q os = (t : ℕ) → act (final q os) t Step .outcome ≡ Moved NoFreeSlot → (x : ℕ) → 1 ≤ x → x ≤ final q os .tables .control .slots
-    → InUse (final q os) x
+NoSlotTrue q os = NoSlotIn (final q os)
 
 abbrev pub NoSlotRight : Type 0
 NoSlotRight = AfterOpeningAs true NoSlotTrue
