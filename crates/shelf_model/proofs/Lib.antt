@@ -9,4 +9,5 @@ pub mod Stretches
 pub mod Changeovers
 pub mod Pasts
 pub mod Promises
+pub mod Joinings
 pub mod Worked
