@@ -18,7 +18,7 @@ use Rattle.model.specs.History.{InUse, NoSlotIn, NoSlotTrue, Waits, is-taken, p
 use Rattle.model.proofs.laws.Sizes.{act-pooled, act-tasks, fits}
 use Rattle.model.proofs.{Linearizable.linearizable, Never34.never-34, NoSlot.no-slot-either, Standing.standing}
 use Rattle.model.specs.Lists.{All, copies}
-use Rattle.stock_model.specs.Accounts.{Accounted, AccountedIn, AddedUp, Stands, StockSum, answeredLabels, hasTaken, heldLabels, pushedLabels, takenLabels}
+use Rattle.stock_model.specs.Accounts.{Accounted, AccountedIn, AddedUp, Stands, StockSum, answeredLabels, hasHadEffect, heldLabels, pushedLabels, takenLabels}
 use Rattle.stock_model.specs.Accounts.{waitingLabels}
 use Rattle.stock_model.proofs.Accounts.{OpenKnown, every-label, open-known, stock-taking}
 use Rattle.shelf_model.specs.Cut.{cut}
@@ -129,7 +129,7 @@ module _ (p : Past) (q : Queue) (h : Explained p q) where
 
   -- An open call stands in the queue where it stands after the past.
   stands-alike : (c : LedgerCall) (e : Ending) → (isOpen e ≡ true → c .task < now .tables .control .tasks) → Stands now c e → Stands q c e
-  stands-alike c pending k s = λ kind. s kind ∙ ap (λ (r : Record). cond (hasTaken (r .call)) 1 0)
+  stands-alike c pending k s = s ∙ ap (λ (r : Record). cond (hasHadEffect (c .kind) (r .call)) 1 0)
       (sym (same-task (c .task) (subst (λ n. c .task < n) (sym same-tasks) (k refl))))
   stands-alike c (answered n a) k s = tt
 
