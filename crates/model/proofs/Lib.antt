@@ -25,5 +25,6 @@ pub mod LinksBack
 -- Laws of single calls, and the worked cases of the document.
 pub mod laws
 pub mod RunSteps
+pub mod Stack
 pub mod Bench
 pub mod Cases

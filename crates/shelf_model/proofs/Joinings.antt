@@ -1,5 +1,5 @@
 -- A joining is turns of its third.
-use mathlib.Core.List.{List, [], _∷_, _++_, append-assoc, map}
+use mathlib.Core.List.{List, [], _∷_, _++_, append-assoc, append-nil, map}
 use mathlib.Core.Logic.{_≢_}
 use mathlib.Core.Path.{_≡_, _∙_, ap, ap₂, refl, sym}
 use Prim.Native.Nat.{ℕ}
@@ -10,10 +10,6 @@ use Rattle.join_model.specs.Join.{join, joinRefusal, lanes, pushes}
 use Rattle.shelf_model.specs.Changeovers.{Past, Turn, World, after, asks, continues, does, eventOf, turned}
 use Rattle.shelf_model.specs.Joinings.{JoinsAsTurns, goesOn}
 use Rattle.shelf_model.proofs.Changeovers.{makings}
-
-append-none : {A : Type 0} (l : List A) → l ≡ l ++ []
-append-none [] = refl
-append-none (x ∷ l) = ap (λ (m : List _). x ∷ m) (append-none l)
 
 module _ (i : ℕ) where
   abbrev turn : Request → Turn
@@ -53,8 +49,8 @@ module _ (i : ℕ) where
     past = λ k. record {
       made = w .pasts i .made;
       opened = w .pasts i .opened;
-      since = append-none (w .pasts i .since) k;
-      events = append-none (w .pasts i .events) k;
+      since = sym (append-nil (w .pasts i .since)) k;
+      events = sym (append-nil (w .pasts i .events)) k;
     };
     others = λ j h. (refl, refl);
     shelves = refl;
