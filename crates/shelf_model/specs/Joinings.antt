@@ -1,29 +1,45 @@
--- Joinings among turns: the third queue's past. (Document 02, #113 and #114.)
-use mathlib.Core.{Path._≡_, Logic._≢_}
-use mathlib.Core.List.{List, _++_, map}
+-- Histories with joinings among openings, starts, steps, savings and returns. (Document 02, #113 and #114.)
+use mathlib.Core.Bool.{false, _&&_, cond}
+use mathlib.Core.Path.{_≡_}
+use mathlib.Core.List.{List, [], _∷_, _++_}
 use Prim.Native.Nat.{ℕ}
+use lib.Dec.{eqb}
 use Rattle.model.specs.Tables.{Queue}
 use Rattle.model.specs.History.{Request, run}
 use Rattle.join_model.specs.Join.{join, joinRefusal, lanes, pushes}
-use Rattle.shelf_model.specs.Changeovers.{Past, Turn, World, after, asks}
+use Rattle.shelf_model.specs.Changeovers.{Past, Turn, Unfilled, World, turned}
+use Rattle.shelf_model.specs.Promises.{Kept}
 
--- The turns of queue i that push the labels of two lanes, each in turn at the right.
-abbrev pub joining : ℕ → Queue → Queue → List Turn
-joining i a b = map (λ (o : Request). record { queue = i; action = asks o }) (pushes 1 (lanes a b))
+-- What may be done: a turn of one queue, or the joining of two queues in a third.
+pub data Deed : Type 0 where
+  turns : Turn → Deed
+  joins : (first second third : ℕ) → Deed
 
 -- The past of queue q with more requests.
 abbrev pub goesOn : Past → Queue → List Request → Past
 goesOn p q os = record { made = p .made; opened = p .opened; since = p .since ++ os; events = p .events ++ run q os }
 
--- A joining into queue i, whatever the sources, is these turns: they leave the third that it leaves, the labels count as pushed there at the
--- joining, and no other queue or shelf has a part in it. So every promise of turns holds with joinings among them.
-pub record AsTurns (w : World) (i : ℕ) (a b : Queue) : Type 0 where
-  pub third : after w (joining i a b) .queues i ≡ join a b (w .queues i) .third
-  pub past : after w (joining i a b) .pasts i ≡ goesOn (w .pasts i) (w .queues i) (pushes 1 (lanes a b))
-  pub others : (j : ℕ) → j ≢ i
-      → (after w (joining i a b) .pasts j ≡ w .pasts j) × (after w (joining i a b) .queues j ≡ w .queues j)
-  pub shelves : after w (joining i a b) .shelves ≡ w .shelves
-  pub stored : (n : ℕ) → after w (joining i a b) .stored n ≡ w .stored n
+-- Queue k with the labels of queues i and j: its past counts them as pushed at the joining, if that is accepted. Nothing else changes.
+unfoldable pub joinedIn : World → ℕ → ℕ → ℕ → World
+joinedIn w i j k =
+    let a = w .queues i in
+    let b = w .queues j in
+    let q = w .queues k in
+    record {
+      queues = λ n. cond (eqb n k) (join a b q .third) (w .queues n);
+      pasts = λ n. cond (eqb n k && eqb (joinRefusal a b q) 0) (goesOn (w .pasts n) q (pushes 1 (lanes a b))) (w .pasts n);
+      shelves = w .shelves;
+      stored = w .stored;
+    }
 
-abbrev pub JoinsAsTurns : Type 0
-JoinsAsTurns = (w : World) (i : ℕ) (a b : Queue) → joinRefusal a b (w .queues i) ≡ 0 → AsTurns w i a b
+abbrev pub afterOne : World → Deed → World
+afterOne w (turns t) = turned w t
+afterOne w (joins i j k) = joinedIn w i j k
+
+unfoldable pub afterAll : World → List Deed → World
+afterAll w [] = w
+afterAll w (d ∷ l) = afterAll (afterOne w d) l
+
+-- The promises hold with joinings among the turns.
+abbrev pub JoinsKept : Type 0
+JoinsKept = (w : World) → Unfilled (w .shelves) → ((i : ℕ) → w .pasts i .made ≡ false) → (l : List Deed) → Kept (afterAll w l)
