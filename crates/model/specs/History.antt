@@ -248,12 +248,13 @@ NoSlotTrue q os = NoSlotIn (final q os)
 abbrev pub NoSlotRight : Type 0
 NoSlotRight = AfterOpeningAs true NoSlotTrue
 
--- A slot's mark is set exactly while P holds of the slot.
+-- Of a queue: a slot's mark is set exactly where P holds of the slot. After a list: of the queue after it.
+abbrev pub MarkedIn : (Queue → ℕ → Type 0) → Queue → Type 0
+MarkedIn P q = (x : ℕ) → 1 ≤ x → x ≤ q .tables .control .slots
+    → (marked (q .tables .marks) x ≡ true → P q x) × (P q x → marked (q .tables .marks) x ≡ true)
+
 abbrev pub MarkedWhile : (Queue → ℕ → Type 0) → Queue → List Request → Type 0
-MarkedWhile P q os =
-    let now = final q os in
-    (x : ℕ) → 1 ≤ x → x ≤ now .tables .control .slots
-    → (marked (now .tables .marks) x ≡ true → P now x) × (P now x → marked (now .tables .marks) x ≡ true)
+MarkedWhile P q os = MarkedIn P (final q os)
 
 -- It is set exactly while the slot is taken. (Without it a program whose pops leave their slots marked passes.)
 abbrev pub MarksRight : Type 0

@@ -7,6 +7,7 @@ pub mod Accepted
 pub mod Laws
 pub mod Stretches
 pub mod Changeovers
+pub mod InUse
 pub mod Pasts
 pub mod Promises
 pub mod Joinings

@@ -5,18 +5,16 @@ use mathlib.Core.Path.{_≡_, _∙_, ap, ap₂, refl, subst, sym}
 use Prim.Native.Nat.{ℕ, zero, suc, _+_, _<_, _≤_}
 use native.Mathlib.Omega.{arith}
 use lib.{Dec.eqb, ListN.length}
-use Rattle.model.specs.declared.{Control.Control, Entry.Entry, Op.Op, Record.Record}
-use Rattle.model.specs.declared.Op.the-variants.{Step}
+use Rattle.model.specs.declared.{Control.Control, Entry.Entry, Record.Record}
 use Rattle.model.specs.declared.Outcome.the-variants.{Refused}
 use Rattle.model.specs.Tables.{Queue, isPooled, taskAt}
-use Rattle.model.specs.{Sound.controlSound, Retries.retriesBelow, Standing.Standing}
-use Rattle.model.specs.Calls.{Done, act}
+use Rattle.model.specs.{Sound.controlSound, Calls.act, Retries.retriesBelow, Standing.Standing}
 use Rattle.model.specs.Walk.{Walk, contents, entries, met}
 use Rattle.model.specs.History.{AfterOpeningAs, LedgerCall, Ending, Event, Lawful, Linearized, NeverUnsound, Request}
 use Rattle.model.specs.History.{answered, final, isOpen, ledger, pending, run}
-use Rattle.model.specs.History.{InUse, NoSlotIn, NoSlotTrue, Waits, is-taken, pop-gives, pop-holds, popGives, popHolds, push-holds, pushHolds, waits}
+use Rattle.model.specs.History.{MarkedIn, MarkedWhile, NoSlotIn, NoSlotTrue, Taken}
 use Rattle.model.proofs.laws.Sizes.{act-pooled, act-tasks, fits}
-use Rattle.model.proofs.{Linearizable.linearizable, Never34.never-34, NoSlot.no-slot-either, Standing.standing}
+use Rattle.model.proofs.{Linearizable.linearizable, MarksRight.marks-right, Never34.never-34, NoSlot.no-slot-either, Standing.standing}
 use Rattle.model.specs.Lists.{All, copies}
 use Rattle.stock_model.specs.Accounts.{Accounted, AccountedIn, AddedUp, Stands, StockSum, answeredLabels, hasHadEffect, heldLabels, pushedLabels, takenLabels}
 use Rattle.stock_model.specs.Accounts.{waitingLabels}
@@ -24,7 +22,8 @@ use Rattle.stock_model.proofs.Accounts.{OpenKnown, every-label, open-known, sto
 use Rattle.shelf_model.specs.Cut.{cut}
 use Rattle.shelf_model.specs.Changeovers.{Explained, FromOpening, Past}
 use Rattle.shelf_model.proofs.{Lists.enough-take, Cut.fits-cut, Stretches.task-cut}
-use Rattle.shelf_model.proofs.CutCalls.{act-cut, contents-cut, run-cut}
+use Rattle.shelf_model.proofs.CutCalls.{contents-cut, run-cut}
+use Rattle.shelf_model.proofs.InUse.{marks-alike, no-slot-alike}
 
 below-cut : (q : Queue) (n : ℕ) → n ≤ q .tables .control .tasks → retriesBelow (cut q) n ≡ retriesBelow q n
 unfolding retriesBelow
@@ -81,9 +80,6 @@ module _ (p : Past) (q : Queue) (h : Explained p q) where
   same-task i k =
       sym (task-cut q i k) ∙ ap (λ (x : Queue). taskAt x i) (h .leaves) ∙ task-cut now i (subst (λ n. i < n) same-tasks k)
 
-  known : (i : ℕ) → i < now .tables .control .tasks → i < q .tables .control .tasks
-  known i k = subst (λ n. i < n) (sym same-tasks) k
-
   pub stands : Standing q (ledger (p .events) .deque)
   stands =
       let s = past-has (λ q os. Standing (final q os) (ledger (run q os) .deque)) (standing (t .pooled)) in
@@ -111,21 +107,12 @@ module _ (p : Past) (q : Queue) (h : Explained p q) where
       (run-end (λ (e : Event). e .outcome ≡ Refused 34 → ⊥) (p .since) os (p .opened)
       (subst (λ (o : Queue). All (λ (e : Event). e .outcome ≡ Refused 34 → ⊥) (run o (p .since ++ os))) (sym (t .opened)) sound))
 
-  -- What a start or step answers.
-  same-outcome : (i : ℕ) (o : Op) → act q i o .outcome ≡ act now i o .outcome
-  same-outcome i o = ap (λ (d : Done). d .outcome) (sym (act-cut q i o) ∙ ap (λ (x : Queue). act x i o) (h .leaves) ∙ act-cut now i o)
-
-  -- A slot that is in use after the past is in use in the queue.
-  in-use : (x : ℕ) → InUse now x → InUse q x
-  in-use x (is-taken (waits w)) = is-taken (waits (subst (Waits x) (sym same-walk) w))
-  in-use x (is-taken (push-holds i k e)) = is-taken (push-holds i (known i k) (ap (λ (r : Record). pushHolds (r .call) x) (same-task i (known i k)) ∙ e))
-  in-use x (is-taken (pop-holds i k e)) = is-taken (pop-holds i (known i k) (ap (λ (r : Record). popHolds (r .call) x) (same-task i (known i k)) ∙ e))
-  in-use x (pop-gives i k e) = pop-gives i (known i k) (ap (λ (r : Record). popGives (r .call) x) (same-task i (known i k)) ∙ e)
-
+  -- #104, and the marks.
   pub no-slot : NoSlotIn q
-  no-slot i e x low high =
-      in-use x (past-has NoSlotTrue (no-slot-either (t .pooled)) i (sym (same-outcome i Step) ∙ e) x low
-      (subst (λ (c : Control). x ≤ c .slots) same-control high))
+  no-slot = no-slot-alike now q (sym (h .leaves)) (past-has NoSlotTrue (no-slot-either (t .pooled)))
+
+  pub marks-true : MarkedIn Taken q
+  marks-true = marks-alike now q (sym (h .leaves)) (past-has (MarkedWhile Taken) (marks-right (t .pooled)))
 
   -- An open call stands in the queue where it stands after the past.
   stands-alike : (c : LedgerCall) (e : Ending) → (isOpen e ≡ true → c .task < now .tables .control .tasks) → Stands now c e → Stands q c e
