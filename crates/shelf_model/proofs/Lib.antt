@@ -8,6 +8,7 @@ pub mod Laws
 pub mod Stretches
 pub mod Changeovers
 pub mod InUse
+pub mod Neighbours
 pub mod Pasts
 pub mod Promises
 pub mod Joinings

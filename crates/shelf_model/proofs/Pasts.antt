@@ -14,7 +14,8 @@ use Rattle.model.specs.History.{AfterOpeningAs, LedgerCall, Ending, Event, Lawf
 use Rattle.model.specs.History.{answered, final, isOpen, ledger, pending, run}
 use Rattle.model.specs.History.{MarkedIn, MarkedWhile, NoSlotIn, NoSlotTrue, Taken}
 use Rattle.model.proofs.laws.Sizes.{act-pooled, act-tasks, fits}
-use Rattle.model.proofs.{Linearizable.linearizable, MarksRight.marks-right, Never34.never-34, NoSlot.no-slot-either, Standing.standing}
+use Rattle.model.specs.Neighbours.{NeighboursIn, NeighboursJoined}
+use Rattle.model.proofs.{Linearizable.linearizable, LinksBack.links-back, MarksRight.marks-right, Never34.never-34, NoSlot.no-slot-either, Standing.standing}
 use Rattle.model.specs.Lists.{All, copies}
 use Rattle.stock_model.specs.Accounts.{Accounted, AccountedIn, AddedUp, Stands, StockSum, answeredLabels, hasHadEffect, heldLabels, pushedLabels, takenLabels}
 use Rattle.stock_model.specs.Accounts.{waitingLabels}
@@ -24,6 +25,7 @@ use Rattle.shelf_model.specs.Changeovers.{Explained, FromOpening, Past}
 use Rattle.shelf_model.proofs.{Lists.enough-take, Cut.fits-cut, Stretches.task-cut}
 use Rattle.shelf_model.proofs.CutCalls.{contents-cut, run-cut}
 use Rattle.shelf_model.proofs.InUse.{marks-alike, no-slot-alike}
+use Rattle.shelf_model.proofs.Neighbours.{neighbours-alike}
 
 below-cut : (q : Queue) (n : ℕ) → n ≤ q .tables .control .tasks → retriesBelow (cut q) n ≡ retriesBelow q n
 unfolding retriesBelow
@@ -107,12 +109,15 @@ module _ (p : Past) (q : Queue) (h : Explained p q) where
       (run-end (λ (e : Event). e .outcome ≡ Refused 34 → ⊥) (p .since) os (p .opened)
       (subst (λ (o : Queue). All (λ (e : Event). e .outcome ≡ Refused 34 → ⊥) (run o (p .since ++ os))) (sym (t .opened)) sound))
 
-  -- #104, and the marks.
+  -- #104, the marks and the links between neighbours.
   pub no-slot : NoSlotIn q
   no-slot = no-slot-alike now q (sym (h .leaves)) (past-has NoSlotTrue (no-slot-either (t .pooled)))
 
   pub marks-true : MarkedIn Taken q
   marks-true = marks-alike now q (sym (h .leaves)) (past-has (MarkedWhile Taken) (marks-right (t .pooled)))
+
+  pub neighbours-joined : NeighboursIn (q .tables)
+  neighbours-joined = neighbours-alike now q (sym (h .leaves)) (past-has NeighboursJoined (links-back (t .pooled)))
 
   -- An open call stands in the queue where it stands after the past.
   stands-alike : (c : LedgerCall) (e : Ending) → (isOpen e ≡ true → c .task < now .tables .control .tasks) → Stands now c e → Stands q c e

@@ -28,7 +28,7 @@ use Rattle.shelf_model.specs.Promises.{Progresses, Promised, Promises}
 use Rattle.shelf_model.proofs.Stretches.{asked, events-are, solo-alike}
 use Rattle.shelf_model.proofs.Changeovers.{changeovers}
 use Rattle.shelf_model.proofs.Pasts.{accounts, adds-up, all-served, counts, final-tasks, following-sound, marks-true, no-slot, operations-sound, past-has}
-use Rattle.shelf_model.proofs.Pasts.{same-pooled, same-run, same-task, same-tasks, stands}
+use Rattle.shelf_model.proofs.Pasts.{neighbours-joined, same-pooled, same-run, same-task, same-tasks, stands}
 
 -- A report where control is sound, the tables are long enough and the walk meets what waits.
 report-none : (q : Queue) (d : List Entry) → Standing q d → reportRefusal (q .tables) (recordsFit (q .tables .control .tasks) q) ≡ 0
@@ -100,6 +100,7 @@ module _ (w : World) (h : Holds w) (i : ℕ) (made : w .pasts i .made ≡ true) 
     progress = progresses;
     no-slot = no-slot p q told-by;
     marks = marks-true p q told-by;
+    neighbours = neighbours-joined p q told-by;
     accounted = accounts p q told-by;
     stock = adds-up p q told-by;
   }

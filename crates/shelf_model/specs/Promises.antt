@@ -7,7 +7,7 @@ use Rattle.model.specs.declared.Report.{Report}
 use Rattle.model.specs.declared.Reported.the-variants as reported
 use Rattle.model.specs.Tables.{Queue, isPooled, recordAt}
 use Rattle.model.specs.Walk.{contents, entries}
-use Rattle.model.specs.{Standing.Standing, Report.report, Solo.soloRun, Lists.All}
+use Rattle.model.specs.{Standing.Standing, Report.report, Solo.soloRun, Lists.All, Neighbours.NeighboursIn}
 use Rattle.model.specs.History.{LedgerCall, Event, Lawful, MarkedIn, NoSlotIn, Request, Taken, ledger, run}
 use Rattle.model.specs.Progress.{AnsweredWithin, Busy, any, limit, steps, stretchLimit, tookEffectOrAnswered}
 use Rattle.model.specs.Retries.{oldCount, retriesBelow}
@@ -50,6 +50,8 @@ pub record Promised (w : World) (i : ℕ) : Type 0 where
   pub no-slot : NoSlotIn (w .queues i)
   -- A slot's mark is set exactly while the slot is taken.
   pub marks : MarkedIn Taken (w .queues i)
+  -- Only at the end that the status names may the neighbour's link back be unfinished.
+  pub neighbours : NeighboursIn (w .queues i .tables)
   -- #114: every label of that history is accounted for in the queue as it stands, and all of them add up.
   pub accounted : AccountedIn (w .pasts i .events) (w .queues i)
   pub stock : AddedUp (w .pasts i .events) (w .queues i)
