@@ -237,20 +237,24 @@ pub data InUse (q : Queue) (x : ℕ) : Type 0 where
   is-taken : Taken q x → InUse q x
   pop-gives : (t : ℕ) → t < q .tables .control .tasks → popGives (recordAt q t) x ≡ true → InUse q x
 
--- *No slot* is true: if a step after the list answers so, every slot was in use. (Request #104. Without it a program that loses slots passes.)
+-- *No slot* is true of a queue: if a step answers so, every slot is in use. (Request #104. Without it a program that loses slots passes.)
+abbrev pub NoSlotIn : Queue → Type 0
+NoSlotIn q = (t : ℕ) → act q t Step .outcome ≡ Moved NoFreeSlot → (x : ℕ) → 1 ≤ x → x ≤ q .tables .control .slots → InUse q x
+
+-- It is true of the queue after the list.
 abbrev pub NoSlotTrue : Queue → List Request → Type 0
-NoSlotTrue q os = (t : ℕ) → act (final q os) t Step .outcome ≡ Moved NoFreeSlot → (x : ℕ) → 1 ≤ x → x ≤ final q os .tables .control .slots
-    → InUse (final q os) x
+NoSlotTrue q os = NoSlotIn (final q os)
 
 abbrev pub NoSlotRight : Type 0
 NoSlotRight = AfterOpeningAs true NoSlotTrue
 
--- A slot's mark is set exactly while P holds of the slot.
+-- Of a queue: a slot's mark is set exactly where P holds of the slot. After a list: of the queue after it.
+abbrev pub MarkedIn : (Queue → ℕ → Type 0) → Queue → Type 0
+MarkedIn P q = (x : ℕ) → 1 ≤ x → x ≤ q .tables .control .slots
+    → (marked (q .tables .marks) x ≡ true → P q x) × (P q x → marked (q .tables .marks) x ≡ true)
+
 abbrev pub MarkedWhile : (Queue → ℕ → Type 0) → Queue → List Request → Type 0
-MarkedWhile P q os =
-    let now = final q os in
-    (x : ℕ) → 1 ≤ x → x ≤ now .tables .control .slots
-    → (marked (now .tables .marks) x ≡ true → P now x) × (P now x → marked (now .tables .marks) x ≡ true)
+MarkedWhile P q os = MarkedIn P (final q os)
 
 -- It is set exactly while the slot is taken. (Without it a program whose pops leave their slots marked passes.)
 abbrev pub MarksRight : Type 0

@@ -10,7 +10,8 @@ use Rattle.model.specs.Calls.{openAs, opened}
 use Rattle.model.specs.History.{AfterOpening, LedgerCall, Ending, Lawful, Request, answered, final, isOpen, ledger, pending, run}
 use Rattle.model.proofs.ledger.EveryOperation.{run-good}
 use Rattle.model.proofs.ledger.Opened.{nobody, open-good, some-slots}
-use Rattle.model.proofs.{Linearizable.linearizable, Openings.after-opening}
+use Rattle.model.proofs.unsound.Runs.{run-safe}
+use Rattle.model.proofs.{Linearizable.linearizable, Never34.open-safe, Openings.after-opening}
 use Rattle.stock_model.specs.Accounts.{EveryLabel, Stands, StockTaking, answeredBy, answeredLabels, each, heldBy, heldLabels}
 use Rattle.stock_model.specs.Accounts.{pushedLabels, takenBy, takenLabels, waitingLabels}
 use Rattle.stock_model.proofs.Balance.{all-fit, balanced, only, weigh, weigh-all, weigh-more, weigh-only}
@@ -54,9 +55,10 @@ AllStand q os = All (λ (c : LedgerCall). Stands (final q os) c (c .ending)) (le
 all-stand : AfterOpening AllStand
 all-stand pooled = after-opening pooled AllStand (λ q tasks slots tag e os.
     let o = opened pooled q tasks slots tag in
-    let g = run-good os 1 o nobody (open-good pooled q tasks slots tag (some-slots pooled q tasks slots e)) in
-    let l = ledger (run o os) in
-    every-stands (g .0) (final o os) l (g .1) (all-fit 1 nobody (run o os) tt))
+    let z = open-good pooled q tasks slots tag (some-slots pooled q tasks slots e) in
+    let g = run-good os 1 o nobody z in
+    let safe = run-safe os 1 o nobody z (open-safe pooled q tasks slots tag e) .1 in
+    every-stands (g .0) (final o os) (ledger (run o os)) (g .1) safe (all-fit 1 nobody (run o os) tt))
 
 -- An open call is one of the queue's tasks'.
 abbrev pub OpenKnown : Queue → List Request → Type 0
