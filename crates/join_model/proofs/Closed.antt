@@ -84,14 +84,14 @@ module _ (a b q : Queue) where
       (λ e. rw e (ap (λ (z : Queue). record { code = closedRefusal a b q; third = z }) (joins (eqb-true _ _ e) .leaves)))
       (λ e. rw e))
 
-  pub all-answered : joinRefusal a b q ≡ 0 → outcomes (run q (pushes 1 (lanes a b))) ≡ answers (lanes a b)
-  all-answered e = joins (sym same-refusal ∙ e) .says
+  answers-all : joinRefusal a b q ≡ 0 → outcomes (run q (pushes 1 (lanes a b))) ≡ answers (lanes a b)
+  answers-all e = joins (sym same-refusal ∙ e) .says
 
 pub closed-form : ClosedForm
 closed-form a b q = closed-join a b q
 
-pub answered : AllAnswered
-answered a b q e = all-answered a b q e
+pub all-answered : AllAnswered
+all-answered a b q e = answers-all a b q e
 
 -- The closed form looks at nothing that is not lent, and hands the third's next table on.
 module _ (a b q : Queue) (marks1 next1 marks2 next2 next : List ℕ) where
