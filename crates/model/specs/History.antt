@@ -50,6 +50,7 @@ pub record Effect : Type 0 where
   pub at : ℕ
   pub reply : Answer
 
+-- How far a call has come: not answered yet, or answered so at a position of the list.
 pub data Ending : Type 0 where
   pending : Ending
   answered : (at : ℕ) (answer : Answer) → Ending
@@ -71,9 +72,11 @@ pub record Ledger : Type 0 where
   pub deque : List Entry
   pub calls : List LedgerCall
 
+-- A call of task t that starts at position n: it has had no effect, and is not answered.
 abbrev pub begins : ℕ → ℕ → ℕ → ℕ → Bool → Entry → LedgerCall
 begins n t kind side named e = record { task = t; kind = kind; side = side; named = named; entry = e; start = n; effects = []; ending = pending }
 
+-- The call with other effects and another ending.
 abbrev pub continued : LedgerCall → List Effect → Ending → LedgerCall
 continued c es e = record {
   task = c .task;
@@ -86,9 +89,11 @@ continued c es e = record {
   ending = e;
 }
 
+-- One call more, the latest.
 abbrev pub over : LedgerCall → Ledger → Ledger
 over c l = record { deque = l .deque; calls = c ∷ l .calls }
 
+-- Not answered yet.
 abbrev pub isOpen : Ending → Bool
 isOpen pending = true
 isOpen (answered n a) = false
@@ -146,10 +151,12 @@ accept n e (Pop side) a l = over (begins n (e .task) 1 side false (record { slot
 accept n e (PushPooled side label) a l = over (begins n (e .task) 0 side false (record { slot = 0; label = label })) l
 accept n e Step a l = attend n e a (l .deque) (l .calls)
 
+-- What an event at position n makes of the ledger, by its outcome.
 unfoldable pub note : ℕ → Event → Outcome → Ledger → Ledger
 note n e (Refused why) l = l
 note n e (Moved a) l = accept n e (e .op) a l
 
+-- The events from position n on, noted one after another.
 unfoldable pub ledgerFrom : ℕ → Ledger → List Event → Ledger
 ledgerFrom n l [] = l
 ledgerFrom n l (e ∷ es) = ledgerFrom (suc n) (note n e (e .outcome) l) es
