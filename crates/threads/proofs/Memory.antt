@@ -3,7 +3,6 @@ use mathlib.Core.Path.{_≡_, ap, sym, subst, _∙_}
 use mathlib.Core.Bool.{Bool, cond, _&&_, _||_, not}
 use mathlib.Core.List.{List, [], _∷_}
 use Prim.Native.Nat.{ℕ, _/_}
-use native.Mathlib.Omega.{arith}
 use lib.Dec.{leb, ltb}
 use lib.ListN.{length, getD}
 use Rattle.model.specs.declared.Entry.{Entry}
@@ -18,8 +17,9 @@ use Rattle.model.specs.Lists.{All, every}
 use Rattle.model.proofs.laws.Sizes as sizes
 use Rattle.model.proofs.bridge.Facts.{LinksFine}
 use Rattle.model.proofs.bridge.View.{stateOf, view}
-use Rattle.model.proofs.invariant.Owners.{Owner, Intact, held, queued}
+use Rattle.model.proofs.invariant.Owners.{Owner, Intact, queued}
 use Rattle.model.proofs.lists.Slots.{slots as slotsOf}
+use Rattle.model.proofs.places.Owned.{queued-held}
 use Rattle.model.proofs.ledger.Opened.{nobody}
 use Rattle.model.proofs.ledger.Waiting.{waits}
 use Rattle.threads_model.specs.Turns.{runTurns, finalTurns}
@@ -30,9 +30,6 @@ use Rattle.threads.proofs.follow.Overlay.{overlay}
 use Rattle.threads.proofs.follow.Good.{Good}
 use Rattle.threads.proofs.follow.Relation.{Sim, owes-label}
 use Rattle.threads.proofs.Run.{runs-on, start-good}
-
-queued-held : (t : ℕ) → queued ≡ held t → ⊥
-queued-held t e = let z : _≡_ {A = ℕ} 0 1 = cc in omega arith
 
 -- Links and nexts are what they are, whatever the labels and marks.
 pub over-fine : (q : Tables) (l k : List ℕ) → LinksFine q → LinksFine (overlay q l k)
@@ -58,7 +55,7 @@ module _ (tasks pooled slots : ℕ) (m : Crew) (q : Queue) (f : Sim tasks pooled
   same-labels [] o e = tt
   same-labels (x ∷ d) o e = (
     f .labels (x .slot)
-        (λ u owes. queued-held u (sym (o .0) ∙ owes-label tasks pooled slots m q f g u (x .slot) (m .hands u) (f .records u) (f .extra u) owes))
+        (λ u owes. queued-held (sym (o .0) ∙ owes-label tasks pooled slots m q f g u (x .slot) (m .hands u) (f .records u) (f .extra u) owes))
         ∙ e .0,
     same-labels d (o .1) (e .1),
   )
@@ -88,7 +85,8 @@ module _ (tasks pooled slots : ℕ) (m : Crew) (q : Queue) (f : Sim tasks pooled
       }
 
 -- What holds of the list's queue, with the ledger of its own events.
-module _ (pooled : Bool) (q : Queue) (tasks slots tag : ℕ) (e : openAs pooled q tasks slots tag .outcome ≡ Opened) (l : List Act) (h : All (Known tasks) l) where
+module _ (pooled : Bool) (q : Queue) (tasks slots tag : ℕ) (e : openAs pooled q tasks slots tag .outcome ≡ Opened)
+    (l : List Act) (h : All (Known tasks) l) where
   abbrev k : ℕ
   k = cond pooled 1 0
 

@@ -26,7 +26,7 @@ cancel [] b c e = e
 cancel (x ∷ a) b c e = cancel a b c (ap behind e)
 
 module _ (pooled slots : ℕ) where
-  go-more : (a b : List Act) (m : Crew) → goOn pooled slots m (a ++ b) ≡ goOn pooled slots (goOn pooled slots m a) b
+  pub go-more : (a b : List Act) (m : Crew) → goOn pooled slots m (a ++ b) ≡ goOn pooled slots (goOn pooled slots m a) b
   unfolding goOn
   go-more [] b m = refl
   go-more (x ∷ a) b m = go-more a b (go pooled slots m x)
@@ -50,7 +50,7 @@ module _ (pooled slots : ℕ) where
       ap (λ (l : List Outcome). d ++ l) (told-more a b m′ t)
       ∙ sym (assoc d (told pooled slots m′ a t) (told pooled slots (goOn pooled slots m′ a) b t))
 
-first-known : (tasks : ℕ) (a b : List Act) → All (Known tasks) (a ++ b) → All (Known tasks) a
+pub first-known : (tasks : ℕ) (a b : List Act) → All (Known tasks) (a ++ b) → All (Known tasks) a
 first-known tasks [] b h = tt
 first-known tasks (x ∷ a) b h = (h .0, first-known tasks a b (h .1))
 

@@ -1,7 +1,10 @@
--- What follows for the memory that threads leave, at every moment and at rest, for real time, and for the labels.
+-- What follows for the memory that threads leave, at every moment and at rest, for real time, for the labels, and for progress.
 use mathlib.Core.Path.{_≡_}
-use mathlib.Core.List.{List, _++_}
-use Prim.Native.Nat.{ℕ}
+use mathlib.Core.Bool.{cond}
+use mathlib.Core.List.{List, [], _∷_, _++_}
+use mathlib.Core.Logic.{_≢_}
+use Prim.Native.Nat.{ℕ, _+_, _<_, _≤_}
+use lib.Dec.{eqb}
 use Rattle.model.specs.declared.Outcome.the-variants.{Refused}
 use Rattle.model.specs.Tables.{Queue, marked, withMarks}
 use Rattle.model.specs.History.{Event, Lawful, Ledger, LedgerCall, Request, final, ledger, run}
@@ -11,7 +14,7 @@ use Rattle.model.specs.Lists.{All}
 use Rattle.stock_model.specs.Accounts.{AccountedIn, AddedUp}
 use Rattle.threads_model.specs.Turns.{runTurns, finalTurns}
 use Rattle.threads_model.specs.Instructions.{free}
-use Rattle.threads_model.specs.Crew.{Act, allFree, goOn, turns, told, outcomesOf, owed}
+use Rattle.threads_model.specs.Crew.{Act, calls, next, allFree, goOn, turns, told, outcomesOf, owed}
 use Rattle.threads.specs.Promises.{AfterOpening as AfterThreads}
 
 -- MEMORY. The memory that threads leave, and what is seen of the list of their turns.
@@ -74,3 +77,19 @@ pub record LabelsCounted (pooled slots : ℕ) (q : Queue) (l : List Act) : Type 
 
 abbrev pub InstructionsAccounted : Type 0
 InstructionsAccounted = AfterThreads LabelsCounted
+
+-- PROGRESS. How many instructions of thread t are in a list of acts.
+abbrev pub ownIn : ℕ → List Act → ℕ
+ownIn t [] = 0
+ownIn t (calls o ∷ l) = ownIn t l
+ownIn t (next u ∷ l) = cond (eqb u t) 1 0 + ownIn t l
+
+-- A thread that is in a start or a step is told its outcome within four instructions of its own, the last of which writes its record: wherever the
+-- others are stopped, and whatever they do meanwhile. (How many steps a call takes is another matter: #108.)
+abbrev pub GoesAhead : ℕ → ℕ → Queue → List Act → Type 0
+GoesAhead pooled slots q l = (first second : List Act) → l ≡ first ++ second →
+    let m = goOn pooled slots (allFree q) first in
+    (t : ℕ) → t < q .tables .control .tasks → m .hands t ≢ free → 4 ≤ ownIn t second → told pooled slots m second t ≢ []
+
+abbrev pub InstructionsGoOn : Type 0
+InstructionsGoOn = AfterThreads GoesAhead
