@@ -1,15 +1,16 @@
 -- What follows for the memory that threads leave, at every moment and at rest, for real time, for the labels, and for progress.
 use mathlib.Core.Path.{_≡_}
-use mathlib.Core.Bool.{cond}
+use mathlib.Core.Bool.{cond, true}
 use mathlib.Core.List.{List, [], _∷_, _++_}
 use mathlib.Core.Logic.{_≢_}
 use Prim.Native.Nat.{ℕ, _+_, _<_, _≤_}
 use lib.Dec.{eqb}
 use Rattle.model.specs.declared.Outcome.the-variants.{Refused}
-use Rattle.model.specs.Tables.{Queue, marked, withMarks}
+use Rattle.model.specs.Tables.{Queue, isPooled, marked, withMarks}
 use Rattle.model.specs.History.{Event, Lawful, Ledger, LedgerCall, Request, final, ledger, run}
 use Rattle.model.specs.Walk.{contents, entries}
 use Rattle.model.specs.Standing.{Standing}
+use Rattle.model.specs.Progress.{any, steps, stretchLimit, tookEffectOrAnswered}
 use Rattle.model.specs.Lists.{All}
 use Rattle.stock_model.specs.Accounts.{AccountedIn, AddedUp}
 use Rattle.threads_model.specs.Turns.{runTurns, finalTurns}
@@ -93,3 +94,15 @@ GoesAhead pooled slots q l = (first second : List Act) → l ≡ first ++ second
 
 abbrev pub InstructionsGoOn : Type 0
 InstructionsGoOn = AfterThreads GoesAhead
+
+-- Among all threads some call goes on: after any acts, if the turns of a stretch of acts hold so many accepted steps (#108), a call took effect or
+-- answered in it.
+abbrev pub ThreadsStretch : ℕ → ℕ → Queue → List Act → Type 0
+ThreadsStretch pooled slots q l = (first second : List Act) → l ≡ first ++ second →
+    let m = goOn pooled slots (allFree q) first in
+    let es = runTurns (finalTurns q (turns pooled slots (allFree q) first)) (turns pooled slots m second) in
+    let c = q .tables .control in
+    stretchLimit (isPooled c) (c .tasks) ≤ steps es → any tookEffectOrAnswered es ≡ true
+
+abbrev pub InstructionsStretch : Type 0
+InstructionsStretch = AfterThreads ThreadsStretch
