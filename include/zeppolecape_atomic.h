@@ -54,10 +54,15 @@
  *
  * WHAT IS PROVED, of threads that interleave at single loads, stores, compare-and-swaps and changes
  * of a mark as this file makes them (crates/threads/specs/Promises.antt): memory and every thread's
- * answers are those of a list of starts and steps, in the order of their deciding instructions; that
- * list is linearizable, and nobody is told 34. The four calls below are proved to do what these
- * theorems say of them, for all records and words. Not proved, but tested: the C in this file, a
- * table of thirteen touches (zc_made) and the loops around it.
+ * answers are those of a list of starts and steps, in the order of their deciding instructions (a
+ * push that names its slot is asked 33 of the Anchor that it loaded, and may be started just above
+ * the limit); that list is linearizable, and nobody is told 34. It respects real time, and every
+ * label in it is accounted for; once no thread is in a call, memory is the queue of the list, from
+ * which plain calls go on. A start or step is at most four instructions of its thread, whatever the
+ * others do, and among the steps some call takes effect or answers (Consequences.antt beside it). The
+ * four calls below are proved to do what these theorems say of them, for all records and words. Not
+ * proved, but tested: the C in this file, a table of thirteen touches (zc_made) and the loops around
+ * it.
  *
  * ORDER. Every access to a shared word but a label is sequentially consistent, and the proved calls
  * reach none. By the rules of C11 and C++11 all these accesses then have one order that agrees with

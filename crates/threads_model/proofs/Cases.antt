@@ -2,10 +2,10 @@
 -- Each line holds by computing the meanings.
 use mathlib.Core.Path.{_≡_, refl}
 use mathlib.Core.Bool.{true, false}
-use mathlib.Core.List.{List, [], _∷_, _++_}
+use mathlib.Core.List.{List, [], _∷_, _++_, map}
 use Prim.Native.Nat.{ℕ}
 use lib.ListN.{getD, replicate}
-use Rattle.model.specs.declared.Call.{Call}
+use Rattle.model.specs.declared.{Call.Call, Record.Record}
 use Rattle.model.specs.declared.Answer.the-variants.{Pushed}
 use Rattle.model.specs.declared.Outcome.{Outcome}
 use Rattle.model.specs.declared.Outcome.the-variants.{Refused, Moved}
@@ -48,6 +48,12 @@ leaves q l = goOn (q .tables .control .pooled) (q .tables .control .slots) (allF
 
 abbrev hears : Queue → List Act → ℕ → List Outcome
 hears q l t = told (q .tables .control .pooled) (q .tables .control .slots) (allFree q) l t
+
+abbrev rests : Queue → List Act → Queue
+rests q l = goOn (q .tables .control .pooled) (q .tables .control .slots) (allFree q) l .queue
+
+abbrev placeOf : Record → ℕ
+placeOf r = r .call .place
 
 -- The slot whose label thread t touches next.
 abbrev touching : Queue → List Act → ℕ → ℕ
@@ -164,6 +170,11 @@ pub record Cases : Type 0 where
   -- the head's tag was raised three times, so thread 0's change fails, and slot 2 is drawn once
   pub tag-tells : hears pool givenBack 0 ≡ at 12 ∷ at 13 ∷ at 14 ∷ at 12 ∷ []
   pub head-stays : leaves pool givenBack .control .head ≡ 0x0000000300000001
+  -- a step is at most four instructions, the last of which tells: at 14 it is four
+  pub not-in-three : hears pool (before14 0 5 ++ part 0 3) 0 ≡ at 12 ∷ at 13 ∷ at 14 ∷ []
+  pub told-in-four : hears pool (before14 0 5 ++ part 0 4) 0 ≡ at 12 ∷ at 13 ∷ at 14 ∷ at 1 ∷ []
+  -- at rest each record is as it was told
+  pub rested : map placeOf (rests (fresh 0) (second ++ whole 0 (Pop 1) ++ steps (0 ∷ [])) .records) ≡ 3 ∷ 0 ∷ []
   -- neither mark is lost
   pub both-marked : leaves pool bothMark .marks ≡ 6 ∷ []
   -- a thread alone: slot 1, then slot 2 pushed right (★), a pop; places 12 to 17
@@ -203,6 +214,9 @@ cases = record {
   label-stays = refl;
   tag-tells = refl;
   head-stays = refl;
+  not-in-three = refl;
+  told-in-four = refl;
+  rested = refl;
   both-marked = refl;
   pushed-alone = refl;
   popped-alone = refl;

@@ -123,10 +123,15 @@ module _ (n : ℕ) (q : Queue) (l : Ledger) (g : Matched n q l) (t : ℕ) where
   take-good o true = early-good o
   take-good o false = act-good n q l g t o
 
+-- The position after events that begin at n.
+unfoldable pub after : ℕ → List Event → ℕ
+after n [] = n
+after n (e ∷ es) = after (suc n) es
+
 pub turns-good : (us : List Turn) (n : ℕ) (q : Queue) (l : Ledger) → Matched n q l
-    → (m : ℕ) × Matched m (finalTurns q us) (ledgerFrom n l (runTurns q us))
-unfolding runTurns finalTurns ledgerFrom
-turns-good [] n q l g = (n, g)
+    → Matched (after n (runTurns q us)) (finalTurns q us) (ledgerFrom n l (runTurns q us))
+unfolding runTurns finalTurns ledgerFrom after
+turns-good [] n q l g = g
 turns-good (u ∷ us) n q l g = turns-good us (suc n) (takeEarly q u .queue) _ (take-good n q l g (u .task) (u .op) (u .early))
 
 -- Where Anchor is not late 33 is no refusal.
