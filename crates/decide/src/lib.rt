@@ -3,7 +3,6 @@
 //!
 //! A `w` is the word found: at 3, 5, 7 and 9 the link word of the slot's row, at 13 its next. Anchor and head are
 //! found in control; what their places make of them is `at1`, `at2`, .. themselves.
-pub mod next;
 pub mod side;
 pub mod step;
 
@@ -12,6 +11,7 @@ use model::Control;
 use model::Entry;
 use model::Outcome;
 use model::Transition;
+use route::next;
 use word::Anchor;
 use word::Link;
 ghost use mathlib.Core.Path.{_≡_};

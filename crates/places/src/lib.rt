@@ -9,12 +9,12 @@
 pub mod links;
 pub mod pool;
 
-use decide::next;
 use decide::side;
 use decide::step;
 use model::Call;
 use model::Control;
 use model::Transition;
+use route::next;
 use word::Anchor;
 use word::Link;
 ghost use mathlib.Core.Path.{_≡_};

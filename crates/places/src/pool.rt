@@ -1,12 +1,12 @@
 //! Places 12 to 17: a push draws its slot from the stack before place 1, and a pop gives its slot
 //! back after place 11. The head as read is kept as the link word, the next as the neighbour.
 //! (Document 02, #104: the tagged compare-and-swap stack of 003's references.)
-use decide::next;
 use decide::step;
 use model::Call;
 use model::Control;
 use model::Entry;
 use model::Transition;
+use route::next;
 use word::Link;
 ghost use Rattle.places.specs.Arm.{Steps, StepsOnMarks, StepsOnNext};
 

@@ -1,6 +1,7 @@
 -- An operation carried out in the rows, and answered.
 use mathlib.Core.Path.{_∙_}
 use borrow.Author.Needs.{needs}
+use Rattle.rows.proofs.Starting.{zeroed-once}
 use Rattle.trace_field.proofs.AfterActs.{operate-page}
 use Rattle.trace_field.proofs.acts.operate.Statement.{statement}
 use Rattle.trace_field.proofs.acts.operate.Tie as tie
@@ -45,7 +46,7 @@ returns c =
     let e = answer .answer .ensures in (
       operate-page _ _ _ _ _ _ _ _ _ _ _ _ _ _ _ _ _ _ _ _ _ _ (row made .control-row .ensures) (answer .before .before .control-of .ensures)
           (made .operate .ensures .0) (trim .trim .ensures .0)
-          (e .0 _ _ _ _ _ _ _ _ _ _ _ _ (trim .trim .ensures .1 ∙ made .operate .ensures .1)),
+          (e .0 _ _ _ _ _ _ _ _ _ _ _ _ (trim .trim .ensures .1 ∙ zeroed-once _ _ _ _ (made .operate .ensures .1))),
       e .1,
     )
 

@@ -1,11 +1,11 @@
-//! The route from place to place: a fixed table over place, kind and outcome, the branch that a place takes.
+//! The route from place to place: a constant table by place, kind and outcome, the branch that a place takes.
 use word::Anchor;
 ghost use mathlib.Core.Path.{_≡_};
 ghost use Prim.Native.Nat.{_<_};
 ghost use lib.Dec.{eqb};
 ghost use Rattle.model.specs.Places.{reading};
 ghost use Rattle.model.specs.Route.{route};
-ghost use Rattle.decide.specs.Constants.{routeApart};
+ghost use Rattle.route.specs.Constants.{tabled};
 
 // Where a route leads to no place.
 pub const LEAVE: u8 = 20;
@@ -50,35 +50,33 @@ const READ_STABLE: usize = 2;
 
 const READ_UNSTABLE: usize = 3;
 
-// Where that reading leads, of a push, then of a pop: the four branches of 1, and the four of a failed change at 2 or 4.
-const READ: [[u8; 4]; 2] = [[2, 0, 3, 5], [EMPTY, 2, 3, 5]];
-
-// The other branches, for each place those of a push, then of a pop. So 1 has none here, and 2 and 4 have the change done.
-const NEXT: [[[u8; 2]; 2]; 18] = [
-    [[0, 0], [0, 0]],
-    [[0, 0], [0, 0]],
-    [[PUSHED, 0], [11, 0]],
-    [[4, 0], [4, 0]],
-    [[5, 0], [11, 0]],
-    [[6, 0], [6, 0]],
-    [[7, LEAVE], [7, LEAVE]],
-    [[10, 8], [10, 8]],
-    [[9, LEAVE], [9, LEAVE]],
-    [[10, LEAVE], [10, LEAVE]],
-    [[LEAVE, LEAVE], [LEAVE, LEAVE]],
-    [[0, 0], [POPPED, 15]],
-    [[NO_SLOT, 13], [0, 0]],
-    [[14, 0], [0, 0]],
-    [[1, 12], [0, 0]],
-    [[0, 0], [16, 0]],
-    [[0, 0], [17, 0]],
-    [[0, 0], [POPPED, 15]],
+// The next place by place, kind (a push, then a pop) and branch, 0 where there is none. A failed change at 2 or 4 goes on as
+// place 1 would, so its branches are those of place 1.
+const NEXT: [[[u8; 4]; 2]; 18] = [
+    [[0, 0, 0, 0], [0, 0, 0, 0]],
+    [[2, 0, 3, 5], [EMPTY, 2, 3, 5]],
+    [[PUSHED, 0, 0, 0], [11, 0, 0, 0]],
+    [[4, 0, 0, 0], [4, 0, 0, 0]],
+    [[5, 0, 0, 0], [11, 0, 0, 0]],
+    [[6, 0, 0, 0], [6, 0, 0, 0]],
+    [[7, LEAVE, 0, 0], [7, LEAVE, 0, 0]],
+    [[10, 8, 0, 0], [10, 8, 0, 0]],
+    [[9, LEAVE, 0, 0], [9, LEAVE, 0, 0]],
+    [[10, LEAVE, 0, 0], [10, LEAVE, 0, 0]],
+    [[LEAVE, LEAVE, 0, 0], [LEAVE, LEAVE, 0, 0]],
+    [[0, 0, 0, 0], [POPPED, 15, 0, 0]],
+    [[NO_SLOT, 13, 0, 0], [0, 0, 0, 0]],
+    [[14, 0, 0, 0], [0, 0, 0, 0]],
+    [[1, 12, 0, 0], [0, 0, 0, 0]],
+    [[0, 0, 0, 0], [16, 0, 0, 0]],
+    [[0, 0, 0, 0], [17, 0, 0, 0]],
+    [[0, 0, 0, 0], [POPPED, 15, 0, 0]],
 ];
 
-/// Where a branch leads that is none of a reading's.
+/// Where a branch of a place leads.
 pub fn next(place: usize, kind: u64, branch: usize) -> u8
-    requires { ⌜ (place < 18) × (branch < 2) ⌝ }
-    ensures { λ r. ⌜ r ≡ routeApart place kind branch ⌝ }
+    requires { ⌜ (place < 18) × (branch < 4) ⌝ }
+    ensures { λ r. ⌜ r ≡ tabled place kind branch ⌝ }
 {
     let kinds = NEXT[place];
     if kind == 0 {
@@ -90,35 +88,21 @@ pub fn next(place: usize, kind: u64, branch: usize) -> u8
     }
 }
 
-/// Where a reading's branch leads.
-fn read(kind: u64, branch: usize) -> u8
-    requires { ⌜ branch < 4 ⌝ }
-    ensures { λ r. ⌜ r ≡ route 1 kind branch ⌝ }
-{
-    if kind == 0 {
-        let branches = READ[0];
-        branches[branch]
-    } else {
-        let branches = READ[1];
-        branches[branch]
-    }
-}
-
 /// By the Anchor read: empty, a pop of the only label, STABLE, unstable.
 pub fn after_reading(kind: u64, a: Anchor) -> u8
     ensures { λ r. ⌜ r ≡ route 1 kind (reading (eqb kind 1) a) ⌝ }
 {
     if a.left == a.right {
         if a.left == 0 {
-            return read(kind, READ_EMPTY);
+            return next(1, kind, READ_EMPTY);
         }
         if kind == 1 {
-            return read(kind, READ_SINGLE);
+            return next(1, kind, READ_SINGLE);
         }
     }
     if a.status == 0 {
-        read(kind, READ_STABLE)
+        next(1, kind, READ_STABLE)
     } else {
-        read(kind, READ_UNSTABLE)
+        next(1, kind, READ_UNSTABLE)
     }
 }

@@ -9,15 +9,15 @@ use borrow.Author.Tests.{eq-eqb, ne-eqb, eqb-true}
 use Rattle.word.specs.declared.Anchor.{Anchor}
 use Rattle.model.specs.Places.{reading}
 use Rattle.model.specs.Sides.{isEmpty}
-use Rattle.decide.proofs.next.after_reading.Statement.{statement}
-use Rattle.decide.proofs.next.after_reading.Tie as tie
+use Rattle.route.proofs.next.after_reading.Statement.{statement}
+use Rattle.route.proofs.next.after_reading.Tie as tie
 
 returns : tie.Need-returns
 unfolding reading
 returns c =
     let none = c .before in
     let same = none .before .before in
-    simp (eq-eqb _ _ (none .if2 .taken), eq-eqb _ _ (sym (same .if1 .taken) ∙ none .if2 .taken)) (c .read .ensures)
+    simp (eq-eqb _ _ (none .if2 .taken), eq-eqb _ _ (sym (same .if1 .taken) ∙ none .if2 .taken)) (c .next .ensures)
 
 returns-2 : tie.Need-returns-2
 unfolding reading
@@ -25,7 +25,7 @@ returns-2 c =
     let pop = c .before in
     let some = pop .before in
     let same = some .before .before in
-    simp (ne-eqb _ _ (some .if2 .left), eq-eqb _ _ (pop .if3 .taken), eq-eqb _ _ (same .if1 .taken)) (c .read2 .ensures)
+    simp (ne-eqb _ _ (some .if2 .left), eq-eqb _ _ (pop .if3 .taken), eq-eqb _ _ (same .if1 .taken)) (c .next2 .ensures)
 
 -- Neither empty, nor a pop's only label: of equal ends, or of different ones.
 no-label : (kind : ℕ) (a : Anchor) → (a .left ≡ 0 → ⊥) → (kind ≡ 1 → ⊥) → (isEmpty a ≡ false) × ((eqb kind 1 && eqb (a .left) (a .right)) ≡ false)
@@ -49,13 +49,13 @@ returns-3 : tie.Need-returns-3
 unfolding reading
 returns-3 c =
     let n = several (c .before .before .before) in
-    simp (eq-eqb _ _ (c .before .if4 .taken), n .0, n .1) (c .read3 .ensures)
+    simp (eq-eqb _ _ (c .before .if4 .taken), n .0, n .1) (c .next3 .ensures)
 
 returns-4 : tie.Need-returns-4
 unfolding reading
 returns-4 c =
     let n = several (c .before .before .before) in
-    simp (ne-eqb _ _ (c .before .if4 .left), n .0, n .1) (c .read4 .ensures)
+    simp (ne-eqb _ _ (c .before .if4 .left), n .0, n .1) (c .next4 .ensures)
 
 pub after-reading-spec : {M : Type 1} → statement M
 after-reading-spec =

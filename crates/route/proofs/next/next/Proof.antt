@@ -1,30 +1,30 @@
--- The constant computes to the table of the model's route, apart from the branches of a reading.
+-- The constant computes to the table of the model's route, apart from the branches of a failed change at 2 and 4.
 use mathlib.Core.Path.{_≡_, ap, sym, _∙_}
 use mathlib.Core.List.{List, []}
 use Prim.Native.Nat.{ℕ, _<_}
 use lib.ListN.{getD}
 use borrow.Author.{Needs.needs, Tests.ne-eqb}
 use Rattle.model.specs.Route.{route, pushRoute, popRoute}
-use Rattle.decide.specs.Constants.{routeApart}
-use Rattle.decide.proofs.Table.{at, table}
-use Rattle.decide.proofs.next.next.Statement.{statement}
-use Rattle.decide.proofs.next.next.Tie as tie
+use Rattle.route.specs.Constants.{tabled}
+use Rattle.route.proofs.Table.{at, table}
+use Rattle.route.proofs.next.next.Statement.{statement}
+use Rattle.route.proofs.next.next.Tie as tie
 
 abbrev rows : List (List (List ℕ))
-rows = table (λ p. table (λ k. table (routeApart p k) 2) 2) 18
+rows = table (λ p. table (λ k. table (tabled p k) 4) 2) 18
 
-entry : (place kind branch : ℕ) → place < 18 → kind < 2 → branch < 2 → getD (getD (getD rows place []) kind []) branch 0 ≡ routeApart place kind branch
+entry : (place kind branch : ℕ) → place < 18 → kind < 2 → branch < 4 → getD (getD (getD rows place []) kind []) branch 0 ≡ tabled place kind branch
 entry place kind branch p k b =
-    ap (λ (kinds : List (List ℕ)). getD (getD kinds kind []) branch 0) (at (λ p. table (λ k. table (routeApart p k) 2) 2) 18 place [] p)
-    ∙ ap (λ (branches : List ℕ). getD branches branch 0) (at (λ k. table (routeApart place k) 2) 2 kind [] k)
-    ∙ at (routeApart place kind) 2 branch 0 b
+    ap (λ (kinds : List (List ℕ)). getD (getD kinds kind []) branch 0) (at (λ p. table (λ k. table (tabled p k) 4) 2) 18 place [] p)
+    ∙ ap (λ (branches : List ℕ). getD branches branch 0) (at (λ k. table (tabled place k) 4) 2 kind [] k)
+    ∙ at (tabled place kind) 4 branch 0 b
 
 returns : tie.Need-returns
 unfolding route pushRoute popRoute
 returns c =
     let a = c .before .before .before .args in
     entry (a .place) 0 (a .branch) (search needs) (search needs) (search needs)
-    ∙ ap (λ (kind : ℕ). routeApart (a .place) kind (a .branch)) (sym (c .before .if1 .taken))
+    ∙ ap (λ (kind : ℕ). tabled (a .place) kind (a .branch)) (sym (c .before .if1 .taken))
 
 returns-2 : tie.Need-returns-2
 unfolding route pushRoute popRoute
