@@ -75,11 +75,16 @@ const NEXT: [[[u8; 2]; 2]; 18] = [
     [[0, 0], [POPPED, 15]],
 ];
 
-/// Where a branch leads that is none of a reading's.
+/// Where a branch leads that is none of a reading's; what has no place in the table leads nowhere, 0.
 pub fn next(place: usize, kind: u64, branch: usize) -> u8
-    requires { ⌜ (place < 18) × (branch < 2) ⌝ }
     ensures { λ r. ⌜ r ≡ routeApart place kind branch ⌝ }
 {
+    if 17 < place {
+        return 0;
+    }
+    if 1 < branch {
+        return 0;
+    }
     let kinds = NEXT[place];
     if kind == 0 {
         let branches = kinds[0];
