@@ -1,7 +1,6 @@
 //! The route from place to place: a constant table by place, kind and outcome, the branch that a place takes.
 use word::Anchor;
 ghost use mathlib.Core.Path.{_≡_};
-ghost use Prim.Native.Nat.{_<_};
 ghost use lib.Dec.{eqb};
 ghost use Rattle.model.specs.Places.{reading};
 ghost use Rattle.model.specs.Route.{route};
@@ -73,11 +72,16 @@ const NEXT: [[[u8; 4]; 2]; 18] = [
     [[0, 0, 0, 0], [POPPED, 15, 0, 0]],
 ];
 
-/// Where a branch of a place leads.
+/// Where a branch of a place leads; what has no place in the table leads nowhere, 0.
 pub fn next(place: usize, kind: u64, branch: usize) -> u8
-    requires { ⌜ (place < 18) × (branch < 4) ⌝ }
     ensures { λ r. ⌜ r ≡ tabled place kind branch ⌝ }
 {
+    if 17 < place {
+        return 0;
+    }
+    if 3 < branch {
+        return 0;
+    }
     let kinds = NEXT[place];
     if kind == 0 {
         let branches = kinds[0];
