@@ -10,7 +10,7 @@ use Rattle.threads_model.specs.Turns.{runTurns, finalTurns}
 use Rattle.threads_model.specs.Crew.{allFree, turns}
 use Rattle.threads.specs.Consequences.{InstructionsAccounted}
 use Rattle.threads.proofs.lists.EarlyPush.{after, turns-good}
-use Rattle.threads.proofs.Run.{instructions-linearizable, start-good}
+use Rattle.threads.proofs.Run.{instructions-linearizable, runs-on, start-good}
 
 pub instructions-accounted : InstructionsAccounted
 instructions-accounted pooled q tasks slots tag e l h =
@@ -19,7 +19,9 @@ instructions-accounted pooled q tasks slots tag e l h =
     let es = runTurns o us in
     let law = instructions-linearizable pooled q tasks slots tag e l h in
     let g = turns-good us 1 o nobody (start-good pooled q tasks slots tag e) in
+    let safe = runs-on pooled q tasks slots tag e l h .good .safe in
+    let stand = every-stands (after 1 es) (finalTurns o us) (ledger es) g safe (all-fit 1 nobody es tt) in
     record {
-      each = accounted es (finalTurns o us) (law .calls) (law .waits) (every-stands (after 1 es) (finalTurns o us) (ledger es) g (all-fit 1 nobody es tt));
+      each = accounted es (finalTurns o us) (law .calls) (law .waits) stand;
       sum = added-up es (finalTurns o us) (law .calls) (law .waits);
     }

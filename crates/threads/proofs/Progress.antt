@@ -11,13 +11,13 @@ use Rattle.model.specs.declared.{Record.Record, Outcome.Outcome, Op.Op}
 use Rattle.model.specs.declared.Op.the-variants.{Push, Pop, PushPooled, Step}
 use Rattle.model.specs.declared.Opening.the-variants.{Opened}
 use Rattle.model.specs.Tables.{Tables, Queue, taskAt, marked}
-use Rattle.model.specs.{Sides.links, Sound.linkSound, Refusals.late, Calls.openAs, Lists.All, History.Request}
+use Rattle.model.specs.{Sides.links, Refusals.late, Calls.openAs, Lists.All, History.Request}
 use Rattle.model.proofs.tests.Truth.{either, by-test, not-both, split}
 use Rattle.threads_model.specs.Split.{plan}
 use Rattle.threads_model.specs.Starts.{ownRefusal}
 use Rattle.threads_model.specs.Turns.{finalTurns}
 use Rattle.threads_model.specs.Instructions.{Hand, free, begun, loaded, knows, claims, looks, labels, marks, ends, Ticked, toldAtEnd}
-use Rattle.threads_model.specs.Instructions.{isAsRead, loadsOwn, putsOwn, stepFirst, clears, tick}
+use Rattle.threads_model.specs.Instructions.{atOnce, isAsRead, isToPut, loadsOwn, oneWord, putsOwn, readsNext, replaces, stepFirst, clears, tick}
 use Rattle.threads_model.specs.Crew.{Act, Crew, Known, calls, next, allFree, takesUp, ticked, go, goOn, turns, tellsTo, told}
 use Rattle.threads.specs.Consequences.{InstructionsGoOn, ownIn}
 use Rattle.threads.proofs.follow.Starting.{namedOwn, first-pop, first-put, first-push, claims-is, looks-is}
@@ -69,8 +69,18 @@ module _ (pooled slots : ℕ) (q : Tables) (r : Record) where
   unfolding loadsOwn
   loads-fewer =
       let p = plan pooled slots (r .call) in
-      either (Fewer (begun Step)) (linkSound slots (getD (links q (p .side)) (p .slot) 0))
+      either (Fewer (begun Step)) (isToPut slots p (getD (links q (p .side)) (p .slot) 0))
       (record { less = omega arith; more = λ _. omega arith }) (record { less = omega arith; more = λ _. omega arith })
+
+  word-fewer : Fewer (begun Step) (oneWord pooled slots q r)
+  unfolding oneWord readsNext atOnce
+  word-fewer =
+      let p = plan pooled slots (r .call) in
+      let F = Fewer (begun Step) in
+      either F (eqb (p .act) 11)
+      (either F (eqb (getD (q .next) (p .slot) 0) (p .word)) (record { less = omega arith; more = λ _. omega arith })
+      (record { less = omega arith; more = λ _. omega arith }))
+      (record { less = omega arith; more = λ _. omega arith })
 
   step-fewer : Fewer (begun Step) (stepFirst pooled slots q r)
   unfolding stepFirst
@@ -82,10 +92,10 @@ module _ (pooled slots : ℕ) (q : Tables) (r : Record) where
       (either F (eqb (p .act) 9)
       (either F (eqb (q .control .head) (p .expected)) (record { less = omega arith; more = λ _. omega arith })
       (record { less = omega arith; more = λ _. omega arith }))
-      (record { less = omega arith; more = λ _. omega arith })))
+      word-fewer))
 
   fewer : (k : Hand) → 1 ≤ ahead k → Reads pooled slots q r k → Fewer k (tick pooled slots q r k)
-  unfolding clears putsOwn
+  unfolding clears replaces atOnce putsOwn
   fewer free b z = absurd (omega arith)
   fewer (begun (Push side slot label)) b z =
       let F = Fewer (begun (Push side slot label)) in
@@ -107,8 +117,9 @@ module _ (pooled slots : ℕ) (q : Tables) (r : Record) where
       (record { less = omega arith; more = λ _. omega arith }))
   fewer (begun Step) b z = step-fewer
   fewer (loaded w) b z =
-      by-test (Fewer (loaded w)) (isAsRead q (plan pooled slots (r .call)) w) (λ _. record { less = omega arith; more = λ _. omega arith })
-      (λ e. absurd (not-both z e))
+      let p = plan pooled slots (r .call) in
+      by-test (Fewer (loaded w)) (eqb (p .act) 11) (λ _. record { less = omega arith; more = λ _. omega arith })
+      (λ n. by-test (Fewer (loaded w)) (isAsRead q p w) (λ _. record { less = omega arith; more = λ _. omega arith }) (λ e. absurd (not-both (z n) e)))
   fewer (knows label) b z = record { less = omega arith; more = λ _. omega arith }
   fewer (claims side slot label) b z =
       let F = Fewer (claims side slot label) in

@@ -26,7 +26,7 @@ use Rattle.model.proofs.progress.Others.{heads, heads-most}
 use Rattle.model.proofs.progress.Reached.{open-reached}
 use Rattle.model.proofs.progress.Scale.{scale, together}
 use Rattle.model.proofs.progress.TogetherSteps.{act-all, all-bound}
-use Rattle.threads_model.specs.Turns.{Turn, actEarly, take, runTurns, finalTurns}
+use Rattle.threads_model.specs.Turns.{Turn, actEarly, takeEarly, runTurns, finalTurns}
 use Rattle.threads_model.specs.Crew.{Known, allFree, goOn, turns}
 use Rattle.threads.specs.Consequences.{InstructionsStretch}
 use Rattle.threads.proofs.Run.{good, open-is, runs-on}
@@ -59,8 +59,8 @@ module _ (n : ℕ) (q : Queue) (l : Ledger) (g : Matched n q l) (pooled : Bool) 
       (λ u. omega arith) pooled (omega (arith, le, was))) in
       omega (arith, kept)
 
-  falls : (o : Op) (early : Bool) → Falls o (take q (record { task = t; op = o; early = early }))
-  unfolding take actEarly
+  falls : (o : Op) (early : Bool) → Falls o (takeEarly q (record { task = t; op = o; early = early }))
+  unfolding takeEarly actEarly
   falls (Push side slot label) true =
       by-test (Falls (Push side slot label)) (eqb (pushRefusal (q .tables) (among q t) (recordAt q t) side slot) 33)
       (λ e. let w = waited q t side slot (eqb-true _ _ e) in early-falls side slot label (w .lies) (w .free))
@@ -82,8 +82,8 @@ early-sizes q t (Pop side) = sizes.act-sizes q t (Pop side)
 early-sizes q t (PushPooled side label) = sizes.act-sizes q t (PushPooled side label)
 early-sizes q t Step = sizes.act-sizes q t Step
 
-take-sizes : (q : Queue) (u : Turn) → Sized q (take q u)
-unfolding take
+take-sizes : (q : Queue) (u : Turn) → Sized q (takeEarly q u)
+unfolding takeEarly
 take-sizes q u = either (Sized q) (u .early) (early-sizes q (u .task) (u .op)) (sizes.act-sizes q (u .task) (u .op))
 
 module _ (pooled : Bool) (tasks : ℕ) where
@@ -93,7 +93,7 @@ module _ (pooled : Bool) (tasks : ℕ) where
   unfolding runTurns any steps
   turns-all [] n q l g way many e = omega arith
   turns-all (u ∷ us) n q l g way many e =
-      let d = take q u in
+      let d = takeEarly q u in
       let w = or-false _ (any tookEffectOrAnswered (runTurns (d .queue) us)) e in
       let same = take-sizes q u in
       let a : stepping (u .op) (d .outcome) + all pooled tasks (stateOf (d .queue)) ≤ all pooled tasks (stateOf q) =

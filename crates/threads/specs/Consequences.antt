@@ -16,7 +16,7 @@ use Rattle.stock_model.specs.Accounts.{AccountedIn, AddedUp}
 use Rattle.threads_model.specs.Turns.{runTurns, finalTurns}
 use Rattle.threads_model.specs.Instructions.{free}
 use Rattle.threads_model.specs.Crew.{Act, calls, next, allFree, goOn, turns, told, outcomesOf, owed}
-use Rattle.threads.specs.Promises.{AfterOpening as AfterThreads}
+use Rattle.threads.specs.Promises.{AfterThreads}
 
 -- MEMORY. The memory that threads leave, and what is seen of the list of their turns.
 abbrev pub leftBy : ℕ → ℕ → Queue → List Act → Queue

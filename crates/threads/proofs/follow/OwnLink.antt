@@ -7,11 +7,10 @@ use lib.Dec.{eqb}
 use lib.ListN.{length, getD, set}
 use lib.Seq.{getD-set-same, getD-set-other}
 use borrow.Author.Tests.{eqb-true, eqb-false, eq-eqb}
-use Rattle.word.specs.Link.{linkOf, packLink}
 use Rattle.model.specs.declared.{Record.Record}
 use Rattle.model.specs.declared.Op.the-variants.{Push, Pop, PushPooled, Step}
 use Rattle.model.specs.Tables.{Tables, Queue, taskAt, unused, linked, marked}
-use Rattle.model.specs.{Sides.links, Sound.linkSound, Refusals.late}
+use Rattle.model.specs.{Sides.links, Refusals.late}
 use Rattle.model.specs.Places.{linkSide, row}
 use Rattle.model.proofs.tests.Truth.{either, by-test, not-both, split}
 use Rattle.model.proofs.invariant.Owners.{Owner, held, queued}
@@ -20,7 +19,8 @@ use Rattle.threads_model.specs.declared.PlannedTouch.{PlannedTouch}
 use Rattle.threads_model.specs.Split.{Touched, perform, plan}
 use Rattle.threads_model.specs.Starts.{ownRefusal}
 use Rattle.threads_model.specs.Instructions.{Hand, free, begun, loaded, knows, claims, looks, labels, marks, ends, Ticked}
-use Rattle.threads_model.specs.Instructions.{isAsRead, loadsOwn, putsOwn, stepFirst, clears, tick, written}
+use Rattle.threads_model.specs.Instructions.{atOnce, isAsRead, isToPut, loadsOwn, oneWord, putInto, putsOwn, readsNext, replaces, stepFirst, clears}
+use Rattle.threads_model.specs.Instructions.{tick, written}
 use Rattle.threads_model.specs.Crew.{Crew, next, ticked, go}
 use Rattle.threads.specs.Promises.{recordOf}
 use Rattle.threads.proofs.follow.LinkPlans.{changes}
@@ -44,7 +44,7 @@ module _ (pooled slots : ℕ) where
   abbrev pub Reads : Tables → Record → Hand → Type 0
   Reads q r free = Unit {0}
   Reads q r (begun op) = Unit {0}
-  Reads q r (loaded w) = isAsRead q (planOf r) w ≡ true
+  Reads q r (loaded w) = eqb (planOf r .act) 11 ≡ false → isAsRead q (planOf r) w ≡ true
   Reads q r (knows label) = Unit {0}
   Reads q r (claims side slot label) = Unit {0}
   Reads q r (looks side slot label) = Unit {0}
@@ -59,18 +59,34 @@ module _ (pooled slots : ℕ) where
 
     own-loads : Own (loadsOwn pooled slots q r)
     unfolding loadsOwn isAsRead
-    own-loads = let link = getD (links q (planOf r .side)) (planOf r .slot) 0 in either Own (linkSound slots link) (eq-eqb link link refl) tt
+    own-loads = let link = getD (links q (planOf r .side)) (planOf r .slot) 0 in either Own (isToPut slots (planOf r) link) (λ _. eq-eqb link link refl) tt
 
     own-puts : (w : ℕ) → Own (putsOwn pooled slots q r w)
     unfolding putsOwn
     own-puts w = either Own (isAsRead q (planOf r) w) tt own-loads
+
+    own-once : Own (atOnce pooled slots q r)
+    unfolding atOnce
+    own-once = tt
+
+    own-next : eqb (planOf r .act) 11 ≡ true → Own (readsNext pooled slots q r)
+    unfolding readsNext
+    own-next e = either Own (eqb (getD (q .next) (planOf r .slot) 0) (planOf r .word)) tt (λ n. absurd (not-both e n))
+
+    own-word : Own (oneWord pooled slots q r)
+    unfolding oneWord
+    own-word = by-test Own (eqb (planOf r .act) 11) own-next (λ _. own-once)
+
+    own-replaces : (w : ℕ) → Own (replaces pooled slots q r w)
+    unfolding replaces
+    own-replaces w = either Own (eqb (planOf r .act) 11) own-once (own-puts w)
 
     own-steps : Own (stepFirst pooled slots q r)
     unfolding stepFirst
     own-steps =
         either Own (eqb (planOf r .act) 5) own-loads
         (either Own (eqb (planOf r .act) 6) tt
-        (either Own (eqb (planOf r .act) 9) (either Own (eqb (q .control .head) (planOf r .expected)) tt tt) tt))
+        (either Own (eqb (planOf r .act) 9) (either Own (eqb (q .control .head) (planOf r .expected)) tt tt) own-word))
 
     own-reads : (k : Hand) → Reads (tick pooled slots q r k .tables) (written k r) (tick pooled slots q r k .hand)
     unfolding clears
@@ -82,7 +98,7 @@ module _ (pooled slots : ℕ) where
     own-reads (begun (PushPooled side label)) = subst Own (sym (first-put q r pooled slots side label))
         (either Own (eqb (ownRefusal pooled slots (r .call) side (not (eqb pooled 1)) false) 0) (either Own (late (q .control)) tt tt) tt)
     own-reads (begun Step) = own-steps
-    own-reads (loaded w) = own-puts w
+    own-reads (loaded w) = own-replaces w
     own-reads (knows label) = tt
     own-reads (claims side slot label) = subst Own (sym (claims-is q r side slot label)) (either Own (marked (q .marks) slot) tt tt)
     own-reads (looks side slot label) = subst Own (sym (looks-is q r side slot label)) tt
@@ -98,12 +114,12 @@ module _ (pooled slots : ℕ) where
 
       keeps-loads : Keeps (loadsOwn pooled slots q r)
       unfolding loadsOwn
-      keeps-loads = either Keeps (linkSound slots (getD (links q (planOf r .side)) (planOf r .slot) 0)) (λ _. refl) (λ _. refl)
+      keeps-loads = either Keeps (isToPut slots (planOf r) (getD (links q (planOf r .side)) (planOf r .slot) 0)) (λ _. refl) (λ _. refl)
 
       keeps-puts : (w : ℕ) → (x ≡ planOf r .slot → ⊥) → Keeps (putsOwn pooled slots q r w)
       unfolding putsOwn
       keeps-puts w ne = either Keeps (isAsRead q (planOf r) w)
-          (λ side. linked-other q (planOf r .side) (planOf r .slot) (packLink (record { tag = linkOf w .tag; slot = planOf r .word })) side x ne) keeps-loads
+          (λ side. linked-other q (planOf r .side) (planOf r .slot) (putInto (planOf r) w) side x ne) keeps-loads
 
       abbrev Left : Touched → Type 0
       Left d = (side : ℕ) → getD (links (d .tables) side) x 0 ≡ getD (links q side) x 0
@@ -131,6 +147,30 @@ module _ (pooled slots : ℕ) where
           (either Left (eqb (p .act) 10) same
           (either Left (eqb (p .act) 11) same same))))))))))
 
+      keeps-once : eqb (planOf r .act) 5 ≡ false
+          → (planOf r .act ≡ 4 → getD (links q (planOf r .side)) (planOf r .slot) 0 ≡ planOf r .expected → x ≡ planOf r .slot → ⊥)
+          → Keeps (atOnce pooled slots q r)
+      unfolding atOnce
+      keeps-once no5 ne = keeps-touch (planOf r) no5 ne
+
+      keeps-next : Keeps (readsNext pooled slots q r)
+      unfolding readsNext
+      keeps-next = either Keeps (eqb (getD (q .next) (planOf r .slot) 0) (planOf r .word)) (λ _. refl) (λ _. refl)
+
+      keeps-word : eqb (planOf r .act) 5 ≡ false
+          → (planOf r .act ≡ 4 → getD (links q (planOf r .side)) (planOf r .slot) 0 ≡ planOf r .expected → x ≡ planOf r .slot → ⊥)
+          → Keeps (oneWord pooled slots q r)
+      unfolding oneWord
+      keeps-word no5 ne = either Keeps (eqb (planOf r .act) 11) keeps-next (keeps-once no5 ne)
+
+      keeps-replaces : (w : ℕ) → (eqb (planOf r .act) 11 ≡ false → x ≡ planOf r .slot → ⊥) → Keeps (replaces pooled slots q r w)
+      unfolding replaces
+      keeps-replaces w ne =
+          by-test Keeps (eqb (planOf r .act) 11)
+          (λ e. let is = eqb-true (planOf r .act) 11 e in
+          keeps-once (ap (λ (a : ℕ). eqb a 5) is) (λ four. absurd (let z : _≡_ {A = ℕ} 4 11 = sym four ∙ is in omega arith)))
+          (λ n. keeps-puts w (ne n))
+
       keeps-steps : (planOf r .act ≡ 4 → getD (links q (planOf r .side)) (planOf r .slot) 0 ≡ planOf r .expected → x ≡ planOf r .slot → ⊥)
           → Keeps (stepFirst pooled slots q r)
       unfolding stepFirst
@@ -138,7 +178,7 @@ module _ (pooled slots : ℕ) where
           by-test Keeps (eqb (planOf r .act) 5) (λ _. keeps-loads)
           (λ no5. either Keeps (eqb (planOf r .act) 6) (λ _. refl)
           (either Keeps (eqb (planOf r .act) 9) (either Keeps (eqb (q .control .head) (planOf r .expected)) (λ _. refl) (λ _. refl))
-          (keeps-touch (planOf r) no5 ne)))
+          (keeps-word no5 ne)))
 
 -- Every thread of the tasks opened.
 abbrev pub AllRead : ℕ → ℕ → ℕ → Crew → Type 0
@@ -201,8 +241,8 @@ module _ (tasks pooled slots : ℕ) (m : Crew) (q : Queue) (f : Sim tasks pooled
         (λ four is e. queued-held (sym (back-slot t lt (as-listed t (begun Step) at) four is) ∙ sym (ap h e) ∙ hx))
     spares (loaded w) at =
         let z = subst (λ (k : Hand). Extra tasks pooled slots t r (G .labels) k) at (f .extra t) in
-        keeps-puts pooled slots T r x w (λ e. ne (own.held-same tasks pooled slots q g u t x hx
-        (subst (λ (y : ℕ). h y ≡ held t) (sym e) (own-slot t lt (as-listed t (loaded w) at) (z .0)))))
+        keeps-replaces pooled slots T r x w (λ n e. ne (own.held-same tasks pooled slots q g u t x hx
+        (subst (λ (y : ℕ). h y ≡ held t) (sym e) (own-slot t lt (as-listed t (loaded w) at) (z n .0)))))
     spares (knows label) at = λ _. refl
     spares (claims side slot label) at = subst Stay (sym (claims-is T r side slot label)) (either Stay (marked (T .marks) slot) (λ _. refl) (λ _. refl))
     spares (looks side slot label) at = subst Stay (sym (looks-is T r side slot label)) (λ _. refl)
@@ -219,11 +259,11 @@ module _ (tasks pooled slots : ℕ) (m : Crew) (q : Queue) (f : Sim tasks pooled
     unfolding isAsRead
     others-read u lu ne free at z = tt
     others-read u lu ne (begun op) at z = tt
-    others-read u lu ne (loaded w) at z =
+    others-read u lu ne (loaded w) at z = λ n.
         let p = plan pooled slots (taskAt (m .queue) u .call) in
-        let five = subst (λ (k : Hand). Extra tasks pooled slots u (taskAt (m .queue) u) (G .labels) k) at (f .extra u) .0 in
+        let five = subst (λ (k : Hand). Extra tasks pooled slots u (taskAt (m .queue) u) (G .labels) k) at (f .extra u) n .0 in
         ap (λ (y : ℕ). eqb y w)
-        (spares t lt u ne (p .slot) (own-slot u lu (as-listed u (loaded w) at) five) (m .hands t) refl (p .side)) ∙ z
+        (spares t lt u ne (p .slot) (own-slot u lu (as-listed u (loaded w) at) five) (m .hands t) refl (p .side)) ∙ z n
     others-read u lu ne (knows label) at z = tt
     others-read u lu ne (claims side slot label) at z = tt
     others-read u lu ne (looks side slot label) at z = tt
