@@ -63,20 +63,20 @@
  *                  stack,   instructions at most, by tasks and slots
  *                  bytes      1, 3     5, 12  16, 1023
  *   zc_open            88        78        78        78
- *   zc_open_pooled     88       111       167      6241
- *   zc_push           280       217       217       217
- *   zc_push_pooled    280       206       206       206
- *   zc_pop            280       160       160       160
- *   zc_step           112       210       210       210
- *   zc_step_record    128       201       201       201
- *   zc_run            160      1844      2982      3125
- *   zc_report         328       218       365     14088
+ *   zc_open_pooled     88       104       141      2665
+ *   zc_push           192       208       208       208
+ *   zc_push_pooled    160       178       178       178
+ *   zc_pop             40        98        98        98
+ *   zc_step           120       198       198       198
+ *   zc_step_record    128       194       194       194
+ *   zc_run            160      1732      2792      2926
+ *   zc_report         216       202       349     13767
  *   table bytes         -       240       816     30120
- *   stack bytes of the others: zc_waiting 64, zc_find 488, zc_sheet 1576, zc_sheet_words 552,
- *   zc_join 184, zc_save 152, zc_return 104, zc_next_schedule 26632, zc_serve 392,
- *   zc_audit 176, zc_plan 192, zc_settle_plan 208, zc_plan_start 128, zc_settle_start 48
- *   code bytes: audit 711, capi 8806, capi_record 4535, capi_run 7229, find 1716, join 3377,
- *   schedule 7831, serve 8519, sheet 3987, shelf 3713, touch 10012, waiting 668
+ *   stack bytes of the others: zc_waiting 72, zc_find 504, zc_sheet 1576, zc_sheet_words 552,
+ *   zc_join 184, zc_save 152, zc_return 104, zc_next_schedule 26632, zc_serve 288,
+ *   zc_audit 176, zc_plan 112, zc_settle_plan 208, zc_plan_start 32, zc_settle_start 40
+ *   code bytes: audit 711, capi 9433, capi_record 4250, capi_run 7187, find 3111, join 3377,
+ *   schedule 7967, serve 8878, sheet 3283, shelf 3713, touch 9527, waiting 704
  * As to the machine: x86-64, System V calling convention. The code uses the red zone (128 bytes
  * below the stack pointer) and SSE registers, no AVX: an interrupt handler that makes a call saves
  * the SSE state first, and an interrupt that is not masked during a call leaves the red zone alone.

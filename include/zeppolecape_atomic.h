@@ -54,10 +54,15 @@
  *
  * WHAT IS PROVED, of threads that interleave at single loads, stores, compare-and-swaps and changes
  * of a mark as this file makes them (crates/threads/specs/Promises.antt): memory and every thread's
- * answers are those of a list of starts and steps, in the order of their deciding instructions; that
- * list is linearizable, and nobody is told 34. The four calls below are proved to do what these
- * theorems say of them, for all records and words. Not proved, but tested: the C in this file, a
- * table of thirteen touches (zc_made) and the loops around it.
+ * answers are those of a list of starts and steps, in the order of their deciding instructions (a
+ * push that names its slot is asked 33 of the Anchor that it loaded, and may be started just above
+ * the limit); that list is linearizable, and nobody is told 34. It respects real time, and every
+ * label in it is accounted for; once no thread is in a call, memory is the queue of the list, from
+ * which plain calls go on. A start or step is at most four instructions of its thread, whatever the
+ * others do, and among the steps some call takes effect or answers (Consequences.antt beside it). The
+ * four calls below are proved to do what these theorems say of them, for all records and words. Not
+ * proved, but tested: the C in this file, a table of thirteen touches (zc_made) and the loops around
+ * it.
  *
  * ORDER. Every access to a shared word but a label is sequentially consistent, and the proved calls
  * reach none. By the rules of C11 and C++11 all these accesses then have one order that agrees with
@@ -66,7 +71,7 @@
  * which is proved too (LabelsApart), so there is no data race, and by the same rules a program
  * without one does nothing but what its interleavings do. A next is no such word: one thread may
  * load it at 13 while another stores it. Weaker orders would need another proof; on x86-64 they
- * would save the xchg by which a next is stored, and nothing else.
+ * would save the xchg by which a next is stored, where it is not yet as wanted, and nothing else.
  *
  * C11 or C++11, gcc or clang: the tables are plain words, and are reached by the builtins that are
  * these compilers' atomics. Link with libzeppolecape.a and with threads, if you have them.
@@ -206,15 +211,20 @@ static inline uint64_t zc_swapped(uint64_t *word, uint64_t expected, uint64_t wa
     return expected;
 }
 
+/* A word that is the wanted one already is only read: a store costs as much as a change. */
 static inline uint64_t zc_stored(uint64_t *word, uint64_t wanted)
 {
+    if (zc_loaded(word) == wanted)
+        return 0;
+    ZC_BETWEEN();
     __atomic_store_n(word, wanted, __ATOMIC_SEQ_CST);
     return 0;
 }
 
 /*
- * In a sound link word the slot is replaced, and the tag kept; one that names no slot of the queue
- * stays. It is a push's own link, and the first change succeeds in a queue written by these calls.
+ * In a sound link word the slot is replaced, and the tag kept. One that has the slot already stays,
+ * and so does one that names no slot of the queue. It is a push's own link, and the first change
+ * succeeds in a queue written by these calls.
  */
 static inline uint64_t zc_put(uint64_t *link, uint64_t slot, uint64_t slots)
 {
@@ -222,6 +232,8 @@ static inline uint64_t zc_put(uint64_t *link, uint64_t slot, uint64_t slots)
     do {
         ZC_BETWEEN();
         if ((found & 0xffffffff) > slots)
+            return found;
+        if ((found & 0xffffffff) == slot)
             return found;
         was = found;
         found = zc_swapped(link, was, was >> 32 << 32 | slot);
@@ -263,13 +275,21 @@ static inline uint64_t zc_claimed(const zc_shared *shared, const zc_touch *touch
     return 0;
 }
 
+/* The mark found, of a start that only looks. */
+static inline uint64_t zc_looked(const zc_shared *shared, const zc_touch *touch)
+{
+    return zc_loaded(&shared->marks[touch->slot / 64]) >> touch->slot % 64 & 1;
+}
+
+/* Both tables' addresses are read before one is taken: sides can't be predicted, so no branch. */
 static inline uint64_t *zc_link(const zc_shared *shared, const zc_touch *touch)
 {
-    return &(touch->side == ZC_RIGHT ? shared->rights : shared->lefts)[touch->slot];
+    uint64_t *lefts = shared->lefts, *rights = shared->rights;
+    return &(touch->side == ZC_RIGHT ? rights : lefts)[touch->slot];
 }
 
 /* Makes a touch, and answers the word found: `perform` of crates/threads_model/specs/Split.antt, a line each. */
-static inline uint64_t zc_made(const zc_shared *shared, const zc_touch *touch)
+__attribute__((always_inline)) static inline uint64_t zc_made(const zc_shared *shared, const zc_touch *touch)
 {
     switch (touch->act) {
     case ZC_LOAD_ANCHOR: return zc_loaded(shared->anchor);
@@ -284,14 +304,17 @@ static inline uint64_t zc_made(const zc_shared *shared, const zc_touch *touch)
     case ZC_LOAD_NEXT: return zc_loaded(&shared->next[touch->slot]);
     case ZC_STORE_NEXT: return zc_stored(&shared->next[touch->slot], touch->word);
     case ZC_TAKE_SLOT: return zc_claimed(shared, touch);
-    case ZC_LOAD_MARK: return zc_loaded(&shared->marks[touch->slot / 64]) >> touch->slot % 64 & 1;
+    case ZC_LOAD_MARK: return zc_looked(shared, touch);
     default: return 0;
     }
 }
 
 /* ---- Whole calls -------------------------------------------------------------------------- */
 
-/* Starts a call: running, with its first step planned, or refused. */
+/*
+ * Starts a call: running, with its first step planned, or refused. The first touch is the load of
+ * Anchor; a push that names a slot has one more, of the slot's mark.
+ */
 static inline void zc_begin(const zc_shared *shared, zc_record *own, const zc_start *start,
                             zc_onward *onward)
 {
@@ -301,13 +324,18 @@ static inline void zc_begin(const zc_shared *shared, zc_record *own, const zc_st
     onward->reply.value = 0;
     if (onward->touch.act == ZC_NO_TOUCH)
         return;
-    do {
+    ZC_BETWEEN();
+    uint64_t found = zc_loaded(shared->anchor);
+    ZC_BETWEEN();
+    *onward = zc_settle_start(shared->slots, shared->pooled, own, start, ZC_LOAD_ANCHOR, found);
+    if (onward->reply.code == ZC_STARTING) {
         uint32_t act = onward->touch.act;
         ZC_BETWEEN();
-        uint64_t found = zc_made(shared, &onward->touch);
+        found = act == ZC_TAKE_SLOT ? zc_claimed(shared, &onward->touch)
+                                    : zc_looked(shared, &onward->touch);
         ZC_BETWEEN();
         *onward = zc_settle_start(shared->slots, shared->pooled, own, start, act, found);
-    } while (onward->reply.code == ZC_STARTING);
+    }
 }
 
 /*
@@ -332,23 +360,38 @@ static inline void zc_back_off(void)
     }
 }
 
+/* A reply by its words, as they were stored: one load over two stores just made would wait for both. */
+static inline zc_reply zc_told(const zc_reply *reply)
+{
+    zc_reply told;
+    told.code = reply->code;
+    told.label = reply->label;
+    told.value = reply->value;
+    return told;
+}
+
 /* Starts a call and steps it to its answer. */
 static inline zc_reply zc_answer_to(const zc_shared *shared, zc_record *own, const zc_start *start)
 {
-    zc_onward onward;
-    zc_begin(shared, own, start, &onward);
+    zc_onward begun;
+    zc_begin(shared, own, start, &begun);
+    if (begun.reply.code != ZC_RUNNING)
+        return zc_told(&begun.reply);
     uint64_t failed = own->retries;
-    while (onward.reply.code == ZC_RUNNING) {
+    ZC_BETWEEN();
+    uint64_t found = zc_made(shared, &begun.touch);
+    for (;;) {
         ZC_BETWEEN();
-        uint64_t found = zc_made(shared, &onward.touch);
-        ZC_BETWEEN();
-        onward = zc_settle_plan(shared->slots, shared->pooled, own, found);
+        zc_onward onward = zc_settle_plan(shared->slots, shared->pooled, own, found);
         if (own->retries != failed) {
             failed = own->retries;
             zc_back_off();
         }
+        if (onward.reply.code != ZC_RUNNING)
+            return zc_told(&onward.reply);
+        ZC_BETWEEN();
+        found = zc_made(shared, &onward.touch);
     }
-    return onward.reply;
 }
 
 /*
@@ -386,6 +429,17 @@ static inline zc_reply zc_atomic_pop(const zc_shared *shared, zc_record *own, ui
  * each record it keeps the touch that comes next; if that is lost, zc_plan tells it again.
  */
 
+/* A touch word by word, each as it was stored: volatile, so that no loads are joined (zc_told). */
+static inline void zc_keep(zc_touch *next, const volatile zc_touch *touch)
+{
+    next->act = touch->act;
+    next->label = touch->label;
+    next->side = touch->side;
+    next->slot = touch->slot;
+    next->expected = touch->expected;
+    next->word = touch->word;
+}
+
 /*
  * Starts a call, and puts its first touch in *next. Answers running at place 1 or 12, or refuses as
  * the call of its operation does; then *next is as it was.
@@ -396,8 +450,8 @@ static inline zc_reply zc_atomic_start(const zc_shared *shared, zc_record *own,
     zc_onward onward;
     zc_begin(shared, own, start, &onward);
     if (onward.reply.code == ZC_RUNNING)
-        *next = onward.touch;
-    return onward.reply;
+        zc_keep(next, &onward.touch);
+    return zc_told(&onward.reply);
 }
 
 /*
@@ -410,8 +464,8 @@ static inline zc_reply zc_atomic_step(const zc_shared *shared, zc_record *own, z
     uint64_t found = zc_made(shared, next);
     ZC_BETWEEN();
     zc_onward onward = zc_settle_plan(shared->slots, shared->pooled, own, found);
-    *next = onward.touch;
-    return onward.reply;
+    zc_keep(next, &onward.touch);
+    return zc_told(&onward.reply);
 }
 
 #ifdef __cplusplus

@@ -71,7 +71,7 @@ fn add_numbers(order: &mut Vec<u64>, words: &[&[u8]]) -> Result<(), String> {
     Ok(())
 }
 
-/// The seven words of a call, told by the first that cannot be read. A number may stand for any word.
+/// The seven words of a call, told by the first that cannot be read. Kind, side and answer may be numbers.
 fn call(words: &[&[u8]]) -> Result<Finished, String> {
     let word = |at: usize| words.get(at).copied().ok_or_else(|| SEVEN.to_string());
     let named = |at: usize, names: &[(&str, u64)], wanted: &str| {

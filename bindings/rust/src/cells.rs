@@ -39,8 +39,11 @@ fn swap(word: &AtomicU64, expected: u64, wanted: u64) -> u64 {
     found
 }
 
+/// A word that is the wanted one already is only read: a store costs as much as a change.
 fn store(word: &AtomicU64, wanted: u64) -> u64 {
-    word.store(wanted, SeqCst);
+    if load(word) != wanted {
+        word.store(wanted, SeqCst);
+    }
     0
 }
 
@@ -50,11 +53,11 @@ impl Cells {
         &links[touch.slot as usize]
     }
 
-    /// In a sound link word the slot is replaced, and the tag kept; one that names no slot of the
-    /// queue stays.
+    /// In a sound link word the slot is replaced, and the tag kept. One that has the slot already
+    /// stays, and so does one that names no slot of the queue.
     fn put(&self, link: &AtomicU64, slot: u64) -> u64 {
         let mut was = load(link);
-        while was & 0xffff_ffff <= self.slots {
+        while was & 0xffff_ffff <= self.slots && was & 0xffff_ffff != slot {
             let found = swap(link, was, (was >> 32 << 32) | slot);
             if found == was {
                 break;
@@ -92,7 +95,7 @@ impl Cells {
     }
 
     /// Makes a touch, and answers the word found: a line for each kind, as in the header.
-    fn made(&self, touch: &Touch) -> u64 {
+    pub fn made(&self, touch: &Touch) -> u64 {
         let Touch { act, slot, expected, word, .. } = *touch;
         match act {
             raw::LOAD_ANCHOR => load(&self.anchor.0),
@@ -118,30 +121,28 @@ impl Cells {
         unsafe { raw::zc_plan(self.slots, self.pooled, own) }
     }
 
-    /// Starts a call: running, with its first step planned, or refused.
+    /// Starts a call: running, with its first step planned, or refused. The first touch is the load
+    /// of Anchor; a push that names a slot has one more, of the slot's mark.
     pub fn begun(&self, own: &mut Record, start: &Start) -> Onward {
         // SAFETY: record and start are lent for the call.
-        let mut touch = unsafe { raw::zc_plan_start(self.slots, self.pooled, own, start) };
+        let touch = unsafe { raw::zc_plan_start(self.slots, self.pooled, own, start) };
         if touch.act == raw::NO_TOUCH {
             let reply = raw::Reply { code: touch.word as u32, label: 0, value: 0 };
             return Onward { reply, touch };
         }
-        loop {
-            let found = self.made(&touch);
+        let mut settled = |act, found| {
             // SAFETY: as above, and nobody else has either.
-            let onward = unsafe {
-                raw::zc_settle_start(self.slots, self.pooled, own, start, touch.act, found)
-            };
-            if onward.reply.code != raw::STARTING {
-                return onward;
-            }
-            touch = onward.touch;
+            unsafe { raw::zc_settle_start(self.slots, self.pooled, own, start, act, found) }
+        };
+        let onward = settled(raw::LOAD_ANCHOR, load(&self.anchor.0));
+        if onward.reply.code != raw::STARTING {
+            return onward;
         }
+        settled(onward.touch.act, self.made(&onward.touch))
     }
 
-    /// Makes the step that `touch` plans.
-    pub fn stepped(&self, own: &mut Record, touch: &Touch) -> Onward {
-        let found = self.made(touch);
+    /// What a step comes to whose touch has found a word.
+    pub fn settled(&self, own: &mut Record, found: u64) -> Onward {
         // SAFETY: the record is lent for the call, and nobody else has it.
         unsafe { raw::zc_settle_plan(self.slots, self.pooled, own, found) }
     }

@@ -160,20 +160,17 @@ pub struct Handle<'a> {
 impl Handle<'_> {
     /// Pushes `label` in a slot of the pool: pushed, or no free slot. Refuses 41, 30, 33.
     pub fn push(&mut self, side: Side, label: u32) -> Result<Answer, Refusal> {
-        self.start_push(side, label)?;
-        self.finish()
+        self.whole(raw::ASK_PUSH_POOLED, side, 0, label)
     }
 
     /// Pushes `label` in a free slot, in a queue whose pushes name them. Refuses 41, 15, 30, 32, 33.
     pub fn push_in(&mut self, side: Side, slot: u64, label: u32) -> Result<Answer, Refusal> {
-        self.start_push_in(side, slot, label)?;
-        self.finish()
+        self.whole(raw::ASK_PUSH, side, slot, label)
     }
 
     /// Pops: popped, or empty. Refuses 30, 33.
     pub fn pop(&mut self, side: Side) -> Result<Answer, Refusal> {
-        self.start_pop(side)?;
-        self.finish()
+        self.whole(raw::ASK_POP, side, 0, 0)
     }
 
     /// Starts a push in a slot of the pool. Refuses 41, 30, 33.
@@ -193,24 +190,16 @@ impl Handle<'_> {
 
     /// Makes one step of the call that was started: one touch of shared memory. Refuses 31.
     pub fn step(&mut self) -> Result<Answer, Refusal> {
-        let Onward { reply, touch } = self.cells.stepped(&mut self.seat.record, &self.seat.touch);
+        let found = self.cells.made(&self.seat.touch);
+        let Onward { reply, touch } = self.cells.settled(&mut self.seat.record, found);
         self.seat.touch = touch;
         outcome(reply)
     }
 
     /// Steps the call that was started to its answer. Refuses 31.
     pub fn finish(&mut self) -> Result<Answer, Refusal> {
-        let mut failed = self.seat.record.retries;
-        let mut onward = self.cells.stepped(&mut self.seat.record, &self.seat.touch);
-        while onward.reply.code == raw::RUNNING {
-            if self.seat.record.retries != failed {
-                failed = self.seat.record.retries;
-                back_off();
-            }
-            onward = self.cells.stepped(&mut self.seat.record, &onward.touch);
-        }
-        self.seat.touch = onward.touch;
-        outcome(onward.reply)
+        let found = self.cells.made(&self.seat.touch);
+        self.ends(found)
     }
 
     /// The record: where the task stands in its call, and its count of retries.
@@ -231,6 +220,41 @@ impl Handle<'_> {
             self.seat.touch = touch;
         }
         outcome(reply)
+    }
+
+    /// Starts a call and steps it to its answer.
+    fn whole(
+        &mut self,
+        operation: u64,
+        side: Side,
+        slot: u64,
+        label: u32,
+    ) -> Result<Answer, Refusal> {
+        let start = Start { operation, side: side as u64, slot, label: u64::from(label) };
+        let begun = self.cells.begun(&mut self.seat.record, &start);
+        if begun.reply.code != raw::RUNNING {
+            return outcome(begun.reply);
+        }
+        let found = self.cells.made(&begun.touch);
+        self.ends(found)
+    }
+
+    /// The same from the word that the touch before found. Each settlement has a place of its own, from
+    /// which its touch is made: one kept across turns would be copied, by loads over stores just made.
+    fn ends(&mut self, mut found: u64) -> Result<Answer, Refusal> {
+        let mut failed = self.seat.record.retries;
+        loop {
+            let onward = self.cells.settled(&mut self.seat.record, found);
+            if onward.reply.code != raw::RUNNING {
+                self.seat.touch = onward.touch;
+                return outcome(onward.reply);
+            }
+            if self.seat.record.retries != failed {
+                failed = self.seat.record.retries;
+                back_off();
+            }
+            found = self.cells.made(&onward.touch);
+        }
     }
 }
 

@@ -1,17 +1,23 @@
--- What a step asks of the change that it would make, as the code asks it.
-use mathlib.Core.Bool.{Bool, _&&_, cond}
+-- What a step is refused by for what it touches, as the code asks it.
+use mathlib.Core.Bool.{cond}
 use Prim.Native.Nat.{ℕ}
 use lib.Dec.{eqb}
-use Rattle.model.specs.declared.Control.{Control}
-use Rattle.model.specs.declared.Call.{Call}
-use Rattle.model.specs.Places.{move}
-use Rattle.model.specs.Refusals.{leavesSound, hasRoom}
-use Rattle.decide.specs.Decided.{new2, new4, new10}
+use Rattle.model.specs.declared.{Control.Control, Call.Call, Outcome.Outcome}
+use Rattle.model.specs.declared.Outcome.the-variants.{Refused, Moved}
+use Rattle.model.specs.Tables.{Tables}
+use Rattle.model.specs.Places.{wordFound}
+use Rattle.model.specs.Refusals.{stepSound}
+use Rattle.decide.specs.Ending.{mayChange}
 
--- The Anchor that a change makes at 2, at 4, and at 10.
-unfoldable pub newAnchor : Call → ℕ
-newAnchor r = cond (eqb (r .place) 2) (new2 r) (cond (eqb (r .place) 4) (new4 r) (new10 r))
+-- The number of a refusal; 0: it is none.
+abbrev pub whyNot : Outcome → ℕ
+whyNot (Refused n) = n
+whyNot (Moved a) = 0
 
--- The change that the place of a record makes leaves Anchor sound and raises no tag past 32 bits.
-unfoldable pub changeSound : Control → Call → ℕ → Bool
-changeSound c r w = leavesSound (c .slots) (move c r w .touch) && hasRoom r (move c r w .touch)
+-- Of a change of Anchor to `new`, which fails where Anchor is not as read.
+unfoldable pub whyUnchanged : Control → Call → ℕ → ℕ
+whyUnchanged c r new = cond (eqb (c .anchor) (r .seen)) (cond (mayChange (c .slots) (r .seen) new) 0 34) 0
+
+-- 34 for what the step touches; 0: all that is sound.
+unfoldable pub touchRefusal : Tables → Call → ℕ
+touchRefusal q r = cond (stepSound (q .control) r (wordFound q r)) 0 34

@@ -10,6 +10,7 @@ use Rattle.model.specs.{Calls.openAs, Tables.Queue, Lists.All}
 use Rattle.audit_model.specs.declared.Verdict.the-variants.{Passed}
 use Rattle.audit_model.specs.Audit.{verdict}
 use Rattle.audit_model.specs.Written.{IsAnswered, effectOrder, finished}
+use Rattle.audit_model.specs.Laws.{ReadBack}
 use Rattle.audit_model.specs.LentHistory.{callAt, callsFrom, callsIn, wordsOf}
 use Rattle.audit_model.proofs.HistoriesPass.{histories-pass}
 
@@ -42,7 +43,7 @@ unfolding callsFrom
 read-all [] = refl
 read-all (c ∷ cs) = ap (λ (l : List Finished). c ∷ l) (read-on c cs 0 (length cs) ∙ read-all cs)
 
-pub read-back : (cs : List Finished) → callsIn (wordsOf cs) ≡ cs
+pub read-back : ReadBack
 read-back cs =
     let z : length (wordsOf cs) / 7 ≡ length cs = let h = words-length cs in omega arith in
     ap (λ (n : ℕ). callsFrom 0 n (wordsOf cs)) z ∙ read-all cs

@@ -37,9 +37,11 @@ differ j k = not (eqb j k)
 unfoldable pub rearranges : ℕ → List ℕ → Bool
 rearranges n ks = eqb (length ks) n && allOf (from1 n) ks && pairwise differ ks
 
+-- A call all of zeros, for a number that no call has.
 abbrev pub nobody : Finished
 nobody = record { task = 0; kind = 0; side = 0; label = 0; answer = 0; start = 0; end = 0 }
 
+-- Call number k, from 1 on.
 abbrev pub numbered : List Finished → ℕ → Finished
 numbered cs k = getD (nobody ∷ cs) k nobody
 

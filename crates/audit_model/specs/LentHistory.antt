@@ -1,4 +1,4 @@
--- A history lent as words, seven a call; a verdict in numbers.
+-- A history lent as words, seven a call; a verdict in numbers. (Document 02, #103.)
 use mathlib.Core.List.{List, [], _∷_}
 use Prim.Native.Nat.{ℕ, zero, suc, _+_, _*_, _/_}
 use lib.ListN.{length, getD}

@@ -4,15 +4,9 @@ use Prim.Native.Nat.{ℕ}
 use lib.Dec.{eqb}
 use Rattle.model.specs.declared.Control.{Control}
 use Rattle.model.specs.declared.Call.{Call}
-use Rattle.model.specs.declared.Asked.{Asked}
-use Rattle.model.specs.Refusals.{first, askedRules}
 use Rattle.model.specs.declared.Answer.the-variants.{Running}
 use Rattle.model.specs.declared.Outcome.the-variants.{Refused, Moved}
 use Rattle.model.specs.declared.Transition.{Transition}
-
--- Why an admitted start is refused.
-unfoldable pub askedRefusal : Control → Call → ℕ → Asked → ℕ
-askedRefusal c r side a = first (askedRules c r side a)
 
 -- Refused: the number alone. Accepted: the record at its first place.
 abbrev pub decided : Control → Call → ℕ → Call → Transition

@@ -2,16 +2,13 @@
 use model::Asked;
 use model::Call;
 use model::Control;
-use sound::Lengths;
-use sound::admission;
 use word::Anchor;
 ghost use mathlib.Core.Path.{_≡_};
+ghost use mathlib.Core.Bool.{Bool, cond};
 ghost use lib.Dec.{ltb};
 ghost use Rattle.word.specs.Anchor.{anchorOf};
-ghost use Rattle.model.specs.Tables.{isPooled};
-ghost use Rattle.model.specs.Refusals.{startRefusal};
-ghost use Rattle.sound.specs.Lengths.{lengthsFit, amongMany};
-ghost use Rattle.calls.specs.Starting.{askedRefusal};
+ghost use Rattle.model.specs.Sound.{recordSound};
+ghost use Rattle.model.specs.Refusals.{Lent, admission, startRefusal};
 
 /// The Anchor tag is too high for a start.
 pub fn late(anchor: u64) -> bool
@@ -21,10 +18,26 @@ pub fn late(anchor: u64) -> bool
     4294967262 < a.tag
 }
 
-/// What a start is asked once it is admitted.
-fn asked_refusal(c: Control, r: Call, side: u64, asked: Asked) -> u32
-    ensures { λ n. ⌜ n ≡ askedRefusal c r side asked ⌝ }
+/// Why a busy record is refused.
+fn busy_refusal(pooled: bool, slots: u64, r: Call) -> u32
+    ensures { λ n. ⌜ n ≡ cond (recordSound pooled slots r) 30 34 ⌝ }
 {
+    if sound::record_sound(pooled, slots, r) {
+        30
+    } else {
+        34
+    }
+}
+
+/// All that a start is asked, where `admitted` is the number that it is admitted with. Nearly every start passes, and is
+/// told so before a busy record is looked at: with that behind five tests, and the record copied for it there, the rest is
+/// compiled into each of the three starts.
+pub fn start_refusal(admitted: u32, c: Control, r: Call, side: u64, asked: Asked) -> u32
+    ensures { λ n. ⌜ ((fit : Bool) (p : Lent) → admitted ≡ admission c fit p → n ≡ startRefusal c fit p r side asked) ⌝ }
+{
+    if admitted != 0 {
+        return admitted;
+    }
     if 1 < side {
         return 14;
     }
@@ -34,26 +47,13 @@ fn asked_refusal(c: Control, r: Call, side: u64, asked: Asked) -> u32
     if asked.outside {
         return 15;
     }
-    let pooled = c.pooled == 1;
-    if !sound::record_sound(pooled, c.slots, r) {
-        return 34;
+    let high = late(c.anchor);
+    if (r.place == 0) & !asked.taken & !high {
+        return 0;
     }
     if r.place != 0 {
-        return 30;
+        let busy = r;
+        return busy_refusal(c.pooled == 1, c.slots, busy);
     }
-    if asked.taken {
-        return 32;
-    }
-    if late(c.anchor) { 33 } else { 0 }
-}
-
-/// All that a start of task `task` is asked. The tables are given by their lengths.
-pub fn start_refusal(c: Control, r: Call, task: usize, side: u64, asked: Asked, t: Lengths) -> u32
-    ensures { λ n. ⌜ n ≡ startRefusal c (lengthsFit (isPooled c) (c .slots) t) (amongMany c t task) r side asked ⌝ }
-{
-    let why = admission::admit(c, task, t);
-    if why != 0 {
-        return why;
-    }
-    asked_refusal(c, r, side, asked)
+    if asked.taken { 32 } else { 33 }
 }

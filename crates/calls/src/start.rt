@@ -7,6 +7,7 @@ use model::Control;
 use model::Outcome;
 use model::Transition;
 use sound::Lengths;
+use sound::admission;
 ghost use mathlib.Core.Path.{_≡_};
 ghost use mathlib.Core.List.{List};
 ghost use Prim.Native.Nat.{ℕ};
@@ -66,7 +67,8 @@ pub fn pop_start(c: Control, r: Call, task: usize, side: u64, t: Lengths) -> Tra
         outside: false,
         taken: false,
     };
-    let why = refusal::start_refusal(c, r, task, side, asked, t);
+    let admitted = admission::admit(c, task, t);
+    let why = refusal::start_refusal(admitted, c, r, side, asked);
     let pop = new_call(1, 1, side, 0, 0);
     decided(c, r, why, pop)
 }
@@ -83,7 +85,8 @@ pub fn put_start(c: Control, r: Call, task: usize, side: u64, label: u32, t: Len
         outside: false,
         taken: false,
     };
-    let why = refusal::start_refusal(c, r, task, side, asked, t);
+    let admitted = admission::admit(c, task, t);
+    let why = refusal::start_refusal(admitted, c, r, side, asked);
     let push = new_call(12, 0, side, 0, label);
     decided(c, r, why, push)
 }
@@ -111,7 +114,8 @@ pub fn push_start(
         outside: !inside,
         taken,
     };
-    let why = refusal::start_refusal(c, r, task, side, asked, t);
+    let admitted = admission::admit(c, task, t);
+    let why = refusal::start_refusal(admitted, c, r, side, asked);
     let push = new_call(1, 0, side, slot, label);
     if why != 0 {
         return decided(c, r, why, push);

@@ -4,12 +4,15 @@ pub mod openings;
 
 use calls::report;
 use model::Reply;
+use model::Report;
 use model::Reported;
 use rows::op;
 ghost use mathlib.Core.Path.{_≡_};
-ghost use Prim.Native.Nat.{_≤_};
+ghost use mathlib.Core.List.{List};
+ghost use Prim.Native.Nat.{ℕ, _≤_};
 ghost use lib.ListN.{length};
 ghost use Rattle.model.specs.declared.Op.the-variants.{Push, Pop, PushPooled, Step};
+ghost use Rattle.model.specs.declared.Reported.the-variants.{Refused, Told};
 ghost use Rattle.model.specs.Calls.{act};
 ghost use Rattle.model.specs.Report.{report, retryCounts};
 ghost use Rattle.model.specs.Ends.{endsCall, isMoved};
@@ -32,32 +35,36 @@ pub struct ReportReply {
     pub retries: [u64; 16],
 }
 
-fn report_reply(r: Reported, retries: [u64; 16]) -> ReportReply
-    ensures { λ n. ⌜ n ≡ reportReplyOf r retries ⌝ }
+/// Nothing but the number.
+fn refused_report(number: u32) -> ReportReply
+    ensures { λ n. ⌜ ((retries : List ℕ) → n ≡ reportReplyOf (Refused number) retries) ⌝ }
 {
-    match r {
-        Reported::Refused(number) => ReportReply {
-            code: number as u64,
-            tag: 0,
-            status: 0,
-            left: 0,
-            right: 0,
-            busy: 0,
-            waiting: 0,
-            taken: 0,
-            retries: [0; 16],
-        },
-        Reported::Told(t) => ReportReply {
-            code: 0,
-            tag: t.anchor.tag,
-            status: t.anchor.status,
-            left: t.anchor.left,
-            right: t.anchor.right,
-            busy: t.busy,
-            waiting: t.waiting,
-            taken: t.taken,
-            retries,
-        },
+    ReportReply {
+        code: number as u64,
+        tag: 0,
+        status: 0,
+        left: 0,
+        right: 0,
+        busy: 0,
+        waiting: 0,
+        taken: 0,
+        retries: [0; 16],
+    }
+}
+
+fn told_report(t: Report, retries: [u64; 16]) -> ReportReply
+    ensures { λ n. ⌜ n ≡ reportReplyOf (Told t) retries ⌝ }
+{
+    ReportReply {
+        code: 0,
+        tag: t.anchor.tag,
+        status: t.anchor.status,
+        left: t.anchor.left,
+        right: t.anchor.right,
+        busy: t.busy,
+        waiting: t.waiting,
+        taken: t.taken,
+        retries,
     }
 }
 
@@ -241,7 +248,8 @@ fn look(records: &[[u64; rows::RECORD_WORDS]], n: usize) -> Looked
     Looked { busy, retries }
 }
 
-/// Tells the fields of Anchor, the busy tasks, the labels waiting, the slots taken and each task's retries.
+/// Tells the fields of Anchor, the busy tasks, the labels waiting, the slots taken and each task's retries. Each arm returns
+/// its answer: one that both arms make is copied once more.
 #[no_mangle]
 pub extern "C" fn zc_report(
     control: &[u64; rows::CONTROL_WORDS],
@@ -262,7 +270,14 @@ pub extern "C" fn zc_report(
     let n = records.len();
     let k = report::to_count(c, n);
     let l = look(records, k);
-    let t = report::told(c, n, l.busy, lefts, rights, labels, marks, next);
-    let retries = l.retries;
-    report_reply(t, retries)
+    let r = report::told(c, n, l.busy, lefts, rights, labels, marks, next);
+    match r {
+        Reported::Refused(number) => {
+            return refused_report(number);
+        }
+        Reported::Told(t) => {
+            let retries = l.retries;
+            return told_report(t, retries);
+        }
+    }
 }

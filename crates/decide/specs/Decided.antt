@@ -3,13 +3,15 @@
 use mathlib.Core.Bool.{Bool, _&&_, not, cond}
 use Prim.Native.Nat.{ℕ, _+_}
 use lib.Dec.{eqb, leb, ltb}
+use Rattle.word.specs.declared.Anchor.{Anchor}
 use Rattle.word.specs.Anchor.{anchorOf, packAnchor}
 use Rattle.word.specs.Link.{linkOf, packLink}
 use Rattle.model.specs.declared.{Control.Control, Call.Call, Transition.Transition}
 use Rattle.model.specs.{Sound.from1, Kinds.isPush, Ends.isMoved}
-use Rattle.model.specs.Sides.{far, facing, pushing}
+use Rattle.model.specs.Sides.{near, far, facing, pushing}
 use Rattle.model.specs.Route.{route, onlyWay, done, hasFailed, equal, unequal, namedQueue, pooledQueue}
 use Rattle.model.specs.Tables.{isPooled, withNeighbour, withOwn}
+use Rattle.decide.specs.declared.touched.LinkWord.{LinkWord}
 use Rattle.decide.specs.Ending.{refused, settled, noEntry, failing, headed, rowSound, neighbourRead, linkRead}
 
 -- The end as read: at the task's side, and at 5 to 10 at the side that the status names. The slot of the head as read.
@@ -22,12 +24,32 @@ namedEnd r = cond (eqb (anchorOf (r .seen) .status) 1) (anchorOf (r .seen) .righ
 abbrev pub top : Call → ℕ
 top r = linkOf (r .link) .slot
 
--- NEW WORDS, each with the tag as read raised by 1.
+-- The link words touched: at 3 the own slot's inward one, of a pop the end's; at 5 the end's inward one; at 7 and 9 the neighbour's outward one.
+-- `a` is Anchor as read.
+abbrev pub link3Of : Call → Anchor → LinkWord
+link3Of r a = record { right = not (eqb (r .side) 1); slot = cond (isPush r) (r .own) (near (r .side) a) }
+
+abbrev pub link3 : Call → LinkWord
+link3 r = link3Of r (anchorOf (r .seen))
+
+abbrev pub link5Of : Anchor → LinkWord
+link5Of a = record { right = not (eqb (a .status) 1); slot = cond (eqb (a .status) 1) (a .right) (a .left) }
+
+abbrev pub link5 : Call → LinkWord
+link5 r = link5Of (anchorOf (r .seen))
+
+abbrev pub link7 : Call → LinkWord
+link7 r = record { right = eqb (anchorOf (r .seen) .status) 1; slot = r .neighbour }
+
+-- NEW WORDS, each with the tag as read raised by 1, but at 3, which keeps that of w, the word found.
 abbrev pub new2 : Call → ℕ
 new2 r =
     let a = anchorOf (r .seen) in
     let end : ℕ = cond (isPush r) (r .own) 0 in
     packAnchor (facing (r .side) (a .tag + 1) (a .status) end end)
+
+abbrev pub new3 : Call → ℕ → ℕ
+new3 r w = packLink (record { tag = linkOf w .tag; slot = ownEnd r })
 
 abbrev pub new4 : Call → ℕ
 new4 r =
@@ -92,3 +114,6 @@ found14 c r =
     (settled (headed c (new14 r)) (withOwn r (top r) (r .label)) (route 14 (r .kind) done) noEntry)
     (refused c r))
     (failing (settled c r (route 14 (r .kind) hasFailed) noEntry))
+
+unfoldable pub found16 : Control → Call → Transition
+found16 c r = settled c r (route 16 (r .kind) onlyWay) noEntry

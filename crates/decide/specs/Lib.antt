@@ -1,3 +1,2 @@
 pub mod Ending
-pub mod Constants
 pub mod Decided

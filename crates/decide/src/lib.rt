@@ -3,20 +3,21 @@
 //!
 //! A `w` is the word found: at 3, 5, 7 and 9 the link word of the slot's row, at 13 its next. Anchor and head are
 //! found in control; what their places make of them is `at1`, `at2`, .. themselves.
-pub mod next;
 pub mod side;
 pub mod step;
+pub mod touched;
 
 use model::Call;
 use model::Control;
 use model::Entry;
 use model::Outcome;
 use model::Transition;
+use route::next;
 use word::Anchor;
 use word::Link;
 ghost use mathlib.Core.Path.{_≡_};
-ghost use Rattle.decide.specs.Decided.{madeOf, found3, found5, found7, found9, found11, found13, found14};
-ghost use Rattle.decide.specs.Decided.{new2, new4, new9, new10, new14, new17};
+ghost use Rattle.decide.specs.Decided.{madeOf, found3, found5, found7, found9, found11, found13, found14, found16};
+ghost use Rattle.decide.specs.Decided.{new2, new3, new4, new9, new10, new14, new17};
 
 /// Place 2: own, own, s; of a pop null, null, s.
 pub fn new2(r: Call) -> u64
@@ -25,6 +26,14 @@ pub fn new2(r: Call) -> u64
     let a = Anchor::unpack(r.seen);
     let end = side::choose(r.kind == 0, r.own, 0);
     side::facing(r.side == 1, step::raised(r.seen), a.status, end, end)
+}
+
+/// Place 3: the own slot's inward link, which names the end; w is the word found, and its tag is kept.
+pub fn new3(r: Call, w: u64) -> u64
+    ensures { λ x. ⌜ x ≡ new3 r w ⌝ }
+{
+    let link = Link::unpack(w);
+    step::link_word(link.tag, touched::own_end(r))
 }
 
 /// Place 4: l, own, RPUSH; of a pop l, neighbour, s.
@@ -45,9 +54,7 @@ pub fn new4(r: Call) -> u64
 pub fn new9(r: Call) -> u64
     ensures { λ w. ⌜ w ≡ new9 r ⌝ }
 {
-    let a = Anchor::unpack(r.seen);
-    let end = side::near(a.status == 1, a);
-    step::link_word(step::raised(r.link), end)
+    step::link_word(step::raised(r.link), touched::named_end(r))
 }
 
 /// Place 10: l, r, STABLE.
@@ -93,32 +100,29 @@ pub fn made(m: Transition) -> bool
 pub fn at3(c: Control, r: Call, w: u64) -> Transition
     ensures { λ m. ⌜ m ≡ found3 c r w ⌝ }
 {
+    let link = touched::link3(r);
     if r.kind == 0 {
-        if step::row_sound(c.slots, r.own, w) {
+        if step::row_sound(c.slots, link.slot, w) {
             return step::settles(c, r, next::next(3, r.kind, next::ONLY_WAY), step::NO_ENTRY);
         }
         return step::refused(c, r);
     }
-    let a = Anchor::unpack(r.seen);
-    let end = side::near(r.side == 1, a);
-    step::reads_neighbour(c, r, end, w, next::next(3, r.kind, next::ONLY_WAY))
+    step::reads_neighbour(c, r, link.slot, w, next::next(3, r.kind, next::ONLY_WAY))
 }
 
 /// Place 5: the slot that w names is the neighbour.
 pub fn at5(c: Control, r: Call, w: u64) -> Transition
     ensures { λ m. ⌜ m ≡ found5 c r w ⌝ }
 {
-    let a = Anchor::unpack(r.seen);
-    let end = side::near(a.status == 1, a);
-    step::reads_neighbour(c, r, end, w, next::next(5, r.kind, next::ONLY_WAY))
+    let link = touched::link5(r);
+    step::reads_neighbour(c, r, link.slot, w, next::next(5, r.kind, next::ONLY_WAY))
 }
 
 /// Place 7: w is remembered; it may name the end.
 pub fn at7(c: Control, r: Call, w: u64) -> Transition
     ensures { λ m. ⌜ m ≡ found7 c r w ⌝ }
 {
-    let a = Anchor::unpack(r.seen);
-    let end = side::near(a.status == 1, a);
+    let end = touched::named_end(r);
     let names_end = next::next(7, r.kind, next::EQUAL);
     let other = next::next(7, r.kind, next::UNEQUAL);
     step::reads_link(c, r, end, w, names_end, other)
@@ -147,8 +151,7 @@ pub fn at9(c: Control, r: Call, w: u64) -> Transition
 pub fn at11(c: Control, r: Call, label: u32) -> Transition
     ensures { λ m. ⌜ m ≡ found11 c r label ⌝ }
 {
-    let a = Anchor::unpack(r.seen);
-    let end = side::near(r.side == 1, a);
+    let end = touched::own_end(r);
     if sound::from1(c.slots, end) {
         if c.pooled == 1 {
             let mut t = r;
@@ -185,9 +188,17 @@ pub fn at14(c: Control, r: Call) -> Transition
     }
     if head.tag < Link::TAG_MASK {
         let d = step::with_head(c, new14(r));
+        let top = touched::top(r);
         let mut t = r;
-        t.own = head.slot;
+        t.own = top;
         return step::settles(d, t, next::next(14, r.kind, next::DONE), step::NO_ENTRY);
     }
     step::refused(c, r)
+}
+
+/// Place 16: the own slot's next is written.
+pub fn at16(c: Control, r: Call) -> Transition
+    ensures { λ m. ⌜ m ≡ found16 c r ⌝ }
+{
+    step::settles(c, r, next::next(16, r.kind, next::ONLY_WAY), step::NO_ENTRY)
 }

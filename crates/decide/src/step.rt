@@ -1,11 +1,11 @@
 //! How a step ends: refused, made, or a change of Anchor tried.
-use crate::next;
 use model::Answer;
 use model::Call;
 use model::Control;
 use model::Entry;
 use model::Outcome;
 use model::Transition;
+use route::next;
 use word::Anchor;
 use word::Link;
 ghost use mathlib.Core.Path.{_≡_};

@@ -1,5 +1,5 @@
 -- The answer: refused before the walk, by the walk, or found.
-use mathlib.Core.Path.{_≡_, refl, sym, _∙_}
+use mathlib.Core.Path.{_≡_, refl, sym, ap, _∙_}
 use mathlib.Core.Bool.{Bool, true, false, not}
 use mathlib.Core.List.{List, [], _∷_}
 use Prim.Native.Nat.{ℕ, _≤_}
@@ -8,9 +8,13 @@ use lib.Dec.{ltb}
 use lib.ListN.{length}
 use borrow.Author.Tests.{ltb-false, ne-eqb}
 use Rattle.model.specs.Tables.{Tables}
-use Rattle.model.specs.Sound.{controlSound, rowsFit}
+use Rattle.model.specs.Sound.{controlSound, from1, rowsFit}
 use Rattle.model.specs.Walk.{Walk, contents, isBroken, entries, broken}
 use Rattle.model.specs.Refusals.{rule, first}
+use Rattle.model.proofs.tests.Truth.{split}
+use Rattle.walk.specs.declared.Way.{Way}
+use Rattle.walk.specs.Ways.{wayOf, noneOn, ahead, turnedBack}
+use Rattle.walk.proofs.Along.{nowhere, waits, off}
 use Rattle.find_model.specs.Find.{find, findRefusal, refused}
 use Rattle.find.specs.Looked.{foundIn, refusalBefore}
 
@@ -28,6 +32,13 @@ one-applies true false true d h = absurd (h refl)
 one-applies true false false d h = refl
 one-applies true true c d h = refl
 one-applies false b c d h = refl
+
+-- Where an end is a slot, what waits is what the walk meets, turned to run from left to right.
+pub on-way : (q : Tables) (w : Way) → w ≡ wayOf (q .control) → noneOn w ≡ false
+    → contents q ≡ turnedBack w (ahead w (q .lefts) (q .rights) (q .labels))
+on-way q w e y =
+    split (from1 (w .slots) (w .first)) (λ z. waits q w e z)
+    (λ z. off q w e z y ∙ sym (ap (turnedBack w) (nowhere w (q .lefts) (q .rights) (q .labels) (w .slots) (w .first) z)))
 
 module _ (q : Tables) (asked : List ℕ) where
   abbrev pub why : ℕ

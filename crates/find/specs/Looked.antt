@@ -15,7 +15,6 @@ use Rattle.walk.specs.Over.{Made, made, lost}
 use Rattle.find_model.specs.declared.FindReply.{FindReply}
 use Rattle.find_model.specs.Find.{found, refused}
 use Rattle.find_model.specs.Noting.{note}
-use Rattle.find.specs.Sieve.{Ready}
 
 -- The slots met, and the positions noted.
 pub record Noted : Type 0 where

@@ -5,14 +5,13 @@ use sound::Lengths;
 use walk::Tally;
 use walk::Way;
 ghost use mathlib.Core.Path.{_≡_};
-ghost use mathlib.Core.Bool.{true, false, _||_};
+ghost use mathlib.Core.Bool.{false, _||_};
 ghost use mathlib.Core.List.{List};
 ghost use Prim.Native.Nat.{ℕ, _+_, _%_, _<_, _≤_};
 ghost use lib.Dec.{leb, ltb};
 ghost use lib.ListN.{length, getD, set, replicate};
 ghost use Rattle.model.specs.Tables.{tablesOf, marked};
-ghost use Rattle.model.specs.Sound.{controlSound, from1};
-ghost use Rattle.sound.specs.Lengths.{lengthsFit};
+ghost use Rattle.model.specs.Sound.{controlSound, rowsFit};
 ghost use Rattle.rows.specs.Rows.{controlOf};
 ghost use Rattle.walk.specs.Over.{over};
 ghost use Rattle.walk.specs.Ways.{ahead, turnedBack};
@@ -154,18 +153,33 @@ fn turn(rows: u64, n: usize, positions: &mut [u64])
 }
 
 /// 34 for control and Anchor, 45, 12. No next table is lent, so none counts.
-fn refusal(c: Control, asked: usize, t: Lengths) -> u32
-    ensures { λ n. ⌜ n ≡ refusalBefore (controlSound c) (ltb 32 asked) (lengthsFit false (c .slots) t) ⌝ }
+fn refusal(
+    c: Control,
+    asked: &[u32],
+    lefts: &[u64],
+    rights: &[u64],
+    labels: &[u32],
+    marks: &[u64],
+) -> u32
+    ensures { λ n.
+        ⌜ ((next : List ℕ) → n ≡ refusalBefore (controlSound c) (ltb 32 (length (now (asked .entry)))) (rowsFit false (c .slots)
+        (tablesOf c (now (lefts .entry)) (now (rights .entry)) (now (labels .entry)) (now (marks .entry)) next))) ⌝ }
 {
-    let control = sound::control_sound(c);
-    let fits = sound::rows_fit(false, c.slots, t);
-    if !control {
+    let t = Lengths {
+        records: 0,
+        lefts: lefts.len(),
+        rights: rights.len(),
+        labels: labels.len(),
+        marks: marks.len(),
+        next: 0,
+    };
+    if !sound::control_sound(c) {
         return 34;
     }
-    if 32 < asked {
+    if 32 < asked.len() {
         return 45;
     }
-    if !fits {
+    if !sound::rows_fit(false, c.slots, t) {
         return 12;
     }
     0
@@ -178,7 +192,7 @@ struct Sought {
     rows: u64,
 }
 
-/// From a first slot on: the rows, with the positions noted, or 34 with none.
+/// Along the way: the rows, with the positions noted, or 34 with none.
 fn search(
     w: Way,
     lefts: &[u64],
@@ -187,11 +201,14 @@ fn search(
     asked: &[u32],
     positions: &mut [u64],
 ) -> Sought
-    requires { ⌜ (from1 (w .slots) (w .first) ≡ true) × ((length (now asked) ≤ 32) × (now positions ≡ replicate 32 0)) ⌝ }
+    requires { ⌜ (length (now asked) ≤ 32) × (now positions ≡ replicate 32 0) ⌝ }
     ensures { λ r.
         ⌜ _≡_ {A = FindReply} (record { code = r .code; rows = r .rows; positions = now (positions .exit) })
         (foundIn (turnedBack w (ahead w (now (lefts .entry)) (now (rights .entry)) (now (labels .entry)))) (now (asked .entry))) ⌝ }
 {
+    if !sound::from1(w.slots, w.first) {
+        return Sought { code: 34, rows: 0 };
+    }
     let mut sieve: [u64; 16] = [0; 16];
     let walked = look(w, lefts, rights, labels, asked, &mut sieve, positions);
     let Tally::Labels(rows) = walked else {
@@ -204,48 +221,8 @@ fn search(
     Sought { code: 0, rows }
 }
 
-/// Where the labels asked for wait, whatever the next rows; all but the positions.
-fn find(
-    c: Control,
-    asked: &[u32],
-    lefts: &[u64],
-    rights: &[u64],
-    labels: &[u32],
-    marks: &[u64],
-    positions: &mut [u64],
-) -> Sought
-    requires { ⌜ now positions ≡ replicate 32 0 ⌝ }
-    ensures { λ r.
-        ⌜ ((next : List ℕ) → _≡_ {A = FindReply} (record { code = r .code; rows = r .rows; positions = now (positions .exit) }) (find
-        (tablesOf c (now (lefts .entry)) (now (rights .entry)) (now (labels .entry)) (now (marks .entry)) next)
-        (now (asked .entry)))) ⌝ }
-{
-    let t = Lengths {
-        records: 0,
-        lefts: lefts.len(),
-        rights: rights.len(),
-        labels: labels.len(),
-        marks: marks.len(),
-        next: 0,
-    };
-    let why = refusal(c, asked.len(), t);
-    if why != 0 {
-        return Sought {
-            code: why as u64,
-            rows: 0,
-        };
-    }
-    let w = walk::begin(c);
-    if sound::from1(w.slots, w.first) {
-        return search(w, lefts, rights, labels, asked, positions);
-    }
-    if walk::none_on(w) {
-        return Sought { code: 0, rows: 0 };
-    }
-    Sought { code: 34, rows: 0 }
-}
-
-/// The same for C and Rust, with control lent as its row of words.
+/// Where the labels asked for wait, whatever the next rows: for C and Rust, with control lent as its row of words.
+/// Each answer is made here, since one that a function below hands up is copied once more.
 #[no_mangle]
 pub extern "C" fn zc_find(
     control: &[u64; rows::CONTROL_WORDS],
@@ -262,8 +239,24 @@ pub extern "C" fn zc_find(
 {
     let row = *control;
     let c = rows::control_of(row);
+    let why = refusal(c, asked, lefts, rights, labels, marks);
+    if why != 0 {
+        return FindReply {
+            code: why as u64,
+            rows: 0,
+            positions: [0; 32],
+        };
+    }
+    let w = walk::begin(c);
+    if walk::none_on(w) {
+        return FindReply {
+            code: 0,
+            rows: 0,
+            positions: [0; 32],
+        };
+    }
     let mut positions: [u64; 32] = [0; 32];
-    let r = find(c, asked, lefts, rights, labels, marks, &mut positions);
+    let r = search(w, lefts, rights, labels, asked, &mut positions);
     FindReply {
         code: r.code,
         rows: r.rows,

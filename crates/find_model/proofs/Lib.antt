@@ -1,4 +1,5 @@
--- After any list following an opening; what the walk's order does to a position; the order of the refusals.
+-- After any list following an opening; what the walk's order does to a position; what a position means; the order of the refusals.
 pub mod Standing
 pub mod Positions
+pub mod Right
 pub mod Order

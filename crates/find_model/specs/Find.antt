@@ -2,13 +2,13 @@
 use mathlib.Core.Path.{_≡_}
 use mathlib.Core.Bool.{false, not, cond}
 use mathlib.Core.List.{List, [], _∷_, _++_, map}
-use Prim.Native.Nat.{ℕ, _+_, _-_}
+use Prim.Native.Nat.{ℕ, suc, _+_, _-_, _<_}
 use lib.Dec.{ltb, eqb}
-use lib.ListN.{length, replicate}
+use lib.ListN.{getD, length, replicate}
 use Rattle.model.specs.declared.Entry.{Entry}
 use Rattle.model.specs.Tables.{Tables, Queue}
 use Rattle.model.specs.Sound.{controlSound, rowsFit}
-use Rattle.model.specs.Walk.{contents, isBroken, met}
+use Rattle.model.specs.Walk.{CopyAt, contents, isBroken, met}
 use Rattle.model.specs.Report.{waiting}
 use Rattle.model.specs.Refusals.{Rule, rule, first}
 use Rattle.model.specs.Standing.{Standing}
@@ -51,6 +51,15 @@ unfoldable pub find : Tables → List ℕ → FindReply
 find q asked =
     let why = findRefusal q asked in
     cond (eqb why 0) (found (met (contents q)) asked) (refused why)
+
+-- What is told of label x among the entries l: the place of its leftmost copy, counted from 1; an absent one is not waiting, 0.
+pub data Found (x : ℕ) (l : List Entry) : ℕ → Type 0 where
+  leftmost : (i : ℕ) → CopyAt x l i → ((j : ℕ) → j < i → CopyAt x l j → ⊥) → Found x l (suc i)
+  notWaiting : ((j : ℕ) → CopyAt x l j → ⊥) → Found x l 0
+
+-- It is told of each label asked for.
+abbrev pub FoundRight : Type 0
+FoundRight = (l : List Entry) (asked : List ℕ) (k : ℕ) → k < length asked → Found (getD asked k 0) l (getD (found l asked .positions) k 0)
 
 -- Of a queue on which a call that walks may rely, as after a return to a shelf: over 32 labels are refused, never 34; else the positions are
 -- those among its entries.

@@ -1,7 +1,7 @@
 -- A history as text: words, separated by blanks, in lines.
 --   # a comment goes to the end of its line
 --   0 push right 700 pushed 1 3      a call a line: task, kind, side, label, answer, start event, answer event
---   1 pop left - empty 4 6           with empty the label may be -; a number may stand for any other word
+--   1 pop left - empty 4 6           with empty the label may be -; kind, side and answer may be numbers
 --   order 1 2                        the claimed order of effects: numbers of calls, to the end of the file
 use mathlib.Core.Bool.{Bool, false, _||_, not, cond}
 use mathlib.Core.List.{List, [], _∷_, _++_}

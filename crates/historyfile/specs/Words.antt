@@ -21,12 +21,14 @@ seven = 3
 abbrev pub unlabelled : ℕ
 unlabelled = 4
 
+-- Two words have the same bytes.
 unfoldable pub same : List ℕ → List ℕ → Bool
 same [] [] = true
 same [] (y ∷ b) = false
 same (x ∷ a) [] = false
 same (x ∷ a) (y ∷ b) = eqb x y && same a b
 
+-- A byte of 0 to 9; and a word of such bytes alone, the empty one among them.
 abbrev pub isDigit : ℕ → Bool
 isDigit b = leb 48 b && leb b 57
 
@@ -43,9 +45,11 @@ valued n (b ∷ bs) = valued (n * 10 + (b - 48)) bs
 abbrev pub fits : ℕ → ℕ → Bool
 fits n digit = ltb n 1844674407370955161 || (eqb n 1844674407370955161 && leb digit 5)
 
+-- A word of digits: its number, if it is below 2 ^ 64 and not behind a call.
 unfoldable pub number : ℕ → List ℕ → Meaning
 number column w = cond (ltb (valued 0 w) (2 ^ 64)) (cond (eqb column 7) (Fault seven) (Number (valued 0 w))) (Fault large)
 
+-- A word that is no number: in a line's first column the word order, in the next four what the call's column may be named.
 unfoldable pub first : List ℕ → Meaning
 first w = cond (same w (ascii "order")) Order (Fault unknown)
 
@@ -64,7 +68,7 @@ answer w =
     (cond (same w (ascii "empty")) (Number 3)
     (cond (same w (ascii "popped")) (Number 4) (Fault unknown)))
 
--- A word that is no number.
+-- A word that is no number, by its column.
 unfoldable pub name : ℕ → List ℕ → Meaning
 name column w =
     cond (eqb column 0) (first w)

@@ -29,12 +29,12 @@ use Rattle.join.specs.declared.admit.Admission.{Admission}
 use Rattle.join.specs.Stages.{lengthsFit, testsRefusal, laterRefusal}
 use Rattle.join.specs.Admits.{walked, Admits}
 
--- Long enough by the lengths is long enough.
-pub fits-is : (c : Control) (rows : List (List ℕ)) (lefts rights labels marks next : List ℕ)
-    → lengthsFit c (lengthsOf (tablesOf c lefts rights labels marks next) (length rows))
+-- Long enough by the lengths is long enough, whatever marks and next table are told of.
+pub fits-is : (c : Control) (rows : List (List ℕ)) (lefts rights labels told marks next : List ℕ)
+    → lengthsFit c (lengthsOf (tablesOf c lefts rights labels told []) (length rows))
     ≡ sourceFits (queueOf c (recordsOf rows) lefts rights labels marks next)
 unfolding lengthsFit sourceFits
-fits-is c rows lefts rights labels marks next = rw length-records
+fits-is c rows lefts rights labels told marks next = rw length-records
 
 one-applies : (a b q f : Bool) (rest : ℕ) → testsRefusal a b q f ≢ 0
     → cond (not a) 34 (cond (not b) 34 (cond (not q) 34 (cond (not f) 12 rest))) ≡ testsRefusal a b q f

@@ -205,11 +205,11 @@ pub fn admit(
     marks: &[u64],
 ) -> Admission
     ensures { λ r.
-        ⌜ Admits
-        (queueOf first (recordsOf (now (records1 .entry))) (now (lefts1 .entry)) (now (rights1 .entry)) (now (labels1 .entry)) [] [])
-        (queueOf second (recordsOf (now (records2 .entry))) (now (lefts2 .entry)) (now (rights2 .entry)) (now (labels2 .entry)) [] [])
-        (queueOf third (recordsOf (now (records .entry))) (now (lefts .entry)) (now (rights .entry)) (now (labels .entry)) (now (marks .entry)) [])
-        r ⌝ }
+        ⌜ ((marks1 next1 marks2 next2 next : List ℕ) → Admits
+        (queueOf first (recordsOf (now (records1 .entry))) (now (lefts1 .entry)) (now (rights1 .entry)) (now (labels1 .entry)) marks1 next1)
+        (queueOf second (recordsOf (now (records2 .entry))) (now (lefts2 .entry)) (now (rights2 .entry)) (now (labels2 .entry)) marks2 next2)
+        (queueOf third (recordsOf (now (records .entry))) (now (lefts .entry)) (now (rights .entry)) (now (labels .entry)) (now (marks .entry)) next)
+        r) ⌝ }
 {
     let one = Lengths {
         records: records1.len(),

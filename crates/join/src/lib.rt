@@ -3,8 +3,8 @@ use model::Control;
 use word::Anchor;
 ghost use mathlib.Core.Path.{_≡_};
 ghost use mathlib.Core.Bool.{cond};
-ghost use mathlib.Core.List.{[]};
-ghost use Prim.Native.Nat.{_≤_};
+ghost use mathlib.Core.List.{List};
+ghost use Prim.Native.Nat.{ℕ, _≤_};
 ghost use lib.ListN.{set};
 ghost use Rattle.word.specs.Anchor.{anchorOf};
 ghost use Rattle.model.specs.Tables.{queueOf};
@@ -42,7 +42,7 @@ fn anchored(c: Control, n: u64) -> Control
     after
 }
 
-/// Joins the first queue and the second in the third; all of it but the third's records.
+/// Joins the first queue and the second in the third; all of it but the third's records. Marks of the sources and next tables are not lent.
 fn join(
     first: Control,
     second: Control,
@@ -62,11 +62,11 @@ fn join(
     marks: &mut [u64],
 ) -> Done
     ensures { λ d.
-        ⌜ Joins
-        (queueOf first (recordsOf (now (records1 .entry))) (now (lefts1 .entry)) (now (rights1 .entry)) (now (labels1 .entry)) [] [])
-        (queueOf second (recordsOf (now (records2 .entry))) (now (lefts2 .entry)) (now (rights2 .entry)) (now (labels2 .entry)) [] [])
-        (queueOf third (recordsOf (now (records .entry))) (now (lefts .entry)) (now (rights .entry)) (now (labels .entry)) (now (marks .entry)) [])
-        d (now (lefts .exit)) (now (rights .exit)) (now (labels .exit)) (now (marks .exit)) ⌝ }
+        ⌜ ((marks1 next1 marks2 next2 next : List ℕ) → Joins
+        (queueOf first (recordsOf (now (records1 .entry))) (now (lefts1 .entry)) (now (rights1 .entry)) (now (labels1 .entry)) marks1 next1)
+        (queueOf second (recordsOf (now (records2 .entry))) (now (lefts2 .entry)) (now (rights2 .entry)) (now (labels2 .entry)) marks2 next2)
+        (queueOf third (recordsOf (now (records .entry))) (now (lefts .entry)) (now (rights .entry)) (now (labels .entry)) (now (marks .entry)) next)
+        d (now (lefts .exit)) (now (rights .exit)) (now (labels .exit)) (now (marks .exit))) ⌝ }
 {
     let r = admit::admit(
         first,
@@ -122,7 +122,7 @@ fn join(
     }
 }
 
-/// The same for C and Rust, with controls and records lent as rows of words.
+/// The same for C and Rust, with controls and records lent as rows of words; whatever the sources' marks and any next table, which are not lent.
 #[no_mangle]
 pub extern "C" fn zc_join(
     first: &[u64; rows::CONTROL_WORDS],
@@ -143,21 +143,21 @@ pub extern "C" fn zc_join(
     marks: &mut [u64],
 ) -> u32
     ensures { λ n.
-        ⌜ _≡_ {A = Joined}
+        ⌜ ((marks1 next1 marks2 next2 next : List ℕ) → _≡_ {A = Joined}
         (record {
           code = n;
-          third = queueIn (now (third .exit)) (now (records .exit)) (now (lefts .exit)) (now (rights .exit)) (now (labels .exit)) (now (marks .exit)) [];
+          third = queueIn (now (third .exit)) (now (records .exit)) (now (lefts .exit)) (now (rights .exit)) (now (labels .exit)) (now (marks .exit)) next;
         })
         (join
-        (queueIn (now (first .entry)) (now (records1 .entry)) (now (lefts1 .entry)) (now (rights1 .entry)) (now (labels1 .entry)) [] [])
-        (queueIn (now (second .entry)) (now (records2 .entry)) (now (lefts2 .entry)) (now (rights2 .entry)) (now (labels2 .entry)) [] [])
-        (queueIn (now (third .entry)) (now (records .entry)) (now (lefts .entry)) (now (rights .entry)) (now (labels .entry)) (now (marks .entry)) [])) ⌝ }
+        (queueIn (now (first .entry)) (now (records1 .entry)) (now (lefts1 .entry)) (now (rights1 .entry)) (now (labels1 .entry)) marks1 next1)
+        (queueIn (now (second .entry)) (now (records2 .entry)) (now (lefts2 .entry)) (now (rights2 .entry)) (now (labels2 .entry)) marks2 next2)
+        (queueIn (now (third .entry)) (now (records .entry)) (now (lefts .entry)) (now (rights .entry)) (now (labels .entry)) (now (marks .entry)) next))) ⌝ }
     ensures { λ n.
-        ⌜ uppersOf (now (records .exit)) ≡ cond (laid
-        (queueIn (now (first .entry)) (now (records1 .entry)) (now (lefts1 .entry)) (now (rights1 .entry)) (now (labels1 .entry)) [] [])
-        (queueIn (now (second .entry)) (now (records2 .entry)) (now (lefts2 .entry)) (now (rights2 .entry)) (now (labels2 .entry)) [] [])
-        (queueIn (now (third .entry)) (now (records .entry)) (now (lefts .entry)) (now (rights .entry)) (now (labels .entry)) (now (marks .entry)) []))
-        (set (uppersOf (now (records .entry))) 0 0) (uppersOf (now (records .entry))) ⌝ }
+        ⌜ ((marks1 next1 marks2 next2 next : List ℕ) → uppersOf (now (records .exit)) ≡ cond (laid
+        (queueIn (now (first .entry)) (now (records1 .entry)) (now (lefts1 .entry)) (now (rights1 .entry)) (now (labels1 .entry)) marks1 next1)
+        (queueIn (now (second .entry)) (now (records2 .entry)) (now (lefts2 .entry)) (now (rights2 .entry)) (now (labels2 .entry)) marks2 next2)
+        (queueIn (now (third .entry)) (now (records .entry)) (now (lefts .entry)) (now (rights .entry)) (now (labels .entry)) (now (marks .entry)) next))
+        (set (uppersOf (now (records .entry))) 0 0) (uppersOf (now (records .entry)))) ⌝ }
 {
     let row1 = *first;
     let row2 = *second;

@@ -1,6 +1,6 @@
 -- The joining by pushes is the joining word by word.
 use mathlib.Core.Path.{_≡_, refl, sym, ap, _∙_}
-use mathlib.Core.Bool.{Bool, true, false}
+use mathlib.Core.Bool.{Bool, true, false, cond}
 use mathlib.Core.List.{List, [], _∷_, _++_}
 use Prim.Native.Nat.{ℕ, _≤_}
 use lib.{Dec.eqb, ListN.length}
@@ -10,10 +10,10 @@ use Rattle.model.specs.Walk.{contents, isBroken}
 use Rattle.model.specs.Refusals.{Rule, rule, first}
 use Rattle.model.proofs.tests.Rules.{tests, cleared}
 use Rattle.model.proofs.tests.Truth.{and-true, split}
-use Rattle.join_model.specs.Join.{anchorIn, lanes, pushes, outcomes, anyLate, sourceFits, thirdFits, atRest, fresh}
-use Rattle.join_model.specs.Join.{earlyRules, joinRules, joinRefusal, join}
-use Rattle.join_model.specs.Closed.{lateFor, holding, closedRefusal, joinClosed}
-use Rattle.join_model.specs.Laws.{ClosedForm, AllAnswered, answers}
+use Rattle.join_model.specs.Join.{anchorIn, lane, lanes, pushes, outcomes, anyLate, sourceFits, thirdFits, atRest, fresh}
+use Rattle.join_model.specs.Join.{earlyRules, joinRules, joinRefusal, Joined, joined, join}
+use Rattle.join_model.specs.Closed.{lateFor, held, holding, closedRefusal, joinClosed}
+use Rattle.join_model.specs.Laws.{ClosedForm, AllAnswered, NotLent, answers, besides}
 use Rattle.join_model.proofs.Fresh.{Fresh, is-fresh}
 use Rattle.join_model.proofs.Ran.{Ran}
 use Rattle.join_model.proofs.Lanes.{late-is, pushed-is}
@@ -84,11 +84,42 @@ module _ (a b q : Queue) where
       (λ e. rw e (ap (λ (z : Queue). record { code = closedRefusal a b q; third = z }) (joins (eqb-true _ _ e) .leaves)))
       (λ e. rw e))
 
-  pub all-answered : joinRefusal a b q ≡ 0 → outcomes (run q (pushes 1 (lanes a b))) ≡ answers (lanes a b)
-  all-answered e = joins (sym same-refusal ∙ e) .says
+  answers-all : joinRefusal a b q ≡ 0 → outcomes (run q (pushes 1 (lanes a b))) ≡ answers (lanes a b)
+  answers-all e = joins (sym same-refusal ∙ e) .says
 
 pub closed-form : ClosedForm
 closed-form a b q = closed-join a b q
 
-pub answered : AllAnswered
-answered a b q e = all-answered a b q e
+pub all-answered : AllAnswered
+all-answered a b q e = answers-all a b q e
+
+-- The closed form looks at nothing that is not lent, and hands the third's next table on.
+module _ (a b q : Queue) (marks1 next1 marks2 next2 next : List ℕ) where
+  abbrev other : Queue → Queue
+  other z = besides z (z .tables .marks) next
+
+  laid-other : (x : Bool) (l : List ℕ) → cond x (holding (other q) l) (other q) ≡ other (cond x (holding q l) q)
+  unfolding holding held
+  laid-other true [] = refl
+  laid-other true (y ∷ l) = refl
+  laid-other false l = refl
+
+  same-lanes : lanes (besides a marks1 next1) (besides b marks2 next2) ≡ lanes a b
+  unfolding lane contents
+  same-lanes = refl
+
+  closed-other : closedRefusal (besides a marks1 next1) (besides b marks2 next2) (other q) ≡ closedRefusal a b q
+  unfolding closedRefusal lane contents sourceFits thirdFits atRest fresh busy
+  closed-other = refl
+
+pub not-lent : NotLent
+unfolding joinClosed
+not-lent a b q marks1 next1 marks2 next2 next =
+    let l = lanes a b in
+    let why = closedRefusal a b q in
+    let put : Joined → Joined = λ j. record { code = j .code; third = besides (j .third) (j .third .tables .marks) next } in
+    closed-join (besides a marks1 next1) (besides b marks2 next2) (besides q (q .tables .marks) next)
+    ∙ (λ i. joined (closed-other a b q marks1 next1 marks2 next2 next i) (besides q (q .tables .marks) next)
+    (holding (besides q (q .tables .marks) next) (same-lanes a b q marks1 next1 marks2 next2 next i)))
+    ∙ ap (λ (z : Queue). record { code = why; third = z }) (laid-other a b q marks1 next1 marks2 next2 next (eqb why 0) l)
+    ∙ ap put (sym (closed-join a b q))

@@ -33,7 +33,7 @@ markedTo (suc n) ws = withMark (markedTo n ws) (suc n) 1
 abbrev pub tagAfter : ℕ → ℕ → ℕ
 tagAfter tag n = tag + 2 * n - 1
 
--- n labels, one and as many as before, in slots 1 to n. The last one's Right stays as it was; record 0 has no call and its own count; the rest is as it was.
+-- `before` + 1 labels in slots 1 to `before` + 1. The last one's Right stays as it was; record 0 has no call and its own count; the rest is as it was.
 unfoldable pub held : Queue → ℕ → (ℕ → ℕ) → Queue
 held q before label =
     let t = q .tables in

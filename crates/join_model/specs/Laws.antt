@@ -1,4 +1,4 @@
--- What is promised of the joining, beyond what it answers.
+-- What is promised of the joining, beyond what it answers. (Document 02, #113.)
 use mathlib.Core.{Path._≡_, Logic._≢_, Bool.true}
 use mathlib.Core.List.{List, [], _∷_, _++_}
 use Prim.Native.Nat.{ℕ, suc, _+_, _/_, _≤_}
@@ -7,7 +7,7 @@ use Rattle.model.specs.declared.Opening.the-variants.{Opened}
 use Rattle.model.specs.declared.Answer.the-variants.{Running, Pushed}
 use Rattle.model.specs.declared.{Entry.Entry, Outcome.Outcome}
 use Rattle.model.specs.declared.Outcome.the-variants.{Moved}
-use Rattle.model.specs.Tables.{Tables, Queue}
+use Rattle.model.specs.Tables.{Tables, Queue, withMarks, withNext}
 use Rattle.model.specs.{Calls.openQueue, Standing.Standing, Lists.copies}
 use Rattle.model.specs.Walk.{contents, entries}
 use Rattle.model.specs.History.{Request, run, final, ledger, Linearized, NeverUnsound, AfterOpening}
@@ -32,6 +32,16 @@ SameCopies = (a b : Queue) (x : ℕ) → copies x (lanes a b) ≡ copies x (lane
 -- A refusal changes nothing.
 abbrev pub RefusalKeeps : Type 0
 RefusalKeeps = (a b q : Queue) → join a b q .code ≢ 0 → join a b q .third ≡ q
+
+-- A queue with other marks and another next table.
+abbrev pub besides : Queue → List ℕ → List ℕ → Queue
+besides q marks next = record { tables = withNext (withMarks (q .tables) marks) next; records = q .records }
+
+-- What is not lent does not count: marks and next tables of the sources, and the third's next table, which stays as it was.
+abbrev pub NotLent : Type 0
+NotLent = (a b q : Queue) (marks1 next1 marks2 next2 next : List ℕ)
+    → join (besides a marks1 next1) (besides b marks2 next2) (besides q (q .tables .marks) next)
+    ≡ record { code = join a b q .code; third = besides (join a b q .third) (join a b q .third .tables .marks) next }
 
 -- Every bit of rows 0 to slots and of their mark words is zero in a third that is accepted; and an opening with named slots leaves a fresh queue.
 pub record Zeros (t : Tables) : Type 0 where

@@ -2,7 +2,7 @@
 use mathlib.Core.Path.{_≡_, refl, sym, ap, ap₂, _∙_}
 use mathlib.Core.{Bool.cond, List.List}
 use Prim.Native.Nat.{ℕ, zero, suc, _+_, _-_, _*_, _/_, _%_, _^_, _<_, _≤_, min}
-use native.Mathlib.Nat.{mod-lt, mod-one, mod-eq-of-lt, add-zero, add-suc, add-assoc, add-comm, lt-trans, lt-suc-self, le-of-suc-le-suc, not-suc-le-zero}
+use native.Mathlib.Nat.{mod-lt, mod-one, mod-eq-of-lt, add-zero, zero-add, add-suc, add-assoc, add-comm, lt-trans, lt-suc-self, le-of-suc-le-suc, not-suc-le-zero}
 use native.Mathlib.{Numerals.one-add, Omega.arith}
 use lib.Dec.{lit<, eqb}
 use borrow.Author.Tests.{eqb-false, eqb-true, ne-eqb}
@@ -118,3 +118,40 @@ word-step ws (suc k) slots h small =
     (ap (marks ws) (e .0)
     ∙ word-sum ws (suc k) 0 d a (e .2) (e .3)
     ∙ (λ i. marks ws (sym (e .1) i) + ones ((whole ∙ sym (upper-bits w (suc k) slots h small)) i)))
+
+-- Of a word between the first and the last every bit counts.
+pub whole-step : (ws : List ℕ) (k : ℕ) → 1 ≤ k → getD ws k 0 < 2 ^ 64 → marks ws (64 * (k + 1) - 1) ≡ marks ws (64 * k - 1) + ones (getD ws k 0)
+whole-step ws k h small =
+    let e : (min (64 * (k + 1) - 1) (64 * (k + 1)) ≡ 64 * (k + 1) - 1) × (min (64 * k - 1) (64 * (k + 1)) ≡ 64 * k - 1) = omega arith in
+    let all : maskedWord (getD ws k 0) k (64 * (k + 1)) ≡ getD ws k 0 =
+    rw (ne-eqb k 0 (λ z. omega arith), ne-eqb k (64 * (k + 1) / 64) (λ z. omega arith)) in
+    ap (marks ws) (sym (e .0)) ∙ word-step ws k (64 * (k + 1)) (omega arith) small ∙ (λ i. marks ws (e .1 i) + ones (all i))
+
+-- Words that are 0 hold no mark.
+pub blank : (ws : List ℕ) (k d : ℕ) → 1 ≤ k → ((j : ℕ) → k ≤ j → j < k + d → getD ws j 0 ≡ 0) → marks ws (64 * (k + d) - 1) ≡ marks ws (64 * k - 1)
+blank ws k zero h none = ap (λ (n : ℕ). marks ws (64 * n - 1)) (add-zero k)
+blank ws k (suc d) h none =
+    let z : getD ws (k + d) 0 ≡ 0 = none (k + d) (omega arith) (omega arith) in
+    let e : k + suc d ≡ k + d + 1 = omega arith in
+    ap (λ (n : ℕ). marks ws (64 * n - 1)) e
+    ∙ whole-step ws (k + d) (omega arith) (omega (arith, z))
+    ∙ (λ i. blank ws k d h (λ j a b. none j a (omega arith)) i + ones (z i))
+    ∙ ap (λ (x : ℕ). marks ws (64 * k - 1) + x) (ones-digit 0 (lit< tt))
+    ∙ add-zero (marks ws (64 * k - 1))
+
+-- The first word, and the last one where there are more.
+pub first-word : (ws : List ℕ) (slots : ℕ) → getD ws 0 0 < 2 ^ 64 → ones (maskedWord (getD ws 0 0) 0 slots) ≡ marks ws (min 63 slots)
+unfolding count
+first-word ws slots small =
+    let x = ones (maskedWord (getD ws 0 0) 0 slots) in
+    let e : min (64 * 0 - 1) slots ≡ 0 = omega arith in
+    sym (word-step ws 0 slots (omega arith) small ∙ ap (λ (n : ℕ). marks ws n + x) e ∙ zero-add x)
+
+pub last-word : (ws : List ℕ) (slots : ℕ) → 64 ≤ slots → getD ws (slots / 64) 0 < 2 ^ 64
+    → marks ws (64 * (slots / 64) - 1) + ones (maskedWord (getD ws (slots / 64) 0) (slots / 64) slots) ≡ marks ws slots
+last-word ws slots h small =
+    let k = slots / 64 in
+    let e : (min (64 * k - 1) slots ≡ 64 * k - 1) × (min (64 * (k + 1) - 1) slots ≡ slots) = omega arith in
+    ap (λ (n : ℕ). marks ws n + ones (maskedWord (getD ws k 0) k slots)) (sym (e .0))
+    ∙ sym (word-step ws k slots (omega arith) small)
+    ∙ ap (marks ws) (e .1)

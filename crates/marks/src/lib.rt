@@ -1,6 +1,6 @@
 //! How many slots are taken: the ones of each mark word under its mask, added up.
 ghost use mathlib.Core.Path.{_≡_};
-ghost use Prim.Native.Nat.{_/_, _≤_};
+ghost use Prim.Native.Nat.{_-_, _*_, _/_, _≤_, min};
 ghost use Rattle.model.specs.Report.{takenSlots};
 ghost use Rattle.marks.specs.Masked.{maskedWord};
 
@@ -19,13 +19,36 @@ fn masked(w: u64, k: u64, slots: u64) -> u64
     m
 }
 
+fn least(a: usize, b: usize) -> usize
+    ensures { λ r. ⌜ r ≡ min a b ⌝ }
+{
+    if a < b { a } else { b }
+}
+
+/// The marks set for all slots before the last slot's word, when n are set below slot 64. Of the words between the first
+/// and this one every bit counts, so they need no mask. Words past the end hold no mark: the loop ends where they begin,
+/// and asks of no word whether it is there.
+fn before_last(n: u64, slots: u64, marks: &[u64]) -> u64
+    requires { ⌜ (64 ≤ slots) × (n ≡ takenSlots 63 (now marks)) ⌝ }
+    ensures { λ r. ⌜ r ≡ takenSlots (64 * (slots / 64) - 1) (now (marks .entry)) ⌝ }
+{
+    let end = least((slots / 64) as usize, marks.len());
+    let mut sum = n;
+    for k in 1..end {
+        sum += u64::count_ones(marks[k]) as u64;
+    }
+    sum
+}
+
 /// The marks set for slots 1 to slots.
 pub fn taken(slots: u64, marks: &[u64]) -> u64
     ensures { λ n. ⌜ n ≡ takenSlots slots (now (marks .entry)) ⌝ }
 {
-    let mut n: u64 = 0;
-    for k in 0..slots / 64 + 1 {
-        n += u64::count_ones(masked(table::word_at(marks, k), k, slots)) as u64;
+    let first = u64::count_ones(masked(table::word_at(marks, 0), 0, slots)) as u64;
+    if slots < 64 {
+        return first;
     }
-    n
+    let n = before_last(first, slots, marks);
+    let last = slots / 64;
+    n + u64::count_ones(masked(table::word_at(marks, last), last, slots)) as u64
 }

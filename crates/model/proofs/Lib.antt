@@ -24,5 +24,7 @@ pub mod MarksRight
 pub mod LinksBack
 -- Laws of single calls, and the worked cases of the document.
 pub mod laws
+pub mod RunSteps
+pub mod Stack
 pub mod Bench
 pub mod Cases

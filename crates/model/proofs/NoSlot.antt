@@ -10,7 +10,7 @@ use lib.ListN.{List·getD-eq-default}
 use borrow.Author.Tests.{eq-eqb, eqb-false, eqb-true, ltb-true}
 use Rattle.word.specs.Anchor.{anchorOf}
 use Rattle.model.specs.Calls.{Acted, act, actOn, finish, opened, step}
-use Rattle.model.specs.History.{InUse, NoSlotRight, NoSlotTrue, Waits, final, here, is-taken, later, pop-gives, pop-holds, popGives}
+use Rattle.model.specs.History.{AfterOpening, InUse, NoSlotRight, NoSlotTrue, Waits, final, here, is-taken, later, pop-gives, pop-holds, popGives}
 use Rattle.model.specs.History.{popHolds, push-holds, pushHolds, waits}
 use Rattle.model.specs.Refusals.{among, stepRefusal}
 use Rattle.model.specs.Walk.{entries}
@@ -140,8 +140,12 @@ module _ (n : ℕ) (q : Queue) (l : _) (g : Matched n q l) (f : Safe q) (t : ℕ
       (λ z e. all-used (step-accepted q t (eqb-true _ _ z)) cc)
       (λ z e. absurd (let w : _≡_ {A = ℕ} 0 1 = cc in omega arith))
 
-pub no-slot-right : NoSlotRight
-no-slot-right = after-opening true NoSlotTrue (λ q tasks slots tag e os t.
-    let o = opened true q tasks slots tag in
-    let z = final-reached true tasks os o (open-reached true tasks q slots tag e) in
+-- After either opening; in a named queue nobody is told so.
+pub no-slot-either : AfterOpening NoSlotTrue
+no-slot-either pooled = after-opening pooled NoSlotTrue (λ q tasks slots tag e os t.
+    let o = opened pooled q tasks slots tag in
+    let z = final-reached pooled tasks os o (open-reached pooled tasks q slots tag e) in
     told-truly (z .position) (final o os) (z .ledger) (z .matched) (z .safe) t)
+
+pub no-slot-right : NoSlotRight
+no-slot-right = no-slot-either true

@@ -5,11 +5,12 @@ use mathlib.Core.List.{List, [], _∷_}
 use Prim.Native.Nat.{ℕ}
 use Rattle.model.specs.declared.Entry.{Entry}
 use Rattle.model.specs.declared.Reported.the-variants as reported
-use Rattle.model.specs.{Tables.Queue, Standing.Standing}
+use Rattle.model.specs.Tables.{Queue}
+use Rattle.model.specs.Standing.{Standing, StandsAfterOpening}
 use Rattle.model.specs.Refusals.{openRefusal, recordsFit, reportRefusal}
 use Rattle.model.specs.Calls.{act, opened}
 use Rattle.model.specs.Report.{busy, report, tell, told, waiting}
-use Rattle.model.specs.History.{AfterOpening, Reports, Told, Request, final, ledger, run}
+use Rattle.model.specs.History.{Reports, Told, Request, final, ledger, run}
 use Rattle.model.proofs.laws.Sizes.{act-fits, fits, open-fits}
 use Rattle.model.proofs.ledger.Opened.{nobody, open-good, some-slots}
 use Rattle.model.proofs.unsound.Runs.{run-safe}
@@ -31,7 +32,7 @@ stands pooled q tasks slots tag e os =
       walk = linearized pooled q tasks slots tag e os .waits;
     }
 
-pub standing : AfterOpening (λ q os. Standing (final q os) (ledger (run q os) .deque))
+pub standing : StandsAfterOpening
 standing pooled = after-opening pooled (λ q os. Standing (final q os) (ledger (run q os) .deque)) (stands pooled)
 
 -- No rule of the report applies.

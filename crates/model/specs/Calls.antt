@@ -15,11 +15,11 @@ use Rattle.model.specs.Route.{route, onward, answer, goes, counted}
 use Rattle.model.specs.Refusals.{openRefusal, Lent, among, alone, pushRefusal, putRefusal, popRefusal, stepRefusal}
 use Rattle.model.specs.Lists.{zeroed, climb}
 
--- Opening: rows 0 to slots, the records, their counts and marks zeroed; control as `openedControl` has it.
--- A pooled opening also stacks all slots: each slot's next is the one above, the last one's 0.
+-- A next table with all slots stacked: each slot's next is the one above, the last one's 0; rows beyond are as they were.
 abbrev pub stacked : ℕ → List ℕ → List ℕ
 stacked slots l = 0 ∷ climb 2 slots ++ drop (slots + 1) l
 
+-- Opening: rows 0 to slots, the records, their counts and marks zeroed; control as `openedControl` has it. A pooled opening also stacks all slots.
 unfoldable pub opened : Bool → Queue → ℕ → ℕ → ℕ → Queue
 opened pooled q tasks slots tag = record {
   tables =

@@ -31,6 +31,7 @@ servePop side l = takeFirst side (seenFrom side l)
 unfoldable pub serve : ℕ → ℕ → Entry → List Entry → Served
 serve kind side e l = cond (eqb kind 0) (servePush side e l) (servePop side l)
 
+-- The answer is *no slot*.
 abbrev pub saysNoSlot : Answer → Bool
 saysNoSlot (Running p) = false
 saysNoSlot Pushed = false

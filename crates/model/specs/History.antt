@@ -50,6 +50,7 @@ pub record Effect : Type 0 where
   pub at : ℕ
   pub reply : Answer
 
+-- How far a call has come: not answered yet, or answered so at a position of the list.
 pub data Ending : Type 0 where
   pending : Ending
   answered : (at : ℕ) (answer : Answer) → Ending
@@ -71,9 +72,11 @@ pub record Ledger : Type 0 where
   pub deque : List Entry
   pub calls : List LedgerCall
 
+-- A call of task t that starts at position n: it has had no effect, and is not answered.
 abbrev pub begins : ℕ → ℕ → ℕ → ℕ → Bool → Entry → LedgerCall
 begins n t kind side named e = record { task = t; kind = kind; side = side; named = named; entry = e; start = n; effects = []; ending = pending }
 
+-- The call with other effects and another ending.
 abbrev pub continued : LedgerCall → List Effect → Ending → LedgerCall
 continued c es e = record {
   task = c .task;
@@ -86,9 +89,11 @@ continued c es e = record {
   ending = e;
 }
 
+-- One call more, the latest.
 abbrev pub over : LedgerCall → Ledger → Ledger
 over c l = record { deque = l .deque; calls = c ∷ l .calls }
 
+-- Not answered yet.
 abbrev pub isOpen : Ending → Bool
 isOpen pending = true
 isOpen (answered n a) = false
@@ -146,10 +151,12 @@ accept n e (Pop side) a l = over (begins n (e .task) 1 side false (record { slot
 accept n e (PushPooled side label) a l = over (begins n (e .task) 0 side false (record { slot = 0; label = label })) l
 accept n e Step a l = attend n e a (l .deque) (l .calls)
 
+-- What an event at position n makes of the ledger, by its outcome.
 unfoldable pub note : ℕ → Event → Outcome → Ledger → Ledger
 note n e (Refused why) l = l
 note n e (Moved a) l = accept n e (e .op) a l
 
+-- The events from position n on, noted one after another.
 unfoldable pub ledgerFrom : ℕ → Ledger → List Event → Ledger
 ledgerFrom n l [] = l
 ledgerFrom n l (e ∷ es) = ledgerFrom (suc n) (note n e (e .outcome) l) es
@@ -237,20 +244,24 @@ pub data InUse (q : Queue) (x : ℕ) : Type 0 where
   is-taken : Taken q x → InUse q x
   pop-gives : (t : ℕ) → t < q .tables .control .tasks → popGives (recordAt q t) x ≡ true → InUse q x
 
--- *No slot* is true: if a step after the list answers so, every slot was in use. (Request #104. Without it a program that loses slots passes.)
+-- *No slot* is true of a queue: if a step answers so, every slot is in use. (Request #104. Without it a program that loses slots passes.)
+abbrev pub NoSlotIn : Queue → Type 0
+NoSlotIn q = (t : ℕ) → act q t Step .outcome ≡ Moved NoFreeSlot → (x : ℕ) → 1 ≤ x → x ≤ q .tables .control .slots → InUse q x
+
+-- It is true of the queue after the list.
 abbrev pub NoSlotTrue : Queue → List Request → Type 0
-NoSlotTrue q os = (t : ℕ) → act (final q os) t Step .outcome ≡ Moved NoFreeSlot → (x : ℕ) → 1 ≤ x → x ≤ final q os .tables .control .slots
-    → InUse (final q os) x
+NoSlotTrue q os = NoSlotIn (final q os)
 
 abbrev pub NoSlotRight : Type 0
 NoSlotRight = AfterOpeningAs true NoSlotTrue
 
--- A slot's mark is set exactly while P holds of the slot.
+-- Of a queue: a slot's mark is set exactly where P holds of the slot. After a list: of the queue after it.
+abbrev pub MarkedIn : (Queue → ℕ → Type 0) → Queue → Type 0
+MarkedIn P q = (x : ℕ) → 1 ≤ x → x ≤ q .tables .control .slots
+    → (marked (q .tables .marks) x ≡ true → P q x) × (P q x → marked (q .tables .marks) x ≡ true)
+
 abbrev pub MarkedWhile : (Queue → ℕ → Type 0) → Queue → List Request → Type 0
-MarkedWhile P q os =
-    let now = final q os in
-    (x : ℕ) → 1 ≤ x → x ≤ now .tables .control .slots
-    → (marked (now .tables .marks) x ≡ true → P now x) × (P now x → marked (now .tables .marks) x ≡ true)
+MarkedWhile P q os = MarkedIn P (final q os)
 
 -- It is set exactly while the slot is taken. (Without it a program whose pops leave their slots marked passes.)
 abbrev pub MarksRight : Type 0

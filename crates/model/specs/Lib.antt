@@ -9,6 +9,7 @@ pub mod Deque
 pub mod Walk
 pub mod Refusals
 pub mod Calls
+pub mod Stack
 pub mod Ends
 pub mod Standing
 pub mod Report

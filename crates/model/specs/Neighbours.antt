@@ -13,11 +13,12 @@ pub record Joined (q : Tables) (before : List Entry) (x y : Entry) (after : List
   pub rightward : (anchorOf (q .control .anchor) .status ≡ 1 → after ≢ []) → linkOf (getD (q .rights) (x .slot) 0) .slot ≡ y .slot
   pub leftward : (anchorOf (q .control .anchor) .status ≡ 2 → before ≢ []) → linkOf (getD (q .lefts) (y .slot) 0) .slot ≡ x .slot
 
--- So it is with any two neighbours among the labels that wait after the list.
+-- So it is with any two neighbours among the labels that wait; and after a list among those that wait then.
+abbrev pub NeighboursIn : Tables → Type 0
+NeighboursIn q = (before after : List Entry) (x y : Entry) → contents q ≡ entries (before ++ (x ∷ y ∷ after)) → Joined q before x y after
+
 abbrev pub NeighboursJoined : Queue → List Request → Type 0
-NeighboursJoined q os =
-    (before after : List Entry) (x y : Entry) → contents (final q os .tables) ≡ entries (before ++ (x ∷ y ∷ after))
-    → Joined (final q os .tables) before x y after
+NeighboursJoined q os = NeighboursIn (final q os .tables)
 
 abbrev pub LinksBack : Type 0
 LinksBack = AfterOpening NeighboursJoined

@@ -55,6 +55,7 @@ pairs (suc n) = n + pairs n
 abbrev pub stretchLimit : Bool → ℕ → ℕ
 stretchLimit pooled tasks = cond pooled (20 * tasks + 3 * pairs tasks) (26 * tasks)
 
+-- Task t is one of the queue's, and has a call that is not answered.
 pub record Busy (q : Queue) (t : ℕ) : Type 0 where
   pub known : t < q .tables .control .tasks
   pub place : recordAt q t .place ≢ 0

@@ -1,13 +1,18 @@
 -- A task stepped until it answers. (Request #108.)
-use mathlib.Core.Bool.{cond}
+use mathlib.Core.Bool.{cond, true}
+use mathlib.Core.List.{List, [], _∷_}
+use mathlib.Core.{Logic._≢_, Path._≡_}
 use Prim.Native.Nat.{ℕ, zero, suc}
+use lib.ListN.{replicate}
 use Rattle.model.specs.declared.Answer.the-variants.{Running}
 use Rattle.model.specs.declared.Outcome.{Outcome}
-use Rattle.model.specs.declared.Outcome.the-variants.{Moved}
+use Rattle.model.specs.declared.Outcome.the-variants.{Moved, Refused}
 use Rattle.model.specs.declared.Op.the-variants.{Step}
 use Rattle.model.specs.Tables.{Queue, recordAt}
 use Rattle.model.specs.Calls.{Done, act}
 use Rattle.model.specs.Ends.{isMoved, isRunning}
+use Rattle.model.specs.History.{AfterOpening, Event, Request, final, run}
+use Rattle.model.specs.Lists.{All}
 
 -- What a run leaves, its outcome, and how many steps were made.
 pub record SoloDone : Type 0 where
@@ -38,3 +43,26 @@ unfoldable pub soloRun : ℕ → Queue → ℕ → SoloDone
 soloRun n q t =
     let o = act q t Step .outcome in
     cond (isMoved o) (soloSteps n q t) (record { queue = q; outcome = o; steps = 0 })
+
+-- So many steps of task t, one after the other.
+abbrev pub stepsOf : ℕ → ℕ → List Request
+stepsOf t n = replicate n (record { task = t; op = Step })
+
+-- What the last event tells; o, where there is none.
+unfoldable pub lastTold : Outcome → List Event → Outcome
+lastTold o [] = o
+lastTold o (e ∷ es) = lastTold (e .outcome) es
+
+-- A run is the steps that it made, each accepted, and tells what the last of them tells; so every promise of lists holds of runs.
+-- (Document 01, the clerk: the list of starts and steps.)
+pub record RunIsSteps (n : ℕ) (q : Queue) (t : ℕ) : Type 0 where
+  pub queue : let d = soloRun n q t in d .queue ≡ final q (stepsOf t (d .steps))
+  pub accepted : All (λ (e : Event). isMoved (e .outcome) ≡ true) (run q (stepsOf t (soloRun n q t .steps)))
+  pub told : let d = soloRun n q t in d .outcome ≡ lastTold (soloRun 0 q t .outcome) (run q (stepsOf t (d .steps)))
+
+abbrev pub RunsAreSteps : Type 0
+RunsAreSteps = (n : ℕ) (q : Queue) (t : ℕ) → RunIsSteps n q t
+
+-- From an opening on no run is refused 34.
+abbrev pub RunNever34 : Type 0
+RunNever34 = AfterOpening (λ q os. (n t : ℕ) → soloRun n (final q os) t .outcome ≢ Refused 34)

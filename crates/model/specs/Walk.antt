@@ -1,8 +1,10 @@
 -- The labels waiting, in order. (Document 01: Places, below the table; document 02, #102.)
 use mathlib.Core.Bool.{Bool, true, false, cond}
-use mathlib.Core.List.{List, [], _∷_}
-use Prim.Native.Nat.{ℕ, zero, suc}
-use lib.{Dec.eqb, ListN.getD}
+use mathlib.Core.List.{List, [], _∷_, map}
+use mathlib.Core.Path.{_≡_}
+use Prim.Native.Nat.{ℕ, zero, suc, _<_}
+use lib.Dec.{eqb}
+use lib.ListN.{getD, length}
 use Rattle.word.specs.{Anchor.anchorOf, Link.linkOf}
 use Rattle.model.specs.declared.Entry.{Entry}
 use Rattle.model.specs.{Tables.Tables, Deque.seenFrom}
@@ -53,3 +55,7 @@ isBroken broken = true
 abbrev pub met : Walk → List Entry
 met (entries l) = l
 met broken = []
+
+-- A copy of label x waits, i entries from the left.
+abbrev pub CopyAt : ℕ → List Entry → ℕ → Type 0
+CopyAt x l i = (i < length l) × (getD (map (λ (e : Entry). e .label) l) i 0 ≡ x)

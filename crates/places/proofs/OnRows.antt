@@ -17,7 +17,8 @@ use Rattle.model.specs.Calls.{Acted, finish}
 use Rattle.table.specs.Lent.{withTables}
 use Rattle.places.specs.Arm.{stepAt}
 use Rattle.decide.specs.Ending.{refused, settled, noEntry, failing, rowSound, neighbourRead, linkRead}
-use Rattle.decide.specs.Decided.{madeOf, new9, found3, found5, found7, found9, found11}
+use Rattle.decide.specs.declared.touched.LinkWord.{LinkWord}
+use Rattle.decide.specs.Decided.{madeOf, link3, link7, new3, new9, found3, found5, found7, found9, found11}
 use Rattle.decide.proofs.Routes.{kinds, Quiet, entry, quietly}
 use Rattle.model.proofs.tests.Truth.{split}
 
@@ -193,6 +194,20 @@ module _ (c : Control) (r : Call) where
         (λ t. rw (f, s, t) (rw (f, s, t) at tests9)))
         (λ s. rw (f, s) (rw (f, s) at tests9)))
         (λ f. rw f (rw f at tests9))
+
+    -- The same of the link word l that is touched and the word w found there.
+    module _ (l : LinkWord) (w : ℕ) (found : w ≡ getD (cond (l .right) rs ls) (l .slot) 0) (m : Transition) where
+      abbrev puts : ℕ → Acted
+      puts new = cond (madeOf m) (linked m (l .right) (l .slot) new) (lent m)
+
+      pub push-made : l ≡ link3 r → eqb (r .kind) 0 ≡ true → m ≡ found3 c r w → puts (new3 r w) ≡ stepAt 3 q r k
+      push-made e push d = rw (found, e, push) (put3 push m (rw (found, e, push) at d))
+
+      pub pop-made : l ≡ link3 r → eqb (r .kind) 0 ≡ false → m ≡ found3 c r w → lent m ≡ stepAt 3 q r k
+      pop-made e pop d = rw (d, found, e, pop) (read3 pop)
+
+      pub help-made : l ≡ link7 r → m ≡ found9 c r w → puts (new9 r) ≡ stepAt 9 q r k
+      help-made e d = rw e (step9 m (rw (found, e) at d))
 
     pub taken11 : from1 (c .slots) (end own) ≡ true
         → withTables (found11 c r (getD ns (end own) 0)) ls rs ns (withMark ms (end own) 0) xs k ≡ stepAt 11 q r k

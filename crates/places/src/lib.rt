@@ -9,14 +9,13 @@
 pub mod links;
 pub mod pool;
 
-use decide::next;
-use decide::side;
 use decide::step;
+use decide::touched;
 use model::Call;
 use model::Control;
 use model::Transition;
+use route::next;
 use word::Anchor;
-use word::Link;
 ghost use mathlib.Core.Path.{_≡_};
 ghost use Rattle.places.specs.Arm.{Steps, StepsOnLinks, StepsOnMarks};
 
@@ -56,20 +55,20 @@ pub fn at3(c: Control, r: Call, lefts: &mut [u64], rights: &mut [u64]) -> Transi
     ensures { λ m.
         ⌜ StepsOnLinks 3 c r (now (lefts .entry)) (now (rights .entry)) m (now (lefts .exit)) (now (rights .exit)) ⌝ }
 {
-    let right = r.side == 1;
     let a = Anchor::unpack(r.seen);
-    let end = side::near(right, a);
     if r.kind == 0 {
-        let w = links::link_at(!right, r.own, lefts, rights);
+        let link = touched::link3_of(r, a);
+        let w = links::link_at(link, lefts, rights);
         let m = decide::at3(c, r, w);
         if decide::made(m) {
-            let link = Link::unpack(w);
-            links::put_link(!right, r.own, step::link_word(link.tag, end), lefts, rights);
+            let new = decide::new3(r, w);
+            links::put_link(link, new, lefts, rights);
             return m;
         }
         return m;
     }
-    let w = links::link_at(!right, end, lefts, rights);
+    let link = touched::link3_of(r, a);
+    let w = links::link_at(link, lefts, rights);
     decide::at3(c, r, w)
 }
 
@@ -104,9 +103,8 @@ pub fn at5(c: Control, r: Call, lefts: &[u64], rights: &[u64]) -> Transition
         ⌜ StepsOnLinks 5 c r (now (lefts .entry)) (now (rights .entry)) m (now (lefts .entry)) (now (rights .entry)) ⌝ }
 {
     let a = Anchor::unpack(r.seen);
-    let right = a.status == 1;
-    let end = side::near(right, a);
-    let w = links::link_at(!right, end, lefts, rights);
+    let link = touched::link5_of(a);
+    let w = links::link_at(link, lefts, rights);
     decide::at5(c, r, w)
 }
 
@@ -124,9 +122,8 @@ pub fn at7(c: Control, r: Call, lefts: &[u64], rights: &[u64]) -> Transition
     ensures { λ m.
         ⌜ StepsOnLinks 7 c r (now (lefts .entry)) (now (rights .entry)) m (now (lefts .entry)) (now (rights .entry)) ⌝ }
 {
-    let a = Anchor::unpack(r.seen);
-    let right = a.status == 1;
-    let w = links::link_at(right, r.neighbour, lefts, rights);
+    let link = touched::link7(r);
+    let w = links::link_at(link, lefts, rights);
     decide::at7(c, r, w)
 }
 
@@ -144,13 +141,12 @@ pub fn at9(c: Control, r: Call, lefts: &mut [u64], rights: &mut [u64]) -> Transi
     ensures { λ m.
         ⌜ StepsOnLinks 9 c r (now (lefts .entry)) (now (rights .entry)) m (now (lefts .exit)) (now (rights .exit)) ⌝ }
 {
-    let a = Anchor::unpack(r.seen);
-    let right = a.status == 1;
-    let w = links::link_at(right, r.neighbour, lefts, rights);
+    let link = touched::link7(r);
+    let w = links::link_at(link, lefts, rights);
     let m = decide::at9(c, r, w);
     if decide::made(m) {
         let new = decide::new9(r);
-        links::put_link(right, r.neighbour, new, lefts, rights);
+        links::put_link(link, new, lefts, rights);
         return m;
     }
     m
@@ -178,8 +174,7 @@ pub fn at11(c: Control, r: Call, labels: &[u32], marks: &mut [u64]) -> Transitio
     ensures { λ m.
         ⌜ StepsOnMarks 11 c r (now (labels .entry)) (now (marks .entry)) m (now (labels .entry)) (now (marks .exit)) ⌝ }
 {
-    let a = Anchor::unpack(r.seen);
-    let end = side::near(r.side == 1, a);
+    let end = touched::own_end(r);
     let label = table::label_at(labels, end);
     if sound::from1(c.slots, end) {
         table::clear_mark(marks, end);

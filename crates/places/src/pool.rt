@@ -1,12 +1,13 @@
 //! Places 12 to 17: a push draws its slot from the stack before place 1, and a pop gives its slot
 //! back after place 11. The head as read is kept as the link word, the next as the neighbour.
 //! (Document 02, #104: the tagged compare-and-swap stack of 003's references.)
-use decide::next;
 use decide::step;
+use decide::touched;
 use model::Call;
 use model::Control;
 use model::Entry;
 use model::Transition;
+use route::next;
 use word::Link;
 ghost use Rattle.places.specs.Arm.{Steps, StepsOnMarks, StepsOnNext};
 
@@ -23,8 +24,7 @@ pub fn at12(c: Control, r: Call) -> Transition
 pub fn at13(c: Control, r: Call, nexts: &[u64]) -> Transition
     ensures { λ m. ⌜ StepsOnNext 13 c r (now (nexts .entry)) m (now (nexts .entry)) ⌝ }
 {
-    let head = Link::unpack(r.link);
-    let n = table::word_at(nexts, head.slot);
+    let n = table::word_at(nexts, touched::top(r));
     decide::at13(c, r, n)
 }
 
@@ -35,9 +35,9 @@ pub fn at14(c: Control, r: Call, labels: &mut [u32], marks: &mut [u64]) -> Trans
 {
     let m = decide::at14(c, r);
     if decide::made(m) {
-        let head = Link::unpack(r.link);
-        table::put_label(labels, head.slot, r.label);
-        table::set_mark(marks, head.slot);
+        let top = touched::top(r);
+        table::put_label(labels, top, r.label);
+        table::set_mark(marks, top);
         return m;
     }
     m
@@ -55,9 +55,9 @@ pub fn at15(c: Control, r: Call) -> Transition
 pub fn at16(c: Control, r: Call, nexts: &mut [u64]) -> Transition
     ensures { λ m. ⌜ StepsOnNext 16 c r (now (nexts .entry)) m (now (nexts .exit)) ⌝ }
 {
-    let head = Link::unpack(r.link);
-    table::put_word(nexts, r.own, head.slot);
-    step::settles(c, r, next::next(16, r.kind, next::ONLY_WAY), step::NO_ENTRY)
+    let top = touched::top(r);
+    table::put_word(nexts, r.own, top);
+    decide::at16(c, r)
 }
 
 /// Place 17: change the head to the own slot, and answer with it and its label.

@@ -1,10 +1,14 @@
 -- Control and records as rows of words, in the order of their fields.
+use mathlib.Core.Bool.{Bool}
 use mathlib.Core.List.{List, [], _∷_}
 use Prim.Native.Nat.{ℕ, _/_, _%_, _^_}
 use lib.ListN.{getD, set}
 use Rattle.model.specs.declared.Control.{Control}
 use Rattle.model.specs.declared.Call.{Call}
 use Rattle.model.specs.declared.Record.{Record}
+use Rattle.model.specs.declared.{Op.Op, Outcome.Outcome}
+use Rattle.model.specs.declared.Op.the-variants.{Push, Pop, PushPooled, Step}
+use Rattle.model.specs.Ends.{isMoved, endsCall}
 use Rattle.model.specs.Tables.{Queue, queueOf, unused, withCall}
 
 unfoldable pub controlOf : List ℕ → Control
@@ -54,3 +58,10 @@ queueIn control rows = queueOf (controlOf control) (recordsOf rows)
 -- Records in which a task has another call and its own count.
 abbrev pub withCallAt : List Record → ℕ → Call → List Record
 withCallAt rs t r = set rs t (withCall (getD rs t unused) r)
+
+-- The operations that write their task's row whole, its upper half zero: a start that is carried out, a step that answers.
+abbrev pub writesRow : Op → Outcome → Bool
+writesRow (Push side slot label) o = isMoved o
+writesRow (Pop side) o = isMoved o
+writesRow (PushPooled side label) o = isMoved o
+writesRow Step o = endsCall o

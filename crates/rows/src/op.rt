@@ -11,7 +11,7 @@ ghost use lib.ListN.{set};
 ghost use Rattle.model.specs.declared.Op.the-variants.{Push, Pop, PushPooled};
 ghost use Rattle.model.specs.Calls.{Done, act};
 ghost use Rattle.model.specs.Ends.{isMoved};
-ghost use Rattle.rows.specs.Rows.{uppersOf, queueIn};
+ghost use Rattle.rows.specs.Rows.{uppersOf, queueIn, writesRow};
 
 /// Starts a push of a label in a slot.
 pub fn push(
@@ -163,7 +163,8 @@ pub fn operate(
         (queueIn (now (control .entry)) (now (records .entry))
         (now (lefts .entry)) (now (rights .entry)) (now (labels .entry)) (now (marks .entry)) (now (next .entry)))
         task op) ⌝ }
-    ensures { λ _. ⌜ set (uppersOf (now (records .exit))) task 0 ≡ set (uppersOf (now (records .entry))) task 0 ⌝ }
+    ensures { λ o.
+        ⌜ uppersOf (now (records .exit)) ≡ cond (writesRow op o) (set (uppersOf (now (records .entry))) task 0) (uppersOf (now (records .entry))) ⌝ }
 {
     match op {
         Op::Push { side, slot, label } => push(

@@ -22,8 +22,8 @@ use Rattle.schedule_model.specs.declared.ScheduleReply.{ScheduleReply}
 use Rattle.schedule_model.specs.Schedules.{allSchedules}
 use Rattle.schedule_model.specs.Next.{Next, given, noMore, memoryLength, remembered, firstAfter, storing, twoAtWork, scheduleRefusal, handing}
 use Rattle.schedule_model.specs.Next.{nextSchedule}
-use Rattle.schedule_model.specs.Search.{seekOf}
 use Rattle.schedule_model.proofs.Admitted.{memory}
+use Rattle.schedule_model.proofs.AnyStep.{seekOf}
 use Rattle.schedule_model.proofs.OnlyUnsound.{Ready, ready}
 use Rattle.schedule_model.proofs.Searched.{finds}
 use Rattle.schedule_model.proofs.TwoRecords.{two-records}

@@ -7,8 +7,13 @@ use native.Mathlib.Omega.{arith}
 use Rattle.model.specs.declared.Op.the-variants.{Step}
 use Rattle.model.specs.Tables.{Queue}
 use Rattle.model.specs.Calls.{Done, act}
-use Rattle.schedule_model.specs.Search.{frees, level, seekBy, seekOf}
+use Rattle.schedule_model.specs.Next.{Next}
+use Rattle.schedule_model.specs.Search.{frees, level, seekBy}
 use Rattle.schedule_model.proofs.OnlyUnsound.{Ready, stays}
+
+-- The search by the steps of the list, which ask for admission each time.
+abbrev pub seekOf : List ℕ → ℕ → ℕ → Bool → Queue → Next
+seekOf = seekBy (λ q t. act q t Step)
 
 module _ (by : Queue → ℕ → Done) (same : (q : Queue) (t : ℕ) → Ready q → t < 2 → by q t ≡ act q t Step) (ws : List ℕ) (len : ℕ) where
   pub any-step : (n : ℕ) (free : Bool) (q : Queue) → Ready q → seekBy by ws len n free q ≡ seekOf ws len n free q

@@ -17,7 +17,8 @@ use Rattle.model.specs.Calls.{act}
 use Rattle.model.proofs.tests.Truth.{by-test}
 use Rattle.schedule_model.specs.Schedules.{Schedule, ends, begun, atWork, bothAnswered, onwards, through, schedules, allSchedules}
 use Rattle.schedule_model.specs.Next.{Next, given, noMore, precedes, firstAfter, memoryLength, remembered}
-use Rattle.schedule_model.specs.Search.{ended, orElse, prefixed, stepped, least, frees, tried, seekBy, seekOf}
+use Rattle.schedule_model.specs.Search.{ended, orElse, prefixed, stepped, least, frees, tried, seekBy}
+use Rattle.schedule_model.proofs.AnyStep.{seekOf}
 
 -- The first of a list, if any will do, or if it must come after g.
 abbrev pub pick : Bool → List ℕ → List Schedule → Next

@@ -13,9 +13,11 @@ pub record Schedule : Type 0 where
   pub steps : List ℕ
   pub ending : ℕ
 
+-- A schedule with no more steps, that ends so.
 abbrev pub ends : ℕ → Schedule
 ends e = record { steps = []; ending = e }
 
+-- A step of task t, and then the schedule s.
 abbrev pub begun : ℕ → Schedule → Schedule
 begun t s = record { steps = t ∷ s .steps; ending = s .ending }
 

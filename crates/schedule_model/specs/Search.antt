@@ -6,9 +6,8 @@ use lib.Dec.{ltb, eqb}
 use lib.ListN.{getD}
 use Rattle.model.specs.declared.Outcome.{Outcome}
 use Rattle.model.specs.declared.Outcome.the-variants.{Refused, Moved}
-use Rattle.model.specs.declared.Op.the-variants.{Step}
 use Rattle.model.specs.Tables.{Queue}
-use Rattle.model.specs.Calls.{Done, act}
+use Rattle.model.specs.Calls.{Done}
 use Rattle.schedule_model.specs.Schedules.{Schedule, ends, begun, atWork, bothAnswered}
 use Rattle.schedule_model.specs.Next.{Next, given, noMore}
 
@@ -59,6 +58,3 @@ seekBy by ws len (suc n) free q =
     level ws len (suc n) free q (by q 0 .outcome) (by q 1 .outcome)
     (seekBy by ws len n (frees ws len (suc n) free 0) (by q 0 .queue))
     (seekBy by ws len n (frees ws len (suc n) free 1) (by q 1 .queue))
-
-abbrev pub seekOf : List ℕ → ℕ → ℕ → Bool → Queue → Next
-seekOf = seekBy (λ q t. act q t Step)

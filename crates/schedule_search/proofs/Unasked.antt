@@ -9,9 +9,8 @@ use Rattle.model.specs.Tables.{Queue, taskAt}
 use Rattle.model.specs.Refusals.{among, admission}
 use Rattle.model.specs.Calls.{actOn, back, act}
 use Rattle.engine.proofs.InParts.{why, admitted}
-use Rattle.schedule_model.specs.Search.{seekOf}
 use Rattle.schedule_model.proofs.OnlyUnsound.{Ready}
-use Rattle.schedule_model.proofs.AnyStep.{any-step}
+use Rattle.schedule_model.proofs.AnyStep.{seekOf, any-step}
 use Rattle.schedule_search.specs.Stepped.{moved}
 use Rattle.schedule_search.specs.Sought.{seeking}
 

@@ -11,7 +11,8 @@ use Rattle.model.specs.History.{Request, run, final}
 use Rattle.capi.specs.Replies.{Replied, replied}
 use Rattle.serve.specs.declared.request.Request.{Request as Asked}
 use Rattle.serve.specs.Requests.{opOf, requestAt, requestsFrom, replyWords, repliesOf}
-use Rattle.serve.specs.Serving.{State, writesRow, uppersAfter, served}
+use Rattle.rows.specs.Rows.{writesRow}
+use Rattle.serve.specs.Serving.{State, uppersAfter, served}
 
 -- An operation and then the rest.
 served-more : (n : ℕ) (s : State) (o : Request) (os : List Request) (d : Replied) (replies : List ℕ)

@@ -19,7 +19,8 @@ use Rattle.model.proofs.tests.Truth.{split, not-both}
 use Rattle.model.proofs.laws.Sizes.{act-tasks}
 use Rattle.model.proofs.bridge.Accepted.{push-accepted, put-accepted, pop-accepted, step-accepted}
 use Rattle.model.specs.Lists.{zeroed}
-use Rattle.serve.specs.Serving.{writesRow, uppersAfter}
+use Rattle.rows.specs.Rows.{writesRow}
+use Rattle.serve.specs.Serving.{uppersAfter}
 
 -- What is carried out is not refused.
 unrefused : (why : ℕ) (q : Tables) (r : Record) (done : Acted) → isMoved (decide why q r done .outcome) ≡ true → why ≡ 0

@@ -6,14 +6,12 @@ use Prim.Native.Nat.{ℕ}
 use lib.{Dec.eqb, Seq.sets}
 use lib.ListN.{length, set}
 use Rattle.model.specs.declared.{Op.Op, Opening.Opening, Outcome.Outcome}
-use Rattle.model.specs.declared.Op.the-variants.{Push, Pop, PushPooled, Step}
 use Rattle.model.specs.declared.Opening.the-variants.{Refused, Opened}
 use Rattle.model.specs.{Tables.Queue, Retries.SumIsOld, Lists.zeroed}
 use Rattle.model.specs.Calls.{OpenDone, openAs, openingCode}
-use Rattle.model.specs.Ends.{isMoved, endsCall}
 use Rattle.model.specs.History.{Request, Event, run, final, Linearized, NeverUnsound, NoSlotTrue}
 use Rattle.stock_model.specs.Accounts.{Accounted, StockSum}
-use Rattle.rows.specs.Rows.{queueIn, uppersOf}
+use Rattle.rows.specs.Rows.{queueIn, uppersOf, writesRow}
 use Rattle.serve.specs.declared.ServeReply.{ServeReply}
 use Rattle.serve.specs.Requests.{requestsOf, repliesOf, room}
 
@@ -31,13 +29,6 @@ stateIn control rows replies lefts rights labels marks next =
 -- How many operations follow an opening that answers `code`, by the lengths of requests and replies.
 abbrev pub countAfter : ℕ → ℕ → ℕ → ℕ
 countAfter code requests replies = cond (eqb code 0) (room requests replies) 0
-
--- The operations that write their task's row whole, its upper half zero: a start that is carried out, a step that answers.
-abbrev pub writesRow : Op → Outcome → Bool
-writesRow (Push side slot label) o = isMoved o
-writesRow (Pop side) o = isMoved o
-writesRow (PushPooled side label) o = isMoved o
-writesRow Step o = endsCall o
 
 unfoldable pub uppersAfter : List ℕ → List Event → List ℕ
 uppersAfter us [] = us

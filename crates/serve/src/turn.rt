@@ -4,10 +4,9 @@ use model::Reply;
 ghost use mathlib.Core.Path.{_≡_};
 ghost use Prim.Native.Nat.{_≤_};
 ghost use Rattle.model.specs.Calls.{openAs, act};
-ghost use Rattle.rows.specs.Rows.{queueIn, uppersOf};
+ghost use Rattle.rows.specs.Rows.{queueIn, uppersOf, writesRow};
 ghost use Rattle.capi.specs.Replies.{Coded, coded, Replied, replied};
 ghost use Rattle.serve.specs.Requests.{opOf};
-ghost use Rattle.serve.specs.Serving.{writesRow};
 
 const PUSH: u64 = 0;
 

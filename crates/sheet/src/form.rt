@@ -7,27 +7,28 @@ ghost use Rattle.sheet_model.specs.Sheet.{before, after, any, twice, outside, m
 
 /// The place of x among the labels listed from i on, counted from 0 at the whole list's start;
 /// its length where x isn't there. Two labels a turn: with 32 turns a search, whether the processor
-/// foresees the last one depends on where the code lies.
+/// foresees the last one depends on where the code lies. The turn counts by its second label, so that
+/// one register is stepped and compared.
 pub fn place_from(listed: &[u32], i: usize, x: u32) -> usize
     requires { ⌜ i ≤ length (now listed) ⌝ }
     ensures { λ r. ⌜ r ≡ i + placeOf x (drop i (now (listed .entry))) ⌝ }
 {
     let n = listed.len();
-    let mut j = i;
-    while j + 1 < n {
+    let mut j = i + 1;
+    while j < n {
+        if listed[j - 1] == x {
+            return j - 1;
+        }
         if listed[j] == x {
             return j;
         }
-        if listed[j + 1] == x {
-            return j + 1;
-        }
         j += 2;
     }
-    if n <= j {
-        return j;
+    if n < j {
+        return j - 1;
     }
-    if listed[j] == x {
-        return j;
+    if listed[j - 1] == x {
+        return j - 1;
     }
     n
 }

@@ -8,11 +8,12 @@ use native.Mathlib.Omega.{arith}
 use lib.{Dec.eqb, ListN.length}
 use borrow.Author.Tests.{eqb-true, eq-eqb}
 use Rattle.model.specs.declared.Entry.{Entry}
+use Rattle.model.specs.Walk.{CopyAt}
 use Rattle.model.proofs.tests.Truth.{and-of, and-true, by-test, decide-eq, not-both, or-cases, or-first, or-second, split}
 use Rattle.sheet_model.specs.declared.SheetReply.{SheetReply}
 use Rattle.sheet_model.specs.Sheet.{Sheet, Chained, breaks, chained, labelAt, leftOf, malformed, waits}
 use Rattle.sheet_model.specs.Verdict.{Pair, brokenBy, firstBroken, kept, pairs, places, verdict}
-use Rattle.sheet_model.specs.Pairs.{Broken, Copy, CopyAt, Earlier, LeftCopy, NoneBroken, Rightly, crossed, itself, keeps, tellsPair}
+use Rattle.sheet_model.specs.Pairs.{Broken, Copy, Earlier, LeftCopy, NoneBroken, Rightly, crossed, itself, keeps, tellsPair}
 use Rattle.sheet_model.specs.Laws.{VerdictRight}
 use Rattle.sheet_model.proofs.Formed.{formed}
 use Rattle.sheet_model.proofs.Chained.{chained-in, chained-of, chained-within}

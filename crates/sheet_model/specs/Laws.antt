@@ -1,4 +1,4 @@
--- What is promised of the sheets, beyond what each call answers.
+-- What is promised of the sheets, beyond what each call answers. (Document 02, #111 and #112.)
 use mathlib.Core.Path.{_≡_}
 use mathlib.Core.Bool.{true, false, cond}
 use mathlib.Core.List.{List}

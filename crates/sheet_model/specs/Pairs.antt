@@ -1,17 +1,14 @@
 -- Which pairs of a sheet are broken, and which is told, in the document's words. (Document 02, #111.)
 use mathlib.Core.{Path._≡_, Logic._⊎_}
-use mathlib.Core.List.{List, map}
+use mathlib.Core.List.{List}
 use Prim.Native.Nat.{ℕ, _<_}
-use lib.ListN.{length, getD}
 use Rattle.model.specs.declared.Entry.{Entry}
+use Rattle.model.specs.Walk.{CopyAt}
 use Rattle.sheet_model.specs.declared.SheetReply.{SheetReply}
 use Rattle.sheet_model.specs.Sheet.{Sheet, Chained, labelAt}
 use Rattle.sheet_model.specs.Verdict.{brokenBy, kept}
 
--- A copy of label x waits, i entries from the left.
-abbrev pub CopyAt : ℕ → List Entry → ℕ → Type 0
-CopyAt x l i = (i < length l) × (getD (map (λ (e : Entry). e .label) l) i 0 ≡ x)
-
+-- A copy of label x waits.
 pub record Copy (x : ℕ) (l : List Entry) : Type 0 where
   pub place : ℕ
   pub copy : CopyAt x l place

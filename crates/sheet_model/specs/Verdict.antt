@@ -13,6 +13,7 @@ use Rattle.sheet_model.specs.declared.SheetReply.{SheetReply}
 use Rattle.sheet_model.specs.Words.{linked, wordsOf}
 use Rattle.sheet_model.specs.Sheet.{Sheet, malformed, breaks}
 
+-- What is answered: refused with a number, kept, or broken at a pair of places.
 abbrev pub refused : ℕ → SheetReply
 refused number = record { code = number; first = 0; second = 0 }
 
@@ -55,6 +56,7 @@ sheetRules q s enough =
     ∷ rule 34 (isBroken (contents q))
     ∷ []
 
+-- The first rule that applies refuses; else the queue's labels are judged.
 unfoldable pub judge : Tables → Sheet → Bool → SheetReply
 judge q s enough =
     let why = first (sheetRules q s enough) in

@@ -4,7 +4,7 @@ use mathlib.Core.List.{List, [], _∷_}
 use Prim.Native.Nat.{ℕ, zero, suc, _+_, _*_}
 use Rattle.sheet_model.specs.Sheet.{through}
 
--- The numbers f 0 to f (n - 1).
+-- The elements f 0 to f (n - 1).
 unfoldable pub listOf : {A : Type 0} → (ℕ → A) → ℕ → List A
 listOf f zero = []
 listOf f (suc n) = f 0 ∷ listOf (λ i. f (suc i)) n

@@ -7,6 +7,9 @@ pub mod Accepted
 pub mod Laws
 pub mod Stretches
 pub mod Changeovers
+pub mod InUse
+pub mod Neighbours
 pub mod Pasts
 pub mod Promises
+pub mod Joinings
 pub mod Worked

@@ -12,16 +12,20 @@ use Rattle.model.specs.{Sound.controlSound, Calls.act, Retries.retriesBelow, St
 use Rattle.model.specs.Walk.{Walk, contents, entries, met}
 use Rattle.model.specs.History.{AfterOpeningAs, LedgerCall, Ending, Event, Lawful, Linearized, NeverUnsound, Request}
 use Rattle.model.specs.History.{answered, final, isOpen, ledger, pending, run}
+use Rattle.model.specs.History.{MarkedIn, MarkedWhile, NoSlotIn, NoSlotTrue, Taken}
 use Rattle.model.proofs.laws.Sizes.{act-pooled, act-tasks, fits}
-use Rattle.model.proofs.{Linearizable.linearizable, Never34.never-34, Standing.standing}
+use Rattle.model.specs.Neighbours.{NeighboursIn, NeighboursJoined}
+use Rattle.model.proofs.{Linearizable.linearizable, LinksBack.links-back, MarksRight.marks-right, Never34.never-34, NoSlot.no-slot-either, Standing.standing}
 use Rattle.model.specs.Lists.{All, copies}
-use Rattle.stock_model.specs.Accounts.{Accounted, AccountedIn, AddedUp, Stands, StockSum, answeredLabels, hasTaken, heldLabels, pushedLabels, takenLabels}
+use Rattle.stock_model.specs.Accounts.{Accounted, AccountedIn, AddedUp, Stands, StockSum, answeredLabels, hasHadEffect, heldLabels, pushedLabels, takenLabels}
 use Rattle.stock_model.specs.Accounts.{waitingLabels}
 use Rattle.stock_model.proofs.Accounts.{OpenKnown, every-label, open-known, stock-taking}
 use Rattle.shelf_model.specs.Cut.{cut}
 use Rattle.shelf_model.specs.Changeovers.{Explained, FromOpening, Past}
 use Rattle.shelf_model.proofs.{Lists.enough-take, Cut.fits-cut, Stretches.task-cut}
 use Rattle.shelf_model.proofs.CutCalls.{contents-cut, run-cut}
+use Rattle.shelf_model.proofs.InUse.{marks-alike, no-slot-alike}
+use Rattle.shelf_model.proofs.Neighbours.{neighbours-alike}
 
 below-cut : (q : Queue) (n : ℕ) → n ≤ q .tables .control .tasks → retriesBelow (cut q) n ≡ retriesBelow q n
 unfolding retriesBelow
@@ -105,9 +109,19 @@ module _ (p : Past) (q : Queue) (h : Explained p q) where
       (run-end (λ (e : Event). e .outcome ≡ Refused 34 → ⊥) (p .since) os (p .opened)
       (subst (λ (o : Queue). All (λ (e : Event). e .outcome ≡ Refused 34 → ⊥) (run o (p .since ++ os))) (sym (t .opened)) sound))
 
+  -- #104, the marks and the links between neighbours.
+  pub no-slot : NoSlotIn q
+  no-slot = no-slot-alike now q (sym (h .leaves)) (past-has NoSlotTrue (no-slot-either (t .pooled)))
+
+  pub marks-true : MarkedIn Taken q
+  marks-true = marks-alike now q (sym (h .leaves)) (past-has (MarkedWhile Taken) (marks-right (t .pooled)))
+
+  pub neighbours-joined : NeighboursIn (q .tables)
+  neighbours-joined = neighbours-alike now q (sym (h .leaves)) (past-has NeighboursJoined (links-back (t .pooled)))
+
   -- An open call stands in the queue where it stands after the past.
   stands-alike : (c : LedgerCall) (e : Ending) → (isOpen e ≡ true → c .task < now .tables .control .tasks) → Stands now c e → Stands q c e
-  stands-alike c pending k s = λ kind. s kind ∙ ap (λ (r : Record). cond (hasTaken (r .call)) 1 0)
+  stands-alike c pending k s = s ∙ ap (λ (r : Record). cond (hasHadEffect (c .kind) (r .call)) 1 0)
       (sym (same-task (c .task) (subst (λ n. c .task < n) (sym same-tasks) (k refl))))
   stands-alike c (answered n a) k s = tt
 

@@ -8,15 +8,17 @@ use native.Mathlib.Omega.{arith}
 use lib.Dec.{eqb, leb}
 use borrow.Author.Tests.{eqb-false, leb-true, not-false}
 use Rattle.model.specs.declared.{Entry.Entry, Record.Record}
+use Rattle.model.specs.declared.Op.the-variants.{Step}
 use Rattle.model.specs.declared.Reported.the-variants as reported
 use Rattle.model.specs.Tables.{Queue, isPooled}
 use Rattle.model.specs.{Sound.controlSound, Solo.soloRun, Retries.SumIsOld, Standing.Standing}
 use Rattle.model.specs.Refusals.{first, recordsFit, reportRefusal, rule}
 use Rattle.model.specs.Report.{busy, report, tell, told, waiting}
-use Rattle.model.specs.History.{Event, final}
+use Rattle.model.specs.History.{Event, final, run}
 use Rattle.model.specs.Progress.{AnsweredWithin, Busy, SoloWithin, StretchTells, any, limit, steps, stretchLimit, tookEffectOrAnswered}
 use Rattle.model.proofs.tests.Rules.{_and_, never}
 use Rattle.model.proofs.tests.Truth.{not-both}
+use Rattle.model.proofs.laws.Runs.{run-refused}
 use Rattle.model.proofs.Retries.{retries-sum}
 use Rattle.model.proofs.StepBounds.{solo-bound, stretch-bound}
 use Rattle.shelf_model.specs.Shelves.{bothHold, returnRefusal, saveRefusal, saveRules, shelfAt}
@@ -25,8 +27,8 @@ use Rattle.shelf_model.specs.Promises as stated
 use Rattle.shelf_model.specs.Promises.{Progresses, Promised, Promises}
 use Rattle.shelf_model.proofs.Stretches.{asked, events-are, solo-alike}
 use Rattle.shelf_model.proofs.Changeovers.{changeovers}
-use Rattle.shelf_model.proofs.Pasts.{accounts, adds-up, all-served, counts, final-tasks, following-sound, operations-sound, past-has, same-pooled}
-use Rattle.shelf_model.proofs.Pasts.{same-run, same-task, same-tasks, stands}
+use Rattle.shelf_model.proofs.Pasts.{accounts, adds-up, all-served, counts, final-tasks, following-sound, marks-true, no-slot, operations-sound, past-has}
+use Rattle.shelf_model.proofs.Pasts.{neighbours-joined, same-pooled, same-run, same-task, same-tasks, stands}
 
 -- A report where control is sound, the tables are long enough and the walk meets what waits.
 report-none : (q : Queue) (d : List Entry) → Standing q d → reportRefusal (q .tables) (recordsFit (q .tables .control .tasks) q) ≡ 0
@@ -75,12 +77,14 @@ module _ (w : World) (h : Holds w) (i : ℕ) (made : w .pasts i .made ≡ true) 
   }
 
   sound : stated.NeverUnsound w i
-  unfolding waiting saveRefusal
+  unfolding waiting saveRefusal run
   sound =
       let s = stands p q told-by in
       record {
         operations = operations-sound p q told-by;
         following = following-sound p q told-by;
+        runs = λ n t e.
+            following-sound p q told-by (record { task = t; op = Step } ∷ []) .0 (run-refused n q t 34 e .0);
         walks = s;
         told = told (q .tables) (busy q);
         is = report-told q _ s;
@@ -94,6 +98,9 @@ module _ (w : World) (h : Holds w) (i : ℕ) (made : w .pasts i .made ≡ true) 
     sound = sound;
     retries = λ low. counts p q told-by ∙ past-has p q told-by SumIsOld (retries-sum (told-by .begun .pooled)) low;
     progress = progresses;
+    no-slot = no-slot p q told-by;
+    marks = marks-true p q told-by;
+    neighbours = neighbours-joined p q told-by;
     accounted = accounts p q told-by;
     stock = adds-up p q told-by;
   }

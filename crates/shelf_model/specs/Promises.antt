@@ -7,8 +7,8 @@ use Rattle.model.specs.declared.Report.{Report}
 use Rattle.model.specs.declared.Reported.the-variants as reported
 use Rattle.model.specs.Tables.{Queue, isPooled, recordAt}
 use Rattle.model.specs.Walk.{contents, entries}
-use Rattle.model.specs.{Standing.Standing, Report.report, Solo.soloRun, Lists.All}
-use Rattle.model.specs.History.{LedgerCall, Event, Lawful, Request, ledger, run}
+use Rattle.model.specs.{Standing.Standing, Report.report, Solo.soloRun, Lists.All, Neighbours.NeighboursIn}
+use Rattle.model.specs.History.{LedgerCall, Event, Lawful, MarkedIn, NoSlotIn, Request, Taken, ledger, run}
 use Rattle.model.specs.Progress.{AnsweredWithin, Busy, any, limit, steps, stretchLimit, tookEffectOrAnswered}
 use Rattle.model.specs.Retries.{oldCount, retriesBelow}
 use Rattle.stock_model.specs.Accounts.{AccountedIn, AddedUp}
@@ -20,11 +20,12 @@ pub record Served (w : World) (i : ℕ) : Type 0 where
   pub calls : All (λ (c : LedgerCall). Lawful c (c .ending)) (ledger (w .pasts i .events) .calls)
   pub waits : contents (w .queues i .tables) ≡ entries (ledger (w .pasts i .events) .deque)
 
--- 34 never occurs: not at a start or step, not at those that may follow, not at a call that walks, not at a report, which tells the length of
--- its queue, not at a saving.
+-- 34 never occurs: not at a start or step, not at those that may follow, not at a task stepped until it answers, not at a call that walks, not at
+-- a report, which tells the length of its queue, not at a saving.
 pub record NeverUnsound (w : World) (i : ℕ) : Type 0 where
   pub operations : All (λ (e : Event). e .outcome ≡ Refused 34 → ⊥) (w .pasts i .events)
   pub following : (os : List Request) → All (λ (e : Event). e .outcome ≡ Refused 34 → ⊥) (run (w .queues i) os)
+  pub runs : (n t : ℕ) → soloRun n (w .queues i) t .outcome ≢ Refused 34
   pub walks : Standing (w .queues i) (ledger (w .pasts i .events) .deque)
   pub told : Report
   pub is : report (w .queues i) ≡ reported.Told told
@@ -45,6 +46,12 @@ pub record Promised (w : World) (i : ℕ) : Type 0 where
   pub retries : let p = w .pasts i in oldCount 0 (p .opened) (p .since) < 4294967295
       → retriesBelow (w .queues i) (w .queues i .tables .control .tasks) ≡ oldCount 0 (p .opened) (p .since)
   pub progress : Progresses w i
+  -- #104: *no slot* means that every slot is waiting or held.
+  pub no-slot : NoSlotIn (w .queues i)
+  -- A slot's mark is set exactly while the slot is taken.
+  pub marks : MarkedIn Taken (w .queues i)
+  -- Only at the end that the status names may the neighbour's link back be unfinished.
+  pub neighbours : NeighboursIn (w .queues i .tables)
   -- #114: every label of that history is accounted for in the queue as it stands, and all of them add up.
   pub accounted : AccountedIn (w .pasts i .events) (w .queues i)
   pub stock : AddedUp (w .pasts i .events) (w .queues i)

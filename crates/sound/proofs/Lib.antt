@@ -6,3 +6,4 @@ pub mod Early
 pub mod Late
 pub mod Links
 pub mod Measured
+pub mod Asked

@@ -1,6 +1,6 @@
--- The tests of an Anchor word that was read, one by one: the left end no slot, equal ends, different ones.
+-- The tests of an Anchor word that was read, one by one: the left end no slot, no status, then from place 5 on, equal ends, different ones.
 use mathlib.Core.Path.{_≡_, refl, sym, ap}
-use mathlib.Core.Bool.{Bool, true, false, _&&_, cond, and-true, and-false}
+use mathlib.Core.Bool.{Bool, true, false, _&&_, not, cond, and-true, and-false}
 use Prim.Native.Nat.{ℕ, _+_, _*_, _<_, _≤_, _%_, _/_}
 use native.Mathlib.Omega.{arith}
 use lib.Dec.{leb, eqb}
@@ -28,40 +28,40 @@ module _ (slots place : ℕ) (a : Anchor) where
       go true = refl
       go false = refl
 
-  module _ (same : a .left ≡ a .right) where
-    pub equal-late : 5 ≤ place → false ≡ earlySeen slots place a
-    unfolding earlySeen
-    equal-late late = rw (eq-eqb _ _ same, le-leb _ _ late)
-
-    pub equal-soon : from1 slots (a .left) ≡ true → place < 5 → eqb (a .status) 0 ≡ earlySeen slots place a
-    unfolding earlySeen
-    equal-soon l soon = rw (eq-eqb _ _ same, lt-leb 5 place soon, second (leb 1 (a .left)) (leb (a .left) slots) l) (sym (and-true (eqb (a .status) 0)))
-
-  module _ (l : from1 slots (a .left) ≡ true) (other : a .left ≡ a .right → ⊥) where
+  module _ (l : from1 slots (a .left) ≡ true) where
     pub no-status : a .status ≡ 3 → false ≡ earlySeen slots place a
     unfolding earlySeen
-    no-status e = rw (ne-eqb _ _ other, l, lt-leb (a .status) 2 (omega (arith, e))) (go (leb 5 place))
+    no-status e =
+        rw (l, lt-leb (a .status) 2 (omega (arith, e)), ne-eqb (a .status) 0 (omega (arith, e))) (go (eqb (a .left) (a .right)) (leb 5 place))
       where
-        go : (t : Bool) → false ≡ (from1 slots (a .right) && cond t (leb 1 (a .status) && false) false)
-        go true = simp and-false
-        go false = simp and-false
+        go : (s t : Bool) → false ≡ cond s (not t && false) (from1 slots (a .right) && cond t (leb 1 (a .status) && false) false)
+        go true t = simp and-false
+        go false true = simp and-false
+        go false false = simp and-false
 
-    pub stable-late : a .status ≡ 0 → 5 ≤ place → false ≡ earlySeen slots place a
+    pub equal-soon : a .left ≡ a .right → place < 5 → eqb (a .status) 0 ≡ earlySeen slots place a
     unfolding earlySeen
-    stable-late e late = rw (ne-eqb _ _ other, l, le-leb 5 place late, lt-leb 1 (a .status) (omega (arith, e))) (simp and-false)
+    equal-soon same soon =
+        rw (eq-eqb _ _ same, lt-leb 5 place soon, second (leb 1 (a .left)) (leb (a .left) slots) l) (sym (and-true (eqb (a .status) 0)))
 
     module _ (w : ℕ) (is : a ≡ anchorOf w) (used : a .status ≡ 3 → ⊥) where
       low : a .status ≤ 2
       low = let s : a .status ≡ w / 1073741824 % 4 = ap (λ (a : Anchor). a .status) is in omega (arith, s, used)
 
-      pub apart-late : (a .status ≡ 0 → ⊥) → 5 ≤ place → from1 slots (a .right) ≡ earlySeen slots place a
+      pub late : 5 ≤ place
+          → ((not (eqb (a .left) (a .right)) && from1 slots (a .right)) && not (eqb (a .status) 0)) ≡ earlySeen slots place a
       unfolding earlySeen
-      apart-late unstable late =
-          rw (ne-eqb _ _ other, l, le-leb 5 place late, le-leb 1 (a .status) (omega (arith, unstable)), le-leb (a .status) 2 low) (sym (and-true _))
+      late from5 = rw (l, le-leb 5 place from5, le-leb (a .status) 2 low) (by-tests (eqb (a .left) (a .right)) (eqb (a .status) 0) refl)
+        where
+          by-tests : (t s : Bool) → eqb (a .status) 0 ≡ s
+              → ((not t && from1 slots (a .right)) && not s) ≡ cond t false (from1 slots (a .right) && (leb 1 (a .status) && true))
+          by-tests true s e = refl
+          by-tests false true e = let stable : a .status ≡ 0 = eqb-true _ _ e in rw (lt-leb 1 (a .status) (omega (arith, stable)))
+          by-tests false false e = let unstable : a .status ≡ 0 → ⊥ = eqb-false _ _ e in rw (le-leb 1 (a .status) (omega (arith, unstable)))
 
-      pub apart-soon : place < 5 → from1 slots (a .right) ≡ earlySeen slots place a
+      pub apart-soon : (a .left ≡ a .right → ⊥) → place < 5 → from1 slots (a .right) ≡ earlySeen slots place a
       unfolding earlySeen
-      apart-soon soon = rw (ne-eqb _ _ other, l, lt-leb 5 place soon, le-leb (a .status) 2 low) (sym (and-true _))
+      apart-soon other soon = rw (ne-eqb _ _ other, l, lt-leb 5 place soon, le-leb (a .status) 2 low) (sym (and-true _))
 
   -- The left end is no slot: all of the lower half is 0, or the word is unsound.
   pub null-soon : (w : ℕ) → a ≡ anchorOf w → from1 slots (a .left) ≡ false → place < 5 → eqb (w % 4294967296) 0 ≡ earlySeen slots place a

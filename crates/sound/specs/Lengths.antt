@@ -1,13 +1,13 @@
 -- Which tables are long enough, by their lengths.
 use mathlib.Core.Path.{_≡_}
 use mathlib.Core.Bool.{Bool, _&&_, _||_, not}
-use mathlib.Core.List.{[], _∷_}
+use mathlib.Core.List.{List, [], _∷_}
 use Prim.Native.Nat.{ℕ, _/_}
-use lib.Dec.{leb, ltb}
+use lib.Dec.{leb, ltb, eqb}
 use lib.ListN.{length}
 use Rattle.model.specs.declared.Control.{Control}
 use Rattle.model.specs.Tables.{Tables, isPooled}
-use Rattle.model.specs.Refusals.{Lent}
+use Rattle.model.specs.Refusals.{Rule, rule, Lent}
 use Rattle.model.specs.Lists.{every}
 use Rattle.sound.specs.declared.Lengths.{Lengths}
 
@@ -41,3 +41,7 @@ tablesFit c t = lengthsFit (isPooled c) (c .slots) t && leb (c .tasks) (t .recor
 -- What 12 and 13 see of the records that are lent, for one task.
 abbrev pub amongMany : Control → Lengths → ℕ → Lent
 amongMany c t task = record { enough = leb (c .tasks) (t .records); known = ltb task (c .tasks) }
+
+-- Of the rules of control and tables those that the word for pooled decides: 34 for itself, 12 for the next table.
+abbrev pub nextRules : ℕ → ℕ → ℕ → List Rule
+nextRules pooled slots next = rule 34 (not (leb pooled 1)) ∷ rule 12 (not (not (eqb pooled 1) || ltb slots next)) ∷ []

@@ -1,13 +1,13 @@
 -- What the effects in a ledger add up to, whatever its events: labels pushed are labels taken and labels in the deque.
 use mathlib.Core.Bool.{Bool, _&&_, cond}
 use mathlib.Core.List.{List, [], _∷_, _++_, map, reverse, reverse-cons}
+use mathlib.Core.Logic.{_≢_}
 use mathlib.Core.Path.{_≡_, _∙_, ap, refl, sym}
 use Prim.Native.Nat.{ℕ, _+_}
 use native.Mathlib.Omega.{arith}
 use lib.{Dec.eqb, ListN.length}
-use borrow.Author.Tests.{eqb-true}
+use borrow.Author.Tests.{eqb-false, eqb-true}
 use Rattle.model.specs.declared.{Answer.Answer, Entry.Entry, Op.Op, Outcome.Outcome}
-use Rattle.model.specs.declared.Answer.the-variants.{Pushed}
 use Rattle.model.specs.declared.Op.the-variants.{Push, Pop, PushPooled, Step}
 use Rattle.model.specs.declared.Outcome.the-variants.{Refused, Moved}
 use Rattle.model.specs.Deque.{Served, seenFrom, serve, serveFor, servePop, servePush, takeFirst}
@@ -123,25 +123,28 @@ module _ (w : ℕ → ℕ) where
   balanced n l [] h = h
   balanced n l (e ∷ es) h = balanced _ (note n e (e .outcome) l) es (note-balanced n e (e .outcome) l h)
 
--- A call that is replied *pushed* is a push.
-abbrev Fits : LedgerCall → Effect → Type 0
-Fits c e = e .reply ≡ Pushed → c .kind ≡ 0
+-- A call that is replied *pushed* is a push, and one that is replied *popped* is none.
+abbrev Suits : ℕ → Answer → Type 0
+Suits kind a = (length (labelPushed 0 a) ≡ 1 → kind ≡ 0) × (length (labelPopped a) ≡ 1 → kind ≢ 0)
+
+abbrev pub Fits : LedgerCall → Effect → Type 0
+Fits c e = Suits (c .kind) (e .reply)
 
 abbrev pub AllFit : List LedgerCall → Type 0
 AllFit cs = All (λ (c : LedgerCall). All (Fits c) (c .effects)) cs
 
-serve-fits : (lacks : Bool) (kind side : ℕ) (e : Entry) (d : List Entry) → serveFor lacks kind side e d .reply ≡ Pushed → kind ≡ 0
+serve-fits : (lacks : Bool) (kind side : ℕ) (e : Entry) (d : List Entry) → Suits kind (serveFor lacks kind side e d .reply)
 unfolding serveFor serve servePush servePop
 serve-fits lacks kind side e d =
-    by-test Says lacks (λ z p. absurd (let w : _≡_ {A = ℕ} 0 1 = cc in omega arith))
-    (λ z. by-test Says (eqb kind 0) (λ k p. eqb-true kind 0 k) (λ k. first (seenFrom side d)))
+    by-test Says lacks (λ _. (λ p. absurd (omega (arith, p)), λ p. absurd (omega (arith, p))))
+    (λ _. by-test Says (eqb kind 0) (λ k. (λ p. eqb-true kind 0 k, λ p. absurd (omega (arith, p)))) (λ k. first (eqb-false kind 0 k) (seenFrom side d)))
   where
     Says : Served → Type 0
-    Says s = s .reply ≡ Pushed → kind ≡ 0
+    Says s = Suits kind (s .reply)
 
-    first : (l : List Entry) → takeFirst side l .reply ≡ Pushed → kind ≡ 0
-    first [] p = absurd (let w : _≡_ {A = ℕ} 0 1 = cc in omega arith)
-    first (f ∷ l) p = absurd (let w : _≡_ {A = ℕ} 0 1 = cc in omega arith)
+    first : kind ≢ 0 → (l : List Entry) → Says (takeFirst side l)
+    first k [] = (λ p. absurd (omega (arith, p)), λ p. absurd (omega (arith, p)))
+    first k (f ∷ l) = (λ p. absurd (omega (arith, p)), λ p. k)
 
 attend-fits : (n : ℕ) (e : Event) (a : Answer) (d : List Entry) (cs : List LedgerCall) → AllFit cs → AllFit (attend n e a d cs .calls)
 unfolding attend stepOf

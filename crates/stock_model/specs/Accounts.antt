@@ -1,6 +1,6 @@
 -- Every label accounted for, from the history of effects. (Document 02, #114.)
 use mathlib.Core.Path.{_≡_}
-use mathlib.Core.Bool.{Bool, _||_, cond}
+use mathlib.Core.Bool.{Bool, _||_, cond, not}
 use mathlib.Core.List.{List, [], _∷_, _++_, map}
 use Prim.Native.Nat.{ℕ, _+_}
 use lib.{Dec.eqb, ListN.length}
@@ -67,13 +67,21 @@ waitingLabels q = map (λ (e : Entry). e .label) (met (contents q))
 abbrev pub hasTaken : Call → Bool
 hasTaken r = eqb (r .place) 11 || giving r
 
--- A pop that hasn't answered yet took effect exactly where its record stands there.
+-- A push has had its effect once it is finishing: so one that holds its slot (`pushHolds`) has had none.
+abbrev pub hasPushed : Call → Bool
+hasPushed r = not (eqb (r .finishing) 0)
+
+abbrev pub hasHadEffect : ℕ → Call → Bool
+hasHadEffect kind r = cond (eqb kind 0) (hasPushed r) (hasTaken r)
+
+-- A call that hasn't answered yet took effect exactly where its record says so.
 abbrev pub Stands : Queue → LedgerCall → Ending → Type 0
-Stands q c pending = c .kind ≡ 1 → length (c .effects) ≡ cond (hasTaken (recordAt q (c .task))) 1 0
+Stands q c pending = length (c .effects) ≡ cond (hasHadEffect (c .kind) (recordAt q (c .task))) 1 0
 Stands q c (answered n a) = Unit {0}
 
 -- Of a history and the queue as it stands: each label pushed, and no other, has either been taken by one pop's effect or is waiting, copies
--- counted; the pops answered and those that haven't answered yet make up those taken; and these stand where document 02 says.
+-- counted; the pops answered and those that haven't answered yet make up those taken; and these, and pushes that haven't
+-- answered yet, stand where document 02 says.
 pub record AccountedIn (es : List Event) (q : Queue) : Type 0 where
   pub every-push : (x : ℕ) → let cs = ledger es .calls in copies x (pushedLabels cs) ≡ copies x (takenLabels cs) + copies x (waitingLabels (q .tables))
   pub every-pop : (x : ℕ) → let cs = ledger es .calls in copies x (takenLabels cs) ≡ copies x (answeredLabels cs) + copies x (heldLabels cs)

@@ -1,13 +1,12 @@
 //! Reads and stores on lent tables, defined for every index: past the end a
 //! read gives 0 and a store does nothing.
 ghost use mathlib.Core.Path.{_≡_};
-ghost use mathlib.Core.List.{_∷_};
 ghost use Prim.Native.Nat.{_<_, _≤_};
 ghost use lib.ListN.{length, getD, set};
 ghost use Rattle.model.specs.Tables.{marked, withMark};
 ghost use Rattle.model.specs.Calls.{stacked};
 ghost use Rattle.model.specs.Route.{counted};
-ghost use Rattle.model.specs.Lists.{zeroed, climb};
+ghost use Rattle.model.specs.Lists.{zeroed};
 ghost use Rattle.table.specs.Zeroing.{zeroing};
 ghost use Rattle.table.specs.Stacking.{stacking};
 
@@ -121,26 +120,22 @@ pub fn zero_labels(t: &mut [u32], n: u64)
     }
 }
 
-/// Where slot i leads when all slots are stacked: to the one above, the last one to none.
-fn above(slots: u64, i: u64) -> u64
-    ensures { λ r. ⌜ r ≡ getD (0 ∷ climb 2 slots) i 0 ⌝ }
-{
-    if i == 0 {
-        return 0;
-    }
-    if i < slots { i + 1 } else { 0 }
-}
-
+/// Each slot leads to the one above, row 0 and the last one to none.
 fn fill_stack(t: &mut [u64], slots: u64)
     requires { ⌜ slots < length (now t) ⌝ }
     ensures { λ _. ⌜ now (t .exit) ≡ stacked slots (now (t .entry)) ⌝ }
 {
-    let rows = slots as usize + 1;
-    let mut i = 0;
-    while i < rows {
-        t[i] = above(slots, i as u64);
+    t[0] = 0;
+    if slots == 0 {
+        return;
+    }
+    let last = slots as usize;
+    let mut i = 1;
+    while i < last {
+        t[i] = i as u64 + 1;
         i += 1;
     }
+    t[last] = 0;
 }
 
 /// Stacks all slots in a next table that has a row for each, in a pooled queue.

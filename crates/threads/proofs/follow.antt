@@ -4,7 +4,9 @@ pub mod Plans
 pub mod Starting
 pub mod LateStays
 pub mod Good
+pub mod LinkPlans
 pub mod Relation
+pub mod OwnLink
 pub mod Labels
 pub mod OneLabel
 pub mod Instruction

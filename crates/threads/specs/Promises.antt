@@ -21,7 +21,7 @@ use Rattle.model.specs.Lists.{All}
 use Rattle.threads_model.specs.Split.{plan, splitStep}
 use Rattle.threads_model.specs.declared.Start.{Start}
 use Rattle.threads_model.specs.Starts.{isNamed, planStart}
-use Rattle.threads_model.specs.Turns.{Turn, take, runTurns, finalTurns}
+use Rattle.threads_model.specs.Turns.{Turn, takeEarly, runTurns, finalTurns}
 use Rattle.threads_model.specs.Instructions.{Hand, free, begun, loaded, knows, claims, looks, labels, marks, ends}
 use Rattle.threads_model.specs.Instructions.{Ticked, tick, withLabels, labelTouched}
 use Rattle.threads_model.specs.Crew.{Crew, Act, allFree, Known, goOn, turns, told, outcomesOf, owed, labelNext}
@@ -44,7 +44,7 @@ StartsWithin = (pooled slots : ℕ) (r : Call) (s : Start) → planStart pooled 
 
 -- A turn that was early is one as ever where Anchor is not late.
 abbrev pub EarlyAsEver : Type 0
-EarlyAsEver = (q : Queue) (u : Turn) → late (q .tables .control) ≡ false → take q u ≡ act q (u .task) (u .op)
+EarlyAsEver = (q : Queue) (u : Turn) → late (q .tables .control) ≡ false → takeEarly q u ≡ act q (u .task) (u .op)
 
 -- THREADS. A label or a mark that is to be stored.
 abbrev pub OwesLabel : Hand → ℕ → Type 0
@@ -100,27 +100,27 @@ pub record AsList (pooled slots : ℕ) (q : Queue) (l : List Act) : Type 0 where
       ≡ told pooled slots (allFree q) l t ++ owed (goOn pooled slots (allFree q) l .hands t)
 
 -- After any accepted opening, named or pooled, on any tables; any list of acts by threads of the tasks opened, so every prefix of a run too.
-abbrev pub AfterOpening : (ℕ → ℕ → Queue → List Act → Type 0) → Type 0
-AfterOpening P = (pooled : Bool) (q : Queue) (tasks slots tag : ℕ) → openAs pooled q tasks slots tag .outcome ≡ Opened
+abbrev pub AfterThreads : (ℕ → ℕ → Queue → List Act → Type 0) → Type 0
+AfterThreads P = (pooled : Bool) (q : Queue) (tasks slots tag : ℕ) → openAs pooled q tasks slots tag .outcome ≡ Opened
     → (l : List Act) → All (Known tasks) l → P (cond pooled 1 0) slots (openAs pooled q tasks slots tag .queue) l
 
 abbrev pub InstructionsStand : Type 0
-InstructionsStand = AfterOpening AsList
+InstructionsStand = AfterThreads AsList
 
 -- So they are linearizable, in the words of `History`.
-pub record Linearized (pooled slots : ℕ) (q : Queue) (l : List Act) : Type 0 where
+pub record ThreadsLinearized (pooled slots : ℕ) (q : Queue) (l : List Act) : Type 0 where
   pub calls : All (λ (c : LedgerCall). Lawful c (c .ending)) (ledger (runTurns q (turns pooled slots (allFree q) l)) .calls)
   pub waits : contents (finalTurns q (turns pooled slots (allFree q) l) .tables) ≡ entries (ledger (runTurns q (turns pooled slots (allFree q) l)) .deque)
 
 abbrev pub InstructionsLinearizable : Type 0
-InstructionsLinearizable = AfterOpening Linearized
+InstructionsLinearizable = AfterThreads ThreadsLinearized
 
 -- Nobody is told 34: no word is found unsound, and no tag passes 32 bits.
-abbrev pub NeverUnsound : ℕ → ℕ → Queue → List Act → Type 0
-NeverUnsound pooled slots q l = (t : ℕ) → All (λ (o : Outcome). o ≡ Refused 34 → ⊥) (told pooled slots (allFree q) l t)
+abbrev pub ThreadsNeverUnsound : ℕ → ℕ → Queue → List Act → Type 0
+ThreadsNeverUnsound pooled slots q l = (t : ℕ) → All (λ (o : Outcome). o ≡ Refused 34 → ⊥) (told pooled slots (allFree q) l t)
 
 abbrev pub InstructionsNever34 : Type 0
-InstructionsNever34 = AfterOpening NeverUnsound
+InstructionsNever34 = AfterThreads ThreadsNeverUnsound
 
 -- LABELS. An instruction touches one label at most, that of the slot named by `labelTouched`: whatever another slot's label is, it does the same, and
 -- leaves that label as it is.
@@ -141,4 +141,4 @@ LabelsApart pooled slots q l =
     → labelNext pooled slots m t ≢ 0 → labelNext pooled slots m t ≡ labelNext pooled slots m u → t ≡ u
 
 abbrev pub InstructionsLabelsApart : Type 0
-InstructionsLabelsApart = AfterOpening LabelsApart
+InstructionsLabelsApart = AfterThreads LabelsApart

@@ -2,10 +2,10 @@
 -- Each line holds by computing the meanings.
 use mathlib.Core.Path.{_≡_, refl}
 use mathlib.Core.Bool.{true, false}
-use mathlib.Core.List.{List, [], _∷_, _++_}
+use mathlib.Core.List.{List, [], _∷_, _++_, map}
 use Prim.Native.Nat.{ℕ}
 use lib.ListN.{getD, replicate}
-use Rattle.model.specs.declared.Call.{Call}
+use Rattle.model.specs.declared.{Call.Call, Record.Record}
 use Rattle.model.specs.declared.Answer.the-variants.{Pushed}
 use Rattle.model.specs.declared.Outcome.{Outcome}
 use Rattle.model.specs.declared.Outcome.the-variants.{Refused, Moved}
@@ -22,7 +22,8 @@ use Rattle.model.proofs.Bench.{fresh, at, got}
 use Rattle.threads_model.specs.Split.{loads, planned, plan, perform, gone, settledAt, meetsAnchor, settle}
 use Rattle.threads_model.specs.Starts.{ownRefusal, planStart, settleStart}
 use Rattle.threads_model.specs.Turns.{Turn}
-use Rattle.threads_model.specs.Instructions.{loadsOwn, isAsRead, putsOwn, stepFirst, clears, startFirst, claimsMark, looksMark}
+use Rattle.threads_model.specs.Instructions.{isToPut, loadsOwn, isAsRead, putsOwn, readsNext, atOnce, oneWord, replaces, stepFirst, clears}
+use Rattle.threads_model.specs.Instructions.{startFirst, claimsMark, looksMark}
 use Rattle.threads_model.specs.Crew.{Act, calls, next, allFree, go, goOn, turns, told, labelNext}
 
 -- A thread begins a start or a step.
@@ -48,6 +49,12 @@ leaves q l = goOn (q .tables .control .pooled) (q .tables .control .slots) (allF
 
 abbrev hears : Queue → List Act → ℕ → List Outcome
 hears q l t = told (q .tables .control .pooled) (q .tables .control .slots) (allFree q) l t
+
+abbrev rests : Queue → List Act → Queue
+rests q l = goOn (q .tables .control .pooled) (q .tables .control .slots) (allFree q) l .queue
+
+abbrev placeOf : Record → ℕ
+placeOf r = r .call .place
 
 -- The slot whose label thread t touches next.
 abbrev touching : Queue → List Act → ℕ → ℕ
@@ -88,14 +95,17 @@ overtaken = begins 0 (Push 1 2 800) ∷ next 0 ∷ first ++ replicate 3 (next 0)
 
 -- Place 3. Thread 0 loads its own link; thread 1, at 9, changes that word; thread 0 compares and puts. (Records as lent: after an opening and calls
 -- alone no change at 9 of such a link is done.)
-abbrev at3and9 : Queue
-at3and9 =
+abbrev withRights : List ℕ → Queue
+withRights rights =
     let stable : ℕ = 0x0000000100008002 in
     let pushing : ℕ = 0x0000000240008002 in
     let puts : Call = withSeen (newCall 3 0 0 3 900) stable 0 in
     let helps : Call = withNeighbour (withSeen (newCall 9 1 1 0 0) pushing 0) 3 in
     queueOf (withWords (openedControl false 2 3 0) stable 0) (counting puts 0 ∷ counting helps 0 ∷ [])
-    (replicate 4 0) (replicate 4 0) (replicate 4 0) (0 ∷ []) []
+    (replicate 4 0) rights (replicate 4 0) (0 ∷ []) []
+
+abbrev at3and9 : Queue
+at3and9 = withRights (replicate 4 0)
 
 abbrev putAmid : List Act
 putAmid = part 0 1 ++ steps (1 ∷ []) ++ replicate 3 (next 0)
@@ -146,6 +156,8 @@ pub record Cases : Type 0 where
   pub passed-before : hears (fresh 4294967262) overtaken 0 ≡ at 1 ∷ []
   -- 3: the tag kept is the one that the word has when it is replaced
   pub tag-kept : getD (leaves at3and9 putAmid .rights) 3 0 ≡ 0x0000000100000001
+  -- a word that has the slot already is only loaded: two instructions, of which the second tells
+  pub put-already : hears (withRights (0 ∷ 0 ∷ 0 ∷ 0x0000000500000001 ∷ [])) (part 0 2) 0 ≡ at 4 ∷ []
   -- 8: thread 0 leaves without a change, and slot 1's Right still names slot 3
   pub leaves-at-8 : hears (fresh 0) waitsAt8 0 ≡ at 1 ∷ at 5 ∷ at 6 ∷ at 7 ∷ at 8 ∷ at 1 ∷ []
   pub right-stays : getD (leaves (fresh 0) waitsAt8 .rights) 1 0 ≡ 0x0000000200000003
@@ -164,6 +176,13 @@ pub record Cases : Type 0 where
   -- the head's tag was raised three times, so thread 0's change fails, and slot 2 is drawn once
   pub tag-tells : hears pool givenBack 0 ≡ at 12 ∷ at 13 ∷ at 14 ∷ at 12 ∷ []
   pub head-stays : leaves pool givenBack .control .head ≡ 0x0000000300000001
+  -- a step is at most four instructions, the last of which tells: at 14 it is four
+  pub not-in-three : hears pool (before14 0 5 ++ part 0 3) 0 ≡ at 12 ∷ at 13 ∷ at 14 ∷ []
+  pub told-in-four : hears pool (before14 0 5 ++ part 0 4) 0 ≡ at 12 ∷ at 13 ∷ at 14 ∷ at 1 ∷ []
+  -- at rest each record is as it was told
+  pub rested : map placeOf (rests (fresh 0) (second ++ whole 0 (Pop 1) ++ steps (0 ∷ [])) .records) ≡ 3 ∷ 0 ∷ []
+  -- 16: slot 1 was given back while the pool was empty: its next, once slot 2, is 0
+  pub next-stored : leaves pool givenBack .next ≡ 0 ∷ 0 ∷ 0 ∷ []
   -- neither mark is lost
   pub both-marked : leaves pool bothMark .marks ≡ 6 ∷ []
   -- a thread alone: slot 1, then slot 2 pushed right (★), a pop; places 12 to 17
@@ -176,10 +195,10 @@ pub record Cases : Type 0 where
       ≡ at 12 ∷ at 13 ∷ at 14 ∷ at 1 ∷ at 2 ∷ Moved Pushed ∷ at 1 ∷ at 2 ∷ at 11 ∷ at 15 ∷ at 16 ∷ at 17 ∷ got 1 5 ∷ []
 
 pub cases : Cases
-unfolding openAs opened openRefusal rowsFit told goOn go turns startFirst planStart settleStart claimsMark looksMark ownRefusal stepFirst loadsOwn isAsRead
-    putsOwn clears loads planned plan perform gone settledAt meetsAnchor settle recordRefusal stepSound move at1 at2 at3 new4 at4 at5 at6 at7 at9 at10
-    at11 at12 at13 at14 at15 at16 at17 reading sideOf row linkSide anchorSound linkSound recordSound pushRoute popRoute route onward answer goes
-    counted
+unfolding openAs opened openRefusal rowsFit told goOn go turns startFirst planStart settleStart claimsMark looksMark ownRefusal stepFirst isToPut
+    loadsOwn isAsRead putsOwn readsNext atOnce oneWord replaces clears loads planned plan perform gone settledAt meetsAnchor settle recordRefusal
+    stepSound move at1 at2 at3 new4 at4 at5 at6 at7 at9 at10 at11 at12 at13 at14 at15 at16 at17 reading sideOf row linkSide anchorSound linkSound recordSound
+    pushRoute popRoute route onward answer goes counted
 cases = record {
   named-twice = refl;
   label-owed = refl;
@@ -191,6 +210,7 @@ cases = record {
   marked-past-it = refl;
   passed-before = refl;
   tag-kept = refl;
+  put-already = refl;
   leaves-at-8 = refl;
   right-stays = refl;
   label-read-first = refl;
@@ -203,6 +223,10 @@ cases = record {
   label-stays = refl;
   tag-tells = refl;
   head-stays = refl;
+  not-in-three = refl;
+  told-in-four = refl;
+  rested = refl;
+  next-stored = refl;
   both-marked = refl;
   pushed-alone = refl;
   popped-alone = refl;

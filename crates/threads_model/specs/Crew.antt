@@ -48,6 +48,7 @@ takesUp (ends task o) op = ends task o
 abbrev pub ticked : ℕ → ℕ → Crew → ℕ → Ticked
 ticked pooled slots m t = tick pooled slots (m .queue .tables) (taskAt (m .queue) t) (m .hands t)
 
+-- What one act leaves of memory and hands.
 unfoldable pub go : ℕ → ℕ → Crew → Act → Crew
 go pooled slots m (calls o) = record { queue = m .queue; hands = withHand (m .hands) (o .task) (takesUp (m .hands (o .task)) (o .op)) }
 go pooled slots m (next t) =
@@ -57,6 +58,7 @@ go pooled slots m (next t) =
       hands = withHand (m .hands) t (k .hand);
     }
 
+-- What a list of acts leaves.
 unfoldable pub goOn : ℕ → ℕ → Crew → List Act → Crew
 goOn pooled slots m [] = m
 goOn pooled slots m (a ∷ l) = goOn pooled slots (go pooled slots m a) l

@@ -32,17 +32,18 @@ actEarly q t (Pop side) = act q t (Pop side)
 actEarly q t (PushPooled side label) = act q t (PushPooled side label)
 actEarly q t Step = act q t Step
 
-unfoldable pub take : Queue → Turn → Done
-take q u = cond (u .early) (actEarly q (u .task) (u .op)) (act q (u .task) (u .op))
+-- A turn: as a push that was early, or as ever.
+unfoldable pub takeEarly : Queue → Turn → Done
+takeEarly q u = cond (u .early) (actEarly q (u .task) (u .op)) (act q (u .task) (u .op))
 
 -- The events of a list, and the queue after it, as in `History`.
 unfoldable pub runTurns : Queue → List Turn → List Event
 runTurns q [] = []
 runTurns q (u ∷ us) =
-    let d = take q u in
+    let d = takeEarly q u in
     record { task = u .task; op = u .op; outcome = d .outcome; before = q .tables .control .anchor; after = d .queue .tables .control .anchor }
     ∷ runTurns (d .queue) us
 
 unfoldable pub finalTurns : Queue → List Turn → Queue
 finalTurns q [] = q
-finalTurns q (u ∷ us) = finalTurns (take q u .queue) us
+finalTurns q (u ∷ us) = finalTurns (takeEarly q u .queue) us

@@ -16,7 +16,7 @@ use Rattle.rows.specs.Rows.{callOf, recordOf, upperOf}
 use Rattle.rows.proofs.InItsRow.{unsound}
 use Rattle.threads_model.specs.declared.{PlannedTouch.PlannedTouch, Start.Start}
 use Rattle.threads_model.specs.Split.{refuses, loadsAnchor, loadsHead, plan}
-use Rattle.threads_model.specs.Starts.{Begins, ownRefusal, wrongPush, outside, planStart, firstCall, judged}
+use Rattle.threads_model.specs.Starts.{Begins, ownRefusal, startWhy, wrongPush, outside, planStart, firstCall, judged}
 use Rattle.threads_model.specs.Starts.{lateWord, loadsMark, takesSlot, settleStart}
 use Rattle.threads.proofs.split.ByRecord.{refuses-plan}
 use Rattle.threads.proofs.split.Planned.{plan1, plan12}
@@ -24,37 +24,45 @@ use Rattle.threads.proofs.split.SoundFields as F
 use Rattle.touch.specs.Started.{Started, startedBy}
 use Rattle.touch.proofs.Tested.{plans}
 
--- What a start does first, by its tests one after the other.
+-- Why a start is refused by its own numbers and record, by its tests one after the other; and what it does first.
 module _ (pooled slots : ℕ) (r : Call) (s : Start) where
-  abbrev Plans : PlannedTouch → Type 0
-  Plans p = p ≡ planStart pooled slots r s
+  abbrev Why : ℕ → Type 0
+  Why n = n ≡ startWhy pooled slots r s
 
-  pub no-side : leb (s .side) 1 ≡ false → Plans (refuses 14)
-  unfolding planStart ownRefusal
+  pub no-side : leb (s .side) 1 ≡ false → Why 14
+  unfolding ownRefusal
   no-side a = rw a
 
   module _ (a : leb (s .side) 1 ≡ true) where
-    pub wrong-kind : wrongPush pooled s ≡ true → Plans (refuses 41)
-    unfolding planStart ownRefusal
+    pub wrong-kind : wrongPush pooled s ≡ true → Why 41
+    unfolding ownRefusal
     wrong-kind b = rw (a, b)
 
     module _ (b : wrongPush pooled s ≡ false) where
-      pub no-slot : outside slots s ≡ true → Plans (refuses 15)
-      unfolding planStart ownRefusal
+      pub no-slot : outside slots s ≡ true → Why 15
+      unfolding ownRefusal
       no-slot d = rw (a, b, d)
 
       module _ (d : outside slots s ≡ false) where
-        pub free : r .place ≡ 0 → Plans loadsAnchor
-        unfolding planStart ownRefusal
+        pub free : r .place ≡ 0 → Why 0
+        unfolding ownRefusal
         free e = let idle = eq-eqb (r .place) 0 e in rw (a, b, d, idle-sound (eqb pooled 1) slots r idle, idle)
 
-        pub taken-up : (r .place ≡ 0 → ⊥) → recordSound (eqb pooled 1) slots r ≡ true → Plans (refuses 30)
-        unfolding planStart ownRefusal
+        pub taken-up : (r .place ≡ 0 → ⊥) → recordSound (eqb pooled 1) slots r ≡ true → Why 30
+        unfolding ownRefusal
         taken-up h f = rw (a, b, d, f, ne-eqb (r .place) 0 h)
 
-        pub damaged : recordSound (eqb pooled 1) slots r ≡ false → Plans (refuses 34)
-        unfolding planStart ownRefusal
+        pub damaged : recordSound (eqb pooled 1) slots r ≡ false → Why 34
+        unfolding ownRefusal
         damaged f = rw (a, b, d, f)
+
+  pub loads : (n : ℕ) → Why n → n ≡ 0 → loadsAnchor ≡ planStart pooled slots r s
+  unfolding planStart
+  loads n e none = rw (eq-eqb (startWhy pooled slots r s) 0 (sym e ∙ none))
+
+  pub stays : (n : ℕ) → Why n → (n ≡ 0 → ⊥) → refuses n ≡ planStart pooled slots r s
+  unfolding planStart
+  stays n e some = rw (ne-eqb (startWhy pooled slots r s) 0 (λ z. some (e ∙ z))) (ap refuses e)
 
 -- The first step of a call as a start writes it.
 module _ (pooled slots : ℕ) where

@@ -1,6 +1,6 @@
 -- What a record that is not refused shows, and the plan of a sound one.
-use mathlib.Core.Path.{_≡_, sym, _∙_}
-use mathlib.Core.Bool.{Bool, true, false}
+use mathlib.Core.Path.{_≡_, refl, sym, _∙_}
+use mathlib.Core.Bool.{Bool, true, false, not, cond}
 use Prim.Native.Nat.{ℕ}
 use native.Mathlib.Omega.{arith}
 use lib.Dec.{eqb}
@@ -15,6 +15,11 @@ use Rattle.threads_model.specs.declared.PlannedTouch.{PlannedTouch}
 use Rattle.threads_model.specs.Split.{planned, plan}
 use Rattle.threads.proofs.split.ByRecord.{low, plans-at, sound-none}
 use Rattle.threads.proofs.split.SoundFields.{fit}
+
+-- The side of a link word that leads away from the right one.
+pub inward : (right : Bool) → _≡_ {A = ℕ} (cond (not right) 1 0) (cond right 0 1)
+inward true = refl
+inward false = refl
 
 pub sound-of : (pooled : Bool) (slots : ℕ) (r : Call) → recordRefusal pooled slots r ≡ 0 → recordSound pooled slots r ≡ true
 sound-of pooled slots r none =

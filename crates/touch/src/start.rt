@@ -12,7 +12,7 @@ ghost use mathlib.Core.Bool.{cond};
 ghost use lib.Dec.{eqb};
 ghost use Rattle.rows.specs.Rows.{callOf, recordOf, upperOf};
 ghost use Rattle.threads_model.specs.Split.{plan};
-ghost use Rattle.threads_model.specs.Starts.{wrongPush, outside, planStart, firstCall, judged, settleStart, takesSlot, loadsMark};
+ghost use Rattle.threads_model.specs.Starts.{wrongPush, outside, startWhy, planStart, firstCall, judged, settleStart, takesSlot, loadsMark};
 ghost use Rattle.touch.specs.Started.{startOf, Started, startedBy};
 
 /// The words of a start.
@@ -56,7 +56,32 @@ fn outside(slots: u64, s: Start) -> bool
     false
 }
 
-/// What a start does first: it is refused by its own numbers and record, or loads Anchor.
+/// Why a start is refused by its own numbers and record, or 0.
+fn own_refusal(pooled: u64, slots: u64, task: &[u64; rows::RECORD_WORDS], s: Start) -> u32
+    ensures { λ n. ⌜ n ≡ startWhy pooled slots (callOf (now (task .entry))) s ⌝ }
+{
+    if 1 < s.side {
+        return 14;
+    }
+    if wrong_push(pooled, s) {
+        return 41;
+    }
+    if outside(slots, s) {
+        return 15;
+    }
+    let row = *task;
+    let r = rows::call_of(row);
+    if r.place == 0 {
+        return 0;
+    }
+    if crate::is_sound(pooled, slots, task) {
+        return 30;
+    }
+    34
+}
+
+/// What a start does first: it is refused by its own numbers and record, or loads Anchor. (The touch is written once, by
+/// the number: of several touches the compiler keeps one in memory and copies it, with loads over stores just made.)
 pub fn plan_start(
     pooled: u64,
     slots: u64,
@@ -65,24 +90,11 @@ pub fn plan_start(
 ) -> PlannedTouch
     ensures { λ p. ⌜ p ≡ planStart pooled slots (callOf (now (task .entry))) s ⌝ }
 {
-    if 1 < s.side {
-        return asks::refuses(14);
-    }
-    if wrong_push(pooled, s) {
-        return asks::refuses(41);
-    }
-    if outside(slots, s) {
-        return asks::refuses(15);
-    }
-    let row = *task;
-    let r = rows::call_of(row);
-    if r.place == 0 {
+    let why = own_refusal(pooled, slots, task, s);
+    if why == 0 {
         return asks::LOAD_ANCHOR;
     }
-    if sound::record_sound(pooled == 1, slots, r) {
-        return asks::refuses(30);
-    }
-    asks::refuses(34)
+    asks::refuses(why)
 }
 
 /// The call that a start writes.

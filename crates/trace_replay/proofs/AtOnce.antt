@@ -16,6 +16,7 @@ use Rattle.trace_field.specs.Page.{Page, written, breaks, fieldRoom}
 use Rattle.trace_field.proofs.Pages.{breaks-fits}
 use Rattle.trace_replay.specs.Trace.{Fed, after, feed, finished, fresh, printed, traceOf}
 use Rattle.trace_replay.specs.Feed.{feedPage, finishPage, firstPage}
+use Rattle.trace_replay.specs.Laws.{Holds, AtOnce}
 use Rattle.trace_replay.proofs.Pages.{fits, Reaches, page-reaches, page-done}
 
 -- Lines behind what stands at the front of a buffer.
@@ -63,10 +64,9 @@ module _ (before file : List ℕ) where
   begun h = let e : leb (0 + room) (length before) ≡ true = le-leb _ _ h in (rw e, rw e (zero-add (length header)))
 
   -- Begin, feed, finish: then the whole trace stands at the front of the buffer.
-  pub whole-trace : room ≤ length before → fits last ≡ true
-      → (let e = finishPage (length file - last .at) last in (e .out ≡ sets before 0 (traceOf file)) × (e .to ≡ length (traceOf file)))
+  all-held : room ≤ length before → fits last ≡ true → Holds before file (finishPage (length file - last .at) last)
   unfolding written
-  whole-trace h f =
+  all-held h f =
       let b = begun h in
       let line : leb (last .to + room) (length (last .out)) ≡ true =
       le-leb (last .to + room) (length (last .out)) (omega (arith, leb-true (last .to + fieldRoom) (length (last .out)) f)) in
@@ -77,10 +77,14 @@ module _ (before file : List ℕ) where
       let to : last .to ≡ length (header ++ reached .lines) =
       reached .to ∙ ap (λ (n : ℕ). n + length (reached .lines)) (b .1) ∙ sym (length-append header (reached .lines)) in
       let all : (header ++ reached .lines) ++ ending .lines ≡ traceOf file =
-      append-assoc header (reached .lines) (ending .lines) ∙ sym (all-told f) in (
-        ap (λ (x : Page). x .out) e ∙ ap (λ (n : ℕ). sets (last .out) n (ending .lines)) to
+      append-assoc header (reached .lines) (ending .lines) ∙ sym (all-told f) in
+      record {
+        out = ap (λ (x : Page). x .out) e ∙ ap (λ (n : ℕ). sets (last .out) n (ending .lines)) to
             ∙ ap (λ (l : List ℕ). sets l (length (header ++ reached .lines)) (ending .lines)) front
-            ∙ sets-behind before (header ++ reached .lines) (ending .lines) ∙ ap (sets before 0) all,
-        ap (λ (x : Page). x .to) e ∙ ap (λ (n : ℕ). n + length (ending .lines)) to
-            ∙ sym (length-append (header ++ reached .lines) (ending .lines)) ∙ ap length all,
-      )
+            ∙ sets-behind before (header ++ reached .lines) (ending .lines) ∙ ap (sets before 0) all;
+        to = ap (λ (x : Page). x .to) e ∙ ap (λ (n : ℕ). n + length (ending .lines)) to
+            ∙ sym (length-append (header ++ reached .lines) (ending .lines)) ∙ ap length all;
+      }
+
+pub whole-trace : AtOnce
+whole-trace before file h f = all-held before file h f

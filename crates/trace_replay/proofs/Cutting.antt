@@ -16,6 +16,7 @@ use Rattle.trace_field.proofs.Pages.{cond-true}
 use Rattle.trace_replay.specs.Trace.{Fed, feedIn, feed, finished, fresh, printed, traceOf}
 use Rattle.trace_replay.specs.Feed.{finishPage, firstPage}
 use Rattle.trace_replay.specs.Pieces.{held, atFront, fromStart, Written, pagesOf, Between, begun, afterPiece, afterPieces, lastPage, afterEnd}
+use Rattle.trace_replay.specs.Laws.{CutAnywhere, StoppedEarly}
 use Rattle.trace_replay.proofs.Feeding.{feed-pieces, joined}
 use Rattle.trace_replay.proofs.AtOnce.{finish-writes}
 use Rattle.trace_replay.proofs.PageEnds.{front-of, pages-told, pages-within, pages-over}
@@ -106,8 +107,7 @@ end-reached file s r =
     ∙ ap (λ (x : Fed). header ++ (f .lines ++ finished (x .run) (length (x .rest)) .lines)) (sym (r .fed))
 
 -- The theorem: for every cutting, and every buffer with room for a field.
-pub cut-anywhere : (out : List ℕ) (cs : List (List ℕ)) → fieldRoom ≤ length out
-    → afterEnd (afterPieces (begun out) cs) .bytes ≡ traceOf (flatten cs)
+pub cut-anywhere : CutAnywhere
 unfolding begun
 cut-anywhere out cs h = end-reached (flatten cs) (afterPieces (begun out) cs) (pieces-reached [] (begun out) cs (first-reached out h))
 
@@ -135,8 +135,7 @@ unfolding afterPieces
 pieces-append s [] ds = refl
 pieces-append s (c ∷ cs) ds = pieces-append (afterPiece s c) cs ds
 
-pub stopped-early : (out : List ℕ) (cs ds : List (List ℕ)) → fieldRoom ≤ length out → afterPieces (begun out) cs .page .run .over ≡ true
-    → afterPieces (begun out) cs .bytes ≡ traceOf (flatten (cs ++ ds))
+pub stopped-early : StoppedEarly
 stopped-early out cs ds h over =
     sym (over-ends (afterPieces (begun out) cs) ds over) ∙ ap (λ (s : Between). afterEnd s .bytes) (sym (pieces-append (begun out) cs ds))
     ∙ cut-anywhere out (cs ++ ds) h

@@ -1,23 +1,22 @@
--- Feeding a run: one field and then the rest; and a file in pieces is fed as in one.
+-- Feeding a run: one field and then the rest; and bytes behind others are fed as with them.
 use Prim.Native.Nat.{ℕ, zero, suc, _<_, _≤_}
 use mathlib.Core.Path.{_≡_, refl, sym, ap, _∙_}
 use mathlib.Core.Bool.{Bool, true, false}
-use mathlib.Core.List.{List, [], _∷_, _++_, append-assoc, append-nil, flatten}
+use mathlib.Core.List.{List, [], _∷_, _++_, append-assoc}
 use native.Mathlib.Omega.{arith}
-use lib.ListN.{length, getD, drop, length-drop, length-append}
+use lib.ListN.{length, getD, drop, length-drop}
 use lib.Dec.{leb}
 use borrow.Author.Tests.{leb-true, leb-false}
 use lib.Seq.{take-append-le, drop-append-le}
 use Rattle.runfile.specs.Field.{twoAt, longestField, contentOf, missing, fieldOf}
 use Rattle.runfile.specs.declared.{Field.Field, Found.Found}
 use Rattle.runfile.specs.declared.Field.the-variants.{Open, Each, Malformed, Cut, End}
-use Rattle.lines.specs.Line.{header}
 use Rattle.runfile.proofs.Prefix.{Seen, seen, ended, cut, wrong, whole, same-wrong, same-whole}
 use Rattle.trace_field.specs.Run.{Run, Told, malformed, carried}
 use Rattle.trace_field.specs.Page.{BytesThere}
 use Rattle.trace_field.proofs.Pages.{cond-true, cond-false}
 use Rattle.trace_field.proofs.Fields.{content-there}
-use Rattle.trace_replay.specs.Trace.{Fed, unmoved, after, feedIn, feed, finished, fresh, printed, printedPieces, traceOf}
+use Rattle.trace_replay.specs.Trace.{Fed, unmoved, after, feedIn, feed}
 
 -- What a run makes of the field at the head of b.
 unfoldable pub told : Run → List ℕ → Told
@@ -179,33 +178,3 @@ feed-joined (suc n) r b c h = go (r .over) refl (next-of r b) (feed-joined n)
 pub feed-pieces : (r : Run) (b c : List ℕ) → feed r (b ++ c) ≡ joined (feed r b) c
 unfolding feed
 feed-pieces r b c = feed-joined (length b) r b c (omega arith)
-
--- What was left is not used by feeding it again.
-nothing-more : (xs ys : List ℕ) → xs ≡ xs ++ ys → ys ≡ []
-nothing-more xs [] e = refl
-nothing-more xs (y ∷ ys) e = absurd (omega (arith, ap length e, length-append xs (y ∷ ys)))
-
-fed-same : (r q : Run) (b c l : List ℕ) → r ≡ q → b ≡ c → l ≡ [] → _≡_ {A = Fed} (record { run = r; rest = b; lines = l }) (unmoved q c)
-fed-same r q b c l e f g = cc
-
-feed-settled : (r : Run) (b : List ℕ) → feed (feed r b .run) (feed r b .rest) ≡ unmoved (feed r b .run) (feed r b .rest)
-feed-settled r b =
-    let e : feed r b ≡ joined (feed r b) [] = ap (feed r) (sym (append-nil b)) ∙ feed-pieces r b [] in
-    ap (feed (feed r b .run)) (sym (append-nil (feed r b .rest)))
-    ∙ fed-same _ _ _ _ _ (sym (ap (λ (f : Fed). f .run) e)) (sym (ap (λ (f : Fed). f .rest) e)) (nothing-more _ _ (ap (λ (f : Fed). f .lines) e))
-
-pub pieces : (r : Run) (b : List ℕ) (ps : List (List ℕ)) → feed r b ≡ unmoved r b → printedPieces r b ps ≡ printed r (b ++ flatten ps)
-unfolding printedPieces printed flatten
-pieces r b [] e = rw (append-nil b, e)
-pieces r b (p ∷ ps) e =
-    let f = feed r (b ++ p) in
-    let g = feed (f .run) (f .rest ++ flatten ps) in
-    ap (λ (l : List ℕ). f .lines ++ l) (pieces (f .run) (f .rest) ps (feed-settled r (b ++ p)))
-    ∙ sym (append-assoc (f .lines) (g .lines) (finished (g .run) (length (g .rest)) .lines))
-    ∙ ap (λ (x : Fed). x .lines ++ finished (x .run) (length (x .rest)) .lines) (sym (feed-pieces r (b ++ p) (flatten ps)))
-    ∙ ap (printed r) (append-assoc b p (flatten ps))
-
--- Feeding a file in any pieces prints its trace.
-pub trace-pieces : (ps : List (List ℕ)) → header ++ printedPieces fresh [] ps ≡ traceOf (flatten ps)
-unfolding traceOf feed feedIn
-trace-pieces ps = ap (λ (l : List ℕ). header ++ l) (pieces fresh [] ps refl)

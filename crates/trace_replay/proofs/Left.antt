@@ -10,7 +10,8 @@ use Rattle.runfile.specs.Field.{longestField}
 use Rattle.trace_field.specs.Run.{Run}
 use Rattle.trace_field.specs.Page.{Page, fieldRoom}
 use Rattle.trace_replay.specs.Trace.{Fed, feedIn, feed, fresh}
-use Rattle.trace_replay.specs.Pieces.{begun, afterPieces, Stands}
+use Rattle.trace_replay.specs.Pieces.{begun, afterPieces}
+use Rattle.trace_replay.proofs.PageLoop.{Stands}
 use Rattle.trace_replay.proofs.Feeding.{told, sizeAt, Next, waits, breaks, moves, next-of, feed-over, feed-waits, broken, feed-step}
 use Rattle.trace_replay.proofs.Cutting.{Reached, first-reached, pieces-reached}
 

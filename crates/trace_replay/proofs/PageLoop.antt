@@ -10,7 +10,7 @@ use borrow.Author.Tests.{eqb-true, eqb-false, le-leb, lt-leb, leb-true, leb-fals
 use Rattle.trace_field.specs.Page.{Page}
 use Rattle.trace_field.proofs.Pages.{cond-true, cond-false}
 use Rattle.trace_replay.specs.Pieces.{fromStart, nextPage, Written, pagesIn, pagesOf, Between, begun, afterPiece, afterPieces, lastPage, afterEnd}
-use Rattle.trace_replay.specs.Pieces.{roundPage, Stands, Gone, ended, stopped}
+use Rattle.trace_replay.specs.Pieces.{roundPage, Gone, ended, stopped}
 use Rattle.trace_replay.proofs.PageEnds.{next-onward, pages-over, pages-still, pages-next}
 
 abbrev left-at : Written → Page
@@ -55,6 +55,12 @@ pieces-more : (s : Between) (cs : List (List ℕ)) (c : List ℕ) → afterPiece
 unfolding afterPieces
 pieces-more s [] c = refl
 pieces-more s (d ∷ cs) c = pieces-more (afterPiece s d) cs c
+
+-- A run that stands after some pieces, its buffer first lent as `out`, and has bytes left.
+pub record Stands (out : List ℕ) (p : Page) (rest : List ℕ) : Type 0 where
+  pub pieces : List (List ℕ)
+  pub page : p ≡ afterPieces (begun out) pieces .page
+  pub left : rest ≡ afterPieces (begun out) pieces .rest
 
 -- A round of a run that stands after some pieces: p′ is the page after it, c what was read.
 module _ (out : List ℕ) (p p′ : Page) (b c : List ℕ) (s : Stands out p b) (e : p′ ≡ roundPage b c p) where

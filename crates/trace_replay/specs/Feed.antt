@@ -37,7 +37,7 @@ Zeros rows lefts rights labels marks next =
     (rows ≡ replicate 16 (replicate 10 0)) × (lefts ≡ replicate 1024 0) × (rights ≡ replicate 1024 0) × (labels ≡ replicate 1024 0)
     × (marks ≡ replicate 16 0) × (next ≡ replicate 1024 0)
 
--- The same over the program's tables.
+-- What a beginning leaves, with the program's tables: the first page.
 abbrev pub Begins : List ℕ → List ℕ → RunState → Type 0
 Begins before after s =
     let q = fresh .queue .tables in

@@ -1,3 +1,4 @@
 pub mod Trace
 pub mod Feed
 pub mod Pieces
+pub mod Laws

@@ -73,13 +73,8 @@ afterEnd s = let q = lastPage (length (s .rest)) (s .page) in record { page = q;
 unfoldable pub roundPage : List ℕ → List ℕ → Page → Page
 roundPage b c p = cond (leb (length c) 0) (lastPage (length b) p) (pagesOf (b ++ c) (fromStart p) .page)
 
--- A run that stands after some pieces, its buffer first lent as `out`, and has bytes left; and one that has gone to its end: the file's,
--- or before it.
-pub record Stands (out : List ℕ) (p : Page) (rest : List ℕ) : Type 0 where
-  pub pieces : List (List ℕ)
-  pub page : p ≡ afterPieces (begun out) pieces .page
-  pub left : rest ≡ afterPieces (begun out) pieces .rest
-
+-- A run that has gone to its end: that of the file, or before it. It is so of some pieces. That these are the pieces which were read, each
+-- once and in their order, is outside the proof: no contract names what the system read.
 pub data Gone (out : List ℕ) (p : Page) : Type 0 where
   ended : (cs : List (List ℕ)) → p ≡ afterEnd (afterPieces (begun out) cs) .page → Gone out p
   stopped : (cs : List (List ℕ)) → p ≡ afterPieces (begun out) cs .page → p .run .over ≡ true → Gone out p

@@ -1,6 +1,6 @@
--- The trace of a whole run file, and of one that comes in pieces. (Document 01: The run file and its trace.)
+-- The trace of a whole run file. (Document 01: The run file and its trace.)
 use mathlib.Core.Bool.{false, _&&_, _||_, cond}
-use mathlib.Core.List.{List, [], _∷_, _++_}
+use mathlib.Core.List.{List, [], _++_}
 use Prim.Native.Nat.{ℕ, zero, suc}
 use lib.Dec.{eqb}
 use lib.ListN.{length, drop, replicate}
@@ -61,10 +61,6 @@ fresh = record {
 unfoldable pub printed : Run → List ℕ → List ℕ
 printed r b = let f = feed r b in f .lines ++ finished (f .run) (length (f .rest)) .lines
 
+-- The trace of a file: its first line, and what a fresh run prints.
 unfoldable pub traceOf : List ℕ → List ℕ
 traceOf file = header ++ printed fresh file
-
--- The same where the file comes in pieces, and the bytes that a piece leaves go before the next.
-unfoldable pub printedPieces : Run → List ℕ → List (List ℕ) → List ℕ
-printedPieces r b [] = finished r (length b) .lines
-printedPieces r b (p ∷ ps) = let f = feed r (b ++ p) in f .lines ++ printedPieces (f .run) (f .rest) ps

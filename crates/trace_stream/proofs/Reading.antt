@@ -15,8 +15,8 @@ use Rattle.trace_field.specs.declared.RunState.{RunState}
 use Rattle.trace_field.proofs.Pages.{cond-true, cond-false}
 use Rattle.trace_replay.specs.Trace.{fresh}
 use Rattle.trace_replay.specs.Feed.{Zeros, Begins}
-use Rattle.trace_replay.specs.Pieces.{fromStart, pagesOf, begun, afterPieces, lastPage, roundPage, Stands, Gone}
-use Rattle.trace_replay.proofs.PageLoop.{round-stands, round-gone}
+use Rattle.trace_replay.specs.Pieces.{fromStart, pagesOf, begun, afterPieces, lastPage, roundPage, Gone}
+use Rattle.trace_replay.proofs.PageLoop.{Stands, round-stands, round-gone}
 use Rattle.trace_replay.proofs.Left.{stands-leaves}
 
 pub never : {P : Type 0} → _≡_ {A = Bool} true false → P

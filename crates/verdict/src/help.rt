@@ -19,8 +19,8 @@ A history is text, a call a line, then the order; # begins a comment:
   order 1 2 3
 
 Calls are numbered from 1 in the order of their lines. Events are any numbers,
-later ones larger. With empty the label may be -; a number may stand for any
-other word. What cannot be read is told on standard error, with its line.
+later ones larger. With empty the label may be -; kind, side and answer may be
+numbers. What cannot be read is told on standard error, with its line.
 
 A run of trace as a history:
   tools/runfile RUN.txt | trace | tools/history RUN.txt | verdict

@@ -5,7 +5,8 @@ use mathlib.Core.List.{List, [], _∷_, _++_, map, map-append, reverse, reverse-
 use Prim.Native.Nat.{ℕ, zero, suc, _+_, _-_, _<_, _≤_}
 use native.Mathlib.Nat.{zero-add}
 use native.Mathlib.Omega.{arith}
-use lib.Dec.{eqb}
+use lib.Dec.{eqb, leb}
+use borrow.Author.Tests.{leb-true}
 use lib.ListN.{drop, getD, length, length-map, length-reverse, length-set, set}
 use lib.Seq.{append-snoc, sets, sets-eq}
 use Rattle.word.specs.Link.{linkOf}
@@ -13,12 +14,12 @@ use Rattle.model.specs.declared.Entry.{Entry}
 use Rattle.model.specs.Tables.{Tables}
 use Rattle.model.specs.Sound.{from1, linkSound}
 use Rattle.model.specs.Walk.{Walk, along, andThen, broken, contents, entries, isBroken, met}
-use Rattle.model.proofs.tests.Truth.{not-both, split}
+use Rattle.model.proofs.tests.Truth.{and-true, not-both, split}
 use Rattle.walk.specs.declared.Way.{Way}
 use Rattle.walk.specs.Ways.{wayOf, noneOn, linksOn, ahead, turnedBack}
 use Rattle.walk.proofs.Along.{rest, waits, nothing, off}
 use Rattle.waiting.specs.Waiting.{onto}
-use Rattle.waiting.specs.Laid.{trail, place, laid}
+use Rattle.waiting.specs.Laid.{Inside, trail, place, laid}
 
 -- A walk that is not broken meets the entries of as many slots along the links.
 abbrev Follows : List ℕ → List ℕ → ℕ → Walk → Type 0
@@ -48,6 +49,25 @@ module _ (w : Way) (lefts rights labels : List ℕ) where
       go true false true broken h f = absurd (not-both refl f)
       go true false false v h f = absurd (not-both refl f)
       go false b c v h f = absurd (not-both refl f)
+
+  -- It meets no slot above slots.
+  inside : (n x : ℕ) → Inside (w .slots) (met (rest w lefts rights labels n x))
+  unfolding along
+  inside zero x = tt
+  inside (suc n) x =
+      go (from1 (w .slots) x) refl (eqb x (w .last)) (linkSound (w .slots) (getD links x 0)) (rest w lefts rights labels n (linkOf (getD links x 0) .slot))
+      (inside n (linkOf (getD links x 0) .slot))
+    where
+      low : from1 (w .slots) x ≡ true → x ≤ w .slots
+      low e = leb-true x (w .slots) (and-true (leb 1 x) (leb x (w .slots)) e .1)
+
+      go : (a : Bool) → from1 (w .slots) x ≡ a → (b c : Bool) (v : Walk) → Inside (w .slots) (met v)
+          → Inside (w .slots) (met (cond a (cond b (entries (at x ∷ [])) (andThen (at x) (cond c v broken))) broken))
+      go true e true c v h = (low e, tt)
+      go true e false true (entries l) h = (low e, h)
+      go true e false true broken h = tt
+      go true e false false v h = tt
+      go false e b c v h = tt
 
 -- Stored upwards, numbers stand as they are; downwards, reversed.
 up-all : (n i : ℕ) (xs t : List ℕ) → laid true n i xs t ≡ sets t i xs
@@ -99,6 +119,32 @@ module _ (w : Way) (g : Entry → ℕ) (l : List Entry) (t : List ℕ) where
       ∙ ap (λ (m : List ℕ). m ++ drop (length (map g l)) t) (sym (map-reverse g l))
       ∙ ap (λ (m : ℕ). map g (reverse l) ++ drop m t) z
 
+-- A walk that is turned meets as many.
+as-many : (w : Way) (l : List Entry) (up : Bool)
+    → length (met (turnedBack (record { slots = w .slots; rightward = up; first = w .first; last = w .last }) (entries l))) ≡ length l
+as-many w l true = refl
+as-many w l false = length-reverse l
+
+-- Of a walk that is not broken, as many slots along the links as it meets keep to the slots.
+module _ (q : Tables) (w : Way) (e : w ≡ wayOf (q .control)) (n : ℕ) where
+  abbrev Keeps : Walk → Type 0
+  Keeps v =
+      isBroken v ≡ false → n ≡ length (met v)
+      → Inside (w .slots) (trail (linksOn w (q .lefts) (q .rights)) (q .labels) n (w .first))
+
+  kept : (v : Walk) → Follows (linksOn w (q .lefts) (q .rights)) (q .labels) (w .first) v → Inside (w .slots) (met v) → Keeps (turnedBack w v)
+  kept broken f i b k = absurd (not-both refl b)
+  kept (entries l) f i b k =
+      subst (λ (m : ℕ). Inside (w .slots) (trail (linksOn w (q .lefts) (q .rights)) (q .labels) m (w .first))) (sym (k ∙ as-many w l (w .rightward)))
+      (subst (Inside (w .slots)) (f refl) i)
+
+  pub keeps : noneOn w ≡ false → Keeps (contents q)
+  keeps y =
+      split (from1 (w .slots) (w .first))
+      (λ z. subst Keeps (sym (waits q w e z)) (kept (ahead w (q .lefts) (q .rights) (q .labels))
+      (follows w (q .lefts) (q .rights) (q .labels) (w .slots) (w .first)) (inside w (q .lefts) (q .rights) (q .labels) (w .slots) (w .first))))
+      (λ z. subst Keeps (sym (off q w e z y)) (λ b k. absurd (not-both refl b)))
+
 module _ (q : Tables) (w : Way) (e : w ≡ wayOf (q .control)) (g : Entry → ℕ) (n : ℕ) (t : List ℕ) where
   abbrev Goal : Walk → Type 0
   Goal v =
@@ -108,14 +154,10 @@ module _ (q : Tables) (w : Way) (e : w ≡ wayOf (q .control)) (g : Entry → �
   some : (v : Walk) → Follows (linksOn w (q .lefts) (q .rights)) (q .labels) (w .first) v → Goal (turnedBack w v)
   some broken f b k h = absurd (not-both refl b)
   some (entries l) f b k h =
-      let size : n ≡ length l = k ∙ back (w .rightward) in
+      let size = k ∙ as-many w l (w .rightward) in
       ap (λ (m : ℕ). laid (w .rightward) m 0 (map g (trail (linksOn w (q .lefts) (q .rights)) (q .labels) m (w .first))) t) size
       ∙ ap (λ (m : List Entry). laid (w .rightward) (length l) 0 (map g m) t) (sym (f refl))
       ∙ stored w g l t (w .rightward) (omega arith)
-    where
-      back : (up : Bool) → length (met (turnedBack (record { slots = w .slots; rightward = up; first = w .first; last = w .last }) (entries l))) ≡ length l
-      back true = refl
-      back false = length-reverse l
 
   none : Goal (entries [])
   unfolding laid trail
@@ -150,6 +192,13 @@ module _ (g : Entry → ℕ) (links labels : List ℕ) (up : Bool) (n : ℕ) whe
 
   pub begins : (x : ℕ) (t : List ℕ) → laid up n 0 (due 0 x) t ≡ laid up n 0 (map g (trail links labels n x)) t
   begins x t = let z : n - 0 ≡ n = omega arith in ap (λ (m : ℕ). laid up n 0 (map g (trail links labels m x)) t) z
+
+-- The slot at hand keeps to the slots, and those one slot on.
+pub inside-next : (links labels : List ℕ) (slots n i x : ℕ) → i < n → Inside slots (trail links labels (n - i) x)
+    → (x ≤ slots) × Inside slots (trail links labels (n - (i + 1)) (linkOf (getD links x 0) .slot))
+unfolding trail
+inside-next links labels slots n i x h p =
+    let left : n - i ≡ suc (n - (i + 1)) = omega arith in subst (λ (m : ℕ). Inside slots (trail links labels m x)) left p
 
 pub place-low : (up : Bool) (n i : ℕ) → i < n → place up n i < n
 place-low true n i h = h

@@ -2,25 +2,26 @@
 use mathlib.Core.Path.{_≡_, refl, sym, ap, _∙_}
 use mathlib.Core.Bool.{Bool, true, false, not}
 use mathlib.Core.List.{List, [], _∷_}
-use Prim.Native.Nat.{ℕ, _≤_}
+use Prim.Native.Nat.{ℕ, _<_, _≤_}
 use native.Mathlib.Omega.{arith}
 use lib.Dec.{ltb}
 use lib.ListN.{length}
-use borrow.Author.Tests.{ltb-false, ne-eqb}
+use borrow.Author.Tests.{le-ltb, ltb-false, ltb-true, ne-eqb}
 use Rattle.model.specs.Tables.{Tables}
-use Rattle.model.specs.Sound.{controlSound, rowsFit}
+use Rattle.model.specs.Sound.{controlSound, rowTests, rowsFit}
 use Rattle.model.specs.Walk.{contents, isBroken}
 use Rattle.model.specs.Refusals.{rule, first}
 use Rattle.model.specs.Report.{waiting}
-use Rattle.model.proofs.tests.Truth.{or-false}
+use Rattle.model.proofs.tests.{Rules.tests, Truth.or-false}
 use Rattle.walk.specs.declared.Tally.the-variants.{Broken, Labels}
 use Rattle.walk.specs.declared.Way.{Way}
-use Rattle.walk.specs.Ways.{wayOf, linksOn}
+use Rattle.walk.specs.Ways.{wayOf, noneOn, linksOn}
 use Rattle.walk.specs.Counted.{counted}
+use Rattle.walk.proofs.Along.{nothing}
 use Rattle.walk.proofs.Counting.{all-counted, none-counted}
 use Rattle.waiting.specs.Waiting.{Written, kept, labelsOf, readOut, slotsOf, tooShort, waitingRefusal}
-use Rattle.waiting.specs.Laid.{trail, laid, refusalBefore}
-use Rattle.waiting.proofs.Laid.{lays}
+use Rattle.waiting.specs.Laid.{Lays, trail, laid, refusalBefore}
+use Rattle.waiting.proofs.Laid.{keeps, lays}
 
 none-applies : (a b : Bool) → refusalBefore a b ≡ 0 → (a ≡ true) × (b ≡ true)
 unfolding refusalBefore
@@ -57,6 +58,17 @@ module _ (q : Tables) (slots labels : List ℕ) where
     passed : (controlSound (q .control) ≡ true) × (rowsFit false (q .control .slots) q ≡ true)
     passed = none-applies _ _ (sym e ∙ z)
 
+    -- With nothing waiting nothing is written.
+    pub empty : (w : Way) → w ≡ wayOf (q .control) → noneOn w ≡ true → kept 0 slots labels ≡ readOut q slots labels
+    unfolding readOut waitingRefusal waiting
+    empty w e z =
+        rw (passed .0, passed .1, nothing q w e z, le-ltb (length slots) 0 (omega arith), le-ltb (length labels) 0 (omega arith))
+
+    -- The rows that the walk needs are there.
+    pub rows : (q .control .slots < length (q .lefts)) × (q .control .slots < length (q .rights)) × (q .control .slots < length (q .labels))
+    unfolding rowsFit
+    rows = let t = tests (rowTests false (q .control .slots) q) (passed .1) in (ltb-true _ _ (t .0), ltb-true _ _ (t .1 .0), ltb-true _ _ (t .1 .1 .0))
+
     pub lost : Broken ≡ counted (contents q) → kept 34 slots labels ≡ readOut q slots labels
     unfolding readOut waitingRefusal
     lost t = rw (passed .0, passed .1, none-counted (contents q) t)
@@ -71,6 +83,18 @@ module _ (q : Tables) (slots labels : List ℕ) where
       short h =
           let s : tooShort (waiting q) slots labels ≡ true = ap (λ (k : ℕ). tooShort k slots labels) (sym (met-all .1)) ∙ h in
           rw (passed .0, passed .1, met-all .0, s)
+
+      -- What the writing relies on.
+      pub ready : (w : Way) → w ≡ wayOf (q .control) → noneOn w ≡ false → tooShort m slots labels ≡ false
+          → Lays w m (q .lefts) (q .rights) (q .labels) slots labels
+      unfolding wayOf waiting
+      ready w e y h = record {
+        left-rows = rw e (rows .0);
+        right-rows = rw e (rows .1);
+        label-rows = rw e (rows .2);
+        room = room m slots labels h;
+        inside = keeps q w e m y (met-all .0) (met-all .1);
+      }
 
       pub writes : (w : Way) → w ≡ wayOf (q .control) → tooShort m slots labels ≡ false → (s l : List ℕ)
           → s ≡ laid (w .rightward) m 0 (slotsOf (trail (linksOn w (q .lefts) (q .rights)) (q .labels) m (w .first))) slots

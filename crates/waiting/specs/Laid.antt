@@ -1,11 +1,14 @@
 -- The tables as a loop writes them, slot by slot along the links.
 use mathlib.Core.Bool.{Bool, not, cond}
 use mathlib.Core.List.{List, [], _∷_}
-use Prim.Native.Nat.{ℕ, zero, suc, _+_, _-_}
-use lib.ListN.{getD, set}
+use Prim.Native.Nat.{ℕ, zero, suc, _+_, _-_, _<_, _≤_}
+use lib.ListN.{getD, length, set}
 use Rattle.word.specs.Link.{linkOf}
 use Rattle.model.specs.declared.Entry.{Entry}
+use Rattle.model.specs.Lists.{All}
 use Rattle.model.specs.Refusals.{rule, first}
+use Rattle.walk.specs.declared.Way.{Way}
+use Rattle.walk.specs.Ways.{linksOn}
 
 -- The entries of n slots from slot x along the links.
 unfoldable pub trail : List ℕ → List ℕ → ℕ → ℕ → List Entry
@@ -20,6 +23,18 @@ place up n i = cond up i (n - 1 - i)
 unfoldable pub laid : Bool → ℕ → ℕ → List ℕ → List ℕ → List ℕ
 laid up n i [] t = t
 laid up n i (x ∷ xs) t = laid up n (i + 1) xs (set t (place up n i) x)
+
+-- No entry's slot is above slots.
+abbrev pub Inside : ℕ → List Entry → Type 0
+Inside slots l = All (λ (e : Entry). e .slot ≤ slots) l
+
+-- What the loop relies on: rows 0 to slots, room for n, and n slots of which none is above slots.
+pub record Lays (w : Way) (n : ℕ) (lefts rights labels slots copies : List ℕ) : Type 0 where
+  pub left-rows : w .slots < length lefts
+  pub right-rows : w .slots < length rights
+  pub label-rows : w .slots < length labels
+  pub room : (n ≤ length slots) × (n ≤ length copies)
+  pub inside : Inside (w .slots) (trail (linksOn w lefts rights) labels n (w .first))
 
 -- The refusals before the walk, over tests already made.
 unfoldable pub refusalBefore : Bool → Bool → ℕ

@@ -7,7 +7,7 @@ use word::Link;
 ghost use mathlib.Core.Path.{_≡_};
 ghost use mathlib.Core.Bool.{false};
 ghost use mathlib.Core.List.{List};
-ghost use Prim.Native.Nat.{ℕ, _<_, _≤_};
+ghost use Prim.Native.Nat.{ℕ, _<_};
 ghost use lib.ListN.{length, getD};
 ghost use Rattle.word.specs.Link.{linkOf};
 ghost use Rattle.model.specs.Tables.{tablesOf};
@@ -16,7 +16,7 @@ ghost use Rattle.sound.specs.Lengths.{lengthsFit};
 ghost use Rattle.rows.specs.Rows.{controlOf};
 ghost use Rattle.walk.specs.Ways.{linksOn};
 ghost use Rattle.waiting.specs.Waiting.{readOut, refused, slotsOf, labelsOf};
-ghost use Rattle.waiting.specs.Laid.{trail, place, laid, refusalBefore};
+ghost use Rattle.waiting.specs.Laid.{Lays, trail, place, laid, refusalBefore};
 
 /// The answer as C sees it.
 #[repr(C)]
@@ -38,19 +38,22 @@ fn place(up: bool, n: u64, i: u64) -> usize
     (n - 1 - i) as usize
 }
 
-/// The slot that the link word of slot x names, in a walk that is known to be sound.
+/// The slot that the link word of slot x names.
 fn follow(w: Way, lefts: &[u64], rights: &[u64], x: u64) -> u64
+    requires { ⌜ (x < length (now lefts)) × (x < length (now rights)) ⌝ }
     ensures { λ r. ⌜ r ≡ linkOf (getD (linksOn w (now (lefts .entry)) (now (rights .entry))) x 0) .slot ⌝ }
 {
+    let k = x as usize;
     if w.rightward {
-        let right = Link::unpack(table::word_at(rights, x));
+        let right = Link::unpack(rights[k]);
         return right.slot;
     }
-    let left = Link::unpack(table::word_at(lefts, x));
+    let left = Link::unpack(lefts[k]);
     left.slot
 }
 
-/// n slots from the first one along the way, and their labels, so that they stand from left to right.
+/// n slots from the first one along the way, and their labels, so that they stand from left to right. The walk is
+/// known to keep to the slots, so that no row is asked for.
 fn lay(
     w: Way,
     n: u64,
@@ -60,7 +63,7 @@ fn lay(
     slots: &mut [u64],
     copies: &mut [u32],
 )
-    requires { ⌜ (n ≤ length (now slots)) × (n ≤ length (now copies)) ⌝ }
+    requires { ⌜ Lays w n (now lefts) (now rights) (now labels) (now slots) (now copies) ⌝ }
     ensures { λ _.
         ⌜ now (slots .exit) ≡ laid (w .rightward) n 0
         (slotsOf (trail (linksOn w (now (lefts .entry)) (now (rights .entry))) (now (labels .entry)) n (w .first))) (now (slots .entry)) ⌝ }
@@ -72,7 +75,8 @@ fn lay(
     let mut x = w.first;
     while i < n {
         let k = place(w.rightward, n, i);
-        let label = table::label_at(labels, x);
+        let at = x as usize;
+        let label = labels[at];
         slots[k] = x;
         copies[k] = label;
         x = follow(w, lefts, rights, x);
@@ -129,6 +133,10 @@ fn read_out(
     if why != 0 {
         return refused(why);
     }
+    let w = walk::begin(c);
+    if walk::none_on(w) {
+        return WaitingReply { code: 0, count: 0 };
+    }
     let walked = walk::waiting(c, lefts, rights);
     let Tally::Labels(n) = walked else {
         return refused(34);
@@ -136,7 +144,6 @@ fn read_out(
     if ((slots.len() as u64) < n) | ((copies.len() as u64) < n) {
         return refused(12);
     }
-    let w = walk::begin(c);
     lay(w, n, lefts, rights, labels, slots, copies);
     WaitingReply { code: 0, count: n }
 }

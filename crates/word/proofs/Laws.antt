@@ -3,8 +3,19 @@ use mathlib.Core.Path.{_≡_, ap, _∙_}
 use Prim.Native.Nat.{ℕ, _^_, _<_}
 use native.Mathlib.Omega.{arith}
 use Rattle.word.specs.declared.{Anchor.Anchor, Link.Link}
-use Rattle.word.specs.Anchor.{anchorWord, anchorOf, cutAnchor, packAnchor, AnchorFits}
-use Rattle.word.specs.Link.{linkWord, linkOf, spareOf, cutLink, packLink, LinkFits}
+use Rattle.word.specs.Anchor.{anchorWord, anchorOf, cutAnchor, packAnchor}
+use Rattle.word.specs.Link.{linkWord, linkOf, spareOf, cutLink, packLink}
+
+-- Each field within its width.
+pub record AnchorFits (a : Anchor) : Type 0 where
+  pub tag : a .tag < 2 ^ 32
+  pub status : a .status < 2 ^ 2
+  pub left : a .left < 2 ^ 15
+  pub right : a .right < 2 ^ 15
+
+pub record LinkFits (l : Link) : Type 0 where
+  pub tag : l .tag < 2 ^ 32
+  pub slot : l .slot < 2 ^ 15
 
 pub same-anchor : {a b : Anchor} → (a .tag ≡ b .tag) × (a .status ≡ b .status) × (a .left ≡ b .left) × (a .right ≡ b .right) → a ≡ b
 same-anchor e = λ i. record { tag = e .0 i; status = e .1 i; left = e .2 i; right = e .3 i }

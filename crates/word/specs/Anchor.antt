@@ -1,5 +1,5 @@
 -- The Anchor word as a sum of powers of two. (Document 01: Tables, Anchor.)
-use Prim.Native.Nat.{ℕ, _+_, _*_, _/_, _%_, _^_, _<_}
+use Prim.Native.Nat.{ℕ, _+_, _*_, _/_, _%_, _^_}
 use Rattle.word.specs.declared.Anchor.{Anchor}
 
 -- Bits 63–32 tag, 31–30 status, 29–15 left end, 14–0 right end.
@@ -20,10 +20,3 @@ packAnchor a = anchorWord (cutAnchor a)
 -- An empty, STABLE Anchor.
 abbrev pub emptyAnchor : ℕ → Anchor
 emptyAnchor tag = record { tag = tag; status = 0; left = 0; right = 0 }
-
--- Each field within its width.
-pub record AnchorFits (a : Anchor) : Type 0 where
-  pub tag : a .tag < 2 ^ 32
-  pub status : a .status < 2 ^ 2
-  pub left : a .left < 2 ^ 15
-  pub right : a .right < 2 ^ 15

@@ -1,5 +1,5 @@
 -- The link word as a sum of powers of two. (Document 01: Tables, Slot rows.)
-use Prim.Native.Nat.{ℕ, _+_, _*_, _/_, _%_, _^_, _<_}
+use Prim.Native.Nat.{ℕ, _+_, _*_, _/_, _%_, _^_}
 use Rattle.word.specs.declared.Link.{Link}
 
 -- Bits 63–32 tag, 31–15 zero, 14–0 slot.
@@ -19,8 +19,3 @@ cutLink l = record { tag = l .tag % 2 ^ 32; slot = l .slot % 2 ^ 15 }
 
 abbrev pub packLink : Link → ℕ
 packLink l = linkWord (cutLink l)
-
--- Each field within its width.
-pub record LinkFits (l : Link) : Type 0 where
-  pub tag : l .tag < 2 ^ 32
-  pub slot : l .slot < 2 ^ 15

@@ -27,7 +27,7 @@ const SCENARIOS: [Scenario; 11] = [
     Scenario { name: "wide", write: wide },
     Scenario { name: "starve few slots", write: starve_few_slots },
     Scenario { name: "worn tags", write: worn_tags },
-    Scenario { name: "nonsense", write: nonsense },
+    Scenario { name: "out of range", write: out_of_range },
     Scenario { name: "spoiled", write: spoiled },
 ];
 
@@ -110,7 +110,7 @@ fn starve_few_slots(dice: &mut Dice, crew: Crew) -> Vec<u8> {
     let mut shift = Shift::open(dice, crew, slots, 0);
     shift.pops = 50;
     shift.lefts = 50;
-    shift.nonsense = 0;
+    shift.out_of_range = 0;
     starve_in(shift)
 }
 
@@ -179,12 +179,12 @@ fn worn_tags(dice: &mut Dice, crew: Crew) -> Vec<u8> {
     shift.script.finish()
 }
 
-/// Every second call is nonsense.
-fn nonsense(dice: &mut Dice, crew: Crew) -> Vec<u8> {
+/// Every second call is near the limits or beyond them.
+fn out_of_range(dice: &mut Dice, crew: Crew) -> Vec<u8> {
     let slots = dice.pick(&[1, 2, 4, 64, 1_023]);
     let tag = low_tag(dice);
     let mut shift = Shift::open(dice, crew, slots, tag);
-    shift.nonsense = 50;
+    shift.out_of_range = 50;
     for _ in 0..EVENTS / 4 {
         let task = shift.anyone();
         shift.act(task);
@@ -223,7 +223,7 @@ pub fn write_load(dice: &mut Dice, steps: usize, out: &mut impl Write) -> io::Re
     const SLOTS: u16 = 256;
     const PIECE: usize = 1 << 16;
     let mut shift = Shift::open(dice, Crew { tasks: 8, pooled: false }, SLOTS, 0);
-    shift.nonsense = 0;
+    shift.out_of_range = 0;
     shift.lefts = 50;
     let mut waiting = 0_i32;
     let mut left = steps;

@@ -24,7 +24,7 @@ pub struct Shift<'a> {
     pub script: Script,
     pub pops: u64,
     pub lefts: u64,
-    pub nonsense: u64,
+    pub out_of_range: u64,
     pub pooled: bool,
     tasks: u8,
     slots: u16,
@@ -39,7 +39,7 @@ impl<'a> Shift<'a> {
         };
         let pops = dice.pick(&[40, 50, 60]);
         let lefts = dice.pick(&[10, 50, 50, 90]);
-        Shift { dice, script, tasks, slots, pops, lefts, nonsense: 1, pooled }
+        Shift { dice, script, tasks, slots, pops, lefts, out_of_range: 1, pooled }
     }
 
     pub fn anyone(&mut self) -> u8 {
@@ -73,8 +73,8 @@ impl<'a> Shift<'a> {
 
     /// A step if the task is busy, else a start.
     pub fn act(&mut self, task: u8) {
-        if self.dice.percent(self.nonsense) {
-            self.talk_nonsense();
+        if self.dice.percent(self.out_of_range) {
+            self.call_out_of_range();
         }
         if self.dice.between(1, 64) == 1 {
             self.script.end_steps();
@@ -94,7 +94,7 @@ impl<'a> Shift<'a> {
     }
 
     /// A call that is most likely refused: any task, side and slot, near the limits or not.
-    fn talk_nonsense(&mut self) {
+    fn call_out_of_range(&mut self) {
         let limit = [self.tasks - 1, self.tasks, 255];
         let task = if self.dice.percent(50) { self.anyone() } else { self.dice.pick(&limit) };
         let side = self.dice.pick(&[0, 1, 2, 255]);
@@ -113,7 +113,7 @@ impl<'a> Shift<'a> {
         }
     }
 
-    /// Others act until the task stands at a place, or patience ends.
+    /// Others act until the task stands at a place, or 200 calls were made.
     pub fn bring_to(&mut self, task: u8, place: u64) {
         for _ in 0..200 {
             if self.script.record(task).place == place {

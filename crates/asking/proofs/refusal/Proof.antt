@@ -1,8 +1,8 @@
 -- Each return is the first rule that applies, by the tests passed before it.
-use mathlib.Core.Bool.{Bool, true, false, not}
+use mathlib.Core.Bool.{Bool, true, false, not, cond}
 use mathlib.Core.List.{List, [], _∷_, _++_}
-use mathlib.Core.Path.{_≡_, refl, sym, ap, _∙_}
-use native.Mathlib.Omega.{arith}
+use mathlib.Core.Path.{_≡_, refl, sym, _∙_}
+use Prim.Native.Nat.{ℕ}
 use lib.Dec.{leb, ltb}
 use borrow.Author.Tests.{eq-eqb, ne-eqb, not-true, not-false}
 use Rattle.model.specs.Tables.{Tables, isPooled, tablesOf}
@@ -11,9 +11,14 @@ use Rattle.model.specs.Places.{wordFound}
 use Rattle.model.specs.Refusals.{Lent, Rule, rule, first, fits, admission, admissionRules, recordRules, stepSound, stepRefusal}
 use Rattle.model.proofs.tests.Rules.{first-passed, first-refused}
 use Rattle.sound.specs.Lengths.{lengthsFit}
-use Rattle.asking.proofs.Changes.{within}
+use Rattle.asking.specs.Asked.{touchRefusal}
 use Rattle.asking.proofs.refusal.Statement.{statement}
 use Rattle.asking.proofs.refusal.Tie as tie
+
+-- A rule that applies where the test fails.
+turned : (b : Bool) → _≡_ {A = ℕ} (cond (not b) 34 0) (cond b 0 34)
+turned true = refl
+turned false = refl
 
 -- The arguments in the model's terms, and the rules: those of admission, and those of the record and what it touches.
 module _ (asked : tie.After-admit) where
@@ -66,10 +71,10 @@ returns-3 c =
       eq-eqb _ 0 (c .if3 .taken),
     )
 
--- A busy and sound record: whether what it touches is sound.
-module _ (told : tie.After-touch-sound) where
+-- A busy and sound record: what it touches decides.
+module _ (told : tie.After-touch-refusal) where
   abbrev busy : tie.Else3
-  busy = told .before .before
+  busy = told .before
 
   abbrev sound : tie.Else2
   sound = busy .before .before
@@ -77,35 +82,20 @@ module _ (told : tie.After-touch-sound) where
   abbrev turn : tie.Else1
   turn = sound .before .before .before
 
-  abbrev asked : tie.After-admit
-  asked = turn .before
-
-  fine : (let c = start asked .args .c in recordSound (isPooled c) (c .slots) (start asked .args .r) ≡ true)
+  fine : (let a = start (turn .before) .args in recordSound (isPooled (a .c)) (a .c .slots) (a .r) ≡ true)
   fine = sym (sound .before .record-sound .ensures) ∙ not-false _ (sound .if2 .left)
 
-  found : told .touch-sound .result ≡ touches asked
-  found =
-      let r = start asked .args .r in
-      let high = within _ _ r fine (busy .if3 .left) in
-      told .touch-sound .ensures (omega (arith, busy .if3 .left)) high
-      ∙ ap (stepSound (q asked .control) r) (told .before .found .ensures (q asked .control) (q asked .marks))
-
-  decided : (b : Bool) → told .touch-sound .result ≡ b → first (after asked) ≡ first (rule 34 (not b) ∷ [])
-  decided b e = rw (fine, ne-eqb _ 0 (busy .if3 .left), sym found ∙ e)
+  decided : first (after (turn .before)) ≡ touchRefusal (q (turn .before)) (start (turn .before) .args .r)
+  unfolding touchRefusal
+  decided = rw (fine, ne-eqb _ 0 (busy .if3 .left)) (turned (touches (turn .before)))
 
 returns-4 : tie.Need-returns-4
 unfolding stepRefusal
 returns-4 c =
-    let told = c .before in
-    rw (passed (asked told) (turn told .if1 .left)) (sym (decided told true (c .if4 .taken)))
-
-returns-5 : tie.Need-returns-5
-unfolding stepRefusal
-returns-5 c =
-    let told = c .before in
-    rw (passed (asked told) (turn told .if1 .left)) (sym (decided told false (c .if4 .left)))
+    let asked = turn c .before in
+    rw (passed asked (turn c .if1 .left)) (c .touch-refusal .ensures (q asked .marks) ∙ sym (decided c))
 
 pub refusal-spec : {M : Type 1} → statement M
 refusal-spec =
     tie.close
-    (tie.spec (λ _ _. tt) returns (λ _ _. tt) returns-2 returns-3 (λ _ _. tt) (λ _ _. tt) returns-4 returns-5)
+    (tie.spec (λ _ _. tt) returns (λ _ _. tt) returns-2 returns-3 (λ _ _. tt) returns-4)

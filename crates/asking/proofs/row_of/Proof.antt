@@ -1,80 +1,118 @@
--- The slot that the place touches, test by test.
-use mathlib.Core.Path.{_≡_, _∙_}
-use mathlib.Core.Bool.{Bool, true, false, _&&_, _||_}
-use Prim.Native.Nat.{ℕ}
+-- The slot that the place touches, arm by arm.
+use mathlib.Core.Path.{_≡_, refl, ap, _∙_}
+use mathlib.Core.Bool.{Bool, true, false, cond}
 use lib.Dec.{eqb}
-use borrow.Author.Tests.{eqb-true}
-use Rattle.word.specs.Link.{linkOf}
+use borrow.Author.Tests.{ne-eqb}
+use Rattle.word.specs.Anchor.{anchorOf}
 use Rattle.model.specs.declared.Call.{Call}
-use Rattle.model.specs.Kinds.{isPush}
-use Rattle.model.specs.Places.{endSeen, row}
-use Rattle.model.proofs.tests.Truth.{and-of, and-true, not-both, or-cases, or-false, split}
+use Rattle.model.specs.Places.{sideOf, row}
+use Rattle.decide.specs.declared.touched.LinkWord.{LinkWord}
+use Rattle.decide.specs.Decided.{ownEnd, top, link3, link5, link7}
 use Rattle.asking.proofs.row_of.Statement.{statement}
 use Rattle.asking.proofs.row_of.Tie as tie
 
+-- The side that a status names.
+mirror : (b : Bool) → eqb (cond b 1 0) 1 ≡ b
+mirror true = refl
+mirror false = refl
+
 module _ (r : Call) where
-  abbrev at : ℕ → Bool
-  at n = eqb (r .place) n
+  three : r .place ≡ 3 → link3 r .slot ≡ row r
+  unfolding row sideOf
+  three e = rw e
 
-  neighbours : at 7 || at 9 ≡ true → r .neighbour ≡ row r
-  unfolding row
-  neighbours e = or-cases (at 7) (at 9) e
-      (λ x. let z : r .place ≡ 7 = eqb-true _ _ x in rw z)
-      (λ x. let z : r .place ≡ 9 = eqb-true _ _ x in rw z)
+  five : r .place ≡ 5 → link5 r .slot ≡ row r
+  unfolding row sideOf
+  five e = rw (e, mirror (eqb (anchorOf (r .seen) .status) 1))
 
-  owns : at 3 && isPush r ≡ true → r .own ≡ row r
+  seven : r .place ≡ 7 → link7 r .slot ≡ row r
   unfolding row
-  owns e = let z = and-true (at 3) (isPush r) e in let p : r .place ≡ 3 = eqb-true _ _ (z .0) in rw (p, z .1)
+  seven e = rw e
 
-  ends : at 3 && isPush r ≡ false → (at 3 || at 5) || at 11 ≡ true → endSeen r ≡ row r
+  nine : r .place ≡ 9 → link7 r .slot ≡ row r
   unfolding row
-  ends n e = or-cases (at 3 || at 5) (at 11) e
-      (λ x. or-cases (at 3) (at 5) x
-      (λ y. let z : r .place ≡ 3 = eqb-true _ _ y in split (isPush r) (λ k. absurd (not-both (and-of y k) n)) (λ k. rw (z, k)))
-      (λ y. let z : r .place ≡ 5 = eqb-true _ _ y in rw z))
-      (λ x. let z : r .place ≡ 11 = eqb-true _ _ x in rw z)
+  nine e = rw e
 
-  heads : at 13 || at 14 ≡ true → linkOf (r .link) .slot ≡ row r
-  unfolding row
-  heads e = or-cases (at 13) (at 14) e
-      (λ x. let z : r .place ≡ 13 = eqb-true _ _ x in rw z)
-      (λ x. let z : r .place ≡ 14 = eqb-true _ _ x in rw z)
+  eleven : r .place ≡ 11 → ownEnd r ≡ row r
+  unfolding row sideOf
+  eleven e = rw e
 
-  gives : at 16 || at 17 ≡ true → r .own ≡ row r
+  thirteen : r .place ≡ 13 → top r ≡ row r
   unfolding row
-  gives e = or-cases (at 16) (at 17) e
-      (λ x. let z : r .place ≡ 16 = eqb-true _ _ x in rw z)
-      (λ x. let z : r .place ≡ 17 = eqb-true _ _ x in rw z)
+  thirteen e = rw e
 
-  none : at 7 || at 9 ≡ false → (at 3 || at 5) || at 11 ≡ false → at 13 || at 14 ≡ false → at 16 || at 17 ≡ false → 0 ≡ row r
+  fourteen : r .place ≡ 14 → top r ≡ row r
   unfolding row
-  none a b c d =
-      let x = or-false (at 7) (at 9) a in
-      let y = or-false (at 3 || at 5) (at 11) b in
-      let z = or-false (at 3) (at 5) (y .0) in
-      let v = or-false (at 13) (at 14) c in
-      let w = or-false (at 16) (at 17) d in
-      rw (z .0, z .1, x .0, x .1, y .1, v .0, v .1, w .0, w .1)
+  fourteen e = rw e
+
+slot : {l m : LinkWord} → l ≡ m → l .slot ≡ m .slot
+slot e = ap (λ (l : LinkWord). l .slot) e
 
 returns : tie.Need-returns
-returns c = neighbours _ (c .if1 .taken)
+returns c = slot (c .link3 .ensures) ∙ three _ (c .before .match .keys1)
 
 returns-2 : tie.Need-returns-2
-returns-2 c = owns _ (c .if2 .taken)
+returns-2 c = slot (c .link5 .ensures) ∙ five _ (c .before .match .keys2)
 
 returns-3 : tie.Need-returns-3
-returns-3 c = c .end-seen .ensures ∙ ends _ (c .before .before .if2 .left) (c .before .if3 .taken)
+returns-3 c = slot (c .link7 .ensures) ∙ seven _ (c .before .match .keys3)
 
 returns-4 : tie.Need-returns-4
-returns-4 c = c .slot-read .ensures ∙ heads _ (c .before .if4 .taken)
+returns-4 c = slot (c .link72 .ensures) ∙ nine _ (c .before .match .keys4)
 
 returns-5 : tie.Need-returns-5
-returns-5 c = gives _ (c .if5 .taken)
+returns-5 c = c .own-end .ensures ∙ eleven _ (c .before .match .keys5)
 
 returns-6 : tie.Need-returns-6
-returns-6 c =
-    let three = c .before .before in
-    none _ (three .before .before .before .if1 .left) (three .if3 .left) (c .before .if4 .left) (c .if5 .left)
+returns-6 c = c .top .ensures ∙ thirteen _ (c .before .match .keys6)
+
+returns-7 : tie.Need-returns-7
+returns-7 c = c .top2 .ensures ∙ fourteen _ (c .before .match .keys7)
+
+returns-8 : tie.Need-returns-8
+unfolding row
+returns-8 c = rw (c .match .keys8)
+
+returns-9 : tie.Need-returns-9
+unfolding row
+returns-9 c = rw (c .match .keys9)
+
+returns-10 : tie.Need-returns-10
+unfolding row
+returns-10 c =
+    let h = c .match .rest in
+    let thirteen = h .0 .0 .0 in
+    let seven = thirteen .0 .0 .0 in
+    rw (
+      ne-eqb _ 3 (seven .0 .0 .1),
+      ne-eqb _ 5 (seven .0 .1),
+      ne-eqb _ 7 (seven .1),
+      ne-eqb _ 9 (thirteen .0 .0 .1),
+      ne-eqb _ 11 (thirteen .0 .1),
+      ne-eqb _ 13 (thirteen .1),
+      ne-eqb _ 14 (h .0 .0 .1),
+      ne-eqb _ 16 (h .0 .1),
+      ne-eqb _ 17 (h .1),
+    )
 
 pub row-of-spec : {M : Type 1} → statement M
-row-of-spec = tie.close (tie.spec returns returns-2 (λ _ _. tt) returns-3 (λ _ _. tt) returns-4 returns-5 returns-6)
+row-of-spec =
+    tie.close
+    (tie.spec
+    (λ _ _. tt)
+    (λ _ _. tt)
+    (λ _ _. tt)
+    (λ _ _. tt)
+    (λ _ _. tt)
+    (λ _ _. tt)
+    (λ _ _. tt)
+    returns
+    returns-2
+    returns-3
+    returns-4
+    returns-5
+    returns-6
+    returns-7
+    returns-8
+    returns-9
+    returns-10)

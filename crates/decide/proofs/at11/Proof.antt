@@ -11,10 +11,10 @@ use Rattle.decide.proofs.at11.Tie as tie
 -- The end, as read, tested for a slot.
 module _ (tested : tie.After-from1) where
   abbrev start : tie.Start
-  start = let anchor = tested .before .before .before in anchor .before
+  start = tested .before .before
 
-  near : tested .before .near .result ≡ ownEnd (start .args .r)
-  near = rw (tested .before .before .before .unpack .ensures) at (tested .before .near .ensures)
+  near : tested .before .own-end .result ≡ ownEnd (start .args .r)
+  near = tested .before .own-end .ensures
 
 is-slot : (slot : tie.Then1) → (let a = start (slot .before) .args in from1 (a .c .slots) (ownEnd (a .r)) ≡ true)
 is-slot slot = rw (near (slot .before)) at (sym (slot .before .from1 .ensures) ∙ slot .if1 .taken)
@@ -43,7 +43,6 @@ pub at11-spec : {M : Type 1} → statement M
 at11-spec =
     tie.close
     (tie.spec
-    (λ _ _. tt)
     (λ _ _. tt)
     (λ _ _. tt)
     (λ c κs. search needs)

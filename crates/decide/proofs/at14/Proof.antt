@@ -13,7 +13,8 @@ returns c =
 returns-2 : tie.Need-returns-2
 unfolding found14
 returns-2 c =
-    let head = c .before .before in
+    let own = c .before .before in
+    let head = own .before in
     let room = head .before .before in
     let same = room .before .before in
     let read = same .before .before .before in
@@ -23,7 +24,7 @@ returns-2 c =
       c .before .next2 .ensures,
       head .with-head .ensures,
       head .before .new14 .ensures,
-      read .unpack .ensures,
+      own .top .ensures,
       eq-eqb _ _ (same .if1 .left),
       below,
     )
@@ -46,6 +47,7 @@ at14-spec =
     (λ _ _. tt)
     (λ _ _. tt)
     returns
+    (λ _ _. tt)
     (λ _ _. tt)
     (λ _ _. tt)
     (λ c κs. search needs)

@@ -6,9 +6,7 @@ use Rattle.decide.proofs.at5.Tie as tie
 
 returns : tie.Need-returns
 unfolding found5
-returns c =
-    let end = c .before .before in
-    rw (c .reads-neighbour .ensures, c .before .next .ensures, end .near .ensures, end .before .before .unpack .ensures)
+returns c = rw (c .reads-neighbour .ensures, c .before .next .ensures, c .before .before .link5 .ensures)
 
 pub at5-spec : {M : Type 1} → statement M
-at5-spec = tie.close (tie.spec (λ _ _. tt) (λ _ _. tt) (λ c κs. search needs) (λ _ _. tt) returns)
+at5-spec = tie.close (tie.spec (λ _ _. tt) (λ c κs. search needs) (λ _ _. tt) returns)

@@ -7,22 +7,8 @@ use Rattle.decide.proofs.at7.Tie as tie
 returns : tie.Need-returns
 unfolding found7
 returns c =
-    let end = c .before .before .before in
-    rw (
-      c .reads-link .ensures,
-      c .before .next2 .ensures,
-      c .before .before .next .ensures,
-      end .near .ensures,
-      end .before .before .unpack .ensures,
-    )
+    let same = c .before .before in
+    rw (c .reads-link .ensures, c .before .next2 .ensures, same .next .ensures, same .before .named-end .ensures)
 
 pub at7-spec : {M : Type 1} → statement M
-at7-spec =
-    tie.close
-    (tie.spec
-    (λ _ _. tt)
-    (λ _ _. tt)
-    (λ c κs. search needs)
-    (λ c κs. search needs)
-    (λ _ _. tt)
-    returns)
+at7-spec = tie.close (tie.spec (λ _ _. tt) (λ c κs. search needs) (λ c κs. search needs) (λ _ _. tt) returns)

@@ -1,7 +1,7 @@
 -- The controls that the rows are; what was left, stored.
 use mathlib.Core.Path.{_≡_, refl, sym, ap, _∙_}
 use mathlib.Core.Bool.{Bool, cond}
-use mathlib.Core.List.{List, []}
+use mathlib.Core.List.{List}
 use Prim.Native.Nat.{ℕ}
 use lib.ListN.{set, replicate}
 use borrow.Author.Needs.{needs}
@@ -25,14 +25,15 @@ module _ (j : tie.After-join) where
       let p = o .before .before .before .before in
       p .before .before
 
-  abbrev one : Queue
-  one = let a = start .args in queueIn (a .first .now) (a .records1 .now) (a .lefts1 .now) (a .rights1 .now) (a .labels1 .now) [] []
+  -- The queues, with any marks and next tables where none are lent.
+  abbrev one : List ℕ → List ℕ → Queue
+  one marks next = let a = start .args in queueIn (a .first .now) (a .records1 .now) (a .lefts1 .now) (a .rights1 .now) (a .labels1 .now) marks next
 
-  abbrev two : Queue
-  two = let a = start .args in queueIn (a .second .now) (a .records2 .now) (a .lefts2 .now) (a .rights2 .now) (a .labels2 .now) [] []
+  abbrev two : List ℕ → List ℕ → Queue
+  two marks next = let a = start .args in queueIn (a .second .now) (a .records2 .now) (a .lefts2 .now) (a .rights2 .now) (a .labels2 .now) marks next
 
-  abbrev third : Queue
-  third = let a = start .args in queueIn (a .third .now) (a .records .now) (a .lefts .now) (a .rights .now) (a .labels .now) (a .marks .now) []
+  abbrev third : List ℕ → Queue
+  third next = let a = start .args in queueIn (a .third .now) (a .records .now) (a .lefts .now) (a .rights .now) (a .labels .now) (a .marks .now) next
 
   abbrev left : List ℕ
   left = let t = j .join .last .1 .1 .1 .1 .1 .1 in t .1 .1 .1 .1 .1 .1 .0
@@ -46,21 +47,21 @@ module _ (j : tie.After-join) where
   abbrev mark : List ℕ
   mark = let t = j .join .last .1 .1 .1 .1 .1 .1 in t .1 .1 .1 .1 .1 .1 .1 .1 .1 .0
 
-  joined : Joins one two third (j .join .result) left right label mark
-  joined =
+  joined : (marks1 next1 marks2 next2 next : List ℕ) → Joins (one marks1 next1) (two marks2 next2) (third next) (j .join .result) left right label mark
+  joined marks1 next1 marks2 next2 next =
       let a = start .args in
       let r1 = read .before .before in
       let r2 = read .before in
       same-three
       (λ x y z. Joins
-      (queueOf x (recordsOf (a .records1 .now)) (a .lefts1 .now) (a .rights1 .now) (a .labels1 .now) [] [])
-      (queueOf y (recordsOf (a .records2 .now)) (a .lefts2 .now) (a .rights2 .now) (a .labels2 .now) [] [])
-      (queueOf z (recordsOf (a .records .now)) (a .lefts .now) (a .rights .now) (a .labels .now) (a .marks .now) [])
+      (queueOf x (recordsOf (a .records1 .now)) (a .lefts1 .now) (a .rights1 .now) (a .labels1 .now) marks1 next1)
+      (queueOf y (recordsOf (a .records2 .now)) (a .lefts2 .now) (a .rights2 .now) (a .labels2 .now) marks2 next2)
+      (queueOf z (recordsOf (a .records .now)) (a .lefts .now) (a .rights .now) (a .labels .now) (a .marks .now) next)
       (j .join .result) left right label mark)
       (r1 .control-of .result) (r2 .control-of2 .result) (read .control-of3 .result)
       (controlOf (a .first .now)) (controlOf (a .second .now)) (controlOf (a .third .now))
       (r1 .control-of .ensures) (r2 .control-of2 .ensures) (read .control-of3 .ensures)
-      (j .join .ensures)
+      (j .join .ensures marks1 next1 marks2 next2 next)
 
 -- A row of zeros has no call.
 zeros-idle : callOf (replicate 10 0) ≡ idle
@@ -79,19 +80,25 @@ returns c =
     let i = row .before .before in
     let j = back (i .before .before) in
     let was = start j .args .records .now in (
-      stored (one j) (two j) (third j) _ (left j) (right j) (label j) (mark j) (joined j) (i .if1 .taken) _ _ (row .control-row .ensures)
+      λ marks1 next1 marks2 next2 next.
+          stored (one j marks1 next1) (two j marks2 next2) (third j next) _ (left j) (right j) (label j) (mark j) (joined j marks1 next1 marks2 next2 next)
+          (i .if1 .taken) _ _ (row .control-row .ensures)
           (p .put-call .ensures .0 ∙ ap (withCallAt (recordsOf was) 0) (zero .call-of .ensures ∙ zeros-idle)),
-      upper (one j) (two j) (third j) _ (left j) (right j) (label j) (mark j) (joined j) (uppersOf was) _
-          (p .put-call .ensures .1 ∙ sym (ap (λ (b : Bool). cond b (set (uppersOf was) 0 0) (uppersOf was)) (i .if1 .taken))),
+      λ marks1 next1 marks2 next2 next.
+          upper (one j marks1 next1) (two j marks2 next2) (third j next) _ (left j) (right j) (label j) (mark j) (joined j marks1 next1 marks2 next2 next)
+          (uppersOf was) _ (p .put-call .ensures .1 ∙ sym (ap (λ (b : Bool). cond b (set (uppersOf was) 0 0) (uppersOf was)) (i .if1 .taken))),
     )
 
 returns-2 : tie.Need-returns-2
 returns-2 c =
     let j = back (c .before .before) in
     let was = start j .args .records .now in (
-      untouched (one j) (two j) (third j) _ (left j) (right j) (label j) (mark j) (joined j) (c .if1 .left),
-      upper (one j) (two j) (third j) _ (left j) (right j) (label j) (mark j) (joined j) (uppersOf was) (uppersOf was)
-          (sym (ap (λ (b : Bool). cond b (set (uppersOf was) 0 0) (uppersOf was)) (c .if1 .left))),
+      λ marks1 next1 marks2 next2 next.
+          untouched (one j marks1 next1) (two j marks2 next2) (third j next) _ (left j) (right j) (label j) (mark j)
+          (joined j marks1 next1 marks2 next2 next) (c .if1 .left),
+      λ marks1 next1 marks2 next2 next.
+          upper (one j marks1 next1) (two j marks2 next2) (third j next) _ (left j) (right j) (label j) (mark j) (joined j marks1 next1 marks2 next2 next)
+          (uppersOf was) (uppersOf was) (sym (ap (λ (b : Bool). cond b (set (uppersOf was) 0 0) (uppersOf was)) (c .if1 .left))),
     )
 
 pub zc-join-spec : {M : Type 1} → statement M

@@ -1,77 +1,71 @@
--- Before word k the marks of the slots below 64 k are counted.
+-- The first word's marks, with those up to the last word's, with this one's.
 use mathlib.Core.Path.{_≡_, ap, _∙_, sym}
 use Prim.Native.Nat.{ℕ, _≤_, _+_, _-_, _*_, _/_, min}
-use native.Mathlib.{Nat.zero-min, Omega.arith}
+use native.Mathlib.Omega.{arith}
 use lib.Count.{ones}
-use Rattle.model.specs.{Report.takenSlots, Lists.count}
+use Rattle.model.specs.Report.{takenSlots}
 use Rattle.marks.specs.Masked.{maskedWord}
-use Rattle.marks.proofs.Ones.{marks, word-step, marks-le}
+use Rattle.marks.proofs.Ones.{marks, first-word, last-word, marks-le}
 use Rattle.marks.proofs.taken.Statement.{statement}
 use Rattle.marks.proofs.taken.Tie as tie
 
-abbrev Inv-loop : tie.InvT-loop
-Inv-loop slots ws n₀ k₀ k-end n k = (k ≤ slots / 64 + 1) × (n ≡ marks ws (min (64 * k - 1) slots))
+module _ (m : tie.After-masked) where
+  abbrev given : tie.Start
+  given = m .before .before .before
 
-abbrev μ-loop : tie.MeasureT-loop
-μ-loop slots ws n₀ k₀ k-end n k = slots / 64 + 1 - k
+  first : ones (m .masked .result) ≡ marks (given .args .marks .now) (min 63 (given .args .slots))
+  first =
+      let a = given .args in
+      ap ones (m .masked .ensures ∙ ap (λ (x : ℕ). maskedWord x 0 (a .slots)) (m .before .word-at .ensures))
+      ∙ first-word (a .marks .now) (a .slots) (omega (arith, m .before .word-at .ensures))
 
-loop-holds : tie.Need-loop-holds Inv-loop μ-loop
-unfolding count
-loop-holds c = (omega arith, ap (marks (c .before .args .marks .now)) (sym (zero-min (c .before .args .slots))))
+  few : ones (m .masked .result) ≤ 63
+  few = omega (arith, first, marks-le (given .args .marks .now) (min 63 (given .args .slots)))
 
--- In the loop, after a word was masked: the place of the loop, and the marks as lent.
-abbrev turn : tie.After-masked Inv-loop μ-loop → tie.At-loop Inv-loop μ-loop
-turn c = c .before .before .before
-
--- The total after a word.
-next : (c : tie.After-masked Inv-loop μ-loop)
-    → turn c .loop .n + ones (c .masked .result)
-    ≡ marks (turn c .before .before .args .marks .now) (min (64 * (turn c .loop .k + 1) - 1) (turn c .before .before .args .slots))
-next c =
-    let l = turn c .loop in
-    let a = turn c .before .before .args in
-    let ws = a .marks .now in
-    let w = c .masked .ensures ∙ ap (λ (x : ℕ). maskedWord x (l .k) (a .slots)) (c .before .word-at .ensures) in
-    ap (λ (x : ℕ). x + ones (c .masked .result)) (l .inv .1)
-    ∙ ap (λ (x : ℕ). marks ws (min (64 * l .k - 1) (a .slots)) + ones x) w
-    ∙ sym (word-step ws (l .k) (a .slots) (omega arith) (omega (arith, c .before .word-at .ensures)))
-
--- It is no more than there are slots.
-room : (c : tie.After-masked Inv-loop μ-loop) → turn c .loop .n + ones (c .masked .result) ≤ turn c .before .before .args .slots
-room c =
-    let a = turn c .before .before .args in
-    omega (arith, next c, marks-le (a .marks .now) (min (64 * (turn c .loop .k + 1) - 1) (a .slots)))
-
-cast-n : tie.Need-cast-n Inv-loop μ-loop
-cast-n c = omega (arith, room c)
-
-add-n : tie.Need-add-n Inv-loop μ-loop
-add-n c = omega (arith, room c)
-
-loop-again : tie.Need-loop-again Inv-loop μ-loop
-loop-again c = (omega arith, next c)
-
-returns : tie.Need-returns Inv-loop μ-loop
+returns : tie.Need-returns
 unfolding takenSlots
 returns c =
-    let l = c .before .loop in
-    let a = c .before .before .before .args in
-    let e : min (64 * l .k - 1) (a .slots) ≡ a .slots = omega arith in
-    l .inv .1 ∙ ap (marks (a .marks .now)) e
+    let a = given (c .before) .args in
+    let e : min 63 (a .slots) ≡ a .slots = omega arith in
+    first (c .before) ∙ ap (marks (a .marks .now)) e
+
+before-last-requires : tie.Need-before-last-requires
+unfolding takenSlots
+before-last-requires c κs =
+    let a = given (c .before) .args in
+    let e : min 63 (a .slots) ≡ 63 = omega arith in
+    (omega arith, first (c .before) ∙ ap (marks (a .marks .now)) e)
+
+module _ (m : tie.After-masked2) where
+  abbrev lent : tie.Start
+  lent = given (m .before .before .before .before)
+
+  total : m .before .before .before-last .result + ones (m .masked2 .result) ≡ marks (lent .args .marks .now) (lent .args .slots)
+  unfolding takenSlots
+  total =
+      let a = lent .args in
+      let w = m .masked2 .ensures ∙ ap (λ (x : ℕ). maskedWord x (a .slots / 64) (a .slots)) (m .before .word-at2 .ensures) in
+      (λ i. m .before .before .before-last .ensures i + ones (w i))
+      ∙ last-word (a .marks .now) (a .slots) (omega arith) (omega (arith, m .before .word-at2 .ensures))
+
+  room : m .before .before .before-last .result + ones (m .masked2 .result) ≤ lent .args .slots
+  room = omega (arith, total, marks-le (lent .args .marks .now) (lent .args .slots))
+
+returns-2 : tie.Need-returns-2
+unfolding takenSlots
+returns-2 c = total c
 
 pub taken-spec : {M : Type 1} → statement M
 taken-spec =
     tie.close
     (tie.spec
-    Inv-loop
-    μ-loop
-    (λ c. omega arith)
-    loop-holds
     (λ _ _. tt)
     (λ c κs. omega arith)
-    cast-n
-    add-n
-    (λ c. omega arith)
-    (λ c. omega arith)
-    loop-again
-    returns)
+    (λ c. omega (arith, few c))
+    returns
+    before-last-requires
+    (λ _ _. tt)
+    (λ c κs. omega arith)
+    (λ c. omega (arith, room c))
+    (λ c. omega (arith, room c))
+    returns-2)

@@ -5,8 +5,8 @@ use Prim.Native.Nat.{_%_, _*_, _+_, _/_, _<_, _^_, _≤_, suc, zero, ℕ}
 use native.Mathlib.Omega.{arith}
 use lib.Dec.{eqb}
 use borrow.Author.Tests.{eq-eqb, eqb-true}
-use Rattle.word.proofs.Laws.{pack-fits, same-anchor, same-link, word-fields}
-use Rattle.word.specs.Anchor.{AnchorFits, anchorOf, anchorWord, packAnchor}
+use Rattle.word.proofs.Laws.{AnchorFits, pack-fits, same-anchor, same-link, word-fields}
+use Rattle.word.specs.Anchor.{anchorOf, anchorWord, packAnchor}
 use Rattle.word.specs.Link.{linkOf, linkWord, packLink, spareOf}
 use Rattle.word.specs.declared.Anchor as word
 use Rattle.model.proofs.tests.Truth.{agree, split}

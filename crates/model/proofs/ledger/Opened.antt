@@ -66,7 +66,7 @@ module _ (pooled : Bool) (q : Queue) (tasks slots tag : ℕ) where
   zero-links P p true x h = subst P (sym (zeroed-at (slots + 1) 0 (q .tables .rights) x (omega arith))) p
 
   -- A pooled queue's next table, and the words of the pool.
-  next-up : pooled ≡ true → (i : ℕ) → 1 ≤ i → i < slots → getD (o .tables .next) i 0 ≡ suc i
+  pub next-up : pooled ≡ true → (i : ℕ) → 1 ≤ i → i < slots → getD (o .tables .next) i 0 ≡ suc i
   unfolding opened
   next-up p i l h = go slots i l h
     where
@@ -76,7 +76,7 @@ module _ (pooled : Bool) (q : Queue) (tasks slots tag : ℕ) where
       go (suc n) (suc i) l h = rw p
           (climb-step 2 n (drop (suc n + 1) (q .tables .next)) i (omega arith) ∙ (let z : 2 + i ≡ suc (suc i) = omega arith in z))
 
-  next-end : pooled ≡ true → 1 ≤ slots → getD (o .tables .next) slots 0 ≡ 0
+  pub next-end : pooled ≡ true → 1 ≤ slots → getD (o .tables .next) slots 0 ≡ 0
   unfolding opened
   next-end p h = go slots h
     where
@@ -84,7 +84,7 @@ module _ (pooled : Bool) (q : Queue) (tasks slots tag : ℕ) where
       go zero h = absurd (omega arith)
       go (suc n) h = rw p (climb-last 2 n (drop (suc n + 1) (q .tables .next)))
 
-  next-zero : pooled ≡ true → getD (o .tables .next) 0 0 ≡ 0
+  pub next-zero : pooled ≡ true → getD (o .tables .next) 0 0 ≡ 0
   unfolding opened
   next-zero p = rw p
 

@@ -9,10 +9,10 @@ use Rattle.places.proofs.at11.Tie as tie
 -- The end, as read, tested for a slot.
 module _ (tested : tie.After-from1) where
   abbrev start : tie.Start
-  start = let anchor = tested .before .before .before .before in anchor .before .before .before
+  start = let end = tested .before .before in end .before .before .before
 
-  near : tested .before .before .near .result ≡ ownEnd (start .args .r)
-  near = rw (tested .before .before .before .before .unpack .ensures) at (tested .before .before .near .ensures)
+  near : tested .before .before .own-end .result ≡ ownEnd (start .args .r)
+  near = tested .before .before .own-end .ensures
 
 returns : tie.Need-returns
 returns c =
@@ -36,7 +36,6 @@ pub at11-spec : {M : Type 1} → statement M
 at11-spec =
     tie.close
     (tie.spec
-    (λ _ _. tt)
     (λ _ _. tt)
     (λ _ _. tt)
     (λ _ _. tt)

@@ -5,10 +5,10 @@ use Rattle.places.proofs.at5.Tie as tie
 
 returns : tie.Need-returns
 returns c =
-    let end = c .before .before in
-    let anchor = end .before .before in
+    let link = c .before .before in
+    let anchor = link .before in
     let a = anchor .before .before .before .args in
-    rw (c .at5 .ensures, c .before .link-at .ensures, end .near .ensures, anchor .unpack .ensures)
+    rw (c .at5 .ensures, c .before .link-at .ensures, link .link5-of .ensures, anchor .unpack .ensures)
     (step5 (a .c) (a .r) (a .lefts .now) (a .rights .now))
 
 pub at5-spec : {M : Type 1} → statement M

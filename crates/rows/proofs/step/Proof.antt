@@ -7,20 +7,20 @@ use borrow.Author.Needs.{needs}
 use Rattle.rows.proofs.step.Statement.{statement}
 use Rattle.rows.proofs.step.Tie as tie
 
--- The answer of `admit`, in the model's terms.
-module _ (told : tie.After-admit) where
+-- The answer of `admit_step`, in the model's terms.
+module _ (told : tie.After-admit-step) where
   abbrev a : tie.Start
   a = let lent = told .before .before .before .before in lent .before .before .before .before
 
-  abbrev why : told .admit .result
+  abbrev why : told .admit-step .result
       ≡ fault (a .args .control .now) (a .args .records .now) (a .args .lefts .now) (a .args .rights .now) (a .args .labels .now)
       (a .args .marks .now) (a .args .next .now) (a .args .task)
   why =
       asked (a .args .control .now) (a .args .records .now) (a .args .lefts .now) (a .args .rights .now) (a .args .labels .now)
       (a .args .marks .now) (a .args .next .now) (a .args .task) _ _
-      (told .before .control-of .ensures) (told .admit .ensures)
+      (told .before .control-of .ensures) (told .admit-step .ensures)
 
-  known : told .admit .result ≡ 0 → a .args .task < length (a .args .records .now)
+  known : told .admit-step .result ≡ 0 → a .args .task < length (a .args .records .now)
   known none =
       there (a .args .control .now) (a .args .records .now) (a .args .lefts .now) (a .args .rights .now) (a .args .labels .now)
       (a .args .marks .now) (a .args .next .now) (a .args .task) (sym why ∙ none)

@@ -1,10 +1,11 @@
--- The left end no slot, equal ends, or different ones; the first test that fails, or the right end's.
+-- The left end no slot, no status; from place 5 on, equal ends, or different ones.
 use mathlib.Core.Path.{_≡_, sym, ap, _∙_}
 use mathlib.Core.Bool.{Bool, true}
 use borrow.Author.Tests.{not-true, not-false}
 use Rattle.word.specs.Anchor.{anchorOf}
+use Rattle.model.specs.Sound.{from1}
 use Rattle.sound.specs.Records.{earlySeen}
-use Rattle.sound.proofs.Seen.{null-late, null-soon, equal-late, equal-soon, no-status, stable-late, apart-late, apart-soon}
+use Rattle.sound.proofs.Seen.{null-late, null-soon, no-status, late, equal-soon, apart-soon}
 use Rattle.sound.proofs.deque_seen.Statement.{statement}
 use Rattle.sound.proofs.deque_seen.Tie as tie
 
@@ -31,58 +32,41 @@ module _ (past : tie.Else1) where
   abbrev word : tie.After-unpack
   word = past .before .before
 
-  first : past .before .from1 .result ≡ true
-  first = not-false _ (past .if1 .left)
+  first : from1 (word .before .args .slots) (word .unpack .result .left) ≡ true
+  first = sym (past .before .from1 .ensures) ∙ not-false _ (past .if1 .left)
 
 returns-3 : tie.Need-returns-3
-returns-3 c =
-    let ends = c .before .before in
-    let past = ends .before .before in
-    of-word (word past) _ (equal-late _ _ _ (ends .if3 .taken) (c .if4 .taken))
+returns-3 c = let past = c .before .before in of-word (word past) _ (no-status _ _ _ (first past) (c .if3 .taken))
 
 returns-4 : tie.Need-returns-4
 returns-4 c =
-    let soon = c .before in
-    let ends = soon .before .before in
-    let past = ends .before .before in
-    of-word (word past) _ (equal-soon _ _ _ (ends .if3 .taken) (sym (past .before .from1 .ensures) ∙ first past) (soon .if4 .left))
+    let called = c .before in
+    let from5 = called .before .before in
+    let used = from5 .before .before in
+    let past = used .before .before in
+    let u = word past in
+    of-word u _
+    (rw (called .from12 .ensures)
+    (late (u .before .args .slots) (u .before .args .r .place) (u .unpack .result) (first past) (u .before .args .r .seen) (u .unpack .ensures)
+    (used .if3 .left) (from5 .if4 .taken)))
 
 returns-5 : tie.Need-returns-5
 returns-5 c =
-    let ends = c .before .before in
-    let past = ends .before .before in
-    of-word (word past) _ (no-status _ _ _ (sym (past .before .from1 .ensures) ∙ first past) (ends .if3 .left) (c .if5 .taken))
+    let same = c .before in
+    let soon = same .before .before in
+    let used = soon .before .before in
+    let past = used .before .before in
+    of-word (word past) _ (equal-soon _ _ _ (first past) (same .if5 .taken) (soon .if4 .left))
 
 returns-6 : tie.Need-returns-6
 returns-6 c =
-    let late = c .before .before in
-    let used = late .before .before in
-    let ends = used .before .before in
-    let past = ends .before .before in
-    of-word (word past) _ (stable-late _ _ _ (sym (past .before .from1 .ensures) ∙ first past) (ends .if3 .left) (c .if7 .taken) (late .if6 .taken))
-
-returns-7 : tie.Need-returns-7
-returns-7 c =
-    let status = c .before in
-    let late = status .before .before in
-    let used = late .before .before in
-    let ends = used .before .before in
-    let past = ends .before .before in
-    of-word (word past) _
-    (c .from12 .ensures
-    ∙ apart-late _ _ _ (sym (past .before .from1 .ensures) ∙ first past) (ends .if3 .left) _ (word past .unpack .ensures) (used .if5 .left)
-    (status .if7 .left) (late .if6 .taken))
-
-returns-8 : tie.Need-returns-8
-returns-8 c =
-    let late = c .before in
-    let used = late .before .before in
-    let ends = used .before .before in
-    let past = ends .before .before in
+    let other = c .before in
+    let soon = other .before .before in
+    let used = soon .before .before in
+    let past = used .before .before in
     of-word (word past) _
     (c .from13 .ensures
-    ∙ apart-soon _ _ _ (sym (past .before .from1 .ensures) ∙ first past) (ends .if3 .left) _ (word past .unpack .ensures) (used .if5 .left)
-    (late .if6 .left))
+    ∙ apart-soon _ _ _ (first past) _ (word past .unpack .ensures) (used .if3 .left) (other .if5 .left) (soon .if4 .left))
 
 pub deque-seen-spec : {M : Type 1} → statement M
 deque-seen-spec =
@@ -93,10 +77,8 @@ deque-seen-spec =
     returns
     returns-2
     returns-3
+    (λ _ _. tt)
     returns-4
     returns-5
-    returns-6
     (λ _ _. tt)
-    returns-7
-    (λ _ _. tt)
-    returns-8)
+    returns-6)

@@ -16,7 +16,7 @@ use Rattle.model.specs.declared.Outcome.the-variants.{Refused}
 use Rattle.model.proofs.tests.Truth.{split}
 use Rattle.model.proofs.invariant.Owners.{held}
 use Rattle.threads_model.specs.Split.{plan}
-use Rattle.threads_model.specs.Turns.{Turn, take, runTurns, finalTurns}
+use Rattle.threads_model.specs.Turns.{Turn, takeEarly, runTurns, finalTurns}
 use Rattle.threads_model.specs.Instructions.{Hand, free, begun, loaded, knows, claims, looks, labels, marks, ends, Ticked, quiet, decided}
 use Rattle.threads_model.specs.Instructions.{written, toldAtEnd}
 use Rattle.threads_model.specs.Crew.{Crew, withHand, turnsOf, outcomesOf, owed}
@@ -144,8 +144,8 @@ module _ (now : Moment) where
   abbrev pub turn : Op → Bool → Turn
   turn op early = record { task = t; op = op; early = early }
 
-  module _ (op : Op) (early : Bool) (a : Acted) (is : take q (turn op early) ≡ back q t a)
-      (kept : Good tasks pooled slots (take q (turn op early) .queue)) (never : take q (turn op early) .outcome ≡ Refused 34 → ⊥) where
+  module _ (op : Op) (early : Bool) (a : Acted) (is : takeEarly q (turn op early) ≡ back q t a)
+      (kept : Good tasks pooled slots (takeEarly q (turn op early) .queue)) (never : takeEarly q (turn op early) .outcome ≡ Refused 34 → ⊥) where
     abbrev q′ : Queue
     q′ = back q t a .queue
 
@@ -210,7 +210,7 @@ module _ (now : Moment) where
         → Goal k₀ (record { tables = T′; hand = k; decides = op ∷ []; early = early })
     unfolding runTurns finalTurns outcomesOf
     turning k₀ o₀ t₀ w₀ T′ k d =
-        let turned = take q (turn op early) in
+        let turned = takeEarly q (turn op early) in
         record {
           sim =
               subst (λ (r : Record). Sim tasks pooled slots (after T′ r k) (turned .queue)) (sym w₀)
@@ -238,16 +238,16 @@ module _ (now : Moment) where
         }
 
   -- A start or step as ever.
-  pub now-is : (op : Op) (a : Acted) → act q t op ≡ back q t a → take q (turn op false) ≡ back q t a
-  unfolding take
+  pub now-is : (op : Op) (a : Acted) → act q t op ≡ back q t a → takeEarly q (turn op false) ≡ back q t a
+  unfolding takeEarly
   now-is op a is = is
 
-  pub now-good : (op : Op) → Good tasks pooled slots (take q (turn op false) .queue)
-  unfolding take
+  pub now-good : (op : Op) → Good tasks pooled slots (takeEarly q (turn op false) .queue)
+  unfolding takeEarly
   now-good op = own.good-act tasks pooled slots q t op g
 
-  pub now-never : (op : Op) → take q (turn op false) .outcome ≡ Refused 34 → ⊥
-  unfolding take
+  pub now-never : (op : Op) → takeEarly q (turn op false) .outcome ≡ Refused 34 → ⊥
+  unfolding takeEarly
   now-never op = own.act-never tasks pooled slots q t op g
 
   pub deciding : (op : Op) (a : Acted) (is : act q t op ≡ back q t a) (k₀ : Hand) → owed k₀ ≡ [] → toldAtEnd k₀ ≡ [] → written k₀ r ≡ r

@@ -16,7 +16,7 @@ use Rattle.threads_model.specs.declared.PlannedTouch.{PlannedTouch}
 use Rattle.threads_model.specs.Split.{Touched, perform, plan}
 use Rattle.threads_model.specs.Starts.{ownRefusal}
 use Rattle.threads_model.specs.Instructions.{Hand, free, begun, loaded, knows, claims, looks, labels, marks, ends, Ticked}
-use Rattle.threads_model.specs.Instructions.{isAsRead, loadsOwn, putsOwn, stepFirst, clears, tick}
+use Rattle.threads_model.specs.Instructions.{isToPut, isAsRead, loadsOwn, putsOwn, readsNext, atOnce, oneWord, replaces, stepFirst, clears, tick}
 use Rattle.threads_model.specs.Crew.{Crew, Act, calls, next, takesUp, ticked, go}
 use Rattle.threads.proofs.follow.Plans.{Two, says}
 use Rattle.threads.proofs.follow.Starting.{plainStart, namedOwn, first-pop, first-put, first-push, claims-is, looks-is}
@@ -92,19 +92,34 @@ module _ (q : Tables) (l : IsLate q) where
 
     loads-own : Ticks (loadsOwn pooled slots q r)
     unfolding loadsOwn
-    loads-own = either Ticks (linkSound slots (getD (links q (p .side)) (p .slot) 0)) l l
+    loads-own = either Ticks (isToPut slots p (getD (links q (p .side)) (p .slot) 0)) l l
 
     puts-own : (w : ℕ) → Ticks (putsOwn pooled slots q r w)
     unfolding putsOwn
     puts-own w = either Ticks (isAsRead q p w) l loads-own
+
+    reads-next : Ticks (readsNext pooled slots q r)
+    unfolding readsNext
+    reads-next = either Ticks (eqb (getD (q .next) (p .slot) 0) (p .word)) l l
+
+    at-once : Ticks (atOnce pooled slots q r)
+    unfolding atOnce
+    at-once = performs p (says pooled slots (r .call) .two)
+
+    one-word : Ticks (oneWord pooled slots q r)
+    unfolding oneWord
+    one-word = either Ticks (eqb (p .act) 11) reads-next at-once
+
+    replacing : (w : ℕ) → Ticks (replaces pooled slots q r w)
+    unfolding replaces
+    replacing w = either Ticks (eqb (p .act) 11) at-once (puts-own w)
 
     steps : Ticks (stepFirst pooled slots q r)
     unfolding stepFirst
     steps =
         either Ticks (eqb (p .act) 5) loads-own
         (either Ticks (eqb (p .act) 6) l
-        (either Ticks (eqb (p .act) 9) (either Ticks (eqb (q .control .head) (p .expected)) l l)
-        (performs p (says pooled slots (r .call) .two))))
+        (either Ticks (eqb (p .act) 9) (either Ticks (eqb (q .control .head) (p .expected)) l l) one-word))
 
     ticks : (k : Hand) → Ticks (tick pooled slots q r k)
     unfolding clears
@@ -119,7 +134,7 @@ module _ (q : Tables) (l : IsLate q) where
         subst Ticks (sym (first-put q r pooled slots side label))
         (either Ticks (eqb (ownRefusal pooled slots (r .call) side (not (eqb pooled 1)) false) 0) (either Ticks (late (q .control)) l l) l)
     ticks (begun Step) = steps
-    ticks (loaded w) = puts-own w
+    ticks (loaded w) = replacing w
     ticks (knows label) = l
     ticks (claims side slot label) = subst Ticks (sym (claims-is q r side slot label)) (either Ticks (marked (q .marks) slot) l l)
     ticks (looks side slot label) = subst Ticks (sym (looks-is q r side slot label)) l
@@ -180,13 +195,31 @@ module _ (pooled slots : ℕ) where
     loads-left : (k₀ : Hand) → LateAfter k₀ (loadsOwn pooled slots q r)
     unfolding loadsOwn
     loads-left k₀ =
-        either (LateAfter k₀) (linkSound slots (getD (links q (asked .side)) (asked .slot) 0))
+        either (LateAfter k₀) (isToPut slots asked (getD (links q (asked .side)) (asked .slot) 0))
         (record { hand = tt; claim = λ e. absurd (not-both e refl); early = λ _. refl })
         (ending k₀ _ _ _ _)
 
     puts-left : (k₀ : Hand) (w : ℕ) → LateAfter k₀ (putsOwn pooled slots q r w)
     unfolding putsOwn
     puts-left k₀ w = either (LateAfter k₀) (isAsRead q asked w) (ending k₀ _ _ _ _) (loads-left k₀)
+
+    next-left : (k₀ : Hand) → LateAfter k₀ (readsNext pooled slots q r)
+    unfolding readsNext
+    next-left k₀ =
+        either (LateAfter k₀) (eqb (getD (q .next) (asked .slot) 0) (asked .word)) (ending k₀ _ _ _ _)
+        (record { hand = tt; claim = λ e. absurd (not-both e refl); early = λ _. refl })
+
+    once-left : (k₀ : Hand) → LateAfter k₀ (atOnce pooled slots q r)
+    unfolding atOnce
+    once-left k₀ = ending k₀ _ _ _ _
+
+    word-left : (k₀ : Hand) → LateAfter k₀ (oneWord pooled slots q r)
+    unfolding oneWord
+    word-left k₀ = either (LateAfter k₀) (eqb (asked .act) 11) (next-left k₀) (once-left k₀)
+
+    replaced-left : (k₀ : Hand) (w : ℕ) → LateAfter k₀ (replaces pooled slots q r w)
+    unfolding replaces
+    replaced-left k₀ w = either (LateAfter k₀) (eqb (asked .act) 11) (once-left k₀) (puts-left k₀ w)
 
     step-left : (k₀ : Hand) → LateAfter k₀ (stepFirst pooled slots q r)
     unfolding stepFirst
@@ -196,7 +229,7 @@ module _ (pooled slots : ℕ) where
         (either (LateAfter k₀) (eqb (asked .act) 9)
         (either (LateAfter k₀) (eqb (q .control .head) (asked .expected))
         (record { hand = tt; claim = λ e. absurd (not-both e refl); early = λ _. refl }) (ending k₀ _ _ _ _))
-        (ending k₀ _ _ _ _)))
+        (word-left k₀)))
 
     plain-left : (k₀ : Hand) (op : Op) (why : ℕ) (call : Call) (place : ℕ) → LateAfter k₀ (plainStart q r op why call place)
     plain-left k₀ op why call place =
@@ -219,7 +252,7 @@ module _ (pooled slots : ℕ) where
         (plain-left (begun (PushPooled side label)) (PushPooled side label) (ownRefusal pooled slots (r .call) side (not (eqb pooled 1)) false)
         (asking side label) 12)
     tick-left (begun Step) = step-left (begun Step)
-    tick-left (loaded w) = puts-left (loaded w) w
+    tick-left (loaded w) = replaced-left (loaded w) w
     tick-left (knows label) = ending (knows label) _ _ _ _
     tick-left (claims side slot label) =
         let k₀ = claims side slot label in

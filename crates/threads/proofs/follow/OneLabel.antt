@@ -14,14 +14,13 @@ use Rattle.model.specs.declared.Op.{Op}
 use Rattle.model.specs.declared.Op.the-variants.{Push, Pop, PushPooled, Step}
 use Rattle.model.specs.Tables.{Tables, marked, withMark, withMarks}
 use Rattle.model.specs.Sides.{links}
-use Rattle.model.specs.Sound.{linkSound}
 use Rattle.threads_model.specs.declared.PlannedTouch.{PlannedTouch}
 use Rattle.threads_model.specs.declared.Start.{Start}
 use Rattle.threads_model.specs.Split.{plan, perform, settle}
 use Rattle.threads_model.specs.Starts.{Begins, touches, answers, names, pops, puts, planStart, settleStart}
 use Rattle.threads_model.specs.Instructions.{Hand, free, begun, loaded, knows, claims, looks, labels, marks, ends, Ticked, quiet, decided, settled, tick}
-use Rattle.threads_model.specs.Instructions.{awaits, withLabels, labelTouched, loadsOwn, isAsRead, putsOwn, stepFirst, clears}
-use Rattle.threads_model.specs.Instructions.{startFirst, claimsMark, looksMark}
+use Rattle.threads_model.specs.Instructions.{awaits, withLabels, labelTouched, isToPut, loadsOwn, isAsRead, putsOwn, readsNext, atOnce, oneWord, replaces}
+use Rattle.threads_model.specs.Instructions.{stepFirst, clears, startFirst, claimsMark, looksMark}
 use Rattle.threads.specs.Promises.{relabelled, TouchesOneLabel}
 use Rattle.threads.proofs.follow.Overlay.{overlay, both, over}
 
@@ -66,22 +65,36 @@ module _ (pooled slots : ℕ) (q : Tables) (r : Record) (x v : ℕ) where
   -- Steps: a push at 3 touches its link word.
   loading : Same (loadsOwn pooled slots q r) (loadsOwn pooled slots other r)
   unfolding loadsOwn
-  loading = both Same (linkSound slots (getD (links q (p .side)) (p .slot) 0)) (λ _. refl) (λ _. refl)
+  loading = both Same (isToPut slots p (getD (links q (p .side)) (p .slot) 0)) (λ _. refl) (λ _. refl)
 
   putting : (w : ℕ) → Same (putsOwn pooled slots q r w) (putsOwn pooled slots other r w)
   unfolding putsOwn isAsRead
   putting w = both Same (isAsRead q p w) (λ _. refl) (λ _. loading)
 
+  reading-next : Same (readsNext pooled slots q r) (readsNext pooled slots other r)
+  unfolding readsNext
+  reading-next = both Same (eqb (getD (q .next) (p .slot) 0) (p .word)) (λ _. refl) (λ _. refl)
+
   -- Any touch but 6 and 9.
-  one-touch : eqb (p .act) 6 ≡ false → eqb (p .act) 9 ≡ false
-      → Same (let d = perform q p in let e = settle pooled slots r (d .found) in decided Step (d .tables) (ends (e .task) (e .outcome)))
-      (let d = perform other p in let e = settle pooled slots r (d .found) in decided Step (d .tables) (ends (e .task) (e .outcome)))
+  one-touch : eqb (p .act) 6 ≡ false → eqb (p .act) 9 ≡ false → Same (atOnce pooled slots q r) (atOnce pooled slots other r)
+  unfolding atOnce
   one-touch no6 no9 =
       let o = over q l (q .marks) p no6 no9 in
       let d = perform q p .tables in
       let tables : perform other p .tables ≡ withLabels d (set (d .labels) x v) =
       o .tables ∙ (λ i. overlay d (set (sym (o .labels) i) x v) (sym (o .marks) i)) in
       λ i. let e = settle pooled slots r (o .found i) in decided Step (tables i) (ends (e .task) (e .outcome))
+
+  one-word : eqb (p .act) 6 ≡ false → eqb (p .act) 9 ≡ false → Same (oneWord pooled slots q r) (oneWord pooled slots other r)
+  unfolding oneWord
+  one-word no6 no9 = both Same (eqb (p .act) 11) (λ _. reading-next) (λ _. one-touch no6 no9)
+
+  replacing : (w : ℕ) → Same (replaces pooled slots q r w) (replaces pooled slots other r w)
+  unfolding replaces
+  replacing w =
+      both Same (eqb (p .act) 11)
+      (λ e. let at = eqb-true (p .act) 11 e in one-touch (ap (λ (n : ℕ). eqb n 6) at) (ap (λ (n : ℕ). eqb n 9) at))
+      (λ _. putting w)
 
   stepping : labelTouched pooled slots r (begun Step) ≢ x → Same (stepFirst pooled slots q r) (stepFirst pooled slots other r)
   unfolding stepFirst
@@ -92,7 +105,7 @@ module _ (pooled slots : ℕ) (q : Tables) (r : Record) (x v : ℕ) where
       ap (λ (w : ℕ). quiet other (knows w)) (getD-set-other (q .labels) x (p .slot) v 0 apart))
       (λ no6. both Same (eqb (p .act) 9)
       (λ _. both Same (eqb (q .control .head) (p .expected)) (λ _. refl) (λ _. refl))
-      (λ no9. one-touch no6 no9)))
+      (λ no9. one-word no6 no9)))
 
   ticks : (k : Hand) → labelTouched pooled slots r k ≢ x → Same (tick pooled slots q r k) (tick pooled slots other r k)
   unfolding clears
@@ -101,7 +114,7 @@ module _ (pooled slots : ℕ) (q : Tables) (r : Record) (x v : ℕ) where
   ticks (begun (Pop side)) ne = starts (Pop side) (pops side)
   ticks (begun (PushPooled side label)) ne = starts (PushPooled side label) (puts side label)
   ticks (begun Step) ne = stepping ne
-  ticks (loaded w) ne = putting w
+  ticks (loaded w) ne = replacing w
   ticks (knows label) ne = refl
   ticks (claims side slot label) ne = claiming side slot label
   ticks (looks side slot label) ne = looking side slot label

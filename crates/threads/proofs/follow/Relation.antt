@@ -32,7 +32,7 @@ module _ (tasks pooled slots : ℕ) where
   abbrev pub Extra : ℕ → Record → List ℕ → Hand → Type 0
   Extra t r l free = Unit {0}
   Extra t r l (begun op) = Unit {0}
-  Extra t r l (loaded w) = (plan pooled slots (r .call) .act ≡ 5) × (linkSound slots w ≡ true)
+  Extra t r l (loaded w) = eqb (plan pooled slots (r .call) .act) 11 ≡ false → (plan pooled slots (r .call) .act ≡ 5) × (linkSound slots w ≡ true)
   Extra t r l (knows label) = (t < tasks) × (plan pooled slots (r .call) .act ≡ 6) × (label ≡ getD l (plan pooled slots (r .call) .slot) 0)
   Extra t r l (claims side slot label) = namedOwn pooled slots (r .call) side slot ≡ 0
   Extra t r l (looks side slot label) = namedOwn pooled slots (r .call) side slot ≡ 0

@@ -9,7 +9,7 @@ use Rattle.model.specs.Tables.{Queue, taskAt, marked, started}
 use Rattle.model.specs.{Refusals.late, Calls.act}
 use Rattle.model.proofs.tests.Truth.{either, split, not-both}
 use Rattle.model.proofs.unsound.StartSafe.{Room}
-use Rattle.threads_model.specs.Turns.{take, finalTurns}
+use Rattle.threads_model.specs.Turns.{takeEarly, finalTurns}
 use Rattle.threads_model.specs.Instructions.{Hand, free, begun, loaded, knows, claims, looks, labels, marks, ends, Ticked, tick}
 use Rattle.threads_model.specs.Crew.{Crew, next, withHand, ticked, go, asTurns, turnsOf}
 use Rattle.threads.proofs.lists.TagRoom.{Roomy, act-roomy, early-room, early-roomy, fewer-roomy, turn-roomy}
@@ -25,7 +25,7 @@ module _ (tasks pooled slots t : ℕ) where
   -- Starts and steps as ever.
   acts-roomy : (early : ℕ → Bool) → early t ≡ false → (ds : List Op) (q : Queue) → Good tasks pooled slots q → Roomy early q
       → Roomy early (finalTurns q (asTurns t false ds))
-  unfolding finalTurns take
+  unfolding finalTurns takeEarly
   acts-roomy early none [] q g r = r
   acts-roomy early none (o ∷ ds) q g r =
       acts-roomy early none ds (act q t o .queue) (good-act tasks pooled slots q t o g)

@@ -16,7 +16,7 @@ use Rattle.model.specs.declared.Answer.the-variants.{Running}
 use Rattle.model.proofs.tests.Rules.{cleared}
 use Rattle.model.proofs.tests.Truth.{split, by-test, not-both}
 use Rattle.model.proofs.bridge.Facts.{from1-true}
-use Rattle.threads_model.specs.Turns.{actEarly, take}
+use Rattle.threads_model.specs.Turns.{actEarly, takeEarly}
 use Rattle.threads_model.specs.Starts.{ownRules, ownRefusal, names, pops, puts}
 use Rattle.threads_model.specs.Instructions.{Hand, claims, looks, labels, ends, Ticked, startFirst, claimsMark, looksMark}
 use Rattle.threads_model.specs.Crew.{Crew}
@@ -195,15 +195,15 @@ module _ (now : Moment) where
             ∙ ap (λ (n : ℕ). cond (eqb n 0) x n) own-is
             ∙ ap (λ (b : Bool). cond b x n) (eq-eqb n 0 e)
 
-        turn-taken : marked (G .marks) slot ≡ true → take q (I.turn now op true) ≡ back q t (record { tables = G; task = r; outcome = Refused 32 })
-        unfolding take actEarly
+        turn-taken : marked (G .marks) slot ≡ true → takeEarly q (I.turn now op true) ≡ back q t (record { tables = G; task = r; outcome = Refused 32 })
+        unfolding takeEarly actEarly
         turn-taken b =
             let why : pushRefusal G (among q t) (recordAt q t) side slot ≡ 32 = why-is ∙ ap (λ (b : Bool). cond b 32 (cond (late (G .control)) 33 0)) b in
             ap (λ (w : ℕ). cond (eqb w 33) (back q t (pushed (taskAt q t))) (act q t op)) why
             ∙ to-next ∙ ap (back q t) (decide-taken n G r (pushed r) (marked (G .marks) slot) (late (G .control)) b)
 
-        turn-done : marked (G .marks) slot ≡ false → take q (I.turn now op true) ≡ back q t (pushed r)
-        unfolding take actEarly
+        turn-done : marked (G .marks) slot ≡ false → takeEarly q (I.turn now op true) ≡ back q t (pushed r)
+        unfolding takeEarly actEarly
         turn-done b = split (late (G .control))
             (λ l. let why : pushRefusal G (among q t) (recordAt q t) side slot ≡ 33 = why-is ∙ (λ i. cond (b i) 32 (cond (l i) 33 0)) in
             ap (λ (w : ℕ). cond (eqb w 33) (back q t (pushed (taskAt q t))) (act q t op)) why

@@ -4,26 +4,25 @@ use mathlib.Core.Bool.{Bool, true, false, cond}
 use mathlib.Core.List.{List, [], _∷_}
 use Prim.Native.Nat.{ℕ, _<_, _≤_, _/_}
 use native.Mathlib.Omega.{arith}
-use lib.{Dec.eqb, Seq.getD-set-other}
-use lib.ListN.{length, getD, length-set}
+use lib.{Dec.eqb, Seq.getD-set-other, Seq.set-getD}
+use lib.ListN.{length, getD, set, length-set}
 use borrow.Author.Tests.{eqb-true}
 use Rattle.model.specs.declared.{Control.Control, Record.Record}
 use Rattle.model.specs.declared.Op.the-variants.{Step}
-use Rattle.model.specs.Tables.{Tables, Queue, taskAt, recordAt, marked, linked, withMark, withMarks, withHead, withTaken}
+use Rattle.model.specs.Tables.{Tables, Queue, taskAt, recordAt, marked, linked, withMark, withMarks, withHead, withNext, withTaken}
 use Rattle.model.specs.{Places.row, Sides.links, Sound.linkSound}
-use Rattle.word.specs.Link.{linkOf, packLink}
 use Rattle.model.specs.Calls.{Acted, act, back}
-use Rattle.model.proofs.tests.Truth.{by-test}
+use Rattle.model.proofs.tests.Truth.{by-test, split, and-true, not-both}
 use Rattle.model.proofs.bridge.{Marks.marked-other, Facts.from1-true}
 use Rattle.model.proofs.invariant.Owners.{Owner, held}
 use Rattle.threads_model.specs.Split.{plan, perform, settle, splitStep, Touched, Settled}
 use Rattle.threads_model.specs.declared.PlannedTouch.{PlannedTouch}
 use Rattle.threads.proofs.split.Within.{plans-within}
 use Rattle.threads_model.specs.Instructions.{Hand, loaded, knows, labels, ends, Ticked, quiet, decided}
-use Rattle.threads_model.specs.Instructions.{isAsRead, loadsOwn, putsOwn, stepFirst, clears}
+use Rattle.threads_model.specs.Instructions.{putInto, isToPut, isAsRead, loadsOwn, putsOwn, readsNext, atOnce, oneWord, replaces, stepFirst, clears}
 use Rattle.threads_model.specs.Crew.{Crew}
 use Rattle.threads.specs.Promises.{onRow, OwesLabel, OwesMark}
-use Rattle.threads.proofs.follow.Overlay.{overlay, Over, over, perform5, perform6, perform9}
+use Rattle.threads.proofs.follow.Overlay.{overlay, Over, over, perform5, perform6, perform9, perform11, linked-same}
 use Rattle.threads.proofs.follow.Plans.{says, settle14}
 use Rattle.threads.proofs.follow.Good as own
 use Rattle.threads.proofs.follow.Good.{Good}
@@ -79,8 +78,11 @@ module _ (now : Moment) where
     abbrev p : PlannedTouch
     p = plan pooled slots (r .call)
 
+    abbrev leaves : Tables → ℕ → Acted
+    leaves X w = record { tables = X; task = settle pooled slots r w .task; outcome = settle pooled slots r w .outcome }
+
     abbrev stepped : Touched → Acted
-    stepped d = record { tables = d .tables; task = settle pooled slots r (d .found) .task; outcome = settle pooled slots r (d .found) .outcome }
+    stepped d = leaves (d .tables) (d .found)
 
     abbrev splitAt : ℕ → ℕ → Record → Acted
     splitAt pooled slots r =
@@ -93,8 +95,8 @@ module _ (now : Moment) where
     step-at = own.step-is tasks pooled slots q g t lt ∙ (λ i. back q t (splitAt (g .pool i) (g .size i) (sym (c .reads) i)))
 
     -- Any touch but 6 and 9 is one instruction.
-    one-touch : eqb (p .act) 6 ≡ false → eqb (p .act) 9 ≡ false
-        → Goal k₀ (let d = perform T p in let e = settle pooled slots r (d .found) in decided Step (d .tables) (ends (e .task) (e .outcome)))
+    one-touch : eqb (p .act) 6 ≡ false → eqb (p .act) 9 ≡ false → Goal k₀ (atOnce pooled slots T r)
+    unfolding atOnce
     one-touch no6 no9 =
         let O : Over G (T .labels) (T .marks) (perform G p) (perform T p) =
         subst (λ (X : Tables). Over G (T .labels) (T .marks) (perform G p) (perform X p)) (sym (f .rest)) (over G (T .labels) (T .marks) p no6 no9) in
@@ -134,11 +136,7 @@ module _ (now : Moment) where
         let same-head : G .control .head ≡ head = ap (λ (c : Control). c .head) (sym (R.control tasks pooled slots m q f g)) in
         step-at
         ∙ ap (λ (d : Touched). back q t (stepped d)) (perform9 G p nine)
-        ∙ (λ i. back q t (record {
-          tables = cond (eqb (same-head i) (p .expected)) drawn G;
-          task = settle pooled slots r (same-head i) .task;
-          outcome = settle pooled slots r (same-head i) .outcome;
-        }))
+        ∙ (λ i. back q t (leaves (cond (eqb (same-head i) (p .expected)) drawn G) (same-head i)))
         ∙ ap (λ (b : Bool). back q t (record { tables = cond b drawn G; task = s .task; outcome = s .outcome })) e
 
     swap-failed : p .act ≡ 9 → eqb head (p .expected) ≡ false → Goal k₀ (decided Step T (ends (s .task) (s .outcome)))
@@ -199,35 +197,60 @@ module _ (now : Moment) where
     linkOn X = getD (links X (p .side)) (p .slot) 0
 
     abbrev putOn : Tables → ℕ → Tables
-    putOn X w = linked X (p .side) (p .slot) (packLink (record { tag = linkOf w .tag; slot = p .word }))
+    putOn X w = linked X (p .side) (p .slot) (putInto p w)
 
     put-is : p .act ≡ 5 → (w : ℕ) → linkOn T ≡ w → (b : Bool) → linkSound slots w ≡ b
-        → act q t Step ≡ back q t (record { tables = cond b (putOn G w) G; task = settle pooled slots r w .task; outcome = settle pooled slots r w .outcome })
+        → act q t Step ≡ back q t (leaves (cond b (putOn G w) G) w)
     put-is five w at b e =
         let same-link : linkOn G ≡ w = ap linkOn (sym (f .rest)) ∙ at in
         step-at
         ∙ ap (λ (d : Touched). back q t (stepped d)) (perform5 G p five)
-        ∙ (λ i. back q t (record {
-          tables = cond (linkSound (g .size i) (same-link i)) (putOn G (same-link i)) G;
-          task = settle pooled slots r (same-link i) .task;
-          outcome = settle pooled slots r (same-link i) .outcome;
-        }))
-        ∙ ap (λ (b : Bool). back q t
-        (record { tables = cond b (putOn G w) G; task = settle pooled slots r w .task; outcome = settle pooled slots r w .outcome })) e
+        ∙ (λ i. back q t (leaves (cond (linkSound (g .size i) (same-link i)) (putOn G (same-link i)) G) (same-link i)))
+        ∙ ap (λ (b : Bool). back q t (leaves (cond b (putOn G w) G) w)) e
+
+    -- Where the word has the slot already, or is unsound, the step leaves the tables as they are.
+    stays-is : p .act ≡ 5 → isToPut slots p (linkOn T) ≡ false → act q t Step ≡ back q t (leaves G (linkOn T))
+    unfolding isToPut
+    stays-is five e =
+        let w = linkOn T in
+        let same-link : linkOn G ≡ w = ap linkOn (sym (f .rest)) in
+        split (linkSound slots w)
+        (λ sound. split (eqb (putInto p w) w)
+        (λ has. put-is five w refl true sound
+        ∙ ap (λ (v : ℕ). back q t (leaves (linked G (p .side) (p .slot) v) w)) (eqb-true _ _ has ∙ sym same-link)
+        ∙ ap (λ (X : Tables). back q t (leaves X w)) (linked-same G (p .side) (p .slot)))
+        (λ other. absurd (not-both (rw (sound, other)) e)))
+        (put-is five w refl false)
 
     loads-goal : p .act ≡ 5 → Goal k₀ (loadsOwn pooled slots T r)
-    unfolding loadsOwn
+    unfolding loadsOwn isToPut
     loads-goal five =
-        by-test (Goal k₀) (linkSound slots (linkOn T))
-        (λ e. C.waits now k₀ c (loaded (linkOn T)) refl refl (five, e))
-        (λ e. C.plain now k₀ c Step (settle pooled slots r (linkOn T) .task) (settle pooled slots r (linkOn T) .outcome) (put-is five (linkOn T) refl false e))
+        by-test (Goal k₀) (isToPut slots p (linkOn T))
+        (λ e. C.waits now k₀ c (loaded (linkOn T)) refl refl (λ _. (five, and-true _ _ e .0)))
+        (λ e. C.plain now k₀ c Step (settle pooled slots r (linkOn T) .task) (settle pooled slots r (linkOn T) .outcome) (stays-is five e))
 
-    pub puts-goal : (w : ℕ) → p .act ≡ 5 → linkSound slots w ≡ true → Goal k₀ (putsOwn pooled slots T r w)
+    -- A pop at 16: a next that is the wanted one stays.
+    next-goal : p .act ≡ 11 → Goal k₀ (readsNext pooled slots T r)
+    unfolding readsNext
+    next-goal eleven =
+        let nextOn : Tables → ℕ = λ (X : Tables). getD (X .next) (p .slot) 0 in
+        by-test (Goal k₀) (eqb (nextOn T) (p .word))
+        (λ e. C.plain now k₀ c Step (settle pooled slots r 0 .task) (settle pooled slots r 0 .outcome) (step-at
+        ∙ ap (λ (d : Touched). back q t (stepped d)) (perform11 G p eleven)
+        ∙ ap (λ (v : ℕ). back q t (leaves (withNext G (set (G .next) (p .slot) v)) 0)) (sym (eqb-true _ _ e) ∙ ap nextOn (f .rest))
+        ∙ ap (λ (l : List ℕ). back q t (leaves (withNext G l) 0)) (set-getD (G .next) (p .slot) 0)))
+        (λ _. C.waits now k₀ c (loaded (nextOn T)) refl refl (λ e. absurd (not-both (ap (λ (n : ℕ). eqb n 11) eleven) e)))
+
+    word-goal : eqb (p .act) 6 ≡ false → eqb (p .act) 9 ≡ false → Goal k₀ (oneWord pooled slots T r)
+    unfolding oneWord
+    word-goal no6 no9 = by-test (Goal k₀) (eqb (p .act) 11) (λ e. next-goal (eqb-true _ _ e)) (λ _. one-touch no6 no9)
+
+    puts-goal : (w : ℕ) → p .act ≡ 5 → linkSound slots w ≡ true → Goal k₀ (putsOwn pooled slots T r w)
     unfolding putsOwn isAsRead
     puts-goal w five sound =
         let k = ends (settle pooled slots r w .task) (settle pooled slots r w .outcome) in
         by-test (Goal k₀) (isAsRead T p w)
-        (λ e. I.deciding now Step (record { tables = putOn G w; task = settle pooled slots r w .task; outcome = settle pooled slots r w .outcome })
+        (λ e. I.deciding now Step (leaves (putOn G w) w)
         (put-is five w (eqb-true (linkOn T) w e) true sound) k₀ (c .owes) (c .tells) (c .writes) (putOn T w) k (record {
           rest = ap (λ (X : Tables). putOn X w) (f .rest);
           labels-long = f .labels-long;
@@ -241,6 +264,13 @@ module _ (now : Moment) where
         }))
         (λ e. loads-goal five)
 
+    pub replaces-goal : (w : ℕ) → (eqb (p .act) 11 ≡ false → (p .act ≡ 5) × (linkSound slots w ≡ true)) → Goal k₀ (replaces pooled slots T r w)
+    unfolding replaces
+    replaces-goal w z =
+        by-test (Goal k₀) (eqb (p .act) 11)
+        (λ e. let at = eqb-true (p .act) 11 e in one-touch (ap (λ (n : ℕ). eqb n 6) at) (ap (λ (n : ℕ). eqb n 9) at))
+        (λ e. puts-goal w (z e .0) (z e .1))
+
     pub step-goal : Goal k₀ (stepFirst pooled slots T r)
     unfolding stepFirst
     step-goal =
@@ -248,17 +278,13 @@ module _ (now : Moment) where
         (λ no5. by-test (Goal k₀) (eqb (p .act) 6) (λ e. reads-label (eqb-true _ _ e))
         (λ no6. by-test (Goal k₀) (eqb (p .act) 9)
         (λ e. by-test (Goal k₀) (eqb head (p .expected)) (swap-done (eqb-true _ _ e)) (swap-failed (eqb-true _ _ e)))
-        (λ no9. one-touch no6 no9)))
+        (λ no9. word-goal no6 no9)))
 
     -- The mark is cleared: that decides the pop's step.
     pub clears-goal : (l : ℕ) → p .act ≡ 6 → l ≡ getD (G .labels) (p .slot) 0 → Goal k₀ (clears pooled slots T r l)
     unfolding clears
     clears-goal l six e =
-        let done : ℕ → Acted = λ (w : ℕ). record {
-          tables = withMarks G (withMark (G .marks) (p .slot) 0);
-          task = settle pooled slots r w .task;
-          outcome = settle pooled slots r w .outcome;
-        } in
+        let done : ℕ → Acted = leaves (withMarks G (withMark (G .marks) (p .slot) 0)) in
         let k = ends (settle pooled slots r l .task) (settle pooled slots r l .outcome) in
         I.deciding now Step (done l) (step-at ∙ ap (λ (d : Touched). back q t (stepped d)) (perform6 G p six) ∙ ap (λ (w : ℕ). back q t (done w)) (sym e))
         k₀ (c .owes) (c .tells) (c .writes) (withMarks T (withMark (T .marks) (p .slot) 0)) k (record {

@@ -172,8 +172,9 @@ module _ (now : Moment) where
       side label
   tick-goal (begun Step) at y w = S.step-goal now (begun Step)
       (record { at = at; owes = refl; tells = refl; writes = refl; reads = as-listed (begun Step) at; labels = λ x z. z; marks = λ x z. z })
-  tick-goal (loaded w) at y _ = let z = known-of (loaded w) at in S.puts-goal now (loaded w)
-      (record { at = at; owes = refl; tells = refl; writes = refl; reads = as-listed (loaded w) at; labels = λ x z. z; marks = λ x z. z }) w (z .0) (z .1)
+  tick-goal (loaded w) at y _ = S.replaces-goal now (loaded w)
+      (record { at = at; owes = refl; tells = refl; writes = refl; reads = as-listed (loaded w) at; labels = λ x z. z; marks = λ x z. z }) w
+      (known-of (loaded w) at)
   tick-goal (knows l) at y w = let z = known-of (knows l) at in S.clears-goal now (knows l)
       (record { at = at; owes = refl; tells = refl; writes = refl; reads = as-listed (knows l) at; labels = λ x z. z; marks = λ x z. z }) l (z .1) (z .2)
   tick-goal (claims side slot label) at y w = B.claims-goal now (claims side slot label)

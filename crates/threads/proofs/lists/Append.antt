@@ -8,7 +8,7 @@ use Rattle.model.specs.declared.{Outcome.Outcome, Op.Op}
 use Rattle.model.specs.declared.Outcome.the-variants.{Refused}
 use Rattle.model.specs.{Tables.Queue, History.Event, Lists.All}
 use Rattle.model.proofs.tests.Truth.{split}
-use Rattle.threads_model.specs.Turns.{Turn, take, runTurns, finalTurns}
+use Rattle.threads_model.specs.Turns.{Turn, takeEarly, runTurns, finalTurns}
 use Rattle.threads_model.specs.Crew.{asTurns, outcomesOf}
 
 pub assoc : (a b c : List Outcome) → (a ++ b) ++ c ≡ a ++ (b ++ c)
@@ -22,14 +22,14 @@ append-none (x ∷ l) = ap (λ (l : List Outcome). x ∷ l) (append-none l)
 pub final-append : (xs ys : List Turn) (q : Queue) → finalTurns q (xs ++ ys) ≡ finalTurns (finalTurns q xs) ys
 unfolding finalTurns
 final-append [] ys q = refl
-final-append (u ∷ xs) ys q = final-append xs ys (take q u .queue)
+final-append (u ∷ xs) ys q = final-append xs ys (takeEarly q u .queue)
 
 pub outcomes-append : (u : ℕ) (xs ys : List Turn) (q : Queue)
     → outcomesOf u (runTurns q (xs ++ ys)) ≡ outcomesOf u (runTurns q xs) ++ outcomesOf u (runTurns (finalTurns q xs) ys)
 unfolding runTurns finalTurns outcomesOf
 outcomes-append u [] ys q = refl
 outcomes-append u (x ∷ xs) ys q =
-    let d = take q x in
+    let d = takeEarly q x in
     let here : List Outcome = cond (eqb (x .task) u) (d .outcome ∷ []) [] in
     ap (λ (l : List Outcome). here ++ l) (outcomes-append u xs ys (d .queue))
     ∙ sym (assoc here (outcomesOf u (runTurns (d .queue) xs)) (outcomesOf u (runTurns (finalTurns (d .queue) xs) ys)))
@@ -39,7 +39,7 @@ pub not-mine : (t u : ℕ) → eqb t u ≡ false → (early : Bool) (l : List Op
 unfolding runTurns outcomesOf
 not-mine t u e early [] q = refl
 not-mine t u e early (o ∷ l) q =
-    let d = take q (record { task = t; op = o; early = early }) in
+    let d = takeEarly q (record { task = t; op = o; early = early }) in
     ap (λ (b : Bool). cond b (d .outcome ∷ []) [] ++ outcomesOf u (runTurns (d .queue) (asTurns t early l))) e
     ∙ not-mine t u e early l (d .queue)
 
@@ -50,7 +50,7 @@ Sound e = e .outcome ≡ Refused 34 → ⊥
 pub sound-append : (xs ys : List Turn) (q : Queue) → All Sound (runTurns q xs) → All Sound (runTurns (finalTurns q xs) ys) → All Sound (runTurns q (xs ++ ys))
 unfolding runTurns finalTurns
 sound-append [] ys q a b = b
-sound-append (u ∷ xs) ys q a b = (a .0, sound-append xs ys (take q u .queue) (a .1) b)
+sound-append (u ∷ xs) ys q a b = (a .0, sound-append xs ys (takeEarly q u .queue) (a .1) b)
 
 abbrev pub Fine : Outcome → Type 0
 Fine o = o ≡ Refused 34 → ⊥

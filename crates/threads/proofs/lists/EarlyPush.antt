@@ -24,7 +24,7 @@ use Rattle.model.proofs.bridge.Accepted.{Lies, lies}
 use Rattle.model.proofs.bridge.Facts.{from1-true}
 use Rattle.model.proofs.ledger.EveryOperation.{act-good, push-good}
 use Rattle.model.proofs.ledger.Matched.{Matched}
-use Rattle.threads_model.specs.Turns.{Turn, actEarly, take, runTurns, finalTurns}
+use Rattle.threads_model.specs.Turns.{Turn, actEarly, takeEarly, runTurns, finalTurns}
 use Rattle.threads.specs.Promises.{EarlyAsEver}
 
 -- Rules with other numbers than the answer did not apply.
@@ -118,16 +118,21 @@ module _ (n : ℕ) (q : Queue) (l : Ledger) (g : Matched n q l) (t : ℕ) where
   early-good Step = act-good n q l g t Step
 
   pub take-good : (o : Op) (early : Bool)
-      → After o (take q (record { task = t; op = o; early = early }))
-  unfolding take
+      → After o (takeEarly q (record { task = t; op = o; early = early }))
+  unfolding takeEarly
   take-good o true = early-good o
   take-good o false = act-good n q l g t o
 
+-- The position after events that begin at n.
+unfoldable pub after : ℕ → List Event → ℕ
+after n [] = n
+after n (e ∷ es) = after (suc n) es
+
 pub turns-good : (us : List Turn) (n : ℕ) (q : Queue) (l : Ledger) → Matched n q l
-    → (m : ℕ) × Matched m (finalTurns q us) (ledgerFrom n l (runTurns q us))
-unfolding runTurns finalTurns ledgerFrom
-turns-good [] n q l g = (n, g)
-turns-good (u ∷ us) n q l g = turns-good us (suc n) (take q u .queue) _ (take-good n q l g (u .task) (u .op) (u .early))
+    → Matched (after n (runTurns q us)) (finalTurns q us) (ledgerFrom n l (runTurns q us))
+unfolding runTurns finalTurns ledgerFrom after
+turns-good [] n q l g = g
+turns-good (u ∷ us) n q l g = turns-good us (suc n) (takeEarly q u .queue) _ (take-good n q l g (u .task) (u .op) (u .early))
 
 -- Where Anchor is not late 33 is no refusal.
 module _ (q : Queue) (t : ℕ) (l : late (q .tables .control) ≡ false) where
@@ -147,5 +152,5 @@ module _ (q : Queue) (t : ℕ) (l : late (q .tables .control) ≡ false) where
   as-ever Step = refl
 
 pub early-as-ever : EarlyAsEver
-unfolding take
+unfolding takeEarly
 early-as-ever q u l = either (λ (d : Done). d ≡ act q (u .task) (u .op)) (u .early) (as-ever q (u .task) l (u .op)) refl

@@ -31,7 +31,7 @@ use Rattle.model.proofs.tags.AnchorTag.{WeightKept, cost-small, unsettled-small
 use Rattle.model.proofs.tags.Sum.{total, total-keep, total-le, total-upd}
 use Rattle.model.proofs.unsound.{Safe.Safe, StartSafe.Room}
 use Rattle.model.proofs.unsound.StepSound.{weight-kept, seen, stepping}
-use Rattle.threads_model.specs.Turns.{actEarly, take}
+use Rattle.threads_model.specs.Turns.{actEarly, takeEarly}
 use Rattle.threads.proofs.lists.EarlyPush.{pushed, waited}
 
 -- What task u owes; `early u`: its push has passed 33 and had no turn yet.
@@ -180,8 +180,8 @@ module _ (q : Queue) (s : Safe q) (t : ℕ) (early : ℕ → Bool) (has : early 
       (sym (put-back q t z (withCall (taskAt q t) (started 0 side slot label)))) (early-debts (started 0 side slot label))
 
   pub turn-roomy : (n : ℕ) (l : Ledger) → Matched n q l → (side slot label : ℕ)
-      → Roomy without (take q (record { task = t; op = Push side slot label; early = true }) .queue)
-  unfolding take actEarly
+      → Roomy without (takeEarly q (record { task = t; op = Push side slot label; early = true }) .queue)
+  unfolding takeEarly actEarly
   turn-roomy n l g side slot label =
       by-test (λ (d : Done). Roomy without (d .queue)) (eqb (pushRefusal (q .tables) (among q t) (recordAt q t) side slot) 33)
       (λ e. pushed-roomy side slot label (waited q t side slot (eqb-true _ _ e) .lies))

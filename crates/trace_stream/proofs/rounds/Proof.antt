@@ -8,7 +8,7 @@ use lib.Seq.{slice, drop-nil}
 use borrow.Author.Needs.{needs}
 use Rattle.runfile.specs.Field.{longestField}
 use Rattle.trace_field.specs.Page.{pageOf}
-use Rattle.trace_replay.specs.Pieces.{Stands}
+use Rattle.trace_replay.proofs.PageLoop.{Stands}
 use Rattle.trace_stream.proofs.Reading.{never, first-stands, round-on, round-leaves, round-ends}
 use Rattle.trace_stream.proofs.rounds.Statement.{statement}
 use Rattle.trace_stream.proofs.rounds.Tie as tie

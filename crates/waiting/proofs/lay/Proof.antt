@@ -1,15 +1,16 @@
 -- With i slots stored: what is still to be stored, beside what is, comes to what the call owes.
 use mathlib.Core.Path.{_≡_, refl, sym, ap, subst, _∙_}
 use mathlib.Core.List.{List}
-use Prim.Native.Nat.{ℕ, _≤_, _<_, _-_}
+use Prim.Native.Nat.{ℕ, _≤_, _<_, _+_, _-_}
 use native.Mathlib.Omega.{arith}
-use lib.ListN.{length, length-set, set}
+use lib.ListN.{getD, length, length-set, set}
 use borrow.Author.Needs.{needs}
+use Rattle.word.specs.Link.{linkOf}
 use Rattle.walk.specs.declared.Way.{Way}
 use Rattle.walk.specs.Ways.{linksOn}
 use Rattle.waiting.specs.Waiting.{slotsOf, labelsOf}
-use Rattle.waiting.specs.Laid.{trail, place, laid}
-use Rattle.waiting.proofs.Laid.{begins, more, ends, place-low}
+use Rattle.waiting.specs.Laid.{Inside, Lays, trail, place, laid}
+use Rattle.waiting.proofs.Laid.{begins, more, ends, inside-next, place-low}
 use Rattle.waiting.proofs.lay.Statement.{statement}
 use Rattle.waiting.proofs.lay.Tie as tie
 
@@ -17,6 +18,7 @@ record Kept (w : Way) (n : ℕ) (links labels slots₀ copies₀ slots copies : 
   long : length slots ≡ length slots₀
   broad : length copies ≡ length copies₀
   few : i ≤ n
+  inside : Inside (w .slots) (trail links labels (n - i) x)
   owed : laid (w .rightward) n i (slotsOf (trail links labels (n - i) x)) slots ≡ laid (w .rightward) n 0 (slotsOf (trail links labels n (w .first))) slots₀
   due : laid (w .rightward) n i (labelsOf (trail links labels (n - i) x)) copies ≡ laid (w .rightward) n 0 (labelsOf (trail links labels n (w .first))) copies₀
 
@@ -29,11 +31,14 @@ abbrev μ-loop : tie.MeasureT-loop
 
 loop-holds : tie.Need-loop-holds Inv-loop μ-loop
 loop-holds c =
-    let a = c .before .before .before .before .before .args in
+    let s = c .before .before .before .before .before in
+    let a = s .args in
     record {
       long = refl;
       broad = refl;
       few = omega arith;
+      inside = let z : a .n ≡ a .n - 0 = omega arith in
+          subst (λ (m : ℕ). Inside (a .w .slots) (trail (linksOn (a .w) (a .lefts .now) (a .rights .now)) (a .labels .now) m (a .w .first))) z (s .pre .inside);
       owed = begins (λ e. e .slot) (linksOn (a .w) (a .lefts .now) (a .rights .now)) (a .labels .now) (a .w .rightward) (a .n) (a .w .first) (a .slots .now);
       due = begins (λ e. e .label) (linksOn (a .w) (a .lefts .now) (a .rights .now)) (a .labels .now) (a .w .rightward) (a .n) (a .w .first) (a .copies .now);
     }
@@ -53,10 +58,23 @@ module _ (p : tie.After-place Inv-loop μ-loop) where
       (place-low (given turn .args .w .rightward) (given turn .args .n) (turn .loop .i) (p .before .loop-test .taken))
 
   in-slots : p .place .result < length (turn .loop .slots)
-  in-slots = omega (arith, low, turn .loop .inv .long, given turn .pre .0)
+  in-slots = omega (arith, low, turn .loop .inv .long, given turn .pre .room .0)
 
   in-copies : p .place .result < length (turn .loop .copies)
-  in-copies = omega (arith, low, turn .loop .inv .broad, given turn .pre .1)
+  in-copies = omega (arith, low, turn .loop .inv .broad, given turn .pre .room .1)
+
+  -- The slot has a row in every table, and what follows keeps to the slots.
+  slot-in : (turn .loop .x ≤ given turn .args .w .slots)
+      × Inside (given turn .args .w .slots) (trail (linksOn (given turn .args .w) (given turn .args .lefts .now) (given turn .args .rights .now))
+      (given turn .args .labels .now) (given turn .args .n - (turn .loop .i + 1))
+      (linkOf (getD (linksOn (given turn .args .w) (given turn .args .lefts .now) (given turn .args .rights .now)) (turn .loop .x) 0) .slot))
+  slot-in = inside-next _ _ _ _ _ _ (p .before .loop-test .taken) (turn .loop .inv .inside)
+
+  in-labels : turn .loop .x < length (given turn .args .labels .now)
+  in-labels = omega (arith, slot-in .0, given turn .pre .label-rows)
+
+  links-in : (turn .loop .x < length (given turn .args .lefts .now)) × (turn .loop .x < length (given turn .args .rights .now))
+  links-in = omega (arith, slot-in .0, given turn .pre .left-rows, given turn .pre .right-rows)
 
 loop-again : tie.Need-loop-again Inv-loop μ-loop
 loop-again c =
@@ -68,15 +86,17 @@ loop-again c =
     let lt = p .before .loop-test .taken in
     record {
       long = length-set (l .loop .slots) (p .place .result) (l .loop .x) ∙ l .loop .inv .long;
-      broad = length-set (l .loop .copies) (p .place .result) (b .label-at .result) ∙ l .loop .inv .broad;
+      broad = length-set (l .loop .copies) (p .place .result) (getD (a .labels .now) (l .loop .x) 0) ∙ l .loop .inv .broad;
       few = omega (arith, lt);
+      inside =
+          subst (λ (y : ℕ). Inside (a .w .slots) (trail links (a .labels .now) (a .n - (l .loop .i + 1)) y)) (sym (c .follow .ensures)) (slot-in p .1);
       owed =
           more (λ e. e .slot) links (a .labels .now) (a .w .rightward) (a .n) (l .loop .i) (l .loop .x) (l .loop .x) (c .follow .result)
           (l .loop .slots) _ _ lt refl (c .follow .ensures) (ap (λ (k : ℕ). set (l .loop .slots) k (l .loop .x)) (p .place .ensures)) (l .loop .inv .owed);
       due =
-          more (λ e. e .label) links (a .labels .now) (a .w .rightward) (a .n) (l .loop .i) (l .loop .x) (b .label-at .result) (c .follow .result)
-          (l .loop .copies) _ _ lt (b .label-at .ensures) (c .follow .ensures)
-          (ap (λ (k : ℕ). set (l .loop .copies) k (b .label-at .result)) (p .place .ensures)) (l .loop .inv .due);
+          more (λ e. e .label) links (a .labels .now) (a .w .rightward) (a .n) (l .loop .i) (l .loop .x) (getD (a .labels .now) (l .loop .x) 0) (c .follow .result)
+          (l .loop .copies) _ _ lt refl (c .follow .ensures)
+          (ap (λ (k : ℕ). set (l .loop .copies) k (getD (a .labels .now) (l .loop .x) 0)) (p .place .ensures)) (l .loop .inv .due);
     }
 
 returns : tie.Need-returns Inv-loop μ-loop
@@ -96,12 +116,13 @@ lay-spec =
     μ-loop
     loop-holds
     (λ c κs. c .loop-test .taken)
-    (λ _ _. tt)
+    (λ c. let h = in-labels c in search needs)
+    (λ c. in-labels (c .before))
     (λ c. let h = in-slots (c .before) in search needs)
     (λ c. in-slots (c .before))
     (λ c. let h = in-copies (c .before) in search needs)
     (λ c. in-copies (c .before))
-    (λ _ _. tt)
+    (λ c κs. links-in (c .before))
     (λ c. omega arith)
     (λ c. omega arith)
     loop-again

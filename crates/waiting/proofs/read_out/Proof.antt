@@ -1,6 +1,6 @@
 -- Refused before the walk, by the walk, for want of room, or written: what each call ensures.
 use mathlib.Core.Path.{_≡_, sym, ap, _∙_}
-use mathlib.Core.List.{List}
+use mathlib.Core.List.{List, []}
 use Prim.Native.Nat.{ℕ}
 use borrow.Author.Needs.{needs}
 use Rattle.model.specs.Tables.{Tables, tablesOf}
@@ -10,7 +10,7 @@ use Rattle.sound.specs.Lengths.{lengthsFit}
 use Rattle.walk.specs.Counted.{counted}
 use Rattle.waiting.specs.declared.WaitingReply.{WaitingReply}
 use Rattle.waiting.specs.Waiting.{Written}
-use Rattle.waiting.proofs.ReadingOut.{room, why, turned-away, lost, short, writes}
+use Rattle.waiting.proofs.ReadingOut.{why, turned-away, empty, lost, short, ready, writes}
 use Rattle.waiting.proofs.read_out.Statement.{statement}
 use Rattle.waiting.proofs.read_out.Tie as tie
 
@@ -41,45 +41,68 @@ returns c next =
     let r = c .before .before in
     ap (told r) (c .refused .ensures) ∙ turned-away (tables r next) (slots r) (copies r) _ (tried r next) (c .before .if1 .taken)
 
--- The walk that was made.
-walked-is : (w : tie.After-waiting) (next : List ℕ) → w .waiting .result ≡ counted (contents (tables (w .before .before) next))
-walked-is w next = let a = start (w .before .before) .args in w .waiting .ensures (a .labels .now) (a .marks .now) next
-
 returns-2 : tie.Need-returns-2
 returns-2 c next =
-    let w = c .before .before .before in
-    let r = w .before .before in
-    ap (told r) (c .refused2 .ensures)
-    ∙ lost (tables r next) (slots r) (copies r) _ (tried r next) (w .before .if1 .left) (sym (c .before .enum-told .given .1) ∙ walked-is w next)
+    let b = c .before .before in
+    let e = b .before in
+    let r = e .before in
+    empty (tables r next) (slots r) (copies r) _ (tried r next) (e .if1 .left) (b .begin .result) (b .begin .ensures)
+    (sym (c .before .none-on .ensures) ∙ c .if2 .taken)
+
+-- The walk that was made, where something waits.
+module _ (w : tie.After-waiting) (next : List ℕ) where
+  abbrev begun : tie.After-begin
+  begun = w .before .before .before
+
+  abbrev asked : tie.After-refusal
+  asked = begun .before .before
+
+  passed : asked .refusal .result ≡ 0
+  passed = begun .before .if1 .left
+
+  walked-is : w .waiting .result ≡ counted (contents (tables asked next))
+  walked-is = let a = start asked .args in w .waiting .ensures (a .labels .now) (a .marks .now) next
 
 returns-3 : tie.Need-returns-3
 returns-3 c next =
-    let k = c .before .before .before in
-    let w = k .before .before in
-    let r = w .before .before in
-    let all = sym (k .walked .given .1) ∙ walked-is w next in
-    ap (told r) (c .refused3 .ensures)
-    ∙ short (tables r next) (slots r) (copies r) _ (tried r next) (w .before .if1 .left) (k .walked .given .0 .0) all (c .before .if2 .taken)
+    let w = c .before .before .before in
+    let r = asked w next in
+    ap (told r) (c .refused2 .ensures)
+    ∙ lost (tables r next) (slots r) (copies r) _ (tried r next) (passed w next) (sym (c .before .enum-told .given .1) ∙ walked-is w next)
 
 returns-4 : tie.Need-returns-4
 returns-4 c next =
+    let k = c .before .before .before in
+    let w = k .before .before in
+    let r = asked w next in
+    let all = sym (k .walked .given .1) ∙ walked-is w next in
+    ap (told r) (c .refused3 .ensures)
+    ∙ short (tables r next) (slots r) (copies r) _ (tried r next) (passed w next) (k .walked .given .0 .0) all (c .before .if3 .taken)
+
+returns-5 : tie.Need-returns-5
+returns-5 c next =
     let l = c .before .before .before .before in
-    let b = l .before .before .before in
-    let e = b .before in
+    let e = l .before .before .before in
     let k = e .before .before in
     let w = k .before .before in
-    let r = w .before .before in
+    let r = asked w next in
+    let b = begun w next in
     let all = sym (k .walked .given .1) ∙ walked-is w next in
-    writes (tables r next) (slots r) (copies r) _ (tried r next) (w .before .if1 .left) (k .walked .given .0 .0) all (b .begin .result) (b .begin .ensures)
-    (e .if2 .left) _ _ (l .lay .ensures .0) (l .lay .ensures .1)
+    writes (tables r next) (slots r) (copies r) _ (tried r next) (passed w next) (k .walked .given .0 .0) all (b .begin .result) (b .begin .ensures)
+    (e .if3 .left) _ _ (l .lay .ensures .0) (l .lay .ensures .1)
 
--- Both tables have room.
+-- Both tables have room, and the walk was sound.
 lay-requires : tie.Need-lay-requires
 lay-requires c κs =
-    let e = c .before .before .before in
+    let e = c .before .before in
     let k = e .before .before in
-    let r = k .before .before .before .before in
-    room (k .walked .given .0 .0) (slots r) (copies r) (e .if2 .left)
+    let w = k .before .before in
+    let r = asked w [] in
+    let b = begun w [] in
+    let some = w .before in
+    let all = sym (k .walked .given .1) ∙ walked-is w [] in
+    ready (tables r []) (slots r) (copies r) _ (tried r []) (passed w []) (k .walked .given .0 .0) all (b .begin .result) (b .begin .ensures)
+    (sym (some .before .none-on .ensures) ∙ some .if2 .left) (e .if3 .left)
 
 pub read-out-spec : {M : Type 1} → statement M
 read-out-spec =
@@ -89,14 +112,16 @@ read-out-spec =
     (λ _ _. tt)
     returns
     (λ _ _. tt)
-    (λ c. search needs)
-    (λ c. search needs)
     (λ _ _. tt)
     returns-2
     (λ _ _. tt)
+    (λ c. search needs)
+    (λ c. search needs)
+    (λ _ _. tt)
     returns-3
     (λ _ _. tt)
+    returns-4
     lay-requires
     (λ c. search needs)
     (λ c. search needs)
-    returns-4)
+    returns-5)

@@ -16,7 +16,7 @@ use Rattle.calls.proofs.start.push_start.Tie as tie
 -- The number found is the model's, for all tables of these lengths.
 module _ (asked : tie.After-start-refusal) (lefts rights next : List ℕ) where
   abbrev start : tie.Start
-  start = let inside = asked .before .before .before .before in inside .before .before .before
+  start = let inside = asked .before .before .before .before .before in inside .before .before .before
 
   abbrev q : Tables
   q = let a = start .args in tablesOf (a .c) lefts rights (a .labels .now) (a .marks .now) next
@@ -25,9 +25,11 @@ module _ (asked : tie.After-start-refusal) (lefts rights next : List ℕ) where
       → asked .start-refusal .result ≡ pushRefusal q (amongMany (a .c) (a .t) (a .task)) (a .r) (a .side) (a .slot))
   found m =
       let a = start .args in
-      let marks = asked .before .before in
+      let admitted = asked .before in
+      let marks = admitted .before .before in
       rw (← marks .marked .ensures, ← marks .before .before .from1 .ensures)
-      (refused-by (a .c) (a .t) q (amongMany (a .c) (a .t) (a .task)) (a .r) (a .side) _ m (asked .start-refusal .ensures))
+      (refused-by (a .c) (a .t) q (amongMany (a .c) (a .t) (a .task)) (a .r) (a .side) _ m
+      (asked .start-refusal .ensures _ _ (admitted .admit .ensures)))
 
 returns : tie.Need-returns
 unfolding pushStart counted
@@ -55,6 +57,7 @@ pub push-start-spec : {M : Type 1} → statement M
 push-start-spec =
     tie.close
     (tie.spec
+    (λ _ _. tt)
     (λ _ _. tt)
     (λ _ _. tt)
     (λ _ _. tt)

@@ -1,8 +1,8 @@
 -- Each stage of the rules, on the queues that the call was given.
 use mathlib.Core.Path.{_≡_, sym, subst, _∙_}
 use mathlib.Core.Bool.{_&&_}
-use mathlib.Core.List.{[], _∷_}
-use Prim.Native.Nat.{_/_}
+use mathlib.Core.List.{List, [], _∷_}
+use Prim.Native.Nat.{ℕ, _/_}
 use lib.Dec.{ltb}
 use lib.ListN.{length}
 use Rattle.model.specs.Tables.{Queue, queueOf}
@@ -25,32 +25,38 @@ fit w = w .before .before .before .before
 abbrev start : tie.After-early-rules → tie.Start
 start w = let k = fit w .before .before .before .before in let l = k .before .before .before .before in l .before .before .before
 
-abbrev one : tie.After-early-rules → Queue
-one w = let a = start w .args in queueOf (a .first) (recordsOf (a .records1 .now)) (a .lefts1 .now) (a .rights1 .now) (a .labels1 .now) [] []
+-- The queues that it was given, with any marks and next tables where none are lent.
+abbrev one : List ℕ → List ℕ → tie.After-early-rules → Queue
+one marks next w =
+    let a = start w .args in queueOf (a .first) (recordsOf (a .records1 .now)) (a .lefts1 .now) (a .rights1 .now) (a .labels1 .now) marks next
 
-abbrev two : tie.After-early-rules → Queue
-two w = let a = start w .args in queueOf (a .second) (recordsOf (a .records2 .now)) (a .lefts2 .now) (a .rights2 .now) (a .labels2 .now) [] []
+abbrev two : List ℕ → List ℕ → tie.After-early-rules → Queue
+two marks next w =
+    let a = start w .args in queueOf (a .second) (recordsOf (a .records2 .now)) (a .lefts2 .now) (a .rights2 .now) (a .labels2 .now) marks next
 
-abbrev third : tie.After-early-rules → Queue
-third w = let a = start w .args in queueOf (a .third) (recordsOf (a .records .now)) (a .lefts .now) (a .rights .now) (a .labels .now) (a .marks .now) []
+abbrev third : List ℕ → tie.After-early-rules → Queue
+third next w =
+    let a = start w .args in queueOf (a .third) (recordsOf (a .records .now)) (a .lefts .now) (a .rights .now) (a .labels .now) (a .marks .now) next
 
-tried : (w : tie.After-early-rules) → w .early-rules .result ≡ why (one w) (two w) (third w)
-unfolding thirdFits
-tried w =
-    let a = start w .args in
-    let e1 = fit w .lengths-fit .ensures ∙ fits-is (a .first) (a .records1 .now) (a .lefts1 .now) (a .rights1 .now) (a .labels1 .now) [] [] in
-    let e2 = w .before .before .before .lengths-fit2 .ensures ∙ fits-is (a .second) (a .records2 .now) (a .lefts2 .now) (a .rights2 .now)
-    (a .labels2 .now) [] [] in
-    let e3 = w .before .before .lengths-fit3 .ensures ∙ fits-is (a .third) (a .records .now) (a .lefts .now) (a .rights .now) (a .labels .now)
-    (a .marks .now) [] in
-    w .early-rules .ensures
-    ∙ (λ i. testsRefusal (controlSound (a .first)) (controlSound (a .second)) (controlSound (a .third))
-    (every (e1 i ∷ e2 i ∷ (e3 i && ltb (a .third .slots / 64) (length (a .marks .now))) ∷ [])))
+module _ (marks1 next1 marks2 next2 next : List ℕ) where
+  tried : (w : tie.After-early-rules) → w .early-rules .result ≡ why (one marks1 next1 w) (two marks2 next2 w) (third next w)
+  unfolding thirdFits
+  tried w =
+      let a = start w .args in
+      let e1 = fit w .lengths-fit .ensures ∙ fits-is (a .first) (a .records1 .now) (a .lefts1 .now) (a .rights1 .now) (a .labels1 .now) [] marks1 next1 in
+      let e2 = w .before .before .before .lengths-fit2 .ensures ∙ fits-is (a .second) (a .records2 .now) (a .lefts2 .now) (a .rights2 .now)
+      (a .labels2 .now) [] marks2 next2 in
+      let e3 = w .before .before .lengths-fit3 .ensures ∙ fits-is (a .third) (a .records .now) (a .lefts .now) (a .rights .now) (a .labels .now)
+      (a .marks .now) (a .marks .now) next in
+      w .early-rules .ensures
+      ∙ (λ i. testsRefusal (controlSound (a .first)) (controlSound (a .second)) (controlSound (a .third))
+      (every (e1 i ∷ e2 i ∷ (e3 i && ltb (a .third .slots / 64) (length (a .marks .now))) ∷ [])))
 
 returns : tie.Need-returns
-returns c =
+returns c marks1 next1 marks2 next2 next =
     let w = c .before .before in
-    subst (Admits (one w) (two w) (third w)) (sym (c .refused .ensures)) (turned-away (one w) (two w) (third w) _ (tried w) (c .before .if1 .taken))
+    subst (Admits (one marks1 next1 w) (two marks2 next2 w) (third next w)) (sym (c .refused .ensures))
+    (turned-away (one marks1 next1 w) (two marks2 next2 w) (third next w) _ (tried marks1 next1 marks2 next2 next w) (c .before .if1 .taken))
 
 -- No rule before the walks applies; then the walks.
 module _ (v : tie.After-walks) where
@@ -60,30 +66,36 @@ module _ (v : tie.After-walks) where
   abbrev tests : tie.After-early-rules
   tests = passed .before
 
-  said : v .walks .result ≡ walked (counted (contents (one tests .tables))) (counted (contents (two tests .tables)))
-  said = let a = start tests .args in v .walks .ensures (a .labels1 .now) [] [] (a .labels2 .now) [] []
+  said : (marks1 next1 marks2 next2 : List ℕ)
+      → v .walks .result ≡ walked (counted (contents (one marks1 next1 tests .tables))) (counted (contents (two marks2 next2 tests .tables)))
+  said marks1 next1 marks2 next2 =
+      let a = start tests .args in v .walks .ensures (a .labels1 .now) marks1 next1 (a .labels2 .now) marks2 next2
 
 returns-2 : tie.Need-returns-2
-returns-2 c =
+returns-2 c marks1 next1 marks2 next2 next =
     let v = c .before .before in
     let w = tests v in
-    lost (one w) (two w) (third w) _ (tried w) (passed v .if1 .left) _ (said v) (c .if2 .taken)
+    lost (one marks1 next1 w) (two marks2 next2 w) (third next w) _ (tried marks1 next1 marks2 next2 next w) (passed v .if1 .left) _
+    (said v marks1 next1 marks2 next2) (c .if2 .taken)
 
 final-requires : tie.Need-final-rules-requires
 final-requires c κs =
     let v = c .before .before in
     let w = tests v in
-    small (one w) (two w) (third w) _ (tried w) (passed v .if1 .left)
+    small (one [] [] w) (two [] [] w) (third [] w) _ (tried [] [] [] [] [] w) (passed v .if1 .left)
 
 returns-3 : tie.Need-returns-3
-returns-3 c =
+returns-3 c marks1 next1 marks2 next2 next =
     let e = c .before in
     let v = e .before .before in
     let w = tests v in
     let a = start w .args in
-    let all = met-all (one w) (two w) (third w) _ (tried w) (passed v .if1 .left) _ (said v) (e .if2 .left) in
-    decided (one w) (two w) (third w) _ (tried w) (passed v .if1 .left) _ (all .0) _ (all .1) _
-    (c .final-rules .ensures (a .lefts1 .now) (a .rights1 .now) (a .labels1 .now) [] [] (a .lefts2 .now) (a .rights2 .now) (a .labels2 .now) [] [] [])
+    let none = tried marks1 next1 marks2 next2 next w in
+    let all =
+    met-all (one marks1 next1 w) (two marks2 next2 w) (third next w) _ none (passed v .if1 .left) _ (said v marks1 next1 marks2 next2) (e .if2 .left) in
+    decided (one marks1 next1 w) (two marks2 next2 w) (third next w) _ none (passed v .if1 .left) _ (all .0) _ (all .1) _
+    (c .final-rules .ensures (a .lefts1 .now) (a .rights1 .now) (a .labels1 .now) marks1 next1
+    (a .lefts2 .now) (a .rights2 .now) (a .labels2 .now) marks2 next2 next)
 
 pub admit-spec : {M : Type 1} → statement M
 admit-spec =

@@ -14,7 +14,7 @@ returns c =
     let decided = made .before .before in
     let a = decided .before .before .before .args in
     λ ls rs xs k.
-    rw (marked .set-mark .ensures, labelled .put-label .ensures, read .unpack .ensures)
+    rw (marked .set-mark .ensures, labelled .put-label .ensures, read .top .ensures)
     (rw (sym (made .before .made .ensures) ∙ made .if1 .taken)
     at (step14 (a .c) (a .r) ls rs (a .labels .now) (a .marks .now) xs k (decided .at14 .result) (decided .at14 .ensures)))
 

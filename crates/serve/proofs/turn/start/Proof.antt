@@ -4,9 +4,8 @@ use native.Mathlib.Omega.{arith}
 use borrow.Author.Needs.{needs}
 use Rattle.model.specs.declared.Op.{Op}
 use Rattle.model.specs.Calls.{act}
-use Rattle.rows.specs.Rows.{queueIn, uppersOf}
+use Rattle.rows.specs.Rows.{queueIn, uppersOf, writesRow}
 use Rattle.capi.specs.Replies.{Replied, replied}
-use Rattle.serve.specs.Serving.{writesRow}
 use Rattle.serve.proofs.Served.{a-push, a-pop, a-put}
 use Rattle.serve.proofs.turn.start.Statement.{statement}
 use Rattle.serve.proofs.turn.start.Tie as tie

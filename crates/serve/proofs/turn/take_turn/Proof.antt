@@ -3,9 +3,8 @@ use mathlib.Core.Path.{sym, ap, _∙_}
 use borrow.Author.Needs.{needs}
 use Rattle.model.specs.declared.Op.{Op}
 use Rattle.model.specs.Calls.{act}
-use Rattle.rows.specs.Rows.{queueIn, uppersOf}
+use Rattle.rows.specs.Rows.{queueIn, uppersOf, writesRow}
 use Rattle.capi.specs.Replies.{Replied, replied}
-use Rattle.serve.specs.Serving.{writesRow}
 use Rattle.serve.proofs.Served.{a-step}
 use Rattle.serve.proofs.turn.take_turn.Statement.{statement}
 use Rattle.serve.proofs.turn.take_turn.Tie as tie

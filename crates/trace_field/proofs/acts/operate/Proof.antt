@@ -1,6 +1,8 @@
 -- An operation carried out in the rows, and answered.
 use mathlib.Core.Path.{_∙_}
 use borrow.Author.Needs.{needs}
+use Rattle.rows.specs.Rows.{uppersOf, writesRow}
+use Rattle.rows.proofs.Starting.{zeroed-once}
 use Rattle.trace_field.proofs.AfterActs.{operate-page}
 use Rattle.trace_field.proofs.acts.operate.Statement.{statement}
 use Rattle.trace_field.proofs.acts.operate.Tie as tie
@@ -42,10 +44,12 @@ returns c =
     let answer = told c in
     let trim = trimmed c in
     let made = done trim in
+    let args = first made .args in
+    let uppers = zeroed-once (writesRow (args .op) (made .operate .result)) (uppersOf (args .rows .now)) _ _ (made .operate .ensures .1) in
     let e = answer .answer .ensures in (
       operate-page _ _ _ _ _ _ _ _ _ _ _ _ _ _ _ _ _ _ _ _ _ _ (row made .control-row .ensures) (answer .before .before .control-of .ensures)
           (made .operate .ensures .0) (trim .trim .ensures .0)
-          (e .0 _ _ _ _ _ _ _ _ _ _ _ _ (trim .trim .ensures .1 ∙ made .operate .ensures .1)),
+          (e .0 _ _ _ _ _ _ _ _ _ _ _ _ (trim .trim .ensures .1 ∙ uppers)),
       e .1,
     )
 

@@ -1,0 +1,2 @@
+//! Where a step leads: the figures' column *next* as one constant table.
+pub mod next;
