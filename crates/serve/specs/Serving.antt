@@ -5,7 +5,7 @@ use mathlib.Core.Path.{_≡_}
 use Prim.Native.Nat.{ℕ}
 use lib.{Dec.eqb, Seq.sets}
 use lib.ListN.{length, set}
-use Rattle.model.specs.declared.{Op.Op, Opening.Opening, Outcome.Outcome}
+use Rattle.model.specs.declared.Opening.{Opening}
 use Rattle.model.specs.declared.Opening.the-variants.{Refused, Opened}
 use Rattle.model.specs.{Tables.Queue, Retries.SumIsOld, Lists.zeroed}
 use Rattle.model.specs.Calls.{OpenDone, openAs, openingCode}
