@@ -7,7 +7,21 @@ const LONGEST_SENTENCE: usize = 300;
 const LONGEST_NOTE: usize = 300;
 
 /// Figures of speech that are not to come back.
-const BANNED: [&str; 6] = ["house", "lesson", "lessons", "sceptic", "sceptics", "nothing tells"];
+const BANNED: [&str; 13] = [
+    "house",
+    "lesson",
+    "lessons",
+    "sceptic",
+    "sceptics",
+    "nothing tells",
+    "dearest",
+    "for free",
+    "honest",
+    "hostile",
+    "nonsense",
+    "sleeper",
+    "sleepers",
+];
 
 fn documents() -> Vec<String> {
     files().into_iter().filter(|path| is_document(path)).collect()
