@@ -1,6 +1,6 @@
 # The library as one archive, and its installation.
 #
-#     make                        proves the crates and writes target/lib/libzeppolecape.a (some minutes, once)
+#     make                        proves the crates and writes target/lib/libzeppolecape.a (some ten minutes, once)
 #     make install PREFIX=/opt/zc headers, archive, pkg-config file and CMake package; DESTDIR is honoured
 #     make uninstall PREFIX=/opt/zc
 #
