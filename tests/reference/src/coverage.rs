@@ -205,7 +205,7 @@ impl Coverage {
         Ok(())
     }
 
-    /// Failures that only a tag explains, and place 8 earning its keep.
+    /// Failures that only a tag explains, and those that place 8 prevents.
     fn out_of_date(&mut self, way: &Way) {
         let Before { record, control, link, next } = &self.before;
         let same_but_tag = |one: u64, other: u64| one as u32 == other as u32;
