@@ -2,15 +2,17 @@
  * zeppolecape.h - the label queue, a shared deque moved one touch at a time.
  *
  * FOR WHOM. Threads, cores and interrupt handlers share a queue through zeppolecape_atomic.h, with no
- * lock and nothing masked. The calls of this header are for one caller at a time: an executive whose
- * step is one undivided touch, or a queue at rest. They use plain loads and stores and are not
- * re-entrant: two callers at once lose labels, which is not detected. In both, wherever a task is
- * stopped the others go on.
+ * lock and nothing masked. The calls of this header are for one caller at a time: an executive (the
+ * program that decides which task steps next) whose step is one undivided touch, or a queue at rest.
+ * They use plain loads and stores and are not re-entrant: two callers at once lose labels, which is
+ * not detected. In both, wherever a task is stopped the others go on.
  *
  * WHAT IT IS. The library holds no memory of its own. You lend it tables; it opens a queue in them,
  * starts a push or a pop for a task, moves one task by one step, and reports. A step is one touch of
  * shared memory, and an executive may interleave the steps of its tasks in any order and stop any of
- * them anywhere: the others never wait for it. The method is Michael's CAS-based deque.
+ * them anywhere: the others never wait for it. The method is Michael's CAS-based deque. Where in it a
+ * task's next step is, is its place: 1 to 11, and 12 to 17 for slots from a pool. Anchor is the shared
+ * word with both ends of the queue (zc_control).
  *
  *     make                                          (proves, and writes target/lib/libzeppolecape.a)
  *     cc -Iinclude main.c target/lib/libzeppolecape.a
