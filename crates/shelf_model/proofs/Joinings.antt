@@ -213,7 +213,7 @@ stretch-of i (turns t ∷ l) w u =
     let s = stretch-of i l (turned w t) (a .1) in
     record {
       list = t ∷ s .list;
-      whole = rw (a .0, s .whole);
+      whole = ap₂ _&&_ (a .0) (s .whole);
       same = ap (λ (es : List Event). cond (eqb i (t .queue)) (withEvent (w .queues i) (t .action) es) es) (s .same);
     }
 stretch-of i (joins j k third ∷ l) w u =
