@@ -6,7 +6,7 @@ use historyfile::words;
 ghost use mathlib.Core.Path.{_≡_};
 ghost use Prim.Native.Nat.{_+_, _≤_};
 ghost use lib.ListN.{length};
-ghost use Rattle.lines.specs.Line.{Put, fitting};
+ghost use Rattle.lines.specs.Line.{Put, givenRoom, room};
 ghost use Rattle.judge.specs.Judging.{judged};
 ghost use Rattle.judge.specs.Saying.{counted, faultLine, isTold, message, position, unreadLine, verdictLine, wanted};
 
@@ -128,7 +128,7 @@ fn is_told(j: Judged) -> bool
 /// What is said of a text, where the buffer has `lines::ROOM` bytes for it; otherwise nothing.
 pub fn say(text: &[u8], out: &mut [u8]) -> Said
     ensures { λ r.
-        ⌜ Put (now (out .entry)) (now (out .exit)) 0 (r .length) (fitting (length (now (out .entry))) 0 (message (judged (now (text .entry))))) ⌝ }
+        ⌜ Put (now (out .entry)) (now (out .exit)) 0 (r .length) (givenRoom room (length (now (out .entry))) 0 (message (judged (now (text .entry))))) ⌝ }
     ensures { λ r. ⌜ r .told ≡ isTold (judged (now (text .entry))) ⌝ }
     ensures { λ r. ⌜ r .length ≤ length (now (out .entry)) ⌝ }
 {

@@ -118,8 +118,3 @@ pub record Put (before after : List ℕ) (at r : ℕ) (bytes : List ℕ) : Type 
 -- Bytes that are written where a buffer of n bytes has room for `most` bytes at a position, and otherwise not.
 unfoldable pub givenRoom : ℕ → ℕ → ℕ → List ℕ → List ℕ
 givenRoom most n at bytes = cond (leb (at + most) n) bytes []
-
--- The same with room for the longest line.
-unfoldable pub fitting : ℕ → ℕ → List ℕ → List ℕ
-unfolding givenRoom
-fitting n at bytes = givenRoom room n at bytes

@@ -6,7 +6,7 @@ ghost use Prim.Native.Nat.{_+_, _≤_};
 ghost use lib.ListN.{length};
 ghost use lib.Dec.{leb};
 ghost use Rattle.lines.specs.Line.{callWord, callOf, entryOf, answerOf, moved, outcomeOf, openingOf, told, anchorText, lineOf};
-ghost use Rattle.lines.specs.Line.{header, decimal, room, Put, givenRoom, fitting};
+ghost use Rattle.lines.specs.Line.{header, decimal, room, Put, givenRoom};
 ghost use Rattle.lines.specs.declared.Line;
 use model::Answer;
 use model::Entry;
@@ -187,7 +187,7 @@ pub fn fits(len: usize, at: usize) -> bool
 
 /// A line from position `at` on, where the buffer has `ROOM` bytes for it; otherwise nothing.
 pub fn write_line(out: &mut [u8], at: usize, event: u64, line: Line, anchor: u64) -> usize
-    ensures { λ r. ⌜ Put (now (out .entry)) (now (out .exit)) at r (fitting (length (now (out .entry))) at (lineOf event line anchor)) ⌝ }
+    ensures { λ r. ⌜ Put (now (out .entry)) (now (out .exit)) at r (givenRoom room (length (now (out .entry))) at (lineOf event line anchor)) ⌝ }
     ensures { λ r. ⌜ r ≤ at + 128 ⌝ }
 {
     if fits(out.len(), at) {
@@ -199,7 +199,7 @@ pub fn write_line(out: &mut [u8], at: usize, event: u64, line: Line, anchor: u64
 
 /// The trace's first line, under the same rule.
 pub fn write_header(out: &mut [u8], at: usize) -> usize
-    ensures { λ r. ⌜ Put (now (out .entry)) (now (out .exit)) at r (fitting (length (now (out .entry))) at header) ⌝ }
+    ensures { λ r. ⌜ Put (now (out .entry)) (now (out .exit)) at r (givenRoom room (length (now (out .entry))) at header) ⌝ }
     ensures { λ r. ⌜ r ≤ at + 128 ⌝ }
 {
     if fits(out.len(), at) {

@@ -16,8 +16,11 @@ returns-2 : tie.Need-returns-2
 unfolding faultLine
 returns-2 c =
     let text = c .before .before in
-    let small = text .before .before .before .before .before in
-    (rw (ne-eqb _ 2 (small .if1 .left), eq-eqb _ 3 (text .before .before .before .if2 .taken)) (put-fits _ (text .write-text2 .ensures .0) (search needs)), search needs)
+    let small = text .before .before .before .before .before in (
+      rw (ne-eqb _ 2 (small .if1 .left), eq-eqb _ 3 (text .before .before .before .if2 .taken))
+          (put-fits _ (text .write-text2 .ensures .0) (search needs)),
+      search needs,
+    )
 
 returns-3 : tie.Need-returns-3
 unfolding faultLine
