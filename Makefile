@@ -1,13 +1,13 @@
 # The library as one archive, and its installation.
 #
-#     make                        proves the crates and writes target/lib/libzeppolecape.a (some minutes, once)
+#     make                        proves the crates and writes target/lib/libzeppolecape.a (some ten minutes, once)
 #     make install PREFIX=/opt/zc headers, archive, pkg-config file and CMake package; DESTDIR is honoured
 #     make uninstall PREFIX=/opt/zc
 #
 # The tests are .ci/run and tests/README.md's commands.
 
 # The crates that export calls. All are proved first; then each is compiled for itself (`rt staticlib NAME`),
-# two at a time, the dearest first. The library holds them all, and a program takes in only those whose calls it makes.
+# two at a time, the one that takes longest first. The library holds them all, and a program takes in only those whose calls it makes.
 EXPORTS = touch join shelf sheet serve capi schedule capi_run audit find capi_record waiting
 
 # Two of `rt` in one folder overwrite each other's notes on what is proved, and one may then find a proved crate

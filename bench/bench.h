@@ -99,7 +99,7 @@ uint64_t nothing_left(void); /* of calls that write nothing */
 
 static inline uint64_t mix_reply(uint64_t hash, zc_reply reply)
 {
-    return hash + reply.code + reply.label + reply.value; /* cheap: it is timed */
+    return hash + reply.code + reply.label + reply.value; /* few instructions: it is timed */
 }
 
 /* ---- A schedule of steps (parts/steps.c draws it, others replay it) ------------------------ */

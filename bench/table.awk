@@ -46,7 +46,7 @@ END {
     if (speed) {
         printf "- **Speed**, against the same call by hand in C at -O3, of %d lines in `bench/README.md`:", lines
         printf " the best takes %s of the time (%s), the worst %s (%s).", best, best_line, worst, worst_line
-        printf " `zc_step` takes %s to %s by gcc, the program `trace` %s of the second program's time.", least, most, trace
+        printf " `zc_step` takes %s to %s by gcc, the program `trace` (`docs/TOOLS.md`) %s of the time of a second program in Rust.", least, most, trace
         print " Threads against a mutex are there too."
     }
 }

@@ -2,15 +2,17 @@
  * zeppolecape.h - the label queue, a shared deque moved one touch at a time.
  *
  * FOR WHOM. Threads, cores and interrupt handlers share a queue through zeppolecape_atomic.h, with no
- * lock and nothing masked. The calls of this header are for one caller at a time: an executive whose
- * step is one undivided touch, or a queue at rest. They use plain loads and stores and are not
- * re-entrant: two callers at once lose labels, which is not detected. In both, wherever a task is
- * stopped the others go on.
+ * lock and nothing masked. The calls of this header are for one caller at a time: an executive (the
+ * program that decides which task steps next) whose step is one undivided touch, or a queue at rest.
+ * They use plain loads and stores and are not re-entrant: two callers at once lose labels, which is
+ * not detected. In both, wherever a task is stopped the others go on.
  *
  * WHAT IT IS. The library holds no memory of its own. You lend it tables; it opens a queue in them,
  * starts a push or a pop for a task, moves one task by one step, and reports. A step is one touch of
  * shared memory, and an executive may interleave the steps of its tasks in any order and stop any of
- * them anywhere: the others never wait for it. The method is Michael's CAS-based deque.
+ * them anywhere: the others never wait for it. The method is Michael's CAS-based deque. Where in it a
+ * task's next step is, is its place: 1 to 11, and 12 to 17 for slots from a pool. Anchor is the shared
+ * word with both ends of the queue (zc_control).
  *
  *     make                                          (proves, and writes target/lib/libzeppolecape.a)
  *     cc -Iinclude main.c target/lib/libzeppolecape.a
@@ -73,10 +75,10 @@
  *   zc_report         216       202       349     13767
  *   table bytes         -       240       816     30120
  *   stack bytes of the others: zc_waiting 72, zc_find 504, zc_sheet 1576, zc_sheet_words 552,
- *   zc_join 184, zc_save 152, zc_return 104, zc_next_schedule 26632, zc_serve 288,
+ *   zc_join 184, zc_save 152, zc_return 104, zc_next_schedule 25864, zc_serve 288,
  *   zc_audit 176, zc_plan 112, zc_settle_plan 208, zc_plan_start 32, zc_settle_start 40
  *   code bytes: audit 711, capi 9433, capi_record 4250, capi_run 7187, find 3111, join 3377,
- *   schedule 7967, serve 8878, sheet 3283, shelf 3713, touch 9527, waiting 704
+ *   schedule 7867, serve 8878, sheet 3283, shelf 3713, touch 9527, waiting 704
  * As to the machine: x86-64, System V calling convention. The code uses the red zone (128 bytes
  * below the stack pointer) and SSE registers, no AVX: an interrupt handler that makes a call saves
  * the SSE state first, and an interrupt that is not masked during a call leaves the red zone alone.

@@ -81,7 +81,7 @@ static uint64_t all_answers(const struct calls *calls)
     return mix_words(hash, (const uint64_t *)&found, sizeof found / sizeof hash);
 }
 
-/* From either end, of full queues and less full ones; then with a link that leads astray. */
+/* From either end, of full queues and less full ones; then with a link to a wrong slot. */
 static bool alike(const struct calls *ours, const struct calls *theirs, bool at_length)
 {
     static const size_t sizes[] = {0, 1, 2, 3, 31, 64, 500, 1023};

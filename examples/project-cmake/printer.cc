@@ -12,7 +12,7 @@ int main()
         return 1;
     zc_queue_push_pooled(&queue, SCALE, ZC_RIGHT, 700);
     zc_queue_push_pooled(&queue, OTHER_SCALE, ZC_RIGHT, 800);
-    zc_queue_finish(&queue, OTHER_SCALE); // the first scale may sleep meanwhile
+    zc_queue_finish(&queue, OTHER_SCALE); // the first scale may be stopped meanwhile
     zc_queue_finish(&queue, SCALE);
     zc_queue_pop(&queue, HEAD, ZC_LEFT);
     const zc_reply reply = zc_queue_finish(&queue, HEAD);

@@ -1,4 +1,4 @@
-//! Which tools are at hand: tests that want another one are told as ignored, with the reason.
+//! Which tools there are: tests that need another one are reported as ignored, with the reason.
 
 use std::process::{Command, Stdio};
 

@@ -32,7 +32,7 @@ fn busy_refusal(pooled: bool, slots: u64, r: Call) -> u32
 /// All that a start is asked, where `admitted` is the number that it is admitted with. Nearly every start passes, and is
 /// told so before a busy record is looked at: with that behind five tests, and the record copied for it there, the rest is
 /// compiled into each of the three starts.
-pub fn start_refusal(admitted: u32, c: Control, r: Call, side: u64, asked: Asked) -> u32
+pub(crate) fn start_refusal(admitted: u32, c: Control, r: Call, side: u64, asked: Asked) -> u32
     ensures { λ n. ⌜ ((fit : Bool) (p : Lent) → admitted ≡ admission c fit p → n ≡ startRefusal c fit p r side asked) ⌝ }
 {
     if admitted != 0 {

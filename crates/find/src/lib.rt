@@ -65,7 +65,7 @@ fn note(early: bool, y: u32, k: u64, asked: &[u32], positions: &mut [u64])
     }
 }
 
-// So many slots are compared with each label asked for; with more it pays to sift.
+// So many slots are compared with each label asked for; with more a sieve spares most comparisons.
 const FEW: u64 = 4;
 
 /// Sifts when n slots were met and more are to come.

@@ -15,7 +15,7 @@ use Rattle.stock_model.proofs.Accounts.{every-label, stock-taking}
 use Rattle.join_model.specs.Join.{anchorIn, anyLate, lane, lanes, outcomes, pushes, joinRefusal, joinRules, join}
 use Rattle.join_model.specs.Closed.{tagAfter, lateFor, holding, closedRefusal}
 use Rattle.join_model.specs.Laws.{OwnOrder, StaysAscending, TieToFirst, SameCopies, RefusalKeeps, Zeros, OnlyFresh, JoinedWait, numbered, Continues}
-use Rattle.join_model.specs.Laws.{JoinNever34, StandingNever34}
+use Rattle.join_model.specs.Laws.{JoinNever34, StandingJoinings}
 use Rattle.join_model.proofs.{Ran.final-on, Fresh.Fresh, Waits.held-waits}
 use Rattle.join_model.proofs.Closed.{same-refusal, accepted, joins}
 use Rattle.join_model.proofs.Merged.{interleaved, ascending, tie, copies-merged}
@@ -93,13 +93,13 @@ continues pooled q tasks slots tag o os a b e later = record {
     begun : Queue
     begun = openAs pooled q tasks slots tag .queue
 
-pub standing-never-34 : StandingNever34
+pub standing-joinings : StandingJoinings
 unfolding joinRefusal
-standing-never-34 a b q d e f x y z = never 34 (joinRules a b q (anyLate (outcomes (run q (pushes 1 (lanes a b)))))) (λ e. omega arith)
+standing-joinings a b q d e f x y z = never 34 (joinRules a b q (anyLate (outcomes (run q (pushes 1 (lanes a b)))))) (λ e. omega arith)
     (ap not (x .control) and ap not (y .control) and ap not (z .control)
     and refl and ap isBroken (x .walk) and ap isBroken (y .walk)
     and refl and refl and refl and tt)
 
 pub join-never-34 : JoinNever34
 join-never-34 pa a ta sa ga oa ks pb b tb sb gb ob ls pq q tq sq gq oq os =
-    standing-never-34 _ _ _ _ _ _ (standing pa a ta sa ga oa ks) (standing pb b tb sb gb ob ls) (standing pq q tq sq gq oq os)
+    standing-joinings _ _ _ _ _ _ (standing pa a ta sa ga oa ks) (standing pb b tb sb gb ob ls) (standing pq q tq sq gq oq os)

@@ -105,8 +105,8 @@ Continues =
     → Continued q os (pushes 1 (lanes a b)) later (join a b (final q os) .third) (lanes a b))
 
 -- 34 never occurs: of three queues on which a call that walks may rely, and so of three that were each made by an opening and a list.
-abbrev pub StandingNever34 : Type 0
-StandingNever34 = (a b q : Queue) (d e f : List Entry) → Standing a d → Standing b e → Standing q f → joinRefusal a b q ≢ 34
+abbrev pub StandingJoinings : Type 0
+StandingJoinings = (a b q : Queue) (d e f : List Entry) → Standing a d → Standing b e → Standing q f → joinRefusal a b q ≢ 34
 
 abbrev pub JoinNever34 : Type 0
 JoinNever34 = AfterOpening (λ a ks. AfterOpening (λ b ls. AfterOpening (λ q os. joinRefusal (final a ks) (final b ls) (final q os) ≢ 34)))

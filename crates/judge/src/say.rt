@@ -3,11 +3,10 @@ use crate::Judged;
 use audit_model::Verdict;
 use historyfile::reading::Place;
 use historyfile::words;
-use lines::number;
 ghost use mathlib.Core.Path.{_≡_};
 ghost use Prim.Native.Nat.{_+_, _≤_};
 ghost use lib.ListN.{length};
-ghost use Rattle.lines.specs.Line.{Put, fitting};
+ghost use Rattle.lines.specs.Line.{Put, givenRoom, room};
 ghost use Rattle.judge.specs.Judging.{judged};
 ghost use Rattle.judge.specs.Saying.{counted, faultLine, isTold, message, position, unreadLine, verdictLine, wanted};
 
@@ -23,8 +22,9 @@ fn put_counted(out: &mut [u8], word: &[u8], n: u64) -> usize
     ensures { λ r. ⌜ Put (now (out .entry)) (now (out .exit)) 0 r (counted (now (word .entry)) n) ⌝ }
     ensures { λ r. ⌜ r ≤ length (now (word .entry)) + 21 ⌝ }
 {
-    let a = number::put_numbered(out, 0, word, n);
-    number::put(out, a, b'\n')
+    let a = lines::write_text(out, 0, word);
+    let b = lines::write_decimal(out, a, n);
+    lines::write_text(out, b, b"\n")
 }
 
 fn put_position(out: &mut [u8], n: u32) -> usize
@@ -33,7 +33,7 @@ fn put_position(out: &mut [u8], n: u32) -> usize
     ensures { λ r. ⌜ r ≤ 128 ⌝ }
 {
     if n == 0 {
-        return number::put_text(out, 0, b"no rearrangement\n");
+        return lines::write_text(out, 0, b"no rearrangement\n");
     }
     put_counted(out, b"fails at ", n as u64)
 }
@@ -44,7 +44,7 @@ fn put_verdict(out: &mut [u8], v: Verdict) -> usize
     ensures { λ r. ⌜ r ≤ 128 ⌝ }
 {
     match v {
-        Verdict::Passed => number::put_text(out, 0, b"passes\n"),
+        Verdict::Passed => lines::write_text(out, 0, b"passes\n"),
         Verdict::Failed(n) => put_position(out, n),
         Verdict::Refused(why) => put_counted(out, b"refused ", why as u64),
     }
@@ -56,13 +56,13 @@ fn put_wanted(out: &mut [u8], at: usize, column: u64) -> usize
     ensures { λ r. ⌜ r ≤ at + 80 ⌝ }
 {
     match column {
-        0 => number::put_text(out, at, b"a task's number or `order` is wanted\n"),
-        1 => number::put_text(out, at, b"`push` or `pop` is wanted\n"),
-        2 => number::put_text(out, at, b"`left` or `right` is wanted\n"),
-        3 => number::put_text(out, at, b"a label or `-` is wanted\n"),
-        4 => number::put_text(out, at, b"`pushed`, `empty` or `popped` is wanted\n"),
-        8 => number::put_text(out, at, b"a call's number is wanted\n"),
-        _ => number::put_text(out, at, b"an event's number is wanted\n"),
+        0 => lines::write_text(out, at, b"a task's number or `order` is wanted\n"),
+        1 => lines::write_text(out, at, b"`push` or `pop` is wanted\n"),
+        2 => lines::write_text(out, at, b"`left` or `right` is wanted\n"),
+        3 => lines::write_text(out, at, b"a label or `-` is wanted\n"),
+        4 => lines::write_text(out, at, b"`pushed`, `empty` or `popped` is wanted\n"),
+        8 => lines::write_text(out, at, b"a call's number is wanted\n"),
+        _ => lines::write_text(out, at, b"an event's number is wanted\n"),
     }
 }
 
@@ -72,17 +72,17 @@ fn put_fault(out: &mut [u8], at: usize, p: Place) -> usize
     ensures { λ r. ⌜ r ≤ at + 80 ⌝ }
 {
     if p.fault == words::LARGE {
-        return number::put_text(out, at, b"a number is above 18446744073709551615\n");
+        return lines::write_text(out, at, b"a number is above 18446744073709551615\n");
     }
     if p.fault == words::SEVEN {
-        return number::put_text(
+        return lines::write_text(
             out,
             at,
             b"a call has seven words: task, kind, side, label, answer, start, end\n",
         );
     }
     if p.fault == words::UNLABELLED {
-        return number::put_text(out, at, b"`-` stands for a label only with `empty`\n");
+        return lines::write_text(out, at, b"`-` stands for a label only with `empty`\n");
     }
     put_wanted(out, at, p.column)
 }
@@ -93,15 +93,16 @@ fn put_unread(out: &mut [u8], p: Place) -> usize
     ensures { λ r. ⌜ r ≤ 128 ⌝ }
 {
     if p.fault == 0 {
-        return number::put_text(
+        return lines::write_text(
             out,
             0,
             b"verdict: the order is missing; it is the last line, `order` and the calls' numbers\n",
         );
     }
-    let a = number::put_numbered(out, 0, b"verdict: line ", p.line);
-    let b = number::put_text(out, a, b": ");
-    put_fault(out, b, p)
+    let a = lines::write_text(out, 0, b"verdict: line ");
+    let b = lines::write_decimal(out, a, p.line);
+    let c = lines::write_text(out, b, b": ");
+    put_fault(out, c, p)
 }
 
 fn put_message(out: &mut [u8], j: Judged) -> usize
@@ -127,7 +128,7 @@ fn is_told(j: Judged) -> bool
 /// What is said of a text, where the buffer has `lines::ROOM` bytes for it; otherwise nothing.
 pub fn say(text: &[u8], out: &mut [u8]) -> Said
     ensures { λ r.
-        ⌜ Put (now (out .entry)) (now (out .exit)) 0 (r .length) (fitting (length (now (out .entry))) 0 (message (judged (now (text .entry))))) ⌝ }
+        ⌜ Put (now (out .entry)) (now (out .exit)) 0 (r .length) (givenRoom room (length (now (out .entry))) 0 (message (judged (now (text .entry))))) ⌝ }
     ensures { λ r. ⌜ r .told ≡ isTold (judged (now (text .entry))) ⌝ }
     ensures { λ r. ⌜ r .length ≤ length (now (out .entry)) ⌝ }
 {

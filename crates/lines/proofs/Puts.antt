@@ -1,11 +1,12 @@
 -- Writes one after the other are one write of both texts.
-use Prim.Native.Nat.{ℕ, suc, _+_, _<_}
+use Prim.Native.Nat.{ℕ, suc, _+_, _≤_, _<_}
 use native.Mathlib.{Numerals.add-one, Nat.add-zero, Omega.arith}
 use mathlib.Core.Path.{_≡_, refl, sym, ap, _∙_}
 use mathlib.Core.List.{List, [], _∷_, _++_}
 use lib.ListN.{length, set, getD, take, length-append}
 use lib.Seq.{sets, take-suc, length-take-le}
-use Rattle.lines.specs.Line.{Put}
+use borrow.Author.Tests.{le-leb}
+use Rattle.lines.specs.Line.{Put, givenRoom}
 
 pub sets-append : (l : List ℕ) (i : ℕ) (xs ys : List ℕ) → sets (sets l i xs) (i + length xs) ys ≡ sets l i (xs ++ ys)
 sets-append l i [] ys = ap (λ (k : ℕ). sets l k ys) (add-zero i)
@@ -28,3 +29,8 @@ copy-more l at s i h =
 
 pub put-none : (l : List ℕ) (at : ℕ) → Put l l at at []
 put-none l at = record { stop = sym (add-zero at); stored = refl }
+
+-- Bytes that have room are written.
+pub put-fits : {a b : List ℕ} {i r : ℕ} {xs : List ℕ} (most : ℕ) → Put a b i r (givenRoom most (length a) i xs) → i + most ≤ length a → Put a b i r xs
+unfolding givenRoom
+put-fits {a} {b} {i} {r} {xs} most p h = rw (le-leb (i + most) (length a) h) at p

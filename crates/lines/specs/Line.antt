@@ -115,6 +115,6 @@ pub record Put (before after : List ℕ) (at r : ℕ) (bytes : List ℕ) : Type 
   pub stop : r ≡ at + length bytes
   pub stored : after ≡ sets before at bytes
 
--- Bytes that are written where a buffer of n bytes has room for the longest line at a position, and otherwise not.
-unfoldable pub fitting : ℕ → ℕ → List ℕ → List ℕ
-fitting n at bytes = cond (leb (at + room) n) bytes []
+-- Bytes that are written where a buffer of n bytes has room for `most` bytes at a position, and otherwise not.
+unfoldable pub givenRoom : ℕ → ℕ → ℕ → List ℕ → List ℕ
+givenRoom most n at bytes = cond (leb (at + most) n) bytes []

@@ -1,12 +1,12 @@
-//! A line of the trace, written into a lent buffer.
-pub mod number;
+//! A line of the trace, a text or a number, written into a lent buffer where it has room.
+mod number;
 
 ghost use mathlib.Core.Path.{_≡_};
 ghost use Prim.Native.Nat.{_+_, _≤_};
 ghost use lib.ListN.{length};
 ghost use lib.Dec.{leb};
 ghost use Rattle.lines.specs.Line.{callWord, callOf, entryOf, answerOf, moved, outcomeOf, openingOf, told, anchorText, lineOf};
-ghost use Rattle.lines.specs.Line.{header, room, Put, fitting};
+ghost use Rattle.lines.specs.Line.{header, decimal, room, Put, givenRoom};
 ghost use Rattle.lines.specs.declared.Line;
 use model::Answer;
 use model::Entry;
@@ -168,19 +168,26 @@ fn put_header(out: &mut [u8], at: usize) -> usize
     number::put_text(out, at, b"event task call answer anchor\n")
 }
 
+// Whether a buffer of `len` bytes has room for n bytes at a position.
+fn has_room(len: usize, at: usize, n: usize) -> bool
+    ensures { λ r. ⌜ r ≡ leb (at + n) len ⌝ }
+{
+    if len < n {
+        return false;
+    }
+    at <= len - n
+}
+
 /// Whether a buffer of `len` bytes has room for a line at a position.
 pub fn fits(len: usize, at: usize) -> bool
     ensures { λ r. ⌜ r ≡ leb (at + room) len ⌝ }
 {
-    if len < ROOM {
-        return false;
-    }
-    at <= len - ROOM
+    has_room(len, at, ROOM)
 }
 
 /// A line from position `at` on, where the buffer has `ROOM` bytes for it; otherwise nothing.
 pub fn write_line(out: &mut [u8], at: usize, event: u64, line: Line, anchor: u64) -> usize
-    ensures { λ r. ⌜ Put (now (out .entry)) (now (out .exit)) at r (fitting (length (now (out .entry))) at (lineOf event line anchor)) ⌝ }
+    ensures { λ r. ⌜ Put (now (out .entry)) (now (out .exit)) at r (givenRoom room (length (now (out .entry))) at (lineOf event line anchor)) ⌝ }
     ensures { λ r. ⌜ r ≤ at + 128 ⌝ }
 {
     if fits(out.len(), at) {
@@ -192,11 +199,36 @@ pub fn write_line(out: &mut [u8], at: usize, event: u64, line: Line, anchor: u64
 
 /// The trace's first line, under the same rule.
 pub fn write_header(out: &mut [u8], at: usize) -> usize
-    ensures { λ r. ⌜ Put (now (out .entry)) (now (out .exit)) at r (fitting (length (now (out .entry))) at header) ⌝ }
+    ensures { λ r. ⌜ Put (now (out .entry)) (now (out .exit)) at r (givenRoom room (length (now (out .entry))) at header) ⌝ }
     ensures { λ r. ⌜ r ≤ at + 128 ⌝ }
 {
     if fits(out.len(), at) {
         put_header(out, at)
+    } else {
+        at
+    }
+}
+
+/// A text from position `at` on, where the buffer has room for it; otherwise nothing.
+pub fn write_text(out: &mut [u8], at: usize, s: &[u8]) -> usize
+    ensures { λ r.
+        ⌜ Put (now (out .entry)) (now (out .exit)) at r (givenRoom (length (now (s .entry))) (length (now (out .entry))) at (now (s .entry))) ⌝ }
+    ensures { λ r. ⌜ r ≤ at + length (now (s .entry)) ⌝ }
+{
+    if has_room(out.len(), at, s.len()) {
+        number::put_text(out, at, s)
+    } else {
+        at
+    }
+}
+
+/// A number's decimal digits, where the buffer has room for 20, the most that there are; otherwise nothing.
+pub fn write_decimal(out: &mut [u8], at: usize, n: u64) -> usize
+    ensures { λ r. ⌜ Put (now (out .entry)) (now (out .exit)) at r (givenRoom 20 (length (now (out .entry))) at (decimal n)) ⌝ }
+    ensures { λ r. ⌜ r ≤ at + 20 ⌝ }
+{
+    if has_room(out.len(), at, 20) {
+        number::put_decimal(out, at, n)
     } else {
         at
     }

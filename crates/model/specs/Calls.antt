@@ -15,7 +15,7 @@ use Rattle.model.specs.Route.{route, onward, answer, goes, counted}
 use Rattle.model.specs.Refusals.{openRefusal, Lent, among, alone, pushRefusal, putRefusal, popRefusal, stepRefusal}
 use Rattle.model.specs.Lists.{zeroed, climb}
 
--- A next table with all slots stacked: each slot's next is the one above, the last one's 0; rows beyond are as they were.
+-- A next table with all slots stacked, slot 1 on top: row n holds n + 1, rows 0 and slots hold 0; rows beyond are as they were.
 abbrev pub stacked : ℕ → List ℕ → List ℕ
 stacked slots l = 0 ∷ climb 2 slots ++ drop (slots + 1) l
 

@@ -14,7 +14,7 @@ isPop r = eqb (r .kind) 1
 abbrev pub helping : Call → Bool
 helping r = leb 5 (r .place) && leb (r .place) 10
 
--- At 12 to 14 a push draws its slot, at 15 to 17 a pop gives it back: in a pooled queue alone.
+-- At 12 to 14 a push draws its slot, at 15 to 17, the last places, a pop gives it back: in a pooled queue alone.
 abbrev pub drawing : Call → Bool
 drawing r = leb 12 (r .place) && leb (r .place) 14
 

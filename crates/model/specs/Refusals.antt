@@ -64,7 +64,8 @@ isBusy r = not (eqb (r .place) 0)
 abbrev pub late : Control → Bool
 late c = ltb 4294967262 (anchorOf (c .anchor) .tag)
 
--- What the starts, the steps, the report, the schedules and the labels written out are asked first: 34 for control and Anchor, 12. Fit: the tables are long enough.
+-- What the starts, the steps, the report, the schedules and the labels written out are asked first: 34 for control and Anchor, 12. Fit: the
+-- tables are long enough.
 abbrev pub tableRules : Control → Bool → List Rule
 tableRules c fit = rule 34 (not (controlSound c)) ∷ rule 12 (not fit) ∷ []
 

@@ -72,7 +72,6 @@ readUnstable = 3
 abbrev pub failedReading : ℕ → ℕ
 failedReading branch = branch + 1
 
--- The column next: a line for each place from 0, where no task steps, and an entry for each branch from 0.
 -- Where a reading leads: empty, l = r, STABLE, else. A push never reads a single label as such, so that entry is 0, no place.
 abbrev pub pushRead : List ℕ
 pushRead = 2 ∷ 0 ∷ 3 ∷ 5 ∷ []
@@ -80,6 +79,7 @@ pushRead = 2 ∷ 0 ∷ 3 ∷ 5 ∷ []
 abbrev pub popRead : List ℕ
 popRead = empty ∷ 2 ∷ 3 ∷ 5 ∷ []
 
+-- The column next: a line for each place from 0, where no task steps, and an entry for each branch from 0.
 unfoldable pub pushRoute : List (List ℕ)
 pushRoute =
     []

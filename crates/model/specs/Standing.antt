@@ -1,4 +1,4 @@
--- What a call that walks relies on. (Document 02: #102, #107, #109, #110, #111.)
+-- What a call that walks relies on. (Document 02: #102, #107, #109, #110, #111, #113.)
 use mathlib.Core.{Path._≡_, List.List}
 use mathlib.Core.Bool.{true, _&&_}
 use Rattle.model.specs.declared.Entry.{Entry}

@@ -20,12 +20,12 @@ use Rattle.schedule_model.specs.Schedules.{Schedule, allSchedules, atWor
 use Rattle.schedule_model.specs.Next.{Handed, Next, firstAfter, given, handing, nextSchedule, noMore, precedes, remembered}
 use Rattle.schedule_model.specs.Next.{scheduleRefusal, scheduleRules}
 use Rattle.schedule_model.specs.Allowed.{tries}
-use Rattle.schedule_model.specs.Claims.{NeverRefused, StandingNever34, StandingUnrefused, Unrefused}
+use Rattle.schedule_model.specs.Claims.{NeverRefused, StandingSchedules, StandingUnrefused, Unrefused}
 use Rattle.schedule_model.proofs.OnlyUnsound.{only-unsound}
 
-pub standing-never-34 : StandingNever34
+pub standing-schedules : StandingSchedules
 unfolding scheduleRefusal
-standing-never-34 q d s ws = never 34 (scheduleRules q ws) (λ e. omega arith)
+standing-schedules q d s ws = never 34 (scheduleRules q ws) (λ e. omega arith)
     (ap not (s .control) and refl and ap isBroken (s .walk) and refl and tt)
 
 -- Lists of schedules of which none is marked refused.
@@ -99,7 +99,7 @@ module _ (q : Queue) (d : List Entry) (s : Standing q d) (sound : (os : List Req
   unfolding nextSchedule
   unrefused = record {
     code = λ ws. by-test (λ (h : Handed). h .reply .code ≢ 34) (eqb (scheduleRefusal q ws) 0)
-        (λ _. no-code ws (firstAfter (remembered ws) (allSchedules q))) (λ _. standing-never-34 q d s ws);
+        (λ _. no-code ws (firstAfter (remembered ws) (allSchedules q))) (λ _. standing-schedules q d s ws);
     ending = λ ws. by-test (λ (h : Handed). h .reply .ending ≢ 2) (eqb (scheduleRefusal q ws) 0)
         (λ z. first-unmarked ws _ (allSchedules q) (all-unmarked 48 q (steady ws (eqb-true _ _ z)))) (λ _ e. omega arith);
     schedules = λ ws ok. all-unmarked 48 q (steady ws ok);

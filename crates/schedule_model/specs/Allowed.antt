@@ -9,7 +9,7 @@ use Rattle.model.specs.declared.Outcome.the-variants.{Refused, Moved}
 use Rattle.model.specs.declared.Op.the-variants.{Step}
 use Rattle.model.specs.{Tables.Queue, Calls.act}
 use Rattle.model.specs.History.{Request, final}
-use Rattle.schedule_model.specs.Schedules.{Schedule, atWork, bothAnswered, allSchedules}
+use Rattle.schedule_model.specs.Schedules.{Schedule, answeredBoth, wasCut, wasRefused, atWork, bothAnswered, allSchedules}
 
 -- A step of each task of a list, and the queue after them.
 abbrev pub tries : List ℕ → List Request
@@ -33,9 +33,9 @@ lastRefused q (t ∷ u ∷ ts) = lastRefused (act q t Step .queue) (u ∷ ts)
 unfoldable pub hasEnded : ℕ → Queue → List ℕ → Bool
 hasEnded n q ts = lastRefused q ts || bothAnswered (after q ts) || eqb (length ts) n
 
--- Its mark: 2 its last step refused, even as the n-th; 0 both calls answered; 1 cut.
+-- Its mark; a last step that is refused is marked so, even as the n-th.
 unfoldable pub endingOf : Queue → List ℕ → ℕ
-endingOf q ts = cond (lastRefused q ts) 2 (cond (bothAnswered (after q ts)) 0 1)
+endingOf q ts = cond (lastRefused q ts) wasRefused (cond (bothAnswered (after q ts)) answeredBoth wasCut)
 
 -- A schedule that is cut after n steps: each of its steps is of a task then still busy, it has not ended before the step, and with the
 -- last of them it has ended.

@@ -10,14 +10,14 @@ use Rattle.model.specs.declared.Outcome.the-variants.{Refused}
 use Rattle.model.specs.declared.Op.the-variants.{Step}
 use Rattle.model.specs.{Tables.Queue, Calls.act, Standing.Standing, Lists.All}
 use Rattle.model.specs.History.{AfterOpening, NeverUnsound, Request, final}
-use Rattle.schedule_model.specs.Schedules.{Schedule, atWork, schedules, allSchedules}
+use Rattle.schedule_model.specs.Schedules.{Schedule, saidNoMore, wasRefused, atWork, schedules, allSchedules}
 use Rattle.schedule_model.specs.Allowed.{after}
 use Rattle.schedule_model.specs.Next.{Next, given, noMore, precedes, Handed, scheduleRefusal, nextSchedule}
 
 -- What the caller reads of an answer: the words 1 to length of the memory, and the ending.
 abbrev pub told : Handed → Next
 told h =
-    cond (eqb (h .reply .ending) 3) noMore
+    cond (eqb (h .reply .ending) saidNoMore) noMore
     (given (record { steps = take (h .reply .length) (drop 1 (h .memory)); ending = h .reply .ending }))
 
 -- k calls, each lent the memory that the last one left.
@@ -56,15 +56,15 @@ OnlyUnsound =
     → let now = after q ts in atWork now t ≡ true → act now t Step .outcome ≡ Refused n → n ≡ 34
 
 -- Of a queue on which a call that walks may rely no call is refused 34.
-abbrev pub StandingNever34 : Type 0
-StandingNever34 = (q : Queue) (d : List Entry) → Standing q d → (ws : List ℕ) → scheduleRefusal q ws ≢ 34
+abbrev pub StandingSchedules : Type 0
+StandingSchedules = (q : Queue) (d : List Entry) → Standing q d → (ws : List ℕ) → scheduleRefusal q ws ≢ 34
 
 -- No call is refused 34, and no schedule that is handed out is marked refused: of a queue on which a call that walks may rely and of which no
 -- start or step is ever refused 34, as after any accepted opening and any list.
 pub record Unrefused (q : Queue) : Type 0 where
   pub code : (ws : List ℕ) → nextSchedule q ws .reply .code ≢ 34
-  pub ending : (ws : List ℕ) → nextSchedule q ws .reply .ending ≢ 2
-  pub schedules : (ws : List ℕ) → scheduleRefusal q ws ≡ 0 → All (λ (s : Schedule). s .ending ≢ 2) (allSchedules q)
+  pub ending : (ws : List ℕ) → nextSchedule q ws .reply .ending ≢ wasRefused
+  pub schedules : (ws : List ℕ) → scheduleRefusal q ws ≡ 0 → All (λ (s : Schedule). s .ending ≢ wasRefused) (allSchedules q)
 
 abbrev pub StandingUnrefused : Type 0
 StandingUnrefused = (q : Queue) (d : List Entry) → Standing q d → ((os : List Request) → NeverUnsound q os) → Unrefused q

@@ -9,7 +9,7 @@ use Rattle.model.specs.{Tables.Queue, Report.waiting}
 use Rattle.model.specs.Walk.{contents, isBroken}
 use Rattle.model.specs.Refusals.{Rule, rule, first, fits, recordsFit, tableRules}
 use Rattle.schedule_model.specs.declared.ScheduleReply.{ScheduleReply}
-use Rattle.schedule_model.specs.Schedules.{Schedule, atWork, allSchedules}
+use Rattle.schedule_model.specs.Schedules.{Schedule, saidNoMore, atWork, allSchedules}
 
 -- Dictionary order.
 unfoldable pub precedes : List ℕ → List ℕ → Bool
@@ -59,7 +59,7 @@ pub record Handed : Type 0 where
 
 abbrev pub handing : List ℕ → Next → Handed
 handing ws (given s) = record { reply = record { code = 0; ending = s .ending; length = length (s .steps) }; memory = storing (s .steps) ws }
-handing ws noMore = record { reply = record { code = 0; ending = 3; length = 0 }; memory = ws }
+handing ws noMore = record { reply = record { code = 0; ending = saidNoMore; length = 0 }; memory = ws }
 
 abbrev pub refused : List ℕ → ℕ → Handed
 refused ws why = record { reply = record { code = why; ending = 0; length = 0 }; memory = ws }

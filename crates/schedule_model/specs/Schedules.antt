@@ -8,7 +8,20 @@ use Rattle.model.specs.declared.Op.the-variants.{Step}
 use Rattle.model.specs.Tables.{Queue, recordAt}
 use Rattle.model.specs.{Refusals.isBusy, Calls.act}
 
--- The numbers of the tasks stepped, and how it ends: 0 both calls answered, 1 cut, 2 its last step refused.
+-- How a schedule ends, by the number that the caller reads: both calls answered, cut, its last step refused. There is none: no more.
+abbrev pub answeredBoth : ℕ
+answeredBoth = 0
+
+abbrev pub wasCut : ℕ
+wasCut = 1
+
+abbrev pub wasRefused : ℕ
+wasRefused = 2
+
+abbrev pub saidNoMore : ℕ
+saidNoMore = 3
+
+-- The numbers of the tasks stepped, and how it ends.
 pub record Schedule : Type 0 where
   pub steps : List ℕ
   pub ending : ℕ
@@ -30,7 +43,7 @@ bothAnswered q = not (atWork q 0 || atWork q 1)
 
 -- A step refused is the last; after any other come the schedules l of the queue that it left.
 abbrev pub onwards : ℕ → Outcome → List Schedule → List Schedule
-onwards t (Refused why) l = begun t (ends 2) ∷ []
+onwards t (Refused why) l = begun t (ends wasRefused) ∷ []
 onwards t (Moved a) l = map (begun t) l
 
 -- Those that begin with task t, if it is still busy.
@@ -39,9 +52,9 @@ through q t l = cond (atWork q t) (onwards t (act q t Step .outcome) l) []
 
 -- The schedules of a queue with n steps to go, smallest first in dictionary order.
 unfoldable pub schedules : Queue → ℕ → List Schedule
-schedules q zero = ends (cond (bothAnswered q) 0 1) ∷ []
+schedules q zero = ends (cond (bothAnswered q) answeredBoth wasCut) ∷ []
 schedules q (suc n) =
-    cond (bothAnswered q) (ends 0 ∷ [])
+    cond (bothAnswered q) (ends answeredBoth ∷ [])
     (through q 0 (schedules (act q 0 Step .queue) n) ++ through q 1 (schedules (act q 1 Step .queue) n))
 
 -- With 48 steps to go, as document 02 counts them.

@@ -8,7 +8,7 @@ use Rattle.model.specs.declared.Outcome.{Outcome}
 use Rattle.model.specs.declared.Outcome.the-variants.{Refused, Moved}
 use Rattle.model.specs.Tables.{Queue}
 use Rattle.model.specs.Calls.{Done}
-use Rattle.schedule_model.specs.Schedules.{Schedule, ends, begun, atWork, bothAnswered}
+use Rattle.schedule_model.specs.Schedules.{Schedule, answeredBoth, wasCut, wasRefused, ends, begun, atWork, bothAnswered}
 use Rattle.schedule_model.specs.Next.{Next, given, noMore}
 
 -- Free: any schedule from here on will do; else the steps so far are those of the list, and the schedule must come after it.
@@ -25,7 +25,7 @@ prefixed t noMore = noMore
 
 -- m: what is found below.
 abbrev pub stepped : ℕ → Outcome → Bool → Next → Next
-stepped t (Refused why) free m = ended free (begun t (ends 2))
+stepped t (Refused why) free m = ended free (begun t (ends wasRefused))
 stepped t (Moved a) free m = prefixed t m
 
 -- ws: the memory; len: the length of its list. With so many steps to go the list still binds, and names a task that may be next.
@@ -49,11 +49,11 @@ tried ws len left free q t o m =
 -- A level of the search: o, p the outcomes of a step of each task, l, m what is found below them.
 abbrev pub level : List ℕ → ℕ → ℕ → Bool → Queue → Outcome → Outcome → Next → Next → Next
 level ws len left free q o p l m =
-    cond (bothAnswered q) (ended free (ends 0)) (orElse (tried ws len left free q 0 o l) (tried ws len left free q 1 p m))
+    cond (bothAnswered q) (ended free (ends answeredBoth)) (orElse (tried ws len left free q 0 o l) (tried ws len left free q 1 p m))
 
 -- by: how the search steps a task.
 unfoldable pub seekBy : (Queue → ℕ → Done) → List ℕ → ℕ → ℕ → Bool → Queue → Next
-seekBy by ws len zero free q = cond (bothAnswered q) (ended free (ends 0)) (ended free (ends 1))
+seekBy by ws len zero free q = cond (bothAnswered q) (ended free (ends answeredBoth)) (ended free (ends wasCut))
 seekBy by ws len (suc n) free q =
     level ws len (suc n) free q (by q 0 .outcome) (by q 1 .outcome)
     (seekBy by ws len n (frees ws len (suc n) free 0) (by q 0 .queue))

@@ -254,5 +254,10 @@ fn through(
     );
     undo::back(k, i, control, pair, lefts, rights, labels, marks, next);
     note(f, given, 49 - left, t);
-    f
+    // Made anew: of f as it is the padding is copied too, by moves that overlap, which takes a tenth of the time or more.
+    Found {
+        found: f.found,
+        length: f.length,
+        ending: f.ending,
+    }
 }

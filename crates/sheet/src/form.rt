@@ -7,7 +7,7 @@ ghost use Rattle.sheet_model.specs.Sheet.{before, after, any, twice, outside, m
 
 /// The place of x among the labels listed from i on, counted from 0 at the whole list's start;
 /// its length where x isn't there. Two labels a turn: with 32 turns a search, whether the processor
-/// foresees the last one depends on where the code lies. The turn counts by its second label, so that
+/// predicts the last one depends on where the code lies. The turn counts by its second label, so that
 /// one register is stepped and compared.
 pub fn place_from(listed: &[u32], i: usize, x: u32) -> usize
     requires { ⌜ i ≤ length (now listed) ⌝ }

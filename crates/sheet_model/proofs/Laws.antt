@@ -7,7 +7,9 @@ use native.Mathlib.Omega.{arith}
 use lib.Dec.{eqb, leb}
 use lib.ListN.{length, getD, drop, List·getD-append}
 use borrow.Author.Tests.{le-leb, eq-eqb, ne-eqb, eqb-true}
-use Rattle.model.specs.Tables.{Tables, isPooled}
+use Rattle.model.specs.declared.Entry.{Entry}
+use Rattle.model.specs.Tables.{Queue, Tables, isPooled}
+use Rattle.model.specs.Standing.{Standing}
 use Rattle.model.specs.Walk.{contents, met}
 use Rattle.model.specs.Sound.{rowTests, rowsFit}
 use Rattle.model.specs.Refusals.{first, recordsFit}
@@ -34,14 +36,23 @@ chained-exactly s e a b = record {
   all = chained-in (s .rules) (length (s .listed)) (formed s e .inside) a b;
 }
 
-pub standing-sheets : StandingSheets
-unfolding sheet judge rowsFit
-standing-sheets q d s h =
+-- By either call: enough words were lent or not.
+judged : (q : Queue) (d : List Entry) (s : Sheet) (enough : Bool) → Standing q d
+    → judge (q .tables) s enough ≡ cond (malformed s) (refused 46) (cond enough (verdict s d) (refused 12))
+unfolding judge rowsFit
+judged q d s enough h =
     let c = q .tables .control in
     let pooled = isPooled c in
     let long = and-true (rowsFit pooled (c .slots) (q .tables)) (recordsFit (c .tasks) q) (h .long) .0 in
     let rows = tests (rowTests pooled (c .slots) (q .tables)) long in
-    split (malformed s) (λ e. rw (h .control, e)) (λ e. rw (h .control, e, rows .0, rows .1 .0, rows .1 .1 .0, rows .1 .1 .1 .0, h .walk))
+    split (malformed s) (λ e. rw (h .control, e))
+    (λ e. split enough
+    (λ z. rw (h .control, e, z, rows .0, rows .1 .0, rows .1 .1 .0, rows .1 .1 .1 .0, h .walk))
+    (λ z. rw (h .control, e, z, rows .0, rows .1 .0, rows .1 .1 .0, rows .1 .1 .1 .0)))
+
+pub standing-sheets : StandingSheets
+unfolding sheet sheetWords
+standing-sheets q d s h = record { bytes = judged q d s true h; words = λ words. judged q d s (leb 32 (length words)) h }
 
 pub sheets-of-queues : SheetsOfQueues
 sheets-of-queues pooled q tasks slots tag e os s =

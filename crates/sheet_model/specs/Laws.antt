@@ -4,6 +4,7 @@ use mathlib.Core.Bool.{true, false, cond}
 use mathlib.Core.List.{List}
 use mathlib.Core.Logic.{_≢_}
 use Prim.Native.Nat.{ℕ, suc, _/_, _%_, _^_, _≤_, _<_}
+use lib.Dec.{leb}
 use lib.ListN.{length, getD}
 use Rattle.model.specs.declared.Entry.{Entry}
 use Rattle.model.specs.Tables.{Tables, Queue}
@@ -23,15 +24,19 @@ pub record ChainedWhere (s : Sheet) (a b : ℕ) : Type 0 where
 abbrev pub ChainedExactly : Type 0
 ChainedExactly = (s : Sheet) → malformed s ≡ false → (a b : ℕ) → ChainedWhere s a b
 
--- Of a queue on which a call that walks may rely, as after a return to a shelf: a well-formed sheet is judged on its entries; 34 and 12 never
--- occur.
+-- A well-formed sheet is judged on the entries d by either call, the smaller printer's only with 32 words; 34 never occurs.
+pub record JudgedOn (q : Tables) (d : List Entry) (s : Sheet) : Type 0 where
+  pub bytes : sheet q s ≡ cond (malformed s) (refused 46) (verdict s d)
+  pub words : (words : List ℕ)
+      → sheetWords q s words .reply ≡ cond (malformed s) (refused 46) (cond (leb 32 (length words)) (verdict s d) (refused 12))
+
+-- Of a queue on which a call that walks may rely, as after a return to a shelf.
 abbrev pub StandingSheets : Type 0
-StandingSheets = (q : Queue) (d : List Entry) (s : Sheet) → Standing q d → sheet (q .tables) s ≡ cond (malformed s) (refused 46) (verdict s d)
+StandingSheets = (q : Queue) (d : List Entry) (s : Sheet) → Standing q d → JudgedOn (q .tables) d s
 
 -- From an opening on it is judged on the sequential deque's queue.
 abbrev pub SheetsOfQueues : Type 0
-SheetsOfQueues =
-    AfterOpening (λ q os. (s : Sheet) → sheet (final q os .tables) s ≡ cond (malformed s) (refused 46) (verdict s (ledger (run q os) .deque)))
+SheetsOfQueues = AfterOpening (λ q os. (s : Sheet) → JudgedOn (final q os .tables) (ledger (run q os) .deque) s)
 
 -- With 32 words the smaller printer's answer is the byte square's.
 abbrev pub SameAnswer : Type 0

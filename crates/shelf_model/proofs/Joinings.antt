@@ -1,18 +1,20 @@
 -- A joining is turns of its third, those that push the labels: so whatever holds after turns holds with joinings among them.
-use mathlib.Core.Bool.{Bool, _&&_, cond, false, true}
+use mathlib.Core.Bool.{Bool, _&&_, cond, false, not, true}
 use mathlib.Core.List.{List, [], _∷_, _++_, append-assoc, append-nil, map}
 use mathlib.Core.Logic.{_≢_, _⊎_, inl, inr}
 use mathlib.Core.Path.{_≡_, _∙_, ap, ap₂, refl, subst, sym}
-use Prim.Native.Nat.{ℕ}
+use Prim.Native.Nat.{ℕ, _≤_}
 use lib.Dec.{eqb}
-use borrow.Author.Tests.{eq-eqb, ne-eqb}
-use Rattle.model.specs.{Tables.Queue, Calls.act}
-use Rattle.model.specs.History.{Request, final, run}
-use Rattle.model.proofs.tests.Truth.{decide-eq, split}
+use borrow.Author.Tests.{eq-eqb, ne-eqb, not-true}
+use Rattle.model.specs.{Tables.Queue, Tables.isPooled, Calls.act}
+use Rattle.model.specs.History.{Event, Request, final, run}
+use Rattle.model.specs.Progress.{any, steps, stretchLimit, tookEffectOrAnswered}
+use Rattle.model.proofs.tests.Truth.{and-true, decide-eq, not-both, split}
 use Rattle.join_model.specs.Join.{join, joinRefusal, lanes, pushes}
-use Rattle.shelf_model.specs.Changeovers.{Past, Turn, World, after, asks, continues, does, eventOf, turned}
+use Rattle.shelf_model.specs.Changeovers.{Past, Turn, World, after, asks, breaks, continues, does, eventOf, eventsOf}
+use Rattle.shelf_model.specs.Changeovers.{station, turned, unbroken, withEvent}
 use Rattle.shelf_model.specs.Promises.{Kept}
-use Rattle.shelf_model.specs.Joinings.{Deed, JoinsKept, afterAll, goesOn, joinedIn, joins, turns}
+use Rattle.shelf_model.specs.Joinings.{Deed, JoinsKept, afterAll, continuous, eventsIn, goesOn, joinedIn, joins, replaces, turns}
 use Rattle.shelf_model.proofs.Changeovers.{makings}
 use Rattle.shelf_model.proofs.Promises.{promises}
 
@@ -166,5 +168,70 @@ all-turns (joins i j k ∷ l) w =
     let h = all-turns l (joinedIn w i j k) in
     (a .0 ++ h .0, h .1 ∙ ap (λ (v : World). after v (h .0)) (a .1) ∙ sym (after-more (a .0) (h .0) w))
 
+-- ---- a stretch of queue i with joinings in it is one of turns
+record Stretch (i : ℕ) (w : World) (es : List Event) : Type 0 where
+  list : List Turn
+  whole : unbroken i w list ≡ true
+  same : eventsOf i w list ≡ es
+
+-- Turns of another queue before a stretch.
+module _ (i k : ℕ) (other : eqb i k ≡ false) where
+  before-whole : (l : List Request) (m : List Turn) (w : World) → unbroken i (after w (map (turn k) l)) m ≡ true
+      → unbroken i w (map (turn k) l ++ m) ≡ true
+  unfolding unbroken after
+  before-whole [] m w u = u
+  before-whole (o ∷ rest) m w u = rw other (before-whole rest m (turned w (turn k o)) u)
+
+  before-same : (l : List Request) (m : List Turn) (w : World) → eventsOf i w (map (turn k) l ++ m) ≡ eventsOf i (after w (map (turn k) l)) m
+  unfolding eventsOf after
+  before-same [] m w = refl
+  before-same (o ∷ rest) m w = rw other (before-same rest m (turned w (turn k o)))
+
+module _ (i : ℕ) (w : World) (j k third : ℕ) (es : List Event) (s : Stretch i (joinedIn w j k third) es) where
+  pushed-elsewhere : ok w j k third ≡ true → eqb i third ≡ false → Stretch i w es
+  pushed-elsewhere e other =
+      let l = os w j k third in
+      let z = subst (λ (v : World). Stretch i v es) (is-pushes w j k third e) s in
+      record {
+        list = map (turn third) l ++ z .list;
+        whole = before-whole i third other l (z .list) w (z .whole);
+        same = before-same i third other l (z .list) w ∙ z .same;
+      }
+
+  across : not (eqb i third && ok w j k third) ≡ true → Stretch i w es
+  across u =
+      let f = not-true (eqb i third && ok w j k third) u in
+      split (ok w j k third)
+      (λ e. pushed-elsewhere e (split (eqb i third) (λ z. absurd (not-both refl (rw (z, e) at f))) (λ z. z)))
+      (λ e. subst (λ (v : World). Stretch i v es) (is-nothing w j k third e) s)
+
+stretch-of : (i : ℕ) (l : List Deed) (w : World) → continuous i w l ≡ true → Stretch i w (eventsIn i w l)
+unfolding continuous eventsIn unbroken eventsOf
+stretch-of i [] w u = record { list = []; whole = refl; same = refl }
+stretch-of i (turns t ∷ l) w u =
+    let a = and-true (not (eqb i (t .queue) && breaks (station w i) (t .action))) (continuous i (turned w t) l) u in
+    let s = stretch-of i l (turned w t) (a .1) in
+    record {
+      list = t ∷ s .list;
+      whole = ap₂ _&&_ (a .0) (s .whole);
+      same = ap (λ (es : List Event). cond (eqb i (t .queue)) (withEvent (w .queues i) (t .action) es) es) (s .same);
+    }
+stretch-of i (joins j k third ∷ l) w u =
+    let a = and-true (not (replaces i w (joins j k third))) (continuous i (joinedIn w j k third) l) u in
+    across i w j k third (eventsIn i (joinedIn w j k third) l) (stretch-of i l (joinedIn w j k third) (a .1)) (a .0)
+
+stretches : (w : World) → Kept w → (i : ℕ) → w .pasts i .made ≡ true → let c = w .queues i .tables .control in
+    (l : List Deed) → continuous i w l ≡ true → stretchLimit (isPooled c) (c .tasks) ≤ steps (eventsIn i w l)
+    → any tookEffectOrAnswered (eventsIn i w l) ≡ true
+stretches w kept i made l u enough =
+    let c = w .queues i .tables .control in
+    let s = stretch-of i l w u in
+    subst (λ (es : List Event). any tookEffectOrAnswered es ≡ true) (s .same)
+    (kept .promised i made .progress .stretch (s .list) (s .whole)
+    (subst (λ (es : List Event). stretchLimit (isPooled c) (c .tasks) ≤ steps es) (sym (s .same)) enough))
+
 pub joins-kept : JoinsKept
-joins-kept w unfilled none l = let h = all-turns l w in subst Kept (sym (h .1)) (promises w unfilled none (h .0))
+joins-kept w unfilled none l =
+    let h = all-turns l w in
+    let kept = subst Kept (sym (h .1)) (promises w unfilled none (h .0)) in
+    record { kept = kept; stretch = stretches (afterAll w l) kept }

@@ -23,8 +23,7 @@ use Rattle.model.proofs.Retries.{retries-sum}
 use Rattle.model.proofs.StepBounds.{solo-bound, stretch-bound}
 use Rattle.shelf_model.specs.Shelves.{bothHold, returnRefusal, saveRefusal, saveRules, shelfAt}
 use Rattle.shelf_model.specs.Changeovers.{Explained, Holds, Past, World, eventsOf}
-use Rattle.shelf_model.specs.Promises as stated
-use Rattle.shelf_model.specs.Promises.{Progresses, Promised, Promises}
+use Rattle.shelf_model.specs.Promises.{Never34, Progresses, Promised, Promises}
 use Rattle.shelf_model.proofs.Stretches.{asked, events-are, solo-alike}
 use Rattle.shelf_model.proofs.Changeovers.{changeovers}
 use Rattle.shelf_model.proofs.Pasts.{accounts, adds-up, all-served, counts, final-tasks, following-sound, marks-true, no-slot, operations-sound, past-has}
@@ -76,7 +75,7 @@ module _ (w : World) (h : Holds w) (i : ℕ) (made : w .pasts i .made ≡ true) 
         (subst (λ (es : List Event). stretchLimit (isPooled (p .opened .tables .control)) (p .opened .tables .control .tasks) ≤ steps es) same long));
   }
 
-  sound : stated.NeverUnsound w i
+  sound : Never34 w i
   unfolding waiting saveRefusal run
   sound =
       let s = stands p q told-by in
@@ -94,6 +93,7 @@ module _ (w : World) (h : Holds w) (i : ℕ) (made : w .pasts i .made ≡ true) 
 
   promised : Promised w i
   promised = record {
+    explained = told-by;
     served = record { calls = all-served p q told-by; waits = stands p q told-by .walk };
     sound = sound;
     retries = λ low. counts p q told-by ∙ past-has p q told-by SumIsOld (retries-sum (told-by .begun .pooled)) low;

@@ -1,13 +1,14 @@
 -- Histories with joinings among openings, starts, steps, savings and returns. (Document 02, #113 and #114.)
-use mathlib.Core.Bool.{false, _&&_, cond}
+use mathlib.Core.Bool.{Bool, true, false, _&&_, cond, not}
 use mathlib.Core.Path.{_≡_}
 use mathlib.Core.List.{List, [], _∷_, _++_}
-use Prim.Native.Nat.{ℕ}
+use Prim.Native.Nat.{ℕ, _≤_}
 use lib.Dec.{eqb}
-use Rattle.model.specs.Tables.{Queue}
-use Rattle.model.specs.History.{Request, run}
+use Rattle.model.specs.Tables.{Queue, isPooled}
+use Rattle.model.specs.History.{Event, Request, run}
+use Rattle.model.specs.Progress.{any, steps, stretchLimit, tookEffectOrAnswered}
 use Rattle.join_model.specs.Join.{join, joinRefusal, lanes, pushes}
-use Rattle.shelf_model.specs.Changeovers.{Past, Turn, Unfilled, World, turned}
+use Rattle.shelf_model.specs.Changeovers.{Past, Turn, Unfilled, World, breaks, station, turned, withEvent}
 use Rattle.shelf_model.specs.Promises.{Kept}
 
 -- What may be done: a turn of one queue, or the joining of two queues in a third.
@@ -40,6 +41,32 @@ unfoldable pub afterAll : World → List Deed → World
 afterAll w [] = w
 afterAll w (d ∷ l) = afterAll (afterOne w d) l
 
--- The promises hold with joinings among the turns.
+-- Another queue i stands there afterwards: an opening, a return or a joining in it that is accepted.
+abbrev pub replaces : ℕ → World → Deed → Bool
+replaces i w (turns t) = eqb i (t .queue) && breaks (station w i) (t .action)
+replaces i w (joins j k third) = eqb i third && eqb (joinRefusal (w .queues j) (w .queues k) (w .queues third)) 0
+
+-- A stretch of queue i with joinings in it, of other queues or out of this one.
+unfoldable pub continuous : ℕ → World → List Deed → Bool
+continuous i w [] = true
+continuous i w (d ∷ l) = not (replaces i w d) && continuous i (afterOne w d) l
+
+-- The events of queue i's starts and steps in it.
+abbrev pub withDeed : ℕ → World → Deed → List Event → List Event
+withDeed i w (turns t) es = cond (eqb i (t .queue)) (withEvent (w .queues i) (t .action) es) es
+withDeed i w (joins j k third) es = es
+
+unfoldable pub eventsIn : ℕ → World → List Deed → List Event
+eventsIn i w [] = []
+eventsIn i w (d ∷ l) = withDeed i w d (eventsIn i (afterOne w d) l)
+
+-- The promises, and #108's stretch with joinings in it.
+pub record KeptJoining (w : World) : Type 0 where
+  pub kept : Kept w
+  pub stretch : (i : ℕ) → w .pasts i .made ≡ true → let c = w .queues i .tables .control in
+      (l : List Deed) → continuous i w l ≡ true → stretchLimit (isPooled c) (c .tasks) ≤ steps (eventsIn i w l)
+      → any tookEffectOrAnswered (eventsIn i w l) ≡ true
+
+-- They hold with joinings among the turns.
 abbrev pub JoinsKept : Type 0
-JoinsKept = (w : World) → Unfilled (w .shelves) → ((i : ℕ) → w .pasts i .made ≡ false) → (l : List Deed) → Kept (afterAll w l)
+JoinsKept = (w : World) → Unfilled (w .shelves) → ((i : ℕ) → w .pasts i .made ≡ false) → (l : List Deed) → KeptJoining (afterAll w l)

@@ -13,16 +13,16 @@ use Rattle.model.specs.Progress.{AnsweredWithin, Busy, any, limit, steps, stret
 use Rattle.model.specs.Retries.{oldCount, retriesBelow}
 use Rattle.stock_model.specs.Accounts.{AccountedIn, AddedUp}
 use Rattle.shelf_model.specs.Shelves.{returnRefusal, saveRefusal}
-use Rattle.shelf_model.specs.Changeovers.{AfterTurns, Turn, World, eventsOf, unbroken}
+use Rattle.shelf_model.specs.Changeovers.{AfterTurns, Explained, Turn, World, eventsOf, unbroken}
 
 -- Demand 3: the sequential deque has served what was done up to the saving and what follows the return.
-pub record Served (w : World) (i : ℕ) : Type 0 where
+pub record ServedSoFar (w : World) (i : ℕ) : Type 0 where
   pub calls : All (λ (c : LedgerCall). Lawful c (c .ending)) (ledger (w .pasts i .events) .calls)
   pub waits : contents (w .queues i .tables) ≡ entries (ledger (w .pasts i .events) .deque)
 
 -- 34 never occurs: not at a start or step, not at those that may follow, not at a task stepped until it answers, not at a call that walks, not at
 -- a report, which tells the length of its queue, not at a saving.
-pub record NeverUnsound (w : World) (i : ℕ) : Type 0 where
+pub record Never34 (w : World) (i : ℕ) : Type 0 where
   pub operations : All (λ (e : Event). e .outcome ≡ Refused 34 → ⊥) (w .pasts i .events)
   pub following : (os : List Request) → All (λ (e : Event). e .outcome ≡ Refused 34 → ⊥) (run (w .queues i) os)
   pub runs : (n t : ℕ) → soloRun n (w .queues i) t .outcome ≢ Refused 34
@@ -40,8 +40,10 @@ pub record Progresses (w : World) (i : ℕ) : Type 0 where
       → stretchLimit (isPooled c) (c .tasks) ≤ steps (eventsOf i w l) → any tookEffectOrAnswered (eventsOf i w l) ≡ true
 
 pub record Promised (w : World) (i : ℕ) : Type 0 where
-  pub served : Served w i
-  pub sound : NeverUnsound w i
+  -- Its past begins with an accepted opening, and leaves it as it stands.
+  pub explained : Explained (w .pasts i) (w .queues i)
+  pub served : ServedSoFar w i
+  pub sound : Never34 w i
   -- #101: the counts of the tasks add up to the old count.
   pub retries : let p = w .pasts i in oldCount 0 (p .opened) (p .since) < 4294967295
       → retriesBelow (w .queues i) (w .queues i .tables .control .tasks) ≡ oldCount 0 (p .opened) (p .since)

@@ -32,7 +32,7 @@ MemoryStands pooled slots q l = Standing (leftBy pooled slots q l) (ledger (seen
 abbrev pub InstructionsMemory : Type 0
 InstructionsMemory = AfterThreads MemoryStands
 
--- No thread is in a call.
+-- No thread is in the middle of a start or step.
 abbrev pub Rest : ℕ → ℕ → Queue → List Act → Type 0
 Rest pooled slots q l = (t : ℕ) → goOn pooled slots (allFree q) l .hands t ≡ free
 

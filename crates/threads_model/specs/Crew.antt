@@ -33,7 +33,7 @@ Known tasks (next t) = t < tasks
 abbrev pub withHand : (ℕ → Hand) → ℕ → Hand → ℕ → Hand
 withHand f t h u = cond (eqb u t) h (f u)
 
--- A thread that is carrying out a call begins no other.
+-- A thread that is in a start or step begins no other.
 abbrev pub takesUp : Hand → Op → Hand
 takesUp free op = begun op
 takesUp (begun o) op = begun o

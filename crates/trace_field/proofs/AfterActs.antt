@@ -1,11 +1,11 @@
 -- The page after an operation, a malformed place and an opening: what their code leaves, as the definitions have it.
-use Prim.Native.Nat.{ℕ, _+_, _≤_}
+use Prim.Native.Nat.{ℕ, _+_}
 use mathlib.Core.Path.{_≡_, refl, sym, ap, _∙_}
 use mathlib.Core.Bool.{Bool, true, false, not, cond}
 use mathlib.Core.List.{List, [], _∷_, append-nil}
 use lib.Dec.{leb, eqb}
 use lib.ListN.{length}
-use borrow.Author.Tests.{leb-true, le-leb}
+use borrow.Author.Tests.{leb-true}
 use Rattle.model.specs.declared.{Control.Control, Outcome.Outcome, Record.Record, Op.Op}
 use Rattle.model.specs.declared.Opening.the-variants as opening
 use Rattle.model.specs.Tables.{Tables, Queue, queueOf, unused}
@@ -16,18 +16,13 @@ use Rattle.model.specs.History.{run, final}
 use Rattle.rows.specs.Rows.{controlOf, recordsOf, queueIn}
 use Rattle.calls.specs.Opening.{OpenedParts, manyRecords, openTables, whole}
 use Rattle.calls.proofs.Openings.{open-parts}
-use Rattle.lines.specs.Line.{Put, fitting, room, lineOf}
+use Rattle.lines.specs.Line.{Put, givenRoom, room, lineOf}
 use Rattle.lines.specs.declared.Line.the-variants.{Open, File}
+use Rattle.lines.proofs.Puts.{put-fits}
 use Rattle.trace_field.specs.Run.{next, anchorIn, linesOf, numberOf, operated, isOpened, openingTold, malformed}
 use Rattle.trace_field.specs.Page.{Page, pageOf, written, answered, emptied, cleared, operates, opens, breaks}
 use Rattle.trace_field.specs.declared.RunState.{RunState}
 use Rattle.trace_field.proofs.Pages.{breaks-fits}
-
--- A line that fits is written.
-pub put-fits : (out out′ : List ℕ) (to to′ : ℕ) (l : List ℕ) → to + 128 ≤ length out
-    → Put out out′ to to′ (fitting (length out) to l) → Put out out′ to to′ l
-unfolding fitting
-put-fits out out′ to to′ l h p = rw (le-leb (to + 128) (length out) h) at p
 
 -- An operation answered is the list of that one operation.
 answered-one : (p : Page) (task : ℕ) (op : Op) → answered p task op (act (p .run .queue) task op) ≡ operates p (record { task = task; op = op } ∷ [])
@@ -50,7 +45,7 @@ operate-page s out ws ws′ rows rows₁ rows₂ ls rs bs ms ns ls′ rs′ bs�
 
 -- A malformed place told where its line fits.
 pub break-page : (p : Page) (event : ℕ) (out : List ℕ) (to : ℕ) → leb (p .to + room) (length (p .out)) ≡ true → event ≡ next (p .run .event)
-    → Put (p .out) out (p .to) to (fitting (length (p .out)) (p .to) (lineOf event File (anchorIn (p .run .queue))))
+    → Put (p .out) out (p .to) to (givenRoom room (length (p .out)) (p .to) (lineOf event File (anchorIn (p .run .queue))))
     → _≡_ {A = Page}
     (record {
       run = record { queue = p .run .queue; opened = p .run .opened; over = true; event = event };
@@ -62,7 +57,7 @@ pub break-page : (p : Page) (event : ℕ) (out : List ℕ) (to : ℕ) → leb (p
     (breaks p)
 unfolding written malformed
 break-page p event out to h e put =
-    let w = put-fits _ _ _ _ _ (leb-true _ _ h) put in
+    let w = put-fits _ put (leb-true _ _ h) in
     rw (w .stop, w .stored, e) (sym (breaks-fits p h))
 
 -- As many records are cleared as an accepted opening asks for.

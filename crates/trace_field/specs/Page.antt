@@ -51,7 +51,7 @@ answered p task op d =
     let line = lineOf (next (r .event)) (Act task op (d .outcome)) (d .queue .tables .control .anchor) in
     written p (record { run = run; lines = line }) (set (p .uppers) task 0)
 
--- The row of a record that is stored has no upper half: those of a field's starts and steps, and of an opening.
+-- A start or step, refused or not, leaves its task's row without an upper half; an accepted opening does so with every row.
 unfoldable pub emptied : List Request → List ℕ → List ℕ
 emptied [] u = u
 emptied (o ∷ os) u = emptied os (set u (o .task) 0)

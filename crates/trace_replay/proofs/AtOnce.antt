@@ -9,7 +9,7 @@ use lib.Dec.{leb, eqb}
 use lib.ListN.{length, drop, length-drop, length-append}
 use lib.Seq.{sets}
 use borrow.Author.Tests.{leb-true, le-leb}
-use Rattle.lines.specs.Line.{header, fitting, room}
+use Rattle.lines.specs.Line.{header, givenRoom, room}
 use Rattle.lines.proofs.Puts.{sets-append}
 use Rattle.trace_field.specs.Run.{Told, malformed}
 use Rattle.trace_field.specs.Page.{Page, written, breaks, fieldRoom}
@@ -60,7 +60,7 @@ module _ (before file : List ℕ) where
       ∙ ap (λ (n : ℕ). header ++ (reached .lines ++ finished (last .run) n .lines)) (length-drop (last .at) file)
 
   begun : room ≤ length before → (first .out ≡ sets before 0 header) × (first .to ≡ length header)
-  unfolding firstPage written fitting
+  unfolding firstPage written givenRoom
   begun h = let e : leb (0 + room) (length before) ≡ true = le-leb _ _ h in (rw e, rw e (zero-add (length header)))
 
   -- Begin, feed, finish: then the whole trace stands at the front of the buffer.

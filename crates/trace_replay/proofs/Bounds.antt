@@ -8,7 +8,7 @@ use lib.Dec.{leb, eqb}
 use lib.ListN.{length, replicate}
 use lib.Seq.{length-sets}
 use borrow.Author.Tests.{leb-true}
-use Rattle.lines.specs.Line.{header, fitting, room}
+use Rattle.lines.specs.Line.{header, givenRoom, room}
 use Rattle.lines.proofs.Lengths.{line-short, header-short}
 use Rattle.trace_field.specs.Run.{malformed}
 use Rattle.trace_field.specs.Page.{Page, written, breaks}
@@ -47,7 +47,7 @@ finished-within left p x e h =
     go false = breaks-within p (length (p .out)) (h, refl)
 
 pub begun-within : (out : List ℕ) (x : Page) → x ≡ firstPage out → x .to ≤ length (x .out)
-unfolding firstPage written fitting
+unfolding firstPage written givenRoom
 begun-within out x e = same-within x (firstPage out) (length out) e (go (leb (0 + room) (length out)) refl)
   where
     go : (b : Bool) → leb (0 + room) (length out) ≡ b → Within (written (record { run = fresh; uppers = replicate 16 0; out = out; to = 0; at = 0 })

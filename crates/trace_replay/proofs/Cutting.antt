@@ -8,7 +8,7 @@ use lib.Dec.{leb, eqb}
 use lib.ListN.{length, take, drop}
 use lib.Seq.{sets, length-sets}
 use borrow.Author.Tests.{le-leb}
-use Rattle.lines.specs.Line.{header, fitting, room}
+use Rattle.lines.specs.Line.{header, givenRoom, room}
 use Rattle.lines.proofs.Lengths.{line-short, header-short}
 use Rattle.trace_field.specs.Run.{Run, Told, malformed}
 use Rattle.trace_field.specs.Page.{Page, written, fieldRoom}
@@ -48,7 +48,7 @@ pub record Reached (file : List ℕ) (s : Between) : Type 0 where
   pub room : fieldRoom ≤ length (s .page .out)
 
 pub first-reached : (out : List ℕ) → fieldRoom ≤ length out → Reached [] (begun out)
-unfolding begun firstPage feed feedIn written fitting held
+unfolding begun firstPage feed feedIn written givenRoom held
 first-reached out h =
     let fits : leb (0 + room) (length out) ≡ true = le-leb (0 + room) (length out) (omega (arith, h)) in
     record {

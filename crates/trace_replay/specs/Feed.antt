@@ -4,7 +4,7 @@ use mathlib.Core.{List.List, Path._≡_}
 use Prim.Native.Nat.{ℕ, zero, suc}
 use lib.Dec.{eqb}
 use lib.ListN.{length, replicate}
-use Rattle.lines.specs.Line.{header, fitting}
+use Rattle.lines.specs.Line.{header, givenRoom, room}
 use Rattle.trace_field.specs.Page.{Page, pageOf, written, breaks, takes}
 use Rattle.trace_field.specs.declared.RunState.{RunState}
 use Rattle.trace_replay.specs.Trace.{fresh}
@@ -29,7 +29,7 @@ abbrev pub emptyPage : List ℕ → Page
 emptyPage out = record { run = fresh; uppers = replicate 16 0; out = out; to = 0; at = 0 }
 
 unfoldable pub firstPage : List ℕ → Page
-firstPage out = written (emptyPage out) (record { run = fresh; lines = fitting (length out) 0 header }) (replicate 16 0)
+firstPage out = written (emptyPage out) (record { run = fresh; lines = givenRoom room (length out) 0 header }) (replicate 16 0)
 
 -- The program's tables, all zero.
 abbrev pub Zeros : List (List ℕ) → List ℕ → List ℕ → List ℕ → List ℕ → List ℕ → Type 0

@@ -7,7 +7,21 @@ const LONGEST_SENTENCE: usize = 300;
 const LONGEST_NOTE: usize = 300;
 
 /// Figures of speech that are not to come back.
-const BANNED: [&str; 6] = ["house", "lesson", "lessons", "sceptic", "sceptics", "nothing tells"];
+const BANNED: [&str; 13] = [
+    "house",
+    "lesson",
+    "lessons",
+    "sceptic",
+    "sceptics",
+    "nothing tells",
+    "dearest",
+    "for free",
+    "honest",
+    "hostile",
+    "nonsense",
+    "sleeper",
+    "sleepers",
+];
 
 fn documents() -> Vec<String> {
     files().into_iter().filter(|path| is_document(path)).collect()
@@ -144,6 +158,35 @@ fn notes_of_requests_are_short() {
             .map(|(words, path)| format!("{path}: {words} words"))
             .collect(),
     );
+}
+
+/// Where a text first names a request, as #108.
+fn first_request(text: &str) -> Option<usize> {
+    let names = |rest: &str| rest.chars().take_while(char::is_ascii_digit).count() == 3;
+    text.match_indices("#1").map(|(at, _)| at).find(|&at| names(&text[at + 1..]))
+}
+
+/// A document that has a word of the papers says what it is in the same line or before. Of the notes their index does.
+#[test]
+fn words_of_the_papers_are_explained() {
+    let mut found = Vec::new();
+    let whole = documents().into_iter().filter(|path| !path.starts_with("docs/changes/"));
+    for path in whole.chain(["docs/changes/README.md".to_string()]) {
+        let text = content(&path).to_lowercase();
+        let words = [
+            ("document 01", text.find("document 01"), "scope paper"),
+            ("document 02", text.find("document 02"), "change requests"),
+            ("demand 3", text.find("demand 3"), "linearizab"),
+            ("a request's number", first_request(&text), "request"),
+        ];
+        for (word, at, meaning) in words {
+            let line = at.map(|at| at + text[at..].find('\n').unwrap_or(text.len() - at));
+            if line.is_some_and(|end| !text[..end].contains(meaning)) {
+                found.push(format!("{path}: {word} is not explained where it first stands"));
+            }
+        }
+    }
+    none(found);
 }
 
 #[test]

@@ -1,6 +1,6 @@
 //! What the runs have reached: a count for each place, role, side and outcome in each way of
-//! opening, each refusal, each answer, each size, each way in which a sleeper can be fooled,
-//! and where the slots were when a push was told that there is none.
+//! opening, each refusal, each answer, each size, each way in which what a stopped task has read
+//! can be out of date, and where the slots were when a push was told that there is none.
 
 use crate::machine::Moved;
 use crate::pool;
@@ -19,7 +19,7 @@ enum Thing {
     Refused(&'static str, u8),
     Tasks(u64),
     Opened(&'static str),
-    Fooled(&'static str),
+    OutOfDate(&'static str),
     NoSlot(&'static str),
     File(&'static str),
 }
@@ -56,13 +56,13 @@ const FIRST_TAGS: [(&str, u64); 5] = [
     ("first tag above", u32::MAX as u64),
 ];
 
-const REMEMBERED: &str = "push starts on a slot that a sleeper remembers";
+const REMEMBERED: &str = "push starts on a slot that a stopped task remembers";
 const ANCHOR_TAG: &str = "change of Anchor fails by its tag alone";
 const LINK_TAG: &str = "change of a link fails by its tag alone";
 const FRESH_LINK: &str = "task leaves at 8 with a fresh link in hand";
 const HEAD_TAG: &str = "change of the head fails by its tag alone";
 const STALE_NEXT: &str = "push at 14 holds another next than the slot on top has now";
-const TAKEN_AGAIN: &str = "push gets a slot that a sleeper remembers";
+const TAKEN_AGAIN: &str = "push gets a slot that a stopped task remembers";
 
 const ALL_WAITING: &str = "every slot is waiting";
 const PUSH_HOLDS: &str = "a push holds one";
@@ -194,7 +194,7 @@ impl Coverage {
         let failed = after.is_some_and(|after| after.retries > record.retries);
         let pooled = control.pooled == POOLED;
         let way = Way { pooled, place: record.place, role, failed, next };
-        self.fooled(&way);
+        self.out_of_date(&way);
         match (way.place, next) {
             (12, 0) => self.no_slot(tables),
             (14, 1) => self.remembered(TAKEN_AGAIN, tables, Link(record.link).slot(), task),
@@ -205,23 +205,23 @@ impl Coverage {
         Ok(())
     }
 
-    /// Failures that only a tag explains, and place 8 earning its keep.
-    fn fooled(&mut self, way: &Way) {
+    /// Failures that only a tag explains, and those that place 8 prevents.
+    fn out_of_date(&mut self, way: &Way) {
         let Before { record, control, link, next } = &self.before;
         let same_but_tag = |one: u64, other: u64| one as u32 == other as u32;
-        let fooled = match way.place {
+        let how = match way.place {
             2 | 4 | 10 if way.failed && same_but_tag(record.seen, control.anchor) => ANCHOR_TAG,
             9 if way.failed && same_but_tag(record.link, *link) => LINK_TAG,
             8 if way.next != 9 && record.link == *link => FRESH_LINK,
             14 | 17 if way.failed && same_but_tag(record.link, control.head) => {
                 if way.place == 14 && record.neighbour != *next {
-                    self.count(Thing::Fooled(STALE_NEXT));
+                    self.count(Thing::OutOfDate(STALE_NEXT));
                 }
                 HEAD_TAG
             }
             _ => return,
         };
-        self.count(Thing::Fooled(fooled));
+        self.count(Thing::OutOfDate(how));
     }
 
     /// Where the slots are when a push is told that there is none.
@@ -250,9 +250,9 @@ impl Coverage {
             record.place > 1 && named.contains(&slot)
         };
         let records = tables.records[..tables.shared.control.tasks as usize].iter();
-        let mut sleepers = records.enumerate().filter(|(task, _)| Some(*task as u8) != starter);
-        if sleepers.any(|(_, record)| remembers(record)) {
-            self.count(Thing::Fooled(how));
+        let mut others = records.enumerate().filter(|(task, _)| Some(*task as u8) != starter);
+        if others.any(|(_, record)| remembers(record)) {
+            self.count(Thing::OutOfDate(how));
         }
     }
 }
@@ -267,8 +267,8 @@ fn all_things() -> Vec<Thing> {
     let answers = ["running", "pushed", "empty", "popped", "no slot"];
     things.extend(answers.map(|answer| Thing::Answered("step", answer)));
     things.extend(SLOTS.iter().chain(&FIRST_TAGS).map(|(name, _)| Thing::Opened(name)));
-    things.extend([REMEMBERED, ANCHOR_TAG, LINK_TAG, FRESH_LINK].map(Thing::Fooled));
-    things.extend([HEAD_TAG, STALE_NEXT, TAKEN_AGAIN].map(Thing::Fooled));
+    things.extend([REMEMBERED, ANCHOR_TAG, LINK_TAG, FRESH_LINK].map(Thing::OutOfDate));
+    things.extend([HEAD_TAG, STALE_NEXT, TAKEN_AGAIN].map(Thing::OutOfDate));
     things.extend([ALL_WAITING, PUSH_HOLDS, POP_READS, POP_GIVES].map(Thing::NoSlot));
     things
 }
@@ -280,7 +280,7 @@ impl Display for Thing {
             Thing::Refused(call, number) => write!(out, "{call} refused {number}"),
             Thing::Tasks(tasks) => write!(out, "opened with {tasks} tasks"),
             Thing::Opened(how) => write!(out, "opened with {how}"),
-            Thing::Fooled(how) => write!(out, "{how}"),
+            Thing::OutOfDate(how) => write!(out, "{how}"),
             Thing::NoSlot(where_they_are) => write!(out, "no slot, and {where_they_are}"),
             Thing::File(kind) => write!(out, "file: {kind}"),
         }

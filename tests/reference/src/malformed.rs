@@ -151,7 +151,7 @@ fn second_openings(files: &mut Vec<Broken>) {
     }
 }
 
-/// Every side of the limits of 10 and 11, each with good and bad company after it.
+/// Every side of the limits of 10 and 11, each with right and wrong numbers after it.
 fn refused_openings(files: &mut Vec<Broken>) {
     for tasks in [0, 1, 16, 17, 255] {
         for slots in [0_u16, 1, 1_023, 1_024, 1_279, 0xffff] {

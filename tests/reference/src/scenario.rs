@@ -103,7 +103,7 @@ fn starve(dice: &mut Dice, crew: Crew) -> Vec<u8> {
     starve_in(Shift::open(dice, crew.clamp(2, 6), slots, tag))
 }
 
-/// Three slots or so: whoever sleeps finds his slots used again.
+/// Three slots or so: the slots that a stopped task has read are used again.
 fn starve_few_slots(dice: &mut Dice, crew: Crew) -> Vec<u8> {
     let crew = Crew { tasks: 2 + crew.tasks % 2, ..crew };
     let slots = dice.between(2, 3) as u16;
@@ -122,7 +122,7 @@ fn starve_one_end(dice: &mut Dice, crew: Crew) -> Vec<u8> {
     starve_in(shift)
 }
 
-/// A task is brought to some place and left there; the others go on; then it wakes.
+/// A task is brought to some place and left there; the others go on; then it goes on too.
 fn starve_in(mut shift: Shift) -> Vec<u8> {
     let mut asleep = 0;
     while asleep < EVENTS {

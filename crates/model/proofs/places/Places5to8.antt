@@ -1,5 +1,5 @@
 -- Places 5 to 8: a helping task reads the neighbour and its link, and looks at Anchor before and after.
--- Place 8 gives place 9 its right: Anchor was current after the link was read.
+-- Place 8 allows the change of place 9: Anchor was current after the link was read.
 use mathlib.Core.{List.List, Logic.inl}
 use mathlib.Core.Path.{_∙_, ap, refl}
 use Prim.Native.Nat.{ℕ}

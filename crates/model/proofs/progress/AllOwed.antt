@@ -1,5 +1,5 @@
 -- The sum of what all tasks owe, where one task's record and what the tasks share are replaced. A task that draws its slot may send each
--- other task at the head back, which is paid for pair by pair.
+-- other task at the head back, which is counted pair by pair.
 use mathlib.Core.Bool.{Bool, cond, true}
 use mathlib.Core.Logic.{_≢_, _⊎_, inl, inr}
 use mathlib.Core.Path.{_≡_, ap, refl, subst, sym}

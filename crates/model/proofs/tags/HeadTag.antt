@@ -1,5 +1,5 @@
 -- The head's tag never passes Anchor's by more than the tasks' shares, so it has room whenever Anchor's has. (Line 17.)
--- Every change of the head is paid for: at 14 by the push that has its slot now, at 17 by the pop that has none any more.
+-- Line 17 stands at every change of the head: at 14 a push has its slot now, at 17 a pop has none any more.
 use mathlib.Core.Bool.{Bool, cond, false, true}
 use mathlib.Core.Logic.{_≢_, _⊎_, inl, inr}
 use mathlib.Core.Path.{_∙_, _≡_, ap, refl}
@@ -81,7 +81,7 @@ module _ (s : Shared) (h : ℕ → Owner) (t : ℕ) (r : Rec) (c : BookCall) whe
       eleven = λ z. omega (arith, share-at at11 (z .0));
       keeps = λ z. omega (arith, share-at at11 (z .0));
       lacks = λ z _. omega (arith, share-at (draw at12) (z .0));
-      -- 14 pays with a push that has its slot now, 17 with a pop that has none any more.
+      -- At 14 a push has its slot now, at 17 a pop has none any more.
       draws = λ z y. let own : cond (r .finishing) 1 (claims (r .kind)) ≡ 0 =
           ap (λ (f : Bool). cond f 1 (claims (r .kind))) (z .1 .1 .early) ∙ ap claims (z .1 .1 .kind) in
           omega (arith, head-of y, share-at (draw at14) (z .0));

@@ -1,4 +1,4 @@
--- A start leaves everything as sound as it was: its tag limit pays for the changes that the new call owes.
+-- A start leaves everything as sound as it was: its tag limit leaves room for the changes that the new call owes.
 use mathlib.Core.Bool.{Bool, false, true}
 use mathlib.Core.List.{List}
 use mathlib.Core.Logic.{_≢_, _⊎_, inl, inr}

@@ -24,14 +24,14 @@ impl State<'_> {
         self.head_tag(head.tag())
     }
 
-    /// Line 17: the head's tag is paid for by Anchor's.
+    /// Line 17: the head's tag is bounded by Anchor's.
     fn head_tag(&self, tag: u64) -> Result<(), String> {
         let count = |kind: u64| {
             let holds = |record: &&Record| record.kind == kind && pool::held_slot(record).is_some();
             self.records.iter().filter(holds).count() as u64
         };
-        let paid = tag + count(POP) <= self.anchor.tag + count(PUSH);
-        line(17, paid, "the head's tag and the pops that owe a slot are paid for")
+        let bounded = tag + count(POP) <= self.anchor.tag + count(PUSH);
+        line(17, bounded, "the head's tag and the pops that hold a slot are bounded by Anchor's")
     }
 
     /// Lines 18 to 20: the head as read at 13, 14 and 17.

@@ -1,6 +1,7 @@
 -- Position 0, or another.
 use borrow.Author.Tests.{eq-eqb, ne-eqb}
 use Rattle.judge.specs.Saying.{position}
+use Rattle.lines.proofs.Puts.{put-fits}
 use borrow.Author.Needs.{needs}
 use Rattle.judge.proofs.say.put_position.Statement.{statement}
 use Rattle.judge.proofs.say.put_position.Tie as tie
@@ -9,7 +10,7 @@ returns : tie.Need-returns
 unfolding position
 returns c =
     let text = c .before .before in
-    (rw (eq-eqb _ 0 (text .before .before .before .if1 .taken)) (text .put-text .ensures), search needs)
+    (rw (eq-eqb _ 0 (text .before .before .before .if1 .taken)) (put-fits _ (text .write-text .ensures .0) (search needs)), search needs)
 
 returns-2 : tie.Need-returns-2
 unfolding position

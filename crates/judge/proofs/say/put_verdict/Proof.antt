@@ -1,5 +1,6 @@
 -- One verdict after the other.
 use Rattle.judge.specs.Saying.{verdictLine}
+use Rattle.lines.proofs.Puts.{put-fits}
 use borrow.Author.Needs.{needs}
 use Rattle.judge.proofs.say.put_verdict.Statement.{statement}
 use Rattle.judge.proofs.say.put_verdict.Tie as tie
@@ -8,7 +9,7 @@ returns : tie.Need-returns
 unfolding verdictLine
 returns c =
     let text = c .before .before in
-    (rw (text .before .before .before .enum-told .given .1) (text .put-text .ensures), search needs)
+    (rw (text .before .before .before .enum-told .given .1) (put-fits _ (text .write-text .ensures .0) (search needs)), search needs)
 
 returns-2 : tie.Need-returns-2
 unfolding verdictLine

@@ -3,7 +3,7 @@ use borrow.Author.{Needs.needs, Tests.leb-true}
 use mathlib.Core.Path.{sym, ap, subst, _∙_}
 use native.Mathlib.Nat.{le-trans}
 use lib.ListN.{length}
-use Rattle.lines.specs.Line.{Put, fitting}
+use Rattle.lines.specs.Line.{Put, givenRoom}
 use Rattle.lines.proofs.Puts.{put-none}
 use Rattle.judge.specs.Saying.{isTold, message}
 use Rattle.judge.specs.declared.Judged.{Judged}
@@ -14,7 +14,7 @@ put-message-requires : tie.Need-put-message-requires
 put-message-requires c κs = leb-true _ _ (sym (c .before .before .fits2 .ensures) ∙ c .before .if1 .taken)
 
 returns : tie.Need-returns
-unfolding fitting
+unfolding givenRoom
 returns c =
     let put = c .before .before .put-message in
     let test = c .before .before .before .before in
@@ -27,7 +27,7 @@ returns c =
     )
 
 returns-2 : tie.Need-returns-2
-unfolding fitting
+unfolding givenRoom
 returns-2 c =
     let out = c .before .before .before .before .before .before .args .out .now in (
       rw (sym (c .before .fits2 .ensures) ∙ c .if1 .left) (put-none out 0),

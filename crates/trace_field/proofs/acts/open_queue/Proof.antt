@@ -6,7 +6,8 @@ use borrow.Author.Needs.{needs}
 use Rattle.calls.specs.Opening.{OpenedParts}
 use Rattle.calls.proofs.Openings.{clear-fits}
 use Rattle.rows.proofs.Rows.{length-records, all-zeroed}
-use Rattle.trace_field.proofs.AfterActs.{put-fits, open-page}
+use Rattle.lines.proofs.Puts.{put-fits}
+use Rattle.trace_field.proofs.AfterActs.{open-page}
 use Rattle.trace_field.proofs.acts.open_queue.Statement.{statement}
 use Rattle.trace_field.proofs.acts.open_queue.Tie as tie
 
@@ -47,7 +48,7 @@ returns c =
     open-page _ _ _ _ _ _ _ _ _ _ _ _ _ (sym (length-records _)) (m .open-tables .ensures)
     (e .0 ∙ all-zeroed _ _ _ _ (fits m)) (e .1 ∙ all-zeroed _ _ _ _ (fits m))
     (put c .before .is-opened .ensures) (put c .wrapping-add-u64 .ensures)
-    (put-fits _ _ _ _ _ (first m .pre) (c .before .before .write-line .ensures .0))
+    (put-fits _ (c .before .before .write-line .ensures .0) (first m .pre))
 
 pub open-queue-spec : {M : Type 1} → statement M
 open-queue-spec =
