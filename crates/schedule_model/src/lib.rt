@@ -11,15 +11,31 @@ pub struct ScheduleReply {
     pub length: u64,
 }
 
-/// All that a step can write of control and of the lent tables: Anchor, the head, the words of one slot's row, and the
-/// word of its mark.
-pub struct Saved {
-    pub anchor: u64,
-    pub head: u64,
+/// The link words of a slot's row.
+pub struct SlotLinks {
     pub slot: u64,
     pub left: u64,
     pub right: u64,
+}
+
+/// Its label, the word of its mark, and its next.
+pub struct SlotRest {
+    pub slot: u64,
     pub label: u32,
     pub mark: u64,
     pub next: u64,
+}
+
+/// The words that a step can write of one slot's row, by its place: at most places none.
+pub enum SlotWords {
+    Nothing,
+    Links(SlotLinks),
+    Rest(SlotRest),
+}
+
+/// All that a step can write of control and of the lent tables: Anchor, the head, and those words.
+pub struct Saved {
+    pub anchor: u64,
+    pub head: u64,
+    pub words: SlotWords,
 }

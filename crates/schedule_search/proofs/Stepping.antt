@@ -13,7 +13,7 @@ use Rattle.model.specs.declared.Outcome.{Outcome}
 use Rattle.model.specs.declared.Outcome.the-variants.{Refused, Moved}
 use Rattle.model.specs.Tables.{Tables, Queue, tablesOf, taskAt, unused}
 use Rattle.model.specs.Ends.{isMoved}
-use Rattle.model.specs.Places.{row, wordFound}
+use Rattle.model.specs.Places.{wordFound}
 use Rattle.model.specs.Refusals.{stepSound}
 use Rattle.model.specs.Calls.{Acted, finish, Done, back}
 use Rattle.model.proofs.tests.Truth.{either}
@@ -63,7 +63,7 @@ module _ (left t : ℕ) (some : 0 < left) (few : left ≤ 48) where
       ap (λ (n : ℕ). set (sets ws n (s .steps)) (49 - left) t) z ∙ sets-above ws (s .steps) (suc (49 - left)) (49 - left) t (omega arith)
 
 -- The tables after a step and back.
-tables-back : (q : Tables) (r : Record) → putBack (saved (row (r .call)) q) (moveOn q r .tables) ≡ q
+tables-back : (q : Tables) (r : Record) → putBack (saved (r .call) q) (moveOn q r .tables) ≡ q
 unfolding moveOn finish
 tables-back q r =
     either Back (eqb (fault q r) 0)
@@ -71,9 +71,9 @@ tables-back q r =
     refused
   where
     Back : Acted → Type 0
-    Back a = putBack (saved (row (r .call)) q) (a .tables) ≡ q
+    Back a = putBack (saved (r .call) q) (a .tables) ≡ q
 
-    refused : putBack (saved (row (r .call)) q) q ≡ q
+    refused : putBack (saved (r .call) q) q ≡ q
     refused = undoes q (r .call) .0
 
 -- The queue after a step and back.
@@ -100,7 +100,7 @@ module _ (control : List ℕ) (pair : List (List ℕ)) (lefts rights labels mark
   was = getD pair t []
 
   pub steps : (control₁ row₁ lefts₁ rights₁ labels₁ marks₁ next₁ : List ℕ) (r : Call) (s : Saved) (o : Outcome) (moves : Bool)
-      → r ≡ callOf was → s ≡ saved (row r) (Q .tables)
+      → r ≡ callOf was → s ≡ saved r (Q .tables)
       → RowMoved (Q .tables) was (tablesOf (controlOf control₁) lefts₁ rights₁ labels₁ marks₁ next₁) row₁ o → moves ≡ isMoved o
       → Steps Q t (record { row = was; saved = s; stopped = not moves }) (queueIn control₁ (set pair t row₁) lefts₁ rights₁ labels₁ marks₁ next₁)
   unfolding moved recordOf
@@ -110,7 +110,7 @@ module _ (control : List ℕ) (pair : List (List ℕ)) (lefts rights labels mark
       in
       record {
         record-kept = record-read pair t;
-        words-kept = kept ∙ ap (λ (x : Call). saved (row x) (Q .tables)) (whose ∙ ap (λ (x : Record). x .call) (record-read pair t));
+        words-kept = kept ∙ ap (λ (x : Call). saved x (Q .tables)) (whose ∙ ap (λ (x : Record). x .call) (record-read pair t));
         stopped = ap not (told ∙ ap (λ (d : Done). isMoved (d .outcome)) done);
         queue = ap (λ (d : Done). d .queue) done;
       }

@@ -4,7 +4,6 @@ use mathlib.Core.Bool.{not}
 use Prim.Native.Nat.{ℕ}
 use lib.ListN.{set}
 use Rattle.model.specs.Tables.{Queue, taskAt, recordAt}
-use Rattle.model.specs.Places.{row}
 use Rattle.model.specs.Ends.{isMoved}
 use Rattle.model.specs.Calls.{Done, back}
 use Rattle.engine.specs.MoveOn.{moveOn}
@@ -19,7 +18,7 @@ moved q t = back q t (moveOn (q .tables) (taskAt q t))
 -- Task t stepped from q on: k holds what the step can write, as it was in q.
 pub record Steps (q : Queue) (t : ℕ) (k : Kept) (q′ : Queue) : Type 0 where
   pub record-kept : recordOf (k .row) ≡ taskAt q t
-  pub words-kept : k .saved ≡ saved (row (recordAt q t)) (q .tables)
+  pub words-kept : k .saved ≡ saved (recordAt q t) (q .tables)
   pub stopped : k .stopped ≡ not (isMoved (moved q t .outcome))
   pub queue : q′ ≡ moved q t .queue
 

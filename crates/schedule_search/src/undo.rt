@@ -3,12 +3,14 @@ use model::Call;
 use model::Control;
 use rows::moving;
 use schedule_model::Saved;
+use schedule_model::SlotLinks;
+use schedule_model::SlotRest;
+use schedule_model::SlotWords;
 ghost use mathlib.Core.Path.{_≡_};
 ghost use Prim.Native.Nat.{_<_};
-ghost use Rattle.model.specs.Places.{row};
-ghost use Rattle.model.specs.Tables.{tablesOf};
+ghost use Rattle.model.specs.Tables.{Tables, tablesOf};
 ghost use Rattle.rows.specs.Rows.{controlOf, queueIn};
-ghost use Rattle.schedule_model.specs.Undo.{saved, putBack};
+ghost use Rattle.schedule_model.specs.Undo.{linksAt, restAt, wordsOf, wordsBack, saved, putBack};
 ghost use Rattle.schedule_search.specs.Stepped.{Steps, restored};
 
 /// What a step can write, as it was before.
@@ -19,7 +21,54 @@ pub struct Kept {
     pub stopped: bool,
 }
 
-/// Anchor, the head, and the words of the row that the next step of the record can write.
+fn links_at(slot: u64, lefts: &[u64], rights: &[u64]) -> SlotWords
+    ensures { λ s. ⌜ s ≡ linksAt slot (now (lefts .entry)) (now (rights .entry)) ⌝ }
+{
+    let left = table::word_at(lefts, slot);
+    let right = table::word_at(rights, slot);
+    SlotWords::Links(SlotLinks { slot, left, right })
+}
+
+fn rest_at(slot: u64, labels: &[u32], marks: &[u64], next: &[u64]) -> SlotWords
+    ensures { λ s. ⌜ s ≡ restAt slot (now (labels .entry)) (now (marks .entry)) (now (next .entry)) ⌝ }
+{
+    let label = table::label_at(labels, slot);
+    let mark = table::word_at(marks, slot / 64);
+    let next = table::word_at(next, slot);
+    SlotWords::Rest(SlotRest {
+        slot,
+        label,
+        mark,
+        next,
+    })
+}
+
+/// The words of its row that the next step of the record can write.
+fn words_of(
+    r: Call,
+    lefts: &[u64],
+    rights: &[u64],
+    labels: &[u32],
+    marks: &[u64],
+    next: &[u64],
+) -> SlotWords
+    ensures { λ s.
+        ⌜ ((q : Tables) → s ≡ wordsOf r (tablesOf (q .control)
+        (now (lefts .entry)) (now (rights .entry)) (now (labels .entry)) (now (marks .entry)) (now (next .entry)))) ⌝ }
+{
+    let slot = asking::row_of(r);
+    let place = r.place;
+    match place {
+        3 => links_at(slot, lefts, rights),
+        9 => links_at(slot, lefts, rights),
+        11 => rest_at(slot, labels, marks, next),
+        14 => rest_at(slot, labels, marks, next),
+        16 => rest_at(slot, labels, marks, next),
+        _ => SlotWords::Nothing,
+    }
+}
+
+/// Anchor, the head, and those words.
 fn keep(
     control: &[u64; rows::CONTROL_WORDS],
     r: Call,
@@ -30,26 +79,44 @@ fn keep(
     next: &[u64],
 ) -> Saved
     ensures { λ s.
-        ⌜ s ≡ saved (row r) (tablesOf (controlOf (now (control .entry)))
+        ⌜ s ≡ saved r (tablesOf (controlOf (now (control .entry)))
         (now (lefts .entry)) (now (rights .entry)) (now (labels .entry)) (now (marks .entry)) (now (next .entry))) ⌝ }
 {
     let words = *control;
     let c = rows::control_of(words);
-    let slot = asking::row_of(r);
-    let left = table::word_at(lefts, slot);
-    let right = table::word_at(rights, slot);
-    let label = table::label_at(labels, slot);
-    let mark = table::word_at(marks, slot / 64);
-    let next = table::word_at(next, slot);
+    let kept = words_of(r, lefts, rights, labels, marks, next);
     Saved {
         anchor: c.anchor,
         head: c.head,
-        slot,
-        left,
-        right,
-        label,
-        mark,
-        next,
+        words: kept,
+    }
+}
+
+fn put_words(
+    s: SlotWords,
+    lefts: &mut [u64],
+    rights: &mut [u64],
+    labels: &mut [u32],
+    marks: &mut [u64],
+    next: &mut [u64],
+)
+    ensures { λ _.
+        ⌜ ((q : Tables)
+        → tablesOf (q .control) (now (lefts .exit)) (now (rights .exit)) (now (labels .exit)) (now (marks .exit)) (now (next .exit))
+        ≡ wordsBack s (tablesOf (q .control)
+        (now (lefts .entry)) (now (rights .entry)) (now (labels .entry)) (now (marks .entry)) (now (next .entry)))) ⌝ }
+{
+    match s {
+        SlotWords::Nothing => {}
+        SlotWords::Links(w) => {
+            table::put_word(lefts, w.slot, w.left);
+            table::put_word(rights, w.slot, w.right);
+        }
+        SlotWords::Rest(w) => {
+            table::put_label(labels, w.slot, w.label);
+            table::put_word(marks, w.slot / 64, w.mark);
+            table::put_word(next, w.slot, w.next);
+        }
     }
 }
 
@@ -78,12 +145,8 @@ fn put_back(
         head: s.head,
     });
     *control = before;
-    let slot = s.slot;
-    table::put_word(lefts, slot, s.left);
-    table::put_word(rights, slot, s.right);
-    table::put_label(labels, slot, s.label);
-    table::put_word(marks, slot / 64, s.mark);
-    table::put_word(next, slot, s.next);
+    let kept = s.words;
+    put_words(kept, lefts, rights, labels, marks, next);
 }
 
 /// A step of task t, and what to put back.
