@@ -30,21 +30,21 @@ returns c = let a = c .before .args in many (a .place) (a .kind) (a .branch) (c 
 
 returns-2 : tie.Need-returns-2
 returns-2 c =
-    let rows = c .before .before in
+    let rows = c .before .before .before in
     let inside = rows .before in
     let a = inside .before .args in
     ap (λ (kinds : List (List ℕ)). getD (getD kinds 0 []) (a .branch) 0) (rows .row .ensures)
     ∙ entry (a .place) 0 (a .branch) (inside .if1 .left)
-    ∙ ap (λ (kind : ℕ). route (a .place) kind (a .branch)) (sym (c .before .if2 .taken))
+    ∙ ap (λ (kind : ℕ). route (a .place) kind (a .branch)) (sym (c .if2 .taken))
 
 returns-3 : tie.Need-returns-3
 returns-3 c =
-    let rows = c .before .before in
+    let rows = c .before .before .before in
     let inside = rows .before in
     let a = inside .before .args in
     ap (λ (kinds : List (List ℕ)). getD (getD kinds 1 []) (a .branch) 0) (rows .row .ensures)
     ∙ entry (a .place) 1 (a .branch) (inside .if1 .left)
-    ∙ of-pop (a .place) (a .kind) (a .branch) (c .before .if2 .left)
+    ∙ of-pop (a .place) (a .kind) (a .branch) (c .if2 .left)
 
 pub next-spec : {M : Type 1} → statement M
 next-spec =

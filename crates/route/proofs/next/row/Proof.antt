@@ -1,9 +1,11 @@
 -- Each row of the constant computes to the route's; beyond them there is none.
+use mathlib.Core.Bool.{true}
 use mathlib.Core.Path.{_≡_, sym}
 use mathlib.Core.List.{List, [], _∷_}
 use Prim.Native.Nat.{ℕ, suc, _<_, _≤_}
 use native.Mathlib.Omega.{arith}
 use lib.Dec.{eqb}
+use borrow.Author.Needs.{needs}
 use borrow.Author.Tests.{eqb-true, eqb-false}
 use Rattle.model.specs.Route.{route, pushRoute, popRoute}
 use Rattle.model.proofs.tests.Truth.{split}
@@ -30,76 +32,76 @@ first place e = rw (eqb-true place 0 e)
 
 returns : tie.Need-returns
 unfolding route pushRoute popRoute
-returns c = rw (c .match .keys1)
+returns c = rw (c .before .match .keys1)
 
 returns-2 : tie.Need-returns-2
 unfolding route pushRoute popRoute
-returns-2 c = rw (c .match .keys2)
+returns-2 c = rw (c .before .match .keys2)
 
 returns-3 : tie.Need-returns-3
 unfolding route pushRoute popRoute
-returns-3 c = rw (c .match .keys3)
+returns-3 c = rw (c .before .match .keys3)
 
 returns-4 : tie.Need-returns-4
 unfolding route pushRoute popRoute
-returns-4 c = rw (c .match .keys4)
+returns-4 c = rw (c .before .match .keys4)
 
 returns-5 : tie.Need-returns-5
 unfolding route pushRoute popRoute
-returns-5 c = rw (c .match .keys5)
+returns-5 c = rw (c .before .match .keys5)
 
 returns-6 : tie.Need-returns-6
 unfolding route pushRoute popRoute
-returns-6 c = rw (c .match .keys6)
+returns-6 c = rw (c .before .match .keys6)
 
 returns-7 : tie.Need-returns-7
 unfolding route pushRoute popRoute
-returns-7 c = rw (c .match .keys7)
+returns-7 c = rw (c .before .match .keys7)
 
 returns-8 : tie.Need-returns-8
 unfolding route pushRoute popRoute
-returns-8 c = rw (c .match .keys8)
+returns-8 c = rw (c .before .match .keys8)
 
 returns-9 : tie.Need-returns-9
 unfolding route pushRoute popRoute
-returns-9 c = rw (c .match .keys9)
+returns-9 c = rw (c .before .match .keys9)
 
 returns-10 : tie.Need-returns-10
 unfolding route pushRoute popRoute
-returns-10 c = rw (c .match .keys10)
+returns-10 c = rw (c .before .match .keys10)
 
 returns-11 : tie.Need-returns-11
 unfolding route pushRoute popRoute
-returns-11 c = rw (c .match .keys11)
+returns-11 c = rw (c .before .match .keys11)
 
 returns-12 : tie.Need-returns-12
 unfolding route pushRoute popRoute
-returns-12 c = rw (c .match .keys12)
+returns-12 c = rw (c .before .match .keys12)
 
 returns-13 : tie.Need-returns-13
 unfolding route pushRoute popRoute
-returns-13 c = rw (c .match .keys13)
+returns-13 c = rw (c .before .match .keys13)
 
 returns-14 : tie.Need-returns-14
 unfolding route pushRoute popRoute
-returns-14 c = rw (c .match .keys14)
+returns-14 c = rw (c .before .match .keys14)
 
 returns-15 : tie.Need-returns-15
 unfolding route pushRoute popRoute
-returns-15 c = rw (c .match .keys15)
+returns-15 c = rw (c .before .match .keys15)
 
 returns-16 : tie.Need-returns-16
 unfolding route pushRoute popRoute
-returns-16 c = rw (c .match .keys16)
+returns-16 c = rw (c .before .match .keys16)
 
 returns-17 : tie.Need-returns-17
 unfolding route pushRoute popRoute
-returns-17 c = rw (c .match .keys17)
+returns-17 c = rw (c .before .match .keys17)
 
 returns-18 : tie.Need-returns-18
 returns-18 c =
-    let place = c .before .args .place in
-    let h = c .match .rest in
+    let place = c .before .before .args .place in
+    let h = c .before .match .rest in
     let i = h .0 .0 .0 .0 .0 .0 in
     let j = i .0 .0 .0 .0 .0 .0 in
     split (eqb place 0) (first place)
@@ -113,6 +115,24 @@ pub row-spec : {M : Type 1} → statement M
 row-spec =
     tie.close
     (tie.spec
+    (λ c. search needs)
+    (λ c. search needs)
+    (λ c. search needs)
+    (λ c. search needs)
+    (λ c. search needs)
+    (λ c. search needs)
+    (λ c. search needs)
+    (λ c. search needs)
+    (λ c. search needs)
+    (λ c. search needs)
+    (λ c. search needs)
+    (λ c. search needs)
+    (λ c. search needs)
+    (λ c. search needs)
+    (λ c. search needs)
+    (λ c. search needs)
+    (λ c. search needs)
+    (λ c. search needs)
     returns
     returns-2
     returns-3
