@@ -9,10 +9,9 @@
  * call works on the same queue while it is at rest.
  *
  *     ZC_QUEUE_STORAGE(queue, TASKS, SLOTS);
- *     static zc_shared shared;
  *
  *     zc_queue_open_pooled(&queue, TASKS, SLOTS, 0);             answers 0
- *     zc_share(&queue, &shared);                                 answers 0; now start the threads
+ *     zc_shared shared = zc_share(&queue);                       now start the threads
  *
  *     zc_record *own = &queue_tables.records[task];              each thread has its own task
  *     zc_atomic_push_pooled(&shared, own, ZC_RIGHT, 700);        answers ZC_PUSHED
@@ -167,33 +166,35 @@ zc_onward zc_settle_start(uint64_t slots, uint64_t pooled, zc_record *own, const
 
 /* ---- A queue that is shared --------------------------------------------------------------- */
 
-/* The tables of an open queue, and two numbers that no call but an opening changes. */
+/* The tables of an open queue, and two numbers that no call but an opening or a return changes. */
 typedef struct zc_shared {
     uint64_t *anchor, *head, *lefts, *rights, *marks, *next;
     uint32_t *labels;
     uint64_t slots, pooled;
+    uint64_t refusal; /* 0; else nothing is shared, and every call of this file is refused by it */
 } zc_shared;
 
 /*
  * Shares a queue that was opened; again after each opening or return. It is one of the calls that
- * want the queue at rest. Answers 0, or refuses as the report does: 34 for control, 12, 34 for the
- * walk. The other calls of this file don't ask for these again.
+ * want the queue at rest. Where the report is refused (34 for control, 12, 34 for the walk) so are
+ * all calls on what it answers; the other calls of this file don't ask for these again.
  */
-static inline uint32_t zc_share(const zc_queue *queue, zc_shared *shared)
+static inline zc_shared zc_share(const zc_queue *queue)
 {
-    uint64_t code = zc_queue_report(queue).code;
-    if (code == 0) {
-        shared->anchor = &queue->control->anchor;
-        shared->head = &queue->control->head;
-        shared->lefts = queue->lefts;
-        shared->rights = queue->rights;
-        shared->marks = queue->marks;
-        shared->next = queue->next;
-        shared->labels = queue->labels;
-        shared->slots = queue->control->slots;
-        shared->pooled = queue->control->pooled;
+    zc_shared shared = {NULL, NULL, NULL, NULL, NULL, NULL, NULL, 0, 0, 0};
+    shared.refusal = zc_queue_report(queue).code;
+    if (shared.refusal == 0) {
+        shared.anchor = &queue->control->anchor;
+        shared.head = &queue->control->head;
+        shared.lefts = queue->lefts;
+        shared.rights = queue->rights;
+        shared.marks = queue->marks;
+        shared.next = queue->next;
+        shared.labels = queue->labels;
+        shared.slots = queue->control->slots;
+        shared.pooled = queue->control->pooled;
     }
-    return ZC_AS(uint32_t, code);
+    return shared;
 }
 
 /* ---- The touches -------------------------------------------------------------------------- */
@@ -311,6 +312,12 @@ __attribute__((always_inline)) static inline uint64_t zc_made(const zc_shared *s
 
 /* ---- Whole calls -------------------------------------------------------------------------- */
 
+static inline zc_reply zc_refused_by(uint64_t number)
+{
+    zc_reply reply = {ZC_AS(uint32_t, number), 0, 0};
+    return reply;
+}
+
 /*
  * Starts a call: running, with its first step planned, or refused. The first touch is the load of
  * Anchor; a push that names a slot has one more, of the slot's mark.
@@ -318,10 +325,11 @@ __attribute__((always_inline)) static inline uint64_t zc_made(const zc_shared *s
 static inline void zc_begin(const zc_shared *shared, zc_record *own, const zc_start *start,
                             zc_onward *onward)
 {
+    onward->reply = zc_refused_by(shared->refusal);
+    if (shared->refusal != 0)
+        return;
     onward->touch = zc_plan_start(shared->slots, shared->pooled, own, start);
     onward->reply.code = ZC_AS(uint32_t, onward->touch.word);
-    onward->reply.label = 0;
-    onward->reply.value = 0;
     if (onward->touch.act == ZC_NO_TOUCH)
         return;
     ZC_BETWEEN();
@@ -383,12 +391,12 @@ static inline zc_reply zc_answer_to(const zc_shared *shared, zc_record *own, con
     for (;;) {
         ZC_BETWEEN();
         zc_onward onward = zc_settle_plan(shared->slots, shared->pooled, own, found);
+        if (onward.reply.code != ZC_RUNNING)
+            return zc_told(&onward.reply);
         if (own->retries != failed) {
             failed = own->retries;
             zc_back_off();
         }
-        if (onward.reply.code != ZC_RUNNING)
-            return zc_told(&onward.reply);
         ZC_BETWEEN();
         found = zc_made(shared, &onward.touch);
     }
@@ -425,46 +433,51 @@ static inline zc_reply zc_atomic_pop(const zc_shared *shared, zc_record *own, ui
 }
 
 /* ---- One touch at a time ------------------------------------------------------------------
- * For a thread that interleaves the calls of several records, or its calls with other work. Beside
- * each record it keeps the touch that comes next; if that is lost, zc_plan tells it again.
+ * For a thread that interleaves the calls of several records, or its calls with other work: a start,
+ * then steps while they answer running. A whole call is faster: it plans a step while it settles the
+ * one before (zc_settle_plan).
  */
 
-/* A touch word by word, each as it was stored: volatile, so that no loads are joined (zc_told). */
-static inline void zc_keep(zc_touch *next, const volatile zc_touch *touch)
-{
-    next->act = touch->act;
-    next->label = touch->label;
-    next->side = touch->side;
-    next->slot = touch->slot;
-    next->expected = touch->expected;
-    next->word = touch->word;
-}
-
-/*
- * Starts a call, and puts its first touch in *next. Answers running at place 1 or 12, or refuses as
- * the call of its operation does; then *next is as it was.
- */
-static inline zc_reply zc_atomic_start(const zc_shared *shared, zc_record *own,
-                                       const zc_start *start, zc_touch *next)
+/* Starts the call that `start` tells: running at place 1 or 12, or refused as the whole call is. */
+static inline zc_reply zc_atomic_start(const zc_shared *shared, zc_record *own, const zc_start *start)
 {
     zc_onward onward;
     zc_begin(shared, own, start, &onward);
-    if (onward.reply.code == ZC_RUNNING)
-        zc_keep(next, &onward.touch);
     return zc_told(&onward.reply);
 }
 
-/*
- * Makes one step, and puts the touch after it in *next. Answers and refuses as zc_step_record does
- * (34 for the record, 31, 34 for what it touches).
- */
-static inline zc_reply zc_atomic_step(const zc_shared *shared, zc_record *own, zc_touch *next)
+static inline zc_reply zc_atomic_start_push(const zc_shared *shared, zc_record *own, uint64_t side,
+                                            uint64_t slot, uint32_t label)
 {
+    const zc_start start = {ZC_ASK_PUSH, side, slot, label};
+    return zc_atomic_start(shared, own, &start);
+}
+
+static inline zc_reply zc_atomic_start_push_pooled(const zc_shared *shared, zc_record *own,
+                                                   uint64_t side, uint32_t label)
+{
+    const zc_start start = {ZC_ASK_PUSH_POOLED, side, 0, label};
+    return zc_atomic_start(shared, own, &start);
+}
+
+static inline zc_reply zc_atomic_start_pop(const zc_shared *shared, zc_record *own, uint64_t side)
+{
+    const zc_start start = {ZC_ASK_POP, side, 0, 0};
+    return zc_atomic_start(shared, own, &start);
+}
+
+/* Makes one step. Answers and refuses as zc_step_record does: 34 for the record, 31, 34 for what it touches. */
+static inline zc_reply zc_atomic_step(const zc_shared *shared, zc_record *own)
+{
+    if (shared->refusal != 0)
+        return zc_refused_by(shared->refusal);
+    zc_touch touch = zc_plan(shared->slots, shared->pooled, own);
+    if (touch.act == ZC_NO_TOUCH)
+        return zc_refused_by(touch.word);
     ZC_BETWEEN();
-    uint64_t found = zc_made(shared, next);
+    uint64_t found = zc_made(shared, &touch);
     ZC_BETWEEN();
     zc_onward onward = zc_settle_plan(shared->slots, shared->pooled, own, found);
-    zc_keep(next, &onward.touch);
     return zc_told(&onward.reply);
 }
 
