@@ -21,33 +21,40 @@
  *
  * A call answers a zc_reply, whose code is to be looked at: a push may find no free slot
  * (ZC_NO_FREE_SLOT), a pop may find nothing (ZC_EMPTY). Both are told at once, since nobody is waited
- * for; make the call again later. Codes from 10 on are refusals. A whole program with five threads is
- * examples/c/threads.c, one with a signal handler examples/c/interrupt.c.
+ * for; make the call again later. Codes from 10 on are refusals. What a thread wrote before its push
+ * is seen by the thread that pops the label. The opening, its tables and the codes are told in
+ * zeppolecape.h. A whole program with five threads is examples/c/threads.c, one with a signal handler
+ * examples/c/interrupt.c.
  *
  * YOUR DUTY
  *  - A record belongs to one thread, core or handler: no other makes calls with it or looks at it.
  *    It is idle, place 0, at first. There are at most as many as tasks were opened, or refusal 33
  *    comes too late. Take one of the queue's, of which the report then tells, or one that lies
- *    elsewhere, zeroed; in cache lines of its own it is faster. A thread with two records may be in
+ *    elsewhere, zeroed; in cache lines of its own (aligned to 128 bytes) it is faster. A thread with two records may be in
  *    the middle of two calls, and a handler needs one of its own: it may then make whole calls in
  *    the middle of anybody's step, its own thread's too. A handler of an interrupt saves the SSE
  *    state and leaves the red zone alone (zeppolecape.h, FACTS); for one of a signal the system does.
  *  - Every call of zeppolecape.h on this queue (report, walks, shelves, joinings, openings, starts
  *    and steps), and reading its tables, wants the queue at rest: no thread is in a call of this
- *    file, and what synchronises (a join, a barrier, a lock) lies between it and their last call.
+ *    file, and what synchronises (a join, a barrier, a lock) lies between it and their last call. A
+ *    call that was started and has not answered is seen by them in a record of the queue's, and in
+ *    one that lies elsewhere by none: let that answer before an opening, a return or a draining.
  *  - Nobody else writes the tables.
  *
  * LIMITS
  *  - A thread that dies in a call takes along what the call held: at most a slot and a label, that
  *    of its push or the one that its pop had won. Nobody waits for it. Another thread may go on with
  *    its record only if it died between two steps: in the middle of one it can't be told whether the
- *    touch was made.
+ *    touch was made. Zero such a record before zc_queue_drain or a step of anybody's, which might make
+ *    the touch again and push a slot twice; of what is proved only the walks hold until the queue is
+ *    opened again.
  *  - 33: an opening with first tag 0 has tags for 4,294,967,262 changes of Anchor; a pair of push and
  *    pop makes two or three. Threads that do nothing else use them up within minutes (bench/README.md
  *    has pairs a second), ten labels a second in four and a half years. Then every start is
- *    refused. Bring the threads to rest, zc_queue_drain, open again, zc_queue_refill, and let them go
- *    on (examples/c/renew.c). Tags never wrap, so that a word is never taken for an older one.
- *  - Lock-free is not wait-free: one call may try again as long as others are faster.
+ *    refused. Bring the threads to rest, zc_queue_drain, open again, zc_queue_refill (examples/c/renew.c),
+ *    zc_share, and let them go on. Tags never wrap, so that a word is never taken for an older one.
+ *  - Lock-free is not wait-free: one call may try again as long as others are faster. After a failed
+ *    change a whole call waits some microseconds, a handler's too (ZC_PAUSES).
  *  - In tables that somebody else wrote to, a whole call may be told 34 in the middle: its touches up
  *    to there are made, and its record stands where it stopped.
  *
@@ -57,8 +64,8 @@
  * push that names its slot is asked 33 of the Anchor that it loaded, and may be started just above
  * the limit); that list is linearizable, and nobody is told 34. It respects real time, and every
  * label in it is accounted for; once no thread is in a call, memory is the queue of the list, from
- * which plain calls go on. A start or step is at most four instructions of its thread, whatever the
- * others do, and among the steps some call takes effect or answers (Consequences.antt beside it). The
+ * which plain calls go on. A start or step is at most three of these instructions and the writing of
+ * its record, whatever the others do, and among the steps some call takes effect or answers (Consequences.antt beside it). The
  * four calls below are proved to do what these theorems say of them, for all records and words. Not
  * proved, but tested: the C in this file, a table of thirteen touches (zc_made) and the loops around
  * it.
@@ -289,7 +296,7 @@ static inline uint64_t *zc_link(const zc_shared *shared, const zc_touch *touch)
     return &(touch->side == ZC_RIGHT ? rights : lefts)[touch->slot];
 }
 
-/* Makes a touch, and answers the word found: `perform` of crates/threads_model/specs/Split.antt, a line each. */
+/* Makes a touch, and answers the word found, a line each: `perform` of crates/threads_model/specs/Split.antt, and the starts'. */
 __attribute__((always_inline)) static inline uint64_t zc_made(const zc_shared *shared, const zc_touch *touch)
 {
     switch (touch->act) {
@@ -325,11 +332,8 @@ static inline zc_reply zc_refused_by(uint64_t number)
 static inline void zc_begin(const zc_shared *shared, zc_record *own, const zc_start *start,
                             zc_onward *onward)
 {
-    onward->reply = zc_refused_by(shared->refusal);
-    if (shared->refusal != 0)
-        return;
     onward->touch = zc_plan_start(shared->slots, shared->pooled, own, start);
-    onward->reply.code = ZC_AS(uint32_t, onward->touch.word);
+    onward->reply = zc_refused_by(onward->touch.word);
     if (onward->touch.act == ZC_NO_TOUCH)
         return;
     ZC_BETWEEN();
@@ -381,6 +385,8 @@ static inline zc_reply zc_told(const zc_reply *reply)
 /* Starts a call and steps it to its answer. */
 static inline zc_reply zc_answer_to(const zc_shared *shared, zc_record *own, const zc_start *start)
 {
+    if (shared->refusal != 0)
+        return zc_refused_by(shared->refusal);
     zc_onward begun;
     zc_begin(shared, own, start, &begun);
     if (begun.reply.code != ZC_RUNNING)
@@ -441,6 +447,8 @@ static inline zc_reply zc_atomic_pop(const zc_shared *shared, zc_record *own, ui
 /* Starts the call that `start` tells: running at place 1 or 12, or refused as the whole call is. */
 static inline zc_reply zc_atomic_start(const zc_shared *shared, zc_record *own, const zc_start *start)
 {
+    if (shared->refusal != 0)
+        return zc_refused_by(shared->refusal);
     zc_onward onward;
     zc_begin(shared, own, start, &onward);
     return zc_told(&onward.reply);

@@ -301,7 +301,7 @@ int main(int argc, char **argv)
         is("a kind of touch that may fail", seen[act][FAILED_CHANGE] >= 100 || !changes, 1);
         is("a kind of touch refused", seen[act][REFUSED] >= 100 || whole || changes, 1);
     }
-    static const uint32_t codes[] = {ZC_RUNNING, ZC_NO_SIDE, ZC_NO_SLOT, ZC_BUSY, ZC_TAKEN,
+    static const uint32_t codes[] = {ZC_RUNNING, ZC_NO_SIDE, ZC_BAD_SLOT, ZC_BUSY, ZC_TAKEN,
                                      ZC_WORN, ZC_UNSOUND, ZC_WRONG_PUSH};
     for (size_t at = 0; at < sizeof codes / sizeof *codes; at++)
         is("an answer of a start", starts[codes[at]] >= 100, 1);
