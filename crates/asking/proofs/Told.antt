@@ -12,7 +12,7 @@ use Rattle.model.specs.Places.{wordFound}
 use Rattle.model.specs.Refusals.{stepSound}
 use Rattle.model.specs.Calls.{Acted, finish}
 use Rattle.model.proofs.tests.Truth.{split, either}
-use Rattle.decide.specs.Ending.{settled, anchorRead, compared, mayChange}
+use Rattle.decide.specs.Ending.{settled, compared, mayChange}
 use Rattle.decide.specs.declared.touched.LinkWord.{LinkWord}
 use Rattle.decide.specs.Decided.{madeOf, ownEnd, new2, new4, new10, link3, link7, found3, found9, found11, found14}
 use Rattle.places.specs.Arm.{stepAt}
@@ -60,11 +60,11 @@ module _ (c : Control) (r : Call) (ls rs ns ms xs : List ℕ) where
       (λ h. rw h (sym moved ∙ said n (at n e) (anchors.fails tried (eqb-false _ _ h) ls rs ns ms xs 0)))
 
   pub change2 : r .place ≡ 2 → whyUnchanged c r (new2 r) ≡ asked
-  unfolding anchorRead settled
+  unfolding settled
   change2 e = changes 2 (new2 r) e (anchors.step2 c r _ refl) refl
 
   pub change4 : r .place ≡ 4 → whyUnchanged c r (new4 r) ≡ asked
-  unfolding anchorRead settled
+  unfolding settled
   change4 e = changes 4 (new4 r) e (anchors.step4 c r _ refl) refl
 
   pub change10 : r .place ≡ 10 → whyUnchanged c r (new10 r) ≡ asked
@@ -73,7 +73,7 @@ module _ (c : Control) (r : Call) (ls rs ns ms xs : List ℕ) where
 
   -- What reads or compares Anchor is never refused, nor is what writes a next.
   pub none1 : r .place ≡ 1 → 0 ≡ asked
-  unfolding anchorRead settled
+  unfolding settled
   none1 e = said 1 (at 1 e) (anchors.step1 c r ls rs ns ms xs 0)
 
   compares : (same other : ℕ) → whyNot (compared c r same other .outcome) ≡ 0

@@ -6,8 +6,7 @@ use Rattle.word.specs.{Anchor.anchorOf, Link.linkOf}
 use Rattle.model.specs.declared.{Control.Control, Call.Call, Entry.Entry, Transition.Transition}
 use Rattle.model.specs.declared.Outcome.the-variants.{Refused, Moved}
 use Rattle.model.specs.Sound.{from1, anchorSound, linkSound}
-use Rattle.model.specs.{Places.reading, Kinds.isPop}
-use Rattle.model.specs.Route.{route, onward, goes, answer}
+use Rattle.model.specs.Route.{onward, goes, answer}
 use Rattle.model.specs.Tables.{withSeen, withNeighbour, withLink, withWords}
 
 abbrev pub refused : Control → Call → Transition
@@ -35,11 +34,6 @@ headed c w = withWords c (c .anchor) w
 
 abbrev pub noEntry : Entry
 noEntry = record { slot = 0; label = 0 }
-
--- Anchor is taken for the word as read, and the record goes on by it as at place 1.
-unfoldable pub anchorRead : Control → Call → Transition
-anchorRead c r =
-    settled c (withSeen r (c .anchor) (r .finishing)) (route 1 (r .kind) (reading (isPop r) (anchorOf (c .anchor)))) noEntry
 
 -- The tag as read can be raised, and the new Anchor is sound.
 unfoldable pub mayChange : ℕ → ℕ → ℕ → Bool

@@ -12,9 +12,9 @@ ghost use mathlib.Core.Path.{_≡_};
 ghost use mathlib.Core.Bool.{false, cond};
 ghost use Prim.Native.Nat.{_+_, _/_, _^_};
 ghost use Rattle.word.specs.Link.{packLink};
-ghost use Rattle.model.specs.Tables.{idle};
+ghost use Rattle.model.specs.Tables.{idle, withSeen};
 ghost use Rattle.model.specs.Route.{goes};
-ghost use Rattle.decide.specs.Ending.{refused, settled, anchorRead, failing, mayChange, anchored, headed, remembered};
+ghost use Rattle.decide.specs.Ending.{refused, settled, failing, mayChange, anchored, headed, remembered};
 ghost use Rattle.decide.specs.Ending.{compared, rowSound, neighbourRead, linkRead, headRead};
 
 /// For a step that pops nothing.
@@ -95,14 +95,13 @@ pub fn settles(c: Control, t: Call, n: u8, e: Entry) -> Transition
     }
 }
 
-/// Takes Anchor for the word as read and goes on by it: place 1, and a failed change at 2 or 4.
-pub fn reads_anchor(c: Control, r: Call) -> Transition
-    ensures { λ m. ⌜ m ≡ anchorRead c r ⌝ }
+/// The record with w for Anchor as read.
+pub fn sees(r: Call, w: u64) -> Call
+    ensures { λ t. ⌜ t ≡ withSeen r w (r .finishing) ⌝ }
 {
-    let a = Anchor::unpack(c.anchor);
     let mut t = r;
-    t.seen = c.anchor;
-    settles(c, t, next::after_reading(r.kind, a), NO_ENTRY)
+    t.seen = w;
+    t
 }
 
 /// A step whose change failed.

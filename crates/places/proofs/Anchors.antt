@@ -16,7 +16,7 @@ use Rattle.model.specs.Calls.{entryOf, finish}
 use Rattle.model.proofs.laws.Onward.{reads-on}
 use Rattle.table.specs.Lent.{withTables}
 use Rattle.places.specs.Arm.{stepAt, Steps}
-use Rattle.decide.specs.Ending.{refused, settled, noEntry, failing, anchored, anchorRead, mayChange, remembered, compared, changed}
+use Rattle.decide.specs.Ending.{refused, settled, noEntry, failing, anchored, mayChange, remembered, compared, changed}
 use Rattle.decide.specs.Decided.{new2, new4, new10}
 use Rattle.decide.proofs.Routes.{kinds, readings, Quiet, quietly}
 use Rattle.model.proofs.tests.Truth.{split}
@@ -41,11 +41,15 @@ module _ {n : ℕ} {c : Control} {r : Call} {new : ℕ} {t : Call} {done : ℕ} 
 
 module _ (c : Control) (r : Call) where
   -- The outcome of reading Anchor, and the record with the word read.
-  abbrev outcome : ℕ
+  abbrev pub outcome : ℕ
   outcome = reading (isPop r) (anchorOf (c .anchor))
 
-  abbrev seeing : Call
+  abbrev pub seeing : Call
   seeing = withSeen r (c .anchor) (r .finishing)
+
+  -- What a failed change of Anchor at n comes to, which reads on.
+  abbrev pub found : ℕ → Transition
+  found n = failing (settled c seeing (route n (r .kind) (outcome + 1)) noEntry)
 
   read-quiet : Quiet (route 1 (r .kind) outcome)
   unfolding route pushRoute popRoute
@@ -56,8 +60,8 @@ module _ (c : Control) (r : Call) where
       (kinds Quiet 1 (r .kind) 2 refl refl)
       (kinds Quiet 1 (r .kind) 3 refl refl)
 
-  pub step1 : Steps 1 c r (anchorRead c r)
-  unfolding stepAt stepSound move at1 finish anchorRead settled goes counted
+  pub step1 : Steps 1 c r (settled c seeing (route 1 (r .kind) outcome) noEntry)
+  unfolding stepAt stepSound move at1 finish settled goes counted
   step1 ls rs ns ms xs k =
       ap (λ m. withTables m ls rs ns ms xs k)
       (quietly c seeing (route 1 (r .kind) outcome) (entryOf (tablesOf c ls rs ns ms xs) (atPlace r 1)) read-quiet)
@@ -118,12 +122,10 @@ module _ (c : Control) (r : Call) where
         → Quiet (leads 0)
         → leads (outcome + 1) ≡ route 1 (r .kind) outcome
         → ((w : ℕ) → move c (atPlace r n) w ≡ trying new t seeing (outcome + 1))
-        → Tries n c r new t (leads 0) (failing (anchorRead c r))
-    unfolding anchorRead
-    replacing new t first on moves =
-        rw on at (changing new t seeing (outcome + 1) first (rw on read-quiet) moves)
+        → Tries n c r new t (leads 0) (found n)
+    replacing new t first on moves = changing new t seeing (outcome + 1) first (rw on read-quiet) moves
 
-  pub step2 : (new : ℕ) → new ≡ new2 r → Tries 2 c r new r (route 2 (r .kind) 0) (failing (anchorRead c r))
+  pub step2 : (new : ℕ) → new ≡ new2 r → Tries 2 c r new r (route 2 (r .kind) 0) (found 2)
   unfolding move at2 sideOf route pushRoute popRoute
   step2 new e =
       replacing 2 (record { needs = refl; meets = refl; heads = refl; nexts = refl }) new r
@@ -136,27 +138,27 @@ module _ (c : Control) (r : Call) where
   abbrev newPop : ℕ
   newPop = packAnchor (facing (r .side) (r .seen / 2 ^ 32 + 1) (anchorOf (r .seen) .status) (r .neighbour) (far (r .side) (anchorOf (r .seen))))
 
-  push4 : eqb (r .kind) 0 ≡ true → Tries 4 c r newPush (withSeen r newPush 1) (route 4 (r .kind) 0) (failing (anchorRead c r))
+  push4 : eqb (r .kind) 0 ≡ true → Tries 4 c r newPush (withSeen r newPush 1) (route 4 (r .kind) 0) (found 4)
   unfolding move at4 model-places.new4 sideOf route pushRoute popRoute
   push4 k =
       replacing 4 (record { needs = refl; meets = refl; heads = refl; nexts = refl }) newPush (withSeen r newPush 1)
       (kinds Quiet 4 (r .kind) 0 refl refl) (reads-on (r .kind) outcome .1) (λ w. rw k)
 
-  pop4 : eqb (r .kind) 0 ≡ false → Tries 4 c r newPop r (route 4 (r .kind) 0) (failing (anchorRead c r))
+  pop4 : eqb (r .kind) 0 ≡ false → Tries 4 c r newPop r (route 4 (r .kind) 0) (found 4)
   unfolding move at4 model-places.new4 sideOf route pushRoute popRoute
   pop4 k =
       replacing 4 (record { needs = refl; meets = refl; heads = refl; nexts = refl }) newPop r
       (kinds Quiet 4 (r .kind) 0 refl refl) (reads-on (r .kind) outcome .1) (λ w. rw k)
 
-  pub step4 : (new : ℕ) → new ≡ new4 r → Tries 4 c r new (remembered r new) (route 4 (r .kind) 0) (failing (anchorRead c r))
+  pub step4 : (new : ℕ) → new ≡ new4 r → Tries 4 c r new (remembered r new) (route 4 (r .kind) 0) (found 4)
   unfolding remembered
   step4 new e = split (eqb (r .kind) 0) (λ k. rw (e, k) (push4 k)) (λ k. rw (e, k) (pop4 k))
 
   -- A failed change doesn't depend on the word it would have made.
-  pub failed2 : (c .anchor ≡ r .seen → ⊥) → Steps 2 c r (failing (anchorRead c r))
+  pub failed2 : (c .anchor ≡ r .seen → ⊥) → Steps 2 c r (found 2)
   failed2 h = fails (step2 _ refl) h
 
-  pub failed4 : (c .anchor ≡ r .seen → ⊥) → Steps 4 c r (failing (anchorRead c r))
+  pub failed4 : (c .anchor ≡ r .seen → ⊥) → Steps 4 c r (found 4)
   failed4 h = split (eqb (r .kind) 0) (λ k. fails (push4 k) h) (λ k. fails (pop4 k) h)
 
   pub step6 : Steps 6 c r (compared c r (route 6 (r .kind) 0) (route 6 (r .kind) 1))

@@ -23,7 +23,10 @@ ghost use Rattle.places.specs.Arm.{Steps, StepsOnLinks, StepsOnMarks};
 pub fn at1(c: Control, r: Call) -> Transition
     ensures { λ m. ⌜ Steps 1 c r m ⌝ }
 {
-    step::reads_anchor(c, r)
+    let a = Anchor::unpack(c.anchor);
+    let n = next::after_reading(1, false, r.kind, a);
+    let t = step::sees(r, c.anchor);
+    step::settles(c, t, n, step::NO_ENTRY)
 }
 
 /// Place 2: the change, tried. A failed one is counted, takes the word found for its reading, and goes on as place 1.
@@ -33,7 +36,10 @@ pub fn at2(c: Control, r: Call) -> Transition
     if c.anchor == r.seen {
         return change2(c, r);
     }
-    let m = step::reads_anchor(c, r);
+    let a = Anchor::unpack(c.anchor);
+    let n = next::after_reading(2, true, r.kind, a);
+    let t = step::sees(r, c.anchor);
+    let m = step::settles(c, t, n, step::NO_ENTRY);
     step::fails(m)
 }
 
@@ -79,7 +85,10 @@ pub fn at4(c: Control, r: Call) -> Transition
     if c.anchor == r.seen {
         return change4(c, r);
     }
-    let m = step::reads_anchor(c, r);
+    let a = Anchor::unpack(c.anchor);
+    let n = next::after_reading(4, true, r.kind, a);
+    let t = step::sees(r, c.anchor);
+    let m = step::settles(c, t, n, step::NO_ENTRY);
     step::fails(m)
 }
 

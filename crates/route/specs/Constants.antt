@@ -1,13 +1,16 @@
--- What the constant table of next places holds.
-use mathlib.Core.Bool.{Bool, _&&_, _||_, not, cond}
+-- What the constant table of next places holds: the column next, with a row a place of five branches for a push and five for a pop.
+use mathlib.Core.Bool.{Bool, cond}
+use mathlib.Core.List.{List, [], _∷_}
 use Prim.Native.Nat.{ℕ}
-use lib.Dec.{eqb}
-use Rattle.model.specs.Route.{route, done}
+use Rattle.model.specs.Route.{route, failedReading}
 
--- A failed change at 2 or 4: it goes on as place 1 would. (Document 02: #106.)
-abbrev pub asPlace1 : ℕ → ℕ → Bool
-asPlace1 place branch = (eqb place 2 || eqb place 4) && not (eqb branch done)
+abbrev pub branchesOf : ℕ → ℕ → List ℕ
+branchesOf place kind =
+    route place kind 0 ∷ route place kind 1 ∷ route place kind 2 ∷ route place kind 3 ∷ route place kind 4 ∷ []
 
--- The column next; 0, no place, for those branches, which are place 1's.
-abbrev pub tabled : ℕ → ℕ → ℕ → ℕ
-tabled place kind branch = cond (asPlace1 place branch) 0 (route place kind branch)
+abbrev pub rowOf : ℕ → List (List ℕ)
+rowOf place = branchesOf place 0 ∷ branchesOf place 1 ∷ []
+
+-- The branch of a reading: at place 1, or where a change failed at 2 or 4. (Document 02: #106.)
+abbrev pub branchOf : Bool → ℕ → ℕ
+branchOf failed branch = cond failed (failedReading branch) branch

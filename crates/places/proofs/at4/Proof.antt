@@ -1,4 +1,5 @@
 -- Anchor is as read, and the change is `change4`; or it is not, and the change has failed.
+use borrow.Author.Needs.{needs}
 use Rattle.places.proofs.Anchors.{failed4}
 use Rattle.places.proofs.at4.Statement.{statement}
 use Rattle.places.proofs.at4.Tie as tie
@@ -8,10 +9,22 @@ returns c = c .change4 .ensures (c .before .if1 .taken)
 
 returns-2 : tie.Need-returns-2
 returns-2 c =
-    let read = c .before in
-    let other = read .before in
+    let gone = c .before in
+    let seen = gone .before in
+    let way = seen .before in
+    let word = way .before in
+    let other = word .before in
     let a = other .before .before .before .args in
-    rw (c .fails .ensures, read .reads-anchor .ensures) (failed4 (a .c) (a .r) (other .if1 .left))
+    rw (c .fails .ensures, gone .settles .ensures, seen .sees .ensures, way .after-reading .ensures, word .unpack .ensures)
+    (failed4 (a .c) (a .r) (other .if1 .left))
 
 pub at4-spec : {M : Type 1} → statement M
-at4-spec = tie.close (tie.spec (λ _ _. tt) returns (λ _ _. tt) (λ _ _. tt) returns-2)
+at4-spec =
+    tie.close
+    (tie.spec (λ _ _. tt) returns
+    (λ _ _. tt)
+    (λ c κs. search needs)
+    (λ _ _. tt)
+    (λ _ _. tt)
+    (λ _ _. tt)
+    returns-2)

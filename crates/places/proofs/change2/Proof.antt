@@ -3,8 +3,7 @@ use mathlib.Core.Path.{sym, _∙_}
 use borrow.Author.Tests.{not-true, not-false}
 use borrow.Author.Needs.{needs}
 use Rattle.model.specs.Route.{route}
-use Rattle.decide.specs.Ending.{anchorRead, failing}
-use Rattle.places.proofs.Anchors.{Tries, denies, makes, step2}
+use Rattle.places.proofs.Anchors.{Tries, found, denies, makes, step2}
 use Rattle.places.proofs.change2.Statement.{statement}
 use Rattle.places.proofs.change2.Tie as tie
 
@@ -12,7 +11,7 @@ module _ (b : tie.After-new2) where
   abbrev a : tie.Start
   a = b .before
 
-  tried : Tries 2 (a .args .c) (a .args .r) (b .new2 .result) (a .args .r) (route 2 (a .args .r .kind) 0) (failing (anchorRead (a .args .c) (a .args .r)))
+  tried : Tries 2 (a .args .c) (a .args .r) (b .new2 .result) (a .args .r) (route 2 (a .args .r .kind) 0) (found (a .args .c) (a .args .r) 2)
   tried = step2 (a .args .c) (a .args .r) (b .new2 .result) (b .new2 .ensures)
 
 returns : tie.Need-returns

@@ -3,8 +3,8 @@ use mathlib.Core.Path.{sym, _∙_}
 use borrow.Author.Tests.{not-true, not-false}
 use borrow.Author.Needs.{needs}
 use Rattle.model.specs.Route.{route}
-use Rattle.decide.specs.Ending.{anchorRead, failing, remembered}
-use Rattle.places.proofs.Anchors.{Tries, denies, makes, step4}
+use Rattle.decide.specs.Ending.{remembered}
+use Rattle.places.proofs.Anchors.{Tries, found, denies, makes, step4}
 use Rattle.places.proofs.change4.Statement.{statement}
 use Rattle.places.proofs.change4.Tie as tie
 
@@ -14,7 +14,7 @@ module _ (b : tie.After-new4) where
 
   tried :
       (let new = b .new4 .result in
-      Tries 4 (a .args .c) (a .args .r) new (remembered (a .args .r) new) (route 4 (a .args .r .kind) 0) (failing (anchorRead (a .args .c) (a .args .r))))
+      Tries 4 (a .args .c) (a .args .r) new (remembered (a .args .r) new) (route 4 (a .args .r .kind) 0) (found (a .args .c) (a .args .r) 4))
   tried = step4 (a .args .c) (a .args .r) (b .new4 .result) (b .new4 .ensures)
 
 returns : tie.Need-returns

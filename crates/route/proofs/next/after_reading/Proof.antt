@@ -1,4 +1,4 @@
--- Each return is one outcome of the model's `reading`: the tests that led there rewrite it.
+-- Each return is one outcome of the model's `reading`: the tests that led there rewrite it, and its branch is the one picked.
 use mathlib.Core.Path.{_≡_, refl, sym, _∙_}
 use mathlib.Core.Bool.{Bool, true, false, _&&_, and-false}
 use mathlib.Core.Logic.{⊎-elim}
@@ -15,17 +15,19 @@ use Rattle.route.proofs.next.after_reading.Tie as tie
 returns : tie.Need-returns
 unfolding reading
 returns c =
-    let none = c .before in
+    let pick = c .before in
+    let none = pick .before in
     let same = none .before .before in
-    simp (eq-eqb _ _ (none .if2 .taken), eq-eqb _ _ (sym (same .if1 .taken) ∙ none .if2 .taken)) (c .next .ensures)
+    simp (eq-eqb _ _ (none .if2 .taken), eq-eqb _ _ (sym (same .if1 .taken) ∙ none .if2 .taken)) (rw (pick .either .ensures) at (c .next .ensures))
 
 returns-2 : tie.Need-returns-2
 unfolding reading
 returns-2 c =
-    let pop = c .before in
+    let pick = c .before in
+    let pop = pick .before in
     let some = pop .before in
     let same = some .before .before in
-    simp (ne-eqb _ _ (some .if2 .left), eq-eqb _ _ (pop .if3 .taken), eq-eqb _ _ (same .if1 .taken)) (c .next2 .ensures)
+    simp (ne-eqb _ _ (some .if2 .left), eq-eqb _ _ (pop .if3 .taken), eq-eqb _ _ (same .if1 .taken)) (rw (pick .either2 .ensures) at (c .next2 .ensures))
 
 -- Neither empty, nor a pop's only label: of equal ends, or of different ones.
 no-label : (kind : ℕ) (a : Anchor) → (a .left ≡ 0 → ⊥) → (kind ≡ 1 → ⊥) → (isEmpty a ≡ false) × ((eqb kind 1 && eqb (a .left) (a .right)) ≡ false)
@@ -48,23 +50,29 @@ several j =
 returns-3 : tie.Need-returns-3
 unfolding reading
 returns-3 c =
-    let n = several (c .before .before .before) in
-    simp (eq-eqb _ _ (c .before .if4 .taken), n .0, n .1) (c .next3 .ensures)
+    let pick = c .before in
+    let n = several (pick .before .before .before) in
+    simp (eq-eqb _ _ (pick .before .if4 .taken), n .0, n .1) (rw (pick .either3 .ensures) at (c .next3 .ensures))
 
 returns-4 : tie.Need-returns-4
 unfolding reading
 returns-4 c =
-    let n = several (c .before .before .before) in
-    simp (ne-eqb _ _ (c .before .if4 .left), n .0, n .1) (c .next4 .ensures)
+    let pick = c .before in
+    let n = several (pick .before .before .before) in
+    simp (ne-eqb _ _ (pick .before .if4 .left), n .0, n .1) (rw (pick .either4 .ensures) at (c .next4 .ensures))
 
 pub after-reading-spec : {M : Type 1} → statement M
 after-reading-spec =
     tie.close
     (tie.spec
     (λ c κs. search needs)
+    (λ c κs. search needs)
     returns
     (λ c κs. search needs)
+    (λ c κs. search needs)
     returns-2
+    (λ c κs. search needs)
+    (λ c κs. search needs)
     (λ c κs. search needs)
     (λ c κs. search needs)
     returns-3
