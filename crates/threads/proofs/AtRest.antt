@@ -1,32 +1,28 @@
 -- When no thread is in a call the memory is the list's queue, mark by mark; so the invariant holds of it, and plain starts and steps go on.
-use mathlib.Core.Path.{_≡_, ap, fun-ext, refl, sym, subst, _∙_}
-use mathlib.Core.Bool.{cond}
-use mathlib.Core.List.{List, [], _∷_, _++_}
-use Prim.Native.Nat.{ℕ, suc}
+use mathlib.Core.Path.{_≡_, ap, fun-ext, sym, subst, _∙_}
+use mathlib.Core.List.{List, _++_}
+use Prim.Native.Nat.{ℕ}
 use lib.Seq.{ext-getD}
-use Rattle.model.specs.Tables.{Queue, marked, taskAt, unused, withMarks}
-use Rattle.model.specs.Calls.{openAs}
-use Rattle.model.specs.History.{Event, Ledger, Request, final, ledger, ledgerFrom, note, run}
-use Rattle.model.specs.Walk.{entries}
+use Rattle.model.specs.declared.Control.{Control}
+use Rattle.model.specs.Tables.{Queue, Tables, marked, taskAt, unused, withMarks}
+use Rattle.model.specs.History.{Event, Ledger, final, ledger, run}
+use Rattle.model.specs.Lists.{All}
 use Rattle.model.proofs.bridge.View.{stateOf, view}
 use Rattle.model.proofs.machine.Machine.{Shared, State}
 use Rattle.model.proofs.invariant.{Invariant.Inv, Tags.Tags}
-use Rattle.model.proofs.ledger.EveryOperation.{run-good}
-use Rattle.model.proofs.ledger.Lawful.{all-lawful}
 use Rattle.model.proofs.ledger.Matched.{Matched}
-use Rattle.model.proofs.ledger.Opened.{nobody}
-use Rattle.model.proofs.ledger.Waiting.{waits}
 use Rattle.model.proofs.unsound.{Runs.run-safe, Safe.Safe}
-use Rattle.threads_model.specs.Turns.{runTurns, finalTurns}
+use Rattle.threads_model.specs.Turns.{finalTurns}
 use Rattle.threads_model.specs.Instructions.{Hand, free}
-use Rattle.threads_model.specs.Crew.{Crew, allFree, goOn, turns}
-use Rattle.threads.specs.Promises.{OwesLabel, OwesMark, recordOf}
-use Rattle.threads.specs.Consequences.{GoesOn, InstructionsAtRest, SameQueue}
+use Rattle.threads_model.specs.Crew.{Act, Crew, Known, allFree, goOn, turns}
+use Rattle.threads.specs.Promises.{OwesLabel, OwesMark, recordOf, seenOf}
+use Rattle.threads.specs.Consequences.{InstructionsAtRest, Rest, RestsWell, SameQueue}
 use Rattle.threads.proofs.follow.Overlay.{overlay}
 use Rattle.threads.proofs.follow.Relation.{Sim}
-use Rattle.threads.proofs.lists.EarlyPush.{after, turns-good}
-use Rattle.threads.proofs.Run.{runs-on, start-good}
-use Rattle.threads.proofs.Memory.{over-fine}
+use Rattle.threads.proofs.lists.EarlyPush.{after}
+use Rattle.threads.proofs.Run.{runs-on}
+use Rattle.threads.proofs.Kept.{Kept, after-threads, kept-plain, kept-turns, lawful, waiting}
+use Rattle.threads.proofs.Memory.{over-fine, same-fits}
 
 -- Nobody owes anything.
 rests : (tasks pooled slots : ℕ) (m : Crew) (q : Queue) → Sim tasks pooled slots m q → ((t : ℕ) → m .hands t ≡ free) → SameQueue (m .queue) q
@@ -79,43 +75,59 @@ module _ (q : Queue) (k : List ℕ) (same : (x : ℕ) → marked k x ≡ marked 
   unfolding stateOf view
   safe-same s = record { control = s .control; fine = s .fine; extra = s .extra; tags = subst Tags (sym view-same) (s .tags); bound = s .bound; head = s .head }
 
--- A ledger goes on over more events.
-ledger-more : (es fs : List Event) (n : ℕ) (l : Ledger) → ledgerFrom n l (es ++ fs) ≡ ledgerFrom (after n es) (ledgerFrom n l es) fs
-unfolding ledgerFrom after
-ledger-more [] fs n l = refl
-ledger-more (e ∷ es) fs n l = ledger-more es fs (suc n) (note n e (e .outcome) l)
+-- At rest what is kept of the list's queue is kept of the memory.
+module _ (tasks pooled slots : ℕ) (past : List Event) (q : Queue) (k : Kept tasks pooled slots past q) (l : List Act) (h : All (Known tasks) l)
+    (idle : Rest pooled slots q l) where
+  abbrev m : Crew
+  m = goOn pooled slots (allFree q) l
 
-goes-on : (es : List Event) (m : Queue) → Matched (after 1 es) m (ledger es) → Safe m → (os : List Request)
-    → GoesOn (run m os) (final m os) (ledger (es ++ run m os))
-unfolding stateOf
-goes-on es m g s os =
-    let z = run-good os (after 1 es) m (ledger es) g in
-    let end = final m os in
-    let more = sym (ledger-more es (run m os) 1 (record { deque = []; calls = [] })) in
-    let l = ledgerFrom (after 1 es) (ledger es) (run m os) in
-    subst (λ (l : Ledger). GoesOn (run m os) end l) more (record {
-      calls = all-lawful (z .0) end l (z .1) (l .calls) (z .1 .tracks);
-      waits = waits (end .tables) (z .1 .links) (z .1 .inv .owner) (z .1 .book .queue) (z .1 .inv .whole) ∙ ap entries (z .1 .deque);
-      never = run-safe os (after 1 es) m (ledger es) g s .0 .operations;
-    })
+  abbrev end : Queue
+  end = finalTurns q (turns pooled slots (allFree q) l)
+
+  abbrev es : List Event
+  es = seenOf past pooled slots q l
+
+  sim : Sim tasks pooled slots m end
+  sim = runs-on tasks pooled slots q (k .good) l h .sim
+
+  same : SameQueue (m .queue) end
+  same = rests tasks pooled slots m end sim idle
+
+  pub kept-rest : Kept tasks pooled slots es (m .queue)
+  kept-rest =
+      let z = kept-turns tasks pooled slots past q k l h in
+      let ms = m .queue .tables .marks in
+      let is : record { tables = withMarks (end .tables) ms; records = end .records } ≡ m .queue =
+      λ i. record { tables = sym (same .tables) i; records = sym (same .records) i } in
+      let g = subst (λ (x : Queue). Matched (after 1 es) x (ledger es)) is (matched-same end ms (same .marks) (after 1 es) (ledger es) (z .matched)) in
+      let control = ap (λ (x : Tables). x .control) (same .tables) in
+      record {
+        matched = g;
+        good = record {
+          position = after 1 es;
+          ledger = ledger es;
+          matched = g;
+          safe = subst Safe is (safe-same end ms (same .marks) (z .good .safe));
+          long = same-fits tasks pooled slots m end sim (z .good) ∙ z .good .long;
+          count = ap (λ (c : Control). c .tasks) control ∙ z .good .count;
+          pool = ap (λ (c : Control). c .pooled) control ∙ z .good .pool;
+          size = ap (λ (c : Control). c .slots) control ∙ z .good .size;
+        };
+      }
+
+  rests-well : RestsWell past pooled slots q l
+  rests-well = record {
+    same = same;
+    goes-on = λ os.
+        let g = kept-rest in
+        let fs = es ++ run (m .queue) os in
+        let z = kept-plain tasks pooled slots es (m .queue) g os in
+        record {
+          calls = lawful tasks pooled slots fs (final (m .queue) os) z;
+          waits = waiting tasks pooled slots fs (final (m .queue) os) z;
+          never = run-safe os (after 1 es) (m .queue) (ledger es) (g .matched) (g .good .safe) .0 .operations;
+        };
+  }
 
 pub instructions-at-rest : InstructionsAtRest
-unfolding ledgerFrom
-instructions-at-rest pooled q tasks slots tag e l h idle =
-    let k : ℕ = cond pooled 1 0 in
-    let o = openAs pooled q tasks slots tag .queue in
-    let m = goOn k slots (allFree o) l in
-    let end = finalTurns o (turns k slots (allFree o) l) in
-    let es = runTurns o (turns k slots (allFree o) l) in
-    let z = runs-on pooled q tasks slots tag e l h in
-    let same = rests tasks k slots m end (z .sim) idle in
-    let g = turns-good (turns k slots (allFree o) l) 1 o nobody (start-good pooled q tasks slots tag e) in
-    let ms = m .queue .tables .marks in
-    let is : record { tables = withMarks (end .tables) ms; records = end .records } ≡ m .queue =
-    λ i. record { tables = sym (same .tables) i; records = sym (same .records) i } in
-    record {
-      same = same;
-      goes-on = goes-on es (m .queue)
-          (subst (λ (x : Queue). Matched (after 1 es) x (ledger es)) is (matched-same end ms (same .marks) (after 1 es) (ledger es) g))
-          (subst Safe is (safe-same end ms (same .marks) (z .good .safe)));
-    }
+instructions-at-rest = after-threads (λ past pooled slots q l. Rest pooled slots q l → RestsWell past pooled slots q l) rests-well
