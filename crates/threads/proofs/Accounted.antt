@@ -9,7 +9,8 @@ use Rattle.threads_model.specs.Crew.{allFree, turns}
 use Rattle.threads.specs.Promises.{seenOf}
 use Rattle.threads.specs.Consequences.{InstructionsAccounted, LabelsCounted}
 use Rattle.threads.proofs.lists.EarlyPush.{after}
-use Rattle.threads.proofs.Kept.{after-threads, kept-turns, lawful, waiting}
+use Rattle.threads.proofs.Kept.{kept-turns, lawful, waiting}
+use Rattle.threads.proofs.Since.{after-threads}
 
 pub instructions-accounted : InstructionsAccounted
 instructions-accounted = after-threads LabelsCounted (λ tasks pooled slots past q k l h.

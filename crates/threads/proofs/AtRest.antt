@@ -1,133 +1,35 @@
--- When no thread is in a call the memory is the list's queue, mark by mark; so the invariant holds of it, and plain starts and steps go on.
-use mathlib.Core.Path.{_≡_, ap, fun-ext, sym, subst, _∙_}
+-- When no thread is in a call plain starts and steps go on.
 use mathlib.Core.List.{List, _++_}
 use Prim.Native.Nat.{ℕ}
-use lib.Seq.{ext-getD}
-use Rattle.model.specs.declared.Control.{Control}
-use Rattle.model.specs.Tables.{Queue, Tables, marked, taskAt, unused, withMarks}
-use Rattle.model.specs.History.{Event, Ledger, final, ledger, run}
+use Rattle.model.specs.Tables.{Queue}
+use Rattle.model.specs.History.{Event, final, ledger, run}
 use Rattle.model.specs.Lists.{All}
-use Rattle.model.proofs.bridge.View.{stateOf, view}
-use Rattle.model.proofs.machine.Machine.{Shared, State}
-use Rattle.model.proofs.invariant.{Invariant.Inv, Tags.Tags}
-use Rattle.model.proofs.ledger.Matched.{Matched}
-use Rattle.model.proofs.unsound.{Runs.run-safe, Safe.Safe}
-use Rattle.threads_model.specs.Turns.{finalTurns}
-use Rattle.threads_model.specs.Instructions.{Hand, free}
-use Rattle.threads_model.specs.Crew.{Act, Crew, Known, allFree, goOn, turns}
-use Rattle.threads.specs.Promises.{OwesLabel, OwesMark, recordOf, seenOf}
-use Rattle.threads.specs.Consequences.{InstructionsAtRest, Rest, RestsWell, SameQueue}
-use Rattle.threads.proofs.follow.Overlay.{overlay}
-use Rattle.threads.proofs.follow.Relation.{Sim}
+use Rattle.model.proofs.unsound.Runs.{run-safe}
+use Rattle.threads_model.specs.Crew.{Act, Known}
+use Rattle.threads.specs.Promises.{Rest, leftBy, seenOf}
+use Rattle.threads.specs.Consequences.{InstructionsAtRest, RestsWell}
 use Rattle.threads.proofs.lists.EarlyPush.{after}
-use Rattle.threads.proofs.Run.{runs-on}
-use Rattle.threads.proofs.Kept.{Kept, after-threads, kept-plain, kept-turns, lawful, waiting}
-use Rattle.threads.proofs.Memory.{over-fine, same-fits}
+use Rattle.threads.proofs.Kept.{Kept, kept-plain, lawful, waiting}
+use Rattle.threads.proofs.Resting.{kept-rest, same}
+use Rattle.threads.proofs.Since.{after-threads}
 
--- Nobody owes anything.
-rests : (tasks pooled slots : ℕ) (m : Crew) (q : Queue) → Sim tasks pooled slots m q → ((t : ℕ) → m .hands t ≡ free) → SameQueue (m .queue) q
-rests tasks pooled slots m q f idle =
-    let T = m .queue .tables in
-    let G = q .tables in
-    let labels : T .labels ≡ G .labels =
-    ext-getD 0 (T .labels) (G .labels) (f .labels-long) (λ x _. f .labels x (λ t o. subst (λ (k : Hand). OwesLabel k x) (idle t) o)) in
+rests-well : (tasks pooled slots : ℕ) (past : List Event) (q : Queue) → Kept tasks pooled slots past q → (l : List Act) → All (Known tasks) l
+    → Rest pooled slots q l → RestsWell past pooled slots q l
+rests-well tasks pooled slots past q k l h idle =
+    let m = leftBy pooled slots q l in
+    let es = seenOf past pooled slots q l in
+    let g = kept-rest tasks pooled slots past q k l h idle in
     record {
-      tables = f .rest ∙ ap (λ (l : List ℕ). overlay G l (T .marks)) labels;
-      marks = λ x. f .marks x (λ t o. subst (λ (k : Hand). OwesMark k x) (idle t) o);
-      records = ext-getD unused (m .queue .records) (q .records) (f .long)
-          (λ t _. subst (λ (k : Hand). recordOf k (taskAt (m .queue) t) ≡ taskAt q t) (idle t) (f .records t));
+      same = same tasks pooled slots past q k l h idle;
+      goes-on = λ os.
+          let fs = es ++ run m os in
+          let z = kept-plain tasks pooled slots es m g os in
+          record {
+            calls = lawful tasks pooled slots fs (final m os) z;
+            waits = waiting tasks pooled slots fs (final m os) z;
+            never = run-safe os (after 1 es) m (ledger es) (g .matched) (g .good .safe) .0 .operations;
+          };
     }
-
--- A queue whose mark words are others, with the same marks: the invariant sees the marks alone.
-module _ (q : Queue) (k : List ℕ) (same : (x : ℕ) → marked k x ≡ marked (q .tables .marks) x) where
-  abbrev p : Queue
-  p = record { tables = withMarks (q .tables) k; records = q .records }
-
-  view-same : view (withMarks (q .tables) k) ≡ view (q .tables)
-  unfolding view
-  view-same = let v = view (q .tables) in λ i. record {
-    slots = v .slots;
-    pooled = v .pooled;
-    anchor = v .anchor;
-    head = v .head;
-    link = v .link;
-    next = v .next;
-    label = v .label;
-    mark = fun-ext same i;
-  }
-
-  state-same : stateOf p ≡ stateOf q
-  unfolding stateOf
-  state-same = ap (λ (s : Shared). record { shared = s; task = stateOf q .task }) view-same
-
-  matched-same : (n : ℕ) (l : Ledger) → Matched n q l → Matched n p l
-  unfolding stateOf
-  matched-same n l g = record {
-    book = g .book;
-    inv = subst (λ (s : State). Inv (record { state = s; book = g .book })) (sym state-same) (g .inv);
-    links = over-fine (q .tables) (q .tables .labels) k (g .links);
-    deque = g .deque;
-    tracks = g .tracks;
-    busy = g .busy;
-  }
-
-  safe-same : Safe q → Safe p
-  unfolding stateOf view
-  safe-same s = record { control = s .control; fine = s .fine; extra = s .extra; tags = subst Tags (sym view-same) (s .tags); bound = s .bound; head = s .head }
-
--- At rest what is kept of the list's queue is kept of the memory.
-module _ (tasks pooled slots : ℕ) (past : List Event) (q : Queue) (k : Kept tasks pooled slots past q) (l : List Act) (h : All (Known tasks) l)
-    (idle : Rest pooled slots q l) where
-  abbrev m : Crew
-  m = goOn pooled slots (allFree q) l
-
-  abbrev end : Queue
-  end = finalTurns q (turns pooled slots (allFree q) l)
-
-  abbrev es : List Event
-  es = seenOf past pooled slots q l
-
-  sim : Sim tasks pooled slots m end
-  sim = runs-on tasks pooled slots q (k .good) l h .sim
-
-  same : SameQueue (m .queue) end
-  same = rests tasks pooled slots m end sim idle
-
-  pub kept-rest : Kept tasks pooled slots es (m .queue)
-  kept-rest =
-      let z = kept-turns tasks pooled slots past q k l h in
-      let ms = m .queue .tables .marks in
-      let is : record { tables = withMarks (end .tables) ms; records = end .records } ≡ m .queue =
-      λ i. record { tables = sym (same .tables) i; records = sym (same .records) i } in
-      let g = subst (λ (x : Queue). Matched (after 1 es) x (ledger es)) is (matched-same end ms (same .marks) (after 1 es) (ledger es) (z .matched)) in
-      let control = ap (λ (x : Tables). x .control) (same .tables) in
-      record {
-        matched = g;
-        good = record {
-          position = after 1 es;
-          ledger = ledger es;
-          matched = g;
-          safe = subst Safe is (safe-same end ms (same .marks) (z .good .safe));
-          long = same-fits tasks pooled slots m end sim (z .good) ∙ z .good .long;
-          count = ap (λ (c : Control). c .tasks) control ∙ z .good .count;
-          pool = ap (λ (c : Control). c .pooled) control ∙ z .good .pool;
-          size = ap (λ (c : Control). c .slots) control ∙ z .good .size;
-        };
-      }
-
-  rests-well : RestsWell past pooled slots q l
-  rests-well = record {
-    same = same;
-    goes-on = λ os.
-        let g = kept-rest in
-        let fs = es ++ run (m .queue) os in
-        let z = kept-plain tasks pooled slots es (m .queue) g os in
-        record {
-          calls = lawful tasks pooled slots fs (final (m .queue) os) z;
-          waits = waiting tasks pooled slots fs (final (m .queue) os) z;
-          never = run-safe os (after 1 es) (m .queue) (ledger es) (g .matched) (g .good .safe) .0 .operations;
-        };
-  }
 
 pub instructions-at-rest : InstructionsAtRest
 instructions-at-rest = after-threads (λ past pooled slots q l. Rest pooled slots q l → RestsWell past pooled slots q l) rests-well

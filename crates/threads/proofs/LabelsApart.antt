@@ -6,7 +6,7 @@ use Rattle.threads_model.specs.Crew.{allFree, goOn, turns}
 use Rattle.threads.specs.Promises.{InstructionsLabelsApart, LabelsApart}
 use Rattle.threads.proofs.follow.Labels.{apart}
 use Rattle.threads.proofs.Run.{runs-on}
-use Rattle.threads.proofs.Kept.{after-threads}
+use Rattle.threads.proofs.Since.{after-threads}
 
 pub instructions-labels-apart : InstructionsLabelsApart
 instructions-labels-apart = after-threads (λ past. LabelsApart) (λ tasks pooled slots past q k l h t u lt lu.

@@ -1,18 +1,14 @@
 -- At every moment the memory is a queue on which a call that walks may rely: nobody owes the label of a slot that waits.
 use mathlib.Core.Path.{_≡_, ap, sym, subst, _∙_}
-use mathlib.Core.Bool.{_&&_, _||_, not}
 use mathlib.Core.List.{List, [], _∷_}
-use Prim.Native.Nat.{ℕ, _/_}
-use lib.Dec.{leb, ltb}
-use lib.ListN.{length, getD}
+use Prim.Native.Nat.{ℕ}
+use lib.ListN.{getD}
 use Rattle.model.specs.declared.Entry.{Entry}
-use Rattle.model.specs.Tables.{Tables, Queue, isPooled}
-use Rattle.model.specs.Sound.{controlSound, rowsFit}
+use Rattle.model.specs.Tables.{Tables, Queue}
+use Rattle.model.specs.Sound.{controlSound}
 use Rattle.model.specs.Standing.{Standing}
 use Rattle.model.specs.Walk.{contents, entries}
-use Rattle.model.specs.Lists.{All, every}
-use Rattle.model.proofs.laws.Sizes as sizes
-use Rattle.model.proofs.bridge.Facts.{LinksFine}
+use Rattle.model.specs.Lists.{All}
 use Rattle.model.proofs.bridge.View.{stateOf, view}
 use Rattle.model.proofs.invariant.Owners.{Owner, Intact, queued}
 use Rattle.model.proofs.lists.Slots.{slots as slotsOf}
@@ -26,11 +22,9 @@ use Rattle.threads.proofs.follow.Overlay.{overlay}
 use Rattle.threads.proofs.follow.Good.{Good}
 use Rattle.threads.proofs.follow.Relation.{Sim, owes-label}
 use Rattle.threads.proofs.Run.{runs-on}
-use Rattle.threads.proofs.Kept.{after-threads, kept-turns, with-ledger}
-
--- Links and nexts are what they are, whatever the labels and marks.
-pub over-fine : (q : Tables) (l k : List ℕ) → LinksFine q → LinksFine (overlay q l k)
-over-fine q l k f = record { spare = f .spare; tag = f .tag; slot = f .slot; next = f .next; head = f .head }
+use Rattle.threads.proofs.Kept.{kept-turns, with-ledger}
+use Rattle.threads.proofs.Resting.{over-fine, same-fits}
+use Rattle.threads.proofs.Since.{after-threads}
 
 over-intact : (q : Tables) (l k : List ℕ) (h : ℕ → Owner) (d : List Entry) → Intact (view q) h d
     → All (λ (e : Entry). getD l (e .slot) 0 ≡ e .label) d → Intact (view (overlay q l k)) h d
@@ -57,15 +51,6 @@ module _ (tasks pooled slots : ℕ) (m : Crew) (q : Queue) (f : Sim tasks pooled
     same-labels d (o .1) (e .1),
   )
 
-  pub same-fits : sizes.fits (m .queue) ≡ sizes.fits q
-  unfolding rowsFit
-  same-fits =
-      ap (λ (X : Tables). sizes.fits (record { tables = X; records = m .queue .records })) (f .rest)
-      ∙ (λ i. every (ltb (G .control .slots) (length (G .lefts)) ∷ ltb (G .control .slots) (length (G .rights))
-      ∷ ltb (G .control .slots) (f .labels-long i) ∷ ltb (G .control .slots / 64) (f .marks-long i)
-      ∷ (not (isPooled (G .control)) || ltb (G .control .slots) (length (G .next))) ∷ [])
-      && leb (G .control .tasks) (f .long i))
-
   pub memory-stands : Standing (m .queue) (g .ledger .deque)
   unfolding stateOf view
   memory-stands =
@@ -73,7 +58,7 @@ module _ (tasks pooled slots : ℕ) (m : Crew) (q : Queue) (f : Sim tasks pooled
       let d = g .matched .book .queue in
       record {
         control = ap (λ (X : Tables). controlSound (X .control)) (f .rest) ∙ g .safe .control;
-        long = same-fits ∙ g .long;
+        long = same-fits tasks pooled slots m q f ∙ g .long;
         walk =
             subst (λ (X : Tables). contents X ≡ entries d) (sym (f .rest))
             (waits (overlay G (T .labels) (T .marks)) (over-fine G (T .labels) (T .marks) (g .matched .links)) h d

@@ -23,7 +23,7 @@ use Rattle.threads.proofs.follow.Starting.{namedOwn, first-pop, first-p
 use Rattle.threads.proofs.follow.OwnLink.{AllRead, Reads, next-reads}
 use Rattle.threads.proofs.follow.Good.{Good}
 use Rattle.threads.proofs.Run.{runs-on}
-use Rattle.threads.proofs.Kept.{after-threads}
+use Rattle.threads.proofs.Since.{after-threads}
 use Rattle.threads.proofs.RealTime.{first-known, go-more}
 
 -- How many of its own instructions a thread has before it at most.

@@ -10,7 +10,7 @@ use Rattle.threads.specs.Consequences.{InstructionsRealTime, RealTime}
 use Rattle.threads.proofs.lists.Append.{assoc, outcomes-append}
 use Rattle.threads.proofs.follow.Good.{Good}
 use Rattle.threads.proofs.Run.{runs-on}
-use Rattle.threads.proofs.Kept.{after-threads}
+use Rattle.threads.proofs.Since.{after-threads}
 
 append-same : (a b c : List Turn) → (a ++ b) ++ c ≡ a ++ (b ++ c)
 append-same [] b c = refl

@@ -31,7 +31,7 @@ use Rattle.threads_model.specs.Turns.{Turn, actEarly, takeEarly, runTurns, fina
 use Rattle.threads_model.specs.Crew.{Known, allFree, goOn, turns}
 use Rattle.threads.specs.Consequences.{InstructionsStretch, ThreadsStretch}
 use Rattle.threads.proofs.Run.{runs-on}
-use Rattle.threads.proofs.Kept.{after-threads}
+use Rattle.threads.proofs.Since.{after-threads}
 use Rattle.threads.proofs.RealTime.{first-known}
 use Rattle.threads.proofs.lists.EarlyPush.{pushed, shown, take-good, waited}
 

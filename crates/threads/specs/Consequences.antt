@@ -16,22 +16,14 @@ use Rattle.stock_model.specs.Accounts.{AccountedIn, AddedUp}
 use Rattle.threads_model.specs.Turns.{runTurns, finalTurns}
 use Rattle.threads_model.specs.Instructions.{free}
 use Rattle.threads_model.specs.Crew.{Act, calls, next, allFree, goOn, turns, told, outcomesOf, owed}
-use Rattle.threads.specs.Promises.{AfterThreads, seenOf}
+use Rattle.threads.specs.Promises.{AfterThreads, Rest, leftBy, seenOf}
 
--- MEMORY. The memory that threads leave.
-abbrev pub leftBy : ℕ → ℕ → Queue → List Act → Queue
-leftBy pooled slots q l = goOn pooled slots (allFree q) l .queue
-
--- At every moment, also while calls are under way: a queue on which a call that walks may rely, whose walk meets the sequential deque's queue.
+-- MEMORY. At every moment, also while calls are under way: a queue on which a call that walks may rely, whose walk meets the sequential deque's queue.
 abbrev pub MemoryStands : List Event → ℕ → ℕ → Queue → List Act → Type 0
 MemoryStands past pooled slots q l = Standing (leftBy pooled slots q l) (ledger (seenOf past pooled slots q l) .deque)
 
 abbrev pub InstructionsMemory : Type 0
 InstructionsMemory = AfterThreads MemoryStands
-
--- No thread is in the middle of a start or step.
-abbrev pub Rest : ℕ → ℕ → Queue → List Act → Type 0
-Rest pooled slots q l = (t : ℕ) → goOn pooled slots (allFree q) l .hands t ≡ free
 
 -- The memory m is the queue q, mark by mark.
 pub record SameQueue (m q : Queue) : Type 0 where
