@@ -394,7 +394,7 @@ zc_reply CALL(push)(zc_control *control, zc_record *records, size_t record_count
     if (control->pooled)
         return refuse(ZC_WRONG_PUSH);
     if (!within(slot, control->slots))
-        return refuse(ZC_NO_SLOT);
+        return refuse(ZC_BAD_SLOT);
     zc_record *record = &records[task];
     if (!record_sound(record, control))
         return refuse(ZC_UNSOUND);

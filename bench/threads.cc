@@ -60,11 +60,10 @@ template <bool POOLED> struct Atomic { // zeppolecape_atomic.h
     static constexpr bool pooled = POOLED;
     template <class Stop> static zc_reply call(Tables &t, Own &own, const zc_start &start)
     {
-        zc_touch next;
-        zc_reply reply = zc_atomic_start(&t.shared, &own.record, &start, &next);
+        zc_reply reply = zc_atomic_start(&t.shared, &own.record, &start);
         while (reply.code == ZC_RUNNING) {
             Stop::here();
-            reply = zc_atomic_step(&t.shared, &own.record, &next);
+            reply = zc_atomic_step(&t.shared, &own.record);
         }
         return reply;
     }
@@ -169,7 +168,8 @@ template <class Deque> std::unique_ptr<Tables> opened(std::vector<Own> &owns)
 {
     auto t = std::make_unique<Tables>();
     uint32_t code = Deque::pooled ? zc_queue_open_pooled(&t->lent, TASKS, SLOTS, 0) : zc_queue_open(&t->lent, TASKS, SLOTS, 0);
-    if (code != 0 || zc_share(&t->lent, &t->shared) != 0)
+    t->shared = zc_share(&t->lent);
+    if (code != 0 || t->shared.refusal != 0)
         std::puts("not opened"), std::exit(2);
     Own filler;
     for (filler.slot = 1; filler.slot <= WAITING; filler.slot++)

@@ -310,7 +310,7 @@ static uint32_t start_refusal(uint64_t slots, uint64_t pooled, const zc_record *
     if (!pops && names == (pooled == 1))
         return ZC_WRONG_PUSH;
     if (names && !slot_ok(start->slot, slots))
-        return ZC_NO_SLOT;
+        return ZC_BAD_SLOT;
     switch (record_refusal(own, slots, pooled)) {
     case ZC_IDLE: return 0;
     case ZC_UNSOUND: return ZC_UNSOUND;

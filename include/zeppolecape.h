@@ -118,8 +118,8 @@ extern "C" {
  * Major: a layout, a code, or what a call takes or does has changed: read CHANGELOG.md and compile
  * again. Minor: something was added. Patch: neither.
  */
-#define ZC_VERSION_MAJOR 4
-#define ZC_VERSION_MINOR 1
+#define ZC_VERSION_MAJOR 5
+#define ZC_VERSION_MINOR 0
 #define ZC_VERSION_PATCH 0
 #define ZC_VERSION (ZC_VERSION_MAJOR * 10000 + ZC_VERSION_MINOR * 100 + ZC_VERSION_PATCH)
 
@@ -199,7 +199,8 @@ extern "C" {
 #define ZC_SHORT 12       /* see ZC_ROWS and ZC_MARK_WORDS; one record a task; next only if pooled */
 #define ZC_NO_TASK 13     /* tasks are 0 to tasks - 1 */
 #define ZC_NO_SIDE 14     /* sides are ZC_LEFT and ZC_RIGHT */
-#define ZC_NO_SLOT 15     /* slots are 1 to slots; 0 is null. Not ZC_NO_FREE_SLOT, the answer 5 */
+#define ZC_BAD_SLOT 15    /* slots are 1 to slots; 0 is null. Not ZC_NO_FREE_SLOT, the answer 5 */
+#define ZC_NO_SLOT ZC_BAD_SLOT /* its name before 5.0.0 */
 #define ZC_BAD_HISTORY 40 /* zc_audit: not a history that can be judged, see there */
 #define ZC_NO_SHELF 43    /* zc_save, zc_return: shelves are 0 to 7 */
 #define ZC_MANY_ASKED 45  /* zc_find: more than 32 labels asked for */
@@ -528,7 +529,7 @@ static inline const char *zc_refusal_text(uint64_t number)
     case ZC_SHORT: return "a lent table is too short";
     case ZC_NO_TASK: return "no such task";
     case ZC_NO_SIDE: return "side not 0 or 1";
-    case ZC_NO_SLOT: return "slot not 1 to slots";
+    case ZC_BAD_SLOT: return "slot not 1 to slots";
     case ZC_BUSY: return "the task is busy";
     case ZC_IDLE: return "the task is idle";
     case ZC_TAKEN: return "the slot is taken";

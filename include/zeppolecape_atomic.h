@@ -9,10 +9,9 @@
  * call works on the same queue while it is at rest.
  *
  *     ZC_QUEUE_STORAGE(queue, TASKS, SLOTS);
- *     static zc_shared shared;
  *
  *     zc_queue_open_pooled(&queue, TASKS, SLOTS, 0);             answers 0
- *     zc_share(&queue, &shared);                                 answers 0; now start the threads
+ *     zc_shared shared = zc_share(&queue);                       now start the threads
  *
  *     zc_record *own = &queue_tables.records[task];              each thread has its own task
  *     zc_atomic_push_pooled(&shared, own, ZC_RIGHT, 700);        answers ZC_PUSHED
@@ -22,33 +21,40 @@
  *
  * A call answers a zc_reply, whose code is to be looked at: a push may find no free slot
  * (ZC_NO_FREE_SLOT), a pop may find nothing (ZC_EMPTY). Both are told at once, since nobody is waited
- * for; make the call again later. Codes from 10 on are refusals. A whole program with five threads is
- * examples/c/threads.c, one with a signal handler examples/c/interrupt.c.
+ * for; make the call again later. Codes from 10 on are refusals. What a thread wrote before its push
+ * is seen by the thread that pops the label. The opening, its tables and the codes are told in
+ * zeppolecape.h. A whole program with five threads is examples/c/threads.c, one with a signal handler
+ * examples/c/interrupt.c.
  *
  * YOUR DUTY
  *  - A record belongs to one thread, core or handler: no other makes calls with it or looks at it.
  *    It is idle, place 0, at first. There are at most as many as tasks were opened, or refusal 33
  *    comes too late. Take one of the queue's, of which the report then tells, or one that lies
- *    elsewhere, zeroed; in cache lines of its own it is faster. A thread with two records may be in
+ *    elsewhere, zeroed; in cache lines of its own (aligned to 128 bytes) it is faster. A thread with two records may be in
  *    the middle of two calls, and a handler needs one of its own: it may then make whole calls in
  *    the middle of anybody's step, its own thread's too. A handler of an interrupt saves the SSE
  *    state and leaves the red zone alone (zeppolecape.h, FACTS); for one of a signal the system does.
  *  - Every call of zeppolecape.h on this queue (report, walks, shelves, joinings, openings, starts
  *    and steps), and reading its tables, wants the queue at rest: no thread is in a call of this
- *    file, and what synchronises (a join, a barrier, a lock) lies between it and their last call.
+ *    file, and what synchronises (a join, a barrier, a lock) lies between it and their last call. A
+ *    call that was started and has not answered is seen by them in a record of the queue's, and in
+ *    one that lies elsewhere by none: let that answer before an opening, a return or a draining.
  *  - Nobody else writes the tables.
  *
  * LIMITS
  *  - A thread that dies in a call takes along what the call held: at most a slot and a label, that
  *    of its push or the one that its pop had won. Nobody waits for it. Another thread may go on with
  *    its record only if it died between two steps: in the middle of one it can't be told whether the
- *    touch was made.
+ *    touch was made. Zero such a record before zc_queue_drain or a step of anybody's, which might make
+ *    the touch again and push a slot twice; of what is proved only the walks hold until the queue is
+ *    opened again.
  *  - 33: an opening with first tag 0 has tags for 4,294,967,262 changes of Anchor; a pair of push and
  *    pop makes two or three. Threads that do nothing else use them up within minutes (bench/README.md
  *    has pairs a second), ten labels a second in four and a half years. Then every start is
- *    refused. Bring the threads to rest, zc_queue_drain, open again, zc_queue_refill, and let them go
- *    on (examples/c/renew.c). Tags never wrap, so that a word is never taken for an older one.
- *  - Lock-free is not wait-free: one call may try again as long as others are faster.
+ *    refused. Bring the threads to rest, zc_queue_drain, open again, zc_queue_refill (examples/c/renew.c),
+ *    zc_share, and let them go on. Tags never wrap, so that a word is never taken for an older one.
+ *  - Lock-free is not wait-free: one call may try again as long as others are faster. After a failed
+ *    change a whole call waits some microseconds, a handler's too (ZC_PAUSES).
  *  - In tables that somebody else wrote to, a whole call may be told 34 in the middle: its touches up
  *    to there are made, and its record stands where it stopped.
  *
@@ -58,8 +64,8 @@
  * push that names its slot is asked 33 of the Anchor that it loaded, and may be started just above
  * the limit); that list is linearizable, and nobody is told 34. It respects real time, and every
  * label in it is accounted for; once no thread is in a call, memory is the queue of the list, from
- * which plain calls go on. A start or step is at most four instructions of its thread, whatever the
- * others do, and among the steps some call takes effect or answers (Consequences.antt beside it). The
+ * which plain calls go on. A start or step is at most three of these instructions and the writing of
+ * its record, whatever the others do, and among the steps some call takes effect or answers (Consequences.antt beside it). The
  * four calls below are proved to do what these theorems say of them, for all records and words. Not
  * proved, but tested: the C in this file, a table of thirteen touches (zc_made) and the loops around
  * it.
@@ -167,33 +173,35 @@ zc_onward zc_settle_start(uint64_t slots, uint64_t pooled, zc_record *own, const
 
 /* ---- A queue that is shared --------------------------------------------------------------- */
 
-/* The tables of an open queue, and two numbers that no call but an opening changes. */
+/* The tables of an open queue, and two numbers that no call but an opening or a return changes. */
 typedef struct zc_shared {
     uint64_t *anchor, *head, *lefts, *rights, *marks, *next;
     uint32_t *labels;
     uint64_t slots, pooled;
+    uint64_t refusal; /* 0; else nothing is shared, and every call of this file is refused by it */
 } zc_shared;
 
 /*
  * Shares a queue that was opened; again after each opening or return. It is one of the calls that
- * want the queue at rest. Answers 0, or refuses as the report does: 34 for control, 12, 34 for the
- * walk. The other calls of this file don't ask for these again.
+ * want the queue at rest. Where the report is refused (34 for control, 12, 34 for the walk) so are
+ * all calls on what it answers; the other calls of this file don't ask for these again.
  */
-static inline uint32_t zc_share(const zc_queue *queue, zc_shared *shared)
+static inline zc_shared zc_share(const zc_queue *queue)
 {
-    uint64_t code = zc_queue_report(queue).code;
-    if (code == 0) {
-        shared->anchor = &queue->control->anchor;
-        shared->head = &queue->control->head;
-        shared->lefts = queue->lefts;
-        shared->rights = queue->rights;
-        shared->marks = queue->marks;
-        shared->next = queue->next;
-        shared->labels = queue->labels;
-        shared->slots = queue->control->slots;
-        shared->pooled = queue->control->pooled;
+    zc_shared shared = {NULL, NULL, NULL, NULL, NULL, NULL, NULL, 0, 0, 0};
+    shared.refusal = zc_queue_report(queue).code;
+    if (shared.refusal == 0) {
+        shared.anchor = &queue->control->anchor;
+        shared.head = &queue->control->head;
+        shared.lefts = queue->lefts;
+        shared.rights = queue->rights;
+        shared.marks = queue->marks;
+        shared.next = queue->next;
+        shared.labels = queue->labels;
+        shared.slots = queue->control->slots;
+        shared.pooled = queue->control->pooled;
     }
-    return ZC_AS(uint32_t, code);
+    return shared;
 }
 
 /* ---- The touches -------------------------------------------------------------------------- */
@@ -288,7 +296,7 @@ static inline uint64_t *zc_link(const zc_shared *shared, const zc_touch *touch)
     return &(touch->side == ZC_RIGHT ? rights : lefts)[touch->slot];
 }
 
-/* Makes a touch, and answers the word found: `perform` of crates/threads_model/specs/Split.antt, a line each. */
+/* Makes a touch, and answers the word found, a line each: `perform` of crates/threads_model/specs/Split.antt, and the starts'. */
 __attribute__((always_inline)) static inline uint64_t zc_made(const zc_shared *shared, const zc_touch *touch)
 {
     switch (touch->act) {
@@ -311,6 +319,12 @@ __attribute__((always_inline)) static inline uint64_t zc_made(const zc_shared *s
 
 /* ---- Whole calls -------------------------------------------------------------------------- */
 
+static inline zc_reply zc_refused_by(uint64_t number)
+{
+    zc_reply reply = {ZC_AS(uint32_t, number), 0, 0};
+    return reply;
+}
+
 /*
  * Starts a call: running, with its first step planned, or refused. The first touch is the load of
  * Anchor; a push that names a slot has one more, of the slot's mark.
@@ -319,9 +333,7 @@ static inline void zc_begin(const zc_shared *shared, zc_record *own, const zc_st
                             zc_onward *onward)
 {
     onward->touch = zc_plan_start(shared->slots, shared->pooled, own, start);
-    onward->reply.code = ZC_AS(uint32_t, onward->touch.word);
-    onward->reply.label = 0;
-    onward->reply.value = 0;
+    onward->reply = zc_refused_by(onward->touch.word);
     if (onward->touch.act == ZC_NO_TOUCH)
         return;
     ZC_BETWEEN();
@@ -373,6 +385,8 @@ static inline zc_reply zc_told(const zc_reply *reply)
 /* Starts a call and steps it to its answer. */
 static inline zc_reply zc_answer_to(const zc_shared *shared, zc_record *own, const zc_start *start)
 {
+    if (shared->refusal != 0)
+        return zc_refused_by(shared->refusal);
     zc_onward begun;
     zc_begin(shared, own, start, &begun);
     if (begun.reply.code != ZC_RUNNING)
@@ -383,12 +397,12 @@ static inline zc_reply zc_answer_to(const zc_shared *shared, zc_record *own, con
     for (;;) {
         ZC_BETWEEN();
         zc_onward onward = zc_settle_plan(shared->slots, shared->pooled, own, found);
+        if (onward.reply.code != ZC_RUNNING)
+            return zc_told(&onward.reply);
         if (own->retries != failed) {
             failed = own->retries;
             zc_back_off();
         }
-        if (onward.reply.code != ZC_RUNNING)
-            return zc_told(&onward.reply);
         ZC_BETWEEN();
         found = zc_made(shared, &onward.touch);
     }
@@ -425,46 +439,53 @@ static inline zc_reply zc_atomic_pop(const zc_shared *shared, zc_record *own, ui
 }
 
 /* ---- One touch at a time ------------------------------------------------------------------
- * For a thread that interleaves the calls of several records, or its calls with other work. Beside
- * each record it keeps the touch that comes next; if that is lost, zc_plan tells it again.
+ * For a thread that interleaves the calls of several records, or its calls with other work: a start,
+ * then steps while they answer running. A whole call is faster: it plans a step while it settles the
+ * one before (zc_settle_plan).
  */
 
-/* A touch word by word, each as it was stored: volatile, so that no loads are joined (zc_told). */
-static inline void zc_keep(zc_touch *next, const volatile zc_touch *touch)
+/* Starts the call that `start` tells: running at place 1 or 12, or refused as the whole call is. */
+static inline zc_reply zc_atomic_start(const zc_shared *shared, zc_record *own, const zc_start *start)
 {
-    next->act = touch->act;
-    next->label = touch->label;
-    next->side = touch->side;
-    next->slot = touch->slot;
-    next->expected = touch->expected;
-    next->word = touch->word;
-}
-
-/*
- * Starts a call, and puts its first touch in *next. Answers running at place 1 or 12, or refuses as
- * the call of its operation does; then *next is as it was.
- */
-static inline zc_reply zc_atomic_start(const zc_shared *shared, zc_record *own,
-                                       const zc_start *start, zc_touch *next)
-{
+    if (shared->refusal != 0)
+        return zc_refused_by(shared->refusal);
     zc_onward onward;
     zc_begin(shared, own, start, &onward);
-    if (onward.reply.code == ZC_RUNNING)
-        zc_keep(next, &onward.touch);
     return zc_told(&onward.reply);
 }
 
-/*
- * Makes one step, and puts the touch after it in *next. Answers and refuses as zc_step_record does
- * (34 for the record, 31, 34 for what it touches).
- */
-static inline zc_reply zc_atomic_step(const zc_shared *shared, zc_record *own, zc_touch *next)
+static inline zc_reply zc_atomic_start_push(const zc_shared *shared, zc_record *own, uint64_t side,
+                                            uint64_t slot, uint32_t label)
 {
+    const zc_start start = {ZC_ASK_PUSH, side, slot, label};
+    return zc_atomic_start(shared, own, &start);
+}
+
+static inline zc_reply zc_atomic_start_push_pooled(const zc_shared *shared, zc_record *own,
+                                                   uint64_t side, uint32_t label)
+{
+    const zc_start start = {ZC_ASK_PUSH_POOLED, side, 0, label};
+    return zc_atomic_start(shared, own, &start);
+}
+
+static inline zc_reply zc_atomic_start_pop(const zc_shared *shared, zc_record *own, uint64_t side)
+{
+    const zc_start start = {ZC_ASK_POP, side, 0, 0};
+    return zc_atomic_start(shared, own, &start);
+}
+
+/* Makes one step. Answers and refuses as zc_step_record does: 34 for the record, 31, 34 for what it touches. */
+static inline zc_reply zc_atomic_step(const zc_shared *shared, zc_record *own)
+{
+    if (shared->refusal != 0)
+        return zc_refused_by(shared->refusal);
+    zc_touch touch = zc_plan(shared->slots, shared->pooled, own);
+    if (touch.act == ZC_NO_TOUCH)
+        return zc_refused_by(touch.word);
     ZC_BETWEEN();
-    uint64_t found = zc_made(shared, next);
+    uint64_t found = zc_made(shared, &touch);
     ZC_BETWEEN();
     zc_onward onward = zc_settle_plan(shared->slots, shared->pooled, own, found);
-    zc_keep(next, &onward.touch);
     return zc_told(&onward.reply);
 }
 

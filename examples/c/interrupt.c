@@ -126,9 +126,9 @@ int main(void)
 {
     struct sigaction action = {.sa_handler = on_alarm, .sa_flags = SA_RESTART};
     sigemptyset(&action.sa_mask);
-    if (zc_queue_open_pooled(&queue, TASKS, SLOTS, 0) != 0 || zc_share(&queue, &shared) != 0 ||
-        sigaction(SIGALRM, &action, NULL) != 0)
+    if (zc_queue_open_pooled(&queue, TASKS, SLOTS, 0) != 0 || sigaction(SIGALRM, &action, NULL) != 0)
         return 2;
+    shared = zc_share(&queue);
 
     static const unsigned char turns[] = {HEAD, 1, HEAD, 2, HEAD, 3, HEAD};
     time_t end = time(NULL) + LONGEST_S;

@@ -69,8 +69,9 @@ static void *reader(void *numbered)
 
 int main(void)
 {
-    if (zc_queue_open_pooled(&queue, TASKS, SLOTS, 0) != 0 || zc_share(&queue, &shared) != 0)
+    if (zc_queue_open_pooled(&queue, TASKS, SLOTS, 0) != 0)
         return 2;
+    shared = zc_share(&queue);
     pthread_t threads[TASKS];
     for (size_t task = 0; task < TASKS; task++)
         if (pthread_create(&threads[task], NULL, task < WRITERS ? writer : reader,

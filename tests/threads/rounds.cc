@@ -100,13 +100,14 @@ void calls_of(Queue &queue, uint64_t thread, uint64_t count, std::vector<Call> &
         uint64_t side = draw(2), label = thread * 1000 + at + 1;
         zc_start start = pushes ? queue.push(side, static_cast<uint32_t>(label)) : zc_start{ZC_ASK_POP, side, 0, 0};
         Call call{{thread, pushes ? uint64_t{ZC_PUSH} : uint64_t{ZC_POP}, side, label, 0, event++, 0}, 0, false};
-        zc_touch touch;
+        zc_onward begun;
         zc_record *own = &queue.records[thread];
-        zc_reply reply = zc_atomic_start(&queue.shared, own, &start, &touch);
+        zc_begin(&queue.shared, own, &start, &begun);
+        zc_reply reply = begun.reply;
         if (reply.code == ZC_TAKEN)
             continue;
         expect(reply.code == ZC_RUNNING, "a start refused");
-        reply = finish(queue, own, touch, call);
+        reply = finish(queue, own, begun.touch, call);
         call.told.end = event++;
         call.told.answer = reply.code;
         if (reply.code == ZC_POPPED)

@@ -67,15 +67,15 @@ bool run_to(Queue &queue, Worker &worker, const Case &stop)
     zc_record *own = &worker.own.record;
     for (;;) {
         zc_start start = worker.draws(queue, WORKERS);
-        zc_touch touch;
-        zc_reply reply = zc_atomic_start(&queue.shared, own, &start, &touch);
+        zc_reply reply = zc_atomic_start(&queue.shared, own, &start);
         while (reply.code == ZC_RUNNING) {
             if (own->place == stop.place) {
+                zc_touch touch = zc_plan(queue.shared.slots, queue.shared.pooled, own);
                 if (stop.touched)
                     zc_made(&queue.shared, &touch);
                 return start.operation != ZC_ASK_POP;
             }
-            reply = zc_atomic_step(&queue.shared, own, &touch);
+            reply = zc_atomic_step(&queue.shared, own);
         }
         worker.note(reply);
     }

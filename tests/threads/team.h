@@ -194,7 +194,8 @@ struct Queue {
         uint32_t code = pooled ? zc_queue_open_pooled(&lent, tasks, slots, 0)
                                : zc_queue_open(&lent, tasks, slots, 0);
         expect(code == 0, "a queue not opened");
-        expect(zc_share(&lent, &shared) == 0, "a queue not shared");
+        shared = zc_share(&lent);
+        expect(shared.refusal == 0, "a queue not shared");
     }
 
     // A push, in a slot drawn at random where the queue wants one named.

@@ -31,7 +31,7 @@ static zc_queue lent(struct tables *t)
 static zc_shared shared_of(struct tables *t)
 {
     return (zc_shared){&t->control.anchor, &t->control.head, t->lefts, t->rights, t->marks,
-                       t->next, t->labels, t->control.slots, t->control.pooled};
+                       t->next, t->labels, t->control.slots, t->control.pooled, 0};
 }
 
 /* ---- Random words: mostly sound, some at the limits ---------------------------------------- */
@@ -119,6 +119,13 @@ static int alike(const char *what, zc_reply a, zc_reply b, struct tables *x, str
     return 0;
 }
 
+/* Whether a touch is the plan of a record. */
+static int planned(const zc_shared *shared, const zc_record *own, const zc_touch *touch)
+{
+    zc_touch plan = zc_plan(shared->slots, shared->pooled, own);
+    return memcmp(&plan, touch, sizeof plan) == 0;
+}
+
 static int one_step(void)
 {
     static struct tables split, whole;
@@ -131,13 +138,18 @@ static int one_step(void)
     if (once_in(50) && (act == ZC_LOAD_ANCHOR || act == ZC_SWAP_ANCHOR))
         split.control.anchor |= UINT64_C(3) << 30; /* unsound, where the step meets it */
     whole = split;
-    zc_reply a = zc_atomic_step(&shared, &split.record, &touch);
+    zc_reply a;
+    if (once_in(2)) {
+        a = zc_atomic_step(&shared, &split.record);
+    } else {
+        zc_onward onward = zc_settle_plan(shared.slots, shared.pooled, &split.record, zc_made(&shared, &touch));
+        if (!planned(&shared, &split.record, &onward.touch))
+            return puts("FAILED the touch told after a step is not the record's plan"), 0;
+        a = onward.reply;
+    }
     uint64_t retries = whole.record.retries;
     zc_reply b = zc_queue_step_record(&queue, &whole.record);
     seen[act][zc_refused(b) ? REFUSED : whole.record.retries > retries ? FAILED_CHANGE : DONE]++;
-    zc_touch planned = zc_plan(shared.slots, shared.pooled, &split.record);
-    if (memcmp(&planned, &touch, sizeof touch) != 0)
-        return puts("FAILED the touch told after a step is not the record's plan"), 0;
     return alike("a step", a, b, &split, &whole);
 }
 
@@ -158,15 +170,15 @@ static int one_start(void)
     zc_shared shared = shared_of(&split);
     zc_queue queue = lent(&whole);
     zc_start start = any_start(shared.slots);
-    zc_touch touch;
-    zc_reply a = zc_atomic_start(&shared, &split.record, &start, &touch);
+    zc_onward onward;
+    zc_begin(&shared, &split.record, &start, &onward);
+    zc_reply a = onward.reply;
     zc_reply b = start.operation == ZC_ASK_POP ? zc_queue_pop(&queue, 0, start.side)
                  : start.operation == ZC_ASK_PUSH
                      ? zc_queue_push(&queue, 0, start.side, start.slot, (uint32_t)start.label)
                      : zc_queue_push_pooled(&queue, 0, start.side, (uint32_t)start.label);
     starts[b.code % 64]++;
-    zc_touch planned = zc_plan(shared.slots, shared.pooled, &split.record);
-    if (a.code == ZC_RUNNING && memcmp(&planned, &touch, sizeof touch) != 0)
+    if (a.code == ZC_RUNNING && !planned(&shared, &split.record, &onward.touch))
         return puts("FAILED the touch told after a start is not the record's plan"), 0;
     return alike("a start", a, b, &split, &whole);
 }
@@ -289,7 +301,7 @@ int main(int argc, char **argv)
         is("a kind of touch that may fail", seen[act][FAILED_CHANGE] >= 100 || !changes, 1);
         is("a kind of touch refused", seen[act][REFUSED] >= 100 || whole || changes, 1);
     }
-    static const uint32_t codes[] = {ZC_RUNNING, ZC_NO_SIDE, ZC_NO_SLOT, ZC_BUSY, ZC_TAKEN,
+    static const uint32_t codes[] = {ZC_RUNNING, ZC_NO_SIDE, ZC_BAD_SLOT, ZC_BUSY, ZC_TAKEN,
                                      ZC_WORN, ZC_UNSOUND, ZC_WRONG_PUSH};
     for (size_t at = 0; at < sizeof codes / sizeof *codes; at++)
         is("an answer of a start", starts[codes[at]] >= 100, 1);

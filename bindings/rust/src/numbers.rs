@@ -116,7 +116,7 @@ refusals! {
     Short = 12, "a lent table is too short";
     NoTask = 13, "no such task";
     NoSide = 14, "side not 0 or 1";
-    NoSlot = 15, "slot not 1 to slots", "(not [`Answer::NoFreeSlot`], which is an answer)";
+    BadSlot = 15, "slot not 1 to slots", "(not [`Answer::NoFreeSlot`], which is an answer)";
     Busy = 30, "the task is busy";
     Idle = 31, "the task is idle";
     Taken = 32, "the slot is taken";
@@ -134,6 +134,10 @@ refusals! {
 }
 
 impl Refusal {
+    /// The name of [`Refusal::BadSlot`] before version 5.
+    #[allow(non_upper_case_globals)]
+    pub const NoSlot: Refusal = Refusal::BadSlot;
+
     /// The refusal that the library answered.
     pub(crate) fn answered(number: u64) -> Refusal {
         Refusal::numbered(number).unwrap_or_else(|| panic!("the library answered code {number}"))

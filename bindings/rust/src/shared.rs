@@ -74,12 +74,12 @@ impl SharedQueue {
     }
 
     /// What a task's handle was answered when it was dropped in the middle of a call. It is told
-    /// once; a popped label is nowhere else.
+    /// once, and kept until another handle of the task is dropped so; a popped label is nowhere else.
     pub fn unclaimed(&mut self, task: usize) -> Option<Answer> {
         self.seats.get_mut(task)?.unclaimed.take()
     }
 
-    /// The queue at rest, for all other calls.
+    /// The queue at rest, for all other calls. What [`unclaimed`](Self::unclaimed) was not asked for is lost.
     pub fn into_queue(self) -> Queue {
         let SharedQueue { cells, seats } = self;
         let words = |cells: Vec<AtomicU64>| cells.into_iter().map(AtomicU64::into_inner).collect();

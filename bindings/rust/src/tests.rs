@@ -102,7 +102,7 @@ fn refusals_of_an_owned_queue() {
     assert_eq!(queue.step(0), Err(Refusal::Idle));
     assert_eq!(queue.step(16), Err(Refusal::NoTask));
     assert_eq!(queue.pop(0, Side::Left), Err(Refusal::Worn));
-    assert_eq!(queue.push(0, Side::Left, 1_024, 0), Err(Refusal::NoSlot));
+    assert_eq!(queue.push(0, Side::Left, 1_024, 0), Err(Refusal::BadSlot));
     let mut queue = Queue::open(16, 1_023, LAST_START_TAG as u32).unwrap();
     assert_eq!(queue.push(15, Side::Left, 1_023, 0), Ok(Running(1)));
     assert_eq!(queue.push(15, Side::Left, 1, 0), Err(Refusal::Busy));

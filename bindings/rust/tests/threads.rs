@@ -139,7 +139,7 @@ fn refusals() {
     let mut handle = shared.handles().next().unwrap();
     assert_eq!(handle.step(), Err(Refusal::Idle));
     assert_eq!(handle.push(Side::Left, 1), Err(Refusal::WrongPush));
-    assert_eq!(handle.push_in(Side::Left, 2, 1), Err(Refusal::NoSlot));
+    assert_eq!(handle.push_in(Side::Left, 2, 1), Err(Refusal::BadSlot));
     assert_eq!(handle.push_in(Side::Left, 1, 1), Ok(Pushed));
     assert_eq!(handle.push_in(Side::Left, 1, 1), Err(Refusal::Taken)); // 32 stands before 33
     assert_eq!(handle.pop(Side::Left), Err(Refusal::Worn));

@@ -25,9 +25,9 @@ fn least(a: usize, b: usize) -> usize
     if a < b { a } else { b }
 }
 
-/// The marks set for all slots before the last slot's word, when n are set below slot 64. Of the words between the first
-/// and this one every bit counts, so they need no mask. Words past the end hold no mark: the loop ends where they begin,
-/// and asks of no word whether it is there.
+/// The marks set for all slots before the last slot's word, when n are set below slot 64. Words past the end hold no mark:
+/// the loop ends where they begin, and asks of no word whether it is there. (That neither end of a mask lies in these
+/// words the compiler finds by itself.)
 fn before_last(n: u64, slots: u64, marks: &[u64]) -> u64
     requires { ⌜ (64 ≤ slots) × (n ≡ takenSlots 63 (now marks)) ⌝ }
     ensures { λ r. ⌜ r ≡ takenSlots (64 * (slots / 64) - 1) (now (marks .entry)) ⌝ }
@@ -35,7 +35,7 @@ fn before_last(n: u64, slots: u64, marks: &[u64]) -> u64
     let end = least((slots / 64) as usize, marks.len());
     let mut sum = n;
     for k in 1..end {
-        sum += u64::count_ones(marks[k]) as u64;
+        sum += u64::count_ones(masked(marks[k], k as u64, slots)) as u64;
     }
     sum
 }

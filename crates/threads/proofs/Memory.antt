@@ -1,39 +1,30 @@
 -- At every moment the memory is a queue on which a call that walks may rely: nobody owes the label of a slot that waits.
 use mathlib.Core.Path.{_≡_, ap, sym, subst, _∙_}
-use mathlib.Core.Bool.{Bool, cond, _&&_, _||_, not}
 use mathlib.Core.List.{List, [], _∷_}
-use Prim.Native.Nat.{ℕ, _/_}
-use lib.Dec.{leb, ltb}
-use lib.ListN.{length, getD}
+use Prim.Native.Nat.{ℕ}
+use lib.ListN.{getD}
 use Rattle.model.specs.declared.Entry.{Entry}
-use Rattle.model.specs.declared.Opening.the-variants.{Opened}
-use Rattle.model.specs.Tables.{Tables, Queue, isPooled}
-use Rattle.model.specs.Sound.{controlSound, rowsFit}
-use Rattle.model.specs.Calls.{openAs}
-use Rattle.model.specs.History.{ledger, ledgerFrom}
+use Rattle.model.specs.Tables.{Tables, Queue}
+use Rattle.model.specs.Sound.{controlSound}
 use Rattle.model.specs.Standing.{Standing}
 use Rattle.model.specs.Walk.{contents, entries}
-use Rattle.model.specs.Lists.{All, every}
-use Rattle.model.proofs.laws.Sizes as sizes
-use Rattle.model.proofs.bridge.Facts.{LinksFine}
+use Rattle.model.specs.Lists.{All}
 use Rattle.model.proofs.bridge.View.{stateOf, view}
 use Rattle.model.proofs.invariant.Owners.{Owner, Intact, queued}
 use Rattle.model.proofs.lists.Slots.{slots as slotsOf}
 use Rattle.model.proofs.places.Owned.{queued-held}
-use Rattle.model.proofs.ledger.Opened.{nobody}
 use Rattle.model.proofs.ledger.Waiting.{waits}
-use Rattle.threads_model.specs.Turns.{runTurns, finalTurns}
-use Rattle.threads_model.specs.Crew.{Act, Crew, Known, allFree, goOn, turns}
-use Rattle.threads.specs.Consequences.{InstructionsMemory}
-use Rattle.threads.proofs.lists.EarlyPush.{after, turns-good}
+use Rattle.threads_model.specs.Turns.{finalTurns}
+use Rattle.threads_model.specs.Crew.{Crew, allFree, goOn, turns}
+use Rattle.threads.specs.Promises.{seenOf}
+use Rattle.threads.specs.Consequences.{InstructionsMemory, MemoryStands}
 use Rattle.threads.proofs.follow.Overlay.{overlay}
 use Rattle.threads.proofs.follow.Good.{Good}
 use Rattle.threads.proofs.follow.Relation.{Sim, owes-label}
-use Rattle.threads.proofs.Run.{runs-on, start-good}
-
--- Links and nexts are what they are, whatever the labels and marks.
-pub over-fine : (q : Tables) (l k : List ℕ) → LinksFine q → LinksFine (overlay q l k)
-over-fine q l k f = record { spare = f .spare; tag = f .tag; slot = f .slot; next = f .next; head = f .head }
+use Rattle.threads.proofs.Run.{runs-on}
+use Rattle.threads.proofs.Kept.{kept-turns, with-ledger}
+use Rattle.threads.proofs.Resting.{over-fine, same-fits}
+use Rattle.threads.proofs.Since.{after-threads}
 
 over-intact : (q : Tables) (l k : List ℕ) (h : ℕ → Owner) (d : List Entry) → Intact (view q) h d
     → All (λ (e : Entry). getD l (e .slot) 0 ≡ e .label) d → Intact (view (overlay q l k)) h d
@@ -60,15 +51,6 @@ module _ (tasks pooled slots : ℕ) (m : Crew) (q : Queue) (f : Sim tasks pooled
     same-labels d (o .1) (e .1),
   )
 
-  pub same-fits : sizes.fits (m .queue) ≡ sizes.fits q
-  unfolding rowsFit
-  same-fits =
-      ap (λ (X : Tables). sizes.fits (record { tables = X; records = m .queue .records })) (f .rest)
-      ∙ (λ i. every (ltb (G .control .slots) (length (G .lefts)) ∷ ltb (G .control .slots) (length (G .rights))
-      ∷ ltb (G .control .slots) (f .labels-long i) ∷ ltb (G .control .slots / 64) (f .marks-long i)
-      ∷ (not (isPooled (G .control)) || ltb (G .control .slots) (length (G .next))) ∷ [])
-      && leb (G .control .tasks) (f .long i))
-
   pub memory-stands : Standing (m .queue) (g .ledger .deque)
   unfolding stateOf view
   memory-stands =
@@ -76,7 +58,7 @@ module _ (tasks pooled slots : ℕ) (m : Crew) (q : Queue) (f : Sim tasks pooled
       let d = g .matched .book .queue in
       record {
         control = ap (λ (X : Tables). controlSound (X .control)) (f .rest) ∙ g .safe .control;
-        long = same-fits ∙ g .long;
+        long = same-fits tasks pooled slots m q f ∙ g .long;
         walk =
             subst (λ (X : Tables). contents X ≡ entries d) (sym (f .rest))
             (waits (overlay G (T .labels) (T .marks)) (over-fine G (T .labels) (T .marks) (g .matched .links)) h d
@@ -84,35 +66,9 @@ module _ (tasks pooled slots : ℕ) (m : Crew) (q : Queue) (f : Sim tasks pooled
             ∙ ap entries (g .matched .deque);
       }
 
--- What holds of the list's queue, with the ledger of its own events.
-module _ (pooled : Bool) (q : Queue) (tasks slots tag : ℕ) (e : openAs pooled q tasks slots tag .outcome ≡ Opened)
-    (l : List Act) (h : All (Known tasks) l) where
-  abbrev k : ℕ
-  k = cond pooled 1 0
-
-  abbrev o : Queue
-  o = openAs pooled q tasks slots tag .queue
-
-  pub kept : Good tasks (cond pooled 1 0) slots (finalTurns o (turns k slots (allFree o) l))
-  kept =
-      let us = turns k slots (allFree o) l in
-      let z = runs-on pooled q tasks slots tag e l h .good in
-      let n = turns-good us 1 o nobody (start-good pooled q tasks slots tag e) in
-      record {
-        position = after 1 (runTurns o us);
-        ledger = ledger (runTurns o us);
-        matched = n;
-        safe = z .safe;
-        long = z .long;
-        count = z .count;
-        pool = z .pool;
-        size = z .size;
-      }
-
 pub instructions-memory : InstructionsMemory
-unfolding ledgerFrom kept
-instructions-memory pooled q tasks slots tag e l h =
-    let k : ℕ = cond pooled 1 0 in
-    let o = openAs pooled q tasks slots tag .queue in
-    memory-stands tasks k slots (goOn k slots (allFree o) l) (finalTurns o (turns k slots (allFree o) l))
-    (runs-on pooled q tasks slots tag e l h .sim) (kept pooled q tasks slots tag e l h)
+instructions-memory = after-threads MemoryStands (λ tasks pooled slots past q k l h.
+    let es = seenOf past pooled slots q l in
+    let end = finalTurns q (turns pooled slots (allFree q) l) in
+    memory-stands tasks pooled slots (goOn pooled slots (allFree q) l) end (runs-on tasks pooled slots q (k .good) l h .sim)
+    (with-ledger tasks pooled slots es end (kept-turns tasks pooled slots past q k l h)))

@@ -9,9 +9,8 @@ use lib.ListN.{getD}
 use borrow.Author.Tests.{eqb-true, eqb-false, eq-eqb, ne-eqb}
 use Rattle.model.specs.declared.{Record.Record, Outcome.Outcome, Op.Op}
 use Rattle.model.specs.declared.Op.the-variants.{Push, Pop, PushPooled, Step}
-use Rattle.model.specs.declared.Opening.the-variants.{Opened}
 use Rattle.model.specs.Tables.{Tables, Queue, taskAt, marked}
-use Rattle.model.specs.{Sides.links, Refusals.late, Calls.openAs, Lists.All, History.Request}
+use Rattle.model.specs.{Sides.links, Refusals.late, Lists.All, History.Request}
 use Rattle.model.proofs.tests.Truth.{either, by-test, not-both, split}
 use Rattle.threads_model.specs.Split.{plan}
 use Rattle.threads_model.specs.Starts.{ownRefusal}
@@ -19,10 +18,12 @@ use Rattle.threads_model.specs.Turns.{finalTurns}
 use Rattle.threads_model.specs.Instructions.{Hand, free, begun, loaded, knows, claims, looks, labels, marks, ends, Ticked, toldAtEnd}
 use Rattle.threads_model.specs.Instructions.{atOnce, isAsRead, isToPut, loadsOwn, oneWord, putsOwn, readsNext, replaces, stepFirst, clears, tick}
 use Rattle.threads_model.specs.Crew.{Act, Crew, Known, calls, next, allFree, takesUp, ticked, go, goOn, turns, tellsTo, told}
-use Rattle.threads.specs.Consequences.{InstructionsGoOn, ownIn}
+use Rattle.threads.specs.Consequences.{GoesAhead, InstructionsGoOn, ownIn}
 use Rattle.threads.proofs.follow.Starting.{namedOwn, first-pop, first-put, first-push, claims-is, looks-is}
 use Rattle.threads.proofs.follow.OwnLink.{AllRead, Reads, next-reads}
-use Rattle.threads.proofs.Run.{good, runs-on}
+use Rattle.threads.proofs.follow.Good.{Good}
+use Rattle.threads.proofs.Run.{runs-on}
+use Rattle.threads.proofs.Since.{after-threads}
 use Rattle.threads.proofs.RealTime.{first-known, go-more}
 
 -- How many of its own instructions a thread has before it at most.
@@ -218,59 +219,54 @@ one-more : (a : List Act) (x : Act) (b : List Act) → a ++ (x ∷ b) ≡ (a ++ 
 one-more [] x b = refl
 one-more (y ∷ a) x b = ap (λ (l : List Act). y ∷ l) (one-more a x b)
 
-module _ (pooled : Bool) (q : Queue) (tasks slots tag : ℕ) (e : openAs pooled q tasks slots tag .outcome ≡ Opened) where
-  abbrev k : ℕ
-  k = cond pooled 1 0
-
-  abbrev o : Queue
-  o = openAs pooled q tasks slots tag .queue
-
+module _ (tasks pooled slots : ℕ) (q : Queue) (g : Good tasks pooled slots q) where
   abbrev at : List Act → Crew
-  at l = goOn k slots (allFree o) l
+  at l = goOn pooled slots (allFree q) l
 
-  at-more : (l : List Act) (a : Act) → at (l ++ (a ∷ [])) ≡ go k slots (at l) a
+  at-more : (l : List Act) (a : Act) → at (l ++ (a ∷ [])) ≡ go pooled slots (at l) a
   unfolding goOn
-  at-more l a = go-more k slots l (a ∷ []) (allFree o)
+  at-more l a = go-more pooled slots l (a ∷ []) (allFree q)
 
-  act-reads : (l : List Act) (a : Act) (b : List Act) → All (Known tasks) (l ++ (a ∷ b)) → AllRead tasks k slots (at l)
-      → AllRead tasks k slots (at (l ++ (a ∷ [])))
-  act-reads l (calls x) b h z = subst (AllRead tasks k slots) (sym (at-more l (calls x))) (calls-reads k slots tasks (at l) x z)
+  act-reads : (l : List Act) (a : Act) (b : List Act) → All (Known tasks) (l ++ (a ∷ b)) → AllRead tasks pooled slots (at l)
+      → AllRead tasks pooled slots (at (l ++ (a ∷ [])))
+  act-reads l (calls x) b h z = subst (AllRead tasks pooled slots) (sym (at-more l (calls x))) (calls-reads pooled slots tasks (at l) x z)
   act-reads l (next t) b h z =
-      let w = runs-on pooled q tasks slots tag e l (first-known tasks l (next t ∷ b) h) in
-      subst (AllRead tasks k slots) (sym (at-more l (next t)))
-      (next-reads tasks k slots (at l) (finalTurns o (turns k slots (allFree o) l)) (w .sim) (w .good) t (second-known tasks l (next t ∷ b) h .0) z)
+      let w = runs-on tasks pooled slots q g l (first-known tasks l (next t ∷ b) h) in
+      subst (AllRead tasks pooled slots) (sym (at-more l (next t)))
+      (next-reads tasks pooled slots (at l) (finalTurns q (turns pooled slots (allFree q) l)) (w .sim) (w .good) t (second-known tasks l (next t ∷ b) h .0) z)
 
   abbrev Within : ℕ → List Act → Crew → Type 0
-  Within t l m = 1 ≤ ahead (m .hands t) → ahead (m .hands t) ≤ ownIn t l → told k slots m l t ≡ [] → ⊥
+  Within t l m = 1 ≤ ahead (m .hands t) → ahead (m .hands t) ≤ ownIn t l → told pooled slots m l t ≡ [] → ⊥
 
-  within : (b l : List Act) → All (Known tasks) (l ++ b) → AllRead tasks k slots (at l) → (t : ℕ) → t < tasks → Within t b (at l)
+  within : (b l : List Act) → All (Known tasks) (l ++ b) → AllRead tasks pooled slots (at l) → (t : ℕ) → t < tasks → Within t b (at l)
   unfolding told
   within [] l h z t lt = λ some few _. omega (arith, some, few)
   within (a ∷ b) l h z t lt = λ some few none.
       let m = at l in
-      let n = nothing-first (tellsTo m a t) (told k slots (go k slots m a) b t) none in
-      let s = still k slots m t (z t lt) some a (n .0) in
+      let n = nothing-first (tellsTo m a t) (told pooled slots (go pooled slots m a) b t) none in
+      let s = still pooled slots m t (z t lt) some a (n .0) in
       let s1 = s .1 in
       let i = own-first t a b in
       subst (Within t b) (at-more l a)
       (within b (l ++ (a ∷ [])) (subst (All (Known tasks)) (one-more l a b) h) (act-reads l a b h z) t lt)
       (s .0) (omega (arith, s1, i, few)) (n .1)
 
-  reads-from : (b l : List Act) → All (Known tasks) (l ++ b) → AllRead tasks k slots (at l) → AllRead tasks k slots (goOn k slots (at l) b)
+  reads-from : (b l : List Act) → All (Known tasks) (l ++ b) → AllRead tasks pooled slots (at l) → AllRead tasks pooled slots (goOn pooled slots (at l) b)
   unfolding goOn
   reads-from [] l h z = z
   reads-from (a ∷ b) l h z =
-      subst (λ (m : Crew). AllRead tasks k slots (goOn k slots m b)) (at-more l a)
+      subst (λ (m : Crew). AllRead tasks pooled slots (goOn pooled slots m b)) (at-more l a)
       (reads-from b (l ++ (a ∷ [])) (subst (All (Known tasks)) (one-more l a b) h) (act-reads l a b h z))
 
-  reads : (l : List Act) → All (Known tasks) l → AllRead tasks k slots (at l)
+  reads : (l : List Act) → All (Known tasks) l → AllRead tasks pooled slots (at l)
   unfolding goOn
   reads l h = reads-from l [] h (λ u lu. tt)
 
 pub instructions-go-on : InstructionsGoOn
-instructions-go-on pooled q tasks slots tag e l h first second is t lt busy enough =
-    let hand = goOn (cond pooled 1 0) slots (allFree (openAs pooled q tasks slots tag .queue)) first .hands t in
+instructions-go-on = after-threads (λ past. GoesAhead) (λ tasks pooled slots past q k l h first second is t lt busy enough.
+    let g = k .good in
+    let hand = goOn pooled slots (allFree q) first .hands t in
     let known = subst (All (Known tasks)) is h in
     let most = four hand in
-    within pooled q tasks slots tag e second first known (reads pooled q tasks slots tag e first (first-known tasks first second known)) t
-    (subst (λ (n : ℕ). t < n) (good pooled q tasks slots tag e .count) lt) (some hand busy) (omega (arith, most, enough))
+    within tasks pooled slots q g second first known (reads tasks pooled slots q g first (first-known tasks first second known)) t
+    (subst (λ (n : ℕ). t < n) (g .count) lt) (some hand busy) (omega (arith, most, enough)))

@@ -1,16 +1,16 @@
 -- A run cut in two is a list cut in two.
 use mathlib.Core.Path.{_≡_, refl, ap, sym, subst, _∙_}
-use mathlib.Core.Bool.{Bool, cond}
 use mathlib.Core.List.{List, [], _∷_, _++_}
 use Prim.Native.Nat.{ℕ}
 use Rattle.model.specs.declared.Outcome.{Outcome}
-use Rattle.model.specs.declared.Opening.the-variants.{Opened}
-use Rattle.model.specs.{Tables.Queue, Calls.openAs, Lists.All}
+use Rattle.model.specs.{Tables.Queue, Lists.All}
 use Rattle.threads_model.specs.Turns.{Turn, runTurns, finalTurns}
 use Rattle.threads_model.specs.Crew.{Act, Crew, Known, allFree, decides, go, goOn, turns, tellsTo, told, outcomesOf, owed}
 use Rattle.threads.specs.Consequences.{InstructionsRealTime, RealTime}
 use Rattle.threads.proofs.lists.Append.{assoc, outcomes-append}
+use Rattle.threads.proofs.follow.Good.{Good}
 use Rattle.threads.proofs.Run.{runs-on}
+use Rattle.threads.proofs.Since.{after-threads}
 
 append-same : (a b c : List Turn) → (a ++ b) ++ c ≡ a ++ (b ++ c)
 append-same [] b c = refl
@@ -54,32 +54,32 @@ pub first-known : (tasks : ℕ) (a b : List Act) → All (Known tasks) (a ++ b) 
 first-known tasks [] b h = tt
 first-known tasks (x ∷ a) b h = (h .0, first-known tasks a b (h .1))
 
-module _ (pooled : Bool) (q : Queue) (tasks slots tag : ℕ) (e : openAs pooled q tasks slots tag .outcome ≡ Opened) where
-  real-time : (a b : List Act) → All (Known tasks) (a ++ b) → RealTime (cond pooled 1 0) slots (openAs pooled q tasks slots tag .queue) a b
+module _ (tasks pooled slots : ℕ) (q : Queue) (g : Good tasks pooled slots q) where
+  real-time : (a b : List Act) → All (Known tasks) (a ++ b) → RealTime pooled slots q a b
   real-time a b h =
-      let k : ℕ = cond pooled 1 0 in
-      let o = openAs pooled q tasks slots tag .queue in
-      let m = goOn k slots (allFree o) a in
-      let us = turns k slots (allFree o) a in
-      let vs = turns k slots m b in
-      let whole = runs-on pooled q tasks slots tag e (a ++ b) h .outcomes in
-      let part = runs-on pooled q tasks slots tag e a (first-known tasks a b h) .outcomes in
+      let m = goOn pooled slots (allFree q) a in
+      let us = turns pooled slots (allFree q) a in
+      let vs = turns pooled slots m b in
+      let whole = runs-on tasks pooled slots q g (a ++ b) h .outcomes in
+      let part = runs-on tasks pooled slots q g a (first-known tasks a b h) .outcomes in
       record {
-        cut = turns-more k slots a b (allFree o);
+        cut = turns-more pooled slots a b (allFree q);
         before = part;
         behind = λ t.
-            let later = outcomesOf t (runTurns (finalTurns o us) vs) in
-            let heard = told k slots (allFree o) a t in
-            let last = owed (goOn k slots m b .hands t) in
-            cancel heard (owed (m .hands t) ++ later) (told k slots m b t ++ last)
+            let later = outcomesOf t (runTurns (finalTurns q us) vs) in
+            let heard = told pooled slots (allFree q) a t in
+            let last = owed (goOn pooled slots m b .hands t) in
+            cancel heard (owed (m .hands t) ++ later) (told pooled slots m b t ++ last)
             (sym (assoc heard (owed (m .hands t)) later)
             ∙ ap (λ (l : List Outcome). l ++ later) (sym (part t))
-            ∙ sym (outcomes-append t us vs o)
-            ∙ ap (λ (l : List Turn). outcomesOf t (runTurns o l)) (sym (turns-more k slots a b (allFree o)))
+            ∙ sym (outcomes-append t us vs q)
+            ∙ ap (λ (l : List Turn). outcomesOf t (runTurns q l)) (sym (turns-more pooled slots a b (allFree q)))
             ∙ whole t
-            ∙ (λ i. told-more k slots a b (allFree o) t i ++ owed (go-more k slots a b (allFree o) i .hands t))
-            ∙ assoc heard (told k slots m b t) last);
+            ∙ (λ i. told-more pooled slots a b (allFree q) t i ++ owed (go-more pooled slots a b (allFree q) i .hands t))
+            ∙ assoc heard (told pooled slots m b t) last);
       }
 
 pub instructions-real-time : InstructionsRealTime
-instructions-real-time pooled q tasks slots tag e l h a b is = real-time pooled q tasks slots tag e a b (subst (All (Known tasks)) is h)
+instructions-real-time =
+    after-threads (λ past pooled slots q l. (a b : List Act) → l ≡ a ++ b → RealTime pooled slots q a b)
+    (λ tasks pooled slots past q k l h a b is. real-time tasks pooled slots q (k .good) a b (subst (All (Known tasks)) is h))

@@ -1,20 +1,22 @@
 -- Request #108's second bound, of threads: so many accepted steps among the turns of a stretch, and some call takes effect or answers.
-use mathlib.Core.Path.{_∙_, _≡_, ap, refl, sym, subst, subst₂}
+use mathlib.Core.Path.{_∙_, _≡_, ap, refl, sym, subst}
 use mathlib.Core.Bool.{Bool, cond, false, true}
 use mathlib.Core.List.{List, [], _∷_}
 use Prim.Native.Nat.{ℕ, suc, _+_, _*_, _<_, _≤_}
 use native.Mathlib.Omega.{arith}
 use lib.Dec.{eqb}
 use borrow.Author.Tests.{eqb-true}
-use Rattle.model.specs.declared.Op.{Op}
+use Rattle.model.specs.declared.{Control.Control, Op.Op}
 use Rattle.model.specs.declared.Op.the-variants.{Push, Pop, PushPooled, Step}
 use Rattle.model.specs.Tables.{Queue, isPooled, recordAt, started, taskAt, withCall}
 use Rattle.model.specs.Refusals.{among, pushRefusal}
-use Rattle.model.specs.Calls.{Done, back, openAs}
+use Rattle.model.specs.Sound.{controlSound, controlTests}
+use Rattle.model.specs.Calls.{Done, back}
 use Rattle.model.specs.{History.Ledger, Lists.All}
 use Rattle.model.specs.Progress.{any, pairs, stepping, steps, stretchLimit, tookEffectOrAnswered, tookEffectOrAnsweredBy}
 use Rattle.model.proofs.tests.Truth.{by-test, either, or-false, split}
-use Rattle.model.proofs.bridge.Accepted.{Lies}
+use Rattle.model.proofs.tests.Rules.{tests}
+use Rattle.model.proofs.bridge.{Accepted.Lies, Facts.from1-true}
 use Rattle.model.proofs.bridge.Operations.{put-back, task-of}
 use Rattle.model.proofs.bridge.View.{placeOf, recOf, stateOf, view}
 use Rattle.model.proofs.machine.Machine as M
@@ -23,13 +25,13 @@ use Rattle.model.proofs.laws.Sizes as sizes
 use Rattle.model.proofs.progress.AllOwed.{all, all-keep}
 use Rattle.model.proofs.progress.Measure.{owedAt}
 use Rattle.model.proofs.progress.Others.{heads, heads-most}
-use Rattle.model.proofs.progress.Reached.{open-reached}
 use Rattle.model.proofs.progress.Scale.{scale, together}
 use Rattle.model.proofs.progress.TogetherSteps.{act-all, all-bound}
 use Rattle.threads_model.specs.Turns.{Turn, actEarly, takeEarly, runTurns, finalTurns}
 use Rattle.threads_model.specs.Crew.{Known, allFree, goOn, turns}
-use Rattle.threads.specs.Consequences.{InstructionsStretch}
-use Rattle.threads.proofs.Run.{good, open-is, runs-on}
+use Rattle.threads.specs.Consequences.{InstructionsStretch, ThreadsStretch}
+use Rattle.threads.proofs.Run.{runs-on}
+use Rattle.threads.proofs.Since.{after-threads}
 use Rattle.threads.proofs.RealTime.{first-known}
 use Rattle.threads.proofs.lists.EarlyPush.{pushed, shown, take-good, waited}
 
@@ -111,27 +113,25 @@ module _ (pooled : Bool) (tasks : ℕ) where
       go true = omega arith
       go false = omega arith
 
-kind : (b : Bool) → eqb (cond b 1 0) 1 ≡ b
-kind true = refl
-kind false = refl
+-- A control that is sound has a task.
+has-task : (c : Control) → controlSound c ≡ true → 1 ≤ c .tasks
+unfolding controlSound
+has-task c e = from1-true 16 (c .tasks) (tests (controlTests c) e .0) .0
 
 pub instructions-stretch : InstructionsStretch
-instructions-stretch pooled q tasks slots tag e l h first second is le =
-    let k : ℕ = cond pooled 1 0 in
-    let o = openAs pooled q tasks slots tag .queue in
-    let m = goOn k slots (allFree o) first in
-    let now = finalTurns o (turns k slots (allFree o) first) in
-    let us = turns k slots m second in
-    let g = runs-on pooled q tasks slots tag e first (first-known tasks first second (subst (All (Known tasks)) is h)) .good in
-    let z = good pooled q tasks slots tag e in
-    let some = open-reached pooled tasks q slots tag (open-is pooled q tasks slots tag e .0) .roomy .some in
-    let le′ : stretchLimit pooled tasks ≤ steps (runTurns now us) =
-    subst₂ (λ way n. stretchLimit way n ≤ steps (runTurns now us)) (ap (λ (p : ℕ). eqb p 1) (z .pool) ∙ kind pooled) (z .count) le in
+instructions-stretch = after-threads (λ past. ThreadsStretch) (λ tasks pooled slots past q k l h first second is le.
+    let now = finalTurns q (turns pooled slots (allFree q) first) in
+    let us = turns pooled slots (goOn pooled slots (allFree q) first) second in
+    let c = q .tables .control in
+    let way = isPooled c in
+    let z = k .good in
+    let g = runs-on tasks pooled slots q z first (first-known tasks first second (subst (All (Known tasks)) is h)) .good in
     split (any tookEffectOrAnswered (runTurns now us)) (λ e. e)
     (λ none. absurd (omega (
       arith,
-      le′,
-      turns-all pooled tasks us (g .position) now (g .ledger) (g .matched) (ap (λ (p : ℕ). eqb p 1) (g .pool) ∙ kind pooled) (g .count) none,
-      all-bound pooled tasks now,
-      enough pooled tasks some,
-    )))
+      le,
+      turns-all way (c .tasks) us (g .position) now (g .ledger) (g .matched) (ap (λ (p : ℕ). eqb p 1) (g .pool ∙ sym (z .pool)))
+          (g .count ∙ sym (z .count)) none,
+      all-bound way (c .tasks) now,
+      enough way (c .tasks) (has-task c (z .safe .control)),
+    ))))

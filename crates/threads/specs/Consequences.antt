@@ -16,25 +16,14 @@ use Rattle.stock_model.specs.Accounts.{AccountedIn, AddedUp}
 use Rattle.threads_model.specs.Turns.{runTurns, finalTurns}
 use Rattle.threads_model.specs.Instructions.{free}
 use Rattle.threads_model.specs.Crew.{Act, calls, next, allFree, goOn, turns, told, outcomesOf, owed}
-use Rattle.threads.specs.Promises.{AfterThreads}
+use Rattle.threads.specs.Promises.{AfterThreads, Rest, leftBy, seenOf}
 
--- MEMORY. The memory that threads leave, and what is seen of the list of their turns.
-abbrev pub leftBy : ℕ → ℕ → Queue → List Act → Queue
-leftBy pooled slots q l = goOn pooled slots (allFree q) l .queue
-
-abbrev pub seenOf : ℕ → ℕ → Queue → List Act → List Event
-seenOf pooled slots q l = runTurns q (turns pooled slots (allFree q) l)
-
--- At every moment, also while calls are under way: a queue on which a call that walks may rely, whose walk meets the sequential deque's queue.
-abbrev pub MemoryStands : ℕ → ℕ → Queue → List Act → Type 0
-MemoryStands pooled slots q l = Standing (leftBy pooled slots q l) (ledger (seenOf pooled slots q l) .deque)
+-- MEMORY. At every moment, also while calls are under way: a queue on which a call that walks may rely, whose walk meets the sequential deque's queue.
+abbrev pub MemoryStands : List Event → ℕ → ℕ → Queue → List Act → Type 0
+MemoryStands past pooled slots q l = Standing (leftBy pooled slots q l) (ledger (seenOf past pooled slots q l) .deque)
 
 abbrev pub InstructionsMemory : Type 0
 InstructionsMemory = AfterThreads MemoryStands
-
--- No thread is in the middle of a start or step.
-abbrev pub Rest : ℕ → ℕ → Queue → List Act → Type 0
-Rest pooled slots q l = (t : ℕ) → goOn pooled slots (allFree q) l .hands t ≡ free
 
 -- The memory m is the queue q, mark by mark.
 pub record SameQueue (m q : Queue) : Type 0 where
@@ -50,12 +39,12 @@ pub record GoesOn (es : List Event) (q : Queue) (kept : Ledger) : Type 0 where
   pub never : All (λ (e : Event). e .outcome ≡ Refused 34 → ⊥) es
 
 -- At rest the memory is the list's queue, and any plain starts and steps may follow.
-pub record RestsWell (pooled slots : ℕ) (q : Queue) (l : List Act) : Type 0 where
+pub record RestsWell (past : List Event) (pooled slots : ℕ) (q : Queue) (l : List Act) : Type 0 where
   pub same : SameQueue (leftBy pooled slots q l) (finalTurns q (turns pooled slots (allFree q) l))
-  pub goes-on : (os : List Request) → let m = leftBy pooled slots q l in GoesOn (run m os) (final m os) (ledger (seenOf pooled slots q l ++ run m os))
+  pub goes-on : (os : List Request) → let m = leftBy pooled slots q l in GoesOn (run m os) (final m os) (ledger (seenOf past pooled slots q l ++ run m os))
 
 abbrev pub InstructionsAtRest : Type 0
-InstructionsAtRest = AfterThreads (λ pooled slots q l. Rest pooled slots q l → RestsWell pooled slots q l)
+InstructionsAtRest = AfterThreads (λ past pooled slots q l. Rest pooled slots q l → RestsWell past pooled slots q l)
 
 -- REAL TIME. Cut a run anywhere, and the list is cut there too. What a thread was told before the cut has its turns before it, and so has one outcome
 -- that it may still be owed; every other has its turn behind it. So a call that was answered before another was begun stands before it in the list.
@@ -69,12 +58,12 @@ pub record RealTime (pooled slots : ℕ) (q : Queue) (first second : List Act) :
       ≡ told pooled slots m second t ++ owed (goOn pooled slots m second .hands t)
 
 abbrev pub InstructionsRealTime : Type 0
-InstructionsRealTime = AfterThreads (λ pooled slots q l. (first second : List Act) → l ≡ first ++ second → RealTime pooled slots q first second)
+InstructionsRealTime = AfterThreads (λ past pooled slots q l. (first second : List Act) → l ≡ first ++ second → RealTime pooled slots q first second)
 
 -- LABELS. Every label is accounted for (#114), and the sum: of the list's events and its queue, whose waiting labels are the memory's.
-pub record LabelsCounted (pooled slots : ℕ) (q : Queue) (l : List Act) : Type 0 where
-  pub each : AccountedIn (seenOf pooled slots q l) (finalTurns q (turns pooled slots (allFree q) l))
-  pub sum : AddedUp (seenOf pooled slots q l) (finalTurns q (turns pooled slots (allFree q) l))
+pub record LabelsCounted (past : List Event) (pooled slots : ℕ) (q : Queue) (l : List Act) : Type 0 where
+  pub each : AccountedIn (seenOf past pooled slots q l) (finalTurns q (turns pooled slots (allFree q) l))
+  pub sum : AddedUp (seenOf past pooled slots q l) (finalTurns q (turns pooled slots (allFree q) l))
 
 abbrev pub InstructionsAccounted : Type 0
 InstructionsAccounted = AfterThreads LabelsCounted
@@ -93,7 +82,7 @@ GoesAhead pooled slots q l = (first second : List Act) → l ≡ first ++ second
     (t : ℕ) → t < q .tables .control .tasks → m .hands t ≢ free → 4 ≤ ownIn t second → told pooled slots m second t ≢ []
 
 abbrev pub InstructionsGoOn : Type 0
-InstructionsGoOn = AfterThreads GoesAhead
+InstructionsGoOn = AfterThreads (λ past. GoesAhead)
 
 -- Among all threads some call goes on: after any acts, if the turns of a stretch of acts hold so many accepted steps (#108), a call took effect or
 -- answered in it.
@@ -105,4 +94,4 @@ ThreadsStretch pooled slots q l = (first second : List Act) → l ≡ first ++ s
     stretchLimit (isPooled c) (c .tasks) ≤ steps es → any tookEffectOrAnswered es ≡ true
 
 abbrev pub InstructionsStretch : Type 0
-InstructionsStretch = AfterThreads ThreadsStretch
+InstructionsStretch = AfterThreads (λ past. ThreadsStretch)

@@ -1,7 +1,7 @@
 -- What is promised of split steps, and of threads that interleave at single instructions.
 use mathlib.Core.Path.{_≡_}
 use mathlib.Core.Bool.{Bool, true, false, _&&_, _||_, cond}
-use mathlib.Core.List.{List, _++_}
+use mathlib.Core.List.{List, [], _++_}
 use mathlib.Core.Logic.{_≢_}
 use Prim.Native.Nat.{ℕ, _<_}
 use lib.Dec.{leb}
@@ -15,7 +15,7 @@ use Rattle.model.specs.Tables.{Tables, Queue, taskAt, marked}
 use Rattle.model.specs.Sound.{from1}
 use Rattle.model.specs.Refusals.{admission, alone, fits, late}
 use Rattle.model.specs.Calls.{act, openAs, stepLent}
-use Rattle.model.specs.History.{ledger, LedgerCall, Lawful}
+use Rattle.model.specs.History.{Event, LedgerCall, Lawful, Request, final, ledger, run}
 use Rattle.model.specs.Walk.{contents, entries}
 use Rattle.model.specs.Lists.{All}
 use Rattle.threads_model.specs.Split.{plan, splitStep}
@@ -99,18 +99,37 @@ pub record AsList (pooled slots : ℕ) (q : Queue) (l : List Act) : Type 0 where
   pub outcomes : (t : ℕ) → outcomesOf t (runTurns q (turns pooled slots (allFree q) l))
       ≡ told pooled slots (allFree q) l t ++ owed (goOn pooled slots (allFree q) l .hands t)
 
--- After any accepted opening, named or pooled, on any tables; any list of acts by threads of the tasks opened, so every prefix of a run too.
-abbrev pub AfterThreads : (ℕ → ℕ → Queue → List Act → Type 0) → Type 0
-AfterThreads P = (pooled : Bool) (q : Queue) (tasks slots tag : ℕ) → openAs pooled q tasks slots tag .outcome ≡ Opened
-    → (l : List Act) → All (Known tasks) l → P (cond pooled 1 0) slots (openAs pooled q tasks slots tag .queue) l
+-- The memory that threads leave. No thread is in the middle of a start or step.
+abbrev pub leftBy : ℕ → ℕ → Queue → List Act → Queue
+leftBy pooled slots q l = goOn pooled slots (allFree q) l .queue
+
+abbrev pub Rest : ℕ → ℕ → Queue → List Act → Type 0
+Rest pooled slots q l = (t : ℕ) → goOn pooled slots (allFree q) l .hands t ≡ free
+
+-- What is seen since the opening, as one list: the past, then the turns of the threads.
+abbrev pub seenOf : List Event → ℕ → ℕ → Queue → List Act → List Event
+seenOf past pooled slots q l = past ++ runTurns q (turns pooled slots (allFree q) l)
+
+-- A queue and its past: an accepted opening on any tables, then any plain starts and steps, and threads of the tasks opened that have come to rest, in
+-- any alternation.
+pub data Since (pooled : Bool) (tasks slots : ℕ) : List Event → Queue → Type 0 where
+  opening : (q : Queue) (tag : ℕ) → openAs pooled q tasks slots tag .outcome ≡ Opened → Since pooled tasks slots [] (openAs pooled q tasks slots tag .queue)
+  plain : (past : List Event) (q : Queue) → Since pooled tasks slots past q → (os : List Request) → Since pooled tasks slots (past ++ run q os) (final q os)
+  threads : (past : List Event) (q : Queue) → Since pooled tasks slots past q → (l : List Act) → All (Known tasks) l → Rest (cond pooled 1 0) slots q l
+      → Since pooled tasks slots (seenOf past (cond pooled 1 0) slots q l) (leftBy (cond pooled 1 0) slots q l)
+
+-- Then any list of acts by threads of the tasks opened, so every prefix of a run too.
+abbrev pub AfterThreads : (List Event → ℕ → ℕ → Queue → List Act → Type 0) → Type 0
+AfterThreads P = (pooled : Bool) (tasks slots : ℕ) (past : List Event) (q : Queue) → Since pooled tasks slots past q
+    → (l : List Act) → All (Known tasks) l → P past (cond pooled 1 0) slots q l
 
 abbrev pub InstructionsStand : Type 0
-InstructionsStand = AfterThreads AsList
+InstructionsStand = AfterThreads (λ past. AsList)
 
 -- So they are linearizable, in the words of `History`.
-pub record ThreadsLinearized (pooled slots : ℕ) (q : Queue) (l : List Act) : Type 0 where
-  pub calls : All (λ (c : LedgerCall). Lawful c (c .ending)) (ledger (runTurns q (turns pooled slots (allFree q) l)) .calls)
-  pub waits : contents (finalTurns q (turns pooled slots (allFree q) l) .tables) ≡ entries (ledger (runTurns q (turns pooled slots (allFree q) l)) .deque)
+pub record ThreadsLinearized (past : List Event) (pooled slots : ℕ) (q : Queue) (l : List Act) : Type 0 where
+  pub calls : All (λ (c : LedgerCall). Lawful c (c .ending)) (ledger (seenOf past pooled slots q l) .calls)
+  pub waits : contents (finalTurns q (turns pooled slots (allFree q) l) .tables) ≡ entries (ledger (seenOf past pooled slots q l) .deque)
 
 abbrev pub InstructionsLinearizable : Type 0
 InstructionsLinearizable = AfterThreads ThreadsLinearized
@@ -120,7 +139,7 @@ abbrev pub ThreadsNeverUnsound : ℕ → ℕ → Queue → List Act → Type 0
 ThreadsNeverUnsound pooled slots q l = (t : ℕ) → All (λ (o : Outcome). o ≡ Refused 34 → ⊥) (told pooled slots (allFree q) l t)
 
 abbrev pub InstructionsNever34 : Type 0
-InstructionsNever34 = AfterThreads ThreadsNeverUnsound
+InstructionsNever34 = AfterThreads (λ past. ThreadsNeverUnsound)
 
 -- LABELS. An instruction touches one label at most, that of the slot named by `labelTouched`: whatever another slot's label is, it does the same, and
 -- leaves that label as it is.
@@ -141,4 +160,4 @@ LabelsApart pooled slots q l =
     → labelNext pooled slots m t ≢ 0 → labelNext pooled slots m t ≡ labelNext pooled slots m u → t ≡ u
 
 abbrev pub InstructionsLabelsApart : Type 0
-InstructionsLabelsApart = AfterThreads LabelsApart
+InstructionsLabelsApart = AfterThreads (λ past. LabelsApart)

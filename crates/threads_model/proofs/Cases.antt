@@ -89,6 +89,18 @@ before14 t label = whole t (PushPooled 1 label) ++ steps (replicate 2 t)
 abbrev bothName : List Act
 bothName = begins 0 (Push 1 1 7) ∷ begins 1 (Push 1 1 8) ∷ next 1 ∷ next 0 ∷ next 0 ∷ next 1 ∷ next 1 ∷ []
 
+-- Thread 0 has taken slot 1 and stored its label; thread 1 names it too, and is refused.
+abbrev namedLater : List Act
+namedLater = whole 0 (Push 1 1 7) ++ whole 1 (Push 1 1 8)
+
+-- They name slots 1 and 2. Both have loaded Anchor; then each sets its mark, in one word.
+abbrev bothTake : List Act
+bothTake = begins 0 (Push 1 1 7) ∷ begins 1 (Push 1 2 8) ∷ next 0 ∷ next 1 ∷ next 0 ∷ next 1 ∷ []
+
+-- Place 2. Both push to the empty queue and have read Anchor; thread 1 changes it; thread 0's change fails.
+abbrev bothFirst : List Act
+bothFirst = whole 0 (Push 1 1 700) ++ whole 1 (Push 1 2 800) ++ steps (0 ∷ 1 ∷ 1 ∷ 0 ∷ [])
+
 -- From the last tag that a start is accepted at: thread 0 loads Anchor, and before it sets its mark thread 1's push raises the tag.
 abbrev overtaken : List Act
 overtaken = begins 0 (Push 1 2 800) ∷ next 0 ∷ first ++ replicate 3 (next 0)
@@ -119,6 +131,10 @@ waitsAt8 =
 abbrev popAmid : List Act
 popAmid = first ++ whole 0 (Pop 1) ++ steps (replicate 2 0) ++ part 0 1 ++ whole 1 (Push 1 1 900) ++ replicate 2 (next 0)
 
+-- The same, and thread 1 names slot 2, whose mark lies in the word of slot 1's.
+abbrev clearsAmid : List Act
+clearsAmid = first ++ whole 0 (Pop 1) ++ steps (replicate 2 0) ++ part 0 1 ++ whole 1 (Push 1 2 900) ++ replicate 2 (next 0)
+
 -- Thread 0 at 11 with its step begun and so many instructions of it made; then thread 1 names slot 1 and has looked at its mark.
 abbrev takenAmid : ℕ → List Act
 takenAmid n = first ++ whole 0 (Pop 1) ++ steps (replicate 2 0) ++ part 0 n ++ (begins 1 (Push 1 1 900) ∷ next 1 ∷ next 1 ∷ [])
@@ -146,6 +162,13 @@ pub record Cases : Type 0 where
   pub label-owed : leaves (fresh 0) bothName .labels ≡ 0 ∷ 0 ∷ 0 ∷ 0 ∷ []
   pub label-stored : leaves (fresh 0) (bothName ++ (next 0 ∷ [])) .labels ≡ 0 ∷ 7 ∷ 0 ∷ 0 ∷ []
   pub then-told : hears (fresh 0) (bothName ++ (next 0 ∷ next 0 ∷ [])) 0 ≡ at 1 ∷ []
+  -- who is refused has stored no label
+  pub label-of-taker : leaves (fresh 0) namedLater .labels ≡ 0 ∷ 7 ∷ 0 ∷ 0 ∷ []
+  -- two slots taken at once: neither mark is lost
+  pub both-taken : leaves (fresh 0) bothTake .marks ≡ 6 ∷ []
+  -- 2: Anchor is thread 1's, and thread 0 goes on with it as read
+  pub anchor-stays : leaves (fresh 0) bothFirst .control .anchor ≡ 0x0000000100010002
+  pub change-failed : hears (fresh 0) bothFirst 0 ≡ at 1 ∷ at 2 ∷ at 3 ∷ []
   -- the turns are in the order of the fetch-ors
   pub in-order : order (fresh 0) bothName ≡ record { task = 0; op = Push 1 1 7; early = true } ∷ record { task = 1; op = Push 1 1 8; early = true } ∷ []
   -- 33 above tag 4,294,967,262 alone; 32 comes before it
@@ -164,6 +187,8 @@ pub record Cases : Type 0 where
   -- 11: the label is read before the slot is free, so thread 1 is refused 32 and thread 0 gets its own label
   pub label-read-first : hears (fresh 0) popAmid 0 ≡ at 1 ∷ at 2 ∷ at 11 ∷ got 1 700 ∷ []
   pub mark-cleared-last : hears (fresh 0) popAmid 1 ≡ at 1 ∷ at 2 ∷ Moved Pushed ∷ Refused 32 ∷ []
+  -- the mark that was set meanwhile stays, and no other
+  pub one-cleared : leaves (fresh 0) clearsAmid .marks ≡ 4 ∷ []
   -- so they never touch its label at one time: thread 0 first, then neither, and once the mark is cleared thread 1
   pub label-of-pop : touching (fresh 0) (takenAmid 0) 0 ≡ 1
   pub label-of-none : touching (fresh 0) (takenAmid 1) 1 ≡ 0
@@ -204,6 +229,10 @@ cases = record {
   label-owed = refl;
   label-stored = refl;
   then-told = refl;
+  label-of-taker = refl;
+  both-taken = refl;
+  anchor-stays = refl;
+  change-failed = refl;
   in-order = refl;
   at-last-tag = refl;
   past-it = refl;
@@ -215,6 +244,7 @@ cases = record {
   right-stays = refl;
   label-read-first = refl;
   mark-cleared-last = refl;
+  one-cleared = refl;
   label-of-pop = refl;
   label-of-none = refl;
   label-of-push = refl;

@@ -160,6 +160,16 @@ fn notes_of_requests_are_short() {
     );
 }
 
+/// An entry of the decisions is a paragraph that begins with its title in bold.
+#[test]
+fn every_decision_names_what_was_rejected() {
+    let text = content("docs/DECISIONS.md");
+    let entries: Vec<&str> = text.split("\n\n").filter(|entry| entry.starts_with("**")).collect();
+    assert!(entries.len() > 50, "docs/DECISIONS.md has no entries");
+    let without = entries.iter().filter(|entry| !entry.contains("Rejected: "));
+    none(without.map(|entry| entry.chars().take(80).collect()).collect());
+}
+
 /// Where a text first names a request, as #108.
 fn first_request(text: &str) -> Option<usize> {
     let names = |rest: &str| rest.chars().take_while(char::is_ascii_digit).count() == 3;

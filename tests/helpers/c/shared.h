@@ -19,19 +19,30 @@ static zc_shared shared_of(const zc_queue *q)
     all.labels = q->labels;
     all.slots = q->control->slots;
     all.pooled = q->control->pooled;
+    all.refusal = 0;
     return all;
 }
 
-/* "Answers 0, or refuses as the report does"; only then are the tables shared. */
+/* "Where the report is refused so are all calls on what it answers", and no record changes. */
 static void share(const zc_queue *q)
 {
-    zc_shared shared, before, wanted = shared_of(q);
-    memset(&shared, 0x55, sizeof shared);
-    before = shared;
+    zc_shared shared = zc_share(q), wanted = shared_of(q);
     uint64_t code = zc_report(TASKS_OF(q), ALL_OF(q)).code;
-    is("zc_share", zc_share(q, &shared), code);
-    holds("zc_share: what is shared",
-       same_bytes(&shared, code == 0 ? &wanted : &before, sizeof shared));
+    is("zc_share", shared.refusal, code);
+    if (code == 0) {
+        holds("zc_share: what is shared", same_bytes(&shared, &wanted, sizeof shared));
+        return;
+    }
+    zc_record own, before;
+    memset(&own, 0, sizeof own);
+    own.place = draw(2);
+    before = own;
+    is("nothing shared: a push", zc_atomic_push(&shared, &own, ZC_LEFT, 1, 7).code, code);
+    is("nothing shared: a pooled push", zc_atomic_push_pooled(&shared, &own, ZC_LEFT, 7).code, code);
+    is("nothing shared: a pop", zc_atomic_pop(&shared, &own, ZC_RIGHT).code, code);
+    is("nothing shared: a start", zc_atomic_start_pop(&shared, &own, ZC_RIGHT).code, code);
+    is("nothing shared: a step", zc_atomic_step(&shared, &own).code, code);
+    holds("nothing shared: the record", same_bytes(&own, &before, sizeof own));
 }
 
 static void touch_words(void)
@@ -168,7 +179,17 @@ static void whole_calls(const zc_queue *from)
     given_back(&c);
 }
 
-/* One touch at a time: the touch that comes next is the one that zc_plan tells. */
+static zc_reply single_start(const zc_shared *shared, zc_record *own, const zc_start *s)
+{
+    const uint32_t label = AS(uint32_t, s->label);
+    if (s->operation == ZC_ASK_PUSH)
+        return zc_atomic_start_push(shared, own, s->side, s->slot, label);
+    if (s->operation == ZC_ASK_POP)
+        return zc_atomic_start_pop(shared, own, s->side);
+    return zc_atomic_start_push_pooled(shared, own, s->side, label);
+}
+
+/* One touch at a time; an idle record is refused 31 and changes nothing. */
 static void single_steps(const zc_queue *from)
 {
     if (zc_report(TASKS_OF(from), ALL_OF(from)).code != 0)
@@ -176,20 +197,17 @@ static void single_steps(const zc_queue *from)
     zc_queue q = copied(from), c = copied(from);
     const zc_shared shared = shared_of(&q);
     const zc_start start = {draw(4), draw(2), 1 + draw(from->control->slots), any_word()};
-    zc_touch next, before, planned;
-    memset(&next, 0, sizeof next);
-    before = next;
-    zc_reply ours = zc_atomic_start(&shared, &q.records[0], &start, &next), theirs = started(&c, &start);
-    holds("zc_atomic_start", same_reply(ours, theirs));
-    if (ours.code != ZC_RUNNING)
-        holds("zc_atomic_start: a refused start leaves *next", same_bytes(&next, &before, sizeof next));
+    zc_reply ours = once_in(2) ? single_start(&shared, &q.records[0], &start)
+                               : zc_atomic_start(&shared, &q.records[0], &start);
+    zc_reply theirs = started(&c, &start);
+    holds("a start", same_reply(ours, theirs));
     while (ours.code == ZC_RUNNING) {
-        planned = zc_plan(shared.slots, shared.pooled, &q.records[0]);
-        holds("the touch that comes next", same_bytes(&next, &planned, sizeof next));
-        ours = zc_atomic_step(&shared, &q.records[0], &next);
+        ours = zc_atomic_step(&shared, &q.records[0]);
         theirs = zc_step(TASKS_OF(&c), 0, ALL_OF(&c));
         holds("zc_atomic_step", same_reply(ours, theirs));
     }
+    is("zc_atomic_step: once it has answered", zc_atomic_step(&shared, &q.records[0]).code,
+       zc_step(TASKS_OF(&c), 0, ALL_OF(&c)).code);
     holds("zc_atomic_step: the tables", same_tables(&q, &c));
     given_back(&q);
     given_back(&c);

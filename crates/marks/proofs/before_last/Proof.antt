@@ -1,11 +1,13 @@
 -- Before word k the marks of the slots below 64 k are counted.
-use mathlib.Core.Path.{_≡_, ap, _∙_, sym}
+use mathlib.Core.Path.{_≡_, refl, ap, _∙_, sym}
 use Prim.Native.Nat.{ℕ, _≤_, _<_, _+_, _-_, _*_, _/_, _^_, min}
 use native.Mathlib.Omega.{arith}
 use lib.Count.{ones}
 use lib.ListN.{getD, length, List·getD-eq-default}
 use borrow.Author.Needs.{needs}
+use borrow.Author.Tests.{ne-eqb}
 use Rattle.model.specs.{Report.takenSlots, Lists.count}
+use Rattle.marks.specs.Masked.{maskedWord}
 use Rattle.marks.proofs.Ones.{marks, whole-step, blank, marks-le}
 use Rattle.marks.proofs.before_last.Statement.{statement}
 use Rattle.marks.proofs.before_last.Tie as tie
@@ -20,21 +22,28 @@ loop-holds : tie.Need-loop-holds Inv-loop μ-loop
 unfolding takenSlots
 loop-holds c = (omega arith, omega arith, c .before .before .pre .1)
 
+-- Of a word between the first and the last every bit counts.
+between : (w k slots : ℕ) → 1 ≤ k → k < slots / 64 → maskedWord w k slots ≡ w
+between w k slots first last = rw (ne-eqb k 0 (λ z. omega arith), ne-eqb k (slots / 64) (λ z. omega arith)) refl
+
 -- A word's marks beside those before it, and no more than there are slots.
-module _ (c : tie.After-shared-slice-known2 Inv-loop μ-loop) where
+module _ (c : tie.After-masked Inv-loop μ-loop) where
   abbrev turn : tie.At-loop Inv-loop μ-loop
-  turn = c .before .before
+  turn = c .before .before .before
 
   abbrev words : tie.Start Inv-loop μ-loop
   words = turn .before .before .before
 
-  next : turn .loop .sum + ones (getD (words .args .marks .now) (turn .loop .k) 0) ≡ marks (words .args .marks .now) (64 * (turn .loop .k + 1) - 1)
+  word : c .masked .result ≡ getD (words .args .marks .now) (turn .loop .k) 0
+  word = c .masked .ensures ∙ between _ (turn .loop .k) (words .args .slots) (turn .loop .inv .0) (omega arith)
+
+  next : turn .loop .sum + ones (c .masked .result) ≡ marks (words .args .marks .now) (64 * (turn .loop .k + 1) - 1)
   next =
       let ws = words .args .marks .now in
-      ap (λ (x : ℕ). x + ones (getD ws (turn .loop .k) 0)) (turn .loop .inv .2)
-      ∙ sym (whole-step ws (turn .loop .k) (turn .loop .inv .0) (c .shared-slice-known2 .given (turn .loop .k) .fits))
+      (λ i. turn .loop .inv .2 i + ones (word i))
+      ∙ sym (whole-step ws (turn .loop .k) (turn .loop .inv .0) (c .before .shared-slice-known2 .given (turn .loop .k) .fits))
 
-  room : turn .loop .sum + ones (getD (words .args .marks .now) (turn .loop .k) 0) ≤ words .args .slots
+  room : turn .loop .sum + ones (c .masked .result) ≤ words .args .slots
   room = omega (arith, next, marks-le (words .args .marks .now) (64 * (turn .loop .k + 1) - 1))
 
 loop-again : tie.Need-loop-again Inv-loop μ-loop
@@ -61,6 +70,7 @@ before-last-spec =
     loop-holds
     (λ c. search needs)
     (λ c. search needs)
+    (λ c κs. omega arith)
     (λ c. omega (arith, room c))
     (λ c. omega (arith, room c))
     (λ c. omega arith)
