@@ -18,7 +18,7 @@ use Rattle.model.specs.Sound.{rowsFit}
 use Rattle.model.specs.Refusals.{Lent, startRefusal, namedPush, pooledPush, nothingAsked}
 use Rattle.model.specs.declared.Transition.{Transition}
 use Rattle.sound.specs.declared.Lengths.{Lengths}
-use Rattle.sound.specs.Lengths.{Measures, lengthsFit, amongMany}
+use Rattle.sound.specs.Lengths.{Measures, amongMany}
 use Rattle.sound.proofs.Measured.{measured}
 use Rattle.table.specs.Lent.{withTables}
 use Rattle.calls.specs.Starting.{decided, refusedBy, touching, pushRefusedBy, storedUnless}
