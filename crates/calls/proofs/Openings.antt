@@ -7,6 +7,7 @@ use native.Mathlib.Omega.{arith}
 use lib.Dec.{eqb, ltb, leb}
 use lib.ListN.{length, length-replicate}
 use borrow.Author.Tests.{ltb-true, leb-true, eqb-true, le-leb, eq-eqb, ne-eqb, not-false}
+use Rattle.model.specs.declared.Record.{Record}
 use Rattle.model.specs.declared.Opening.the-variants as opening
 use Rattle.model.specs.Tables.{Tables, Queue, tablesOf, openedControl, unused}
 use Rattle.model.specs.Sound.{rowsFit}
@@ -14,7 +15,7 @@ use Rattle.model.specs.Refusals.{openingRules, openRefusal}
 use Rattle.model.specs.Calls.{stacked, opened, openAs, OpenDone}
 use Rattle.table.specs.Zeroing.{zeroing}
 use Rattle.table.specs.Stacking.{stacking}
-use Rattle.calls.specs.Opening.{openingRefusal, manyRecords, OpenedParts, openTables, whole}
+use Rattle.calls.specs.Opening.{openingRefusal, manyRecords, OpenedParts, openTables}
 use Rattle.model.proofs.tests.Rules.{cleared}
 use Rattle.model.proofs.tests.Truth.{and-true}
 use Rattle.model.specs.Lists.{zeroed}
@@ -98,6 +99,10 @@ module _ (pooled : Bool) (q : Tables) (records tasks slots : ℕ) where
       let enough : eqb why 0 ≡ true → leb tasks records ≡ true =
       λ e. and-true (rowsFit pooled slots q) _ (accepted tasks slots fits (eqb-true why 0 e) .fit) .1 in
       rw counted (at-most (eqb why 0) (λ e. leb-true tasks records (enough e)))
+
+-- The parts with the lent records make the whole.
+abbrev pub whole : List Record → OpenedParts → OpenDone
+whole rs o = record { queue = record { tables = o .tables; records = zeroed (o .clear) unused rs }; outcome = o .outcome }
 
 -- The opening of a queue is its parts.
 module _ (pooled : Bool) (q : Queue) (tasks slots tag : ℕ) where

@@ -1,15 +1,12 @@
 -- An opening in parts: the tables, and how many records are zeroed.
 use mathlib.Core.Bool.{Bool, cond}
-use mathlib.Core.List.{List}
 use Prim.Native.Nat.{ℕ}
 use lib.Dec.{eqb}
 use lib.ListN.{replicate}
-use Rattle.model.specs.declared.Record.{Record}
 use Rattle.model.specs.declared.Opening.{Opening}
 use Rattle.model.specs.Tables.{Tables, Queue, unused}
 use Rattle.model.specs.Refusals.{first, openingRules, openRefusal}
-use Rattle.model.specs.Calls.{OpenDone, openAs}
-use Rattle.model.specs.Lists.{zeroed}
+use Rattle.model.specs.Calls.{openAs}
 
 -- Why it is refused, where the tables are long enough or not.
 unfoldable pub openingRefusal : ℕ → ℕ → Bool → ℕ
@@ -29,7 +26,3 @@ openTables pooled q records tasks slots tag =
     let done = openAs pooled (manyRecords q records) tasks slots tag in
     let clear : ℕ = cond (eqb (openRefusal pooled (manyRecords q records) tasks slots) 0) tasks 0 in
     record { tables = done .queue .tables; clear = clear; outcome = done .outcome }
-
--- The parts with the lent records make the whole.
-abbrev pub whole : List Record → OpenedParts → OpenDone
-whole rs o = record { queue = record { tables = o .tables; records = zeroed (o .clear) unused rs }; outcome = o .outcome }

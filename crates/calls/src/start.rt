@@ -1,4 +1,5 @@
-// The starts of a push that names its slot, of one that names none, and of a pop.
+// The starts of a push that names its slot, of one that names none, and of a pop. Each goes by the lengths told, whatever
+// lengths the tables have.
 use crate::refusal;
 use model::Answer;
 use model::Asked;
@@ -9,13 +10,10 @@ use model::Transition;
 use sound::Lengths;
 use sound::admission;
 ghost use mathlib.Core.Path.{_≡_};
-ghost use mathlib.Core.List.{List};
-ghost use Prim.Native.Nat.{ℕ};
-ghost use Rattle.model.specs.Tables.{tablesOf, newCall};
-ghost use Rattle.model.specs.Calls.{pushStart, putStart, popStart};
-ghost use Rattle.sound.specs.Lengths.{Measures, amongMany};
-ghost use Rattle.table.specs.Lent.{withTables};
-ghost use Rattle.calls.specs.Starting.{decided};
+ghost use mathlib.Core.List.{[]};
+ghost use Rattle.model.specs.Tables.{newCall, started, asking};
+ghost use Rattle.model.specs.Refusals.{nothingAsked, pooledPush};
+ghost use Rattle.calls.specs.Starting.{decided, refusedBy, touching, pushRefusedBy, storedUnless};
 
 /// The whole record of a call at its first place.
 pub fn new_call(place: u64, kind: u64, side: u64, own: u64, label: u32) -> Call
@@ -57,10 +55,7 @@ fn decided(c: Control, r: Call, why: u32, task: Call) -> Transition
 }
 
 pub fn pop_start(c: Control, r: Call, task: usize, side: u64, t: Lengths) -> Transition
-    ensures { λ m.
-        ⌜ ((lefts rights labels marks next : List ℕ) (retries : ℕ) → (let q = tablesOf c lefts rights labels marks next in
-        Measures t q → withTables m lefts rights labels marks next retries
-        ≡ popStart q (amongMany c t task) (record { call = r; retries = retries }) side)) ⌝ }
+    ensures { λ m. ⌜ m ≡ decided c r (refusedBy t c task r side nothingAsked) (started 1 side 0 0) ⌝ }
 {
     let asked = Asked {
         wrong: false,
@@ -75,10 +70,7 @@ pub fn pop_start(c: Control, r: Call, task: usize, side: u64, t: Lengths) -> Tra
 
 /// A push that names no slot: it draws one from the stack, at 12 to 14.
 pub fn put_start(c: Control, r: Call, task: usize, side: u64, label: u32, t: Lengths) -> Transition
-    ensures { λ m.
-        ⌜ ((lefts rights labels marks next : List ℕ) (retries : ℕ) → (let q = tablesOf c lefts rights labels marks next in
-        Measures t q → withTables m lefts rights labels marks next retries
-        ≡ putStart q (amongMany c t task) (record { call = r; retries = retries }) side label)) ⌝ }
+    ensures { λ m. ⌜ m ≡ decided c r (refusedBy t c task r side (pooledPush (touching c [] []))) (asking side label) ⌝ }
 {
     let asked = Asked {
         wrong: c.pooled != 1,
@@ -102,10 +94,11 @@ pub fn push_start(
     labels: &mut [u32],
     marks: &mut [u64],
 ) -> Transition
+    ensures { λ m. ⌜ m ≡ decided c r (pushRefusedBy t c task r side slot (now (marks .entry))) (started 0 side slot label) ⌝ }
     ensures { λ m.
-        ⌜ ((lefts rights next : List ℕ) (retries : ℕ) → (let q = tablesOf c lefts rights (now (labels .entry)) (now (marks .entry)) next in
-        Measures t q → withTables m lefts rights (now (labels .exit)) (now (marks .exit)) next retries
-        ≡ pushStart q (amongMany c t task) (record { call = r; retries = retries }) side slot label)) ⌝ }
+        ⌜ touching c (now (labels .exit)) (now (marks .exit))
+        ≡ storedUnless (pushRefusedBy t c task r side slot (now (marks .entry)))
+        (touching c (now (labels .entry)) (now (marks .entry))) slot label ⌝ }
 {
     let inside = sound::from1(c.slots, slot);
     let taken = table::marked(marks, slot);

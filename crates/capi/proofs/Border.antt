@@ -20,8 +20,8 @@ use Rattle.model.specs.Calls.{Done, OpenDone, opened as openedQueue, openAs, ac
 use Rattle.model.proofs.tests.Truth.{split}
 use Rattle.model.specs.Lists.{zeroed}
 use Rattle.calls.specs.declared.opening.OpenedTables.{OpenedTables}
-use Rattle.calls.specs.Opening.{manyRecords, OpenedParts, openTables, whole}
-use Rattle.calls.proofs.Openings.{clear-fits, open-parts}
+use Rattle.calls.specs.Opening.{manyRecords, OpenedParts, openTables}
+use Rattle.calls.proofs.Openings.{clear-fits, open-parts, whole}
 use Rattle.calls.specs.Telling.{countable}
 use Rattle.calls.proofs.Counts.{countable-fits}
 use Rattle.calls.proofs.Tells.{all-looked-at, report-parts}

@@ -39,14 +39,6 @@ noEntry = record { slot = 0; label = 0 }
 unfoldable pub mayChange : ℕ → ℕ → ℕ → Bool
 mayChange slots seen new = anchorSound slots (anchorOf new) && ltb (anchorOf seen .tag) 4294967295
 
--- A change of Anchor from the word as read to new: done leads the record t on; failed is what a failed one comes to.
-unfoldable pub changed : Control → Call → ℕ → Call → ℕ → Transition → Transition
-changed c r new t done failed =
-    let sound = anchorSound (c .slots) (anchorOf new) && ltb (anchorOf (r .seen) .tag) 4294967295 in
-    cond (eqb (c .anchor) (r .seen))
-    (cond sound (settled (anchored c new) t done noEntry) (refused c r))
-    failed
-
 -- A push whose change of Anchor at place 4 is done remembers the new word, and is finishing.
 unfoldable pub remembered : Call → ℕ → Call
 remembered r new = cond (eqb (r .kind) 0) (withSeen r new 1) r

@@ -10,7 +10,8 @@ use lib.ListN.{length, getD, set, take}
 use borrow.Author.Tests.{eq-eqb, ne-eqb}
 use Rattle.model.specs.declared.Entry.{Entry}
 use Rattle.model.proofs.tests.Truth.{not-both}
-use Rattle.find_model.specs.Noting.{note, notes, pick}
+use Rattle.find_model.specs.Noting.{note, pick}
+use Rattle.find_model.proofs.Positions.{notes}
 
 pub set-own : (l : List ℕ) (i : ℕ) → set l i (getD l i 0) ≡ l
 set-own [] i = refl

@@ -15,8 +15,8 @@ use Rattle.walk.specs.Ways.{turnedBack}
 use Rattle.walk.specs.Over.{Made, made, lost, each, over}
 use Rattle.find_model.specs.declared.FindReply.{FindReply}
 use Rattle.find_model.specs.Find.{found, refused}
-use Rattle.find_model.specs.Noting.{note, notes, turned}
-use Rattle.find_model.proofs.Positions.{from-left, from-right}
+use Rattle.find_model.specs.Noting.{note, turned}
+use Rattle.find_model.proofs.Positions.{notes, from-left, from-right}
 use Rattle.find.specs.Looked.{Noted, noteOn, noted, turning, foundIn}
 use Rattle.find.proofs.Noted.{notes-beyond, notes-most}
 use Rattle.find.proofs.Turning.{turn-all}

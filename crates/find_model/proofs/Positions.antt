@@ -11,9 +11,13 @@ use borrow.Author.Tests.{le-leb, ne-eqb}
 use Rattle.model.specs.declared.Entry.{Entry}
 use Rattle.model.proofs.tests.Truth.{split}
 use Rattle.find_model.specs.Find.{found, position, positionFrom}
-use Rattle.find_model.specs.Noting.{note, notes, pick, turned}
+use Rattle.find_model.specs.Noting.{note, pick, turned}
 
--- What a walk notes for one label.
+-- What a walk notes for all labels asked for, entry by entry from the k-th on; and for one label.
+abbrev pub notes : Bool → List ℕ → ℕ → List ℕ → List Entry → List ℕ
+notes early asked k ps [] = ps
+notes early asked k ps (e ∷ l) = notes early asked (k + 1) (note early (e .label) k asked ps) l
+
 abbrev each : Bool → ℕ → ℕ → ℕ → List Entry → ℕ
 each early x k p [] = p
 each early x k p (e ∷ l) = each early x (k + 1) (pick early x (e .label) k p) l

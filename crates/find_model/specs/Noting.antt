@@ -3,7 +3,6 @@ use mathlib.Core.Bool.{Bool, _&&_, _||_, not, cond}
 use mathlib.Core.List.{List, [], _∷_}
 use Prim.Native.Nat.{ℕ, _+_, _-_}
 use lib.Dec.{eqb}
-use Rattle.model.specs.declared.Entry.{Entry}
 use Rattle.model.specs.Sound.{from1}
 
 -- What is noted for label x when the k-th slot holds label y and p was noted before: k, or p. Early: the first of equals counts, else the last.
@@ -15,11 +14,6 @@ abbrev pub note : Bool → ℕ → ℕ → List ℕ → List ℕ → List ℕ
 note early y k [] ps = ps
 note early y k (x ∷ asked) [] = []
 note early y k (x ∷ asked) (p ∷ ps) = pick early x y k p ∷ note early y k asked ps
-
--- The same for one entry after another, from the k-th on.
-abbrev pub notes : Bool → List ℕ → ℕ → List ℕ → List Entry → List ℕ
-notes early asked k ps [] = ps
-notes early asked k ps (e ∷ l) = notes early asked (k + 1) (note early (e .label) k asked ps) l
 
 -- A position counted from the other end of so many rows.
 abbrev pub turned : ℕ → ℕ → ℕ

@@ -1,6 +1,7 @@
 -- A reading whose numbers lie at the front of two buffers, as many as there is room for.
 use mathlib.Core.Bool.{false, _||_, cond}
 use mathlib.Core.List.{List}
+use mathlib.Core.Path.{_≡_}
 use Prim.Native.Nat.{ℕ, _-_, _≤_}
 use lib.Dec.{eqb}
 use lib.ListN.{take, drop}
@@ -30,3 +31,13 @@ separated s b next =
 pub record Within (s : State) (m n : ℕ) : Type 0 where
   pub calls : s .calls ≤ m
   pub order : s .order ≤ n
+
+-- A buffer written from one position on and before another: from there on it is as it was.
+pub record Written (from to : ℕ) (before after : List ℕ) : Type 0 where
+  pub onward : from ≤ to
+  pub rest : drop to after ≡ drop to before
+
+-- Both buffers, written from the numbers kept in one state on and before those kept in a later one.
+pub record BothWritten (s r : State) (cs os cs′ os′ : List ℕ) : Type 0 where
+  pub calls : Written (s .calls) (r .calls) cs cs′
+  pub order : Written (s .order) (r .order) os os′

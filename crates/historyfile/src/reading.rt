@@ -5,7 +5,7 @@ ghost use mathlib.Core.Path.{_≡_};
 ghost use mathlib.Core.Bool.{false};
 ghost use Prim.Native.Nat.{_+_, _^_, _≤_, _<_};
 ghost use lib.ListN.{length, take};
-ghost use Rattle.historyfile.specs.Buffer.{Within, ahead, held, reading, separated};
+ghost use Rattle.historyfile.specs.Buffer.{BothWritten, Within, Written, ahead, held, reading, separated};
 ghost use Rattle.historyfile.specs.Reading.{appended, atStart, endedLine, kept, nextColumn, nextLine, numbered, readWord, stopped, turned, whole};
 ghost use Rattle.historyfile.specs.declared.words.Meaning;
 ghost use Rattle.historyfile.specs.Words.{says};
@@ -117,7 +117,6 @@ fn take_meaning(p: Place, m: Meaning) -> Turn
     }
 }
 
-// Behind a word.
 fn behind_word(p: Place, word: &[u8]) -> Turn
     ensures { λ r. ⌜ r ≡ turned p (says (p .column) (now (word .entry))) ⌝ }
 {
@@ -161,6 +160,7 @@ fn keep(gives: bool, value: u64, count: usize, values: &mut [u64]) -> usize
     ensures { λ r.
         ⌜ take r (now (values .exit)) ≡ take (length (now (values .entry))) (appended gives value (take count (now (values .entry)))) ⌝ }
     ensures { λ r. ⌜ r ≤ length (now (values .entry)) ⌝ }
+    ensures { λ r. ⌜ Written count r (now (values .entry)) (now (values .exit)) ⌝ }
 {
     if !gives {
         return count;
@@ -178,8 +178,8 @@ fn keep_turn(s: State, t: Turn, calls: &mut [u64], order: &mut [u64]) -> State
     ensures { λ r.
         ⌜ reading r (now (calls .exit)) (now (order .exit))
         ≡ held (length (now (calls .entry))) (length (now (order .entry))) (kept t (reading s (now (calls .entry)) (now (order .entry)))) ⌝ }
-    ensures { λ r. ⌜ Within r (length (now (calls .entry))) (length (now (order .entry))) ⌝ }
-    ensures { λ r. ⌜ (r .from ≡ s .from) × (r .comment ≡ s .comment) ⌝ }
+    ensures { λ r. ⌜ Within r (length (now (calls .entry))) (length (now (order .entry))) × (r .from ≡ s .from) × (r .comment ≡ s .comment) ⌝ }
+    ensures { λ r. ⌜ BothWritten s r (now (calls .entry)) (now (order .entry)) (now (calls .exit)) (now (order .exit)) ⌝ }
 {
     let place = s.place;
     let in_order = place.column == 8;
@@ -202,8 +202,8 @@ fn take_word(s: State, word: &[u8], calls: &mut [u64], order: &mut [u64]) -> Sta
         ⌜ reading r (now (calls .exit)) (now (order .exit))
         ≡ held (length (now (calls .entry))) (length (now (order .entry)))
         (readWord (now (word .entry)) (reading s (now (calls .entry)) (now (order .entry)))) ⌝ }
-    ensures { λ r. ⌜ Within r (length (now (calls .entry))) (length (now (order .entry))) ⌝ }
-    ensures { λ r. ⌜ (r .from ≡ s .from) × (r .comment ≡ s .comment) ⌝ }
+    ensures { λ r. ⌜ Within r (length (now (calls .entry))) (length (now (order .entry))) × (r .from ≡ s .from) × (r .comment ≡ s .comment) ⌝ }
+    ensures { λ r. ⌜ BothWritten s r (now (calls .entry)) (now (order .entry)) (now (calls .exit)) (now (order .exit)) ⌝ }
 {
     let place = s.place;
     if (word.len() == 0) | (place.fault != 0) {
@@ -245,6 +245,7 @@ fn take_byte(s: State, text: &[u8], i: usize, calls: &mut [u64], order: &mut [u6
         ⌜ ahead (length (now (calls .entry))) (length (now (order .entry))) (now (text .entry)) (i + 1) r (now (calls .exit)) (now (order .exit))
         ≡ ahead (length (now (calls .entry))) (length (now (order .entry))) (now (text .entry)) i s (now (calls .entry)) (now (order .entry)) ⌝ }
     ensures { λ r. ⌜ (r .from ≤ i + 1) × Within r (length (now (calls .entry))) (length (now (order .entry))) ⌝ }
+    ensures { λ r. ⌜ BothWritten s r (now (calls .entry)) (now (order .entry)) (now (calls .exit)) (now (order .exit)) ⌝ }
 {
     let b = text[i];
     if words::of_word(s.comment, b) {
@@ -279,6 +280,7 @@ pub fn read(text: &[u8], calls: &mut [u64], order: &mut [u64]) -> State
         ⌜ reading r (now (calls .exit)) (now (order .exit))
         ≡ held (length (now (calls .entry))) (length (now (order .entry))) (whole (now (text .entry))) ⌝ }
     ensures { λ r. ⌜ Within r (length (now (calls .entry))) (length (now (order .entry))) ⌝ }
+    ensures { λ r. ⌜ Written 0 (r .calls) (now (calls .entry)) (now (calls .exit)) × Written 0 (r .order) (now (order .entry)) (now (order .exit)) ⌝ }
 {
     let mut s = begin();
     for i in 0..text.len() {

@@ -22,7 +22,8 @@ use Rattle.walk.specs.Counted.{counted}
 use Rattle.walk.proofs.Counting.{all-counted, none-counted}
 use Rattle.rows.specs.Rows.{recordsOf}
 use Rattle.rows.proofs.Rows.{length-records}
-use Rattle.join_model.specs.Join.{anchorIn, lane, lanes, sourceFits, thirdFits, atRest, fresh}
+use Rattle.stock_model.specs.Accounts.{waitingLabels}
+use Rattle.join_model.specs.Join.{anchorIn, lanes, sourceFits, thirdFits, atRest, fresh}
 use Rattle.join_model.specs.Closed.{lateFor, closedRefusal}
 use Rattle.join_model.proofs.Merged.{interleaved, length-merged}
 use Rattle.join.specs.declared.admit.Admission.{Admission}
@@ -97,16 +98,14 @@ module _ (a b q : Queue) where
           )) (λ z. omega arith)
 
       module _ (m : ℕ) (h : Labels m ≡ counted (contents (b .tables))) where
-        in-first : k ≡ length (lane a)
-        unfolding lane
+        in-first : k ≡ length (waitingLabels (a .tables))
         in-first = all-counted (contents (a .tables)) k g .1 ∙ sym (length-map (met (contents (a .tables))) (λ (e : Entry). e .label))
 
-        in-second : m ≡ length (lane b)
-        unfolding lane
+        in-second : m ≡ length (waitingLabels (b .tables))
         in-second = all-counted (contents (b .tables)) m h .1 ∙ sym (length-map (met (contents (b .tables))) (λ (e : Entry). e .label))
 
         in-both : k + m ≡ length (lanes a b)
-        in-both = ap₂ (λ (x y : ℕ). x + y) in-first in-second ∙ sym (length-merged (interleaved (lane a) (lane b)))
+        in-both = ap₂ (λ (x y : ℕ). x + y) in-first in-second ∙ sym (length-merged (interleaved (waitingLabels (a .tables)) (waitingLabels (b .tables))))
 
         pub decided : (code : ℕ)
             → code ≡ laterRefusal (every (atRest a ∷ atRest b ∷ fresh q ∷ [])) (ltb (q .tables .control .slots) (k + m)) (lateFor (anchorIn q .tag) (k + m))

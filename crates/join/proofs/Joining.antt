@@ -19,7 +19,8 @@ use Rattle.model.proofs.tests.Rules.{tests}
 use Rattle.model.proofs.tests.Truth.{split, not-both}
 use Rattle.model.specs.Sides.{isEmpty}
 use Rattle.join_model.specs.Merge.{merge}
-use Rattle.join_model.specs.Join.{anchorIn, lane, lanes, joinRefusal, Joined, join, laid}
+use Rattle.stock_model.specs.Accounts.{waitingLabels}
+use Rattle.join_model.specs.Join.{anchorIn, lanes, joinRefusal, Joined, join, laid}
 use Rattle.join_model.specs.Closed.{filled, leftOf, labelOf, markedTo, held, holding, lateFor, closedRefusal, joinClosed}
 use Rattle.join_model.proofs.Merged.{interleaved, length-merged}
 use Rattle.join_model.proofs.Filling.{filled-at}
@@ -42,8 +43,8 @@ module _ (q : Tables) where
   unfolding contents
   from-right e f = rw (e, f)
 
--- The labels of a lane are what the rows lead to, from the last one down.
-module _ (q : Queue) (rests : Rests q) (n : ℕ) (all : n ≡ length (lane q)) (slots : List ℕ) where
+-- The labels waiting are what the rows lead to, from the last one down.
+module _ (q : Queue) (rests : Rests q) (n : ℕ) (all : n ≡ length (waitingLabels (q .tables))) (slots : List ℕ) where
   abbrev t : Tables
   t = q .tables
 
@@ -53,8 +54,7 @@ module _ (q : Queue) (rests : Rests q) (n : ℕ) (all : n ≡ length (lane q)) (
   abbrev f : ℕ → ℕ
   f = labelVia (t .labels) slots
 
-  pub lane-rows : ((i : ℕ) → 1 ≤ i → i ≤ n → getD slots i 0 ≡ walkedTo (t .lefts) end i) → rowsDown f n ≡ lane q
-  unfolding lane
+  pub lane-rows : ((i : ℕ) → 1 ≤ i → i ≤ n → getD slots i 0 ≡ walkedTo (t .lefts) end i) → rowsDown f n ≡ waitingLabels (q .tables)
   lane-rows at = split (isEmpty (anchorIn q)) none some
     where
       none : isEmpty (anchorIn q) ≡ true → rowsDown f n ≡ names (met (contents t))
@@ -102,9 +102,9 @@ module _ (a b q : Queue) where
     unfolding joinClosed
     joined-is = closed-join a b q ∙ rw e
 
-    module _ (n m : ℕ) (in-first : n ≡ length (lane a)) (in-second : m ≡ length (lane b)) where
+    module _ (n m : ℕ) (in-first : n ≡ length (waitingLabels (a .tables))) (in-second : m ≡ length (waitingLabels (b .tables))) where
       size : n + m ≡ length (lanes a b)
-      size = ap₂ (λ (x y : ℕ). x + y) in-first in-second ∙ sym (length-merged (interleaved (lane a) (lane b)))
+      size = ap₂ (λ (x y : ℕ). x + y) in-first in-second ∙ sym (length-merged (interleaved (waitingLabels (a .tables)) (waitingLabels (b .tables))))
 
       room : n + m ≤ q .tables .control .slots
       room = omega (arith, size, accepted a b q e .0 .room)
@@ -151,12 +151,12 @@ module _ (a b q : Queue) where
           let rows = tests (rowTests false (q .tables .control .slots) (q .tables)) (accepted a b q e .0 .third .rows) in
           (rw z (ltb-true _ _ (rows .0)), rw z (ltb-true _ _ (rows .1 .0)))
 
-      lane1 : rowsDown (labelVia (a .tables .labels) scratch1) n ≡ lane a
+      lane1 : rowsDown (labelVia (a .tables .labels) scratch1) n ≡ waitingLabels (a .tables)
       lane1 =
           lane-rows a (accepted a b q e .0 .first) n in-first scratch1
           (λ i l h. filled-at _ n (q .tables .lefts) i l h (omega (arith, room, long (q .tables .control .slots) refl .0)))
 
-      lane2 : rowsDown (labelVia (b .tables .labels) scratch2) m ≡ lane b
+      lane2 : rowsDown (labelVia (b .tables .labels) scratch2) m ≡ waitingLabels (b .tables)
       lane2 =
           lane-rows b (accepted a b q e .0 .second) m in-second scratch2
           (λ i l h. filled-at _ m (q .tables .rights) i l h (omega (arith, room, long (q .tables .control .slots) refl .1)))

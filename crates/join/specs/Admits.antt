@@ -4,7 +4,7 @@ use lib.ListN.{length}
 use Rattle.model.specs.Tables.{Queue}
 use Rattle.walk.specs.declared.Tally.{Tally}
 use Rattle.walk.specs.declared.Tally.the-variants.{Broken, Labels}
-use Rattle.join_model.specs.Join.{lane}
+use Rattle.stock_model.specs.Accounts.{waitingLabels}
 use Rattle.join_model.specs.Closed.{closedRefusal}
 use Rattle.join.specs.declared.admit.Admission.{Admission}
 
@@ -17,5 +17,5 @@ walked (Labels n) (Labels m) = record { code = 0; first = n; second = m }
 -- Its refusal; and where there is none, how many labels wait in each of the two queues.
 pub record Admits (a b q : Queue) (r : Admission) : Type 0 where
   pub refusal : r .code ≡ closedRefusal a b q
-  pub first : r .code ≡ 0 → r .first ≡ length (lane a)
-  pub second : r .code ≡ 0 → r .second ≡ length (lane b)
+  pub first : r .code ≡ 0 → r .first ≡ length (waitingLabels (a .tables))
+  pub second : r .code ≡ 0 → r .second ≡ length (waitingLabels (b .tables))

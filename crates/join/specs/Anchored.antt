@@ -1,20 +1,19 @@
 -- Control after the pushes, and what the joining by value leaves.
 use mathlib.Core.Path.{_≡_}
 use mathlib.Core.Bool.{false, cond}
-use mathlib.Core.List.{List, []}
+use mathlib.Core.List.{List}
 use Prim.Native.Nat.{ℕ}
 use lib.ListN.{set}
 use Rattle.word.specs.Anchor.{anchorOf, packAnchor}
 use Rattle.model.specs.declared.Control.{Control}
-use Rattle.model.specs.Tables.{Queue, tablesOf, queueOf, idle, withCall, taskAt, withAnchor}
+use Rattle.model.specs.Tables.{Queue, queueOf, idle, withCall, taskAt, withWords}
 use Rattle.join_model.specs.Join.{Joined, join, laid}
 use Rattle.join_model.specs.Closed.{tagAfter}
 use Rattle.join.specs.declared.Done.{Done}
 
 -- The Anchor of n labels in slots 1 to n.
 unfoldable pub anchored : Control → ℕ → Control
-anchored c n =
-    withAnchor (tablesOf c [] [] [] [] []) (packAnchor (record { tag = tagAfter (anchorOf (c .anchor) .tag) n; status = 0; left = 1; right = n })) .control
+anchored c n = withWords c (packAnchor (record { tag = tagAfter (anchorOf (c .anchor) .tag) n; status = 0; left = 1; right = n })) (c .head)
 
 -- Its answer and the third then, once record 0 has no call, and its own count, where labels were laid.
 pub record Joins (a b q : Queue) (d : Done) (lefts rights labels marks : List ℕ) : Type 0 where

@@ -10,7 +10,7 @@ use Rattle.model.specs.Walk.{contents, isBroken}
 use Rattle.model.specs.Refusals.{Rule, rule, first}
 use Rattle.model.proofs.tests.Rules.{tests, cleared}
 use Rattle.model.proofs.tests.Truth.{and-true, split}
-use Rattle.join_model.specs.Join.{anchorIn, lane, lanes, pushes, outcomes, anyLate, sourceFits, thirdFits, atRest, fresh}
+use Rattle.join_model.specs.Join.{anchorIn, lanes, pushes, outcomes, anyLate, sourceFits, thirdFits, atRest, fresh}
 use Rattle.join_model.specs.Join.{earlyRules, joinRules, joinRefusal, Joined, joined, join}
 use Rattle.join_model.specs.Closed.{lateFor, held, holding, closedRefusal, joinClosed}
 use Rattle.join_model.specs.Laws.{ClosedForm, AllAnswered, NotLent, answers, besides}
@@ -105,11 +105,11 @@ module _ (a b q : Queue) (marks1 next1 marks2 next2 next : List ℕ) where
   laid-other false l = refl
 
   same-lanes : lanes (besides a marks1 next1) (besides b marks2 next2) ≡ lanes a b
-  unfolding lane contents
+  unfolding contents
   same-lanes = refl
 
   closed-other : closedRefusal (besides a marks1 next1) (besides b marks2 next2) (other q) ≡ closedRefusal a b q
-  unfolding closedRefusal lane contents sourceFits thirdFits atRest fresh busy
+  unfolding closedRefusal contents sourceFits thirdFits atRest fresh busy
   closed-other = refl
 
 pub not-lent : NotLent

@@ -11,8 +11,9 @@ use Rattle.model.specs.Walk.{contents, entries, isBroken, met}
 use Rattle.model.specs.History.{Request, final, run}
 use Rattle.model.proofs.tests.Rules.{_and_, never}
 use Rattle.model.proofs.{Standing.standing, Linearizable.linearizable, Never34.never-34}
+use Rattle.stock_model.specs.Accounts.{waitingLabels}
 use Rattle.stock_model.proofs.Accounts.{every-label, stock-taking}
-use Rattle.join_model.specs.Join.{anchorIn, anyLate, lane, lanes, outcomes, pushes, joinRefusal, joinRules, join}
+use Rattle.join_model.specs.Join.{anchorIn, anyLate, lanes, outcomes, pushes, joinRefusal, joinRules, join}
 use Rattle.join_model.specs.Closed.{tagAfter, lateFor, holding, closedRefusal}
 use Rattle.join_model.specs.Laws.{OwnOrder, StaysAscending, TieToFirst, SameCopies, RefusalKeeps, Zeros, OnlyFresh, JoinedWait, numbered, Continues}
 use Rattle.join_model.specs.Laws.{JoinNever34, StandingJoinings}
@@ -21,16 +22,16 @@ use Rattle.join_model.proofs.Closed.{same-refusal, accepted, joins}
 use Rattle.join_model.proofs.Merged.{interleaved, ascending, tie, copies-merged}
 
 pub own-order : OwnOrder
-own-order a b = interleaved (lane a) (lane b)
+own-order a b = interleaved (waitingLabels (a .tables)) (waitingLabels (b .tables))
 
 pub stays-ascending : StaysAscending
-stays-ascending a b = ascending (lane a) (lane b)
+stays-ascending a b = ascending (waitingLabels (a .tables)) (waitingLabels (b .tables))
 
 pub tie-to-first : TieToFirst
 tie-to-first = tie
 
 pub same-copies : SameCopies
-same-copies a b x = copies-merged x (interleaved (lane a) (lane b))
+same-copies a b x = copies-merged x (interleaved (waitingLabels (a .tables)) (waitingLabels (b .tables)))
 
 -- Where no start is late, the tag after the last push has room.
 pub tag-room : (tag m : ℕ) → lateFor tag (suc m) ≡ false → tagAfter tag (suc m) ≤ 4294967264

@@ -172,7 +172,7 @@ module _ (q : Queue) (fresh : Fresh q) (f : ℕ → ℕ) where
           (withCall (taskAt before 0) idle) ≡ held q count f
       unfolding held
       is-held =
-          let left : count ≡ leftOf (suc count) = omega arith in
+          let left : count ≡ leftOf (suc count) = omega (arith, h, fresh .slots) in
           let same = ap (λ (r : Record). set (before .records) 0 (withCall r idle)) rested-there ∙ set-set (q .records) 0 rested rested in
           λ i. record {
             tables = withAnchor (tablesOf (q .tables .control)

@@ -16,7 +16,7 @@ filled f (suc n) l = set (filled f n l) (suc n) (f (suc n))
 
 -- Left of k names k - 1, with tag 0; Right of k names k + 1, with tag 1; row k has the k-th label.
 abbrev pub leftOf : ℕ → ℕ
-leftOf k = k - 1
+leftOf k = packLink (record { tag = 0; slot = k - 1 })
 
 abbrev pub rightOf : ℕ → ℕ
 rightOf k = packLink (record { tag = 1; slot = suc k })

@@ -6,14 +6,15 @@ use lib.Dec.{ltb, eqb}
 use lib.ListN.{length, getD, replicate}
 use Rattle.word.specs.declared.Anchor.{Anchor}
 use Rattle.word.specs.Anchor.{anchorOf}
-use Rattle.model.specs.declared.{Entry.Entry, Outcome.Outcome}
+use Rattle.model.specs.declared.Outcome.{Outcome}
 use Rattle.model.specs.declared.Outcome.the-variants.{Refused, Moved}
 use Rattle.model.specs.declared.Op.the-variants.{Push, Step}
 use Rattle.model.specs.Tables.{Queue, isPooled}
 use Rattle.model.specs.{Sound.controlSound, Report.busy, Sides.isEmpty, Lists.every}
-use Rattle.model.specs.Walk.{contents, isBroken, met}
+use Rattle.model.specs.Walk.{contents, isBroken}
 use Rattle.model.specs.Refusals.{Rule, rule, first, recordsFit}
 use Rattle.model.specs.History.{Request, Event, run, final}
+use Rattle.stock_model.specs.Accounts.{waitingLabels}
 use Rattle.join_model.specs.Merge.{merge}
 
 abbrev pub anchorIn : Queue → Anchor
@@ -44,12 +45,9 @@ freshTests q =
 unfoldable pub fresh : Queue → Bool
 fresh q = every (freshTests q)
 
--- The labels waiting in a queue, from left to right; and those of both, as the third receives them.
-unfoldable pub lane : Queue → List ℕ
-lane q = map (λ (e : Entry). e .label) (met (contents (q .tables)))
-
+-- The labels waiting in both queues, as the third receives them.
 abbrev pub lanes : Queue → Queue → List ℕ
-lanes a b = merge (lane a) (lane b)
+lanes a b = merge (waitingLabels (a .tables)) (waitingLabels (b .tables))
 
 -- The requests of task 0 that push a label at the right into slot k, alone: the start, and the steps to its answer, 2 on the empty queue, else 9.
 abbrev pub pushAlone : ℕ → ℕ → List Request

@@ -11,23 +11,23 @@ use Rattle.model.specs.Tables.{Tables, Queue, withMarks, withNext}
 use Rattle.model.specs.{Calls.openQueue, Standing.Standing, Lists.copies}
 use Rattle.model.specs.Walk.{contents, entries}
 use Rattle.model.specs.History.{Request, run, final, ledger, Linearized, NeverUnsound, AfterOpening}
-use Rattle.stock_model.specs.Accounts.{Accounted, StockSum}
+use Rattle.stock_model.specs.Accounts.{waitingLabels, Accounted, StockSum}
 use Rattle.join_model.specs.Merge.{merge, Interleaved, Ascending}
-use Rattle.join_model.specs.Join.{fresh, lane, lanes, pushes, outcomes, joinRefusal, join}
+use Rattle.join_model.specs.Join.{fresh, lanes, pushes, outcomes, joinRefusal, join}
 use Rattle.join_model.specs.Closed.{joinClosed}
 
 -- Each queue keeps its own order, and two ascending queues give an ascending one; a tie goes to the first; no label is lost or made.
 abbrev pub OwnOrder : Type 0
-OwnOrder = (a b : Queue) → Interleaved (lane a) (lane b) (lanes a b)
+OwnOrder = (a b : Queue) → Interleaved (waitingLabels (a .tables)) (waitingLabels (b .tables)) (lanes a b)
 
 abbrev pub StaysAscending : Type 0
-StaysAscending = (a b : Queue) → Ascending (lane a) → Ascending (lane b) → Ascending (lanes a b)
+StaysAscending = (a b : Queue) → Ascending (waitingLabels (a .tables)) → Ascending (waitingLabels (b .tables)) → Ascending (lanes a b)
 
 abbrev pub TieToFirst : Type 0
 TieToFirst = (x : ℕ) (xs ys : List ℕ) → merge (x ∷ xs) (x ∷ ys) ≡ x ∷ merge xs (x ∷ ys)
 
 abbrev pub SameCopies : Type 0
-SameCopies = (a b : Queue) (x : ℕ) → copies x (lanes a b) ≡ copies x (lane a) + copies x (lane b)
+SameCopies = (a b : Queue) (x : ℕ) → copies x (lanes a b) ≡ copies x (waitingLabels (a .tables)) + copies x (waitingLabels (b .tables))
 
 -- A refusal changes nothing.
 abbrev pub RefusalKeeps : Type 0

@@ -2,7 +2,8 @@
 use mathlib.Core.Path.{_≡_, refl, sym, ap, ap₂, _∙_}
 use mathlib.Core.{Bool.cond, List.List}
 use Prim.Native.Nat.{ℕ, zero, suc, _+_, _-_, _*_, _/_, _%_, _^_, _<_, _≤_, min}
-use native.Mathlib.Nat.{mod-lt, mod-one, mod-eq-of-lt, add-zero, zero-add, add-suc, add-assoc, add-comm, lt-trans, lt-suc-self, le-of-suc-le-suc, not-suc-le-zero}
+use native.Mathlib.Nat.{mod-lt, mod-one, mod-eq-of-lt, add-zero, zero-add, add-suc, add-assoc, add-comm}
+use native.Mathlib.Nat.{lt-trans, lt-suc-self, le-of-suc-le-suc, not-suc-le-zero}
 use native.Mathlib.{Numerals.one-add, Omega.arith}
 use lib.Dec.{lit<, eqb}
 use borrow.Author.Tests.{eqb-false, eqb-true, ne-eqb}

@@ -16,11 +16,18 @@ use Rattle.model.specs.Calls.{entryOf, finish}
 use Rattle.model.proofs.laws.Onward.{reads-on}
 use Rattle.table.specs.Lent.{withTables}
 use Rattle.places.specs.Arm.{stepAt, Steps}
-use Rattle.decide.specs.Ending.{refused, settled, noEntry, failing, anchored, mayChange, remembered, compared, changed}
+use Rattle.decide.specs.Ending.{refused, settled, noEntry, failing, anchored, mayChange, remembered, compared}
 use Rattle.decide.specs.Decided.{new2, new4, new10}
 use Rattle.decide.proofs.Routes.{kinds, readings, Quiet, quietly}
 use Rattle.model.proofs.tests.Truth.{split}
 use Rattle.model.specs.Sides.{far, facing, pushing}
+
+-- A change of Anchor from the word as read to new: done leads the record t on; failed is what a failed one comes to.
+unfoldable pub changed : Control → Call → ℕ → Call → ℕ → Transition → Transition
+changed c r new t done failed =
+    cond (eqb (c .anchor) (r .seen))
+    (cond (mayChange (c .slots) (r .seen) new) (settled (anchored c new) t done noEntry) (refused c r))
+    failed
 
 -- The step at place n tries to change Anchor: the change fails, is denied or is made.
 pub record Tries (n : ℕ) (c : Control) (r : Call) (new : ℕ) (t : Call) (done : ℕ) (failed : Transition) : Type 0 where
@@ -32,11 +39,11 @@ module _ {n : ℕ} {c : Control} {r : Call} {new : ℕ} {t : Call} {done : ℕ} 
   fails h = rw (ne-eqb _ _ h) at (tried .steps)
 
   pub denies : c .anchor ≡ r .seen → mayChange (c .slots) (r .seen) new ≡ false → Steps n c r (refused c r)
-  unfolding changed mayChange
+  unfolding changed
   denies h s = rw (eq-eqb _ _ h, s) at (tried .steps)
 
   pub makes : c .anchor ≡ r .seen → mayChange (c .slots) (r .seen) new ≡ true → Steps n c r (settled (anchored c new) t done noEntry)
-  unfolding changed mayChange
+  unfolding changed
   makes h s = rw (eq-eqb _ _ h, s) at (tried .steps)
 
 module _ (c : Control) (r : Call) where
@@ -102,7 +109,7 @@ module _ (c : Control) (r : Call) where
         → Quiet (leads o)
         → ((w : ℕ) → move c (atPlace r n) w ≡ trying new t u o)
         → Tries n c r new t (leads 0) (failing (settled c u (leads o) noEntry))
-    unfolding stepAt stepSound finish changed settled goes counted
+    unfolding stepAt stepSound finish changed mayChange settled goes counted
     changing new t u o first second moves = record {
       steps = λ ls rs ns ms xs k.
           let e = entryOf (tablesOf c ls rs ns ms xs) (atPlace r n) in

@@ -14,7 +14,7 @@ use Rattle.model.specs.Tables.{Tables, Queue, isPooled, unused}
 use Rattle.model.specs.Sound.{controlSound, rowsFit}
 use Rattle.model.specs.Walk.{Walk, entries, broken, contents, isBroken, met}
 use Rattle.model.specs.Report.{waiting}
-use Rattle.model.specs.Refusals.{Rule, rule, first, recordsFit}
+use Rattle.model.specs.Refusals.{Rule, rule, first, tableRules, recordsFit}
 use Rattle.model.proofs.tests.Truth.{not-both, and-true}
 use Rattle.walk.specs.declared.Tally.{Tally}
 use Rattle.walk.specs.Counted.{counted}
@@ -29,7 +29,7 @@ use Rattle.schedule_model.proofs.Searched.{finds}
 use Rattle.schedule_model.proofs.TwoRecords.{two-records}
 use Rattle.schedule_search.specs.declared.Found.{Found}
 use Rattle.schedule_search.specs.Sought.{seeking, Sought, sought}
-use Rattle.schedule.specs.Answered.{refusalBefore, refusalAfter, Begins, Answered, answered}
+use Rattle.schedule.specs.Answered.{refusalAfter, Begins, Answered, answered}
 use Rattle.schedule_search.proofs.Seeking.{handed}
 use Rattle.schedule_search.proofs.Stepping.{sets-above}
 use Rattle.schedule_search.proofs.Unasked.{unasked}
@@ -93,8 +93,7 @@ same-search ws q (x ∷ y ∷ rest) m two few =
 
 -- The rules in two parts.
 first-part : (c f : Bool) (l : List Rule)
-    → first (rule 34 (not c) ∷ rule 12 (not f) ∷ l) ≡ cond (eqb (refusalBefore c f) 0) (first l) (refusalBefore c f)
-unfolding refusalBefore
+    → let n = first (rule 34 (not c) ∷ rule 12 (not f) ∷ []) in first (rule 34 (not c) ∷ rule 12 (not f) ∷ l) ≡ cond (eqb n 0) (first l) n
 first-part true true l = refl
 first-part true false l = refl
 first-part false f l = refl
@@ -121,7 +120,7 @@ module _ (q : Tables) (rs : List Record) (n : ℕ) (a b : Call) (ws : List ℕ) 
   two = eqb (q .control .tasks) 2 && not (eqb (a .place) 0) && not (eqb (b .place) 0)
 
   abbrev before : ℕ
-  before = refusalBefore (controlSound (q .control)) fit
+  before = first (tableRules (q .control) fit)
 
   two-is : twoAtWork Q ≡ two
   two-is = λ i. eqb (q .control .tasks) 2 && not (eqb (these .first i .place) 0) && not (eqb (these .second i .place) 0)

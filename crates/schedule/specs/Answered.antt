@@ -1,22 +1,18 @@
--- The call by value: its refusals in two parts, and what it leaves.
+-- The call by value: its refusals after those of the tables, and what it leaves.
 use mathlib.Core.Path.{_≡_}
-use mathlib.Core.Bool.{Bool, _&&_, not, cond}
-use mathlib.Core.List.{List, [], _∷_}
+use mathlib.Core.Bool.{Bool, _&&_, cond}
+use mathlib.Core.List.{List}
 use Prim.Native.Nat.{ℕ}
 use lib.Dec.{leb}
 use lib.ListN.{length, getD}
 use Rattle.model.specs.declared.Call.{Call}
 use Rattle.model.specs.declared.Record.{Record}
 use Rattle.model.specs.Tables.{Tables, unused}
-use Rattle.model.specs.Refusals.{rule, first}
 use Rattle.walk.specs.declared.Tally.{Tally}
 use Rattle.walk.specs.declared.Tally.the-variants.{Broken, Labels}
 use Rattle.schedule_model.specs.Next.{Handed, nextSchedule}
 
--- Before the walk, over tests already made; and by the walk, where two: two tasks, both busy.
-unfoldable pub refusalBefore : Bool → Bool → ℕ
-refusalBefore control fits = first (rule 34 (not control) ∷ rule 12 (not fits) ∷ [])
-
+-- By the walk, after the rules of the tables (`tableRules`). Two: two tasks, both busy.
 unfoldable pub refusalAfter : Bool → Tally → ℕ
 refusalAfter two Broken = 34
 refusalAfter two (Labels n) = cond (two && leb n 4) 0 42

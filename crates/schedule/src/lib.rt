@@ -11,16 +11,16 @@ ghost use lib.Dec.{eqb, leb};
 ghost use lib.ListN.{getD};
 ghost use Rattle.model.specs.declared.Record.{Record};
 ghost use Rattle.model.specs.Tables.{tablesOf, queueOf, unused};
-ghost use Rattle.model.specs.Sound.{controlSound};
+ghost use Rattle.model.specs.Refusals.{first, tableRules};
 ghost use Rattle.sound.specs.Lengths.{tablesFit};
 ghost use Rattle.rows.specs.Rows.{controlOf, recordOf, recordsOf, queueIn};
 ghost use Rattle.schedule_model.specs.Next.{memoryLength, scheduleRefusal, handing};
 ghost use Rattle.schedule_search.specs.Sought.{seeking};
-ghost use Rattle.schedule.specs.Answered.{refusalBefore, refusalAfter, Begins, Answered, answered};
+ghost use Rattle.schedule.specs.Answered.{refusalAfter, Begins, Answered, answered};
 
 /// 34 for control and Anchor, and 12. The tables and the memory are given by their lengths.
 fn unfit_tables(c: Control, memory: usize, t: Lengths) -> u32
-    ensures { λ why. ⌜ why ≡ refusalBefore (controlSound c) (tablesFit c t && leb 49 memory) ⌝ }
+    ensures { λ why. ⌜ why ≡ first (tableRules c (tablesFit c t && leb 49 memory)) ⌝ }
 {
     if !sound::control_sound(c) {
         return 34;

@@ -12,7 +12,7 @@ use Rattle.schedule_model.specs.Next.{Next, given, noMore}
 use Rattle.schedule_model.specs.Search.{ended, orElse, frees, tried, seekBy}
 use Rattle.schedule_search.specs.declared.Found.{Found}
 use Rattle.schedule_search.specs.Stepped.{moved}
-use Rattle.schedule_search.specs.Sought.{seeking, branch, foundOf, written, Sought, sought, endsHere, under}
+use Rattle.schedule_search.specs.Sought.{seeking, branch, foundOf, written, Sought, sought, goesOn, endsHere, under}
 
 abbrev pub handed : Found → List ℕ → Queue → Sought
 handed f ws q = record { found = f; memory = ws; queue = q }
@@ -50,7 +50,7 @@ pub record Goes (stopped both : Bool) (left : ℕ) : Type 0 where
   pub busy : both ≡ false
   pub some : 0 < left
 
-pub goes-on : (s b : Bool) (left e : ℕ) → e ≡ endsHere s b left → e ≡ 3 → Goes s b left
+pub goes-on : (s b : Bool) (left e : ℕ) → e ≡ endsHere s b left → e ≡ goesOn → Goes s b left
 goes-on true b left e h k = absurd (omega (arith, h, k))
 goes-on false true left e h k = absurd (omega (arith, h, k))
 goes-on false false zero e h k = absurd (omega (arith, h, k))
@@ -65,8 +65,8 @@ module _ (ws : List ℕ) (len : ℕ) (free : Bool) (q : Queue) where
   over zero e = rw e refl
   over (suc n) e = rw e refl
 
-  -- The schedule ends, as the code finds it: e, or 3 where it goes on.
-  ends-so : (s : Bool) (left e : ℕ) → e ≡ endsHere s (bothAnswered q) left → (e ≡ 3 → ⊥)
+  -- The schedule ends, as the code finds it: e, which is an ending.
+  ends-so : (s : Bool) (left e : ℕ) → e ≡ endsHere s (bothAnswered q) left → (e ≡ goesOn → ⊥)
       → under s free (seeking ws len left free q) ≡ ended free (ends e)
   unfolding seekBy
   ends-so true left e h n = ap (λ (k : ℕ). ended free (ends k)) (sym h)
@@ -77,7 +77,7 @@ module _ (ws : List ℕ) (len : ℕ) (free : Bool) (q : Queue) where
       go zero false y h = rw y (ap (λ (k : ℕ). ended free (ends k)) (sym h))
       go (suc k) false y h = absurd (n (h ∙ rw (ne-eqb (suc k) 0 (λ z. omega (arith, z))) refl))
 
-  pub ends-here : (f : Found) (s : Bool) (left e : ℕ) → e ≡ endsHere s (bothAnswered q) left → (e ≡ 3 → ⊥)
+  pub ends-here : (f : Found) (s : Bool) (left e : ℕ) → e ≡ endsHere s (bothAnswered q) left → (e ≡ goesOn → ⊥)
       → f ≡ foundOf (48 - left) (ended free (ends e)) → handed f ws q ≡ found-by left (under s free (seeking ws len left free q))
   ends-here f s left e h n k = ends-as f left e free ws q (under s free (seeking ws len left free q)) (ends-so s left e h n) k
 

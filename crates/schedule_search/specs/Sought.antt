@@ -6,7 +6,7 @@ use lib.Dec.{eqb}
 use lib.ListN.{length}
 use lib.Seq.{sets}
 use Rattle.model.specs.Tables.{Queue}
-use Rattle.schedule_model.specs.Schedules.{ends, atWork}
+use Rattle.schedule_model.specs.Schedules.{answeredBoth, wasCut, wasRefused, ends, atWork}
 use Rattle.schedule_model.specs.Next.{Next, given, noMore}
 use Rattle.schedule_model.specs.Search.{ended, skips, frees, tried, seekBy}
 use Rattle.schedule_search.specs.declared.Found.{Found}
@@ -44,10 +44,14 @@ pub record Sought : Type 0 where
 unfoldable pub sought : ℕ → List ℕ → Next → Queue → Sought
 sought left ws m q = record { found = foundOf (48 - left) m; memory = written (49 - left) m ws; queue = q }
 
--- How a schedule ends: the last step was refused, both calls are answered, no step is left; or 3, it goes on.
+-- No ending: the schedule goes on. No caller reads this number, which in a reply says *no more*.
+abbrev pub goesOn : ℕ
+goesOn = 3
+
+-- How a schedule ends: the last step was refused, both calls are answered, no step is left; or it goes on.
 abbrev pub endsHere : Bool → Bool → ℕ → ℕ
-endsHere stopped both left = cond stopped 2 (cond both 0 (cond (eqb left 0) 1 3))
+endsHere stopped both left = cond stopped wasRefused (cond both answeredBoth (cond (eqb left 0) wasCut goesOn))
 
 -- Below a step: nothing, where it was refused; else m.
 abbrev pub under : Bool → Bool → Next → Next
-under stopped free m = cond stopped (ended free (ends 2)) m
+under stopped free m = cond stopped (ended free (ends wasRefused)) m

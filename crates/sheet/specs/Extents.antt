@@ -10,7 +10,8 @@ use Rattle.walk.specs.declared.Way.{Way}
 use Rattle.walk.specs.Ways.{noneOn, ahead}
 use Rattle.walk.specs.Over.{Made, made, lost, over}
 
--- Each listed label's lowest and highest position, 1 to 1,023 from the left; 1,024 and 0 where it doesn't wait.
+-- Each listed label's lowest and highest position, 1 to 1,023, and 1,024 and 0 where it doesn't wait. Positions rise to the right, and only their order
+-- counts: a walk from the right calls the last label 1,023, however many wait.
 pub record Extents : Type 0 where
   pub low : List ℕ
   pub high : List ℕ

@@ -1,21 +1,25 @@
 -- A joining is turns of its third, those that push the labels: so whatever holds after turns holds with joinings among them.
+-- A queue is filled only while it is idle, so a stretch with joinings in it, up to an answer, is one of turns.
 use mathlib.Core.Bool.{Bool, _&&_, cond, false, not, true}
 use mathlib.Core.List.{List, [], _∷_, _++_, append-assoc, append-nil, map}
 use mathlib.Core.Logic.{_≢_, _⊎_, inl, inr}
 use mathlib.Core.Path.{_≡_, _∙_, ap, ap₂, refl, subst, sym}
 use Prim.Native.Nat.{ℕ, _≤_}
 use lib.Dec.{eqb}
-use borrow.Author.Tests.{eq-eqb, ne-eqb, not-true}
+use borrow.Author.Tests.{eq-eqb, eqb-true, ne-eqb}
 use Rattle.model.specs.{Tables.Queue, Tables.isPooled, Calls.act}
 use Rattle.model.specs.History.{Event, Request, final, run}
-use Rattle.model.specs.Progress.{any, steps, stretchLimit, tookEffectOrAnswered}
-use Rattle.model.proofs.tests.Truth.{and-true, decide-eq, not-both, split}
+use Rattle.model.specs.Progress.{Busy, steps, stretchLimit}
+use Rattle.model.proofs.laws.Sizes.{Sizes}
+use Rattle.model.proofs.tests.Truth.{and-true, by-test, decide-eq, not-both, split}
 use Rattle.join_model.specs.Join.{join, joinRefusal, lanes, pushes}
 use Rattle.shelf_model.specs.Changeovers.{Past, Turn, World, after, asks, breaks, continues, does, eventOf, eventsOf}
 use Rattle.shelf_model.specs.Changeovers.{station, turned, unbroken, withEvent}
 use Rattle.shelf_model.specs.Promises.{Kept}
-use Rattle.shelf_model.specs.Joinings.{Deed, JoinsKept, afterAll, continuous, eventsIn, goesOn, joinedIn, joins, replaces, turns}
+use Rattle.shelf_model.specs.Joinings.{Deed, JoinsKept, afterAll, afterOne, continuous, eventsIn, goesOn, joinedIn, joins, replaces}
+use Rattle.shelf_model.specs.Joinings.{turns, withDeed}
 use Rattle.shelf_model.proofs.Changeovers.{makings}
+use Rattle.shelf_model.proofs.Ongoing.{SomeBusy, Stepless, deed-less, deed-made, deed-more, deed-sizes, deed-steps, filled-idle, tells, turn-busy}
 use Rattle.shelf_model.proofs.Promises.{promises}
 
 -- ---- queue k is asked for a list, and nothing else happens
@@ -168,7 +172,7 @@ all-turns (joins i j k ∷ l) w =
     let h = all-turns l (joinedIn w i j k) in
     (a .0 ++ h .0, h .1 ∙ ap (λ (v : World). after v (h .0)) (a .1) ∙ sym (after-more (a .0) (h .0) w))
 
--- ---- a stretch of queue i with joinings in it is one of turns
+-- ---- a stretch of queue i that no joining fills is one of turns
 record Stretch (i : ℕ) (w : World) (es : List Event) : Type 0 where
   list : List Turn
   whole : unbroken i w list ≡ true
@@ -198,40 +202,87 @@ module _ (i : ℕ) (w : World) (j k third : ℕ) (es : List Event) (s : Stretch 
         same = before-same i third other l (z .list) w ∙ z .same;
       }
 
-  across : not (eqb i third && ok w j k third) ≡ true → Stretch i w es
-  across u =
-      let f = not-true (eqb i third && ok w j k third) u in
-      split (ok w j k third)
+  across : eqb i third && ok w j k third ≡ false → Stretch i w es
+  across f = split (ok w j k third)
       (λ e. pushed-elsewhere e (split (eqb i third) (λ z. absurd (not-both refl (rw (z, e) at f))) (λ z. z)))
       (λ e. subst (λ (v : World). Stretch i v es) (is-nothing w j k third e) s)
 
-stretch-of : (i : ℕ) (l : List Deed) (w : World) → continuous i w l ≡ true → Stretch i w (eventsIn i w l)
+-- With a busy task queue i is not filled, and stays as it is.
+module _ (i : ℕ) (w : World) (j k third : ℕ) (t : ℕ) (b : Busy (w .queues i) t) where
+  not-filled : eqb i third && ok w j k third ≡ false
+  not-filled = split (eqb i third && ok w j k third) (λ e. absurd (filled e)) (λ e. e)
+    where
+      filled : eqb i third && ok w j k third ≡ true → ⊥
+      filled e =
+          let z = and-true (eqb i third) (ok w j k third) e in
+          filled-idle (w .queues j) (w .queues k) (w .queues third) (z .1) t (subst (λ (n : ℕ). Busy (w .queues n) t) (eqb-true _ _ (z .0)) b)
+
+  still-busy : Busy (joinedIn w j k third .queues i) t
+  unfolding joinedIn
+  still-busy = by-test (λ (x : Queue). Busy x t) (eqb i third)
+      (λ e.
+      let z : ok w j k third ≡ false = rw e at not-filled in
+      subst (λ (x : Queue). Busy x t) (ap (w .queues) (eqb-true _ _ e) ∙ sym (third-is w j k third ∙ rw z)) b)
+      (λ _. b)
+
+-- A stretch that begins with a busy task, and in which nothing takes effect or answers.
+stretch-of : (i : ℕ) (l : List Deed) (w : World) (n : ℕ) → Busy (w .queues i) n → continuous i w l ≡ true → tells (eventsIn i w l) ≡ false
+    → Stretch i w (eventsIn i w l)
 unfolding continuous eventsIn unbroken eventsOf
-stretch-of i [] w u = record { list = []; whole = refl; same = refl }
-stretch-of i (turns t ∷ l) w u =
+stretch-of i [] w n b u f = record { list = []; whole = refl; same = refl }
+stretch-of i (turns t ∷ l) w n b u f =
     let a = and-true (not (eqb i (t .queue) && breaks (station w i) (t .action))) (continuous i (turned w t) l) u in
-    let s = stretch-of i l (turned w t) (a .1) in
+    let es = eventsIn i (turned w t) l in
+    let s = stretch-of i l (turned w t) n (turn-busy w i t (a .0) n es b f) (a .1) (deed-less w i (turns t) es f) in
     record {
       list = t ∷ s .list;
       whole = ap₂ _&&_ (a .0) (s .whole);
       same = ap (λ (es : List Event). cond (eqb i (t .queue)) (withEvent (w .queues i) (t .action) es) es) (s .same);
     }
-stretch-of i (joins j k third ∷ l) w u =
-    let a = and-true (not (replaces i w (joins j k third))) (continuous i (joinedIn w j k third) l) u in
-    across i w j k third (eventsIn i (joinedIn w j k third) l) (stretch-of i l (joinedIn w j k third) (a .1)) (a .0)
+stretch-of i (joins j k third ∷ l) w n b u f =
+    let v = joinedIn w j k third in
+    across i w j k third (eventsIn i v l) (stretch-of i l v n (still-busy i w j k third n b) u f) (not-filled i w j k third n b)
 
-stretches : (w : World) → Kept w → (i : ℕ) → w .pasts i .made ≡ true → let c = w .queues i .tables .control in
-    (l : List Deed) → continuous i w l ≡ true → stretchLimit (isPooled c) (c .tasks) ≤ steps (eventsIn i w l)
-    → any tookEffectOrAnswered (eventsIn i w l) ≡ true
-stretches w kept i made l u enough =
-    let c = w .queues i .tables .control in
-    let s = stretch-of i l w u in
-    subst (λ (es : List Event). any tookEffectOrAnswered es ≡ true) (s .same)
-    (kept .promised i made .progress .stretch (s .list) (s .whole)
-    (subst (λ (es : List Event). stretchLimit (isPooled c) (c .tasks) ≤ steps es) (sym (s .same)) enough))
+-- ---- any stretch
+abbrev limitOf : Queue → ℕ
+limitOf q = let c = q .tables .control in stretchLimit (isPooled c) (c .tasks)
+
+module _ (i : ℕ) where
+  by-turns : (w : World) (es : List Event) → Kept w → w .pasts i .made ≡ true → Stretch i w es → limitOf (w .queues i) ≤ steps es → tells es ≡ true
+  by-turns w es kept made s enough =
+      subst (λ (es : List Event). tells es ≡ true) (s .same)
+      (kept .promised i made .progress .stretch (s .list) (s .whole)
+      (subst (λ (es : List Event). limitOf (w .queues i) ≤ steps es) (sym (s .same)) enough))
+
+  -- Up to the first accepted step nothing counts; from there on a task is busy until one answers.
+  stretches : (l : List Deed) (w : World) → ((m : List Deed) → Kept (afterAll w m)) → w .pasts i .made ≡ true → continuous i w l ≡ true
+      → limitOf (w .queues i) ≤ steps (eventsIn i w l) → tells (eventsIn i w l) ≡ true
+  unfolding continuous eventsIn afterAll unbroken eventsOf
+  stretches [] w kept made u enough = by-turns w [] (kept []) made (record { list = []; whole = refl; same = refl }) enough
+  stretches (d ∷ l) w kept made u enough =
+      let a = and-true (not (replaces i w d)) (continuous i (afterOne w d) l) u in
+      go (deed-steps w i d) (λ less. stretches l (afterOne w d) (λ m. kept (d ∷ m)) (deed-made w i d (a .0) ∙ made) (a .1)
+      (subst (λ (s : Sizes). stretchLimit (eqb (s .pooled) 1) (s .tasks) ≤ steps (eventsIn i (afterOne w d) l)) (sym (deed-sizes w i d (a .0))) less))
+    where
+      es : List Event
+      es = eventsIn i (afterOne w d) l
+
+      go : SomeBusy w i ⊎ Stepless w i d → (limitOf (w .queues i) ≤ steps es → tells es ≡ true) → tells (withDeed i w d es) ≡ true
+      go (inl b) more = split (tells (withDeed i w d es)) (λ e. e)
+          (λ f. by-turns w (withDeed i w d es) (kept []) made (stretch-of i (d ∷ l) w (b .0) (b .1) u f) enough)
+      go (inr z) more = deed-more w i d es (more (subst (λ (n : ℕ). limitOf (w .queues i) ≤ n) (z es) enough))
+
+-- ---- lists after lists
+all-more : (l m : List Deed) (w : World) → afterAll w (l ++ m) ≡ afterAll (afterAll w l) m
+unfolding afterAll
+all-more [] m w = refl
+all-more (d ∷ l) m w = all-more l m (afterOne w d)
 
 pub joins-kept : JoinsKept
-joins-kept w unfilled none l =
-    let h = all-turns l w in
-    let kept = subst Kept (sym (h .1)) (promises w unfilled none (h .0)) in
-    record { kept = kept; stretch = stretches (afterAll w l) kept }
+joins-kept w unfilled none l = record {
+  kept = kept l;
+  stretch = λ i made m. stretches i m (afterAll w l) (λ m. subst Kept (all-more l m w) (kept (l ++ m))) made;
+}
+  where
+    kept : (l : List Deed) → Kept (afterAll w l)
+    kept l = let h = all-turns l w in subst Kept (sym (h .1)) (promises w unfilled none (h .0))

@@ -11,5 +11,7 @@ pub mod InUse
 pub mod Neighbours
 pub mod Pasts
 pub mod Promises
+pub mod Busy
+pub mod Ongoing
 pub mod Joinings
 pub mod Worked

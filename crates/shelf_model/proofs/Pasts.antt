@@ -13,7 +13,7 @@ use Rattle.model.specs.Walk.{Walk, contents, entries, met}
 use Rattle.model.specs.History.{AfterOpeningAs, LedgerCall, Ending, Event, Lawful, Linearized, NeverUnsound, Request}
 use Rattle.model.specs.History.{answered, final, isOpen, ledger, pending, run}
 use Rattle.model.specs.History.{MarkedIn, MarkedWhile, NoSlotIn, NoSlotTrue, Taken}
-use Rattle.model.proofs.laws.Sizes.{act-pooled, act-tasks, fits}
+use Rattle.model.proofs.laws.Sizes.{Sizes, act-sizes, fits, sizes}
 use Rattle.model.specs.Neighbours.{NeighboursIn, NeighboursJoined}
 use Rattle.model.proofs.{Linearizable.linearizable, LinksBack.links-back, MarksRight.marks-right, Never34.never-34, NoSlot.no-slot-either, Standing.standing}
 use Rattle.model.specs.Lists.{All, copies}
@@ -36,16 +36,17 @@ below-cut q (suc n) h =
 long-cut : (q : Queue) → fits (cut q) ≡ fits q
 long-cut q = ap₂ _&&_ (fits-cut (q .tables)) (enough-take (q .tables .control .tasks) (q .records))
 
--- No list changes the number of tasks, nor the way of opening.
-pub final-tasks : (os : List Request) (q : Queue) → final q os .tables .control .tasks ≡ q .tables .control .tasks
+-- No list changes the numbers of tasks and slots, nor the way of opening.
+pub final-sizes : (os : List Request) (q : Queue) → sizes (final q os .tables) ≡ sizes (q .tables)
 unfolding final
-final-tasks [] q = refl
-final-tasks (o ∷ os) q = final-tasks os (act q (o .task) (o .op) .queue) ∙ act-tasks q (o .task) (o .op)
+final-sizes [] q = refl
+final-sizes (o ∷ os) q = final-sizes os (act q (o .task) (o .op) .queue) ∙ act-sizes q (o .task) (o .op)
+
+pub final-tasks : (os : List Request) (q : Queue) → final q os .tables .control .tasks ≡ q .tables .control .tasks
+final-tasks os q = ap (λ (s : Sizes). s .tasks) (final-sizes os q)
 
 final-pooled : (os : List Request) (q : Queue) → final q os .tables .control .pooled ≡ q .tables .control .pooled
-unfolding final
-final-pooled [] q = refl
-final-pooled (o ∷ os) q = final-pooled os (act q (o .task) (o .op) .queue) ∙ act-pooled q (o .task) (o .op)
+final-pooled os q = ap (λ (s : Sizes). s .pooled) (final-sizes os q)
 
 -- The events of a list's end.
 run-end : (P : Event → Type 0) (os ps : List Request) (q : Queue) → All P (run q (os ++ ps)) → All P (run (final q os) ps)

@@ -84,17 +84,17 @@ asked i [] = []
 asked i (t ∷ l) = cond (eqb i (t .queue)) (asking (t .action) (asked i l)) (asked i l)
 
 -- An opening or a return that is refused leaves the queue.
-open-refused : (q : Queue) (pooled : Bool) (tasks slots tag : ℕ) → eqb (openRefusal pooled q tasks slots) 0 ≡ false
+pub open-refused : (q : Queue) (pooled : Bool) (tasks slots tag : ℕ) → eqb (openRefusal pooled q tasks slots) 0 ≡ false
     → openAs pooled q tasks slots tag .queue ≡ q
 unfolding openAs
 open-refused q pooled tasks slots tag e = rw e
 
-return-refused : (q : Queue) (s : Shelves) (n : ℕ) → eqb (returnRefusal q s n) 0 ≡ false → returned q s n ≡ q
+pub return-refused : (q : Queue) (s : Shelves) (n : ℕ) → eqb (returnRefusal q s n) 0 ≡ false → returned q s n ≡ q
 unfolding returned
 return-refused q s n e = rw e
 
 -- A turn of queue i, and one of another.
-abbrev turn : ℕ → Action → Turn
+abbrev pub turn : ℕ → Action → Turn
 turn i a = record { queue = i; action = a }
 
 turned-own : (w : World) (i : ℕ) (a : Action) → turned w (turn i a) .queues i ≡ does (station w i) a .queue

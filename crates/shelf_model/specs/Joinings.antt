@@ -41,17 +41,18 @@ unfoldable pub afterAll : World → List Deed → World
 afterAll w [] = w
 afterAll w (d ∷ l) = afterAll (afterOne w d) l
 
--- Another queue i stands there afterwards: an opening, a return or a joining in it that is accepted.
+-- Another queue i stands there afterwards: an opening or a return that is accepted. No joining ends a stretch, not even
+-- one that fills queue i.
 abbrev pub replaces : ℕ → World → Deed → Bool
 replaces i w (turns t) = eqb i (t .queue) && breaks (station w i) (t .action)
-replaces i w (joins j k third) = eqb i third && eqb (joinRefusal (w .queues j) (w .queues k) (w .queues third)) 0
+replaces i w (joins j k third) = false
 
--- A stretch of queue i with joinings in it, of other queues or out of this one.
+-- A stretch of queue i with joinings in it, of any queues.
 unfoldable pub continuous : ℕ → World → List Deed → Bool
 continuous i w [] = true
 continuous i w (d ∷ l) = not (replaces i w d) && continuous i (afterOne w d) l
 
--- The events of queue i's starts and steps in it.
+-- The events of queue i's starts and steps in it: a joining is none of them.
 abbrev pub withDeed : ℕ → World → Deed → List Event → List Event
 withDeed i w (turns t) es = cond (eqb i (t .queue)) (withEvent (w .queues i) (t .action) es) es
 withDeed i w (joins j k third) es = es

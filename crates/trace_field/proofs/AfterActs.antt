@@ -14,8 +14,8 @@ use Rattle.model.specs.Calls.{Done, OpenDone, act, openAs}
 use Rattle.model.specs.Calls as calls
 use Rattle.model.specs.History.{run, final}
 use Rattle.rows.specs.Rows.{controlOf, recordsOf, queueIn}
-use Rattle.calls.specs.Opening.{OpenedParts, manyRecords, openTables, whole}
-use Rattle.calls.proofs.Openings.{open-parts}
+use Rattle.calls.specs.Opening.{OpenedParts, manyRecords, openTables}
+use Rattle.calls.proofs.Openings.{open-parts, whole}
 use Rattle.lines.specs.Line.{Put, givenRoom, room, lineOf}
 use Rattle.lines.specs.declared.Line.the-variants.{Open, File}
 use Rattle.lines.proofs.Puts.{put-fits}

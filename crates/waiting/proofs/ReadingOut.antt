@@ -1,18 +1,19 @@
 -- The answer: refused before the walk, by the walk, for want of room, or written.
 use mathlib.Core.Path.{_≡_, refl, sym, ap, _∙_}
-use mathlib.Core.Bool.{Bool, true, false, not}
+use mathlib.Core.Bool.{true, false}
 use mathlib.Core.List.{List, [], _∷_}
 use Prim.Native.Nat.{ℕ, _<_, _≤_}
 use native.Mathlib.Omega.{arith}
 use lib.Dec.{ltb}
 use lib.ListN.{length}
-use borrow.Author.Tests.{le-ltb, ltb-false, ltb-true, ne-eqb}
+use borrow.Author.Tests.{le-ltb, ltb-false, ltb-true, ne-eqb, not-false}
 use Rattle.model.specs.Tables.{Tables}
 use Rattle.model.specs.Sound.{controlSound, rowTests, rowsFit}
 use Rattle.model.specs.Walk.{contents, isBroken}
-use Rattle.model.specs.Refusals.{rule, first}
+use Rattle.model.specs.Refusals.{Rule, rule, first, tableRules}
 use Rattle.model.specs.Report.{waiting}
-use Rattle.model.proofs.tests.{Rules.tests, Truth.or-false}
+use Rattle.model.proofs.tests.Rules.{tests, cleared, first-refused}
+use Rattle.model.proofs.tests.Truth.{or-false}
 use Rattle.walk.specs.declared.Tally.the-variants.{Broken, Labels}
 use Rattle.walk.specs.declared.Way.{Way}
 use Rattle.walk.specs.Ways.{wayOf, noneOn, linksOn}
@@ -20,21 +21,8 @@ use Rattle.walk.specs.Counted.{counted}
 use Rattle.walk.proofs.Along.{nothing}
 use Rattle.walk.proofs.Counting.{all-counted, none-counted}
 use Rattle.waiting.specs.Waiting.{Written, kept, labelsOf, readOut, slotsOf, tooShort, waitingRefusal}
-use Rattle.waiting.specs.Laid.{Lays, trail, laid, refusalBefore}
+use Rattle.waiting.specs.Laid.{Lays, trail, laid}
 use Rattle.waiting.proofs.Laid.{keeps, lays}
-
-none-applies : (a b : Bool) → refusalBefore a b ≡ 0 → (a ≡ true) × (b ≡ true)
-unfolding refusalBefore
-none-applies true true e = (refl, refl)
-none-applies true false e = let z : ⊥ = omega arith in absurd z
-none-applies false b e = let z : ⊥ = omega arith in absurd z
-
-one-applies : (a b c d : Bool) → (refusalBefore a b ≡ 0 → ⊥)
-    → first (rule 34 (not a) ∷ rule 12 (not b) ∷ rule 34 c ∷ rule 12 d ∷ []) ≡ refusalBefore a b
-unfolding refusalBefore
-one-applies true true c d h = absurd (h refl)
-one-applies true false c d h = refl
-one-applies false b c d h = refl
 
 -- Both tables have room.
 pub room : (n : ℕ) (slots labels : List ℕ) → tooShort n slots labels ≡ false → (n ≤ length slots) × (n ≤ length labels)
@@ -43,20 +31,23 @@ room n slots labels e =
     (ltb-false _ _ (z .0), ltb-false _ _ (z .1))
 
 module _ (q : Tables) (slots labels : List ℕ) where
+  -- The rules before the walk, and what they say.
+  abbrev rules : List Rule
+  rules = tableRules (q .control) (rowsFit false (q .control .slots) q)
+
   abbrev pub why : ℕ
-  why = refusalBefore (controlSound (q .control)) (rowsFit false (q .control .slots) q)
+  why = first rules
 
   pub turned-away : (n : ℕ) → n ≡ why → (n ≡ 0 → ⊥) → kept n slots labels ≡ readOut q slots labels
   unfolding readOut waitingRefusal
   turned-away n e h =
-      let fits = rowsFit false (q .control .slots) q in
-      let short = tooShort (waiting q) slots labels in
-      let r = one-applies (controlSound (q .control)) fits (isBroken (contents q)) short (λ z. h (e ∙ z)) ∙ sym e in
+      let later = rule 34 (isBroken (contents q)) ∷ rule 12 (tooShort (waiting q) slots labels) ∷ [] in
+      let r = first-refused rules later (λ z. h (e ∙ z)) ∙ sym e in
       rw (r, ne-eqb n 0 h)
 
   module _ (n : ℕ) (e : n ≡ why) (z : n ≡ 0) where
     passed : (controlSound (q .control) ≡ true) × (rowsFit false (q .control .slots) q ≡ true)
-    passed = none-applies _ _ (sym e ∙ z)
+    passed = let y = cleared rules refl (sym e ∙ z) in (not-false _ (y .0), not-false _ (y .1 .0))
 
     -- With nothing waiting nothing is written.
     pub empty : (w : Way) → w ≡ wayOf (q .control) → noneOn w ≡ true → kept 0 slots labels ≡ readOut q slots labels

@@ -1,12 +1,11 @@
 -- The tables as a loop writes them, slot by slot along the links.
-use mathlib.Core.Bool.{Bool, not, cond}
+use mathlib.Core.Bool.{Bool, cond}
 use mathlib.Core.List.{List, [], _∷_}
 use Prim.Native.Nat.{ℕ, zero, suc, _+_, _-_, _<_, _≤_}
 use lib.ListN.{getD, length, set}
 use Rattle.word.specs.Link.{linkOf}
 use Rattle.model.specs.declared.Entry.{Entry}
 use Rattle.model.specs.Lists.{All}
-use Rattle.model.specs.Refusals.{rule, first}
 use Rattle.walk.specs.declared.Way.{Way}
 use Rattle.walk.specs.Ways.{linksOn}
 
@@ -35,7 +34,3 @@ pub record Lays (w : Way) (n : ℕ) (lefts rights labels slots copies : List ℕ
   pub label-rows : w .slots < length labels
   pub room : (n ≤ length slots) × (n ≤ length copies)
   pub inside : Inside (w .slots) (trail (linksOn w lefts rights) labels n (w .first))
-
--- The refusals before the walk, over tests already made.
-unfoldable pub refusalBefore : Bool → Bool → ℕ
-refusalBefore control fits = first (rule 34 (not control) ∷ rule 12 (not fits) ∷ [])

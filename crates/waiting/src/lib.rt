@@ -11,12 +11,12 @@ ghost use Prim.Native.Nat.{ℕ, _<_};
 ghost use lib.ListN.{length, getD};
 ghost use Rattle.word.specs.Link.{linkOf};
 ghost use Rattle.model.specs.Tables.{tablesOf};
-ghost use Rattle.model.specs.Sound.{controlSound};
+ghost use Rattle.model.specs.Refusals.{first, tableRules};
 ghost use Rattle.sound.specs.Lengths.{lengthsFit};
 ghost use Rattle.rows.specs.Rows.{controlOf};
 ghost use Rattle.walk.specs.Ways.{linksOn};
 ghost use Rattle.waiting.specs.Waiting.{readOut, refused, slotsOf, labelsOf};
-ghost use Rattle.waiting.specs.Laid.{Lays, trail, place, laid, refusalBefore};
+ghost use Rattle.waiting.specs.Laid.{Lays, trail, place, laid};
 
 /// The answer as C sees it.
 #[repr(C)]
@@ -86,7 +86,7 @@ fn lay(
 
 /// 34 for control and Anchor, 12. No records and no next table are lent, so none count.
 fn refusal(c: Control, t: Lengths) -> u32
-    ensures { λ n. ⌜ n ≡ refusalBefore (controlSound c) (lengthsFit false (c .slots) t) ⌝ }
+    ensures { λ n. ⌜ n ≡ first (tableRules c (lengthsFit false (c .slots) t)) ⌝ }
 {
     if !sound::control_sound(c) {
         return 34;

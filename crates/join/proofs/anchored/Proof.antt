@@ -1,12 +1,11 @@
 -- The Anchor word as it is packed.
 use mathlib.Core.Path.{ap, _∙_}
-use mathlib.Core.List.{[]}
 use Prim.Native.Nat.{ℕ, _+_, _*_, _-_}
 use native.Mathlib.Omega.{arith}
 use borrow.Author.Needs.{needs}
 use Rattle.word.specs.declared.Anchor.{Anchor}
 use Rattle.word.specs.Anchor.{packAnchor}
-use Rattle.model.specs.Tables.{tablesOf, withAnchor}
+use Rattle.model.specs.Tables.{withWords}
 use Rattle.join.specs.Anchored.{anchored}
 use Rattle.join.proofs.anchored.Statement.{statement}
 use Rattle.join.proofs.anchored.Tie as tie
@@ -23,7 +22,7 @@ returns c =
     let a = u .before .args in
     let tag = ap (λ (r : Anchor). r .tag + 2 * a .n - 1) (u .unpack .ensures) in
     let word = c .pack .ensures ∙ (λ i. packAnchor (record { tag = tag i; status = 0; left = 1; right = a .n })) in
-    ap (λ (w : ℕ). withAnchor (tablesOf (a .c) [] [] [] [] []) w .control) word
+    ap (λ (w : ℕ). withWords (a .c) w (a .c .head)) word
 
 pub anchored-spec : {M : Type 1} → statement M
 anchored-spec = tie.close (tie.spec (λ _ _. tt) (λ c. search needs) add-t7 (λ c. search needs) (λ _ _. tt) returns)

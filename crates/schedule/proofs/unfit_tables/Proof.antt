@@ -1,22 +1,18 @@
 -- By the tests.
 use mathlib.Core.Path.{refl, sym, _∙_}
 use borrow.Author.Tests.{not-true, not-false}
-use Rattle.schedule.specs.Answered.{refusalBefore}
 use Rattle.schedule.proofs.unfit_tables.Statement.{statement}
 use Rattle.schedule.proofs.unfit_tables.Tie as tie
 
 returns : tie.Need-returns
-unfolding refusalBefore
 returns c = let s = c .before in rw (sym (s .control-sound .ensures) ∙ not-true _ (c .if1 .taken)) refl
 
 returns-2 : tie.Need-returns-2
-unfolding refusalBefore
 returns-2 c =
     let s = c .before .before in
     rw (sym (s .before .control-sound .ensures) ∙ not-false _ (s .if1 .left), sym (c .before .tables-fit .ensures), c .if2 .taken) refl
 
 returns-3 : tie.Need-returns-3
-unfolding refusalBefore
 returns-3 c =
     let s = c .before .before in
     rw (sym (s .before .control-sound .ensures) ∙ not-false _ (s .if1 .left), sym (c .before .tables-fit .ensures), c .if2 .left) refl

@@ -9,8 +9,8 @@ use borrow.Author.Tests.{eq-eqb, ne-eqb}
 use Rattle.model.specs.declared.Call.{Call}
 use Rattle.model.specs.Tables.{Tables, Queue, unused}
 use Rattle.rows.specs.Rows.{recordsOf}
-use Rattle.schedule_model.specs.Schedules.{bothAnswered}
-use Rattle.schedule_search.specs.Sought.{endsHere}
+use Rattle.schedule_model.specs.Schedules.{answeredBoth, wasCut, bothAnswered}
+use Rattle.schedule_search.specs.Sought.{goesOn, endsHere}
 use Rattle.schedule_search.proofs.ending.Statement.{statement}
 use Rattle.schedule_search.proofs.ending.Tie as tie
 
@@ -34,7 +34,8 @@ returns-2 c q =
     let first = second .before .before in
     let go = first .before .before in
     let a = go .before .args in
-    made q (a .pair .now) (a .stopped) true (a .left) 0 _ _ (go .if1 .left) (first .call-at .ensures) (second .call-at2 .ensures) (c .if2 .taken) refl
+    made q (a .pair .now) (a .stopped) true (a .left) answeredBoth _ _ (go .if1 .left) (first .call-at .ensures) (second .call-at2 .ensures)
+    (c .if2 .taken) refl
 
 returns-3 : tie.Need-returns-3
 returns-3 c q =
@@ -42,7 +43,7 @@ returns-3 c q =
     let first = second .before .before in
     let go = first .before .before in
     let a = go .before .args in
-    made q (a .pair .now) (a .stopped) false (a .left) 1 _ _ (go .if1 .left) (first .call-at .ensures) (second .call-at2 .ensures)
+    made q (a .pair .now) (a .stopped) false (a .left) wasCut _ _ (go .if1 .left) (first .call-at .ensures) (second .call-at2 .ensures)
     (c .before .if2 .left) (rw (eq-eqb _ 0 (c .if3 .taken)) refl)
 
 returns-4 : tie.Need-returns-4
@@ -51,7 +52,7 @@ returns-4 c q =
     let first = second .before .before in
     let go = first .before .before in
     let a = go .before .args in
-    made q (a .pair .now) (a .stopped) false (a .left) 3 _ _ (go .if1 .left) (first .call-at .ensures) (second .call-at2 .ensures)
+    made q (a .pair .now) (a .stopped) false (a .left) goesOn _ _ (go .if1 .left) (first .call-at .ensures) (second .call-at2 .ensures)
     (c .before .if2 .left) (rw (ne-eqb _ 0 (c .if3 .left)) refl)
 
 pub ending-spec : {M : Type 1} → statement M

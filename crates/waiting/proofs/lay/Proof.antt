@@ -94,8 +94,8 @@ loop-again c =
           more (λ e. e .slot) links (a .labels .now) (a .w .rightward) (a .n) (l .loop .i) (l .loop .x) (l .loop .x) (c .follow .result)
           (l .loop .slots) _ _ lt refl (c .follow .ensures) (ap (λ (k : ℕ). set (l .loop .slots) k (l .loop .x)) (p .place .ensures)) (l .loop .inv .owed);
       due =
-          more (λ e. e .label) links (a .labels .now) (a .w .rightward) (a .n) (l .loop .i) (l .loop .x) (getD (a .labels .now) (l .loop .x) 0) (c .follow .result)
-          (l .loop .copies) _ _ lt refl (c .follow .ensures)
+          more (λ e. e .label) links (a .labels .now) (a .w .rightward) (a .n) (l .loop .i) (l .loop .x) (getD (a .labels .now) (l .loop .x) 0)
+          (c .follow .result) (l .loop .copies) _ _ lt refl (c .follow .ensures)
           (ap (λ (k : ℕ). set (l .loop .copies) k (getD (a .labels .now) (l .loop .x) 0)) (p .place .ensures)) (l .loop .inv .due);
     }
 

@@ -13,7 +13,10 @@ returns c =
     let start = c .before .before .before .before .before .before .before .before .before .before .before .before .before .before .before in
     let t = start .args .t in (
       (λ i. record { place = t .place; calls = first .ensures .0 i; order = second .ensures .0 i }),
-      (record { calls = first .ensures .1; order = second .ensures .1 }, (refl, refl)),
+      (
+        (record { calls = first .ensures .1 .0; order = second .ensures .1 .0 }, refl, refl),
+        record { calls = first .ensures .1 .1; order = second .ensures .1 .1 },
+      ),
     )
 
 pub keep-turn-spec : {M : Type 1} → statement M

@@ -6,8 +6,9 @@ use Prim.Native.Nat.{ℕ, _+_, _-_, _≤_}
 use mathlib.Core.Path.{_≡_, refl, sym, ap, subst, _∙_}
 use Rattle.historyfile.specs.declared.reading.State.{State}
 use Rattle.historyfile.specs.Reading.{whole}
-use Rattle.historyfile.specs.Buffer.{Within, ahead, held}
+use Rattle.historyfile.specs.Buffer.{Within, Written, ahead, held}
 use Rattle.historyfile.proofs.Ahead.{same-within, text-ends}
+use Rattle.historyfile.proofs.Rest.{then-written, unwritten}
 use Rattle.historyfile.proofs.reading.read.Statement.{statement}
 use Rattle.historyfile.proofs.reading.read.Tie as tie
 
@@ -16,6 +17,7 @@ Inv-loop text calls₀ order₀ s₀ i₀ i-end calls order s i =
     (i ≤ i-end) × (i-end ≡ length text) × (length calls ≡ length calls₀) × (length order ≡ length order₀)
     × (s .from ≤ i) × Within s (length calls) (length order)
     × (ahead (length calls) (length order) text i s calls order ≡ held (length calls₀) (length order₀) (whole text))
+    × Written 0 (s .calls) calls₀ calls × Written 0 (s .order) order₀ order
 
 abbrev μ-loop : tie.MeasureT-loop
 μ-loop text calls₀ order₀ s₀ i₀ i-end calls order s i = i-end - i
@@ -35,6 +37,8 @@ loop-holds c =
       subst (λ (s : State). s .from ≤ 0) (sym first) (omega arith),
       subst (λ (s : State). Within s (length (a .calls .now)) (length (a .order .now))) (sym first) (record { calls = omega arith; order = omega arith }),
       ap (λ (s : State). ahead (length (a .calls .now)) (length (a .order .now)) (a .text .now) 0 s (a .calls .now) (a .order .now)) first,
+      subst (λ (s : State). Written 0 (s .calls) (a .calls .now) (a .calls .now)) (sym first) (unwritten 0 (a .calls .now)),
+      subst (λ (s : State). Written 0 (s .order) (a .order .now) (a .order .now)) (sym first) (unwritten 0 (a .order .now)),
     )
 
 take-byte-requires : tie.Need-take-byte-requires Inv-loop μ-loop
@@ -59,9 +63,11 @@ loop-again c =
       inv .1,
       m ∙ inv .2,
       n ∙ inv .3,
-      call .ensures .1 .0,
-      same-within (call .result) _ _ _ _ m n (call .ensures .1 .1),
+      call .ensures .1 .0 .0,
+      same-within (call .result) _ _ _ _ m n (call .ensures .1 .0 .1),
       (λ j. ahead (m j) (n j) (a .text .now) (at .i + 1) (call .result) calls order) ∙ call .ensures .0 ∙ inv .6,
+      then-written 0 (at .s .calls) (call .result .calls) (a .calls .now) (at .calls) calls (inv .7) (call .ensures .1 .1 .calls),
+      then-written 0 (at .s .order) (call .result .order) (a .order .now) (at .order) order (inv .8) (call .ensures .1 .1 .order),
     )
 
 take-word-requires : tie.Need-take-word-requires Inv-loop μ-loop
@@ -95,7 +101,13 @@ returns c =
           (word .result) calls order _ _ (c .end-line .ensures)
           (ap (λ (i : ℕ). take (i - at .s .from) (drop (at .s .from) (a .text .now))) (sym all)) (word .ensures .0)
           ∙ inv .6,
-      same-within _ _ _ _ _ (sym (inv .2)) (sym (inv .3)) (record { calls = word .ensures .1 .0 .calls; order = word .ensures .1 .0 .order }),
+      (
+        same-within _ _ _ _ _ (sym (inv .2)) (sym (inv .3)) (record { calls = word .ensures .1 .0 .0 .calls; order = word .ensures .1 .0 .0 .order }),
+        (
+          then-written 0 (at .s .calls) (word .result .calls) (a .calls .now) (at .calls) calls (inv .7) (word .ensures .1 .1 .calls),
+          then-written 0 (at .s .order) (word .result .order) (a .order .now) (at .order) order (inv .8) (word .ensures .1 .1 .order),
+        ),
+      ),
     )
 
 pub read-spec : {M : Type 1} → statement M

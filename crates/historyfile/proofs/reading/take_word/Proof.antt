@@ -5,6 +5,7 @@ use Rattle.historyfile.specs.declared.reading.Turn.{Turn}
 use Rattle.historyfile.specs.Reading.{kept}
 use Rattle.historyfile.specs.Buffer.{held, reading}
 use Rattle.historyfile.proofs.Held.{word-none, word-some}
+use Rattle.historyfile.proofs.Rest.{none-written}
 use borrow.Author.Needs.{needs}
 use Rattle.historyfile.proofs.reading.take_word.Statement.{statement}
 use Rattle.historyfile.proofs.reading.take_word.Tie as tie
@@ -14,7 +15,7 @@ returns c =
     let start = c .before .before .before .before .before .before in
     let a = start .args in
     let none = word-none (length (a .calls .now)) (length (a .order .now)) (a .s) (a .calls .now) (a .order .now) in
-    (none (start .pre) (a .word .now) (c .if1 .taken), (start .pre, (refl, refl)))
+    (none (start .pre) (a .word .now) (c .if1 .taken), ((start .pre, refl, refl), none-written (a .s) (a .calls .now) (a .order .now)))
 
 returns-2 : tie.Need-returns-2
 returns-2 c =

@@ -25,8 +25,8 @@ abbrev μ-loop : tie.MeasureT-loop
 μ-loop n lefts₀ rights₀ marks₀ k₀ lefts rights marks k = n - k
 
 -- The word that names k, never changed.
-named : (k : ℕ) → k ≤ 1023 → packLink (record { tag = 0; slot = k }) ≡ leftOf (k + 1)
-named k h = omega arith
+named : (k : ℕ) → packLink (record { tag = 0; slot = k }) ≡ leftOf (k + 1)
+named k = let e : k ≡ k + 1 - 1 = omega arith in ap (λ (j : ℕ). packLink (record { tag = 0; slot = j })) e
 
 -- The places of a turn.
 abbrev lefts-put : tie.After-put-word2 Inv-loop μ-loop → tie.After-put-word Inv-loop μ-loop
@@ -48,11 +48,10 @@ loop-again c =
     let k = l .loop .k in
     let inv = l .loop .inv in
     let test = p .before .before .before .before .loop-test in
-    let below : k ≤ 1023 = omega (arith, test .taken, start l .pre) in
     record {
       few = omega (arith, test .taken);
       left = p .put-word .ensures
-          ∙ filled-more leftOf k (a .lefts .now) (l .loop .lefts) _ (inv .left) (p .before .before .before .link-word .ensures ∙ named k below);
+          ∙ filled-more leftOf k (a .lefts .now) (l .loop .lefts) _ (inv .left) (p .before .before .before .link-word .ensures ∙ named k);
       right = r .put-word2 .ensures ∙ filled-more (rightTo (a .n)) k (a .rights .now) (l .loop .rights) _ (inv .right) (p .before .before .right-word .ensures);
       mark = m .set-mark .ensures ∙ marked-more k (a .marks .now) (l .loop .marks) (inv .mark);
     }

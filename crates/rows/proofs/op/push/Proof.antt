@@ -1,6 +1,7 @@
 -- The start, and its record stored.
 use mathlib.Core.Path.{refl}
 use Rattle.model.specs.Calls.{actOn}
+use Rattle.calls.proofs.Starts.{push-begun}
 use Rattle.rows.proofs.Starting.{started, push-starts}
 use borrow.Author.Needs.{needs}
 use Rattle.rows.proofs.op.push.Statement.{statement}
@@ -17,7 +18,9 @@ returns c =
     let lists = told .before .before .before in
     let a = lists .before .before .before .before .args in (
       started _ (a .records .now) _ _ _ _ _ _ _ (push-starts _ (a .records .now) _ _ _ _ _ (a .task) _ _ _) _ _ _ _ _ _
-          (told .control-of .ensures) (read .call-at .ensures) (λ k. begun .push-start .ensures _ _ _ k refl) (put .store-start .ensures .0),
+          (told .control-of .ensures) (read .call-at .ensures)
+          (push-begun _ _ _ _ _ _ _ _ _ _ _ _ _ _ _ refl (begun .push-start .ensures .0) (begun .push-start .ensures .1))
+          (put .store-start .ensures .0),
       put .store-start .ensures .1,
     )
 

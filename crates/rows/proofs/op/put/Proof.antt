@@ -1,6 +1,7 @@
 -- The start, and its record stored.
 use mathlib.Core.Path.{refl}
 use Rattle.model.specs.Calls.{actOn}
+use Rattle.calls.proofs.Starts.{put-begun}
 use Rattle.rows.proofs.Starting.{started, put-starts}
 use borrow.Author.Needs.{needs}
 use Rattle.rows.proofs.op.put.Statement.{statement}
@@ -16,7 +17,8 @@ returns c =
     let lists = told .before .before .before in
     let a = lists .before .before .before .before .args in (
       started _ (a .records .now) _ _ _ _ _ _ _ (put-starts _ (a .records .now) _ _ _ _ _ (a .task) _ _) _ _ _ _ _ _
-          (told .control-of .ensures) (read .call-at .ensures) (λ k. begun .put-start .ensures _ _ _ _ _ k refl) (put .store-start .ensures .0),
+          (told .control-of .ensures) (read .call-at .ensures)
+          (put-begun _ _ _ _ _ _ _ _ _ _ _ _ refl (begun .put-start .ensures)) (put .store-start .ensures .0),
       put .store-start .ensures .1,
     )
 
