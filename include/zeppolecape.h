@@ -200,7 +200,7 @@ extern "C" {
 #define ZC_NO_TASK 13     /* tasks are 0 to tasks - 1 */
 #define ZC_NO_SIDE 14     /* sides are ZC_LEFT and ZC_RIGHT */
 #define ZC_BAD_SLOT 15    /* slots are 1 to slots; 0 is null. Not ZC_NO_FREE_SLOT, the answer 5 */
-#define ZC_NO_SLOT ZC_BAD_SLOT /* its name before 5.0.0, the same number */
+#define ZC_NO_SLOT ZC_BAD_SLOT /* its name before 5.0.0, kept until version 6: the same number */
 #define ZC_BAD_HISTORY 40 /* zc_audit: not a history that can be judged, see there */
 #define ZC_NO_SHELF 43    /* zc_save, zc_return: shelves are 0 to 7 */
 #define ZC_MANY_ASKED 45  /* zc_find: more than 32 labels asked for */

@@ -47,14 +47,15 @@
  *  - A thread that dies in a call takes along what the call held: at most a slot and a label, that
  *    of its push or the one that its pop had won. Nobody waits for it. Another thread may go on with
  *    its record only if it died between two steps: in the middle of one it can't be told whether the
- *    touch was made. Zero such a record before zc_queue_drain or a step of anybody's, which might make
- *    the touch again and push a slot twice; of what is proved only the walks hold until the queue is
- *    opened again.
+ *    touch was made. Zero such a record before zc_queue_drain or any plain call that would step it,
+ *    which might make the touch again and push a slot twice; the thread then counts as in no call. Of
+ *    plain calls only the walks are covered by what is proved, until the queue is opened again.
  *  - 33: an opening with first tag 0 has tags for 4,294,967,262 changes of Anchor; a pair of push and
  *    pop makes two or three. Threads that do nothing else use them up within minutes (bench/README.md
  *    has pairs a second), ten labels a second in four and a half years. Then every start is refused:
- *    its record stays idle, and its label was not pushed. Bring the threads to rest, zc_queue_drain, open again, zc_queue_refill (examples/c/renew.c),
- *    zc_share, and let them go on. Tags never wrap, so that a word is never taken for an older one.
+ *    its record stays idle, and its label was not pushed. Bring the threads to rest, zc_queue_drain,
+ *    open again, zc_queue_refill (examples/c/renew.c), zc_share, and let them go on. Tags never wrap,
+ *    so that a word is never taken for an older one.
  *  - Lock-free is not wait-free: one call may try again as long as others are faster. After a failed
  *    change a whole call waits some microseconds, a handler's too (ZC_PAUSES).
  *  - In tables that somebody else wrote to, a call may be told 34 in the middle: its touches up to
@@ -62,16 +63,17 @@
  *    walks tell, if they still can (zeppolecape.h, 34).
  *
  * WHAT IS PROVED, of threads that interleave at single loads, stores, compare-and-swaps and changes
- * of a mark as this file makes them (crates/threads/specs/Promises.antt): memory and every thread's
- * answers are those of a list of starts and steps, in the order of their deciding instructions (a
- * push that names its slot is asked 33 of the Anchor that it loaded, and may be started just above
- * the limit); that list is linearizable, and nobody is told 34. It respects real time, and every
- * label in it is accounted for; once no thread is in a call, memory is the queue of the list, from
- * which plain calls go on. A start or step is at most three of these instructions and the writing of
- * its record, whatever the others do, and among the steps some call takes effect or answers (Consequences.antt beside it). The
- * four calls below are proved to do what these theorems say of them, for all records and words. Not
- * proved, but tested: the C in this file, a table of thirteen touches (zc_made) and the loops around
- * it.
+ * of a mark as this file makes them (crates/threads/specs/Promises.antt). Since an opening, with plain
+ * calls and threads that came to rest before them in any order: memory and every thread's answers are
+ * those of a list of starts and steps, in the order of their deciding instructions. (A push that names
+ * its slot is asked 33 of the Anchor that it loaded, and may be started just above the limit.) That
+ * list is linearizable, and nobody is told 34. It respects real time, and every label in it is
+ * accounted for. Once no thread is in a call memory is the queue of the list, from which plain calls go
+ * on. A start or step is at most three of these instructions and the writing of its record, whatever
+ * the others do, and among the steps some call takes effect or answers (Consequences.antt beside it).
+ * The four calls below are proved to do what these theorems say of them, for all records and words.
+ * Not proved, but tested: the C in this file, a table of thirteen touches (zc_made) and the loops
+ * around it.
  *
  * ORDER. Every access to a shared word but a label is sequentially consistent, and the proved calls
  * reach none. By the rules of C11 and C++11 all these accesses then have one order that agrees with
@@ -133,9 +135,9 @@ typedef struct zc_onward {
 
 #define ZC_STARTING 0 /* code of a start that has another touch to make */
 
-/* A call to be started. A word that its operation has no use for is not looked at. */
+/* A call to be started (ZC_ASK_STEP is none). A word that its operation has no use for is not looked at. */
 typedef struct zc_start {
-    uint64_t operation; /* ZC_ASK_PUSH, ZC_ASK_POP; any other number, ZC_ASK_STEP too, is ZC_ASK_PUSH_POOLED */
+    uint64_t operation; /* ZC_ASK_PUSH, ZC_ASK_POP; any other number is ZC_ASK_PUSH_POOLED */
     uint64_t side;
     uint64_t slot;  /* of ZC_ASK_PUSH */
     uint64_t label; /* of a push: its lower 32 bits */
@@ -300,7 +302,10 @@ static inline uint64_t *zc_link(const zc_shared *shared, const zc_touch *touch)
     return &(touch->side == ZC_RIGHT ? rights : lefts)[touch->slot];
 }
 
-/* Makes a touch, and answers the word found, a line each: `perform` of crates/threads_model/specs/Split.antt, and the starts'. */
+/*
+ * Makes a touch, and answers the word found, a line each: `perform` of
+ * crates/threads_model/specs/Split.antt, and the starts' two.
+ */
 __attribute__((always_inline)) static inline uint64_t zc_made(const zc_shared *shared, const zc_touch *touch)
 {
     switch (touch->act) {
@@ -479,7 +484,10 @@ static inline zc_reply zc_atomic_start_pop(const zc_shared *shared, zc_record *o
     return zc_atomic_start(shared, own, &start);
 }
 
-/* Makes one step. Answers and refuses as zc_step_record does: 34 for the record, 31, 34 for what it touches. */
+/*
+ * Makes one step. Answers and refuses as zc_step_record does, but for what zc_share has asked: 34 for
+ * the record, 31, 34 for what it touches.
+ */
 static inline zc_reply zc_atomic_step(const zc_shared *shared, zc_record *own)
 {
     if (shared->refusal != 0)
