@@ -186,7 +186,7 @@ extern "C" {
 #define ZC_RPUSH 1
 #define ZC_LPUSH 2
 
-/* Codes of a zc_reply and of a zc_run_reply. Any other code is the number of a refusal. */
+/* Codes of a zc_reply and of a zc_run_reply; those from 10 on are the numbers of refusals. */
 #define ZC_RUNNING 1      /* the call goes on; value: the place of its next step */
 #define ZC_PUSHED 2       /* the push is answered */
 #define ZC_EMPTY 3        /* the pop is answered: nothing was waiting */
@@ -200,7 +200,7 @@ extern "C" {
 #define ZC_NO_TASK 13     /* tasks are 0 to tasks - 1 */
 #define ZC_NO_SIDE 14     /* sides are ZC_LEFT and ZC_RIGHT */
 #define ZC_BAD_SLOT 15    /* slots are 1 to slots; 0 is null. Not ZC_NO_FREE_SLOT, the answer 5 */
-#define ZC_NO_SLOT ZC_BAD_SLOT /* its name before 5.0.0 */
+#define ZC_NO_SLOT ZC_BAD_SLOT /* its name before 5.0.0, kept until version 6: the same number */
 #define ZC_BAD_HISTORY 40 /* zc_audit: not a history that can be judged, see there */
 #define ZC_NO_SHELF 43    /* zc_save, zc_return: shelves are 0 to 7 */
 #define ZC_MANY_ASKED 45  /* zc_find: more than 32 labels asked for */
@@ -390,9 +390,10 @@ zc_reply zc_push(zc_control *control, zc_record *records, size_t record_count, s
                  size_t next_count);
 
 /*
- * Starts a push for an idle task in a pooled queue. Its first steps take a slot from the pool; if
- * there is none the first step answers ZC_NO_FREE_SLOT, and nothing is pushed: every slot then
- * waited, or was held by a push or a pop half done. Start again once a pop has answered.
+ * Starts a push for an idle task in a pooled queue. Its first steps take a slot from the pool; where
+ * there is none, at first or after others took what it saw, a step answers ZC_NO_FREE_SLOT, and
+ * nothing is pushed: every slot then waited, or was held by a push or a pop half done. Start again
+ * once a pop has answered.
  * Writes the record but its count, and nothing else.
  * Answers running at place 12, or refuses: 34 for control, 12, 13, 14, 41, 34 for the record, 30,
  * 33.
@@ -724,7 +725,8 @@ static inline zc_reply zc_queue_finish(const zc_queue *queue, size_t task)
 /*
  * Brings an open queue to rest and reads it out, as 33 asks for. Steps every busy task to its answer
  * and writes that to answers[task], code 0 where no call was under way: a popped label is nowhere else.
- * Then writes the labels waiting and their slots as zc_queue_waiting does, and answers so.
+ * Then writes the labels waiting and their slots as zc_queue_waiting does, and answers so: they wait
+ * still, until the queue is opened again.
  * `answers` has room for each record, `slots` and `labels` for as many entries as control has slots
  * (up to 1,023 where somebody else wrote there), all apart from the tables.
  */

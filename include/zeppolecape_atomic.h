@@ -27,13 +27,15 @@
  * examples/c/interrupt.c.
  *
  * YOUR DUTY
- *  - A record belongs to one thread, core or handler: no other makes calls with it or looks at it.
- *    It is idle, place 0, at first. There are at most as many as tasks were opened, or refusal 33
- *    comes too late. Take one of the queue's, of which the report then tells, or one that lies
- *    elsewhere, zeroed; in cache lines of its own (aligned to 128 bytes) it is faster. A thread with two records may be in
- *    the middle of two calls, and a handler needs one of its own: it may then make whole calls in
- *    the middle of anybody's step, its own thread's too. A handler of an interrupt saves the SSE
- *    state and leaves the red zone alone (zeppolecape.h, FACTS); for one of a signal the system does.
+ *  - A record belongs to one thread, core or handler at a time: no other makes calls with it or looks
+ *    at it, until something that synchronises, as a join, has handed it on. It is idle, place 0, at
+ *    first. Take one of the queue's, of which the report then tells, or one that lies elsewhere,
+ *    zeroed; in cache lines of its own (aligned to 128 bytes) it is faster.
+ *  - Use no more records than tasks were opened. It is not counted, and with more 33 may come too late.
+ *  - A thread with two records may be in the middle of two calls, and a handler needs one of its own:
+ *    it may then make whole calls in the middle of anybody's step, its own thread's too. A handler of
+ *    an interrupt saves the SSE state and leaves the red zone alone (zeppolecape.h, FACTS); for one of
+ *    a signal the system does.
  *  - Every call of zeppolecape.h on this queue (report, walks, shelves, joinings, openings, starts
  *    and steps), and reading its tables, wants the queue at rest: no thread is in a call of this
  *    file, and what synchronises (a join, a barrier, a lock) lies between it and their last call. A
@@ -45,30 +47,33 @@
  *  - A thread that dies in a call takes along what the call held: at most a slot and a label, that
  *    of its push or the one that its pop had won. Nobody waits for it. Another thread may go on with
  *    its record only if it died between two steps: in the middle of one it can't be told whether the
- *    touch was made. Zero such a record before zc_queue_drain or a step of anybody's, which might make
- *    the touch again and push a slot twice; of what is proved only the walks hold until the queue is
- *    opened again.
+ *    touch was made. Zero such a record before zc_queue_drain or any plain call that would step it,
+ *    which might make the touch again and push a slot twice; the thread then counts as in no call. Of
+ *    plain calls only the walks are covered by what is proved, until the queue is opened again.
  *  - 33: an opening with first tag 0 has tags for 4,294,967,262 changes of Anchor; a pair of push and
  *    pop makes two or three. Threads that do nothing else use them up within minutes (bench/README.md
- *    has pairs a second), ten labels a second in four and a half years. Then every start is
- *    refused. Bring the threads to rest, zc_queue_drain, open again, zc_queue_refill (examples/c/renew.c),
- *    zc_share, and let them go on. Tags never wrap, so that a word is never taken for an older one.
+ *    has pairs a second), ten labels a second in four and a half years. Then every start is refused:
+ *    its record stays idle, and its label was not pushed. Bring the threads to rest, zc_queue_drain,
+ *    open again, zc_queue_refill (examples/c/renew.c), zc_share, and let them go on. Tags never wrap,
+ *    so that a word is never taken for an older one.
  *  - Lock-free is not wait-free: one call may try again as long as others are faster. After a failed
  *    change a whole call waits some microseconds, a handler's too (ZC_PAUSES).
- *  - In tables that somebody else wrote to, a whole call may be told 34 in the middle: its touches up
- *    to there are made, and its record stands where it stopped.
+ *  - In tables that somebody else wrote to, a call may be told 34 in the middle: its touches up to
+ *    there are made, and its record stands where it stopped. Whether its label is in the queue the
+ *    walks tell, if they still can (zeppolecape.h, 34).
  *
  * WHAT IS PROVED, of threads that interleave at single loads, stores, compare-and-swaps and changes
- * of a mark as this file makes them (crates/threads/specs/Promises.antt): memory and every thread's
- * answers are those of a list of starts and steps, in the order of their deciding instructions (a
- * push that names its slot is asked 33 of the Anchor that it loaded, and may be started just above
- * the limit); that list is linearizable, and nobody is told 34. It respects real time, and every
- * label in it is accounted for; once no thread is in a call, memory is the queue of the list, from
- * which plain calls go on. A start or step is at most three of these instructions and the writing of
- * its record, whatever the others do, and among the steps some call takes effect or answers (Consequences.antt beside it). The
- * four calls below are proved to do what these theorems say of them, for all records and words. Not
- * proved, but tested: the C in this file, a table of thirteen touches (zc_made) and the loops around
- * it.
+ * of a mark as this file makes them (crates/threads/specs/Promises.antt). Since an opening, with plain
+ * calls and threads that came to rest before them in any order: memory and every thread's answers are
+ * those of a list of starts and steps, in the order of their deciding instructions. (A push that names
+ * its slot is asked 33 of the Anchor that it loaded, and may be started just above the limit.) That
+ * list is linearizable, and nobody is told 34. It respects real time, and every label in it is
+ * accounted for. Once no thread is in a call memory is the queue of the list, from which plain calls go
+ * on. A start or step is at most three of these instructions and the writing of its record, whatever
+ * the others do, and among the steps some call takes effect or answers (Consequences.antt beside it).
+ * The four calls below are proved to do what these theorems say of them, for all records and words.
+ * Not proved, but tested: the C in this file, a table of thirteen touches (zc_made) and the loops
+ * around it.
  *
  * ORDER. Every access to a shared word but a label is sequentially consistent, and the proved calls
  * reach none. By the rules of C11 and C++11 all these accesses then have one order that agrees with
@@ -130,7 +135,7 @@ typedef struct zc_onward {
 
 #define ZC_STARTING 0 /* code of a start that has another touch to make */
 
-/* A call to be started. A word that its operation has no use for is not looked at. */
+/* A call to be started (ZC_ASK_STEP is none). A word that its operation has no use for is not looked at. */
 typedef struct zc_start {
     uint64_t operation; /* ZC_ASK_PUSH, ZC_ASK_POP; any other number is ZC_ASK_PUSH_POOLED */
     uint64_t side;
@@ -178,13 +183,14 @@ typedef struct zc_shared {
     uint64_t *anchor, *head, *lefts, *rights, *marks, *next;
     uint32_t *labels;
     uint64_t slots, pooled;
-    uint64_t refusal; /* 0; else nothing is shared, and every call of this file is refused by it */
+    uint64_t refusal; /* 0; else nothing is shared, and every call below is refused by it */
 } zc_shared;
 
 /*
  * Shares a queue that was opened; again after each opening or return. It is one of the calls that
  * want the queue at rest. Where the report is refused (34 for control, 12, 34 for the walk) so are
- * all calls on what it answers; the other calls of this file don't ask for these again.
+ * all calls on what it answers, before all else; else none of them asks for these again. Make no
+ * call on a zc_shared that this has not answered.
  */
 static inline zc_shared zc_share(const zc_queue *queue)
 {
@@ -296,7 +302,10 @@ static inline uint64_t *zc_link(const zc_shared *shared, const zc_touch *touch)
     return &(touch->side == ZC_RIGHT ? rights : lefts)[touch->slot];
 }
 
-/* Makes a touch, and answers the word found, a line each: `perform` of crates/threads_model/specs/Split.antt, and the starts'. */
+/*
+ * Makes a touch, and answers the word found, a line each: `perform` of
+ * crates/threads_model/specs/Split.antt, and the starts' two.
+ */
 __attribute__((always_inline)) static inline uint64_t zc_made(const zc_shared *shared, const zc_touch *touch)
 {
     switch (touch->act) {
@@ -441,7 +450,8 @@ static inline zc_reply zc_atomic_pop(const zc_shared *shared, zc_record *own, ui
 /* ---- One touch at a time ------------------------------------------------------------------
  * For a thread that interleaves the calls of several records, or its calls with other work: a start,
  * then steps while they answer running. A whole call is faster: it plans a step while it settles the
- * one before (zc_settle_plan).
+ * one before (zc_settle_plan). Steps wait for nothing; whoever steps a call that fails again and again
+ * may call zc_back_off in between.
  */
 
 /* Starts the call that `start` tells: running at place 1 or 12, or refused as the whole call is. */
@@ -474,7 +484,10 @@ static inline zc_reply zc_atomic_start_pop(const zc_shared *shared, zc_record *o
     return zc_atomic_start(shared, own, &start);
 }
 
-/* Makes one step. Answers and refuses as zc_step_record does: 34 for the record, 31, 34 for what it touches. */
+/*
+ * Makes one step. Answers and refuses as zc_step_record does, but for what zc_share has asked: 34 for
+ * the record, 31, 34 for what it touches.
+ */
 static inline zc_reply zc_atomic_step(const zc_shared *shared, zc_record *own)
 {
     if (shared->refusal != 0)

@@ -31,7 +31,7 @@ static struct move moves[2 * STEPS];
 static zc_shared share(void)
 {
     return (zc_shared){&queue.control.anchor, &queue.control.head, queue.lefts, queue.rights, queue.marks,
-                       queue.next, queue.labels, slots, pooled};
+                       queue.next, queue.labels, slots, pooled, 0};
 }
 
 /* A start with its touches; each is kept while there is room. */

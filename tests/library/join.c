@@ -23,7 +23,7 @@ typedef struct lane {
     size_t record_count, left_count, right_count, label_count, mark_count;
 } lane;
 
-/* A queue opened in tables of noise that are long enough. */
+/* A queue opened in tables of any contents that are long enough. */
 static void open_lane(lane *l, uint64_t slots, uint32_t tag)
 {
     unsigned char *bytes = (unsigned char *)l;

@@ -100,7 +100,7 @@ static uint64_t work(line *l, uint64_t times)
     return digest;
 }
 
-/* A queue opened in noise and left in the middle of its calls. */
+/* A queue opened in tables of any contents and left in the middle of its calls. */
 static void open_line(line *l, uint64_t tasks, uint64_t slots, bool pooled, uint64_t times)
 {
     noise(l, sizeof *l);

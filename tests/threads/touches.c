@@ -138,8 +138,9 @@ static int one_step(void)
     if (once_in(50) && (act == ZC_LOAD_ANCHOR || act == ZC_SWAP_ANCHOR))
         split.control.anchor |= UINT64_C(3) << 30; /* unsound, where the step meets it */
     whole = split;
+    static uint64_t steps;
     zc_reply a;
-    if (once_in(2)) {
+    if (steps++ % 2 == 0) {
         a = zc_atomic_step(&shared, &split.record);
     } else {
         zc_onward onward = zc_settle_plan(shared.slots, shared.pooled, &split.record, zc_made(&shared, &touch));

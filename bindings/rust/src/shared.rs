@@ -37,7 +37,7 @@ use core::sync::atomic::{AtomicU32, AtomicU64};
 /// of it are proved calls; the touch between them is made here. That this is linearizable, down to
 /// single instructions, is proved; the crate is not.
 ///
-/// Refusal 33, [`Refusal::Worn`], comes after 4,294,967,262 changes of Anchor, two or three for each
+/// Refusal 33, [`Refusal::Worn`], comes with first tag 0 after 4,294,967,262 changes of Anchor, two or three for each
 /// push with its pop: threads that do nothing else make them within minutes. Then `into_queue`,
 /// [`Queue::renew`], and share it again.
 #[derive(Debug)]

@@ -80,8 +80,8 @@ Stands q c pending = length (c .effects) ≡ cond (hasHadEffect (c .kind) (recor
 Stands q c (answered n a) = Unit {0}
 
 -- Of a history and the queue as it stands: each label pushed, and no other, has either been taken by one pop's effect or is waiting, copies
--- counted; the pops answered and those that haven't answered yet make up those taken; and of a call that hasn't answered yet the
--- record says whether it took effect: of a pop as #114 has it, of a push by document 01's *finishing*.
+-- counted. The pops answered and those that haven't answered yet make up those taken. Of a call that hasn't answered yet the record says
+-- whether it took effect: of a pop as #114 has it, of a push by document 01's *finishing*.
 pub record AccountedIn (es : List Event) (q : Queue) : Type 0 where
   pub every-push : (x : ℕ) → let cs = ledger es .calls in copies x (pushedLabels cs) ≡ copies x (takenLabels cs) + copies x (waitingLabels (q .tables))
   pub every-pop : (x : ℕ) → let cs = ledger es .calls in copies x (takenLabels cs) ≡ copies x (answeredLabels cs) + copies x (heldLabels cs)

@@ -5,10 +5,10 @@
 /// What the executive is asked to do with shared memory.
 #[repr(C)]
 pub struct PlannedTouch {
-    /// What: 0 nothing, the call is refused by the number `word`; 1 read Anchor, 2 change it; 3 read a
-    /// link word, 4 change it, 5 put a slot into it; 6 read a label and clear the mark; 7 read the head,
-    /// 8 change it, 9 change it and store a label and a mark; 10 read a next, 11 store it; 12 set a mark
-    /// and, if it was clear, store a label; 13 read a mark.
+    /// What: 0 nothing, the call is refused by the number `word`. 1 read Anchor, 2 change it. 3 read a
+    /// link word, 4 change it, 5 put a slot into it. 6 read a label and clear the mark. 7 read the head,
+    /// 8 change it, 9 change it and store a label and a mark. 10 read a next, 11 store it. 12 set a mark
+    /// and, if it was clear, store a label. 13 read a mark.
     pub act: u32,
     /// 9 and 12: the label to store.
     pub label: u32,
