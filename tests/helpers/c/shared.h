@@ -31,10 +31,7 @@ static void signatures(void)
     zc_reply (*const pooled[])(const zc_shared *, zc_record *, uint64_t, uint32_t) = {zc_atomic_push_pooled, zc_atomic_start_push_pooled};
     zc_reply (*const pop[])(const zc_shared *, zc_record *, uint64_t) = {zc_atomic_pop, zc_atomic_start_pop};
     zc_reply (*const step)(const zc_shared *, zc_record *) = zc_atomic_step;
-    int all = shared != NULL && step != NULL;
-    for (int at = 0; at < 2; at++)
-        all = all && push[at] != NULL && pooled[at] != NULL && pop[at] != NULL;
-    holds("the names of zeppolecape_atomic.h", all);
+    (void)shared, (void)push, (void)pooled, (void)pop, (void)step;
 }
 
 /* "Where the report is refused so are all calls on what it answers", and no record changes. */
