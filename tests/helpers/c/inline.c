@@ -47,6 +47,7 @@ int main(int count, char **arguments)
     }
     state = number(count, arguments, 2, 1) * UINT64_C(0x9e3779b97f4a7c15) + 1;
     words();
+    signatures();
     for (uint64_t rounds = number(count, arguments, 1, 1000); rounds > 0; rounds--) {
         zc_queue sound = any_queue(), any = any_tables();
         refilled_behind(&sound);

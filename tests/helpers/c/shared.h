@@ -23,6 +23,17 @@ static zc_shared shared_of(const zc_queue *q)
     return all;
 }
 
+/* The names and parameters that users' programs are written against: with others this does not compile. */
+static void signatures(void)
+{
+    zc_shared (*const shared)(const zc_queue *) = zc_share;
+    zc_reply (*const push[])(const zc_shared *, zc_record *, uint64_t, uint64_t, uint32_t) = {zc_atomic_push, zc_atomic_start_push};
+    zc_reply (*const pooled[])(const zc_shared *, zc_record *, uint64_t, uint32_t) = {zc_atomic_push_pooled, zc_atomic_start_push_pooled};
+    zc_reply (*const pop[])(const zc_shared *, zc_record *, uint64_t) = {zc_atomic_pop, zc_atomic_start_pop};
+    zc_reply (*const step)(const zc_shared *, zc_record *) = zc_atomic_step;
+    (void)shared, (void)push, (void)pooled, (void)pop, (void)step;
+}
+
 /* "Where the report is refused so are all calls on what it answers", and no record changes. */
 static void share(const zc_queue *q)
 {

@@ -16,7 +16,7 @@ fn run(name: &str, tsan: bool, words: &str) -> Told {
 
 pub fn threads(checks: &mut Checks) {
     let programs = [
-        ("a thread stopped for ever", "stopped", false, "100000 1", "1000000 1"),
+        ("a thread stopped for ever", "stopped", false, "1000000 1", "10000000 1"),
         ("accounts under ThreadSanitizer", "accounts", true, "2 1", "850 1"),
         ("rounds under ThreadSanitizer", "rounds", true, "2 1", "850 1"),
         ("every label accounted for", "accounts", false, "2 1", "850 1"),
