@@ -13,7 +13,7 @@ ghost use lib.Dec.{eqb};
 ghost use Rattle.rows.specs.Rows.{callOf, recordOf, upperOf};
 ghost use Rattle.threads_model.specs.Split.{plan};
 ghost use Rattle.threads_model.specs.Starts.{wrongPush, outside, startWhy, planStart, firstCall, judged, settleStart, takesSlot, loadsMark};
-ghost use Rattle.touch.specs.Started.{startOf, Started, startedBy};
+ghost use Rattle.touch.specs.Started.{startOf, Started, startedBy, loadedBy};
 
 /// The words of a start.
 pub const START_WORDS: usize = 4;
@@ -236,4 +236,24 @@ pub fn settle_start(
         };
     }
     decides(slots, pooled, task, s, why_not(act, found, late))
+}
+
+/// A start whose Anchor is loaded: refused by its own numbers and record, or what it comes to.
+pub fn start_loaded(
+    slots: u64,
+    pooled: u64,
+    task: &mut [u64; rows::RECORD_WORDS],
+    s: Start,
+    found: u64,
+) -> Onward
+    ensures { λ o.
+        ⌜ _≡_ {A = Started}
+        (record { task = recordOf (now (task .exit)); upper = upperOf (now (task .exit)); reply = o .reply; touch = o .touch })
+        (loadedBy pooled slots (upperOf (now (task .entry))) (recordOf (now (task .entry))) s found) ⌝ }
+{
+    let why = own_refusal(pooled, slots, task, s);
+    if why != 0 {
+        return crate::refused(why);
+    }
+    settle_start(slots, pooled, task, s, 1, found)
 }
