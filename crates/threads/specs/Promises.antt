@@ -1,10 +1,10 @@
 -- What is promised of split steps, and of threads that interleave at single instructions.
 use mathlib.Core.Path.{_≡_}
-use mathlib.Core.Bool.{Bool, true, false, _&&_, _||_, cond}
+use mathlib.Core.Bool.{Bool, true, false, cond}
 use mathlib.Core.List.{List, [], _++_}
 use mathlib.Core.Logic.{_≢_}
 use Prim.Native.Nat.{ℕ, _<_}
-use lib.Dec.{eqb, leb}
+use lib.Dec.{eqb}
 use lib.ListN.{getD, set}
 use Rattle.model.specs.declared.Call.{Call}
 use Rattle.model.specs.declared.Record.{Record}
@@ -18,7 +18,7 @@ use Rattle.model.specs.Calls.{act, openAs, stepLent}
 use Rattle.model.specs.History.{Event, LedgerCall, Lawful, Request, final, ledger, run}
 use Rattle.model.specs.Walk.{contents, entries}
 use Rattle.model.specs.Lists.{All}
-use Rattle.threads_model.specs.Split.{plan, planUnasked, settle, settleUnasked, splitStep}
+use Rattle.threads_model.specs.Split.{plan, onRow, planUnasked, settle, settleUnasked, splitStep}
 use Rattle.threads_model.specs.declared.Start.{Start}
 use Rattle.threads_model.specs.Starts.{isNamed, startWhy, planStart, firstCall}
 use Rattle.threads_model.specs.Turns.{Turn, takeEarly, runTurns, finalTurns}
@@ -31,12 +31,13 @@ use Rattle.threads_model.specs.Crew.{Crew, Act, allFree, Known, goOn, turns, to
 abbrev pub SplitStands : Type 0
 SplitStands = (q : Tables) (r : Record) → admission (q .control) (fits q) alone ≡ 0 → splitStep q r ≡ stepLent q r
 
--- The touches of a slot's row, its label or its mark: 3 to 6 and 9 to 11. They name a slot, 1 to slots, whatever the record holds.
-abbrev pub onRow : ℕ → Bool
-onRow act = (leb 3 act && leb act 6) || leb 9 act
-
+-- A touch of a slot's row, its label or its mark names a slot, 1 to slots, whatever the record holds; asked or not.
 abbrev pub PlansWithin : Type 0
 PlansWithin = (pooled slots : ℕ) (r : Call) → onRow (plan pooled slots r .act) ≡ true → from1 slots (plan pooled slots r .slot) ≡ true
+
+abbrev pub UnaskedWithin : Type 0
+UnaskedWithin =
+    (pooled slots : ℕ) (r : Call) → onRow (planUnasked pooled slots r .act) ≡ true → from1 slots (planUnasked pooled slots r .slot) ≡ true
 
 -- A start that gets as far as its touches is for a slot of 1 to slots, if it names one (12 and 13 are of that slot).
 abbrev pub StartsWithin : Type 0

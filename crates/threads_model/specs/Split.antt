@@ -109,10 +109,17 @@ plan pooled slots r =
 abbrev pub placeRefusal : Call → ℕ
 placeRefusal r = cond (eqb (r .place) 0) 31 (cond (leb (r .place) 17) 0 34)
 
+-- The touches of a slot's row, its label or its mark: 3 to 6 and 9 to 11. 34 where there is no such slot, whatever the record holds.
+abbrev pub onRow : ℕ → Bool
+onRow act = (leb 3 act && leb act 6) || leb 9 act
+
+abbrev pub within : ℕ → PlannedTouch → PlannedTouch
+within slots p = cond (onRow (p .act) && not (from1 slots (p .slot))) (refuses 34) p
+
 unfoldable pub planUnasked : ℕ → ℕ → Call → PlannedTouch
 planUnasked pooled slots r =
     let why = placeRefusal r in
-    cond (eqb why 0) (planned pooled slots r) (refuses why)
+    cond (eqb why 0) (within slots (planned pooled slots r)) (refuses why)
 
 -- PERFORM. The touch as one act: the tables after it, and the word found.
 pub record Touched : Type 0 where

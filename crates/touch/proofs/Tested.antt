@@ -12,8 +12,10 @@ use Rattle.model.specs.Sound.{recordSound}
 use Rattle.model.proofs.tests.Truth.{split}
 use Rattle.rows.proofs.InItsRow.{unsound}
 use Rattle.threads_model.specs.declared.PlannedTouch.{PlannedTouch}
-use Rattle.threads_model.specs.Split.{refuses, planned, plan, placeRefusal, planUnasked}
+use Rattle.threads_model.specs.Split.{refuses, planned, plan, placeRefusal, within, planUnasked}
 use Rattle.threads.proofs.split.ByRecord.{plans-at, sound-none}
+use Rattle.threads.proofs.split.Within.{Within}
+use Rattle.threads.proofs.split.Unasked.{within-same}
 
 -- The side of a link word that leads away from the right one.
 pub inward : (right : Bool) → _≡_ {A = ℕ} (cond (not right) 1 0) (cond right 0 1)
@@ -47,10 +49,15 @@ module _ (pooled slots : ℕ) (r : Call) where
   at-place n some within at = rw (ap (λ (k : ℕ). eqb k 0) at ∙ some, ap (λ (k : ℕ). leb k 17) at ∙ within)
 
   pub plans-at-place : (n : ℕ) → eqb n 0 ≡ false → leb n 17 ≡ true → r .place ≡ n
-      → (p : PlannedTouch) → p ≡ planned pooled slots (atPlace r n) → p ≡ planUnasked pooled slots r
+      → (p : PlannedTouch) → p ≡ within slots (planned pooled slots (atPlace r n)) → p ≡ planUnasked pooled slots r
   unfolding planUnasked
-  plans-at-place n some within at p e =
-      e ∙ ap (λ (k : ℕ). planned pooled slots (atPlace r k)) (sym at) ∙ rw (at-place n some within at)
+  plans-at-place n some low at p e =
+      e ∙ ap (λ (k : ℕ). within slots (planned pooled slots (atPlace r k))) (sym at) ∙ rw (at-place n some low at)
+
+  -- Where the slot was tested, or none is named.
+  pub plans-row : (n : ℕ) → eqb n 0 ≡ false → leb n 17 ≡ true → r .place ≡ n → Within slots (planned pooled slots (atPlace r n))
+      → (p : PlannedTouch) → p ≡ planned pooled slots (atPlace r n) → p ≡ planUnasked pooled slots r
+  plans-row n some low at ok p e = plans-at-place n some low at p (e ∙ sym (within-same slots (planned pooled slots (atPlace r n)) ok))
 
   pub plans-none : (why : ℕ) → placeRefusal r ≡ why → eqb why 0 ≡ false → (p : PlannedTouch) → p ≡ refuses why → p ≡ planUnasked pooled slots r
   unfolding planUnasked

@@ -257,3 +257,40 @@ pub fn start_loaded(
     }
     settle_start(slots, pooled, task, s, 1, found)
 }
+
+/// What a start does first: ZC_NO_TOUCH with its refusal, or it loads Anchor. For C and Rust.
+#[no_mangle]
+pub extern "C" fn zc_plan_start(
+    slots: u64,
+    pooled: u64,
+    task: &[u64; rows::RECORD_WORDS],
+    words: &[u64; START_WORDS],
+) -> PlannedTouch
+    ensures { λ p. ⌜ p ≡ planStart pooled slots (callOf (now (task .entry))) (startOf (now (words .entry))) ⌝ }
+{
+    let asked = *words;
+    plan_start(pooled, slots, task, start_of(asked))
+}
+
+/// What a start comes to once its touch of kind `act` has found a word: one more touch (the reply's code
+/// is then 0), or its outcome and the plan of the record as it then is. For C and
+/// Rust.
+#[no_mangle]
+pub extern "C" fn zc_settle_start(
+    slots: u64,
+    pooled: u64,
+    task: &mut [u64; rows::RECORD_WORDS],
+    words: &[u64; START_WORDS],
+    act: u32,
+    found: u64,
+) -> Onward
+    ensures { λ o.
+        ⌜ _≡_ {A = Started}
+        (record { task = recordOf (now (task .exit)); upper = upperOf (now (task .exit)); reply = o .reply; touch = o .touch })
+        (startedBy pooled slots (upperOf (now (task .entry))) (recordOf (now (task .entry)))
+        (settleStart (recordOf (now (task .entry))) (startOf (now (words .entry))) act found)) ⌝ }
+{
+    let asked = *words;
+    let s = start_of(asked);
+    settle_start(slots, pooled, task, s, act, found)
+}

@@ -1,53 +1,15 @@
-//! What a whole call of a thread is made of, for C and Rust: a start and its settlements. From the start on its record is known
-//! to be sound, and is not tested again. An archive of its own: `touch`, whose calls test the record, compiles a settlement
-//! into `zc_settle_plan`, and one that two calls of an archive share is compiled into neither.
-use threads_model::PlannedTouch;
+//! What a whole call of a thread is made of, for C and Rust: its start and its settlements. From the start on the record is
+//! known to be sound, and is not tested again. An archive of its own: what two calls of an archive share is compiled into
+//! neither, and `zc_settle_plan` and `zc_settle_start` of `touch` share a settlement and a start with these.
 use touch::Onward;
 use touch::start;
 ghost use mathlib.Core.Path.{_≡_};
 ghost use Rattle.rows.specs.Rows.{callOf, recordOf, upperOf};
 ghost use Rattle.threads_model.specs.Split.{planUnasked, settleUnasked, heardAs};
-ghost use Rattle.threads_model.specs.Starts.{planStart, settleStart};
 ghost use Rattle.touch.specs.Heard.{Replied, replied};
-ghost use Rattle.touch.specs.Started.{startOf, Started, startedBy, loadedBy};
+ghost use Rattle.touch.specs.Started.{startOf, Started, loadedBy};
 
-/// What a start does first: ZC_NO_TOUCH with its refusal, or it loads Anchor.
-#[no_mangle]
-pub extern "C" fn zc_plan_start(
-    slots: u64,
-    pooled: u64,
-    task: &[u64; rows::RECORD_WORDS],
-    words: &[u64; start::START_WORDS],
-) -> PlannedTouch
-    ensures { λ p. ⌜ p ≡ planStart pooled slots (callOf (now (task .entry))) (startOf (now (words .entry))) ⌝ }
-{
-    let asked = *words;
-    start::plan_start(pooled, slots, task, start::start_of(asked))
-}
-
-/// What a start comes to once its touch of kind `act` has found a word: one more touch (the reply's code
-/// is then 0), or its outcome and the plan of the record as it then is.
-#[no_mangle]
-pub extern "C" fn zc_settle_start(
-    slots: u64,
-    pooled: u64,
-    task: &mut [u64; rows::RECORD_WORDS],
-    words: &[u64; start::START_WORDS],
-    act: u32,
-    found: u64,
-) -> Onward
-    ensures { λ o.
-        ⌜ _≡_ {A = Started}
-        (record { task = recordOf (now (task .exit)); upper = upperOf (now (task .exit)); reply = o .reply; touch = o .touch })
-        (startedBy pooled slots (upperOf (now (task .entry))) (recordOf (now (task .entry)))
-        (settleStart (recordOf (now (task .entry))) (startOf (now (words .entry))) act found)) ⌝ }
-{
-    let asked = *words;
-    let s = start::start_of(asked);
-    start::settle_start(slots, pooled, task, s, act, found)
-}
-
-/// The two in one, for an Anchor that was loaded before the start was planned.
+/// A start whose Anchor is loaded: refused by its own numbers and record, or what it comes to.
 #[no_mangle]
 pub extern "C" fn zc_start_loaded(
     slots: u64,

@@ -1,5 +1,5 @@
 -- A sound record need not be asked: its plan and its settlement are the same unasked, and it stays sound.
-use mathlib.Core.Path.{_≡_, refl, ap, sym, _∙_}
+use mathlib.Core.Path.{_≡_, refl, ap, subst, sym, _∙_}
 use mathlib.Core.Bool.{Bool, true, false, _&&_, not}
 use Prim.Native.Nat.{ℕ}
 use native.Mathlib.Omega.{arith}
@@ -7,13 +7,15 @@ use lib.Dec.{eqb, leb}
 use borrow.Author.Tests.{eqb-true, eqb-false, ne-eqb, le-leb}
 use Rattle.word.specs.Anchor.{anchorOf}
 use Rattle.model.specs.declared.{Call.Call, Record.Record}
-use Rattle.model.specs.Sound.{anchorSound, recordSound}
+use Rattle.model.specs.Sound.{from1, anchorSound, recordSound}
 use Rattle.model.specs.Refusals.{recordRefusal, stepSound}
 use Rattle.model.specs.Ends.{isMoved}
 use Rattle.model.proofs.tests.Truth.{split, by-test, not-both}
-use Rattle.threads_model.specs.Split.{knowing, planUnasked, plan, Settled, gone, settledAt, meetsAnchor, settle, settleUnasked, placeRefusal}
+use Rattle.threads_model.specs.declared.PlannedTouch.{PlannedTouch}
+use Rattle.threads_model.specs.Split.{knowing, planned, onRow, within, planUnasked, plan, Settled, gone, settledAt, meetsAnchor, settle, settleUnasked, placeRefusal}
 use Rattle.threads.specs.Promises.{UnaskedStands}
 use Rattle.threads.proofs.split.ByRecord.{idle-plan, sound-none, low, high}
+use Rattle.threads.proofs.split.Within.{plans-within}
 use Rattle.threads.proofs.split.SoundFields.{fit}
 use Rattle.threads.proofs.split.StaysSound.{settle-sound}
 
@@ -28,6 +30,13 @@ stays pooled slots r w =
     (λ _. by-test P (stepSound (knowing pooled slots w w) (r .call) w) (λ _ h. absurd (not-both refl h)) (λ _ _. refl)))
     (λ _ _. refl)
 
+-- A touch of a slot that the queue has is left.
+pub within-same : (slots : ℕ) (p : PlannedTouch) → (onRow (p .act) ≡ true → from1 slots (p .slot) ≡ true) → within slots p ≡ p
+within-same slots p ok =
+    split (onRow (p .act))
+    (λ on. rw (on, ok on))
+    (λ off. rw off)
+
 module _ (pooled slots : ℕ) (r : Call) where
   -- A record that is not refused is at a place.
   pub placed : recordRefusal (eqb pooled 1) slots r ≡ 0 → placeRefusal r ≡ 0
@@ -41,7 +50,10 @@ module _ (pooled slots : ℕ) (r : Call) where
     plan-same =
         split (eqb (r .place) 0)
         (λ idle. rw idle (idle-plan pooled slots r (eqb-true _ _ idle)))
-        (λ busy. let none = sound-none pooled slots r sound (eqb-false _ _ busy) in rw (placed none, none))
+        (λ busy. let none = sound-none pooled slots r sound (eqb-false _ _ busy) in
+        let here : plan pooled slots r ≡ planned pooled slots r = rw none in
+        rw (placed none, none) (within-same slots (planned pooled slots r)
+        (subst (λ (p : PlannedTouch). onRow (p .act) ≡ true → from1 slots (p .slot) ≡ true) here (plans-within pooled slots r))))
 
   -- An Anchor that is as read is sound.
   pub seen-sound : eqb (r .place) 0 ≡ false → recordSound (eqb pooled 1) slots r ≡ true → anchorSound slots (anchorOf (r .seen)) ≡ true

@@ -2,10 +2,10 @@ use mathlib.Core.Path.{ap, _∙_}
 use Rattle.rows.specs.Rows.{recordOf, upperOf}
 use Rattle.threads_model.specs.declared.Start.{Start}
 use Rattle.threads_model.specs.Starts.{settleStart}
 use Rattle.touch.specs.Started.{startedBy}
 use borrow.Author.Needs.{needs}
-use Rattle.touch_call.proofs.zc_settle_start.Statement.{statement}
-use Rattle.touch_call.proofs.zc_settle_start.Tie as tie
+use Rattle.touch.proofs.start.zc_settle_start.Statement.{statement}
+use Rattle.touch.proofs.start.zc_settle_start.Tie as tie
 
 returns : tie.Need-returns
 returns c =
