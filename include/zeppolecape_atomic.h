@@ -183,8 +183,8 @@ zc_onward zc_start_loaded(uint64_t slots, uint64_t pooled, zc_record *own, const
 
 /*
  * zc_settle_plan for a record that nobody has written since a start or a settlement left it: such a
- * one is sound, which is proved, and is not tested again but for its place. Of a record that holds
- * anything else the touch that it plans may be outside the tables.
+ * one is sound, which is proved, and is tested for its place alone. Whatever a record holds, a touch
+ * that is planned names a slot of 1 to slots.
  */
 zc_onward zc_settle_unasked(uint64_t slots, uint64_t pooled, zc_record *own, uint64_t found);
 
