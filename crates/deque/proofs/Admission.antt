@@ -1,4 +1,4 @@
--- The calls of the walk over a slice that are lent no table: whether the step is admitted (`sound::admission::admit`), and the refusal (`engine::refuse`).
+-- The calls of the walk over a slice that are lent no table: whether the step is admitted (`sound::admission::admit_step`), and the refusal (`engine::refuse`).
 use mathlib.Core.Path.{_≡_, refl}
 use Prim.Native.Nat.{ℕ, _<_, _^_}
 use mathlib.Core.List.{[], _∷_, List}
@@ -38,7 +38,7 @@ use Rattle.model.proofs.Control.Laws as K′
 use Rattle.model.proofs.Outcome as E
 use Rattle.sound.proofs.Lengths as L
 use Rattle.sound.proofs.Lengths.Laws as L′
-use Rattle.sound.proofs.admission.admit as admit
+use Rattle.sound.proofs.admission.admit_step as admit
 use Rattle.engine.proofs.refuse as refuse
 
 -- ---- whether it is admitted

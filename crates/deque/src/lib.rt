@@ -83,7 +83,7 @@ pub fn step(
         marks: marks.len(),
         next: next.len(),
     };
-    let why = admission::admit(c, task, lent);
+    let why = admission::admit_step(c, task, lent);
     if why != 0 {
         return engine::refuse(why);
     }

@@ -50,11 +50,9 @@ module _ (pooled : Bool) (slots : ℕ) (t : Lengths) (enough : Bool) where
   unfolding lengthsFit
   short e = rw e (simp and-false)
 
-  pub long : (not pooled || ltb slots (t .next)) ≡ true
-      → ((((ltb slots (t .lefts) && ltb slots (t .rights)) && ltb slots (t .labels)) && ltb (slots / 64) (t .marks)) && enough)
-      ≡ (lengthsFit pooled slots t && enough)
+  pub long : (not pooled || ltb slots (t .next)) ≡ true → (lengthsFit false slots t && enough) ≡ (lengthsFit pooled slots t && enough)
   unfolding lengthsFit
-  long e = rw e (simp (and-assoc, and-true))
+  long e = rw e
 
 -- Control is sound but for the word for pooled: that and the next table are asked.
 module _ (c : Control) (t : Lengths) (enough : Bool) (why : ℕ) (e : why ≡ first (nextRules (c .pooled) (c .slots) (t .next)))
@@ -65,8 +63,7 @@ module _ (c : Control) (t : Lengths) (enough : Bool) (why : ℕ) (e : why ≡ fi
       (refuses (leb (c .pooled) 1) (not (eqb (c .pooled) 1) || ltb (c .slots) (t .next)) (lengthsFit (eqb (c .pooled) 1) (c .slots) t && enough) why
       (short (eqb (c .pooled) 1) (c .slots) t enough) e other)
 
-  pub by-rows : (b : Bool) → why ≡ 0
-      → ((((ltb (c .slots) (t .lefts) && ltb (c .slots) (t .rights)) && ltb (c .slots) (t .labels)) && ltb (c .slots / 64) (t .marks)) && enough) ≡ b
+  pub by-rows : (b : Bool) → why ≡ 0 → (lengthsFit false (c .slots) t && enough) ≡ b
       → cond b 0 12 ≡ first (tableRules c (lengthsFit (eqb (c .pooled) 1) (c .slots) t && enough))
   by-rows b none test =
       let z = passes (leb (c .pooled) 1) (not (eqb (c .pooled) 1) || ltb (c .slots) (t .next)) why e none in

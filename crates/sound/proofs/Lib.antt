@@ -7,3 +7,4 @@ pub mod Late
 pub mod Links
 pub mod Measured
 pub mod Asked
+pub mod Refused

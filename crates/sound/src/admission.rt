@@ -62,9 +62,7 @@ fn step_refusal(c: Control, enough: bool, t: Lengths) -> u32
     if why != 0 {
         return why;
     }
-    let last = c.slots as usize;
-    let links = (last < t.lefts) & (last < t.rights);
-    if links & (last < t.labels) & (last / 64 < t.marks) & enough {
+    if crate::rows_fit(false, c.slots, t) & enough {
         0
     } else {
         12

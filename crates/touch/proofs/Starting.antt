@@ -12,7 +12,7 @@ use Rattle.model.specs.Sound.{from1, recordSound}
 use Rattle.model.proofs.tests.Truth.{split, and-true, not-both}
 use Rattle.sound.proofs.Parts.{idle-sound}
 use Rattle.rows.specs.Rows.{callOf, recordOf, upperOf}
-use Rattle.rows.proofs.InItsRow.{unsound}
+use Rattle.sound.proofs.Refused.{unsound}
 use Rattle.threads_model.specs.declared.{PlannedTouch.PlannedTouch, Start.Start}
 use Rattle.threads_model.specs.Split.{refuses, loadsAnchor, loadsHead, plan}
 use Rattle.threads_model.specs.Starts.{Begins, ownRefusal, startWhy, wrongPush, outside, planStart, firstCall, judged}

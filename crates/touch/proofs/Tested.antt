@@ -10,7 +10,7 @@ use Rattle.model.specs.declared.Call.{Call}
 use Rattle.model.specs.{Tables.atPlace, Refusals.recordRefusal}
 use Rattle.model.specs.Sound.{recordSound}
 use Rattle.model.proofs.tests.Truth.{split}
-use Rattle.rows.proofs.InItsRow.{unsound}
+use Rattle.sound.proofs.Refused.{unsound}
 use Rattle.threads_model.specs.declared.PlannedTouch.{PlannedTouch}
 use Rattle.threads_model.specs.Split.{refuses, planned, plan, placeRefusal, within, planUnasked}
 use Rattle.threads.proofs.split.ByRecord.{plans-at, sound-none}

@@ -27,9 +27,9 @@ use Rattle.deque.proofs.Admission.{Admit, Refuse}
 use Rattle.deque.proofs.Engine.{Move}
 use Rattle.model.proofs.Control as K
 use Rattle.model.proofs.Record as T
-use Rattle.sound.proofs.admission.admit.Symbol as admit-def
-use Rattle.sound.proofs.admission.admit.Symbol.{name as #sound·admission·admit}
-use Rattle.sound.proofs.admission.admit.Met as admit-thm
+use Rattle.sound.proofs.admission.admit_step.Symbol as admit-def
+use Rattle.sound.proofs.admission.admit_step.Symbol.{name as #sound·admission·admit}
+use Rattle.sound.proofs.admission.admit_step.Met as admit-thm
 use Rattle.engine.proofs.refuse.Symbol as refuse-def
 use Rattle.engine.proofs.refuse.Symbol.{name as #engine·refuse}
 use Rattle.engine.proofs.refuse.Met as refuse-thm
@@ -110,7 +110,7 @@ step-spec 𝓤 H 𝓜 𝓖 𝓡 =
     entered 𝓤 H (tripleOf 𝓤 H (𝓖 .A) self.signature (self.spec 𝓤 H (𝓖 .A) (𝓜 .mem) (𝓡 .run)))
     (tables 𝓤 H 𝓜 𝓡 code.env .C) (tables 𝓤 H 𝓜 𝓡 code.env .Λ) #deque·step code.function (code.unfolded 𝓤 H 𝓜 𝓡)
     (self-meets 𝓤 H (𝓖 .A) (givenOf 𝓤 H 𝓜 𝓖) (𝓜 .mem) (𝓡 .run) (tablesOf 𝓤 H 𝓜 (tables 𝓤 H 𝓜 𝓡 code.env))
-    (cited 𝓤 H (Admit 𝓤 H (𝓖 .A) (𝓜 .mem) (𝓡 .run)) 𝓜 𝓡 code.env #sound·admission·admit admit-def.routine code.calls-sound·admission·admit
+    (cited 𝓤 H (Admit 𝓤 H (𝓖 .A) (𝓜 .mem) (𝓡 .run)) 𝓜 𝓡 code.env #sound·admission·admit admit-def.routine code.calls-sound·admission·admit-step
     (admit-thm.met 𝓤 H 𝓜 𝓖 𝓡))
     (cited 𝓤 H (Refuse 𝓤 H (𝓖 .A) (𝓜 .mem) (𝓡 .run)) 𝓜 𝓡 code.env #engine·refuse refuse-def.routine code.calls-engine·refuse
     (refuse-thm.met 𝓤 H 𝓜 𝓖 𝓡))

@@ -59,7 +59,7 @@ use Rattle.rows.proofs.value.Stepped as N
 use Rattle.rows.proofs.value.Stepped.Laws as N′
 use Rattle.sound.proofs.Lengths as L
 use Rattle.sound.proofs.Lengths.Laws as L′
-use Rattle.sound.proofs.admission.admit.Symbol.{name as #sound·admission·admit}
+use Rattle.sound.proofs.admission.admit_step.Symbol.{name as #sound·admission·admit}
 use Rattle.engine.proofs.refuse.Symbol.{name as #engine·refuse}
 use Rattle.rows.proofs.value.move_on.Symbol.{name as #rows·value·move-on}
 use Rattle.deque.proofs.step as self

@@ -49,17 +49,21 @@ returns-4 c =
 
 returns-5 : tie.Need-returns-5
 returns-5 c =
-    let none = c .before .before .before .before .before in
+    let rows = c .before in
+    let none = rows .before in
     let told = none .before in
     let s = a (told .before) .args in
-    by-rows (s .c) (s .t) (s .enough) (told .next-refusal .result) (told .next-refusal .ensures) (tested (told .before)) true (none .if4 .left) (c .if5 .taken)
+    by-rows (s .c) (s .t) (s .enough) (told .next-refusal .result) (told .next-refusal .ensures) (tested (told .before)) true (none .if4 .left)
+    (rw (← rows .rows-fit .ensures) (c .if5 .taken))
 
 returns-6 : tie.Need-returns-6
 returns-6 c =
-    let none = c .before .before .before .before .before in
+    let rows = c .before in
+    let none = rows .before in
     let told = none .before in
     let s = a (told .before) .args in
-    by-rows (s .c) (s .t) (s .enough) (told .next-refusal .result) (told .next-refusal .ensures) (tested (told .before)) false (none .if4 .left) (c .if5 .left)
+    by-rows (s .c) (s .t) (s .enough) (told .next-refusal .result) (told .next-refusal .ensures) (tested (told .before)) false (none .if4 .left)
+    (rw (← rows .rows-fit .ensures) (c .if5 .left))
 
 pub step-refusal-spec : {M : Type 1} → statement M
-step-refusal-spec = tie.close (tie.spec (λ _ _. tt) returns (λ _ _. tt) returns-2 (λ _ _. tt) returns-3 (λ _ _. tt) returns-4 returns-5 returns-6)
+step-refusal-spec = tie.close (tie.spec (λ _ _. tt) returns (λ _ _. tt) returns-2 (λ _ _. tt) returns-3 (λ _ _. tt) returns-4 (λ _ _. tt) returns-5 returns-6)
