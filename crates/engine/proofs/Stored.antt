@@ -103,7 +103,7 @@ module _ (q : Tables) (r : Record) (m : Transition) (lefts rights labels marks n
         ap (λ (c : Control). leaves c r) (sym (ap (λ (t : Tables). t .control) (k .0)))
         ∙ ap (leaves (m .control)) (sym (k .1)) ∙ e
 
-    kept-stored : leaves (headAfter (anchorAfter (q .control) m) m) (ownAfter (callAfter r m) m) ≡ a
+    kept-stored : leaves (anchorAfter (headAfter (q .control) m) m) (callAfter (ownAfter r m) m) ≡ a
     unfolding anchorAfter callAfter headAfter ownAfter
     kept-stored =
         split (isMoved (m .outcome))
@@ -121,7 +121,7 @@ module _ (q : Tables) (r : Record) (m : Transition) (lefts rights labels marks n
         (λ a. rw a (unmoved a))
 
   pub moved-stored : leaves (m .control) (gone (m .task)) ≡ moveOn q r
-      → leaves (headAfter (anchorAfter (q .control) m) m) (ownAfter (callAfter r m) m) ≡ moveOn q r
+      → leaves (anchorAfter (headAfter (q .control) m) m) (callAfter (ownAfter r m) m) ≡ moveOn q r
   moved-stored e = kept-stored (moveOn q r) (moved-on q r) e
 
   pub early-stored : leaves (m .control) (gone (m .task)) ≡ moveOn q r → r .call .place ≤ 10

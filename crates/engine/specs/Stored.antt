@@ -29,7 +29,7 @@ callAfter r m =
     let call : Call = cond (endsCall (m .outcome)) idle (callMoved (r .call) (m .task)) in
     cond (isMoved (m .outcome)) (counting call (counted (r .retries) (m .failed))) r
 
--- Beyond 10, besides. A call that ended stays all zero.
+-- Beyond 10, besides and first. Of a call that ends, which is then all zero, nothing.
 unfoldable pub headAfter : Control → Transition → Control
 headAfter c m = cond (isMoved (m .outcome)) (headMoved c (m .control)) c
 

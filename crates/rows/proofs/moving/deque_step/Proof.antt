@@ -12,7 +12,8 @@ use Rattle.model.specs.Refusals.{recordRefusal}
 use Rattle.sound.proofs.Early.{early}
 use Rattle.engine.proofs.InParts.{above}
 use Rattle.rows.specs.Rows.{callOf}
-use Rattle.rows.proofs.InItsRow.{no-call, unsound, passes, refuses, early-place}
+use Rattle.sound.proofs.Refused.{no-call, unsound, passes}
+use Rattle.rows.proofs.InItsRow.{refuses, early-place}
 use Rattle.rows.proofs.moving.deque_step.Statement.{statement}
 use Rattle.rows.proofs.moving.deque_step.Tie as tie
 
@@ -76,8 +77,8 @@ returns-3 c low labels marks next =
 
 returns-4 : tie.Need-returns-4
 returns-4 c low labels marks next =
-    let made = c .before in
-    let place = made .before .before .before in
+    let made = c .before .before .before in
+    let place = made .before in
     let left = place .before in
     let read = read₀ left in
     let put = c .put-deque .ensures in
@@ -88,8 +89,8 @@ returns-4 c low labels marks next =
 
 returns-5 : tie.Need-returns-5
 returns-5 c low labels marks next =
-    let made = c .before in
-    let place = made .before .before .before in
+    let made = c .before .before .before in
+    let place = made .before in
     let left = place .before in
     let read = read₀ left in
     let put = c .put-deque2 .ensures in
@@ -101,10 +102,9 @@ returns-5 c low labels marks next =
 
 returns-6 : tie.Need-returns-6
 returns-6 c low labels marks next =
-    let made0 = c .before .before .before .before in
-    let made = made0 .before in
-    let place0 = made .before .before .before .before in
-    let place = place0 .before in
+    let gone = c .before .before .before in
+    let made = gone .before .before .before .before in
+    let place = made .before .before .before in
     let left = place .before in
     let read = read₀ left in
     let put = c .put-deque3 .ensures in
@@ -115,8 +115,8 @@ returns-6 c low labels marks next =
 
 returns-7 : tie.Need-returns-7
 returns-7 c low labels marks next =
-    let made = c .before in
-    let place = made .before .before .before in
+    let made = c .before .before .before in
+    let place = made .before in
     let left = place .before in
     let read = read₀ left in
     let put = c .put-deque4 .ensures in
@@ -128,9 +128,8 @@ returns-7 c low labels marks next =
 
 returns-8 : tie.Need-returns-8
 returns-8 c low labels marks next =
-    let made = c .before in
-    let place0 = made .before .before .before .before in
-    let place = place0 .before in
+    let made = c .before .before .before in
+    let place = made .before .before .before in
     let left = place .before in
     let read = read₀ left in
     let put = c .put-deque5 .ensures in
@@ -141,8 +140,8 @@ returns-8 c low labels marks next =
 
 returns-9 : tie.Need-returns-9
 returns-9 c low labels marks next =
-    let made = c .before in
-    let place = made .before .before .before in
+    let made = c .before .before .before in
+    let place = made .before in
     let left = place .before in
     let read = read₀ left in
     let put = c .put-deque6 .ensures in
@@ -153,9 +152,8 @@ returns-9 c low labels marks next =
 
 returns-10 : tie.Need-returns-10
 returns-10 c low labels marks next =
-    let made = c .before in
-    let place0 = made .before .before .before .before in
-    let place = place0 .before in
+    let made = c .before .before .before in
+    let place = made .before .before .before in
     let left = place .before in
     let read = read₀ left in
     let put = c .put-deque7 .ensures in
@@ -166,8 +164,8 @@ returns-10 c low labels marks next =
 
 returns-11 : tie.Need-returns-11
 returns-11 c low labels marks next =
-    let made = c .before in
-    let place = made .before .before .before in
+    let made = c .before .before .before in
+    let place = made .before in
     let left = place .before in
     let read = read₀ left in
     let put = c .put-deque8 .ensures in
@@ -178,10 +176,9 @@ returns-11 c low labels marks next =
 
 returns-12 : tie.Need-returns-12
 returns-12 c low labels marks next =
-    let made0 = c .before .before .before .before in
-    let made = made0 .before in
-    let place0 = made .before .before .before .before in
-    let place = place0 .before in
+    let gone = c .before .before .before in
+    let made = gone .before .before .before .before in
+    let place = made .before .before .before in
     let left = place .before in
     let read = read₀ left in
     let put = c .put-deque9 .ensures in
@@ -192,8 +189,8 @@ returns-12 c low labels marks next =
 
 returns-13 : tie.Need-returns-13
 returns-13 c low labels marks next =
-    let made = c .before in
-    let place = made .before .before .before in
+    let made = c .before .before .before in
+    let place = made .before in
     let left = place .before in
     let read = read₀ left in
     let put = c .put-deque10 .ensures in
