@@ -1,6 +1,6 @@
 -- What the step at a place is refused by, told by the outcome that it comes to.
 use mathlib.Core.Path.{_≡_, refl, ap, sym, _∙_}
-use mathlib.Core.Bool.{cond}
+use mathlib.Core.Bool.{false, cond}
 use mathlib.Core.List.{List}
 use Prim.Native.Nat.{ℕ}
 use lib.{Dec.eqb, ListN.getD}
@@ -12,7 +12,7 @@ use Rattle.model.specs.Places.{wordFound}
 use Rattle.model.specs.Refusals.{stepSound}
 use Rattle.model.specs.Calls.{Acted, finish}
 use Rattle.model.proofs.tests.Truth.{split, either}
-use Rattle.decide.specs.Ending.{settled, compared, mayChange}
+use Rattle.decide.specs.Ending.{settled, compared, changeRefused}
 use Rattle.decide.specs.declared.touched.LinkWord.{LinkWord}
 use Rattle.decide.specs.Decided.{madeOf, ownEnd, new2, new4, new10, link3, link7, found3, found9, found11, found14}
 use Rattle.places.specs.Arm.{stepAt}
@@ -48,16 +48,20 @@ module _ (c : Control) (r : Call) (ls rs ns ms xs : List ℕ) where
   pub at : (n : ℕ) → r .place ≡ n → owed n ≡ asked
   at n e = ap owed (sym e)
 
-  -- A change of Anchor.
+  -- A change of Anchor, which is not refused where Anchor is not as read.
+  unrefused : (new : ℕ) → eqb (c .anchor) (r .seen) ≡ false → changeRefused c r new ≡ false
+  unfolding changeRefused
+  unrefused new h = rw h
+
   changes : (n new : ℕ) {t : Call} {done : ℕ} {failed : Transition} → r .place ≡ n → anchors.Tries n c r new t done failed
       → whyNot (failed .outcome) ≡ 0 → whyUnchanged c r new ≡ asked
   unfolding whyUnchanged settled
   changes n new e tried moved =
       split (eqb (c .anchor) (r .seen))
-      (λ h. split (mayChange (c .slots) (r .seen) new)
-      (λ y. rw (h, y) (said n (at n e) (anchors.makes tried (eqb-true _ _ h) y ls rs ns ms xs 0)))
-      (λ y. rw (h, y) (said n (at n e) (anchors.denies tried (eqb-true _ _ h) y ls rs ns ms xs 0))))
-      (λ h. rw h (sym moved ∙ said n (at n e) (anchors.fails tried (eqb-false _ _ h) ls rs ns ms xs 0)))
+      (λ h. split (changeRefused c r new)
+      (λ y. rw y (said n (at n e) (anchors.denies tried (eqb-true _ _ h) y ls rs ns ms xs 0)))
+      (λ y. rw y (said n (at n e) (anchors.makes tried (eqb-true _ _ h) y ls rs ns ms xs 0))))
+      (λ h. rw (unrefused new h) (sym moved ∙ said n (at n e) (anchors.fails tried (eqb-false _ _ h) ls rs ns ms xs 0)))
 
   pub change2 : r .place ≡ 2 → whyUnchanged c r (new2 r) ≡ asked
   unfolding settled

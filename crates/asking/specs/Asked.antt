@@ -1,13 +1,12 @@
 -- What a step is refused by for what it touches, as the code asks it.
 use mathlib.Core.Bool.{cond}
 use Prim.Native.Nat.{ℕ}
-use lib.Dec.{eqb}
 use Rattle.model.specs.declared.{Control.Control, Call.Call, Outcome.Outcome}
 use Rattle.model.specs.declared.Outcome.the-variants.{Refused, Moved}
 use Rattle.model.specs.Tables.{Tables}
 use Rattle.model.specs.Places.{wordFound}
 use Rattle.model.specs.Refusals.{stepSound}
-use Rattle.decide.specs.Ending.{mayChange}
+use Rattle.decide.specs.Ending.{changeRefused}
 
 -- The number of a refusal; 0: it is none.
 abbrev pub whyNot : Outcome → ℕ
@@ -16,7 +15,7 @@ whyNot (Moved a) = 0
 
 -- Of a change of Anchor to `new`, which fails where Anchor is not as read.
 unfoldable pub whyUnchanged : Control → Call → ℕ → ℕ
-whyUnchanged c r new = cond (eqb (c .anchor) (r .seen)) (cond (mayChange (c .slots) (r .seen) new) 0 34) 0
+whyUnchanged c r new = cond (changeRefused c r new) 34 0
 
 -- 34 for what the step touches; 0: all that is sound.
 unfoldable pub touchRefusal : Tables → Call → ℕ

@@ -56,13 +56,10 @@ fn why_not(m: Transition) -> u32
 fn why_unchanged(c: Control, r: Call, new: u64) -> u32
     ensures { λ n. ⌜ n ≡ whyUnchanged c r new ⌝ }
 {
-    if c.anchor != r.seen {
-        return 0;
-    }
-    if step::may_change(c.slots, r.seen, new) {
-        0
-    } else {
+    if step::change_refused(c, r, new) {
         34
+    } else {
+        0
     }
 }
 
@@ -126,16 +123,14 @@ pub fn refusal(
         marks: marks.len(),
         next: next.len(),
     };
-    let why = admission::admit(c, task, t);
+    let why = admission::admit_step(c, task, t);
     if why != 0 {
         return why;
     }
     let pooled = c.pooled == 1;
-    if !sound::record_sound(pooled, c.slots, r) {
-        return 34;
-    }
-    if r.place == 0 {
-        return 31;
+    let unfit = sound::record_refusal(pooled, c.slots, r);
+    if unfit != 0 {
+        return unfit;
     }
     touch_refusal(c, r, lefts, rights, labels, next)
 }

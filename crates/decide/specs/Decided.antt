@@ -2,7 +2,7 @@
 -- of each change. What 1, 2, 4, 6, 8, 10, 12, 15 and 17 make of Anchor or head, which control holds, is in `Ending`.
 use mathlib.Core.Bool.{Bool, _&&_, not, cond}
 use Prim.Native.Nat.{ℕ, _+_}
-use lib.Dec.{eqb, leb, ltb}
+use lib.Dec.{eqb, leb}
 use Rattle.word.specs.declared.Anchor.{Anchor}
 use Rattle.word.specs.Anchor.{anchorOf, packAnchor}
 use Rattle.word.specs.Link.{linkOf, packLink}
@@ -12,7 +12,7 @@ use Rattle.model.specs.Sides.{near, far, facing, pushing}
 use Rattle.model.specs.Route.{route, onlyWay, done, hasFailed, equal, unequal, namedQueue, pooledQueue}
 use Rattle.model.specs.Tables.{isPooled, withNeighbour, withOwn}
 use Rattle.decide.specs.declared.touched.LinkWord.{LinkWord}
-use Rattle.decide.specs.Ending.{refused, settled, noEntry, failing, headed, rowSound, neighbourRead, linkRead}
+use Rattle.decide.specs.Ending.{refused, settled, noEntry, failing, tagHasRoom, headed, rowSound, neighbourRead, linkRead}
 
 -- The end as read: at the task's side, and at 5 to 10 at the side that the status names. The slot of the head as read.
 abbrev pub ownEnd : Call → ℕ
@@ -92,7 +92,7 @@ unfoldable pub found9 : Control → Call → ℕ → Transition
 found9 c r w =
     cond (from1 (c .slots) (r .neighbour))
     (cond (eqb w (r .link))
-    (cond (ltb (linkOf (r .link) .tag) 4294967295) (settled c r (route 9 (r .kind) done) noEntry) (refused c r))
+    (cond (tagHasRoom (r .link)) (settled c r (route 9 (r .kind) done) noEntry) (refused c r))
     (failing (settled c r (route 9 (r .kind) hasFailed) noEntry)))
     (refused c r)
 
@@ -110,7 +110,7 @@ found13 c r n = cond (leb n (c .slots)) (settled c (withNeighbour r n) (route 13
 unfoldable pub found14 : Control → Call → Transition
 found14 c r =
     cond (eqb (c .head) (r .link))
-    (cond (ltb (linkOf (r .link) .tag) 4294967295)
+    (cond (tagHasRoom (r .link))
     (settled (headed c (new14 r)) (withOwn r (top r) (r .label)) (route 14 (r .kind) done) noEntry)
     (refused c r))
     (failing (settled c r (route 14 (r .kind) hasFailed) noEntry))

@@ -132,15 +132,14 @@ pub fn at7(c: Control, r: Call, w: u64) -> Transition
 pub fn at9(c: Control, r: Call, w: u64) -> Transition
     ensures { λ m. ⌜ m ≡ found9 c r w ⌝ }
 {
-    let link = Link::unpack(r.link);
-    if !sound::from1(c.slots, r.neighbour) {
+    if !touched::is_slot(c.slots, touched::link7(r).slot) {
         return step::refused(c, r);
     }
     if w != r.link {
         let m = step::settles(c, r, next::next(9, r.kind, next::FAILED), step::NO_ENTRY);
         return step::fails(m);
     }
-    if link.tag < Link::TAG_MASK {
+    if step::has_room(r.link) {
         return step::settles(c, r, next::next(9, r.kind, next::DONE), step::NO_ENTRY);
     }
     step::refused(c, r)
@@ -152,7 +151,7 @@ pub fn at11(c: Control, r: Call, label: u32) -> Transition
     ensures { λ m. ⌜ m ≡ found11 c r label ⌝ }
 {
     let end = touched::own_end(r);
-    if sound::from1(c.slots, end) {
+    if touched::is_slot(c.slots, end) {
         if c.pooled == 1 {
             let mut t = r;
             t.own = end;
@@ -181,12 +180,11 @@ pub fn at13(c: Control, r: Call, w: u64) -> Transition
 pub fn at14(c: Control, r: Call) -> Transition
     ensures { λ m. ⌜ m ≡ found14 c r ⌝ }
 {
-    let head = Link::unpack(r.link);
     if c.head != r.link {
         let m = step::settles(c, r, next::next(14, r.kind, next::FAILED), step::NO_ENTRY);
         return step::fails(m);
     }
-    if head.tag < Link::TAG_MASK {
+    if step::has_room(r.link) {
         let d = step::with_head(c, new14(r));
         let top = touched::top(r);
         let mut t = r;
