@@ -20,7 +20,7 @@ ghost use lib.Dec.{leb, ltb};
 ghost use Rattle.model.specs.Tables.{tablesOf};
 ghost use Rattle.model.specs.Places.{row};
 ghost use Rattle.model.specs.Refusals.{stepRefusal};
-ghost use Rattle.asking.specs.Asked.{whyNot, whyUnchanged, touchRefusal};
+ghost use Rattle.asking.specs.WhyRefused.{whyNot, whyUnchanged, touchRefusal};
 
 /// The slot whose row or mark the record's place touches, at 17 the one that it gives back; 0: none.
 pub fn row_of(r: Call) -> u64

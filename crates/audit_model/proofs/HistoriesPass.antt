@@ -16,7 +16,7 @@ use Rattle.audit_model.specs.declared.Finished.{Finished}
 use Rattle.audit_model.specs.declared.Verdict.the-variants.{Passed}
 use Rattle.audit_model.specs.Audit.{accepted, allOf, apart, differ, notEarlier, numbered, rearranges, replay, verdict, wellFormed}
 use Rattle.audit_model.specs.Written.{HistoriesPass, IsAnswered, Passes, finished, written}
-use Rattle.audit_model.proofs.Taken.{Taken, order-is, takenOf}
+use Rattle.audit_model.proofs.OrderedEffects.{OrderedEffect, order-is, orderedEffects}
 use Rattle.audit_model.proofs.Lists.{Pairs, all-append, all-both, all-map, all-mapped, all-of, pairs-mapped, pairs-of, pairs-snoc}
 use Rattle.audit_model.proofs.Order.{NotAfter}
 use Rattle.audit_model.proofs.Replayed.{Replays, replayed, servedIn}
@@ -73,23 +73,23 @@ InRange n k = from1 n k ≡ true
 abbrev Distinct : ℕ → ℕ → Type 0
 Distinct j k = j ≡ k → ⊥
 
-in-range : (n : ℕ) (t : Taken) → Within n t → InRange n (t .number)
+in-range : (n : ℕ) (t : OrderedEffect) → Within n t → InRange n (t .number)
 in-range n t w = and-of (le-leb 1 (t .number) (w .low)) (le-leb (t .number) n (w .high))
 
-is-rearranged : (fs : List Finished) (n : ℕ) (l : List Taken) → Ordered fs n l → rearranges n (map (λ (t : Taken). t .number) l) ≡ true
+is-rearranged : (fs : List Finished) (n : ℕ) (l : List OrderedEffect) → Ordered fs n l → rearranges n (map (λ (t : OrderedEffect). t .number) l) ≡ true
 unfolding rearranges
 is-rearranged fs n l o =
-    let number : Taken → ℕ = λ t. t .number in
+    let number : OrderedEffect → ℕ = λ t. t .number in
     and-of (and-of (eq-eqb _ n (length-map l number ∙ o .count))
     (all-of {P = InRange n} (from1 n) (λ k h. h) (map number l) (all-mapped (InRange n) number l (all-map (in-range n) l (o .known)))))
     (pairs-of {R = Distinct} differ (λ j k h. rw (ne-eqb j k h)) (map number l) (pairs-mapped Distinct number l (o .differ)))
 
 -- Served in this order, every call gets its answer, and none stands before one that was answered before its start.
 module _ (fs : List Finished) where
-  abbrev at : Taken → Finished
+  abbrev at : OrderedEffect → Finished
   at t = numbered fs (t .number)
 
-  none-earlier : (t : Taken) (l : List Taken) → Suits (at t) t → All (λ (u : Taken). Suits (at u) u) l → All (NotAfter t) l
+  none-earlier : (t : OrderedEffect) (l : List OrderedEffect) → Suits (at t) t → All (λ (u : OrderedEffect). Suits (at u) u) l → All (NotAfter t) l
       → allOf (notEarlier (at t)) (map at l) ≡ true
   unfolding notEarlier
   none-earlier t [] s ss h = refl
@@ -97,8 +97,8 @@ module _ (fs : List Finished) where
       let z : at t .start ≤ at u .end = omega (arith, s .begun, ss .0 .within, h .0) in
       and-of (le-leb (at t .start) (at u .end) z) (none-earlier t l s (ss .1) (h .1))
 
-  passes : (p : ℕ) (l : List Taken) (d d′ : List Entry)
-      → All (λ (u : Taken). Suits (at u) u) l → Pairs NotAfter l → Replays l d d′ → replay p (map at l) (labelsOf d) ≡ Passed
+  passes : (p : ℕ) (l : List OrderedEffect) (d d′ : List Entry)
+      → All (λ (u : OrderedEffect). Suits (at u) u) l → Pairs NotAfter l → Replays l d d′ → replay p (map at l) (labelsOf d) ≡ Passed
   unfolding replay
   passes p [] d d′ s o r = refl
   passes p (t ∷ l) d d′ s o r =
@@ -123,9 +123,9 @@ opened-passes pooled q tasks slots tag e os done small =
     let rep = replayed (run o os) 1 start.nobody (record { before = tt; replays = refl }) in
     let ord = ordered cs (all-settled cs done (lin .calls)) in
     ap (verdict (finished cs)) (order-is cs)
-    ∙ rw (is-accepted (tidy .0) cs small done (tidy .1) (lin .calls), finished-length cs, is-rearranged (finished cs) (length cs) (takenOf cs) ord)
-    (ap (λ (x : List Finished). replay 1 x []) (map-map (numbered (finished cs)) (λ (t : Taken). t .number) (takenOf cs))
-    ∙ passes (finished cs) 1 (takenOf cs) [] (l .deque) (ord .suits) (ord .sorted) (rep .1 .replays))
+    ∙ rw (is-accepted (tidy .0) cs small done (tidy .1) (lin .calls), finished-length cs, is-rearranged (finished cs) (length cs) (orderedEffects cs) ord)
+    (ap (λ (x : List Finished). replay 1 x []) (map-map (numbered (finished cs)) (λ (t : OrderedEffect). t .number) (orderedEffects cs))
+    ∙ passes (finished cs) 1 (orderedEffects cs) [] (l .deque) (ord .suits) (ord .sorted) (rep .1 .replays))
 
 pub histories-pass : HistoriesPass
 histories-pass pooled = after-opening pooled Passes (opened-passes pooled)

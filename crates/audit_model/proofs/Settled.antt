@@ -13,7 +13,7 @@ use Rattle.model.specs.History.{LedgerCall, Effect, Ending, Lawful, answered, p
 use Rattle.audit_model.specs.declared.Finished.{Finished}
 use Rattle.audit_model.specs.Audit.{apart, wellFormed}
 use Rattle.audit_model.specs.Written.{IsAnswered, IsTold, written}
-use Rattle.audit_model.proofs.Taken.{Taken, taken}
+use Rattle.audit_model.proofs.OrderedEffects.{OrderedEffect, orderedEffect}
 use Rattle.audit_model.proofs.Events.{Apart, NotAt, NotTogether, Past}
 
 -- What is written of a reply to a push of label x, or to a pop: its number, and the label pushed or popped.
@@ -25,7 +25,7 @@ SuitsReply f x (Popped e) = (f .answer ≡ 4) × (f .label ≡ e .label)
 SuitsReply f x NoFreeSlot = ⊥
 
 -- A written call and its effect.
-pub record Suits (f : Finished) (t : Taken) : Type 0 where
+pub record Suits (f : Finished) (t : OrderedEffect) : Type 0 where
   pub kind : f .kind ≡ t .kind
   pub side : f .side ≡ t .side
   pub begun : f .start < t .at
@@ -35,7 +35,7 @@ pub record Suits (f : Finished) (t : Taken) : Type 0 where
 pub record Settled (c : LedgerCall) (f : Finished) : Type 0 where
   pub effect : Effect
   pub only : c .effects ≡ effect ∷ []
-  pub suits : (k : ℕ) → Suits f (taken k (c .kind) (c .side) (c .entry) effect)
+  pub suits : (k : ℕ) → Suits f (orderedEffect k (c .kind) (c .side) (c .entry) effect)
 
 suits-reply : (c : LedgerCall) (n : ℕ) (a : Answer) → IsTold a → SuitsReply (written c (answered n a)) (c .entry .label) a
 suits-reply c n (Running p) i = absurd i

@@ -13,7 +13,7 @@ use Rattle.model.proofs.tests.Truth.{and-of, and-true, by-test}
 use Rattle.audit_model.specs.declared.{Finished.Finished, Verdict.Verdict}
 use Rattle.audit_model.specs.declared.Verdict.the-variants.{Refused, Failed, Passed}
 use Rattle.audit_model.specs.Audit.{accepted, allOf, differ, gives, inOrder, notEarlier, pairwise, rearranges, replay, verdict}
-use Rattle.audit_model.specs.Laws.{AllRight, Answered, EveryCallNamed, FirstWrong, Meaning, MeaningIsTold, VerdictMeans, answers, queueAfter, right}
+use Rattle.audit_model.specs.Laws.{AllRight, Answered, EveryCallListed, FirstWrong, Meaning, MeaningIsTold, VerdictMeans, answers, queueAfter, right}
 
 -- The calls are all right, or one is the first that is not; b positions were passed.
 pub data Told (b : ℕ) (cs : List Finished) (q : List ℕ) : Verdict → Type 0 where
@@ -111,9 +111,9 @@ not-zero n x t z = let y = leb-true 1 x (and-true (leb 1 x) (leb x n) t .0) in o
 at-most : (n x : ℕ) → from1 n x ≡ true → x ≤ n
 at-most n x t = leb-true x n (and-true (leb 1 x) (leb x n) t .1)
 
-pub every-call-named : EveryCallNamed
+pub every-call-listed : EveryCallListed
 unfolding rearranges
-every-call-named n ks k r low high = go (allOf (differ k) ks) refl
+every-call-listed n ks k r low high = go (allOf (differ k) ks) refl
   where
     parts : (eqb (length ks) n && allOf (from1 n) ks ≡ true) × (pairwise differ ks ≡ true)
     parts = and-true (eqb (length ks) n && allOf (from1 n) ks) (pairwise differ ks) r

@@ -66,8 +66,8 @@ abbrev pub MeaningIsTold : Type 0
 MeaningIsTold = (cs : List Finished) (ks : List ℕ) (v : Verdict) → Meaning cs ks v → verdict cs ks ≡ v
 
 -- A rearrangement leaves no call out: no number of a call differs from all of the order.
-abbrev pub EveryCallNamed : Type 0
-EveryCallNamed = (n : ℕ) (ks : List ℕ) (k : ℕ) → rearranges n ks ≡ true → 1 ≤ k → k ≤ n → allOf (differ k) ks ≡ false
+abbrev pub EveryCallListed : Type 0
+EveryCallListed = (n : ℕ) (ks : List ℕ) (k : ℕ) → rearranges n ks ≡ true → 1 ≤ k → k ≤ n → allOf (differ k) ks ≡ false
 
 -- A history written as words, seven a call, is read back as it was.
 abbrev pub ReadBack : Type 0

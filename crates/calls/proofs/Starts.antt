@@ -11,7 +11,7 @@ use Rattle.model.specs.declared.Asked.{Asked}
 use Rattle.model.specs.declared.Answer.the-variants.{Running}
 use Rattle.model.specs.declared.Outcome.the-variants.{Refused, Moved}
 use Rattle.model.specs.Calls as calls
-use Rattle.model.specs.Calls.{decide, pushStart, putStart, popStart}
+use Rattle.model.specs.Calls.{decide, pushStart, pushPooledStart, popStart}
 use Rattle.model.specs.Route.{counted}
 use Rattle.model.specs.Tables.{Tables, isPooled, tablesOf, withCall, withTaken, started, asking}
 use Rattle.model.specs.Sound.{rowsFit}
@@ -92,11 +92,11 @@ module _ (c : Control) (r : Call) (task side : ℕ) (t : Lengths) (lefts rights 
         ∙ ap (λ (why : ℕ). decide why entry (record { call = r; retries = k })
         (record { tables = entry; task = record { call = call; retries = k }; outcome = Moved (Running (call .place)) })) (by-tables a e)
 
-  pub put-begun : (label : ℕ) → Measures t entry
+  pub push-pooled-begun : (label : ℕ) → Measures t entry
       → m ≡ decided c r (refusedBy t c task r side (pooledPush (touching c [] []))) (asking side label)
-      → (k : ℕ) → withTables m lefts rights labels marks next k ≡ putStart entry lent-to (record { call = r; retries = k }) side label
-  unfolding putStart
-  put-begun label = begun (pooledPush entry) (asking side label)
+      → (k : ℕ) → withTables m lefts rights labels marks next k ≡ pushPooledStart entry lent-to (record { call = r; retries = k }) side label
+  unfolding pushPooledStart
+  push-pooled-begun label = begun (pooledPush entry) (asking side label)
 
   pub pop-begun : Measures t entry → m ≡ decided c r (refusedBy t c task r side nothingAsked) (started 1 side 0 0)
       → (k : ℕ) → withTables m lefts rights labels marks next k ≡ popStart entry lent-to (record { call = r; retries = k }) side

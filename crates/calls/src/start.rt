@@ -69,7 +69,14 @@ pub fn pop_start(c: Control, r: Call, task: usize, side: u64, t: Lengths) -> Tra
 }
 
 /// A push that names no slot: it draws one from the stack, at 12 to 14.
-pub fn put_start(c: Control, r: Call, task: usize, side: u64, label: u32, t: Lengths) -> Transition
+pub fn push_pooled_start(
+    c: Control,
+    r: Call,
+    task: usize,
+    side: u64,
+    label: u32,
+    t: Lengths,
+) -> Transition
     ensures { λ m. ⌜ m ≡ decided c r (refusedBy t c task r side (pooledPush (touching c [] []))) (asking side label) ⌝ }
 {
     let asked = Asked {

@@ -139,7 +139,7 @@ pub extern "C" fn zc_push_pooled(
         (now (lefts .entry)) (now (rights .entry)) (now (labels .entry)) (now (marks .entry)) (now (next .entry)))
         task (PushPooled side label))) ⌝ }
 {
-    let o = op::put(
+    let o = op::push_pooled(
         control,
         records,
         task,

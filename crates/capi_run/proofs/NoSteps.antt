@@ -20,7 +20,7 @@ use Rattle.rows.specs.Rows.{controlOf, queueIn}
 use Rattle.rows.proofs.Rows.{length-records}
 use Rattle.capi_run.specs.declared.RunReply.{RunReply}
 use Rattle.capi_run.specs.Replies.{runReplyOf, Ran, ran}
-use Rattle.capi_run.proofs.StepsLeft.{not-made}
+use Rattle.capi_run.proofs.StepsToGo.{not-made}
 
 module _ (q : Queue) (t : ℕ) where
   abbrev pub fault : ℕ

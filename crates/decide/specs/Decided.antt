@@ -18,8 +18,8 @@ use Rattle.decide.specs.Ending.{refused, settled, noEntry, failing, tagH
 abbrev pub ownEnd : Call → ℕ
 ownEnd r = cond (eqb (r .side) 1) (anchorOf (r .seen) .right) (anchorOf (r .seen) .left)
 
-abbrev pub namedEnd : Call → ℕ
-namedEnd r = cond (eqb (anchorOf (r .seen) .status) 1) (anchorOf (r .seen) .right) (anchorOf (r .seen) .left)
+abbrev pub statusEnd : Call → ℕ
+statusEnd r = cond (eqb (anchorOf (r .seen) .status) 1) (anchorOf (r .seen) .right) (anchorOf (r .seen) .left)
 
 abbrev pub top : Call → ℕ
 top r = linkOf (r .link) .slot
@@ -59,7 +59,7 @@ new4 r =
     packAnchor (facing (r .side) (a .tag + 1) status end (far (r .side) a))
 
 abbrev pub new9 : Call → ℕ
-new9 r = packLink (record { tag = linkOf (r .link) .tag + 1; slot = namedEnd r })
+new9 r = packLink (record { tag = linkOf (r .link) .tag + 1; slot = statusEnd r })
 
 abbrev pub new10 : Call → ℕ
 new10 r =
@@ -83,10 +83,10 @@ found3 c r w =
     (neighbourRead c r (ownEnd r) w (route 3 (r .kind) onlyWay))
 
 unfoldable pub found5 : Control → Call → ℕ → Transition
-found5 c r w = neighbourRead c r (namedEnd r) w (route 5 (r .kind) onlyWay)
+found5 c r w = neighbourRead c r (statusEnd r) w (route 5 (r .kind) onlyWay)
 
 unfoldable pub found7 : Control → Call → ℕ → Transition
-found7 c r w = linkRead c r (namedEnd r) w (route 7 (r .kind) equal) (route 7 (r .kind) unequal)
+found7 c r w = linkRead c r (statusEnd r) w (route 7 (r .kind) equal) (route 7 (r .kind) unequal)
 
 unfoldable pub found9 : Control → Call → ℕ → Transition
 found9 c r w =

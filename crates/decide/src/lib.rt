@@ -54,7 +54,7 @@ pub fn new4(r: Call) -> u64
 pub fn new9(r: Call) -> u64
     ensures { λ w. ⌜ w ≡ new9 r ⌝ }
 {
-    step::link_word(step::raised(r.link), touched::named_end(r))
+    step::link_word(step::raised(r.link), touched::status_end(r))
 }
 
 /// Place 10: l, r, STABLE.
@@ -122,7 +122,7 @@ pub fn at5(c: Control, r: Call, w: u64) -> Transition
 pub fn at7(c: Control, r: Call, w: u64) -> Transition
     ensures { λ m. ⌜ m ≡ found7 c r w ⌝ }
 {
-    let end = touched::named_end(r);
+    let end = touched::status_end(r);
     let names_end = next::next(7, r.kind, next::EQUAL);
     let other = next::next(7, r.kind, next::UNEQUAL);
     step::reads_link(c, r, end, w, names_end, other)

@@ -89,7 +89,7 @@ pub fn settles(c: Control, t: Call, n: u8, e: Entry) -> Transition
         ends(c, Answer::Empty)
     } else if n == next::POPPED {
         ends(c, Answer::Popped(e))
-    } else if n == next::NO_SLOT {
+    } else if n == next::NO_FREE_SLOT {
         ends(c, Answer::NoFreeSlot)
     } else {
         goes(c, t, n)

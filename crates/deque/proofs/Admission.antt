@@ -60,19 +60,19 @@ lengths-are t small =
     LL.owes L.the-type L′.the-laws t
     ((refl, small .0), ((refl, small .1), ((refl, small .2), ((refl, small .3), ((refl, small .4), ((refl, small .5), tt))))))
 
-abbrev Asked : Type 0
-Asked = Control × (ℕ × (Lengths × Unit {0}))
+abbrev AdmitArguments : Type 0
+AdmitArguments = Control × (ℕ × (Lengths × Unit {0}))
 
 abbrev Lasts : Type 0
 Lasts = Unit {0} × (Unit {0} × (Unit {0} × Unit {0}))
 
 module _ {M : Type 1} (𝓤 : URA M) (H : Heap 𝓤) (A : Atoms 𝓤) (mem : Memory → SProp 𝓤) (run : Routine → Fun 𝓤) (c : Control) (task : ℕ)
     (l : Lengths) where
-  abbrev asked : Asked
-  asked = (c, (task, (l, tt)))
+  abbrev admitArguments : AdmitArguments
+  admitArguments = (c, (task, (l, tt)))
 
   abbrev to-admit : Admit 𝓤 H A mem run .Ghost
-  to-admit = ((tt, tt, tt, asked, (control-value c ∷ [], (vint w64 task ∷ [], (lengths-value l ∷ [], tt)))), tt)
+  to-admit = ((tt, tt, tt, admitArguments, (control-value c ∷ [], (vint w64 task ∷ [], (lengths-value l ∷ [], tt)))), tt)
 
   goes-admit : (W : Given 𝓤 H A) → Is K.the-row c (control-value c ∷ []) → task < 2 ^ 64 → Is L.the-row l (lengths-value l ∷ [])
       → ent 𝓤 (⋆ 𝓤 H A (‵ ftrue ∷ [])) (Admit 𝓤 H A mem run .pre to-admit)
@@ -98,10 +98,10 @@ module _ {M : Type 1} {𝓤 : URA M} {H : Heap 𝓤} {A : Atoms 𝓤} {G : Type 
       (goes-admit 𝓤 H A mem run c task l W gc task-fits gl) $
       calls-at t fm (Admit 𝓤 H A mem run) known (to-admit 𝓤 H A mem run c task l) os (λ w.
       use1 W (later (some (λ (why : ℕ). (‵ ftrue ⊛ ‵ (u32 .own why (w ∷ []))) ⊛ raw
-      (ensured 𝓤 H A admit.ended (admit.clauses 𝓤 H A mem run) tt (asked 𝓤 H A mem run c task l) tt why)))) (id⊢ 𝓤 _) $
+      (ensured 𝓤 H A admit.ended (admit.clauses 𝓤 H A mem run) tt (admitArguments 𝓤 H A mem run c task l) tt why)))) (id⊢ 𝓤 _) $
       await t tt $ pick t (λ why.
       split t $ move t (1 ∷ []) $
-      use1 W (some (λ (us : Lasts). ‵ (lasts admit.ended tt (asked 𝓤 H A mem run c task l) us) ⊛ raw
+      use1 W (some (λ (us : Lasts). ‵ (lasts admit.ended tt (admitArguments 𝓤 H A mem run c task l) us) ⊛ raw
       (fact 𝓤 (why ≡ reason c task l)))) (id⊢ 𝓤 _) $
       pick t (λ us.
       split t $ move t (1 ∷ []) $ heard t (why ≡ reason c task l) (λ e.

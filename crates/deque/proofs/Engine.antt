@@ -1,4 +1,4 @@
--- The call that both walks of a step make: a step by value (`step_alone`, `move_on`). The two have one contract, up to what they compute,
+-- The call that both walks of a step make: a step by value (`step_alone`, `step_by_value`). The two have one contract, up to what they compute,
 -- and one rule for the call.
 use mathlib.Core.Path.{_≡_}
 use Prim.Native.Nat.{ℕ}
@@ -38,7 +38,7 @@ use Rattle.model.proofs.Control.Laws as K′
 use Rattle.model.proofs.Record as T
 use Rattle.model.proofs.Record.Laws as T′
 use Rattle.rows.proofs.value.Stepped as N
-use Rattle.rows.proofs.value.move_on as move-on
+use Rattle.rows.proofs.value.step_by_value as step-by-value
 
 -- Something of each list: lefts, rights, labels, marks and next rows.
 abbrev pub Five : Type 0 → Type 0
@@ -67,8 +67,8 @@ abbrev pub Leaves : (Tables → Record → Acted) → Control → Record → Fiv
 Leaves f c r xs m ls = _≡_ {A = Acted} (record { tables = tabled (m .control) ls; task = m .task; outcome = m .outcome })
     (f (tabled c (unwritten xs)) r)
 
--- The contract of a step f: `step_alone` and `move_on` differ in f alone.
-abbrev stepped : {M : Type 1} (𝓤 : URA M) (f : Tables → Record → Acted) → Clauses 𝓤 move-on.ended
+-- The contract of a step f: `step_alone` and `step_by_value` differ in f alone.
+abbrev stepped : {M : Type 1} (𝓤 : URA M) (f : Tables → Record → Acted) → Clauses 𝓤 step-by-value.ended
 stepped 𝓤 f κs a = record {
   ghost = Unit {0};
   requires = λ _. emp 𝓤;
@@ -76,7 +76,7 @@ stepped 𝓤 f κs a = record {
 }
 
 abbrev pub Move : {M : Type 1} (𝓤 : URA M) (H : Heap 𝓤) (A : Atoms 𝓤) (f : Tables → Record → Acted) → Contract 𝓤
-Move 𝓤 H A f = tripleOf 𝓤 H A move-on.signature (closing 𝓤 H A move-on.ended (stepped 𝓤 f))
+Move 𝓤 H A f = tripleOf 𝓤 H A step-by-value.signature (closing 𝓤 H A step-by-value.ended (stepped 𝓤 f))
 
 abbrev pub slices : Five (RefT (List ℕ)) → Five (List Val)
 slices xs = (
@@ -130,10 +130,10 @@ module _ {M : Type 1} {𝓤 : URA M} {H : Heap 𝓤} {A : Atoms 𝓤} {G : Type 
       use2 W (raw (Move 𝓤 H A f .pre (to-step 𝓤 H A f κs qs c r xs))) (goes-step 𝓤 H A f κs qs c r xs W gc g) $
       calls-at t fm (Move 𝓤 H A f) known (to-step 𝓤 H A f κs qs c r xs) os (λ w.
       use1 W (later (some (λ (m : Stepped). (tokens 𝓤 κs qs xs ⊛ ‵ (N.the-row .own m (w ∷ []))) ⊛ raw
-      (ensured 𝓤 H A move-on.ended (stepped 𝓤 f) κs (c, (r, xs)) tt m)))) (id⊢ 𝓤 _) $
+      (ensured 𝓤 H A step-by-value.ended (stepped 𝓤 f) κs (c, (r, xs)) tt m)))) (id⊢ 𝓤 _) $
       await t tt $ pick t (λ m.
       split t $ move t (1 ∷ []) $ use1 W
-      (some (λ (zs : Lasts). ‵ (lasts move-on.ended κs (c, (r, xs)) zs) ⊛ raw (fact 𝓤 (Leaves f c r xs m (zs .1 .1))))) (id⊢ 𝓤 _) $
+      (some (λ (zs : Lasts). ‵ (lasts step-by-value.ended κs (c, (r, xs)) zs) ⊛ raw (fact 𝓤 (Leaves f c r xs m (zs .1 .1))))) (id⊢ 𝓤 _) $
       pick t (λ zs.
       split t $ move t (1 ∷ []) $ heard t (Leaves f c r xs m (zs .1 .1)) (λ e.
       fsplit t $ drop t $ fsplit t $ drop t $ fsplit t $ fsplit t $ move t (1 ∷ []) $ feqL t

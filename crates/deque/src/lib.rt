@@ -49,7 +49,7 @@ fn step_alone(
             outcome,
         };
     }
-    value::move_on(c, t, lefts, rights, labels, marks, next)
+    value::step_by_value(c, t, lefts, rights, labels, marks, next)
 }
 
 /// Moves a task by one step.
@@ -89,7 +89,7 @@ pub fn step(
     }
     let record = &mut records[task];
     let t = *record;
-    let m = value::move_on(c, t, lefts, rights, labels, marks, next);
+    let m = value::step_by_value(c, t, lefts, rights, labels, marks, next);
     *control = m.control;
     *record = m.task;
     m.outcome

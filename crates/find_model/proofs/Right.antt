@@ -56,11 +56,11 @@ position-right x l = go (position l x) (told 1 x l)
     go p (inl z) = subst (Found x l) (sym (z .0)) (notWaiting (z .1))
     go p (inr f) = subst (Found x l) (let z : suc (f .place) ≡ p = omega (arith, f .is) in z) (leftmost (f .place) (f .copy) (f .none))
 
-one-of : (f : ℕ → ℕ) (asked rest : List ℕ) (k : ℕ) → k < length asked → getD (map f asked ++ rest) k 0 ≡ f (getD asked k 0)
+one-of : (f : ℕ → ℕ) (wanted rest : List ℕ) (k : ℕ) → k < length wanted → getD (map f wanted ++ rest) k 0 ≡ f (getD wanted k 0)
 one-of f [] rest k h = absurd (omega (arith, h))
-one-of f (x ∷ asked) rest zero h = refl
-one-of f (x ∷ asked) rest (suc k) h = one-of f asked rest k (omega (arith, h))
+one-of f (x ∷ wanted) rest zero h = refl
+one-of f (x ∷ wanted) rest (suc k) h = one-of f wanted rest k (omega (arith, h))
 
 pub found-right : FoundRight
 unfolding found
-found-right l asked k h = subst (Found (getD asked k 0) l) (sym (one-of (position l) asked _ k h)) (position-right (getD asked k 0) l)
+found-right l wanted k h = subst (Found (getD wanted k 0) l) (sym (one-of (position l) wanted _ k h)) (position-right (getD wanted k 0) l)

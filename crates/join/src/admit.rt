@@ -88,7 +88,7 @@ fn later_refusal(rest: bool, slots: u64, tag: u64, first: u64, second: u64) -> u
 }
 
 /// The rules before the walks. The tables are given by their lengths.
-fn early_rules(
+fn table_rules(
     first: Control,
     second: Control,
     third: Control,
@@ -239,7 +239,7 @@ pub fn admit(
     let b = lengths_fit(second, two);
     let c = lengths_fit(third, into);
     let enough = c & (third.slots / 64 < into.marks as u64);
-    let why = early_rules(first, second, third, a, b, enough);
+    let why = table_rules(first, second, third, a, b, enough);
     if why != 0 {
         return refused(why);
     }

@@ -11,7 +11,7 @@ use Rattle.model.specs.Refusals.{Rule, rule, first}
 use Rattle.model.proofs.tests.Rules.{tests, cleared}
 use Rattle.model.proofs.tests.Truth.{and-true, split}
 use Rattle.join_model.specs.Join.{anchorIn, lanes, pushes, outcomes, anyLate, sourceFits, thirdFits, atRest, fresh}
-use Rattle.join_model.specs.Join.{earlyRules, joinRules, joinRefusal, Joined, joined, join}
+use Rattle.join_model.specs.Join.{rulesBefore33, joinRules, joinRefusal, Joined, joined, join}
 use Rattle.join_model.specs.Closed.{lateFor, held, holding, closedRefusal, joinClosed}
 use Rattle.join_model.specs.Laws.{ClosedForm, AllAnswered, NotLent, answers, besides}
 use Rattle.join_model.proofs.Fresh.{Fresh, is-fresh}
@@ -43,7 +43,7 @@ rests : (q : Queue) → atRest q ≡ true → isBroken (contents (q .tables)) �
 unfolding atRest
 rests q e w = record { stable = eqb-true _ _ (and-true (eqb (busy q) 0) (eqb (anchorIn q .status) 0) e .1); walks = w }
 
-admit : (a b q : Queue) (more : List Rule) → All (λ (r : Rule). r .applies ≡ false) (earlyRules a b q ++ more) → Admitted a b q
+admit : (a b q : Queue) (more : List Rule) → All (λ (r : Rule). r .applies ≡ false) (rulesBefore33 a b q ++ more) → Admitted a b q
 admit a b q more z =
     let later = z .1 .1 .1 in
     let rest = tests (atRest a ∷ atRest b ∷ fresh q ∷ []) (not-false _ (later .1 .1 .1 .0)) in
@@ -60,8 +60,8 @@ module _ (a b q : Queue) where
   pub same-refusal : joinRefusal a b q ≡ closedRefusal a b q
   unfolding joinRefusal closedRefusal
   same-refusal =
-      same-last (earlyRules a b q) 33 (anyLate (outcomes (run q (pushes 1 (lanes a b))))) (lateFor (anchorIn q .tag) (length (lanes a b)))
-      (λ e. let g = admit a b q [] (cleared (earlyRules a b q) refl e) in late-is q (g .third) (lanes a b) (g .room))
+      same-last (rulesBefore33 a b q) 33 (anyLate (outcomes (run q (pushes 1 (lanes a b))))) (lateFor (anchorIn q .tag) (length (lanes a b)))
+      (λ e. let g = admit a b q [] (cleared (rulesBefore33 a b q) refl e) in late-is q (g .third) (lanes a b) (g .room))
 
   abbrev late : Bool
   late = lateFor (anchorIn q .tag) (length (lanes a b))

@@ -89,8 +89,8 @@ unfoldable pub thirdFits : Queue → Bool
 thirdFits q = sourceFits q && ltb (q .tables .control .slots / 64) (length (q .tables .marks))
 
 -- 34 for all controls and Anchors, 12, 34 for the two walks, 47, 48; then 33.
-abbrev pub earlyRules : Queue → Queue → Queue → List Rule
-earlyRules a b q =
+abbrev pub rulesBefore33 : Queue → Queue → Queue → List Rule
+rulesBefore33 a b q =
     rule 34 (not (controlSound (a .tables .control)))
     ∷ rule 34 (not (controlSound (b .tables .control)))
     ∷ rule 34 (not (controlSound (q .tables .control)))
@@ -102,7 +102,7 @@ earlyRules a b q =
     ∷ []
 
 abbrev pub joinRules : Queue → Queue → Queue → Bool → List Rule
-joinRules a b q late = earlyRules a b q ++ (rule 33 late ∷ [])
+joinRules a b q late = rulesBefore33 a b q ++ (rule 33 late ∷ [])
 
 unfoldable pub joinRefusal : Queue → Queue → Queue → ℕ
 joinRefusal a b q = first (joinRules a b q (anyLate (outcomes (run q (pushes 1 (lanes a b))))))

@@ -12,9 +12,9 @@ use lib.Seq.{getD-set-same, getD-set-other}
 use Rattle.model.specs.declared.{Op.Op, Record.Record}
 use Rattle.model.specs.declared.Op.the-variants.{Push, Pop, PushPooled, Step}
 use Rattle.model.specs.Tables.{Queue, recordAt, taskAt, unused}
-use Rattle.model.specs.Refusals.{among, popRefusal, pushRefusal, putRefusal, stepRefusal}
+use Rattle.model.specs.Refusals.{among, popRefusal, pushRefusal, pushPooledRefusal, stepRefusal}
 use Rattle.model.specs.Route.{counted}
-use Rattle.model.specs.Calls.{Acted, act, actOn, finish, opened, popStart, pushStart, putStart, step}
+use Rattle.model.specs.Calls.{Acted, act, actOn, finish, opened, popStart, pushStart, pushPooledStart, step}
 use Rattle.model.specs.History.{Request, final}
 use Rattle.model.specs.Retries.{RetriesSum, SumIsOld, fails, oldCount, retriesBelow}
 use Rattle.model.proofs.tests.Truth.{and-true, by-test, decide-eq, not-both, split}
@@ -37,12 +37,13 @@ below-total q (suc n) = ap (λ (k : ℕ). own q n + k) (below-total q n)
 
 -- What a start or step leaves of its task's count.
 count-of : (q : Queue) (t : ℕ) (o : Op) → actOn (q .tables) (among q t) (taskAt q t) o .task .retries ≡ counted (own q t) (fails q t o)
-unfolding actOn pushStart popStart putStart step finish fails counted
+unfolding actOn pushStart popStart pushPooledStart step finish fails counted
 count-of q t (Push side slot label) =
     by-test (λ (a : Acted). a .task .retries ≡ own q t) (eqb (pushRefusal (q .tables) (among q t) (recordAt q t) side slot) 0) (λ e. refl) (λ e. refl)
 count-of q t (Pop side) = by-test (λ (a : Acted). a .task .retries ≡ own q t) (eqb (popRefusal (q .tables) (among q t) (recordAt q t) side) 0)
     (λ e. refl) (λ e. refl)
-count-of q t (PushPooled side label) = by-test (λ (a : Acted). a .task .retries ≡ own q t) (eqb (putRefusal (q .tables) (among q t) (recordAt q t) side) 0)
+count-of q t (PushPooled side label) = by-test (λ (a : Acted). a .task .retries ≡ own q t)
+    (eqb (pushPooledRefusal (q .tables) (among q t) (recordAt q t) side) 0)
     (λ e. refl) (λ e. refl)
 count-of q t Step = split (eqb (stepRefusal (q .tables) (among q t) (recordAt q t)) 0) (λ e. rw e) (λ e. rw e)
 

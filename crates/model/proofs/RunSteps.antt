@@ -15,7 +15,7 @@ use Rattle.model.specs.History.{Event, final, run}
 use Rattle.model.specs.Lists.{All}
 use Rattle.model.specs.Places.{Move, move, wordFound}
 use Rattle.model.specs.Refusals.{among, stepRefusal}
-use Rattle.model.specs.Route.{answer, empty, goes, leave, noSlot, onward, popRoute, popped, pushRoute, pushed, route}
+use Rattle.model.specs.Route.{answer, empty, goes, leave, noFreeSlot, onward, popRoute, popped, pushRoute, pushed, route}
 use Rattle.model.specs.Solo.{RunNever34, RunsAreSteps, SoloDone, lastTold, soloRun, soloSteps, stepsOf}
 use Rattle.model.specs.Tables.{Queue, recordAt, unused}
 use Rattle.model.specs.declared.Answer.the-variants.{Empty, NoFreeSlot, Popped, Pushed, Running}
@@ -31,7 +31,7 @@ use Rattle.model.proofs.Openings.{after-opening}
 
 -- ---- a route leads to a place or to an answer, so a task that is told *running* stands at the place told
 abbrev ends : ℕ → Bool
-ends n = eqb n leave || (eqb n pushed || (eqb n empty || (eqb n popped || eqb n noSlot)))
+ends n = eqb n leave || (eqb n pushed || (eqb n empty || (eqb n popped || eqb n noFreeSlot)))
 
 abbrev leads : ℕ → Bool
 leads n = leb n 17 || ends n
@@ -75,7 +75,7 @@ runs-to n e p h =
     by-test Goal (eqb n pushed) (λ _ x. no-run refl x)
     (λ a. by-test Goal (eqb n empty) (λ _ x. no-run refl x)
     (λ b. by-test Goal (eqb n popped) (λ _ x. no-run refl x)
-    (λ c. by-test Goal (eqb n noSlot) (λ _ x. no-run refl x)
+    (λ c. by-test Goal (eqb n noFreeSlot) (λ _ x. no-run refl x)
     (λ d x. (cc, or-left (leb n 17) (ends n) (h .0) (rw (h .1, a, b, c, d)))))))
   where
     Goal : Answer → Type 0

@@ -12,7 +12,7 @@ use Rattle.model.specs.declared.Op.the-variants.{Push, Pop, PushPooled, 
 use Rattle.model.specs.Tables.{Tables, Queue, tablesOf, openedControl, unused, counting, withCall, started, asking, taskAt, withTaken}
 use Rattle.model.specs.Places.{row, wordFound, Move, move, apply}
 use Rattle.model.specs.Route.{route, onward, answer, goes, counted}
-use Rattle.model.specs.Refusals.{openRefusal, Lent, among, alone, pushRefusal, putRefusal, popRefusal, stepRefusal}
+use Rattle.model.specs.Refusals.{openRefusal, Lent, among, alone, pushRefusal, pushPooledRefusal, popRefusal, stepRefusal}
 use Rattle.model.specs.Lists.{zeroed, climb}
 
 -- A next table with all slots stacked, slot 1 on top: row n holds n + 1, rows 0 and slots hold 0; rows beyond are as they were.
@@ -67,9 +67,9 @@ pushStart q p r side slot label =
     (record { tables = withTaken q slot label; task = withCall r (started 0 side slot label); outcome = Moved (Running 1) })
 
 -- One that names no slot only writes the record.
-unfoldable pub putStart : Tables → Lent → Record → ℕ → ℕ → Acted
-putStart q p r side label =
-    decide (putRefusal q p (r .call) side) q r
+unfoldable pub pushPooledStart : Tables → Lent → Record → ℕ → ℕ → Acted
+pushPooledStart q p r side label =
+    decide (pushPooledRefusal q p (r .call) side) q r
     (record { tables = q; task = withCall r (asking side label); outcome = Moved (Running 12) })
 
 unfoldable pub popStart : Tables → Lent → Record → ℕ → Acted
@@ -98,7 +98,7 @@ step q p r = decide (stepRefusal q p (r .call)) q r (finish q r (move (q .contro
 unfoldable pub actOn : Tables → Lent → Record → Op → Acted
 actOn q p r (Push side slot label) = pushStart q p r side slot label
 actOn q p r (Pop side) = popStart q p r side
-actOn q p r (PushPooled side label) = putStart q p r side label
+actOn q p r (PushPooled side label) = pushPooledStart q p r side label
 actOn q p r Step = step q p r
 
 -- A start or step of task t: its record is put back where it lay.

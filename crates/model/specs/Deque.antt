@@ -32,12 +32,12 @@ unfoldable pub serve : ℕ → ℕ → Entry → List Entry → Served
 serve kind side e l = cond (eqb kind 0) (servePush side e l) (servePop side l)
 
 -- The answer is *no slot*.
-abbrev pub saysNoSlot : Answer → Bool
-saysNoSlot (Running p) = false
-saysNoSlot Pushed = false
-saysNoSlot Empty = false
-saysNoSlot (Popped e) = false
-saysNoSlot NoFreeSlot = true
+abbrev pub saysNoFreeSlot : Answer → Bool
+saysNoFreeSlot (Running p) = false
+saysNoFreeSlot Pushed = false
+saysNoFreeSlot Empty = false
+saysNoFreeSlot (Popped e) = false
+saysNoFreeSlot NoFreeSlot = true
 
 -- To a push that lacks a slot it replies *no slot*, and stays. (Request #104.)
 unfoldable pub serveFor : Bool → ℕ → ℕ → Entry → List Entry → Served

@@ -16,7 +16,7 @@ use Rattle.model.specs.declared.Reported.the-variants as reported
 use Rattle.model.specs.Calls.{openAs, act}
 use Rattle.model.specs.Walk.{Walk, entries, contents}
 use Rattle.model.specs.{Report.report, Sides.near}
-use Rattle.model.specs.Deque.{saysNoSlot, serveFor}
+use Rattle.model.specs.Deque.{saysNoFreeSlot, serveFor}
 use Rattle.model.specs.Lists.{every, All}
 use Rattle.model.specs.Kinds.{isPush, isPop, giving}
 
@@ -127,7 +127,7 @@ toldEntry c e = record { slot = cond (c .named) (c .entry .slot) (near (c .side)
 
 -- *No slot* is for pushes that named none. To any other call so answered the deque replies as ever: the answer is then not its reply.
 abbrev pub lacksSlot : LedgerCall → Answer → Bool
-lacksSlot c a = saysNoSlot a && (eqb (c .kind) 0 && not (c .named))
+lacksSlot c a = saysNoFreeSlot a && (eqb (c .kind) 0 && not (c .named))
 
 -- The step at position n of call c: at an effect the sequential deque serves the call.
 unfoldable pub stepOf : ℕ → Event → Answer → List Entry → LedgerCall → List LedgerCall → Ledger
@@ -245,15 +245,15 @@ pub data InUse (q : Queue) (x : ℕ) : Type 0 where
   pop-gives : (t : ℕ) → t < q .tables .control .tasks → popGives (recordAt q t) x ≡ true → InUse q x
 
 -- *No slot* is true of a queue: if a step answers so, every slot is in use. (Request #104. Without it a program that loses slots passes.)
-abbrev pub NoSlotIn : Queue → Type 0
-NoSlotIn q = (t : ℕ) → act q t Step .outcome ≡ Moved NoFreeSlot → (x : ℕ) → 1 ≤ x → x ≤ q .tables .control .slots → InUse q x
+abbrev pub NoFreeSlotIn : Queue → Type 0
+NoFreeSlotIn q = (t : ℕ) → act q t Step .outcome ≡ Moved NoFreeSlot → (x : ℕ) → 1 ≤ x → x ≤ q .tables .control .slots → InUse q x
 
 -- It is true of the queue after the list.
-abbrev pub NoSlotTrue : Queue → List Request → Type 0
-NoSlotTrue q os = NoSlotIn (final q os)
+abbrev pub NoFreeSlotTrue : Queue → List Request → Type 0
+NoFreeSlotTrue q os = NoFreeSlotIn (final q os)
 
-abbrev pub NoSlotRight : Type 0
-NoSlotRight = AfterOpeningAs true NoSlotTrue
+abbrev pub NoFreeSlotRight : Type 0
+NoFreeSlotRight = AfterOpeningAs true NoFreeSlotTrue
 
 -- Of a queue: a slot's mark is set exactly where P holds of the slot. After a list: of the queue after it.
 abbrev pub MarkedIn : (Queue → ℕ → Type 0) → Queue → Type 0

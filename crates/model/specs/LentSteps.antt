@@ -13,16 +13,16 @@ use Rattle.model.specs.Lists.{All}
 
 -- An operation of the list; or a task's record is lent, moved on by one step, and put back as the task's row.
 pub data Turn : Type 0 where
-  asked : Request → Turn
+  requested : Request → Turn
   lent : (task : ℕ) → Turn
 
 -- What it stands for in the list.
 abbrev pub requestOf : Turn → Request
-requestOf (asked o) = o
+requestOf (requested o) = o
 requestOf (lent t) = record { task = t; op = Step }
 
 unfoldable pub takeTurn : Queue → Turn → Done
-takeTurn q (asked o) = act q (o .task) (o .op)
+takeTurn q (requested o) = act q (o .task) (o .op)
 takeTurn q (lent t) = back q t (stepLent (q .tables) (taskAt q t))
 
 -- The events of such a list, and the queue after it, as `run` and `final` of one without.
@@ -40,7 +40,7 @@ finalTurns q (u ∷ us) = finalTurns (takeTurn q u .queue) us
 
 -- A record can be lent for a task that there is.
 abbrev pub Lendable : ℕ → Turn → Type 0
-Lendable tasks (asked o) = Unit {0}
+Lendable tasks (requested o) = Unit {0}
 Lendable tasks (lent t) = t < tasks
 
 -- The events and the queue are those of the list without lent records; so every promise of such lists holds.

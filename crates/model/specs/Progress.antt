@@ -74,8 +74,8 @@ SoloWithin q os =
 
 -- After the list os: a stretch that holds so many accepted steps holds a call that takes effect or answers.
 -- (Starts and refused operations may stand between them.)
-abbrev pub StretchTells : Queue → List Request → Type 0
-StretchTells q os =
+abbrev pub StretchProgresses : Queue → List Request → Type 0
+StretchProgresses q os =
     let now = final q os in
     let c = q .tables .control in
     (stretch : List Request) → stretchLimit (isPooled c) (c .tasks) ≤ steps (run now stretch) → any tookEffectOrAnswered (run now stretch) ≡ true
@@ -84,4 +84,4 @@ abbrev pub SoloBound : Type 0
 SoloBound = AfterOpening SoloWithin
 
 abbrev pub StretchBound : Type 0
-StretchBound = AfterOpening StretchTells
+StretchBound = AfterOpening StretchProgresses

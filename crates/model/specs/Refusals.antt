@@ -112,8 +112,8 @@ nothingAsked = record { wrong = false; outside = false; taken = false }
 abbrev pub pushRefusal : Tables → Lent → Call → ℕ → ℕ → ℕ
 pushRefusal q p r side slot = startRefusal (q .control) (fits q) p r side (namedPush q slot)
 
-abbrev pub putRefusal : Tables → Lent → Call → ℕ → ℕ
-putRefusal q p r side = startRefusal (q .control) (fits q) p r side (pooledPush q)
+abbrev pub pushPooledRefusal : Tables → Lent → Call → ℕ → ℕ
+pushPooledRefusal q p r side = startRefusal (q .control) (fits q) p r side (pooledPush q)
 
 abbrev pub popRefusal : Tables → Lent → Call → ℕ → ℕ
 popRefusal q p r side = startRefusal (q .control) (fits q) p r side nothingAsked

@@ -21,8 +21,8 @@ empty = 22
 abbrev pub popped : ℕ
 popped = 23
 
-abbrev pub noSlot : ℕ
-noSlot = 24
+abbrev pub noFreeSlot : ℕ
+noFreeSlot = 24
 
 -- The branches of a place. Where it goes one way:
 abbrev pub onlyWay : ℕ
@@ -94,7 +94,7 @@ pushRoute =
     ∷ (10 ∷ leave ∷ [])  -- 9: done, failed
     ∷ (leave ∷ leave ∷ [])  -- 10: done, failed
     ∷ []  -- 11: no push
-    ∷ (noSlot ∷ 13 ∷ [])  -- 12: slot 0, else
+    ∷ (noFreeSlot ∷ 13 ∷ [])  -- 12: slot 0, else
     ∷ (14 ∷ [])  -- 13
     ∷ (1 ∷ 12 ∷ [])  -- 14: done, failed
     ∷ []
@@ -134,7 +134,7 @@ answer n e =
     cond (eqb n pushed) Pushed
     (cond (eqb n empty) Empty
     (cond (eqb n popped) (Popped e)
-    (cond (eqb n noSlot) NoFreeSlot
+    (cond (eqb n noFreeSlot) NoFreeSlot
     (Running n))))
 
 -- The record at its next place; after an answer it is all zero.

@@ -30,8 +30,8 @@ links q side = cond (eqb side 1) (q .rights) (q .lefts)
 abbrev pub pushing : ℕ → ℕ
 pushing side = cond (eqb side 1) 1 2
 
-abbrev pub sideNamed : ℕ → ℕ
-sideNamed status = cond (eqb status 1) 1 0
+abbrev pub statusSide : ℕ → ℕ
+statusSide status = cond (eqb status 1) 1 0
 
 -- An Anchor with null ends.
 abbrev pub isEmpty : Anchor → Bool

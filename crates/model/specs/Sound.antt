@@ -45,8 +45,8 @@ unfoldable pub controlSound : Control → Bool
 controlSound c = every (controlTests c)
 
 -- At 13 and 14 the head as read names a slot.
-abbrev pub headNamed : Call → Bool
-headNamed r = not (eqb (r .place) 13 || eqb (r .place) 14) || not (eqb (linkOf (r .link) .slot) 0)
+abbrev pub headHasSlot : Call → Bool
+headHasSlot r = not (eqb (r .place) 13 || eqb (r .place) 14) || not (eqb (linkOf (r .link) .slot) 0)
 
 -- Record: idle, or each field within its meaning, in a pooled queue or in a named one: what the place asks of the call, and what was read.
 abbrev pub callTests : Bool → ℕ → Call → List Bool
@@ -59,7 +59,7 @@ callTests pooled slots r =
     ∷ (not (drawing r) || isPush r)
     ∷ (eqb (r .finishing) 0 || (isPush r && helping r))
     ∷ cond (owning r) (from1 slots (r .own)) (eqb (r .own) 0)
-    ∷ headNamed r
+    ∷ headHasSlot r
     ∷ []
 
 abbrev pub readTests : ℕ → Call → List Bool

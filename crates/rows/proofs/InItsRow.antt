@@ -13,10 +13,10 @@ use Rattle.model.specs.Ends.{endsCall}
 use Rattle.model.specs.declared.Transition.{Transition}
 use Rattle.table.specs.Lent.{withTables}
 use Rattle.places.specs.Arm.{stepAt}
-use Rattle.engine.specs.MoveOn.{moveOn}
+use Rattle.engine.specs.StepAdmitted.{stepAdmitted}
 use Rattle.model.specs.Refusals.{recordRefusal}
 use Rattle.engine.specs.Stored.{anchorAfter, callAfter, headAfter, ownAfter}
-use Rattle.engine.proofs.Stored.{moved-stored, early-stored}
+use Rattle.engine.proofs.Stored.{moved-stored, deque-stored}
 use Rattle.engine.proofs.InParts.{stopped, at-place}
 use Rattle.rows.specs.Rows.{controlOf, callOf, recordOf, upperOf}
 use Rattle.rows.specs.Moved.{RowMoved}
@@ -61,30 +61,30 @@ module _ (ws row lefts rights labels marks next : List ℕ) (c : Control) (r : C
     abbrev q′ : Control → Tables
     q′ d = tablesOf d lefts′ rights′ labels′ marks′ next′
 
-    module _ (e : (k : ℕ) → withTables m lefts′ rights′ labels′ marks′ next′ k ≡ moveOn (q c) (counting r k)) where
+    module _ (e : (k : ℕ) → withTables m lefts′ rights′ labels′ marks′ next′ k ≡ stepAdmitted (q c) (counting r k)) where
       -- In the words of the row.
-      of-row : withTables m lefts′ rights′ labels′ marks′ next′ (recordOf row .retries) ≡ moveOn (q (controlOf ws)) (recordOf row)
+      of-row : withTables m lefts′ rights′ labels′ marks′ next′ (recordOf row .retries) ≡ stepAdmitted (q (controlOf ws)) (recordOf row)
       unfolding recordOf
       of-row =
           let k = recordOf row .retries in
-          e k ∙ ap (λ (d : Control). moveOn (q d) (counting r k)) ec ∙ ap (λ (t : Call). moveOn (q (controlOf ws)) (counting t k)) er
+          e k ∙ ap (λ (d : Control). stepAdmitted (q d) (counting r k)) ec ∙ ap (λ (t : Call). stepAdmitted (q (controlOf ws)) (counting t k)) er
 
       -- All that a step may change is stored; at 1 to 10 the first layer is all.
       stores : controlOf ws′ ≡ anchorAfter (headAfter (controlOf ws) m) m → recordOf row′ ≡ callAfter (ownAfter (recordOf row) m) m
           → RowMoved (q (controlOf ws)) row (q′ (controlOf ws′)) row′ (m .outcome)
       stores e1 e2 = (rw (e1, e2) (moved-stored (q (controlOf ws)) (recordOf row) m lefts′ rights′ labels′ marks′ next′ of-row), up)
 
-      stores-early : r .place ≤ 10 → controlOf ws′ ≡ anchorAfter (controlOf ws) m → recordOf row′ ≡ callAfter (recordOf row) m
+      stores-deque : r .place ≤ 10 → controlOf ws′ ≡ anchorAfter (controlOf ws) m → recordOf row′ ≡ callAfter (recordOf row) m
           → RowMoved (q (controlOf ws)) row (q′ (controlOf ws′)) row′ (m .outcome)
       unfolding recordOf
-      stores-early low e1 e2 =
-          let early : callOf row .place ≤ 10 = subst (λ (t : Call). t .place ≤ 10) er low in
-          (rw (e1, e2) (early-stored (q (controlOf ws)) (recordOf row) m lefts′ rights′ labels′ marks′ next′ of-row early), up)
+      stores-deque low e1 e2 =
+          let inDeque : callOf row .place ≤ 10 = subst (λ (t : Call). t .place ≤ 10) er low in
+          (rw (e1, e2) (deque-stored (q (controlOf ws)) (recordOf row) m lefts′ rights′ labels′ marks′ next′ of-row inDeque), up)
 
     -- The step at place n, which is the record's.
     module _ (n : ℕ) (o : Outcome) (none : recordRefusal (isPooled c) (c .slots) r ≡ 0) (at : r .place ≡ n) where
       moves : ((k : ℕ) → withTables m lefts′ rights′ labels′ marks′ next′ k ≡ stepAt n (q c) r k)
-          → (k : ℕ) → withTables m lefts′ rights′ labels′ marks′ next′ k ≡ moveOn (q c) (counting r k)
+          → (k : ℕ) → withTables m lefts′ rights′ labels′ marks′ next′ k ≡ stepAdmitted (q c) (counting r k)
       moves steps k = steps k ∙ at-place (q c) (counting r k) n none at
 
       told : o ≡ m .outcome → RowMoved (q (controlOf ws)) row (q′ (controlOf ws′)) row′ (m .outcome)
@@ -96,7 +96,7 @@ module _ (ws row lefts rights labels marks next : List ℕ) (c : Control) (r : C
           → RowMoved (q (controlOf ws)) row (q′ (controlOf ws′)) row′ o
       at-its-place steps e1 e2 eo = told eo (stores (moves steps) e1 e2)
 
-      pub early-place : r .place ≤ 10 → ((k : ℕ) → withTables m lefts′ rights′ labels′ marks′ next′ k ≡ stepAt n (q c) r k)
+      pub deque-place : r .place ≤ 10 → ((k : ℕ) → withTables m lefts′ rights′ labels′ marks′ next′ k ≡ stepAt n (q c) r k)
           → controlOf ws′ ≡ anchorAfter (controlOf ws) m → recordOf row′ ≡ callAfter (recordOf row) m → o ≡ m .outcome
           → RowMoved (q (controlOf ws)) row (q′ (controlOf ws′)) row′ o
-      early-place low steps e1 e2 eo = told eo (stores-early (moves steps) low e1 e2)
+      deque-place low steps e1 e2 eo = told eo (stores-deque (moves steps) low e1 e2)

@@ -20,7 +20,7 @@ use Rattle.model.specs.Calls.{Done, back, act, actOn}
 use Rattle.sound.specs.declared.Lengths.{Lengths}
 use Rattle.sound.specs.Lengths.{lengthsOf, lengthsFit, amongMany}
 use Rattle.sound.proofs.Measured.{lengths-fit}
-use Rattle.engine.specs.MoveOn.{moveOn}
+use Rattle.engine.specs.StepAdmitted.{stepAdmitted}
 use Rattle.engine.proofs.InParts.{turned-away, admitted, task-there}
 use Rattle.rows.specs.Rows.{controlOf, recordsOf, upperOf, uppersOf, queueIn}
 use Rattle.rows.specs.Moved.{RowMoved}
@@ -95,7 +95,7 @@ module _ (ws : List ℕ) (rows : List (List ℕ)) (lefts rights labels marks nex
       → Steps ws′ (set rows task row′) lefts′ rights′ labels′ marks′ next′ o
   unfolding act actOn
   stepped ws′ row′ lefts′ rights′ labels′ marks′ next′ o f moved =
-      let left = moved .0 ∙ ap (moveOn entry) (record-read rows task) ∙ admitted entry (among queue task) r₀ f in (
+      let left = moved .0 ∙ ap (stepAdmitted entry) (record-read rows task) ∙ admitted entry (among queue task) r₀ f in (
         rw (record-put rows task row′) (ap (back queue task) left),
         upper-put rows task row′ ∙ ap (set (uppersOf rows) task) (moved .1)
             ∙ kept-upper (endsCall o),

@@ -8,10 +8,10 @@ use Rattle.model.specs.declared.Outcome.{Outcome}
 use Rattle.model.specs.Tables.{Tables}
 use Rattle.model.specs.Ends.{endsCall}
 use Rattle.model.specs.Calls.{Acted}
-use Rattle.engine.specs.MoveOn.{moveOn}
+use Rattle.engine.specs.StepAdmitted.{stepAdmitted}
 use Rattle.rows.specs.Rows.{recordOf, upperOf}
 
 abbrev pub RowMoved : Tables → List ℕ → Tables → List ℕ → Outcome → Type 0
 RowMoved q row q′ row′ o =
-    (_≡_ {A = Acted} (record { tables = q′; task = recordOf row′; outcome = o }) (moveOn q (recordOf row)))
+    (_≡_ {A = Acted} (record { tables = q′; task = recordOf row′; outcome = o }) (stepAdmitted q (recordOf row)))
     × (upperOf row′ ≡ cond (endsCall o) 0 (upperOf row))

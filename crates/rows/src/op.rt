@@ -57,7 +57,7 @@ pub fn push(
 }
 
 /// Starts a push that names no slot.
-pub fn put(
+pub fn push_pooled(
     control: &[u64; CONTROL_WORDS],
     records: &mut [[u64; RECORD_WORDS]],
     task: usize,
@@ -93,7 +93,7 @@ pub fn put(
         marks: marks.len(),
         next: next.len(),
     };
-    let m = start::put_start(c, r, task, side, label, t);
+    let m = start::push_pooled_start(c, r, task, side, label, t);
     crate::store_start(records, task, m);
     m.outcome
 }
@@ -191,7 +191,7 @@ pub fn operate(
             marks,
             next,
         ),
-        Op::PushPooled { side, label } => put(
+        Op::PushPooled { side, label } => push_pooled(
             control,
             records,
             task,

@@ -17,7 +17,7 @@ use Rattle.model.specs.Places.{row, wordFound}
 use Rattle.model.specs.Refusals.{stepSound}
 use Rattle.model.specs.Calls.{Acted, finish, Done, back}
 use Rattle.model.proofs.tests.Truth.{either}
-use Rattle.engine.specs.MoveOn.{moveOn}
+use Rattle.engine.specs.StepAdmitted.{stepAdmitted}
 use Rattle.engine.proofs.InParts.{fault, here}
 use Rattle.rows.specs.Rows.{controlOf, callOf, recordOf, queueIn}
 use Rattle.rows.specs.Moved.{RowMoved}
@@ -63,8 +63,8 @@ module _ (left t : ℕ) (some : 0 < left) (few : left ≤ 48) where
       ap (λ (n : ℕ). set (sets ws n (s .steps)) (49 - left) t) z ∙ sets-above ws (s .steps) (suc (49 - left)) (49 - left) t (omega arith)
 
 -- The tables after a step and back.
-tables-back : (q : Tables) (r : Record) → putBack (saved (row (r .call)) q) (moveOn q r .tables) ≡ q
-unfolding moveOn finish
+tables-back : (q : Tables) (r : Record) → putBack (saved (row (r .call)) q) (stepAdmitted q r .tables) ≡ q
+unfolding stepAdmitted finish
 tables-back q r =
     either Back (eqb (fault q r) 0)
     (subst Back (sym (here q r)) (either Back (eqb (cond (stepSound (q .control) (r .call) (wordFound q (r .call))) 0 34) 0) (undoes q (r .call) .1) refused))
@@ -81,7 +81,7 @@ all-back : (q q₁ : Queue) (t : ℕ) (k : Kept) → Steps q t k q₁ → restor
 unfolding moved
 all-back q q₁ t k s =
     let r = taskAt q t in
-    let a = moveOn (q .tables) r in
+    let a = stepAdmitted (q .tables) r in
     let tables : putBack (k .saved) (a .tables) ≡ q .tables =
     ap (λ (x : Saved). putBack x (a .tables)) (s .words-kept) ∙ tables-back (q .tables) r
     in
@@ -106,7 +106,7 @@ module _ (control : List ℕ) (pair : List (List ℕ)) (lefts rights labels mark
   unfolding moved recordOf
   steps control₁ row₁ lefts₁ rights₁ labels₁ marks₁ next₁ r s o moves whose kept made told =
       let done : _≡_ {A = Done} (record { queue = queueIn control₁ (set pair t row₁) lefts₁ rights₁ labels₁ marks₁ next₁; outcome = o }) (moved Q t) =
-      rw (record-put pair t row₁) (ap (back Q t) (made .0 ∙ ap (moveOn (Q .tables)) (record-read pair t)))
+      rw (record-put pair t row₁) (ap (back Q t) (made .0 ∙ ap (stepAdmitted (Q .tables)) (record-read pair t)))
       in
       record {
         record-kept = record-read pair t;

@@ -7,14 +7,14 @@ use Rattle.model.specs.Tables.{Queue, taskAt, recordAt}
 use Rattle.model.specs.Places.{row}
 use Rattle.model.specs.Ends.{isMoved}
 use Rattle.model.specs.Calls.{Done, back}
-use Rattle.engine.specs.MoveOn.{moveOn}
+use Rattle.engine.specs.StepAdmitted.{stepAdmitted}
 use Rattle.rows.specs.Rows.{recordOf}
 use Rattle.schedule_model.specs.Undo.{saved, putBack}
 use Rattle.schedule_search.specs.declared.undo.Kept.{Kept}
 
 -- The step of a task whose queue is admitted, which is asked once for the whole search.
 unfoldable pub moved : Queue → ℕ → Done
-moved q t = back q t (moveOn (q .tables) (taskAt q t))
+moved q t = back q t (stepAdmitted (q .tables) (taskAt q t))
 
 -- Task t stepped from q on: k holds what the step can write, as it was in q.
 pub record Steps (q : Queue) (t : ℕ) (k : Kept) (q′ : Queue) : Type 0 where

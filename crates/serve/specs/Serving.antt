@@ -9,7 +9,7 @@ use Rattle.model.specs.declared.Opening.{Opening}
 use Rattle.model.specs.declared.Opening.the-variants.{Refused, Opened}
 use Rattle.model.specs.{Tables.Queue, Retries.SumIsOld, Lists.zeroed}
 use Rattle.model.specs.Calls.{OpenDone, openAs, openingCode}
-use Rattle.model.specs.History.{Request, Event, run, final, Linearized, NeverUnsound, NoSlotTrue}
+use Rattle.model.specs.History.{Request, Event, run, final, Linearized, NeverUnsound, NoFreeSlotTrue}
 use Rattle.stock_model.specs.Accounts.{Accounted, StockSum}
 use Rattle.rows.specs.Rows.{queueIn, uppersOf, writesRow}
 use Rattle.serve.specs.declared.ServeReply.{ServeReply}
@@ -54,7 +54,7 @@ pub record CarriedOut (pooled : Bool) (tasks : ℕ) (q : Queue) (os : List Reque
   pub counts : SumIsOld q os
   pub accounts : Accounted q os
   pub stock : StockSum q os
-  pub truthful : pooled ≡ true → (done left : List Request) → os ≡ done ++ left → NoSlotTrue q done
+  pub truthful : pooled ≡ true → (done left : List Request) → os ≡ done ++ left → NoFreeSlotTrue q done
 
 -- A refused opening changes nothing. After an accepted one as many requests are carried out as there are and have room for a reply.
 abbrev pub FollowsOn : Bool → ℕ → Opening → Queue → List ℕ → State → State → ℕ → Type 0

@@ -36,9 +36,9 @@ fn count_after(code: u32, requests: usize, replies: usize) -> usize
     if code != 0 {
         return 0;
     }
-    let asked = requests / REQUEST_WORDS;
+    let given = requests / REQUEST_WORDS;
     let fit = replies / REPLY_WORDS;
-    if asked <= fit { asked } else { fit }
+    if given <= fit { given } else { fit }
 }
 
 // The first `count` requests, in order.

@@ -44,11 +44,11 @@ extentsIn s q = extents (wayOf (q .control)) (s .listed) (q .lefts) (q .rights) 
 
 -- As the code tells them.
 module _ (sound : Bool) (low high : List ℕ) {m : Made Extents} where
-  pub tells-made : sound ≡ true → told sound low high ≡ m → made (record { low = low; high = high }) ≡ m
-  tells-made e h = ap (λ (b : Bool). told b low high) (sym e) ∙ h
+  pub told-made : sound ≡ true → told sound low high ≡ m → made (record { low = low; high = high }) ≡ m
+  told-made e h = ap (λ (b : Bool). told b low high) (sym e) ∙ h
 
-  pub tells-lost : sound ≡ false → told sound low high ≡ m → lost ≡ m
-  tells-lost e h = ap (λ (b : Bool). told b low high) (sym e) ∙ h
+  pub told-lost : sound ≡ false → told sound low high ≡ m → lost ≡ m
+  told-lost e h = ap (λ (b : Bool). told b low high) (sym e) ∙ h
 
 -- A square of the chained rules and the extents of a walk w tell the verdict on its entries.
 module _ (s : Sheet) {A : Type 0} (r : Row A) (R : (ℕ → Bool) → A) (law : Shows r R) (beyond : List A) where
@@ -57,11 +57,11 @@ module _ (s : Sheet) {A : Type 0} (r : Row A) (R : (ℕ → Bool) → A) (law : 
       inRows (crossed r (marks r R law beyond (linked (s .rules) (length (s .listed)))) (e .low) (e .high)) (length (s .listed)) 1
       (length (s .listed))
 
-  abbrev pub Tells : Made Extents → Walk → Type 0
-  Tells (made e) w = (isBroken w ≡ false) × (Formed s → found e ≡ verdict s (met w))
-  Tells lost w = isBroken w ≡ true
+  abbrev pub GivesVerdict : Made Extents → Walk → Type 0
+  GivesVerdict (made e) w = (isBroken w ≡ false) × (Formed s → found e ≡ verdict s (met w))
+  GivesVerdict lost w = isBroken w ≡ true
 
-  of-walk : (up : Bool) (w : Walk) → Short 1023 w → Tells (gathered up (s .listed) unseen w) (walkFrom (cond up 0 1) w)
+  of-walk : (up : Bool) (w : Walk) → Short 1023 w → GivesVerdict (gathered up (s .listed) unseen w) (walkFrom (cond up 0 1) w)
   of-walk true (entries l) h = (refl, λ f. found-verdict s f true l h r R law beyond)
   of-walk false (entries l) h = (refl, λ f. found-verdict s f false l h r R law beyond)
   of-walk up broken h = refl
@@ -79,9 +79,9 @@ module _ (s : Sheet) {A : Type 0} (r : Row A) (R : (ℕ → Bool) → A) (law : 
     short = shorter (w .slots) (ahead w (q .lefts) (q .rights) (q .labels)) few
         (along-short (w .slots) (linksOn w (q .lefts) (q .rights)) (q .labels) (w .last) (w .slots) (w .first))
 
-    pub tells : Tells (extentsIn s q) (contents q)
+    pub gives-verdict : GivesVerdict (extentsIn s q) (contents q)
     unfolding extents
-    tells =
+    gives-verdict =
         split (noneOn w)
         (λ y. rw (y, nothing q w refl y) (of-walk true (entries []) (omega arith)))
         (λ y. split (from1 (w .slots) (w .first))
@@ -131,7 +131,8 @@ module _ (q : Tables) (s : Sheet) (enough : Bool) where
     pub judge-lost : lost ≡ extentsIn s q → refused 34 ≡ judge q s enough
     unfolding judge
     judge-lost h =
-        let t = subst (λ (m : Made Extents). Tells s byteRow bytes bytes-show [] m (contents q)) (sym h) (tells s byteRow bytes bytes-show [] q few) in
+        let t = subst (λ (m : Made Extents). GivesVerdict s byteRow bytes bytes-show [] m (contents q)) (sym h)
+        (gives-verdict s byteRow bytes bytes-show [] q few) in
         rw (ok .control, ok .form, ok .long, t)
 
     -- With a square of either kind.
@@ -139,7 +140,7 @@ module _ (q : Tables) (s : Sheet) (enough : Bool) where
         → found s r R law beyond e ≡ judge q s enough
     unfolding judge
     judge-told r R law beyond e h =
-        let t = subst (λ (m : Made Extents). Tells s r R law beyond m (contents q)) (sym h) (tells s r R law beyond q few) in
+        let t = subst (λ (m : Made Extents). GivesVerdict s r R law beyond m (contents q)) (sym h) (gives-verdict s r R law beyond q few) in
         rw (ok .control, ok .form, ok .long, t .0) (t .1 (formed s (ok .form)))
 
 -- The tests before the walk, one after the other.

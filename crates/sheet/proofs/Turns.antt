@@ -166,11 +166,11 @@ crossed-at r m low high a b = rw (back a, back b)
     back n = omega arith
 
 -- Whether a row gets another's marks.
-pub join-taken : {A : Type 0} (r : Row A) (k : ℕ) (via : A) (i : ℕ) (row : A) → r .has row k ≡ true → joinVia r k via i row ≡ r .join via row
-join-taken r k via i row h = ap (λ b. cond b (r .join via row) row) h
+pub join-marked : {A : Type 0} (r : Row A) (k : ℕ) (via : A) (i : ℕ) (row : A) → r .has row k ≡ true → joinVia r k via i row ≡ r .join via row
+join-marked r k via i row h = ap (λ b. cond b (r .join via row) row) h
 
-pub join-left : {A : Type 0} (r : Row A) (k : ℕ) (via : A) (i : ℕ) (row : A) → r .has row k ≡ false → joinVia r k via i row ≡ row
-join-left r k via i row h = ap (λ b. cond b (r .join via row) row) h
+pub join-unmarked : {A : Type 0} (r : Row A) (k : ℕ) (via : A) (i : ℕ) (row : A) → r .has row k ≡ false → joinVia r k via i row ≡ row
+join-unmarked r k via i row h = ap (λ b. cond b (r .join via row) row) h
 
 -- The tests of a sheet's form, one after the other.
 module _ (s : Sheet) where

@@ -47,14 +47,14 @@ abbrev pub RefusalKeeps : Type 0
 RefusalKeeps = (q : Tables) (s : Sheet) (words : List ℕ) → sheetWords q s words .reply .code ≢ 0 → sheetWords q s words .words ≡ words
 
 -- A mark is 1 exactly when place a is chained before place b.
-pub record MarkTells (m : ℕ) (rules : List ℕ) (a b : ℕ) : Type 0 where
+pub record MarkIsChained (m : ℕ) (rules : List ℕ) (a b : ℕ) : Type 0 where
   pub only : m ≡ 1 → Chained rules a b
   pub all : Chained rules a b → m ≡ 1
 
 -- After kept or a broken pair, bit b of word a is set exactly when place a + 1 is chained before place b + 1.
 abbrev pub BitsAreChained : Type 0
 BitsAreChained = (q : Tables) (s : Sheet) (words : List ℕ) → sheetWords q s words .reply .code ≡ 0 → (a b : ℕ) → a < 32 → b < 32
-    → MarkTells (getD (sheetWords q s words .words) a 0 / 2 ^ b % 2) (s .rules) (suc a) (suc b)
+    → MarkIsChained (getD (sheetWords q s words .words) a 0 / 2 ^ b % 2) (s .rules) (suc a) (suc b)
 
 -- The answer is right: of a well-formed sheet on any entries, and so where a call is not refused; and it is kept exactly where no pair is broken.
 abbrev pub VerdictRight : Type 0

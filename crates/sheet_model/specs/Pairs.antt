@@ -36,4 +36,4 @@ Earlier a b c d = (a < c) ⊎ ((a ≡ c) × (b < d))
 -- Kept, where no pair is broken; else a broken pair before which none is.
 pub data Rightly (s : Sheet) (l : List Entry) : SheetReply → Type 0 where
   keeps : NoneBroken s l → Rightly s l kept
-  tellsPair : (a b : ℕ) → Broken s l a b → ((c d : ℕ) → Earlier c d a b → Broken s l c d → ⊥) → Rightly s l (brokenBy a b)
+  firstPair : (a b : ℕ) → Broken s l a b → ((c d : ℕ) → Earlier c d a b → Broken s l c d → ⊥) → Rightly s l (brokenBy a b)

@@ -15,9 +15,9 @@ use Rattle.model.specs.declared.Op.the-variants.{Push, Pop, PushPooled, Step}
 use Rattle.model.specs.declared.Outcome.the-variants.{Moved, Refused}
 use Rattle.model.specs.Tables.{Queue, Tables, asking, isPooled, started, taskAt, unused, withCall, withTaken}
 use Rattle.model.specs.Sound.{controlSound, from1, linkSound}
-use Rattle.model.specs.Refusals.{Lent, admissionRules, among, first, fits, namedPush, nothingAsked, pooledPush, popRefusal, pushRefusal, putRefusal}
+use Rattle.model.specs.Refusals.{Lent, admissionRules, among, first, fits, namedPush, nothingAsked, pooledPush, popRefusal, pushRefusal, pushPooledRefusal}
 use Rattle.model.specs.Refusals.{rule, startRules, startRefusal, stepRefusal}
-use Rattle.model.specs.Calls.{Acted, Done, act, actOn, back, decide, popStart, pushStart, putStart, step}
+use Rattle.model.specs.Calls.{Acted, Done, act, actOn, back, decide, popStart, pushStart, pushPooledStart, step}
 use Rattle.model.specs.Walk.{Walk, along, andThen, broken, contents, entries, walkFrom, whence}
 use Rattle.model.specs.History.{Event, Request, final, run}
 use Rattle.model.proofs.tests.{Rules.cleared, Truth.split}
@@ -60,7 +60,7 @@ push-within q p r side slot e =
     from1-true (q .control .slots) slot (not-false _ (z .1 .1 .1 .1 .1 .0)) .1
 
 act-on-cut : (q : Tables) (p : Lent) (r : Record) (o : Op) → actOn (cutTables q) p r o ≡ cutActed (actOn q p r o)
-unfolding actOn pushStart putStart popStart
+unfolding actOn pushStart pushPooledStart popStart
 act-on-cut q p r (Push side slot label) =
     let begun : (Tables → Acted) = λ t. record { tables = t; task = withCall r (started 0 side slot label); outcome = Moved (Running 1) } in
     ap (λ (why : ℕ). decide why (cutTables q) r (begun (withTaken (cutTables q) slot label))) (push-refusal-cut q p (r .call) side slot)
@@ -73,7 +73,7 @@ act-on-cut q p r (Pop side) =
 act-on-cut q p r (PushPooled side label) =
     let begun : (Tables → Acted) = λ t. record { tables = t; task = withCall r (asking side label); outcome = Moved (Running 12) } in
     ap (λ (why : ℕ). decide why (cutTables q) r (begun (cutTables q))) (start-refusal-cut q p (r .call) side (pooledPush q))
-    ∙ decide-cut (putRefusal q p (r .call) side) q r (begun q) (begun (cutTables q)) (λ e. refl)
+    ∙ decide-cut (pushPooledRefusal q p (r .call) side) q r (begun q) (begun (cutTables q)) (λ e. refl)
 act-on-cut q p r Step = step-cut q p r
 
 -- A task that there is not: refused by 34, 12 or 13, whatever its record.
@@ -87,7 +87,7 @@ not-zero false false = refl
 
 unknown : (q : Tables) (p : Lent) (r : Record) (o : Op) → p .known ≡ false
     → actOn q p r o ≡ record { tables = q; task = r; outcome = Refused (unknownBy q p) }
-unfolding actOn pushStart putStart popStart step startRefusal stepRefusal
+unfolding actOn pushStart pushPooledStart popStart step startRefusal stepRefusal
 unknown q p r (Push side slot label) e = rw (e, not-zero (not (controlSound (q .control))) (not (fits q && p .enough)))
 unknown q p r (Pop side) e = rw (e, not-zero (not (controlSound (q .control))) (not (fits q && p .enough)))
 unknown q p r (PushPooled side label) e = rw (e, not-zero (not (controlSound (q .control))) (not (fits q && p .enough)))

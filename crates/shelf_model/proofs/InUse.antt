@@ -7,7 +7,7 @@ use Rattle.model.specs.declared.Op.the-variants.{Step}
 use Rattle.model.specs.Tables.{Queue, marked, recordAt, taskAt}
 use Rattle.model.specs.Calls.{Done, act}
 use Rattle.model.specs.Walk.{contents}
-use Rattle.model.specs.History.{InUse, MarkedIn, NoSlotIn, Taken, Waits, is-taken, pop-gives, pop-holds, popGives, popHolds, push-holds, pushHolds}
+use Rattle.model.specs.History.{InUse, MarkedIn, NoFreeSlotIn, Taken, Waits, is-taken, pop-gives, pop-holds, popGives, popHolds, push-holds, pushHolds}
 use Rattle.model.specs.History.{waits}
 use Rattle.shelf_model.specs.Cut.{cut}
 use Rattle.shelf_model.proofs.{Cut.marked-cut, Stretches.task-cut}
@@ -48,8 +48,8 @@ module _ (p q : Queue) (e : cut p ≡ cut q) where
   within : (x : ℕ) → x ≤ q .tables .control .slots → x ≤ p .tables .control .slots
   within x h = subst (λ (c : Control). x ≤ c .slots) (sym control) h
 
-  pub no-slot-alike : NoSlotIn p → NoSlotIn q
-  no-slot-alike h t f x low high = in-use x (h t (outcome t Step ∙ f) x low (within x high))
+  pub no-free-slot-alike : NoFreeSlotIn p → NoFreeSlotIn q
+  no-free-slot-alike h t f x low high = in-use x (h t (outcome t Step ∙ f) x low (within x high))
 
 pub marks-alike : (p q : Queue) → cut p ≡ cut q → MarkedIn Taken p → MarkedIn Taken q
 marks-alike p q e h x low high =

@@ -12,19 +12,20 @@ use Rattle.model.specs.{Sound.controlSound, Calls.act, Retries.retriesBelow, St
 use Rattle.model.specs.Walk.{Walk, contents, entries, met}
 use Rattle.model.specs.History.{AfterOpeningAs, LedgerCall, Ending, Event, Lawful, Linearized, NeverUnsound, Request}
 use Rattle.model.specs.History.{answered, final, isOpen, ledger, pending, run}
-use Rattle.model.specs.History.{MarkedIn, MarkedWhile, NoSlotIn, NoSlotTrue, Taken}
+use Rattle.model.specs.History.{MarkedIn, MarkedWhile, NoFreeSlotIn, NoFreeSlotTrue, Taken}
 use Rattle.model.proofs.laws.Sizes.{Sizes, act-sizes, fits, sizes}
 use Rattle.model.specs.Neighbours.{NeighboursIn, NeighboursJoined}
-use Rattle.model.proofs.{Linearizable.linearizable, LinksBack.links-back, MarksRight.marks-right, Never34.never-34, NoSlot.no-slot-either, Standing.standing}
+use Rattle.model.proofs.{Linearizable.linearizable, LinksBack.links-back, MarksRight.marks-right, Never34.never-34, NoFreeSlot.no-free-slot-either}
+use Rattle.model.proofs.{Standing.standing}
 use Rattle.model.specs.Lists.{All, copies}
-use Rattle.stock_model.specs.Accounts.{Accounted, AccountedIn, AddedUp, Stands, StockSum, answeredLabels, hasHadEffect, heldLabels, pushedLabels, takenLabels}
+use Rattle.stock_model.specs.Accounts.{Accounted, AccountedIn, AddedUp, Stands, StockSum, answeredLabels, hasHadEffect, heldLabels, pushedLabels, poppedLabels}
 use Rattle.stock_model.specs.Accounts.{waitingLabels}
 use Rattle.stock_model.proofs.Accounts.{OpenKnown, every-label, open-known, stock-taking}
 use Rattle.shelf_model.specs.Cut.{cut}
 use Rattle.shelf_model.specs.Changeovers.{Explained, FromOpening, Past}
 use Rattle.shelf_model.proofs.{Lists.enough-take, Cut.fits-cut, Stretches.task-cut}
 use Rattle.shelf_model.proofs.CutCalls.{contents-cut, run-cut}
-use Rattle.shelf_model.proofs.InUse.{marks-alike, no-slot-alike}
+use Rattle.shelf_model.proofs.InUse.{marks-alike, no-free-slot-alike}
 use Rattle.shelf_model.proofs.Neighbours.{neighbours-alike}
 
 below-cut : (q : Queue) (n : ℕ) → n ≤ q .tables .control .tasks → retriesBelow (cut q) n ≡ retriesBelow q n
@@ -111,8 +112,8 @@ module _ (p : Past) (q : Queue) (h : Explained p q) where
       (subst (λ (o : Queue). All (λ (e : Event). e .outcome ≡ Refused 34 → ⊥) (run o (p .since ++ os))) (sym (t .opened)) sound))
 
   -- #104, the marks and the links between neighbours.
-  pub no-slot : NoSlotIn q
-  no-slot = no-slot-alike now q (sym (h .leaves)) (past-has NoSlotTrue (no-slot-either (t .pooled)))
+  pub no-free-slot : NoFreeSlotIn q
+  no-free-slot = no-free-slot-alike now q (sym (h .leaves)) (past-has NoFreeSlotTrue (no-free-slot-either (t .pooled)))
 
   pub marks-true : MarkedIn Taken q
   marks-true = marks-alike now q (sym (h .leaves)) (past-has (MarkedWhile Taken) (marks-right (t .pooled)))
@@ -140,7 +141,7 @@ module _ (p : Past) (q : Queue) (h : Explained p q) where
       let k = past-has OpenKnown (open-known (t .pooled)) in
       let cs = ledger (run (p .opened) (p .since)) .calls in
       subst (λ (es : List Event). AccountedIn es q) (sym (t .events)) (record {
-        every-push = λ x. subst (λ (l : List ℕ). copies x (pushedLabels cs) ≡ copies x (takenLabels cs) + copies x l) same-waiting (a .every-push x);
+        every-push = λ x. subst (λ (l : List ℕ). copies x (pushedLabels cs) ≡ copies x (poppedLabels cs) + copies x l) same-waiting (a .every-push x);
         every-pop = a .every-pop;
         stands = all-alike cs k (a .stands);
       })

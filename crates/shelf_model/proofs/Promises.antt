@@ -15,7 +15,7 @@ use Rattle.model.specs.{Sound.controlSound, Solo.soloRun, Retries.SumIsOld, Sta
 use Rattle.model.specs.Refusals.{first, recordsFit, reportRefusal, rule}
 use Rattle.model.specs.Report.{busy, report, tell, told, waiting}
 use Rattle.model.specs.History.{Event, final, run}
-use Rattle.model.specs.Progress.{AnsweredWithin, Busy, SoloWithin, StretchTells, any, limit, steps, stretchLimit, tookEffectOrAnswered}
+use Rattle.model.specs.Progress.{AnsweredWithin, Busy, SoloWithin, StretchProgresses, any, limit, steps, stretchLimit, tookEffectOrAnswered}
 use Rattle.model.proofs.tests.Rules.{_and_, never}
 use Rattle.model.proofs.tests.Truth.{not-both}
 use Rattle.model.proofs.laws.Runs.{run-refused}
@@ -24,9 +24,10 @@ use Rattle.model.proofs.StepBounds.{solo-bound, stretch-bound}
 use Rattle.shelf_model.specs.Shelves.{bothHold, returnRefusal, saveRefusal, saveRules, shelfAt}
 use Rattle.shelf_model.specs.Changeovers.{Explained, Holds, Past, World, eventsOf}
 use Rattle.shelf_model.specs.Promises.{Never34, Progresses, Promised, Promises}
-use Rattle.shelf_model.proofs.Stretches.{asked, events-are, solo-alike}
+use Rattle.shelf_model.proofs.Stretches.{requestsTo, events-are, solo-alike}
 use Rattle.shelf_model.proofs.Changeovers.{changeovers}
-use Rattle.shelf_model.proofs.Pasts.{accounts, adds-up, all-served, counts, final-tasks, following-sound, marks-true, no-slot, operations-sound, past-has}
+use Rattle.shelf_model.proofs.Pasts.{accounts, adds-up, all-served, counts, final-tasks, following-sound, marks-true, no-free-slot, operations-sound}
+use Rattle.shelf_model.proofs.Pasts.{past-has}
 use Rattle.shelf_model.proofs.Pasts.{neighbours-joined, same-pooled, same-run, same-task, same-tasks, stands}
 
 -- A report where control is sound, the tables are long enough and the walk meets what waits.
@@ -67,11 +68,11 @@ module _ (w : World) (h : Holds w) (i : ℕ) (made : w .pasts i .made ≡ true) 
         solo-alike n _ q then t (b .known) known (told-by .leaves)
         (subst₂ (λ way (r : Record). AnsweredWithin (limit way (r .call .kind)) (soloRun n then t)) (sym pooled) (sym same) z);
     stretch = λ l u enough.
-        let same = events-are i l w u ∙ same-run p q told-by (asked i l) in
+        let same = events-are i l w u ∙ same-run p q told-by (requestsTo i l) in
         let tasks = same-tasks p q told-by ∙ final-tasks (p .since) (p .opened) in
         let long = subst₂ (λ way n. stretchLimit way n ≤ steps (eventsOf i w l)) pooled tasks enough in
         subst (λ (es : List Event). any tookEffectOrAnswered es ≡ true) (sym same)
-        (past-has p q told-by StretchTells (stretch-bound (told-by .begun .pooled)) (asked i l)
+        (past-has p q told-by StretchProgresses (stretch-bound (told-by .begun .pooled)) (requestsTo i l)
         (subst (λ (es : List Event). stretchLimit (isPooled (p .opened .tables .control)) (p .opened .tables .control .tasks) ≤ steps es) same long));
   }
 
@@ -98,7 +99,7 @@ module _ (w : World) (h : Holds w) (i : ℕ) (made : w .pasts i .made ≡ true) 
     sound = sound;
     retries = λ low. counts p q told-by ∙ past-has p q told-by SumIsOld (retries-sum (told-by .begun .pooled)) low;
     progress = progresses;
-    no-slot = no-slot p q told-by;
+    no-free-slot = no-free-slot p q told-by;
     marks = marks-true p q told-by;
     neighbours = neighbours-joined p q told-by;
     accounted = accounts p q told-by;

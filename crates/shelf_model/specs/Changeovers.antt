@@ -146,13 +146,13 @@ pub record FromOpening (p : Past) : Type 0 where
   pub events : p .events ≡ run (p .opened) (p .since)
 
 -- A queue is, within its lengths, what its past leaves.
-abbrev pub LeftBy : Past → Queue → Type 0
-LeftBy p q = cut q ≡ cut (final (p .opened) (p .since))
+abbrev pub StandsAfter : Past → Queue → Type 0
+StandsAfter p q = cut q ≡ cut (final (p .opened) (p .since))
 
 -- A queue has a past that begins with an accepted opening and that leaves it.
 pub record Explained (p : Past) (q : Queue) : Type 0 where
   pub begun : FromOpening p
-  pub leaves : LeftBy p q
+  pub leaves : StandsAfter p q
 
 -- Every queue that is made has one, and so has every queue on a filled shelf that was made when it was saved. A filled shelf is sound.
 pub record Holds (w : World) : Type 0 where

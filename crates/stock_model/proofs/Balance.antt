@@ -12,7 +12,7 @@ use Rattle.model.specs.declared.Op.the-variants.{Push, Pop, PushPooled, Step}
 use Rattle.model.specs.declared.Outcome.the-variants.{Refused, Moved}
 use Rattle.model.specs.Deque.{Served, seenFrom, serve, serveFor, servePop, servePush, takeFirst}
 use Rattle.model.specs.History.{LedgerCall, Effect, Event, Ledger, accept, attend, isEffect, isOpen, lacksSlot, ledgerFrom, note, stepOf, toldEntry}
-use Rattle.stock_model.specs.Accounts.{each, labelPopped, labelPushed, pushedLabels, takenLabels}
+use Rattle.stock_model.specs.Accounts.{each, labelPopped, labelPushed, pushedLabels, poppedLabels}
 use Rattle.model.proofs.tests.Truth.{by-test}
 use Rattle.model.specs.Lists.{All, copies}
 
@@ -82,7 +82,7 @@ module _ (w : ℕ → ℕ) where
   put cs = weigh w (pushedLabels cs)
 
   abbrev out : List LedgerCall → ℕ
-  out cs = weigh w (takenLabels cs)
+  out cs = weigh w (poppedLabels cs)
 
   abbrev Level : List LedgerCall → List Entry → Ledger → Type 0
   Level cs d l = put (l .calls) + (out cs + load d) ≡ put cs + (out (l .calls) + load (l .deque))

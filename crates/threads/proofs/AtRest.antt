@@ -6,7 +6,7 @@ use Rattle.model.specs.History.{Event, final, ledger, run}
 use Rattle.model.specs.Lists.{All}
 use Rattle.model.proofs.unsound.Runs.{run-safe}
 use Rattle.threads_model.specs.Crew.{Act, Known}
-use Rattle.threads.specs.Promises.{Rest, leftBy, seenOf}
+use Rattle.threads.specs.Promises.{Rest, memoryAfter, seenOf}
 use Rattle.threads.specs.Consequences.{InstructionsAtRest, RestsWell}
 use Rattle.threads.proofs.lists.EarlyPush.{after}
 use Rattle.threads.proofs.Kept.{Kept, kept-plain, lawful, waiting}
@@ -16,7 +16,7 @@ use Rattle.threads.proofs.Since.{after-threads}
 rests-well : (tasks pooled slots : ℕ) (past : List Event) (q : Queue) → Kept tasks pooled slots past q → (l : List Act) → All (Known tasks) l
     → Rest pooled slots q l → RestsWell past pooled slots q l
 rests-well tasks pooled slots past q k l h idle =
-    let m = leftBy pooled slots q l in
+    let m = memoryAfter pooled slots q l in
     let es = seenOf past pooled slots q l in
     let g = kept-rest tasks pooled slots past q k l h idle in
     record {

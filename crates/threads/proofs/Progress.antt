@@ -19,7 +19,7 @@ use Rattle.threads_model.specs.Instructions.{Hand, free, begun, loaded, knows, 
 use Rattle.threads_model.specs.Instructions.{atOnce, isAsRead, isToPut, loadsOwn, oneWord, putsOwn, readsNext, replaces, stepFirst, clears, tick}
 use Rattle.threads_model.specs.Crew.{Act, Crew, Known, calls, next, allFree, takesUp, ticked, go, goOn, turns, tellsTo, told}
 use Rattle.threads.specs.Consequences.{GoesAhead, InstructionsGoOn, ownIn}
-use Rattle.threads.proofs.follow.Starting.{namedOwn, first-pop, first-put, first-push, claims-is, looks-is}
+use Rattle.threads.proofs.follow.Starting.{namedOwn, first-pop, first-push-pooled, first-push, claims-is, looks-is}
 use Rattle.threads.proofs.follow.OwnLink.{AllRead, Reads, next-reads}
 use Rattle.threads.proofs.follow.Good.{Good}
 use Rattle.threads.proofs.Run.{runs-on}
@@ -112,7 +112,7 @@ module _ (pooled slots : ℕ) (q : Tables) (r : Record) where
       (record { less = omega arith; more = λ _. omega arith }))
   fewer (begun (PushPooled side label)) b z =
       let F = Fewer (begun (PushPooled side label)) in
-      subst F (sym (first-put q r pooled slots side label))
+      subst F (sym (first-push-pooled q r pooled slots side label))
       (either F (eqb (ownRefusal pooled slots (r .call) side (not (eqb pooled 1)) false) 0)
       (either F (late (q .control)) (record { less = omega arith; more = λ _. omega arith }) (record { less = omega arith; more = λ _. omega arith }))
       (record { less = omega arith; more = λ _. omega arith }))
@@ -137,16 +137,16 @@ module _ (pooled slots : ℕ) (q : Tables) (r : Record) where
       told-some o e = let w : _≡_ {A = ℕ} 0 1 = cc in omega arith
 
 -- A call taken up is no instruction, and a thread that is in a call takes up none.
-taken : (pooled slots : ℕ) (q : Tables) (r : Record) (k : Hand) (op : Op) → Reads pooled slots q r k → Reads pooled slots q r (takesUp k op)
-taken pooled slots q r free op z = tt
-taken pooled slots q r (begun o) op z = z
-taken pooled slots q r (loaded w) op z = z
-taken pooled slots q r (knows label) op z = z
-taken pooled slots q r (claims side slot label) op z = z
-taken pooled slots q r (looks side slot label) op z = z
-taken pooled slots q r (labels both slot label task o) op z = z
-taken pooled slots q r (marks slot task o) op z = z
-taken pooled slots q r (ends task o) op z = z
+up-reads : (pooled slots : ℕ) (q : Tables) (r : Record) (k : Hand) (op : Op) → Reads pooled slots q r k → Reads pooled slots q r (takesUp k op)
+up-reads pooled slots q r free op z = tt
+up-reads pooled slots q r (begun o) op z = z
+up-reads pooled slots q r (loaded w) op z = z
+up-reads pooled slots q r (knows label) op z = z
+up-reads pooled slots q r (claims side slot label) op z = z
+up-reads pooled slots q r (looks side slot label) op z = z
+up-reads pooled slots q r (labels both slot label task o) op z = z
+up-reads pooled slots q r (marks slot task o) op z = z
+up-reads pooled slots q r (ends task o) op z = z
 
 busy-stays : (k : Hand) (op : Op) → 1 ≤ ahead k → takesUp k op ≡ k
 busy-stays free op b = absurd (omega arith)
@@ -174,7 +174,7 @@ module _ (pooled slots : ℕ) where
   calls-reads tasks m o z u lu =
       let R : Hand → Type 0 = Reads pooled slots (m .queue .tables) (taskAt (m .queue) u) in
       by-test R (eqb u (o .task))
-      (λ e. taken pooled slots (m .queue .tables) (taskAt (m .queue) u) (m .hands (o .task)) (o .op)
+      (λ e. up-reads pooled slots (m .queue .tables) (taskAt (m .queue) u) (m .hands (o .task)) (o .op)
       (subst (λ (v : ℕ). R (m .hands v)) (eqb-true _ _ e) (z u lu)))
       (λ _. z u lu)
 

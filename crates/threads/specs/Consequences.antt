@@ -16,11 +16,11 @@ use Rattle.stock_model.specs.Accounts.{AccountedIn, AddedUp}
 use Rattle.threads_model.specs.Turns.{runTurns, finalTurns}
 use Rattle.threads_model.specs.Instructions.{free}
 use Rattle.threads_model.specs.Crew.{Act, calls, next, allFree, goOn, turns, told, outcomesOf, owed}
-use Rattle.threads.specs.Promises.{AfterThreads, Rest, leftBy, seenOf}
+use Rattle.threads.specs.Promises.{AfterThreads, Rest, memoryAfter, seenOf}
 
 -- MEMORY. At every moment, also while calls are under way: a queue on which a call that walks may rely, whose walk meets the sequential deque's queue.
 abbrev pub MemoryStands : List Event → ℕ → ℕ → Queue → List Act → Type 0
-MemoryStands past pooled slots q l = Standing (leftBy pooled slots q l) (ledger (seenOf past pooled slots q l) .deque)
+MemoryStands past pooled slots q l = Standing (memoryAfter pooled slots q l) (ledger (seenOf past pooled slots q l) .deque)
 
 abbrev pub InstructionsMemory : Type 0
 InstructionsMemory = AfterThreads MemoryStands
@@ -40,8 +40,8 @@ pub record GoesOn (es : List Event) (q : Queue) (kept : Ledger) : Type 0 where
 
 -- At rest the memory is the list's queue, and any plain starts and steps may follow.
 pub record RestsWell (past : List Event) (pooled slots : ℕ) (q : Queue) (l : List Act) : Type 0 where
-  pub same : SameQueue (leftBy pooled slots q l) (finalTurns q (turns pooled slots (allFree q) l))
-  pub goes-on : (os : List Request) → let m = leftBy pooled slots q l in GoesOn (run m os) (final m os) (ledger (seenOf past pooled slots q l ++ run m os))
+  pub same : SameQueue (memoryAfter pooled slots q l) (finalTurns q (turns pooled slots (allFree q) l))
+  pub goes-on : (os : List Request) → let m = memoryAfter pooled slots q l in GoesOn (run m os) (final m os) (ledger (seenOf past pooled slots q l ++ run m os))
 
 abbrev pub InstructionsAtRest : Type 0
 InstructionsAtRest = AfterThreads (λ past pooled slots q l. Rest pooled slots q l → RestsWell past pooled slots q l)

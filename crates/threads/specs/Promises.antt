@@ -113,8 +113,8 @@ pub record AsList (pooled slots : ℕ) (q : Queue) (l : List Act) : Type 0 where
       ≡ told pooled slots (allFree q) l t ++ owed (goOn pooled slots (allFree q) l .hands t)
 
 -- The memory that threads leave. No thread is in the middle of a start or step.
-abbrev pub leftBy : ℕ → ℕ → Queue → List Act → Queue
-leftBy pooled slots q l = goOn pooled slots (allFree q) l .queue
+abbrev pub memoryAfter : ℕ → ℕ → Queue → List Act → Queue
+memoryAfter pooled slots q l = goOn pooled slots (allFree q) l .queue
 
 abbrev pub Rest : ℕ → ℕ → Queue → List Act → Type 0
 Rest pooled slots q l = (t : ℕ) → goOn pooled slots (allFree q) l .hands t ≡ free
@@ -129,7 +129,7 @@ pub data Since (pooled : Bool) (tasks slots : ℕ) : List Event → Queue → Ty
   opening : (q : Queue) (tag : ℕ) → openAs pooled q tasks slots tag .outcome ≡ Opened → Since pooled tasks slots [] (openAs pooled q tasks slots tag .queue)
   plain : (past : List Event) (q : Queue) → Since pooled tasks slots past q → (os : List Request) → Since pooled tasks slots (past ++ run q os) (final q os)
   threads : (past : List Event) (q : Queue) → Since pooled tasks slots past q → (l : List Act) → All (Known tasks) l → Rest (cond pooled 1 0) slots q l
-      → Since pooled tasks slots (seenOf past (cond pooled 1 0) slots q l) (leftBy (cond pooled 1 0) slots q l)
+      → Since pooled tasks slots (seenOf past (cond pooled 1 0) slots q l) (memoryAfter (cond pooled 1 0) slots q l)
 
 -- Then any list of acts by threads of the tasks opened, so every prefix of a run too.
 abbrev pub AfterThreads : (List Event → ℕ → ℕ → Queue → List Act → Type 0) → Type 0

@@ -199,7 +199,7 @@ pub record Cases : Type 0 where
   -- 14: the label of who has drawn the slot stays
   pub label-stays : leaves pool drawnBefore .labels ≡ 0 ∷ 6 ∷ 0 ∷ []
   -- the head's tag was raised three times, so thread 0's change fails, and slot 2 is drawn once
-  pub tag-tells : hears pool givenBack 0 ≡ at 12 ∷ at 13 ∷ at 14 ∷ at 12 ∷ []
+  pub tag-shows : hears pool givenBack 0 ≡ at 12 ∷ at 13 ∷ at 14 ∷ at 12 ∷ []
   pub head-stays : leaves pool givenBack .control .head ≡ 0x0000000300000001
   -- a step is at most four instructions, the last of which tells: at 14 it is four
   pub not-in-three : hears pool (before14 0 5 ++ part 0 3) 0 ≡ at 12 ∷ at 13 ∷ at 14 ∷ []
@@ -255,7 +255,7 @@ cases = record {
   label-undrawn = refl;
   label-drawn = refl;
   label-stays = refl;
-  tag-tells = refl;
+  tag-shows = refl;
   head-stays = refl;
   not-in-three = refl;
   told-in-four = refl;

@@ -39,18 +39,18 @@ module _ (pooled slots : ℕ) (r : Call) (s : Start) where
     wrong-kind b = rw (a, b)
 
     module _ (b : wrongPush pooled s ≡ false) where
-      pub no-slot : outside slots s ≡ true → Why 15
+      pub slot-outside : outside slots s ≡ true → Why 15
       unfolding ownRefusal
-      no-slot d = rw (a, b, d)
+      slot-outside d = rw (a, b, d)
 
       module _ (d : outside slots s ≡ false) where
         pub free : r .place ≡ 0 → Why 0
         unfolding ownRefusal
         free e = let idle = eq-eqb (r .place) 0 e in rw (a, b, d, idle-sound (eqb pooled 1) slots r idle, idle)
 
-        pub taken-up : (r .place ≡ 0 → ⊥) → recordSound (eqb pooled 1) slots r ≡ true → Why 30
+        pub busy-call : (r .place ≡ 0 → ⊥) → recordSound (eqb pooled 1) slots r ≡ true → Why 30
         unfolding ownRefusal
-        taken-up h f = rw (a, b, d, f, ne-eqb (r .place) 0 h)
+        busy-call h f = rw (a, b, d, f, ne-eqb (r .place) 0 h)
 
         pub damaged : recordSound (eqb pooled 1) slots r ≡ false → Why 34
         unfolding ownRefusal
@@ -79,8 +79,8 @@ module _ (pooled slots : ℕ) where
       let r = started 1 side 0 0 in
       plans pooled slots r (first.pop-sound pooled slots side a) 1 refl refl _ (plan1 pooled slots r)
 
-  pub put-plan : (side label : ℕ) → leb side 1 ≡ true → eqb pooled 1 ≡ true → loadsHead ≡ plan pooled slots (asking side label)
-  put-plan side label a p =
+  pub push-pooled-plan : (side label : ℕ) → leb side 1 ≡ true → eqb pooled 1 ≡ true → loadsHead ≡ plan pooled slots (asking side label)
+  push-pooled-plan side label a p =
       let r = asking side label in
       plans pooled slots r (first.draw-sound pooled slots side label a p) 12 refl refl _ (plan12 pooled slots r)
 
@@ -154,7 +154,8 @@ module _ (pooled slots : ℕ) (was : List ℕ) (s : Start) where
   pub loaded-none : (n w : ℕ) (y : Reply) (p : PlannedTouch) → n ≡ why → (n ≡ 0 → ⊥) → y ≡ record { code = n; label = 0; value = 0 } → p ≡ refuses n
       → leaves was y p ≡ loads-by w
   unfolding recordOf
-  loaded-none n w y p e some ey ep = (λ i. leaves was (ey i) (ep i)) ∙ rw (ne-eqb why 0 (λ z. some (e ∙ z))) (ap (λ (k : ℕ). leaves was (record { code = k; label = 0; value = 0 }) (refuses k)) e)
+  loaded-none n w y p e some ey ep = (λ i. leaves was (ey i) (ep i))
+      ∙ rw (ne-eqb why 0 (λ z. some (e ∙ z))) (ap (λ (k : ℕ). leaves was (record { code = k; label = 0; value = 0 }) (refuses k)) e)
 
   pub loaded-on : (n w : ℕ) → n ≡ why → n ≡ 0 → by (settleStart (recordOf was) s 1 w) ≡ loads-by w
   unfolding recordOf

@@ -61,10 +61,10 @@ break-page p event out to h e put =
     rw (w .stop, w .stored, e) (sym (breaks-fits p h))
 
 -- As many records are cleared as an accepted opening asks for.
-clear-asked : (pooled : Bool) (q : Tables) (n tasks slots tag : ℕ)
+clear-opened : (pooled : Bool) (q : Tables) (n tasks slots tag : ℕ)
     → openTables pooled q n tasks slots tag .clear ≡ cond (isOpened (openTables pooled q n tasks slots tag .outcome)) tasks 0
 unfolding openTables openAs
-clear-asked pooled q n tasks slots tag = go (eqb why 0)
+clear-opened pooled q n tasks slots tag = go (eqb why 0)
   where
     why : ℕ
     why = openRefusal pooled (manyRecords q n) tasks slots
@@ -104,6 +104,6 @@ module _ (pooled : Bool) (p : Page) (n tasks slots tag : ℕ) (o : OpenedParts) 
       ∙ ap (λ (k : ℕ). whole (p .run .queue .records) (openTables pooled (p .run .queue .tables) k tasks slots tag)) (sym en)
       ∙ ap (whole (p .run .queue .records)) (sym e) in
       let few : o .clear ≡ cond (isOpened (o .outcome)) tasks 0 =
-      ap (λ (x : OpenedParts). x .clear) e ∙ clear-asked pooled (p .run .queue .tables) n tasks slots tag
+      ap (λ (x : OpenedParts). x .clear) e ∙ clear-opened pooled (p .run .queue .tables) n tasks slots tag
       ∙ ap (λ (x : OpenedParts). cond (isOpened (x .outcome)) tasks 0) (sym e) in
       rw (d, w .stop, w .stored, er, eu, eg, ev, few)

@@ -16,7 +16,7 @@ use Rattle.trace_field.proofs.Pages.{cond-true}
 use Rattle.trace_replay.specs.Trace.{Fed, feedIn, feed, finished, fresh, printed, traceOf}
 use Rattle.trace_replay.specs.Feed.{finishPage, firstPage}
 use Rattle.trace_replay.specs.Pieces.{held, atFront, fromStart, Written, pagesOf, Between, begun, afterPiece, afterPieces, lastPage, afterEnd}
-use Rattle.trace_replay.specs.Laws.{CutAnywhere, StoppedEarly}
+use Rattle.trace_replay.specs.Laws.{CutAnywhere, OverBeforeEnd}
 use Rattle.trace_replay.proofs.Feeding.{feed-pieces, joined}
 use Rattle.trace_replay.proofs.AtOnce.{finish-writes}
 use Rattle.trace_replay.proofs.PageEnds.{front-of, pages-told, pages-within, pages-over}
@@ -135,7 +135,7 @@ unfolding afterPieces
 pieces-append s [] ds = refl
 pieces-append s (c ∷ cs) ds = pieces-append (afterPiece s c) cs ds
 
-pub stopped-early : StoppedEarly
-stopped-early out cs ds h over =
+pub over-before-end : OverBeforeEnd
+over-before-end out cs ds h over =
     sym (over-ends (afterPieces (begun out) cs) ds over) ∙ ap (λ (s : Between). afterEnd s .bytes) (sym (pieces-append (begun out) cs ds))
     ∙ cut-anywhere out (cs ++ ds) h

@@ -17,10 +17,10 @@ use Rattle.trace_replay.proofs.Feeding.{sizeAt, Next, waits, breaks, mo
 
 module _ (bytes : List ℕ) where
   -- With room, the field at the reading position is carried out, and the position moves behind it.
-  pub taken : (p : Page) → leb (p .to + fieldRoom) (length (p .out)) ≡ true
+  pub field-carried : (p : Page) → leb (p .to + fieldRoom) (length (p .out)) ≡ true
       → takes bytes p ≡ moved (carries p (fieldOf (p .run .opened) (drop (p .at) bytes) .field) (drop (p .at) bytes)) (sizeAt (p .run) (drop (p .at) bytes))
   unfolding takes sizeAt
-  taken p e = cond-true (leb (p .to + fieldRoom) (length (p .out))) _ _ e
+  field-carried p e = cond-true (leb (p .to + fieldRoom) (length (p .out))) _ _ e
 
   -- A field that takes bytes takes some that are there.
   size-within : (p : Page) → sizeAt (p .run) (drop (p .at) bytes) ≤ length bytes - p .at
@@ -37,7 +37,7 @@ module _ (bytes : List ℕ) where
   goes-on p h = go (leb (p .to + fieldRoom) (length (p .out))) refl
     where
       moved-to : leb (p .to + fieldRoom) (length (p .out)) ≡ true → takes bytes p .at ≡ p .at + sizeAt (p .run) (drop (p .at) bytes)
-      moved-to e = ap (λ (x : Page). x .at) (taken p e)
+      moved-to e = ap (λ (x : Page). x .at) (field-carried p e)
 
       go : (b : Bool) → leb (p .to + fieldRoom) (length (p .out)) ≡ b → (p .at < takes bytes p .at) × (takes bytes p .at ≤ length bytes)
       go true e =

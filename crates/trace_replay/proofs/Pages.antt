@@ -16,7 +16,7 @@ use Rattle.trace_replay.specs.Trace.{Fed, unmoved, after, feed}
 use Rattle.trace_replay.specs.Feed.{feedPageIn, feedPage}
 use Rattle.trace_replay.proofs.Feeding.{told, sizeAt, Next, waits, breaks, moves, next-of, feed-waits, broken, feed-step}
 use Rattle.trace_replay.proofs.Feeding as run
-use Rattle.trace_replay.proofs.Loop.{taken, goes-on, feed-over, feed-still, feed-next}
+use Rattle.trace_replay.proofs.Loop.{field-carried, goes-on, feed-over, feed-still, feed-next}
 
 abbrev pub fits : Page → Bool
 fits p = leb (p .to + fieldRoom) (length (p .out))
@@ -57,7 +57,7 @@ module _ (bytes : List ℕ) where
     reaches-take : p .run .over ≡ false → fits p ≡ true → Reaches bytes p (takes bytes p)
     unfolding written told sizeAt
     reaches-take e f =
-        subst (Reaches bytes p) (sym (taken bytes p f))
+        subst (Reaches bytes p) (sym (field-carried bytes p f))
         (record {
           lines = told (p .run) b .lines;
           out = refl;
@@ -88,7 +88,7 @@ module _ (bytes : List ℕ) where
   pub still-done : (p : Page) → fits p ≡ true → takes bytes p .at ≡ p .at → Done (takes bytes p)
   unfolding written told sizeAt
   still-done p f h =
-      let e = taken bytes p f in
+      let e = field-carried bytes p f in
       let z : sizeAt (p .run) (drop (p .at) bytes) ≡ 0 = let m = ap (λ (x : Page). x .at) e in omega (arith, m, h) in
       subst Done (sym e)
       (subst (λ (n : ℕ). feed (told (p .run) (b p) .run) (drop n bytes) ≡ unmoved (told (p .run) (b p) .run) (drop n bytes))

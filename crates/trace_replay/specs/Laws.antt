@@ -18,8 +18,8 @@ abbrev pub CutAnywhere : Type 0
 CutAnywhere = (out : List ℕ) (cs : List (List ℕ)) → fieldRoom ≤ length out → afterEnd (afterPieces (begun out) cs) .bytes ≡ traceOf (flatten cs)
 
 -- A run that is over after some pieces has written the file's trace, whatever pieces are still to come.
-abbrev pub StoppedEarly : Type 0
-StoppedEarly =
+abbrev pub OverBeforeEnd : Type 0
+OverBeforeEnd =
     (out : List ℕ) (cs ds : List (List ℕ)) → fieldRoom ≤ length out → afterPieces (begun out) cs .page .run .over ≡ true
     → afterPieces (begun out) cs .bytes ≡ traceOf (flatten (cs ++ ds))
 

@@ -17,7 +17,7 @@ use Rattle.trace_replay.specs.Trace.{fresh}
 use Rattle.trace_replay.specs.Feed.{Zeros, Begins}
 use Rattle.trace_replay.specs.Pieces.{fromStart, pagesOf, begun, afterPieces, lastPage, roundPage, Gone}
 use Rattle.trace_replay.proofs.PageLoop.{Stands, round-stands, round-gone}
-use Rattle.trace_replay.proofs.Left.{stands-leaves}
+use Rattle.trace_replay.proofs.Remainder.{stands-leaves}
 
 pub never : {P : Type 0} → _≡_ {A = Bool} true false → P
 never z = absurd (not-both refl z)

@@ -4,7 +4,7 @@
 mod refill;
 
 use trace_field::RunState;
-use trace_pages::Taken;
+use trace_pages::AfterPages;
 ghost use Prim.Native.Nat.{_≤_, _<_, _-_};
 ghost use mathlib.Core.Path.{_≡_};
 ghost use mathlib.Core.Bool.{true, false, not, _&&_};
@@ -102,7 +102,7 @@ fn rounds(
     labels: &mut [u32],
     marks: &mut [u64],
     next: &mut [u64],
-) -> Taken
+) -> AfterPages
     requires { ⌜ longestField ≤ length (now input) ⌝ }
     requires { ⌜ fieldRoom ≤ length (now out) ⌝ }
     requires { ⌜ Zeros (now rows) (now lefts) (now rights) (now labels) (now marks) (now next) ⌝ }
@@ -113,7 +113,7 @@ fn rounds(
     let first = trace_pages::begin(out);
     let mut s = first.state;
     if !first.written {
-        return Taken {
+        return AfterPages {
             state: s,
             written: false,
         };
@@ -137,14 +137,14 @@ fn rounds(
         );
         s = r.state;
         if r.failed | !r.going {
-            return Taken {
+            return AfterPages {
                 state: s,
                 written: !r.failed,
             };
         }
         have = r.have;
     }
-    Taken {
+    AfterPages {
         state: s,
         written: false,
     }

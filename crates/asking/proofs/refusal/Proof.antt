@@ -10,7 +10,7 @@ use Rattle.model.specs.Places.{wordFound}
 use Rattle.model.specs.Refusals.{Lent, Rule, rule, first, fits, admission, admissionRules, recordRules, recordRefusal, stepSound, stepRefusal}
 use Rattle.model.proofs.tests.Rules.{first-passed, first-refused}
 use Rattle.sound.specs.Lengths.{lengthsFit}
-use Rattle.asking.specs.Asked.{touchRefusal}
+use Rattle.asking.specs.WhyRefused.{touchRefusal}
 use Rattle.asking.proofs.refusal.Statement.{statement}
 use Rattle.asking.proofs.refusal.Tie as tie
 

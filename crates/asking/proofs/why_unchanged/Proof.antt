@@ -1,6 +1,6 @@
 -- A change that is refused, and one that is not.
 use mathlib.Core.Path.{sym, _∙_}
-use Rattle.asking.specs.Asked.{whyUnchanged}
+use Rattle.asking.specs.WhyRefused.{whyUnchanged}
 use Rattle.asking.proofs.why_unchanged.Statement.{statement}
 use Rattle.asking.proofs.why_unchanged.Tie as tie
 

@@ -22,7 +22,7 @@ use denote.Triple.Statement.{Triple}
 use denote.Triple.Spec.{Meets, tripleOf}
 use denote.Triple.Table.{entered, cited}
 use denote.Triple.Walked.{Walks, walked, walk-meets, goes-ref, goes-slice, goes-none, goes-gave-slice}
-use Rattle.engine.specs.MoveOn.{moveOn}
+use Rattle.engine.specs.StepAdmitted.{stepAdmitted}
 use Rattle.deque.proofs.Admission.{Admit, Refuse}
 use Rattle.deque.proofs.Engine.{Move}
 use Rattle.model.proofs.Control as K
@@ -33,9 +33,9 @@ use Rattle.sound.proofs.admission.admit_step.Met as admit-thm
 use Rattle.engine.proofs.refuse.Symbol as refuse-def
 use Rattle.engine.proofs.refuse.Symbol.{name as #engine·refuse}
 use Rattle.engine.proofs.refuse.Met as refuse-thm
-use Rattle.rows.proofs.value.move_on.Symbol as callee-def
-use Rattle.rows.proofs.value.move_on.Symbol.{name as #rows·value·move-on}
-use Rattle.rows.proofs.value.move_on.Met as callee-thm
+use Rattle.rows.proofs.value.step_by_value.Symbol as callee-def
+use Rattle.rows.proofs.value.step_by_value.Symbol.{name as #rows·value·step-by-value}
+use Rattle.rows.proofs.value.step_by_value.Met as callee-thm
 use Rattle.deque.proofs.step.Key.{name as #deque·step}
 use Rattle.deque.proofs.step as self
 use Rattle.deque.proofs.step.Statement as stated
@@ -45,7 +45,7 @@ use Rattle.deque.proofs.step.Proof.{Leaving.stayed, Walk.walk}
 module _ {M : Type 1} (𝓤 : URA M) (H : Heap 𝓤) (A : Atoms 𝓤) (W : Given 𝓤 H A) (mem : Memory → SProp 𝓤) (run : Routine → Fun 𝓤) where
   self-walks : (C : Calls 𝓤 H) (Λ : Loops 𝓤 H) → FmC 𝓤 H (W .laws) C → Triple 𝓤 (C #sound·admission·admit) (Admit 𝓤 H A mem run)
       → Triple 𝓤 (C #engine·refuse) (Refuse 𝓤 H A mem run)
-      → Triple 𝓤 (C #rows·value·move-on) (Move 𝓤 H A moveOn)
+      → Triple 𝓤 (C #rows·value·step-by-value) (Move 𝓤 H A stepAdmitted)
       → Walks 𝓤 H A self.ended stayed (WpFn 𝓤 H C Λ code.function) (self.clauses 𝓤 H A mem run)
   self-walks C Λ fm known-admit known-refuse known = walked 𝓤 H A self.ended stayed (self.clauses 𝓤 H A mem run) (WpFn 𝓤 H C Λ code.function)
       (λ κs. (ptr-vals, (slice-vals, (uint-vals w64, (slice-vals, (slice-vals, (slice-vals, (slice-vals, (slice-vals, tt)))))))))
@@ -78,7 +78,7 @@ module _ {M : Type 1} (𝓤 : URA M) (H : Heap 𝓤) (A : Atoms 𝓤) (W : Given
 
 self-meets : {M : Type 1} (𝓤 : URA M) (H : Heap 𝓤) (A : Atoms 𝓤) → Given 𝓤 H A → (mem : Memory → SProp 𝓤) (run : Routine → Fun 𝓤) (𝓣 : Program 𝓤 H)
     → Triple 𝓤 (𝓣 .C #sound·admission·admit) (Admit 𝓤 H A mem run) → Triple 𝓤 (𝓣 .C #engine·refuse) (Refuse 𝓤 H A mem run)
-    → Triple 𝓤 (𝓣 .C #rows·value·move-on) (Move 𝓤 H A moveOn)
+    → Triple 𝓤 (𝓣 .C #rows·value·step-by-value) (Move 𝓤 H A stepAdmitted)
     → Meets 𝓤 H A self.signature (WpFn 𝓤 H (𝓣 .C) (𝓣 .Λ) code.function) (self.spec 𝓤 H A mem run)
 self-meets 𝓤 H A W mem run 𝓣 known-admit known-refuse known =
     walk-meets 𝓤 H A self.ended stayed W (
@@ -114,4 +114,5 @@ step-spec 𝓤 H 𝓜 𝓖 𝓡 =
     (admit-thm.met 𝓤 H 𝓜 𝓖 𝓡))
     (cited 𝓤 H (Refuse 𝓤 H (𝓖 .A) (𝓜 .mem) (𝓡 .run)) 𝓜 𝓡 code.env #engine·refuse refuse-def.routine code.calls-engine·refuse
     (refuse-thm.met 𝓤 H 𝓜 𝓖 𝓡))
-    (cited 𝓤 H (Move 𝓤 H (𝓖 .A) moveOn) 𝓜 𝓡 code.env #rows·value·move-on callee-def.routine code.calls-rows·value·move-on (callee-thm.met 𝓤 H 𝓜 𝓖 𝓡)))
+    (cited 𝓤 H (Move 𝓤 H (𝓖 .A) stepAdmitted) 𝓜 𝓡 code.env #rows·value·step-by-value callee-def.routine code.calls-rows·value·step-by-value
+    (callee-thm.met 𝓤 H 𝓜 𝓖 𝓡)))

@@ -32,7 +32,7 @@ returns-2 c =
     let told = left .before in
     let sized = told .before .before .before .before in
     let a = sized .before .before in
-    moved .move-on .ensures ∙ admitted (q a) alone (a .args .t) (sym (told .admit-alone .ensures) ∙ left .if1 .left)
+    moved .step-by-value .ensures ∙ admitted (q a) alone (a .args .t) (sym (told .admit-alone .ensures) ∙ left .if1 .left)
 
 pub step-alone-spec : {M : Type 1} → statement M
 step-alone-spec =

@@ -21,19 +21,19 @@ use Rattle.find.proofs.look.Tie as tie
 abbrev with : ℕ → List ℕ → Noted
 with n ps = record { count = n; positions = ps }
 
-record Kept (w : Way) (lefts rights labels asked before sieve now : List ℕ) (n x : ℕ) : Type 0 where
+record Kept (w : Way) (lefts rights labels wanted before sieve now : List ℕ) (n x : ℕ) : Type 0 where
   few : n ≤ w .slots
   at : from1 (w .slots) x ≡ true
-  ready : Ready n asked sieve
+  ready : Ready n wanted sieve
   long : length now ≡ length before
-  notes : comes (noteOn (w .rightward) asked) w lefts rights labels n (with n now) x
-      ≡ over (noteOn (w .rightward) asked) (with 0 before) (ahead w lefts rights labels)
+  notes : comes (noteOn (w .rightward) wanted) w lefts rights labels n (with n now) x
+      ≡ over (noteOn (w .rightward) wanted) (with 0 before) (ahead w lefts rights labels)
 
 abbrev Inv-loop : tie.InvT-loop
-Inv-loop w lefts rights labels asked sieve₀ positions₀ n₀ x₀ sieve positions n x = Kept w lefts rights labels asked positions₀ sieve positions n x
+Inv-loop w lefts rights labels wanted sieve₀ positions₀ n₀ x₀ sieve positions n x = Kept w lefts rights labels wanted positions₀ sieve positions n x
 
 abbrev μ-loop : tie.MeasureT-loop
-μ-loop w lefts rights labels asked sieve₀ positions₀ n₀ x₀ sieve positions n x = w .slots - n
+μ-loop w lefts rights labels wanted sieve₀ positions₀ n₀ x₀ sieve positions n x = w .slots - n
 
 -- What the call was given.
 abbrev given : tie.At-loop Inv-loop μ-loop → tie.Start Inv-loop μ-loop
@@ -48,7 +48,7 @@ loop-holds c =
       at = s .before .pre .at;
       ready = record { size = s .before .pre .sieve-size; sifted = λ h. absurd (omega arith) };
       long = refl;
-      notes = begins (noteOn (a .w .rightward) (a .asked .now)) (a .w) (a .lefts .now) (a .rights .now) (a .labels .now) (with 0 (a .positions .now));
+      notes = begins (noteOn (a .w .rightward) (a .wanted .now)) (a .w) (a .lefts .now) (a .rights .now) (a .labels .now) (with 0 (a .positions .now));
     }
 
 -- At a slot that was met: where the turn began, and what is noted now.
@@ -69,22 +69,22 @@ module _ (k : tie.After-slice-known4 Inv-loop μ-loop) where
   now = m .meet .last .1 .1 .1 .1 .1 .0
 
   noted-is : (let a = given turn .args in
-      now ≡ note (a .w .rightward) (getD (a .labels .now) (turn .loop .x) 0) (turn .loop .n + 1) (a .asked .now) (turn .loop .positions))
+      now ≡ note (a .w .rightward) (getD (a .labels .now) (turn .loop .x) 0) (turn .loop .n + 1) (a .wanted .now) (turn .loop .positions))
   noted-is =
       let a = given turn .args in
       m .meet .ensures
-      ∙ ap (λ (y : ℕ). note (a .w .rightward) y (turn .loop .n + 1) (a .asked .now) (turn .loop .positions)) (label .label-at .ensures)
+      ∙ ap (λ (y : ℕ). note (a .w .rightward) y (turn .loop .n + 1) (a .wanted .now) (turn .loop .positions)) (label .label-at .ensures)
 
   long-now : length now ≡ length (given turn .args .positions .now)
   long-now =
       let a = given turn .args in
       ap length noted-is
-      ∙ note-length (a .w .rightward) (getD (a .labels .now) (turn .loop .x) 0) (turn .loop .n + 1) (a .asked .now) (turn .loop .positions)
+      ∙ note-length (a .w .rightward) (getD (a .labels .now) (turn .loop .x) 0) (turn .loop .n + 1) (a .wanted .now) (turn .loop .positions)
       ∙ turn .loop .inv .long
 
   -- One slot on.
   met : _≡_ {A = Noted} (with (turn .loop .n + 1) now)
-      (let a = given turn .args in noteOn (a .w .rightward) (a .asked .now) (with (turn .loop .n) (turn .loop .positions))
+      (let a = given turn .args in noteOn (a .w .rightward) (a .wanted .now) (with (turn .loop .n) (turn .loop .positions))
       (record { slot = turn .loop .x; label = getD (a .labels .now) (turn .loop .x) 0 }))
   met = ap (with (turn .loop .n + 1)) noted-is
 
@@ -94,7 +94,7 @@ returns c =
     let l = turn k in
     let a = given l .args in
     ap made (met k)
-    ∙ sym (stops (noteOn (a .w .rightward) (a .asked .now)) (a .w) (a .lefts .now) (a .rights .now) (a .labels .now) (l .loop .n) (l .loop .x)
+    ∙ sym (stops (noteOn (a .w .rightward) (a .wanted .now)) (a .w) (a .lefts .now) (a .rights .now) (a .labels .now) (l .loop .n) (l .loop .x)
     (with (l .loop .n) (l .loop .positions)) (test k .if1 .taken) (l .loop .inv .at) (c .if2 .taken))
     ∙ l .loop .inv .notes
 
@@ -104,14 +104,14 @@ module _ (v : tie.After-leads Inv-loop μ-loop) where
   place = v .before .before .before
 
   onwards : (let l = turn place in let a = given l .args in let n = l .loop .n in
-      comes (noteOn (a .w .rightward) (a .asked .now)) (a .w) (a .lefts .now) (a .rights .now) (a .labels .now) (n + 1) (with (n + 1) (now place))
+      comes (noteOn (a .w .rightward) (a .wanted .now)) (a .w) (a .lefts .now) (a .rights .now) (a .labels .now) (n + 1) (with (n + 1) (now place))
       (v .leads .result)
-      ≡ over (noteOn (a .w .rightward) (a .asked .now)) (with 0 (a .positions .now)) (ahead (a .w) (a .lefts .now) (a .rights .now) (a .labels .now)))
+      ≡ over (noteOn (a .w .rightward) (a .wanted .now)) (with 0 (a .positions .now)) (ahead (a .w) (a .lefts .now) (a .rights .now) (a .labels .now)))
   onwards =
       let l = turn place in
       let a = given l .args in
       let n = l .loop .n in
-      let f = noteOn (a .w .rightward) (a .asked .now) in
+      let f = noteOn (a .w .rightward) (a .wanted .now) in
       (λ i. comes f (a .w) (a .lefts .now) (a .rights .now) (a .labels .now) (n + 1) (met place i) (v .leads .ensures i))
       ∙ sym (goes f (a .w) (a .lefts .now) (a .rights .now) (a .labels .now) n (l .loop .x) (with n (l .loop .positions)) (test place .if1 .taken)
       (l .loop .inv .at) (v .before .if2 .left))
@@ -122,7 +122,7 @@ returns-2 c =
     let v = c .before in
     let l = turn (place v) in
     let a = given l .args in
-    sym (breaks (noteOn (a .w .rightward) (a .asked .now)) (a .w) (a .lefts .now) (a .rights .now) (a .labels .now) (l .loop .n + 1) _
+    sym (breaks (noteOn (a .w .rightward) (a .wanted .now)) (a .w) (a .lefts .now) (a .rights .now) (a .labels .now) (l .loop .n + 1) _
     (with (l .loop .n + 1) (now (place v))) (c .if3 .taken))
     ∙ onwards v
 
@@ -145,7 +145,7 @@ returns-3 : tie.Need-returns-3 Inv-loop μ-loop
 returns-3 c =
     let l = c .before .before in
     let a = given l .args in
-    sym (full (noteOn (a .w .rightward) (a .asked .now)) (a .w) (a .lefts .now) (a .rights .now) (a .labels .now) (l .loop .n) (l .loop .x)
+    sym (full (noteOn (a .w .rightward) (a .wanted .now)) (a .w) (a .lefts .now) (a .rights .now) (a .labels .now) (l .loop .n) (l .loop .x)
     (with (l .loop .n) (l .loop .positions)) (omega (arith, c .if1 .left)))
     ∙ l .loop .inv .notes
 

@@ -31,11 +31,11 @@ module _ (k : tie.After-look) where
   after = k .look .last .1 .1 .1 .1 .1 .1 .0
 
   came : (t : Tally) → k .look .result ≡ t
-      → noted t after ≡ over (noteOn (start .args .w .rightward) (start .args .asked .now)) (record { count = 0; positions = blank }) walk
+      → noted t after ≡ over (noteOn (start .args .w .rightward) (start .args .wanted .now)) (record { count = 0; positions = blank }) walk
   came t e =
       let a = start .args in
       ap (λ (r : Tally). noted r after) (sym e) ∙ k .look .ensures
-      ∙ ap (λ (ps : List ℕ). over (noteOn (a .w .rightward) (a .asked .now)) (record { count = 0; positions = ps }) walk) (start .pre .1)
+      ∙ ap (λ (ps : List ℕ). over (noteOn (a .w .rightward) (a .wanted .now)) (record { count = 0; positions = ps }) walk) (start .pre .1)
 
   size : length (start .args .positions .now) ≡ 32
   size = ap length (start .pre .1) ∙ length-replicate {A = ℕ} 32 0
@@ -47,7 +47,7 @@ returns c =
     let a = s .args in
     let off = sym (c .before .from1 .ensures) ∙ not-true _ (c .if1 .taken) in
     ap (λ (ps : List ℕ). record { code = 34; rows = 0; positions = ps }) (s .pre .1)
-    ∙ sym (ap (λ (v : Walk). foundIn (turnedBack (a .w) v) (a .asked .now))
+    ∙ sym (ap (λ (v : Walk). foundIn (turnedBack (a .w) v) (a .wanted .now))
     (nowhere (a .w) (a .lefts .now) (a .rights .now) (a .labels .now) (a .w .slots) (a .w .first) off))
 
 returns-2 : tie.Need-returns-2
@@ -58,7 +58,7 @@ returns-2 c =
     let k = s .before .before .before in
     let a = start k .args in
     let long : length (after k) ≡ 32 = omega (arith, size k) in
-    let lost = nothing-found (noteOn (a .w .rightward) (a .asked .now)) (record { count = 0; positions = blank }) (a .w) (walk k) (a .asked .now)
+    let lost = nothing-found (noteOn (a .w .rightward) (a .wanted .now)) (record { count = 0; positions = blank }) (a .w) (walk k) (a .wanted .now)
     (came k _ (t .enum-told .given .1)) in
     ap (λ (ps : List ℕ). record { code = 34; rows = 0; positions = ps }) (z .zero-words .ensures ∙ blanked (after k) long) ∙ lost
 
@@ -71,7 +71,7 @@ module _ (t : tie.After-known-told) where
   rows = t .before .walked .given .0 .0
 
   all-noted : noted (Labels rows) (after looked)
-      ≡ over (noteOn (start looked .args .w .rightward) (start looked .args .asked .now)) (record { count = 0; positions = blank }) (walk looked)
+      ≡ over (noteOn (start looked .args .w .rightward) (start looked .args .wanted .now)) (record { count = 0; positions = blank }) (walk looked)
   all-noted = came looked _ (t .before .walked .given .1)
 
 turn-requires : tie.Need-turn-requires
@@ -80,7 +80,7 @@ turn-requires c κs =
     let k = looked t in
     let a = start k .args in
     let few = start k .pre .0 in
-    (omega (arith, size k), within (a .w .rightward) (a .asked .now) (rows t) (after k) (walk k) (all-noted t))
+    (omega (arith, size k), within (a .w .rightward) (a .wanted .now) (rows t) (after k) (walk k) (all-noted t))
 
 returns-3 : tie.Need-returns-3
 returns-3 c =
@@ -90,14 +90,14 @@ returns-3 c =
     let k = looked t in
     let a = start k .args in
     ap (λ (ps : List ℕ). record { code = 0; rows = rows t; positions = ps }) (v .turn .ensures)
-    ∙ right-found (a .w) (a .asked .now) (start k .pre .0) (rows t) (after k) (walk k) (not-true _ (n .if2 .taken)) (all-noted t)
+    ∙ right-found (a .w) (a .wanted .now) (start k .pre .0) (rows t) (after k) (walk k) (not-true _ (n .if2 .taken)) (all-noted t)
 
 returns-4 : tie.Need-returns-4
 returns-4 c =
     let t = c .before .before in
     let k = looked t in
     let a = start k .args in
-    left-found (a .w) (a .asked .now) (start k .pre .0) (rows t) (after k) (walk k) (not-false _ (c .if2 .left)) (all-noted t)
+    left-found (a .w) (a .wanted .now) (start k .pre .0) (rows t) (after k) (walk k) (not-false _ (c .if2 .left)) (all-noted t)
 
 look-requires : tie.Need-look-requires
 look-requires c κs =

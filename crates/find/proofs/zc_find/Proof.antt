@@ -27,17 +27,17 @@ module _ (r : tie.After-refusal) (next : List ℕ) where
   abbrev tables : Tables
   tables = under (r .before .control-of .result)
 
-  abbrev asked : List ℕ
-  asked = start .args .asked .now
+  abbrev wanted : List ℕ
+  wanted = start .args .wanted .now
 
   -- The control that the row is.
-  answers : (n : FindReply) → n ≡ find tables asked → n ≡ find (under (controlOf (start .args .control .now))) asked
-  answers n e = e ∙ ap (λ (c : Control). find (under c) asked) (r .before .control-of .ensures)
+  answers : (n : FindReply) → n ≡ find tables wanted → n ≡ find (under (controlOf (start .args .control .now))) wanted
+  answers n e = e ∙ ap (λ (c : Control). find (under c) wanted) (r .before .control-of .ensures)
 
 returns : tie.Need-returns
 returns c next =
     let r = c .before in
-    answers r next _ (turned-away (tables r next) (asked r next) _ (r .refusal .ensures next) (c .if1 .taken))
+    answers r next _ (turned-away (tables r next) (wanted r next) _ (r .refusal .ensures next) (c .if1 .taken))
 
 returns-2 : tie.Need-returns-2
 returns-2 c next =
@@ -47,8 +47,8 @@ returns-2 c next =
     let q = tables r next in
     let why = r .refusal .ensures next in
     answers r next _
-    (none-found (asked r next) (few q (asked r next) _ why (e .if1 .left))
-    ∙ finds q (asked r next) _ why (e .if1 .left) (entries [])
+    (none-found (wanted r next) (few q (wanted r next) _ why (e .if1 .left))
+    ∙ finds q (wanted r next) _ why (e .if1 .left) (entries [])
     (nothing q (b .begin .result) (b .begin .ensures) (sym (c .before .none-on .ensures) ∙ c .if2 .taken)))
 
 returns-3 : tie.Need-returns-3
@@ -60,14 +60,14 @@ returns-3 c next =
     let r = e .before in
     let q = tables r next in
     answers r next _
-    (s .search .ensures ∙ finds q (asked r next) _ (r .refusal .ensures next) (e .if1 .left) _
+    (s .search .ensures ∙ finds q (wanted r next) _ (r .refusal .ensures next) (e .if1 .left) _
     (on-way q (b .begin .result) (b .begin .ensures) (sym (f .before .none-on .ensures) ∙ f .if2 .left)))
 
 search-requires : tie.Need-search-requires
 search-requires c κs =
     let e = c .before .before .before .before in
     let r = e .before in
-    (few (tables r []) (asked r []) _ (r .refusal .ensures []) (e .if1 .left), refl)
+    (few (tables r []) (wanted r []) _ (r .refusal .ensures []) (e .if1 .left), refl)
 
 pub zc-find-spec : {M : Type 1} → statement M
 zc-find-spec =

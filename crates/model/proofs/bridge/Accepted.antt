@@ -8,7 +8,7 @@ use borrow.Author.Tests.{eqb-false, eqb-true, leb-true, ltb-true, not-false}
 use Rattle.model.specs.{Places.wordFound, Lists.All}
 use Rattle.model.specs.declared.Asked.{Asked}
 use Rattle.model.specs.Refusals.{Rule, among, fits, late, startRules, startRefusal, namedPush, pooledPush, nothingAsked, popRefusal}
-use Rattle.model.specs.Refusals.{pushRefusal, putRefusal, stepRefusal, stepRules, stepSound, stepTests}
+use Rattle.model.specs.Refusals.{pushRefusal, pushPooledRefusal, stepRefusal, stepRules, stepSound, stepTests}
 use Rattle.model.specs.Tables.{Queue, isPooled, marked, recordAt}
 use Rattle.model.proofs.tests.Rules.{cleared, tests}
 use Rattle.model.proofs.tests.Truth.{and-true}
@@ -85,8 +85,9 @@ module _ (q : Queue) (t : ℕ) where
         named = right-push side a e;
       }
 
-  pub put-accepted : (side : ℕ) → putRefusal (q .tables) (among q t) (recordAt q t) side ≡ 0 → Starting side × (isPooled (q .tables .control) ≡ true)
-  put-accepted side e = let a = pooledPush (q .tables) in (start-accepted side a e, not-false _ (right-push side a e))
+  pub push-pooled-accepted : (side : ℕ) → pushPooledRefusal (q .tables) (among q t) (recordAt q t) side ≡ 0
+      → Starting side × (isPooled (q .tables .control) ≡ true)
+  push-pooled-accepted side e = let a = pooledPush (q .tables) in (start-accepted side a e, not-false _ (right-push side a e))
 
   pub pop-accepted : (side : ℕ) → popRefusal (q .tables) (among q t) (recordAt q t) side ≡ 0 → Starting side
   pop-accepted side e = start-accepted side nothingAsked e

@@ -23,8 +23,8 @@ both r = let a = anchorOf (r .seen) in
 abbrev pub settled : Call → ℕ
 settled r = let a = anchorOf (r .seen) in packAnchor (record { tag = a .tag + 1; status = 0; left = a .left; right = a .right })
 
-abbrev pub named : Call → ℕ → ℕ
-named r tag = packLink (record { tag = tag; slot = endSeen r })
+abbrev pub endLink : Call → ℕ → ℕ
+endLink r tag = packLink (record { tag = tag; slot = endSeen r })
 
 module _ (c : Control) (w : ℕ) (P : Touch → Call → Type 0) where
   abbrev Holds : Move → Type 0
@@ -40,8 +40,8 @@ module _ (c : Control) (w : ℕ) (P : Touch → Call → Type 0) where
     pub four-push : P (setAnchor (new4 r)) (withSeen r (new4 r) 1)
     pub four-pop : P (setAnchor (new4 r)) r
     pub ten : P (setAnchor (settled r)) r
-    pub three : P (setLink (linkSide r) (row r) (named r (linkOf w .tag))) r
-    pub nine : P (setLink (linkSide r) (row r) (named r (linkOf (r .link) .tag + 1))) r
+    pub three : P (setLink (linkSide r) (row r) (endLink r (linkOf w .tag))) r
+    pub nine : P (setLink (linkSide r) (row r) (endLink r (linkOf (r .link) .tag + 1))) r
     pub eleven : r .place ≡ 11 → P (clearMark (row r)) r
     pub keeps : r .place ≡ 11 → P (clearMark (row r)) (withOwn r (row r) w)
     pub head : 11 ≤ r .place → P nothing (withLink r (c .head))

@@ -19,7 +19,7 @@ use Rattle.model.proofs.machine.Book as B
 use Rattle.model.proofs.machine.Machine as M
 use Rattle.model.proofs.machine.Machine.{upd}
 use Rattle.model.proofs.invariant.{Invariant.Inv, Tasks.Task}
-use Rattle.model.proofs.places.NoSlot.{Lacks, act-lacks}
+use Rattle.model.proofs.places.NoFreeSlot.{Lacks, act-lacks}
 use Rattle.model.proofs.places.Start.{ask-inv, pop-inv, push-inv}
 use Rattle.model.proofs.places.Step.{step-inv, step-stands}
 use Rattle.model.proofs.places.Shown.{Stands}
@@ -143,7 +143,7 @@ module _ (q : Queue) (b : B.Book) (i : Inv (record { state = stateOf q; book = b
     step-pooled = ap (λ (n : ℕ). eqb n 1) (touched-pooled (m .touch) g)
 
     -- Who answers *no slot* is a push in a pooled queue whose head names none.
-    pub step-lacks : B.isNoSlot (answerSeen reply) ≡ true → (view g .pooled ≡ true) × (view g .head .slot ≡ 0) × (b .calls t .kind ≡ M.push)
+    pub step-lacks : B.isNoFreeSlot (answerSeen reply) ≡ true → (view g .pooled ≡ true) × (view g .head .slot ≡ 0) × (b .calls t .kind ≡ M.push)
     unfolding stateOf recOf
     step-lacks =
         let w = subst (λ (x : M.Rec). Task (x .place) (view g) (i .owner) t x (b .calls t)) (task-of q t (s .lies .known)) (i .tasks t) in
@@ -151,7 +151,7 @@ module _ (q : Queue) (b : B.Book) (i : Inv (record { state = stateOf q; book = b
 
     -- A push that has its effect stands at the end of its side.
     pub step-told : let k = B.granted (touchSeen (m .touch)) (b .calls t) in
-        B.effect (view g .anchor) (view (stepped .tables) .anchor) (answerSeen reply) ≡ true → B.isNoSlot (answerSeen reply) ≡ false
+        B.effect (view g .anchor) (view (stepped .tables) .anchor) (answerSeen reply) ≡ true → B.isNoFreeSlot (answerSeen reply) ≡ false
         → k .kind ≡ M.push
         → M.tip (view (stepped .tables) .anchor) (k .side) ≡ k .slot
     unfolding stateOf recOf
@@ -165,15 +165,15 @@ module _ (q : Queue) (b : B.Book) (i : Inv (record { state = stateOf q; book = b
           book = b;
         }) i t busy) in
         let is = ap (λ (z : M.State). z .shared .anchor) state-is in
-        go (m .touch) (subst (λ (a : M.Anchor). B.effect (view g .anchor) a (answerSeen reply) ≡ true → B.isNoSlot (answerSeen reply) ≡ false
+        go (m .touch) (subst (λ (a : M.Anchor). B.effect (view g .anchor) a (answerSeen reply) ≡ true → B.isNoFreeSlot (answerSeen reply) ≡ false
         → b .calls t .kind ≡ M.push
         → M.tip a (b .calls t .side) ≡ B.granted (touchSeen (m .touch)) (b .calls t) .slot) (sym is) stands) e n k
       where
         go : (w : Touch) → (B.effect (view g .anchor) (view (stepped .tables) .anchor) (answerSeen reply) ≡ true
-            → B.isNoSlot (answerSeen reply) ≡ false → b .calls t .kind ≡ M.push
+            → B.isNoFreeSlot (answerSeen reply) ≡ false → b .calls t .kind ≡ M.push
             → M.tip (view (stepped .tables) .anchor) (b .calls t .side) ≡ B.granted (touchSeen w) (b .calls t) .slot)
             → let k = B.granted (touchSeen w) (b .calls t) in B.effect (view g .anchor) (view (stepped .tables) .anchor) (answerSeen reply) ≡ true
-            → B.isNoSlot (answerSeen reply) ≡ false → k .kind ≡ M.push
+            → B.isNoFreeSlot (answerSeen reply) ≡ false → k .kind ≡ M.push
             → M.tip (view (stepped .tables) .anchor) (k .side) ≡ k .slot
         go nothing f = f
         go (setAnchor a) f = f

@@ -5,7 +5,7 @@ use native.Mathlib.Omega.{arith}
 use lib.Dec.{eqb}
 use borrow.Author.Tests.{eqb-true}
 use Rattle.word.specs.Link.{linkOf, packLink, spareOf}
-use Rattle.model.specs.Places.{at11, at12, at13, at14, at15, at16, at17, linkSide, move, row, sideOf, noneLeft}
+use Rattle.model.specs.Places.{at11, at12, at13, at14, at15, at16, at17, linkSide, move, row, sideOf, stackEmpty}
 use Rattle.model.specs.Route.{answer, goes, onward, popRoute, pushRoute, route}
 use Rattle.model.specs.Tables.{Tables, atPlace, isPooled, ofKind}
 use Rattle.model.specs.declared.Call.{Call}
@@ -31,7 +31,7 @@ module _ (q : Tables) (r : Call) where
 
   pub place12-push : Seen q (at 12 0)
   unfolding recOf view move at12 row linkSide sideOf onward route pushRoute popRoute goes answer
-  place12-push = split (noneLeft head) (λ e. rw e) (λ e. rw e)
+  place12-push = split (stackEmpty head) (λ e. rw e) (λ e. rw e)
 
   pub place13-push : Seen q (at 13 0)
   unfolding recOf view move at13 row linkSide sideOf onward route pushRoute popRoute goes answer

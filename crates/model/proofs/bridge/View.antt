@@ -11,7 +11,7 @@ use Rattle.model.specs.declared.Answer as answer
 use Rattle.model.specs.declared.Call.{Call}
 use Rattle.model.proofs.machine.Machine.{Anchor, Answer, Kind, Link, Place, Rec, Shared, State, Status, Touch, at1, at10, at11, at12}
 use Rattle.model.proofs.machine.Machine.{at13, at14, at15, at16, at17, at2, at3, at4, at5, at6, at7, at8, at9, blank, clear, draw}
-use Rattle.model.proofs.machine.Machine.{empty, give, idle, noSlot, none, pop, popped, push, pushed, pushing, putAnchor, putHead}
+use Rattle.model.proofs.machine.Machine.{empty, give, idle, noFreeSlot, none, pop, popped, push, pushed, pushing, putAnchor, putHead}
 use Rattle.model.proofs.machine.Machine.{putLink, putNext, running, stable, take}
 
 abbrev pub statusOf : ℕ → Status
@@ -71,7 +71,7 @@ answerSeen (answer.the-variants.Running p) = running
 answerSeen answer.the-variants.Pushed = pushed
 answerSeen answer.the-variants.Empty = empty
 answerSeen (answer.the-variants.Popped e) = popped (e .slot) (e .label)
-answerSeen answer.the-variants.NoFreeSlot = noSlot
+answerSeen answer.the-variants.NoFreeSlot = noFreeSlot
 
 abbrev pub touchSeen : place.Touch → Touch
 touchSeen place.nothing = none

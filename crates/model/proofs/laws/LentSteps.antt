@@ -11,7 +11,7 @@ use Rattle.model.specs.Tables.{Queue, taskAt, unused}
 use Rattle.model.specs.Refusals.{Rule, alone, first, stepRefusal, stepRules}
 use Rattle.model.specs.Calls.{Acted, Done, act, finish, step, stepLent}
 use Rattle.model.specs.History.{Event, Request, final, run}
-use Rattle.model.specs.LentSteps.{LentKnown, LentStand, Lendable, Turn, asked, finalTurns, lent, requestOf, runTurns, takeTurn}
+use Rattle.model.specs.LentSteps.{LentKnown, LentStand, Lendable, Turn, requested, finalTurns, lent, requestOf, runTurns, takeTurn}
 use Rattle.model.proofs.tests.Truth.{by-test, not-both}
 use Rattle.model.proofs.laws.{Lengths.act-lengths, Sizes.act-tasks}
 use Rattle.model.proofs.laws.LentRecord.{lent-record, withRow}
@@ -24,7 +24,7 @@ own-row q t = λ i. record { tables = q .tables; records = set-getD (q .records)
 turn-is : (q : Queue) (u : Turn) → q .tables .control .tasks ≤ length (q .records) → Lendable (q .tables .control .tasks) u
     → takeTurn q u ≡ act q (requestOf u .task) (requestOf u .op)
 unfolding takeTurn
-turn-is q (asked o) long h = refl
+turn-is q (requested o) long h = refl
 turn-is q (lent t) long h = sym (lent-record q t (taskAt q t) h long) ∙ ap (λ (p : Queue). act p t Step) (own-row q t)
 
 abbrev shown : Queue → Request → Done → Event

@@ -21,7 +21,7 @@ use Rattle.model.specs.declared.Opening.the-variants as opening
 use Rattle.model.specs.declared.Op.the-variants.{Push, Pop, PushPooled, Step}
 use Rattle.model.specs.Tables.{Tables, Queue, asking, started, taskAt, unused, withAnchor, withCall, withTaken}
 use Rattle.model.specs.Refusals.{openRefusal, Lent, among, alone, fits, startRefusal, namedPush, pooledPush, nothingAsked}
-use Rattle.model.specs.Calls.{opened, OpenDone, openAs, Acted, decide, pushStart, putStart, popStart, actOn, back, act, stepLent}
+use Rattle.model.specs.Calls.{opened, OpenDone, openAs, Acted, decide, pushStart, pushPooledStart, popStart, actOn, back, act, stepLent}
 use Rattle.model.specs.Mirror.{mirrorSide, mirrorStatus, mirrorWord, mirrorControl, mirrorTables, mirrorRecord, mirrorTask, mirrorQueue, mirrorOp}
 use Rattle.model.specs.Mirror.{mirrorActed, mirrorOpened, mirrorDone, Mirrored}
 use Rattle.model.proofs.laws.Mirror.{Packed.mirror-pack, Twice.mirror-twice}
@@ -44,7 +44,7 @@ start-mirror q t p r side first a call mirrored e =
     ∙ decide-mirror (startRefusal (q .control) (fits q) p (r .call) side a) q r (starts t r first call) (done mirrored) (λ _. ap done e)
 
 act-on-mirror : (q : Tables) (p : Lent) (r : Record) (o : Op) → actOn (mirrorTables q) p (mirrorTask r) (mirrorOp o) ≡ mirrorActed (actOn q p r o)
-unfolding actOn pushStart putStart popStart mirrorRecord mirrorWord mirrorStatus
+unfolding actOn pushStart pushPooledStart popStart mirrorRecord mirrorWord mirrorStatus
 act-on-mirror q p r (Push side slot label) =
     start-mirror q (withTaken q slot label) p r side 1 (namedPush q slot) (started 0 side slot label) (started 0 (mirrorSide side) slot label) refl
 act-on-mirror q p r (Pop side) = start-mirror q q p r side 1 nothingAsked (started 1 side 0 0) (started 1 (mirrorSide side) 0 0) refl

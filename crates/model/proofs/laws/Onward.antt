@@ -13,7 +13,7 @@ use Rattle.model.specs.declared.{Control.Control, Call.Call}
 use Rattle.model.specs.Tables.{atPlace, isPooled}
 use Rattle.model.specs.{Sound.recordSound, Sides.isEmpty}
 use Rattle.model.specs.Places.{Move, endSeen, reading, at1, at2, at3, at4, at5, at6, at7, at9, at10, at11, at12, at13, at14, at15, at16, at17, move}
-use Rattle.model.specs.Places.{noneLeft}
+use Rattle.model.specs.Places.{stackEmpty}
 use Rattle.model.specs.Route.{leave, pushed, pushRoute, popRoute, route, onward}
 use Rattle.model.proofs.tests.ByPlace.{by-place}
 use Rattle.model.proofs.tests.Truth.{either, by-test}
@@ -97,7 +97,7 @@ module _ (c : Control) (r : Call) (w : ℕ) (kind : leb (r .kind) 1 ≡ true) wh
       (λ _ _. either (K 9) (eqb w (r .link)) (from (entry 9 0 refl refl)) (from (entry 9 1 refl refl)))
       (λ _ _. either (K 10) (eqb (c .anchor) (r .seen)) (from (entry 10 0 refl refl)) (from (entry 10 1 refl refl)))
       (λ e _. either (K 11) (isPooled c) (from (pops 11 1 (e refl) refl)) (from (pops 11 0 (e refl) refl)))
-      (λ _ e. from (either (Leads 12 (r .kind)) (noneLeft (c .head)) (pushes 12 0 (e refl) refl) (pushes 12 1 (e refl) refl)))
+      (λ _ e. from (either (Leads 12 (r .kind)) (stackEmpty (c .head)) (pushes 12 0 (e refl) refl) (pushes 12 1 (e refl) refl)))
       (λ _ e. from (pushes 13 0 (e refl) refl))
       (λ _ e. either (K 14) (eqb (c .head) (r .link)) (from (pushes 14 0 (e refl) refl)) (from (pushes 14 1 (e refl) refl)))
       (λ e _. from (pops 15 0 (e refl) refl))

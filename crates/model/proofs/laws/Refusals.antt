@@ -15,7 +15,7 @@ use Rattle.model.specs.declared.Op.the-variants.{Push, Pop, PushPooled, 
 use Rattle.model.specs.Tables.{Tables, Queue, unused, taskAt}
 use Rattle.model.specs.Refusals.{Rule, rule, first, openRules, openRefusal, Lent, among, alone, fits, startRules, startRefusal}
 use Rattle.model.specs.Refusals.{namedPush, pooledPush, nothingAsked, stepRules, stepRefusal}
-use Rattle.model.specs.Calls.{opened, OpenDone, openAs, Acted, decide, pushStart, putStart, popStart, finish, step, actOn, back, act, stepLent}
+use Rattle.model.specs.Calls.{opened, OpenDone, openAs, Acted, decide, pushStart, pushPooledStart, popStart, finish, step, actOn, back, act, stepLent}
 use Rattle.model.proofs.tests.{Rules.numbered, Truth.and-true}
 use Rattle.model.specs.Lists.{All}
 
@@ -64,7 +64,7 @@ rulesOf q p r (PushPooled side label) = startRules (q .control) (fits q) p r sid
 rulesOf q p r Step = stepRules q p r
 
 pub decided : (q : Tables) (p : Lent) (r : Record) (o : Op) → Decided (rulesOf q p (r .call) o) q r (actOn q p r o)
-unfolding actOn pushStart putStart popStart step finish startRefusal stepRefusal
+unfolding actOn pushStart pushPooledStart popStart step finish startRefusal stepRefusal
 decided q p r (Push side slot label) = decided-by (rulesOf q p (r .call) (Push side slot label)) refl q r _ (Running 1) refl
 decided q p r (Pop side) = decided-by (rulesOf q p (r .call) (Pop side)) refl q r _ (Running 1) refl
 decided q p r (PushPooled side label) = decided-by (rulesOf q p (r .call) (PushPooled side label)) refl q r _ (Running 12) refl

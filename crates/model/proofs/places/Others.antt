@@ -51,7 +51,7 @@ module _ (u : ℕ) (s : Shared) (h : ℕ → Owner) (s′ : Shared) (h′ : ℕ 
 
     keep-tries : {f : Bool} {k : Kind} {d : Bool} {x l : ℕ} {c : BookCall} → Tries (s .label) (s .anchor) h u f k d x l a c
         → Tries (s′ .label) (s′ .anchor) h′ u f k d x l a c
-    keep-tries w = record { early = w .early; before = keep-before (w .before); read = keep-read (w .read) }
+    keep-tries w = record { unfinished = w .unfinished; before = keep-before (w .before); read = keep-read (w .read) }
 
     keep-helps : {f : Bool} {k : Kind} {d : Bool} {x l : ℕ} {c : BookCall} → Helps (s .label) (s .anchor) h u f k d x l a c
         → Helps (s′ .label) (s′ .anchor) h′ u f k d x l a c
@@ -195,7 +195,7 @@ module _ (u : ℕ) (s : Shared) (h : ℕ → Owner) (s′ : Shared) (h′ : ℕ 
   keep q all (draw p) r c w = (
     y .stack .pooled ∙ w .0,
     record {
-      early = w .1 .early;
+      unfinished = w .1 .unfinished;
       kind = w .1 .kind;
       agrees = w .1 .agrees;
       none = w .1 .none;

@@ -35,7 +35,7 @@ module _ (t : ℕ) (s : Shared) (h : ℕ → Owner) (q : List Entry) (c : BookCa
 
   tries-now : r .finishing ≡ false → Before (s .label) h t (r .kind) (r .side) (r .own) (r .label) c
       → Tries (s .label) (s .anchor) h t (r .finishing) (r .kind) (r .side) (r .own) (r .label) (s .anchor) c
-  tries-now e b = record { early = e; before = b; read = read-now (s .anchor) }
+  tries-now e b = record { unfinished = e; before = b; read = read-now (s .anchor) }
 
   helps-now : r .finishing ≡ false → Before (s .label) h t (r .kind) (r .side) (r .own) (r .label) c → isStable (s .anchor .status) ≡ false
       → Shown t s h q c (runs none (reads r (s .anchor) at5))

@@ -22,7 +22,7 @@ use Rattle.model.proofs.places.Taking.{end-entry, not-in, pop-good, pus
 
 module _ (t : ℕ) (s : Shared) (h : ℕ → Owner) (q : List Entry) (c : BookCall) (all : Intact s h q) (r : Rec) where
   pub place4 : (k : Kind) → r .kind ≡ k → Task at4 s h t r c → Shown t s h q c (four k s r)
-  place4 push k w = by-test (Shown t s h q c) (same (r .read) (s .anchor)) ok (λ e. place1 t s h q c all r push k (w .0 .early, w .0 .before))
+  place4 push k w = by-test (Shown t s h q c) (same (r .read) (s .anchor)) ok (λ e. place1 t s h q c all r push k (w .0 .unfinished, w .0 .before))
     where
       a : Anchor
       a = aimed (r .read) (r .side) (r .own) (pushing (r .side))
@@ -49,7 +49,7 @@ module _ (t : ℕ) (s : Shared) (h : ℕ → Owner) (q : List Entry) (c : BookCa
             read = read-now a;
             status = aimed-way (r .read) (r .side) (r .own);
           }) refl
-  place4 pop k w = by-test (Shown t s h q c) (same (r .read) (s .anchor)) ok (λ e. place1 t s h q c all r pop k (w .0 .early, w .0 .before))
+  place4 pop k w = by-test (Shown t s h q c) (same (r .read) (s .anchor)) ok (λ e. place1 t s h q c all r pop k (w .0 .unfinished, w .0 .before))
     where
       a : Anchor
       a = aimed (r .read) (r .side) (r .near) (r .read .status)

@@ -35,7 +35,7 @@ module _ (t : ℕ) (s : Shared) (h : ℕ → Owner) (q : List Entry) (c : BookCa
   pub place8 : Task at8 s h t r c → Shown t s h q c (act at8 s r)
   place8 w = by-test (Shown t s h q c) (same (r .read) (s .anchor))
       (λ e. let p = same-true (r .read) (s .anchor) e in
-      let ninth : At9 s (r .read) (r .near) (r .link) = record
+      let live9 : At9 s (r .read) (r .near) (r .link) = record
       { other = w .1 .other; chance = inl (record { current = p; near = w .1 .near p; fresh = w .1 .fresh p }) } in
-      still refl all (w .0, ninth))
+      still refl all (w .0, live9))
       (λ e. away (w .0))

@@ -59,7 +59,7 @@ module _ (p : Both) (i : Inv p) where
         tasks = tasks-upd s h (p .state .task) (p .book .calls) t (asking d l) (bookedCall push d 0 l) (λ u n. i .tasks u) (
           e,
           record {
-            early = refl;
+            unfinished = refl;
             kind = refl;
             agrees = record { kind = refl; side = refl; slot = refl; label = refl };
             none = refl;

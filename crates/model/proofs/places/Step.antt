@@ -8,7 +8,8 @@ use Rattle.model.proofs.tests.Truth.{decide-eq, not-both}
 use Rattle.model.proofs.machine.Book.{Both, BookCall, Honoured, Noted, closes, granted, noCall, noted, stepped}
 use Rattle.model.proofs.machine.Laws.{upd-other, upd-same}
 use Rattle.model.proofs.machine.Machine.{Answer, Place, Rec, Shared, Touch, act, apply, at1, at10, at11, at2, at3, at4, at5, at6, at7, at8}
-use Rattle.model.proofs.machine.Machine.{at9, blank, clear, draw, empty, give, idle, isGiving, isIdle, moved, noSlot, none, popped, pushed, putAnchor}
+use Rattle.model.proofs.machine.Machine.{at9, blank, clear, draw, empty, give, idle, isGiving, isIdle, moved, noFreeSlot, none, popped, pushed}
+use Rattle.model.proofs.machine.Machine.{putAnchor}
 use Rattle.model.proofs.machine.Machine.{putHead, putLink, putNext, running, take, upd}
 use Rattle.model.proofs.invariant.{Invariant.Inv, Rely.Rely}
 use Rattle.model.proofs.invariant.Owners.{Owner, Intact, shows}
@@ -94,7 +95,7 @@ module _ (p : Both) (i : Inv p) where
   }
   absorb t s r h n pushed a y f k = answer t s r h n pushed a y f k
   absorb t s r h n empty a y f k = answer t s r h n empty a y f k
-  absorb t s r h n noSlot a y f k = answer t s r h n noSlot a y f k
+  absorb t s r h n noFreeSlot a y f k = answer t s r h n noFreeSlot a y f k
   absorb t s r h n (popped x l) a y f k = answer t s r h n (popped x l) a y f k
 
   pub step-inv : (t : ℕ) → isIdle (p .state .task t .place) ≡ false

@@ -63,20 +63,20 @@ module _ (s : Shared) (r : Rec) where
   asks e k = subst (λ z. draws (s .pooled) z ≡ true) (sym k) e
 
   -- From the change of a pop to 11.
-  eleventh : cond (s .pooled) 4 1 < c pop
-  eleventh = drop (s .pooled) (λ _. omega arith) (λ _. omega arith)
+  pop-to-11 : cond (s .pooled) 4 1 < c pop
+  pop-to-11 = drop (s .pooled) (λ _. omega arith) (λ _. omega arith)
 
   module _ (h : ℕ → Owner) (t : ℕ) (q : List Entry) (b : BookCall) (all : Intact s h q) where
     alone2 : (k : Kind) → r .finishing ≡ false → Own k at2 (two k s r)
     alone2 push f = by-test (Own push at2) now (λ e. record { less = λ z. absurd (pushed-running z) })
         (λ e. fall2-failed _ _ _ (gap push) s r h q all f e push)
-    alone2 pop f = by-test (Own pop at2) now (λ e. record { less = λ _. above (c pop) _ eleventh })
+    alone2 pop f = by-test (Own pop at2) now (λ e. record { less = λ _. above (c pop) _ pop-to-11 })
         (λ e. fall2-failed _ _ _ (gap pop) s r h q all f e pop)
 
     alone4 : (k : Kind) → r .finishing ≡ false → Own k at4 (four k s r)
     alone4 push f = by-test (Own push at4) now (λ e. record { less = λ _. above 7 6 (omega arith) })
         (λ e. fall4-failed _ _ _ (gap push) s r h q all f e push)
-    alone4 pop f = by-test (Own pop at4) now (λ e. record { less = λ _. above (c pop) _ eleventh })
+    alone4 pop f = by-test (Own pop at4) now (λ e. record { less = λ _. above (c pop) _ pop-to-11 })
         (λ e. fall4-failed _ _ _ (gap pop) s r h q all f e pop)
 
     alone9 : (k : Kind) → Task at9 s h t r b → Own k at9 (act at9 s r)
@@ -92,9 +92,9 @@ module _ (s : Shared) (r : Rec) where
     pub alone-falls : (p : Place) → isIdle p ≡ false → Task p s h t r b → Own (r .kind) p (act p s r)
     alone-falls idle i w = absurd (not-both refl i)
     alone-falls at1 i w = fall1 _ _ _ (gap (r .kind)) s r h q all (w .0) (r .kind)
-    alone-falls at2 i w = alone2 (r .kind) (w .0 .early)
+    alone-falls at2 i w = alone2 (r .kind) (w .0 .unfinished)
     alone-falls at3 i w = fall3 _ _ _ (gap (r .kind)) s r (r .kind)
-    alone-falls at4 i w = alone4 (r .kind) (w .0 .early)
+    alone-falls at4 i w = alone4 (r .kind) (w .0 .unfinished)
     alone-falls at5 i w = fall5 _ _ _ (gap (r .kind)) s r
     alone-falls at6 i w = fall6 _ _ _ (gap (r .kind)) s r
     alone-falls at7 i w = fall7 _ _ _ (gap (r .kind)) s r

@@ -32,7 +32,7 @@ use Rattle.model.proofs.unsound.StepSound.{h, own-task, seen, stepping}
 use Rattle.model.proofs.progress.Alone.{alone, alone-falls, alone-within, draws, spend}
 use Rattle.model.proofs.progress.Falls.{Falls}
 use Rattle.model.proofs.progress.Reached.{Reached, act-reached}
-use Rattle.model.proofs.progress.Taken.{Roomy, lies, taken}
+use Rattle.model.proofs.progress.NotRefused.{Roomy, lies, not-refused}
 
 -- What task t owes, stepped alone as a call of kind k.
 abbrev pub aloneOf : Bool → M.Kind → ℕ → M.State → ℕ
@@ -123,7 +123,7 @@ module _ (n : ℕ) (q : Queue) (l : Ledger) (g : Matched n q l) (f : Safe q) (po
         kind = λ e. ap (λ (x : Call). x .kind) own ∙ same-kind (still e);
         less = nearer;
       })
-      (λ e. absurd (not-both (eq-eqb _ _ (taken n q l g f pooled tasks y t b)) e))
+      (λ e. absurd (not-both (eq-eqb _ _ (not-refused n q l g f pooled tasks y t b)) e))
 
 module _ (pooled : Bool) (tasks : ℕ) where
   -- Within j steps, where it owes no more.

@@ -10,7 +10,7 @@ use Rattle.model.proofs.ledger.{EveryOperation.act-good, Matched.Matche
 use Rattle.model.proofs.ledger.Opened.{nobody, open-good, some-slots}
 use Rattle.model.proofs.unsound.{Runs.act-safe, Safe.Safe}
 use Rattle.model.proofs.Never34.{open-safe}
-use Rattle.model.proofs.progress.Taken.{Roomy, act-roomy, open-roomy}
+use Rattle.model.proofs.progress.NotRefused.{Roomy, act-roomy, open-roomy}
 
 pub record Reached (pooled : Bool) (tasks : ℕ) (q : Queue) : Type 0 where
   pub position : ℕ

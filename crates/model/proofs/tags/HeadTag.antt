@@ -17,7 +17,7 @@ use Rattle.model.proofs.tags.Sum.{total, total-at}
 
 -- A step raises the head's tag and the task's share by no more than Anchor's tag.
 pub record HeadBalanced (s : Shared) (r : Rec) (m : Move) : Type 0 where
-  pub even : apply s (m .touch) .head .tag + share (m .rec) + s .anchor .tag ≤ s .head .tag + share r + apply s (m .touch) .anchor .tag
+  pub balanced : apply s (m .touch) .head .tag + share (m .rec) + s .anchor .tag ≤ s .head .tag + share r + apply s (m .touch) .anchor .tag
 
 module _ (s : Shared) (h : ℕ → Owner) (t : ℕ) (r : Rec) (c : BookCall) where
   part : Phase → ℕ
@@ -49,30 +49,30 @@ module _ (s : Shared) (h : ℕ → Owner) (t : ℕ) (r : Rec) (c : BookCall) whe
   abbrev Stands : Place → Type 0
   Stands p = (r .place ≡ p) × Task p s h t r c
 
-  abbrev Evens : Move → Type 0
-  Evens m = apply s (m .touch) .head .tag + share (m .rec) + s .anchor .tag ≤ s .head .tag + share r + apply s (m .touch) .anchor .tag
+  abbrev TagsBalanced : Move → Type 0
+  TagsBalanced m = apply s (m .touch) .head .tag + share (m .rec) + s .anchor .tag ≤ s .head .tag + share r + apply s (m .touch) .anchor .tag
 
   pub fair : (p : Place) → r .place ≡ p → Task p s h t r c → HeadBalanced s r (act p s r)
   unfolding part
   fair p e w = record {
-    even = by-step s r Stands Evens (record {
+    balanced = by-step s r Stands TagsBalanced (record {
       still = λ _. omega arith;
       quiet = λ p q a n w z e _ _. omega (arith, share-at p (z .0), ap part e);
       empty = λ p z i k. omega (arith, pops p (z .0) i k);
       helped = λ p z i f. omega (arith, ends p (z .0) i f);
-      two-push = λ z k y. omega (arith, tag-of y, claimed at2 push (z .0) refl (z .1 .0 .early) k);
-      two-pop = λ z k y. omega (arith, tag-of y, claimed at2 pop (z .0) refl (z .1 .0 .early) k);
+      two-push = λ z k y. omega (arith, tag-of y, claimed at2 push (z .0) refl (z .1 .0 .unfinished) k);
+      two-pop = λ z k y. omega (arith, tag-of y, claimed at2 pop (z .0) refl (z .1 .0 .unfinished) k);
       three = λ z _. omega (arith, share-at at3 (z .0));
       four-push = λ z k y. omega (
         arith,
         tag-of y,
-        claimed at4 push (z .0) refl (z .1 .0 .early) k,
+        claimed at4 push (z .0) refl (z .1 .0 .unfinished) k,
         aimed-tag (r .read) (r .side) (r .own) (pushing (r .side)),
       );
       four-pop = λ z k y. omega (
         arith,
         tag-of y,
-        claimed at4 pop (z .0) refl (z .1 .0 .early) k,
+        claimed at4 pop (z .0) refl (z .1 .0 .unfinished) k,
         aimed-tag (r .read) (r .side) (r .near) (r .read .status),
       );
       nine = λ z _. omega (arith, share-at at9 (z .0));
@@ -83,7 +83,7 @@ module _ (s : Shared) (h : ℕ → Owner) (t : ℕ) (r : Rec) (c : BookCall) whe
       lacks = λ z _. omega (arith, share-at (draw at12) (z .0));
       -- At 14 a push has its slot now, at 17 a pop has none any more.
       draws = λ z y. let own : cond (r .finishing) 1 (claims (r .kind)) ≡ 0 =
-          ap (λ (f : Bool). cond f 1 (claims (r .kind))) (z .1 .1 .early) ∙ ap claims (z .1 .1 .kind) in
+          ap (λ (f : Bool). cond f 1 (claims (r .kind))) (z .1 .1 .unfinished) ∙ ap claims (z .1 .1 .kind) in
           omega (arith, head-of y, share-at (draw at14) (z .0));
       links = λ z. omega (arith, share-at (give at16) (z .0));
       gives = λ z y. omega (arith, head-of y, share-at (give at17) (z .0));
@@ -94,7 +94,7 @@ module _ (s : Shared) (h : ℕ → Owner) (t : ℕ) (r : Rec) (c : BookCall) whe
 pub head-step : (s : Shared) (f : ℕ → Rec) (n t : ℕ) → t < n → (m : Move) → HeadBalanced s (f t) m
     → s .head .tag + total (λ u. share (f u)) n ≤ s .anchor .tag + n
     → apply s (m .touch) .head .tag + total (λ u. share (upd f t (m .rec) u)) n ≤ apply s (m .touch) .anchor .tag + n
-head-step s f n t lt m e b = omega (arith, e .even, total-at share f t (m .rec) n lt)
+head-step s f n t lt m e b = omega (arith, e .balanced, total-at share f t (m .rec) n lt)
 
 -- A start: an idle task's share is 1, a new call's no more.
 pub head-start : (f : ℕ → Rec) (n t : ℕ) → t < n → (r : Rec) → f t .place ≡ idle → share r ≤ 1 → (head tag : ℕ)

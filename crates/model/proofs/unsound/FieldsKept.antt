@@ -69,10 +69,10 @@ module _ (t : ℕ) (s : Shared) (h : ℕ → Owner) (q : List Entry) (c : BookCa
       helped = λ _ _ _ _. kept refl tt;
       two-push = λ _ _ _. kept refl tt;
       two-pop = λ z k _. let v = subst (λ k. Two k (r .read)) k (z .1 .1) in
-          kept refl (k, z .1 .0 .early, both-tip (r .read) (r .side) (v .0) (v .1), z .2 .kept .2 k);
+          kept refl (k, z .1 .0 .unfinished, both-tip (r .read) (r .side) (v .0) (v .1), z .2 .kept .2 k);
       three = λ z _. kept refl (z .2 .kept);
       four-push = λ z k _. kept refl (λ _. k, z .2 .kept .1, z .2 .kept .2);
-      four-pop = λ z k e. kept refl (k, z .1 .0 .early, end4 (subst (λ k. Three k (r .read)) k (z .1 .1)) e, z .2 .kept .2 k);
+      four-pop = λ z k e. kept refl (k, z .1 .0 .unfinished, end4 (subst (λ k. Three k (r .read)) k (z .1 .1)) e, z .2 .kept .2 k);
       nine = λ z _. kept refl (z .2 .kept);
       ten = λ z _ _. kept refl (z .2 .kept);
       ten-last = λ _ _ _. kept refl tt;

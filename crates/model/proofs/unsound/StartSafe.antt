@@ -85,9 +85,9 @@ pop-begins pooled slots side hs = record {
   share = omega arith;
 }
 
-pub put-begins : (pooled : Bool) (slots side y : ℕ) → pooled ≡ true → side ≤ 1 → Begins pooled slots (asking side y)
+pub push-pooled-begins : (pooled : Bool) (slots side y : ℕ) → pooled ≡ true → side ≤ 1 → Begins pooled slots (asking side y)
 unfolding recOf
-put-begins pooled slots side y p hs = record {
+push-pooled-begins pooled slots side y p hs = record {
   fine = asking-fine pooled slots side y p hs;
   extra = record { kept = refl; near = λ b. absurd (not-both b refl) };
   share = omega arith;

@@ -31,13 +31,13 @@ use Rattle.model.proofs.bridge.Operations.{step-seen-keeps, task-of}
 use Rattle.model.proofs.bridge.Touches.{beyond, row-fine}
 use Rattle.model.proofs.bridge.View.{anchorSeen, linkAt, placeOf, recOf, stateOf, view}
 use Rattle.model.proofs.ledger.Matched.{Matched}
-use Rattle.model.proofs.tags.AnchorTag.{WeightKept, light}
+use Rattle.model.proofs.tags.AnchorTag.{WeightKept, step-keeps-weight}
 use Rattle.model.proofs.tags.{Bounds.room-bounded, Sum.total-one}
 use Rattle.model.proofs.tags.HeadTag.{HeadBalanced, fair, head-room}
 use Rattle.model.proofs.tags.LinkTag.{Tagged, tags}
 use Rattle.model.proofs.unsound.{AnchorFields.touch-sound, Moves.move-status, Safe.Safe}
 use Rattle.model.proofs.unsound.Tests.{link-sound, record-sound, unstable}
-use Rattle.model.specs.Sides.{sideNamed, near}
+use Rattle.model.specs.Sides.{statusSide, near}
 
 near-real : (n : ℕ) (a : word.Anchor) → AnchorFine n a → a .left ≢ a .right → (b : Bool) → cond b (a .right) (a .left) ≢ 0
 near-real n a h ne true z = ne (h .full z ∙ sym z)
@@ -73,7 +73,7 @@ module _ (n : ℕ) (q : Queue) (l : Ledger) (g : Matched n q l) (f : Safe q) (t 
 
     pub weight-kept : WeightKept (view G) (recOf r) (M.act (placeOf (r .place)) (view G) (recOf r))
     unfolding recOf
-    weight-kept = light (view G) (g .inv .owner) t (recOf r) (b .calls t) (placeOf (r .place)) refl own-task
+    weight-kept = step-keeps-weight (view G) (g .inv .owner) t (recOf r) (b .calls t) (placeOf (r .place)) refl own-task
 
     pub tagged : Tagged (view G) (M.act (placeOf (r .place)) (view G) (recOf r))
     unfolding stateOf
@@ -129,9 +129,9 @@ module _ (n : ℕ) (q : Queue) (l : Ledger) (g : Matched n q l) (f : Safe q) (t 
 
     row5 : Says 5
     unfolding recOf row sideOf
-    row5 y x = near-fine (sideNamed (anchorOf (r .seen) .status)) (near-real (G .control .slots) (anchorOf (r .seen)) (h .seen)
+    row5 y x = near-fine (statusSide (anchorOf (r .seen) .status)) (near-real (G .control .slots) (anchorOf (r .seen)) (h .seen)
         (λ z. not-both (eq-eqb _ _ (h .seen .single z)) (unstable (anchorOf (r .seen) .status) _ (y .status)))
-        (eqb (sideNamed (anchorOf (r .seen) .status)) 1))
+        (eqb (statusSide (anchorOf (r .seen) .status)) 1))
 
     row11 : Says 11
     unfolding recOf row sideOf

@@ -56,8 +56,8 @@ unstable n d e = split (eqb n 0) (λ z. absurd (go n (eqb-true n 0 z) e)) (λ z.
     go n z e = let f : M.stable ≡ M.pushing d = subst (λ n. statusOf n ≡ M.pushing d) z e in let w : _≡_ {A = ℕ} 0 1 = cc in omega arith
 
 module _ (pooled : Bool) (slots : ℕ) (r : Call) (h : RecordFine pooled slots r) where
-  early : (p : ℕ) → leb 5 p && leb p 10 ≡ false → eqb (r .finishing) 1 ≡ false → Placed (r .finishing) (r .kind) (anchorOf (r .seen) .status) p
-  early p z e = (or-first _ (small-zero (r .finishing) (h .finishing) e), rw z)
+  unfinished : (p : ℕ) → leb 5 p && leb p 10 ≡ false → eqb (r .finishing) 1 ≡ false → Placed (r .finishing) (r .kind) (anchorOf (r .seen) .status) p
+  unfinished p z e = (or-first _ (small-zero (r .finishing) (h .finishing) e), rw z)
 
   late : (p : ℕ) → leb 5 p && leb p 10 ≡ true → (eqb (r .finishing) 1 ≡ true → kindOf (r .kind) ≡ M.push) → (d : Bool)
       → statusOf (anchorOf (r .seen) .status) ≡ M.pushing d
@@ -115,23 +115,23 @@ module _ (pooled : Bool) (slots : ℕ) (r : Call) (h : RecordFine pooled slots r
     placed : r .place ≢ 0 → Says (r .place)
     unfolding recOf
     placed b = by-place Says
-        (λ y x. (early 1 refl (y .0), own-trying (x .kept .1) (x .kept .2), refl))
-        (λ y x. (early 2 refl (y .0 .early), own-trying (x .kept .1) (x .kept .2), refl))
-        (λ y x. (early 3 refl (y .0 .early), own-trying (x .kept .1) (x .kept .2), refl))
-        (λ y x. (early 4 refl (y .0 .early), own-trying (x .kept .1) (x .kept .2), refl))
+        (λ y x. (unfinished 1 refl (y .0), own-trying (x .kept .1) (x .kept .2), refl))
+        (λ y x. (unfinished 2 refl (y .0 .unfinished), own-trying (x .kept .1) (x .kept .2), refl))
+        (λ y x. (unfinished 3 refl (y .0 .unfinished), own-trying (x .kept .1) (x .kept .2), refl))
+        (λ y x. (unfinished 4 refl (y .0 .unfinished), own-trying (x .kept .1) (x .kept .2), refl))
         (λ y x. (late 5 refl (x .kept .0) _ (y .status), own-trying (x .kept .1) (x .kept .2), refl))
         (λ y x. (late 6 refl (x .kept .0) _ (y .0 .status), own-trying (x .kept .1) (x .kept .2), refl))
         (λ y x. (late 7 refl (x .kept .0) _ (y .0 .status), own-trying (x .kept .1) (x .kept .2), refl))
         (λ y x. (late 8 refl (x .kept .0) _ (y .0 .status), own-trying (x .kept .1) (x .kept .2), refl))
         (λ y x. (late 9 refl (x .kept .0) _ (y .0 .status), own-trying (x .kept .1) (x .kept .2), refl))
         (λ y x. (late 10 refl (x .kept .0) _ (y .0 .status), own-trying (x .kept .1) (x .kept .2), refl))
-        (λ y x. (early 11 refl (x .kept .1), own-trying (λ e. absurd (push-pop (sym e ∙ x .kept .0))) (λ e. x .kept .3), refl))
-        (λ y x. (early 12 refl (y .1 .early), own-drawing (x .kept), refl))
-        (λ y x. (early 13 refl (y .1 .early), own-drawing (x .kept), topped (y .2 .0)))
-        (λ y x. (early 14 refl (y .1 .early), own-drawing (x .kept), topped (y .2 .0)))
-        (λ y x. (early 15 refl (x .kept .1), own-giving (x .kept .2), refl))
-        (λ y x. (early 16 refl (x .kept .1), own-giving (x .kept .2), refl))
-        (λ y x. (early 17 refl (x .kept .1), own-giving (x .kept .2), refl))
+        (λ y x. (unfinished 11 refl (x .kept .1), own-trying (λ e. absurd (push-pop (sym e ∙ x .kept .0))) (λ e. x .kept .3), refl))
+        (λ y x. (unfinished 12 refl (y .1 .unfinished), own-drawing (x .kept), refl))
+        (λ y x. (unfinished 13 refl (y .1 .unfinished), own-drawing (x .kept), topped (y .2 .0)))
+        (λ y x. (unfinished 14 refl (y .1 .unfinished), own-drawing (x .kept), topped (y .2 .0)))
+        (λ y x. (unfinished 15 refl (x .kept .1), own-giving (x .kept .2), refl))
+        (λ y x. (unfinished 16 refl (x .kept .1), own-giving (x .kept .2), refl))
+        (λ y x. (unfinished 17 refl (x .kept .1), own-giving (x .kept .2), refl))
         (r .place) b (h .place)
 
     pub record-sound : r .place ≢ 0 → Task (placeOf (r .place)) s o t (recOf r) c → Extra (placeOf (r .place)) (recOf r)

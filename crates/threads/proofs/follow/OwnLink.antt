@@ -24,7 +24,7 @@ use Rattle.threads_model.specs.Instructions.{tick, written}
 use Rattle.threads_model.specs.Crew.{Crew, next, ticked, go}
 use Rattle.threads.specs.Promises.{recordOf}
 use Rattle.threads.proofs.follow.LinkPlans.{changes}
-use Rattle.threads.proofs.follow.Starting.{namedOwn, first-pop, first-put, first-push, claims-is, looks-is}
+use Rattle.threads.proofs.follow.Starting.{namedOwn, first-pop, first-push-pooled, first-push, claims-is, looks-is}
 use Rattle.threads.proofs.follow.Good as own
 use Rattle.threads.proofs.follow.Good.{Good}
 use Rattle.threads.proofs.follow.Relation.{Extra, Sim}
@@ -95,7 +95,7 @@ module _ (pooled slots : ℕ) where
         (either Own (eqb (namedOwn pooled slots (r .call) side slot) 0) (either Own (late (q .control)) tt tt) tt)
     own-reads (begun (Pop side)) = subst Own (sym (first-pop q r pooled slots side))
         (either Own (eqb (ownRefusal pooled slots (r .call) side false false) 0) (either Own (late (q .control)) tt tt) tt)
-    own-reads (begun (PushPooled side label)) = subst Own (sym (first-put q r pooled slots side label))
+    own-reads (begun (PushPooled side label)) = subst Own (sym (first-push-pooled q r pooled slots side label))
         (either Own (eqb (ownRefusal pooled slots (r .call) side (not (eqb pooled 1)) false) 0) (either Own (late (q .control)) tt tt) tt)
     own-reads (begun Step) = own-steps
     own-reads (loaded w) = own-replaces w
@@ -121,31 +121,31 @@ module _ (pooled slots : ℕ) where
       keeps-puts w ne = either Keeps (isAsRead q (planOf r) w)
           (λ side. linked-other q (planOf r .side) (planOf r .slot) (putInto (planOf r) w) side x ne) keeps-loads
 
-      abbrev Left : Touched → Type 0
-      Left d = (side : ℕ) → getD (links (d .tables) side) x 0 ≡ getD (links q side) x 0
+      abbrev LinksKept : Touched → Type 0
+      LinksKept d = (side : ℕ) → getD (links (d .tables) side) x 0 ≡ getD (links q side) x 0
 
       abbrev Row : Tables → Type 0
       Row t = (side : ℕ) → getD (links t side) x 0 ≡ getD (links q side) x 0
 
       keeps-touch : (p : PlannedTouch) → eqb (p .act) 5 ≡ false
-          → (p .act ≡ 4 → getD (links q (p .side)) (p .slot) 0 ≡ p .expected → x ≡ p .slot → ⊥) → Left (perform q p)
+          → (p .act ≡ 4 → getD (links q (p .side)) (p .slot) 0 ≡ p .expected → x ≡ p .slot → ⊥) → LinksKept (perform q p)
       unfolding perform
       keeps-touch p no5 ne =
           let same : Row q = λ (side : ℕ). refl in
           let head = q .control .head in
-          either Left (eqb (p .act) 1) same
-          (either Left (eqb (p .act) 2) (either Row (eqb (q .control .anchor) (p .expected)) same same)
-          (either Left (eqb (p .act) 3) same
-          (by-test Left (eqb (p .act) 4)
+          either LinksKept (eqb (p .act) 1) same
+          (either LinksKept (eqb (p .act) 2) (either Row (eqb (q .control .anchor) (p .expected)) same same)
+          (either LinksKept (eqb (p .act) 3) same
+          (by-test LinksKept (eqb (p .act) 4)
           (λ e. by-test Row (eqb (getD (links q (p .side)) (p .slot) 0) (p .expected))
           (λ z side. linked-other q (p .side) (p .slot) (p .word) side x (ne (eqb-true _ _ e) (eqb-true _ _ z))) (λ _. same))
-          (λ _. by-test Left (eqb (p .act) 5) (λ e. absurd (not-both e no5))
-          (λ _. either Left (eqb (p .act) 6) same
-          (either Left (eqb (p .act) 7) same
-          (either Left (eqb (p .act) 8) (either Row (eqb head (p .expected)) same same)
-          (either Left (eqb (p .act) 9) (either Row (eqb head (p .expected)) same same)
-          (either Left (eqb (p .act) 10) same
-          (either Left (eqb (p .act) 11) same same))))))))))
+          (λ _. by-test LinksKept (eqb (p .act) 5) (λ e. absurd (not-both e no5))
+          (λ _. either LinksKept (eqb (p .act) 6) same
+          (either LinksKept (eqb (p .act) 7) same
+          (either LinksKept (eqb (p .act) 8) (either Row (eqb head (p .expected)) same same)
+          (either LinksKept (eqb (p .act) 9) (either Row (eqb head (p .expected)) same same)
+          (either LinksKept (eqb (p .act) 10) same
+          (either LinksKept (eqb (p .act) 11) same same))))))))))
 
       keeps-once : eqb (planOf r .act) 5 ≡ false
           → (planOf r .act ≡ 4 → getD (links q (planOf r .side)) (planOf r .slot) 0 ≡ planOf r .expected → x ≡ planOf r .slot → ⊥)
@@ -234,7 +234,7 @@ module _ (tasks pooled slots : ℕ) (m : Crew) (q : Queue) (f : Sim tasks pooled
         (either Stay (eqb (namedOwn pooled slots (r .call) side slot) 0) (either Stay (late (T .control)) (λ _. refl) (λ _. refl)) (λ _. refl))
     spares (begun (Pop side)) at = subst Stay (sym (first-pop T r pooled slots side))
         (either Stay (eqb (ownRefusal pooled slots (r .call) side false false) 0) (either Stay (late (T .control)) (λ _. refl) (λ _. refl)) (λ _. refl))
-    spares (begun (PushPooled side label)) at = subst Stay (sym (first-put T r pooled slots side label))
+    spares (begun (PushPooled side label)) at = subst Stay (sym (first-push-pooled T r pooled slots side label))
         (either Stay (eqb (ownRefusal pooled slots (r .call) side (not (eqb pooled 1)) false) 0)
         (either Stay (late (T .control)) (λ _. refl) (λ _. refl)) (λ _. refl))
     spares (begun Step) at = keeps-steps pooled slots T r x

@@ -47,11 +47,11 @@ module _ (q : Tables) (r : Record) where
         (λ e. split (late (q .control)) (λ l. rw (e, l)) (λ l. rw (e, l)))
         (λ e. rw e)
 
-    pub first-put : (side label : ℕ)
+    pub first-push-pooled : (side label : ℕ)
         → startFirst pooled slots q r (PushPooled side label) (puts side label)
         ≡ plainStart q r (PushPooled side label) (ownRefusal pooled slots (r .call) side (not (eqb pooled 1)) false) (asking side label) 12
     unfolding startFirst planStart settleStart
-    first-put side label =
+    first-push-pooled side label =
         split (eqb (ownRefusal pooled slots (r .call) side (not (eqb pooled 1)) false) 0)
         (λ e. split (late (q .control)) (λ l. rw (e, l)) (λ l. rw (e, l)))
         (λ e. rw e)

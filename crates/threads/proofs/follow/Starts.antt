@@ -10,7 +10,7 @@ use Rattle.model.specs.declared.Op.the-variants.{Push, Pop, PushPooled}
 use Rattle.model.specs.Tables.{Tables, Queue, taskAt, recordAt, marked, withMark, withMarks, withCall, started, asking, withTaken}
 use Rattle.model.specs.Sound.{from1}
 use Rattle.model.specs.Refusals.{among, late, namedPush, pooledPush, nothingAsked, pushRefusal}
-use Rattle.model.specs.Calls.{Acted, act, actOn, back, decide, pushStart, popStart, putStart}
+use Rattle.model.specs.Calls.{Acted, act, actOn, back, decide, pushStart, popStart, pushPooledStart}
 use Rattle.model.specs.declared.Outcome.the-variants.{Refused, Moved}
 use Rattle.model.specs.declared.Answer.the-variants.{Running}
 use Rattle.model.proofs.tests.Rules.{cleared}
@@ -21,7 +21,7 @@ use Rattle.threads_model.specs.Starts.{ownRules, ownRefusal, names, pops, puts}
 use Rattle.threads_model.specs.Instructions.{Hand, claims, looks, labels, ends, Ticked, startFirst, claimsMark, looksMark}
 use Rattle.threads_model.specs.Crew.{Crew}
 use Rattle.threads.specs.Promises.{OwesLabel}
-use Rattle.threads.proofs.follow.Starting.{plainStart, namedOwn, first-pop, first-put, first-push, claims-is, looks-is}
+use Rattle.threads.proofs.follow.Starting.{plainStart, namedOwn, first-pop, first-push-pooled, first-push, claims-is, looks-is}
 use Rattle.model.proofs.unsound.StartSafe.{Room}
 use Rattle.threads.proofs.follow.Good as own
 use Rattle.threads.proofs.follow.Good.{Good}
@@ -131,10 +131,10 @@ module _ (now : Moment) where
         (ap (λ (x : Record). ownRefusal pooled slots (x .call) side false false) (sym (c .reads)))
         (λ (x : Record). record { tables = G; task = withCall x (started 1 side 0 0); outcome = Moved (Running 1) }) (Pop side) refl))
 
-    pub put-goal : (side label : ℕ) → Goal k₀ (startFirst pooled slots T r (PushPooled side label) (puts side label))
-    unfolding act actOn putStart
-    put-goal side label =
-        subst (Goal k₀) (sym (first-put T r pooled slots side label))
+    pub push-pooled-goal : (side label : ℕ) → Goal k₀ (startFirst pooled slots T r (PushPooled side label) (puts side label))
+    unfolding act actOn pushPooledStart
+    push-pooled-goal side label =
+        subst (Goal k₀) (sym (first-push-pooled T r pooled slots side label))
         (plain-goal (PushPooled side label) (ownRefusal pooled slots (r .call) side (not (eqb pooled 1)) false) (asking side label) 12
         (start-is side (pooledPush G) (ownRefusal pooled slots (r .call) side (not (eqb pooled 1)) false)
         (λ i. ownRefusal pooled slots (sym (c .reads) i .call) side (not (eqb (g .pool i) 1)) false)

@@ -167,7 +167,7 @@ module _ (now : Moment) where
       side slot label
   tick-goal (begun (Pop side)) at y w = B.pop-goal now (begun (Pop side))
       (record { at = at; owes = refl; tells = refl; writes = refl; reads = as-listed (begun (Pop side)) at; labels = λ x z. z; marks = λ x z. z }) side
-  tick-goal (begun (PushPooled side label)) at y w = B.put-goal now (begun (PushPooled side label))
+  tick-goal (begun (PushPooled side label)) at y w = B.push-pooled-goal now (begun (PushPooled side label))
       (record { at = at; owes = refl; tells = refl; writes = refl; reads = as-listed (begun (PushPooled side label)) at; labels = λ x z. z; marks = λ x z. z })
       side label
   tick-goal (begun Step) at y w = S.step-goal now (begun Step)

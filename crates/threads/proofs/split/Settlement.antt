@@ -19,9 +19,9 @@ use Rattle.threads_model.specs.Split.{refuses, knowing, Touched, found, swapped
 use Rattle.threads.proofs.split.Touches.{done, failed}
 
 -- Only a route to the answer popped names an entry.
-pub hush : (n f : ℕ) (e e′ : Entry) → Quiet n → answer (onward n f) e ≡ answer (onward n f) e′
+pub any-entry : (n f : ℕ) (e e′ : Entry) → Quiet n → answer (onward n f) e ≡ answer (onward n f) e′
 unfolding onward answer
-hush n f e e′ h =
+any-entry n f e e′ h =
     split (eqb n leave)
     (λ l. split (eqb f 1) (λ g. simp (l, g)) (λ g. simp (l, g)))
     (λ l. simp (l, h))

@@ -51,8 +51,8 @@ module _ (pooled slots : ℕ) where
   unfolding linkSound
   slot-fits v e = and-true (eqb (spareOf v) 0) (leb (linkOf v .slot) slots) e .1
 
-  pub slot-named : (v : ℕ) → not (eqb (linkOf v .slot) 0) ≡ true → linkSound slots v ≡ true → from1 slots (linkOf v .slot) ≡ true
-  slot-named v n l = and-of (le-leb 1 (linkOf v .slot) (above (eqb-false (linkOf v .slot) 0 (not-true _ n)))) (slot-fits v l)
+  pub link-slot : (v : ℕ) → not (eqb (linkOf v .slot) 0) ≡ true → linkSound slots v ≡ true → from1 slots (linkOf v .slot) ≡ true
+  link-slot v n l = and-of (le-leb 1 (linkOf v .slot) (above (eqb-false (linkOf v .slot) 0 (not-true _ n)))) (slot-fits v l)
     where
       above : (linkOf v .slot ≡ 0 → ⊥) → 1 ≤ linkOf v .slot
       above h = omega arith

@@ -93,12 +93,12 @@ module _ (r : Call) where
   unfolding move at3
   touch3-pop pooled slots p = ap (λ (b : Bool). cond b (done (put3 (r .link)) (atPlace r 3)) (reads3 (r .link)) .touch) p
 
-  abbrev taken11 : Bool → ℕ → Move
-  taken11 b w =
+  abbrev cleared11 : Bool → ℕ → Move
+  cleared11 b w =
       cond b (record { touch = clearMark (row (atPlace r 11)); task = withOwn (atPlace r 11) (row (atPlace r 11)) w; branch = 1; failed = false })
       (done (clearMark (row (atPlace r 11))) (atPlace r 11))
 
-  pub moves11 : (c : Control) (w : ℕ) → move c (atPlace r 11) w ≡ taken11 (isPooled c) w
+  pub moves11 : (c : Control) (w : ℕ) → move c (atPlace r 11) w ≡ cleared11 (isPooled c) w
   unfolding move at11
   moves11 c w = refl
 
@@ -106,5 +106,5 @@ module _ (r : Call) where
   unfolding move at11
   touch11 pooled slots =
       split (eqb pooled 1)
-      (λ p. ap (λ (b : Bool). taken11 b (r .link) .touch) p)
-      (λ p. ap (λ (b : Bool). taken11 b (r .link) .touch) p)
+      (λ p. ap (λ (b : Bool). cleared11 b (r .link) .touch) p)
+      (λ p. ap (λ (b : Bool). cleared11 b (r .link) .touch) p)

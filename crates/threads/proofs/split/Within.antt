@@ -80,11 +80,11 @@ module _ (pooled slots : ℕ) (r : Call) where
 
   pub ok5 : ok 5
   ok5 =
-      tested (asks.end pooled slots r (asks.named pooled slots r)) (cond (asks.named pooled slots r) 0 1) (planned pooled slots (atPlace r 5))
+      tested (asks.end pooled slots r (asks.statusRight pooled slots r)) (cond (asks.statusRight pooled slots r) 0 1) (planned pooled slots (atPlace r 5))
       (asks.plan5 pooled slots r)
 
   pub ok7 : ok 7
-  ok7 = tested (r .neighbour) (cond (asks.named pooled slots r) 1 0) (planned pooled slots (atPlace r 7)) (asks.plan7 pooled slots r)
+  ok7 = tested (r .neighbour) (cond (asks.statusRight pooled slots r) 1 0) (planned pooled slots (atPlace r 7)) (asks.plan7 pooled slots r)
 
   -- 1, 6, 8, 12 and 15 load Anchor or the head.
   pub loaded : {p q : PlannedTouch} → p ≡ q → onRow (p .act) ≡ false → Within slots q

@@ -21,7 +21,7 @@ use Rattle.model.specs.Refusals.{among}
 use Rattle.model.specs.Calls.{Done, back, act, actOn}
 use Rattle.sound.specs.declared.Lengths.{Lengths}
 use Rattle.sound.specs.Lengths.{lengthsOf, lengthsFit}
-use Rattle.engine.specs.MoveOn.{moveOn}
+use Rattle.engine.specs.StepAdmitted.{stepAdmitted}
 use Rattle.engine.proofs.InParts.{turned-away, admitted, task-there}
 use Rattle.deque.proofs.Walk.{fails}
 use Rattle.deque.proofs.Admission.{reason}
@@ -69,6 +69,6 @@ module _ (c : Control) (rs : List Record) (task : ℕ) (xs : Five (RefT (List �
       let known : task < c .tasks = ltb-true _ _ (both .1) in
       omega arith
 
-  pub moved : (m : Stepped) (ls : Five (List ℕ)) → fault ≡ 0 → Leaves moveOn c r xs m ls → Said (m .outcome) (m .control) (set rs task (m .task)) ls
+  pub moved : (m : Stepped) (ls : Five (List ℕ)) → fault ≡ 0 → Leaves stepAdmitted c r xs m ls → Said (m .outcome) (m .control) (set rs task (m .task)) ls
   unfolding act actOn rowsFit lengthsFit
   moved m ls h e = ap (back queue task) (e ∙ admitted entry (among queue task) r h)

@@ -42,7 +42,7 @@ use Rattle.model.specs.declared.Record.{Record}
 use Rattle.model.specs.declared.Outcome.{Outcome}
 use Rattle.model.specs.Tables.{unused}
 use Rattle.sound.specs.declared.Lengths.{Lengths}
-use Rattle.engine.specs.MoveOn.{moveOn}
+use Rattle.engine.specs.StepAdmitted.{stepAdmitted}
 use Rattle.deque.proofs.Walk.{control-value, record-value, slice-value, kept, var, part, lets, receive, valued}
 use Rattle.deque.proofs.Walk.{fits-scaled, gives-up}
 use Rattle.deque.proofs.Admission.{Admit, Refuse, lengths-are, admits, refuses}
@@ -61,7 +61,7 @@ use Rattle.sound.proofs.Lengths as L
 use Rattle.sound.proofs.Lengths.Laws as L′
 use Rattle.sound.proofs.admission.admit_step.Symbol.{name as #sound·admission·admit}
 use Rattle.engine.proofs.refuse.Symbol.{name as #engine·refuse}
-use Rattle.rows.proofs.value.move_on.Symbol.{name as #rows·value·move-on}
+use Rattle.rows.proofs.value.step_by_value.Symbol.{name as #rows·value·step-by-value}
 use Rattle.deque.proofs.step as self
 use Rattle.deque.proofs.step.Code as code
 use Rattle.deque.proofs.step.Code.Mir as body
@@ -133,7 +133,7 @@ module _ {M : Type 1} (𝓤 : URA M) (H : Heap 𝓤) (A : Atoms 𝓤) (W : Given
   module _ (C : Calls 𝓤 H) (Λ : Loops 𝓤 H) where
     module _ (fm : FmC 𝓤 H (W .laws) C) (known-admit : Triple 𝓤 (C #sound·admission·admit) (Admit 𝓤 H A at-mem run))
         (known-refuse : Triple 𝓤 (C #engine·refuse) (Refuse 𝓤 H A at-mem run))
-        (known : Triple 𝓤 (C #rows·value·move-on) (Move 𝓤 H A moveOn)) where
+        (known : Triple 𝓤 (C #rows·value·step-by-value) (Move 𝓤 H A stepAdmitted)) where
       pub walk : Room T.the-row n → Room u64 (length (x1 .now)) → Room u64 (length (x2 .now)) → Room u32 (length (x3 .now)) → Room u64 (length (x4 .now))
           → Room u64 (length (x5 .now))
           → ent 𝓤 (onEntry 𝓤 H A self.signature (κc, (κr, κs)) (qc, (qr, qs)) a vals)
@@ -242,7 +242,7 @@ module _ {M : Type 1} (𝓤 : URA M) (H : Heap 𝓤) (A : Atoms 𝓤) (W : Given
           (init ! 75 refl (tt, (tt, (record { fits = room5 .0 }, tt)))) $
           -- the call
           move ! (5 ∷ 6 ∷ []) $
-          moves ! moveOn κs qs c r xs fm known gc g
+          moves ! stepAdmitted κs qs c r xs fm known gc g
           (and-then ! (var ! 28 refl) (and-then ! (var ! 36 refl)
           (and-then ! (var ! 58 refl) (and-then ! (var ! 62 refl)
           (and-then ! (var ! 66 refl) (and-then ! (var ! 70 refl) (and-then ! (var ! 74 refl) (no-more !)))))))) (λ w m ls e eqs is.

@@ -10,7 +10,7 @@ use Rattle.model.specs.declared.Control.{Control}
 use Rattle.model.specs.declared.Call.{Call}
 use Rattle.model.specs.Tables.{isPooled, tablesOf}
 use Rattle.model.specs.Refusals.{recordRefusal}
-use Rattle.sound.proofs.Late.{late}
+use Rattle.sound.proofs.SlotPlaces.{slot-places}
 use Rattle.engine.proofs.InParts.{above, below-18}
 use Rattle.rows.specs.Rows.{controlOf, callOf, recordOf}
 use Rattle.rows.proofs.Rows.{counting}
@@ -47,7 +47,7 @@ returns c high lefts rights =
     let told = c .before .before in
     let read = told .before .before in
     refuses _ _ lefts rights _ _ _ _ _ (read .control-of .ensures) (called read .call-of .ensures) 34 _
-    (unsound _ _ _ (sym (late _ _ _ (high-place read high)) ∙ sym (told .slot-sound .ensures) ∙ not-true _ (c .before .if1 .taken)))
+    (unsound _ _ _ (sym (slot-places _ _ _ (high-place read high)) ∙ sym (told .slot-sound .ensures) ∙ not-true _ (c .before .if1 .taken)))
     (λ (x : _≡_ {A = ℕ} 34 0). omega (arith, x)) (c .refuse .ensures)
 
 -- Past the refusals.
@@ -59,7 +59,7 @@ module _ (left : tie.Else1) where
     passed : recordRefusal (isPooled (c₀ read₀)) (c₀ read₀ .slots) (r₀ read₀) ≡ 0
     passed =
         passes _ _ _ (some (high-place read₀ high))
-        (sym (late _ _ _ (high-place read₀ high)) ∙ sym (left .before .slot-sound .ensures) ∙ not-false _ (left .if1 .left))
+        (sym (slot-places _ _ _ (high-place read₀ high)) ∙ sym (left .before .slot-sound .ensures) ∙ not-false _ (left .if1 .left))
 
     most : r₀ read₀ .place ≤ 17
     most = below-18 (tablesOf (c₀ read₀) [] [] [] [] []) (counting (r₀ read₀) 0) passed

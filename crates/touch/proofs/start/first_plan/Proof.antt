@@ -58,7 +58,7 @@ returns-4 c =
 returns-5 : tie.Need-returns-5
 returns-5 c =
     let a = c .before .before .before .before .before .before .before .args in
-    by.put-plan (a .pooled) (a .slots) (a .s .side) (a .s .label) (le-leb _ _ (c .before .before .before .before .before .if1 .left)) (eq-eqb _ _
+    by.push-pooled-plan (a .pooled) (a .slots) (a .s .side) (a .s .label) (le-leb _ _ (c .before .before .before .before .before .if1 .left)) (eq-eqb _ _
     (c .if5 .taken))
     ∙ ap (plan (a .pooled) (a .slots)) (sym (draw (a .s) (c .before .before .before .if2 .left) (c .before .if4 .left)))
 

@@ -9,8 +9,8 @@ use Rattle.word.specs.declared.Anchor.{Anchor}
 use Rattle.word.specs.Anchor.{anchorOf}
 use Rattle.model.specs.declared.Call.{Call}
 use Rattle.model.specs.Sound.{from1, linkSound, anchorSound, recordSound}
-use Rattle.sound.specs.Records.{readSound, earlyCall, earlySeen, earlySound}
-use Rattle.sound.proofs.Parts.{callSound, readsSound, busy-sound}
+use Rattle.sound.specs.Records.{readSound, dequeCall, dequeSeen, dequeSound}
+use Rattle.sound.proofs.Parts.{callTestsPass, readTestsPass, busy-sound}
 use Rattle.sound.proofs.Places.{at-push, at-other}
 use Rattle.sound.proofs.Ends.{equal, apart}
 
@@ -55,21 +55,21 @@ all-order true true false c r = simp and-false
 all-order true false l c r = simp and-false
 
 -- The tests of a pop.
-pub pops : (slots : ℕ) (r : Call) → (r .kind ≡ 0 → ⊥) → r .kind ≡ 1 → (eqb (r .own) 0 && eqb (r .finishing) 0) ≡ earlyCall slots r
-unfolding earlyCall
+pub pops : (slots : ℕ) (r : Call) → (r .kind ≡ 0 → ⊥) → r .kind ≡ 1 → (eqb (r .own) 0 && eqb (r .finishing) 0) ≡ dequeCall slots r
+unfolding dequeCall
 pops slots r other pop = rw (ne-eqb _ _ other, eq-eqb _ _ pop)
 
 module _ (slots : ℕ) (r : Call) (high : r .place ≤ 10) where
-  call-early : (pooled : Bool) → (leb (r .side) 1 && earlyCall slots r) ≡ callSound pooled slots r
-  unfolding earlyCall
-  call-early pooled = by-kind (eqb (r .kind) 0) refl
+  deque-call-is : (pooled : Bool) → (leb (r .side) 1 && dequeCall slots r) ≡ callTestsPass pooled slots r
+  unfolding dequeCall
+  deque-call-is pooled = by-kind (eqb (r .kind) 0) refl
     where
       low : r .place ≤ 11
       low = omega arith
 
       by-kind : (push : Bool) → eqb (r .kind) 0 ≡ push
           → (leb (r .side) 1 && cond push (from1 slots (r .own) && (eqb (r .finishing) 0 || (eqb (r .finishing) 1 && leb 5 (r .place))))
-          (eqb (r .kind) 1 && (eqb (r .own) 0 && eqb (r .finishing) 0))) ≡ callSound pooled slots r
+          (eqb (r .kind) 1 && (eqb (r .own) 0 && eqb (r .finishing) 0))) ≡ callTestsPass pooled slots r
       by-kind true e =
           rw (finishes (r .finishing) (leb 5 (r .place)))
           (push-order (leb (r .side) 1) (from1 slots (r .own)) (leb (r .finishing) 1) (eqb (r .finishing) 0 || leb 5 (r .place))
@@ -83,9 +83,9 @@ module _ (slots : ℕ) (r : Call) (high : r .place ≤ 10) where
   a = anchorOf (r .seen)
 
   -- Unstable from 5 on, so with different ends.
-  seen-early : earlySeen slots (r .place) a ≡ (anchorSound slots a && (not (leb 5 (r .place)) || not (eqb (a .status) 0)))
-  unfolding earlySeen
-  seen-early = by-ends (eqb (a .left) (a .right)) refl (leb 5 (r .place))
+  deque-seen-is : dequeSeen slots (r .place) a ≡ (anchorSound slots a && (not (leb 5 (r .place)) || not (eqb (a .status) 0)))
+  unfolding dequeSeen
+  deque-seen-is = by-ends (eqb (a .left) (a .right)) refl (leb 5 (r .place))
     where
       one-up : leb 1 (a .status) ≡ not (eqb (a .status) 0)
       one-up = go (eqb (a .status) 0) refl
@@ -116,9 +116,9 @@ module _ (slots : ℕ) (r : Call) (high : r .place ≤ 10) where
           (apart-order (leb (a .status) 2) (from1 slots (a .left)) (from1 slots (a .right)) true)
 
   -- All of them.
-  pub early : (pooled : Bool) → 0 < r .place → earlySound slots r ≡ recordSound pooled slots r
-  unfolding readsSound earlySound readSound
-  early pooled busy =
-      all-order (leb (r .side) 1) (leb (r .neighbour) slots) (linkSound slots (r .link)) (earlyCall slots r) (earlySeen slots (r .place) a)
-      ∙ (rw (call-early pooled, seen-early)
+  pub deque-places : (pooled : Bool) → 0 < r .place → dequeSound slots r ≡ recordSound pooled slots r
+  unfolding readTestsPass dequeSound readSound
+  deque-places pooled busy =
+      all-order (leb (r .side) 1) (leb (r .neighbour) slots) (linkSound slots (r .link)) (dequeCall slots r) (dequeSeen slots (r .place) a)
+      ∙ (rw (deque-call-is pooled, deque-seen-is)
       (rw (le-leb (r .place) 10 high, and-true (leb 5 (r .place))) at (busy-sound pooled slots r (ne-eqb (r .place) 0 (λ x. omega (arith, x))))))

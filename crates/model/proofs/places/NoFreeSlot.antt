@@ -6,7 +6,7 @@ use mathlib.Core.Path.{_∙_, _≡_, refl, subst, sym}
 use Prim.Native.Nat.{_≤_, ℕ}
 use Rattle.model.proofs.tests.Truth.{not-both}
 use Rattle.model.proofs.lists.{In.In, Slots.slots}
-use Rattle.model.proofs.machine.Book.{Both, BookCall, isNoSlot}
+use Rattle.model.proofs.machine.Book.{Both, BookCall, isNoFreeSlot}
 use Rattle.model.proofs.machine.Machine.{Kind, Move, Phase, Place, Rec, Shared, act, at1, at10, at11, at2, at3, at4, at5, at6, at7, at8, at9}
 use Rattle.model.proofs.machine.Machine.{draw, fetching, give, idle, inside, leaving, outside, phase, pop, push, returning, tip}
 use Rattle.model.proofs.machine.{ByStep.by-step, Laws.exhausted-true}
@@ -43,9 +43,9 @@ module _ (s : Shared) (h : ℕ → Owner) (t : ℕ) (r : Rec) (c : BookCall) (x 
   holds : (p : Place) → Task p s h t r c → Holds p r x
   holds idle w = w .1 x e
   holds at1 w = trying (r .kind) refl (w .0) (w .1 .own)
-  holds at2 w = trying (r .kind) refl (w .0 .early) (w .0 .before .own)
-  holds at3 w = trying (r .kind) refl (w .0 .early) (w .0 .before .own)
-  holds at4 w = trying (r .kind) refl (w .0 .early) (w .0 .before .own)
+  holds at2 w = trying (r .kind) refl (w .0 .unfinished) (w .0 .before .own)
+  holds at3 w = trying (r .kind) refl (w .0 .unfinished) (w .0 .before .own)
+  holds at4 w = trying (r .kind) refl (w .0 .unfinished) (w .0 .before .own)
   holds at5 w = helping (r .finishing) refl (w .stage)
   holds at6 w = helping (r .finishing) refl (w .0 .stage)
   holds at7 w = helping (r .finishing) refl (w .0 .stage)
@@ -68,9 +68,9 @@ used p i x n = go (i .owner x) refl
     go queued g = inl (i .whole .listed x g)
     go (held t) g = inr (t, holds (p .state .shared) (i .owner) t (p .state .task t) (p .book .calls t) x g (p .state .task t .place) (i .tasks t))
 
-pub no-slot : (p : Both) → Inv p → p .state .shared .pooled ≡ true → p .state .shared .head .slot ≡ 0 → (x : ℕ) → x ≢ 0 → x ≤ p .state .shared .slots
+pub no-free-slot : (p : Both) → Inv p → p .state .shared .pooled ≡ true → p .state .shared .head .slot ≡ 0 → (x : ℕ) → x ≢ 0 → x ≤ p .state .shared .slots
     → Used p x
-no-slot p i e z x nz le = used p i x (λ g. none-free pool z x nz le g)
+no-free-slot p i e z x nz le = used p i x (λ g. none-free pool z x nz le g)
   where
     s : Shared
     s = p .state .shared
@@ -83,11 +83,11 @@ abbrev Lacking : Shared → BookCall → Type 0
 Lacking s c = (s .pooled ≡ true) × (s .head .slot ≡ 0) × (c .kind ≡ push)
 
 pub record Lacks (s : Shared) (c : BookCall) (m : Move) : Type 0 where
-  pub lacks : isNoSlot (m .answer) ≡ true → Lacking s c
+  pub lacks : isNoFreeSlot (m .answer) ≡ true → Lacking s c
 
 pub act-lacks : (s : Shared) (r : Rec) (c : BookCall) (h : ℕ → Owner) (t : ℕ) (p : Place) → Task p s h t r c → Lacks s c (act p s r)
 act-lacks s r c h t p w = record {
-  lacks = by-step s r (λ p. Task p s h t r c) (λ m. isNoSlot (m .answer) ≡ true → Lacking s c) (record {
+  lacks = by-step s r (λ p. Task p s h t r c) (λ m. isNoFreeSlot (m .answer) ≡ true → Lacking s c) (record {
     still = λ _. other refl;
     quiet = λ _ _ _ _ _ _ _ _ _. other refl;
     empty = λ _ _ _ _. other refl;

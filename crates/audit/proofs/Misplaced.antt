@@ -10,7 +10,7 @@ use borrow.Author.Tests.{le-leb, le-ltb, leb-false, leb-true, lt-ltb}
 use Rattle.model.proofs.tests.Truth.{agree, and-of, and-true, either, split}
 use Rattle.audit_model.specs.declared.Finished.{Finished}
 use Rattle.audit_model.specs.Audit.{allOf, inOrder, notEarlier, numbered}
-use Rattle.audit.specs.FirstEarly.{firstEarly}
+use Rattle.audit.specs.FirstMisplaced.{firstMisplaced}
 
 abbrev pub leastEnd : List Finished → ℕ
 leastEnd [] = 18446744073709551615
@@ -27,16 +27,16 @@ none-earlier c [] h = sym (le-leb (c .start) 18446744073709551615 h)
 none-earlier c (d ∷ l) h = ap (λ (b : Bool). leb (c .start) (d .end) && b) (none-earlier c l h) ∙ leb-min (c .start) (d .end) (leastEnd l)
 
 -- One call more in front, at index i.
-pub early-turn : (c : Finished) (l : List Finished) (i first : ℕ) → c .start ≤ 18446744073709551615 → first ≡ i + 1 + firstEarly l
-    → cond (ltb (leastEnd l) (c .start)) i first ≡ i + firstEarly (c ∷ l)
-unfolding firstEarly
-early-turn c l i first h e = split (leb (c .start) (leastEnd l))
+pub misplaced-turn : (c : Finished) (l : List Finished) (i first : ℕ) → c .start ≤ 18446744073709551615 → first ≡ i + 1 + firstMisplaced l
+    → cond (ltb (leastEnd l) (c .start)) i first ≡ i + firstMisplaced (c ∷ l)
+unfolding firstMisplaced
+misplaced-turn c l i first h e = split (leb (c .start) (leastEnd l))
     (λ t. rw (le-ltb (leastEnd l) (c .start) (leb-true (c .start) (leastEnd l) t), none-earlier c l h ∙ t) (omega arith))
     (λ t. rw (lt-ltb (leastEnd l) (c .start) (leb-false (c .start) (leastEnd l) t), none-earlier c l h ∙ t) (omega arith))
 
 -- The first is a position of the order, or its length.
-pub early-within : (cs : List Finished) (ks : List ℕ) → firstEarly (inOrder cs ks) ≤ length ks
-unfolding firstEarly
-early-within cs [] = omega arith
-early-within cs (k ∷ ks) =
-    either (λ (m : ℕ). m ≤ suc (length ks)) (allOf (notEarlier (numbered cs k)) (inOrder cs ks)) (omega (arith, early-within cs ks)) (omega arith)
+pub misplaced-within : (cs : List Finished) (ks : List ℕ) → firstMisplaced (inOrder cs ks) ≤ length ks
+unfolding firstMisplaced
+misplaced-within cs [] = omega arith
+misplaced-within cs (k ∷ ks) =
+    either (λ (m : ℕ). m ≤ suc (length ks)) (allOf (notEarlier (numbered cs k)) (inOrder cs ks)) (omega (arith, misplaced-within cs ks)) (omega arith)

@@ -9,11 +9,11 @@ use Rattle.model.specs.declared.Record.{Record}
 use Rattle.model.specs.declared.Outcome.{Outcome}
 use Rattle.model.specs.Tables.{tablesOf}
 use Rattle.model.specs.Calls.{Acted}
-use Rattle.engine.specs.MoveOn.{moveOn}
+use Rattle.engine.specs.StepAdmitted.{stepAdmitted}
 use Rattle.rows.specs.Rows.{controlOf, callOf, recordOf}
 use Rattle.rows.specs.Moved.{RowMoved}
-use Rattle.rows.proofs.value.move_on.Statement.{statement}
-use Rattle.rows.proofs.value.move_on.Tie as tie
+use Rattle.rows.proofs.value.step_by_value.Statement.{statement}
+use Rattle.rows.proofs.value.step_by_value.Tie as tie
 
 -- Control and record made rows, the rows moved on, and control and record made of them again.
 in-rows : (c d : Control) (t : Record) (call : Call) (retries : ℕ) (ws row ws′ row′ ls rs bs ms ns ls′ rs′ bs′ ms′ ns′ : List ℕ) (o : Outcome)
@@ -21,13 +21,13 @@ in-rows : (c d : Control) (t : Record) (call : Call) (retries : ℕ) (ws row ws�
     → RowMoved (tablesOf (controlOf ws) ls rs bs ms ns) row (tablesOf (controlOf ws′) ls′ rs′ bs′ ms′ ns′) row′ o
     → d ≡ controlOf ws′ → call ≡ callOf row′ → retries ≡ recordOf row′ .retries
     → _≡_ {A = Acted} (record { tables = tablesOf d ls′ rs′ bs′ ms′ ns′; task = record { call = call; retries = retries }; outcome = o })
-    (moveOn (tablesOf c ls rs bs ms ns) t)
+    (stepAdmitted (tablesOf c ls rs bs ms ns) t)
 unfolding recordOf
 in-rows c d t call retries ws row ws′ row′ ls rs bs ms ns ls′ rs′ bs′ ms′ ns′ o ec et moved ed ek er =
     rw (ed, ek, er)
     (moved .0
-    ∙ ap (λ (e : Control). moveOn (tablesOf e ls rs bs ms ns) (recordOf row)) ec
-    ∙ ap (moveOn (tablesOf c ls rs bs ms ns)) et)
+    ∙ ap (λ (e : Control). stepAdmitted (tablesOf e ls rs bs ms ns) (recordOf row)) ec
+    ∙ ap (stepAdmitted (tablesOf c ls rs bs ms ns)) et)
 
 returns : tie.Need-returns
 returns c =
@@ -41,8 +41,8 @@ returns c =
     in-rows _ _ _ _ _ _ _ _ _ _ _ _ _ _ _ _ _ _ _ _ (made .before .before .control-row .ensures) (made .record-row .ensures .0)
     (moved .move-row .ensures) (control .control-of .ensures) (call .call-of .ensures) (c .retries-of .ensures)
 
-pub move-on-spec : {M : Type 1} → statement M
-move-on-spec =
+pub step-by-value-spec : {M : Type 1} → statement M
+step-by-value-spec =
     tie.close
     (tie.spec
     (λ c κs. search needs)

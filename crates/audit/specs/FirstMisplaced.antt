@@ -6,6 +6,6 @@ use Rattle.audit_model.specs.declared.Finished.{Finished}
 use Rattle.audit_model.specs.Audit.{allOf, notEarlier}
 
 -- How many calls come before the first that stands before one answered before its start; all of them where none does.
-unfoldable pub firstEarly : List Finished → ℕ
-firstEarly [] = 0
-firstEarly (c ∷ cs) = cond (allOf (notEarlier c) cs) (suc (firstEarly cs)) 0
+unfoldable pub firstMisplaced : List Finished → ℕ
+firstMisplaced [] = 0
+firstMisplaced (c ∷ cs) = cond (allOf (notEarlier c) cs) (suc (firstMisplaced cs)) 0

@@ -19,7 +19,7 @@ use Rattle.model.proofs.tests.Truth.{split, either}
 use Rattle.places.specs.Arm.{stepAt}
 use Rattle.decide.proofs.Routes.{kinds, readings, Quiet}
 use Rattle.threads.proofs.split.Touches as touches
-use Rattle.threads.proofs.split.Settlement.{hush, told, settled-with, one, none, row-splits, change-splits, row-change-splits}
+use Rattle.threads.proofs.split.Settlement.{any-entry, told, settled-with, one, none, row-splits, change-splits, row-change-splits}
 use Rattle.threads_model.specs.declared.PlannedTouch.{PlannedTouch}
 use Rattle.threads_model.specs.Split.{refuses, refusing, swapsAnchor, loadsAnchor, swapsLink, loadsLink, putsLink}
 use Rattle.threads_model.specs.Split.{loads, touchAsRead, planFor, planned, perform, gone, settledAt, meetsAnchor}
@@ -68,7 +68,7 @@ module _ (q : Tables) (k : ℕ) where
 
     pub split1 : Splits (atPlace r 1)
     unfolding planned loads perform meetsAnchor settledAt gone stepAt stepSound move at1 finish
-    split1 = rw sound (told _ _ (hush _ _ _ _ quiet-read))
+    split1 = rw sound (told _ _ (any-entry _ _ _ _ quiet-read))
 
     done2 : Quiet (route 2 (r .kind) 0)
     unfolding route pushRoute popRoute
@@ -85,7 +85,7 @@ module _ (q : Tables) (k : ℕ) where
         let w = touches.new2 r in
         by-touch 2 (touches.touch2 r (c .pooled) (c .slots))
         (change-splits q k s (setAnchor w) s (reread 2) (seen + 1) (c .anchor) (r .seen) (swapsAnchor (r .seen) w) loadsAnchor refl refl
-        (ap not sound) refl (hush _ _ _ _ done2) (hush _ _ _ _ quiet-again2))
+        (ap not sound) refl (any-entry _ _ _ _ done2) (any-entry _ _ _ _ quiet-again2))
 
     done3 : Quiet (route 3 (r .kind) 0)
     unfolding route pushRoute popRoute
@@ -112,7 +112,7 @@ module _ (q : Tables) (k : ℕ) where
         let there = from1 (c .slots) (row s) in
         row-splits q k s p (met 3) (way3 push) there (fine3 push) _ _ finds left refl refl
         (ap (λ (b : Bool). cond (there && fine3 b) (gone (counting s k) (met 3) (way3 b)) (refusing (counting s k) 34)) e)
-        (hush _ _ _ _ (either (λ (m : Move). Quiet (route 3 (r .kind) (m .branch))) push done3 done3))
+        (any-entry _ _ _ _ (either (λ (m : Move). Quiet (route 3 (r .kind) (m .branch))) push done3 done3))
         ∙ ap (λ (b : Bool). decide (cond (there && fine3 b) 0 34) q (counting s k) (finish q (counting s k) (way3 b))) (sym e)
 
     pub split3 : Splits (atPlace r 3)
@@ -137,7 +137,7 @@ module _ (q : Tables) (k : ℕ) where
         by-touch 4 (touches.touch4 r (c .pooled) (c .slots))
         (change-splits q k s (setAnchor w) (cond (isPush r) (withSeen s w 1) s) (reread 4) (seen + 1) (c .anchor) (r .seen)
         (swapsAnchor (r .seen) w) loadsAnchor refl refl
-        (ap not sound) refl (hush _ _ _ _ done4) (hush _ _ _ _ quiet-again4))
+        (ap not sound) refl (any-entry _ _ _ _ done4) (any-entry _ _ _ _ quiet-again4))
 
     done5 : Quiet (route 5 (r .kind) 0)
     unfolding route pushRoute popRoute
@@ -148,7 +148,7 @@ module _ (q : Tables) (k : ℕ) where
     split5 =
         split (from1 (c .slots) (row (atPlace r 5)))
         (λ f. split (linkSound (c .slots) (met 5))
-        (λ l. rw (f, l) (told _ _ (hush _ _ _ _ done5)))
+        (λ l. rw (f, l) (told _ _ (any-entry _ _ _ _ done5)))
         (λ l. rw (f, l)))
         (λ f. rw f)
 
@@ -158,7 +158,7 @@ module _ (q : Tables) (k : ℕ) where
 
     pub split6 : Splits (atPlace r 6)
     unfolding planned loads perform meetsAnchor settledAt gone stepAt stepSound move at6 finish
-    split6 = rw sound (told _ _ (hush _ _ _ _ (done6 (eqb (c .anchor) (r .seen)))))
+    split6 = rw sound (told _ _ (any-entry _ _ _ _ (done6 (eqb (c .anchor) (r .seen)))))
 
     done7 : (b : Bool) → Quiet (route 7 (r .kind) (cond b 0 1))
     unfolding route pushRoute popRoute
@@ -169,7 +169,7 @@ module _ (q : Tables) (k : ℕ) where
     split7 =
         split (from1 (c .slots) (row (atPlace r 7)))
         (λ f. split (linkSound (c .slots) (met 7))
-        (λ l. rw (f, l) (told _ _ (hush _ _ _ _ (done7 (eqb (linkOf (met 7) .slot) (endSeen (atPlace r 7)))))))
+        (λ l. rw (f, l) (told _ _ (any-entry _ _ _ _ (done7 (eqb (linkOf (met 7) .slot) (endSeen (atPlace r 7)))))))
         (λ l. rw (f, l)))
         (λ f. rw f)
 
@@ -179,7 +179,7 @@ module _ (q : Tables) (k : ℕ) where
 
     pub split8 : Splits (atPlace r 8)
     unfolding planned loads perform meetsAnchor settledAt gone stepAt stepSound move at6 finish
-    split8 = rw sound (told _ _ (hush _ _ _ _ (done8 (eqb (c .anchor) (r .seen)))))
+    split8 = rw sound (told _ _ (any-entry _ _ _ _ (done8 (eqb (c .anchor) (r .seen)))))
 
     done9 : (b : Bool) → Quiet (route 9 (r .kind) (cond b 0 1))
     unfolding route pushRoute popRoute
@@ -193,7 +193,7 @@ module _ (q : Tables) (k : ℕ) where
         by-touch 9 (touches.touch9 r (c .pooled) (c .slots))
         (row-change-splits q k s (touches.swap9 r) s s 1 (met 9) (r .link)
         (swapsLink (linkSide s) (row s) (r .link) w) (loadsLink (linkSide s) (row s)) refl refl
-        (from1 (c .slots) (row s)) _ _ refl refl refl (hush _ _ _ _ (done9 true)) (hush _ _ _ _ (done9 false)))
+        (from1 (c .slots) (row s)) _ _ refl refl refl (any-entry _ _ _ _ (done9 true)) (any-entry _ _ _ _ (done9 false)))
 
     done10 : (b : Bool) → Quiet (route 10 (r .kind) (cond b 0 1))
     unfolding route pushRoute popRoute
@@ -206,4 +206,4 @@ module _ (q : Tables) (k : ℕ) where
         let w = touches.new10 r in
         by-touch 10 (touches.touch10 r (c .pooled) (c .slots))
         (change-splits q k s (setAnchor w) s s 1 (c .anchor) (r .seen) (swapsAnchor (r .seen) w) loadsAnchor refl refl
-        (ap not sound) refl (hush _ _ _ _ (done10 true)) (hush _ _ _ _ (done10 false)))
+        (ap not sound) refl (any-entry _ _ _ _ (done10 true)) (any-entry _ _ _ _ (done10 false)))

@@ -1,11 +1,11 @@
 -- The start, and its record stored.
 use mathlib.Core.Path.{refl}
 use Rattle.model.specs.Calls.{actOn}
-use Rattle.calls.proofs.Starts.{put-begun}
-use Rattle.rows.proofs.Starting.{started, put-starts}
+use Rattle.calls.proofs.Starts.{push-pooled-begun}
+use Rattle.rows.proofs.Starting.{started, push-pooled-starts}
 use borrow.Author.Needs.{needs}
-use Rattle.rows.proofs.op.put.Statement.{statement}
-use Rattle.rows.proofs.op.put.Tie as tie
+use Rattle.rows.proofs.op.push_pooled.Statement.{statement}
+use Rattle.rows.proofs.op.push_pooled.Tie as tie
 
 returns : tie.Need-returns
 unfolding actOn
@@ -16,14 +16,14 @@ returns c =
     let told = read .before .before in
     let lists = told .before .before .before in
     let a = lists .before .before .before .before .args in (
-      started _ (a .records .now) _ _ _ _ _ _ _ (put-starts _ (a .records .now) _ _ _ _ _ (a .task) _ _) _ _ _ _ _ _
+      started _ (a .records .now) _ _ _ _ _ _ _ (push-pooled-starts _ (a .records .now) _ _ _ _ _ (a .task) _ _) _ _ _ _ _ _
           (told .control-of .ensures) (read .call-at .ensures)
-          (put-begun _ _ _ _ _ _ _ _ _ _ _ _ refl (begun .put-start .ensures)) (put .store-start .ensures .0),
+          (push-pooled-begun _ _ _ _ _ _ _ _ _ _ _ _ refl (begun .push-pooled-start .ensures)) (put .store-start .ensures .0),
       put .store-start .ensures .1,
     )
 
-pub put-spec : {M : Type 1} → statement M
-put-spec =
+pub push-pooled-spec : {M : Type 1} → statement M
+push-pooled-spec =
     tie.close
     (tie.spec
     (λ c κs. search needs)

@@ -8,7 +8,7 @@ use Rattle.model.specs.{Refusals.recordRefusal, Calls.Acted}
 use Rattle.places.specs.Arm.{stepAt}
 
 -- 34 and 31 for the record come first, then its place.
-unfoldable pub moveOn : Tables → Record → Acted
-moveOn q r =
+unfoldable pub stepAdmitted : Tables → Record → Acted
+stepAdmitted q r =
     let why = recordRefusal (isPooled (q .control)) (q .control .slots) (r .call) in
     cond (eqb why 0) (stepAt (r .call .place) q (r .call) (r .retries)) (record { tables = q; task = r; outcome = Refused why })

@@ -3,8 +3,8 @@ use mathlib.Core.Path.{_∙_}
 use mathlib.Core.List.{[], _∷_}
 use Rattle.model.specs.Lists.{every}
 use Rattle.join.specs.Stages.{testsRefusal}
-use Rattle.join.proofs.admit.early_rules.Statement.{statement}
-use Rattle.join.proofs.admit.early_rules.Tie as tie
+use Rattle.join.proofs.admit.table_rules.Statement.{statement}
+use Rattle.join.proofs.admit.table_rules.Tie as tie
 
 returns : tie.Need-returns
 returns c =
@@ -16,5 +16,5 @@ returns c =
     ∙ (λ i. testsRefusal (first .control-sound .ensures i) (second .control-sound2 .ensures i) (third .control-sound3 .ensures i)
     (every (a .fits1 ∷ a .fits2 ∷ a .fits3 ∷ [])))
 
-pub early-rules-spec : {M : Type 1} → statement M
-early-rules-spec = tie.close (tie.spec (λ _ _. tt) (λ _ _. tt) (λ _ _. tt) (λ _ _. tt) returns)
+pub table-rules-spec : {M : Type 1} → statement M
+table-rules-spec = tie.close (tie.spec (λ _ _. tt) (λ _ _. tt) (λ _ _. tt) (λ _ _. tt) returns)

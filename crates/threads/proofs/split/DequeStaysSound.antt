@@ -88,12 +88,12 @@ module _ (pooled slots w : ℕ) where
     pub seen-now : (n : ℕ) → anchorSound slots (anchorOf w) ≡ true → F.Base pooled slots (at n) → F.Base pooled slots (withSeen (at n) w (r .finishing))
     seen-now n a b = record { kind = b .kind; side = b .side; fin = b .fin; near = b .near; link = b .link; seen = a }
 
-    pub early : eqb (r .finishing) 0 || (isPush r && false) ≡ true → eqb (r .finishing) 0 ≡ true
-    early e = F.first-of pooled slots (eqb (r .finishing) 0) (isPush r) e
+    pub unfinished : eqb (r .finishing) 0 || (isPush r && false) ≡ true → eqb (r .finishing) 0 ≡ true
+    unfinished e = F.first-of pooled slots (eqb (r .finishing) 0) (isPush r) e
 
     pub p1 : anchorSound slots (anchorOf w) ≡ true → Sounds 1 → Goes 1 (at1 c (at 1))
     unfolding at1
-    p1 a e = let z = F.fit pooled slots (at 1) refl e in read-on (at 1) (seen-now 1 a (z .base)) (early (z .final)) (z .owns)
+    p1 a e = let z = F.fit pooled slots (at 1) refl e in read-on (at 1) (seen-now 1 a (z .base)) (unfinished (z .final)) (z .owns)
 
     pub to11 : (n : ℕ) (s : Call) → r .kind ≡ 1 → eqb (r .finishing) 0 ≡ true
         → cond (cond (isPush r) true false) (from1 slots (r .own)) (eqb (r .own) 0) ≡ true → F.Base pooled slots (at n) → recordSound P slots
@@ -112,7 +112,7 @@ module _ (pooled slots w : ℕ) where
     unfolding at2 route pushRoute popRoute onward goes recordSound
     p2 a e =
         let z = F.fit pooled slots (at 2) refl e in
-        let f = early (z .final) in
+        let f = unfinished (z .final) in
         by-test (Goes 2) (eqb w (r .seen))
         (λ _. by-kind 2 0 (at 2) (z .base .kind) (λ k. refl) (λ k. to11 2 (at 2) k f (z .owns) (z .base)))
         (λ _. again 2 (λ o. reads-on (r .kind) o .0) a (z .base) f (z .owns))
@@ -133,7 +133,7 @@ module _ (pooled slots w : ℕ) where
     unfolding at3 route pushRoute popRoute onward goes
     p3 l e =
         let z = F.fit pooled slots (at 3) refl e in
-        let f = early (z .final) in
+        let f = unfinished (z .final) in
         let x = withNeighbour (at 3) (linkOf w .slot) in
         let b = near-now 3 (linkOf w .slot) (F.slot-fits pooled slots w l) (z .base) in
         by-test (Goes 3) (isPush r)
@@ -157,7 +157,7 @@ module _ (pooled slots w : ℕ) where
     unfolding at4 route pushRoute popRoute onward goes
     p4 a e =
         let z = F.fit pooled slots (at 4) refl e in
-        let f = early (z .final) in
+        let f = unfinished (z .final) in
         let A = withSeen (at 4) (new4 (at 4)) 1 in
         by-test (λ (m : Move). leavesSound slots (m .touch) ≡ true → Goes 4 m) (eqb w (r .seen))
         (λ _ l. by-kind 4 0 (cond (isPush r) A (at 4)) (z .base .kind)

@@ -11,27 +11,27 @@ use lib.Seq.{drop-length}
 use Rattle.audit_model.specs.declared.Finished.{Finished}
 use Rattle.audit_model.specs.Audit.{inOrder}
 use Rattle.audit_model.specs.LentHistory.{callsIn}
-use Rattle.audit.specs.FirstEarly.{firstEarly}
-use Rattle.audit.proofs.Early.{early-turn, leastEnd}
+use Rattle.audit.specs.FirstMisplaced.{firstMisplaced}
+use Rattle.audit.proofs.Misplaced.{misplaced-turn, leastEnd}
 use Rattle.audit.proofs.WordsRead.{next-call, number-known}
-use Rattle.audit.proofs.order.first_early.Statement.{statement}
-use Rattle.audit.proofs.order.first_early.Tie as tie
+use Rattle.audit.proofs.order.first_misplaced.Statement.{statement}
+use Rattle.audit.proofs.order.first_misplaced.Tie as tie
 
 abbrev Inv-loop : tie.InvT-loop
 Inv-loop words order least₀ first₀ i₀ least first i =
     (i ≤ length order) × (least ≡ leastEnd (inOrder (callsIn words) (drop i order)))
-    × (first ≡ i + firstEarly (inOrder (callsIn words) (drop i order)))
+    × (first ≡ i + firstMisplaced (inOrder (callsIn words) (drop i order)))
 
 abbrev μ-loop : tie.MeasureT-loop
 μ-loop words order least₀ first₀ i₀ least first i = i
 
 loop-holds : tie.Need-loop-holds Inv-loop μ-loop
-unfolding firstEarly
+unfolding firstMisplaced
 loop-holds c =
     let args = c .before .before .args in
     let cs = callsIn (args .words .now) in
     let ks = args .order .now in
-    let none : firstEarly (inOrder cs (drop (length ks) ks)) ≡ 0 = ap (λ (l : List ℕ). firstEarly (inOrder cs l)) (drop-length ks) in
+    let none : firstMisplaced (inOrder cs (drop (length ks) ks)) ≡ 0 = ap (λ (l : List ℕ). firstMisplaced (inOrder cs l)) (drop-length ks) in
     (search needs, ap (λ (l : List ℕ). leastEnd (inOrder cs l)) (sym (drop-length ks)), omega arith)
 
 -- The number before position i is a call's.
@@ -61,8 +61,8 @@ loop-again c =
       omega arith,
       c .smaller .ensures ∙ ap (λ (x : ℕ). min x (one .result .end)) (inv .1) ∙ sym (ap leastEnd next),
       c .before .sooner .ensures ∙ ap (λ (x : ℕ). cond (ltb x (one .result .start)) (at .i - 1) (at .first)) (inv .1)
-          ∙ early-turn (one .result) rest (at .i - 1) (at .first) (omega (arith, one .ok)) (omega arith)
-          ∙ sym (ap (λ (l : List Finished). at .i - 1 + firstEarly l) next),
+          ∙ misplaced-turn (one .result) rest (at .i - 1) (at .first) (omega (arith, one .ok)) (omega arith)
+          ∙ sym (ap (λ (l : List Finished). at .i - 1 + firstMisplaced l) next),
     )
 
 returns : tie.Need-returns Inv-loop μ-loop
@@ -73,11 +73,11 @@ returns c =
     let ks = args .order .now in
     let left = c .loop-test .left in
     let none : at .i ≡ 0 = omega arith in
-    let all = at .inv .2 ∙ ap (λ (m : ℕ). m + firstEarly (inOrder cs (drop m ks))) none in
+    let all = at .inv .2 ∙ ap (λ (m : ℕ). m + firstMisplaced (inOrder cs (drop m ks))) none in
     omega arith
 
-pub first-early-spec : {M : Type 1} → statement M
-first-early-spec =
+pub first-misplaced-spec : {M : Type 1} → statement M
+first-misplaced-spec =
     tie.close
     (tie.spec
     Inv-loop

@@ -104,7 +104,7 @@ module _ (n : ℕ) (q : Queue) (l : Ledger) (g : Matched n q l) (f : Safe q) (po
   passed : {x : Bool} (w : ℕ) {z : ℕ} → x ≡ true → z ≡ 0 → cond (not x) w z ≡ 0
   passed w e h = rw e h
 
-  pub taken : stepRefusal G (among q t) r ≡ 0
+  pub not-refused : stepRefusal G (among q t) r ≡ 0
   unfolding stepRefusal
-  taken = passed 34 (f .control) (passed 12 fits (passed 13 (lt-ltb _ _ (b .known)) (passed 34 (own-sound n q l g f t lies (b .place))
+  not-refused = passed 34 (f .control) (passed 12 fits (passed 13 (lt-ltb _ _ (b .known)) (passed 34 (own-sound n q l g f t lies (b .place))
       (rw (ne-eqb (r .place) 0 (b .place)) (passed 34 (step-sound n q l g f t lies (b .place)) refl)))))

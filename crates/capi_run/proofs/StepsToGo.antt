@@ -42,8 +42,8 @@ not-made (Moved a) h = absurd (not-both refl h)
 
 module _ (t : ℕ) where
   -- What is left of n steps once k are made.
-  abbrev pub left : ℕ → ℕ → Queue → SoloDone
-  left n k q = cond (eqb k 0) (soloRun n q t) (further k (soloSteps (n - k) q t))
+  abbrev pub to-go : ℕ → ℕ → Queue → SoloDone
+  to-go n k q = cond (eqb k 0) (soloRun n q t) (further k (soloSteps (n - k) q t))
 
   -- The next step d, where one is left.
   next : (n k : ℕ) (q : Queue) (d : Done) → k < n → d ≡ act q t Step
@@ -53,35 +53,35 @@ module _ (t : ℕ) where
   next n k q d h e = let one : n - k ≡ suc (n - (k + 1)) = omega arith in rw (one, e)
 
   -- If it is made, or if one was made before, steps are left and no refusal.
-  begun : (n k : ℕ) (q : Queue) → isMoved (act q t Step .outcome) ≡ true → further k (soloSteps (n - k) q t) ≡ left n k q
+  begun : (n k : ℕ) (q : Queue) → isMoved (act q t Step .outcome) ≡ true → further k (soloSteps (n - k) q t) ≡ to-go n k q
   unfolding soloRun
   begun n zero q m = let e : n - 0 ≡ n = omega arith in rw (e, m) (ap (counting (soloSteps n q t)) (omega arith))
   begun n (suc k) q m = rw (ne-eqb (suc k) 0 (λ z. omega arith))
 
-  later : (n k : ℕ) (q : Queue) → (k ≡ 0 → ⊥) → further k (soloSteps (n - k) q t) ≡ left n k q
+  later : (n k : ℕ) (q : Queue) → (k ≡ 0 → ⊥) → further k (soloSteps (n - k) q t) ≡ to-go n k q
   later n k q h = rw (ne-eqb _ _ h)
 
   module _ (n k : ℕ) (q : Queue) (d : Done) (h : k < n) (e : d ≡ act q t Step) where
     was-made : isMoved (d .outcome) ≡ true → isMoved (act q t Step .outcome) ≡ true
     was-made m = ap (λ (x : Done). isMoved (x .outcome)) (sym e) ∙ m
 
-    pub left-more : isRunning (d .outcome) ≡ true → left n (k + 1) (d .queue) ≡ left n k q
-    left-more r =
+    pub to-go-more : isRunning (d .outcome) ≡ true → to-go n (k + 1) (d .queue) ≡ to-go n k q
+    to-go-more r =
         let rest = soloSteps (n - (k + 1)) (d .queue) t in
         sym (later n (k + 1) (d .queue) (λ z. omega arith))
         ∙ ap (counting rest) (let same : k + 1 + rest .steps ≡ k + suc (rest .steps) = omega arith in same)
         ∙ ap (further k) (sym (rw r at (next n k q d h e)))
         ∙ begun n k q (was-made (runs-on (d .outcome) r .0))
 
-    left-answered : isRunning (d .outcome) ≡ false → isMoved (d .outcome) ≡ true → further k (lastStep d) ≡ left n k q
-    left-answered r m = ap (further k) (sym (rw (r, m) at (next n k q d h e))) ∙ begun n k q (was-made m)
+    to-go-answered : isRunning (d .outcome) ≡ false → isMoved (d .outcome) ≡ true → further k (lastStep d) ≡ to-go n k q
+    to-go-answered r m = ap (further k) (sym (rw (r, m) at (next n k q d h e))) ∙ begun n k q (was-made m)
 
-    left-stopped : isMoved (d .outcome) ≡ false → (k ≡ 0 → ⊥) → further k (resting q t) ≡ left n k q
-    left-stopped m z = ap (further k) (sym (rw (not-made _ m .0, m) at (next n k q d h e))) ∙ later n k q z
+    to-go-stopped : isMoved (d .outcome) ≡ false → (k ≡ 0 → ⊥) → further k (resting q t) ≡ to-go n k q
+    to-go-stopped m z = ap (further k) (sym (rw (not-made _ m .0, m) at (next n k q d h e))) ∙ later n k q z
 
-    left-refused : isMoved (d .outcome) ≡ false → k ≡ 0 → record { queue = q; outcome = d .outcome; steps = 0 } ≡ left n k q
+    to-go-refused : isMoved (d .outcome) ≡ false → k ≡ 0 → record { queue = q; outcome = d .outcome; steps = 0 } ≡ to-go n k q
     unfolding soloRun
-    left-refused m z = rw (eq-eqb _ _ z, sym e, m)
+    to-go-refused m z = rw (eq-eqb _ _ z, sym e, m)
 
     -- A refused step changes nothing.
     unchanged : isMoved (d .outcome) ≡ false → d .queue ≡ q
@@ -91,12 +91,12 @@ module _ (t : ℕ) where
         go (Refused why) z = ap (λ (x : Done). x .queue) e ∙ act-refused q t Step why (ap (λ (x : Done). x .outcome) (sym e) ∙ z)
         go (Moved a) z = absurd (not-both (ap isMoved z) m)
 
-  left-none : (n k : ℕ) (q : Queue) → n ≤ k → (k ≡ 0 → ⊥) → further k (resting q t) ≡ left n k q
+  to-go-none : (n k : ℕ) (q : Queue) → n ≤ k → (k ≡ 0 → ⊥) → further k (resting q t) ≡ to-go n k q
   unfolding soloSteps
-  left-none n k q h z = let e : n - k ≡ 0 = omega arith in rw (ne-eqb _ _ z, e)
+  to-go-none n k q h z = let e : n - k ≡ 0 = omega arith in rw (ne-eqb _ _ z, e)
 
   -- ---- how the run ends
-  module _ (n k : ℕ) (q₀ q : Queue) (us₀ us : List ℕ) (same : us ≡ us₀) (inv : left n k q ≡ soloRun n q₀ t) where
+  module _ (n k : ℕ) (q₀ q : Queue) (us₀ us : List ℕ) (same : us ≡ us₀) (inv : to-go n k q ≡ soloRun n q₀ t) where
     abbrev Ends : Queue → List ℕ → RunReply → Type 0
     Ends q′ us′ r = _≡_ {A = Ran} (record { queue = q′; uppers = us′; reply = r }) (ran t us₀ (soloRun n q₀ t))
 
@@ -104,7 +104,7 @@ module _ (t : ℕ) where
     pub cut : (r : RunReply) → n ≤ k → (k ≡ 0 → ⊥) → r ≡ runReplyOf (Moved (Running (recordAt q t .place))) k → Ends q us r
     cut r h z er =
         let count : k ≡ k + 0 = omega arith in
-        rw (er ∙ ap (runReplyOf (Moved (Running (recordAt q t .place)))) count, same) (ap (ran t us₀) (left-none n k q h z ∙ inv))
+        rw (er ∙ ap (runReplyOf (Moved (Running (recordAt q t .place)))) count, same) (ap (ran t us₀) (to-go-none n k q h z ∙ inv))
 
     module _ (q′ : Queue) (us′ : List ℕ) (o : Outcome) (h : k < n) (e : _≡_ {A = Done} (record { queue = q′; outcome = o }) (act q t Step))
         (eu : us′ ≡ cond (endsCall o) (set us t 0) us) where
@@ -113,15 +113,15 @@ module _ (t : ℕ) where
 
       -- With an answer.
       pub answered : (m : ℕ) (r : RunReply) → isRunning o ≡ false → isMoved o ≡ true → m ≡ k + 1 → r ≡ runReplyOf o m → Ends q′ us′ r
-      answered m r stops made em er = rw (er, em, eu, same) (ap (ran t us₀) (left-answered n k q d h e stops made ∙ inv))
+      answered m r stops made em er = rw (er, em, eu, same) (ap (ran t us₀) (to-go-answered n k q d h e stops made ∙ inv))
 
       -- With a refused step, the first or a later one.
       pub refused : (r : RunReply) → isMoved o ≡ false → k ≡ 0 → r ≡ runReplyOf o 0 → Ends q′ us′ r
       refused r m z er =
-          rw (er, eu, same, unchanged n k q d h e m) (ap (ran t us₀) (left-refused n k q d h e m z ∙ inv))
+          rw (er, eu, same, unchanged n k q d h e m) (ap (ran t us₀) (to-go-refused n k q d h e m z ∙ inv))
 
       pub stopped : (r : RunReply) → isMoved o ≡ false → (k ≡ 0 → ⊥) → r ≡ runReplyOf (Moved (Running (recordAt q′ t .place))) k → Ends q′ us′ r
       stopped r m z er =
           let count : k ≡ k + 0 = omega arith in
           rw (er ∙ ap (runReplyOf (Moved (Running (recordAt q′ t .place)))) count, eu, not-made o m .1, same, unchanged n k q d h e m)
-          (ap (ran t us₀) (left-stopped n k q d h e m z ∙ inv))
+          (ap (ran t us₀) (to-go-stopped n k q d h e m z ∙ inv))

@@ -10,7 +10,7 @@ use lib.ListN.{List·getD-eq-default}
 use borrow.Author.Tests.{eq-eqb, eqb-false, eqb-true, ltb-true}
 use Rattle.word.specs.Anchor.{anchorOf}
 use Rattle.model.specs.Calls.{Acted, act, actOn, finish, opened, step}
-use Rattle.model.specs.History.{AfterOpening, InUse, NoSlotRight, NoSlotTrue, Waits, final, here, is-taken, later, pop-gives, pop-holds, popGives}
+use Rattle.model.specs.History.{AfterOpening, InUse, NoFreeSlotRight, NoFreeSlotTrue, Waits, final, here, is-taken, later, pop-gives, pop-holds, popGives}
 use Rattle.model.specs.History.{popHolds, push-holds, pushHolds, waits}
 use Rattle.model.specs.Refusals.{among, stepRefusal}
 use Rattle.model.specs.Walk.{entries}
@@ -25,7 +25,7 @@ use Rattle.model.proofs.tests.Truth.{and-of, by-test, decide-eq}
 use Rattle.model.proofs.lists.{In.In, Slots.slots}
 use Rattle.model.proofs.machine.Book as B
 use Rattle.model.proofs.machine.Machine as M
-use Rattle.model.proofs.places.NoSlot.{Holds, Used, no-slot}
+use Rattle.model.proofs.places.NoFreeSlot.{Holds, Used, no-free-slot}
 use Rattle.model.proofs.bridge.Accepted.{Stepping, step-accepted}
 use Rattle.model.proofs.bridge.Facts.{RecordFine}
 use Rattle.model.proofs.bridge.Operations.{reply, step-lacks}
@@ -130,8 +130,8 @@ module _ (n : ℕ) (q : Queue) (l : _) (g : Matched n q l) (f : Safe q) (t : ℕ
     all-used : (x : ℕ) → 1 ≤ x → x ≤ G .control .slots → InUse q x
     unfolding stateOf view
     all-used x some low =
-        let z = step-lacks q (g .book) (g .inv) (g .links) t s (ap (λ (a : Answer). B.isNoSlot (answerSeen a)) e) in
-        used-is n q l g f x (no-slot (record { state = stateOf q; book = g .book }) (g .inv) (z .0) (z .1) x (λ z. omega arith) low)
+        let z = step-lacks q (g .book) (g .inv) (g .links) t s (ap (λ (a : Answer). B.isNoFreeSlot (answerSeen a)) e) in
+        used-is n q l g f x (no-free-slot (record { state = stateOf q; book = g .book }) (g .inv) (z .0) (z .1) x (λ z. omega arith) low)
 
   pub told-truly : act q t Step .outcome ≡ Moved NoFreeSlot → (x : ℕ) → 1 ≤ x → x ≤ G .control .slots → InUse q x
   unfolding act actOn step finish
@@ -141,11 +141,11 @@ module _ (n : ℕ) (q : Queue) (l : _) (g : Matched n q l) (f : Safe q) (t : ℕ
       (λ z e. absurd (let w : _≡_ {A = ℕ} 0 1 = cc in omega arith))
 
 -- After either opening; in a named queue nobody is told so.
-pub no-slot-either : AfterOpening NoSlotTrue
-no-slot-either pooled = after-opening pooled NoSlotTrue (λ q tasks slots tag e os t.
+pub no-free-slot-either : AfterOpening NoFreeSlotTrue
+no-free-slot-either pooled = after-opening pooled NoFreeSlotTrue (λ q tasks slots tag e os t.
     let o = opened pooled q tasks slots tag in
     let z = final-reached pooled tasks os o (open-reached pooled tasks q slots tag e) in
     told-truly (z .position) (final o os) (z .ledger) (z .matched) (z .safe) t)
 
-pub no-slot-right : NoSlotRight
-no-slot-right = no-slot-either true
+pub no-free-slot-right : NoFreeSlotRight
+no-free-slot-right = no-free-slot-either true

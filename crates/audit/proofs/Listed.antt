@@ -13,15 +13,15 @@ use Rattle.model.specs.Tables.{marked, withMark}
 use Rattle.model.proofs.bridge.Marks.{marked-other, marked-same}
 use Rattle.audit_model.specs.Audit.{allOf, differ}
 
-abbrev pub Named : List ℕ → List ℕ → Type 0
-Named marks l = (k : ℕ) → 1 ≤ k → k ≤ 64 → marked marks (k - 1) ≡ not (allOf (differ k) l)
+abbrev pub Listed : List ℕ → List ℕ → Type 0
+Listed marks l = (k : ℕ) → 1 ≤ k → k ≤ 64 → marked marks (k - 1) ≡ not (allOf (differ k) l)
 
-pub none-named : Named (0 ∷ []) []
-none-named k a b =
+pub none-listed : Listed (0 ∷ []) []
+none-listed k a b =
     let first : (k - 1) / 64 ≡ 0 = omega arith in
     ap (λ (m : ℕ). eqb (getD (0 ∷ []) m 0 / 2 ^ ((k - 1) % 64) % 2) 1) first ∙ ap (λ (w : ℕ). eqb (w % 2) 1) (zero-div (2 ^ ((k - 1) % 64)))
 
-pub one-more : (marks l : List ℕ) (x : ℕ) → length marks ≡ 1 → 1 ≤ x → x ≤ 64 → Named marks l → Named (withMark marks (x - 1) 1) (x ∷ l)
+pub one-more : (marks l : List ℕ) (x : ℕ) → length marks ≡ 1 → 1 ≤ x → x ≤ 64 → Listed marks l → Listed (withMark marks (x - 1) 1) (x ∷ l)
 one-more marks l x one low high is k a b = go (ℕ-discrete k x)
   where
     go : Dec (k ≡ x) → marked (withMark marks (x - 1) 1) (k - 1) ≡ not (allOf (differ k) (x ∷ l))
